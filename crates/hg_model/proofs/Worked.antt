@@ -1,0 +1,72 @@
+-- Worked examples, computed: two members who sync in turn, and three members who sync in a ring
+use Rattle.std.proofs.Common.{◌≡◌, ℕ, Bool, true, false, List, [], ◌∷◌, Option, Some, None, refl, length}
+use Rattle.std.specs.Str.{bytes_eq}
+use Rattle.hg_model.specs.declared.row.Row.{Row}
+use Rattle.hg_model.specs.declared.row.Placed.{Placed}
+use Rattle.hg_model.specs.Places.{weight_below, some_below, list_below, least_below, greatest_below, maximum_below, values_below, by_place, reaches, table}
+use Rattle.hg_model.specs.Links.{Link, links, parents, self_parent, other_parents, creator}
+use Rattle.hg_model.specs.Ancestry.{is_ancestor, is_self_ancestor}
+use Rattle.hg_model.specs.Forks.{is_fork, has_fork_below, has_fork, forkers}
+use Rattle.hg_model.specs.Seeing.{sees, sees_through, strongly_sees}
+use Rattle.hg_model.specs.Graph.{is_graph, name_at}
+use Rattle.hg_model.specs.Rounds.{round_of, is_witness, last_round}
+use Rattle.hg_model.specs.Votes.{vote_of, decides}
+use Rattle.hg_model.specs.Fame.{fame_of, fame_marks, is_closed, is_unique_famous, Marks}
+use Rattle.hg_model.specs.Order.{coin_at, sig_at, time_at, sort_by, median, can_receive, round_received, consensus_time, whitening, ordered_in, ordered, order_of, last_closed, sequence_of}
+
+-- an event with no parents, and one with parents of these names; a name is one byte here, and so is a signature
+abbrev pub first : ℕ → ℕ → Row
+first m time = record { creator = m; parents = None; time = time; payload = []; sig = time ∷ []; name = time ∷ [] }
+
+abbrev pub made : ℕ → ℕ → ℕ → ℕ → Row
+made m own other time =
+    record { creator = m; parents = Some (own ∷ [], other ∷ []); time = time; payload = []; sig = time ∷ []; name = time ∷ [] }
+
+-- the graph of the second of two members after six syncs in turn
+abbrev pub two_members : List Row
+two_members =
+    first 1 2 ∷ first 0 1 ∷ made 0 1 2 3 ∷ made 1 2 3 4 ∷ made 0 3 4 5 ∷ made 1 4 5 6 ∷ made 0 5 6 7 ∷ made 1 6 7 8 ∷ []
+
+two_parents : table (parents (links two_members)) 8 ≡ [] ∷ [] ∷ (1 ∷ 0 ∷ []) ∷ (0 ∷ 2 ∷ []) ∷ (2 ∷ 3 ∷ []) ∷ (3 ∷ 4 ∷ []) ∷ (4 ∷ 5 ∷ []) ∷ (5 ∷ 6 ∷ []) ∷ []
+unfolding parents links
+two_parents = refl
+
+two_graph : is_graph 2 two_members ≡ true
+unfolding is_graph forkers has_fork is_fork is_self_ancestor name_at weight_below some_below reaches by_place values_below parents self_parent other_parents creator links
+two_graph = refl
+
+-- the second member's second event and the first member's third are the witnesses of round 2
+two_rounds : table (round_of 2 (links two_members)) 8 ≡ 1 ∷ 1 ∷ 1 ∷ 2 ∷ 2 ∷ 3 ∷ 3 ∷ 4 ∷ []
+unfolding round_of strongly_sees sees_through sees has_fork_below is_fork is_ancestor is_self_ancestor weight_below some_below reaches by_place values_below parents self_parent creator links
+two_rounds = refl
+
+two_fame : fame_marks 2 10 (links two_members) (coin_at two_members) ≡ Some true ∷ Some true ∷ None ∷ Some true ∷ Some true ∷ None ∷ None ∷ None ∷ []
+unfolding fame_marks fame_of least_below decides vote_of is_witness coin_at sig_at round_of strongly_sees sees_through sees has_fork_below is_fork is_ancestor is_self_ancestor weight_below some_below reaches by_place values_below parents self_parent creator links
+two_fame = refl
+
+-- those marks, written out
+abbrev pub two_marks : Marks
+two_marks = Some true ∷ Some true ∷ None ∷ Some true ∷ Some true ∷ None ∷ None ∷ None ∷ []
+
+abbrev pub placed : ℕ → ℕ → ℕ → Placed
+placed place received time = record { place = place; received = received; time = time }
+
+-- all of round 2, by their times: the medians of 1 and 4, 2 and 3, 3 and 4, 4 and 5
+two_order : ordered 2 two_members (links two_members) two_marks ≡ placed 1 2 1 ∷ placed 0 2 2 ∷ placed 2 2 3 ∷ placed 3 2 4 ∷ []
+unfolding ordered_in whitening consensus_time median sort_by round_received can_receive is_closed is_unique_famous least_below is_witness round_of strongly_sees sees_through sees has_fork_below is_fork is_ancestor is_self_ancestor weight_below some_below list_below reaches by_place values_below parents self_parent creator links time_at sig_at name_at
+two_order = refl
+
+two_closed : last_closed 2 (links two_members) two_marks ≡ 2
+unfolding last_closed greatest_below is_closed is_witness round_of strongly_sees sees_through sees has_fork_below is_fork is_ancestor is_self_ancestor weight_below some_below reaches by_place values_below parents self_parent creator links
+two_closed = refl
+
+-- three members who sync in a ring; the third's second event claims an earlier time than its first
+abbrev pub three_members : List Row
+three_members =
+    first 0 1 ∷ first 2 65 ∷ first 1 52 ∷ made 1 52 1 55 ∷ made 2 65 55 50 ∷ made 0 1 50 60 ∷ made 1 55 60 70 ∷ made 2 50 70 80
+    ∷ made 0 60 80 90 ∷ made 1 70 90 100 ∷ made 2 80 100 110 ∷ made 0 90 110 120 ∷ made 1 100 120 130 ∷ made 2 110 130 140
+    ∷ made 0 120 140 150 ∷ []
+
+three_rounds : table (round_of 3 (links three_members)) 15 ≡ 1 ∷ 1 ∷ 1 ∷ 1 ∷ 1 ∷ 1 ∷ 2 ∷ 2 ∷ 2 ∷ 2 ∷ 3 ∷ 3 ∷ 3 ∷ 3 ∷ 4 ∷ []
+unfolding round_of strongly_sees sees_through sees has_fork_below is_fork is_ancestor is_self_ancestor weight_below some_below reaches by_place values_below parents self_parent creator links
+three_rounds = refl

@@ -1,0 +1,50 @@
+-- What every node's rows keep to. SWIRLDS-TR-2016-01, sections 3 and 5
+use Rattle.std.specs.Prelude.{ℕ, ◌*◌, ◌<◌, ◌≡◌, ◌≢◌, Bool, true, not, ◌&&◌, ◌==◌, nat_lt, List, length, Option, Some, None, slice_get, []}
+use Rattle.std.specs.List.{list_all}
+use Rattle.std.specs.Str.{bytes_eq}
+use Rattle.hg_model.specs.declared.row.Row.{Row}
+use Rattle.hg_model.specs.Places.{has_place, IsEarlier, some_below}
+use Rattle.hg_model.specs.Links.{Link, links, parents, self_parent, other_parents, creator}
+use Rattle.hg_model.specs.Forks.{forkers}
+
+-- events by n members, each after its parents, with a self-parent by its own creator and other-parents by others
+pub record IsShaped (n : ℕ) (L : List Link) : Type 0 where
+  pub members : (x : ℕ) → x < length L → creator L x < n
+  pub earlier : IsEarlier (parents L)
+  pub self_by_same : (x p : ℕ) → has_place (self_parent L x) p ≡ true → creator L p ≡ creator L x
+  pub others_by_others : (x p : ℕ) → has_place (other_parents L x) p ≡ true → creator L p ≢ creator L x
+
+abbrev pub name_in : Option Row → List ℕ
+name_in None = []
+name_in (Some row) = row.name
+
+-- the name of row x
+unfoldable pub name_at : List Row → ℕ → List ℕ
+name_at G x = name_in (slice_get G x)
+
+-- no two rows have one name
+pub record HasDistinctNames (G : List Row) : Type 0 where
+  pub one : (x y : ℕ) → x < length G → y < length G → name_at G x ≡ name_at G y → x ≡ y
+
+-- a graph of n members, of whom fewer than a third have a fork
+pub record IsGraph (n : ℕ) (G : List Row) : Type 0 where
+  pub distinct : HasDistinctNames G
+  pub shaped : IsShaped n (links G)
+  pub few_forkers : 3 * forkers n (links G) < n
+
+-- the tests of the above, for rows that are written out
+
+abbrev pub is_shaped_at : ℕ → List Link → ℕ → Bool
+is_shaped_at n L x =
+    nat_lt (creator L x) n && list_all (λ p. nat_lt p x) (parents L x)
+    && list_all (λ p. creator L p == creator L x) (self_parent L x)
+    && list_all (λ p. not (creator L p == creator L x)) (other_parents L x)
+
+abbrev pub is_named_before : List Row → ℕ → Bool
+is_named_before G x = some_below x (λ y. bytes_eq (name_at G y) (name_at G x))
+
+unfoldable pub is_graph : ℕ → List Row → Bool
+is_graph n G =
+    let L = links G in
+    not (some_below (length G) (λ x. not (is_shaped_at n L x))) && not (some_below (length G) (is_named_before G))
+    && nat_lt (3 * forkers n L) n

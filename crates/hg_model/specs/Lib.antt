@@ -1,0 +1,17 @@
+pub mod Members
+pub mod Places
+pub mod Links
+pub mod Ancestry
+pub mod Forks
+pub mod Seeing
+pub mod Graph
+pub mod Rounds
+pub mod Votes
+pub mod Fame
+pub mod Order
+pub mod Spelling
+pub mod Signing
+pub mod Verdict
+pub mod Gossip
+pub mod Ledger
+pub mod Report

@@ -1,0 +1,46 @@
+-- The members: who they are, and what every list of them keeps to.
+use Rattle.std.specs.Prelude.{ℕ, ◌≡◌, ◌<◌, ◌≤◌, ◌^◌, Bool, true, ◌&&◌, ◌||◌, ◌==◌, not, nat_le, List, [], ◌∷◌, length, map, sum_by, AllPairs, All, IsTrue}
+use Rattle.std.specs.List.{list_all, list_any}
+use Rattle.hg_model.specs.declared.members.MemberEntry.{MemberEntry}
+
+-- members in their order, and the coin period
+pub record MemberList : Type 0 where
+  pub entries : List MemberEntry
+  pub coin : ℕ
+
+abbrev pub listed : List MemberEntry → ℕ → MemberList
+listed entries coin = record { entries = entries; coin = coin }
+
+abbrev pub is_letter : ℕ → Bool
+is_letter b = nat_le 65 b && nat_le b 90 || nat_le 97 b && nat_le b 122
+
+abbrev pub is_digit : ℕ → Bool
+is_digit b = nat_le 48 b && nat_le b 57
+
+-- a letter, a digit or an underscore
+abbrev pub is_name_byte : ℕ → Bool
+is_name_byte b = is_letter b || is_digit b || b == 95
+
+abbrev pub starts_with_letter : List ℕ → Bool
+starts_with_letter [] = Rattle.std.specs.Prelude.false
+starts_with_letter (b ∷ rest) = is_letter b
+
+-- 1 to 16 letters, digits and underscores, the first a letter
+abbrev pub is_member_name : List ℕ → Bool
+is_member_name name = starts_with_letter name && nat_le (length name) 16 && list_all is_name_byte name
+
+-- what a member keeps to
+pub record IsEntry (e : MemberEntry) : Type 0 where
+  pub name : is_member_name e.name ≡ true
+  pub secret_some : 1 ≤ length e.secret
+  pub secret_fits : length e.secret ≤ 128
+
+-- what a list of members keeps to
+pub record IsMemberList (m : MemberList) : Type 0 where
+  pub some : 2 ≤ length m.entries
+  pub few : length m.entries ≤ 128
+  pub coin_low : 3 ≤ m.coin
+  pub coin_high : m.coin ≤ 100
+  pub entries : All IsEntry m.entries
+  pub distinct : AllPairs (λ (a : MemberEntry) (b : MemberEntry). a.name ≡ b.name → ⊥) m.entries
+  pub sum : sum_by (λ (e : MemberEntry). e.balance) m.entries < 2 ^ 63

@@ -1,0 +1,107 @@
+-- The text of the report. Every line ends with one line feed; numbers are decimal, without leading zeros
+use Rattle.std.specs.Prelude.{ℕ, zero, suc, ◌+◌, List, [], ◌∷◌, ◌++◌, length, map, slice_get, unwrap_or, codes}
+use Rattle.std.specs.Fmt.{decimal}
+use Rattle.std.specs.List.{flat_map}
+use Rattle.hex.specs.Hex.{encode_lower}
+use Rattle.hg_model.specs.declared.answers.ByteFault.{ByteFault}
+use Rattle.hg_model.specs.declared.answers.ByteFault.TheVariants as byte_fault
+use Rattle.hg_model.specs.declared.answers.Fault.{Fault}
+use Rattle.hg_model.specs.declared.answers.Fault.TheVariants as fault
+use Rattle.hg_model.specs.declared.answers.MakeFault.{MakeFault}
+use Rattle.hg_model.specs.declared.answers.MakeFault.TheVariants as make_fault
+use Rattle.hg_model.specs.declared.answers.MakeAnswer.{MakeAnswer}
+use Rattle.hg_model.specs.declared.answers.MakeAnswer.TheVariants as make_answer
+use Rattle.hg_model.specs.declared.answers.SyncMade.{SyncMade}
+use Rattle.hg_model.specs.declared.answers.SyncMade.TheVariants as sync_made
+use Rattle.hg_model.specs.declared.answers.SyncReport.{SyncReport}
+use Rattle.hg_model.specs.declared.outcome.OrderLine.{OrderLine}
+use Rattle.hg_model.specs.declared.outcome.Block.{Block}
+use Rattle.hg_model.specs.declared.outcome.Printed.{Printed}
+use Rattle.hg_model.specs.declared.outcome.Printed.TheVariants as printed
+use Rattle.hg_model.specs.declared.outcome.Outcome.{Outcome}
+
+-- a word, a space and a number
+abbrev pub counted : List ℕ → ℕ → List ℕ
+counted word number = word ++ codes " " ++ decimal number
+
+abbrev pub byte_fault_text : ByteFault → List ℕ
+byte_fault_text (byte_fault.Short at) = counted (codes "short") at
+byte_fault_text byte_fault.BadMagic = codes "bad-magic"
+byte_fault_text (byte_fault.BadKind kind) = counted (codes "bad-kind") kind
+byte_fault_text (byte_fault.BadLength len) = counted (codes "bad-length") len
+byte_fault_text (byte_fault.Trailing count) = counted (codes "trailing") count
+
+abbrev pub fault_text : Fault → List ℕ
+fault_text (fault.Bytes e) = byte_fault_text e
+fault_text (fault.Member id) = counted (codes "member") id
+fault_text (fault.Collision p) = counted (codes "collision") p
+fault_text fault.Signature = codes "signature"
+fault_text fault.Impostor = codes "impostor"
+fault_text (fault.MissingSelf name) = codes "missing-self " ++ encode_lower name
+fault_text (fault.MissingOther name) = codes "missing-other " ++ encode_lower name
+fault_text (fault.SelfCreator p) = counted (codes "self-creator") p
+fault_text (fault.OtherCreator p) = counted (codes "other-creator") p
+fault_text (fault.TooManyForkers k) = counted (codes "too-many-forkers") k
+fault_text (fault.Full limit) = counted (codes "full") limit
+
+abbrev pub make_fault_text : MakeFault → List ℕ
+make_fault_text make_fault.HasFirst = codes "has-first"
+make_fault_text make_fault.NoFirst = codes "no-first"
+make_fault_text (make_fault.MissingOther name) = codes "missing-other " ++ encode_lower name
+make_fault_text (make_fault.OtherCreator p) = counted (codes "other-creator") p
+make_fault_text (make_fault.PayloadLong len) = counted (codes "payload-long") len
+make_fault_text (make_fault.Collision p) = counted (codes "collision") p
+make_fault_text (make_fault.Full limit) = counted (codes "full") limit
+
+abbrev pub make_answer_text : MakeAnswer → List ℕ
+make_answer_text (make_answer.Made p) = counted (codes "made") p
+make_answer_text (make_answer.Refused f) = codes "refused " ++ make_fault_text f
+
+abbrev pub sync_made_text : SyncMade → List ℕ
+sync_made_text (sync_made.Row p) = decimal p
+sync_made_text sync_made.PeerBare = codes "none peer-bare"
+sync_made_text (sync_made.Fault f) = codes "none " ++ make_fault_text f
+
+abbrev pub sync_text : SyncReport → List ℕ
+sync_text r = counted (codes "taken") r.taken ++ counted (codes " refused") r.refused ++ codes " made " ++ sync_made_text r.made
+
+-- the name of a member, by its number
+abbrev pub name_of_member : List (List ℕ) → ℕ → List ℕ
+name_of_member names m = unwrap_or (slice_get names m) []
+
+-- the line of a row of the order, numbered from 1. No payload has an effect yet
+unfoldable pub order_line_text : List (List ℕ) → ℕ → OrderLine → List ℕ
+order_line_text names number line =
+    decimal number ++ codes " " ++ name_of_member names line.creator ++ counted [] line.sequence
+    ++ counted (codes " round") line.received ++ counted (codes " time") line.time ++ codes " -\n"
+
+-- the lines of an order, the first with this number
+abbrev pub order_text : List (List ℕ) → ℕ → List OrderLine → List ℕ
+order_text names number [] = []
+order_text names number (line ∷ lines) = order_line_text names number line ++ order_text names (suc number) lines
+
+unfoldable pub balance_text : List (List ℕ) → ℕ → ℕ → List ℕ
+balance_text names m balance = codes "balance " ++ name_of_member names m ++ counted [] balance ++ codes "\n"
+
+-- the balances of the members from m on
+abbrev pub balances_text : List (List ℕ) → ℕ → List ℕ → List ℕ
+balances_text names m [] = []
+balances_text names m (balance ∷ balances) = balance_text names m balance ++ balances_text names (suc m) balances
+
+-- the first line of a block
+unfoldable pub head_text : List (List ℕ) → Block → List ℕ
+head_text names b =
+    codes "node " ++ name_of_member names b.member ++ counted (codes " events") b.events ++ counted (codes " forkers") b.forkers
+    ++ counted (codes " round") b.greatest ++ counted (codes " closed") b.closed ++ counted (codes " ordered") (length b.order) ++ codes "\n"
+
+unfoldable pub block_text : List (List ℕ) → Block → List ℕ
+block_text names b = head_text names b ++ order_text names 1 b.order ++ balances_text names 0 b.balances
+
+abbrev pub printed_text : List (List ℕ) → Printed → List ℕ
+printed_text names (printed.Create line answer) = decimal line ++ codes " create " ++ make_answer_text answer ++ codes "\n"
+printed_text names (printed.Sync line report) = decimal line ++ codes " sync " ++ sync_text report ++ codes "\n"
+printed_text names (printed.Block b) = block_text names b
+
+-- the text of all that a run prints
+unfoldable pub report_text : Outcome → List ℕ
+report_text o = flat_map (printed_text o.names) o.printed

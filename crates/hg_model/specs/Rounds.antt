@@ -1,0 +1,37 @@
+-- Rounds and witnesses. SWIRLDS-TR-2016-01, section 4, procedure divideRounds
+use Rattle.std.specs.Prelude.{ℕ, ◌+◌, Bool, cond, ◌&&◌, ◌==◌, nat_lt, List, [], ◌∷◌, max, length}
+use Rattle.std.specs.List.{list_all}
+use Rattle.hg_model.specs.Places.{count_below, maximum_below, by_place}
+use Rattle.hg_model.specs.Links.{Link, parents, self_parent}
+use Rattle.hg_model.specs.Seeing.{strongly_sees, is_supermajority}
+
+-- the greatest of the parents' rounds, or 1
+abbrev pub greatest_round : (ℕ → ℕ) → List ℕ → ℕ
+greatest_round round [] = 1
+greatest_round round (p ∷ ps) = max (round p) (greatest_round round ps)
+
+-- with these rounds x is a witness: it has no self-parent, or a round above its self-parent's
+abbrev pub is_witness_by : (ℕ → ℕ) → List Link → ℕ → Bool
+is_witness_by round L x = list_all (λ p. nat_lt (round p) (round x)) (self_parent L x)
+
+-- with these rounds y is a witness of round r that x strongly sees
+abbrev pub is_seen_witness : (ℕ → ℕ) → ℕ → List Link → ℕ → ℕ → ℕ → Bool
+is_seen_witness round n L r x y = is_witness_by round L y && round y == r && strongly_sees n L x y
+
+-- the round of x, from the rounds of the events before it: r, the greatest of its parents' rounds or 1,
+-- and one more where x strongly sees more than two thirds of the members' witnesses of round r
+abbrev pub round_from : ℕ → List Link → (ℕ → ℕ) → ℕ → ℕ
+round_from n L round x =
+    let r = greatest_round round (parents L x) in
+    cond (is_supermajority n (count_below x (is_seen_witness round n L r x))) (r + 1) r
+
+unfoldable pub round_of : ℕ → List Link → ℕ → ℕ
+round_of n L x = by_place 0 (round_from n L) x
+
+-- x has no self-parent, or a round above its self-parent's
+unfoldable pub is_witness : ℕ → List Link → ℕ → Bool
+is_witness n L x = is_witness_by (round_of n L) L x
+
+-- the greatest round of the graph, 0 without events
+unfoldable pub last_round : ℕ → List Link → ℕ
+last_round n L = maximum_below (round_of n L) (length L)

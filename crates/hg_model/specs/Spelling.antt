@@ -1,0 +1,49 @@
+-- The one spelling of an event in bytes, what of it is signed, and its name. All numbers are big-endian.
+-- Names are SHA-384 (FIPS 180-4) of the whole spelling, so that one name has one signature, and one coin.
+use Rattle.std.specs.Prelude.{ℕ, ◌≡◌, ◌<◌, ◌≤◌, ◌^◌, List, [], ◌∷◌, ◌++◌, length, Option, Some, None, IfSome, codes}
+use Rattle.std.specs.Int.{w16, w64, to_be_bytes}
+use Rattle.sha2.specs.Sha512.{sha384}
+use Rattle.hg_model.specs.declared.row.Row.{Row}
+
+abbrev pub magic : List ℕ
+magic = codes "HGE1"
+
+-- the kind of the event, and the names of its parents, if it has any
+abbrev pub parent_bytes : Option (List ℕ × List ℕ) → List ℕ
+parent_bytes None = 0 ∷ []
+parent_bytes (Some names) = 1 ∷ (names.0 ++ names.1)
+
+-- two bytes of length, and so many bytes
+abbrev pub payload_bytes : List ℕ → List ℕ
+payload_bytes payload = to_be_bytes w16 (length payload) ++ payload
+
+-- the fields in their order, without the signature
+abbrev pub body_bytes : ℕ → Option (List ℕ × List ℕ) → ℕ → List ℕ → List ℕ
+body_bytes creator parents time payload =
+    magic ++ (to_be_bytes w16 creator ++ (parent_bytes parents ++ (to_be_bytes w64 time ++ payload_bytes payload)))
+
+-- what is signed
+unfoldable pub body_of : Row → List ℕ
+body_of row = body_bytes row.creator row.parents row.time row.payload
+
+-- all fields, one after the other
+unfoldable pub spelling : Row → List ℕ
+spelling row = body_of row ++ row.sig
+
+-- the greatest number of bytes of a payload
+abbrev pub payload_limit : ℕ
+payload_limit = 1024
+
+-- a row whose fields have their sizes
+pub record HasSpelling (row : Row) : Type 0 where
+  pub creator : row.creator < 2 ^ 16
+  pub parents : IfSome row.parents (λ names. (length names.0 ≡ 48) × (length names.1 ≡ 48))
+  pub time : row.time < 2 ^ 64
+  pub payload : length row.payload ≤ payload_limit
+  pub sig : length row.sig ≡ 64
+
+-- the bytes spell the row
+pub record Spells (bytes : List ℕ) (row : Row) : Type 0 where
+  pub sized : HasSpelling row
+  pub spelled : bytes ≡ spelling row
+  pub named : row.name ≡ sha384 bytes

@@ -1,0 +1,167 @@
+-- What comes of an event that is put to a node, and of one that a node makes: in each list the first rule that holds.
+-- Departures from SWIRLDS-TR-2016-01: an event that would make the forking members a third of all is refused, and so is
+-- one by the node's own member that the node did not make.
+use Rattle.std.specs.Prelude.{ℕ, ◌*◌, Bool, true, false, cond, not, ◌&&◌, ◌==◌, nat_lt, nat_le, List, [], ◌∷◌, ◌++◌, length, fold, Option, Some, None, is_some, option_map, option_and_then, unwrap_or, slice_get, if◌then◌else◌}
+use Rattle.std.specs.Option.{option_or}
+use Rattle.std.specs.Str.{bytes_eq}
+use Rattle.sha2.specs.Sha512.{sha384}
+use Rattle.hg_model.specs.declared.row.Row.{Row}
+use Rattle.hg_model.specs.declared.answers.Fault.{Fault}
+use Rattle.hg_model.specs.declared.answers.Fault.TheVariants as fault
+use Rattle.hg_model.specs.declared.answers.MakeFault.{MakeFault}
+use Rattle.hg_model.specs.declared.answers.MakeFault.TheVariants as make_fault
+use Rattle.hg_model.specs.declared.answers.PutAnswer.{PutAnswer}
+use Rattle.hg_model.specs.declared.answers.PutAnswer.TheVariants.{Accepted, Known, Refused}
+use Rattle.hg_model.specs.declared.answers.MakeAnswer.{MakeAnswer}
+use Rattle.hg_model.specs.declared.answers.MakeAnswer.TheVariants as make_answer
+use Rattle.hg_model.specs.Links.{links, link_in, place_of, creator, creator_in}
+use Rattle.hg_model.specs.Forks.{forkers}
+use Rattle.hg_model.specs.Spelling.{body_of, body_bytes, spelling, payload_limit}
+
+-- the greatest number of rows of a node
+abbrev pub row_limit : ℕ
+row_limit = 16384
+
+abbrev pub row_creator_in : Option Row → ℕ
+row_creator_in None = 0
+row_creator_in (Some row) = row.creator
+
+-- the creator of the row at a place
+abbrev pub row_creator : List Row → ℕ → ℕ
+row_creator G p = row_creator_in (slice_get G p)
+
+-- the row of this place has these bytes
+abbrev pub has_bytes : List Row → ℕ → List ℕ → Bool
+has_bytes G p bytes = bytes_eq (unwrap_or (option_map spelling (slice_get G p)) []) bytes
+
+-- some row has the name
+abbrev pub is_held : List Row → List ℕ → Bool
+is_held G name = nat_lt (place_of G name) (length G)
+
+-- the rules of putting: each gives its answer where it holds
+
+abbrev pub member_rule : ℕ → Row → Option PutAnswer
+member_rule n row = if nat_le n row.creator then Some (Refused (fault.Member row.creator)) else None
+
+abbrev pub name_rule : List Row → Row → Option PutAnswer
+name_rule G row =
+    let p = place_of G row.name in
+    if not (nat_lt p (length G)) then None
+    else if has_bytes G p (spelling row) then Some (Known p) else Some (Refused (fault.Collision p))
+
+abbrev pub signature_rule : (ℕ → List ℕ → List ℕ → Bool) → Row → Option PutAnswer
+signature_rule accepts row = if accepts row.creator (body_of row) row.sig then None else Some (Refused fault.Signature)
+
+abbrev pub impostor_rule : ℕ → Row → Option PutAnswer
+impostor_rule own row = if row.creator == own then Some (Refused fault.Impostor) else None
+
+abbrev pub missing_rule : List Row → Option (List ℕ × List ℕ) → Option PutAnswer
+missing_rule G None = None
+missing_rule G (Some names) =
+    if not (is_held G names.0) then Some (Refused (fault.MissingSelf names.0))
+    else if not (is_held G names.1) then Some (Refused (fault.MissingOther names.1)) else None
+
+abbrev pub creator_rule : List Row → ℕ → Option (List ℕ × List ℕ) → Option PutAnswer
+creator_rule G m None = None
+creator_rule G m (Some names) =
+    if not (row_creator G (place_of G names.0) == m) then Some (Refused (fault.SelfCreator (place_of G names.0)))
+    else if row_creator G (place_of G names.1) == m then Some (Refused (fault.OtherCreator (place_of G names.1))) else None
+
+-- how many members have a fork with the row
+abbrev pub forkers_with : ℕ → List Row → Row → ℕ
+forkers_with n G row = forkers n (links (G ++ row ∷ []))
+
+abbrev pub forkers_rule : ℕ → List Row → Row → Option PutAnswer
+forkers_rule n G row =
+    let k = forkers_with n G row in
+    if nat_le n (3 * k) then Some (Refused (fault.TooManyForkers k)) else None
+
+abbrev pub full_rule : List Row → Option PutAnswer
+full_rule G = if nat_le row_limit (length G) then Some (Refused (fault.Full row_limit)) else None
+
+-- what comes of a row that is put to the node of the member `own` with the rows G, among n members
+unfoldable pub verdict : (ℕ → List ℕ → List ℕ → Bool) → ℕ → ℕ → List Row → Row → PutAnswer
+verdict accepts n own G row =
+    unwrap_or
+        (option_or (member_rule n row) (option_or (name_rule G row) (option_or (signature_rule accepts row)
+        (option_or (impostor_rule own row) (option_or (missing_rule G row.parents) (option_or (creator_rule G row.creator row.parents)
+        (option_or (forkers_rule n G row) (full_rule G))))))))
+        (Accepted (length G))
+
+-- the rows after it
+abbrev pub with_answer : List Row → Row → PutAnswer → List Row
+with_answer G row (Accepted p) = G ++ row ∷ []
+with_answer G row (Known p) = G
+with_answer G row (Refused f) = G
+
+-- the rules of making
+
+-- the later of two names: the row's, where the member made it
+abbrev pub later_name : ℕ → Option (List ℕ) → Row → Option (List ℕ)
+later_name m last row = cond (row.creator == m) (Some row.name) last
+
+-- the name of the member's last row
+unfoldable pub last_name : ℕ → List Row → Option (List ℕ)
+last_name m G = fold (later_name m) None G
+
+-- both parents' names, or none
+abbrev pub both_names : Option (List ℕ) → Option (List ℕ) → Option (List ℕ × List ℕ)
+both_names last None = None
+both_names None (Some other) = None
+both_names (Some last) (Some other) = Some (last, other)
+
+-- the event with these fields
+abbrev pub signed_row : ℕ → Option (List ℕ × List ℕ) → ℕ → List ℕ → List ℕ → Row
+signed_row own parents time payload sig = record {
+  creator = own;
+  parents = parents;
+  time = time;
+  payload = payload;
+  sig = sig;
+  name = sha384 (body_bytes own parents time payload ++ sig);
+}
+
+abbrev pub first_rule : Option (List ℕ) → Option (List ℕ) → Option MakeFault
+first_rule None None = None
+first_rule (Some last) None = Some make_fault.HasFirst
+first_rule None (Some other) = Some make_fault.NoFirst
+first_rule (Some last) (Some other) = None
+
+abbrev pub other_rule : ℕ → List Row → Option (List ℕ) → Option MakeFault
+other_rule own G None = None
+other_rule own G (Some other) =
+    if not (is_held G other) then Some (make_fault.MissingOther other)
+    else if row_creator G (place_of G other) == own then Some (make_fault.OtherCreator (place_of G other)) else None
+
+abbrev pub payload_rule : List ℕ → Option MakeFault
+payload_rule payload = if nat_lt payload_limit (length payload) then Some (make_fault.PayloadLong (length payload)) else None
+
+abbrev pub collision_rule : List Row → Row → Option MakeFault
+collision_rule G row = if is_held G row.name then Some (make_fault.Collision (place_of G row.name)) else None
+
+abbrev pub room_rule : List Row → Option MakeFault
+room_rule G = if nat_le row_limit (length G) then Some (make_fault.Full row_limit) else None
+
+-- what is wrong before the event is signed
+abbrev pub draft_rule : ℕ → List Row → Option (List ℕ) → List ℕ → Option MakeFault
+draft_rule own G other payload =
+    option_or (first_rule (last_name own G) other) (option_or (other_rule own G other) (payload_rule payload))
+
+-- the row that the node of the member `own` makes under this signature
+abbrev pub made_row : ℕ → List Row → Option (List ℕ) → ℕ → List ℕ → List ℕ → Row
+made_row own G other time payload sig = signed_row own (both_names (last_name own G) other) time payload sig
+
+abbrev pub made_or : Option MakeFault → ℕ → MakeAnswer
+made_or None place = make_answer.Made place
+made_or (Some fault) place = make_answer.Refused fault
+
+-- what comes of making it
+unfoldable pub making : ℕ → List Row → Option (List ℕ) → ℕ → List ℕ → List ℕ → MakeAnswer
+making own G other time payload sig =
+    made_or (option_or (draft_rule own G other payload)
+        (option_or (collision_rule G (made_row own G other time payload sig)) (room_rule G))) (length G)
+
+-- the rows after it
+abbrev pub with_made : List Row → Row → MakeAnswer → List Row
+with_made G row (make_answer.Made p) = G ++ row ∷ []
+with_made G row (make_answer.Refused f) = G

@@ -1,0 +1,44 @@
+use crate::answers::{MakeAnswer, SyncReport};
+use crate::items::{Bytes, Items};
+use crate::row::Member;
+
+/// A row of a printed order.
+#[derive(Clone, Copy, Debug, PartialEq, Eq)]
+pub struct OrderLine {
+    pub creator: Member,
+    /// How many self-ancestors the row has, other than itself.
+    pub sequence: u64,
+    /// The round that received it.
+    pub received: u32,
+    /// Its consensus timestamp.
+    pub time: u64,
+}
+
+/// What is printed of a node: its counts, its order, and all balances in the order of the members.
+#[derive(Debug, Drop)]
+pub struct Block {
+    pub member: Member,
+    pub events: u64,
+    pub forkers: u32,
+    /// The greatest round, 0 without rows.
+    pub greatest: u32,
+    /// The greatest closed round, or 0.
+    pub closed: u32,
+    pub order: Items<OrderLine>,
+    pub balances: Items<u64>,
+}
+
+/// One piece of the report. `line` is the number of the script's line, from 1.
+#[derive(Debug, Drop)]
+pub enum Printed {
+    Create { line: u64, answer: MakeAnswer },
+    Sync { line: u64, report: SyncReport },
+    Block(Block),
+}
+
+/// All that a run prints, and the names of its members in their order.
+#[derive(Debug, Drop)]
+pub struct Outcome {
+    pub names: Items<Bytes>,
+    pub printed: Items<Printed>,
+}

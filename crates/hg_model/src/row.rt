@@ -1,0 +1,31 @@
+use crate::items::Bytes;
+
+/// A member's number, from 0 in the order of the member file.
+pub type Member = u16;
+
+/// The name of an event: SHA-384 of all its bytes, the signature's included.
+pub type Name = [u8; 48];
+
+/// A signature, 64 bytes.
+pub type Sig = [u8; 64];
+
+/// An event as a node keeps it.
+#[derive(Clone, Debug, Drop)]
+pub struct Row {
+    pub creator: Member,
+    /// The names of the self-parent and of the other-parent.
+    pub parents: Option<(Name, Name)>,
+    /// As the creator claims it, in no unit of ours.
+    pub time: u64,
+    pub payload: Bytes,
+    pub sig: Sig,
+    pub name: Name,
+}
+
+/// A row of the order: its place in the graph, the round that received it, and its consensus timestamp.
+#[derive(Clone, Copy, Debug, PartialEq, Eq)]
+pub struct Placed {
+    pub place: usize,
+    pub received: u32,
+    pub time: u64,
+}
