@@ -1,0 +1,7 @@
+//! The report's procedures computed whole from a list of rows: the yardstick for every faster form.
+//! The layer above uses `plain_order` and `plain_state`, which are the definitions, and `plain_forkers`.
+//! Each relation is filled into a table once, so that time grows with the cube of the rows.
+#![tactic(auto)]
+
+mod sight;
+
