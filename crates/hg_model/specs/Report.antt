@@ -70,7 +70,7 @@ abbrev pub name_of_member : List (List ℕ) → ℕ → List ℕ
 name_of_member names m = unwrap_or (slice_get names m) []
 
 -- the line of a row of the order, numbered from 1. No payload has an effect yet
-unfoldable pub order_line_text : List (List ℕ) → ℕ → OrderLine → List ℕ
+abbrev pub order_line_text : List (List ℕ) → ℕ → OrderLine → List ℕ
 order_line_text names number line =
     decimal number ++ codes " " ++ name_of_member names line.creator ++ counted [] line.sequence
     ++ counted (codes " round") line.received ++ counted (codes " time") line.time ++ codes " -\n"
@@ -80,7 +80,7 @@ abbrev pub order_text : List (List ℕ) → ℕ → List OrderLine → List ℕ
 order_text names number [] = []
 order_text names number (line ∷ lines) = order_line_text names number line ++ order_text names (suc number) lines
 
-unfoldable pub balance_text : List (List ℕ) → ℕ → ℕ → List ℕ
+abbrev pub balance_text : List (List ℕ) → ℕ → ℕ → List ℕ
 balance_text names m balance = codes "balance " ++ name_of_member names m ++ counted [] balance ++ codes "\n"
 
 -- the balances of the members from m on
@@ -89,19 +89,30 @@ balances_text names m [] = []
 balances_text names m (balance ∷ balances) = balance_text names m balance ++ balances_text names (suc m) balances
 
 -- the first line of a block
-unfoldable pub head_text : List (List ℕ) → Block → List ℕ
+abbrev pub head_text : List (List ℕ) → Block → List ℕ
 head_text names b =
     codes "node " ++ name_of_member names b.member ++ counted (codes " events") b.events ++ counted (codes " forkers") b.forkers
     ++ counted (codes " round") b.greatest ++ counted (codes " closed") b.closed ++ counted (codes " ordered") (length b.order) ++ codes "\n"
 
-unfoldable pub block_text : List (List ℕ) → Block → List ℕ
+abbrev pub block_text : List (List ℕ) → Block → List ℕ
 block_text names b = head_text names b ++ order_text names 1 b.order ++ balances_text names 0 b.balances
 
+abbrev pub create_text : ℕ → MakeAnswer → List ℕ
+create_text line answer = decimal line ++ codes " create " ++ make_answer_text answer ++ codes "\n"
+
+abbrev pub sync_line_text : ℕ → SyncReport → List ℕ
+sync_line_text line report = decimal line ++ codes " sync " ++ sync_text report ++ codes "\n"
+
 abbrev pub printed_text : List (List ℕ) → Printed → List ℕ
-printed_text names (printed.Create line answer) = decimal line ++ codes " create " ++ make_answer_text answer ++ codes "\n"
-printed_text names (printed.Sync line report) = decimal line ++ codes " sync " ++ sync_text report ++ codes "\n"
+printed_text names (printed.Create line answer) = create_text line answer
+printed_text names (printed.Sync line report) = sync_line_text line report
 printed_text names (printed.Block b) = block_text names b
 
+-- one piece after the other
+abbrev pub printed_texts : List (List ℕ) → List Printed → List ℕ
+printed_texts names [] = []
+printed_texts names (piece ∷ pieces) = printed_text names piece ++ printed_texts names pieces
+
 -- the text of all that a run prints
-unfoldable pub report_text : Outcome → List ℕ
-report_text o = flat_map (printed_text o.names) o.printed
+abbrev pub report_text : Outcome → List ℕ
+report_text o = printed_texts o.names o.printed
