@@ -1,5 +1,5 @@
 -- Gossip: a node takes from a peer the rows that it lacks, and makes an event. SWIRLDS-TR-2016-01, section 3
-use Rattle.std.specs.Prelude.{ℕ, ◌+◌, not, List, filter, fold, Option, Some, None}
+use Rattle.std.specs.Prelude.{ℕ, ◌+◌, Bool, not, List, [], filter, fold, Option, Some, None}
 use Rattle.hg_model.specs.declared.row.Row.{Row}
 use Rattle.hg_model.specs.declared.answers.PutAnswer.{PutAnswer}
 use Rattle.hg_model.specs.declared.answers.PutAnswer.TheVariants.{Accepted, Known, Refused}
@@ -8,31 +8,59 @@ use Rattle.hg_model.specs.declared.answers.MakeAnswer.TheVariants as make_answer
 use Rattle.hg_model.specs.declared.answers.SyncMade.{SyncMade}
 use Rattle.hg_model.specs.declared.answers.SyncMade.TheVariants as sync_made
 use Rattle.hg_model.specs.declared.answers.SyncReport.{SyncReport}
+use Rattle.hg_model.specs.Members.{MemberList}
+use Rattle.hg_model.specs.Signing.{signature_of, accepts_signature}
 use Rattle.hg_model.specs.Spelling.{body_bytes}
 use Rattle.hg_model.specs.Verdict.{verdict, with_answer, is_held, last_name, both_names, making, made_row, with_made}
 
--- who signs, what is accepted, and how many members there are
+-- how events are signed, and which signatures are accepted: by a member, of the signed bytes
 pub record Keys : Type 0 where
-  pub members : ℕ
   pub sign : ℕ → List ℕ → List ℕ
-  pub accepts : ℕ → List ℕ → List ℕ → Rattle.std.specs.Prelude.Bool
+  pub accepts : ℕ → List ℕ → List ℕ → Bool
 
--- the signature of the event that the node of the member `own` makes
-abbrev pub signature_for : Keys → ℕ → List Row → Option (List ℕ) → ℕ → List ℕ → List ℕ
-signature_for keys own G other time payload = keys.sign own (body_bytes own (both_names (last_name own G) other) time payload)
+-- the program's own keys, by the members' secrets
+abbrev pub keys_of : MemberList → Keys
+keys_of members = record { sign = signature_of members; accepts = accepts_signature members }
+
+-- a node: how many members there are, which of them is its own, and its rows
+pub record NodeState : Type 0 where
+  pub members : ℕ
+  pub own : ℕ
+  pub rows : List Row
+
+-- the node with other rows
+abbrev pub with_rows : NodeState → List Row → NodeState
+with_rows s rows = record { members = s.members; own = s.own; rows = rows }
+
+abbrev pub new_node : ℕ → ℕ → NodeState
+new_node members own = record { members = members; own = own; rows = [] }
+
+-- the signature of the event that the node makes
+abbrev pub signature_for : Keys → NodeState → Option (List ℕ) → ℕ → List ℕ → List ℕ
+signature_for keys s other time payload =
+    keys.sign s.own (body_bytes s.own (both_names (last_name s.own s.rows) other) time payload)
 
 -- what comes of the event that the node makes
-abbrev pub making_by : Keys → ℕ → List Row → Option (List ℕ) → ℕ → List ℕ → MakeAnswer
-making_by keys own G other time payload = making own G other time payload (signature_for keys own G other time payload)
+abbrev pub making_by : Keys → NodeState → Option (List ℕ) → ℕ → List ℕ → MakeAnswer
+making_by keys s other time payload = making s.own s.rows other time payload (signature_for keys s other time payload)
 
--- the rows after it
-abbrev pub rows_made_by : Keys → ℕ → List Row → Option (List ℕ) → ℕ → List ℕ → List Row
-rows_made_by keys own G other time payload =
-    with_made G (made_row own G other time payload (signature_for keys own G other time payload)) (making_by keys own G other time payload)
+-- the node after it
+abbrev pub node_made : Keys → NodeState → Option (List ℕ) → ℕ → List ℕ → NodeState
+node_made keys s other time payload =
+    with_rows s (with_made s.rows (made_row s.own s.rows other time payload (signature_for keys s other time payload))
+        (making_by keys s other time payload))
+
+-- what comes of a row that is put to the node
+abbrev pub verdict_by : Keys → NodeState → Row → PutAnswer
+verdict_by keys s row = verdict keys.accepts s.members s.own s.rows row
+
+-- the node after it
+abbrev pub node_put : Keys → NodeState → Row → NodeState
+node_put keys s row = with_rows s (with_answer s.rows row (verdict_by keys s row))
 
 -- a node that takes rows, and what came of them so far
 pub record Taking : Type 0 where
-  pub rows : List Row
+  pub node : NodeState
   pub taken : ℕ
   pub refused : ℕ
 
@@ -46,39 +74,50 @@ count_refused (Accepted p) = 0
 count_refused (Known p) = 0
 count_refused (Refused f) = 1
 
--- one row more is put to the node of the member `own`
-abbrev pub take_row : Keys → ℕ → Taking → Row → Taking
-take_row keys own t row =
-    let answer = verdict keys.accepts keys.members own t.rows row in
-    record { rows = with_answer t.rows row answer; taken = t.taken + count_taken answer; refused = t.refused + count_refused answer }
+-- one row more is put to the node
+abbrev pub take_row : Keys → Taking → Row → Taking
+take_row keys t row = record {
+  node = node_put keys t.node row;
+  taken = t.taken + count_taken (verdict_by keys t.node row);
+  refused = t.refused + count_refused (verdict_by keys t.node row);
+}
 
 -- the rows of H whose names G lacks, in their order
 abbrev pub lacking : List Row → List Row → List Row
 lacking G H = filter (λ row. not (is_held G row.name)) H
 
--- the node of the member `own` with the rows G takes from a node with the rows H
-unfoldable pub taking : Keys → ℕ → List Row → List Row → Taking
-taking keys own G H = fold (take_row keys own) (record { rows = G; taken = 0; refused = 0 }) (lacking G H)
+-- the node takes these rows, one after the other
+unfoldable pub taking : Keys → NodeState → List Row → Taking
+taking keys s rows = fold (take_row keys) (record { node = s; taken = 0; refused = 0 }) rows
 
 abbrev pub made_in_sync : MakeAnswer → SyncMade
 made_in_sync (make_answer.Made p) = sync_made.Row p
 made_in_sync (make_answer.Refused f) = sync_made.Fault f
 
 -- what comes of the event at the end of a sync, whose other-parent is the peer's last own row
-abbrev pub made_after : Keys → ℕ → List Row → Option (List ℕ) → ℕ → List ℕ → SyncMade
-made_after keys own G None time payload = sync_made.PeerBare
-made_after keys own G (Some other) time payload = made_in_sync (making_by keys own G (Some other) time payload)
+abbrev pub made_after : Keys → NodeState → Option (List ℕ) → ℕ → List ℕ → SyncMade
+made_after keys s None time payload = sync_made.PeerBare
+made_after keys s (Some other) time payload = made_in_sync (making_by keys s (Some other) time payload)
 
-abbrev pub rows_made_after : Keys → ℕ → List Row → Option (List ℕ) → ℕ → List ℕ → List Row
-rows_made_after keys own G None time payload = G
-rows_made_after keys own G (Some other) time payload = rows_made_by keys own G (Some other) time payload
+abbrev pub node_after : Keys → NodeState → Option (List ℕ) → ℕ → List ℕ → NodeState
+node_after keys s None time payload = s
+node_after keys s (Some other) time payload = node_made keys s (Some other) time payload
 
--- what comes of a sync of the member `own`, with the rows G, from the member `peer`, with the rows H
-unfoldable pub sync_report : Keys → ℕ → List Row → ℕ → List Row → ℕ → List ℕ → SyncReport
-sync_report keys own G peer H time payload =
-    let t = taking keys own G H in
-    record { taken = t.taken; refused = t.refused; made = made_after keys own t.rows (last_name peer H) time payload }
+-- a sync with what a peer hands over: the rows that the node lacks, and the name of the peer's last own row
+abbrev pub report_with : Keys → NodeState → List Row → Option (List ℕ) → ℕ → List ℕ → SyncReport
+report_with keys s rows last time payload = record {
+  taken = (taking keys s rows).taken;
+  refused = (taking keys s rows).refused;
+  made = made_after keys (taking keys s rows).node last time payload;
+}
 
--- the rows of the member `own` after it
-unfoldable pub rows_synced : Keys → ℕ → List Row → ℕ → List Row → ℕ → List ℕ → List Row
-rows_synced keys own G peer H time payload = rows_made_after keys own (taking keys own G H).rows (last_name peer H) time payload
+abbrev pub node_with : Keys → NodeState → List Row → Option (List ℕ) → ℕ → List ℕ → NodeState
+node_with keys s rows last time payload = node_after keys (taking keys s rows).node last time payload
+
+-- what comes of a sync of the node from a peer
+abbrev pub sync_report : Keys → NodeState → NodeState → ℕ → List ℕ → SyncReport
+sync_report keys s peer time payload = report_with keys s (lacking s.rows peer.rows) (last_name peer.own peer.rows) time payload
+
+-- the node after it
+abbrev pub node_synced : Keys → NodeState → NodeState → ℕ → List ℕ → NodeState
+node_synced keys s peer time payload = node_with keys s (lacking s.rows peer.rows) (last_name peer.own peer.rows) time payload

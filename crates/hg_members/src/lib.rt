@@ -1,0 +1,4 @@
+//! The member file: who the members are, read from TOML.
+//! The layer above uses `read_members`, which gives the members, or the first fault in the order of checks.
+//! What TOML is, is what the kit's `toml` takes.
+#![tactic(auto)]
