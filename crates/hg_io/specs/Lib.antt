@@ -2,3 +2,4 @@ pub mod Answers
 pub mod Bytes
 pub mod Faults
 pub mod Files
+pub mod SinkState

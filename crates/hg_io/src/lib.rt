@@ -7,8 +7,10 @@ mod gate;
 mod reading;
 mod shelf;
 mod sink;
+mod sink_mem;
 
 pub use gate::{Gate, NoGate};
 pub use reading::{FileAnswer, read_file};
 pub use shelf::Shelf;
 pub use sink::{Failed, Sink, write_all};
+pub use sink_mem::SinkMem;
