@@ -1,5 +1,6 @@
 -- A sink in memory, as its users see it.
-use Rattle.std.specs.Prelude.{◌≡◌, ℕ, ◌+◌, ◌-◌, ◌^◌, ◌<◌, ◌≤◌, ◌⊎◌, List, [], ◌++◌, length, min, take, Contains, Result, Ok, Err}
+use Rattle.std.specs.Prelude.{ℕ, ◌-◌, ◌<◌, ◌≤◌, ◌⊎◌, List, [], ◌++◌, length, min, take, Contains, Result, Ok, Err}
+use Rattle.hg_io.specs.Faults.{counted}
 
 pub record SinkState : Type 0 where
   -- what it took so far, and the greatest number of bytes that it takes in all
@@ -24,10 +25,6 @@ Refuses s piece = Contains s.fails s.calls ⊎ ((s.room ≤ length s.bytes) × (
 -- how many bytes of this piece it takes, if it does not fail
 abbrev pub taken_count : SinkState → List ℕ → ℕ
 taken_count s piece = min (min (length piece) s.most) (s.room - length s.bytes)
-
--- one more, up to the last value of a counter of 64 bits
-abbrev pub counted : ℕ → ℕ
-counted n = min (n + 1) (2 ^ 64 - 1)
 
 -- the sink after a call with this piece that gave this
 abbrev pub after_write : {E : Type 0} → SinkState → List ℕ → Result ℕ E → SinkState

@@ -6,11 +6,13 @@
 mod gate;
 mod reading;
 mod shelf;
+mod shelf_mem;
 mod sink;
 mod sink_mem;
 
 pub use gate::{Gate, NoGate};
 pub use reading::{FileAnswer, read_file};
 pub use shelf::Shelf;
+pub use shelf_mem::ShelfMem;
 pub use sink::{Failed, Sink, write_all};
 pub use sink_mem::SinkMem;

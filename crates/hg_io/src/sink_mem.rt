@@ -22,16 +22,14 @@ impl Model for SinkMem {
 
     ghost Value = { SinkState };
 
-    ghost view = {
-        λ s. record {
-          bytes = s.bytes.items;
-          room = s.room;
-          most = s.most;
-          fails = s.fails.items;
-          calls = s.calls;
-          faults = s.faults
-        }
-    };
+    ghost view = { λ s. record {
+      bytes = s.bytes.items;
+      room = s.room;
+      most = s.most;
+      fails = s.fails.items;
+      calls = s.calls;
+      faults = s.faults;
+    } };
 
     ghost invariant = { λ s. (vec_len s.bytes ≤ s.room) × (s.room ≤ vec_capacity s.bytes) × (1 ≤ s.most) };
 }
