@@ -1,0 +1,21 @@
+-- Bytes that are appended in two pieces.
+use Rattle.std.proofs.Common.{◌≡◌, ℕ, ◌+◌, List, ◌++◌, Option, Some, None, option_map, take, drop, sym, ap, ◌∙◌, append_assoc, arith, refl, rules}
+use Rattle.std.proofs.lemmas.List.{take-append-drop, take-take, drop-take, take_rest}
+use Rattle.hg_io.specs.Bytes.{Appends}
+
+option_map-append : (told : Option (List ℕ)) (x y : List ℕ)
+    → option_map (λ held. held ++ y) (option_map (λ held. held ++ x) told) ≡ option_map (λ held. held ++ (x ++ y)) told
+option_map-append None x y = refl
+option_map-append (Some held) x y = ap (λ (h : List ℕ). Some h) (append_assoc held x y)
+
+-- the first n and then the next m are the first n + m
+take-plus : (n m : ℕ) (xs : List ℕ) → take (n + m) xs ≡ take n xs ++ take m (drop n xs)
+take-plus n m xs =
+    let parts = take-append-drop n (take (n + m) xs) in
+    sym (rw (take-take n (n + m) xs (omega arith), drop-take n m xs) at parts)
+
+-- after the first n bytes, the first m of the rest
+pub Appends-rest : (before between after : Option (List ℕ)) (n m : ℕ) (xs : List ℕ)
+    → Appends before between (take n xs) → Appends between after (take m (drop n xs)) → Appends before after (take (n + m) xs)
+Appends-rest before between after n m xs first second =
+    rw (take-plus n m xs) (second ∙ ap (option_map (λ held. held ++ take m (drop n xs))) first ∙ option_map-append before (take n xs) (take m (drop n xs)))

@@ -1,0 +1,60 @@
+-- A shelf in memory, as its users see it.
+use Rattle.std.specs.Prelude.{◌≡◌, ℕ, ◌+◌, ◌<◌, List, [], drop, length, replicate, slice_index, slice_set, Option, Some, None, option_and_then, option_map, slice_get, unwrap_or, Result, Ok, Err}
+use Rattle.hg_io.specs.Faults.{counted}
+use Rattle.hg_io.specs.Files.{Files, content_of, place_of}
+
+pub record ShelfState : Type 0 where
+  pub files : Files
+  -- the place of the started file, and its bytes that are still to come
+  pub started : Option ℕ
+  pub left : List ℕ
+  -- the numbers of the calls that fail
+  pub fails : List ℕ
+  -- how many calls there were
+  pub calls : ℕ
+  -- how many of them failed at the name of each file, and last at any other name
+  pub faults : List ℕ
+
+-- a shelf that was not called yet
+abbrev pub new_shelf : Files → List ℕ → ShelfState
+new_shelf files fails = record {
+  files = files;
+  started = None;
+  left = [];
+  fails = fails;
+  calls = 0;
+  faults = replicate (length files + 1) 0;
+}
+
+-- the bytes of the started file
+abbrev pub started_bytes : Files → Option ℕ → List ℕ
+started_bytes files started = unwrap_or (option_map (λ file. file.1) (option_and_then (slice_get files) started)) []
+
+-- the file of this name is started
+abbrev pub IsAt : ShelfState → List ℕ → Type 0
+IsAt s name = (s.started ≡ Some (place_of s.files name)) × (place_of s.files name < length s.files)
+
+-- how many calls failed at this name
+abbrev pub faults_at : ShelfState → List ℕ → ℕ
+faults_at s name = slice_index s.faults (place_of s.files name)
+
+-- the shelf after a call with this name that failed
+abbrev pub after_fault : ShelfState → List ℕ → ShelfState
+after_fault s name = record s {
+  calls = counted s.calls;
+  faults = slice_set s.faults (place_of s.files name) (counted (faults_at s name));
+}
+
+-- the shelf after a start of this name that gave this
+abbrev pub after_start : {T E : Type 0} → ShelfState → List ℕ → Result T E → ShelfState
+after_start s name (Ok x) = record s {
+  started = Some (place_of s.files name);
+  left = unwrap_or (content_of s.files name) [];
+  calls = counted s.calls;
+}
+after_start s name (Err e) = after_fault s name
+
+-- the shelf after a read with this name that gave this
+abbrev pub after_read : {E : Type 0} → ShelfState → List ℕ → Result ℕ E → ShelfState
+after_read s name (Ok k) = record s { left = drop k s.left; calls = counted s.calls }
+after_read s name (Err e) = after_fault s name
