@@ -1,1 +1,2 @@
+pub mod LinkLaws
 mod Worked
