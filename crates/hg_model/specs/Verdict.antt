@@ -101,7 +101,7 @@ abbrev pub later_name : ℕ → Option (List ℕ) → Row → Option (List ℕ)
 later_name m last row = cond (row.creator == m) (Some row.name) last
 
 -- the name of the member's last row
-unfoldable pub last_name : ℕ → List Row → Option (List ℕ)
+abbrev pub last_name : ℕ → List Row → Option (List ℕ)
 last_name m G = fold (later_name m) None G
 
 -- both parents' names, or none

@@ -1,13 +1,7 @@
-// A library with one function.
+//! The program in one call: words, files, nodes, report.
+//! `main` uses `hashgraph`, whose clauses say what it writes for which files, and the cause of each status.
+//! The nodes are lists of rows, and everything is computed whole.
 #![tactic(auto)]
 
-ghost use Rattle.std.specs.Prelude.{◌≡◌};
-ghost use Rattle.hg_top.specs.Echo.{echo_of};
-
-// The `ensures` clause is the contract: what `echo` returns is `echo_of` of its argument, a definition
-// in `specs/Echo.antt`, which a caller's clause can cite too.
-pub fn echo(x: usize) -> usize
-    ensures { result ≡ echo_of x }
-{
-    x
-}
+mod rules;
+mod words;

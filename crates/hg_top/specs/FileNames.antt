@@ -1,0 +1,7 @@
+-- The names of the two files as the program keeps them
+use Rattle.std.specs.Prelude.{ℕ, List}
+use Rattle.hg_top.specs.declared.words.FileNames.{FileNames}
+use Rattle.hg_top.specs.Words.{Request}
+
+abbrev pub request : FileNames → Request
+request names = record { members = names.members.now; script = names.script.now }

@@ -1,0 +1,3 @@
+pub mod Play
+pub mod Words
+pub mod FileNames

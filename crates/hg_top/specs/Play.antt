@@ -1,0 +1,78 @@
+-- A script played over the members' nodes, one line after the other, and what it prints
+use Rattle.std.specs.Prelude.{ℕ, Bool, false, List, [], ◌∷◌, ◌++◌, length, fold, map, Option, None, slice_get, slice_set, option_map, unwrap_or}
+use Rattle.hg_model.specs.declared.row.Row.{Row}
+use Rattle.hg_model.specs.declared.members.MemberEntry.{MemberEntry}
+use Rattle.hg_model.specs.declared.outcome.Printed.{Printed}
+use Rattle.hg_model.specs.declared.outcome.Printed.TheVariants as printed
+use Rattle.hg_model.specs.declared.outcome.Outcome.{Outcome}
+use Rattle.hg_model.specs.Members.{MemberList}
+use Rattle.hg_model.specs.Places.{list_below, table}
+use Rattle.hg_model.specs.Gossip.{NodeState, new_node, keys_of, making_by, node_made, sync_report, node_synced}
+use Rattle.hg_model.specs.Ledger.{block_of, names_of}
+use Rattle.hg_script.specs.declared.line.Line.{Line}
+use Rattle.hg_script.specs.declared.line.Action.{Action}
+use Rattle.hg_script.specs.declared.line.Action.TheVariants.{Create, Sync}
+
+-- the nodes of the members, in their order, and what was printed so far
+pub record World : Type 0 where
+  pub nodes : List NodeState
+  pub printed : List Printed
+
+abbrev pub world : List NodeState → List Printed → World
+world nodes printed = record { nodes = nodes; printed = printed }
+
+-- the node of a member; one without rows for a number that is no member's
+abbrev pub node_at : List NodeState → ℕ → NodeState
+node_at nodes m = unwrap_or (slice_get nodes m) (new_node 0 0)
+
+-- each member begins with a node without rows
+abbrev pub new_nodes : MemberList → List NodeState
+new_nodes members = table (new_node (length members.entries)) (length members.entries)
+
+-- the node of a member makes its first event
+abbrev pub created : MemberList → List NodeState → ℕ → ℕ → NodeState
+created members nodes m time = node_made (keys_of members) (node_at nodes m) None time []
+
+-- the taker's node syncs from the peer's
+abbrev pub synced : MemberList → List NodeState → ℕ → ℕ → ℕ → NodeState
+synced members nodes taker peer time = node_synced (keys_of members) (node_at nodes taker) (node_at nodes peer) time []
+
+-- the nodes after an action
+abbrev pub nodes_after : MemberList → List NodeState → Action → List NodeState
+nodes_after members nodes (Create m time) = slice_set nodes m (created members nodes m time)
+nodes_after members nodes (Sync taker peer time) = slice_set nodes taker (synced members nodes taker peer time)
+
+-- what an action prints, under the line's number
+abbrev pub printed_by : MemberList → List NodeState → ℕ → Action → Printed
+printed_by members nodes number (Create m time) =
+    printed.Create number (making_by (keys_of members) (node_at nodes m) None time [])
+printed_by members nodes number (Sync taker peer time) =
+    printed.Sync number (sync_report (keys_of members) (node_at nodes taker) (node_at nodes peer) time [])
+
+-- a line is played
+abbrev pub after_line : MemberList → World → Line → World
+after_line members w line =
+    world (nodes_after members w.nodes line.action) (w.printed ++ printed_by members w.nodes line.number line.action ∷ [])
+
+-- the world after the lines
+unfoldable pub after_lines : MemberList → List Line → World
+after_lines members lines = fold (after_line members) (world (new_nodes members) []) lines
+
+-- the member has a node
+abbrev pub has_node_at : List MemberEntry → ℕ → Bool
+has_node_at entries m = unwrap_or (option_map (λ (e : MemberEntry). e.has_node) (slice_get entries m)) false
+
+-- the block of the node of a member
+abbrev pub final_block : MemberList → List NodeState → ℕ → Printed
+final_block members nodes m = printed.Block (block_of members m (node_at nodes m).rows)
+
+-- the blocks of all nodes, in the order of the members
+abbrev pub final_blocks : MemberList → List NodeState → List Printed
+final_blocks members nodes = list_below (final_block members nodes) (length members.entries) (has_node_at members.entries)
+
+-- all that a run prints: what its lines print, and at last the block of each node
+unfoldable pub play : MemberList → List Line → Outcome
+play members lines = record {
+  names = names_of members;
+  printed = (after_lines members lines).printed ++ final_blocks members (after_lines members lines).nodes;
+}
