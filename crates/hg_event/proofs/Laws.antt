@@ -8,11 +8,12 @@ use Rattle.hg_model.specs.declared.row.Row.{Row}
 use Rattle.hg_model.specs.declared.answers.ByteFault.{ByteFault}
 use Rattle.hg_model.specs.declared.answers.ByteFault.TheVariants.{Trailing}
 use Rattle.hg_model.specs.Spelling.{HasSpelling, Spells, body_bytes, body_of, magic, parent_bytes, payload_bytes, spelling}
+use Rattle.hg_model.specs.Verdict.{signed_row}
 use Rattle.hg_model.specs.Reading.{◌>>=◌, after_magic, bytes_field, number_field, parents_field, payload_field, read_event}
 use Rattle.std.specs.Prelude.{IfOk}
 use Rattle.hg_event.specs.declared.view.EventView.{EventView}
 use Rattle.hg_event.specs.View.{Gives, row_of}
-use Rattle.hg_event.proofs.Reading.{AreBytes, bytes_again, bytes_took, eight_bytes, magic_again, magic_took, number_again, number_took, parents_again, parents_took, payload_again, payload_took, same_done, then_took, two_bytes, was_true, went_on}
+use Rattle.hg_event.proofs.Reading.{AreBytes, bytes_again, bytes_took, done, eight_bytes, magic_again, magic_took, number_again, number_took, parents_again, parents_took, payload_again, payload_took, same_done, then_took, two_bytes, was_true, went_on}
 
 -- the brackets of a spelling
 regrouped : (a b c d e f : List ℕ) → a ++ (b ++ (c ++ (d ++ (e ++ f)))) ≡ (a ++ (b ++ (c ++ (d ++ e)))) ++ f
@@ -81,3 +82,21 @@ Spells-body_of bytes row spells =
 pub found_in : (bytes : List ℕ) (r : Result EventView ByteFault) → AreBytes bytes → Gives row_of r (read_event bytes) → IfOk r (λ view. Spells bytes (row_of view))
 found_in bytes (Ok view) fit given = read_event-Spells bytes (row_of view) fit given
 found_in bytes (Err fault) fit given = tt
+
+-- the row's name is that of its fields
+Spells-signed_row : (bytes : List ℕ) (row : Row) → Spells bytes row → row ≡ signed_row row.creator row.parents row.time row.payload row.sig
+unfolding spelling body_of
+Spells-signed_row bytes row spells = ap (λ (name : List ℕ). record row { name = name }) (spells.named ∙ ap sha384 spells.spelled)
+
+-- the fields, one read after the other, and what is signed of them
+pub fields_read : (bytes rest : List ℕ) (creator : ℕ × List ℕ) (parents : Option (List ℕ × List ℕ) × List ℕ) (time : ℕ × List ℕ) (payload sig : List ℕ × List ℕ) → AreBytes bytes
+    → after_magic (length bytes) bytes ≡ Ok rest → number_field (length bytes) w16 rest ≡ Ok creator → parents_field (length bytes) creator.1 ≡ Ok parents
+    → number_field (length bytes) w64 parents.1 ≡ Ok time → payload_field (length bytes) time.1 ≡ Ok payload → bytes_field (length bytes) 64 payload.1 ≡ Ok sig
+    → eqb (length sig.1) 0 ≡ true
+    → (read_event bytes ≡ Ok (signed_row creator.0 parents.0 time.0 payload.0 sig.0)) × (take (length bytes - 64) bytes ≡ body_bytes creator.0 parents.0 time.0 payload.0)
+unfolding read_event body_of
+fields_read bytes rest creator parents time payload sig fit a b c d e f ended =
+    let row : Row = record { creator = creator.0; parents = parents.0; time = time.0; payload = payload.0; sig = sig.0; name = sha384 bytes } in
+    let read : read_event bytes ≡ Ok row = rw (a, b, c, d, e, f, ended) refl in
+    let spells = read_event-Spells bytes row fit read in
+    (read ∙ ap done (Spells-signed_row bytes row spells), Spells-body_of bytes row spells)
