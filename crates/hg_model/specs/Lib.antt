@@ -10,6 +10,7 @@ pub mod Votes
 pub mod Fame
 pub mod Order
 pub mod Spelling
+pub mod Reading
 pub mod Signing
 pub mod Verdict
 pub mod Gossip

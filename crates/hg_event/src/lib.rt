@@ -1,0 +1,13 @@
+//! Events in bytes: their one spelling, written for a maker and read for a node.
+//! What is read is borrowed, and reading takes no memory.
+//! The layers above use that `decode` is `read_event`, the row that the bytes spell or their first fault.
+#![tactic(auto)]
+
+mod fields;
+mod read;
+mod view;
+mod write;
+
+pub use read::{body_of, decode};
+pub use view::EventView;
+pub use write::{encode, encode_body};

@@ -1,0 +1,20 @@
+ghost use Rattle.std.specs.Prelude.{◌≡◌, option_map};
+ghost use Rattle.hg_model.specs.Spelling.{body_bytes};
+
+use hg_model::{Member, Name, Sig};
+
+/// An event that lies in bytes.
+#[derive(Clone, Copy, Debug)]
+pub struct EventView<'a> {
+    pub creator: Member,
+    /// The names of the self-parent and of the other-parent.
+    pub parents: Option<(&'a Name, &'a Name)>,
+    /// As the creator claims it, in no unit of ours.
+    pub time: u64,
+    /// At most 1,024 bytes.
+    pub payload: &'a [u8],
+    pub sig: &'a Sig,
+    pub(crate) body: &'a [u8],
+    // The body is what the creator signed of these fields.
+    pub ghost spelled: { body.now ≡ body_bytes creator (option_map (λ names. (names.0.now, names.1.now)) parents) time payload.now },
+}
