@@ -1,2 +1,3 @@
 pub mod LinkLaws
 mod Worked
+pub mod NameLaws

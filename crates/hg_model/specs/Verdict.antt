@@ -79,14 +79,16 @@ forkers_rule n G row =
 abbrev pub full_rule : List Row → Option PutAnswer
 full_rule G = if nat_le row_limit (length G) then Some (Refused (fault.Full row_limit)) else None
 
+-- what is wrong with a row before the forks that it would make are counted
+abbrev pub arrival_rule : (ℕ → List ℕ → List ℕ → Bool) → ℕ → ℕ → List Row → Row → Option PutAnswer
+arrival_rule accepts n own G row =
+    option_or (member_rule n row) (option_or (name_rule G row) (option_or (signature_rule accepts row)
+    (option_or (impostor_rule own row) (option_or (missing_rule G row.parents) (creator_rule G row.creator row.parents)))))
+
 -- what comes of a row that is put to the node of the member `own` with the rows G, among n members
-unfoldable pub verdict : (ℕ → List ℕ → List ℕ → Bool) → ℕ → ℕ → List Row → Row → PutAnswer
+abbrev pub verdict : (ℕ → List ℕ → List ℕ → Bool) → ℕ → ℕ → List Row → Row → PutAnswer
 verdict accepts n own G row =
-    unwrap_or
-        (option_or (member_rule n row) (option_or (name_rule G row) (option_or (signature_rule accepts row)
-        (option_or (impostor_rule own row) (option_or (missing_rule G row.parents) (option_or (creator_rule G row.creator row.parents)
-        (option_or (forkers_rule n G row) (full_rule G))))))))
-        (Accepted (length G))
+    unwrap_or (option_or (arrival_rule accepts n own G row) (option_or (forkers_rule n G row) (full_rule G))) (Accepted (length G))
 
 -- the rows after it
 abbrev pub with_answer : List Row → Row → PutAnswer → List Row
@@ -156,7 +158,7 @@ made_or None place = make_answer.Made place
 made_or (Some fault) place = make_answer.Refused fault
 
 -- what comes of making it
-unfoldable pub making : ℕ → List Row → Option (List ℕ) → ℕ → List ℕ → List ℕ → MakeAnswer
+abbrev pub making : ℕ → List Row → Option (List ℕ) → ℕ → List ℕ → List ℕ → MakeAnswer
 making own G other time payload sig =
     made_or (option_or (draft_rule own G other payload)
         (option_or (collision_rule G (made_row own G other time payload sig)) (room_rule G))) (length G)
