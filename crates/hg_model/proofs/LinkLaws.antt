@@ -10,14 +10,7 @@ use Rattle.hg_model.specs.Places.{has_place, IsEarlier}
 use Rattle.hg_model.specs.Links.{Link, parent_names, is_named, place_of, link_in, links, parents_in, creator_in, first_place, later_places, parents, self_parent, other_parents, creator}
 use Rattle.hg_model.specs.Graph.{IsShaped}
 use Rattle.hg_model.specs.Verdict.{row_creator, row_creator_in}
-
--- each of these names is a row's
-abbrev pub AreHeld : List Row → List (List ℕ) → Type 0
-AreHeld G names = AllByRecursion (λ name. place_of G name < length G) names
-
--- the parents of the row stand among these rows
-pub record IsPresent (G : List Row) (row : Row) : Type 0 where
-  pub held : AreHeld G (parent_names row.parents)
+use Rattle.hg_model.specs.Fits.{AreHeld, IsPresent, ParentsFit, Fits}
 
 abbrev pub nobody : Row
 nobody = record { creator = 0; parents = None; time = 0; payload = []; sig = []; name = [] }
@@ -87,18 +80,6 @@ all_from P d (x ∷ xs) each = (each 0 (omega arith), all_from P d xs (λ k h. e
 
 pub all_present : (n : ℕ) (G : List Row) → IsShaped n (links G) → AllByRecursion (IsPresent G) G
 all_present n G shaped = all_from (IsPresent G) nobody G (present_at n G shaped)
-
--- what a row must meet to come after the rows of a shaped graph: its parents are held, the first of them by its own
--- creator, the later ones by others
-abbrev pub ParentsFit : List Row → ℕ → List (List ℕ) → Type 0
-ParentsFit G m [] = Unit {0}
-ParentsFit G m (own ∷ others) =
-    (row_creator G (place_of G own) ≡ m) × AllByRecursion (λ name. row_creator G (place_of G name) ≢ m) others
-
-pub record Fits (n : ℕ) (G : List Row) (row : Row) : Type 0 where
-  pub member : row.creator < n
-  pub present : IsPresent G row
-  pub parents_fit : ParentsFit G row.creator (parent_names row.parents)
 
 -- a place is before the last, the last, or after it
 cases_last : (n x : ℕ) → (x < n) ⊎ ((x ≡ n) ⊎ (n < x))

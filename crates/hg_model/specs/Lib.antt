@@ -16,3 +16,4 @@ pub mod Verdict
 pub mod Gossip
 pub mod Ledger
 pub mod Report
+pub mod Fits

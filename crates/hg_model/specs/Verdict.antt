@@ -71,10 +71,12 @@ creator_rule G m (Some names) =
 abbrev pub forkers_with : ℕ → List Row → Row → ℕ
 forkers_with n G row = forkers n (links (G ++ row ∷ []))
 
+-- k forking members of n are a third or more
+abbrev pub forkers_answer : ℕ → ℕ → Option PutAnswer
+forkers_answer n k = if nat_le n (3 * k) then Some (Refused (fault.TooManyForkers k)) else None
+
 abbrev pub forkers_rule : ℕ → List Row → Row → Option PutAnswer
-forkers_rule n G row =
-    let k = forkers_with n G row in
-    if nat_le n (3 * k) then Some (Refused (fault.TooManyForkers k)) else None
+forkers_rule n G row = forkers_answer n (forkers_with n G row)
 
 abbrev pub full_rule : List Row → Option PutAnswer
 full_rule G = if nat_le row_limit (length G) then Some (Refused (fault.Full row_limit)) else None
@@ -95,6 +97,11 @@ abbrev pub with_answer : List Row → Row → PutAnswer → List Row
 with_answer G row (Accepted p) = G ++ row ∷ []
 with_answer G row (Known p) = G
 with_answer G row (Refused f) = G
+
+-- the rows with one more, unless there is an answer that refuses it
+abbrev pub unless : Option PutAnswer → List Row → Row → List Row
+unless None G row = G ++ row ∷ []
+unless (Some answer) G row = G
 
 -- the rules of making
 

@@ -1,3 +1,4 @@
 pub mod Play
 pub mod Words
 pub mod FileNames
+pub mod Node

@@ -3,5 +3,6 @@
 //! The nodes are lists of rows, and everything is computed whole.
 #![tactic(auto)]
 
+mod node;
 mod rules;
 mod words;

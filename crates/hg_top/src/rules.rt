@@ -1,6 +1,7 @@
 ghost use Rattle.std.specs.Prelude.{◌≡◌, position};
+ghost use Rattle.std.specs.Option.{option_or};
 ghost use Rattle.hg_model.specs.Links.{is_named, place_of};
-ghost use Rattle.hg_model.specs.Verdict.{creator_rule, draft_rule, first_rule, full_rule, has_bytes, is_held, last_name, member_rule, missing_rule, name_rule, other_rule, payload_rule, room_rule, row_creator};
+ghost use Rattle.hg_model.specs.Verdict.{both_names, collision_rule, forkers_answer, impostor_rule, creator_rule, draft_rule, first_rule, full_rule, has_bytes, is_held, last_name, member_rule, missing_rule, name_rule, other_rule, payload_rule, room_rule, row_creator};
 ghost use Rattle.hg_model.specs.Spelling.{payload_limit, spelling};
 
 use hg_model::{Fault, MakeFault, Member, Name, PutAnswer, Row};
@@ -153,4 +154,49 @@ pub(crate) fn draft_rule(rows: &[Row], own: Member, other: &Option<Name>, payloa
     first_rule(&last_name(rows, own), other)
         .or(other_rule(rows, own, other))
         .or(payload_rule(payload))
+}
+
+pub(crate) fn impostor_rule(own: Member, row: &Row) -> Option<PutAnswer>
+    ensures { result ≡ impostor_rule own row.now }
+{
+    if row.creator == own {
+        Some(PutAnswer::Refused(Fault::Impostor))
+    } else {
+        None
+    }
+}
+
+/// What is wrong where so many members have a fork.
+pub(crate) fn forkers_rule(members: u32, forkers: u32) -> Option<PutAnswer>
+    ensures { result ≡ forkers_answer members forkers }
+{
+    if u64::from(members) <= 3 * u64::from(forkers) {
+        Some(PutAnswer::Refused(Fault::TooManyForkers(forkers)))
+    } else {
+        None
+    }
+}
+
+/// Both parents' names, or none.
+pub(crate) fn both_names(last: Option<Name>, other: Option<Name>) -> Option<(Name, Name)>
+    ensures { result ≡ both_names last other }
+{
+    match (last, other) {
+        (Some(last), Some(other)) => Some((last, other)),
+        _ => None,
+    }
+}
+
+/// What is wrong with an event that is signed.
+pub(crate) fn row_rule(rows: &[Row], row: &Row) -> Option<MakeFault>
+    ensures { result ≡ option_or (collision_rule rows.now row.now) (room_rule rows.now) }
+{
+    let place = place_of(rows, &row.name);
+    if place < rows.len() {
+        Some(MakeFault::Collision(place))
+    } else if ROW_LIMIT <= rows.len() {
+        Some(MakeFault::Full(ROW_LIMIT))
+    } else {
+        None
+    }
 }

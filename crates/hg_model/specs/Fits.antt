@@ -1,0 +1,27 @@
+-- What a row must meet to come after the rows of a graph, told by names
+use Rattle.std.specs.Prelude.{ℕ, ◌≡◌, ◌≢◌, ◌<◌, List, [], ◌∷◌, length}
+use Rattle.std.specs.List.{AllByRecursion}
+use Rattle.hg_model.specs.declared.row.Row.{Row}
+use Rattle.hg_model.specs.Links.{parent_names, place_of}
+use Rattle.hg_model.specs.Verdict.{row_creator}
+
+-- each of these names is a row's
+abbrev pub AreHeld : List Row → List (List ℕ) → Type 0
+AreHeld G names = AllByRecursion (λ name. place_of G name < length G) names
+
+-- the parents of the row stand among these rows
+pub record IsPresent (G : List Row) (row : Row) : Type 0 where
+  pub held : AreHeld G (parent_names row.parents)
+
+-- what a row must meet to come after the rows of a shaped graph: its parents are held, the first of them by its own
+-- creator, the later ones by others
+abbrev pub ParentsFit : List Row → ℕ → List (List ℕ) → Type 0
+ParentsFit G m [] = Unit {0}
+ParentsFit G m (own ∷ others) =
+    (row_creator G (place_of G own) ≡ m) × AllByRecursion (λ name. row_creator G (place_of G name) ≢ m) others
+
+pub record Fits (n : ℕ) (G : List Row) (row : Row) : Type 0 where
+  pub member : row.creator < n
+  pub present : IsPresent G row
+  pub parents_fit : ParentsFit G row.creator (parent_names row.parents)
+
