@@ -1,5 +1,5 @@
 -- What a table of secrets signs, and what it accepts.
-use Rattle.std.specs.Prelude.{ℕ, Bool, List, [], map, slice_index_or}
+use Rattle.std.specs.Prelude.{ℕ, Bool, List, [], map, slice_get, unwrap_or}
 use Rattle.std.specs.Str.{bytes_eq}
 use Rattle.hg_model.specs.declared.members.MemberEntry.{MemberEntry}
 use Rattle.hg_model.specs.Members.{MemberList}
@@ -11,7 +11,7 @@ secrets_of members = map (λ (e : MemberEntry). e.secret) members.entries
 
 -- the signature of the bytes by the secret at this place, or by that of no bytes past the last
 abbrev pub signature_by : List (List ℕ) → ℕ → List ℕ → List ℕ
-signature_by secrets m body = hmac_sha512 (slice_index_or secrets m []) body
+signature_by secrets m body = hmac_sha512 (unwrap_or (slice_get secrets m) []) body
 
 -- just that signature is accepted
 abbrev pub accepts_by : List (List ℕ) → ℕ → List ℕ → List ℕ → Bool

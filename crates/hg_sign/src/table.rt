@@ -1,11 +1,13 @@
-ghost use Rattle.std.specs.Prelude.{◌≡◌, true, IfOk, slice_index_or, []};
+ghost use Rattle.std.specs.Prelude.{◌≡◌, true, All, IfOk, map, slice_get, unwrap_or, []};
 ghost use Rattle.std.specs.Str.{bytes_eq};
+ghost use Rattle.hg_model.specs.declared.members.MemberEntry.{MemberEntry};
+ghost use Rattle.hg_model.specs.Members.{IsEntry};
 ghost use Rattle.hg_model.specs.Signing.{accepts_signature, signature_of};
 ghost use Rattle.hg_sign.specs.Table.{accepts_by, secrets_of, signature_by};
 
 use crate::key::Key;
 use crate::signer::{Signer, Verifier};
-use hg_model::{Member, Members, Memory, Sig};
+use hg_model::{Member, MemberEntry, Members, Memory, Sig};
 use std::alloc::Global;
 use std::marker::Model;
 
@@ -35,18 +37,14 @@ impl MacTable {
         ensures signs { IfOk result (λ table. signature_by table ≡ signature_of members.now) }
         ensures accepts { IfOk result (λ table. accepts_by table ≡ accepts_signature members.now) }
     {
-        let entries = members.entries();
+        let keys = keys_of(alloc, members.entries())?;
         let stranger = Key::new(alloc, &[])?;
-        let mut keys = Vec::with_capacity(alloc, entries.len())?;
-        for entry in entries {
-            keys.push(Key::new(alloc, entry.secret.as_slice())?)?;
-        }
         Ok(MacTable { keys, stranger })
     }
 
     /// The key of the member's secret.
     fn key(&self, member: Member) -> &Key
-        ensures { result.now ≡ slice_index_or self.now member [] }
+        ensures { result.now ≡ unwrap_or (slice_get self.now member) [] }
     {
         match self.keys.get(member as usize) {
             Some(key) => key,
@@ -70,6 +68,18 @@ impl Signer for MacTable {
     {
         self.key(member).mac(body)
     }
+}
+
+/// The keys of the members' secrets.
+fn keys_of(alloc: Global, entries: &[MemberEntry]) -> Result<Vec<Key>, Memory>
+    requires { All IsEntry entries.now }
+    ensures { IfOk result (λ keys. keys.items ≡ map (λ (e : MemberEntry). e.secret) entries.now) }
+{
+    let mut keys = Vec::with_capacity(alloc, entries.len())?;
+    for entry in entries {
+        keys.push(Key::new(alloc, entry.secret.as_slice())?)?;
+    }
+    Ok(keys)
 }
 
 /// Whether the signatures are equal. It looks at all bytes, whatever they are, so that
