@@ -1,3 +1,4 @@
 pub mod LinkLaws
 mod Worked
 pub mod NameLaws
+pub mod RuleLaws

