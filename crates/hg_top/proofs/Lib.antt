@@ -1,2 +1,3 @@
 mod WordLaws
 mod PlaceLaws
+mod NodeLaws

@@ -32,6 +32,7 @@ fn has_bytes(alloc: Global, row: &Row, bytes: &[u8]) -> Result<bool, Memory>
     Ok(held.as_slice() == bytes)
 }
 
+#[tactic(auto, unfolding(hg_model::specs::Spelling::body_of))]
 fn signature_rule(alloc: Global, keys: &MacTable, row: &Row) -> Result<Option<PutAnswer>, Memory>
     requires { IsShort row.now }
     ensures { IfOk result (λ answer. answer ≡ signature_rule (accepts_by keys.now) row.now) }
@@ -153,13 +154,15 @@ fn put_row(
     ensures rows { IfOk result (λ answer. rows.new.items ≡ with_answer rows.old.items row answer) }
     ensures node { IsNode (node members own rows.new.items) }
 {
-    if let Some(answer) = arrival_rule(alloc, keys, members, own, rows, &row)? {
-        return Ok(answer);
-    }
-    let place = rows.len();
-    match add_row(alloc, members, rows, row)? {
+    match arrival_rule(alloc, keys, members, own, rows, &row)? {
         Some(answer) => Ok(answer),
-        None => Ok(PutAnswer::Accepted(place)),
+        None => {
+            let place = rows.len();
+            match add_row(alloc, members, rows, row)? {
+                Some(answer) => Ok(answer),
+                None => Ok(PutAnswer::Accepted(place)),
+            }
+        }
     }
 }
 
@@ -179,17 +182,21 @@ fn make_row(
     ensures rows { IfOk result (λ answer. node members own rows.new.items ≡ node_made (keys_by keys.now) (node members own rows.old.items) other time payload.now) }
     ensures node { IsNode (node members own rows.new.items) }
 {
-    if let Some(fault) = draft_rule(rows, own, &other, payload) {
-        return Ok(MakeAnswer::Refused(fault));
+    match draft_rule(rows, own, &other, payload) {
+        Some(fault) => Ok(MakeAnswer::Refused(fault)),
+        None => {
+            let parents = both_names(last_name(rows, own), other);
+            let row = signed_row(alloc, keys, own, parents, time, payload)?;
+            match row_rule(rows, &row) {
+                Some(fault) => Ok(MakeAnswer::Refused(fault)),
+                None => {
+                    let place = rows.len();
+                    rows.push(row)?;
+                    Ok(MakeAnswer::Made(place))
+                }
+            }
+        }
     }
-    let parents = both_names(last_name(rows, own), other);
-    let row = signed_row(alloc, keys, own, parents, time, payload)?;
-    if let Some(fault) = row_rule(rows, &row) {
-        return Ok(MakeAnswer::Refused(fault));
-    }
-    let place = rows.len();
-    rows.push(row)?;
-    Ok(MakeAnswer::Made(place))
 }
 
 // STANDIN
