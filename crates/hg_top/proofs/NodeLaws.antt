@@ -1,5 +1,5 @@
 -- What a node keeps to when it takes or makes a row
-use Rattle.std.proofs.Common.{◌≡◌, ℕ, ◌+◌, ◌<◌, ◌≤◌, List, [], ◌∷◌, ◌++◌, length, get_or, Option, Some, None, arith}
+use Rattle.std.proofs.Common.{◌≡◌, ℕ, suc, ◌+◌, ◌<◌, ◌≤◌, Bool, true, false, not, cond, add-one, refl, drop, filter, List, [], ◌∷◌, ◌++◌, length, get_or, Option, Some, None, arith}
 use Rattle.std.specs.List.{AllByRecursion}
 use Rattle.std.specs.Option.{option_or}
 use Rattle.std.proofs.lemmas.List.{length_push}
@@ -10,7 +10,10 @@ use Rattle.hg_model.specs.Verdict.{row_limit, arrival_rule, forkers_rule, full_r
 use Rattle.hg_model.proofs.LinkLaws.{shaped-push, shaped-none}
 use Rattle.hg_model.proofs.NameLaws.{distinct-push, distinct-none}
 use Rattle.hg_model.proofs.RuleLaws.{arrives, has_room, drafted, admitted}
-use Rattle.hg_top.specs.Node.{IsNode, IsShort, node}
+use Rattle.hg_model.specs.Verdict.{is_held}
+use Rattle.hg_model.specs.Gossip.{lacking}
+use Rattle.std.proofs.Math.Seq.{drop-cons}
+use Rattle.hg_top.specs.Node.{IsNode, IsShort, missing_row, node}
 
 all-push : {A : Type 0} (P : A → Type 0) (xs : List A) (x : A) → AllByRecursion P xs → P x → AllByRecursion P (xs ++ x ∷ [])
 all-push P [] x all here = (here, tt)
@@ -57,3 +60,27 @@ made_is_node n own G H other time payload sig is draft rest grown =
     let d = drafted n own G other payload is.distinct draft in
     let a = admitted G row rest in
     rw grown (node-push n own G row is (record { member = is.own; present = record { held = d.held }; parents_fit = d.parents_fit }) a.new_name d.short a.room)
+
+-- one row more is looked at
+pub lacking-at : (held rows : List Row) (k : ℕ) (d : Row) → k < length rows → missing_row held (get_or rows k d) ++ lacking held (drop (k + 1) rows) ≡ lacking held (drop k rows)
+lacking-at held rows k d inside = rw (add-one, drop-cons rows k d) (one (is_held held (get_or rows k d).name) (get_or rows k d) (lacking held (drop (suc k) rows)))
+  where
+    one : (b : Bool) (row : Row) (rest : List Row) → cond b [] (row ∷ []) ++ rest ≡ cond (not b) (row ∷ rest) rest
+    one true row rest = refl
+    one false row rest = refl
+
+all_either : {A : Type 0} (P : A → Type 0) (x : A) (rest : List A) → P x → AllByRecursion P rest → (b : Bool) → AllByRecursion P (cond b (x ∷ rest) rest)
+all_either P x rest here all true = (here, all)
+all_either P x rest here all false = all
+
+pub all_filter : {A : Type 0} (P : A → Type 0) (test : A → Bool) (xs : List A) → AllByRecursion P xs → AllByRecursion P (filter test xs)
+all_filter P test [] all = tt
+all_filter P test (x ∷ xs) all = all_either P x (filter test xs) all.0 (all_filter P test xs all.1) (test x)
+
+length_either : {A : Type 0} (x : A) (rest : List A) (n : ℕ) → length rest ≤ n → (b : Bool) → length (cond b (x ∷ rest) rest) ≤ suc n
+length_either x rest n few true = omega arith
+length_either x rest n few false = omega arith
+
+pub length-filter-le : {A : Type 0} (test : A → Bool) (xs : List A) → length (filter test xs) ≤ length xs
+length-filter-le test [] = omega arith
+length-filter-le test (x ∷ xs) = length_either x (filter test xs) (length xs) (length-filter-le test xs) (test x)

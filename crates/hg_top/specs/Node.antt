@@ -1,11 +1,11 @@
 -- A node of the program: the keys it signs with, and what its rows keep to
-use Rattle.std.specs.Prelude.{ℕ, ◌<◌, ◌≤◌, List, length}
+use Rattle.std.specs.Prelude.{ℕ, ◌<◌, ◌≤◌, cond, List, [], ◌∷◌, length}
 use Rattle.std.specs.List.{AllByRecursion}
 use Rattle.hg_model.specs.declared.row.Row.{Row}
 use Rattle.hg_model.specs.Links.{links}
 use Rattle.hg_model.specs.Graph.{IsShaped, HasDistinctNames}
 use Rattle.hg_model.specs.Spelling.{payload_limit}
-use Rattle.hg_model.specs.Verdict.{row_limit}
+use Rattle.hg_model.specs.Verdict.{row_limit, is_held}
 use Rattle.hg_model.specs.Gossip.{Keys, NodeState}
 use Rattle.hg_sign.specs.Table.{signature_by, accepts_by}
 
@@ -28,3 +28,7 @@ pub record IsNode (s : NodeState) : Type 0 where
 
 abbrev pub node : ℕ → ℕ → List Row → NodeState
 node members own rows = record { members = members; own = own; rows = rows }
+
+-- the row, unless its name is held
+abbrev pub missing_row : List Row → Row → List Row
+missing_row held row = cond (is_held held row.name) [] (row ∷ [])

@@ -7,7 +7,7 @@ use Rattle.hg_model.specs.declared.outcome.Printed.TheVariants as printed
 use Rattle.hg_model.specs.declared.outcome.Outcome.{Outcome}
 use Rattle.hg_model.specs.Members.{MemberList}
 use Rattle.hg_model.specs.Places.{list_below, table}
-use Rattle.hg_model.specs.Gossip.{NodeState, new_node, keys_of, making_by, node_made, sync_report, node_synced}
+use Rattle.hg_model.specs.Gossip.{Keys, NodeState, new_node, keys_of, making_by, node_made, sync_report, node_synced}
 use Rattle.hg_model.specs.Ledger.{block_of, names_of}
 use Rattle.hg_script.specs.declared.line.Line.{Line}
 use Rattle.hg_script.specs.declared.line.Action.{Action}
@@ -30,33 +30,37 @@ abbrev pub new_nodes : MemberList → List NodeState
 new_nodes members = table (new_node (length members.entries)) (length members.entries)
 
 -- the node of a member makes its first event
-abbrev pub created : MemberList → List NodeState → ℕ → ℕ → NodeState
-created members nodes m time = node_made (keys_of members) (node_at nodes m) None time []
+abbrev pub created : Keys → List NodeState → ℕ → ℕ → NodeState
+created keys nodes m time = node_made keys (node_at nodes m) None time []
 
 -- the taker's node syncs from the peer's
-abbrev pub synced : MemberList → List NodeState → ℕ → ℕ → ℕ → NodeState
-synced members nodes taker peer time = node_synced (keys_of members) (node_at nodes taker) (node_at nodes peer) time []
+abbrev pub synced : Keys → List NodeState → ℕ → ℕ → ℕ → NodeState
+synced keys nodes taker peer time = node_synced keys (node_at nodes taker) (node_at nodes peer) time []
 
 -- the nodes after an action
-abbrev pub nodes_after : MemberList → List NodeState → Action → List NodeState
-nodes_after members nodes (Create m time) = slice_set nodes m (created members nodes m time)
-nodes_after members nodes (Sync taker peer time) = slice_set nodes taker (synced members nodes taker peer time)
+abbrev pub nodes_after : Keys → List NodeState → Action → List NodeState
+nodes_after keys nodes (Create m time) = slice_set nodes m (created keys nodes m time)
+nodes_after keys nodes (Sync taker peer time) = slice_set nodes taker (synced keys nodes taker peer time)
 
 -- what an action prints, under the line's number
-abbrev pub printed_by : MemberList → List NodeState → ℕ → Action → Printed
-printed_by members nodes number (Create m time) =
-    printed.Create number (making_by (keys_of members) (node_at nodes m) None time [])
-printed_by members nodes number (Sync taker peer time) =
-    printed.Sync number (sync_report (keys_of members) (node_at nodes taker) (node_at nodes peer) time [])
+abbrev pub printed_by : Keys → List NodeState → ℕ → Action → Printed
+printed_by keys nodes number (Create m time) =
+    printed.Create number (making_by keys (node_at nodes m) None time [])
+printed_by keys nodes number (Sync taker peer time) =
+    printed.Sync number (sync_report keys (node_at nodes taker) (node_at nodes peer) time [])
 
 -- a line is played
-abbrev pub after_line : MemberList → World → Line → World
-after_line members w line =
-    world (nodes_after members w.nodes line.action) (w.printed ++ printed_by members w.nodes line.number line.action ∷ [])
+abbrev pub after_line : Keys → World → Line → World
+after_line keys w line =
+    world (nodes_after keys w.nodes line.action) (w.printed ++ printed_by keys w.nodes line.number line.action ∷ [])
 
 -- the world after the lines
-unfoldable pub after_lines : MemberList → List Line → World
-after_lines members lines = fold (after_line members) (world (new_nodes members) []) lines
+abbrev pub after_lines : Keys → List NodeState → List Line → World
+after_lines keys nodes lines = fold (after_line keys) (world nodes []) lines
+
+-- the world after all lines of a script
+unfoldable pub played : MemberList → List Line → World
+played members lines = after_lines (keys_of members) (new_nodes members) lines
 
 -- the member has a node
 abbrev pub has_node_at : List MemberEntry → ℕ → Bool
@@ -74,5 +78,5 @@ final_blocks members nodes = list_below (final_block members nodes) (length memb
 unfoldable pub play : MemberList → List Line → Outcome
 play members lines = record {
   names = names_of members;
-  printed = (after_lines members lines).printed ++ final_blocks members (after_lines members lines).nodes;
+  printed = (played members lines).printed ++ final_blocks members (played members lines).nodes;
 }

@@ -1,4 +1,4 @@
-ghost use Rattle.std.specs.Prelude.{◌≡◌, ◌≤◌, ◌<◌, ◌-◌, ◌^◌, IfOk, OnErr, length};
+ghost use Rattle.std.specs.Prelude.{◌++◌, ◌+◌, OnOk, ◌≡◌, ◌≤◌, ◌<◌, ◌-◌, ◌^◌, IfOk, OnErr, length};
 ghost use Rattle.std.specs.List.{AllByRecursion};
 ghost use Rattle.std.specs.Option.{option_or};
 ghost use Rattle.std.specs.Str.{bytes_eq};
@@ -7,14 +7,14 @@ ghost use Rattle.hg_model.specs.Graph.{IsShaped};
 ghost use Rattle.hg_model.specs.Forks.{forkers};
 ghost use Rattle.hg_model.specs.Spelling.{body_bytes, payload_limit, spelling};
 ghost use Rattle.hg_model.specs.Verdict.{arrival_rule, forkers_answer, forkers_rule, full_rule, impostor_rule, name_rule, row_limit, signature_rule, signed_row, unless, verdict, with_answer};
-ghost use Rattle.hg_model.specs.Gossip.{making_by, node_made};
+ghost use Rattle.hg_model.specs.Gossip.{count_refused, count_taken, lacking, making_by, node_made};
 ghost use Rattle.hg_model.specs.Fits.{Fits};
 ghost use Rattle.hg_sign.specs.Table.{accepts_by, signature_by};
-ghost use Rattle.hg_top.specs.Node.{IsNode, IsShort, keys_by, node};
+ghost use Rattle.hg_top.specs.Node.{IsNode, IsShort, keys_by, missing_row, node};
 
 use crate::rules::{
     both_names, creator_rule, draft_rule, forkers_rule, full_rule, impostor_rule, last_name, member_rule,
-    missing_rule, place_of,
+    is_held, missing_rule, place_of,
     row_rule,
 };
 use hg_event::{encode, encode_body};
@@ -22,6 +22,7 @@ use hg_model::{Fault, Items, MakeAnswer, Member, Memory, Name, PutAnswer, Row};
 use hg_name::name_of;
 use hg_sign::{MacTable, Signer, Verifier};
 use std::alloc::Global;
+use std::marker::Model;
 
 /// Whether the row has this spelling.
 fn has_bytes(alloc: Global, row: &Row, bytes: &[u8]) -> Result<bool, Memory>
@@ -196,6 +197,142 @@ fn make_row(
                 }
             }
         }
+    }
+}
+
+/// What a peer hands over in a sync: the rows that the taker lacks, in the peer's order, and the name of the peer's
+/// last own row.
+#[derive(Drop)]
+pub(crate) struct Parcel {
+    rows: Vec<Row>,
+    last: Option<Name>,
+}
+
+/// How many rows were taken, and how many refused.
+#[derive(Clone, Copy)]
+struct Counts {
+    taken: u64,
+    refused: u64,
+}
+
+/// The counts with one answer more.
+fn counted(counts: Counts, answer: &PutAnswer) -> Counts
+    requires { counts.taken + counts.refused < 2 ^ 64 - 1 }
+    ensures taken { result.taken ≡ counts.taken + count_taken answer.now }
+    ensures refused { result.refused ≡ counts.refused + count_refused answer.now }
+{
+    match answer {
+        PutAnswer::Accepted(_) => Counts {
+            taken: counts.taken + 1,
+            refused: counts.refused,
+        },
+        PutAnswer::Known(_) => counts,
+        PutAnswer::Refused(_) => Counts {
+            taken: counts.taken,
+            refused: counts.refused + 1,
+        },
+    }
+}
+
+/// Copies the row to the end of the missing ones, unless its name is held.
+fn push_unless_held(missing: &mut Vec<Row>, held: &[Row], row: &Row) -> Result<(), Memory>
+    ensures { OnOk result (missing.new.items ≡ missing.old.items ++ missing_row held.now row.now) }
+{
+    if !is_held(held, &row.name) {
+        missing.push(row.clone()?)?;
+    }
+    Ok(())
+}
+
+/// The rows whose names are held by none of these.
+fn lacking(alloc: Global, held: &[Row], rows: &[Row]) -> Result<Vec<Row>, Memory>
+    ensures { IfOk result (λ v. v.items ≡ lacking held.now rows.now) }
+{
+    let mut missing = Vec::new(alloc);
+    for row in rows {
+        push_unless_held(&mut missing, held, row)?;
+    }
+    Ok(missing)
+}
+
+/// A member's node: its rows, in the order in which they came.
+#[derive(Drop)]
+pub(crate) struct Node {
+    members: u32,
+    own: Member,
+    rows: Vec<Row>,
+}
+
+impl Model for Node {
+    ghost use Rattle.hg_model.specs.Gossip.{NodeState};
+    ghost use Rattle.hg_top.specs.Node.{IsNode, node};
+
+    ghost Value = { NodeState };
+
+    ghost view = { λ s. node s.members s.own s.rows.items };
+
+    ghost invariant = { λ s. IsNode (node s.members s.own s.rows.items) };
+}
+
+impl Node {
+    ghost use Rattle.hg_model.specs.Gossip.{new_node, lacking, verdict_by, node_put, making_by, node_made, report_with, node_with};
+    ghost use Rattle.hg_model.specs.Verdict.{last_name};
+    ghost use Rattle.hg_top.specs.Node.{IsNode, IsShort, keys_by};
+
+    /// A node without rows. Takes no memory.
+    pub(crate) fn new(alloc: Global, members: u32, own: Member) -> Node
+        requires own { own < members }
+        requires few { members ≤ 128 }
+        ensures { result ≡ new_node members own }
+    {
+        Node {
+            members,
+            own,
+            rows: Vec::new(alloc),
+        }
+    }
+
+    pub(crate) fn rows(&self) -> &[Row]
+        ensures value { result.now ≡ self.now.rows }
+        ensures node { IsNode self.now }
+    {
+        self.rows.as_slice()
+    }
+
+    /// Puts a row, of a payload that is not too long.
+    pub(crate) fn put(&mut self, alloc: Global, keys: &MacTable, row: Row) -> Result<PutAnswer, Memory>
+        requires { IsShort row }
+        ensures answer { IfOk result (λ answer. answer ≡ verdict_by (keys_by keys.now) self.old row) }
+        ensures after { OnOk result (self.new ≡ node_put (keys_by keys.now) self.old row) }
+    {
+        put_row(alloc, keys, self.members, self.own, &mut self.rows, row)
+    }
+
+    /// Makes an event.
+    pub(crate) fn make(
+        &mut self,
+        alloc: Global,
+        keys: &MacTable,
+        other: Option<Name>,
+        time: u64,
+        payload: &[u8],
+    ) -> Result<MakeAnswer, Memory>
+        ensures answer { IfOk result (λ answer. answer ≡ making_by (keys_by keys.now) self.old other time payload.now) }
+        ensures after { OnOk result (self.new ≡ node_made (keys_by keys.now) self.old other time payload.now) }
+    {
+        make_row(alloc, keys, self.members, self.own, &mut self.rows, other, time, payload)
+    }
+
+    /// What this node hands over to one that holds these rows.
+    pub(crate) fn parcel_for(&self, alloc: Global, held: &[Row]) -> Result<Parcel, Memory>
+        ensures rows { IfOk result (λ parcel. parcel.rows.items ≡ lacking held.now self.now.rows) }
+        ensures short { IfOk result (λ parcel. AllByRecursion IsShort parcel.rows.items) }
+        ensures few { IfOk result (λ parcel. length parcel.rows.items ≤ row_limit) }
+        ensures last { IfOk result (λ parcel. parcel.last ≡ last_name self.now.own self.now.rows) }
+    {
+        let rows = lacking(alloc, held, self.rows.as_slice())?;
+        let last = last_name(self.rows.as_slice(), self.own);
+        Ok(Parcel { rows, last })
     }
 }
 
