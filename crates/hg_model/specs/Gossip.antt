@@ -87,7 +87,7 @@ abbrev pub lacking : List Row → List Row → List Row
 lacking G H = filter (λ row. not (is_held G row.name)) H
 
 -- the node takes these rows, one after the other
-unfoldable pub taking : Keys → NodeState → List Row → Taking
+abbrev pub taking : Keys → NodeState → List Row → Taking
 taking keys s rows = fold (take_row keys) (record { node = s; taken = 0; refused = 0 }) rows
 
 abbrev pub made_in_sync : MakeAnswer → SyncMade

@@ -6,7 +6,7 @@ use Rattle.hg_model.specs.Links.{links}
 use Rattle.hg_model.specs.Graph.{IsShaped, HasDistinctNames}
 use Rattle.hg_model.specs.Spelling.{payload_limit}
 use Rattle.hg_model.specs.Verdict.{row_limit, is_held}
-use Rattle.hg_model.specs.Gossip.{Keys, NodeState}
+use Rattle.hg_model.specs.Gossip.{Keys, NodeState, Taking}
 use Rattle.hg_sign.specs.Table.{signature_by, accepts_by}
 
 -- the keys of a table of secrets
@@ -32,3 +32,7 @@ node members own rows = record { members = members; own = own; rows = rows }
 -- the row, unless its name is held
 abbrev pub missing_row : List Row → Row → List Row
 missing_row held row = cond (is_held held row.name) [] (row ∷ [])
+
+-- a node that takes rows, from its parts
+abbrev pub told : NodeState → ℕ → ℕ → Taking
+told s taken refused = record { node = s; taken = taken; refused = refused }

@@ -18,7 +18,7 @@ use crate::rules::{
     row_rule,
 };
 use hg_event::{encode, encode_body};
-use hg_model::{Fault, Items, MakeAnswer, Member, Memory, Name, PutAnswer, Row};
+use hg_model::{Fault, Items, MakeAnswer, Member, Memory, Name, PutAnswer, Row, SyncMade, SyncReport};
 use hg_name::name_of;
 use hg_sign::{MacTable, Signer, Verifier};
 use std::alloc::Global;
@@ -275,9 +275,9 @@ impl Model for Node {
 }
 
 impl Node {
-    ghost use Rattle.hg_model.specs.Gossip.{new_node, lacking, verdict_by, node_put, making_by, node_made, report_with, node_with};
+    ghost use Rattle.hg_model.specs.Gossip.{new_node, lacking, verdict_by, node_put, making_by, node_made, made_after, node_after, report_with, node_with, taking};
     ghost use Rattle.hg_model.specs.Verdict.{last_name};
-    ghost use Rattle.hg_top.specs.Node.{IsNode, IsShort, keys_by};
+    ghost use Rattle.hg_top.specs.Node.{IsNode, IsShort, keys_by, told};
 
     /// A node without rows. Takes no memory.
     pub(crate) fn new(alloc: Global, members: u32, own: Member) -> Node
@@ -333,6 +333,68 @@ impl Node {
         let rows = lacking(alloc, held, self.rows.as_slice())?;
         let last = last_name(self.rows.as_slice(), self.own);
         Ok(Parcel { rows, last })
+    }
+
+    /// Puts these rows, one after the other.
+    fn take(&mut self, alloc: Global, keys: &MacTable, rows: Vec<Row>) -> Result<Counts, Memory>
+        requires short { AllByRecursion IsShort rows.items }
+        requires few { length rows.items ≤ row_limit }
+        ensures { IfOk result (λ counts. told self.new counts.taken counts.refused ≡ taking (keys_by keys.now) self.old rows.items) }
+    {
+        let mut counts = Counts {
+            taken: 0,
+            refused: 0,
+        };
+        for row in rows {
+            let answer = self.put(alloc, keys, row)?;
+            counts = counted(counts, &answer);
+        }
+        Ok(counts)
+    }
+
+    /// Takes what a peer handed over, and makes an event with the peer's last own row as other-parent.
+    pub(crate) fn sync(
+        &mut self,
+        alloc: Global,
+        keys: &MacTable,
+        parcel: Parcel,
+        time: u64,
+        payload: &[u8],
+    ) -> Result<SyncReport, Memory>
+        requires short { AllByRecursion IsShort parcel.rows.items }
+        requires few { length parcel.rows.items ≤ row_limit }
+        ensures report { IfOk result (λ report. report ≡ report_with (keys_by keys.now) self.old parcel.rows.items parcel.last time payload.now) }
+        ensures after { OnOk result (self.new ≡ node_with (keys_by keys.now) self.old parcel.rows.items parcel.last time payload.now) }
+    {
+        let Parcel { rows, last } = parcel;
+        let counts = self.take(alloc, keys, rows)?;
+        let made = self.make_after(alloc, keys, last, time, payload)?;
+        Ok(SyncReport {
+            taken: counts.taken,
+            refused: counts.refused,
+            made,
+        })
+    }
+
+    /// Makes an event with this other-parent, if there is one.
+    fn make_after(
+        &mut self,
+        alloc: Global,
+        keys: &MacTable,
+        other: Option<Name>,
+        time: u64,
+        payload: &[u8],
+    ) -> Result<SyncMade, Memory>
+        ensures made { IfOk result (λ made. made ≡ made_after (keys_by keys.now) self.old other time payload.now) }
+        ensures after { OnOk result (self.new ≡ node_after (keys_by keys.now) self.old other time payload.now) }
+    {
+        match other {
+            None => Ok(SyncMade::PeerBare),
+            Some(name) => match self.make(alloc, keys, Some(name), time, payload)? {
+                MakeAnswer::Made(place) => Ok(SyncMade::Row(place)),
+                MakeAnswer::Refused(fault) => Ok(SyncMade::Fault(fault)),
+            },
+        }
     }
 }
 
