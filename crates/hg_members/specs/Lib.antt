@@ -1,1 +1,2 @@
 pub mod MemberFile
+pub mod Gives

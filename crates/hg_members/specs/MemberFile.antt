@@ -1,12 +1,12 @@
 -- What a member file tells: the members, or the first fault in the order of the checks.
 -- Keys that are not named here are passed over.
-use Rattle.std.specs.Prelude.{ℕ, suc, ℤ, pos, negsuc, ◌^◌, Bool, true, ◌&&◌, nat_le, nat_lt, if◌then◌else◌, List, [], ◌∷◌, ◌++◌, length, sum_by, codes, Option, Some, None, option_and_then, unwrap_or, Result, Ok, Err}
+use Rattle.std.specs.Prelude.{ℕ, suc, ℤ, pos, negsuc, ◌^◌, Bool, true, ◌&&◌, nat_le, nat_lt, if◌then◌else◌, List, [], ◌∷◌, ◌++◌, length, sum_by, codes, Option, Some, None, option_and_then, option_map, unwrap_or, Result, Ok, Err}
 use Rattle.std.specs.List.{list_any}
 use Rattle.std.specs.Option.{ok_or}
 use Rattle.std.specs.Result.{result_ok}
 use Rattle.std.specs.Str.{bytes_eq, is_utf8}
 use Rattle.hex.specs.Hex.{decode_of}
-use Rattle.toml.specs.Data.{Data, Items, no_items, item, Members, get, get_member, as_array, as_bool, as_integer, as_str}
+use Rattle.toml.specs.Data.{Data, Items, no_items, item, table, get, as_array, as_bool, as_integer, as_str}
 use Rattle.toml.specs.Parse.{parse_document}
 use Rattle.hg_model.specs.declared.members.MemberEntry.{MemberEntry}
 use Rattle.hg_model.specs.Members.{MemberList, listed, is_member_name}
@@ -20,8 +20,8 @@ Ok x >>= next = next x
 Err fault >>= next = Err fault
 
 -- the document that the bytes are, if they are one
-abbrev pub document_of : List ℕ → Option Members
-document_of bytes = if is_utf8 bytes then parse_document bytes else None
+abbrev pub document_of : List ℕ → Option Data
+document_of bytes = if is_utf8 bytes then option_map table (parse_document bytes) else None
 
 -- a whole number from 3 to 100
 abbrev pub coin_number : ℤ → Result ℕ MemberFault
@@ -84,14 +84,15 @@ abbrev pub has_name : List MemberEntry → List ℕ → Bool
 has_name members name = list_any (λ (e : MemberEntry). bytes_eq e.name name) members
 
 -- a name that no earlier member has
-abbrev pub new_name : List MemberEntry → List ℕ → Result (List ℕ) MemberFault
-new_name earlier name = if has_name earlier name then Err (DoubleName (length earlier)) else Ok name
+abbrev pub name_of : List MemberEntry → Data → Result (List ℕ) MemberFault
+name_of earlier entry = do
+  name ← ok_or (name_in entry) (BadName (length earlier))
+  if has_name earlier name then Err (DoubleName (length earlier)) else Ok name
 
 -- the member that an entry tells, behind the earlier ones
 abbrev pub member_of : List MemberEntry → Data → Result MemberEntry MemberFault
 member_of earlier entry = do
-  form ← ok_or (name_in entry) (BadName (length earlier))
-  name ← new_name earlier form
+  name ← name_of earlier entry
   secret ← ok_or (secret_in entry) (BadSecret (length earlier))
   balance ← ok_or (balance_of (get (codes "balance") entry)) (BadBalance (length earlier))
   has_node ← ok_or (node_of (get (codes "node") entry)) (BadNode (length earlier))
@@ -107,10 +108,10 @@ abbrev pub summed : ℕ → List MemberEntry → Result MemberList MemberFault
 summed coin members =
     if nat_lt (sum_by (λ (e : MemberEntry). e.balance) members) (2 ^ 63) then Ok (listed members coin) else Err SumTooLarge
 
-abbrev pub members_in : Members → Result MemberList MemberFault
+abbrev pub members_in : Data → Result MemberList MemberFault
 members_in document = do
-  coin ← coin_of (get_member (codes "coin") document)
-  entries ← counted (entries_of (get_member (codes "member") document))
+  coin ← coin_of (get (codes "coin") document)
+  entries ← counted (entries_of (get (codes "member") document))
   members ← members_after [] entries
   summed coin members
 

@@ -3,8 +3,10 @@
 //! What TOML is, is what the kit's `toml` takes.
 #![tactic(auto)]
 
+mod entry;
 mod fault;
 mod file;
+mod stop;
 
 pub use fault::MemberFault;
 pub use file::read_members;
