@@ -1,0 +1,4 @@
+pub mod Entries
+pub mod Lawful
+pub mod Refused
+mod Worked

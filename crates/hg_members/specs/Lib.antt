@@ -1,0 +1,2 @@
+pub mod MemberFile
+pub mod Gives

@@ -1,0 +1,133 @@
+ghost use Rattle.std.specs.Prelude.{◌≡◌, codes, IfOk};
+ghost use Rattle.std.specs.List.{list_all};
+ghost use Rattle.std.specs.Option.{option_copied};
+ghost use Rattle.toml.specs.Data.{get};
+ghost use Rattle.toml.specs.View.{view};
+ghost use Rattle.hg_model.specs.Members as form;
+ghost use Rattle.hg_members.specs.Gives.{Gives, Reads};
+ghost use Rattle.hg_members.specs.MemberFile as told;
+
+use crate::fault::MemberFault;
+use crate::stop::Stop;
+use hex::FromHexError;
+use hg_model::{Bytes, MemberEntry};
+use std::alloc::{AllocError, Global};
+use toml::Value;
+
+fn is_letter(byte: u8) -> bool
+    ensures { result ≡ form.is_letter byte }
+{
+    matches!(byte, b'A'..=b'Z' | b'a'..=b'z')
+}
+
+fn is_name_byte(byte: u8) -> bool
+    ensures { result ≡ form.is_name_byte byte }
+{
+    is_letter(byte) || matches!(byte, b'0'..=b'9') || byte == b'_'
+}
+
+fn starts_with_letter(text: &[u8]) -> bool
+    ensures { result ≡ form.starts_with_letter text.now }
+{
+    match text {
+        [] => false,
+        [first, ..] => is_letter(*first),
+    }
+}
+
+fn has_name_bytes(text: &[u8]) -> bool
+    ensures { result ≡ list_all form.is_name_byte text.now }
+{
+    text.iter().all(|byte| is_name_byte(*byte))
+}
+
+fn is_name(text: &[u8]) -> bool
+    ensures { result ≡ form.is_member_name text.now }
+{
+    starts_with_letter(text) && text.len() <= 16 && has_name_bytes(text)
+}
+
+fn name_in(entry: &Value) -> Option<&str>
+    ensures { option_copied result ≡ told.name_in (view entry.now) }
+{
+    let name = entry.get("name")?.as_str()?;
+    if is_name(name.as_bytes()) { Some(name) } else { None }
+}
+
+fn decoded(alloc: Global, text: &str) -> Result<Option<Bytes>, AllocError>
+    ensures { IfOk result (λ secret. secret ≡ told.secret_form text.now) }
+{
+    if text.len() < 2 || text.len() > 256 {
+        return Ok(None);
+    }
+    match hex::decode(alloc, text) {
+        Ok(bytes) => Ok(Some(Bytes::from_vec(bytes))),
+        Err(FromHexError::OutOfMemory) => Err(AllocError),
+        Err(_) => Ok(None),
+    }
+}
+
+fn secret_in(alloc: Global, entry: &Value) -> Result<Option<Bytes>, AllocError>
+    ensures { IfOk result (λ secret. secret ≡ told.secret_in (view entry.now)) }
+{
+    let Some(value) = entry.get("secret") else {
+        return Ok(None);
+    };
+    let Some(text) = value.as_str() else {
+        return Ok(None);
+    };
+    decoded(alloc, text)
+}
+
+fn balance_in(entry: &Value) -> Option<u64>
+    ensures { result ≡ told.balance_of (get (codes "balance") (view entry.now)) }
+{
+    let Some(value) = entry.get("balance") else {
+        return Some(0);
+    };
+    let number = value.as_integer()?;
+    if number < 0 { None } else { Some(number as u64) }
+}
+
+fn node_in(entry: &Value) -> Option<bool>
+    ensures { result ≡ told.node_of (get (codes "node") (view entry.now)) }
+{
+    match entry.get("node") {
+        Some(value) => value.as_bool(),
+        None => Some(true),
+    }
+}
+
+fn has_name(members: &[MemberEntry], name: &[u8]) -> bool
+    ensures { result ≡ told.has_name members.now name.now }
+{
+    members.iter().any(|member| member.name.as_slice() == name)
+}
+
+fn new_name<'a>(earlier: &[MemberEntry], entry: &'a Value) -> Result<&'a str, MemberFault>
+    ensures { Reads (λ name. name.now) result (told.name_of earlier.now (view entry.now)) }
+{
+    let name = name_in(entry).ok_or(MemberFault::BadName(earlier.len()))?;
+    if has_name(earlier, name.as_bytes()) {
+        return Err(MemberFault::DoubleName(earlier.len()));
+    }
+    Ok(name)
+}
+
+/// The member that an entry tells, behind the earlier ones.
+pub fn member_of(alloc: Global, earlier: &[MemberEntry], entry: &Value) -> Result<MemberEntry, Stop>
+    ensures { Gives (λ m. m) result (told.member_of earlier.now (view entry.now)) }
+{
+    let place = earlier.len();
+    let name = new_name(earlier, entry)?;
+    let secret = secret_in(alloc, entry)?.ok_or(MemberFault::BadSecret(place))?;
+    let balance = balance_in(entry).ok_or(MemberFault::BadBalance(place))?;
+    let has_node = node_in(entry).ok_or(MemberFault::BadNode(place))?;
+    let name = Bytes::from_vec(Vec::from_slice(alloc, name.as_bytes())?);
+    Ok(MemberEntry {
+        name,
+        secret,
+        balance,
+        has_node,
+    })
+}

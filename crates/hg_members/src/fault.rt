@@ -1,0 +1,23 @@
+/// What is wrong with a member file: the first of these that holds. Those that name a member, by its
+/// number from 0, are looked for in the first member, then in the second, and so on; the sum comes last.
+#[derive(Clone, Copy, Debug, PartialEq, Eq)]
+pub enum MemberFault {
+    /// The bytes are no TOML document.
+    NotToml,
+    /// `coin` is not from 3 to 100: its value, or 0 where it is no whole number.
+    BadCoin(i64),
+    /// `member` has so many entries, and not 2 to 128. What is no array has none.
+    Count(usize),
+    /// The entry is no table, or its `name` is not 1 to 16 ASCII letters, digits and `_`, the first a letter.
+    BadName(usize),
+    /// An earlier member has the name.
+    DoubleName(usize),
+    /// `secret` is no text of 2 to 256 hexadecimal digits, an even number.
+    BadSecret(usize),
+    /// `balance` is no whole number from 0 on.
+    BadBalance(usize),
+    /// `node` is neither true nor false.
+    BadNode(usize),
+    /// The balances add up to 2^63 or more.
+    SumTooLarge,
+}

@@ -1,0 +1,53 @@
+-- A script: its lines in bytes, their words, and what all of them do
+use Rattle.std.specs.Prelude.{ℕ, suc, Bool, not, ◌||◌, ◌==◌, if◌then◌else◌, List, [], ◌∷◌, ◌++◌, length, filter, slice_index, Option, Some, None, Result, Ok, Err}
+use Rattle.std.specs.List.{slice_split}
+use Rattle.std.specs.Str.{is_utf8}
+use Rattle.std.specs.Str.Lines.{lines}
+use Rattle.hg_model.specs.Members.{MemberList}
+use Rattle.hg_script.specs.declared.fault.ScriptFault.{ScriptFault}
+use Rattle.hg_script.specs.declared.fault.Why.{Why}
+use Rattle.hg_script.specs.declared.fault.Why.TheVariants.{Utf8, Word}
+use Rattle.hg_script.specs.declared.line.Action.{Action}
+use Rattle.hg_script.specs.declared.line.Line.{Line}
+use Rattle.hg_script.specs.Table.{◌>>=◌, action_of}
+
+-- a space or a tab
+abbrev pub is_blank : ℕ → Bool
+is_blank b = b == 32 || b == 9
+
+-- what stands between spaces and tabs
+abbrev pub words_of : List ℕ → List (List ℕ)
+words_of text = filter (λ part. not (length part == 0)) (slice_split is_blank text)
+
+-- what a line without words does, and a comment. They are refused as yet
+abbrev pub silent : Result (Option Action) Why
+silent = Err Word
+
+-- a comment begins with `#`
+abbrev pub line_in : MemberList → List Line → List (List ℕ) → Result (Option Action) Why
+line_in members above [] = silent
+line_in members above (word ∷ arguments) =
+    if slice_index word 0 == 35 then silent
+    else action_of members above word arguments >>= (λ action. Ok (Some action))
+
+-- what a line of the script does, if anything, below the lines above it
+abbrev pub line_of : MemberList → List Line → List ℕ → Result (Option Action) Why
+line_of members above text = if is_utf8 text then line_in members above (words_of text) else Err Utf8
+
+abbrev pub at_line : {A : Type 0} → ℕ → Result A Why → Result A ScriptFault
+at_line number (Ok x) = Ok x
+at_line number (Err why) = Err (record { line = number; why = why })
+
+abbrev pub with_line : List Line → ℕ → Option Action → List Line
+with_line above number None = above
+with_line above number (Some action) = above ++ record { number = number; action = action } ∷ []
+
+-- the lines above, and those of the texts, of which the first has this number
+abbrev pub lines_after : MemberList → List Line → ℕ → List (List ℕ) → Result (List Line) ScriptFault
+lines_after members above number [] = Ok above
+lines_after members above number (text ∷ texts) =
+    at_line number (line_of members above text) >>= (λ found. lines_after members (with_line above number found) (suc number) texts)
+
+-- what a script is. Its lines end at line feeds; the last may lack it; a carriage return before one is dropped
+unfoldable pub lines_of : List ℕ → MemberList → Result (List Line) ScriptFault
+lines_of bytes members = lines_after members [] 1 (lines bytes)
