@@ -1,3 +1,4 @@
 mod WordLaws
 mod PlaceLaws
 mod NodeLaws
+mod PlayLaws

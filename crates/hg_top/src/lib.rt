@@ -4,5 +4,6 @@
 #![tactic(auto)]
 
 mod node;
+mod play;
 mod rules;
 mod words;

@@ -1,0 +1,10 @@
+use Rattle.std.proofs.Common.{◌∙◌, ◌++◌, ◌∷◌, [], ℕ, List, ap₂, sym, zero-add}
+use Rattle.std.proofs.lemmas.List.FromFn.{map-range_with_len_more}
+use Rattle.hg_model.specs.Gossip.{NodeState, new_node}
+use Rattle.hg_top.proofs.play.new_nodes.Goals as goal
+
+pub loop-own-preserved : goal.loop-own-preserved
+loop-own-preserved c =
+    c.in_ok-push.ensures.items
+    ∙ (ap₂ (λ (before : List NodeState) (last : NodeState). before ++ last ∷ []) c.loop-own.invariant c.new.ensures
+    ∙ sym (map-range_with_len_more (new_node c.count-count.result) 0 c.loop-own.own c.loop-own.own (zero-add c.loop-own.own)))
