@@ -5,8 +5,8 @@ ghost use Rattle.hg_io.specs.Files.{content_of, place_of};
 ghost use Rattle.hg_io.specs.FilesOf.{files_of};
 ghost use Rattle.hg_io.specs.ShelfState.{IsAt, after_read, after_start, faults_at, new_shelf, started_bytes};
 
+use crate::failed::Failed;
 use crate::shelf::Shelf;
-use crate::sink::Failed;
 use std::alloc::{AllocError, Global};
 use std::marker::Model;
 
