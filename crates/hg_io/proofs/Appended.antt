@@ -1,6 +1,6 @@
 -- Bytes that are appended in two pieces.
-use Rattle.std.proofs.Common.{◌≡◌, ℕ, ◌+◌, List, ◌++◌, Option, Some, None, option_map, take, drop, sym, ap, ◌∙◌, append_assoc, arith, refl, rules}
-use Rattle.std.proofs.lemmas.List.{take-append-drop, take-take, drop-take, take_rest}
+use Rattle.std.proofs.Common.{◌≡◌, ℕ, ◌+◌, List, ◌++◌, Option, Some, None, option_map, take, drop, sym, ap, ◌∙◌, append_assoc, arith, refl}
+use Rattle.std.proofs.lemmas.List.{take-append-drop, take-take, drop-take}
 use Rattle.hg_io.specs.Bytes.{Appends}
 
 option_map-append : (told : Option (List ℕ)) (x y : List ℕ)

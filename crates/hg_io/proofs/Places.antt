@@ -1,6 +1,6 @@
 -- The place of a file, and what stands there.
-use Rattle.std.proofs.Common.{◌≡◌, ℕ, ◌+◌, ◌<◌, ◌≤◌, ◌↔◌, List, [], ◌∷◌, length, map, Option, None, Some, Bool, cond, not, nat_lt, option_map, slice_get, unwrap_or, string_bytes, String, refl, sym, ap, ◌∙◌, arith, rules}
-use Rattle.std.specs.List.{find, position, position_or_len, prefix_len}
+use Rattle.std.proofs.Common.{◌≡◌, ℕ, ◌+◌, ◌≤◌, ◌↔◌, List, [], ◌∷◌, length, map, Option, None, Some, Bool, cond, not, option_map, slice_get, unwrap_or, string_bytes, String, refl, sym, ap, ◌∙◌, arith}
+use Rattle.std.specs.List.{position, position_or_len, prefix_len}
 use Rattle.std.specs.Global.{Global, Vec}
 use Rattle.std.specs.Str.{bytes_eq}
 use Rattle.std.proofs.lemmas.Grind.{common_steps}

@@ -38,23 +38,23 @@ IsAt s name = (s.started ≡ Some (place_of s.files name)) × (place_of s.files 
 abbrev pub faults_at : ShelfState → List ℕ → ℕ
 faults_at s name = slice_index s.faults (place_of s.files name)
 
--- the shelf after a call with this name that failed
-abbrev pub after_fault : ShelfState → List ℕ → ShelfState
-after_fault s name = record s {
-  calls = counted s.calls;
-  faults = slice_set s.faults (place_of s.files name) (counted (faults_at s name));
-}
+-- one more fault, at this place
+abbrev pub after_fault : ShelfState → ℕ → ShelfState
+after_fault s place = record s { faults = slice_set s.faults place (counted (slice_index s.faults place)) }
+
+-- one more call
+abbrev pub called : ShelfState → ShelfState
+called s = record s { calls = counted s.calls }
 
 -- the shelf after a start of this name that gave this
 abbrev pub after_start : {T E : Type 0} → ShelfState → List ℕ → Result T E → ShelfState
-after_start s name (Ok x) = record s {
+after_start s name (Ok x) = record (called s) {
   started = Some (place_of s.files name);
   left = unwrap_or (content_of s.files name) [];
-  calls = counted s.calls;
 }
-after_start s name (Err e) = after_fault s name
+after_start s name (Err e) = after_fault (called s) (place_of s.files name)
 
 -- the shelf after a read with this name that gave this
 abbrev pub after_read : {E : Type 0} → ShelfState → List ℕ → Result ℕ E → ShelfState
-after_read s name (Ok k) = record s { left = drop k s.left; calls = counted s.calls }
-after_read s name (Err e) = after_fault s name
+after_read s name (Ok k) = record (called s) { left = drop k s.left }
+after_read s name (Err e) = after_fault (called s) (place_of s.files name)

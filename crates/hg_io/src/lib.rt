@@ -3,16 +3,23 @@
 //! The layer above uses `read_file` and `write_all`: all of a file, all of the bytes, or a fault whose count rose.
 #![tactic(auto)]
 
+mod failed;
 mod gate;
 mod reading;
 mod shelf;
 mod shelf_mem;
 mod sink;
 mod sink_mem;
+mod writing;
 
+pub use failed::Failed;
 pub use gate::{Gate, NoGate};
 pub use reading::{FileAnswer, read_file};
 pub use shelf::Shelf;
 pub use shelf_mem::ShelfMem;
-pub use sink::{Failed, Sink, write_all};
+pub use sink::Sink;
 pub use sink_mem::SinkMem;
+pub use writing::write_all;
+
+#[cfg(test)]
+mod tests;

@@ -2,6 +2,7 @@ ghost use Rattle.std.specs.Prelude.{◌≡◌, ◌≤◌, ℕ, List, Ok, IfOk};
 ghost use Rattle.hg_io.specs.Answers.{Answers, AnswersLeft};
 ghost use Rattle.hg_io.specs.Faults.{Rose};
 
+use crate::failed::Failed;
 use crate::shelf::Shelf;
 use std::alloc::{AllocError, Global};
 
@@ -32,10 +33,10 @@ pub fn read_file<F: Shelf>(
     ensures same { F.holds shelf.new ≡ F.holds shelf.old }
     ensures counts { (other : List ℕ) → F.faults shelf.old other ≤ F.faults shelf.new other }
 {
-    if shelf.start(name).is_err() {
-        return Ok(FileAnswer::Failed);
+    match shelf.start(name) {
+        Ok(()) => read_left(alloc, shelf, name, limit),
+        Err(Failed) => Ok(FileAnswer::Failed),
     }
-    read_left(alloc, shelf, name, limit)
 }
 
 // Reads what is left of the started file.

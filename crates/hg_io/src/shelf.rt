@@ -3,7 +3,7 @@ ghost use Rattle.hg_io.specs.Bytes.{TakesOff};
 ghost use Rattle.hg_io.specs.Faults.{Rose};
 ghost use Rattle.hg_io.specs.Files.{Files, content_of};
 
-use crate::sink::Failed;
+use crate::failed::Failed;
 
 /// What holds files by their names, one of which it reads at a time.
 pub trait Shelf {

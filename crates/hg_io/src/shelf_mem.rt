@@ -3,10 +3,10 @@ ghost use Rattle.std.specs.Str.{bytes_eq};
 ghost use Rattle.hg_io.specs.Faults.{Rose, counted};
 ghost use Rattle.hg_io.specs.Files.{content_of, place_of};
 ghost use Rattle.hg_io.specs.FilesOf.{files_of};
-ghost use Rattle.hg_io.specs.ShelfState.{IsAt, after_read, after_start, faults_at, new_shelf, started_bytes};
+ghost use Rattle.hg_io.specs.ShelfState.{IsAt, after_fault, after_read, after_start, faults_at, new_shelf, started_bytes};
 
+use crate::failed::Failed;
 use crate::shelf::Shelf;
-use crate::sink::Failed;
 use std::alloc::{AllocError, Global};
 use std::marker::Model;
 
@@ -77,6 +77,27 @@ impl ShelfMem {
         self.fails.contains(&call)
     }
 
+    // Counts a fault at the place of a name.
+    fn count_fault(&mut self, place: usize)
+        requires { place ≤ length self.old.files }
+        ensures after { self.new ≡ after_fault self.old place }
+        ensures rose { Rose (slice_index self.old.faults place) (slice_index self.new.faults place) }
+        ensures kept { (other : ℕ) → slice_index self.old.faults other ≤ slice_index self.new.faults other }
+    {
+        let count = &mut self.faults[place];
+        *count = count.saturating_add(1);
+    }
+
+    // Starts the file at this place.
+    fn begin(&mut self, place: usize)
+        requires { place < length self.old.files }
+        ensures { self.new
+            ≡ record self.old { started = Some place; left = started_bytes self.old.files (Some place) } }
+    {
+        self.started = Some(place);
+        self.at = 0;
+    }
+
     // The bytes of the started file.
     fn bytes(&self) -> &[u8]
         ensures { result.now ≡ started_bytes self.now.files self.now.started }
@@ -85,6 +106,18 @@ impl ShelfMem {
             Some(place) => self.files[place].1.as_slice(),
             None => &[],
         }
+    }
+
+    // Copies the next bytes of the started file to the buffer, as many as there are and fit.
+    fn copy_next(&mut self, buf: &mut [u8]) -> usize
+        ensures amount { result ≡ min (length self.old.left) (length buf.old) }
+        ensures bytes { buf.new ≡ take result self.old.left ++ drop result buf.old }
+        ensures after { self.new ≡ record self.old { left = drop result self.old.left } }
+    {
+        let end = copy_from(buf, self.bytes(), self.at);
+        let count = end - self.at;
+        self.at = end;
+        count
     }
 }
 
@@ -103,15 +136,6 @@ fn place_of(files: &[(String, Vec<u8>)], name: &str) -> usize
     ensures content { unwrap_or (content_of (files_of files.now) name.now) [] ≡ started_bytes (files_of files.now) (Some result) }
 {
     found_place(files, name).unwrap_or(files.len())
-}
-
-// Counts one more fault at this place.
-fn count_fault(faults: &mut [u64], place: usize)
-    requires { place < length faults.old }
-    ensures counted { faults.new ≡ slice_set faults.old place (counted (slice_index faults.old place)) }
-    ensures kept { (other : ℕ) → slice_index faults.old other ≤ slice_index faults.new other }
-{
-    faults[place] = faults[place].saturating_add(1);
 }
 
 // Copies the bytes from this one on to the buffer, as many as there are and fit, and answers where it stopped.
@@ -143,13 +167,11 @@ impl Shelf for ShelfMem {
         ensures counts { (other : List ℕ) → faults_at self.old other ≤ faults_at self.new other }
     {
         let place = place_of(self.files.as_slice(), name);
-        let fails = self.next_fails();
-        if fails || place == self.files.len() {
-            count_fault(self.faults.as_mut_slice(), place);
+        if self.next_fails() || place == self.files.len() {
+            self.count_fault(place);
             return Err(Failed);
         }
-        self.started = Some(place);
-        self.at = 0;
+        self.begin(place);
         Ok(())
     }
 
@@ -166,12 +188,9 @@ impl Shelf for ShelfMem {
     {
         let place = place_of(self.files.as_slice(), name);
         if self.next_fails() {
-            count_fault(self.faults.as_mut_slice(), place);
+            self.count_fault(place);
             return Err(Failed);
         }
-        let end = copy_from(buf, self.bytes(), self.at);
-        let count = end - self.at;
-        self.at = end;
-        Ok(count)
+        Ok(self.copy_next(buf))
     }
 }

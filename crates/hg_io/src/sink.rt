@@ -1,10 +1,8 @@
-ghost use Rattle.std.specs.Prelude.{◌≡◌, ◌<◌, ◌≤◌, ℕ, List, Option, length, take, IfOk, OnOk, OnErr};
+ghost use Rattle.std.specs.Prelude.{◌≡◌, ◌<◌, ◌≤◌, ℕ, List, Option, length, take, IfOk, OnErr};
 ghost use Rattle.hg_io.specs.Faults.{Rose};
-ghost use Rattle.hg_io.specs.Bytes.{Appends, AppendsPart};
+ghost use Rattle.hg_io.specs.Bytes.{Appends};
 
-/// A call to the outside failed, and its fault was counted.
-#[derive(Clone, Copy, Debug, PartialEq, Eq)]
-pub struct Failed;
+use crate::failed::Failed;
 
 /// What takes bytes, one after the other, as a file or a terminal does.
 pub trait Sink {
@@ -23,19 +21,4 @@ pub trait Sink {
         ensures none { OnErr result (written self.new ≡ written self.old) }
         ensures cause { OnErr result (Rose (faults self.old) (faults self.new)) }
         ensures count { faults self.old ≤ faults self.new };
-}
-
-/// Writes all of the bytes. `Failed` comes with the first fault of the sink, which has then taken a front of the
-/// bytes, and not all of them.
-pub fn write_all<K: Sink>(sink: &mut K, bytes: &[u8]) -> Result<(), Failed>
-    ensures all { OnOk result (Appends (K.written sink.old) (K.written sink.new) bytes.now) }
-    ensures part { OnErr result (AppendsPart (K.written sink.old) (K.written sink.new) bytes.now) }
-    ensures cause { OnErr result (Rose (K.faults sink.old) (K.faults sink.new)) }
-    ensures count { K.faults sink.old ≤ K.faults sink.new }
-{
-    let mut at = 0;
-    'pieces: while at < bytes.len() {
-        at += sink.write(&bytes[at..])?;
-    }
-    Ok(())
 }

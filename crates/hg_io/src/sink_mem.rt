@@ -1,7 +1,8 @@
 ghost use Rattle.std.specs.Prelude.{◌≡◌, ◌↔◌, ◌<◌, ◌≤◌, Some, length, take, IfOk, IsErr, OnErr};
 ghost use Rattle.hg_io.specs.SinkState.{Refuses, after_write, new_sink, taken_count};
 
-use crate::sink::{Failed, Sink};
+use crate::failed::Failed;
+use crate::sink::Sink;
 use std::alloc::{AllocError, Global};
 use std::marker::Model;
 

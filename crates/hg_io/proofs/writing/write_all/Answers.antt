@@ -1,7 +1,7 @@
 use Rattle.std.proofs.Common.{rules}
 use Rattle.std.proofs.lemmas.List.{take_rest}
 use Rattle.hg_io.proofs.Appended.{Appends-rest}
-use Rattle.hg_io.proofs.sink.write_all.Goals as goal
+use Rattle.hg_io.proofs.writing.write_all.Goals as goal
 
 pub pieces-preserved : goal.pieces-preserved
 pieces-preserved g c =

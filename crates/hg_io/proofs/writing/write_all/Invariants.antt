@@ -1,6 +1,6 @@
 use Rattle.std.proofs.Common.{length, ◌-◌, ◌≤◌, take}
 use Rattle.hg_io.specs.Bytes.{Appends}
-use Rattle.hg_io.proofs.sink.write_all.Given as goal
+use Rattle.hg_io.proofs.writing.write_all.Given as goal
 
 abbrev pub invariant-pieces : goal.invariant-pieces
 invariant-pieces g l =
