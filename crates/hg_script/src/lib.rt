@@ -7,6 +7,7 @@ mod above;
 mod fault;
 mod line;
 mod script;
+mod stop;
 mod table;
 mod verb;
 mod words;

@@ -4,8 +4,8 @@ ghost use Rattle.hg_script.specs.Script as told;
 
 use std::alloc::{AllocError, Global};
 
-/// More words than any line of the table has.
-pub const MOST_WORDS: usize = 9;
+/// So many words are too many for every line of the table.
+pub const MOST_WORDS: usize = 8;
 
 fn is_blank(byte: u8) -> bool
     ensures { result ≡ told.is_blank byte }
@@ -13,7 +13,7 @@ fn is_blank(byte: u8) -> bool
     byte == b' ' || byte == b'\t'
 }
 
-/// The words of a line, or the first of them, so many that they are too many.
+/// The words of a line, or the first `MOST_WORDS` of more.
 pub fn words_of<'a>(alloc: Global, line: &'a [u8]) -> Result<Vec<&'a [u8]>, AllocError>
     ensures { IfOk result (λ words. map (λ word. word.now) words.items ≡ take MOST_WORDS (told.words_of line.now)) }
 {
