@@ -1,1 +1,4 @@
+pub mod Enough
+pub mod LineLaws
+pub mod Numbers
 mod Worked

@@ -10,6 +10,11 @@ use Rattle.hg_script.specs.Table.{has_node}
 abbrev pub IsNode : MemberList → ℕ → Type 0
 IsNode members m = has_node members m ≡ true
 
+-- the member whose node makes an event
+abbrev pub maker : Action → ℕ
+maker (Create member time) = member
+maker (Sync taker peer time) = taker
+
 abbrev pub IsLawful : MemberList → Action → Type 0
 IsLawful members (Create member time) = IsNode members member
 IsLawful members (Sync taker peer time) = IsNode members taker × IsNode members peer × (taker ≢ peer)

@@ -1,3 +1,4 @@
 pub mod Table
 pub mod Script
 pub mod Lawful
+pub mod Gives

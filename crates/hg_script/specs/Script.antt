@@ -11,6 +11,9 @@ use Rattle.hg_script.specs.declared.line.Action.{Action}
 use Rattle.hg_script.specs.declared.line.Line.{Line}
 use Rattle.hg_script.specs.Table.{◌>>=◌, action_of}
 
+abbrev pub is_line_feed : ℕ → Bool
+is_line_feed b = b == 10
+
 -- a space or a tab
 abbrev pub is_blank : ℕ → Bool
 is_blank b = b == 32 || b == 9
@@ -42,11 +45,15 @@ abbrev pub with_line : List Line → ℕ → Option Action → List Line
 with_line above number None = above
 with_line above number (Some action) = above ++ record { number = number; action = action } ∷ []
 
+-- the lines above, and the line of this number
+abbrev pub line_more : MemberList → List Line → ℕ → List ℕ → Result (List Line) ScriptFault
+line_more members above number text = at_line number (line_of members above text) >>= (λ found. Ok (with_line above number found))
+
 -- the lines above, and those of the texts, of which the first has this number
 abbrev pub lines_after : MemberList → List Line → ℕ → List (List ℕ) → Result (List Line) ScriptFault
 lines_after members above number [] = Ok above
 lines_after members above number (text ∷ texts) =
-    at_line number (line_of members above text) >>= (λ found. lines_after members (with_line above number found) (suc number) texts)
+    line_more members above number text >>= (λ more. lines_after members more (suc number) texts)
 
 -- what a script is. Its lines end at line feeds; the last may lack it; a carriage return before one is dropped
 unfoldable pub lines_of : List ℕ → MemberList → Result (List Line) ScriptFault

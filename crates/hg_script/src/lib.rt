@@ -3,9 +3,14 @@
 //! The table of lines stands in `specs/Table.antt`, and its Rust form in `table.rt`.
 #![tactic(auto)]
 
+mod above;
 mod fault;
 mod line;
 mod script;
+mod stop;
+mod table;
+mod verb;
+mod words;
 
 pub use fault::{ScriptFault, Why};
 pub use line::{Action, Line};
