@@ -3,7 +3,7 @@ use Rattle.std.specs.Prelude.{IfOk}
 use Rattle.hg_model.specs.Spelling.{Spells}
 use Rattle.hg_model.specs.Reading.{read_event}
 use Rattle.hg_event.specs.View.{Gives, row_of}
-use Rattle.hg_event.proofs.Laws.{read_event-Spells, Spells-read_event, found_in}
+use Rattle.hg_event.proofs.Spells.{read_event-Spells, Spells-read_event, found_in}
 use Rattle.hg_event.proofs.read.decode.Goals as goal
 
 pub returns-clause-found : goal.returns-clause-found

@@ -1,5 +1,5 @@
 use Rattle.std.proofs.Common.{◌∙◌, ap, sym, arith, length, option_map, take, ℕ}
-use Rattle.hg_event.proofs.Laws.{fields_read}
+use Rattle.hg_event.proofs.Spells.{fields_read}
 use Rattle.hg_event.proofs.read.event_of.Goals as goal
 
 pub invariant_of-result : goal.invariant_of-result
