@@ -6,5 +6,4 @@ pub fn one_spelling()
     ensures one { SpellingsAreOne }
     ensures of_one { RowsAreOne }
     ensures read { SpellingsAreRead }
-{
-}
+{}

@@ -6,6 +6,8 @@
 mod fields;
 mod laws;
 mod read;
+#[cfg(test)]
+mod tests;
 mod view;
 mod write;
 
