@@ -6,10 +6,10 @@ ghost use Rattle.hg_event.specs.View.{Gives};
 use hg_model::{ByteFault, Name};
 
 /// The first four bytes of every event.
-pub(crate) const MAGIC: [u8; 4] = [b'H', b'G', b'E', b'1'];
+pub(crate) const MAGIC: [u8; 4] = *b"HGE1";
 
 /// The greatest number of bytes of a payload.
-pub(crate) const PAYLOAD_LIMIT: u16 = 1024;
+pub const PAYLOAD_LIMIT: usize = 1024;
 
 /// The bytes behind the magic.
 #[tactic(auto, unfolding(hg_model::specs::Reading::after_magic))]
@@ -17,7 +17,7 @@ pub(crate) fn behind_magic(bytes: &[u8], size: usize) -> Result<&[u8], ByteFault
     ensures { Gives (λ rest. rest.now) result (after_magic size bytes.now) }
 {
     if bytes.starts_with(MAGIC.as_slice()) {
-        Ok(&bytes[4..])
+        Ok(&bytes[MAGIC.len()..])
     } else if MAGIC.as_slice().starts_with(bytes) {
         Err(ByteFault::Short(size))
     } else {
@@ -83,10 +83,11 @@ pub(crate) fn payload_of(bytes: &[u8], size: usize) -> Result<(&[u8], &[u8]), By
     ensures { Gives (λ field. (field.0.now, field.1.now)) result (payload_field size bytes.now) }
 {
     let (len, rest) = u16_of(bytes, size)?;
-    if len > PAYLOAD_LIMIT {
+    let count = len as usize;
+    if count > PAYLOAD_LIMIT {
         return Err(ByteFault::BadLength(len));
     }
-    match rest.split_at_checked(len as usize) {
+    match rest.split_at_checked(count) {
         Some(parts) => Ok(parts),
         None => Err(ByteFault::Short(size)),
     }

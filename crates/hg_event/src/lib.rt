@@ -4,10 +4,15 @@
 #![tactic(auto)]
 
 mod fields;
+mod laws;
 mod read;
+#[cfg(test)]
+mod tests;
 mod view;
 mod write;
 
+pub use fields::PAYLOAD_LIMIT;
+pub use laws::one_spelling;
 pub use read::{body_of, decode};
 pub use view::EventView;
 pub use write::{encode, encode_body};

@@ -1,15 +1,21 @@
-ghost use Rattle.std.specs.Prelude.{◌≡◌, ◌+◌, ◌++◌, ◌≤◌, IfOk, OnOk, length, vec_capacity, vec_len};
-ghost use Rattle.hg_model.specs.Spelling.{body_bytes, parent_bytes, payload_limit, spelling};
+ghost use Rattle.std.specs.Prelude.{◌≡◌, ℕ, List, ◌+◌, ◌++◌, ◌≤◌, IfOk, IfSome, OnOk, length, vec_capacity, vec_len};
+ghost use Rattle.sha2.specs.Sha512.{sha384};
+ghost use Rattle.hg_model.specs.Spelling.{body_bytes, Spells, parent_bytes, payload_limit, spelling};
+ghost use Rattle.hg_model.specs.Verdict.{signed_row};
 
 use crate::fields::MAGIC;
 use hg_model::{Member, Memory, Name, Row};
 use std::alloc::Global;
 
-/// The row's one spelling. The row's name may be any.
+/// The bytes of an event with parents and no payload, its signature's included.
+const SIZE_WITH_PARENTS: usize = 177;
+
+/// The row's fields, one after the other: its spelling, where the row's name is theirs. The name may be any.
 #[tactic(auto, unfolding(hg_model::specs::Spelling::spelling, hg_model::specs::Spelling::body_of))]
 pub fn encode(alloc: Global, row: &Row) -> Result<Vec<u8>, Memory>
     requires { length row.now.payload ≤ payload_limit }
-    ensures { IfOk result (λ bytes. bytes.items ≡ spelling row.now) }
+    ensures fields { IfOk result (λ bytes. bytes.items ≡ spelling row.now) }
+    ensures spells { IfOk result (λ bytes. row.now.name ≡ sha384 bytes.items → Spells bytes.items row.now) }
 {
     let mut bytes = encode_body(
         alloc,
@@ -24,6 +30,7 @@ pub fn encode(alloc: Global, row: &Row) -> Result<Vec<u8>, Memory>
 
 /// What the creator of an event with these fields signs.
 /// The `Vec` has room for the 64 bytes of the signature, with which the event is whole.
+#[tactic(auto, unfolding(hg_model::specs::Spelling::spelling, hg_model::specs::Spelling::body_of))]
 pub fn encode_body(
     alloc: Global,
     creator: Member,
@@ -33,9 +40,10 @@ pub fn encode_body(
 ) -> Result<Vec<u8>, Memory>
     requires { length payload.now ≤ payload_limit }
     ensures bytes { IfOk result (λ body. body.items ≡ body_bytes creator parents.now time payload.now) }
+    ensures spells { IfOk result (λ body. (sig : List ℕ) → length sig ≡ 64 → Spells (body.items ++ sig) (signed_row creator parents.now time payload.now sig)) }
     ensures room { IfOk result (λ body. vec_len body + 64 ≤ vec_capacity body) }
 {
-    let mut body = Vec::with_capacity(alloc, 177 + payload.len())?;
+    let mut body = Vec::with_capacity(alloc, SIZE_WITH_PARENTS + payload.len())?;
     body.extend_from_slice(MAGIC.as_slice())?;
     body.extend_from_slice(&creator.to_be_bytes())?;
     push_parents(&mut body, parents)?;
@@ -48,6 +56,7 @@ pub fn encode_body(
 /// Writes the kind and the parents' names at the end of the body.
 fn push_parents(body: &mut Vec<u8>, parents: &Option<(Name, Name)>) -> Result<(), Memory>
     ensures bytes { OnOk result (body.new.items ≡ body.old.items ++ parent_bytes parents.now) }
+    ensures names { OnOk result (IfSome parents.now (λ names. (length names.0 ≡ 48) × (length names.1 ≡ 48))) }
     ensures len { OnOk result (vec_len body.new ≤ vec_len body.old + 97) }
     ensures capacity { vec_capacity body.old ≤ vec_capacity body.new }
 {

@@ -13,6 +13,9 @@ use hg_model::Name;
 use sha2::{Digest, Sha384};
 use std::cmp::Ordering;
 
+#[cfg(test)]
+mod tests;
+
 /// The name of an event with these bytes, those of its signature included.
 pub fn name_of(bytes: &[u8]) -> Name
     ensures { result ≡ sha384 bytes.now }

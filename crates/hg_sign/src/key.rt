@@ -7,8 +7,9 @@ use sha2::{Digest, Sha512};
 use std::alloc::Global;
 use std::marker::Model;
 
-/// A secret, and the two hashers of HMAC (RFC 2104) after the block that depends on it alone: its section 4
-/// keeps them so, and a signature then hashes neither block again.
+/// What signs under one secret: the two hashers of HMAC (RFC 2104), each after the block that depends
+/// on the secret alone, as its section 4 suggests, so that no signature hashes these blocks again.
+/// Contracts see the secret, which is kept for them.
 #[derive(Drop)]
 pub(crate) struct Key {
     secret: Vec<u8>,

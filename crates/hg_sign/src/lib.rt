@@ -4,8 +4,12 @@
 #![tactic(auto)]
 
 mod key;
+mod laws;
 mod signer;
 mod table;
+#[cfg(test)]
+mod tests;
 
+pub use laws::one_signature;
 pub use signer::{Signer, Verifier};
 pub use table::MacTable;

@@ -3,11 +3,11 @@ use Rattle.std.specs.Prelude.{IfOk}
 use Rattle.hg_model.specs.Spelling.{Spells}
 use Rattle.hg_model.specs.Reading.{read_event}
 use Rattle.hg_event.specs.View.{Gives, row_of}
-use Rattle.hg_event.proofs.Laws.{read_event-Spells, Spells-read_event, found_in}
+use Rattle.hg_event.proofs.Spells.{read_event-Spells, Spells-read_event, IfOk-Spells}
 use Rattle.hg_event.proofs.read.decode.Goals as goal
 
 pub returns-clause-found : goal.returns-clause-found
-returns-clause-found c = found_in c.args.bytes.now c.event_of.result (λ i. omega (arith, c.type_inv.bytes i)) c.event_of.ensures
+returns-clause-found c = IfOk-Spells c.args.bytes.now c.event_of.result (λ i. omega (arith, c.type_inv.bytes i)) c.event_of.ensures
 
 pub returns-clause-only : goal.returns-clause-only
 returns-clause-only c = λ row spells.

@@ -1,21 +1,15 @@
-use Rattle.std.proofs.Common.{◌∙◌, ap, sym, arith, length, option_map, take, ℕ}
-use Rattle.hg_event.proofs.Laws.{fields_read}
+use Rattle.std.proofs.Common.{◌∙◌, ap, sym, arith, take, ℕ}
+use Rattle.hg_event.proofs.Spells.{fields_read}
 use Rattle.hg_event.proofs.read.event_of.Goals as goal
 
 pub invariant_of-result : goal.invariant_of-result
 invariant_of-result c =
-    let read = fields_read c.args.bytes.now c.in_ok-rest.rest.now (c.in_ok-creator.creator, c.in_ok-creator.rest.now)
-    (option_map (λ names. (names.0.now, names.1.now)) c.in_ok-parents.parents, c.in_ok-parents.rest.now) (c.in_ok-time.time, c.in_ok-time.rest.now)
-    (c.in_ok-payload.payload.now, c.in_ok-payload.rest.now) (c.in_ok-sig.sig.now, c.in_ok-sig.rest.now) (λ i. omega (arith, c.type_inv.bytes i))
-    c.in_ok-rest.ensures c.in_ok-creator.ensures c.in_ok-parents.ensures c.in_ok-time.ensures c.in_ok-payload.ensures c.in_ok-sig.ensures
-    (sym c.is_empty.ensures ∙ c.if-not-is_empty.false) in
+    let read = fields_read c.args.bytes.now _ _ _ _ _ _ (λ i. omega (arith, c.type_inv.bytes i)) c.in_ok-rest.ensures c.in_ok-creator.ensures c.in_ok-parents.ensures
+    c.in_ok-time.ensures c.in_ok-payload.ensures c.in_ok-sig.ensures (sym c.is_empty.ensures ∙ c.if-not-is_empty.false) in
     record { spelled = ap (λ (n : ℕ). take n c.args.bytes.now) c.saturating_sub.ensures ∙ read.1 }
 
 pub returns : goal.returns
 returns c =
-    let read = fields_read c.args.bytes.now c.in_ok-rest.rest.now (c.in_ok-creator.creator, c.in_ok-creator.rest.now)
-    (option_map (λ names. (names.0.now, names.1.now)) c.in_ok-parents.parents, c.in_ok-parents.rest.now) (c.in_ok-time.time, c.in_ok-time.rest.now)
-    (c.in_ok-payload.payload.now, c.in_ok-payload.rest.now) (c.in_ok-sig.sig.now, c.in_ok-sig.rest.now) (λ i. omega (arith, c.type_inv.bytes i))
-    c.in_ok-rest.ensures c.in_ok-creator.ensures c.in_ok-parents.ensures c.in_ok-time.ensures c.in_ok-payload.ensures c.in_ok-sig.ensures
-    (sym c.is_empty.ensures ∙ c.if-not-is_empty.false) in
+    let read = fields_read c.args.bytes.now _ _ _ _ _ _ (λ i. omega (arith, c.type_inv.bytes i)) c.in_ok-rest.ensures c.in_ok-creator.ensures c.in_ok-parents.ensures
+    c.in_ok-time.ensures c.in_ok-payload.ensures c.in_ok-sig.ensures (sym c.is_empty.ensures ∙ c.if-not-is_empty.false) in
     read.0

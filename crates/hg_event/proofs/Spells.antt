@@ -79,18 +79,14 @@ Spells-body_of bytes row spells =
     let n : length (body_of row) ≡ length bytes - 64 = omega (arith, ap length spells.spelled, length-append (body_of row) row.sig, spells.sized.sig) in
     ap (take (length bytes - 64)) spells.spelled ∙ take_at (body_of row) row.sig (length bytes - 64) n
 
-pub found_in : (bytes : List ℕ) (r : Result EventView ByteFault) → AreBytes bytes → Gives row_of r (read_event bytes) → IfOk r (λ view. Spells bytes (row_of view))
-found_in bytes (Ok view) fit given = read_event-Spells bytes (row_of view) fit given
-found_in bytes (Err fault) fit given = tt
-
 -- the row's name is that of its fields
 Spells-signed_row : (bytes : List ℕ) (row : Row) → Spells bytes row → row ≡ signed_row row.creator row.parents row.time row.payload row.sig
 unfolding spelling body_of
 Spells-signed_row bytes row spells = ap (λ (name : List ℕ). record row { name = name }) (spells.named ∙ ap sha384 spells.spelled)
 
 -- the fields, one read after the other, and what is signed of them
-pub fields_read : (bytes rest : List ℕ) (creator : ℕ × List ℕ) (parents : Option (List ℕ × List ℕ) × List ℕ) (time : ℕ × List ℕ) (payload sig : List ℕ × List ℕ) → AreBytes bytes
-    → after_magic (length bytes) bytes ≡ Ok rest → number_field (length bytes) w16 rest ≡ Ok creator → parents_field (length bytes) creator.1 ≡ Ok parents
+pub fields_read : (bytes rest : List ℕ) (creator : ℕ × List ℕ) (parents : Option (List ℕ × List ℕ) × List ℕ) (time : ℕ × List ℕ) (payload sig : List ℕ × List ℕ)
+    → AreBytes bytes → after_magic (length bytes) bytes ≡ Ok rest → number_field (length bytes) w16 rest ≡ Ok creator → parents_field (length bytes) creator.1 ≡ Ok parents
     → number_field (length bytes) w64 parents.1 ≡ Ok time → payload_field (length bytes) time.1 ≡ Ok payload → bytes_field (length bytes) 64 payload.1 ≡ Ok sig
     → eqb (length sig.1) 0 ≡ true
     → (read_event bytes ≡ Ok (signed_row creator.0 parents.0 time.0 payload.0 sig.0)) × (take (length bytes - 64) bytes ≡ body_bytes creator.0 parents.0 time.0 payload.0)
@@ -100,3 +96,8 @@ fields_read bytes rest creator parents time payload sig fit a b c d e f ended =
     let read : read_event bytes ≡ Ok row = rw (a, b, c, d, e, f, ended) refl in
     let spells = read_event-Spells bytes row fit read in
     (read ∙ ap done (Spells-signed_row bytes row spells), Spells-body_of bytes row spells)
+
+-- a reader's view shows what its bytes spell
+pub IfOk-Spells : (bytes : List ℕ) (r : Result EventView ByteFault) → AreBytes bytes → Gives row_of r (read_event bytes) → IfOk r (λ view. Spells bytes (row_of view))
+IfOk-Spells bytes (Ok view) fit gives = read_event-Spells bytes (row_of view) fit gives
+IfOk-Spells bytes (Err fault) fit gives = tt
