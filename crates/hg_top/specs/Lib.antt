@@ -2,3 +2,5 @@ pub mod Play
 pub mod Words
 pub mod FileNames
 pub mod Node
+pub mod Top
+pub mod Reading

@@ -6,4 +6,6 @@
 mod node;
 mod play;
 mod rules;
+mod status;
+mod top;
 mod words;
