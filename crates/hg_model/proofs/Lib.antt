@@ -1,2 +1,4 @@
 pub mod PlacesLaws
+pub mod SortLaws
+pub mod ListLaws
 mod Worked
