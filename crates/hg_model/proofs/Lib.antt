@@ -1,4 +1,6 @@
 pub mod PlacesLaws
 pub mod SortLaws
 pub mod ListLaws
+pub mod RowLaws
+pub mod VoteLaws
 mod Worked

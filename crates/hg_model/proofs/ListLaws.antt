@@ -1,8 +1,8 @@
 -- The laws of lists of what stands at places
-use Rattle.std.proofs.Common.{◌≡◌, ℕ, zero, suc, ◌+◌, ◌<◌, Bool, true, false, cond, ◌&&◌, ◌||◌, not, List, [], ◌∷◌, ◌++◌, map, sum_by, count_by, sym, refl, ap, ap₂, ◌∙◌, inl, inr, arith, add-zero, zero-add}
+use Rattle.std.proofs.Common.{◌≡◌, ℕ, zero, suc, ◌+◌, ◌<◌, ◌≤◌, length, Bool, true, false, cond, ◌&&◌, ◌||◌, not, List, [], ◌∷◌, ◌++◌, map, sum_by, count_by, sym, refl, ap, ap₂, ◌∙◌, inl, inr, arith, add-zero, zero-add}
 use Rattle.std.specs.List.{AllByRecursion, list_any, list_all}
 use Rattle.std.proofs.lemmas.Bool.{cases_Bool}
-use Rattle.std.proofs.lemmas.List.{map-append, append-nil}
+use Rattle.std.proofs.lemmas.List.{map-append, append-nil, length-append}
 use Rattle.std.proofs.lemmas.List.Sums.{sum_by-append}
 use Rattle.hg_model.specs.Places.{weight_below, count_below, some_below, list_below}
 use Rattle.hg_model.proofs.SortLaws.{AgreesBackwards, AgreesBackwards-push}
@@ -47,6 +47,16 @@ count_by-list_below passes n test = sum_by-list_below (λ k. cond (passes k) 1 0
     as_count : (m : ℕ) → weight_below (λ k. cond (passes k) 1 0) m test ≡ count_below m (λ k. test k && passes k)
     as_count zero = refl
     as_count (suc m) = ap₂ (λ (a b : ℕ). a + b) (as_count m) (one_if-and (test m) (passes m))
+
+pub length-list_below-le : {A : Type 0} (value : ℕ → A) (n : ℕ) (test : ℕ → Bool) → length (list_below value n test) ≤ n
+unfolding list_below
+length-list_below-le value zero test = omega arith
+length-list_below-le value (suc n) test =
+    omega (arith, length-append (list_below value n test) (cond (test n) (value n ∷ []) []), length-list_below-le value n test, last (test n))
+  where
+    last : (b : Bool) → length (cond b (value n ∷ []) []) ≤ 1
+    last true = omega arith
+    last false = omega arith
 
 pub all_list_below : {A : Type 0} (P : A → Type 0) (value : ℕ → A) (n : ℕ) (test : ℕ → Bool) → ((k : ℕ) → k < n → test k ≡ true → P (value k)) →
     AllByRecursion P (list_below value n test)

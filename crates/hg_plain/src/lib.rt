@@ -4,4 +4,5 @@
 #![tactic(auto)]
 
 mod sight;
-
+mod votes;
+mod fame;
