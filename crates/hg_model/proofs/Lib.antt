@@ -3,4 +3,6 @@ pub mod SortLaws
 pub mod ListLaws
 pub mod RowLaws
 pub mod VoteLaws
+pub mod SearchLaws
+pub mod FameLaws
 mod Worked

@@ -1,7 +1,9 @@
 -- How a table grows by an item
-use Rattle.std.proofs.Common.{◌≡◌, ℕ, ◌+◌, ◌<◌, List, [], ◌∷◌, ◌++◌, get_or, refl, ap, ◌∙◌, inl, inr, arith}
+use Rattle.std.proofs.Common.{◌≡◌, ℕ, ◌+◌, ◌<◌, List, [], ◌∷◌, ◌++◌, get_or, sym, refl, ap, ◌∙◌, inl, inr, arith, zero-add}
 use Rattle.std.proofs.lemmas.Bool.{cases_lt}
-use Rattle.std.proofs.lemmas.List.{length_push, get_or_append_left, get_or_push}
+use Rattle.std.proofs.lemmas.List.{length_push, get_or_append_left, get_or_push, ext_get_or}
+use Rattle.std.proofs.lemmas.List.FromFn.{get_or-map-range_with_len, length-map-range_with_len}
+use Rattle.hg_model.specs.Places.{table}
 use Rattle.hg_plain.specs.Tables.{Tells}
 
 pub Tells_more : {A : Type 0} (default : A) (value : ℕ → A) (n : ℕ) (items : List A) (item : A) →
@@ -17,5 +19,12 @@ Tells_more default value n items item told is =
 
 pub Tells_none : {A : Type 0} (default : A) (value : ℕ → A) → Tells default value 0 []
 Tells_none default value = record { len = refl; at = λ k h. absurd (omega arith) }
+
+-- a table is the list of the values
+pub Tells-table : {A : Type 0} (default : A) (value : ℕ → A) (n m : ℕ) (items : List A) → Tells default value n items → n ≡ m → items ≡ table value m
+Tells-table default value n m items told same =
+    ext_get_or default items (table value m) (told.len ∙ (same ∙ sym (length-map-range_with_len value 0 m)))
+    (λ k h. let below : k < m = omega (arith, told.len) in
+    told.at k (omega arith) ∙ sym (get_or-map-range_with_len value 0 m k k default below (zero-add k)))
 
 pub ruleset tells_steps = (Tells_more, Tells_none)

@@ -1,5 +1,5 @@
 -- What the tables of an election hold
-use Rattle.std.specs.Prelude.{ℕ, Bool, false, cond, not, List, Option, Some, None, nat_le, length, count_by, get_or}
+use Rattle.std.specs.Prelude.{ℕ, Bool, false, cond, not, List, Option, Some, None, option_map, nat_le, length, count_by, get_or}
 use Rattle.hg_model.specs.Places.{list_below}
 use Rattle.hg_model.specs.Links.{Link}
 use Rattle.hg_model.specs.Rounds.{round_of}
@@ -20,8 +20,12 @@ no_ballot = record { vote = false; decides = false }
 unfoldable pub ballot_of : ℕ → ℕ → List Link → (ℕ → Bool) → ℕ → ℕ → Ballot
 ballot_of n c L coin x y = record { vote = vote_of n c L coin x y; decides = decides n c L coin x y }
 
+-- whether the ballot at a place is a yes, and whether it decides
 abbrev pub vote_at : List Ballot → ℕ → Bool
 vote_at ballots w = (get_or ballots w no_ballot).vote
+
+abbrev pub decides_at : List Ballot → ℕ → Bool
+decides_at ballots y = (get_or ballots y no_ballot).decides
 
 -- how many of these voters vote yes, and no
 unfoldable pub tally_of : List Ballot → List ℕ → Tally
@@ -35,3 +39,7 @@ decision_at n L ballots y = record { round = round_of n L y; vote = vote_at ball
 abbrev pub first_of : Option Decision → Decision → Decision
 first_of None later = later
 first_of (Some earlier) later = cond (nat_le earlier.round later.round) earlier later
+
+-- the vote of a decision, if there is one
+abbrev pub vote_in : Option Decision → Option Bool
+vote_in decision = option_map (λ (d : Decision). d.vote) decision

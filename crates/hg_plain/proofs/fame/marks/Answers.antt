@@ -1,0 +1,8 @@
+use Rattle.std.proofs.Common.{arith}
+use Rattle.hg_model.specs.Fame.{fame_marks}
+use Rattle.hg_plain.proofs.TableLaws.{Tells-table}
+use Rattle.hg_plain.proofs.fame.marks.Goals as goal
+
+pub returns : goal.returns
+unfolding fame_marks
+returns c = Tells-table _ _ _ _ _ c.loop-x.invariant (omega arith)
