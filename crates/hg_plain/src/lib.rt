@@ -6,3 +6,4 @@
 mod sight;
 mod votes;
 mod fame;
+mod famous;
