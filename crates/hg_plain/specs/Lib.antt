@@ -2,3 +2,4 @@ pub mod Shape
 pub mod Tables
 pub mod Elections
 pub mod Judges
+pub mod Received

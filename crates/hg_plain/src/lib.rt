@@ -7,3 +7,4 @@ mod sight;
 mod votes;
 mod fame;
 mod famous;
+mod received;
