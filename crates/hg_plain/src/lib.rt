@@ -3,5 +3,6 @@
 //! Each relation is filled into a table once, so that time grows with the cube of the rows.
 #![tactic(auto)]
 
-mod sight;
-
+mod ancestry;
+mod links;
+mod tables;
