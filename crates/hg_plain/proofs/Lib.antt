@@ -1,3 +1,5 @@
 pub mod TableLaws
 pub mod BallotLaws
 pub mod FameSteps
+pub mod StepLaws
+pub mod TableEnds

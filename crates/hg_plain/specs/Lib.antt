@@ -3,3 +3,4 @@ pub mod Tables
 pub mod Elections
 pub mod Judges
 pub mod Received
+pub mod Held

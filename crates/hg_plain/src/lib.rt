@@ -8,3 +8,6 @@ mod votes;
 mod fame;
 mod famous;
 mod received;
+mod ancestry;
+mod links;
+mod tables;

@@ -1,0 +1,34 @@
+-- The next value of a column, from those before it
+use Rattle.std.proofs.Common.{◌≡◌, ◌≢◌, ℕ, ◌<◌, Bool, true, false, ◌||◌, eqb, List, get_or, sym, ap, ◌∙◌}
+use Rattle.std.specs.List.{list_any}
+use Rattle.std.proofs.lemmas.Bool.{eq-eqb, ne_eqb}
+use Rattle.hg_model.specs.Places.{IsEarlier}
+use Rattle.hg_model.specs.Links.{Link, parents, self_parent}
+use Rattle.hg_model.specs.Ancestry.{is_ancestor, is_self_ancestor}
+use Rattle.hg_model.proofs.ReachLaws.{list_any-same}
+use Rattle.hg_model.proofs.AncestryLaws.{self_parent_earlier, is_ancestor-at, is_ancestor_self, is_self_ancestor-at, is_self_ancestor_self}
+use Rattle.hg_plain.specs.Tables.{Tells}
+
+-- what a column tells of earlier places
+pub told_of_earlier : (next : ℕ → List ℕ) (test : ℕ → Bool) (x : ℕ) (column : List Bool) → IsEarlier next → Tells false test x column →
+    list_any (λ p. get_or column p false) (next x) ≡ list_any test (next x)
+told_of_earlier next test x column e told = list_any-same (λ p. get_or column p false) test (next x) (λ p h. told.at p (e.earlier x p h))
+
+module _ (L : List Link) (e : IsEarlier (parents L)) (x y : ℕ) where
+  pub ancestor_here : x ≡ y → eqb x y ≡ is_ancestor L x y
+  ancestor_here same = eq-eqb x y same ∙ sym (rw same (is_ancestor_self L e y))
+
+  pub ancestor_above : (column : List Bool) (above : Bool) → Tells false (λ k. is_ancestor L k y) x column → x ≢ y →
+      above ≡ list_any (λ p. get_or column p false) (parents L x) → above ≡ is_ancestor L x y
+  ancestor_above column above told apart is =
+      is ∙ (told_of_earlier (parents L) (λ k. is_ancestor L k y) x column e told
+      ∙ sym (rw (is_ancestor-at L e x y, ne_eqb x y apart)))
+
+  pub self_ancestor_here : x ≡ y → eqb x y ≡ is_self_ancestor L x y
+  self_ancestor_here same = eq-eqb x y same ∙ sym (rw same (is_self_ancestor_self L e y))
+
+  pub self_ancestor_above : (column : List Bool) (above : Bool) → Tells false (λ k. is_self_ancestor L k y) x column → x ≢ y →
+      above ≡ list_any (λ p. get_or column p false) (self_parent L x) → above ≡ is_self_ancestor L x y
+  self_ancestor_above column above told apart is =
+      is ∙ (told_of_earlier (self_parent L) (λ k. is_self_ancestor L k y) x column (self_parent_earlier L e) told
+      ∙ sym (rw (is_self_ancestor-at L e x y, ne_eqb x y apart)))
