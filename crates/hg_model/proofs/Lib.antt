@@ -5,4 +5,5 @@ pub mod RowLaws
 pub mod VoteLaws
 pub mod SearchLaws
 pub mod FameLaws
+pub mod XorLaws
 mod Worked

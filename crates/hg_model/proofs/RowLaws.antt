@@ -20,3 +20,5 @@ name_at-read G x row h = sym (ap name_in (slice_get-get_or G x row h))
 pub coin_at-read : (G : List Row) (x : ℕ) (row : Row) → x < length G → middle_bit (get_or G x row).sig ≡ coin_at G x
 unfolding coin_at
 coin_at-read G x row h = ap middle_bit (sig_at-read G x row h)
+
+pub ruleset row_reads = (time_at-read, sig_at-read, name_at-read, coin_at-read)

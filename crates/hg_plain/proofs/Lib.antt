@@ -3,3 +3,4 @@ pub mod BallotLaws
 pub mod FameSteps
 pub mod StepLaws
 pub mod TableEnds
+pub mod JudgeLaws

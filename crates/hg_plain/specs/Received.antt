@@ -1,5 +1,5 @@
 -- Rounds received, consensus timestamps and whitening, from a table of the judges of each round
-use Rattle.std.specs.Prelude.{ℕ, Bool, not, ◌&&◌, ◌==◌, List, [], length, get_or, fold, map, replicate, Option}
+use Rattle.std.specs.Prelude.{ℕ, Bool, not, ◌&&◌, ◌==◌, List, [], length, get_or, fold, replicate, Option}
 use Rattle.std.specs.List.{list_any, list_all}
 use Rattle.hg_model.specs.declared.row.Row.{Row}
 use Rattle.hg_model.specs.Places.{list_below, least_below}
@@ -29,4 +29,4 @@ times_by G L judges x = list_below (time_at G) (length L) (is_first_below L judg
 
 -- the signatures of the judges, XORed
 unfoldable pub whitening_by : List Row → List ℕ → List ℕ
-whitening_by G judges = fold xor_bytes (replicate 64 0) (map (sig_at G) judges)
+whitening_by G judges = fold (λ white w. xor_bytes white (sig_at G w)) (replicate 64 0) judges
