@@ -1,2 +1,6 @@
 pub mod PlacesLaws
+pub mod LinkLaws
+pub mod ReachLaws
+pub mod AncestryLaws
+pub mod ForkLaws
 mod Worked

@@ -1,3 +1,4 @@
 pub mod Shape
 pub mod Tables
 pub mod Held
+pub mod Twins

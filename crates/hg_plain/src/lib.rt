@@ -4,5 +4,6 @@
 #![tactic(auto)]
 
 mod ancestry;
+mod forks;
 mod links;
 mod tables;
