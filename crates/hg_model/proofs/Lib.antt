@@ -6,4 +6,8 @@ pub mod VoteLaws
 pub mod SearchLaws
 pub mod FameLaws
 pub mod XorLaws
+pub mod LinkLaws
+pub mod ReachLaws
+pub mod AncestryLaws
+pub mod ForkLaws
 mod Worked

@@ -107,7 +107,7 @@ pub some_below_next : (n : ℕ) (test : ℕ → Bool) → some_below (n + 1) tes
 unfolding some_below
 some_below_next n test = rw (add-one n) refl
 
-pub ruleset some_steps = (some_below_zero, some_below_next)
+pub ruleset some_steps = (some_below_zero, some_below_next, some_below_from)
 
 -- weight_below
 

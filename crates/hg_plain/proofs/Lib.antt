@@ -4,3 +4,4 @@ pub mod FameSteps
 pub mod StepLaws
 pub mod TableEnds
 pub mod JudgeLaws
+pub mod TwinLaws

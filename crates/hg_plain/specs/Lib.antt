@@ -4,3 +4,4 @@ pub mod Elections
 pub mod Judges
 pub mod Received
 pub mod Held
+pub mod Twins

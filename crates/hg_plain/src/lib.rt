@@ -9,5 +9,6 @@ mod fame;
 mod famous;
 mod received;
 mod ancestry;
+mod forks;
 mod links;
 mod tables;
