@@ -8,9 +8,9 @@ use Rattle.hg_plain.specs.Received.{whitening_by}
 
 -- the steps of the loop that XORs the signatures of judges
 
-pub whitening_none : (G : List Row) (judges : List ℕ) → whitening_by G (take 0 judges) ≡ replicate 64 0
+pub whitening_none : (G : List Row) → whitening_by G [] ≡ replicate 64 0
 unfolding whitening_by
-whitening_none G judges = refl
+whitening_none G = refl
 
 pub whitening_more : (G : List Row) (judges : List ℕ) (i d : ℕ) → i < length judges →
     whitening_by G (take (i + 1) judges) ≡ xor_bytes (whitening_by G (take i judges)) (sig_at G (get_or judges i d))
