@@ -1,11 +1,11 @@
 -- The laws of lists of what stands at places
-use Rattle.std.proofs.Common.{◌≡◌, ℕ, zero, suc, ◌+◌, ◌<◌, ◌≤◌, length, Bool, true, false, cond, ◌&&◌, ◌||◌, not, List, [], ◌∷◌, ◌++◌, map, sum_by, count_by, sym, refl, ap, ap₂, ◌∙◌, inl, inr, arith, add-zero, zero-add}
+use Rattle.std.proofs.Common.{◌≡◌, ℕ, zero, suc, ◌+◌, ◌<◌, ◌≤◌, length, Bool, true, false, cond, ◌&&◌, ◌||◌, not, eqb, List, [], ◌∷◌, ◌++◌, map, sum_by, count_by, sym, refl, ap, ap₂, ◌∙◌, inl, inr, arith, add-zero, zero-add}
 use Rattle.std.specs.List.{AllByRecursion, list_any, list_all}
-use Rattle.std.proofs.lemmas.Bool.{cases_Bool}
-use Rattle.std.proofs.lemmas.List.{map-append, append-nil, length-append}
+use Rattle.std.proofs.lemmas.Bool.{cases_Bool, not_from_false, ne_eqb, or_right}
+use Rattle.std.proofs.lemmas.List.{map-append, append-nil, length-append, length_push}
 use Rattle.std.proofs.lemmas.List.Sums.{sum_by-append}
 use Rattle.hg_model.specs.Places.{weight_below, count_below, some_below, list_below}
-use Rattle.hg_model.proofs.SortLaws.{AgreesBackwards, AgreesBackwards-push}
+use Rattle.hg_model.proofs.SortLaws.{IsPairwise, IsPairwise-push}
 
 pub map-list_below : {A B : Type 0} (f : A → B) (value : ℕ → A) (n : ℕ) (test : ℕ → Bool) → map f (list_below value n test) ≡ list_below (λ k. f (value k)) n test
 unfolding list_below
@@ -72,6 +72,10 @@ all_list_below P value (suc n) test at = pushed (test n) refl (all_list_below P 
     pushed true e before = joined _ _ before (at n (omega arith) e, tt)
     pushed false e before = joined _ _ before tt
 
+or_false : (b : Bool) → (b || false) ≡ b
+or_false true = refl
+or_false false = refl
+
 list_any-append : {A : Type 0} (test : A → Bool) (xs ys : List A) → list_any test (xs ++ ys) ≡ (list_any test xs || list_any test ys)
 list_any-append test [] ys = refl
 list_any-append test (x ∷ xs) ys = elim (cases_Bool (test x)) [
@@ -89,10 +93,6 @@ list_any-list_below passes (suc n) test =
   where
     last : (a b : Bool) → list_any passes (cond a (n ∷ []) []) ≡ (a && passes n)
     last true b = or_false (passes n)
-      where
-        or_false : (c : Bool) → (c || false) ≡ c
-        or_false true = refl
-        or_false false = refl
     last false b = refl
 
 list_all-from_any : {A : Type 0} (test : A → Bool) (xs : List A) → list_all test xs ≡ not (list_any (λ x. not (test x)) xs)
@@ -108,15 +108,25 @@ pub list_all-list_below : (passes : ℕ → Bool) (n : ℕ) (test : ℕ → Bool
 list_all-list_below passes n test =
     list_all-from_any passes (list_below (λ k. k) n test) ∙ ap not (list_any-list_below (λ k. not (passes k)) n test)
 
--- two tests that agree of each place against each lower one sort a list of places alike
-pub AgreesBackwards-list_below : {A : Type 0} (one two : A → A → Bool) (value : ℕ → A) (n : ℕ) (test : ℕ → Bool) →
-    ((j k : ℕ) → j < k → one (value k) (value j) ≡ two (value k) (value j)) → AgreesBackwards one two (list_below value n test)
+-- what holds of the values at each two places holds of each element with each later one
+pub IsPairwise-list_below : {A : Type 0} (related : A → A → Type 0) (value : ℕ → A) (n : ℕ) (test : ℕ → Bool) →
+    ((j k : ℕ) → j < k → related (value j) (value k)) → IsPairwise related (list_below value n test)
 unfolding list_below
-AgreesBackwards-list_below one two value zero test at = tt
-AgreesBackwards-list_below one two value (suc n) test at = pushed (test n) (AgreesBackwards-list_below one two value n test at)
+IsPairwise-list_below related value zero test at = tt
+IsPairwise-list_below related value (suc n) test at = pushed (test n) (IsPairwise-list_below related value n test at)
   where
-    pushed : (b : Bool) → AgreesBackwards one two (list_below value n test) → AgreesBackwards one two (list_below value n test ++ cond b (value n ∷ []) [])
+    pushed : (b : Bool) → IsPairwise related (list_below value n test) → IsPairwise related (list_below value n test ++ cond b (value n ∷ []) [])
     pushed true before =
-        AgreesBackwards-push one two (list_below value n test) (value n) before
-        (all_list_below (λ x. one (value n) x ≡ two (value n) x) value n test (λ k h e. at k n h))
+        IsPairwise-push related (list_below value n test) (value n) before (all_list_below (λ x. related x (value n)) value n test (λ k h e. at k n h))
     pushed false before = rw (append-nil (list_below value n test)) before
+
+-- a list of places is empty where no place passes
+pub none-list_below : {A : Type 0} (value : ℕ → A) (n : ℕ) (test : ℕ → Bool) → not (eqb (length (list_below value n test)) 0) ≡ some_below n test
+unfolding list_below some_below
+none-list_below value zero test = refl
+none-list_below value (suc n) test = elim (cases_Bool (test n)) [
+  | inl passes ↦ (let some : not (eqb (length (list_below value n test ++ value n ∷ [])) 0) ≡ true =
+        not_from_false _ (ne_eqb _ _ (λ e. absurd (omega (arith, e, length_push (list_below value n test) (value n))))) in
+      rw passes (some ∙ sym (or_right (some_below n test) true refl)))
+  | inr fails ↦ rw (fails, append-nil (list_below value n test)) (none-list_below value n test ∙ sym (or_false (some_below n test)))
+]

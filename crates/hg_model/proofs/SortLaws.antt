@@ -10,10 +10,14 @@ use Rattle.std.proofs.lemmas.List.Sums.{sum_by-cons}
 use Rattle.std.proofs.lemmas.List.Sorted.{sorted_far, sum_by-IsPermutation, length_permutation, ranks_by}
 use Rattle.hg_model.specs.Order.{insert_by, sort_by, median}
 
+-- the relation holds of each element with each later one
+abbrev pub IsPairwise : {A : Type 0} → (A → A → Type 0) → List A → Type 0
+IsPairwise related [] = Unit {0}
+IsPairwise related (x ∷ xs) = AllByRecursion (related x) xs × IsPairwise related xs
+
 -- nothing later is less
 abbrev pub IsAscending : {A : Type 0} → (A → A → Bool) → List A → Type 0
-IsAscending less [] = Unit {0}
-IsAscending less (x ∷ xs) = AllByRecursion (λ y. less y x ≡ false) xs × IsAscending less xs
+IsAscending less xs = IsPairwise (λ x y. less y x ≡ false) xs
 
 -- the same elements as often: each weight has the same sum
 abbrev pub HasSameSums : {A : Type 0} → List A → List A → Type 0
@@ -156,11 +160,10 @@ pub median_is : (xs ys : List ℕ) → IsPermutation xs ys → IsSorted nat_cmp 
 unfolding median
 median_is xs ys moved sorted = rw (length_permutation xs ys moved) (ap (λ zs. get_or zs ((length xs - 1) / 2) 0) (sorted_numbers xs ys moved sorted))
 
--- two tests that sort alike: they agree of each element against each earlier one
+-- two tests that agree of each element against each earlier one sort alike
 
 abbrev pub AgreesBackwards : {A : Type 0} → (A → A → Bool) → (A → A → Bool) → List A → Type 0
-AgreesBackwards one two [] = Unit {0}
-AgreesBackwards one two (x ∷ xs) = AllByRecursion (λ y. one y x ≡ two y x) xs × AgreesBackwards one two xs
+AgreesBackwards one two xs = IsPairwise (λ x y. one y x ≡ two y x) xs
 
 insert_by-same : {A : Type 0} (one two : A → A → Bool) (x : A) (ys : List A) → AllByRecursion (λ y. one y x ≡ two y x) ys → insert_by one x ys ≡ insert_by two x ys
 insert_by-same one two x [] all = refl
@@ -173,14 +176,27 @@ sort_by-same one two (x ∷ xs) agrees =
     ap (insert_by one x) (sort_by-same one two xs agrees.1)
     ∙ insert_by-same one two x (sort_by two xs) (all_sorted (λ y. one y x ≡ two y x) two xs agrees.0)
 
-pub AgreesBackwards-push : {A : Type 0} (one two : A → A → Bool) (xs : List A) (y : A) → AgreesBackwards one two xs → AllByRecursion (λ x. one y x ≡ two y x) xs →
-    AgreesBackwards one two (xs ++ y ∷ [])
-AgreesBackwards-push one two [] y agrees all = (tt, tt)
-AgreesBackwards-push one two (x ∷ xs) y agrees all = (pushed xs agrees.0, AgreesBackwards-push one two xs y agrees.1 all.1)
+pub IsPairwise-push : {A : Type 0} (related : A → A → Type 0) (xs : List A) (y : A) → IsPairwise related xs → AllByRecursion (λ x. related x y) xs →
+    IsPairwise related (xs ++ y ∷ [])
+IsPairwise-push related [] y pairs all = (tt, tt)
+IsPairwise-push related (x ∷ xs) y pairs all = (pushed xs pairs.0, IsPairwise-push related xs y pairs.1 all.1)
   where
-    pushed : (zs : List _) → AllByRecursion (λ z. one z x ≡ two z x) zs → AllByRecursion (λ z. one z x ≡ two z x) (zs ++ y ∷ [])
+    pushed : (zs : List _) → AllByRecursion (related x) zs → AllByRecursion (related x) (zs ++ y ∷ [])
     pushed [] h = (all.0, tt)
     pushed (z ∷ zs) h = (h.0, pushed zs h.1)
+
+all_weaker : {A : Type 0} (P Q R : A → Type 0) (xs : List A) → ((x : A) → P x → Q x → R x) → AllByRecursion P xs → AllByRecursion Q xs → AllByRecursion R xs
+all_weaker P Q R [] weaker all_p all_q = tt
+all_weaker P Q R (x ∷ xs) weaker all_p all_q = (weaker x all_p.0 all_q.0, all_weaker P Q R xs weaker all_p.1 all_q.1)
+
+-- a relation that follows from another, of elements of one kind
+pub IsPairwise-weaker : {A : Type 0} (P : A → Type 0) (related other : A → A → Type 0) (xs : List A) → ((x y : A) → P x → P y → related x y → other x y) →
+    AllByRecursion P xs → IsPairwise related xs → IsPairwise other xs
+IsPairwise-weaker P related other [] weaker all pairs = tt
+IsPairwise-weaker P related other (x ∷ xs) weaker all pairs = (
+  all_weaker P (related x) (other x) xs (λ y of_y h. weaker x y all.0 of_y h) all.1 pairs.0,
+  IsPairwise-weaker P related other xs weaker all.1 pairs.1,
+)
 
 -- a sort of what `value` makes of the elements
 
