@@ -1,5 +1,6 @@
 pub mod PlacesLaws
 pub mod SortLaws
+pub mod CompareLaws
 pub mod ListLaws
 pub mod RowLaws
 pub mod VoteLaws
