@@ -5,3 +5,4 @@ pub mod StepLaws
 pub mod TableEnds
 pub mod JudgeLaws
 pub mod TwinLaws
+pub mod KeyLaws

@@ -5,3 +5,4 @@ pub mod Judges
 pub mod Received
 pub mod Held
 pub mod Twins
+pub mod Keys

@@ -12,3 +12,4 @@ mod ancestry;
 mod forks;
 mod links;
 mod tables;
+mod order;

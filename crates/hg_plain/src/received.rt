@@ -1,4 +1,4 @@
-ghost use Rattle.std.specs.Prelude.{◌≡◌, ◌<◌, ◌-◌, ◌/◌, ◌^◌, ℕ, List, [], All, length, IfOk, replicate, slice_index, slice_index_or};
+ghost use Rattle.std.specs.Prelude.{◌≡◌, ◌<◌, ◌-◌, ◌/◌, ◌^◌, ℕ, List, [], All, length, IfOk, IfSome, replicate, slice_index, slice_index_or};
 ghost use Rattle.std.specs.List.{list_any, list_all};
 ghost use Rattle.hg_model.specs.Places.{IsEarlier};
 ghost use Rattle.hg_model.specs.Links.{parents};
@@ -35,7 +35,8 @@ pub fn round_received(sight: &PlainSight, judges: &[Items<usize>], x: usize) -> 
     requires judges { All (λ (round : List ℕ). All (λ w. w < length sight.now.links) round) judges.now }
     requires short { length judges.now < 2 ^ 32 }
     requires row { x < length sight.now.links }
-    ensures { result ≡ received_by sight.now.links judges.now x }
+    ensures value { result ≡ received_by sight.now.links judges.now x }
+    ensures within { IfSome result (λ r. r < length judges.now) }
 {
     for (r, round) in judges.iter().enumerate() {
         if is_below_all(sight, round.as_slice(), x) {
