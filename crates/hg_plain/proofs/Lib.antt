@@ -6,3 +6,4 @@ pub mod TableEnds
 pub mod JudgeLaws
 pub mod TwinLaws
 pub mod KeyLaws
+pub mod OrderLaws
