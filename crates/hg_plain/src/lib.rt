@@ -6,4 +6,5 @@
 mod ancestry;
 mod forks;
 mod links;
+mod seeing;
 mod tables;
