@@ -149,12 +149,16 @@ module _ (L : List Link) (e : IsEarlier (parents L)) (own : (x p : ℕ) → has_
             let on_c : self_parent L c.0 ≡ p ∷ [] = self_parent_only L c.0 p c.2 in
             let le : c.0 ≤ b = is_self_ancestor-le L e b c.0 c.1 in
             let by_c : creator L c.0 ≡ m = sym (own c.0 p c.2) ∙ by_m in
-            inl (c.0, le, record {
-            first = f.first;
-            second = by_c;
-            apart = λ same. both_ways (is_self_ancestor L b a) f.not_below (subst (λ q. is_self_ancestor L b q ≡ true) (sym same) c.1);
-            on_same = on ∙ sym on_c;
-            }))
+            inl (
+              c.0,
+              le,
+              record {
+                first = f.first;
+                second = by_c;
+                apart = λ same. both_ways (is_self_ancestor L b a) f.not_below (subst (λ q. is_self_ancestor L b q ≡ true) (sym same) c.1);
+                on_same = on ∙ sym on_c;
+              },
+            ))
         | inr apart ↦ inr (record {
           first = by_m;
           second = f.second;
@@ -183,12 +187,18 @@ module _ (L : List Link) (e : IsEarlier (parents L)) (own : (x p : ℕ) → has_
             | inl t ↦ (let le : t.0 ≤ a = t.1 in (b, t.0, hb, omega arith, t.2))
             | inr lower ↦ twins_to k n m on.0 a (omega arith) (omega arith) ha lower
           ])
-      | inl neither ↦ (a, b, ha, hb, record {
-        first = f.first;
-        second = f.second;
-        apart = λ same. both_ways (is_self_ancestor L a b) f.not_above (subst (λ q. is_self_ancestor L a q ≡ true) same (is_self_ancestor_self L e a));
-        on_same = none ∙ sym neither;
-      })
+      | inl neither ↦ (
+        a,
+        b,
+        ha,
+        hb,
+        record {
+          first = f.first;
+          second = f.second;
+          apart = λ same. both_ways (is_self_ancestor L a b) f.not_above (subst (λ q. is_self_ancestor L a q ≡ true) same (is_self_ancestor_self L e a));
+          on_same = none ∙ sym neither;
+        },
+      )
     ]
   ]
 

@@ -7,4 +7,5 @@ mod ancestry;
 mod forks;
 mod links;
 mod seeing;
+mod strongly_seeing;
 mod tables;
