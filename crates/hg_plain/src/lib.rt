@@ -6,6 +6,10 @@
 mod ancestry;
 mod forks;
 mod links;
+mod rounds;
 mod seeing;
+mod sight;
 mod strongly_seeing;
 mod tables;
+
+pub use forks::plain_forkers;
