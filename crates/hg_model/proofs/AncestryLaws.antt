@@ -1,5 +1,5 @@
 -- The laws of ancestors and self-ancestors
-use Rattle.std.proofs.Common.{◌≡◌, ℕ, suc, ◌<◌, ◌≤◌, Bool, true, ◌||◌, ◌&&◌, eqb, List, [], ◌∷◌, sym, refl, ◌∙◌, inl, inr, ◌⊎◌, arith}
+use Rattle.std.proofs.Common.{◌≡◌, ℕ, suc, ◌+◌, ◌<◌, ◌≤◌, Bool, true, ◌||◌, ◌&&◌, eqb, List, [], ◌∷◌, sym, refl, ◌∙◌, inl, inr, ◌⊎◌, arith}
 use Rattle.std.proofs.lemmas.Bool.{or_cases, or_left, or_right, and_parts, and_from, eqb-true}
 use Rattle.std.specs.List.{list_any}
 use Rattle.hg_model.specs.Places.{has_place, some_below, IsEarlier}
@@ -22,6 +22,9 @@ self_parent_is_parent L x p h = first_place_has (parents L x) p h
 
 pub self_parent_earlier : (L : List Link) → IsEarlier (parents L) → IsEarlier (self_parent L)
 self_parent_earlier L e = record { earlier = λ x p h. e.earlier x p (self_parent_is_parent L x p h) }
+
+pub some_ancestor_from : (L : List Link) (x y : ℕ) (test : ℕ → Bool) → y < x + 1 → (is_ancestor L x y && test y) ≡ true → some_ancestor L x test ≡ true
+some_ancestor_from L x y test h passes = some_below_from (suc x) (λ y. is_ancestor L x y && test y) y (omega arith) passes
 
 module _ (L : List Link) (e : IsEarlier (parents L)) where
   pub is_ancestor-at : (x y : ℕ) → is_ancestor L x y ≡ (eqb x y || list_any (λ p. is_ancestor L p y) (parents L x))

@@ -3,9 +3,9 @@ use Rattle.std.proofs.Common.{◌≡◌, ◌≢◌, ℕ, zero, suc, ◌+◌, ◌
 use Rattle.std.proofs.lemmas.Bool.{cases_Bool, cases_eq, and_parts, and_from, or_cases, eqb-true, eq-eqb, not-true, not_from_false, both_ways, false_from_ne_true, true≢false}
 use Rattle.hg_model.specs.Places.{has_place, some_below, count_below, IsEarlier}
 use Rattle.hg_model.specs.Links.{Link, parents, self_parent, first_place, creator}
-use Rattle.hg_model.specs.Ancestry.{is_ancestor, is_self_ancestor}
+use Rattle.hg_model.specs.Ancestry.{is_ancestor, is_self_ancestor, some_ancestor}
 use Rattle.hg_model.specs.Forks.{is_fork, has_fork_below, has_fork}
-use Rattle.hg_model.proofs.PlacesLaws.{some_below_from, some_below_found}
+use Rattle.hg_model.proofs.PlacesLaws.{some_below_from, some_below_found, some_below_none}
 use Rattle.hg_model.proofs.ReachLaws.{has_place_first}
 use Rattle.hg_model.proofs.AncestryLaws.{self_parent_is_parent, is_ancestor-le, is_self_ancestor_self, is_self_ancestor_by, is_self_ancestor_cases, is_self_ancestor-le, is_self_ancestor-trans}
 
@@ -149,12 +149,16 @@ module _ (L : List Link) (e : IsEarlier (parents L)) (own : (x p : ℕ) → has_
             let on_c : self_parent L c.0 ≡ p ∷ [] = self_parent_only L c.0 p c.2 in
             let le : c.0 ≤ b = is_self_ancestor-le L e b c.0 c.1 in
             let by_c : creator L c.0 ≡ m = sym (own c.0 p c.2) ∙ by_m in
-            inl (c.0, le, record {
-            first = f.first;
-            second = by_c;
-            apart = λ same. both_ways (is_self_ancestor L b a) f.not_below (subst (λ q. is_self_ancestor L b q ≡ true) (sym same) c.1);
-            on_same = on ∙ sym on_c;
-            }))
+            inl (
+              c.0,
+              le,
+              record {
+                first = f.first;
+                second = by_c;
+                apart = λ same. both_ways (is_self_ancestor L b a) f.not_below (subst (λ q. is_self_ancestor L b q ≡ true) (sym same) c.1);
+                on_same = on ∙ sym on_c;
+              },
+            ))
         | inr apart ↦ inr (record {
           first = by_m;
           second = f.second;
@@ -183,14 +187,26 @@ module _ (L : List Link) (e : IsEarlier (parents L)) (own : (x p : ℕ) → has_
             | inl t ↦ (let le : t.0 ≤ a = t.1 in (b, t.0, hb, omega arith, t.2))
             | inr lower ↦ twins_to k n m on.0 a (omega arith) (omega arith) ha lower
           ])
-      | inl neither ↦ (a, b, ha, hb, record {
-        first = f.first;
-        second = f.second;
-        apart = λ same. both_ways (is_self_ancestor L a b) f.not_above (subst (λ q. is_self_ancestor L a q ≡ true) same (is_self_ancestor_self L e a));
-        on_same = none ∙ sym neither;
-      })
+      | inl neither ↦ (
+        a,
+        b,
+        ha,
+        hb,
+        record {
+          first = f.first;
+          second = f.second;
+          apart = λ same. both_ways (is_self_ancestor L a b) f.not_above (subst (λ q. is_self_ancestor L a q ≡ true) same (is_self_ancestor_self L e a));
+          on_same = none ∙ sym neither;
+        },
+      )
     ]
   ]
 
   pub twins_of_fork : (n m a b : ℕ) → a < n → b < n → Fork L m a b → (c : ℕ) × (d : ℕ) × (c < n) × (d < n) × Twins L m c d
   twins_of_fork n m a b ha hb f = twins_to (suc (a + b)) n m a b (omega arith) ha hb f
+
+-- no row is a fork by a member with a row of another creator
+pub no_other_side : (L : List Link) (x m a : ℕ) → eqb (creator L a) m ≡ false → some_ancestor L x (is_fork L m a) ≡ false
+no_other_side L x m a h = some_below_none (suc x) (λ b. is_ancestor L x b && is_fork L m a b) (λ b hb e.
+    let fork = fork_is L m a b (and_parts (is_ancestor L x b) (is_fork L m a b) e).1 in
+    both_ways (eqb (creator L a) m) h (eq-eqb (creator L a) m fork.first))

@@ -11,4 +11,5 @@ pub mod LinkLaws
 pub mod ReachLaws
 pub mod AncestryLaws
 pub mod ForkLaws
+pub mod RoundLaws
 mod Worked

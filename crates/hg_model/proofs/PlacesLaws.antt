@@ -262,4 +262,12 @@ pub maximum_below_next : (value : ℕ → ℕ) (n : ℕ) → maximum_below value
 unfolding maximum_below
 maximum_below_next value n = rw (add-one n) refl
 
+pub maximum_below-same : (one two : ℕ → ℕ) (n : ℕ) → ((k : ℕ) → k < n → one k ≡ two k) → maximum_below one n ≡ maximum_below two n
+unfolding maximum_below
+maximum_below-same one two zero same = refl
+maximum_below-same one two (suc n) same =
+    let first = maximum_below-same one two n (λ k h. same k (omega arith)) in
+    let last = same n (omega arith) in
+    cc
+
 pub ruleset maximum_steps = (maximum_below_zero, maximum_below_next)
