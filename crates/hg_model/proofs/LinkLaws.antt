@@ -49,6 +49,8 @@ pub length-links : (G : List Row) → length (links G) ≡ length G
 unfolding links
 length-links G = length-map G (link_in G)
 
+pub ruleset link_lengths = (length-links)
+
 pub creator-links : (G : List Row) (x : ℕ) (row : Row) → x < length G → row ≡ get_or G x row → creator (links G) x ≡ row.creator
 unfolding creator links
 creator-links G x row h is =

@@ -1,7 +1,7 @@
--- The laws of the search for the least of places
+-- The laws of searches for the least and the greatest
 use Rattle.std.proofs.Common.{◌≡◌, ℕ, zero, suc, ◌<◌, ◌≤◌, Bool, true, false, cond, leb, Option, Some, None, IfSome, option_map, refl, ap, ◌∙◌, subst, inl, inr, arith, le-leb}
 use Rattle.std.proofs.lemmas.Bool.{cases_Bool, cases_lt, cond_both}
-use Rattle.hg_model.specs.Places.{lesser_of, least_below}
+use Rattle.hg_model.specs.Places.{lesser_of, least_below, greatest_below}
 
 -- what is found stands below the bound, and passes
 
@@ -61,3 +61,8 @@ least_number_first (suc n) k test h none here = elim (cases_lt k n) [
       ])
   | inr last ↦ (let e : k ≡ n = omega arith in rw (← e, here, none) refl)
 ]
+
+pub greatest_below-same : (n : ℕ) (one two : ℕ → Bool) → ((k : ℕ) → k < n → one k ≡ two k) → greatest_below n one ≡ greatest_below n two
+unfolding greatest_below
+greatest_below-same zero one two same = refl
+greatest_below-same (suc n) one two same = rw (same n (omega arith), greatest_below-same n one two (λ k h. same k (omega arith))) refl

@@ -1,17 +1,19 @@
 -- The table of judges tells rounds received, consensus timestamps and whitening
-use Rattle.std.proofs.Common.{◌≡◌, ℕ, suc, ◌+◌, ◌<◌, Bool, true, false, not, ◌&&◌, List, [], length, get_or, take, fold, replicate, Option, Some, None, IfSome, is_some, unwrap_or, refl, sym, ◌∙◌, ap, ap₂, subst, inl, inr}
+use Rattle.std.proofs.Common.{◌≡◌, ℕ, suc, ◌+◌, ◌<◌, ◌≤◌, Bool, true, false, not, ◌&&◌, List, [], length, get_or, take, fold, replicate, Option, Some, None, IfSome, All, is_some, unwrap_or, refl, sym, ◌∙◌, ap, ap₂, subst, inl, inr, arith}
 use Rattle.std.proofs.lemmas.Bool.{cases_Bool, and_parts}
+use Rattle.std.proofs.lemmas.List.{get_or_default}
+use Rattle.std.proofs.lemmas.List.Elements.{All-nil, All-same, All-from_recursion}
 use Rattle.std.proofs.lemmas.List.Folds.{fold-map}
 use Rattle.std.proofs.lemmas.List.Sums.{fold_more}
 use Rattle.hg_model.specs.declared.row.Row.{Row}
-use Rattle.hg_model.specs.Places.{list_below, least_below}
+use Rattle.hg_model.specs.Places.{list_below, least_below, greatest_below}
 use Rattle.hg_model.specs.Links.{Link}
 use Rattle.hg_model.specs.Ancestry.{is_ancestor, is_self_ancestor}
 use Rattle.hg_model.specs.Fame.{Marks, is_closed, is_unique_famous}
-use Rattle.hg_model.specs.Order.{sig_at, time_at, median, xor_bytes, can_receive, round_received, is_first_holder, consensus_time, whitening, received_or_zero}
+use Rattle.hg_model.specs.Order.{sig_at, time_at, median, xor_bytes, can_receive, round_received, is_first_holder, consensus_time, whitening, received_or_zero, last_closed}
 use Rattle.hg_model.proofs.PlacesLaws.{list_below-same}
-use Rattle.hg_model.proofs.ListLaws.{map-list_below, list_any-list_below, list_all-list_below, none-list_below}
-use Rattle.hg_model.proofs.SearchLaws.{IsFoundBelow, least_below_found, least_below-same}
+use Rattle.hg_model.proofs.ListLaws.{map-list_below, list_any-list_below, list_all-list_below, none-list_below, all_list_below}
+use Rattle.hg_model.proofs.SearchLaws.{IsFoundBelow, least_below_found, least_below-same, greatest_below-same}
 use Rattle.hg_plain.specs.Tables.{Tells}
 use Rattle.hg_plain.specs.Judges.{judges_of}
 use Rattle.hg_plain.specs.Received.{is_below_all, received_by, is_new_to_line, is_first_below, times_by, whitening_by}
@@ -82,3 +84,25 @@ module _ (n : ℕ) (L : List Link) (marks : Marks) where
       rw (judges_when_closed r closed)
       (sym (fold-map xor_bytes (sig_at G) (replicate 64 0) (list_below (λ w. w) (length L) (is_unique_famous n L marks r)))
       ∙ ap (fold xor_bytes (replicate 64 0)) (map-list_below (sig_at G) (λ w. w) (length L) (is_unique_famous n L marks r)))
+
+  judges_below : (r m : ℕ) → length L ≤ m → All (λ w. w < m) (judges_of n L marks r)
+  unfolding judges_of
+  judges_below r m le = elim (cases_Bool (is_closed n L marks r)) [
+    | inl closed ↦
+        rw closed (All-from_recursion (λ w. w < m) (list_below (λ w. w) (length L) (is_unique_famous n L marks r))
+        (all_list_below (λ w. w < m) (λ w. w) (length L) (is_unique_famous n L marks r) (λ k h e. omega arith)))
+    | inr open_still ↦ rw open_still (All-nil (λ w. w < m))
+  ]
+
+  -- all judges are rows
+  pub judges_within : (judges : List (List ℕ)) (m : ℕ) → Tells [] (judges_of n L marks) (suc (length L)) judges → length L ≤ m →
+      All (λ (round : List ℕ). All (λ w. w < m) round) judges
+  judges_within judges m told le = λ r d h.
+      let inside : r < suc (length L) = omega (arith, told.len) in
+      All-same (λ w. w < m) (get_or judges r d) (judges_of n L marks r) (get_or_default judges r d [] h ∙ told.at r inside) (judges_below r m le)
+
+  -- the table of closed rounds tells the last of them
+  pub last_closed_is : (closed : List Bool) → Tells false (is_closed n L marks) (suc (length L)) closed →
+      greatest_below (length closed) (λ r. get_or closed r false) ≡ last_closed n L marks
+  unfolding last_closed
+  last_closed_is closed told = rw told.len (greatest_below-same (suc (length L)) _ (is_closed n L marks) told.at)

@@ -4,7 +4,7 @@ use Rattle.std.specs.List.{AllByRecursion}
 use Rattle.std.specs.Ordering.{ordering_then}
 use Rattle.std.specs.Cmp.Lexicographic.{slice_cmp}
 use Rattle.std.proofs.lemmas.Bool.{and_parts}
-use Rattle.std.proofs.lemmas.List.Elements.{recursion_from_All}
+use Rattle.std.proofs.lemmas.List.Elements.{All-map, All-from_recursion, recursion_from_All}
 use Rattle.hg_model.specs.declared.row.Row.{Row}
 use Rattle.hg_model.specs.declared.row.Placed.{Placed}
 use Rattle.hg_model.specs.Places.{list_below}
@@ -13,8 +13,8 @@ use Rattle.hg_model.specs.Graph.{name_at}
 use Rattle.hg_model.specs.Fame.{Marks}
 use Rattle.hg_model.specs.Order.{sig_at, xor_bytes, sort_by, round_received, consensus_time, whitening, received_or_zero, keyed_at, comes_before, is_received_in, ordered_in}
 use Rattle.hg_model.proofs.PlacesLaws.{list_below-same}
-use Rattle.hg_model.proofs.ListLaws.{map-list_below, IsPairwise-list_below}
-use Rattle.hg_model.proofs.SortLaws.{IsPairwise, IsPairwise-weaker, AgreesBackwards, sort_by-same, sort_by-map}
+use Rattle.hg_model.proofs.ListLaws.{map-list_below, all_list_below, IsPairwise-list_below}
+use Rattle.hg_model.proofs.SortLaws.{IsPairwise, IsPairwise-weaker, AgreesBackwards, all_sorted, sort_by-same, sort_by-map}
 use Rattle.hg_model.proofs.CompareLaws.{then_assoc, slice_cmp-append, is_lt-then}
 use Rattle.hg_plain.specs.declared.order.Key.{Key}
 use Rattle.hg_plain.specs.Tables.{Tells}
@@ -105,3 +105,11 @@ module _ (n : ℕ) (G : List Row) (L : List Link) (marks : Marks) (judges : List
       ∙ (ap (map second) (sort_by-map keyed_of comes_before keys)
       ∙ (placed_parts (sort_by (λ a b. comes_before (keyed_of a) (keyed_of b)) keys)
       ∙ ap (map placed_of) sorts)))
+
+  pub places_within : (keys : List Key) → keys ≡ list_below (key_by G L judges) (length L) (is_received_by L judges) →
+      All (λ (p : Placed). p.place < length L) (map placed_of (sort_by key_less keys))
+  places_within keys is =
+      let P : Placed → Type 0 = λ p. p.place < length L in
+      let Q : Key → Type 0 = λ k. k.place < length L in
+      All-map P placed_of (sort_by key_less keys) (All-from_recursion Q (sort_by key_less keys) (all_sorted Q key_less keys
+      (rw is (all_list_below Q (key_by G L judges) (length L) (is_received_by L judges) (λ k h e. rw (key_place k) h)))))

@@ -91,7 +91,8 @@ pub fn marks(
     requires same { length rows.now ≡ length sight.now.links }
     requires short { length rows.now < 2 ^ 32 - 1 }
     requires period { 0 < period }
-    ensures { IfOk result (λ v. v.items ≡ fame_marks sight.now.members period sight.now.links (coin_at rows.now)) }
+    ensures marks { IfOk result (λ v. v.items ≡ fame_marks sight.now.members period sight.now.links (coin_at rows.now)) }
+    ensures len { IfOk result (λ v. length v.items ≡ length sight.now.links) }
 {
     let voters = voters(alloc, sight)?;
     let mut marks = Vec::new(alloc);

@@ -9,6 +9,7 @@ mod famous;
 mod forks;
 mod links;
 mod order;
+mod plain;
 mod received;
 mod rounds;
 mod seeing;
@@ -18,3 +19,4 @@ mod tables;
 mod votes;
 
 pub use forks::plain_forkers;
+pub use plain::{PlainBlock, PlainState, plain_block, plain_order, plain_state};

@@ -1,13 +1,15 @@
-ghost use Rattle.std.specs.Prelude.{◌≡◌, ◌<◌, ◌-◌, ◌^◌, ℕ, List, [], All, length, map, IfOk, IfSome, OnOk, ◌++◌, slice_index_or};
+ghost use Rattle.std.specs.Prelude.{◌≡◌, ◌<◌, ◌-◌, ◌^◌, ℕ, List, [], All, suc, false, length, map, IfOk, IfSome, OnOk, ◌++◌, slice_index_or};
 ghost use Rattle.std.specs.Option.{option_to_list};
 ghost use Rattle.hg_model.specs.Places.{list_below, IsEarlier};
 ghost use Rattle.hg_model.specs.Links.{parents};
-ghost use Rattle.hg_model.specs.Order.{sort_by};
+ghost use Rattle.hg_model.specs.Fame.{is_closed};
+ghost use Rattle.hg_model.specs.Order.{sort_by, ordered};
 ghost use Rattle.hg_plain.specs.Tables.{Tells};
 ghost use Rattle.hg_plain.specs.Received.{whitening_by};
 ghost use Rattle.hg_plain.specs.Keys.{IsWide, key_in, key_by, key_if, is_received_by, key_less, placed_of};
 
-use crate::received::{consensus_time, round_received, xor};
+use crate::famous::judges;
+use crate::received::{consensus_time, round_received, whitenings, xor};
 use crate::sight::PlainSight;
 use hg_model::{Items, Memory, Name, Placed, Row, Sig};
 use std::alloc::Global;
@@ -138,4 +140,27 @@ fn placed_rows(alloc: Global, keys: &[Key]) -> Result<Vec<Placed>, Memory>
     ensures { IfOk result (λ v. v.items ≡ map placed_of keys.now) }
 {
     Ok(keys.iter().map(|key| placed_of(key)).collect(alloc)?)
+}
+
+/// The rows that closed rounds receive, in order.
+pub fn ordered_rows(
+    alloc: Global,
+    rows: &[Row],
+    sight: &PlainSight,
+    marks: &[Option<bool>],
+    closed: &[bool],
+) -> Result<Vec<Placed>, Memory>
+    requires same { length rows.now ≡ length sight.now.links }
+    requires marked { length marks.now ≡ length sight.now.links }
+    requires short { length rows.now < 2 ^ 32 - 1 }
+    requires earlier { IsEarlier (parents sight.now.links) }
+    requires closed { Tells false (is_closed sight.now.members sight.now.links marks.now) (suc (length sight.now.links)) closed.now }
+    ensures order { IfOk result (λ v. v.items ≡ ordered sight.now.members rows.now sight.now.links marks.now) }
+    ensures within { IfOk result (λ v. All (λ (p : Placed). p.place < length sight.now.links) v.items) }
+{
+    let judges = judges(alloc, sight, marks, closed)?;
+    let whitenings = whitenings(alloc, rows, &judges)?;
+    let mut keys = keys(alloc, sight, rows, &judges, &whitenings)?;
+    sort_keys(&mut keys);
+    placed_rows(alloc, &keys)
 }

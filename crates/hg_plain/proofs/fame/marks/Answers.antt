@@ -3,6 +3,6 @@ use Rattle.hg_model.specs.Fame.{fame_marks}
 use Rattle.hg_plain.proofs.TableEnds.{Tells-table}
 use Rattle.hg_plain.proofs.fame.marks.Goals as goal
 
-pub returns : goal.returns
+pub returns-clause-marks : goal.returns-clause-marks
 unfolding fame_marks
-returns c = Tells-table _ _ _ _ _ c.loop-x.invariant (omega arith)
+returns-clause-marks c = Tells-table _ _ _ _ _ c.loop-x.invariant (omega arith)
