@@ -51,8 +51,8 @@ module _ (n c : ℕ) (L : List Link) (coin : ℕ → Bool) (x y : ℕ) where
       let yes_count = yes_votes n L (vote_of n c L coin x) y in
       let no_count = no_votes n L (vote_of n c L coin x) y in
       let vote_same : vote ≡ vote_of n c L coin x y =
-          vote_is ∙ sym (vote_of-at n c L coin x y
-          ∙ ap (λ b. cond b (sees L y x) (weighed_vote n c (rounds_above n L x y) yes_count no_count (coin y))) (eq-eqb (rounds_above n L x y) 1 at_one)) in
+      vote_is ∙ sym (vote_of-at n c L coin x y
+      ∙ ap (λ b. cond b (sees L y x) (weighed_vote n c (rounds_above n L x y) yes_count no_count (coin y))) (eq-eqb (rounds_above n L x y) 1 at_one)) in
       let none : weighed_decides n c (rounds_above n L x y) yes_count no_count ≡ false = rw at_one refl in
       ap₂ (λ v d. record { vote = v; decides = d }) vote_same (sym (and_right (is_witness n L y) _ none))
 
@@ -69,9 +69,9 @@ module _ (n c : ℕ) (L : List Link) (coin : ℕ → Bool) (x y : ℕ) where
       let no_same : tally.no ≡ no_count = ap (λ (t : Tally). t.no) (tally_is ∙ ap (tally_of ballots) voters_is) ∙ counted_no ballots told in
       let not_one : eqb (rounds_above n L x y) 1 ≡ false = ne_eqb (rounds_above n L x y) 1 (λ e. far (above_is ∙ e)) in
       let vote_same : weighed.vote ≡ vote_of n c L coin x y =
-          vote_is ∙ (rw (m_is, above_is, yes_same, no_same, bit_is) refl
-          ∙ sym (vote_of-at n c L coin x y
-          ∙ ap (λ b. cond b (sees L y x) (weighed_vote n c (rounds_above n L x y) yes_count no_count (coin y))) not_one)) in
+      vote_is ∙ (rw (m_is, above_is, yes_same, no_same, bit_is) refl
+      ∙ sym (vote_of-at n c L coin x y
+      ∙ ap (λ b. cond b (sees L y x) (weighed_vote n c (rounds_above n L x y) yes_count no_count (coin y))) not_one)) in
       let decides_same : weighed.decides ≡ weighed_decides n c (rounds_above n L x y) yes_count no_count =
-          decides_is ∙ rw (m_is, above_is, yes_same, no_same) refl in
+      decides_is ∙ rw (m_is, above_is, yes_same, no_same) refl in
       ap₂ (λ v d. record { vote = v; decides = d }) vote_same (ap₂ (λ a b. a && b) witness_is decides_same)

@@ -96,10 +96,10 @@ module _ (n : ℕ) (G : List Row) (L : List Link) (marks : Marks) (judges : List
       let second = λ (keyed : List ℕ × Placed). keyed.1 in
       let received = is_received_in n L marks (λ _. true) in
       let by_place : map keyed_of keys ≡ list_below (keyed_at n G L marks) (length L) received =
-          ap (map keyed_of) is
-          ∙ (map-list_below keyed_of (key_by G L judges) (length L) (is_received_by L judges)
-          ∙ sym (list_below-same (keyed_at n G L marks) (λ x. keyed_of (key_by G L judges x)) (length L) received (is_received_by L judges)
-          (λ x h. received_alike x) (λ x h e. sym (key_by_is x (is_received x e))))) in
+      ap (map keyed_of) is
+      ∙ (map-list_below keyed_of (key_by G L judges) (length L) (is_received_by L judges)
+      ∙ sym (list_below-same (keyed_at n G L marks) (λ x. keyed_of (key_by G L judges x)) (length L) received (is_received_by L judges)
+      (λ x h. received_alike x) (λ x h e. sym (key_by_is x (is_received x e))))) in
       let sorts = sort_by-same (λ a b. comes_before (keyed_of a) (keyed_of b)) key_less keys (agree keys wide (rw is (places_ascend (length L) (is_received_by L judges)))) in
       sym (ap (λ xs. map second (sort_by comes_before xs)) (sym by_place)
       ∙ (ap (map second) (sort_by-map keyed_of comes_before keys)

@@ -51,10 +51,7 @@ fn first_decision(sight: &PlainSight, ballots: &[Ballot]) -> Option<Decision>
 fn vote_in(decision: Option<Decision>) -> Option<bool>
     ensures { result ≡ vote_in decision }
 {
-    match decision {
-        None => None,
-        Some(decision) => Some(decision.vote),
-    }
+    decision.map(|decision| decision.vote)
 }
 
 /// The fame of row `x`, if it is a witness and decided.

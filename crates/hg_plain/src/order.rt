@@ -139,7 +139,7 @@ fn placed_of(key: &Key) -> Placed
 fn placed_rows(alloc: Global, keys: &[Key]) -> Result<Vec<Placed>, Memory>
     ensures { IfOk result (λ v. v.items ≡ map placed_of keys.now) }
 {
-    Ok(keys.iter().map(|key| placed_of(key)).collect(alloc)?)
+    Ok(keys.iter().map(placed_of).collect(alloc)?)
 }
 
 /// The rows that closed rounds receive, in order.

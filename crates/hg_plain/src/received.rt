@@ -76,9 +76,7 @@ fn is_first_below(sight: &PlainSight, judges: &[usize], x: usize, z: usize) -> b
     requires earlier { IsEarlier (parents sight.now.links) }
     ensures { result ≡ is_first_below sight.now.links judges.now x z }
 {
-    is_below_one(sight, judges, z)
-        && sight.is_ancestor(z, x)
-        && is_new_to_line(sight, x, z)
+    is_below_one(sight, judges, z) && sight.is_ancestor(z, x) && is_new_to_line(sight, x, z)
 }
 
 /// The times at which the lines of the judges first had row `x` as ancestor.
@@ -182,11 +180,7 @@ fn whitening(rows: &[Row], judges: &[usize]) -> Sig
 
 /// The signatures of the judges of each round, XORed.
 #[tactic(auto, using(crate::proofs::TableLaws::tells_steps))]
-pub fn whitenings(
-    alloc: Global,
-    rows: &[Row],
-    judges: &[Items<usize>],
-) -> Result<Vec<Sig>, Memory>
+pub fn whitenings(alloc: Global, rows: &[Row], judges: &[Items<usize>]) -> Result<Vec<Sig>, Memory>
     requires { All (λ (round : List ℕ). All (λ w. w < length rows.now) round) judges.now }
     ensures { IfOk result (λ v. Tells [] (λ r. whitening_by rows.now (slice_index_or judges.now r [])) (length judges.now) v.items) }
 {

@@ -91,7 +91,11 @@ fn weigh(members: u32, period: u32, above: u32, tally: Tally, coin: bool) -> Bal
     let is_strong = 2 * u64::from(members) < 3 * u64::from(tally.yes.max(tally.no));
     let is_normal = 0 < above % period;
     Ballot {
-        vote: if is_normal || is_strong { majority } else { coin },
+        vote: if is_normal || is_strong {
+            majority
+        } else {
+            coin
+        },
         decides: 1 < above && is_normal && is_strong,
     }
 }

@@ -14,8 +14,8 @@ pub returns-clause-lines : goal.returns-clause-lines
 unfolding order_of
 returns-clause-lines c =
     let same =
-        ap₂ (λ (shape : Shape) marks. ordered shape.members c.args.rows.now shape.links marks) c.in_ok-graph.ensures.sight
-        (c.deref.ensures.value ∙ c.in_ok-graph.ensures.marks) in
+    ap₂ (λ (shape : Shape) marks. ordered shape.members c.args.rows.now shape.links marks) c.in_ok-graph.ensures.sight
+    (c.deref.ensures.value ∙ c.in_ok-graph.ensures.marks) in
     c.from_vec.ensures
     ∙ (c.in_ok-lines.ensures
     ∙ ap₂ (λ (shape : Shape) (order : List Placed). map (order_line shape.links) order) c.in_ok-graph.ensures.sight

@@ -8,6 +8,6 @@ pub is_ancestor-requires-clause-left : goal.is_ancestor-requires-clause-left
 is_ancestor-requires-clause-left c =
     let p = c.in-Some.p in
     let before : p < c.args.z =
-        (self_parent_earlier c.args.sight.now.links c.requires.earlier).earlier c.args.z p
-        (subst (λ (ps : List ℕ). has_place ps p ≡ true) c.in-Some.ensures (has_place_first p [])) in
+    (self_parent_earlier c.args.sight.now.links c.requires.earlier).earlier c.args.z p
+    (subst (λ (ps : List ℕ). has_place ps p ≡ true) c.in-Some.ensures (has_place_first p [])) in
     omega arith
