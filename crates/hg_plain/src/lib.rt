@@ -4,6 +4,8 @@
 #![tactic(auto)]
 
 mod ancestry;
+#[cfg(test)]
+mod checked;
 mod forks;
 mod links;
 mod rounds;
