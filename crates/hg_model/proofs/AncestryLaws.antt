@@ -1,8 +1,8 @@
 -- The laws of ancestors and self-ancestors
-use Rattle.std.proofs.Common.{◌≡◌, ℕ, suc, ◌+◌, ◌<◌, ◌≤◌, Bool, true, ◌||◌, ◌&&◌, eqb, List, [], ◌∷◌, sym, refl, ◌∙◌, inl, inr, ◌⊎◌, arith}
-use Rattle.std.proofs.lemmas.Bool.{or_cases, or_left, or_right, and_parts, and_from, eqb-true}
+use Rattle.std.proofs.Common.{◌≡◌, ℕ, suc, ◌+◌, ◌<◌, ◌≤◌, Bool, true, ◌||◌, ◌&&◌, eqb, List, [], ◌∷◌, inl, inr, ◌⊎◌, arith}
+use Rattle.std.proofs.lemmas.Bool.{or_cases, or_left, or_right, and_parts, and_from}
 use Rattle.std.specs.List.{list_any}
-use Rattle.hg_model.specs.Places.{has_place, some_below, IsEarlier}
+use Rattle.hg_model.specs.Places.{has_place, IsEarlier}
 use Rattle.hg_model.specs.Links.{Link, parents, self_parent, first_place}
 use Rattle.hg_model.specs.Ancestry.{is_ancestor, is_self_ancestor, some_ancestor}
 use Rattle.hg_model.proofs.PlacesLaws.{some_below_from, some_below_found}

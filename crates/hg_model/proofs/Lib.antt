@@ -12,4 +12,5 @@ pub mod ReachLaws
 pub mod AncestryLaws
 pub mod ForkLaws
 pub mod RoundLaws
+pub mod GraphLaws
 mod Worked

@@ -1,6 +1,6 @@
 -- The laws of reaching along steps to earlier places
-use Rattle.std.proofs.Common.{◌≡◌, ℕ, zero, suc, ◌<◌, ◌≤◌, Bool, true, false, ◌||◌, eqb, List, [], ◌∷◌, sym, refl, ap, ◌∙◌, subst, inl, inr, ◌⊎◌, arith}
-use Rattle.std.proofs.lemmas.Bool.{or_cases, or_left, or_right, true≢false, eq-eqb, eqb-true, false_from_ne_true, both_ways}
+use Rattle.std.proofs.Common.{◌≡◌, ℕ, zero, suc, ◌<◌, ◌≤◌, Bool, true, false, ◌||◌, eqb, List, [], ◌∷◌, sym, refl, ap, ◌∙◌, inl, inr, ◌⊎◌, arith}
+use Rattle.std.proofs.lemmas.Bool.{or_cases, or_left, or_right, true≢false, eq-eqb, eqb-true}
 use Rattle.std.specs.List.{list_any}
 use Rattle.hg_model.specs.Places.{by_place, has_place, reaches, IsEarlier}
 use Rattle.hg_model.proofs.PlacesLaws.{only_below, only_below-at, by_place-at, by_place-same}

@@ -1,11 +1,10 @@
 -- Where a member has a fork it has twins, and the other way round
-use Rattle.std.proofs.Common.{◌≡◌, ◌≢◌, ℕ, ◌<◌, ◌≤◌, Bool, true, false, ◌&&◌, eqb, List, [], ◌∷◌, length, map, get_or, Option, Some, None, slice_get, refl, sym, ap, ap₂, ◌∙◌, inl, inr, arith}
-use Rattle.std.specs.Str.{bytes_eq}
+use Rattle.std.proofs.Common.{◌≡◌, ◌≢◌, ℕ, ◌<◌, true, ◌&&◌, eqb, List, [], ◌∷◌, length, map, get_or, Option, Some, None, refl, sym, ap, ap₂, ◌∙◌, inl, inr, arith}
 use Rattle.std.proofs.lemmas.Bool.{cases_lt, and_parts, and_from, eqb-true, eq-eqb, true≢false}
 use Rattle.std.proofs.lemmas.Slice.Eq.{bytes_eq-Decides}
-use Rattle.std.proofs.lemmas.Option.{slice_get_read, slice_get-get_or, get_or_from_slice_get, slice_get_cases}
+use Rattle.std.proofs.lemmas.Option.{slice_get_read, slice_get_cases}
 use Rattle.hg_model.specs.declared.row.Row.{Row}
-use Rattle.hg_model.specs.Places.{has_place, some_below, IsEarlier}
+use Rattle.hg_model.specs.Places.{has_place, IsEarlier}
 use Rattle.hg_model.specs.Links.{place_of, parent_names, first_place, links, parents, self_parent, creator}
 use Rattle.hg_model.specs.Verdict.{row_creator, row_creator_in}
 use Rattle.hg_model.specs.Forks.{has_fork}
@@ -13,7 +12,7 @@ use Rattle.hg_model.proofs.PlacesLaws.{some_below_from, some_below_found}
 use Rattle.hg_model.proofs.LinkLaws.{length-links, creator-links, self_parent-links, same_place-same_name}
 use Rattle.hg_model.proofs.ReachLaws.{bool_iff, has_place_first}
 use Rattle.hg_model.proofs.AncestryLaws.{self_parent_is_parent}
-use Rattle.hg_model.proofs.ForkLaws.{Fork, Twins, has_fork_from, has_fork_found, is_fork_from, fork_of_twins, twins_of_fork}
+use Rattle.hg_model.proofs.ForkLaws.{Twins, has_fork_from, has_fork_found, is_fork_from, fork_of_twins, twins_of_fork}
 use Rattle.hg_plain.specs.Twins.{is_same_self_parent, is_twin_row, is_twin_in, is_twin, has_twin_before, has_twins}
 
 pub is_twin_read : (G : List Row) (x y : ℕ) (a b : Row) → x < length G → y < length G → a ≡ get_or G x a → b ≡ get_or G y b → is_twin G x y ≡ is_twin_row a b

@@ -6,6 +6,8 @@
 mod ancestry;
 mod fame;
 mod famous;
+#[cfg(test)]
+mod checked;
 mod forks;
 mod links;
 mod order;

@@ -81,12 +81,20 @@ pub fn creator_of(links: &[PlainLink], x: usize) -> Member
 }
 
 /// The places of the parents of row `x`, the self-parent's first.
-#[tactic(auto, using(hg_model::proofs::LinkLaws::link_reads))]
 pub fn parents_of(links: &[PlainLink], x: usize) -> Option<(usize, usize)>
     requires place { x < length links.now }
     requires earlier { IsEarlier (parents links.now) }
     ensures value { pair_list result ≡ parents links.now x }
     ensures earlier { AllByRecursion (λ p. p < x) (pair_list result) }
+{
+    listed_parents(links, x)
+}
+
+/// The same, where parents may stand anywhere.
+#[tactic(auto, using(hg_model::proofs::LinkLaws::link_reads))]
+pub fn listed_parents(links: &[PlainLink], x: usize) -> Option<(usize, usize)>
+    requires { x < length links.now }
+    ensures { pair_list result ≡ parents links.now x }
 {
     let link = &links[x];
     link.parents

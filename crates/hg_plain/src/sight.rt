@@ -151,3 +151,51 @@ impl PlainSight {
         self.greatest
     }
 }
+
+#[cfg(test)]
+mod tests {
+    use super::*;
+    use crate::checked::{is_shaped, row_of};
+    use crate::links::links_of;
+
+    // What the third of four members holds once both branches of the fourth's fork have reached it.
+    fn forked_rows(alloc: Global) -> Result<Vec<Row>, Memory> {
+        let mut rows = Vec::new(alloc);
+        for (number, creator, parents, time) in [
+            (0, 2, None, 3),
+            (1, 0, None, 1),
+            (2, 3, None, 4),
+            (3, 3, Some((2, 1)), 5),
+            (4, 0, Some((1, 3)), 7),
+            (5, 2, Some((0, 4)), 9),
+            (6, 1, None, 2),
+            (7, 3, Some((2, 1)), 6),
+            (8, 1, Some((6, 7)), 8),
+            (9, 2, Some((5, 8)), 10),
+        ] {
+            rows.push(row_of(alloc, number, creator, parents, time))?;
+        }
+        Ok(rows)
+    }
+
+    #[test]
+    fn strongly_sees_past_a_fork(rt: HostRuntime) -> Result<(), Memory> {
+        let alloc = rt.alloc();
+        let rows = forked_rows(alloc)?;
+        let links = links_of(alloc, &rows)?;
+        assert!(rt; rows.len() == 10 && is_shaped(&links, 4));
+        let sight = PlainSight::new(alloc, &rows, 4)?;
+        assert!(rt; sight.len() == 10);
+        assert!(rt; sight.is_ancestor(9, 3) && sight.is_ancestor(9, 7) && !sight.sees(9, 2));
+        assert!(rt; sight.strongly_sees(9, 1) && sight.strongly_sees(9, 2));
+        assert!(rt; !sight.strongly_sees(9, 0) && !sight.strongly_sees(9, 6));
+        for x in 0..10 {
+            assert_eq!(rt; sight.round(x), 1, "round of {x}");
+            assert_eq!(rt; sight.is_witness(x), x < 3 || x == 6, "witness {x}");
+        }
+        assert_eq!(rt; sight.greatest(), 1);
+        assert_eq!(rt; sight.forkers(), 1);
+        assert_eq!(rt; plain_forkers(&rows, 4), 1);
+        Ok(())
+    }
+}

@@ -1,4 +1,4 @@
-use Rattle.std.proofs.Common.{◌∙◌, ◌≡◌, ◌+◌, ◌≤◌, true, cond, ap, sym, arith, slice_index}
+use Rattle.std.proofs.Common.{◌∙◌, ◌≡◌, ◌+◌, cond, ap, sym, arith, slice_index}
 use Rattle.hg_model.specs.Links.{parents}
 use Rattle.hg_model.specs.Seeing.{is_supermajority}
 use Rattle.hg_model.specs.Rounds.{greatest_round, round_of}

@@ -1,4 +1,4 @@
-use Rattle.std.proofs.Common.{◌∙◌, ◌≡◌, false, get_or, ap, sym}
+use Rattle.std.proofs.Common.{◌∙◌, false, get_or, ap}
 use Rattle.std.specs.List.{list_any}
 use Rattle.hg_model.specs.Links.{parents}
 use Rattle.hg_plain.proofs.StepLaws.{through_here, through_above}

@@ -1,4 +1,4 @@
-use Rattle.std.proofs.Common.{arith, length, ap, ◌<◌}
+use Rattle.std.proofs.Common.{length, ◌<◌}
 use Rattle.hg_plain.proofs.TableLaws.{cell_told}
 use Rattle.hg_plain.proofs.ancestry.Ancestry.is_self_ancestor.Goals as goal
 

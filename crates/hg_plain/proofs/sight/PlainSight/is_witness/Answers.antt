@@ -1,4 +1,4 @@
-use Rattle.std.proofs.Common.{◌<◌, ◌∙◌, ap, ap₂, length, slice_index, List, ℕ}
+use Rattle.std.proofs.Common.{◌<◌, ◌∙◌, ap₂, length, slice_index, List, ℕ}
 use Rattle.hg_model.specs.Links.{Link}
 use Rattle.hg_model.specs.Rounds.{is_witness_by}
 use Rattle.hg_plain.proofs.StepLaws.{is_witness_told}

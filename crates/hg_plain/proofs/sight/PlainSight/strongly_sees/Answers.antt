@@ -1,5 +1,4 @@
-use Rattle.std.proofs.Common.{◌<◌, ap, length}
-use Rattle.hg_plain.specs.Shape.{Shape}
+use Rattle.std.proofs.Common.{◌<◌, length}
 use Rattle.hg_plain.proofs.TableLaws.{cell_told}
 use Rattle.hg_plain.proofs.sight.PlainSight.strongly_sees.Goals as goal
 
