@@ -10,7 +10,7 @@ use Rattle.hg_model.specs.declared.row.Row.{Row}
 use Rattle.hg_model.specs.Links.{is_named, place_of}
 use Rattle.hg_model.specs.Graph.{name_in, name_at, HasDistinctNames}
 use Rattle.hg_model.specs.Verdict.{row_creator, row_creator_in, later_name, last_name}
-use Rattle.hg_model.proofs.LinkLaws.{nobody}
+use Rattle.hg_model.proofs.PushLaws.{nobody}
 
 pub same_bytes : (a b : List ℕ) → a ≡ b → bytes_eq a b ≡ true
 same_bytes a b same = (bytes_eq-Decides a b).1 same

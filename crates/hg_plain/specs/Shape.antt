@@ -13,3 +13,8 @@ shape_of members links = record { members = members; links = links }
 abbrev pub place_list : Option ℕ → List ℕ
 place_list None = []
 place_list (Some p) = p ∷ []
+
+-- two places, if there are any, as a list
+abbrev pub pair_list : Option (ℕ × ℕ) → List ℕ
+pair_list None = []
+pair_list (Some ps) = ps.0 ∷ ps.1 ∷ []

@@ -1,7 +1,24 @@
 //! The report's procedures computed whole from a list of rows: the yardstick for every faster form.
-//! The layer above uses `plain_order` and `plain_state`, which are the definitions, and `plain_forkers`.
+//! The layer above uses `plain_order`, `plain_state` and `plain_block`, which are the definitions, and `plain_forkers`.
 //! Each relation is filled into a table once, so that time grows with the cube of the rows.
 #![tactic(auto)]
 
+mod ancestry;
+mod fame;
+mod famous;
+#[cfg(test)]
+mod checked;
+mod forks;
+mod links;
+mod order;
+mod plain;
+mod received;
+mod rounds;
+mod seeing;
 mod sight;
+mod strongly_seeing;
+mod tables;
+mod votes;
 
+pub use forks::plain_forkers;
+pub use plain::{PlainBlock, PlainState, plain_block, plain_order, plain_state};

@@ -3,6 +3,12 @@ ghost use Rattle.hg_model.specs.Links.{links};
 ghost use Rattle.hg_model.specs.Graph.{IsShaped};
 ghost use Rattle.hg_plain.specs.Shape.{shape_of};
 
+use crate::forks::plain_forkers;
+use crate::links::{creator_of, self_parent_of};
+use crate::rounds::{greatest_of, is_witness_by, rounds_of};
+use crate::seeing::Seeing;
+use crate::strongly_seeing::strong_columns;
+use crate::tables::cell;
 use hg_model::{Member, Memory, Row};
 use std::alloc::Global;
 use std::marker::Model;
@@ -10,16 +16,23 @@ use std::marker::Model;
 /// What the rows of a graph see of each other, and their rounds: each relation as a table, filled once.
 #[derive(Drop)]
 pub struct PlainSight {
-    members: u32,
-    // links, tables of ancestors, self-ancestors, seeing and strongly seeing, rounds and witnesses
+    seeing: Seeing,
+    /// For each row its column: which rows strongly see it.
+    strong: Vec<Vec<bool>>,
+    rounds: Vec<u32>,
+    forkers: u32,
+    greatest: u32,
 }
 
 impl Model for PlainSight {
-    ghost use Rattle.hg_plain.specs.Shape.{Shape, shape_of};
+    ghost use Rattle.hg_plain.specs.Shape.{Shape};
+    ghost use Rattle.hg_plain.specs.Held.{HoldsRounds};
 
     ghost Value = { Shape };
 
-    ghost view = { λ s. shape_of s.members Rattle.std.specs.Prelude.[] };
+    ghost view = { λ s. s.seeing };
+
+    ghost invariant = { λ s. HoldsRounds s.seeing.members s.seeing.links s.strong.items s.rounds.items s.forkers s.greatest };
 }
 
 impl PlainSight {
@@ -34,58 +47,155 @@ impl PlainSight {
     pub fn new(alloc: Global, rows: &[Row], members: u32) -> Result<PlainSight, Memory>
         requires shaped { IsShaped members (links rows.now) }
         requires short { length rows.now < 2 ^ 32 - 1 }
-        ensures { IfOk result (λ s. s ≡ shape_of members (links rows.now)) };
+        ensures { IfOk result (λ s. s ≡ shape_of members (links rows.now)) }
+    {
+        let seeing = Seeing::new(alloc, rows, members)?;
+        let strong = strong_columns(alloc, &seeing)?;
+        let rounds = rounds_of(alloc, &seeing, &strong)?;
+        let greatest = greatest_of(&rounds);
+        Ok(PlainSight {
+            seeing,
+            strong,
+            rounds,
+            forkers: plain_forkers(rows, members),
+            greatest,
+        })
+    }
 
     /// How many rows there are.
     pub fn len(&self) -> usize
-        ensures { result ≡ length self.now.links };
+        ensures { result ≡ length self.now.links }
+    {
+        self.seeing.ancestry().links().len()
+    }
 
     /// How many members there are.
     pub fn members(&self) -> u32
-        ensures { result ≡ self.now.members };
+        ensures { result ≡ self.now.members }
+    {
+        self.seeing.members()
+    }
 
     pub fn creator(&self, x: usize) -> Member
         requires { x < length self.now.links }
-        ensures { result ≡ creator self.now.links x };
+        ensures { result ≡ creator self.now.links x }
+    {
+        creator_of(self.seeing.ancestry().links(), x)
+    }
 
     pub fn self_parent(&self, x: usize) -> Option<usize>
         requires { x < length self.now.links }
-        ensures { place_list result ≡ self_parent self.now.links x };
+        ensures { place_list result ≡ self_parent self.now.links x }
+    {
+        self_parent_of(self.seeing.ancestry().links(), x)
+    }
 
     /// Whether `y` is an ancestor of `x`.
     pub fn is_ancestor(&self, x: usize, y: usize) -> bool
         requires left { x < length self.now.links }
         requires right { y < length self.now.links }
-        ensures { result ≡ is_ancestor self.now.links x y };
+        ensures { result ≡ is_ancestor self.now.links x y }
+    {
+        self.seeing.ancestry().is_ancestor(x, y)
+    }
 
     pub fn is_self_ancestor(&self, x: usize, y: usize) -> bool
         requires left { x < length self.now.links }
         requires right { y < length self.now.links }
-        ensures { result ≡ is_self_ancestor self.now.links x y };
+        ensures { result ≡ is_self_ancestor self.now.links x y }
+    {
+        self.seeing.ancestry().is_self_ancestor(x, y)
+    }
 
     pub fn sees(&self, x: usize, y: usize) -> bool
         requires left { x < length self.now.links }
         requires right { y < length self.now.links }
-        ensures { result ≡ sees self.now.links x y };
+        ensures { result ≡ sees self.now.links x y }
+    {
+        self.seeing.sees(x, y)
+    }
 
     pub fn strongly_sees(&self, x: usize, y: usize) -> bool
         requires left { x < length self.now.links }
         requires right { y < length self.now.links }
-        ensures { result ≡ strongly_sees self.now.members self.now.links x y };
+        ensures { result ≡ strongly_sees self.now.members self.now.links x y }
+    {
+        cell(&self.strong, x, y)
+    }
 
     pub fn round(&self, x: usize) -> u32
         requires { x < length self.now.links }
-        ensures { result ≡ round_of self.now.members self.now.links x };
+        ensures { result ≡ round_of self.now.members self.now.links x }
+    {
+        self.rounds[x]
+    }
 
     pub fn is_witness(&self, x: usize) -> bool
         requires { x < length self.now.links }
-        ensures { result ≡ is_witness self.now.members self.now.links x };
+        ensures { result ≡ is_witness self.now.members self.now.links x }
+    {
+        is_witness_by(self.seeing.ancestry().links(), &self.rounds, x)
+    }
 
     /// How many members have a fork.
     pub fn forkers(&self) -> u32
-        ensures { result ≡ forkers self.now.members self.now.links };
+        ensures { result ≡ forkers self.now.members self.now.links }
+    {
+        self.forkers
+    }
 
     /// The greatest round, 0 without rows.
     pub fn greatest(&self) -> u32
-        ensures { result ≡ last_round self.now.members self.now.links };
+        ensures { result ≡ last_round self.now.members self.now.links }
+    {
+        self.greatest
+    }
+}
+
+#[cfg(test)]
+mod tests {
+    use super::*;
+    use crate::checked::{is_shaped, row_of};
+    use crate::links::links_of;
+
+    // What the third of four members holds once both branches of the fourth's fork have reached it.
+    fn forked_rows(alloc: Global) -> Result<Vec<Row>, Memory> {
+        let mut rows = Vec::new(alloc);
+        for (number, creator, parents, time) in [
+            (0, 2, None, 3),
+            (1, 0, None, 1),
+            (2, 3, None, 4),
+            (3, 3, Some((2, 1)), 5),
+            (4, 0, Some((1, 3)), 7),
+            (5, 2, Some((0, 4)), 9),
+            (6, 1, None, 2),
+            (7, 3, Some((2, 1)), 6),
+            (8, 1, Some((6, 7)), 8),
+            (9, 2, Some((5, 8)), 10),
+        ] {
+            rows.push(row_of(alloc, number, creator, parents, time))?;
+        }
+        Ok(rows)
+    }
+
+    #[test]
+    fn strongly_sees_past_a_fork(rt: HostRuntime) -> Result<(), Memory> {
+        let alloc = rt.alloc();
+        let rows = forked_rows(alloc)?;
+        let links = links_of(alloc, &rows)?;
+        assert!(rt; rows.len() == 10 && is_shaped(&links, 4));
+        let sight = PlainSight::new(alloc, &rows, 4)?;
+        assert!(rt; sight.len() == 10);
+        assert!(rt; sight.is_ancestor(9, 3) && sight.is_ancestor(9, 7) && !sight.sees(9, 2));
+        assert!(rt; sight.strongly_sees(9, 1) && sight.strongly_sees(9, 2));
+        assert!(rt; !sight.strongly_sees(9, 0) && !sight.strongly_sees(9, 6));
+        for x in 0..10 {
+            assert_eq!(rt; sight.round(x), 1, "round of {x}");
+            assert_eq!(rt; sight.is_witness(x), x < 3 || x == 6, "witness {x}");
+        }
+        assert_eq!(rt; sight.greatest(), 1);
+        assert_eq!(rt; sight.forkers(), 1);
+        assert_eq!(rt; plain_forkers(&rows, 4), 1);
+        Ok(())
+    }
 }

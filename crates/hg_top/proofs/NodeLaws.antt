@@ -7,7 +7,7 @@ use Rattle.hg_model.specs.declared.row.Row.{Row}
 use Rattle.hg_model.specs.Links.{parent_names, place_of}
 use Rattle.hg_model.specs.Fits.{Fits}
 use Rattle.hg_model.specs.Verdict.{row_limit, arrival_rule, forkers_rule, full_rule, draft_rule, collision_rule, room_rule, last_name, both_names, signed_row}
-use Rattle.hg_model.proofs.LinkLaws.{shaped-push, shaped-none}
+use Rattle.hg_model.proofs.PushLaws.{shaped-push, shaped-none}
 use Rattle.hg_model.proofs.NameLaws.{distinct-push, distinct-none}
 use Rattle.hg_model.proofs.RuleLaws.{arrives, has_room, drafted, admitted}
 use Rattle.hg_model.specs.Verdict.{is_held}

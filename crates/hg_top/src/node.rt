@@ -20,6 +20,7 @@ use crate::rules::{
 use hg_event::{encode, encode_body};
 use hg_model::{Fault, Items, MakeAnswer, Member, Memory, Name, PutAnswer, Row, SyncMade, SyncReport};
 use hg_name::name_of;
+use hg_plain::plain_forkers;
 use hg_sign::{MacTable, Signer, Verifier};
 use std::alloc::Global;
 use std::marker::Model;
@@ -396,14 +397,4 @@ impl Node {
             },
         }
     }
-}
-
-// STANDIN
-pub(crate) fn plain_forkers(_alloc: Global, _rows: &[Row], members: u32) -> Result<u32, Memory>
-    requires shaped { IsShaped members (links _rows.now) }
-    requires members { members ≤ 128 }
-    requires short { length _rows.now < 2 ^ 32 - 1 }
-    ensures { IfOk result (λ k. k ≡ forkers members (links _rows.now)) }
-{
-    Err(Memory)
 }

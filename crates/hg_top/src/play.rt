@@ -14,29 +14,10 @@ use crate::node::Node;
 use hg_model::{
     Block, Bytes, Items, MakeAnswer, Member, Members, Memory, OrderLine, Outcome, Printed, Row, SyncReport,
 };
+use hg_plain::plain_block;
 use hg_script::{Action, Line};
 use hg_sign::MacTable;
 use std::alloc::Global;
-
-// STANDIN
-#[derive(Clone, Copy)]
-pub(crate) struct PlainState { pub forkers: u32, pub greatest: u32, pub closed: u32 }
-#[derive(Drop)]
-pub(crate) struct PlainBlock { pub state: PlainState, pub lines: Items<OrderLine> }
-fn plain_block(_alloc: Global, _rows: &[Row], members: u32, coin: u32) -> Result<PlainBlock, Memory>
-    requires shaped { IsShaped members (links _rows.now) }
-    requires members { members ≤ 128 }
-    requires short { length _rows.now < 2 ^ 32 - 1 }
-    requires coin { 0 < coin }
-    ensures forkers { IfOk result (λ b. b.state.forkers ≡ forkers members (links _rows.now)) }
-    ensures greatest { IfOk result (λ b. b.state.greatest ≡ last_round members (links _rows.now)) }
-    ensures closed { IfOk result (λ b. b.state.closed ≡ closed_of members coin _rows.now) }
-    ensures lines { IfOk result (λ b. b.lines ≡ map (order_line (links _rows.now)) (order_of members coin _rows.now)) }
-{
-    let _ = coin;
-    Err(Memory)
-}
-// END
 
 /// A node for each member, without rows.
 fn new_nodes(alloc: Global, members: &Members) -> Result<Vec<Node>, Memory>

@@ -1,5 +1,5 @@
 use Rattle.std.proofs.Common.{◌∙◌}
-use Rattle.hg_model.proofs.LinkLaws.{shaped-push}
+use Rattle.hg_model.proofs.PushLaws.{shaped-push}
 use Rattle.hg_top.proofs.node.add_row.Goals as goal
 
 pub plain_forkers-requires-clause-shaped : goal.plain_forkers-requires-clause-shaped

@@ -1,0 +1,56 @@
+-- The steps of the loops that look for the first decision and that make the marks
+use Rattle.std.proofs.Common.{◌≡◌, ℕ, ◌+◌, ◌<◌, Bool, true, false, cond, List, length, get_or, Option, Some, None, option_map, leb, sym, refl, ap, ◌∙◌, inl, inr, arith}
+use Rattle.std.proofs.lemmas.Bool.{cases_Bool}
+use Rattle.hg_model.specs.Places.{lesser_of, least_below}
+use Rattle.hg_model.specs.Links.{Link}
+use Rattle.hg_model.specs.Rounds.{round_of, is_witness}
+use Rattle.hg_model.specs.Votes.{vote_of, decides}
+use Rattle.hg_model.specs.Fame.{fame_of}
+use Rattle.hg_model.proofs.PlacesLaws.{least_below_zero, least_below_passes, least_below_fails}
+use Rattle.hg_model.proofs.SearchLaws.{least_below-same, option_map-least_below}
+use Rattle.hg_model.proofs.FameLaws.{fame_of_witness}
+use Rattle.hg_plain.specs.Tables.{Tells}
+use Rattle.hg_plain.specs.declared.votes.Ballot.{Ballot}
+use Rattle.hg_plain.specs.declared.fame.Decision.{Decision}
+use Rattle.hg_plain.specs.Elections.{no_ballot, ballot_of, vote_at, decides_at, decision_at, first_of, vote_in}
+
+first_of-decision_at : (n : ℕ) (L : List Link) (ballots : List Ballot) (earlier : Option ℕ) (y : ℕ) →
+    first_of (option_map (decision_at n L ballots) earlier) (decision_at n L ballots y) ≡ decision_at n L ballots (lesser_of (round_of n L) earlier y)
+first_of-decision_at n L ballots None y = refl
+first_of-decision_at n L ballots (Some z) y = elim (cases_Bool (leb (round_of n L z) (round_of n L y))) [
+  | inl le ↦ rw le refl
+  | inr later ↦ rw later refl
+]
+
+-- the first decision below y
+pub first_decision_zero : (n : ℕ) (L : List Link) (ballots : List Ballot) → option_map (decision_at n L ballots) (least_below (round_of n L) 0 (decides_at ballots)) ≡ None
+first_decision_zero n L ballots = ap (option_map (decision_at n L ballots)) (least_below_zero (round_of n L) (decides_at ballots))
+
+pub first_decision_fails : (n : ℕ) (L : List Link) (ballots : List Ballot) (y : ℕ) → decides_at ballots y ≡ false →
+    option_map (decision_at n L ballots) (least_below (round_of n L) (y + 1) (decides_at ballots)) ≡ option_map (decision_at n L ballots) (least_below (round_of n L) y (decides_at ballots))
+first_decision_fails n L ballots y fails = ap (option_map (decision_at n L ballots)) (least_below_fails (round_of n L) y (decides_at ballots) fails)
+
+pub first_decision_passes : (n : ℕ) (L : List Link) (ballots : List Ballot) (y : ℕ) → decides_at ballots y ≡ true →
+    option_map (decision_at n L ballots) (least_below (round_of n L) (y + 1) (decides_at ballots))
+    ≡ Some (first_of (option_map (decision_at n L ballots) (least_below (round_of n L) y (decides_at ballots))) (decision_at n L ballots y))
+first_decision_passes n L ballots y passes =
+    ap (option_map (decision_at n L ballots)) (least_below_passes (round_of n L) y (decides_at ballots) passes)
+    ∙ ap (λ d. Some d) (sym (first_of-decision_at n L ballots (least_below (round_of n L) y (decides_at ballots)) y))
+
+twice_mapped : {A B C : Type 0} (g : B → C) (f : A → B) (o : Option A) → option_map g (option_map f o) ≡ option_map (λ x. g (f x)) o
+twice_mapped g f None = refl
+twice_mapped g f (Some x) = refl
+
+-- the vote of the first decision is the fame
+pub fame_from_ballots : (n c : ℕ) (L : List Link) (coin : ℕ → Bool) (x : ℕ) (ballots : List Ballot) → x < length L → is_witness n L x ≡ true →
+    Tells no_ballot (ballot_of n c L coin x) (length L) ballots →
+    vote_in (option_map (decision_at n L ballots) (least_below (round_of n L) (length L) (decides_at ballots))) ≡ fame_of n c L coin x
+unfolding ballot_of
+fame_from_ballots n c L coin x ballots h witness told =
+    let key = round_of n L in
+    twice_mapped (λ (d : Decision). d.vote) (decision_at n L ballots) (least_below key (length L) (decides_at ballots))
+    ∙ (ap (option_map (vote_at ballots)) (least_below-same key (length L) (decides_at ballots) (decides n c L coin x) (λ y k. ap (λ (b : Ballot). b.decides) (told.at y k)))
+    ∙ (option_map-least_below (vote_at ballots) (vote_of n c L coin x) key (length L) (decides n c L coin x) (λ y k e. ap (λ (b : Ballot). b.vote) (told.at y k))
+    ∙ sym (fame_of_witness n c L coin x h witness)))
+
+pub ruleset decision_steps = (first_decision_zero, first_decision_fails, first_decision_passes)

@@ -1,0 +1,27 @@
+-- What the tables of a graph hold
+use Rattle.std.specs.Prelude.{ℕ, ◌≡◌, Bool, List, length}
+use Rattle.std.specs.Global.{Vec}
+use Rattle.hg_model.specs.Links.{Link}
+use Rattle.hg_model.specs.Ancestry.{is_ancestor, is_self_ancestor}
+use Rattle.hg_model.specs.Graph.{IsShaped}
+use Rattle.hg_model.specs.Forks.{has_fork_below, forkers}
+use Rattle.hg_model.specs.Seeing.{strongly_sees}
+use Rattle.hg_model.specs.Rounds.{round_of, last_round}
+use Rattle.hg_plain.specs.Tables.{Tells, TellsPairs}
+
+pub record HoldsAncestry (L : List Link) (above self_above : List (Vec Bool)) : Type 0 where
+  pub ancestors : TellsPairs (is_ancestor L) (length L) (length L) above
+  pub self_ancestors : TellsPairs (is_self_ancestor L) (length L) (length L) self_above
+
+-- a shaped graph, and for each of its n members the rows with a fork of that member below them
+pub record HoldsForks (n : ℕ) (L : List Link) (below : List (Vec Bool)) : Type 0 where
+  pub shaped : IsShaped n L
+  pub forked : TellsPairs (has_fork_below L) (length L) n below
+
+-- of a shaped graph of n members what strongly sees what, the rounds, how many members have a fork, and the greatest round
+pub record HoldsRounds (n : ℕ) (L : List Link) (strong : List (Vec Bool)) (rounds : List ℕ) (forking greatest : ℕ) : Type 0 where
+  pub shaped : IsShaped n L
+  pub strongly_sees : TellsPairs (strongly_sees n L) (length L) (length L) strong
+  pub round_of : Tells 0 (round_of n L) (length L) rounds
+  pub forkers : forking ≡ forkers n L
+  pub last_round : greatest ≡ last_round n L

@@ -1,0 +1,32 @@
+-- Twins: events by one creator on one self-parent, or both without one. Where a member has a fork it has twins
+use Rattle.std.specs.Prelude.{ℕ, Bool, true, false, ◌&&◌, ◌==◌, List, length, Option, Some, None, slice_get}
+use Rattle.std.specs.Str.{bytes_eq}
+use Rattle.hg_model.specs.declared.row.Row.{Row}
+use Rattle.hg_model.specs.Places.{some_below}
+use Rattle.hg_model.specs.Verdict.{row_creator}
+
+abbrev pub is_same_self_parent : Option (List ℕ × List ℕ) → Option (List ℕ × List ℕ) → Bool
+is_same_self_parent None None = true
+is_same_self_parent None (Some other) = false
+is_same_self_parent (Some names) None = false
+is_same_self_parent (Some names) (Some other) = bytes_eq names.0 other.0
+
+abbrev pub is_twin_row : Row → Row → Bool
+is_twin_row a b = a.creator == b.creator && is_same_self_parent a.parents b.parents
+
+abbrev pub is_twin_in : Option Row → Option Row → Bool
+is_twin_in None b = false
+is_twin_in (Some a) None = false
+is_twin_in (Some a) (Some b) = is_twin_row a b
+
+-- rows x and y are twins
+unfoldable pub is_twin : List Row → ℕ → ℕ → Bool
+is_twin G x y = is_twin_in (slice_get G x) (slice_get G y)
+
+-- row x has a twin before it
+unfoldable pub has_twin_before : List Row → ℕ → Bool
+has_twin_before G x = some_below x (is_twin G x)
+
+-- member m has twins
+unfoldable pub has_twins : List Row → ℕ → Bool
+has_twins G m = some_below (length G) (λ x. row_creator G x == m && has_twin_before G x)

@@ -1,0 +1,100 @@
+ghost use Rattle.std.specs.Prelude.{◌≡◌, ◌<◌, ◌-◌, ◌^◌, [], length, IfOk, option_map};
+ghost use Rattle.hg_model.specs.Places.{least_below};
+ghost use Rattle.hg_model.specs.Rounds.{round_of};
+ghost use Rattle.hg_model.specs.Fame.{fame_of, fame_marks};
+ghost use Rattle.hg_model.specs.Order.{coin_at};
+ghost use Rattle.hg_plain.specs.Tables.{Tells};
+ghost use Rattle.hg_plain.specs.Elections.{voters_of, decides_at, decision_at, first_of, vote_in};
+
+use crate::sight::PlainSight;
+use crate::votes::{Ballot, ballots, voters};
+use hg_model::{Items, Memory, Row};
+use std::alloc::Global;
+
+/// A decision: the round of the row that decides, and its vote.
+#[derive(Clone, Copy)]
+pub struct Decision {
+    pub round: u32,
+    pub vote: bool,
+}
+
+/// Of two decisions that of the lesser round, the earlier where the rounds are equal.
+fn first_of(earlier: Option<Decision>, later: Decision) -> Decision
+    ensures { result ≡ first_of earlier later }
+{
+    match earlier {
+        Some(decision) if decision.round <= later.round => decision,
+        _ => later,
+    }
+}
+
+/// The decision of the first decider, by round and then by place.
+#[tactic(auto, using(crate::proofs::FameSteps::decision_steps))]
+fn first_decision(sight: &PlainSight, ballots: &[Ballot]) -> Option<Decision>
+    requires { length ballots.now ≡ length sight.now.links }
+    ensures { result ≡ option_map (decision_at sight.now.members sight.now.links ballots.now) (least_below (round_of sight.now.members sight.now.links) (length sight.now.links) (decides_at ballots.now)) }
+{
+    let mut first = None;
+    for y in 0..sight.len() {
+        if ballots[y].decides {
+            let decision = Decision {
+                round: sight.round(y),
+                vote: ballots[y].vote,
+            };
+            first = Some(first_of(first, decision));
+        }
+    }
+    first
+}
+
+/// The vote of a decision, if there is one.
+fn vote_in(decision: Option<Decision>) -> Option<bool>
+    ensures { result ≡ vote_in decision }
+{
+    decision.map(|decision| decision.vote)
+}
+
+/// The fame of row `x`, if it is a witness and decided.
+fn fame(
+    alloc: Global,
+    sight: &PlainSight,
+    rows: &[Row],
+    period: u32,
+    voters: &[Items<usize>],
+    x: usize,
+) -> Result<Option<bool>, Memory>
+    requires same { length rows.now ≡ length sight.now.links }
+    requires short { length rows.now < 2 ^ 32 - 1 }
+    requires period { 0 < period }
+    requires candidate { x < length sight.now.links }
+    requires voters { Tells [] (voters_of sight.now.members sight.now.links) (length sight.now.links) voters.now }
+    ensures { IfOk result (λ fame. fame ≡ fame_of sight.now.members period sight.now.links (coin_at rows.now) x) }
+{
+    if !sight.is_witness(x) {
+        return Ok(None);
+    }
+    let ballots = ballots(alloc, sight, rows, period, voters, x)?;
+    Ok(vote_in(first_decision(sight, &ballots)))
+}
+
+/// The fame of all rows.
+#[tactic(auto, using(crate::proofs::TableLaws::tells_steps))]
+pub fn marks(
+    alloc: Global,
+    sight: &PlainSight,
+    rows: &[Row],
+    period: u32,
+) -> Result<Vec<Option<bool>>, Memory>
+    requires same { length rows.now ≡ length sight.now.links }
+    requires short { length rows.now < 2 ^ 32 - 1 }
+    requires period { 0 < period }
+    ensures marks { IfOk result (λ v. v.items ≡ fame_marks sight.now.members period sight.now.links (coin_at rows.now)) }
+    ensures len { IfOk result (λ v. length v.items ≡ length sight.now.links) }
+{
+    let voters = voters(alloc, sight)?;
+    let mut marks = Vec::new(alloc);
+    for x in 0..sight.len() {
+        marks.push(fame(alloc, sight, rows, period, &voters, x)?)?;
+    }
+    Ok(marks)
+}
