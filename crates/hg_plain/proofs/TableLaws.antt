@@ -56,11 +56,6 @@ TellsPairs_more related rows n columns last told is = record {
   ];
 }
 
-pub TellsPairs_none : (related : ℕ → ℕ → Bool) (rows : ℕ) → TellsPairs related rows 0 []
-TellsPairs_none related rows = record { len = refl; column = λ y h. absurd (omega arith) }
-
-pub ruleset pairs_steps = (TellsPairs_more, TellsPairs_none)
-
 -- reading a table of pairs
 pub cell_read : (related : ℕ → ℕ → Bool) (rows n : ℕ) (columns : List (Vec Bool)) (x y : ℕ) → TellsPairs related rows n columns → x < rows → y < n → cell_at columns x y ≡ related x y
 unfolding cell_at
@@ -72,11 +67,6 @@ pub cell_told : (related : ℕ → ℕ → Bool) (rows n : ℕ) (columns table :
 cell_told related rows n columns table x y value told same is hx hy =
     is ∙ (ap (λ (t : List (Vec Bool)). cell_at t x y) same ∙ cell_read related rows n table x y told hx hy)
 
-pub column_length : (related : ℕ → ℕ → Bool) (rows n : ℕ) (columns : List (Vec Bool)) (y : ℕ) → TellsPairs related rows n columns → y < n → length (column_at columns y) ≡ rows
-column_length related rows n columns y told hy = (told.column y hy).len
-
-pub ruleset pairs_reads = (cell_read, column_length)
-
 -- the first place that passes, or the length, by `position`
 pub position_or_length : {A : Type 0} (test : A → Bool) (xs : List A) → unwrap_or (position test xs) (length xs) ≡ position_or_len test xs
 position_or_length test xs = elim (cases_lt (position_or_len test xs) (length xs)) [
@@ -85,5 +75,3 @@ position_or_length test xs = elim (cases_lt (position_or_len test xs) (length xs
       let le = prefix_len-le-length (λ x. Rattle.std.proofs.Common.not (test x)) xs in
       rw e (omega arith))
 ]
-
-pub ruleset position_steps = (position_or_length)

@@ -52,7 +52,6 @@ impl Ancestry {
         &self.links
     }
 
-    #[tactic(auto, using(crate::proofs::TableLaws::pairs_reads))]
     pub fn is_ancestor(&self, x: usize, y: usize) -> bool
         requires left { x < length self.now }
         requires right { y < length self.now }
@@ -61,7 +60,6 @@ impl Ancestry {
         cell(&self.ancestors, x, y)
     }
 
-    #[tactic(auto, using(crate::proofs::TableLaws::pairs_reads))]
     pub fn is_self_ancestor(&self, x: usize, y: usize) -> bool
         requires left { x < length self.now }
         requires right { y < length self.now }
@@ -140,7 +138,6 @@ fn self_ancestor_column(alloc: Global, links: &[PlainLink], y: usize) -> Result<
     Ok(column)
 }
 
-#[tactic(auto, using(crate::proofs::TableLaws::pairs_steps))]
 fn ancestor_columns(alloc: Global, links: &[PlainLink]) -> Result<Vec<Vec<bool>>, Memory>
     requires { IsEarlier (parents links.now) }
     ensures { IfOk result (λ v. TellsPairs (is_ancestor links.now) (length links.now) (length links.now) v.items) }
@@ -152,7 +149,6 @@ fn ancestor_columns(alloc: Global, links: &[PlainLink]) -> Result<Vec<Vec<bool>>
     Ok(columns)
 }
 
-#[tactic(auto, using(crate::proofs::TableLaws::pairs_steps))]
 fn self_ancestor_columns(alloc: Global, links: &[PlainLink]) -> Result<Vec<Vec<bool>>, Memory>
     requires { IsEarlier (parents links.now) }
     ensures { IfOk result (λ v. TellsPairs (is_self_ancestor links.now) (length links.now) (length links.now) v.items) }

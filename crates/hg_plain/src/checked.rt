@@ -25,7 +25,7 @@ pub fn row_of(
         parents,
         time,
         payload: Bytes::new(alloc),
-        sig: [0; 64],
+        sig: [number; 64],
         name: [number; 48],
     }
 }

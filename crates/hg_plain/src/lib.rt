@@ -4,10 +4,10 @@
 #![tactic(auto)]
 
 mod ancestry;
-mod fame;
-mod famous;
 #[cfg(test)]
 mod checked;
+mod fame;
+mod famous;
 mod forks;
 mod links;
 mod order;

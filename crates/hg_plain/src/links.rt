@@ -56,7 +56,7 @@ fn places_of(rows: &[Row], names: &Option<(Name, Name)>) -> Option<(usize, usize
 }
 
 /// The place of the first row with the name, or the number of rows.
-#[tactic(auto, using(crate::proofs::TableLaws::position_steps))]
+#[tactic(auto, using(crate::proofs::TableLaws::position_or_length))]
 fn place_in(rows: &[Row], name: &Name) -> usize
     ensures { result ≡ place_of rows.now name.now }
 {

@@ -182,3 +182,145 @@ pub fn plain_block(
         lines: Items::from_vec(lines),
     })
 }
+
+#[cfg(test)]
+mod tests {
+    use super::*;
+    use crate::checked::{is_shaped, row_of};
+    use crate::links::links_of;
+    use hg_model::Member;
+
+    type Event = (u8, Member, Option<(u8, u8)>, u64);
+
+    // What the second of two members holds after six syncs in turn.
+    const TWO_MEMBERS: [Event; 8] = [
+        (0, 1, None, 2),
+        (1, 0, None, 1),
+        (2, 0, Some((1, 0)), 3),
+        (3, 1, Some((0, 2)), 4),
+        (4, 0, Some((2, 3)), 5),
+        (5, 1, Some((3, 4)), 6),
+        (6, 0, Some((4, 5)), 7),
+        (7, 1, Some((5, 6)), 8),
+    ];
+
+    // What the first of four members holds after three of them synced in a ring.
+    const RING: [Event; 15] = [
+        (0, 0, None, 1),
+        (1, 2, None, 65),
+        (2, 1, None, 52),
+        (3, 1, Some((2, 0)), 55),
+        (4, 2, Some((1, 3)), 50),
+        (5, 0, Some((0, 4)), 60),
+        (6, 1, Some((3, 5)), 70),
+        (7, 2, Some((4, 6)), 80),
+        (8, 0, Some((5, 7)), 90),
+        (9, 1, Some((6, 8)), 100),
+        (10, 2, Some((7, 9)), 110),
+        (11, 0, Some((8, 10)), 120),
+        (12, 1, Some((9, 11)), 130),
+        (13, 2, Some((10, 12)), 140),
+        (14, 0, Some((11, 13)), 150),
+    ];
+
+    fn rows_of(alloc: Global, events: &[Event]) -> Result<Vec<Row>, Memory> {
+        let mut rows = Vec::new(alloc);
+        for (number, creator, parents, time) in events {
+            rows.push(row_of(alloc, *number, *creator, *parents, *time))?;
+        }
+        Ok(rows)
+    }
+
+    fn placed(place: usize, received: u32, time: u64) -> Placed {
+        Placed {
+            place,
+            received,
+            time,
+        }
+    }
+
+    fn line(creator: Member, sequence: u64, received: u32, time: u64) -> OrderLine {
+        OrderLine {
+            creator,
+            sequence,
+            received,
+            time,
+        }
+    }
+
+    fn state(forkers: u32, greatest: u32, closed: u32) -> PlainState {
+        PlainState {
+            forkers,
+            greatest,
+            closed,
+        }
+    }
+
+    #[test]
+    fn orders_by_consensus_timestamps(rt: HostRuntime) -> Result<(), Memory> {
+        let alloc = rt.alloc();
+        let rows = rows_of(alloc, &TWO_MEMBERS)?;
+        assert!(rt; rows.len() == 8 && is_shaped(&links_of(alloc, &rows)?, 2));
+        let order = plain_order(alloc, &rows, 2, 10)?;
+        let expected = [
+            placed(1, 2, 1),
+            placed(0, 2, 2),
+            placed(2, 2, 3),
+            placed(3, 2, 4),
+        ];
+        assert_eq!(rt; order.as_slice(), expected.as_slice());
+        assert_eq!(rt; plain_state(alloc, &rows, 2, 10)?, state(0, 4, 2));
+        Ok(())
+    }
+
+    // The judges of round 2 are rows 3 and 4, and 3 ^ 4 is 7.
+    #[test]
+    fn breaks_ties_by_whitened_signatures(rt: HostRuntime) -> Result<(), Memory> {
+        let alloc = rt.alloc();
+        let mut rows = rows_of(alloc, &TWO_MEMBERS)?;
+        for row in rows.iter_mut() {
+            row.time = u64::MAX;
+        }
+        assert!(rt; rows.len() == 8 && is_shaped(&links_of(alloc, &rows)?, 2));
+        let order = plain_order(alloc, &rows, 2, 10)?;
+        let expected = [
+            placed(3, 2, u64::MAX),
+            placed(2, 2, u64::MAX),
+            placed(1, 2, u64::MAX),
+            placed(0, 2, u64::MAX),
+        ];
+        assert_eq!(rt; order.as_slice(), expected.as_slice());
+        Ok(())
+    }
+
+    #[test]
+    fn lists_the_lines_of_a_ring(rt: HostRuntime) -> Result<(), Memory> {
+        let alloc = rt.alloc();
+        let rows = rows_of(alloc, &RING)?;
+        assert!(rt; rows.len() == 15 && is_shaped(&links_of(alloc, &rows)?, 4));
+        let block = plain_block(alloc, &rows, 4, 10)?;
+        assert_eq!(rt; block.state, state(0, 4, 2));
+        let expected = [
+            line(0, 0, 2, 50),
+            line(1, 0, 2, 52),
+            line(1, 1, 2, 55),
+            line(2, 1, 2, 60),
+            line(2, 0, 2, 65),
+            line(0, 1, 2, 70),
+            line(1, 2, 2, 80),
+        ];
+        assert_eq!(rt; block.lines.as_slice(), expected.as_slice());
+        Ok(())
+    }
+
+    #[test]
+    fn orders_nothing_of_no_rows(rt: HostRuntime) -> Result<(), Memory> {
+        let alloc = rt.alloc();
+        let rows = rows_of(alloc, &[])?;
+        assert!(rt; rows.len() == 0 && is_shaped(&links_of(alloc, &rows)?, 2));
+        let block = plain_block(alloc, &rows, 2, 10)?;
+        assert_eq!(rt; block.state, state(0, 0, 0));
+        assert!(rt; block.lines.as_slice().is_empty());
+        Ok(())
+    }
+}
