@@ -51,7 +51,11 @@ fn name_in(entry: &Value) -> Option<&str>
     ensures { option_copied result ≡ told.name_in (view entry.now) }
 {
     let name = entry.get("name")?.as_str()?;
-    if is_name(name.as_bytes()) { Some(name) } else { None }
+    if is_name(name.as_bytes()) {
+        Some(name)
+    } else {
+        None
+    }
 }
 
 fn decoded(alloc: Global, text: &str) -> Result<Option<Bytes>, AllocError>
@@ -86,7 +90,11 @@ fn balance_in(entry: &Value) -> Option<u64>
         return Some(0);
     };
     let number = value.as_integer()?;
-    if number < 0 { None } else { Some(number as u64) }
+    if number < 0 {
+        None
+    } else {
+        Some(number as u64)
+    }
 }
 
 fn node_in(entry: &Value) -> Option<bool>

@@ -39,6 +39,7 @@ fn line_in(members: &Members, above: &Above, words: &[&[u8]]) -> Result<Option<A
     }
 }
 
+#[tactic(auto, using(crate::proofs::Enough::words_enough))]
 fn line_of(members: &Members, above: &Above, line: &[u8], words: &[&[u8]]) -> Result<Option<Action>, Why>
     requires { map (λ word. word.now) words.now ≡ take MOST_WORDS (told.words_of line.now) }
     ensures value { result ≡ told.line_of members.now above.now line.now }
