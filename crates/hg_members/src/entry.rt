@@ -51,7 +51,11 @@ fn name_in(entry: &Value) -> Option<&str>
     ensures { option_copied result ≡ told.name_in (view entry.now) }
 {
     let name = entry.get("name")?.as_str()?;
-    if is_name(name.as_bytes()) { Some(name) } else { None }
+    if is_name(name.as_bytes()) {
+        Some(name)
+    } else {
+        None
+    }
 }
 
 fn decoded(alloc: Global, text: &str) -> Result<Option<Bytes>, AllocError>
@@ -86,7 +90,11 @@ fn balance_in(entry: &Value) -> Option<u64>
         return Some(0);
     };
     let number = value.as_integer()?;
-    if number < 0 { None } else { Some(number as u64) }
+    if number < 0 {
+        None
+    } else {
+        Some(number as u64)
+    }
 }
 
 fn node_in(entry: &Value) -> Option<bool>
@@ -104,7 +112,7 @@ fn has_name(members: &[MemberEntry], name: &[u8]) -> bool
     members.iter().any(|member| member.name.as_slice() == name)
 }
 
-fn new_name<'a>(earlier: &[MemberEntry], entry: &'a Value) -> Result<&'a str, MemberFault>
+fn name_of<'a>(earlier: &[MemberEntry], entry: &'a Value) -> Result<&'a str, MemberFault>
     ensures { Reads (λ name. name.now) result (told.name_of earlier.now (view entry.now)) }
 {
     let name = name_in(entry).ok_or(MemberFault::BadName(earlier.len()))?;
@@ -119,7 +127,7 @@ pub fn member_of(alloc: Global, earlier: &[MemberEntry], entry: &Value) -> Resul
     ensures { Gives (λ m. m) result (told.member_of earlier.now (view entry.now)) }
 {
     let place = earlier.len();
-    let name = new_name(earlier, entry)?;
+    let name = name_of(earlier, entry)?;
     let secret = secret_in(alloc, entry)?.ok_or(MemberFault::BadSecret(place))?;
     let balance = balance_in(entry).ok_or(MemberFault::BadBalance(place))?;
     let has_node = node_in(entry).ok_or(MemberFault::BadNode(place))?;

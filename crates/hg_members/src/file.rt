@@ -12,8 +12,8 @@ use crate::fault::MemberFault;
 use crate::stop::Stop;
 use hg_model::{MemberEntry, Members, Memory};
 use std::alloc::Global;
-use toml::value::Array;
 use toml::Value;
+use toml::value::Array;
 
 fn document_of(alloc: Global, bytes: &[u8]) -> Result<Value, Stop>
     ensures { Gives view result (ok_or (told.document_of bytes.now) MemberFault.NotToml) }

@@ -7,6 +7,8 @@ mod entry;
 mod fault;
 mod file;
 mod stop;
+#[cfg(test)]
+mod tests;
 
 pub use fault::MemberFault;
 pub use file::read_members;

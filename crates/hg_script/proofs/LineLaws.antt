@@ -28,7 +28,7 @@ lines_at bytes i found =
     let (same, within) = found_first bytes i found in
     let parted = slice_split_first is_line_feed bytes 0 within in
     let some : 0 < length (slice_split is_line_feed (after_first is_line_feed bytes)) =
-        omega (arith, length-slice_split is_line_feed (after_first is_line_feed bytes)) in
+    omega (arith, length-slice_split is_line_feed (after_first is_line_feed bytes)) in
     rw (← same) (ap lines_of_parts parted ∙ line_before (before_first is_line_feed bytes) (slice_split is_line_feed (after_first is_line_feed bytes)) some)
 
 none_before : (bytes : List ℕ) → position is_line_feed bytes ≡ None → length bytes ≤ position_or_len is_line_feed bytes

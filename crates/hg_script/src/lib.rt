@@ -9,6 +9,8 @@ mod line;
 mod script;
 mod stop;
 mod table;
+#[cfg(test)]
+mod tests;
 mod verb;
 mod words;
 

@@ -4,9 +4,16 @@ use hg_model::Member;
 #[derive(Clone, Copy, Debug, PartialEq, Eq)]
 pub enum Action {
     /// The member's node makes its first event, at this time.
-    Create { member: Member, time: u64 },
+    Create {
+        member: Member,
+        time: u64,
+    },
     /// The taker's node takes from the peer's the events that it lacks, then makes one at this time.
-    Sync { taker: Member, peer: Member, time: u64 },
+    Sync {
+        taker: Member,
+        peer: Member,
+        time: u64,
+    },
 }
 
 /// A line of the script, numbered from 1.

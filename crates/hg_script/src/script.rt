@@ -39,7 +39,13 @@ fn line_in(members: &Members, above: &Above, words: &[&[u8]]) -> Result<Option<A
     }
 }
 
-fn line_of(members: &Members, above: &Above, line: &[u8], words: &[&[u8]]) -> Result<Option<Action>, Why>
+#[tactic(auto, using(crate::proofs::Enough::words_enough))]
+fn line_of(
+    members: &Members,
+    above: &Above,
+    line: &[u8],
+    words: &[&[u8]],
+) -> Result<Option<Action>, Why>
     requires { map (λ word. word.now) words.now ≡ take MOST_WORDS (told.words_of line.now) }
     ensures value { result ≡ told.line_of members.now above.now line.now }
     ensures lawful { IfOk result (λ found. IfSome found (λ action. IsLawful members.now action × (maker action < 128))) }
@@ -51,7 +57,13 @@ fn line_of(members: &Members, above: &Above, line: &[u8], words: &[&[u8]]) -> Re
 }
 
 /// One line more, of this number, if it does anything.
-fn push_line(alloc: Global, members: &Members, above: &mut Above, number: u64, line: &[u8]) -> Result<(), Stop>
+fn push_line(
+    alloc: Global,
+    members: &Members,
+    above: &mut Above,
+    number: u64,
+    line: &[u8],
+) -> Result<(), Stop>
     ensures read { Gives (λ _. above.new) result (told.line_more members.now above.old number line.now) }
     ensures lawful { All (IsLine members.now) above.old → OnOk result (All (IsLine members.now) above.new) }
 {
@@ -82,7 +94,11 @@ fn all_lines(alloc: Global, bytes: &[u8], members: &Members) -> Result<Above, St
 }
 
 /// The lines that the bytes of a script are, or the first line that is refused.
-pub fn read_script(alloc: Global, bytes: &[u8], members: &Members) -> Result<Result<Items<Line>, ScriptFault>, Memory>
+pub fn read_script(
+    alloc: Global,
+    bytes: &[u8],
+    members: &Members,
+) -> Result<Result<Items<Line>, ScriptFault>, Memory>
     ensures lines { IfOk result (λ answer. answer ≡ told.lines_of bytes.now members.now) }
     ensures lawful { IfOk result (λ answer. IfOk answer (λ lines. All (IsLine members.now) lines)) }
 {

@@ -53,7 +53,10 @@ fn place_of(members: &Members, name: &[u8]) -> Option<usize>
     ensures value { result ≡ position (λ (e : MemberEntry). bytes_eq e.name name.now) members.now.entries }
     ensures listed { IfSome result (λ place. place < 128) }
 {
-    members.entries().iter().position(|entry| entry.name.as_slice() == name)
+    members
+        .entries()
+        .iter()
+        .position(|entry| entry.name.as_slice() == name)
 }
 
 fn member_of(members: &Members, word: &[u8]) -> Result<Member, Why>
@@ -79,7 +82,11 @@ fn with_node(members: &Members, member: Member) -> Result<Member, Why>
     ensures value { result ≡ told.with_node members.now member }
     ensures node { IfOk result (λ m. IsNode members.now m × (m ≡ member)) }
 {
-    if has_node(members, member) { Ok(member) } else { Err(Why::NoNode) }
+    if has_node(members, member) {
+        Ok(member)
+    } else {
+        Err(Why::NoNode)
+    }
 }
 
 fn node_of(members: &Members, word: &[u8]) -> Result<Member, Why>
@@ -144,7 +151,12 @@ fn line_by(members: &Members, above: &Above, verb: Verb, arguments: &[&[u8]]) ->
 }
 
 /// What a line does that begins with this word, with these behind it and those lines above.
-pub fn action_of(members: &Members, above: &Above, word: &[u8], arguments: &[&[u8]]) -> Result<Action, Why>
+pub fn action_of(
+    members: &Members,
+    above: &Above,
+    word: &[u8],
+    arguments: &[&[u8]],
+) -> Result<Action, Why>
     ensures value { result ≡ told.action_of members.now above.now word.now (map (λ word. word.now) arguments.now) }
     ensures lawful { IfOk result (λ action. IsLawful members.now action × (maker action < 128)) }
 {
