@@ -2,3 +2,4 @@ mod WordLaws
 mod PlaceLaws
 mod NodeLaws
 mod PlayLaws
+mod TopLaws

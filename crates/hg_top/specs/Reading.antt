@@ -1,5 +1,6 @@
 -- What comes of reading the two files
 use Rattle.std.specs.Prelude.{ℕ, ◌≡◌, List, Option, Some, None, IfSome, IsSomeAnd, ⊤}
+use Rattle.hg_io.specs.Bytes.{Appends, AppendsPart}
 use Rattle.hg_io.specs.Faults.{Rose}
 use Rattle.hg_io.specs.Files.{Files, content_of}
 use Rattle.hg_model.specs.Members.{MemberList}
@@ -33,3 +34,9 @@ StopsAtScript holds name members before after (ReadFault file.Script) = Rose bef
 StopsAtScript holds name members before after Script = IfSome holds (λ files. IsSomeAnd (content_of files name) (λ bytes. lines_in members bytes ≡ None))
 StopsAtScript holds name members before after Memory = ⊤
 StopsAtScript holds name members before after _ = ⊥
+
+-- what came of writing the report
+abbrev pub Writes : Option (List ℕ) → Option (List ℕ) → ℕ → ℕ → List ℕ → Status → Type 0
+Writes before after faults_before faults_after text Done = Appends before after text
+Writes before after faults_before faults_after text WriteFault = AppendsPart before after text × Rose faults_before faults_after
+Writes before after faults_before faults_after text _ = ⊥

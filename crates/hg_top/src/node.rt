@@ -117,8 +117,7 @@ fn arrival_rule(
 }
 
 /// Adds a row that fits, unless with it too many members would have a fork, or the node is full.
-fn add_row(alloc: Global, members: u32, rows: &mut Vec<Row>, row: Row) -> Result<Option<PutAnswer>, Memory>
-    requires members { members ≤ 128 }
+fn add_row(members: u32, rows: &mut Vec<Row>, row: Row) -> Result<Option<PutAnswer>, Memory>
     requires shaped { IsShaped members (links rows.old.items) }
     requires fits { Fits members rows.old.items row }
     requires room { length rows.old.items ≤ row_limit }
@@ -128,13 +127,7 @@ fn add_row(alloc: Global, members: u32, rows: &mut Vec<Row>, row: Row) -> Result
 {
     let full = full_rule(rows);
     rows.push(row)?;
-    let answer = match plain_forkers(alloc, rows, members) {
-        Ok(forkers) => forkers_rule(members, forkers).or(full),
-        Err(memory) => {
-            rows.pop();
-            return Err(memory);
-        }
-    };
+    let answer = forkers_rule(members, plain_forkers(rows, members)).or(full);
     if answer.is_some() {
         rows.pop();
     }
@@ -160,7 +153,7 @@ fn put_row(
         Some(answer) => Ok(answer),
         None => {
             let place = rows.len();
-            match add_row(alloc, members, rows, row)? {
+            match add_row(members, rows, row)? {
                 Some(answer) => Ok(answer),
                 None => Ok(PutAnswer::Accepted(place)),
             }
