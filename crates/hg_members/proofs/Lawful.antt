@@ -1,5 +1,5 @@
 -- Members that are read keep to what every list of members keeps to.
-use Rattle.std.proofs.Common.{◌≡◌, ℕ, ℤ, pos, negsuc, suc, ◌+◌, ◌<◌, ◌≤◌, ◌^◌, Bool, true, false, nat_le, ◌&&◌, List, [], ◌∷◌, ◌++◌, length, get_or, Option, Some, None, option_and_then, unwrap_or, codes, Result, Ok, Err, sum_by, length-append, refl, sym, ap, ◌∙◌, arith, inl, inr}
+use Rattle.std.proofs.Common.{◌≡◌, ℕ, ℤ, pos, negsuc, ◌+◌, ◌<◌, ◌≤◌, ◌^◌, true, false, nat_le, ◌&&◌, List, [], ◌∷◌, ◌++◌, length, get_or, Option, Some, None, option_and_then, unwrap_or, codes, Result, Ok, Err, sum_by, length-append, refl, arith, inl, inr}
 use Rattle.std.proofs.lemmas.Bool.{and_parts, both_ways, cases_Bool, leb-true}
 use Rattle.std.proofs.lemmas.List.Elements.{All-nil, All-push}
 use Rattle.std.proofs.lemmas.List.Folds.{list_any_at}
@@ -10,11 +10,9 @@ use Rattle.std.specs.Str.{bytes_eq}
 use Rattle.std.specs.Option.{ok_or}
 use Rattle.std.specs.Result.{result_ok}
 use Rattle.hex.proofs.HexLemmas.{decode_of-ok}
-use Rattle.hex.specs.declared.error.FromHexError.{FromHexError}
-use Rattle.hex.specs.Hex.{decode_of}
 use Rattle.toml.specs.Data.{Data, Items, no_items, item, as_integer, get}
 use Rattle.hg_model.specs.declared.members.MemberEntry.{MemberEntry}
-use Rattle.hg_model.specs.Members.{IsEntry, IsMemberList, MemberList, is_member_name, listed}
+use Rattle.hg_model.specs.Members.{IsEntry, IsMemberList, is_member_name, listed}
 use Rattle.hg_members.specs.declared.fault.MemberFault.{MemberFault}
 use Rattle.hg_members.specs.declared.fault.MemberFault.TheVariants.{BadCoin, Count, BadName, DoubleName, BadSecret, BadBalance, BadNode}
 use Rattle.hg_members.specs.MemberFile.{◌>>=◌, coin_number, coin_of, count_of, counted, name_form, name_in, name_of, secret_form, secret_in, balance_of, node_of, text_at, has_name, member_of, members_after}

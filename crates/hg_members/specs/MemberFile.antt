@@ -116,5 +116,5 @@ members_in document = do
   summed coin members
 
 -- what the bytes of a member file tell
-abbrev pub members_of : List ℕ → Result MemberList MemberFault
+unfoldable pub members_of : List ℕ → Result MemberList MemberFault
 members_of bytes = ok_or (document_of bytes) NotToml >>= members_in

@@ -108,6 +108,7 @@ fn members_in(alloc: Global, document: &Value) -> Result<Members, Stop>
 }
 
 /// The members that the bytes of a member file tell, or the first fault.
+#[tactic(auto, unfolding(crate::specs::MemberFile::members_of))]
 pub fn read_members(alloc: Global, bytes: &[u8]) -> Result<Result<Members, MemberFault>, Memory>
     ensures { IfOk result (λ answer. answer ≡ told.members_of bytes.now) }
 {

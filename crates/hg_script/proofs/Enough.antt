@@ -1,6 +1,5 @@
 -- The first few words of a line are enough: with more of them the line is refused alike.
-use Rattle.std.proofs.Common.{◌≡◌, ℕ, List, [], ◌∷◌, take, cond, true, false, Result, Ok, Err, refl, inl, inr, ap}
-use Rattle.std.proofs.lemmas.Bool.{cases_Bool}
+use Rattle.std.proofs.Common.{◌≡◌, ℕ, List, [], ◌∷◌, take, Result, Ok, Err, refl}
 use Rattle.std.specs.Option.{ok_or}
 use Rattle.hg_model.specs.Members.{MemberList}
 use Rattle.hg_script.specs.declared.fault.Why.{Why}
@@ -10,7 +9,7 @@ use Rattle.hg_script.specs.declared.line.Line.{Line}
 use Rattle.hg_script.specs.declared.verb.Verb.{Verb}
 use Rattle.hg_script.specs.declared.verb.Verb.TheVariants as verb
 use Rattle.hg_script.specs.declared.words.TheConstants.{MOST_WORDS}
-use Rattle.hg_script.specs.Script.{line_in, silent}
+use Rattle.hg_script.specs.Script.{line_in}
 use Rattle.hg_script.specs.Table.{◌>>=◌, action_of, create, line_by, sync, three_words, two_words, verb_of}
 
 two_enough : (line : List ℕ → List ℕ → Result Action Why) (words : List (List ℕ)) → two_words line (take 7 words) ≡ two_words line words
