@@ -13,14 +13,11 @@ use Rattle.hg_io.specs.Files.{Files, content_of, is_named, place_of}
 use Rattle.hg_io.specs.FilesOf.{files_of}
 use Rattle.hg_io.specs.ShelfState.{started_bytes}
 
-pub place_within : (files : Files) (name : List ℕ) → place_of files name ≤ length files
-place_within files name = prefix_len-le-length (λ file. not (is_named name file)) files
-
 -- the file at the place of a name is the first of that name
 pub content_of_place : (files : Files) (name : List ℕ) → content_of files name ≡ option_map (λ file. file.1) (slice_get files (place_of files name))
 content_of_place files name = ap (option_map (λ (file : List ℕ × List ℕ). file.1)) (find_at (is_named name) files)
 
--- a name that no file has
+-- a name that no file has is placed past the last
 pub content_of_none : (files : Files) (name : List ℕ) → (length files ≤ place_of files name) ↔ (content_of files name ≡ None)
 content_of_none files name =
     let here = content_of_place files name in
@@ -37,17 +34,19 @@ position_unwrapped test xs =
     let within = prefix_len-le-length (λ x. not (test x)) xs in
     grind (arith, common_steps, nat_tests, within)
 
--- the place is sought among the files as they stand in memory
+-- what was sought among the files as they stand in memory is their place
 pub place_in_memory : (files : List (String Global × Vec ℕ)) (name : List ℕ)
     → unwrap_or (position (λ file. bytes_eq (string_bytes file.0) name) files) (length files) ≡ place_of (files_of files) name
 place_in_memory files name =
     position_unwrapped _ files ∙ sym (prefix_len-map (λ (file : String Global × Vec ℕ). (string_bytes file.0, file.1.items)) (λ file. not (is_named name file)) files)
 
+-- that place is past the last where no file has the name
 pub none_in_memory : (files : List (String Global × Vec ℕ)) (name : List ℕ) (place : ℕ) → place ≡ place_of (files_of files) name
     → (length files ≤ place) ↔ (content_of (files_of files) name ≡ None)
 none_in_memory files name place same =
     rw same (rw length-map at (content_of_none (files_of files) name))
 
+-- and else its bytes are those of the name
 pub bytes_in_memory : (files : List (String Global × Vec ℕ)) (name : List ℕ) (place : ℕ) → place ≡ place_of (files_of files) name
     → unwrap_or (content_of (files_of files) name) [] ≡ started_bytes (files_of files) (Some place)
 bytes_in_memory files name place same = rw same (ap (λ (found : Option (List ℕ)). unwrap_or found []) (content_of_place (files_of files) name))

@@ -1,9 +1,9 @@
 ghost use Rattle.std.specs.Prelude.{◌≡◌, ◌↔◌, ◌<◌, ◌≤◌, ◌⊎◌, ◌++◌, ◌+◌, ◌-◌, [], ℕ, List, Contains, None, Some, IfOk, IsErr, IsTrue, OnErr, OnOk, drop, length, min, position, slice_index, slice_set, string_bytes, take, unwrap_or};
 ghost use Rattle.std.specs.Str.{bytes_eq};
-ghost use Rattle.hg_io.specs.Faults.{Rose, counted};
+ghost use Rattle.hg_io.specs.Faults.{Rose};
 ghost use Rattle.hg_io.specs.Files.{content_of, place_of};
 ghost use Rattle.hg_io.specs.FilesOf.{files_of};
-ghost use Rattle.hg_io.specs.ShelfState.{IsAt, after_fault, after_read, after_start, faults_at, new_shelf, started_bytes};
+ghost use Rattle.hg_io.specs.ShelfState.{IsAt, after_fault, after_read, after_start, called, faults_at, new_shelf, started_bytes};
 
 use crate::failed::Failed;
 use crate::shelf::Shelf;
@@ -70,7 +70,7 @@ impl ShelfMem {
     // Counts a call, and says whether it is to fail.
     fn next_fails(&mut self) -> bool
         ensures fails { IsTrue result ↔ (Contains self.old.fails self.old.calls) }
-        ensures after { self.new ≡ record self.old { calls = counted self.old.calls } }
+        ensures after { self.new ≡ called self.old }
     {
         let call = self.calls;
         self.calls = call.saturating_add(1);
