@@ -1,12 +1,11 @@
 -- What comes of an event that is put to a node, and of one that a node makes: in each list the first rule that holds.
 -- Departures from SWIRLDS-TR-2016-01: an event that would make the forking members a third of all is refused, and so is
 -- one by the node's own member that the node did not make.
-use Rattle.std.specs.Prelude.{ℕ, ◌*◌, Bool, true, false, cond, not, ◌&&◌, ◌==◌, nat_lt, nat_le, List, [], ◌∷◌, ◌++◌, length, fold, Option, Some, None, is_some, option_map, option_and_then, unwrap_or, slice_get, if◌then◌else◌}
+use Rattle.std.specs.Prelude.{ℕ, ◌*◌, Bool, cond, not, ◌==◌, nat_lt, nat_le, List, [], ◌∷◌, ◌++◌, length, fold, Option, Some, None, option_map, unwrap_or, slice_get, if◌then◌else◌}
 use Rattle.std.specs.Option.{option_or}
 use Rattle.std.specs.Str.{bytes_eq}
 use Rattle.sha2.specs.Sha512.{sha384}
 use Rattle.hg_model.specs.declared.row.Row.{Row}
-use Rattle.hg_model.specs.declared.answers.Fault.{Fault}
 use Rattle.hg_model.specs.declared.answers.Fault.TheVariants as fault
 use Rattle.hg_model.specs.declared.answers.MakeFault.{MakeFault}
 use Rattle.hg_model.specs.declared.answers.MakeFault.TheVariants as make_fault
@@ -14,7 +13,7 @@ use Rattle.hg_model.specs.declared.answers.PutAnswer.{PutAnswer}
 use Rattle.hg_model.specs.declared.answers.PutAnswer.TheVariants.{Accepted, Known, Refused}
 use Rattle.hg_model.specs.declared.answers.MakeAnswer.{MakeAnswer}
 use Rattle.hg_model.specs.declared.answers.MakeAnswer.TheVariants as make_answer
-use Rattle.hg_model.specs.Links.{links, link_in, place_of, creator, creator_in}
+use Rattle.hg_model.specs.Links.{links, place_of}
 use Rattle.hg_model.specs.Forks.{forkers}
 use Rattle.hg_model.specs.Spelling.{body_of, body_bytes, spelling, payload_limit}
 
@@ -83,10 +82,10 @@ full_rule G = if nat_le row_limit (length G) then Some (Refused (fault.Full row_
 unfoldable pub verdict : (ℕ → List ℕ → List ℕ → Bool) → ℕ → ℕ → List Row → Row → PutAnswer
 verdict accepts n own G row =
     unwrap_or
-        (option_or (member_rule n row) (option_or (name_rule G row) (option_or (signature_rule accepts row)
-        (option_or (impostor_rule own row) (option_or (missing_rule G row.parents) (option_or (creator_rule G row.creator row.parents)
-        (option_or (forkers_rule n G row) (full_rule G))))))))
-        (Accepted (length G))
+    (option_or (member_rule n row) (option_or (name_rule G row) (option_or (signature_rule accepts row)
+    (option_or (impostor_rule own row) (option_or (missing_rule G row.parents) (option_or (creator_rule G row.creator row.parents)
+    (option_or (forkers_rule n G row) (full_rule G))))))))
+    (Accepted (length G))
 
 -- the rows after it
 abbrev pub with_answer : List Row → Row → PutAnswer → List Row
@@ -159,7 +158,7 @@ made_or (Some fault) place = make_answer.Refused fault
 unfoldable pub making : ℕ → List Row → Option (List ℕ) → ℕ → List ℕ → List ℕ → MakeAnswer
 making own G other time payload sig =
     made_or (option_or (draft_rule own G other payload)
-        (option_or (collision_rule G (made_row own G other time payload sig)) (room_rule G))) (length G)
+    (option_or (collision_rule G (made_row own G other time payload sig)) (room_rule G))) (length G)
 
 -- the rows after it
 abbrev pub with_made : List Row → Row → MakeAnswer → List Row
