@@ -1,5 +1,5 @@
 -- The laws of fame
-use Rattle.std.proofs.Common.{◌≡◌, ℕ, ◌<◌, Bool, true, false, ◌&&◌, List, length, Option, Some, None, option_map, ltb, refl, ap, ◌∙◌, lt-ltb}
+use Rattle.std.proofs.Common.{◌≡◌, ℕ, ◌<◌, Bool, true, false, ◌&&◌, List, length, None, option_map, ltb, refl, ap, lt-ltb}
 use Rattle.std.proofs.lemmas.Bool.{and_left, and_right}
 use Rattle.hg_model.specs.Places.{least_below}
 use Rattle.hg_model.specs.Links.{Link}

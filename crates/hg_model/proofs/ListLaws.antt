@@ -1,5 +1,5 @@
 -- The laws of lists of what stands at places
-use Rattle.std.proofs.Common.{◌≡◌, ℕ, zero, suc, ◌+◌, ◌<◌, ◌≤◌, length, Bool, true, false, cond, ◌&&◌, ◌||◌, not, eqb, List, [], ◌∷◌, ◌++◌, map, sum_by, count_by, sym, refl, ap, ap₂, ◌∙◌, inl, inr, arith, add-zero, zero-add}
+use Rattle.std.proofs.Common.{◌≡◌, ℕ, zero, suc, ◌+◌, ◌<◌, ◌≤◌, length, Bool, true, false, cond, ◌&&◌, ◌||◌, not, eqb, List, [], ◌∷◌, ◌++◌, map, sum_by, count_by, sym, refl, ap, ap₂, ◌∙◌, inl, inr, arith, zero-add}
 use Rattle.std.specs.List.{AllByRecursion, list_any, list_all}
 use Rattle.std.proofs.lemmas.Bool.{cases_Bool, not_from_false, ne_eqb, or_right}
 use Rattle.std.proofs.lemmas.List.{map-append, append-nil, length-append, length_push}
@@ -126,7 +126,7 @@ unfolding list_below some_below
 none-list_below value zero test = refl
 none-list_below value (suc n) test = elim (cases_Bool (test n)) [
   | inl passes ↦ (let some : not (eqb (length (list_below value n test ++ value n ∷ [])) 0) ≡ true =
-        not_from_false _ (ne_eqb _ _ (λ e. absurd (omega (arith, e, length_push (list_below value n test) (value n))))) in
+      not_from_false _ (ne_eqb _ _ (λ e. absurd (omega (arith, e, length_push (list_below value n test) (value n))))) in
       rw passes (some ∙ sym (or_right (some_below n test) true refl)))
   | inr fails ↦ rw (fails, append-nil (list_below value n test)) (none-list_below value n test ∙ sym (or_false (some_below n test)))
 ]

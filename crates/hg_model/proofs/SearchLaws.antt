@@ -1,5 +1,5 @@
 -- The laws of searches for the least and the greatest
-use Rattle.std.proofs.Common.{◌≡◌, ℕ, zero, suc, ◌<◌, ◌≤◌, Bool, true, false, cond, leb, Option, Some, None, IfSome, option_map, refl, ap, ◌∙◌, subst, inl, inr, arith, le-leb}
+use Rattle.std.proofs.Common.{◌≡◌, ℕ, zero, suc, ◌<◌, Bool, true, false, leb, Option, Some, None, IfSome, option_map, refl, ap, inl, inr, arith, le-leb}
 use Rattle.std.proofs.lemmas.Bool.{cases_Bool, cases_lt, cond_both}
 use Rattle.hg_model.specs.Places.{lesser_of, least_below, greatest_below}
 

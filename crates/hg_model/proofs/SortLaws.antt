@@ -1,5 +1,5 @@
 -- Sorting: what a sort of std leaves is `sort_by`; ties that a second test breaks as the list stands; median
-use Rattle.std.proofs.Common.{◌≡◌, ℕ, zero, suc, ◌+◌, ◌-◌, ◌/◌, ◌<◌, ◌≤◌, Bool, true, false, cond, not, List, [], ◌∷◌, ◌++◌, length, map, get_or, sum_by, IsPermutation, IsSorted, IsSortedBy, nat_cmp, is_lt, is_eq, Ordering, ltb, eqb, sym, refl, ap, ◌∙◌, inl, inr, arith}
+use Rattle.std.proofs.Common.{◌≡◌, ℕ, suc, ◌-◌, ◌/◌, ◌<◌, ◌≤◌, Bool, true, false, cond, not, List, [], ◌∷◌, ◌++◌, length, map, get_or, sum_by, IsPermutation, IsSorted, IsSortedBy, nat_cmp, is_lt, is_eq, Ordering, ltb, eqb, sym, refl, ap, ◌∙◌, inl, inr, arith}
 use Rattle.std.specs.List.{AllByRecursion}
 use Rattle.std.specs.Cmp.{IsStrictWeakOrder, IsTotalOrder}
 use Rattle.std.specs.Ordering.{ordering_reverse}
@@ -72,7 +72,7 @@ one_ascending less order ties (x ∷ xs) [] up_xs up_ys same = absurd (omega (ar
 one_ascending less order ties (x ∷ xs) (y ∷ ys) up_xs up_ys same =
     let head = ties x y (head_not_less less order x y xs ys up_ys same) (head_not_less less order y x ys xs up_xs (λ weight. sym (same weight))) in
     let rest = one_ascending less order ties xs ys up_xs.1 up_ys.1
-        (λ weight. omega (arith, same weight, sum_by-cons weight x xs, sum_by-cons weight y ys, ap weight head)) in
+    (λ weight. omega (arith, same weight, sum_by-cons weight x xs, sum_by-cons weight y ys, ap weight head)) in
     cc
 
 -- what `insert_by` and `sort_by` give

@@ -1,9 +1,9 @@
 -- The equation of votes
-use Rattle.std.proofs.Common.{◌≡◌, ℕ, Bool, false, cond, ◌&&◌, not, eqb, List, refl, ap₂, ◌∙◌}
+use Rattle.std.proofs.Common.{◌≡◌, ℕ, Bool, false, cond, eqb, List, refl, ap₂, ◌∙◌}
 use Rattle.hg_model.specs.Places.{by_place}
 use Rattle.hg_model.specs.Links.{Link}
 use Rattle.hg_model.specs.Seeing.{sees}
-use Rattle.hg_model.specs.Votes.{is_voter, weighed_vote, yes_votes, no_votes, rounds_above, vote_from, vote_of}
+use Rattle.hg_model.specs.Votes.{weighed_vote, yes_votes, no_votes, rounds_above, vote_from, vote_of}
 use Rattle.hg_model.proofs.PlacesLaws.{only_below, only_below-at, by_place-at, weight_below-same}
 
 -- the vote of y, from the votes of the events before it
@@ -14,8 +14,8 @@ vote_of-at n c L coin x y =
     let above = rounds_above n L x y in
     let earlier = only_below false y vote in
     let yes_same : yes_votes n L earlier y ≡ yes_votes n L vote y =
-        weight_below-same (λ _. 1) y _ _ (λ w h. rw (only_below-at false y vote w h) refl) in
+    weight_below-same (λ _. 1) y _ _ (λ w h. rw (only_below-at false y vote w h) refl) in
     let no_same : no_votes n L earlier y ≡ no_votes n L vote y =
-        weight_below-same (λ _. 1) y _ _ (λ w h. rw (only_below-at false y vote w h) refl) in
+    weight_below-same (λ _. 1) y _ _ (λ w h. rw (only_below-at false y vote w h) refl) in
     by_place-at false (vote_from n c L coin x) y
     ∙ ap₂ (λ yes_count no_count. cond (eqb above 1) (sees L y x) (weighed_vote n c above yes_count no_count (coin y))) yes_same no_same

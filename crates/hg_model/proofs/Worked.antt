@@ -1,18 +1,17 @@
 -- Worked examples, computed: two members who sync in turn, and three members who sync in a ring
-use Rattle.std.proofs.Common.{◌≡◌, ℕ, Bool, true, false, List, [], ◌∷◌, Option, Some, None, refl, length}
-use Rattle.std.specs.Str.{bytes_eq}
+use Rattle.std.proofs.Common.{◌≡◌, ℕ, true, List, [], ◌∷◌, Some, None, refl}
 use Rattle.hg_model.specs.declared.row.Row.{Row}
 use Rattle.hg_model.specs.declared.row.Placed.{Placed}
-use Rattle.hg_model.specs.Places.{weight_below, some_below, list_below, least_below, greatest_below, maximum_below, values_below, by_place, reaches, table}
-use Rattle.hg_model.specs.Links.{Link, links, parents, self_parent, other_parents, creator}
+use Rattle.hg_model.specs.Places.{weight_below, some_below, list_below, least_below, greatest_below, values_below, by_place, reaches, table}
+use Rattle.hg_model.specs.Links.{links, parents, self_parent, other_parents, creator}
 use Rattle.hg_model.specs.Ancestry.{is_ancestor, is_self_ancestor}
 use Rattle.hg_model.specs.Forks.{is_fork, has_fork_below, has_fork, forkers}
 use Rattle.hg_model.specs.Seeing.{sees, sees_through, strongly_sees}
 use Rattle.hg_model.specs.Graph.{is_graph, name_at}
-use Rattle.hg_model.specs.Rounds.{round_of, is_witness, last_round}
+use Rattle.hg_model.specs.Rounds.{round_of, is_witness}
 use Rattle.hg_model.specs.Votes.{vote_of, decides}
 use Rattle.hg_model.specs.Fame.{fame_of, fame_marks, is_closed, is_unique_famous, Marks}
-use Rattle.hg_model.specs.Order.{coin_at, sig_at, time_at, sort_by, median, can_receive, round_received, consensus_time, whitening, ordered_in, ordered, order_of, last_closed, sequence_of}
+use Rattle.hg_model.specs.Order.{coin_at, sig_at, time_at, sort_by, median, can_receive, round_received, consensus_time, whitening, ordered_in, ordered, last_closed}
 
 -- an event with no parents, and one with parents of these names; a name is one byte here, and so is a signature
 abbrev pub first : ℕ → ℕ → Row

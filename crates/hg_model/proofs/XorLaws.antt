@@ -1,5 +1,5 @@
 -- The laws of bytes XORed with bytes
-use Rattle.std.proofs.Common.{◌≡◌, ℕ, zero, suc, ◌<◌, List, [], ◌∷◌, length, get_or, bit_xor, ap, ap₂, refl, arith}
+use Rattle.std.proofs.Common.{◌≡◌, ℕ, suc, ◌<◌, List, [], ◌∷◌, length, get_or, bit_xor, ap₂, refl, arith}
 use Rattle.hg_model.specs.Order.{xor_bytes}
 
 -- bytes that are XORs, place by place
@@ -11,8 +11,3 @@ xor_bytes_is (x ∷ xs) [] zs same_zs same_ys at = absurd (omega arith)
 xor_bytes_is (x ∷ xs) (y ∷ ys) [] same_zs same_ys at = absurd (omega arith)
 xor_bytes_is (x ∷ xs) (y ∷ ys) (z ∷ zs) same_zs same_ys at =
     ap₂ (λ b bs. b ∷ bs) (at 0 (omega arith)) (xor_bytes_is xs ys zs (omega arith) (omega arith) (λ k h. at (suc k) (omega arith)))
-
-pub length-xor_bytes : (xs ys : List ℕ) → length xs ≡ length ys → length (xor_bytes xs ys) ≡ length xs
-length-xor_bytes [] ys same = refl
-length-xor_bytes (x ∷ xs) [] same = absurd (omega arith)
-length-xor_bytes (x ∷ xs) (y ∷ ys) same = ap suc (length-xor_bytes xs ys (omega arith))

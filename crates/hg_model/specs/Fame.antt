@@ -1,6 +1,6 @@
 -- Fame, closed rounds, unique famous witnesses. SWIRLDS-TR-2016-01, section 4, procedures decideFame and findOrder.
 -- A departure: a round gives order only if it has a witness, and a unique famous one.
-use Rattle.std.specs.Prelude.{ℕ, Bool, true, false, not, ◌&&◌, ◌==◌, nat_lt, nat_le, List, length, get_or, Option, Some, None, option_map, is_none}
+use Rattle.std.specs.Prelude.{ℕ, Bool, false, not, ◌&&◌, ◌==◌, nat_lt, nat_le, List, length, get_or, Option, Some, None, option_map, is_none}
 use Rattle.hg_model.specs.Places.{some_below, least_below, table}
 use Rattle.hg_model.specs.Links.{Link, creator}
 use Rattle.hg_model.specs.Rounds.{round_of, is_witness}

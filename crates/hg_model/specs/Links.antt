@@ -1,6 +1,6 @@
 -- The shape of the graph: of each event its creator and the places of its parents. SWIRLDS-TR-2016-01, section 3.
 -- A departure: events stand in a list, each after its parents, and are told by their places in it.
-use Rattle.std.specs.Prelude.{ℕ, Bool, List, [], ◌∷◌, length, map, Option, Some, None, slice_get}
+use Rattle.std.specs.Prelude.{ℕ, Bool, List, [], ◌∷◌, map, Option, Some, None, slice_get}
 use Rattle.std.specs.List.{position_or_len}
 use Rattle.std.specs.Str.{bytes_eq}
 use Rattle.hg_model.specs.declared.row.Row.{Row}

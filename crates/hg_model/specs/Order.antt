@@ -1,7 +1,7 @@
 -- Rounds received, consensus timestamps, whitened signatures and the order. SWIRLDS-TR-2016-01, section 4, procedure findOrder.
 -- Where the report leaves room: of an even number of times the median is the lower of the middle two; signatures compare
 -- as bytes from the first on; a last tie is broken by the name. The coin is the highest bit of byte 32 of the signature.
-use Rattle.std.specs.Prelude.{ℕ, suc, ◌+◌, ◌-◌, ◌/◌, Bool, true, cond, not, ◌&&◌, ◌==◌, nat_lt, nat_le, List, [], ◌∷◌, ◌++◌, length, get_or, fold, map, replicate, unwrap_or, is_some, Option, Some, None, slice_get, bit_xor}
+use Rattle.std.specs.Prelude.{ℕ, suc, ◌-◌, ◌/◌, Bool, true, cond, not, ◌&&◌, nat_lt, nat_le, List, [], ◌∷◌, ◌++◌, length, get_or, fold, map, replicate, unwrap_or, is_some, Option, Some, None, slice_get, bit_xor}
 use Rattle.std.specs.List.{list_all}
 use Rattle.std.specs.Cmp.Lexicographic.{slice_cmp}
 use Rattle.std.specs.Ordering.{nat_cmp, is_lt}

@@ -46,7 +46,7 @@ rounds_above n L x y = round_of n L y - round_of n L x
 abbrev pub vote_from : ℕ → ℕ → List Link → (ℕ → Bool) → ℕ → (ℕ → Bool) → ℕ → Bool
 vote_from n c L coin x vote y =
     cond (rounds_above n L x y == 1) (sees L y x)
-        (weighed_vote n c (rounds_above n L x y) (yes_votes n L vote y) (no_votes n L vote y) (coin y))
+    (weighed_vote n c (rounds_above n L x y) (yes_votes n L vote y) (no_votes n L vote y) (coin y))
 
 -- the vote of y on x; `coin y` is the middle bit of the signature of y
 unfoldable pub vote_of : ℕ → ℕ → List Link → (ℕ → Bool) → ℕ → ℕ → Bool

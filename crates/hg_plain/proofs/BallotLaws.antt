@@ -1,11 +1,10 @@
 -- A step of the loop that makes the ballots on one row
-use Rattle.std.proofs.Common.{◌≡◌, ◌≢◌, ℕ, ◌-◌, ◌<◌, ◌≤◌, Bool, true, false, cond, ◌&&◌, not, eqb, List, length, get_or, count_by, sym, refl, ap, ap₂, ◌∙◌, arith}
+use Rattle.std.proofs.Common.{◌≡◌, ◌≢◌, ℕ, ◌<◌, ◌≤◌, Bool, false, cond, ◌&&◌, not, eqb, List, length, sym, refl, ap, ap₂, ◌∙◌, arith}
 use Rattle.std.specs.List.{AllByRecursion}
 use Rattle.std.proofs.lemmas.Bool.{eq-eqb, ne_eqb, and_right}
-use Rattle.hg_model.specs.Places.{list_below}
 use Rattle.hg_model.specs.Links.{Link}
 use Rattle.hg_model.specs.Seeing.{sees}
-use Rattle.hg_model.specs.Rounds.{round_of, is_witness}
+use Rattle.hg_model.specs.Rounds.{is_witness}
 use Rattle.hg_model.specs.Votes.{is_voter, weighed_vote, weighed_decides, yes_votes, no_votes, rounds_above, vote_of, decides}
 use Rattle.hg_model.proofs.PlacesLaws.{weight_below-same}
 use Rattle.hg_model.proofs.ListLaws.{count_by-list_below, length-list_below-le, all_list_below}

@@ -1,5 +1,5 @@
 -- The steps of the loop that makes the keys
-use Rattle.std.proofs.Common.{◌≡◌, ℕ, ◌+◌, true, cond, All, IfSome, List, [], ◌∷◌, ◌++◌, get_or, Option, Some, None, option_map, is_some, is_eq, nat_cmp, IsPermutation, IsSorted, sym, refl, ap, ◌∙◌, add-one}
+use Rattle.std.proofs.Common.{◌≡◌, ℕ, ◌+◌, true, cond, All, IfSome, List, [], ◌∷◌, ◌++◌, get_or, Option, Some, None, option_map, is_some, is_eq, nat_cmp, IsPermutation, IsSorted, refl, ap, ◌∙◌, add-one}
 use Rattle.std.specs.Option.{option_to_list}
 use Rattle.std.proofs.lemmas.List.Elements.{All-nil, All-cons, All-same, All-append}
 use Rattle.std.specs.Cmp.{IsTotalOrder}

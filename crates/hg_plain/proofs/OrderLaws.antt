@@ -1,6 +1,5 @@
 -- Sorted keys are the order
 use Rattle.std.proofs.Common.{◌≡◌, ℕ, suc, ◌<◌, ◌≤◌, Bool, true, false, ◌&&◌, List, [], ◌∷◌, ◌++◌, length, get_or, map, All, is_some, is_lt, unwrap_or, nat_cmp, Ordering, refl, sym, ◌∙◌, ap, ap₂, arith}
-use Rattle.std.specs.List.{AllByRecursion}
 use Rattle.std.specs.Ordering.{ordering_then}
 use Rattle.std.specs.Cmp.Lexicographic.{slice_cmp}
 use Rattle.std.proofs.lemmas.Bool.{and_parts}
@@ -11,7 +10,7 @@ use Rattle.hg_model.specs.Places.{list_below}
 use Rattle.hg_model.specs.Links.{Link}
 use Rattle.hg_model.specs.Graph.{name_at}
 use Rattle.hg_model.specs.Fame.{Marks}
-use Rattle.hg_model.specs.Order.{sig_at, xor_bytes, sort_by, round_received, consensus_time, whitening, received_or_zero, keyed_at, comes_before, is_received_in, ordered_in}
+use Rattle.hg_model.specs.Order.{sig_at, xor_bytes, sort_by, round_received, received_or_zero, keyed_at, comes_before, is_received_in, ordered_in}
 use Rattle.hg_model.proofs.PlacesLaws.{list_below-same}
 use Rattle.hg_model.proofs.ListLaws.{map-list_below, all_list_below, IsPairwise-list_below}
 use Rattle.hg_model.proofs.SortLaws.{IsPairwise, IsPairwise-weaker, AgreesBackwards, all_sorted, sort_by-same, sort_by-map}
@@ -19,8 +18,8 @@ use Rattle.hg_model.proofs.CompareLaws.{then_assoc, slice_cmp-append, is_lt-then
 use Rattle.hg_plain.specs.declared.order.Key.{Key}
 use Rattle.hg_plain.specs.Tables.{Tells}
 use Rattle.hg_plain.specs.Judges.{judges_of}
-use Rattle.hg_plain.specs.Received.{times_by, whitening_by}
-use Rattle.hg_plain.specs.Keys.{key_in, key_by, is_received_by, round_by, IsWide, key_cmp, key_less, placed_of}
+use Rattle.hg_plain.specs.Received.{whitening_by}
+use Rattle.hg_plain.specs.Keys.{key_in, key_by, is_received_by, round_by, IsWide, key_less, placed_of}
 use Rattle.hg_plain.proofs.JudgeLaws.{received_is, round_received_closed, consensus_time_is, whitening_is}
 
 -- a key as the definition has it: a list of numbers, and the placed row

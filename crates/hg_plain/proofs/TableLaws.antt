@@ -1,10 +1,12 @@
 -- How tables grow, and what is read in them
-use Rattle.std.proofs.Common.{◌≡◌, ℕ, ◌+◌, ◌<◌, ◌≤◌, Bool, true, false, cond, ltb, List, [], ◌∷◌, ◌++◌, length, get_or, Option, Some, None, unwrap_or, refl, sym, ap, ◌∙◌, inl, inr, arith, lt-ltb, le-ltb}
+use Rattle.std.proofs.Common.{◌≡◌, ℕ, ◌+◌, ◌<◌, ◌≤◌, Bool, true, false, cond, ltb, List, [], ◌∷◌, ◌++◌, length, get_or, Option, Some, None, unwrap_or, refl, sym, ap, ◌∙◌, inl, inr, arith, zero-add, lt-ltb, le-ltb}
 use Rattle.std.specs.Prelude.{position}
 use Rattle.std.specs.List.{position_or_len}
 use Rattle.std.specs.Global.{Vec}
 use Rattle.std.proofs.lemmas.Bool.{cases_lt}
-use Rattle.std.proofs.lemmas.List.{length_push, get_or_append_left, get_or_push}
+use Rattle.std.proofs.lemmas.List.{length_push, get_or_append_left, get_or_push, ext_get_or}
+use Rattle.std.proofs.lemmas.List.FromFn.{get_or-map-range_with_len, length-map-range_with_len}
+use Rattle.hg_model.specs.Places.{table}
 use Rattle.std.proofs.lemmas.List.Sums.{prefix_len-le-length}
 use Rattle.std.proofs.lemmas.Option.{slice_get_read, slice_get-get_or}
 use Rattle.hg_plain.specs.Tables.{Tells, cells_of, column_at, cell_at, TellsPairs}
@@ -75,3 +77,10 @@ position_or_length test xs = elim (cases_lt (position_or_len test xs) (length xs
       let le = prefix_len-le-length (λ x. Rattle.std.proofs.Common.not (test x)) xs in
       rw e (omega arith))
 ]
+
+-- a table that is whole is the list of the values
+pub Tells-table : {A : Type 0} (default : A) (value : ℕ → A) (n m : ℕ) (items : List A) → Tells default value n items → n ≡ m → items ≡ table value m
+Tells-table default value n m items told same =
+    ext_get_or default items (table value m) (told.len ∙ (same ∙ sym (length-map-range_with_len value 0 m)))
+    (λ k h. let below : k < m = omega (arith, told.len) in
+    told.at k (omega arith) ∙ sym (get_or-map-range_with_len value 0 m k k default below (zero-add k)))

@@ -1,5 +1,5 @@
 -- What the tables of an election hold
-use Rattle.std.specs.Prelude.{ℕ, Bool, false, cond, not, List, Option, Some, None, option_map, nat_le, length, count_by, get_or}
+use Rattle.std.specs.Prelude.{ℕ, Bool, false, cond, not, List, Option, Some, None, option_map, nat_le, count_by, get_or}
 use Rattle.hg_model.specs.Places.{list_below}
 use Rattle.hg_model.specs.Links.{Link}
 use Rattle.hg_model.specs.Rounds.{round_of}

@@ -5,7 +5,7 @@ use Rattle.hg_model.specs.declared.row.Row.{Row}
 use Rattle.hg_model.specs.Places.{list_below, least_below}
 use Rattle.hg_model.specs.Links.{Link, self_parent}
 use Rattle.hg_model.specs.Ancestry.{is_ancestor, is_self_ancestor}
-use Rattle.hg_model.specs.Order.{sig_at, time_at, median, xor_bytes}
+use Rattle.hg_model.specs.Order.{sig_at, time_at, xor_bytes}
 
 -- there are judges, and all of them have x as ancestor
 abbrev pub is_below_all : List Link → List ℕ → ℕ → Bool

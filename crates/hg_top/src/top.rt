@@ -89,7 +89,7 @@ fn write_report<K: Sink>(out: &mut K, text: &[u8]) -> Status
 
 /// What an accepted request comes to.
 fn run<F: Shelf, K: Sink>(alloc: Global, names: FileNames<'_>, shelf: &mut F, out: &mut K) -> Status
-    ensures ends { Ends (F.holds shelf.old) (request names) (outside (F.faults shelf.old) (K.faults out.old) (K.written out.old)) (outside (F.faults shelf.new) (K.faults out.new) (K.written out.new)) result }
+    ensures ends { Ends (F.holds shelf.old) (request names.entry) (outside (F.faults shelf.old) (K.faults out.old) (K.written out.old)) (outside (F.faults shelf.new) (K.faults out.new) (K.written out.new)) result }
     ensures same { F.holds shelf.new ≡ F.holds shelf.old }
 {
     let members = match members_from(alloc, shelf, names.members) {

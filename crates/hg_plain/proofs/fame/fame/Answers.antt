@@ -1,6 +1,5 @@
-use Rattle.std.proofs.Common.{◌≡◌, sym, ◌∙◌, ap, List, length}
+use Rattle.std.proofs.Common.{sym, ◌∙◌, ap}
 use Rattle.hg_model.proofs.FameLaws.{fame_of_other}
-use Rattle.hg_plain.specs.declared.votes.Ballot.{Ballot}
 use Rattle.hg_plain.specs.Elections.{vote_in}
 use Rattle.hg_plain.proofs.FameSteps.{fame_from_ballots}
 use Rattle.hg_plain.proofs.fame.fame.Goals as goal

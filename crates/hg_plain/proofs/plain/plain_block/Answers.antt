@@ -1,4 +1,4 @@
-use Rattle.std.proofs.Common.{◌≡◌, ◌∙◌, ap₂, map, List}
+use Rattle.std.proofs.Common.{◌∙◌, ap₂, map, List}
 use Rattle.hg_model.specs.declared.row.Placed.{Placed}
 use Rattle.hg_model.specs.Order.{last_closed, ordered, order_of}
 use Rattle.hg_model.specs.Ledger.{closed_of, order_line}

@@ -1,4 +1,4 @@
-use Rattle.std.proofs.Common.{◌≡◌, ◌∙◌, ap₂}
+use Rattle.std.proofs.Common.{◌∙◌, ap₂}
 use Rattle.hg_model.specs.Order.{last_closed}
 use Rattle.hg_model.specs.Ledger.{closed_of}
 use Rattle.hg_plain.specs.Shape.{Shape}

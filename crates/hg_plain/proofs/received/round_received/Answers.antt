@@ -1,4 +1,4 @@
-use Rattle.std.proofs.Common.{◌≡◌, true, sym, ◌∙◌, ap, List, ℕ, [], get_or, refl}
+use Rattle.std.proofs.Common.{sym, ◌∙◌, ap, List, ℕ, []}
 use Rattle.std.proofs.lemmas.List.{get_or_default}
 use Rattle.hg_model.proofs.SearchLaws.{least_number_first}
 use Rattle.hg_plain.specs.Received.{is_below_all, received_by}

@@ -1,6 +1,5 @@
-use Rattle.std.proofs.Common.{arith, ap₂, ◌-◌, ◌∙◌, sym, ℕ, true, false}
+use Rattle.std.proofs.Common.{arith, ap₂, ◌-◌, ◌∙◌, ℕ}
 use Rattle.hg_plain.proofs.BallotLaws.{voters_below, few_voters, ballot_next, ballot_far}
-use Rattle.hg_model.specs.Order.{coin_at}
 use Rattle.hg_plain.proofs.votes.next_ballot.Goals as goal
 
 pub returns-then-above-eq1 : goal.returns-then-above-eq1
