@@ -2,4 +2,3 @@ mod WordLaws
 mod PlaceLaws
 mod NodeLaws
 mod PlayLaws
-mod TopLaws

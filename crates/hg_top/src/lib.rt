@@ -9,3 +9,6 @@ mod rules;
 mod status;
 mod top;
 mod words;
+
+pub use status::{File, Status};
+pub use top::hashgraph;
