@@ -27,10 +27,10 @@ pub place_of_at : (G : List Row) → HasDistinctNames G → (x : ℕ) (name : Li
 place_of_at G distinct x name inside at_x =
     position_or_len_is (is_named name) G x nobody (omega arith)
     (λ k low. false_from_ne_true (is_named name (get_or G k nobody)) (λ same.
-        let inside_k : k < length G = omega arith in
-        let names : name_at G k ≡ name_at G x = name-at G k inside_k ∙ (bytes_same (get_or G k nobody).name name same ∙ sym at_x) in
-        let places = distinct.one k x inside_k inside names in
-        absurd (omega arith)))
+    let inside_k : k < length G = omega arith in
+    let names : name_at G k ≡ name_at G x = name-at G k inside_k ∙ (bytes_same (get_or G k nobody).name name same ∙ sym at_x) in
+    let places = distinct.one k x inside_k inside names in
+    absurd (omega arith)))
     (λ h. same_bytes (get_or G x nobody).name name (sym (name-at G x inside) ∙ at_x))
 
 -- a row by the member with this name
@@ -73,7 +73,7 @@ not_before : (G : List Row) (row : Row) (k : ℕ) → length G ≤ place_of G ro
 not_before G row k free inside same =
     let longer = length_push G row in
     let at_k : name_at (G ++ row ∷ []) k ≡ (get_or G k nobody).name =
-        name-at (G ++ row ∷ []) k (omega arith) ∙ ap (λ (r : Row). r.name) (get_or_append_left G (row ∷ []) nobody k inside) in
+    name-at (G ++ row ∷ []) k (omega arith) ∙ ap (λ (r : Row). r.name) (get_or_append_left G (row ∷ []) nobody k inside) in
     let fails = fails_before_first (is_named row.name) G k nobody (omega arith) in
     true≢false (sym (same_bytes (get_or G k nobody).name row.name (sym at_k ∙ same)) ∙ fails)
 

@@ -58,9 +58,10 @@ row_creator-links G x = ap creator_in (slice_get-map (link_in G) G x) ∙ either
 
 held_from : (G : List Row) (names : List (List ℕ)) → ((p : ℕ) → has_place (map (place_of G) names) p ≡ true → p < length G) → AreHeld G names
 held_from G [] below = tt
-held_from G (name ∷ names) below =
-    (below (place_of G name) (or_left (eqb (place_of G name) (place_of G name)) (has_place (map (place_of G) names) (place_of G name)) (eq-eqb (place_of G name) (place_of G name) refl)),
-    held_from G names (λ p h. below p (or_right (eqb (place_of G name) p) (has_place (map (place_of G) names) p) h)))
+held_from G (name ∷ names) below = (
+  below (place_of G name) (or_left (eqb (place_of G name) (place_of G name)) (has_place (map (place_of G) names) (place_of G name)) (eq-eqb (place_of G name) (place_of G name) refl)),
+  held_from G names (λ p h. below p (or_right (eqb (place_of G name) p) (has_place (map (place_of G) names) p) h)),
+)
 
 -- the rows of a shaped graph have their parents among them
 pub present_at : (n : ℕ) (G : List Row) → IsShaped n (links G) → (x : ℕ) → x < length G → IsPresent G (get_or G x nobody)
@@ -147,10 +148,12 @@ module _ (n : ℕ) (L : List Link) (link : Link) where
       | inl before ↦ rw (creator_before x before) (shaped.members x before)
       | inr ge ↦ (let last : x ≡ length L = omega (arith, length_push L link) in rw (creator_last x last) fits.member)
     ];
-    earlier = record { earlier = λ x p h. elim (parent_cases (λ ps. ps) refl x p h) [
-      | inl before ↦ shaped.earlier.earlier x p before.1
-      | inr last ↦ (let low = fits.earlier p last.1 in let at = last.0 in omega arith)
-    ] };
+    earlier = record {
+      earlier = λ x p h. elim (parent_cases (λ ps. ps) refl x p h) [
+        | inl before ↦ shaped.earlier.earlier x p before.1
+        | inr last ↦ (let low = fits.earlier p last.1 in let at = last.0 in omega arith)
+      ];
+    };
     self_by_same = λ x p h. elim (parent_cases first_place refl x p h) [
       | inl before ↦ (
           let low = shaped.earlier.earlier x p (first_of_places (parents_in (slice_get L x)) p before.1) in

@@ -67,10 +67,13 @@ parents_fit : (G : List Row) (m : ℕ) (parents : Option (List ℕ × List ℕ))
 parents_fit G m None missing creators = (tt, tt)
 parents_fit G m (Some names) missing creators =
     let held = two_tests (not (is_held G names.0)) (not (is_held G names.1)) _ _ missing in
-    let by = two_tests (not (eqb (row_creator G (place_of G names.0)) m)) (eqb (row_creator G (place_of G names.1)) m) _ _ creators in
-    ((held_below G names.0 (not_false (is_held G names.0) held.0), (held_below G names.1 (not_false (is_held G names.1) held.1), tt)),
-    (eqb-true (row_creator G (place_of G names.0)) m (not_false (eqb (row_creator G (place_of G names.0)) m) by.0),
-    (eqb-false (row_creator G (place_of G names.1)) m by.1, tt)))
+    let by = two_tests (not (eqb (row_creator G (place_of G names.0)) m)) (eqb (row_creator G (place_of G names.1)) m) _ _ creators in (
+      (held_below G names.0 (not_false (is_held G names.0) held.0), (held_below G names.1 (not_false (is_held G names.1) held.1), tt)),
+      (
+        eqb-true (row_creator G (place_of G names.0)) m (not_false (eqb (row_creator G (place_of G names.0)) m) by.0),
+        (eqb-false (row_creator G (place_of G names.1)) m by.1, tt),
+      ),
+    )
 
 pub record Arrives (n : ℕ) (G : List Row) (row : Row) : Type 0 where
   pub fits : Fits n G row
@@ -107,9 +110,10 @@ made_parents G m (Some last) None distinct is first others = cc
 made_parents G m None (Some other) distinct is first others = cc
 made_parents G m (Some last) (Some other) distinct is first others =
     let tests = two_tests (not (is_held G other)) (eqb (row_creator G (place_of G other)) m) _ _ others in
-    let own = last_is_own m G last distinct is in
-    ((own.0, (held_below G other (not_false (is_held G other) tests.0), tt)),
-    (own.1, (eqb-false (row_creator G (place_of G other)) m tests.1, tt)))
+    let own = last_is_own m G last distinct is in (
+      (own.0, (held_below G other (not_false (is_held G other) tests.0), tt)),
+      (own.1, (eqb-false (row_creator G (place_of G other)) m tests.1, tt)),
+    )
 
 -- what holds of a draft against which no rule speaks
 pub record Drafted (n own : ℕ) (G : List Row) (other : Option (List ℕ)) (payload : List ℕ) : Type 0 where

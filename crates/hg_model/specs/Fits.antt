@@ -24,4 +24,3 @@ pub record Fits (n : ℕ) (G : List Row) (row : Row) : Type 0 where
   pub member : row.creator < n
   pub present : IsPresent G row
   pub parents_fit : ParentsFit G row.creator (parent_names row.parents)
-

@@ -48,7 +48,7 @@ making_by keys s other time payload = making s.own s.rows other time payload (si
 abbrev pub node_made : Keys → NodeState → Option (List ℕ) → ℕ → List ℕ → NodeState
 node_made keys s other time payload =
     with_rows s (with_made s.rows (made_row s.own s.rows other time payload (signature_for keys s other time payload))
-        (making_by keys s other time payload))
+    (making_by keys s other time payload))
 
 -- what comes of a row that is put to the node
 abbrev pub verdict_by : Keys → NodeState → Row → PutAnswer

@@ -168,7 +168,7 @@ made_or (Some fault) place = make_answer.Refused fault
 abbrev pub making : ℕ → List Row → Option (List ℕ) → ℕ → List ℕ → List ℕ → MakeAnswer
 making own G other time payload sig =
     made_or (option_or (draft_rule own G other payload)
-        (option_or (collision_rule G (made_row own G other time payload sig)) (room_rule G))) (length G)
+    (option_or (collision_rule G (made_row own G other time payload sig)) (room_rule G))) (length G)
 
 -- the rows after it
 abbrev pub with_made : List Row → Row → MakeAnswer → List Row

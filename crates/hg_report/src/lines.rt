@@ -14,7 +14,12 @@ pub(crate) fn push_member(text: &mut Vec<u8>, names: &[Bytes], member: usize) ->
     }
 }
 
-pub(crate) fn push_order_line(text: &mut Vec<u8>, names: &[Bytes], number: u64, line: &OrderLine) -> Result<(), Memory>
+pub(crate) fn push_order_line(
+    text: &mut Vec<u8>,
+    names: &[Bytes],
+    number: u64,
+    line: &OrderLine,
+) -> Result<(), Memory>
     ensures { OnOk result (text.new.items ≡ text.old.items ++ order_line_text names.now number line.now) }
 {
     push_number(text, number)?;
@@ -27,7 +32,11 @@ pub(crate) fn push_order_line(text: &mut Vec<u8>, names: &[Bytes], number: u64, 
 }
 
 /// The lines of an order, numbered from 1.
-pub(crate) fn push_order(text: &mut Vec<u8>, names: &[Bytes], lines: &[OrderLine]) -> Result<(), Memory>
+pub(crate) fn push_order(
+    text: &mut Vec<u8>,
+    names: &[Bytes],
+    lines: &[OrderLine],
+) -> Result<(), Memory>
     ensures { OnOk result (text.new.items ≡ text.old.items ++ order_text names.now 1 lines.now) }
 {
     for (i, line) in lines.iter().enumerate() {
@@ -36,7 +45,12 @@ pub(crate) fn push_order(text: &mut Vec<u8>, names: &[Bytes], lines: &[OrderLine
     Ok(())
 }
 
-pub(crate) fn push_balance(text: &mut Vec<u8>, names: &[Bytes], member: usize, balance: u64) -> Result<(), Memory>
+pub(crate) fn push_balance(
+    text: &mut Vec<u8>,
+    names: &[Bytes],
+    member: usize,
+    balance: u64,
+) -> Result<(), Memory>
     ensures { OnOk result (text.new.items ≡ text.old.items ++ balance_text names.now member balance) }
 {
     push_bytes(text, b"balance ")?;
@@ -46,7 +60,11 @@ pub(crate) fn push_balance(text: &mut Vec<u8>, names: &[Bytes], member: usize, b
 }
 
 /// A line for each member's balance, in the order of the members.
-pub(crate) fn push_balances(text: &mut Vec<u8>, names: &[Bytes], balances: &[u64]) -> Result<(), Memory>
+pub(crate) fn push_balances(
+    text: &mut Vec<u8>,
+    names: &[Bytes],
+    balances: &[u64],
+) -> Result<(), Memory>
     ensures { OnOk result (text.new.items ≡ text.old.items ++ balances_text names.now 0 balances.now) }
 {
     for (i, balance) in balances.iter().enumerate() {

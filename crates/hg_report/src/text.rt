@@ -51,6 +51,10 @@ pub fn text_of(alloc: Global, outcome: &Outcome) -> Result<Vec<u8>, Memory>
     ensures { IfOk result (λ text. text.items ≡ report_text outcome.now) }
 {
     let mut text = Vec::new(alloc);
-    push_all(&mut text, outcome.names.as_slice(), outcome.printed.as_slice())?;
+    push_all(
+        &mut text,
+        outcome.names.as_slice(),
+        outcome.printed.as_slice(),
+    )?;
     Ok(text)
 }

@@ -35,7 +35,7 @@ synced_is keys nodes taker peer time t u p new held rows last t_is u_is p_is hel
     let T : NodeState = node_at nodes taker in
     let P : NodeState = node_at nodes peer in
     let rows_are : rows ≡ lacking T.rows P.rows =
-        rows_is ∙ ap₂ (λ (h : List Row) (q : NodeState). lacking h q.rows) (held_is ∙ ap (λ (s : NodeState). s.rows) t_is) p_is in
+    rows_is ∙ ap₂ (λ (h : List Row) (q : NodeState). lacking h q.rows) (held_is ∙ ap (λ (s : NodeState). s.rows) t_is) p_is in
     let last_are : last ≡ last_name P.own P.rows = last_is ∙ ap (λ (q : NodeState). last_name q.own q.rows) p_is in
     new_is
     ∙ (ap (λ (s : NodeState). node_with keys s rows last time []) u_is

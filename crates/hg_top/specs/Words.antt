@@ -18,7 +18,7 @@ is_word word text = bytes_eq word text
 abbrev pub request_by : List ℕ → List ℕ → List ℕ → List ℕ → List ℕ → Option Request
 request_by command members_option members script_option script =
     if is_word command (codes "run") && is_word members_option (codes "--members") && not (begins_with_dash members)
-        && is_word script_option (codes "--script") && not (begins_with_dash script)
+    && is_word script_option (codes "--script") && not (begins_with_dash script)
     then Some (record { members = members; script = script }) else None
 
 -- what the words ask for, the program's name first, if they are accepted

@@ -7,6 +7,8 @@ mod node;
 mod play;
 mod rules;
 mod status;
+#[cfg(test)]
+mod tests;
 mod top;
 mod words;
 

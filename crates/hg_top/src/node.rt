@@ -13,12 +13,13 @@ ghost use Rattle.hg_sign.specs.Table.{accepts_by, signature_by};
 ghost use Rattle.hg_top.specs.Node.{IsNode, IsShort, keys_by, missing_row, node};
 
 use crate::rules::{
-    both_names, creator_rule, draft_rule, forkers_rule, full_rule, impostor_rule, last_name, member_rule,
-    is_held, missing_rule, place_of,
-    row_rule,
+    both_names, creator_rule, draft_rule, forkers_rule, full_rule, impostor_rule, is_held,
+    last_name, member_rule, missing_rule, place_of, row_rule,
 };
 use hg_event::{encode, encode_body};
-use hg_model::{Fault, Items, MakeAnswer, Member, Memory, Name, PutAnswer, Row, SyncMade, SyncReport};
+use hg_model::{
+    Fault, Items, MakeAnswer, Member, Memory, Name, PutAnswer, Row, SyncMade, SyncReport,
+};
 use hg_name::name_of;
 use hg_plain::plain_forkers;
 use hg_sign::{MacTable, Signer, Verifier};
@@ -39,7 +40,13 @@ fn signature_rule(alloc: Global, keys: &MacTable, row: &Row) -> Result<Option<Pu
     requires { IsShort row.now }
     ensures { IfOk result (λ answer. answer ≡ signature_rule (accepts_by keys.now) row.now) }
 {
-    let body = encode_body(alloc, row.creator, &row.parents, row.time, row.payload.as_slice())?;
+    let body = encode_body(
+        alloc,
+        row.creator,
+        &row.parents,
+        row.time,
+        row.payload.as_slice(),
+    )?;
     if keys.check(row.creator, body.as_slice(), &row.sig) {
         Ok(None)
     } else {
@@ -111,9 +118,11 @@ fn arrival_rule(
     if let Some(answer) = signature_rule(alloc, keys, row)? {
         return Ok(Some(answer));
     }
-    Ok(impostor_rule(own, row)
-        .or(missing_rule(rows, &row.parents))
-        .or(creator_rule(rows, row.creator, &row.parents)))
+    Ok(
+        impostor_rule(own, row)
+            .or(missing_rule(rows, &row.parents))
+            .or(creator_rule(rows, row.creator, &row.parents)),
+    )
 }
 
 /// Adds a row that fits, unless with it too many members would have a fork, or the node is full.
@@ -294,7 +303,12 @@ impl Node {
     }
 
     /// Puts a row, of a payload that is not too long.
-    pub(crate) fn put(&mut self, alloc: Global, keys: &MacTable, row: Row) -> Result<PutAnswer, Memory>
+    pub(crate) fn put(
+        &mut self,
+        alloc: Global,
+        keys: &MacTable,
+        row: Row,
+    ) -> Result<PutAnswer, Memory>
         requires { IsShort row }
         ensures answer { IfOk result (λ answer. answer ≡ verdict_by (keys_by keys.now) self.old row) }
         ensures after { OnOk result (self.new ≡ node_put (keys_by keys.now) self.old row) }
@@ -314,7 +328,16 @@ impl Node {
         ensures answer { IfOk result (λ answer. answer ≡ making_by (keys_by keys.now) self.old other time payload.now) }
         ensures after { OnOk result (self.new ≡ node_made (keys_by keys.now) self.old other time payload.now) }
     {
-        make_row(alloc, keys, self.members, self.own, &mut self.rows, other, time, payload)
+        make_row(
+            alloc,
+            keys,
+            self.members,
+            self.own,
+            &mut self.rows,
+            other,
+            time,
+            payload,
+        )
     }
 
     /// What this node hands over to one that holds these rows.

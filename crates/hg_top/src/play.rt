@@ -12,7 +12,8 @@ ghost use Rattle.hg_top.specs.Play.{AreNodes, IsBelow, block_if, after_lines, al
 
 use crate::node::Node;
 use hg_model::{
-    Block, Bytes, Items, MakeAnswer, Member, Members, Memory, OrderLine, Outcome, Printed, Row, SyncReport,
+    Block, Bytes, Items, MakeAnswer, Member, Members, Memory, OrderLine, Outcome, Printed, Row,
+    SyncReport,
 };
 use hg_plain::plain_block;
 use hg_script::{Action, Line};
@@ -33,7 +34,13 @@ fn new_nodes(alloc: Global, members: &Members) -> Result<Vec<Node>, Memory>
 }
 
 /// The node of a member makes its first event.
-fn create(alloc: Global, keys: &MacTable, nodes: &mut [Node], member: usize, time: u64) -> Result<MakeAnswer, Memory>
+fn create(
+    alloc: Global,
+    keys: &MacTable,
+    nodes: &mut [Node],
+    member: usize,
+    time: u64,
+) -> Result<MakeAnswer, Memory>
     requires { member < length nodes.old }
     ensures answer { IfOk result (λ answer. answer ≡ making_at (keys_by keys.now) nodes.old member time) }
     ensures nodes { OnOk result (nodes.new ≡ slice_set nodes.old member (created (keys_by keys.now) nodes.old member time)) }
@@ -62,7 +69,12 @@ fn sync(
 }
 
 /// Plays a line.
-fn play_line(alloc: Global, keys: &MacTable, nodes: &mut [Node], line: Line) -> Result<Printed, Memory>
+fn play_line(
+    alloc: Global,
+    keys: &MacTable,
+    nodes: &mut [Node],
+    line: Line,
+) -> Result<Printed, Memory>
     requires { IsBelow (length nodes.old) line.action }
     ensures printed { IfOk result (λ printed. printed ≡ printed_by (keys_by keys.now) nodes.old line.number line.action) }
     ensures nodes { OnOk result (nodes.new ≡ nodes_after (keys_by keys.now) nodes.old line.action) }
@@ -86,7 +98,12 @@ fn play_line(alloc: Global, keys: &MacTable, nodes: &mut [Node], line: Line) -> 
 }
 
 /// Plays the lines, one after the other, and gives what they print.
-fn play_lines(alloc: Global, keys: &MacTable, nodes: &mut [Node], lines: &[Line]) -> Result<Vec<Printed>, Memory>
+fn play_lines(
+    alloc: Global,
+    keys: &MacTable,
+    nodes: &mut [Node],
+    lines: &[Line],
+) -> Result<Vec<Printed>, Memory>
     requires { All (λ (line : Line). IsBelow (length nodes.old) line.action) lines.now }
     ensures { IfOk result (λ printed. world nodes.new printed.items ≡ after_lines (keys_by keys.now) nodes.old lines.now) }
 {
@@ -150,7 +167,12 @@ fn push_block(
 }
 
 /// The blocks of all nodes, in the order of the members, behind what was printed.
-fn push_blocks(alloc: Global, members: &Members, nodes: &[Node], printed: &mut Vec<Printed>) -> Result<(), Memory>
+fn push_blocks(
+    alloc: Global,
+    members: &Members,
+    nodes: &[Node],
+    printed: &mut Vec<Printed>,
+) -> Result<(), Memory>
     requires count { length nodes.now ≡ length members.now.entries }
     requires few { length nodes.now ≤ 128 }
     requires each { AreNodes (length members.now.entries) nodes.now }

@@ -85,7 +85,11 @@ pub(crate) fn missing_rule(rows: &[Row], parents: &Option<(Name, Name)>) -> Opti
     }
 }
 
-pub(crate) fn creator_rule(rows: &[Row], creator: Member, parents: &Option<(Name, Name)>) -> Option<PutAnswer>
+pub(crate) fn creator_rule(
+    rows: &[Row],
+    creator: Member,
+    parents: &Option<(Name, Name)>,
+) -> Option<PutAnswer>
     ensures { result ≡ creator_rule rows.now creator parents.now }
 {
     let (own, other) = match parents {
@@ -148,7 +152,12 @@ fn payload_rule(payload: &[u8]) -> Option<MakeFault>
 }
 
 /// What is wrong with an event to be made, before it is signed.
-pub(crate) fn draft_rule(rows: &[Row], own: Member, other: &Option<Name>, payload: &[u8]) -> Option<MakeFault>
+pub(crate) fn draft_rule(
+    rows: &[Row],
+    own: Member,
+    other: &Option<Name>,
+    payload: &[u8],
+) -> Option<MakeFault>
     ensures { result ≡ draft_rule own rows.now other.now payload.now }
 {
     first_rule(&last_name(rows, own), other)

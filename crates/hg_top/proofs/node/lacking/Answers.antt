@@ -11,7 +11,7 @@ loop-row-preserved c =
     let rest : List Row = lacking c.args.held.now (drop (c.loop-row.row-index + 1) c.args.rows.now) in
     let step = lacking-at c.args.held.now c.args.rows.now c.loop-row.row-index row c.loop-row-test.true in
     let here : missing_row c.args.held.now row ++ rest ≡ lacking c.args.held.now (drop c.loop-row.row-index c.args.rows.now) =
-        subst (λ (r : Row). missing_row c.args.held.now r ++ rest ≡ lacking c.args.held.now (drop c.loop-row.row-index c.args.rows.now)) (sym c.row-item.is) step in
+    subst (λ (r : Row). missing_row c.args.held.now r ++ rest ≡ lacking c.args.held.now (drop c.loop-row.row-index c.args.rows.now)) (sym c.row-item.is) step in
     ap (λ (xs : List Row). xs ++ rest) c.in_ok-push_unless_held.ensures
     ∙ (append_assoc c.loop-row.missing.items (missing_row c.args.held.now row) rest
     ∙ (ap (λ (xs : List Row). c.loop-row.missing.items ++ xs) here ∙ c.loop-row.invariant))

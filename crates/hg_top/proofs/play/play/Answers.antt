@@ -34,7 +34,7 @@ unfolding play
 returns c =
     let nodes : c.as_mut_slice.result.now ≡ new_nodes c.args.members.now = c.as_mut_slice.ensures.value ∙ c.in_ok-nodes.ensures.nodes in
     let keys : keys_by c.in_ok-keys.keys ≡ keys_of c.args.members.now =
-        ap₂ (λ (s : ℕ → List ℕ → List ℕ) (a : ℕ → List ℕ → List ℕ → Bool). let k : Keys = record { sign = s; accepts = a } in k) c.in_ok-keys.ensures.signs c.in_ok-keys.ensures.accepts in
+    ap₂ (λ (s : ℕ → List ℕ → List ℕ) (a : ℕ → List ℕ → List ℕ → Bool). let k : Keys = record { sign = s; accepts = a } in k) c.in_ok-keys.ensures.signs c.in_ok-keys.ensures.accepts in
     ap₂ (λ (ns : List (List ℕ)) (ps : List Printed). let o : Outcome = record { names = ns; printed = ps } in o) c.in_ok-names.ensures
     (c.from_vec.ensures ∙ (c.in_ok-printed.ensures
     ∙ ap₂ (λ (k : Keys) (ns : List NodeState). all_printed c.args.members.now k ns c.args.lines.now) keys nodes))

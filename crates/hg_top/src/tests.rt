@@ -1,0 +1,217 @@
+use crate::status::{File, Status};
+use crate::top::hashgraph;
+use hg_io::{ShelfMem, SinkMem};
+use std::alloc::Global;
+use std::process::Abort;
+use std::test::Fail;
+
+const MEMBERS: &str =
+    "coin = 10\n[[member]]\nname = \"A\"\nsecret = \"0b0b0b0b\"\nbalance = 100\n[[member]]\nname = \"B\"\nsecret = \"0c0c0c0c\"\n";
+
+const SCRIPT: &str =
+    "create A 1\ncreate B 2\nsync A B 3\nsync B A 4\nsync A B 5\nsync B A 6\nsync A B 7\nsync B A 8\n";
+
+const REPORT: &str =
+    "1 create made 0\n2 create made 0\n3 sync taken 1 refused 0 made 2\n4 sync taken 2 refused 0 made 3\n5 sync taken 1 refused 0 made 4\n6 sync taken 1 refused 0 made 5\n7 sync taken 1 refused 0 made 6\n8 sync taken 1 refused 0 made 7\nnode A events 7 forkers 0 round 3 closed 1 ordered 0\nbalance A 100\nbalance B 0\nnode B events 8 forkers 0 round 4 closed 2 ordered 4\n1 A 0 round 2 time 1 -\n2 B 0 round 2 time 2 -\n3 A 1 round 2 time 3 -\n4 B 1 round 2 time 4 -\nbalance A 100\nbalance B 0\n";
+
+const WORDS: [&str; 6] = [
+    "hashgraph",
+    "run",
+    "--members",
+    "members.toml",
+    "--script",
+    "script.txt",
+];
+
+/// What a run came to, and what it wrote to standard output and standard error.
+#[derive(Drop)]
+struct Ran {
+    status: Status,
+    out: SinkMem,
+    err: SinkMem,
+}
+
+fn words_of(alloc: Global, words: &[&str]) -> Result<Vec<String>, Fail> {
+    let mut owned = Vec::new(alloc);
+    for word in words {
+        owned.push(String::from_str(alloc, *word)?)?;
+    }
+    Ok(owned)
+}
+
+fn shelf_of(alloc: Global, members: &str, script: &str, fails: &[u64]) -> Result<ShelfMem, Fail> {
+    let mut files = Vec::new(alloc);
+    files.push((
+        String::from_str(alloc, "members.toml")?,
+        Vec::from_slice(alloc, members.as_bytes())?,
+    ))?;
+    files.push((
+        String::from_str(alloc, "script.txt")?,
+        Vec::from_slice(alloc, script.as_bytes())?,
+    ))?;
+    Ok(ShelfMem::new(alloc, files, Vec::from_slice(alloc, fails)?)?)
+}
+
+/// Runs the program over two files, with calls of the shelf that fail, and with a sink for the report.
+fn run(
+    alloc: Global,
+    words: &[&str],
+    members: &str,
+    script: &str,
+    fails: &[u64],
+    mut out: SinkMem,
+) -> Result<Ran, Fail> {
+    let words = words_of(alloc, words)?;
+    let mut shelf = shelf_of(alloc, members, script, fails)?;
+    let mut err = SinkMem::new(alloc, 4096, 4096, Vec::new(alloc))?;
+    let status = hashgraph(alloc, words.as_slice(), &mut shelf, &mut out, &mut err);
+    Ok(Ran { status, out, err })
+}
+
+fn ample(alloc: Global) -> Result<SinkMem, Fail> {
+    Ok(SinkMem::new(alloc, 65_536, 65_536, Vec::new(alloc))?)
+}
+
+/// The run came to this, and wrote just these.
+fn expect(rt: &impl Abort, ran: &Ran, status: Status, out: &str, err: &str) {
+    assert!(rt; ran.status == status);
+    assert!(rt; ran.out.bytes() == out.as_bytes());
+    assert!(rt; ran.err.bytes() == err.as_bytes());
+}
+
+#[test]
+fn two_members(rt: HostRuntime) -> Result<(), Fail> {
+    let alloc = rt.alloc();
+    let ran = run(alloc, WORDS.as_slice(), MEMBERS, SCRIPT, &[], ample(alloc)?)?;
+    expect(&rt, &ran, Status::Done, REPORT, "");
+    Ok(())
+}
+
+#[test]
+fn empty_script_and_bare_peer(rt: HostRuntime) -> Result<(), Fail> {
+    let alloc = rt.alloc();
+    let ran = run(alloc, WORDS.as_slice(), MEMBERS, "", &[], ample(alloc)?)?;
+    expect(
+        &rt,
+        &ran,
+        Status::Done,
+        "node A events 0 forkers 0 round 0 closed 0 ordered 0\nbalance A 100\nbalance B 0\nnode B events 0 forkers 0 round 0 closed 0 ordered 0\nbalance A 100\nbalance B 0\n",
+        "",
+    );
+    let ran = run(
+        alloc,
+        WORDS.as_slice(),
+        MEMBERS,
+        "create A 1\nsync A B 2\n",
+        &[],
+        ample(alloc)?,
+    )?;
+    expect(
+        &rt,
+        &ran,
+        Status::Done,
+        "1 create made 0\n2 sync taken 0 refused 0 made none peer-bare\nnode A events 1 forkers 0 round 1 closed 0 ordered 0\nbalance A 100\nbalance B 0\nnode B events 0 forkers 0 round 0 closed 0 ordered 0\nbalance A 100\nbalance B 0\n",
+        "",
+    );
+    Ok(())
+}
+
+#[test]
+fn failing_reads(rt: HostRuntime) -> Result<(), Fail> {
+    let alloc = rt.alloc();
+    for call in [0, 1, 2] {
+        let ran = run(
+            alloc,
+            WORDS.as_slice(),
+            MEMBERS,
+            SCRIPT,
+            &[call],
+            ample(alloc)?,
+        )?;
+        expect(
+            &rt,
+            &ran,
+            Status::ReadFault(File::Members),
+            "",
+            "hashgraph: cannot read the member file\n",
+        );
+    }
+    for call in [3, 4, 5] {
+        let ran = run(
+            alloc,
+            WORDS.as_slice(),
+            MEMBERS,
+            SCRIPT,
+            &[call],
+            ample(alloc)?,
+        )?;
+        expect(
+            &rt,
+            &ran,
+            Status::ReadFault(File::Script),
+            "",
+            "hashgraph: cannot read the script\n",
+        );
+    }
+    Ok(())
+}
+
+#[test]
+fn failing_writes(rt: HostRuntime) -> Result<(), Fail> {
+    let alloc = rt.alloc();
+    for (call, _) in REPORT.as_bytes().iter().enumerate() {
+        let mut fails = Vec::new(alloc);
+        fails.push(call as u64)?;
+        let out = SinkMem::new(alloc, 65_536, 1, fails)?;
+        let ran = run(alloc, WORDS.as_slice(), MEMBERS, SCRIPT, &[], out)?;
+        assert!(&rt; ran.status == Status::WriteFault);
+        assert!(&rt; ran.out.bytes() == &REPORT.as_bytes()[..call]);
+        assert!(&rt; ran.err.bytes() == b"hashgraph: cannot write\n".as_slice());
+    }
+    Ok(())
+}
+
+#[test]
+fn faulty_words_and_files(rt: HostRuntime) -> Result<(), Fail> {
+    let alloc = rt.alloc();
+    let usage =
+        "hashgraph: usage: run --members FILE --script FILE [--workers K] or make --members N --lines L --seed S [--workers K]\n";
+    let ran = run(alloc, &["hashgraph"], MEMBERS, SCRIPT, &[], ample(alloc)?)?;
+    expect(&rt, &ran, Status::Usage, "", usage);
+    let dashed = [
+        "hashgraph",
+        "run",
+        "--members",
+        "-m",
+        "--script",
+        "script.txt",
+    ];
+    let ran = run(
+        alloc,
+        dashed.as_slice(),
+        MEMBERS,
+        SCRIPT,
+        &[],
+        ample(alloc)?,
+    )?;
+    expect(&rt, &ran, Status::Usage, "", usage);
+    let one = "[[member]]\nname = \"A\"\nsecret = \"0b\"\n";
+    let ran = run(alloc, WORDS.as_slice(), one, SCRIPT, &[], ample(alloc)?)?;
+    expect(
+        &rt,
+        &ran,
+        Status::Members,
+        "",
+        "hashgraph: members: unread\n",
+    );
+    let ran = run(
+        alloc,
+        WORDS.as_slice(),
+        MEMBERS,
+        "sync A B 1\n",
+        &[],
+        ample(alloc)?,
+    )?;
+    expect(&rt, &ran, Status::Script, "", "hashgraph: script: unread\n");
+    Ok(())
+}
