@@ -1,5 +1,5 @@
 -- A row is what its bytes spell, just where it is what reading them gives.
-use Rattle.std.proofs.Common.{◌≡◌, ℕ, ◌+◌, ◌-◌, ◌^◌, true, eqb, List, [], ◌∷◌, ◌++◌, length, take, Option, Result, Ok, Err, refl, sym, ap, subst, ◌∙◌, append_assoc, arith}
+use Rattle.std.proofs.Common.{◌≡◌, ℕ, ◌-◌, true, eqb, List, [], ◌++◌, length, take, Option, Result, Ok, Err, refl, sym, ap, subst, ◌∙◌, append_assoc, arith}
 use Rattle.std.specs.Int.{w16, w64, to_be_bytes}
 use Rattle.std.proofs.lemmas.Bool.{eqb-true}
 use Rattle.std.proofs.lemmas.List.{append-nil, nil_from_length, take_at, length-append}
@@ -7,9 +7,9 @@ use Rattle.sha2.specs.Sha512.{sha384}
 use Rattle.hg_model.specs.declared.row.Row.{Row}
 use Rattle.hg_model.specs.declared.answers.ByteFault.{ByteFault}
 use Rattle.hg_model.specs.declared.answers.ByteFault.TheVariants.{Trailing}
-use Rattle.hg_model.specs.Spelling.{HasSpelling, Spells, body_bytes, body_of, magic, parent_bytes, payload_bytes, spelling}
+use Rattle.hg_model.specs.Spelling.{Spells, body_bytes, body_of, magic, parent_bytes, payload_bytes, spelling}
 use Rattle.hg_model.specs.Verdict.{signed_row}
-use Rattle.hg_model.specs.Reading.{◌>>=◌, after_magic, bytes_field, number_field, parents_field, payload_field, read_event}
+use Rattle.hg_model.specs.Reading.{after_magic, bytes_field, number_field, parents_field, payload_field, read_event}
 use Rattle.std.specs.Prelude.{IfOk}
 use Rattle.hg_event.specs.declared.view.EventView.{EventView}
 use Rattle.hg_event.specs.View.{Gives, row_of}

@@ -1,5 +1,5 @@
 -- What a view shows: a row.
-use Rattle.std.specs.Prelude.{◌≡◌, ℕ, List, Option, option_map, Result, Ok, Err}
+use Rattle.std.specs.Prelude.{◌≡◌, option_map, Result, Ok, Err}
 use Rattle.hg_model.specs.declared.row.Row.{Row}
 use Rattle.hg_model.specs.declared.answers.ByteFault.{ByteFault}
 use Rattle.hg_model.specs.Verdict.{signed_row}

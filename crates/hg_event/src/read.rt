@@ -9,6 +9,7 @@ use crate::view::EventView;
 use hg_model::ByteFault;
 
 /// The event that these bytes spell, all of them, or the first fault from left to right.
+/// What it gives is borrowed from the bytes. Takes no memory.
 pub fn decode(bytes: &[u8]) -> Result<EventView<'_>, ByteFault>
     // What is read is spelled so.
     ensures found { IfOk result (λ view. Spells bytes.now (row_of view)) }

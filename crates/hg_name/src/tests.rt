@@ -5,7 +5,10 @@ use std::cmp::Ordering;
 #[test]
 fn names_abc(rt: HostRuntime) {
     let text = name_hex(&name_of(b"abc"));
-    assert_eq!(rt; text.as_slice(), b"cb00753f45a35e8bb5a03d699ac65007272c32ab0eded1631a8b605a43ff5bed8086072ba1e7cc2358baeca134c825a7".as_slice());
+    assert_eq!(rt;
+        text.as_slice(),
+        b"cb00753f45a35e8bb5a03d699ac65007272c32ab0eded1631a8b605a43ff5bed8086072ba1e7cc2358baeca134c825a7".as_slice()
+    );
 }
 
 #[test]

@@ -1,7 +1,7 @@
 -- The table of the members' secrets signs and accepts as the members do.
-use Rattle.std.proofs.Common.{◌≡◌, ℕ, List, [], option_map, ap, ◌∙◌}
+use Rattle.std.proofs.Common.{◌≡◌, ℕ, List, [], ap, ◌∙◌}
 use Rattle.std.proofs.Math.Path.{fun_ext}
-use Rattle.std.specs.Prelude.{slice_get, unwrap_or}
+use Rattle.std.specs.Prelude.{unwrap_or}
 use Rattle.std.specs.Str.{bytes_eq}
 use Rattle.std.proofs.lemmas.Option.{slice_get-map}
 use Rattle.hg_model.specs.declared.members.MemberEntry.{MemberEntry}

@@ -1,9 +1,6 @@
-use Rattle.std.proofs.Common.{length, ap, subst, sym, ◌∙◌, arith, Result, Ok, Err}
-use Rattle.std.specs.Prelude.{IfOk}
-use Rattle.hg_model.specs.Spelling.{Spells}
-use Rattle.hg_model.specs.Reading.{read_event}
+use Rattle.std.proofs.Common.{subst, arith}
 use Rattle.hg_event.specs.View.{Gives, row_of}
-use Rattle.hg_event.proofs.Spells.{read_event-Spells, Spells-read_event, IfOk-Spells}
+use Rattle.hg_event.proofs.Spells.{Spells-read_event, IfOk-Spells}
 use Rattle.hg_event.proofs.read.decode.Goals as goal
 
 pub returns-clause-found : goal.returns-clause-found
