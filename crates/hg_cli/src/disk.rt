@@ -21,7 +21,6 @@ impl<'a, R: Files> Disk<'a, R> {
             faults: 0,
         }
     }
-
 }
 
 impl<R: Files> Shelf for Disk<'_, R> {
