@@ -1,17 +1,26 @@
--- Worked examples, computed: two members who sync in turn, and three members who sync in a ring
-use Rattle.std.proofs.Common.{◌≡◌, ℕ, true, List, [], ◌∷◌, Some, None, refl}
+-- Worked examples, computed: two members who sync in turn, three who sync in a ring and a fourth who comes late,
+-- a fork among four, and the report's text
+use Rattle.std.proofs.Common.{◌≡◌, ℕ, true, false, List, [], ◌∷◌, ◌++◌, take, codes, Some, None, refl}
+use Rattle.std.specs.Fmt.{digits}
 use Rattle.hg_model.specs.declared.row.Row.{Row}
 use Rattle.hg_model.specs.declared.row.Placed.{Placed}
+use Rattle.hg_model.specs.declared.answers.Fault.TheVariants as fault
+use Rattle.hg_model.specs.declared.answers.PutAnswer.TheVariants.{Refused}
+use Rattle.hg_model.specs.declared.answers.MakeAnswer.TheVariants as make_answer
+use Rattle.hg_model.specs.declared.answers.SyncMade.TheVariants as sync_made
+use Rattle.hg_model.specs.declared.outcome.Printed.TheVariants as printed
 use Rattle.hg_model.specs.Places.{weight_below, some_below, list_below, least_below, greatest_below, values_below, by_place, reaches, table}
 use Rattle.hg_model.specs.Links.{links, parents, self_parent, other_parents, creator}
 use Rattle.hg_model.specs.Ancestry.{is_ancestor, is_self_ancestor}
 use Rattle.hg_model.specs.Forks.{is_fork, has_fork_below, has_fork, forkers}
 use Rattle.hg_model.specs.Seeing.{sees, sees_through, strongly_sees}
 use Rattle.hg_model.specs.Graph.{is_graph, name_at}
-use Rattle.hg_model.specs.Rounds.{round_of, is_witness}
+use Rattle.hg_model.specs.Rounds.{round_of, is_witness, is_seen_witness}
 use Rattle.hg_model.specs.Votes.{vote_of, decides}
 use Rattle.hg_model.specs.Fame.{fame_of, fame_marks, is_closed, is_unique_famous, Marks}
 use Rattle.hg_model.specs.Order.{coin_at, sig_at, time_at, sort_by, median, can_receive, round_received, consensus_time, whitening, ordered_in, ordered, last_closed}
+use Rattle.hg_model.specs.Verdict.{verdict}
+use Rattle.hg_model.specs.Report.{printed_texts}
 
 -- an event with no parents, and one with parents of these names; a name is one byte here, and so is a signature
 abbrev pub first : ℕ → ℕ → Row
@@ -69,3 +78,50 @@ three_members =
 three_rounds : table (round_of 3 (links three_members)) 15 ≡ 1 ∷ 1 ∷ 1 ∷ 1 ∷ 1 ∷ 1 ∷ 2 ∷ 2 ∷ 2 ∷ 2 ∷ 3 ∷ 3 ∷ 3 ∷ 3 ∷ 4 ∷ []
 unfolding round_of strongly_sees sees_through sees has_fork_below is_fork is_ancestor is_self_ancestor weight_below some_below reaches by_place values_below parents self_parent creator links
 three_rounds = refl
+
+-- a fourth member's first event, which comes when the others have voted, is not famous
+late_fame : fame_of 4 10 (links (take 11 three_members ++ first 3 160 ∷ [])) (coin_at (take 11 three_members ++ first 3 160 ∷ [])) 11 ≡ Some false
+unfolding fame_of least_below decides vote_of is_witness coin_at sig_at round_of strongly_sees sees_through sees has_fork_below is_fork is_ancestor is_self_ancestor weight_below some_below reaches by_place values_below parents self_parent creator links
+late_fame = refl
+
+-- four members, of whom the last makes two second events, at the places 3 and 7; the first member takes the one and
+-- the second the other, and the third syncs from both
+abbrev pub forked_members : List Row
+forked_members =
+    first 2 3 ∷ first 0 1 ∷ first 3 4 ∷ made 3 4 1 5 ∷ made 0 1 5 7 ∷ made 2 3 7 9 ∷ first 1 2 ∷ made 3 4 1 6 ∷ made 1 2 6 8
+    ∷ made 2 9 8 10 ∷ []
+
+-- one member has a fork; the last event has all events as ancestors, and sees none by that member
+fork_seen : (forkers 4 (links forked_members) ≡ 1)
+    × (list_below (λ y. y) 10 (sees (links forked_members) 9) ≡ 0 ∷ 1 ∷ 4 ∷ 5 ∷ 6 ∷ 8 ∷ 9 ∷ [])
+unfolding list_below forkers has_fork sees has_fork_below is_fork is_ancestor is_self_ancestor weight_below some_below reaches by_place values_below parents self_parent creator links
+fork_seen = (refl, refl)
+
+-- yet it strongly sees that member's first event, at place 2, and of the other witnesses of round 1 just that at place 1
+fork_strongly_seen : list_below (λ y. y) 10 (is_seen_witness (round_of 4 (links forked_members)) 4 (links forked_members) 1 9) ≡ 1 ∷ 2 ∷ []
+unfolding list_below round_of strongly_sees sees_through sees has_fork_below is_fork is_ancestor is_self_ancestor weight_below some_below reaches by_place values_below parents self_parent creator links
+fork_strongly_seen = refl
+
+-- a second event on the third member's first would be a second fork, and two of four are not below a third
+second_forker : verdict (λ m body sig. true) 4 0 forked_members (made 2 3 1 12) ≡ Refused (fault.TooManyForkers 2)
+unfolding forkers has_fork is_fork is_self_ancestor weight_below some_below reaches by_place values_below self_parent parents creator links
+second_forker = refl
+
+-- a first event, a sync with a peer without events, a node's block
+texts : printed_texts (codes "A" ∷ codes "B" ∷ [])
+        (printed.Create 1 (make_answer.Made 0)
+        ∷ printed.Sync 12 (record { taken = 3; refused = 0; made = sync_made.PeerBare })
+        ∷ printed.Block (record {
+            member = 1;
+            events = 8;
+            forkers = 0;
+            greatest = 4;
+            closed = 2;
+            order = record { creator = 0; sequence = 1; received = 2; time = 3 } ∷ [];
+            balances = 100 ∷ 0 ∷ [];
+        }) ∷ [])
+    ≡ codes "1 create made 0" ++ 10 ∷ (codes "12 sync taken 3 refused 0 made none peer-bare" ++ 10 ∷ (
+        codes "node B events 8 forkers 0 round 4 closed 2 ordered 1" ++ 10 ∷ (codes "1 A 1 round 2 time 3 -" ++ 10 ∷ (
+        codes "balance A 100" ++ 10 ∷ (codes "balance B 0" ++ 10 ∷ [])))))
+unfolding digits
+texts = refl

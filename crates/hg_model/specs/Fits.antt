@@ -13,13 +13,14 @@ AreHeld G names = AllByRecursion (λ name. place_of G name < length G) names
 pub record IsPresent (G : List Row) (row : Row) : Type 0 where
   pub held : AreHeld G (parent_names row.parents)
 
--- what a row must meet to come after the rows of a shaped graph: its parents are held, the first of them by its own
--- creator, the later ones by others
+-- of rows with these names the first is by member m, and the later ones are by others
 abbrev pub ParentsFit : List Row → ℕ → List (List ℕ) → Type 0
 ParentsFit G m [] = Unit {0}
 ParentsFit G m (own ∷ others) =
     (row_creator G (place_of G own) ≡ m) × AllByRecursion (λ name. row_creator G (place_of G name) ≢ m) others
 
+-- what a row must meet to come after the rows of a shaped graph: its creator is a member, its parents are held, the
+-- first of them by its own creator, the later ones by others
 pub record Fits (n : ℕ) (G : List Row) (row : Row) : Type 0 where
   pub member : row.creator < n
   pub present : IsPresent G row

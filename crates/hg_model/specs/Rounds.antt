@@ -19,7 +19,7 @@ abbrev pub is_seen_witness : (ℕ → ℕ) → ℕ → List Link → ℕ → ℕ
 is_seen_witness round n L r x y = is_witness_by round L y && round y == r && strongly_sees n L x y
 
 -- the round of x, from the rounds of the events before it: r, the greatest of its parents' rounds or 1,
--- and one more where x strongly sees more than two thirds of the members' witnesses of round r
+-- and one more where the witnesses of round r that x strongly sees number more than two thirds of the members
 abbrev pub round_from : ℕ → List Link → (ℕ → ℕ) → ℕ → ℕ
 round_from n L round x =
     let r = greatest_round round (parents L x) in

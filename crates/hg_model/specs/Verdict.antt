@@ -1,6 +1,6 @@
 -- What comes of an event that is put to a node, and of one that a node makes: in each list the first rule that holds.
--- Departures from SWIRLDS-TR-2016-01: an event that would make the forking members a third of all is refused, and so is
--- one by the node's own member that the node did not make.
+-- Departures from SWIRLDS-TR-2016-01: an event that would make the forking members a third of all or more is refused, and
+-- so is one by the node's own member that the node did not make.
 use Rattle.std.specs.Prelude.{ℕ, ◌*◌, Bool, true, false, cond, not, ◌&&◌, ◌==◌, nat_lt, nat_le, List, [], ◌∷◌, ◌++◌, length, fold, Option, Some, None, is_some, option_map, option_and_then, unwrap_or, slice_get, if◌then◌else◌}
 use Rattle.std.specs.Option.{option_or}
 use Rattle.std.specs.Str.{bytes_eq}

@@ -9,7 +9,7 @@ use Rattle.hg_model.specs.Rounds.{is_seen_witness, round_of, is_witness}
 abbrev pub majority : ℕ → ℕ → Bool
 majority yes_votes no_votes = nat_le no_votes yes_votes
 
--- more than two thirds of the members vote with the majority
+-- the voters of the majority number more than two thirds of the members
 abbrev pub is_strong : ℕ → ℕ → ℕ → Bool
 is_strong n yes_votes no_votes = is_supermajority n (max yes_votes no_votes)
 
