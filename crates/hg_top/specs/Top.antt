@@ -53,6 +53,11 @@ abbrev pub HasBadMembers : Option Files → Request → Type 0
 HasBadMembers holds request =
     IfSome holds (λ files. IsSomeAnd (content_of files request.members) (λ bytes. members_in bytes ≡ None))
 
+-- the member file is accepted
+abbrev pub HasGoodMembers : Option Files → Request → Type 0
+HasGoodMembers holds request =
+    IfSome holds (λ files. (members : MemberList) × IsSomeAnd (content_of files request.members) (λ bytes. members_in bytes ≡ Some members))
+
 -- the member file is accepted, and the script is too long or breaks a rule
 abbrev pub HasBadScript : Option Files → Request → Type 0
 HasBadScript holds request =
@@ -69,17 +74,14 @@ pub record Outside : Type 0 where
 abbrev pub outside : (List ℕ → ℕ) → ℕ → Option (List ℕ) → Outside
 outside read_faults write_faults written = record { read_faults = read_faults; write_faults = write_faults; written = written }
 
--- the name of a file of the request
-abbrev pub name_in : Request → File → List ℕ
-name_in request file.Members = request.members
-name_in request file.Script = request.script
-
 -- what an accepted request came to
 abbrev pub Ends : Option Files → Request → Outside → Outside → Status → Type 0
 Ends holds request before after Done =
     (text : List ℕ) × IsReport holds request text × Appends before.written after.written text
-Ends holds request before after (ReadFault f) =
-    Rose (before.read_faults (name_in request f)) (after.read_faults (name_in request f)) × (after.written ≡ before.written)
+Ends holds request before after (ReadFault file.Members) =
+    Rose (before.read_faults request.members) (after.read_faults request.members) × (after.written ≡ before.written)
+Ends holds request before after (ReadFault file.Script) =
+    Rose (before.read_faults request.script) (after.read_faults request.script) × HasGoodMembers holds request × (after.written ≡ before.written)
 Ends holds request before after Usage = ⊥
 Ends holds request before after Members = HasBadMembers holds request × (after.written ≡ before.written)
 Ends holds request before after Script = HasBadScript holds request × (after.written ≡ before.written)
