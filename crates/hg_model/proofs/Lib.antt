@@ -17,3 +17,4 @@ mod Worked
 pub mod NameLaws
 pub mod RuleLaws
 pub mod PushLaws
+pub mod TestLaws

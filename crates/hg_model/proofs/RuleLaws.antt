@@ -1,15 +1,13 @@
 -- What holds of a row against which no rule speaks
-use Rattle.std.proofs.Common.{◌≡◌, ◌≢◌, inl, inr, ℕ, ◌+◌, ◌*◌, ◌<◌, ◌≤◌, Bool, true, false, cond, not, eqb, ltb, List, [], ◌∷◌, ◌++◌, length, Option, Some, None, sym, refl, ap, ◌∙◌, subst, arith}
+use Rattle.std.proofs.Common.{◌≡◌, inl, inr, ℕ, ◌<◌, ◌≤◌, Bool, true, false, cond, not, eqb, List, length, Option, Some, None, sym, refl, ap, ◌∙◌, arith}
 use Rattle.std.specs.Prelude.{nat_le, nat_lt}
 use Rattle.std.specs.Option.{option_or}
 use Rattle.std.proofs.lemmas.Bool.Decides.{nat_tests}
-use Rattle.std.proofs.lemmas.Bool.{true≢false, cases_Bool, cases_lt, eqb-true, eqb-false, ltb-true, lt-ltb}
+use Rattle.std.proofs.lemmas.Bool.{cases_Bool, eqb-true, eqb-false, ltb-true}
 use Rattle.hg_model.specs.declared.row.Row.{Row}
-use Rattle.hg_model.specs.declared.answers.PutAnswer.{PutAnswer}
-use Rattle.hg_model.specs.declared.answers.MakeFault.{MakeFault}
 use Rattle.hg_model.specs.Links.{parent_names, place_of}
 use Rattle.hg_model.specs.Graph.{HasDistinctNames}
-use Rattle.hg_model.specs.Fits.{AreHeld, IsPresent, ParentsFit, Fits}
+use Rattle.hg_model.specs.Fits.{AreHeld, ParentsFit, Fits}
 use Rattle.hg_model.specs.Spelling.{payload_limit}
 use Rattle.hg_model.specs.Verdict.{row_limit, row_creator, is_held, member_rule, name_rule, signature_rule, impostor_rule, missing_rule, creator_rule, arrival_rule, forkers_rule, full_rule, last_name, both_names, first_rule, other_rule, payload_rule, draft_rule, collision_rule, room_rule}
 use Rattle.hg_model.proofs.NameLaws.{last_is_own}

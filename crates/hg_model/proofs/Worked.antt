@@ -14,7 +14,8 @@ use Rattle.hg_model.specs.Links.{links, parents, self_parent, other_parents, cre
 use Rattle.hg_model.specs.Ancestry.{is_ancestor, is_self_ancestor}
 use Rattle.hg_model.specs.Forks.{is_fork, has_fork_below, has_fork, forkers}
 use Rattle.hg_model.specs.Seeing.{sees, sees_through, strongly_sees}
-use Rattle.hg_model.specs.Graph.{is_graph, name_at}
+use Rattle.hg_model.proofs.TestLaws.{graph_from_test}
+use Rattle.hg_model.specs.Graph.{IsGraph, is_graph, name_at}
 use Rattle.hg_model.specs.Rounds.{round_of, is_witness, is_seen_witness}
 use Rattle.hg_model.specs.Votes.{vote_of, decides}
 use Rattle.hg_model.specs.Fame.{fame_of, fame_marks, is_closed, is_unique_famous, Marks}
@@ -42,6 +43,9 @@ two_parents = refl
 two_graph : is_graph 2 two_members ≡ true
 unfolding is_graph forkers has_fork is_fork is_self_ancestor name_at weight_below some_below reaches by_place values_below parents self_parent other_parents creator links
 two_graph = refl
+
+two_is_graph : IsGraph 2 two_members
+two_is_graph = graph_from_test 2 two_members two_graph
 
 -- the second member's second event and the first member's third are the witnesses of round 2
 two_rounds : table (round_of 2 (links two_members)) 8 ≡ 1 ∷ 1 ∷ 1 ∷ 2 ∷ 2 ∷ 3 ∷ 3 ∷ 4 ∷ []
@@ -109,19 +113,19 @@ second_forker = refl
 
 -- a first event, a sync with a peer without events, a node's block
 texts : printed_texts (codes "A" ∷ codes "B" ∷ [])
-        (printed.Create 1 (make_answer.Made 0)
-        ∷ printed.Sync 12 (record { taken = 3; refused = 0; made = sync_made.PeerBare })
-        ∷ printed.Block (record {
-            member = 1;
-            events = 8;
-            forkers = 0;
-            greatest = 4;
-            closed = 2;
-            order = record { creator = 0; sequence = 1; received = 2; time = 3 } ∷ [];
-            balances = 100 ∷ 0 ∷ [];
-        }) ∷ [])
+    (printed.Create 1 (make_answer.Made 0)
+    ∷ printed.Sync 12 (record { taken = 3; refused = 0; made = sync_made.PeerBare })
+    ∷ printed.Block (record {
+      member = 1;
+      events = 8;
+      forkers = 0;
+      greatest = 4;
+      closed = 2;
+      order = record { creator = 0; sequence = 1; received = 2; time = 3 } ∷ [];
+      balances = 100 ∷ 0 ∷ [];
+    }) ∷ [])
     ≡ codes "1 create made 0" ++ 10 ∷ (codes "12 sync taken 3 refused 0 made none peer-bare" ++ 10 ∷ (
-        codes "node B events 8 forkers 0 round 4 closed 2 ordered 1" ++ 10 ∷ (codes "1 A 1 round 2 time 3 -" ++ 10 ∷ (
-        codes "balance A 100" ++ 10 ∷ (codes "balance B 0" ++ 10 ∷ [])))))
+    codes "node B events 8 forkers 0 round 4 closed 2 ordered 1" ++ 10 ∷ (codes "1 A 1 round 2 time 3 -" ++ 10 ∷ (
+    codes "balance A 100" ++ 10 ∷ (codes "balance B 0" ++ 10 ∷ [])))))
 unfolding digits
 texts = refl

@@ -1,7 +1,6 @@
 -- The text of the report. Every line ends with one line feed; numbers are decimal, without leading zeros
 use Rattle.std.specs.Prelude.{ℕ, suc, List, [], ◌∷◌, ◌++◌, length, slice_get, unwrap_or, codes}
 use Rattle.std.specs.Fmt.{decimal}
-use Rattle.std.specs.List.{flat_map}
 use Rattle.hex.specs.Hex.{encode_lower}
 use Rattle.hg_model.specs.declared.answers.ByteFault.{ByteFault}
 use Rattle.hg_model.specs.declared.answers.ByteFault.TheVariants as byte_fault

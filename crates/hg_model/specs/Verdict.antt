@@ -1,12 +1,11 @@
 -- What comes of an event that is put to a node, and of one that a node makes: in each list the first rule that holds.
 -- Departures from SWIRLDS-TR-2016-01: an event that would make the forking members a third of all or more is refused, and
 -- so is one by the node's own member that the node did not make.
-use Rattle.std.specs.Prelude.{ℕ, ◌*◌, Bool, true, false, cond, not, ◌&&◌, ◌==◌, nat_lt, nat_le, List, [], ◌∷◌, ◌++◌, length, fold, Option, Some, None, is_some, option_map, option_and_then, unwrap_or, slice_get, if◌then◌else◌}
+use Rattle.std.specs.Prelude.{ℕ, ◌*◌, Bool, cond, not, ◌==◌, nat_lt, nat_le, List, [], ◌∷◌, ◌++◌, length, fold, Option, Some, None, option_map, unwrap_or, slice_get, if◌then◌else◌}
 use Rattle.std.specs.Option.{option_or}
 use Rattle.std.specs.Str.{bytes_eq}
 use Rattle.sha2.specs.Sha512.{sha384}
 use Rattle.hg_model.specs.declared.row.Row.{Row}
-use Rattle.hg_model.specs.declared.answers.Fault.{Fault}
 use Rattle.hg_model.specs.declared.answers.Fault.TheVariants as fault
 use Rattle.hg_model.specs.declared.answers.MakeFault.{MakeFault}
 use Rattle.hg_model.specs.declared.answers.MakeFault.TheVariants as make_fault
@@ -14,7 +13,7 @@ use Rattle.hg_model.specs.declared.answers.PutAnswer.{PutAnswer}
 use Rattle.hg_model.specs.declared.answers.PutAnswer.TheVariants.{Accepted, Known, Refused}
 use Rattle.hg_model.specs.declared.answers.MakeAnswer.{MakeAnswer}
 use Rattle.hg_model.specs.declared.answers.MakeAnswer.TheVariants as make_answer
-use Rattle.hg_model.specs.Links.{links, link_in, place_of, creator, creator_in}
+use Rattle.hg_model.specs.Links.{links, place_of}
 use Rattle.hg_model.specs.Forks.{forkers}
 use Rattle.hg_model.specs.Spelling.{body_of, body_bytes, spelling, payload_limit}
 
