@@ -61,7 +61,10 @@ fn read_words(alloc: Global, pack: &mut Pack<'_>, count: usize) -> Result<Vec<St
 fn read_file(alloc: Global, pack: &mut Pack<'_>) -> Result<(String, Vec<u8>), Trouble> {
     let (len, name) = number_in(pack.text()?).ok_or(Trouble::Broken)?;
     let bytes = pack.part(len).ok_or(Trouble::Broken)?;
-    Ok((String::from_str(alloc, name)?, Vec::from_slice(alloc, bytes)?))
+    Ok((
+        String::from_str(alloc, name)?,
+        Vec::from_slice(alloc, bytes)?,
+    ))
 }
 
 fn read_files(

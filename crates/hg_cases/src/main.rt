@@ -64,14 +64,21 @@ fn play_pack<R: AllocGlobal + Print>(rt: &R, bytes: &[u8], tally: Tally) -> Resu
 }
 
 /// Plays the cases of the file of this name.
-fn play_file<R: AllocGlobal + Files + Print>(rt: &R, name: &str, tally: Tally) -> Result<Tally, Trouble> {
+fn play_file<R: AllocGlobal + Files + Print>(
+    rt: &R,
+    name: &str,
+    tally: Tally,
+) -> Result<Tally, Trouble> {
     let bytes = fs::read(rt, name)?;
     play_pack(rt, bytes.as_slice(), tally)
 }
 
 /// Plays all packs, and tells how many cases there are and how many of them differ.
 fn play_all<R: AllocGlobal + Files + Print + Eprint>(rt: &R) -> Result<Tally, Trouble> {
-    let mut tally = Tally { cases: 0, differ: 0 };
+    let mut tally = Tally {
+        cases: 0,
+        differ: 0,
+    };
     for name in PACKS {
         tally = match play_file(rt, name, tally) {
             Ok(tally) => tally,

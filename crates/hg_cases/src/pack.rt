@@ -1,4 +1,4 @@
-ghost use Rattle.std.specs.Prelude.{◌≡◌, ◌↔◌, ◌≤◌, ◌++◌, ◌∷◌, Contains, IfSome, IsSome, drop, length, take};
+ghost use Rattle.std.specs.Prelude.{◌≡◌, ◌↔◌, ◌≤◌, ◌++◌, ◌∷◌, Contains, IfSome, IsOk, IsSome, drop, length, take};
 
 use crate::trouble::Trouble;
 
@@ -49,7 +49,9 @@ impl<'a> Pack<'a> {
     }
 
     /// Nothing is left.
-    pub fn end(self) -> Result<(), Trouble> {
+    pub fn end(&self) -> Result<(), Trouble>
+        ensures { IsOk result ↔ (length self.now.rest.now ≡ 0) }
+    {
         if self.rest.is_empty() {
             Ok(())
         } else {

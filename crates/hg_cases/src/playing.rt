@@ -25,7 +25,11 @@ impl Played {
 }
 
 /// Runs the program with these words, its name first, where these files lie.
-pub fn play(alloc: Global, words: &[String], files: Vec<(String, Vec<u8>)>) -> Result<Played, AllocError> {
+pub fn play(
+    alloc: Global,
+    words: &[String],
+    files: Vec<(String, Vec<u8>)>,
+) -> Result<Played, AllocError> {
     let mut shelf = ShelfMem::new(alloc, files, Vec::new(alloc))?;
     let mut out = SinkMem::new(alloc, ROOM, ROOM, Vec::new(alloc))?;
     let mut err = SinkMem::new(alloc, ROOM, ROOM, Vec::new(alloc))?;
