@@ -1,0 +1,102 @@
+//! Plays stored cases: for each, words and files, and what the program must write and end with.
+//! Each is run through `hashgraph` of hg_top over a shelf and two sinks in memory, and compared byte for byte.
+//! `difference` says that no part differs just where all parts are the same.
+#![tactic(auto)]
+
+mod case;
+mod outcome;
+mod pack;
+mod playing;
+mod telling;
+mod trouble;
+
+use crate::case::{Case, read_case};
+use crate::outcome::difference;
+use crate::pack::Pack;
+use crate::playing::play;
+use crate::telling::tell;
+use crate::trouble::Trouble;
+use std::fs;
+use std::process::ExitCode;
+use std::rt::Files;
+
+/// The packed cases, which lie where the program runs.
+const PACKS: [&str; 2] = ["first-path.cases", "further.cases"];
+
+/// How many cases were played, and how many of them differ.
+#[derive(Clone, Copy)]
+struct Tally {
+    cases: u64,
+    differ: u64,
+}
+
+/// Plays the next case, and says whether it differs.
+fn play_next<R: AllocGlobal + Print>(rt: &R, pack: &mut Pack<'_>) -> Result<bool, Trouble> {
+    let Case {
+        name,
+        words,
+        files,
+        wanted,
+    } = read_case(rt.alloc(), pack)?;
+    let played = play(rt.alloc(), words.as_slice(), files)?;
+    let got = played.outcome();
+    match difference(&wanted, &got) {
+        Some(part) => {
+            tell(rt, name, part, &wanted, &got)?;
+            Ok(true)
+        }
+        None => Ok(false),
+    }
+}
+
+/// Plays all cases of a pack, to its end.
+fn play_pack<R: AllocGlobal + Print>(rt: &R, bytes: &[u8], tally: Tally) -> Result<Tally, Trouble> {
+    let mut tally = tally;
+    let mut pack = Pack::new(bytes);
+    let count = pack.count()?;
+    for _ in 0..count {
+        let differs = play_next(rt, &mut pack)?;
+        tally.cases = tally.cases.saturating_add(1);
+        tally.differ = tally.differ.saturating_add(u64::from(differs));
+    }
+    pack.end()?;
+    Ok(tally)
+}
+
+/// Plays the cases of the file of this name.
+fn play_file<R: AllocGlobal + Files + Print>(
+    rt: &R,
+    name: &str,
+    tally: Tally,
+) -> Result<Tally, Trouble> {
+    let bytes = fs::read(rt, name)?;
+    play_pack(rt, bytes.as_slice(), tally)
+}
+
+/// Plays all packs, and tells how many cases there are and how many of them differ.
+fn play_all<R: AllocGlobal + Files + Print + Eprint>(rt: &R) -> Result<Tally, Trouble> {
+    let mut tally = Tally {
+        cases: 0,
+        differ: 0,
+    };
+    for name in PACKS {
+        tally = match play_file(rt, name, tally) {
+            Ok(tally) => tally,
+            Err(trouble) => {
+                eprintln!(rt; "{name}: {}", trouble.text())?;
+                return Err(trouble);
+            }
+        };
+    }
+    let Tally { cases, differ } = tally;
+    println!(rt; "{cases} cases, {differ} differ")?;
+    Ok(tally)
+}
+
+fn main(rt: HostRuntime) -> ExitCode {
+    match play_all(&rt) {
+        Ok(tally) if tally.differ == 0 => ExitCode::from(0),
+        Ok(_) => ExitCode::from(1),
+        Err(_) => ExitCode::from(2),
+    }
+}

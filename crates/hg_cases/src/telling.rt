@@ -1,0 +1,44 @@
+use crate::outcome::{Outcome, Part};
+use std::io;
+
+/// Tells the first line at which two texts part, numbered from 1.
+fn tell_line<R: AllocGlobal + Print>(
+    rt: &R,
+    name: &str,
+    part: &str,
+    wanted: &[u8],
+    got: &[u8],
+) -> io::Result<()> {
+    let parting = wanted
+        .split(|byte| *byte == b'\n')
+        .zip(got.split(|byte| *byte == b'\n'))
+        .enumerate()
+        .find(|(_, (wanted, got))| wanted != got);
+    match parting {
+        Some((above, (wanted, got))) => {
+            let number = above.saturating_add(1);
+            let wanted = String::from_utf8_lossy(rt.alloc(), wanted)?;
+            let got = String::from_utf8_lossy(rt.alloc(), got)?;
+            println!(rt; "{name}: {part} line {number}: wanted '{wanted}', got '{got}'")
+        }
+        None => println!(rt; "{name}: {part}: one goes on where the other ends"),
+    }
+}
+
+/// Tells how a case differs in this part.
+pub fn tell<R: AllocGlobal + Print>(
+    rt: &R,
+    name: &str,
+    part: Part,
+    wanted: &Outcome<'_>,
+    got: &Outcome<'_>,
+) -> io::Result<()> {
+    match part {
+        Part::Status => {
+            let (wanted, got) = (wanted.status, got.status);
+            println!(rt; "{name}: status: wanted {wanted}, got {got}")
+        }
+        Part::Stdout => tell_line(rt, name, "stdout", wanted.stdout, got.stdout),
+        Part::Stderr => tell_line(rt, name, "stderr", wanted.stderr, got.stderr),
+    }
+}
