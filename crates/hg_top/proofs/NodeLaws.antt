@@ -4,7 +4,7 @@ use Rattle.std.specs.List.{AllByRecursion}
 use Rattle.std.specs.Option.{option_or}
 use Rattle.std.proofs.lemmas.List.{length_push}
 use Rattle.hg_model.specs.declared.row.Row.{Row}
-use Rattle.hg_model.specs.Links.{parent_names, place_of}
+use Rattle.hg_model.specs.Links.{place_of}
 use Rattle.hg_model.specs.Fits.{Fits}
 use Rattle.hg_model.specs.Verdict.{row_limit, arrival_rule, forkers_rule, full_rule, draft_rule, collision_rule, room_rule, last_name, both_names, signed_row}
 use Rattle.hg_model.proofs.PushLaws.{shaped-push, shaped-none}

@@ -1,5 +1,5 @@
 -- Nodes that play lines
-use Rattle.std.proofs.Common.{◌≡◌, ◌≢◌, inl, inr, ℕ, zero, suc, ◌+◌, ◌<◌, ◌≤◌, Bool, true, false, cond, List, [], ◌∷◌, ◌++◌, length, get_or, fold, Option, Some, None, slice_get, slice_set, sym, refl, ap, ap₂, ◌∙◌, subst, add-one, append_assoc, zero-add, arith}
+use Rattle.std.proofs.Common.{◌≡◌, inl, inr, ℕ, suc, ◌+◌, ◌<◌, true, false, List, [], ◌∷◌, ◌++◌, length, get_or, fold, Option, Some, None, slice_get, slice_set, sym, refl, ap, ap₂, ◌∙◌, subst, add-one, append_assoc, zero-add, arith}
 use Rattle.std.specs.Prelude.{All}
 use Rattle.std.specs.Option.{option_map_or}
 use Rattle.std.proofs.lemmas.Bool.{true≢false, cases_lt, cases_eq}

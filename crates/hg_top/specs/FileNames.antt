@@ -1,5 +1,4 @@
 -- The names of the two files as the program keeps them
-use Rattle.std.specs.Prelude.{ℕ, List}
 use Rattle.hg_top.specs.declared.words.FileNames.{FileNames}
 use Rattle.hg_top.specs.Words.{Request}
 

@@ -1,6 +1,5 @@
 -- A script played over the members' nodes, one line after the other, and what it prints
-use Rattle.std.specs.Prelude.{ℕ, ◌≡◌, ◌<◌, cond, Bool, false, List, [], ◌∷◌, ◌++◌, length, fold, map, Option, None, slice_get, slice_index_or, slice_set, option_map, unwrap_or}
-use Rattle.hg_model.specs.declared.row.Row.{Row}
+use Rattle.std.specs.Prelude.{ℕ, ◌≡◌, ◌<◌, cond, Bool, false, List, [], ◌∷◌, ◌++◌, length, fold, None, slice_get, slice_index_or, slice_set, option_map, unwrap_or}
 use Rattle.hg_model.specs.declared.members.MemberEntry.{MemberEntry}
 use Rattle.hg_model.specs.declared.outcome.Printed.{Printed}
 use Rattle.hg_model.specs.declared.outcome.Printed.TheVariants as printed

@@ -7,7 +7,7 @@ use Rattle.hg_model.specs.Members.{MemberList}
 use Rattle.hg_script.specs.declared.line.Line.{Line}
 use Rattle.hg_top.specs.declared.status.File.TheVariants as file
 use Rattle.hg_top.specs.declared.status.Status.{Status}
-use Rattle.hg_top.specs.declared.status.Status.TheVariants.{Done, ReadFault, Usage, Members, Script, WriteFault, Memory}
+use Rattle.hg_top.specs.declared.status.Status.TheVariants.{Done, ReadFault, Members, Script, WriteFault, Memory}
 use Rattle.hg_top.specs.Top.{Has, members_in, lines_in}
 
 -- the file of this name tells the members
