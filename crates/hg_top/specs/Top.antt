@@ -106,6 +106,15 @@ IsComplete holds words before after status =
     (Rose before.write_faults after.write_faults → ⊥) →
     ((status ≡ Done) × Appends before.written after.written text) ⊎ (status ≡ Memory)
 
+-- A refused file gives just its status, but for a fault of reading before it, or want of memory
+abbrev pub IsRefused : Option Files → List (List ℕ) → Outside → Outside → Status → Type 0
+IsRefused holds words before after status =
+    (request : Request) (files : Files) → request_of words ≡ Some request → holds ≡ Some files →
+    (Rose (before.read_faults request.members) (after.read_faults request.members) → ⊥) →
+    (Rose (before.read_faults request.script) (after.read_faults request.script) → ⊥) →
+    (HasBadMembers holds request → (status ≡ Members) ⊎ (status ≡ Memory))
+    × (HasBadScript holds request → (status ≡ Script) ⊎ (status ≡ Memory))
+
 -- the line that a status writes to standard error
 abbrev pub status_line : Status → List ℕ
 status_line Done = codes ""

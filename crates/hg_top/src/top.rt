@@ -3,7 +3,7 @@ ghost use Rattle.hg_io.specs.Bytes.{Appends, AppendsPart};
 ghost use Rattle.hg_script.specs.Lawful.{IsLine};
 ghost use Rattle.hg_top.specs.FileNames.{request};
 ghost use Rattle.hg_top.specs.Reading.{ReadsLines, ReadsMembers, StopsAtMembers, StopsAtScript, Writes};
-ghost use Rattle.hg_top.specs.Top.{Ends, EndsBy, IsComplete, IsToldOn, outside, status_line};
+ghost use Rattle.hg_top.specs.Top.{Ends, EndsBy, IsComplete, IsRefused, IsToldOn, outside, status_line};
 ghost use Rattle.hg_top.specs.Words.{request_of};
 ghost use Rattle.hg_model.specs.Report.{report_text};
 ghost use Rattle.hg_top.specs.Play.{play};
@@ -130,6 +130,7 @@ pub fn hashgraph<F: Shelf, K: Sink, E: Sink>(
     // The report at `Done`, and the cause of each other status.
     ensures ends { EndsBy (F.holds shelf.old) (request_of (map string_bytes words.now)) (outside (F.faults shelf.old) (K.faults out.old) (K.written out.old)) (outside (F.faults shelf.new) (K.faults out.new) (K.written out.new)) result }
     ensures usage { (result ≡ Status.Usage) ↔ (request_of (map string_bytes words.now) ≡ None) }
+    ensures refused { IsRefused (F.holds shelf.old) (map string_bytes words.now) (outside (F.faults shelf.old) (K.faults out.old) (K.written out.old)) (outside (F.faults shelf.new) (K.faults out.new) (K.written out.new)) result }
     ensures complete { IsComplete (F.holds shelf.old) (map string_bytes words.now) (outside (F.faults shelf.old) (K.faults out.old) (K.written out.old)) (outside (F.faults shelf.new) (K.faults out.new) (K.written out.new)) result }
     ensures told { IsToldOn (E.written err.old) (E.written err.new) (E.faults err.old) (E.faults err.new) (status_line result) }
     ensures same { F.holds shelf.new ≡ F.holds shelf.old }
