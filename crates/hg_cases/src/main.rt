@@ -21,7 +21,7 @@ use std::process::ExitCode;
 use std::rt::Files;
 
 /// The packed cases, which lie where the program runs.
-const PACKS: [&str; 2] = ["first-path.cases", "further.cases"];
+const PACKS: [&str; 3] = ["first-path.cases", "further.cases", "stage-a.cases"];
 
 /// How many cases were played, and how many of them differ.
 #[derive(Clone, Copy)]

@@ -5,3 +5,4 @@ pub mod Files
 pub mod FilesOf
 pub mod ShelfState
 pub mod SinkState
+pub mod Telling

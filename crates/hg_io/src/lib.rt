@@ -5,6 +5,7 @@
 
 mod failed;
 mod gate;
+mod page;
 mod reading;
 mod shelf;
 mod shelf_mem;
@@ -14,6 +15,7 @@ mod writing;
 
 pub use failed::Failed;
 pub use gate::{Gate, NoGate};
+pub use page::Page;
 pub use reading::{FileAnswer, read_file};
 pub use shelf::Shelf;
 pub use shelf_mem::ShelfMem;

@@ -108,3 +108,46 @@ fn writes_all_that_has_room(rt: HostRuntime) -> Result<(), Fail> {
     NoGate.reach(1000);
     Ok(())
 }
+
+// 40 pieces of 250 bytes, and one that is longer than a page.
+fn put_pieces(page: &mut Page, sink: &mut SinkMem, long: &[u8]) -> Result<(), Failed> {
+    for number in 0..40 {
+        page.put(sink, &[number; 250])?;
+    }
+    page.put(sink, long)?;
+    page.put(sink, b"the end")?;
+    page.send(sink)
+}
+
+#[test]
+fn a_page_goes_out_in_order(rt: HostRuntime) -> Result<(), Fail> {
+    let alloc = rt.alloc();
+    let long = vec![in alloc; 77; 5000]?;
+    let mut want = Vec::new(alloc);
+    for number in 0..40 {
+        want.extend_from_slice(&[number; 250])?;
+    }
+    want.extend_from_slice(long.as_slice())?;
+    want.extend_from_slice(b"the end")?;
+    let mut page = Page::new();
+    let mut sink = SinkMem::new(alloc, 20_000, 20_000, Vec::new(alloc))?;
+    assert_eq!(rt; put_pieces(&mut page, &mut sink, long.as_slice()), Ok(()));
+    assert!(rt; sink.bytes() == want.as_slice());
+    // Pages of 4,000, 4,000 and 2,000 bytes, the long piece and the last page go out in 16 calls of at most 1,000 bytes.
+    for call in 0..16 {
+        let mut page = Page::new();
+        let fails = vec![in alloc; call]?;
+        let mut sink = SinkMem::new(alloc, 20_000, 1000, fails)?;
+        assert_eq!(rt;
+            put_pieces(&mut page, &mut sink, long.as_slice()),
+            Err(Failed),
+            "{call}"
+        );
+        let written = sink.bytes();
+        assert!(rt;
+            written.len() < want.len() && want.as_slice().starts_with(written),
+            "{call}"
+        );
+    }
+    Ok(())
+}

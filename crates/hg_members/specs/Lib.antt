@@ -1,2 +1,3 @@
 pub mod MemberFile
 pub mod Gives
+pub mod Text

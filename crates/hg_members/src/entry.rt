@@ -1,57 +1,22 @@
 ghost use Rattle.std.specs.Prelude.{◌≡◌, codes, IfOk};
-ghost use Rattle.std.specs.List.{list_all};
 ghost use Rattle.std.specs.Option.{option_copied};
 ghost use Rattle.toml.specs.Data.{get};
 ghost use Rattle.toml.specs.View.{view};
-ghost use Rattle.hg_model.specs.Members as form;
 ghost use Rattle.hg_members.specs.Gives.{Gives, Reads};
 ghost use Rattle.hg_members.specs.MemberFile as told;
 
 use crate::fault::MemberFault;
 use crate::stop::Stop;
 use hex::FromHexError;
-use hg_model::{Bytes, MemberEntry};
+use hg_model::{Bytes, MemberEntry, is_member_name};
 use std::alloc::{AllocError, Global};
 use toml::Value;
-
-fn is_letter(byte: u8) -> bool
-    ensures { result ≡ form.is_letter byte }
-{
-    matches!(byte, b'A'..=b'Z' | b'a'..=b'z')
-}
-
-fn is_name_byte(byte: u8) -> bool
-    ensures { result ≡ form.is_name_byte byte }
-{
-    is_letter(byte) || matches!(byte, b'0'..=b'9') || byte == b'_'
-}
-
-fn starts_with_letter(text: &[u8]) -> bool
-    ensures { result ≡ form.starts_with_letter text.now }
-{
-    match text {
-        [] => false,
-        [first, ..] => is_letter(*first),
-    }
-}
-
-fn has_name_bytes(text: &[u8]) -> bool
-    ensures { result ≡ list_all form.is_name_byte text.now }
-{
-    text.iter().all(|byte| is_name_byte(*byte))
-}
-
-fn is_name(text: &[u8]) -> bool
-    ensures { result ≡ form.is_member_name text.now }
-{
-    starts_with_letter(text) && text.len() <= 16 && has_name_bytes(text)
-}
 
 fn name_in(entry: &Value) -> Option<&str>
     ensures { option_copied result ≡ told.name_in (view entry.now) }
 {
     let name = entry.get("name")?.as_str()?;
-    if is_name(name.as_bytes()) {
+    if is_member_name(name.as_bytes()) {
         Some(name)
     } else {
         None

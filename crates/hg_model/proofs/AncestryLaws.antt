@@ -47,6 +47,10 @@ module _ (L : List Link) (e : IsEarlier (parents L)) where
   unfolding is_ancestor
   is_ancestor-trans x y z r s = reaches-trans (parents L) e x y z r s
 
+  pub is_ancestor_cases : (x y : ℕ) → is_ancestor L x y ≡ true → (x ≡ y) ⊎ ((p : ℕ) × (has_place (parents L x) p ≡ true) × (is_ancestor L p y ≡ true))
+  unfolding is_ancestor
+  is_ancestor_cases x y r = reaches_cases (parents L) e x y r
+
   pub is_self_ancestor-at : (x y : ℕ) → is_self_ancestor L x y ≡ (eqb x y || list_any (λ p. is_self_ancestor L p y) (self_parent L x))
   unfolding is_self_ancestor
   is_self_ancestor-at x y = reaches-at (self_parent L) (self_parent_earlier L e) x y

@@ -12,9 +12,18 @@ pub mod ReachLaws
 pub mod AncestryLaws
 pub mod ForkLaws
 pub mod RoundLaws
+pub mod QuorumLaws
+pub mod SightLaws
+pub mod WitnessLaws
+pub mod AgreeLaws
+pub mod LateLaws
+pub mod LongerLaws
+pub mod StandingLaws
+pub mod ShapeLaws
 pub mod GraphLaws
 mod Worked
 pub mod NameLaws
 pub mod RuleLaws
 pub mod PushLaws
 pub mod TestLaws
+mod WorkedHistory

@@ -1,48 +1,51 @@
 -- Links of rows that come one by one, and the shape that they keep
-use Rattle.std.proofs.Common.{◌≡◌, ◌≢◌, ◌⊎◌, inl, inr, ℕ, ◌+◌, ◌<◌, ◌≤◌, Bool, true, false, cond, eqb, List, [], ◌∷◌, ◌++◌, length, get_or, map, Option, Some, None, option_map, slice_get, sym, refl, ap, ap₂, ◌∙◌, subst, arith}
+use Rattle.std.proofs.Common.{◌≡◌, ◌≢◌, ◌⊎◌, inl, inr, ℕ, ◌+◌, ◌<◌, ◌≤◌, Bool, true, false, cond, eqb, List, [], ◌∷◌, ◌++◌, length, get_or, map, Option, Some, None, option_map, slice_get, sym, refl, ap, ap₂, ◌∙◌, subst, arith, length-append}
 use Rattle.std.specs.List.{AllByRecursion}
-use Rattle.std.proofs.lemmas.Bool.{ne_eqb, eq-eqb, eqb-true, true≢false, cases_lt, or_left, or_right, or_cases}
+use Rattle.std.proofs.lemmas.Bool.{eq-eqb, eqb-true, true≢false, cases_lt, or_left, or_right, or_cases}
 use Rattle.std.proofs.lemmas.List.{map-append, length_push, get_or_append_left, get_or_push}
-use Rattle.std.proofs.lemmas.List.Folds.{position_or_len_push}
+use Rattle.std.proofs.lemmas.List.Sums.{fails_before_first, passes_at_first, position_or_len_is}
 use Rattle.std.proofs.lemmas.Option.{slice_get-get_or, slice_get-map, slice_get_past}
 use Rattle.hg_model.specs.declared.row.Row.{Row}
 use Rattle.hg_model.proofs.LinkLaws.{length-links}
 use Rattle.hg_model.specs.Places.{has_place}
 use Rattle.hg_model.specs.Links.{Link, parent_names, is_named, place_of, link_in, links, parents_in, creator_in, first_place, later_places, parents, self_parent, other_parents, creator}
 use Rattle.hg_model.specs.Graph.{IsShaped}
+use Rattle.hg_model.specs.Shape.{FitsLink}
 use Rattle.hg_model.specs.Verdict.{row_creator, row_creator_in}
 use Rattle.hg_model.specs.Fits.{AreHeld, IsPresent, ParentsFit, Fits}
 
 abbrev pub nobody : Row
 nobody = record { creator = 0; parents = None; time = 0; payload = []; sig = []; name = [] }
 
-pub place_of-push : (G : List Row) (row : Row) (name : List ℕ) → place_of G name < length G → place_of (G ++ row ∷ []) name ≡ place_of G name
-place_of-push G row name held =
-    let inside : eqb (place_of G name) (length G) ≡ false = ne_eqb (place_of G name) (length G) (λ same. absurd (omega arith)) in
-    position_or_len_push (is_named name) G row
-    ∙ ap (λ b. cond b (length G + cond (is_named name row) 0 1) (place_of G name)) inside
+pub place_of-append : (G more : List Row) (name : List ℕ) → place_of G name < length G → place_of (G ++ more) name ≡ place_of G name
+place_of-append G more name held =
+    let test = is_named name in
+    position_or_len_is test (G ++ more) (place_of G name) nobody
+    (omega (arith, length-append G more))
+    (λ k h. rw (get_or_append_left G more nobody k (omega arith)) (fails_before_first test G k nobody h))
+    (λ h. rw (get_or_append_left G more nobody (place_of G name) held) (passes_at_first test G nobody held))
 
-places-push : (G : List Row) (row : Row) (names : List (List ℕ)) → AreHeld G names → map (place_of (G ++ row ∷ [])) names ≡ map (place_of G) names
-places-push G row [] held = refl
-places-push G row (name ∷ names) held = ap₂ (λ (p : ℕ) (ps : List ℕ). p ∷ ps) (place_of-push G row name held.0) (places-push G row names held.1)
+places-append : (G more : List Row) (names : List (List ℕ)) → AreHeld G names → map (place_of (G ++ more)) names ≡ map (place_of G) names
+places-append G more [] held = refl
+places-append G more (name ∷ names) held = ap₂ (λ (p : ℕ) (ps : List ℕ). p ∷ ps) (place_of-append G more name held.0) (places-append G more names held.1)
 
 abbrev linked_to : Row → List ℕ → Link
 linked_to row ps = record { creator = row.creator; parents = ps }
 
--- a later row leaves a link as it is
-pub link_in-push : (G : List Row) (later row : Row) → IsPresent G row → link_in (G ++ later ∷ []) row ≡ link_in G row
-link_in-push G later row present = ap (linked_to row) (places-push G later (parent_names row.parents) present.held)
+-- later rows leave a link as it is
+pub link_in-append : (G more : List Row) (row : Row) → IsPresent G row → link_in (G ++ more) row ≡ link_in G row
+link_in-append G more row present = ap (linked_to row) (places-append G more (parent_names row.parents) present.held)
 
 links_in-push : (G : List Row) (later : Row) (H : List Row) → AllByRecursion (IsPresent G) H → map (link_in (G ++ later ∷ [])) H ≡ map (link_in G) H
 links_in-push G later [] present = refl
-links_in-push G later (row ∷ H) present = ap₂ (λ (l : Link) (ls : List Link). l ∷ ls) (link_in-push G later row present.0) (links_in-push G later H present.1)
+links_in-push G later (row ∷ H) present = ap₂ (λ (l : Link) (ls : List Link). l ∷ ls) (link_in-append G (later ∷ []) row present.0) (links_in-push G later H present.1)
 
 -- a row whose parents stand before it adds its link
 pub links-push : (G : List Row) (row : Row) → AllByRecursion (IsPresent G) G → IsPresent G row → links (G ++ row ∷ []) ≡ links G ++ link_in G row ∷ []
 unfolding links
 links-push G row all present =
     map-append (link_in (G ++ row ∷ [])) G (row ∷ [])
-    ∙ ap₂ (λ (ls : List Link) (l : Link). ls ++ l ∷ []) (links_in-push G row G all) (link_in-push G row row present)
+    ∙ ap₂ (λ (ls : List Link) (l : Link). ls ++ l ∷ []) (links_in-push G row G all) (link_in-append G (row ∷ []) row present)
 
 pub link_at : (G : List Row) (x : ℕ) → x < length G → slice_get (links G) x ≡ Some (link_in G (get_or G x nobody))
 unfolding links
@@ -86,23 +89,16 @@ cases_last n x = elim (cases_lt x n) [
   | inr ge ↦ elim (cases_lt n x) [ inl after ↦ inr (inr after) | inr le ↦ inr (inl (omega arith)) ]
 ]
 
-first_of_places : (ps : List ℕ) (p : ℕ) → has_place (first_place ps) p ≡ true → has_place ps p ≡ true
+pub first_of_places : (ps : List ℕ) (p : ℕ) → has_place (first_place ps) p ≡ true → has_place ps p ≡ true
 first_of_places [] p h = h
 first_of_places (q ∷ ps) p h = elim (or_cases (eqb q p) false h) [ inl same ↦ or_left (eqb q p) (has_place ps p) same | inr none ↦ absurd (true≢false (sym none)) ]
 
-later_of_places : (ps : List ℕ) (p : ℕ) → has_place (later_places ps) p ≡ true → has_place ps p ≡ true
+pub later_of_places : (ps : List ℕ) (p : ℕ) → has_place (later_places ps) p ≡ true → has_place ps p ≡ true
 later_of_places [] p h = h
 later_of_places (q ∷ ps) p h = or_right (eqb q p) (has_place ps p) h
 
 nowhere : Link
 nowhere = record { creator = 0; parents = [] }
-
--- what a link must meet to come after these
-pub record FitsLink (n : ℕ) (L : List Link) (link : Link) : Type 0 where
-  pub member : link.creator < n
-  pub earlier : (p : ℕ) → has_place link.parents p ≡ true → p < length L
-  pub self_by_same : (p : ℕ) → has_place (first_place link.parents) p ≡ true → creator L p ≡ link.creator
-  pub others_by_others : (p : ℕ) → has_place (later_places link.parents) p ≡ true → creator L p ≢ link.creator
 
 module _ (n : ℕ) (L : List Link) (link : Link) where
   before_is : (x : ℕ) → x < length L → slice_get (L ++ link ∷ []) x ≡ slice_get L x

@@ -1,6 +1,6 @@
 -- The laws of searches for the least and the greatest
 use Rattle.std.proofs.Common.{◌≡◌, ℕ, zero, suc, ◌<◌, Bool, true, false, leb, Option, Some, None, IfSome, option_map, refl, ap, inl, inr, arith, le-leb}
-use Rattle.std.proofs.lemmas.Bool.{cases_Bool, cases_lt, cond_both}
+use Rattle.std.proofs.lemmas.Bool.{cases_Bool, cases_lt, cond_both, both_ways}
 use Rattle.hg_model.specs.Places.{lesser_of, least_below, greatest_below}
 
 -- what is found stands below the bound, and passes
@@ -24,6 +24,18 @@ least_below_found key zero test = tt
 least_below_found key (suc n) test = elim (cases_Bool (test n)) [
   | inl passes ↦ rw passes (lesser_of_found key test n (least_below key n test) (least_below_found key n test) passes)
   | inr fails ↦ rw fails (within_more test n (least_below key n test) (least_below_found key n test))
+]
+
+-- something is found where something passes
+pub least_below_some : (key : ℕ → ℕ) (n : ℕ) (test : ℕ → Bool) (k : ℕ) → k < n → test k ≡ true → (found : ℕ) × (least_below key n test ≡ Some found)
+unfolding least_below
+least_below_some key zero test k h here = absurd (omega arith)
+least_below_some key (suc n) test k h here = elim (cases_Bool (test n)) [
+  | inl passes ↦ (lesser_of key (least_below key n test) n, rw passes refl)
+  | inr fails ↦ elim (cases_lt k n) [
+    | inl below ↦ (let before = least_below_some key n test k below here in (before.0, rw fails before.1))
+    | inr last ↦ (let same : k ≡ n = omega arith in absurd (both_ways (test n) fails (rw same at here)))
+  ]
 ]
 
 -- nothing is found where nothing passes

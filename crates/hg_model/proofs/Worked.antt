@@ -1,5 +1,5 @@
 -- Worked examples, computed: two members who sync in turn, three who sync in a ring and a fourth who comes late,
--- a fork among four, and the report's text
+-- a tie and a fork among four, and the report's text
 use Rattle.std.proofs.Common.{◌≡◌, ℕ, true, false, List, [], ◌∷◌, ◌++◌, take, codes, Some, None, refl}
 use Rattle.std.specs.Fmt.{digits}
 use Rattle.hg_model.specs.declared.row.Row.{Row}
@@ -17,10 +17,10 @@ use Rattle.hg_model.specs.Seeing.{sees, sees_through, strongly_sees}
 use Rattle.hg_model.proofs.TestLaws.{graph_from_test}
 use Rattle.hg_model.specs.Graph.{IsGraph, is_graph, name_at}
 use Rattle.hg_model.specs.Rounds.{round_of, is_witness, is_seen_witness}
-use Rattle.hg_model.specs.Votes.{vote_of, decides}
+use Rattle.hg_model.specs.Votes.{yes_votes, no_votes, vote_of, decides}
 use Rattle.hg_model.specs.Fame.{fame_of, fame_marks, is_closed, is_unique_famous, Marks}
 use Rattle.hg_model.specs.Order.{coin_at, sig_at, time_at, sort_by, median, can_receive, round_received, consensus_time, whitening, ordered_in, ordered, last_closed}
-use Rattle.hg_model.specs.Verdict.{verdict}
+use Rattle.hg_model.specs.Verdict.{row_verdict}
 use Rattle.hg_model.specs.Report.{printed_texts}
 
 -- an event with no parents, and one with parents of these names; a name is one byte here, and so is a signature
@@ -88,6 +88,21 @@ late_fame : fame_of 4 10 (links (take 11 three_members ++ first 3 160 ∷ [])) (
 unfolding fame_of least_below decides vote_of is_witness coin_at sig_at round_of strongly_sees sees_through sees has_fork_below is_fork is_ancestor is_self_ancestor weight_below some_below reaches by_place values_below parents self_parent creator links
 late_fame = refl
 
+-- four members; the last event, of round 3, strongly sees four witnesses of round 2, of which two see the event at
+-- place 2 and two do not
+abbrev pub tied_members : List Row
+tied_members =
+    first 0 1 ∷ first 1 2 ∷ first 2 3 ∷ first 3 4 ∷ made 0 1 2 5 ∷ made 0 5 4 6
+    ∷ made 3 4 6 7 ∷ made 2 3 7 8 ∷ made 1 2 7 9 ∷ made 3 7 8 10 ∷ made 2 8 9 11
+    ∷ made 0 6 9 12 ∷ made 2 11 12 13 ∷ made 2 13 10 14 ∷ made 1 9 14 15 ∷ []
+
+-- and a tie is a vote for fame
+tied_vote : (yes_votes 4 (links tied_members) (vote_of 4 10 (links tied_members) (coin_at tied_members) 2) 14 ≡ 2)
+    × (no_votes 4 (links tied_members) (vote_of 4 10 (links tied_members) (coin_at tied_members) 2) 14 ≡ 2)
+    × (vote_of 4 10 (links tied_members) (coin_at tied_members) 2 14 ≡ true)
+unfolding vote_of is_witness coin_at sig_at round_of strongly_sees sees_through sees has_fork_below is_fork is_ancestor is_self_ancestor weight_below some_below reaches by_place values_below parents self_parent creator links
+tied_vote = (refl, refl, refl)
+
 -- four members, of whom the last makes two second events, at the places 3 and 7; the first member takes the one and
 -- the second the other, and the third syncs from both
 abbrev pub forked_members : List Row
@@ -107,7 +122,7 @@ unfolding list_below round_of strongly_sees sees_through sees has_fork_below is_
 fork_strongly_seen = refl
 
 -- a second event on the third member's first would be a second fork, and two of four are not below a third
-second_forker : verdict (λ m body sig. true) 4 0 forked_members (made 2 3 1 12) ≡ Refused (fault.TooManyForkers 2)
+second_forker : row_verdict (λ m body sig. true) 4 0 forked_members (made 2 3 1 12) ≡ Refused (fault.TooManyForkers 2)
 unfolding forkers has_fork is_fork is_self_ancestor weight_below some_below reaches by_place values_below self_parent parents creator links
 second_forker = refl
 
@@ -121,7 +136,7 @@ texts : printed_texts (codes "A" ∷ codes "B" ∷ [])
       forkers = 0;
       greatest = 4;
       closed = 2;
-      order = record { creator = 0; sequence = 1; received = 2; time = 3 } ∷ [];
+      order = record { creator = 0; sequence = 1; received = 2; time = 3; name = 171 ∷ 1 ∷ [] } ∷ [];
       balances = 100 ∷ 0 ∷ [];
     }) ∷ [])
     ≡ codes "1 create made 0" ++ 10 ∷ (codes "12 sync taken 3 refused 0 made none peer-bare" ++ 10 ∷ (

@@ -1,5 +1,5 @@
 -- Gossip: a node takes from a peer the rows that it lacks, and makes an event. SWIRLDS-TR-2016-01, section 3
-use Rattle.std.specs.Prelude.{ℕ, ◌+◌, Bool, not, List, [], filter, fold, Option, Some, None}
+use Rattle.std.specs.Prelude.{ℕ, ◌+◌, Bool, not, List, [], filter, fold, map, Option, Some, None}
 use Rattle.hg_model.specs.declared.row.Row.{Row}
 use Rattle.hg_model.specs.declared.answers.PutAnswer.{PutAnswer}
 use Rattle.hg_model.specs.declared.answers.PutAnswer.TheVariants.{Accepted, Known, Refused}
@@ -8,10 +8,11 @@ use Rattle.hg_model.specs.declared.answers.MakeAnswer.TheVariants as make_answer
 use Rattle.hg_model.specs.declared.answers.SyncMade.{SyncMade}
 use Rattle.hg_model.specs.declared.answers.SyncMade.TheVariants as sync_made
 use Rattle.hg_model.specs.declared.answers.SyncReport.{SyncReport}
+use Rattle.hg_model.specs.declared.gossip.Parcel.{Parcel}
 use Rattle.hg_model.specs.Members.{MemberList}
 use Rattle.hg_model.specs.Signing.{signature_of, accepts_signature}
-use Rattle.hg_model.specs.Spelling.{body_bytes}
-use Rattle.hg_model.specs.Verdict.{verdict, with_answer, is_held, last_name, both_names, making, made_row, with_made}
+use Rattle.hg_model.specs.Spelling.{body_bytes, spelling}
+use Rattle.hg_model.specs.Verdict.{verdict, rows_after, is_held, last_name, both_names, making, made_row, with_made}
 
 -- how events are signed, and which signatures are accepted: by a member, of the signed bytes
 pub record Keys : Type 0 where
@@ -50,15 +51,15 @@ node_made keys s other time payload =
     with_rows s (with_made s.rows (made_row s.own s.rows other time payload (signature_for keys s other time payload))
     (making_by keys s other time payload))
 
--- what comes of a row that is put to the node
-abbrev pub verdict_by : Keys → NodeState → Row → PutAnswer
-verdict_by keys s row = verdict keys.accepts s.members s.own s.rows row
+-- what comes of bytes that are put to the node
+abbrev pub verdict_by : Keys → NodeState → List ℕ → PutAnswer
+verdict_by keys s bytes = verdict keys.accepts s.members s.own s.rows bytes
 
--- the node after it
-abbrev pub node_put : Keys → NodeState → Row → NodeState
-node_put keys s row = with_rows s (with_answer s.rows row (verdict_by keys s row))
+-- the node after them
+abbrev pub node_put : Keys → NodeState → List ℕ → NodeState
+node_put keys s bytes = with_rows s (rows_after keys.accepts s.members s.own s.rows bytes)
 
--- a node that takes rows, and what came of them so far
+-- a node that takes events, and what came of them so far
 pub record Taking : Type 0 where
   pub node : NodeState
   pub taken : ℕ
@@ -74,21 +75,26 @@ count_refused (Accepted p) = 0
 count_refused (Known p) = 0
 count_refused (Refused f) = 1
 
--- one row more is put to the node
-abbrev pub take_row : Keys → Taking → Row → Taking
-take_row keys t row = record {
-  node = node_put keys t.node row;
-  taken = t.taken + count_taken (verdict_by keys t.node row);
-  refused = t.refused + count_refused (verdict_by keys t.node row);
+-- the bytes of one event more are put to the node
+abbrev pub take_event : Keys → Taking → List ℕ → Taking
+take_event keys t bytes = record {
+  node = node_put keys t.node bytes;
+  taken = t.taken + count_taken (verdict_by keys t.node bytes);
+  refused = t.refused + count_refused (verdict_by keys t.node bytes);
 }
 
 -- the rows of H whose names G lacks, in their order
 abbrev pub lacking : List Row → List Row → List Row
 lacking G H = filter (λ row. not (is_held G row.name)) H
 
--- the node takes these rows, one after the other
-abbrev pub taking : Keys → NodeState → List Row → Taking
-taking keys s rows = fold (take_row keys) (record { node = s; taken = 0; refused = 0 }) rows
+-- what a peer hands over to a node with the rows G: the bytes of the rows that the node lacks, and the name of the
+-- peer's last own row
+abbrev pub parcel_for : List Row → NodeState → Parcel
+parcel_for G peer = record { rows = map spelling (lacking G peer.rows); last = last_name peer.own peer.rows }
+
+-- the node takes these events, one after the other
+abbrev pub taking : Keys → NodeState → List (List ℕ) → Taking
+taking keys s events = fold (take_event keys) (record { node = s; taken = 0; refused = 0 }) events
 
 abbrev pub made_in_sync : MakeAnswer → SyncMade
 made_in_sync (make_answer.Made p) = sync_made.Row p
@@ -103,21 +109,21 @@ abbrev pub node_after : Keys → NodeState → Option (List ℕ) → ℕ → Lis
 node_after keys s None time payload = s
 node_after keys s (Some other) time payload = node_made keys s (Some other) time payload
 
--- a sync with what a peer hands over: the rows that the node lacks, and the name of the peer's last own row
-abbrev pub report_with : Keys → NodeState → List Row → Option (List ℕ) → ℕ → List ℕ → SyncReport
-report_with keys s rows last time payload = record {
-  taken = (taking keys s rows).taken;
-  refused = (taking keys s rows).refused;
-  made = made_after keys (taking keys s rows).node last time payload;
+-- a sync with what a peer hands over
+abbrev pub report_with : Keys → NodeState → Parcel → ℕ → List ℕ → SyncReport
+report_with keys s parcel time payload = record {
+  taken = (taking keys s parcel.rows).taken;
+  refused = (taking keys s parcel.rows).refused;
+  made = made_after keys (taking keys s parcel.rows).node parcel.last time payload;
 }
 
-abbrev pub node_with : Keys → NodeState → List Row → Option (List ℕ) → ℕ → List ℕ → NodeState
-node_with keys s rows last time payload = node_after keys (taking keys s rows).node last time payload
+abbrev pub node_with : Keys → NodeState → Parcel → ℕ → List ℕ → NodeState
+node_with keys s parcel time payload = node_after keys (taking keys s parcel.rows).node parcel.last time payload
 
 -- what comes of a sync of the node from a peer
 abbrev pub sync_report : Keys → NodeState → NodeState → ℕ → List ℕ → SyncReport
-sync_report keys s peer time payload = report_with keys s (lacking s.rows peer.rows) (last_name peer.own peer.rows) time payload
+sync_report keys s peer time payload = report_with keys s (parcel_for s.rows peer) time payload
 
 -- the node after it
 abbrev pub node_synced : Keys → NodeState → NodeState → ℕ → List ℕ → NodeState
-node_synced keys s peer time payload = node_with keys s (lacking s.rows peer.rows) (last_name peer.own peer.rows) time payload
+node_synced keys s peer time payload = node_with keys s (parcel_for s.rows peer) time payload

@@ -8,6 +8,7 @@ use Rattle.hg_model.specs.declared.row.Placed.{Placed}
 use Rattle.hg_model.specs.Members.{MemberList}
 use Rattle.hg_model.specs.Links.{Link, links, creator}
 use Rattle.hg_model.specs.Forks.{forkers}
+use Rattle.hg_model.specs.Graph.{name_at}
 use Rattle.hg_model.specs.Rounds.{last_round}
 use Rattle.hg_model.specs.Fame.{fame_marks}
 use Rattle.hg_model.specs.Order.{coin_at, last_closed, order_of, sequence_of}
@@ -16,8 +17,15 @@ use Rattle.hg_model.specs.Order.{coin_at, last_closed, order_of, sequence_of}
 unfoldable pub closed_of : ℕ → ℕ → List Row → ℕ
 closed_of n c G = let L = links G in last_closed n L (fame_marks n c L (coin_at G))
 
-abbrev pub order_line : List Link → Placed → OrderLine
-order_line L p = record { creator = creator L p.place; sequence = sequence_of L p.place; received = p.received; time = p.time }
+-- a row of the order as it is printed
+abbrev pub order_line : List Row → List Link → Placed → OrderLine
+order_line G L p = record {
+  creator = creator L p.place;
+  sequence = sequence_of L p.place;
+  received = p.received;
+  time = p.time;
+  name = name_at G p.place;
+}
 
 abbrev pub balances_of : MemberList → List ℕ
 balances_of members = map (λ (e : MemberEntry). e.balance) members.entries
@@ -35,6 +43,6 @@ block_of members x G =
       forkers = forkers n (links G);
       greatest = last_round n (links G);
       closed = closed_of n members.coin G;
-      order = map (order_line (links G)) (order_of n members.coin G);
+      order = map (order_line G (links G)) (order_of n members.coin G);
       balances = balances_of members;
     }

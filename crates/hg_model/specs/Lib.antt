@@ -5,7 +5,9 @@ pub mod Ancestry
 pub mod Forks
 pub mod Seeing
 pub mod Graph
+pub mod Shape
 pub mod Rounds
+pub mod Standings
 pub mod Votes
 pub mod Fame
 pub mod Order
@@ -17,3 +19,8 @@ pub mod Gossip
 pub mod Ledger
 pub mod Report
 pub mod Fits
+pub mod Shares
+pub mod History
+pub mod Kept
+pub mod Shown
+pub mod Calls

@@ -1,5 +1,5 @@
 -- The text of the report. Every line ends with one line feed; numbers are decimal, without leading zeros
-use Rattle.std.specs.Prelude.{ℕ, suc, List, [], ◌∷◌, ◌++◌, length, slice_get, unwrap_or, codes}
+use Rattle.std.specs.Prelude.{ℕ, suc, Bool, true, false, cond, List, [], ◌∷◌, ◌++◌, length, slice_get, unwrap_or, codes}
 use Rattle.std.specs.Fmt.{decimal}
 use Rattle.hex.specs.Hex.{encode_lower}
 use Rattle.hg_model.specs.declared.answers.ByteFault.{ByteFault}
@@ -10,6 +10,8 @@ use Rattle.hg_model.specs.declared.answers.MakeFault.{MakeFault}
 use Rattle.hg_model.specs.declared.answers.MakeFault.TheVariants as make_fault
 use Rattle.hg_model.specs.declared.answers.MakeAnswer.{MakeAnswer}
 use Rattle.hg_model.specs.declared.answers.MakeAnswer.TheVariants as make_answer
+use Rattle.hg_model.specs.declared.answers.PutAnswer.{PutAnswer}
+use Rattle.hg_model.specs.declared.answers.PutAnswer.TheVariants as put_answer
 use Rattle.hg_model.specs.declared.answers.SyncMade.{SyncMade}
 use Rattle.hg_model.specs.declared.answers.SyncMade.TheVariants as sync_made
 use Rattle.hg_model.specs.declared.answers.SyncReport.{SyncReport}
@@ -56,28 +58,34 @@ abbrev pub make_answer_text : MakeAnswer → List ℕ
 make_answer_text (make_answer.Made p) = counted (codes "made") p
 make_answer_text (make_answer.Refused f) = codes "refused " ++ make_fault_text f
 
+abbrev pub put_answer_text : PutAnswer → List ℕ
+put_answer_text (put_answer.Accepted p) = counted (codes "accepted") p
+put_answer_text (put_answer.Known p) = counted (codes "known") p
+put_answer_text (put_answer.Refused f) = codes "refused " ++ fault_text f
+
 abbrev pub sync_made_text : SyncMade → List ℕ
 sync_made_text (sync_made.Row p) = decimal p
 sync_made_text sync_made.PeerBare = codes "none peer-bare"
 sync_made_text (sync_made.Fault f) = codes "none " ++ make_fault_text f
 
-abbrev pub sync_text : SyncReport → List ℕ
-sync_text r = counted (codes "taken") r.taken ++ counted (codes " refused") r.refused ++ codes " made " ++ sync_made_text r.made
-
 -- the name of a member, by its number
 abbrev pub name_of_member : List (List ℕ) → ℕ → List ℕ
 name_of_member names m = unwrap_or (slice_get names m) []
 
--- the line of a row of the order, numbered from 1. No payload has an effect yet
-abbrev pub order_line_text : List (List ℕ) → ℕ → OrderLine → List ℕ
-order_line_text names number line =
+-- the end of a line of the order, with the event's name where it is asked for. No payload has an effect yet
+abbrev pub line_end : Bool → OrderLine → List ℕ
+line_end named line = cond named (codes " - " ++ encode_lower line.name ++ codes "\n") (codes " -\n")
+
+-- the line of a row of the order, numbered from 1
+abbrev pub order_line_text : Bool → List (List ℕ) → ℕ → OrderLine → List ℕ
+order_line_text named names number line =
     decimal number ++ codes " " ++ name_of_member names line.creator ++ counted [] line.sequence
-    ++ counted (codes " round") line.received ++ counted (codes " time") line.time ++ codes " -\n"
+    ++ counted (codes " round") line.received ++ counted (codes " time") line.time ++ line_end named line
 
 -- the lines of an order, the first with this number
-abbrev pub order_text : List (List ℕ) → ℕ → List OrderLine → List ℕ
-order_text names number [] = []
-order_text names number (line ∷ lines) = order_line_text names number line ++ order_text names (suc number) lines
+abbrev pub order_text : Bool → List (List ℕ) → ℕ → List OrderLine → List ℕ
+order_text named names number [] = []
+order_text named names number (line ∷ lines) = order_line_text named names number line ++ order_text named names (suc number) lines
 
 abbrev pub balance_text : List (List ℕ) → ℕ → ℕ → List ℕ
 balance_text names m balance = codes "balance " ++ name_of_member names m ++ counted [] balance ++ codes "\n"
@@ -93,19 +101,30 @@ head_text names b =
     codes "node " ++ name_of_member names b.member ++ counted (codes " events") b.events ++ counted (codes " forkers") b.forkers
     ++ counted (codes " round") b.greatest ++ counted (codes " closed") b.closed ++ counted (codes " ordered") (length b.order) ++ codes "\n"
 
-abbrev pub block_text : List (List ℕ) → Block → List ℕ
-block_text names b = head_text names b ++ order_text names 1 b.order ++ balances_text names 0 b.balances
+abbrev pub block_text : Bool → List (List ℕ) → Block → List ℕ
+block_text named names b = head_text names b ++ order_text named names 1 b.order ++ balances_text names 0 b.balances
 
-abbrev pub create_text : ℕ → MakeAnswer → List ℕ
-create_text line answer = decimal line ++ codes " create " ++ make_answer_text answer ++ codes "\n"
+-- the line that a line of the script prints: its number, the script's own word, and what came of it
+abbrev pub answer_line : ℕ → List ℕ → List ℕ → List ℕ
+answer_line line word answer = decimal line ++ codes " " ++ word ++ codes " " ++ answer ++ codes "\n"
 
-abbrev pub sync_line_text : ℕ → SyncReport → List ℕ
-sync_line_text line report = decimal line ++ codes " sync " ++ sync_text report ++ codes "\n"
+abbrev pub pull_line : ℕ → ℕ → ℕ → List ℕ
+pull_line line taken refused =
+    decimal line ++ (counted (codes " pull taken") taken ++ (counted (codes " refused") refused ++ codes "\n"))
+
+abbrev pub sync_line : ℕ → SyncReport → List ℕ
+sync_line line r =
+    decimal line ++ (counted (codes " sync taken") r.taken ++ (counted (codes " refused") r.refused
+    ++ (codes " made " ++ (sync_made_text r.made ++ codes "\n"))))
 
 abbrev pub printed_text : List (List ℕ) → Printed → List ℕ
-printed_text names (printed.Create line answer) = create_text line answer
-printed_text names (printed.Sync line report) = sync_line_text line report
-printed_text names (printed.Block b) = block_text names b
+printed_text names (printed.Create line answer) = answer_line line (codes "create") (make_answer_text answer)
+printed_text names (printed.Join line answer) = answer_line line (codes "join") (make_answer_text answer)
+printed_text names (printed.Sync line report) = sync_line line report
+printed_text names (printed.Pull line taken refused) = pull_line line taken refused
+printed_text names (printed.Give line answer) = answer_line line (codes "give") (put_answer_text answer)
+printed_text names (printed.Block b) = block_text false names b
+printed_text names (printed.Names b) = block_text true names b
 
 -- one piece after the other
 abbrev pub printed_texts : List (List ℕ) → List Printed → List ℕ

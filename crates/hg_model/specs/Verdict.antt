@@ -1,11 +1,12 @@
 -- What comes of an event that is put to a node, and of one that a node makes: in each list the first rule that holds.
 -- Departures from SWIRLDS-TR-2016-01: an event that would make the forking members a third of all or more is refused, and
 -- so is one by the node's own member that the node did not make.
-use Rattle.std.specs.Prelude.{ℕ, ◌*◌, Bool, cond, not, ◌==◌, nat_lt, nat_le, List, [], ◌∷◌, ◌++◌, length, fold, Option, Some, None, option_map, unwrap_or, slice_get, if◌then◌else◌}
+use Rattle.std.specs.Prelude.{ℕ, ◌*◌, Bool, cond, not, ◌==◌, nat_lt, nat_le, List, [], ◌∷◌, ◌++◌, length, fold, Option, Some, None, option_map, unwrap_or, slice_get, Result, Ok, Err, if◌then◌else◌}
 use Rattle.std.specs.Option.{option_or}
 use Rattle.std.specs.Str.{bytes_eq}
 use Rattle.sha2.specs.Sha512.{sha384}
 use Rattle.hg_model.specs.declared.row.Row.{Row}
+use Rattle.hg_model.specs.declared.answers.ByteFault.{ByteFault}
 use Rattle.hg_model.specs.declared.answers.Fault.TheVariants as fault
 use Rattle.hg_model.specs.declared.answers.MakeFault.{MakeFault}
 use Rattle.hg_model.specs.declared.answers.MakeFault.TheVariants as make_fault
@@ -16,6 +17,7 @@ use Rattle.hg_model.specs.declared.answers.MakeAnswer.TheVariants as make_answer
 use Rattle.hg_model.specs.Links.{links, place_of}
 use Rattle.hg_model.specs.Forks.{forkers}
 use Rattle.hg_model.specs.Spelling.{body_of, body_bytes, spelling, payload_limit}
+use Rattle.hg_model.specs.Reading.{read_event}
 
 -- the greatest number of rows of a node
 abbrev pub row_limit : ℕ
@@ -87,8 +89,8 @@ arrival_rule accepts n own G row =
     (option_or (impostor_rule own row) (option_or (missing_rule G row.parents) (creator_rule G row.creator row.parents)))))
 
 -- what comes of a row that is put to the node of the member `own` with the rows G, among n members
-abbrev pub verdict : (ℕ → List ℕ → List ℕ → Bool) → ℕ → ℕ → List Row → Row → PutAnswer
-verdict accepts n own G row =
+abbrev pub row_verdict : (ℕ → List ℕ → List ℕ → Bool) → ℕ → ℕ → List Row → Row → PutAnswer
+row_verdict accepts n own G row =
     unwrap_or (option_or (arrival_rule accepts n own G row) (option_or (forkers_rule n G row) (full_rule G))) (Accepted (length G))
 
 -- the rows after it
@@ -96,6 +98,23 @@ abbrev pub with_answer : List Row → Row → PutAnswer → List Row
 with_answer G row (Accepted p) = G ++ row ∷ []
 with_answer G row (Known p) = G
 with_answer G row (Refused f) = G
+
+-- what comes of bytes by what was read of them: a fault of the bytes comes before all others
+abbrev pub verdict_of : (ℕ → List ℕ → List ℕ → Bool) → ℕ → ℕ → List Row → Result Row ByteFault → PutAnswer
+verdict_of accepts n own G (Err e) = Refused (fault.Bytes e)
+verdict_of accepts n own G (Ok row) = row_verdict accepts n own G row
+
+abbrev pub rows_with : (ℕ → List ℕ → List ℕ → Bool) → ℕ → ℕ → List Row → Result Row ByteFault → List Row
+rows_with accepts n own G (Err e) = G
+rows_with accepts n own G (Ok row) = with_answer G row (row_verdict accepts n own G row)
+
+-- what comes of bytes that are put to the node
+abbrev pub verdict : (ℕ → List ℕ → List ℕ → Bool) → ℕ → ℕ → List Row → List ℕ → PutAnswer
+verdict accepts n own G bytes = verdict_of accepts n own G (read_event bytes)
+
+-- the rows after them
+abbrev pub rows_after : (ℕ → List ℕ → List ℕ → Bool) → ℕ → ℕ → List Row → List ℕ → List Row
+rows_after accepts n own G bytes = rows_with accepts n own G (read_event bytes)
 
 -- the rows with one more, unless there is an answer that refuses it
 abbrev pub unless : Option PutAnswer → List Row → Row → List Row

@@ -4,15 +4,27 @@
 #![tactic(auto)]
 
 mod answers;
+mod entry;
+mod gossip;
 mod items;
 mod members;
 mod memory;
+mod names;
 mod outcome;
+mod rounds;
 mod row;
+mod share;
+mod sight;
 
 pub use answers::{ByteFault, Fault, MakeAnswer, MakeFault, PutAnswer, SyncMade, SyncReport};
+pub use entry::Entry;
+pub use gossip::Parcel;
 pub use items::{Bytes, Items};
 pub use members::{MemberEntry, Members};
 pub use memory::Memory;
+pub use names::is_member_name;
 pub use outcome::{Block, OrderLine, Outcome, Printed};
+pub use rounds::Rounds;
 pub use row::{Member, Name, Placed, Row, Sig};
+pub use share::Share;
+pub use sight::{Growing, Sight};

@@ -1,6 +1,6 @@
-use crate::answers::{MakeAnswer, SyncReport};
+use crate::answers::{MakeAnswer, PutAnswer, SyncReport};
 use crate::items::{Bytes, Items};
-use crate::row::Member;
+use crate::row::{Member, Name};
 
 /// A row of a printed order.
 #[derive(Clone, Copy, Debug, PartialEq, Eq)]
@@ -12,6 +12,7 @@ pub struct OrderLine {
     pub received: u32,
     /// Its consensus timestamp.
     pub time: u64,
+    pub name: Name,
 }
 
 /// What is printed of a node: its counts, its order, and all balances in the order of the members.
@@ -31,9 +32,18 @@ pub struct Block {
 /// One piece of the report. `line` is the number of the script's line, from 1.
 #[derive(Debug, Drop)]
 pub enum Printed {
+    /// A node's first event.
     Create { line: u64, answer: MakeAnswer },
+    /// An event whose other-parent a label names.
+    Join { line: u64, answer: MakeAnswer },
     Sync { line: u64, report: SyncReport },
+    /// How many of the peer's events were taken, and how many refused.
+    Pull { line: u64, taken: u64, refused: u64 },
+    /// The bytes of a label, put to a node.
+    Give { line: u64, answer: PutAnswer },
     Block(Block),
+    /// A block whose order tells the names of the events.
+    Names(Block),
 }
 
 /// All that a run prints, and the names of its members in their order.

@@ -1,4 +1,3 @@
-pub mod Shape
 pub mod Tables
 pub mod Elections
 pub mod Judges

@@ -2,7 +2,7 @@ ghost use Rattle.std.specs.Prelude.{◌≡◌, ◌<◌, length, map, position, I
 ghost use Rattle.hg_model.specs.Links.{creator, is_named, link_in, links, parent_names, parents, place_of, self_parent};
 ghost use Rattle.hg_model.specs.Places.{IsEarlier};
 ghost use Rattle.std.specs.List.{AllByRecursion};
-ghost use Rattle.hg_plain.specs.Shape.{pair_list, place_list};
+ghost use Rattle.hg_model.specs.Shape.{pair_list, place_list};
 
 use hg_model::{Member, Memory, Name, Row};
 use std::alloc::Global;
@@ -17,7 +17,7 @@ pub struct PlainLink {
 
 impl Model for PlainLink {
     ghost use Rattle.hg_model.specs.Links.{Link};
-    ghost use Rattle.hg_plain.specs.Shape.{pair_list};
+    ghost use Rattle.hg_model.specs.Shape.{pair_list};
 
     ghost Value = { Link };
 

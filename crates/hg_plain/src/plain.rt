@@ -7,7 +7,7 @@ ghost use Rattle.hg_model.specs.Fame.{fame_marks, is_closed};
 ghost use Rattle.hg_model.specs.Order.{coin_at, last_closed, order_of, sequence_of};
 ghost use Rattle.hg_model.specs.Ledger.{closed_of, order_line};
 ghost use Rattle.hg_model.specs.declared.row.Placed.{Placed};
-ghost use Rattle.hg_plain.specs.Shape.{shape_of};
+ghost use Rattle.hg_model.specs.Shape.{shape_of};
 ghost use Rattle.hg_plain.specs.Tables.{Tells};
 
 use crate::fame::marks;
@@ -131,30 +131,35 @@ fn sequence_of(sight: &PlainSight, x: usize) -> u64
 }
 
 /// A placed row as it is printed.
-fn order_line(sight: &PlainSight, placed: &Placed) -> OrderLine
-    requires { placed.now.place < length sight.now.links }
-    ensures { result ≡ order_line sight.now.links placed.now }
+#[tactic(auto, using(hg_model::proofs::RowLaws::row_reads))]
+fn order_line(rows: &[Row], sight: &PlainSight, placed: &Placed) -> OrderLine
+    requires row { placed.now.place < length rows.now }
+    requires link { placed.now.place < length sight.now.links }
+    ensures { result ≡ order_line rows.now sight.now.links placed.now }
 {
     OrderLine {
         creator: sight.creator(placed.place),
         sequence: sequence_of(sight, placed.place),
         received: placed.received,
         time: placed.time,
+        name: rows[placed.place].name,
     }
 }
 
 /// Placed rows as they are printed.
 fn order_lines(
     alloc: Global,
+    rows: &[Row],
     sight: &PlainSight,
     order: &[Placed],
 ) -> Result<Vec<OrderLine>, Memory>
-    requires { All (λ (p : Placed). p.place < length sight.now.links) order.now }
-    ensures { IfOk result (λ v. v.items ≡ map (order_line sight.now.links) order.now) }
+    requires rows { length rows.now ≡ length sight.now.links }
+    requires placed { All (λ (p : Placed). p.place < length sight.now.links) order.now }
+    ensures { IfOk result (λ v. v.items ≡ map (order_line rows.now sight.now.links) order.now) }
 {
     let mut lines = Vec::with_capacity(alloc, order.len())?;
     for placed in order {
-        lines.push(order_line(sight, placed))?;
+        lines.push(order_line(rows, sight, placed))?;
     }
     Ok(lines)
 }
@@ -172,11 +177,11 @@ pub fn plain_block(
     ensures forkers { IfOk result (λ block. block.state.forkers ≡ forkers members (links rows.now)) }
     ensures greatest { IfOk result (λ block. block.state.greatest ≡ last_round members (links rows.now)) }
     ensures closed { IfOk result (λ block. block.state.closed ≡ closed_of members coin rows.now) }
-    ensures lines { IfOk result (λ block. block.lines ≡ map (order_line (links rows.now)) (order_of members coin rows.now)) }
+    ensures lines { IfOk result (λ block. block.lines ≡ map (order_line rows.now (links rows.now)) (order_of members coin rows.now)) }
 {
     let graph = elect(alloc, rows, members, coin)?;
     let order = ordered_rows(alloc, rows, &graph.sight, &graph.marks, &graph.closed)?;
-    let lines = order_lines(alloc, &graph.sight, &order)?;
+    let lines = order_lines(alloc, rows, &graph.sight, &order)?;
     Ok(PlainBlock {
         state: state_of(&graph),
         lines: Items::from_vec(lines),
@@ -239,12 +244,14 @@ mod tests {
         }
     }
 
-    fn line(creator: Member, sequence: u64, received: u32, time: u64) -> OrderLine {
+    // The rows of a written-out list are named by their numbers.
+    fn line(creator: Member, sequence: u64, received: u32, time: u64, number: u8) -> OrderLine {
         OrderLine {
             creator,
             sequence,
             received,
             time,
+            name: [number; 48],
         }
     }
 
@@ -301,13 +308,13 @@ mod tests {
         let block = plain_block(alloc, &rows, 4, 10)?;
         assert_eq!(rt; block.state, state(0, 4, 2));
         let expected = [
-            line(0, 0, 2, 50),
-            line(1, 0, 2, 52),
-            line(1, 1, 2, 55),
-            line(2, 1, 2, 60),
-            line(2, 0, 2, 65),
-            line(0, 1, 2, 70),
-            line(1, 2, 2, 80),
+            line(0, 0, 2, 50, 0),
+            line(1, 0, 2, 52, 2),
+            line(1, 1, 2, 55, 3),
+            line(2, 1, 2, 60, 4),
+            line(2, 0, 2, 65, 1),
+            line(0, 1, 2, 70, 5),
+            line(1, 2, 2, 80, 6),
         ];
         assert_eq!(rt; block.lines.as_slice(), expected.as_slice());
         Ok(())

@@ -23,7 +23,7 @@ pub struct Seeing {
 }
 
 impl Model for Seeing {
-    ghost use Rattle.hg_plain.specs.Shape.{Shape, shape_of};
+    ghost use Rattle.hg_model.specs.Shape.{Shape, shape_of};
     ghost use Rattle.hg_plain.specs.Held.{HoldsForks};
 
     ghost Value = { Shape };
@@ -35,7 +35,7 @@ impl Model for Seeing {
 
 impl Seeing {
     ghost use Rattle.hg_model.specs.Seeing.{sees};
-    ghost use Rattle.hg_plain.specs.Shape.{shape_of};
+    ghost use Rattle.hg_model.specs.Shape.{shape_of};
 
     pub fn new(alloc: Global, rows: &[Row], members: u32) -> Result<Seeing, Memory>
         requires { IsShaped members (links rows.now) }

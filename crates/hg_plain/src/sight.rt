@@ -1,7 +1,7 @@
 ghost use Rattle.std.specs.Prelude.{◌≡◌, ◌<◌, ◌-◌, ◌^◌, length, IfOk};
 ghost use Rattle.hg_model.specs.Links.{links};
 ghost use Rattle.hg_model.specs.Graph.{IsShaped};
-ghost use Rattle.hg_plain.specs.Shape.{shape_of};
+ghost use Rattle.hg_model.specs.Shape.{shape_of};
 
 use crate::forks::plain_forkers;
 use crate::links::{creator_of, self_parent_of};
@@ -25,7 +25,7 @@ pub struct PlainSight {
 }
 
 impl Model for PlainSight {
-    ghost use Rattle.hg_plain.specs.Shape.{Shape};
+    ghost use Rattle.hg_model.specs.Shape.{Shape};
     ghost use Rattle.hg_plain.specs.Held.{HoldsRounds};
 
     ghost Value = { Shape };
@@ -41,7 +41,7 @@ impl PlainSight {
     ghost use Rattle.hg_model.specs.Forks.{forkers};
     ghost use Rattle.hg_model.specs.Seeing.{sees, strongly_sees};
     ghost use Rattle.hg_model.specs.Rounds.{is_witness, last_round, round_of};
-    ghost use Rattle.hg_plain.specs.Shape.{place_list};
+    ghost use Rattle.hg_model.specs.Shape.{place_list};
 
     /// The tables of these rows, by `members` members.
     pub fn new(alloc: Global, rows: &[Row], members: u32) -> Result<PlainSight, Memory>

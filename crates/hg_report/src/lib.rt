@@ -1,11 +1,14 @@
 //! The report's text, as a function of what a run prints.
-//! The layer above uses `text_of`, whose bytes are `report_text` of the outcome, and writes them in one piece.
+//! The layer above uses `text_of`, which writes `report_text` of the outcome to a sink, by a page and without memory.
 //! Every number is decimal, every line ends with one line feed.
 #![tactic(auto)]
 
-mod faults;
 mod lines;
+mod phrases;
 mod pieces;
+#[cfg(test)]
+mod tests;
 mod text;
 
+pub use pieces::{Piece, tell_pieces};
 pub use text::text_of;

@@ -1,97 +1,154 @@
-ghost use Rattle.std.specs.Prelude.{◌≡◌, ◌++◌, OnOk};
-ghost use Rattle.hg_model.specs.Report.{balance_text, balances_text, block_text, head_text, name_of_member, order_line_text, order_text};
+ghost use Rattle.hg_io.specs.Telling.{Puts, desk};
+ghost use Rattle.std.specs.Prelude.{◌≡◌};
+ghost use Rattle.hg_model.specs.Report.{balance_text, balances_text, block_text, head_text, line_end, order_line_text, order_text};
+ghost use Rattle.hg_report.specs.Pieces.{pieces_text};
 
-use crate::pieces::{push_bytes, push_counted, push_number};
-use hg_model::{Block, Bytes, Memory, OrderLine};
+use crate::pieces::{Piece, name_of, write_pieces};
+use hg_io::{Failed, Page, Sink};
+use hg_model::{Block, Bytes, OrderLine};
 
-/// A member's name, nothing for a number that is no member's.
-pub(crate) fn push_member(text: &mut Vec<u8>, names: &[Bytes], member: usize) -> Result<(), Memory>
-    ensures { OnOk result (text.new.items ≡ text.old.items ++ name_of_member names.now member) }
+/// The end of a line of the order, with the event's name where it is asked for.
+fn line_end(named: bool, line: &OrderLine) -> [Piece<'_>; 3]
+    ensures { pieces_text result ≡ line_end named line.now }
 {
-    match names.get(member) {
-        Some(name) => push_bytes(text, name.as_slice()),
-        None => Ok(()),
+    if named {
+        [
+            Piece::Bytes(b" - "),
+            Piece::Name(&line.name),
+            Piece::Bytes(b"\n"),
+        ]
+    } else {
+        [Piece::Bytes(b" -\n"), Piece::Bytes(b""), Piece::Bytes(b"")]
     }
 }
 
-pub(crate) fn push_order_line(
-    text: &mut Vec<u8>,
-    names: &[Bytes],
+/// The line of a row of the order, with the event's name where it is asked for.
+fn write_order_line<'a, K: Sink>(
+    page: &mut Page,
+    sink: &mut K,
+    named: bool,
+    names: &'a [Bytes],
     number: u64,
-    line: &OrderLine,
-) -> Result<(), Memory>
-    ensures { OnOk result (text.new.items ≡ text.old.items ++ order_line_text names.now number line.now) }
+    line: &'a OrderLine,
+) -> Result<(), Failed>
+    ensures { Puts (desk (K.written sink.old) (K.faults sink.old) page.old) (desk (K.written sink.new) (K.faults sink.new) page.new) (order_line_text named names.entry.now number line.entry.now) result }
 {
-    push_number(text, number)?;
-    push_bytes(text, b" ")?;
-    push_member(text, names, usize::from(line.creator))?;
-    push_counted(text, b"", line.sequence)?;
-    push_counted(text, b" round", u64::from(line.received))?;
-    push_counted(text, b" time", line.time)?;
-    push_bytes(text, b" -\n")
+    let [dash, name, end] = line_end(named, line);
+    write_pieces(
+        page,
+        sink,
+        &[
+            Piece::Number(number),
+            Piece::Bytes(b" "),
+            Piece::Bytes(name_of(names, usize::from(line.creator))),
+            Piece::Bytes(b" "),
+            Piece::Number(line.sequence),
+            Piece::Bytes(b" round "),
+            Piece::Number(u64::from(line.received)),
+            Piece::Bytes(b" time "),
+            Piece::Number(line.time),
+            dash,
+            name,
+            end,
+        ],
+    )
 }
 
 /// The lines of an order, numbered from 1.
-pub(crate) fn push_order(
-    text: &mut Vec<u8>,
-    names: &[Bytes],
-    lines: &[OrderLine],
-) -> Result<(), Memory>
-    ensures { OnOk result (text.new.items ≡ text.old.items ++ order_text names.now 1 lines.now) }
+fn write_order<'a, K: Sink>(
+    page: &mut Page,
+    sink: &mut K,
+    named: bool,
+    names: &'a [Bytes],
+    lines: &'a [OrderLine],
+) -> Result<(), Failed>
+    ensures { Puts (desk (K.written sink.old) (K.faults sink.old) page.old) (desk (K.written sink.new) (K.faults sink.new) page.new) (order_text named names.entry.now 1 lines.entry.now) result }
 {
     for (i, line) in lines.iter().enumerate() {
-        push_order_line(text, names, i as u64 + 1, line)?;
+        write_order_line(page, sink, named, names, i as u64 + 1, line)?;
     }
     Ok(())
 }
 
-pub(crate) fn push_balance(
-    text: &mut Vec<u8>,
+fn write_balance<K: Sink>(
+    page: &mut Page,
+    sink: &mut K,
     names: &[Bytes],
     member: usize,
     balance: u64,
-) -> Result<(), Memory>
-    ensures { OnOk result (text.new.items ≡ text.old.items ++ balance_text names.now member balance) }
+) -> Result<(), Failed>
+    ensures { Puts (desk (K.written sink.old) (K.faults sink.old) page.old) (desk (K.written sink.new) (K.faults sink.new) page.new) (balance_text names.now member balance) result }
 {
-    push_bytes(text, b"balance ")?;
-    push_member(text, names, member)?;
-    push_counted(text, b"", balance)?;
-    push_bytes(text, b"\n")
+    write_pieces(
+        page,
+        sink,
+        &[
+            Piece::Bytes(b"balance "),
+            Piece::Bytes(name_of(names, member)),
+            Piece::Bytes(b" "),
+            Piece::Number(balance),
+            Piece::Bytes(b"\n"),
+        ],
+    )
 }
 
 /// A line for each member's balance, in the order of the members.
-pub(crate) fn push_balances(
-    text: &mut Vec<u8>,
+fn write_balances<K: Sink>(
+    page: &mut Page,
+    sink: &mut K,
     names: &[Bytes],
     balances: &[u64],
-) -> Result<(), Memory>
-    ensures { OnOk result (text.new.items ≡ text.old.items ++ balances_text names.now 0 balances.now) }
+) -> Result<(), Failed>
+    ensures { Puts (desk (K.written sink.old) (K.faults sink.old) page.old) (desk (K.written sink.new) (K.faults sink.new) page.new) (balances_text names.now 0 balances.now) result }
 {
     for (i, balance) in balances.iter().enumerate() {
-        push_balance(text, names, i, *balance)?;
+        write_balance(page, sink, names, i, *balance)?;
     }
     Ok(())
 }
 
 /// The first line of a block.
-pub(crate) fn push_head(text: &mut Vec<u8>, names: &[Bytes], block: &Block) -> Result<(), Memory>
-    ensures { OnOk result (text.new.items ≡ text.old.items ++ head_text names.now block.now) }
+fn write_head<K: Sink>(
+    page: &mut Page,
+    sink: &mut K,
+    names: &[Bytes],
+    block: &Block,
+) -> Result<(), Failed>
+    ensures { Puts (desk (K.written sink.old) (K.faults sink.old) page.old) (desk (K.written sink.new) (K.faults sink.new) page.new) (head_text names.now block.now) result }
 {
-    push_bytes(text, b"node ")?;
-    push_member(text, names, usize::from(block.member))?;
-    push_counted(text, b" events", block.events)?;
-    push_counted(text, b" forkers", u64::from(block.forkers))?;
-    push_counted(text, b" round", u64::from(block.greatest))?;
-    push_counted(text, b" closed", u64::from(block.closed))?;
-    push_counted(text, b" ordered", block.order.as_slice().len() as u64)?;
-    push_bytes(text, b"\n")
+    write_pieces(
+        page,
+        sink,
+        &[
+            Piece::Bytes(b"node "),
+            Piece::Bytes(name_of(names, usize::from(block.member))),
+            Piece::Bytes(b" events "),
+            Piece::Number(block.events),
+            Piece::Bytes(b" forkers "),
+            Piece::Number(u64::from(block.forkers)),
+            Piece::Bytes(b" round "),
+            Piece::Number(u64::from(block.greatest)),
+            Piece::Bytes(b" closed "),
+            Piece::Number(u64::from(block.closed)),
+            Piece::Bytes(b" ordered "),
+            Piece::Number(block.order.as_slice().len() as u64),
+            Piece::Bytes(b"\n"),
+        ],
+    )
 }
 
 /// What is printed of a node.
-pub(crate) fn push_block(text: &mut Vec<u8>, names: &[Bytes], block: &Block) -> Result<(), Memory>
-    ensures { OnOk result (text.new.items ≡ text.old.items ++ block_text names.now block.now) }
+pub(crate) fn write_block<'a, K: Sink>(
+    page: &mut Page,
+    sink: &mut K,
+    named: bool,
+    names: &'a [Bytes],
+    block: &'a Block,
+) -> Result<(), Failed>
+    ensures { Puts (desk (K.written sink.old) (K.faults sink.old) page.old) (desk (K.written sink.new) (K.faults sink.new) page.new) (block_text named names.entry.now block.entry.now) result }
 {
-    push_head(text, names, block)?;
-    push_order(text, names, block.order.as_slice())?;
-    push_balances(text, names, block.balances.as_slice())
+    write_head(page, sink, names, block)?;
+    write_order(page, sink, named, names, block.order.as_slice())?;
+    write_balances(page, sink, names, block.balances.as_slice())?;
+    Ok(())
 }

@@ -1,50 +1,78 @@
-ghost use Rattle.std.specs.Prelude.{◌≡◌, ◌++◌, OnOk};
-ghost use Rattle.std.specs.Fmt.{decimal};
+ghost use Rattle.std.specs.Prelude.{◌≡◌};
 ghost use Rattle.hex.specs.Hex.{encode_lower};
-ghost use Rattle.hg_model.specs.Report.{counted};
+ghost use Rattle.hg_io.specs.Telling.{Puts, Tells, desk};
+ghost use Rattle.hg_model.specs.Report.{name_of_member};
+ghost use Rattle.hg_report.specs.Pieces.{piece_text, pieces_text};
 
-use hg_model::{Memory, Name};
+use hg_io::{Failed, Page, Sink};
+use hg_model::{Bytes, Name};
 use itoa::Buffer;
 
-/// Bytes as they are.
-pub(crate) fn push_bytes(text: &mut Vec<u8>, bytes: &[u8]) -> Result<(), Memory>
-    ensures { OnOk result (text.new.items ≡ text.old.items ++ bytes.now) }
-{
-    text.extend_from_slice(bytes)?;
-    Ok(())
+/// A piece of a line.
+#[derive(Clone, Copy, Debug)]
+pub enum Piece<'a> {
+    /// Bytes as they are.
+    Bytes(&'a [u8]),
+    /// A number in decimal digits.
+    Number(u64),
+    /// The same, with a minus before it where it is below 0.
+    Signed(i64),
+    /// An event's name in lower-case hexadecimal digits.
+    Name(&'a Name),
 }
 
-/// A number in decimal digits.
-pub(crate) fn push_number(text: &mut Vec<u8>, number: u64) -> Result<(), Memory>
-    ensures { OnOk result (text.new.items ≡ text.old.items ++ decimal number) }
+/// A member's name, nothing for a number that is no member's.
+pub(crate) fn name_of(names: &[Bytes], member: usize) -> &[u8]
+    ensures { result.now ≡ name_of_member names.now member }
 {
-    let mut buffer = Buffer::new();
-    push_bytes(text, buffer.format(number).as_bytes())
+    match names.get(member) {
+        Some(name) => name.as_slice(),
+        None => &[],
+    }
 }
 
-/// A word, a space and a number.
-pub(crate) fn push_counted(text: &mut Vec<u8>, word: &[u8], number: u64) -> Result<(), Memory>
-    ensures { OnOk result (text.new.items ≡ text.old.items ++ counted word.now number) }
-{
-    push_bytes(text, word)?;
-    push_bytes(text, b" ")?;
-    push_number(text, number)
-}
-
-/// A name in lower-case hexadecimal digits.
-pub(crate) fn push_name(text: &mut Vec<u8>, name: &Name) -> Result<(), Memory>
-    ensures { OnOk result (text.new.items ≡ text.old.items ++ encode_lower name.now) }
+fn write_name<K: Sink>(page: &mut Page, sink: &mut K, name: &Name) -> Result<(), Failed>
+    ensures { Puts (desk (K.written sink.old) (K.faults sink.old) page.old) (desk (K.written sink.new) (K.faults sink.new) page.new) (encode_lower name.now) result }
 {
     let mut digits = [0; 96];
     let written = hex::encode_to_slice(name.as_slice(), &mut digits);
     written.unwrap();
-    push_bytes(text, digits.as_slice())
+    page.put(sink, digits.as_slice())
 }
 
-/// A word and a name.
-pub(crate) fn push_named(text: &mut Vec<u8>, word: &[u8], name: &Name) -> Result<(), Memory>
-    ensures { OnOk result (text.new.items ≡ text.old.items ++ (word.now ++ encode_lower name.now)) }
+fn write_piece<K: Sink>(page: &mut Page, sink: &mut K, piece: &Piece<'_>) -> Result<(), Failed>
+    ensures { Puts (desk (K.written sink.old) (K.faults sink.old) page.old) (desk (K.written sink.new) (K.faults sink.new) page.new) (piece_text piece.now) result }
 {
-    push_bytes(text, word)?;
-    push_name(text, name)
+    match piece {
+        Piece::Bytes(bytes) => page.put(sink, bytes),
+        Piece::Number(number) => page.put(sink, Buffer::new().format(*number).as_bytes()),
+        Piece::Signed(number) => page.put(sink, Buffer::new().format(*number).as_bytes()),
+        Piece::Name(name) => write_name(page, sink, name),
+    }
+}
+
+/// Puts the pieces one after the other.
+#[tactic(auto, using(hg_io::proofs::Told::none_put, hg_io::proofs::Told::more_put, hg_io::proofs::Told::all_put, hg_io::proofs::Told::stopped_within))]
+pub(crate) fn write_pieces<K: Sink>(
+    page: &mut Page,
+    sink: &mut K,
+    pieces: &[Piece<'_>],
+) -> Result<(), Failed>
+    ensures { Puts (desk (K.written sink.old) (K.faults sink.old) page.old) (desk (K.written sink.new) (K.faults sink.new) page.new) (pieces_text pieces.now) result }
+{
+    for piece in pieces {
+        write_piece(page, sink, piece)?;
+    }
+    Ok(())
+}
+
+/// Writes the pieces, one after the other. It takes no memory, and gives the sink up to 4,096 bytes at a time.
+/// `Failed` comes with the first fault of the sink, which has then taken a front of their text, and not all of it.
+#[tactic(auto, using(hg_io::proofs::Told::stopped_part, hg_io::proofs::Told::told_by_page))]
+pub fn tell_pieces<K: Sink>(sink: &mut K, pieces: &[Piece<'_>]) -> Result<(), Failed>
+    ensures { Tells (K.written sink.old) (K.written sink.new) (K.faults sink.old) (K.faults sink.new) (pieces_text pieces.now) result }
+{
+    let mut page = Page::new();
+    write_pieces(&mut page, sink, pieces)?;
+    page.send(sink)
 }

@@ -1,60 +1,146 @@
-ghost use Rattle.std.specs.Prelude.{◌≡◌, ◌++◌, IfOk, OnOk};
-ghost use Rattle.hg_model.specs.Report.{create_text, sync_line_text, printed_text, printed_texts, report_text};
+ghost use Rattle.hg_io.specs.Telling.{Puts, Tells, desk};
+ghost use Rattle.hg_model.specs.Report.{answer_line, printed_text, printed_texts, pull_line, report_text, sync_line};
+ghost use Rattle.hg_report.specs.Phrases.{phrase_text};
 
-use crate::faults::{push_make_answer, push_sync};
-use crate::lines::push_block;
-use crate::pieces::{push_bytes, push_number};
-use hg_model::{Bytes, MakeAnswer, Memory, Outcome, Printed, SyncReport};
-use std::alloc::Global;
+use crate::lines::write_block;
+use crate::phrases::{Phrase, make_answer_phrase, put_answer_phrase, sync_made_phrase};
+use crate::pieces::{Piece, write_pieces};
+use hg_io::{Failed, Page, Sink};
+use hg_model::{Bytes, Outcome, Printed, SyncReport};
 
-/// The line of a `create`.
-fn push_create(text: &mut Vec<u8>, line: u64, answer: &MakeAnswer) -> Result<(), Memory>
-    ensures { OnOk result (text.new.items ≡ text.old.items ++ create_text line answer.now) }
+/// The line of an answer, with the script's own word.
+fn write_answer<'a, K: Sink>(
+    page: &mut Page,
+    sink: &mut K,
+    line: u64,
+    word: &'a [u8],
+    phrase: Phrase<'a>,
+) -> Result<(), Failed>
+    ensures { Puts (desk (K.written sink.old) (K.faults sink.old) page.old) (desk (K.written sink.new) (K.faults sink.new) page.new) (answer_line line word.entry.now (phrase_text phrase.entry)) result }
 {
-    push_number(text, line)?;
-    push_bytes(text, b" create ")?;
-    push_make_answer(text, answer)?;
-    push_bytes(text, b"\n")
+    write_pieces(
+        page,
+        sink,
+        &[
+            Piece::Number(line),
+            Piece::Bytes(b" "),
+            Piece::Bytes(word),
+            Piece::Bytes(b" "),
+            Piece::Bytes(phrase.first),
+            Piece::Bytes(phrase.second),
+            phrase.detail,
+            Piece::Bytes(b"\n"),
+        ],
+    )
 }
 
 /// The line of a `sync`.
-fn push_sync_line(text: &mut Vec<u8>, line: u64, report: &SyncReport) -> Result<(), Memory>
-    ensures { OnOk result (text.new.items ≡ text.old.items ++ sync_line_text line report.now) }
+fn write_sync<K: Sink>(
+    page: &mut Page,
+    sink: &mut K,
+    line: u64,
+    report: &SyncReport,
+) -> Result<(), Failed>
+    ensures { Puts (desk (K.written sink.old) (K.faults sink.old) page.old) (desk (K.written sink.new) (K.faults sink.new) page.new) (sync_line line report.now) result }
 {
-    push_number(text, line)?;
-    push_bytes(text, b" sync ")?;
-    push_sync(text, report)?;
-    push_bytes(text, b"\n")
+    let phrase = sync_made_phrase(&report.made);
+    write_pieces(
+        page,
+        sink,
+        &[
+            Piece::Number(line),
+            Piece::Bytes(b" sync taken "),
+            Piece::Number(report.taken),
+            Piece::Bytes(b" refused "),
+            Piece::Number(report.refused),
+            Piece::Bytes(b" made "),
+            Piece::Bytes(phrase.first),
+            Piece::Bytes(phrase.second),
+            phrase.detail,
+            Piece::Bytes(b"\n"),
+        ],
+    )
 }
 
-fn push_printed(text: &mut Vec<u8>, names: &[Bytes], printed: &Printed) -> Result<(), Memory>
-    ensures { OnOk result (text.new.items ≡ text.old.items ++ printed_text names.now printed.now) }
+/// The line of a `pull`.
+fn write_pull<K: Sink>(
+    page: &mut Page,
+    sink: &mut K,
+    line: u64,
+    taken: u64,
+    refused: u64,
+) -> Result<(), Failed>
+    ensures { Puts (desk (K.written sink.old) (K.faults sink.old) page.old) (desk (K.written sink.new) (K.faults sink.new) page.new) (pull_line line taken refused) result }
+{
+    write_pieces(
+        page,
+        sink,
+        &[
+            Piece::Number(line),
+            Piece::Bytes(b" pull taken "),
+            Piece::Number(taken),
+            Piece::Bytes(b" refused "),
+            Piece::Number(refused),
+            Piece::Bytes(b"\n"),
+        ],
+    )
+}
+
+fn write_printed<K: Sink>(
+    page: &mut Page,
+    sink: &mut K,
+    names: &[Bytes],
+    printed: &Printed,
+) -> Result<(), Failed>
+    ensures { Puts (desk (K.written sink.old) (K.faults sink.old) page.old) (desk (K.written sink.new) (K.faults sink.new) page.new) (printed_text names.now printed.now) result }
 {
     match printed {
-        Printed::Create { line, answer } => push_create(text, *line, answer),
-        Printed::Sync { line, report } => push_sync_line(text, *line, report),
-        Printed::Block(block) => push_block(text, names, block),
+        Printed::Create { line, answer } => {
+            write_answer(page, sink, *line, b"create", make_answer_phrase(answer))
+        }
+        Printed::Join { line, answer } => {
+            write_answer(page, sink, *line, b"join", make_answer_phrase(answer))
+        }
+        Printed::Sync { line, report } => write_sync(page, sink, *line, report),
+        Printed::Pull {
+            line,
+            taken,
+            refused,
+        } => write_pull(page, sink, *line, *taken, *refused),
+        Printed::Give { line, answer } => {
+            write_answer(page, sink, *line, b"give", put_answer_phrase(answer))
+        }
+        Printed::Block(block) => write_block(page, sink, false, names, block),
+        Printed::Names(block) => write_block(page, sink, true, names, block),
     }
 }
 
-fn push_all(text: &mut Vec<u8>, names: &[Bytes], pieces: &[Printed]) -> Result<(), Memory>
-    ensures { OnOk result (text.new.items ≡ text.old.items ++ printed_texts names.now pieces.now) }
+fn write_texts<K: Sink>(
+    page: &mut Page,
+    sink: &mut K,
+    names: &[Bytes],
+    texts: &[Printed],
+) -> Result<(), Failed>
+    ensures { Puts (desk (K.written sink.old) (K.faults sink.old) page.old) (desk (K.written sink.new) (K.faults sink.new) page.new) (printed_texts names.now texts.now) result }
 {
-    for piece in pieces {
-        push_printed(text, names, piece)?;
+    for printed in texts {
+        write_printed(page, sink, names, printed)?;
     }
     Ok(())
 }
 
-/// The text of all that a run prints.
-pub fn text_of(alloc: Global, outcome: &Outcome) -> Result<Vec<u8>, Memory>
-    ensures { IfOk result (λ text. text.items ≡ report_text outcome.now) }
+/// Writes the text of all that a run prints. It takes no memory, and gives the sink up to 4,096 bytes at a time.
+/// `Failed` comes with the first fault of the sink, which has then taken a front of the text, and not all of it.
+#[tactic(auto, using(hg_io::proofs::Told::stopped_part))]
+pub fn text_of<K: Sink>(outcome: &Outcome, sink: &mut K) -> Result<(), Failed>
+    ensures { Tells (K.written sink.old) (K.written sink.new) (K.faults sink.old) (K.faults sink.new) (report_text outcome.now) result }
 {
-    let mut text = Vec::new(alloc);
-    push_all(
-        &mut text,
+    let mut page = Page::new();
+    write_texts(
+        &mut page,
+        sink,
         outcome.names.as_slice(),
         outcome.printed.as_slice(),
     )?;
-    Ok(text)
+    page.send(sink)
 }

@@ -1,4 +1,7 @@
 pub mod Enough
 pub mod LineLaws
+pub mod NameLaws
 pub mod Numbers
+pub mod OnLiterals
+pub mod SixBytes
 mod Worked

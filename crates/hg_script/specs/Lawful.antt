@@ -1,23 +1,52 @@
 -- What each line of a script that was read keeps to
-use Rattle.std.specs.Prelude.{◌≡◌, ◌≢◌, ℕ, true}
+use Rattle.std.specs.Prelude.{◌≡◌, ◌≢◌, ◌<◌, ℕ, List, false, true, Option, None, Some, ⊤}
+use Rattle.std.specs.List.{list_any}
+use Rattle.std.specs.Str.{bytes_eq}
 use Rattle.hg_model.specs.Members.{MemberList}
+use Rattle.hg_script.specs.declared.line.Gossip.{Gossip}
+use Rattle.hg_script.specs.declared.line.Gossip.TheVariants.{Create, Sync, Pull, Join, Give}
+use Rattle.hg_script.specs.declared.line.Source.{Source}
+use Rattle.hg_script.specs.declared.line.Source.TheVariants.{Last}
 use Rattle.hg_script.specs.declared.line.Action.{Action}
-use Rattle.hg_script.specs.declared.line.Action.TheVariants.{Create, Sync}
+use Rattle.hg_script.specs.declared.line.Action.TheVariants as action
 use Rattle.hg_script.specs.declared.line.Line.{Line}
-use Rattle.hg_script.specs.Table.{has_node}
+use Rattle.hg_script.specs.Table.{Above, Found, has_node}
 
 -- the number is that of a member with a node
 abbrev pub IsNode : MemberList → ℕ → Type 0
 IsNode members m = has_node members m ≡ true
 
--- the member whose node makes an event
-abbrev pub maker : Action → ℕ
-maker (Create member time) = member
-maker (Sync taker peer time) = taker
+abbrev pub IsGossip : MemberList → Gossip → Type 0
+IsGossip members (Create member time) = IsNode members member
+IsGossip members (Sync taker peer time) = IsNode members taker × IsNode members peer × (taker ≢ peer)
+IsGossip members (Pull taker peer) = IsNode members taker × IsNode members peer × (taker ≢ peer)
+IsGossip members (Join member label time) = IsNode members member
+IsGossip members (Give member label) = IsNode members member
 
+abbrev pub IsSource : MemberList → Source → Type 0
+IsSource members (Last member) = IsNode members member
+IsSource members _ = ⊤
+
+-- the members that the action names have nodes
 abbrev pub IsLawful : MemberList → Action → Type 0
-IsLawful members (Create member time) = IsNode members member
-IsLawful members (Sync taker peer time) = IsNode members taker × IsNode members peer × (taker ≢ peer)
+IsLawful members (action.Gossip g) = IsGossip members g
+IsLawful members (action.Label s) = IsSource members s
+IsLawful members (action.Show member) = IsNode members member
+IsLawful members (action.Names member) = IsNode members member
 
 abbrev pub IsLine : MemberList → Line → Type 0
 IsLine members line = IsLawful members line.action
+
+-- a member that makes a first event has a number below 128
+abbrev pub IsLow : Action → Type 0
+IsLow (action.Gossip (Create member time)) = member < 128
+IsLow _ = ⊤
+
+-- the label to be made, if there is one, has none of these names
+abbrev pub IsNew : List (List ℕ) → Option (List ℕ) → Type 0
+IsNew labels None = ⊤
+IsNew labels (Some name) = list_any (bytes_eq name) labels ≡ false
+
+-- what a line below these lines is found to do
+abbrev pub IsFound : MemberList → Above → Found → Type 0
+IsFound members above found = IsLawful members found.action × IsLow found.action × IsNew above.labels found.label

@@ -2,3 +2,4 @@ pub mod Table
 pub mod Script
 pub mod Lawful
 pub mod Gives
+pub mod Text

@@ -6,10 +6,9 @@ use Rattle.std.specs.Str.Lines.{lines}
 use Rattle.hg_model.specs.Members.{MemberList}
 use Rattle.hg_script.specs.declared.fault.ScriptFault.{ScriptFault}
 use Rattle.hg_script.specs.declared.fault.Why.{Why}
-use Rattle.hg_script.specs.declared.fault.Why.TheVariants.{Utf8, Word}
-use Rattle.hg_script.specs.declared.line.Action.{Action}
+use Rattle.hg_script.specs.declared.fault.Why.TheVariants.{Utf8}
 use Rattle.hg_script.specs.declared.line.Line.{Line}
-use Rattle.hg_script.specs.Table.{◌>>=◌, action_of}
+use Rattle.hg_script.specs.Table.{◌>>=◌, Above, Found, found_by}
 
 abbrev pub is_line_feed : ℕ → Bool
 is_line_feed b = b == 10
@@ -22,39 +21,46 @@ is_blank b = b == 32 || b == 9
 abbrev pub words_of : List ℕ → List (List ℕ)
 words_of text = filter (λ part. not (length part == 0)) (slice_split is_blank text)
 
--- what a line without words does, and a comment. They are refused as yet
-abbrev pub silent : Result (Option Action) Why
-silent = Err Word
-
--- a comment begins with `#`
-abbrev pub line_in : MemberList → List Line → List (List ℕ) → Result (Option Action) Why
-line_in members above [] = silent
+-- a line without words does nothing, and neither does a comment, whose first word begins with `#`
+abbrev pub line_in : MemberList → Above → List (List ℕ) → Result (Option Found) Why
+line_in members above [] = Ok None
 line_in members above (word ∷ arguments) =
-    if slice_index word 0 == 35 then silent
-    else action_of members above word arguments >>= (λ action. Ok (Some action))
+    if slice_index word 0 == 35 then Ok None
+    else found_by members above word arguments >>= (λ found. Ok (Some found))
 
 -- what a line of the script does, if anything, below the lines above it
-abbrev pub line_of : MemberList → List Line → List ℕ → Result (Option Action) Why
+abbrev pub line_of : MemberList → Above → List ℕ → Result (Option Found) Why
 line_of members above text = if is_utf8 text then line_in members above (words_of text) else Err Utf8
 
 abbrev pub at_line : {A : Type 0} → ℕ → Result A Why → Result A ScriptFault
 at_line number (Ok x) = Ok x
 at_line number (Err why) = Err (record { line = number; why = why })
 
-abbrev pub with_line : List Line → ℕ → Option Action → List Line
-with_line above number None = above
-with_line above number (Some action) = above ++ record { number = number; action = action } ∷ []
+-- the names of the labels, and that of one more
+abbrev pub with_label : List (List ℕ) → Option (List ℕ) → List (List ℕ)
+with_label labels None = labels
+with_label labels (Some name) = labels ++ name ∷ []
 
--- the lines above, and the line of this number
-abbrev pub line_more : MemberList → List Line → ℕ → List ℕ → Result (List Line) ScriptFault
+abbrev pub with_line : Above → ℕ → Option Found → Above
+with_line above number None = above
+with_line above number (Some found) = record {
+  lines = above.lines ++ record { number = number; action = found.action } ∷ [];
+  labels = with_label above.labels found.label;
+}
+
+-- what stands above, and the line of this number
+abbrev pub line_more : MemberList → Above → ℕ → List ℕ → Result Above ScriptFault
 line_more members above number text = at_line number (line_of members above text) >>= (λ found. Ok (with_line above number found))
 
--- the lines above, and those of the texts, of which the first has this number
-abbrev pub lines_after : MemberList → List Line → ℕ → List (List ℕ) → Result (List Line) ScriptFault
+-- what stands above, and the lines of the texts, of which the first has this number
+abbrev pub lines_after : MemberList → Above → ℕ → List (List ℕ) → Result Above ScriptFault
 lines_after members above number [] = Ok above
 lines_after members above number (text ∷ texts) =
     line_more members above number text >>= (λ more. lines_after members more (suc number) texts)
 
+abbrev pub nothing_above : Above
+nothing_above = record { lines = []; labels = [] }
+
 -- what a script is. Its lines end at line feeds; the last may lack it; a carriage return before one is dropped
 unfoldable pub lines_of : List ℕ → MemberList → Result (List Line) ScriptFault
-lines_of bytes members = lines_after members [] 1 (lines bytes)
+lines_of bytes members = lines_after members nothing_above 1 (lines bytes) >>= (λ above. Ok above.lines)

@@ -1,5 +1,5 @@
-/// Why a line is refused: the first of these that holds. `Utf8`, `Word` and `Arity` come first, then the
-/// arguments from left to right, each by `Member`, `NoNode`, `Number`, and last `NotFirst` and `First`.
+/// Why a line is refused: the first that holds. `Utf8`, `Word` and `Arity` come first, then the arguments from left to
+/// right, each by what its kind asks for in this order, and last `NotFirst` and `First`.
 #[derive(Clone, Copy, Debug, PartialEq, Eq)]
 pub enum Why {
     /// The line is not UTF-8.
@@ -12,11 +12,18 @@ pub enum Why {
     Member,
     /// The line needs a node, and the member has none.
     NoNode,
-    /// The word is not 1 to 20 decimal digits with a value below 2^64.
+    /// The word is not 1 to 20 decimal digits with a value in its range, at most 2^64 - 1.
     Number,
+    /// The word is not 2 to 8,192 hexadecimal digits, an even number.
+    Payload,
+    /// No line above made the label, or a label to be made is not 1 to 16 ASCII letters, digits and `_`, the first a
+    /// letter; or one of the two labels of parents alone is `-`.
+    Label,
+    /// A line above made the label.
+    DoubleLabel,
     /// A `create` line, and one of the same member stands above.
     NotFirst,
-    /// A `sync` line, and no `create` line of the taker stands above.
+    /// A `sync` or `join` line, and no `create` line of the member that makes an event stands above.
     First,
 }
 

@@ -1,10 +1,12 @@
 //! The gossip script: its lines, read from bytes.
 //! The layer above uses `read_script`, which gives just the lines that the bytes are, or the first line that is refused.
-//! The table of lines stands in `specs/Table.antt`, and its Rust form in `table.rt`.
+//! The table of lines stands in `specs/Table.antt`, and its Rust form in `table.rt`, with `argument.rt` for what a word can have to be.
 #![tactic(auto)]
 
 mod above;
+mod argument;
 mod fault;
+mod found;
 mod line;
 mod script;
 mod stop;
@@ -15,5 +17,5 @@ mod verb;
 mod words;
 
 pub use fault::{ScriptFault, Why};
-pub use line::{Action, Line};
+pub use line::{Action, Gossip, Line, Source};
 pub use script::read_script;

@@ -1,8 +1,8 @@
-use hg_model::Member;
+use hg_model::{Bytes, Member};
 
-/// What a line of the script does.
+/// What a node does: it makes an event, or takes some.
 #[derive(Clone, Copy, Debug, PartialEq, Eq)]
-pub enum Action {
+pub enum Gossip {
     /// The member's node makes its first event, at this time.
     Create {
         member: Member,
@@ -14,10 +14,70 @@ pub enum Action {
         peer: Member,
         time: u64,
     },
+    /// The taker's node takes from the peer's the events that it lacks.
+    Pull {
+        taker: Member,
+        peer: Member,
+    },
+    /// The member's node makes an event at this time, with the event of a label as other-parent.
+    Join {
+        member: Member,
+        label: usize,
+        time: u64,
+    },
+    /// The bytes of a label are put to the member's node.
+    Give {
+        member: Member,
+        label: usize,
+    },
+}
+
+/// Where the bytes come from that a label stands for.
+#[derive(Debug, Drop)]
+pub enum Source {
+    /// The last event that the member's own node made, or no bytes.
+    Last {
+        member: Member,
+    },
+    /// An event by this member at this time, signed with the member's secret. Its parents are the events of two
+    /// labels, the self-parent's first.
+    Forged {
+        creator: Member,
+        parents: Option<(usize, usize)>,
+        time: u64,
+    },
+    /// These bytes.
+    Raw {
+        bytes: Bytes,
+    },
+    /// The bytes of a label, of which the one at this place is XORed with the mask, if there is one.
+    Altered {
+        label: usize,
+        at: u64,
+        mask: u8,
+    },
+    /// The first bytes of a label, so many, or all where it has fewer.
+    Front {
+        label: usize,
+        len: u64,
+    },
+}
+
+/// What a line of the script does. A label is told by its number: how many labels were made above it.
+#[derive(Debug, Drop)]
+pub enum Action {
+    /// A node does this, and a line is printed.
+    Gossip(Gossip),
+    /// One label more stands for these bytes. Nothing is printed.
+    Label(Source),
+    /// The block of the member's node is printed.
+    Show { member: Member },
+    /// The same, each line of the order with the event's name.
+    Names { member: Member },
 }
 
 /// A line of the script, numbered from 1.
-#[derive(Clone, Copy, Debug, PartialEq, Eq)]
+#[derive(Debug, Drop)]
 pub struct Line {
     pub number: u64,
     pub action: Action,

@@ -1,15 +1,17 @@
-ghost use Rattle.std.specs.Prelude.{◌≡◌, ◌<◌, All, length, map, take, IfOk, IfSome, OnOk};
+ghost use Rattle.std.specs.Prelude.{◌≡◌, All, map, IfOk, IfSome, OnOk};
 ghost use Rattle.std.specs.Str.{is_utf8};
+ghost use Rattle.std.specs.Str.Lines.{lines};
 ghost use Rattle.hg_script.specs.Gives.{Gives};
-ghost use Rattle.hg_script.specs.Lawful.{IsLawful, IsLine, maker};
+ghost use Rattle.hg_script.specs.Lawful.{IsFound, IsLine};
 ghost use Rattle.hg_script.specs.Script as told;
 
 use crate::above::Above;
 use crate::fault::{ScriptFault, Why};
-use crate::line::{Action, Line};
+use crate::found::Found;
+use crate::line::Line;
 use crate::stop::Stop;
-use crate::table::action_of;
-use crate::words::{MOST_WORDS, first_line, words_of};
+use crate::table::found_by;
+use crate::words::{first_line, words_of};
 use hg_model::{Items, Members, Memory};
 use std::alloc::Global;
 
@@ -22,64 +24,65 @@ fn is_text(line: &[u8]) -> bool
     }
 }
 
-/// What a line without words does, and a comment: they are refused as yet.
-fn silent() -> Result<Option<Action>, Why>
-    ensures { result ≡ told.silent }
-{
-    Err(Why::Word)
-}
-
-fn line_in(members: &Members, above: &Above, words: &[&[u8]]) -> Result<Option<Action>, Why>
-    ensures value { result ≡ told.line_in members.now above.now (map (λ word. word.now) words.now) }
-    ensures lawful { IfOk result (λ found. IfSome found (λ action. IsLawful members.now action × (maker action < 128))) }
+fn line_in<'a>(
+    alloc: Global,
+    members: &Members,
+    above: &Above<'_>,
+    words: &[&'a [u8]],
+) -> Result<Option<Found<'a>>, Stop<Why>>
+    ensures value { Gives (λ found. found) result (told.line_in members.now above.now (map (λ word. word.now) words.now)) }
+    ensures lawful { IfOk result (λ found. IfSome found (IsFound members.now above.now)) }
 {
     match words {
-        [] | [[b'#', ..], ..] => silent(),
-        [word, arguments @ ..] => Ok(Some(action_of(members, above, word, arguments)?)),
+        [] | [[b'#', ..], ..] => Ok(None),
+        [word, arguments @ ..] => Ok(Some(found_by(alloc, members, above, word, arguments)?)),
     }
 }
 
 #[tactic(auto, using(crate::proofs::Enough::words_enough))]
-fn line_of(
+fn line_of<'a>(
+    alloc: Global,
     members: &Members,
-    above: &Above,
-    line: &[u8],
-    words: &[&[u8]],
-) -> Result<Option<Action>, Why>
-    requires { map (λ word. word.now) words.now ≡ take MOST_WORDS (told.words_of line.now) }
-    ensures value { result ≡ told.line_of members.now above.now line.now }
-    ensures lawful { IfOk result (λ found. IfSome found (λ action. IsLawful members.now action × (maker action < 128))) }
+    above: &Above<'_>,
+    line: &'a [u8],
+) -> Result<Option<Found<'a>>, Stop<Why>>
+    ensures value { Gives (λ found. found) result (told.line_of members.now above.now line.now) }
+    ensures lawful { IfOk result (λ found. IfSome found (IsFound members.now above.now)) }
 {
     if !is_text(line) {
-        return Err(Why::Utf8);
+        return Err(Stop::Fault(Why::Utf8));
     }
-    line_in(members, above, words)
+    let words = words_of(alloc, line)?;
+    line_in(alloc, members, above, words.as_slice())
 }
 
 /// One line more, of this number, if it does anything.
-fn push_line(
+fn push_line<'a>(
     alloc: Global,
     members: &Members,
-    above: &mut Above,
+    above: &mut Above<'a>,
     number: u64,
-    line: &[u8],
-) -> Result<(), Stop>
+    line: &'a [u8],
+) -> Result<(), Stop<ScriptFault>>
     ensures read { Gives (λ _. above.new) result (told.line_more members.now above.old number line.now) }
-    ensures lawful { All (IsLine members.now) above.old → OnOk result (All (IsLine members.now) above.new) }
+    ensures lawful { All (IsLine members.now) above.old.lines → OnOk result (All (IsLine members.now) above.new.lines) }
 {
-    let words = words_of(alloc, line)?;
-    match line_of(members, above, line, words.as_slice()) {
-        Ok(Some(action)) => above.push(Line { number, action })?,
+    match line_of(alloc, members, above, line) {
+        Ok(Some(found)) => above.push(number, found)?,
         Ok(None) => {}
-        Err(why) => return Err(Stop::Fault(ScriptFault { line: number, why })),
+        Err(Stop::Fault(why)) => return Err(Stop::Fault(ScriptFault { line: number, why })),
+        Err(Stop::Memory) => return Err(Stop::Memory),
     }
     Ok(())
 }
 
-#[tactic(auto, unfolding(crate::specs::Script::lines_of))]
-fn all_lines(alloc: Global, bytes: &[u8], members: &Members) -> Result<Above, Stop>
-    ensures read { Gives (λ above. above) result (told.lines_of bytes.now members.now) }
-    ensures lawful { IfOk result (λ above. All (IsLine members.now) above) }
+fn all_lines<'a>(
+    alloc: Global,
+    bytes: &'a [u8],
+    members: &Members,
+) -> Result<Above<'a>, Stop<ScriptFault>>
+    ensures read { Gives (λ above. above) result (told.lines_after members.now told.nothing_above 1 (lines bytes.now)) }
+    ensures lawful { IfOk result (λ above. All (IsLine members.now) above.lines) }
 {
     let mut above = Above::new(alloc);
     let mut rest = bytes;
@@ -94,6 +97,7 @@ fn all_lines(alloc: Global, bytes: &[u8], members: &Members) -> Result<Above, St
 }
 
 /// The lines that the bytes of a script are, or the first line that is refused.
+#[tactic(auto, unfolding(crate::specs::Script::lines_of))]
 pub fn read_script(
     alloc: Global,
     bytes: &[u8],

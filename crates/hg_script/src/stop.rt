@@ -1,31 +1,31 @@
 ghost use Rattle.std.specs.Prelude.{◌≡◌};
 
-use crate::fault::ScriptFault;
+use crate::fault::Why;
 use std::alloc::{AllocError, AllocFailed};
 
-/// What ends the reading of a script early.
+/// What ends the reading early.
 #[derive(Clone, Copy, Debug)]
-pub enum Stop {
+pub enum Stop<E> {
     Memory,
-    Fault(ScriptFault),
+    Fault(E),
 }
 
-impl From<AllocError> for Stop {
+impl<E> From<AllocError> for Stop<E> {
     ghost use Rattle.hg_script.specs.declared.stop.Stop.TheVariants.{Memory};
 
     ghost from_gives = { λ _ stop. stop ≡ Memory };
 
-    fn from(_refused: AllocError) -> Stop {
+    fn from(_refused: AllocError) -> Stop<E> {
         Stop::Memory
     }
 }
 
-impl<T: Drop> From<AllocFailed<T>> for Stop {
-    ghost use Rattle.hg_script.specs.declared.stop.Stop.TheVariants.{Memory};
+impl From<Why> for Stop<Why> {
+    ghost use Rattle.hg_script.specs.declared.stop.Stop.TheVariants.{Fault};
 
-    ghost from_gives = { λ _ stop. stop ≡ Memory };
+    ghost from_gives = { λ why stop. stop ≡ Fault why };
 
-    fn from(_refused: AllocFailed<T>) -> Stop {
-        Stop::Memory
+    fn from(why: Why) -> Stop<Why> {
+        Stop::Fault(why)
     }
 }

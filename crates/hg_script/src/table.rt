@@ -1,129 +1,57 @@
-ghost use Rattle.std.specs.Prelude.{◌≡◌, ◌<◌, ◌+◌, ◌-◌, ◌*◌, ◌^◌, ◌≢◌, length, map, position, IfOk, IfSome, IsTrue, SomeIff};
-ghost use Rattle.std.specs.Str.{bytes_eq};
-ghost use Rattle.hg_model.specs.declared.members.MemberEntry.{MemberEntry};
-ghost use Rattle.hg_model.specs.Members.{is_digit};
-ghost use Rattle.hg_script.specs.Lawful.{IsLawful, IsNode, maker};
+ghost use Rattle.std.specs.Prelude.{◌≡◌, map, IfOk};
+ghost use Rattle.hg_model.specs.Members.{MemberList};
+ghost use Rattle.hg_script.specs.Gives.{Gives};
+ghost use Rattle.hg_script.specs.Lawful.{IsFound};
 ghost use Rattle.hg_script.specs.Table as told;
+ghost use Rattle.hg_script.specs.declared.line.Action.TheVariants.{Label};
 
 use crate::above::Above;
+use crate::argument::{
+    byte_of, bytes_of, label_of, member_of, new_label, node_of, number_of, parents_of, peer_of,
+};
 use crate::fault::Why;
-use crate::line::Action;
+use crate::found::Found;
+use crate::line::{Action, Gossip, Source};
+use crate::stop::Stop;
 use crate::verb::Verb;
-use hg_model::{Member, Members};
+use hg_model::Members;
+use std::alloc::Global;
 
-fn is_digit(byte: u8) -> bool
-    ensures { result ≡ is_digit byte }
+fn gossip<'a>(gossip: Gossip) -> Found<'a>
+    ensures { result ≡ told.gossip gossip }
 {
-    matches!(byte, b'0'..=b'9')
+    Found::does(Action::Gossip(gossip))
 }
 
-fn with_digit(value: u64, digit: u8) -> Option<u64>
-    requires { IsTrue (is_digit digit) }
-    ensures { SomeIff result (value * 10 + (digit - 48) < 2 ^ 64) (value * 10 + (digit - 48)) }
+fn makes<'a>(source: Source, label: &'a [u8]) -> Found<'a>
+    ensures { result ≡ told.makes (Label source) label.now }
 {
-    value.checked_mul(10)?.checked_add((digit - b'0') as u64)
-}
-
-fn value_of(word: &[u8]) -> Result<u64, Why>
-    ensures { result ≡ told.small (told.value_after 0 word.now) }
-{
-    let mut value: u64 = 0;
-    for digit in word {
-        if !is_digit(*digit) {
-            return Err(Why::Number);
-        }
-        let Some(longer) = with_digit(value, *digit) else {
-            return Err(Why::Number);
-        };
-        value = longer;
-    }
-    Ok(value)
-}
-
-fn number_of(word: &[u8]) -> Result<u64, Why>
-    ensures { result ≡ told.number_of word.now }
-{
-    if word.is_empty() || word.len() > 20 {
-        return Err(Why::Number);
-    }
-    value_of(word)
-}
-
-fn place_of(members: &Members, name: &[u8]) -> Option<usize>
-    ensures value { result ≡ position (λ (e : MemberEntry). bytes_eq e.name name.now) members.now.entries }
-    ensures listed { IfSome result (λ place. place < 128) }
-{
-    members
-        .entries()
-        .iter()
-        .position(|entry| entry.name.as_slice() == name)
-}
-
-fn member_of(members: &Members, word: &[u8]) -> Result<Member, Why>
-    ensures value { result ≡ told.member_of members.now word.now }
-    ensures listed { IfOk result (λ m. m < 128) }
-{
-    match place_of(members, word) {
-        Some(place) => Ok(place as Member),
-        None => Err(Why::Member),
-    }
-}
-
-fn has_node(members: &Members, member: Member) -> bool
-    ensures { result ≡ told.has_node members.now member }
-{
-    match members.entries().get(member as usize) {
-        Some(entry) => entry.has_node,
-        None => false,
-    }
-}
-
-fn with_node(members: &Members, member: Member) -> Result<Member, Why>
-    ensures value { result ≡ told.with_node members.now member }
-    ensures node { IfOk result (λ m. IsNode members.now m × (m ≡ member)) }
-{
-    if has_node(members, member) {
-        Ok(member)
-    } else {
-        Err(Why::NoNode)
-    }
-}
-
-fn node_of(members: &Members, word: &[u8]) -> Result<Member, Why>
-    ensures value { result ≡ told.node_of members.now word.now }
-    ensures node { IfOk result (λ m. IsNode members.now m × (m < 128)) }
-{
-    with_node(members, member_of(members, word)?)
-}
-
-fn peer_of(members: &Members, taker: Member, word: &[u8]) -> Result<Member, Why>
-    ensures value { result ≡ told.peer_of members.now taker word.now }
-    ensures node { IfOk result (λ m. IsNode members.now m × (m ≢ taker)) }
-{
-    let peer = member_of(members, word)?;
-    if peer == taker {
-        return Err(Why::Member);
-    }
-    with_node(members, peer)
+    Found::makes(Action::Label(source), label)
 }
 
 #[tactic(auto, unfolding(crate::specs::Table::create))]
-fn create(members: &Members, above: &Above, x: &[u8], t: &[u8]) -> Result<Action, Why>
+fn create<'a>(members: &Members, above: &Above<'_>, x: &[u8], t: &[u8]) -> Result<Found<'a>, Why>
     ensures value { result ≡ told.create members.now above.now x.now t.now }
-    ensures lawful { IfOk result (λ action. IsLawful members.now action × (maker action < 128)) }
+    ensures lawful { IfOk result (IsFound members.now above.now) }
 {
     let member = node_of(members, x)?;
     let time = number_of(t)?;
     if above.is_created(member) {
         return Err(Why::NotFirst);
     }
-    Ok(Action::Create { member, time })
+    Ok(gossip(Gossip::Create { member, time }))
 }
 
 #[tactic(auto, unfolding(crate::specs::Table::sync))]
-fn sync(members: &Members, above: &Above, x: &[u8], y: &[u8], t: &[u8]) -> Result<Action, Why>
+fn sync<'a>(
+    members: &Members,
+    above: &Above<'_>,
+    x: &[u8],
+    y: &[u8],
+    t: &[u8],
+) -> Result<Found<'a>, Why>
     ensures value { result ≡ told.sync members.now above.now x.now y.now t.now }
-    ensures lawful { IfOk result (λ action. IsLawful members.now action × (maker action < 128)) }
+    ensures lawful { IfOk result (IsFound members.now above.now) }
 {
     let taker = node_of(members, x)?;
     let peer = peer_of(members, taker, y)?;
@@ -131,37 +59,229 @@ fn sync(members: &Members, above: &Above, x: &[u8], y: &[u8], t: &[u8]) -> Resul
     if !above.is_created(taker) {
         return Err(Why::First);
     }
-    Ok(Action::Sync { taker, peer, time })
+    Ok(gossip(Gossip::Sync { taker, peer, time }))
 }
 
-fn line_by(members: &Members, above: &Above, verb: Verb, arguments: &[&[u8]]) -> Result<Action, Why>
-    ensures value { result ≡ told.line_by members.now above.now verb (map (λ word. word.now) arguments.now) }
-    ensures lawful { IfOk result (λ action. IsLawful members.now action × (maker action < 128)) }
+#[tactic(auto, unfolding(crate::specs::Table::pull))]
+fn pull<'a>(members: &Members, x: &[u8], y: &[u8]) -> Result<Found<'a>, Why>
+    ensures value { result ≡ told.pull members.now x.now y.now }
+    ensures lawful { (above : told.Above) → IfOk result (IsFound members.now above) }
+{
+    let taker = node_of(members, x)?;
+    let peer = peer_of(members, taker, y)?;
+    Ok(gossip(Gossip::Pull { taker, peer }))
+}
+
+#[tactic(auto, unfolding(crate::specs::Table::join))]
+fn join<'a>(
+    members: &Members,
+    above: &Above<'_>,
+    x: &[u8],
+    l: &[u8],
+    t: &[u8],
+) -> Result<Found<'a>, Why>
+    ensures value { result ≡ told.join members.now above.now x.now l.now t.now }
+    ensures lawful { IfOk result (IsFound members.now above.now) }
+{
+    let member = node_of(members, x)?;
+    let label = label_of(above, l)?;
+    let time = number_of(t)?;
+    if !above.is_created(member) {
+        return Err(Why::First);
+    }
+    Ok(gossip(Gossip::Join {
+        member,
+        label,
+        time,
+    }))
+}
+
+#[tactic(auto, unfolding(crate::specs::Table::name))]
+fn name<'a>(members: &Members, above: &Above<'_>, l: &'a [u8], x: &[u8]) -> Result<Found<'a>, Why>
+    ensures value { result ≡ told.name members.now above.now l.now x.now }
+    ensures lawful { IfOk result (IsFound members.now above.now) }
+{
+    let label = new_label(above, l)?;
+    let member = node_of(members, x)?;
+    Ok(makes(Source::Last { member }, label))
+}
+
+#[tactic(auto, unfolding(crate::specs::Table::forge))]
+fn forge<'a>(
+    members: &Members,
+    above: &Above<'_>,
+    l: &'a [u8],
+    m: &[u8],
+    s: &[u8],
+    o: &[u8],
+    t: &[u8],
+) -> Result<Found<'a>, Why>
+    ensures value { result ≡ told.forge members.now above.now l.now m.now s.now o.now t.now }
+    ensures lawful { IfOk result (IsFound members.now above.now) }
+{
+    let label = new_label(above, l)?;
+    let creator = member_of(members, m)?;
+    let parents = parents_of(above, s, o)?;
+    let time = number_of(t)?;
+    Ok(makes(
+        Source::Forged {
+            creator,
+            parents,
+            time,
+        },
+        label,
+    ))
+}
+
+#[tactic(auto, unfolding(crate::specs::Table::raw))]
+fn raw<'a>(alloc: Global, above: &Above<'_>, l: &'a [u8], h: &[u8]) -> Result<Found<'a>, Stop<Why>>
+    ensures value { Gives (λ found. found) result (told.raw above.now l.now h.now) }
+    ensures lawful { (members : MemberList) → IfOk result (IsFound members above.now) }
+{
+    let label = new_label(above, l)?;
+    let bytes = bytes_of(alloc, h)?;
+    Ok(makes(Source::Raw { bytes }, label))
+}
+
+#[tactic(auto, unfolding(crate::specs::Table::alter))]
+fn alter<'a>(
+    above: &Above<'_>,
+    l: &'a [u8],
+    l2: &[u8],
+    place: &[u8],
+    b: &[u8],
+) -> Result<Found<'a>, Why>
+    ensures value { result ≡ told.alter above.now l.now l2.now place.now b.now }
+    ensures lawful { (members : MemberList) → IfOk result (IsFound members above.now) }
+{
+    let label = new_label(above, l)?;
+    let altered = label_of(above, l2)?;
+    let at = number_of(place)?;
+    let mask = byte_of(b)?;
+    Ok(makes(
+        Source::Altered {
+            label: altered,
+            at,
+            mask,
+        },
+        label,
+    ))
+}
+
+#[tactic(auto, unfolding(crate::specs::Table::cut))]
+fn cut<'a>(above: &Above<'_>, l: &'a [u8], l2: &[u8], k: &[u8]) -> Result<Found<'a>, Why>
+    ensures value { result ≡ told.cut above.now l.now l2.now k.now }
+    ensures lawful { (members : MemberList) → IfOk result (IsFound members above.now) }
+{
+    let label = new_label(above, l)?;
+    let whole = label_of(above, l2)?;
+    let len = number_of(k)?;
+    Ok(makes(Source::Front { label: whole, len }, label))
+}
+
+#[tactic(auto, unfolding(crate::specs::Table::give))]
+fn give<'a>(members: &Members, above: &Above<'_>, x: &[u8], l: &[u8]) -> Result<Found<'a>, Why>
+    ensures value { result ≡ told.give members.now above.now x.now l.now }
+    ensures lawful { IfOk result (IsFound members.now above.now) }
+{
+    let member = node_of(members, x)?;
+    let label = label_of(above, l)?;
+    Ok(gossip(Gossip::Give { member, label }))
+}
+
+#[tactic(auto, unfolding(crate::specs::Table::show))]
+fn show<'a>(members: &Members, x: &[u8]) -> Result<Found<'a>, Why>
+    ensures value { result ≡ told.show members.now x.now }
+    ensures lawful { (above : told.Above) → IfOk result (IsFound members.now above) }
+{
+    let member = node_of(members, x)?;
+    Ok(Found::does(Action::Show { member }))
+}
+
+#[tactic(auto, unfolding(crate::specs::Table::names))]
+fn names<'a>(members: &Members, x: &[u8]) -> Result<Found<'a>, Why>
+    ensures value { result ≡ told.names members.now x.now }
+    ensures lawful { (above : told.Above) → IfOk result (IsFound members.now above) }
+{
+    let member = node_of(members, x)?;
+    Ok(Found::does(Action::Names { member }))
+}
+
+fn line_by<'a>(
+    alloc: Global,
+    members: &Members,
+    above: &Above<'_>,
+    verb: Verb,
+    arguments: &[&'a [u8]],
+) -> Result<Found<'a>, Stop<Why>>
+    ensures value { Gives (λ found. found) result (told.line_by members.now above.now verb (map (λ word. word.now) arguments.now)) }
+    ensures lawful { IfOk result (IsFound members.now above.now) }
 {
     match verb {
         Verb::Create => match arguments {
-            [x, t] => create(members, above, x, t),
-            _ => Err(Why::Arity),
+            [x, t] => Ok(create(members, above, x, t)?),
+            _ => Err(Stop::Fault(Why::Arity)),
         },
         Verb::Sync => match arguments {
-            [x, y, t] => sync(members, above, x, y, t),
-            _ => Err(Why::Arity),
+            [x, y, t] => Ok(sync(members, above, x, y, t)?),
+            _ => Err(Stop::Fault(Why::Arity)),
+        },
+        Verb::Pull => match arguments {
+            [x, y] => Ok(pull(members, x, y)?),
+            _ => Err(Stop::Fault(Why::Arity)),
+        },
+        Verb::Join => match arguments {
+            [x, l, t] => Ok(join(members, above, x, l, t)?),
+            _ => Err(Stop::Fault(Why::Arity)),
+        },
+        Verb::Name => match arguments {
+            [l, x] => Ok(name(members, above, l, x)?),
+            _ => Err(Stop::Fault(Why::Arity)),
+        },
+        Verb::Forge => match arguments {
+            [l, m, s, o, t] => Ok(forge(members, above, l, m, s, o, t)?),
+            _ => Err(Stop::Fault(Why::Arity)),
+        },
+        Verb::Raw => match arguments {
+            [l, h] => raw(alloc, above, l, h),
+            _ => Err(Stop::Fault(Why::Arity)),
+        },
+        Verb::Alter => match arguments {
+            [l, l2, place, b] => Ok(alter(above, l, l2, place, b)?),
+            _ => Err(Stop::Fault(Why::Arity)),
+        },
+        Verb::Cut => match arguments {
+            [l, l2, k] => Ok(cut(above, l, l2, k)?),
+            _ => Err(Stop::Fault(Why::Arity)),
+        },
+        Verb::Give => match arguments {
+            [x, l] => Ok(give(members, above, x, l)?),
+            _ => Err(Stop::Fault(Why::Arity)),
+        },
+        Verb::Show => match arguments {
+            [x] => Ok(show(members, x)?),
+            _ => Err(Stop::Fault(Why::Arity)),
+        },
+        Verb::Names => match arguments {
+            [x] => Ok(names(members, x)?),
+            _ => Err(Stop::Fault(Why::Arity)),
         },
     }
 }
 
 /// What a line does that begins with this word, with these behind it and those lines above.
-pub fn action_of(
+pub fn found_by<'a>(
+    alloc: Global,
     members: &Members,
-    above: &Above,
+    above: &Above<'_>,
     word: &[u8],
-    arguments: &[&[u8]],
-) -> Result<Action, Why>
-    ensures value { result ≡ told.action_of members.now above.now word.now (map (λ word. word.now) arguments.now) }
-    ensures lawful { IfOk result (λ action. IsLawful members.now action × (maker action < 128)) }
+    arguments: &[&'a [u8]],
+) -> Result<Found<'a>, Stop<Why>>
+    ensures value { Gives (λ found. found) result (told.found_by members.now above.now word.now (map (λ word. word.now) arguments.now)) }
+    ensures lawful { IfOk result (IsFound members.now above.now) }
 {
     match Verb::of(word) {
-        Some(verb) => line_by(members, above, verb, arguments),
-        None => Err(Why::Word),
+        Some(verb) => line_by(alloc, members, above, verb, arguments),
+        None => Err(Stop::Fault(Why::Word)),
     }
 }

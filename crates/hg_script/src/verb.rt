@@ -6,6 +6,16 @@ ghost use Rattle.hg_script.specs.Table.{verb_of};
 pub enum Verb {
     Create,
     Sync,
+    Pull,
+    Join,
+    Name,
+    Forge,
+    Raw,
+    Alter,
+    Cut,
+    Give,
+    Show,
+    Names,
 }
 
 impl Verb {
@@ -13,12 +23,20 @@ impl Verb {
     pub fn of(word: &[u8]) -> Option<Verb>
         ensures { result ≡ verb_of word.now }
     {
-        if word == b"create".as_slice() {
-            Some(Verb::Create)
-        } else if word == b"sync".as_slice() {
-            Some(Verb::Sync)
-        } else {
-            None
+        match word {
+            b"create" => Some(Verb::Create),
+            b"sync" => Some(Verb::Sync),
+            b"pull" => Some(Verb::Pull),
+            b"join" => Some(Verb::Join),
+            b"name" => Some(Verb::Name),
+            b"forge" => Some(Verb::Forge),
+            b"raw" => Some(Verb::Raw),
+            b"alter" => Some(Verb::Alter),
+            b"cut" => Some(Verb::Cut),
+            b"give" => Some(Verb::Give),
+            b"show" => Some(Verb::Show),
+            b"names" => Some(Verb::Names),
+            _ => None,
         }
     }
 }

@@ -8,7 +8,7 @@ use std::alloc::Global;
 use std::marker::Model;
 
 /// What signs under one secret: the two hashers of HMAC (RFC 2104), each after the block that depends
-/// on the secret alone, as its section 4 suggests, so that no signature hashes these blocks again.
+/// on the secret alone, so that no signature hashes these blocks again.
 /// Contracts see the secret, which is kept for them.
 #[derive(Drop)]
 pub(crate) struct Key {

@@ -1,5 +1,5 @@
 -- What comes of reading the two files
-use Rattle.std.specs.Prelude.{ℕ, ◌≡◌, List, Option, Some, None, IfSome, IsSomeAnd, ⊤}
+use Rattle.std.specs.Prelude.{ℕ, ◌≡◌, List, Option, Some, Ok, Err, IfSome, IsSomeAnd, ⊤}
 use Rattle.hg_io.specs.Bytes.{Appends, AppendsPart}
 use Rattle.hg_io.specs.Faults.{Rose}
 use Rattle.hg_io.specs.Files.{Files, content_of}
@@ -14,24 +14,24 @@ use Rattle.hg_top.specs.Top.{Has, members_in, lines_in}
 pub record ReadsMembers (holds : Option Files) (name : List ℕ) (members : MemberList) : Type 0 where
   pub bytes : List ℕ
   pub has : Has holds name bytes
-  pub is : members_in bytes ≡ Some members
+  pub is : members_in bytes ≡ Ok members
 
 pub record ReadsLines (holds : Option Files) (name : List ℕ) (members : MemberList) (lines : List Line) : Type 0 where
   pub bytes : List ℕ
   pub has : Has holds name bytes
-  pub is : lines_in members bytes ≡ Some lines
+  pub is : lines_in members bytes ≡ Ok lines
 
 -- why no members were read
 abbrev pub StopsAtMembers : Option Files → List ℕ → ℕ → ℕ → Status → Type 0
 StopsAtMembers holds name before after (ReadFault file.Members) = Rose before after
-StopsAtMembers holds name before after Members = IfSome holds (λ files. IsSomeAnd (content_of files name) (λ bytes. members_in bytes ≡ None))
+StopsAtMembers holds name before after (Members refusal) = IfSome holds (λ files. IsSomeAnd (content_of files name) (λ bytes. members_in bytes ≡ Err refusal))
 StopsAtMembers holds name before after Memory = ⊤
 StopsAtMembers holds name before after _ = ⊥
 
 -- why no lines were read
 abbrev pub StopsAtScript : Option Files → List ℕ → MemberList → ℕ → ℕ → Status → Type 0
 StopsAtScript holds name members before after (ReadFault file.Script) = Rose before after
-StopsAtScript holds name members before after Script = IfSome holds (λ files. IsSomeAnd (content_of files name) (λ bytes. lines_in members bytes ≡ None))
+StopsAtScript holds name members before after (Script refusal) = IfSome holds (λ files. IsSomeAnd (content_of files name) (λ bytes. lines_in members bytes ≡ Err refusal))
 StopsAtScript holds name members before after Memory = ⊤
 StopsAtScript holds name members before after _ = ⊥
 

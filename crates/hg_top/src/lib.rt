@@ -1,16 +1,13 @@
 //! The program in one call: words, files, nodes, report.
 //! `main` uses `hashgraph`, whose clauses say what it writes for which files, and the cause of each status.
-//! The nodes are lists of rows, and everything is computed whole.
+//! What the script does is `hg_play`'s, and what is written is told by `report_text` and `status_line`.
 #![tactic(auto)]
 
-mod node;
-mod play;
-mod rules;
 mod status;
+mod telling;
 #[cfg(test)]
 mod tests;
 mod top;
-mod words;
 
-pub use status::{File, Status};
+pub use status::{File, Refusal, Status};
 pub use top::hashgraph;

@@ -1,11 +1,23 @@
 ghost use Rattle.std.specs.Prelude.{◌≡◌};
-ghost use Rattle.hg_top.specs.Top.{status_code, status_line};
+ghost use Rattle.hg_top.specs.Top.{status_code};
+
+use hg_members::MemberFault;
+use hg_script::ScriptFault;
 
 /// One of the two files of a run.
 #[derive(Clone, Copy, Debug, PartialEq, Eq)]
 pub enum File {
     Members,
     Script,
+}
+
+/// What is wrong with a file.
+#[derive(Clone, Copy, Debug, PartialEq, Eq)]
+pub enum Refusal<F> {
+    /// It has more bytes than such a file may have.
+    TooLong,
+    /// Its first fault.
+    Fault(F),
 }
 
 /// What a call of the program came to.
@@ -17,10 +29,10 @@ pub enum Status {
     ReadFault(File),
     /// The words are not accepted.
     Usage,
-    /// The member file is too long or breaks a rule.
-    Members,
-    /// The script is too long, or a line of it is refused.
-    Script,
+    /// The member file has more than 1,048,576 bytes or breaks a rule.
+    Members(Refusal<MemberFault>),
+    /// The script has more than 16,777,216 bytes, or a line of it is refused.
+    Script(Refusal<ScriptFault>),
     /// Standard output failed: a front of the report was written.
     WriteFault,
     /// Memory ran out before the first write.
@@ -36,28 +48,10 @@ impl Status {
             Status::Done => 0,
             Status::ReadFault(_) => 1,
             Status::Usage => 2,
-            Status::Members => 3,
-            Status::Script => 4,
+            Status::Members(_) => 3,
+            Status::Script(_) => 4,
             Status::WriteFault => 5,
             Status::Memory => 6,
         }
-    }
-}
-
-/// What is told on standard error: one line, or nothing where all went well.
-pub(crate) fn status_line(status: Status) -> &'static [u8]
-    ensures { result.now ≡ status_line status }
-{
-    match status {
-        Status::Done => b"",
-        Status::ReadFault(File::Members) => b"hashgraph: cannot read the member file\n",
-        Status::ReadFault(File::Script) => b"hashgraph: cannot read the script\n",
-        Status::Usage => {
-            b"hashgraph: usage: run --members FILE --script FILE [--workers K] or make --members N --lines L --seed S [--workers K]\n"
-        }
-        Status::Members => b"hashgraph: members: unread\n",
-        Status::Script => b"hashgraph: script: unread\n",
-        Status::WriteFault => b"hashgraph: cannot write\n",
-        Status::Memory => b"hashgraph: out of memory\n",
     }
 }

@@ -1,6 +1,8 @@
-use crate::status::{File, Status};
+use crate::status::{File, Refusal, Status};
 use crate::top::hashgraph;
 use hg_io::{ShelfMem, SinkMem};
+use hg_members::MemberFault;
+use hg_script::{ScriptFault, Why};
 use std::alloc::Global;
 use std::process::Abort;
 use std::test::Fail;
@@ -116,44 +118,29 @@ fn empty_script_and_bare_peer(rt: HostRuntime) -> Result<(), Fail> {
     Ok(())
 }
 
-#[test]
-fn failing_reads(rt: HostRuntime) -> Result<(), Fail> {
-    let alloc = rt.alloc();
-    for call in [0, 1, 2] {
-        let ran = run(
-            alloc,
-            WORDS.as_slice(),
-            MEMBERS,
-            SCRIPT,
-            &[call],
-            ample(alloc)?,
-        )?;
-        expect(
-            &rt,
-            &ran,
-            Status::ReadFault(File::Members),
-            "",
-            "hashgraph: cannot read the member file\n",
-        );
-    }
-    for call in [3, 4, 5] {
-        let ran = run(
-            alloc,
-            WORDS.as_slice(),
-            MEMBERS,
-            SCRIPT,
-            &[call],
-            ample(alloc)?,
-        )?;
-        expect(
-            &rt,
-            &ran,
-            Status::ReadFault(File::Script),
-            "",
-            "hashgraph: cannot read the script\n",
-        );
+/// With each of these calls of the shelf failing, the run ends at this file, and tells it so.
+fn expect_read_fault(
+    rt: &impl Abort,
+    alloc: Global,
+    calls: &[u64],
+    file: File,
+    err: &str,
+) -> Result<(), Fail> {
+    for call in calls {
+        let fails = [*call];
+        let out = ample(alloc)?;
+        let ran = run(alloc, WORDS.as_slice(), MEMBERS, SCRIPT, &fails, out)?;
+        expect(rt, &ran, Status::ReadFault(file), "", err);
     }
     Ok(())
+}
+
+#[test]
+fn failing_reads(rt: HostRuntime) -> Result<(), Fail> {
+    let members = "hashgraph: cannot read the member file\n";
+    let script = "hashgraph: cannot read the script\n";
+    expect_read_fault(&rt, rt.alloc(), &[0, 1, 2], File::Members, members)?;
+    expect_read_fault(&rt, rt.alloc(), &[3, 4, 5], File::Script, script)
 }
 
 #[test]
@@ -172,7 +159,7 @@ fn failing_writes(rt: HostRuntime) -> Result<(), Fail> {
 }
 
 #[test]
-fn faulty_words_and_files(rt: HostRuntime) -> Result<(), Fail> {
+fn faulty_words(rt: HostRuntime) -> Result<(), Fail> {
     let alloc = rt.alloc();
     let usage =
         "hashgraph: usage: run --members FILE --script FILE [--workers K] or make --members N --lines L --seed S [--workers K]\n";
@@ -195,23 +182,104 @@ fn faulty_words_and_files(rt: HostRuntime) -> Result<(), Fail> {
         ample(alloc)?,
     )?;
     expect(&rt, &ran, Status::Usage, "", usage);
-    let one = "[[member]]\nname = \"A\"\nsecret = \"0b\"\n";
-    let ran = run(alloc, WORDS.as_slice(), one, SCRIPT, &[], ample(alloc)?)?;
-    expect(
-        &rt,
-        &ran,
-        Status::Members,
-        "",
-        "hashgraph: members: unread\n",
-    );
-    let ran = run(
-        alloc,
-        WORDS.as_slice(),
-        MEMBERS,
-        "sync A B 1\n",
-        &[],
-        ample(alloc)?,
-    )?;
-    expect(&rt, &ran, Status::Script, "", "hashgraph: script: unread\n");
     Ok(())
+}
+
+/// The run over these files ends so, and tells this line.
+fn expect_refusal(
+    rt: &impl Abort,
+    alloc: Global,
+    members: &str,
+    script: &str,
+    status: Status,
+    err: &str,
+) -> Result<(), Fail> {
+    let out = ample(alloc)?;
+    let ran = run(alloc, WORDS.as_slice(), members, script, &[], out)?;
+    expect(rt, &ran, status, "", err);
+    Ok(())
+}
+
+#[test]
+fn refused_member_files(rt: HostRuntime) -> Result<(), Fail> {
+    let one = "[[member]]\nname = \"A\"\nsecret = \"0b\"\n";
+    for (file, fault, err) in [
+        (one, MemberFault::Count(1), "hashgraph: members: count 1\n"),
+        (
+            "coin = -9223372036854775808\n",
+            MemberFault::BadCoin(i64::MIN),
+            "hashgraph: members: coin -9223372036854775808\n",
+        ),
+        (
+            "coin = 2\n",
+            MemberFault::BadCoin(2),
+            "hashgraph: members: coin 2\n",
+        ),
+        (
+            "member = [1, 2]\n",
+            MemberFault::BadName(0),
+            "hashgraph: members: name 0\n",
+        ),
+        (
+            "coin\n",
+            MemberFault::NotToml,
+            "hashgraph: members: not-toml\n",
+        ),
+    ] {
+        let status = Status::Members(Refusal::Fault(fault));
+        expect_refusal(&rt, rt.alloc(), file, SCRIPT, status, err)?;
+    }
+    Ok(())
+}
+
+#[test]
+fn refused_scripts(rt: HostRuntime) -> Result<(), Fail> {
+    for (script, line, why, err) in [
+        (
+            "sync A B 1\n",
+            1,
+            Why::First,
+            "hashgraph: script line 1: first\n",
+        ),
+        (
+            "# first\n\ncreate A 1\ncreate A 2\n",
+            4,
+            Why::NotFirst,
+            "hashgraph: script line 4: not-first\n",
+        ),
+        (
+            "create A 1\ncreate C x\n",
+            2,
+            Why::Member,
+            "hashgraph: script line 2: member\n",
+        ),
+    ] {
+        let status = Status::Script(Refusal::Fault(ScriptFault { line, why }));
+        expect_refusal(&rt, rt.alloc(), MEMBERS, script, status, err)?;
+    }
+    Ok(())
+}
+
+// A file of just so many bytes is read; one more is too many.
+#[test]
+fn long_files(rt: HostRuntime) -> Result<(), Fail> {
+    let alloc = rt.alloc();
+    let mut long = String::from_str(alloc, MEMBERS)?;
+    for _ in MEMBERS.len()..1_048_576 {
+        long.push('\n')?;
+    }
+    let out = ample(alloc)?;
+    let ran = run(alloc, WORDS.as_slice(), long.as_str(), SCRIPT, &[], out)?;
+    expect(&rt, &ran, Status::Done, REPORT, "");
+    long.push('\n')?;
+    let status = Status::Members(Refusal::TooLong);
+    let err = "hashgraph: members: too-long\n";
+    expect_refusal(&rt, rt.alloc(), long.as_str(), SCRIPT, status, err)?;
+    let mut script = String::from_str(alloc, SCRIPT)?;
+    for _ in SCRIPT.len()..16_777_217 {
+        script.push('\n')?;
+    }
+    let status = Status::Script(Refusal::TooLong);
+    let err = "hashgraph: script: too-long\n";
+    expect_refusal(&rt, rt.alloc(), MEMBERS, script.as_str(), status, err)
 }

@@ -1,7 +1,7 @@
 use Rattle.std.proofs.Common.{◌≡◌, ◌∙◌, ap₂}
 use Rattle.std.proofs.lemmas.Result.{IfOk-weaker}
 use Rattle.hg_model.specs.Order.{ordered, order_of}
-use Rattle.hg_plain.specs.Shape.{Shape}
+use Rattle.hg_model.specs.Shape.{Shape}
 use Rattle.hg_plain.proofs.plain.plain_order.Goals as goal
 
 pub returns : goal.returns

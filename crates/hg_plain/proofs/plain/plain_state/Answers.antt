@@ -1,7 +1,7 @@
 use Rattle.std.proofs.Common.{◌∙◌, ap₂}
 use Rattle.hg_model.specs.Order.{last_closed}
 use Rattle.hg_model.specs.Ledger.{closed_of}
-use Rattle.hg_plain.specs.Shape.{Shape}
+use Rattle.hg_model.specs.Shape.{Shape}
 use Rattle.hg_plain.proofs.plain.plain_state.Goals as goal
 
 pub returns-clause-closed : goal.returns-clause-closed

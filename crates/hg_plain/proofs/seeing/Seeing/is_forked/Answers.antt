@@ -1,6 +1,6 @@
 use Rattle.std.proofs.Common.{◌≡◌, ◌<◌, ◌∙◌, ap, length}
 use Rattle.hg_model.specs.Links.{creator}
-use Rattle.hg_plain.specs.Shape.{Shape}
+use Rattle.hg_model.specs.Shape.{Shape}
 use Rattle.hg_plain.proofs.TableLaws.{cell_told}
 use Rattle.hg_plain.proofs.seeing.Seeing.is_forked.Goals as goal
 

@@ -3,7 +3,7 @@ use Rattle.hg_model.specs.Places.{maximum_below}
 use Rattle.hg_model.specs.Graph.{IsShaped}
 use Rattle.hg_model.specs.Forks.{forkers}
 use Rattle.hg_model.proofs.LinkLaws.{length-links}
-use Rattle.hg_plain.specs.Shape.{Shape}
+use Rattle.hg_model.specs.Shape.{Shape}
 use Rattle.hg_plain.proofs.StepLaws.{last_round_told}
 use Rattle.hg_plain.proofs.sight.PlainSight.new.Goals as goal
 

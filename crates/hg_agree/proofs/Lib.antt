@@ -1,0 +1,2 @@
+pub mod QuorumLaws
+pub mod LaterLaws

@@ -1,0 +1,3 @@
+pub mod Quorum
+pub mod Agreement
+pub mod Late

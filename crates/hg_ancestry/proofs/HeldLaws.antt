@@ -1,0 +1,97 @@
+-- What is read in the rows of bits
+use Rattle.std.proofs.Common.{◌≡◌, ℕ, ◌+◌, ◌<◌, ◌≤◌, ◌||◌, ◌&&◌, not, eqb, true, false, List, [], ◌∷◌, Bool, length, get_or, replicate, Option, Some, None, sym, ap, ◌∙◌, refl, inl, inr, arith}
+use Rattle.std.proofs.lemmas.Bool.{cases_lt, and_parts, and_from, eq-eqb, eqb-true, not-true, not_from_false, false_from_ne_true}
+use Rattle.std.proofs.lemmas.List.{get_or_read, get_or_past, get_or-replicate, length-replicate}
+use Rattle.hg_model.specs.Places.{table, IsEarlier}
+use Rattle.hg_model.specs.Links.{Link, parents, creator}
+use Rattle.hg_model.specs.Ancestry.{is_ancestor}
+use Rattle.std.specs.List.{AllByRecursion}
+use Rattle.hg_model.specs.Shape.{FitsLink, link_of, pair_list}
+use Rattle.hg_model.proofs.ReachLaws.{has_place_first, has_place_later}
+use Rattle.hg_model.proofs.PlacesLaws.{some_below_from, some_below_found}
+use Rattle.hg_model.proofs.AncestryLaws.{is_ancestor-le}
+use Rattle.hg_bits.specs.Rows.{is_in, is_over, with_place, union_of}
+use Rattle.hg_bits.proofs.RowLaws.{is_in-table, is_table, length-table}
+use Rattle.hg_ancestry.specs.Held.{row_at, HoldsAncestors, is_above, is_apart}
+
+pub row_read : (rows : List (List Bool)) (x : ℕ) (row : List Bool) → x < length rows → row ≡ get_or rows x row → row ≡ row_at rows x
+unfolding row_at
+row_read rows x row h is = get_or_read rows x row h is []
+
+pub ruleset row_reads = (row_read)
+
+module _ (L : List Link) (e : IsEarlier (parents L)) (rows : List (List Bool)) (held : HoldsAncestors L rows) where
+  pub row_long : (x : ℕ) → x < length L → length (row_at rows x) ≡ x + 1
+  row_long x h = ap length (held.row x h) ∙ length-table (is_ancestor L x) (x + 1)
+
+  -- what the row of x has, also past its end
+  pub row_tells : (x y : ℕ) → x < length L → is_in (row_at rows x) y ≡ is_ancestor L x y
+  row_tells x y h = elim (cases_lt y (x + 1)) [
+    | inl inside ↦ ap (λ row. is_in row y) (held.row x h) ∙ is_in-table (is_ancestor L x) (x + 1) y inside
+    | inr past ↦ get_or_past (row_at rows x) y false (omega (arith, row_long x h))
+        ∙ sym (false_from_ne_true (is_ancestor L x y) (λ up. absurd (omega (arith, is_ancestor-le L e x y up))))
+  ]
+
+  -- a row by m that is above the one and not above the other
+  pub apart_found : (x z m : ℕ) → x < length L → z < length L → is_apart L (row_at rows x) (row_at rows z) m ≡ true →
+      (a : ℕ) × (is_ancestor L x a ≡ true) × (is_ancestor L z a ≡ false) × (creator L a ≡ m)
+  apart_found x z m hx hz h =
+      let found = some_below_found (length (row_at rows x)) (λ a. is_over (row_at rows x) (row_at rows z) a && eqb (creator L a) m) h in
+      let a : ℕ = found.0 in
+      let parts = and_parts (is_over (row_at rows x) (row_at rows z) a) (eqb (creator L a) m) found.2 in
+      let over = and_parts (is_in (row_at rows x) a) (not (is_in (row_at rows z) a)) parts.0 in
+      (a, sym (row_tells x a hx) ∙ over.0, sym (row_tells z a hz) ∙ not-true (is_in (row_at rows z) a) over.1, eqb-true (creator L a) m parts.1)
+
+  pub apart_from : (x z m a : ℕ) → x < length L → z < length L → is_ancestor L x a ≡ true → is_ancestor L z a ≡ false → creator L a ≡ m →
+      is_apart L (row_at rows x) (row_at rows z) m ≡ true
+  apart_from x z m a hx hz up none by_m =
+      let low : a ≤ x = is_ancestor-le L e x a up in
+      some_below_from (length (row_at rows x)) (λ a. is_over (row_at rows x) (row_at rows z) a && eqb (creator L a) m) a (omega (arith, row_long x hx))
+      (and_from (is_over (row_at rows x) (row_at rows z) a) (eqb (creator L a) m)
+      (and_from (is_in (row_at rows x) a) (not (is_in (row_at rows z) a)) (row_tells x a hx ∙ up) (not_from_false (is_in (row_at rows z) a) (row_tells z a hz ∙ none)))
+      (eq-eqb (creator L a) m by_m))
+
+  -- the next row of bits: that of no place
+
+  pub filled_none : (n : ℕ) → replicate n false ≡ table (is_above L None) n
+  filled_none n = is_table (replicate n false) (is_above L None) n (length-replicate n false) (λ i h. get_or-replicate n i false false h)
+
+  joined_one : (row : List Bool) (x k : ℕ) → x < length L → k < length row → is_in (union_of row (row_at rows x)) k ≡ (is_in row k || is_ancestor L x k)
+  unfolding union_of
+  joined_one row x k hx hk =
+      is_in-table (λ k. is_in row k || is_in (row_at rows x) k) (length row) k hk ∙ ap (λ b. is_in row k || b) (row_tells x k hx)
+
+  pub joined_long : (row other : List Bool) → length (union_of row other) ≡ length row
+  unfolding union_of
+  joined_long row other = length-table (λ k. is_in row k || is_in other k) (length row)
+
+  or_none : (b : Bool) → b ≡ (b || false)
+  or_none true = refl
+  or_none false = refl
+
+  -- that of two parents' ancestors
+  pub filled_on : (n own other : ℕ) → own < length L → other < length L →
+      union_of (union_of (replicate n false) (row_at rows own)) (row_at rows other) ≡ table (is_above L (Some (own, other))) n
+  filled_on n own other hown hother =
+      let empty : List Bool = replicate n false in
+      let first = union_of empty (row_at rows own) in
+      let long : length empty ≡ n = length-replicate n false in
+      let first_long = joined_long empty (row_at rows own) in
+      is_table (union_of first (row_at rows other)) (is_above L (Some (own, other))) n (joined_long first (row_at rows other) ∙ (first_long ∙ long))
+      (λ k h. joined_one first other k hother (omega (arith, first_long, long))
+      ∙ (ap (λ b. b || is_ancestor L other k) (joined_one empty own k hown (omega (arith, long)) ∙ ap (λ b. b || is_ancestor L own k) (get_or-replicate n k false false h))
+      ∙ ap (λ b. is_ancestor L own k || b) (or_none (is_ancestor L other k))))
+
+-- and the place of the row itself
+pub filled_last : (test : ℕ → Bool) (row : List Bool) (n i : ℕ) → row ≡ table test n → with_place row i ≡ table (λ k. eqb k i || test k) n
+unfolding with_place
+filled_last test row n i is =
+    let long : length row ≡ n = ap length is ∙ length-table test n in
+    rw long (is_table (table (λ k. eqb k i || is_in row k) n) (λ k. eqb k i || test k) n (length-table (λ k. eqb k i || is_in row k) n)
+    (λ k h. is_in-table (λ k. eqb k i || is_in row k) n k h ∙ ap (λ b. eqb k i || b) (ap (λ r. is_in r k) is ∙ is_in-table test n k h)))
+
+-- the parents of a link that fits are there
+pub places_fit : (n : ℕ) (L : List Link) (by : ℕ) (on : Option (ℕ × ℕ)) → FitsLink n L (link_of by on) → AllByRecursion (λ p. p < length L) (pair_list on)
+places_fit n L by None fits = tt
+places_fit n L by (Some (own, other)) fits =
+    (fits.earlier own (has_place_first own (other ∷ [])), (fits.earlier other (has_place_later own other (other ∷ []) (has_place_first other [])), tt))

@@ -1,0 +1,4 @@
+pub mod HeldLaws
+pub mod GrowLaws
+pub mod NewForkLaws
+pub mod SeerLaws

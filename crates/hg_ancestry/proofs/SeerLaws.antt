@@ -1,0 +1,91 @@
+-- The members through whom a row sees another
+use Rattle.std.proofs.Common.{◌≡◌, ℕ, zero, suc, ◌+◌, ◌<◌, ◌≤◌, ◌||◌, ◌&&◌, eqb, true, false, Bool, List, length, sym, ap, ◌∙◌, refl, inl, inr, arith, add-one, ap₂}
+use Rattle.std.proofs.lemmas.Bool.{cases_lt, cases_eq, and_parts, false_from_ne_true, eq-eqb, ne_eqb}
+use Rattle.hg_model.specs.Places.{count_below, some_below, IsEarlier}
+use Rattle.hg_model.specs.Links.{Link, parents, creator}
+use Rattle.hg_model.specs.Ancestry.{is_ancestor}
+use Rattle.hg_model.specs.Seeing.{sees, sees_through, strongly_sees, is_supermajority}
+use Rattle.hg_model.specs.Graph.{IsShaped}
+use Rattle.hg_bits.specs.Words.{IsFirst, NoneFrom}
+use Rattle.hg_bits.specs.Rows.{is_over}
+use Rattle.hg_ancestry.specs.Held.{is_apart}
+use Rattle.hg_model.proofs.PlacesLaws.{some_below_none, some_below_next, count_below_fails, weight_below-same}
+use Rattle.hg_model.proofs.AncestryLaws.{is_ancestor-le}
+use Rattle.hg_model.proofs.SightLaws.{sees-is_ancestor, sees_through_found, strongly_sees-is_ancestor}
+
+-- z is an ancestor of x by m that sees y
+abbrev pub is_seer_by : List Link → ℕ → ℕ → ℕ → ℕ → Bool
+is_seer_by L x y m z = is_ancestor L x z && (eqb (creator L z) m && sees L z y)
+
+-- no row before y sees it
+pub no_seer_before : (L : List Link) → IsEarlier (parents L) → (x y m : ℕ) → some_below y (is_seer_by L x y m) ≡ false
+no_seer_before L e x y m = some_below_none y (is_seer_by L x y m) (λ z h passes.
+    let sees_y = (and_parts (eqb (creator L z) m) (sees L z y) (and_parts (is_ancestor L x z) (eqb (creator L z) m && sees L z y) passes).1).1 in
+    absurd (omega (arith, is_ancestor-le L e z y (sees-is_ancestor L e z y sees_y))))
+
+pub seers_all : (L : List Link) (x y m : ℕ) → some_below (x + 1) (is_seer_by L x y m) ≡ sees_through L x y m
+unfolding sees_through
+seers_all L x y m = ap (λ k. some_below k (is_seer_by L x y m)) (add-one x)
+
+-- members past the last count for nothing
+count_fewer : (n k : ℕ) (test : ℕ → Bool) → n ≤ k → ((m : ℕ) → n ≤ m → test m ≡ false) → count_below k test ≡ count_below n test
+count_fewer n zero test le none = (let same : n ≡ 0 = omega arith in rw same refl)
+count_fewer n (suc k) test le none = elim (cases_lt k n) [
+  | inl last ↦ (let same : n ≡ suc k = omega arith in rw same refl)
+  | inr more ↦ ap (λ j. count_below j test) (sym (add-one k)) ∙ (count_below_fails k test (none k more) ∙ count_fewer n k test more none)
+]
+
+pub strong_by_members : (n : ℕ) (L : List Link) (x y : ℕ) (has : ℕ → Bool) → IsShaped n L → n ≤ 128 → x < length L → ((m : ℕ) → has m ≡ sees_through L x y m) →
+    is_supermajority n (count_below 128 has) ≡ strongly_sees n L x y
+unfolding strongly_sees
+strong_by_members n L x y has s few hx told =
+    ap (is_supermajority n) (weight_below-same (λ _. 1) 128 has (sees_through L x y) (λ m h. told m)
+    ∙ count_fewer n 128 (sees_through L x y) few (λ m past. false_from_ne_true (sees_through L x y m) (λ h.
+    let z = sees_through_found L s.earlier x y m h in
+    let le : z.0 ≤ x = z.1 in
+    absurd (omega (arith, s.members z.0 (omega arith), z.3)))))
+
+-- no row strongly sees a later one
+pub strong_past : (n : ℕ) (L : List Link) (x y : ℕ) → IsEarlier (parents L) → x < y → strongly_sees n L x y ≡ false
+strong_past n L x y e h = false_from_ne_true (strongly_sees n L x y) (λ strong. absurd (omega (arith, is_ancestor-le L e x y (strongly_sees-is_ancestor L e n x y strong))))
+
+same_test : (a b : ℕ) → eqb a b ≡ eqb b a
+same_test a b = elim (cases_eq a b) [
+  | inl same ↦ eq-eqb a b same ∙ sym (eq-eqb b a (sym same))
+  | inr apart ↦ ne_eqb a b apart ∙ sym (ne_eqb b a (λ same. apart (sym same)))
+]
+
+-- a search that goes on from one place that passes to the next
+
+skipped : (test : ℕ → Bool) (from n : ℕ) → from ≤ n → NoneFrom test from n → some_below n test ≡ some_below from test
+skipped test from zero le none = (let same : from ≡ 0 = omega arith in rw same refl)
+skipped test from (suc n) le none = elim (cases_lt n from) [
+  | inl last ↦ (let same : from ≡ suc n = omega arith in rw same refl)
+  | inr more ↦ ap (λ k. some_below k test) (sym (add-one n)) ∙ (some_below_next n test
+      ∙ (ap (λ b. some_below n test || b) (none n more (omega arith)) ∙ (or_none (some_below n test) ∙ skipped test from n more (λ i h l. none i h (omega arith)))))
+]
+  where
+    or_none : (b : Bool) → (b || false) ≡ b
+    or_none true = refl
+    or_none false = refl
+
+module _ (L : List Link) (row other : List Bool) (from : ℕ) (mask : ℕ → Bool) (told : (m : ℕ) → mask m ≡ some_below from (λ a. is_over row other a && eqb (creator L a) m)) where
+  apart_none : (a m : ℕ) → is_over row other a ≡ false → (is_over row other a && eqb (creator L a) m) ≡ false
+  apart_none a m h = ap (λ b. b && eqb (creator L a) m) h
+
+  pub apart_next : (a member : ℕ) (result : ℕ → Bool) → IsFirst (is_over row other) from a → member ≡ creator L a → ((m : ℕ) → result m ≡ (eqb m member || mask m)) →
+      (m : ℕ) → result m ≡ some_below (a + 1) (λ a. is_over row other a && eqb (creator L a) m)
+  apart_next a member result first by_member made m =
+      let test : ℕ → Bool = λ a. is_over row other a && eqb (creator L a) m in
+      let before : some_below a test ≡ mask m = skipped test from a first.low (λ i h l. apart_none i m (first.none_before i h l)) ∙ sym (told m) in
+      let here : test a ≡ eqb m member = ap (λ b. b && eqb (creator L a) m) first.passes ∙ (ap (λ c. eqb c m) (sym by_member) ∙ same_test member m) in
+      made m ∙ (or_turned (eqb m member) (mask m) ∙ (ap₂ (λ (b c : Bool). b || c) (sym before) (sym here) ∙ sym (some_below_next a test)))
+    where
+      or_turned : (a b : Bool) → (a || b) ≡ (b || a)
+      or_turned true true = refl
+      or_turned true false = refl
+      or_turned false true = refl
+      or_turned false false = refl
+
+  pub apart_all : from ≤ length row → NoneFrom (is_over row other) from (length row) → (m : ℕ) → mask m ≡ is_apart L row other m
+  apart_all le none m = told m ∙ sym (skipped (λ a. is_over row other a && eqb (creator L a) m) from (length row) le (λ i h l. apart_none i m (none i h l)))

@@ -1,0 +1,51 @@
+-- What the rows of bits and the masks of a graph hold
+use Rattle.std.specs.Prelude.{◌≡◌, ℕ, ◌+◌, ◌-◌, ◌<◌, ◌≤◌, ◌^◌, Bool, false, ◌&&◌, ◌==◌, List, [], length, get_or, replicate, Option, Some, None}
+use Rattle.std.specs.List.{list_any}
+use Rattle.hg_model.specs.Places.{some_below, table}
+use Rattle.hg_model.specs.Links.{Link, creator}
+use Rattle.hg_model.specs.Ancestry.{is_ancestor}
+use Rattle.hg_model.specs.Forks.{has_fork_below}
+use Rattle.hg_model.specs.Graph.{IsShaped}
+use Rattle.hg_model.specs.Shape.{pair_list}
+use Rattle.hg_bits.specs.Masks.{mask_has}
+use Rattle.hg_bits.specs.Rows.{is_over}
+
+-- the row of bits of x
+unfoldable pub row_at : List (List Bool) → ℕ → List Bool
+row_at rows x = get_or rows x []
+
+-- for each row its ancestors, up to itself
+pub record HoldsAncestors (L : List Link) (rows : List (List Bool)) : Type 0 where
+  pub len : length rows ≡ length L
+  pub row : (x : ℕ) → x < length L → row_at rows x ≡ table (is_ancestor L x) (x + 1)
+
+-- for each row the members with a fork among its ancestors
+pub record HoldsForks (L : List Link) (masks : List ℕ) : Type 0 where
+  pub len : length masks ≡ length L
+  pub mask : (x : ℕ) → x < length L → (m : ℕ) → mask_has (get_or masks x 0) m ≡ has_fork_below L x m
+
+-- of a shaped graph of few members both
+pub record HoldsSight (n : ℕ) (L : List Link) (rows : List (List Bool)) (masks : List ℕ) : Type 0 where
+  pub shaped : IsShaped n L
+  pub few : n ≤ 128
+  pub short : length L < 2 ^ 32 - 1
+  pub ancestors : HoldsAncestors L rows
+  pub forks : HoldsForks L masks
+
+-- a row of bits that is kept for the next row of a graph
+abbrev pub IsSpare : ℕ → Option (List Bool) → Type 0
+IsSpare rows None = Unit {0}
+IsSpare rows (Some row) = row ≡ replicate (rows + 1) false
+
+-- for how many rows a spare row serves
+abbrev pub spare_room : Option (List Bool) → ℕ
+spare_room None = 0
+spare_room (Some row) = 1
+
+-- the ancestors of a row on these parents among the rows before it
+abbrev pub is_above : List Link → Option (ℕ × ℕ) → ℕ → Bool
+is_above L parents y = list_any (λ p. is_ancestor L p y) (pair_list parents)
+
+-- member m has a row that is in the first row of bits and not in the other
+abbrev pub is_apart : List Link → List Bool → List Bool → ℕ → Bool
+is_apart L row other m = some_below (length row) (λ a. is_over row other a && creator L a == m)

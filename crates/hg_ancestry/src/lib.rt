@@ -1,0 +1,14 @@
+//! What the rows of a graph see of each other, by a row of bits for each: its ancestors.
+//! The layer above uses `BitSight` as a graph that grows (`Growing` of `hg_model`), and nothing else.
+//! A row takes the memory of its bits and of one mask of members; what a row adds is found by whole words.
+#![tactic(auto)]
+
+mod ancestry;
+#[cfg(test)]
+mod checked;
+mod forks;
+mod links;
+mod seeing;
+mod sight;
+
+pub use sight::BitSight;

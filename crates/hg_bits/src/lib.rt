@@ -1,0 +1,11 @@
+//! Rows of bits by words of 64, and sets of members as masks.
+//! The layers above see a `BitRow` as the list of its truth values, and a mask by the members that it has.
+//! A row keeps no bit past its end, so that whole words can be compared.
+#![tactic(auto)]
+
+mod masks;
+mod row;
+mod words;
+
+pub use masks::{join_masks, mask_has, meet_masks, members_over, with_member};
+pub use row::BitRow;

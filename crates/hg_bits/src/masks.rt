@@ -1,0 +1,61 @@
+ghost use Rattle.std.specs.Prelude.{◌≡◌, ◌<◌, ◌&&◌, ◌||◌, ◌==◌, ℕ, count_ones};
+ghost use Rattle.hg_model.specs.Places.{count_below};
+ghost use Rattle.hg_model.specs.Seeing.{is_supermajority};
+ghost use Rattle.hg_bits.specs.Masks.{mask_has};
+
+use hg_model::Member;
+
+/// Whether the member is in the set.
+pub fn mask_has(mask: u128, member: Member) -> bool
+    requires { member < 128 }
+    ensures { result ≡ mask_has mask member }
+{
+    (mask >> member) & 1 == 1
+}
+
+/// The set with the member.
+pub fn with_member(mask: u128, member: Member) -> u128
+    requires { member < 128 }
+    ensures { (m : ℕ) → mask_has result m ≡ (m == member || mask_has mask m) }
+{
+    mask | (1 << member)
+}
+
+/// The members of both sets together.
+#[tactic(auto, using(crate::proofs::MaskLaws::mask_steps))]
+pub fn join_masks(mask: u128, other: u128) -> u128
+    ensures { (m : ℕ) → mask_has result m ≡ (mask_has mask m || mask_has other m) }
+{
+    mask | other
+}
+
+/// The members that are in both sets.
+#[tactic(auto, using(crate::proofs::MaskLaws::mask_steps))]
+pub fn meet_masks(mask: u128, other: u128) -> u128
+    ensures { (m : ℕ) → mask_has result m ≡ (mask_has mask m && mask_has other m) }
+{
+    mask & other
+}
+
+/// Whether the set has more than two thirds of `n` members.
+pub fn members_over(mask: u128, n: u32) -> bool
+    ensures ones { result ≡ is_supermajority n (count_ones mask) }
+    ensures members { result ≡ is_supermajority n (count_below 128 (mask_has mask)) }
+{
+    2 * u64::from(n) < 3 * u64::from(mask.count_ones())
+}
+
+#[cfg(test)]
+mod tests {
+    use super::*;
+
+    #[test]
+    fn three_of_four_are_more_than_two_thirds(rt: HostRuntime) {
+        let two = with_member(with_member(0, 127), 0);
+        assert!(rt; mask_has(two, 127) && mask_has(two, 0) && !mask_has(two, 1));
+        assert!(rt; !members_over(two, 3) && !members_over(two, 4));
+        assert!(rt; members_over(with_member(two, 1), 4));
+        assert!(rt; !members_over(with_member(two, 0), 3));
+        assert!(rt; join_masks(two, 2) == with_member(two, 1) && meet_masks(two, 3) == 1);
+    }
+}

@@ -1,0 +1,3 @@
+pub mod OwnLaws
+pub mod LineLaws
+pub mod WatchLaws

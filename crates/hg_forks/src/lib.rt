@@ -1,0 +1,14 @@
+//! Which members have a fork, told as rows come one by one, in constant time for each row.
+//! The layer above uses that a `Watch` counts the `forkers` of the graph that it saw, also with one row more.
+//! A member's rows stand in one line until a row stands on another than the last: that row and the last are a fork.
+#![tactic(auto)]
+
+#[cfg(test)]
+mod checked;
+mod laws;
+mod line;
+mod own_row;
+mod watch;
+
+pub use laws::own_links_tell_forks;
+pub use watch::Watch;

@@ -1,0 +1,155 @@
+ghost use Rattle.std.specs.Prelude.{◌≡◌, ◌<◌, ◌≤◌, [], ◌∷◌, ◌++◌, Some, IfOk, OnOk};
+ghost use Rattle.hg_model.specs.Forks.{forkers, has_fork};
+ghost use Rattle.hg_model.specs.Shape.{FitsLink, shape_of, with_link};
+ghost use Rattle.hg_forks.specs.Own.{own_link_of};
+ghost use Rattle.hg_forks.specs.Pairs.{TellsFork};
+
+use crate::line::{Line, fork_in, line_of, new_forkers, next_line};
+use crate::own_row::OwnRow;
+use hg_model::{Member, Memory};
+use std::alloc::Global;
+use std::marker::Model;
+
+/// Which members have a fork among the rows so far. Of a row it needs the creator and the self-parent's place:
+/// contracts see the graph with each row's other-parents left out, which has the same forks.
+#[derive(Drop)]
+pub struct Watch {
+    /// The rows so far: what contracts speak of.
+    rows: Vec<OwnRow>,
+    /// Each member's line.
+    lines: Vec<Line>,
+    /// How many of the lines are forked.
+    forkers: u32,
+}
+
+impl Model for Watch {
+    ghost use Rattle.std.specs.Prelude.{◌-◌, length, vec_capacity, vec_len};
+    ghost use Rattle.hg_model.specs.Shape.{Growth, shape_of};
+
+    ghost Value = { Growth };
+
+    ghost use Rattle.hg_forks.specs.Lines.{Keeps};
+
+    ghost view = { λ s. record { shape = shape_of (length s.lines.items) s.rows.items; room = vec_capacity s.rows - vec_len s.rows } };
+
+    ghost invariant = { λ s. Keeps s.rows.items s.lines.items s.forkers };
+}
+
+impl Watch {
+    /// A graph of `n` members, without rows.
+    pub fn new(alloc: Global, n: u32) -> Result<Watch, Memory>
+        ensures { IfOk result (λ w. w.shape ≡ shape_of n []) }
+    {
+        Ok(Watch {
+            rows: Vec::new(alloc),
+            lines: vec![in alloc; Line::Empty; n as usize]?,
+            forkers: 0,
+        })
+    }
+
+    /// How many members have a fork once the member has made one row more, on this self-parent.
+    pub fn would(&self, creator: Member, self_parent: Option<usize>) -> u32
+        requires { FitsLink self.now.shape.members self.now.shape.links (own_link_of creator self_parent) }
+        ensures { result ≡ forkers self.now.shape.members (self.now.shape.links ++ own_link_of creator self_parent ∷ []) }
+    {
+        self.forkers + new_forkers(&self.lines, creator, self_parent)
+    }
+
+    /// Takes the memory of one more row.
+    pub fn reserve(&mut self) -> Result<(), Memory>
+        ensures room { OnOk result (1 ≤ self.new.room) }
+        ensures same { self.new.shape ≡ self.old.shape }
+    {
+        self.rows.reserve(1)?;
+        Ok(())
+    }
+
+    /// One row more, by the member, on this self-parent. Takes no memory.
+    pub fn add(&mut self, creator: Member, self_parent: Option<usize>)
+        requires room { 1 ≤ self.old.room }
+        requires fits { FitsLink self.old.shape.members self.old.shape.links (own_link_of creator self_parent) }
+        ensures { self.new.shape ≡ with_link self.old.shape (own_link_of creator self_parent) }
+    {
+        self.forkers += new_forkers(&self.lines, creator, self_parent);
+        let line = next_line(line_of(&self.lines, creator), self_parent, self.rows.len());
+        self.lines[usize::from(creator)] = line;
+        self.rows.push_reserved(OwnRow {
+            creator,
+            self_parent,
+        });
+    }
+
+    /// How many members have a fork.
+    pub fn forkers(&self) -> u32
+        ensures { result ≡ forkers self.now.shape.members self.now.shape.links }
+    {
+        self.forkers
+    }
+
+    /// Two rows that are a fork by the member, the later one second; none exactly where it has no fork.
+    pub fn pair_of(&self, m: Member) -> Option<(usize, usize)>
+        requires { m < self.now.shape.members }
+        ensures { TellsFork self.now.shape.links m result }
+    {
+        fork_in(line_of(&self.lines, m))
+    }
+}
+
+#[cfg(test)]
+mod tests {
+    use super::*;
+    use crate::checked::fits;
+
+    /// A graph of four members, each row with the number of forking members once it is there. The last member's
+    /// rows 3 and 7 stand on one row.
+    const ROWS: [(Member, Option<usize>, u32); 10] = [
+        (2, None, 0),
+        (0, None, 0),
+        (3, None, 0),
+        (3, Some(2), 0),
+        (0, Some(1), 0),
+        (2, Some(0), 0),
+        (1, None, 0),
+        (3, Some(2), 1),
+        (1, Some(6), 1),
+        (2, Some(5), 1),
+    ];
+
+    #[test]
+    fn tells_a_fork_when_its_second_row_comes(rt: HostRuntime) -> Result<(), Memory> {
+        let mut watch = Watch::new(rt.alloc(), 4)?;
+        for (creator, self_parent, forkers) in &ROWS {
+            watch.reserve()?;
+            assert!(rt; fits(&watch.rows, watch.lines.len(), *creator, *self_parent));
+            assert_eq!(rt; watch.would(*creator, *self_parent), *forkers);
+            watch.add(*creator, *self_parent);
+            assert_eq!(rt; watch.forkers(), *forkers);
+        }
+        assert!(rt; watch.lines.len() == 4);
+        assert_eq!(rt; watch.pair_of(3), Some((3, 7)));
+        assert_eq!(rt; watch.pair_of(2), None);
+        Ok(())
+    }
+
+    #[test]
+    fn tells_what_a_row_would_do(rt: HostRuntime) -> Result<(), Memory> {
+        let mut watch = Watch::new(rt.alloc(), 4)?;
+        for (creator, self_parent, _) in &ROWS {
+            watch.reserve()?;
+            assert!(rt; fits(&watch.rows, watch.lines.len(), *creator, *self_parent));
+            watch.add(*creator, *self_parent);
+        }
+        // On the last row, on an earlier one, and on none; the last by a member that has a fork already.
+        for (creator, self_parent, forkers) in [
+            (2, Some(9), 1),
+            (2, Some(5), 2),
+            (1, None, 2),
+            (3, None, 1),
+        ] {
+            assert!(rt; fits(&watch.rows, watch.lines.len(), creator, self_parent));
+            assert_eq!(rt; watch.would(creator, self_parent), forkers, "by {creator}");
+        }
+        assert_eq!(rt; watch.forkers(), 1);
+        Ok(())
+    }
+}

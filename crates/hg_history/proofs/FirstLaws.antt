@@ -1,0 +1,119 @@
+-- The first rows of a graph are a graph
+use Rattle.std.proofs.Common.{◌≡◌, inl, inr, ℕ, ◌*◌, ◌<◌, ◌≤◌, Bool, true, List, [], ◌∷◌, ◌++◌, length, map, take, drop, get_or, min, slice_get, sym, refl, ap, ap₂, ◌∙◌, subst, arith}
+use Rattle.std.specs.List.{AllByRecursion}
+use Rattle.std.proofs.lemmas.Bool.{cases_lt}
+use Rattle.std.proofs.lemmas.List.{length-take, length-take-le, take-append-drop, get_or_append_left, map-append, take_all}
+use Rattle.std.proofs.lemmas.List.Sums.{position_or_len_is, fails_before_first, passes_at_first}
+use Rattle.hg_model.specs.declared.row.Row.{Row}
+use Rattle.hg_model.specs.Links.{Link, links, link_in, parent_names, is_named, place_of}
+use Rattle.hg_model.specs.Forks.{has_fork, forkers}
+use Rattle.hg_model.specs.Graph.{name_in, name_at, IsShaped, IsGraph}
+use Rattle.hg_model.specs.Fits.{AreHeld, IsPresent}
+use Rattle.hg_model.proofs.ForkLaws.{has_fork_found, has_fork_from, is_fork_from}
+use Rattle.hg_model.proofs.LinkLaws.{length-links, parents_below, parents-links}
+use Rattle.hg_model.proofs.LongerLaws.{IsLonger, slice_get-append, creator-longer, is_self_ancestor-longer}
+use Rattle.hg_model.proofs.PlacesLaws.{weight_below-le}
+use Rattle.hg_model.proofs.PushLaws.{nobody, link_in-append}
+use Rattle.hg_history.specs.Laws.{FirstRowsAreAGraph}
+use Rattle.hg_history.proofs.FrontLaws.{longer_than_front, shaped_front}
+
+-- what is found among all rows before the end of the first ones is found there
+place_in_front : (G more : List Row) (name : List ℕ) → place_of (G ++ more) name < length G → place_of G name ≡ place_of (G ++ more) name
+place_in_front G more name low =
+    let p = place_of (G ++ more) name in
+    let test = is_named name in
+    position_or_len_is test G p nobody (omega arith)
+    (λ k h. rw (← get_or_append_left G more nobody k (omega arith)) (fails_before_first test (G ++ more) k nobody h))
+    (λ h. rw (← get_or_append_left G more nobody p low) (passes_at_first test (G ++ more) nobody (omega (arith, Rattle.std.proofs.Common.length-append G more))))
+
+held_in_front : (G more : List Row) (names : List (List ℕ)) (x : ℕ) → x ≤ length G → AllByRecursion (λ p. p < x) (map (place_of (G ++ more)) names) → AreHeld G names
+held_in_front G more [] x le low = tt
+held_in_front G more (name ∷ names) x le low =
+    (let first = low.0 in (rw (place_in_front G more name (omega arith)) (omega arith), held_in_front G more names x le low.1))
+
+-- the parents of each of the first rows are among them
+present_in_front : (n : ℕ) (G more : List Row) → IsShaped n (links (G ++ more)) → (x : ℕ) → x < length G → IsPresent G (get_or G x nobody)
+present_in_front n G more shaped x inside =
+    let row : Row = get_or G x nobody in
+    let U = G ++ more in
+    let longer = Rattle.std.proofs.Common.length-append G more in
+    let here : row ≡ get_or U x row = sym (Rattle.std.proofs.lemmas.Option.get_or_from_slice_get U x row row
+    (slice_get-append G more nobody x inside ∙ Rattle.std.proofs.lemmas.Option.slice_get-get_or G x nobody inside)) in
+    record {
+      held = held_in_front G more (parent_names row.parents) x (omega arith)
+          (subst (AllByRecursion (λ p. p < x)) (parents-links U x row (omega arith) here) (parents_below (links U) x shaped.earlier));
+    }
+
+same_links : (G more H : List Row) → AllByRecursion (IsPresent G) H → map (link_in (G ++ more)) H ≡ map (link_in G) H
+same_links G more [] all = refl
+same_links G more (row ∷ H) all = ap₂ (λ (l : Link) (ls : List Link). l ∷ ls) (link_in-append G more row all.0) (same_links G more H all.1)
+
+all_from : {A : Type 0} (P : A → Type 0) (d : A) (xs : List A) → ((k : ℕ) → k < length xs → P (get_or xs k d)) → AllByRecursion P xs
+all_from P d [] each = tt
+all_from P d (x ∷ xs) each = (each 0 (omega arith), all_from P d xs (λ k h. each (Rattle.std.proofs.Common.suc k) (omega arith)))
+
+-- the links of the first rows are the first links
+pub links_of_front : (n : ℕ) (G more : List Row) → IsShaped n (links (G ++ more)) → links G ≡ take (length G) (links (G ++ more))
+unfolding links
+links_of_front n G more shaped =
+    let present = all_from (IsPresent G) nobody G (present_in_front n G more (unfold links in shaped)) in
+    let split = map-append (link_in (G ++ more)) G more in
+    let here = map (link_in (G ++ more)) G in
+    sym (ap (take (length G)) split
+    ∙ (ap (λ (k : ℕ). take k (here ++ map (link_in (G ++ more)) more)) (sym (Rattle.std.proofs.lemmas.List.length-map G (link_in (G ++ more))))
+    ∙ (Rattle.std.proofs.Math.Seq.take-append_seam here (map (link_in (G ++ more)) more) ∙ same_links G more G present)))
+
+fork_of_front : (n m : ℕ) (L M : List Link) → IsLonger L M → has_fork L m ≡ true → has_fork M m ≡ true
+fork_of_front n m L M longer forks =
+    let f = has_fork_found L m forks in
+    let a : ℕ = f.0 in
+    let b : ℕ = f.1 in
+    let more = longer.more in
+    let inside_a : a < length L = f.2 in
+    let inside_b : b < length L = f.3 in
+    has_fork_from M m a b (omega arith) (omega arith) (is_fork_from M m a b (record {
+      first = creator-longer L M longer a inside_a ∙ f.4.first;
+      second = creator-longer L M longer b inside_b ∙ f.4.second;
+      not_above = is_self_ancestor-longer L M longer a b inside_a ∙ f.4.not_above;
+      not_below = is_self_ancestor-longer L M longer b a inside_b ∙ f.4.not_below;
+    }))
+
+module _ (n : ℕ) (G more : List Row) (u : IsGraph n (G ++ more)) where
+  first_links : links G ≡ take (length G) (links (G ++ more))
+  first_links = links_of_front n G more u.shaped
+
+  longer : IsLonger (links G) (links (G ++ more))
+  longer =
+      subst (λ (L : List Link). IsLonger L (links (G ++ more))) (sym first_links)
+      (longer_than_front (length G) (links (G ++ more)) (omega (arith, length-links (G ++ more), Rattle.std.proofs.Common.length-append G more)))
+
+  pub graph_front : IsGraph n G
+  unfolding forkers name_at
+  graph_front = record {
+    distinct = record {
+      one = λ x y hx hy same.
+          let e = Rattle.std.proofs.Common.length-append G more in
+          u.distinct.one x y (omega arith) (omega arith) (ap name_in (slice_get-append G more nobody x hx) ∙ (same ∙ sym (ap name_in (slice_get-append G more nobody y hy))));
+    };
+    shaped = shaped_front n (links G) (links (G ++ more)) longer u.shaped;
+    few_forkers = omega (arith, u.few_forkers, weight_below-le (λ _. 1) n (has_fork (links G)) (has_fork (links (G ++ more))) (λ m inside forks. fork_of_front n m (links G) (links (G ++ more)) longer forks));
+  }
+
+-- a length past the end gives all rows
+whole_or_part : (n len : ℕ) (G : List Row) → IsGraph n G → len ≤ length G → IsGraph n (take len G) × (links (take len G) ≡ take len (links G))
+whole_or_part n len G g le =
+    let parts = take-append-drop len G in
+    let u = subst (IsGraph n) (sym parts) g in (
+      graph_front n (take len G) (drop len G) u,
+      first_links n (take len G) (drop len G) u
+          ∙ ap₂ (λ (k : ℕ) (U : List Row). take k (links U)) (length-take-le len G le) parts,
+    )
+
+pub first_rows_are_a_graph : FirstRowsAreAGraph
+first_rows_are_a_graph n len G g = elim (cases_lt (length G) len) [
+  | inl more ↦ (
+    subst (IsGraph n) (sym (take_all len G (omega arith))) g,
+    ap links (take_all len G (omega arith)) ∙ sym (take_all len (links G) (omega (arith, length-links G))),
+  )
+  | inr le ↦ whole_or_part n len G g le
+]

@@ -1,0 +1,21 @@
+pub mod StateLaws
+pub mod RuleLaws
+pub mod OwnLaws
+pub mod FrontLaws
+pub mod MarkLaws
+pub mod SoundLaws
+pub mod KeptLaws
+pub mod FoundLaws
+pub mod SettleLaws
+pub mod ShareLaws
+pub mod CallLaws
+pub mod MakeLaws
+pub mod NodeLaws
+pub mod LogLaws
+pub mod FirstLaws
+mod Worked
+pub mod SplitLaws
+pub mod RoundLaws
+pub mod StayLaws
+pub mod EventLaws
+pub mod AddLaws

@@ -1,0 +1,81 @@
+-- An event that a node makes is an event of its history
+use Rattle.std.proofs.Common.{◌≡◌, ℕ, ◌^◌, ◌<◌, ◌≤◌, true, List, length, Option, Some, None, sym, refl, ap, ◌∙◌, subst, arith}
+use Rattle.std.specs.Prelude.{IfSome}
+use Rattle.hg_model.specs.declared.row.Row.{Row}
+use Rattle.hg_model.specs.declared.answers.MakeAnswer.{MakeAnswer}
+use Rattle.hg_model.specs.declared.answers.MakeAnswer.TheVariants as answer
+use Rattle.hg_model.specs.Links.{parent_names, place_of}
+use Rattle.hg_model.specs.Fits.{AreHeld}
+use Rattle.hg_model.specs.Spelling.{body_of, spelling, Spells}
+use Rattle.hg_model.specs.Verdict.{last_name, both_names, made_row, making}
+use Rattle.hg_model.specs.History.{Event, Accepts, IsMade}
+use Rattle.hg_model.specs.History.Event.{Made}
+use Rattle.hg_model.specs.Shown.{Shown, with_events, graph_of, IsNode}
+use Rattle.hg_model.specs.Calls.{make_answer, make_events, make_body, made_by}
+use Rattle.hg_model.proofs.RuleLaws.{Drafted, drafted}
+use Rattle.hg_prefix.specs.Orders.{HasNameSizes}
+use Rattle.hg_prefix.proofs.StandingLaws.{name_at_place}
+use Rattle.hg_history.specs.Laws.{MakesLeaveANode}
+use Rattle.hg_history.proofs.RuleLaws.{made_draft, made_place}
+use Rattle.hg_history.proofs.SoundLaws.{sound, node_graph}
+use Rattle.hg_history.proofs.CallLaws.{with_none, node_with}
+
+-- names of held rows have their size
+held_size : (G : List Row) (name : List ℕ) → HasNameSizes 48 G → place_of G name < length G → length name ≡ 48
+held_size G name sizes held = ap length (sym (name_at_place G name held)) ∙ sizes.sized (place_of G name) held
+
+parent_sizes : (G : List Row) (parents : Option (List ℕ × List ℕ)) → HasNameSizes 48 G → AreHeld G (parent_names parents) →
+    IfSome parents (λ names. (length names.0 ≡ 48) × (length names.1 ≡ 48))
+parent_sizes G None sizes held = tt
+parent_sizes G (Some names) sizes held = (held_size G names.0 sizes held.0, held_size G names.1 sizes held.1.0)
+
+made_spells : (n own : ℕ) (G : List Row) (other : Option (List ℕ)) (time : ℕ) (payload sig : List ℕ) → own < 2 ^ 16 → time < 2 ^ 64 → length sig ≡ 64 → HasNameSizes 48 G →
+    Drafted n own G other payload → Spells (spelling (made_row own G other time payload sig)) (made_row own G other time payload sig)
+unfolding spelling body_of
+made_spells n own G other time payload sig small early sized sizes draft = record {
+  sized = record {
+    creator = small;
+    parents = parent_sizes G (both_names (last_name own G) other) sizes draft.held;
+    time = early;
+    payload = draft.short;
+    sig = sized;
+  };
+  spelled = refl;
+  named = refl;
+}
+
+module _ (K : Type 0) (accepts : K → Accepts) (v : Shown K) (other : Option (List ℕ)) (time : ℕ) (payload sig : List ℕ) (early : time < 2 ^ 64) (sized : length sig ≡ 64)
+    (signed : accepts v.start.keys v.start.own (make_body v other time payload) sig ≡ true) (node : IsNode accepts v) where
+  is_made : (place : ℕ) → making v.start.own (graph_of v) other time payload sig ≡ answer.Made place →
+      IsMade (accepts v.start.keys) v.start.own (graph_of v) (made_row v.start.own (graph_of v) other time payload sig)
+  unfolding make_body body_of
+  is_made place is =
+      let own = v.start.own in
+      let G : List Row = graph_of v in
+      let s = sound (accepts v.start.keys) v.start.members v.start.coin own v.history node.coin node.history in
+      let sizes = (node_graph (accepts v.start.keys) v.start.members v.start.coin own v.history node.coin node.history).sizes in
+      let none = made_draft own G other time payload sig place is in
+      let draft = drafted v.start.members own G other payload s.graph.distinct none in
+      let low : own < v.start.members = node.history.member in
+      let few : v.start.members ≤ 128 = node.few_members in
+      record {
+        other = other;
+        time = time;
+        payload = payload;
+        sig = sig;
+        fields = refl;
+        spelled = made_spells v.start.members own G other time payload sig (omega arith) early sized sizes draft;
+        signed = signed;
+        made = is ∙ ap (λ (k : ℕ). answer.Made k) (made_place _ (length G) place is);
+      }
+
+  node_made : (a : MakeAnswer) → make_answer v other time payload sig ≡ a → IsNode accepts (with_events v (make_events v other time payload sig))
+  unfolding make_answer make_events
+  node_made (answer.Refused f) is =
+      subst (IsNode accepts) (sym (with_none v (make_events v other time payload sig) (ap (λ (a : MakeAnswer). made_by a (made_row v.start.own (graph_of v) other time payload sig)) is))) node
+  node_made (answer.Made place) is =
+      subst (λ (es : List Event). IsNode accepts (with_events v es)) (sym (ap (λ (a : MakeAnswer). made_by a (made_row v.start.own (graph_of v) other time payload sig)) is))
+      (node_with accepts v (Made (made_row v.start.own (graph_of v) other time payload sig)) node (is_made place is))
+
+pub makes_leave_a_node : (K : Type 0) → MakesLeaveANode K
+makes_leave_a_node K accepts v other time payload sig early sized signed node = node_made K accepts v other time payload sig early sized signed node (make_answer v other time payload sig) refl

@@ -1,0 +1,47 @@
+-- Texts that are told to a sink, straight or by a page that keeps their end back.
+use Rattle.std.specs.Prelude.{◌≡◌, ℕ, ◌<◌, ◌≤◌, List, ◌++◌, length, Option, Result, Ok, Err}
+use Rattle.hg_io.specs.Bytes.{Appends, AppendsPart}
+use Rattle.hg_io.specs.Faults.{Rose}
+
+-- what came of telling a text: it was written whole, or a front of it and not all, with a fault that was counted.
+-- No count falls.
+abbrev pub Tells : {T E : Type 0} → Option (List ℕ) → Option (List ℕ) → ℕ → ℕ → List ℕ → Result T E → Type 0
+Tells before after faults_before faults_after text (Ok x) = Appends before after text × (faults_before ≤ faults_after)
+Tells before after faults_before faults_after text (Err e) = AppendsPart before after text × Rose faults_before faults_after × (faults_before ≤ faults_after)
+
+-- a sink and the page before it: what was written, how often it failed, and what the page holds
+pub record Desk : Type 0 where
+  pub written : Option (List ℕ)
+  pub faults : ℕ
+  pub held : List ℕ
+
+abbrev pub desk : Option (List ℕ) → ℕ → List ℕ → Desk
+desk written faults held = record { written = written; faults = faults; held = held }
+
+-- a text went behind what was held: some first bytes of them are written now, and the page holds the others
+pub record IsPut (before after : Desk) (text : List ℕ) : Type 0 where
+  pub sent : List ℕ
+  pub split : before.held ++ text ≡ sent ++ after.held
+  pub written : Appends before.written after.written sent
+  pub faults : before.faults ≤ after.faults
+
+-- a fault came before all of what was held and of the text was written: some first bytes of them are, and not these
+pub record IsStopped (before after : Desk) (text : List ℕ) : Type 0 where
+  pub sent : List ℕ
+  pub unsent : List ℕ
+  pub some : 0 < length unsent
+  pub split : before.held ++ text ≡ sent ++ unsent
+  pub written : Appends before.written after.written sent
+  pub rose : Rose before.faults after.faults
+  pub faults : before.faults ≤ after.faults
+
+-- what came of putting a text
+abbrev pub Puts : {T E : Type 0} → Desk → Desk → List ℕ → Result T E → Type 0
+Puts before after text (Ok x) = IsPut before after text
+Puts before after text (Err e) = IsStopped before after text
+
+-- a front of a text was put, and this is left of it
+pub record IsPutUpTo (before now : Desk) (left text : List ℕ) : Type 0 where
+  pub done : List ℕ
+  pub put : IsPut before now done
+  pub whole : done ++ left ≡ text

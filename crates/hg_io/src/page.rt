@@ -1,0 +1,86 @@
+ghost use Rattle.std.specs.Prelude.{◌≡◌, [], OnOk};
+ghost use Rattle.hg_io.specs.Telling.{Puts, Tells, desk};
+
+use crate::failed::Failed;
+use crate::sink::Sink;
+use crate::writing::write_all;
+use arrayvec::ArrayVec;
+use std::marker::Model;
+
+/// How many bytes a page holds.
+const PAGE: usize = 4096;
+
+/// Bytes on their way to a sink, which takes them a page at a time. A page takes no memory.
+#[derive(Drop)]
+pub struct Page {
+    bytes: ArrayVec<u8, PAGE>,
+}
+
+impl Model for Page {
+    ghost use Rattle.std.specs.Prelude.{ℕ, List};
+
+    ghost Value = { List ℕ };
+
+    ghost view = { λ p. p.bytes.items };
+}
+
+// Gives the sink all bytes of the page.
+fn send<K: Sink>(bytes: &mut ArrayVec<u8, PAGE>, sink: &mut K) -> Result<(), Failed>
+    ensures told { Tells (K.written sink.old) (K.written sink.new) (K.faults sink.old) (K.faults sink.new) bytes.old.items result }
+    ensures empty { OnOk result (bytes.new.items ≡ []) }
+{
+    write_all(sink, bytes.as_slice())?;
+    bytes.clear();
+    Ok(())
+}
+
+// Puts a piece on an empty page, or where it is longer than a page gives it to the sink.
+#[tactic(auto, using(crate::proofs::Told::stops_straight))]
+fn begin<K: Sink>(bytes: &mut ArrayVec<u8, PAGE>, sink: &mut K, piece: &[u8]) -> Result<(), Failed>
+    requires { bytes.old.items ≡ [] }
+    ensures { Puts (desk (K.written sink.old) (K.faults sink.old) bytes.old.items) (desk (K.written sink.new) (K.faults sink.new) bytes.new.items) piece.now result }
+{
+    if bytes.try_extend_from_slice(piece).is_ok() {
+        return Ok(());
+    }
+    write_all(sink, piece)?;
+    Ok(())
+}
+
+// Puts a piece behind the bytes of the page.
+#[tactic(auto, using(crate::proofs::Told::stops_sending, crate::proofs::Told::puts_after_sending, crate::proofs::Told::stops_after_sending))]
+fn put<K: Sink>(bytes: &mut ArrayVec<u8, PAGE>, sink: &mut K, piece: &[u8]) -> Result<(), Failed>
+    ensures { Puts (desk (K.written sink.old) (K.faults sink.old) bytes.old.items) (desk (K.written sink.new) (K.faults sink.new) bytes.new.items) piece.now result }
+{
+    if bytes.try_extend_from_slice(piece).is_ok() {
+        return Ok(());
+    }
+    send(bytes, sink)?;
+    begin(bytes, sink, piece)?;
+    Ok(())
+}
+
+impl Page {
+    /// A page of no bytes.
+    pub fn new() -> Page
+        ensures { result ≡ [] }
+    {
+        Page {
+            bytes: ArrayVec::new(),
+        }
+    }
+
+    /// Puts the bytes behind those of the page, which go to the sink first where there is no room for both.
+    pub fn put<K: Sink>(&mut self, sink: &mut K, bytes: &[u8]) -> Result<(), Failed>
+        ensures { Puts (desk (K.written sink.old) (K.faults sink.old) self.old) (desk (K.written sink.new) (K.faults sink.new) self.new) bytes.now result }
+    {
+        put(&mut self.bytes, sink, bytes)
+    }
+
+    /// Gives the sink all bytes of the page.
+    pub fn send<K: Sink>(&mut self, sink: &mut K) -> Result<(), Failed>
+        ensures { Tells (K.written sink.old) (K.written sink.new) (K.faults sink.old) (K.faults sink.new) self.old result }
+    {
+        send(&mut self.bytes, sink)
+    }
+}

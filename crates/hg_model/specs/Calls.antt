@@ -1,0 +1,69 @@
+-- What the calls of a node answer, and the events that they add: at most one each. SWIRLDS-TR-2016-01, sections 3 and 4
+use Rattle.std.specs.Prelude.{ℕ, ◌≡◌, true, cond, ◌==◌, List, [], ◌∷◌, length, Option, Result, Ok, Err}
+use Rattle.hg_model.specs.declared.row.Row.{Row}
+use Rattle.hg_model.specs.declared.answers.ByteFault.{ByteFault}
+use Rattle.hg_model.specs.declared.answers.PutAnswer.{PutAnswer}
+use Rattle.hg_model.specs.declared.answers.PutAnswer.TheVariants.{Accepted, Known, Refused}
+use Rattle.hg_model.specs.declared.answers.MakeAnswer.{MakeAnswer}
+use Rattle.hg_model.specs.declared.answers.MakeAnswer.TheVariants as answer
+use Rattle.hg_model.specs.Reading.{read_event}
+use Rattle.hg_model.specs.Spelling.{body_bytes}
+use Rattle.hg_model.specs.Verdict.{verdict, row_verdict, last_name, both_names, made_row, making}
+use Rattle.hg_model.specs.Shares.{Share, whole}
+use Rattle.hg_model.specs.History.{Event, Accepts, news}
+use Rattle.hg_model.specs.History.Event.{Took, Made, Marked}
+use Rattle.hg_model.specs.Shown.{Shown, with_events, state_of, graph_of}
+
+-- what comes of bytes that are put to the node
+unfoldable pub put_answer : {K : Type 0} → (K → Accepts) → Shown K → List ℕ → PutAnswer
+put_answer accepts v bytes = verdict (accepts v.start.keys) v.start.members v.start.own (graph_of v) bytes
+
+abbrev pub taken_by : PutAnswer → Row → List Event
+taken_by (Accepted p) row = Took row ∷ []
+taken_by (Known p) row = []
+taken_by (Refused f) row = []
+
+-- by what was read of the bytes
+abbrev pub taken_from : {K : Type 0} → (K → Accepts) → Shown K → Result Row ByteFault → List Event
+taken_from accepts v (Err e) = []
+taken_from accepts v (Ok row) = taken_by (row_verdict (accepts v.start.keys) v.start.members v.start.own (graph_of v) row) row
+
+-- the events that they add: the row that they spell, where they are accepted
+unfoldable pub put_events : {K : Type 0} → (K → Accepts) → Shown K → List ℕ → List Event
+put_events accepts v bytes = taken_from accepts v (read_event bytes)
+
+-- what comes of making an event under this signature
+unfoldable pub make_answer : {K : Type 0} → Shown K → Option (List ℕ) → ℕ → List ℕ → List ℕ → MakeAnswer
+make_answer v other time payload sig = making v.start.own (graph_of v) other time payload sig
+
+abbrev pub made_by : MakeAnswer → Row → List Event
+made_by (answer.Made p) row = Made row ∷ []
+made_by (answer.Refused f) row = []
+
+-- the events that it adds: the row, where it is made
+unfoldable pub make_events : {K : Type 0} → Shown K → Option (List ℕ) → ℕ → List ℕ → List ℕ → List Event
+make_events v other time payload sig =
+    made_by (make_answer v other time payload sig) (made_row v.start.own (graph_of v) other time payload sig)
+
+-- what the node signs for such an event
+unfoldable pub make_body : {K : Type 0} → Shown K → Option (List ℕ) → ℕ → List ℕ → List ℕ
+make_body v other time payload = body_bytes v.start.own (both_names (last_name v.start.own (graph_of v)) other) time payload
+
+-- the answer and the node after making an event, whichever accepted signature it got
+pub record IsMaking {K : Type 0} (accepts : K → Accepts) (old : Shown K) (other : Option (List ℕ)) (time : ℕ) (payload : List ℕ) (answer : MakeAnswer) (new : Shown K) : Type 0 where
+  pub sig : List ℕ
+  pub signed : accepts old.start.keys old.start.own (make_body old other time payload) sig ≡ true
+  pub answers : answer ≡ make_answer old other time payload sig
+  pub grown : new ≡ with_events old (make_events old other time payload sig)
+
+-- how many witnesses are marked by publishing what a share finds in the first `len` rows
+unfoldable pub publish_answer : {K : Type 0} → Shown K → ℕ → Share → ℕ
+publish_answer v len share = news v.start.members v.start.coin (state_of v) len share
+
+-- the events that it adds: one, where it marks some
+unfoldable pub publish_events : {K : Type 0} → Shown K → ℕ → Share → List Event
+publish_events v len share = cond (publish_answer v len share == 0) [] (Marked len share ∷ [])
+
+-- to settle is to publish the fame of the whole graph
+abbrev pub settle_events : {K : Type 0} → Shown K → List Event
+settle_events v = publish_events v (length (graph_of v)) whole

@@ -1,0 +1,47 @@
+-- The shape of a graph, and of it with a row more or with fewer rows
+use Rattle.std.specs.Prelude.{ℕ, ◌<◌, ◌≡◌, ◌≢◌, true, List, [], ◌∷◌, ◌++◌, length, take, Option, Some, None}
+use Rattle.hg_model.specs.Places.{has_place}
+use Rattle.hg_model.specs.Links.{Link, first_place, later_places, creator}
+
+-- how many members there are, and the links of the rows
+pub record Shape : Type 0 where
+  pub members : ℕ
+  pub links : List Link
+
+abbrev pub shape_of : ℕ → List Link → Shape
+shape_of members links = record { members = members; links = links }
+
+-- a place, if there is one, as a list
+abbrev pub place_list : Option ℕ → List ℕ
+place_list None = []
+place_list (Some p) = p ∷ []
+
+-- two places, if there are any, as a list
+abbrev pub pair_list : Option (ℕ × ℕ) → List ℕ
+pair_list None = []
+pair_list (Some ps) = ps.0 ∷ ps.1 ∷ []
+
+-- the link of a row by this member with these parents, if it has any, the self-parent first
+abbrev pub link_of : ℕ → Option (ℕ × ℕ) → Link
+link_of member parents = record { creator = member; parents = pair_list parents }
+
+-- the graph with one row more
+abbrev pub with_link : Shape → Link → Shape
+with_link shape link = shape_of shape.members (shape.links ++ link ∷ [])
+
+-- the graph of the first rows
+abbrev pub first_links : Shape → ℕ → Shape
+first_links shape len = shape_of shape.members (take len shape.links)
+
+-- what a link must meet to come after these: its creator is a member, its parents are there, the self-parent is by its
+-- creator, and other-parents are by others
+pub record FitsLink (n : ℕ) (L : List Link) (link : Link) : Type 0 where
+  pub member : link.creator < n
+  pub earlier : (p : ℕ) → has_place link.parents p ≡ true → p < length L
+  pub self_by_same : (p : ℕ) → has_place (first_place link.parents) p ≡ true → creator L p ≡ link.creator
+  pub others_by_others : (p : ℕ) → has_place (later_places link.parents) p ≡ true → creator L p ≢ link.creator
+
+-- a graph, and for how many more rows there is memory
+pub record Growth : Type 0 where
+  pub shape : Shape
+  pub room : ℕ

@@ -1,0 +1,58 @@
+-- Shares of the witnesses, and what the procedure decideFame of SWIRLDS-TR-2016-01, section 4, finds for one of them.
+-- Shares are our own: with them several workers look for fame beside each other
+use Rattle.std.specs.Prelude.{ℕ, ◌≡◌, ◌≤◌, ◌+◌, ◌%◌, Bool, cond, ◌&&◌, ◌==◌, nat_lt, List, length, take, fold, Option, Some, None, is_some, is_none, slice_set}
+use Rattle.std.specs.Option.{option_or}
+use Rattle.hg_model.specs.declared.row.Row.{Row}
+use Rattle.hg_model.specs.Places.{count_below, list_below}
+use Rattle.hg_model.specs.Links.{Link}
+use Rattle.hg_model.specs.Rounds.{is_witness}
+use Rattle.hg_model.specs.Fame.{Marks, mark_at, fame_of, is_yes}
+use Rattle.hg_model.specs.Order.{coin_at}
+
+-- share k of so many
+pub record Share : Type 0 where
+  pub k : ℕ
+  pub «of» : ℕ
+
+-- all witnesses are of the one share of one
+abbrev pub whole : Share
+whole = record { k = 0; «of» = 1 }
+
+-- x is a witness of the share: its index among all witnesses by place, modulo `of`, is `k`
+abbrev pub is_of_share : ℕ → List Link → Share → ℕ → Bool
+is_of_share n L share x =
+    nat_lt x (length L) && is_witness n L x && count_below x (is_witness n L) % share.of == share.k
+
+-- the fame of x in a graph, if x is of the share and decided
+unfoldable pub share_fame : ℕ → ℕ → List Row → List Link → Share → ℕ → Option Bool
+share_fame n c G L share x = cond (is_of_share n L share x) (fame_of n c L (coin_at G) x) None
+
+-- the same in the graph of the first `len` rows
+abbrev pub early_fame : ℕ → ℕ → List Row → List Link → ℕ → Share → ℕ → Option Bool
+early_fame n c G L len share x = share_fame n c (take len G) (take len L) share x
+
+-- the decided witnesses of the share in a graph, by place, each with its fame
+unfoldable pub found_in : ℕ → ℕ → List Row → List Link → Share → List (ℕ × Bool)
+found_in n c G L share =
+    list_below (λ x. (x, is_yes (share_fame n c G L share x))) (length L) (λ x. is_some (share_fame n c G L share x))
+
+-- these places with fame are what the share finds in the first `len` rows of a graph
+pub record Speaks (n c : ℕ) (G : List Row) (L : List Link) (len : ℕ) (share : Share) (marks : List (ℕ × Bool)) : Type 0 where
+  pub within : len ≤ length G
+  pub told : marks ≡ found_in n c (take len G) (take len L) share
+
+-- marks to which more are added, and how many came new
+pub record Adding : Type 0 where
+  pub marks : Marks
+  pub count : ℕ
+
+-- a place's fame becomes its mark, if it has none
+abbrev pub add_mark : Adding → ℕ × Bool → Adding
+add_mark a found = record {
+  marks = slice_set a.marks found.0 (option_or (mark_at a.marks found.0) (Some found.1));
+  count = a.count + cond (is_none (mark_at a.marks found.0)) 1 0;
+}
+
+-- one after the other
+unfoldable pub add_marks : Marks → List (ℕ × Bool) → Adding
+add_marks marks found = fold add_mark (record { marks = marks; count = 0 }) found

@@ -1,0 +1,81 @@
+-- A node as callers see it: what it began with, and its history. All else that it tells is a function of these two
+use Rattle.std.specs.Prelude.{ℕ, suc, ◌≡◌, ◌<◌, ◌≤◌, List, [], ◌∷◌, ◌++◌, length, map, get_or, None}
+use Rattle.hg_model.specs.declared.row.Row.{Row}
+use Rattle.hg_model.specs.declared.row.Placed.{Placed}
+use Rattle.hg_model.specs.declared.entry.Entry.{Entry}
+use Rattle.hg_model.specs.declared.entry.Entry.TheVariants as entry
+use Rattle.hg_model.specs.Links.{Link}
+use Rattle.hg_model.specs.Fame.{Marks}
+use Rattle.hg_model.specs.Order.{last_closed}
+use Rattle.hg_model.specs.Kept.{kept}
+use Rattle.hg_model.specs.History.{Event, State, Accepts, replay, IsHistory}
+use Rattle.hg_model.specs.History.Event.{Took, Made, Marked}
+
+-- what a node begins with and never changes: its own member, how many members there are, the coin period, the balances,
+-- and what it signs with and checks signatures by
+pub record Start (K : Type 0) : Type 0 where
+  pub own : ℕ
+  pub members : ℕ
+  pub coin : ℕ
+  pub balances : List ℕ
+  pub keys : K
+
+pub record Shown (K : Type 0) : Type 0 where
+  pub start : Start K
+  pub history : List Event
+
+-- the node with more events
+abbrev pub with_events : {K : Type 0} → Shown K → List Event → Shown K
+with_events v es = record { start = v.start; history = v.history ++ es }
+
+-- the state that the history leaves
+abbrev pub state_of : {K : Type 0} → Shown K → State
+state_of v = replay v.start.members v.start.coin v.history
+
+abbrev pub graph_of : {K : Type 0} → Shown K → List Row
+graph_of v = (state_of v).rows
+
+abbrev pub links_of : {K : Type 0} → Shown K → List Link
+links_of v = (state_of v).links
+
+-- the published marks
+abbrev pub marks_of : {K : Type 0} → Shown K → Marks
+marks_of v = (state_of v).marks
+
+-- the greatest round that they close, or 0
+abbrev pub last_closed_of : {K : Type 0} → Shown K → ℕ
+last_closed_of v = last_closed v.start.members (links_of v) (marks_of v)
+
+-- the order by the published marks
+abbrev pub kept_of : {K : Type 0} → Shown K → List Placed
+kept_of v = kept v.start.members (state_of v)
+
+-- the log of a history from the row of this place on: the rows by their places
+abbrev pub log_from : ℕ → List Event → List Entry
+log_from place [] = []
+log_from place (Took row ∷ h) = entry.Took place ∷ log_from (suc place) h
+log_from place (Made row ∷ h) = entry.Made place ∷ log_from (suc place) h
+log_from place (Marked len share ∷ h) = entry.Marked len share ∷ log_from place h
+
+abbrev pub log : {K : Type 0} → Shown K → List Entry
+log v = log_from 0 v.history
+
+abbrev pub no_row : Row
+no_row = record { creator = 0; parents = None; time = 0; payload = []; sig = []; name = [] }
+
+-- the event that an entry of a log tells of these rows
+abbrev pub event_of : List Row → Entry → Event
+event_of G (entry.Took place) = Took (get_or G place no_row)
+event_of G (entry.Made place) = Made (get_or G place no_row)
+event_of G (entry.Marked len share) = Marked len share
+
+-- the history that rows and a log tell
+abbrev pub history_of : List Row → List Entry → List Event
+history_of G entries = map (event_of G) entries
+
+-- what every node is, where these signatures are accepted
+pub record IsNode {K : Type 0} (accepts : K → Accepts) (v : Shown K) : Type 0 where
+  pub few_members : v.start.members ≤ 128
+  pub coin : 2 < v.start.coin
+  pub balances : length v.start.balances ≡ v.start.members
+  pub history : IsHistory (accepts v.start.keys) v.start.members v.start.coin v.start.own v.history

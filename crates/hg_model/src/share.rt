@@ -1,0 +1,47 @@
+ghost use Rattle.std.specs.Prelude.{◌≡◌, ◌<◌};
+
+use std::marker::Model;
+
+/// A part of the witnesses: those whose index among all witnesses by place, modulo `of`, is `k`. Always `k < of`.
+#[derive(Clone, Copy, Debug, PartialEq, Eq)]
+pub struct Share {
+    k: u32,
+    of: u32,
+}
+
+impl Model for Share {
+    ghost use Rattle.std.specs.Prelude.{◌<◌};
+    ghost use Rattle.hg_model.specs.Shares as shares;
+
+    ghost Value = { shares.Share };
+
+    ghost view = { λ s. record { k = s.k; «of» = s.of } };
+
+    ghost inverse = { λ s. record { k = s.k; «of» = s.of } };
+
+    ghost invariant = { λ s. s.k < s.of };
+}
+
+impl Share {
+    /// Share `k` of `of`.
+    pub fn new(k: u32, of: u32) -> Share
+        requires { k < of }
+        ensures { result ≡ record { k = k; «of» = of } }
+    {
+        Share { k, of }
+    }
+
+    pub fn k(&self) -> u32
+        ensures value { result ≡ self.now.k }
+        ensures lawful { self.now.k < self.now.of }
+    {
+        self.k
+    }
+
+    pub fn of(&self) -> u32
+        ensures value { result ≡ self.now.of }
+        ensures lawful { self.now.k < self.now.of }
+    {
+        self.of
+    }
+}

@@ -1,0 +1,79 @@
+ghost use Rattle.std.specs.Prelude.{◌≡◌, ℕ, ◌<◌, ◌≤◌, ◌+◌, ◌-◌, ◌^◌, length, IfOk, OnOk};
+ghost use Rattle.hg_model.specs.Links.{creator, self_parent};
+ghost use Rattle.hg_model.specs.Ancestry.{is_ancestor};
+ghost use Rattle.hg_model.specs.Seeing.{sees, strongly_sees};
+ghost use Rattle.hg_model.specs.Graph.{IsShaped};
+ghost use Rattle.hg_model.specs.Shape.{Shape, FitsLink, first_links, link_of, place_list, with_link};
+
+use crate::memory::Memory;
+use crate::row::Member;
+
+/// What the rows of a graph see of each other. A place is below the number of rows.
+pub trait Sight {
+    /// The graph: how many members there are, and each row's creator and parents.
+    ghost shape: { Self → Shape };
+
+    /// How many rows there are.
+    fn rows(&self) -> usize
+        ensures value { result ≡ length (shape self.now).links }
+        ensures short { result < 2 ^ 32 - 1 }
+        ensures shaped { IsShaped (shape self.now).members (shape self.now).links };
+
+    /// How many members there are.
+    fn members(&self) -> u32
+        ensures value { result ≡ (shape self.now).members }
+        ensures few { result ≤ 128 }
+        ensures shaped { IsShaped (shape self.now).members (shape self.now).links };
+
+    /// Who made row `x`.
+    fn creator(&self, x: usize) -> Member
+        requires { x < length (shape self.now).links }
+        ensures value { result ≡ creator (shape self.now).links x }
+        ensures member { result < (shape self.now).members };
+
+    /// The place of the self-parent of row `x`, if it has one.
+    fn self_parent(&self, x: usize) -> Option<usize>
+        requires { x < length (shape self.now).links }
+        ensures { place_list result ≡ self_parent (shape self.now).links x };
+
+    /// Whether row `y` is an ancestor of row `x`.
+    fn ancestor(&self, x: usize, y: usize) -> bool
+        requires left { x < length (shape self.now).links }
+        requires right { y < length (shape self.now).links }
+        ensures { result ≡ is_ancestor (shape self.now).links x y };
+
+    /// Whether row `x` sees row `y`.
+    fn sees(&self, x: usize, y: usize) -> bool
+        requires left { x < length (shape self.now).links }
+        requires right { y < length (shape self.now).links }
+        ensures { result ≡ sees (shape self.now).links x y };
+
+    /// Whether row `x` strongly sees row `y`.
+    fn strongly_sees(&self, x: usize, y: usize) -> bool
+        requires left { x < length (shape self.now).links }
+        requires right { y < length (shape self.now).links }
+        ensures { result ≡ strongly_sees (shape self.now).members (shape self.now).links x y };
+}
+
+/// A graph that takes rows one by one.
+pub trait Growing: Sight {
+    /// For how many more rows there is memory at least.
+    ghost room: { Self → ℕ };
+
+    /// Takes the memory of one more row.
+    fn reserve(&mut self) -> Result<(), Memory>
+        ensures room { OnOk result (1 ≤ room self.new) }
+        ensures same { Self.shape self.new ≡ Self.shape self.old };
+
+    /// One more row, by the member, with a self-parent and an other-parent or without parents. Takes no memory.
+    fn extend(&mut self, parents: Option<(usize, usize)>, creator: Member)
+        requires room { 1 ≤ room self.old }
+        requires fits { FitsLink (Self.shape self.old).members (Self.shape self.old).links (link_of creator parents) }
+        requires short { length (Self.shape self.old).links + 1 < 2 ^ 32 - 1 }
+        ensures { Self.shape self.new ≡ with_link (Self.shape self.old) (link_of creator parents) };
+
+    /// The graph of the first `len` rows, as a value of its own.
+    fn prefix(&self, len: usize) -> Result<Self, Memory>
+        requires { len ≤ length (Self.shape self.now).links }
+        ensures { IfOk result (λ s. Self.shape s ≡ first_links (Self.shape self.now) len) };
+}

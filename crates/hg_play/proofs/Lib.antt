@@ -1,0 +1,3 @@
+mod PlaceLaws
+mod NodeLaws
+mod PlayLaws

@@ -1,0 +1,4 @@
+pub mod Node
+pub mod Labels
+pub mod Nodes
+pub mod Play

@@ -1,0 +1,93 @@
+ghost use Rattle.std.specs.Prelude.{◌≡◌, IfOk, option_map, take};
+ghost use Rattle.hg_sign.specs.Table.{signature_by};
+ghost use Rattle.hg_play.specs.Labels.{altered, bytes_at, forged, name_of_label, names_of_labels};
+ghost use Rattle.hg_play.specs.Node.{keys_by};
+
+use hg_event::encode_body;
+use hg_model::{Bytes, Items, Member, Memory, Name};
+use hg_name::name_of;
+use hg_sign::{MacTable, Signer};
+use std::alloc::Global;
+
+/// The bytes of a label, by its number; none for a number that is no label's.
+pub(crate) fn bytes_at(labels: &[Bytes], label: usize) -> &[u8]
+    ensures { result.now ≡ bytes_at labels.now label }
+{
+    match labels.get(label) {
+        Some(bytes) => bytes.as_slice(),
+        None => &[],
+    }
+}
+
+/// The name of the event that the label's bytes are.
+pub(crate) fn name_of_label(labels: &[Bytes], label: usize) -> Name
+    ensures { result ≡ name_of_label labels.now label }
+{
+    name_of(bytes_at(labels, label))
+}
+
+/// The names of the events of two labels.
+pub(crate) fn names_of_labels(
+    labels: &[Bytes],
+    parents: &Option<(usize, usize)>,
+) -> Option<(Name, Name)>
+    ensures { result ≡ option_map (names_of_labels labels.now) parents.now }
+{
+    match parents {
+        None => None,
+        Some((own, other)) => Some((name_of_label(labels, *own), name_of_label(labels, *other))),
+    }
+}
+
+/// An event with these fields and no payload, under the member's signature.
+pub(crate) fn forged(
+    alloc: Global,
+    keys: &MacTable,
+    creator: Member,
+    parents: &Option<(Name, Name)>,
+    time: u64,
+) -> Result<Bytes, Memory>
+    ensures { IfOk result (λ bytes. bytes ≡ forged (keys_by keys.now) creator parents.now time) }
+{
+    let mut bytes = encode_body(alloc, creator, parents, time, &[])?;
+    let sig = keys.sign(creator, bytes.as_slice());
+    bytes.extend_from_slice(&sig)?;
+    Ok(Items::from_vec(bytes))
+}
+
+/// The byte at a place XORed with the mask, if there is one.
+fn alter(bytes: &mut [u8], at: u64, mask: u8)
+    ensures { bytes.new ≡ altered bytes.old at mask }
+{
+    if at < bytes.len() as u64 {
+        bytes[at as usize] ^= mask;
+    }
+}
+
+/// A copy, with the byte at a place XORed with the mask, if there is one.
+pub(crate) fn altered(alloc: Global, bytes: &[u8], at: u64, mask: u8) -> Result<Bytes, Memory>
+    ensures { IfOk result (λ copy. copy ≡ altered bytes.now at mask) }
+{
+    let mut copy = Vec::from_slice(alloc, bytes)?;
+    alter(copy.as_mut_slice(), at, mask);
+    Ok(Items::from_vec(copy))
+}
+
+/// The first bytes, so many, or all of fewer.
+pub(crate) fn front(alloc: Global, bytes: &[u8], len: u64) -> Result<Bytes, Memory>
+    ensures { IfOk result (λ copy. copy ≡ take len bytes.now) }
+{
+    let front = if len < bytes.len() as u64 {
+        &bytes[..len as usize]
+    } else {
+        bytes
+    };
+    Ok(Items::from_vec(Vec::from_slice(alloc, front)?))
+}
+
+/// A copy of the bytes.
+pub(crate) fn copied(alloc: Global, bytes: &[u8]) -> Result<Bytes, Memory>
+    ensures { IfOk result (λ copy. copy ≡ bytes.now) }
+{
+    Ok(Items::from_vec(Vec::from_slice(alloc, bytes)?))
+}

@@ -1,0 +1,199 @@
+-- Two graphs of which rows of equal names are equal, joined: the rows of the first, and those of the second that it lacks
+use Rattle.std.proofs.Common.{◌≡◌, ◌≢◌, ◌⊎◌, inl, inr, ℕ, zero, suc, ◌<◌, ◌≤◌, true, cond, List, [], ◌∷◌, ◌++◌, length, map, get_or, Some, slice_get, sym, refl, ap, ◌∙◌, subst, arith, le-ltb, lt-ltb}
+use Rattle.std.specs.List.{AllByRecursion}
+use Rattle.std.proofs.lemmas.Bool.{cases_lt, cases_eq}
+use Rattle.std.proofs.lemmas.List.{length_push, get_or_push}
+use Rattle.std.proofs.lemmas.Option.{slice_get-get_or, get_or_from_slice_get}
+use Rattle.hg_model.specs.declared.row.Row.{Row}
+use Rattle.hg_model.specs.Places.{has_place}
+use Rattle.hg_model.specs.Links.{parent_names, place_of, links, first_place, later_places, creator, parents, self_parent, other_parents}
+use Rattle.hg_model.specs.Graph.{name_in, name_at, HasDistinctNames, IsShaped}
+use Rattle.hg_model.specs.Verdict.{row_creator, row_creator_in, is_held}
+use Rattle.hg_model.specs.Fits.{AreHeld, ParentsFit, Fits}
+use Rattle.hg_model.proofs.LinkLaws.{length-links, parents-links}
+use Rattle.hg_model.proofs.LongerLaws.{slice_get-append}
+use Rattle.hg_model.proofs.NameLaws.{place_of_at, distinct-push}
+use Rattle.hg_model.proofs.PushLaws.{nobody, row_creator-links, shaped-push}
+use Rattle.hg_model.proofs.ReachLaws.{has_place_first, has_place_later}
+use Rattle.hg_prefix.specs.Standing.{IsRowOf, StandsIn}
+use Rattle.hg_prefix.specs.Chains.{HaveEqualRows}
+use Rattle.hg_prefix.proofs.StandingLaws.{name_at_place}
+
+-- the rows with one more, unless one has its name
+abbrev with_row : List Row → Row → List Row
+with_row G row = cond (is_held G row.name) G (G ++ row ∷ [])
+
+-- the rows of G, and the first k of H
+unfoldable pub joined : List Row → List Row → ℕ → List Row
+joined G H zero = G
+joined G H (suc k) = with_row (joined G H k) (get_or H k nobody)
+
+-- what the first k rows of H make of G
+pub record IsJoined (n : ℕ) (G H : List Row) (k : ℕ) (U : List Row) : Type 0 where
+  pub distinct : HasDistinctNames U
+  pub shaped : IsShaped n (links U)
+  pub has_first : StandsIn G U
+  pub has_second : (y : ℕ) → y < k → IsRowOf H y U
+  pub no_other : (u : ℕ) → u < length U → IsRowOf U u G ⊎ IsRowOf U u H
+
+row_before : (U : List Row) (row : Row) (u : ℕ) → u < length U → slice_get (U ++ row ∷ []) u ≡ slice_get U u
+row_before U row u inside = slice_get-append U (row ∷ []) nobody u inside
+
+row_last : (U : List Row) (row : Row) → slice_get (U ++ row ∷ []) (length U) ≡ Some row
+row_last U row =
+    slice_get-get_or (U ++ row ∷ []) (length U) nobody (omega (arith, length_push U row)) ∙ ap (λ (r : Row). Some r) (get_or_push U row nobody (length U) refl)
+
+-- a row stays a row of the longer list
+row_stays : (G : List Row) (x : ℕ) (U : List Row) (row : Row) → IsRowOf G x U → IsRowOf G x (U ++ row ∷ [])
+row_stays G x U row is =
+    let inside : is.0 < length U = is.1 in
+    (is.0, omega (arith, length_push U row), row_before U row is.0 inside ∙ is.2)
+
+module _ (n : ℕ) (G H : List Row) (distinct_H : HasDistinctNames H) (shaped_H : IsShaped n (links H)) (equal : HaveEqualRows G H) where
+  -- row k of H fits behind rows that have all earlier rows of H
+  module _ (k : ℕ) (inside : k < length H) (U : List Row) (is : IsJoined n G H k U) where
+    row : Row
+    row = get_or H k nobody
+
+    at_k : slice_get H k ≡ Some row
+    unfolding row
+    at_k = slice_get-get_or H k nobody inside
+
+    row_places : List ℕ
+    row_places = map (place_of H) (parent_names row.parents)
+
+    parents_are : parents (links H) k ≡ row_places
+    unfolding row row_places
+    parents_are = parents-links H k (get_or H k nobody) inside (sym (get_or_from_slice_get H k (get_or H k nobody) (get_or H k nobody) at_k))
+
+    creator_is : creator (links H) k ≡ row.creator
+    creator_is = row_creator-links H k ∙ ap row_creator_in at_k
+
+    -- a row of H before k is found in U by its name
+    found : (name : List ℕ) → place_of H name < k → (place_of U name < length U) × (row_creator U (place_of U name) ≡ row_creator H (place_of H name))
+    unfolding name_at
+    found name low =
+        let u = is.has_second (place_of H name) low in
+        let place : place_of U name ≡ u.0 = place_of_at U is.distinct u.0 name u.1 (ap name_in u.2 ∙ name_at_place H name (omega arith)) in
+        (rw place u.1, ap (row_creator U) place ∙ ap row_creator_in u.2)
+
+    held : (names : List (List ℕ)) → ((p : ℕ) → has_place (map (place_of H) names) p ≡ true → p < k) → AreHeld U names
+    held [] low = tt
+    held (name ∷ names) low = (
+      (found name (low (place_of H name) (has_place_first (place_of H name) (map (place_of H) names)))).0,
+      held names (λ p h. low p (has_place_later (place_of H name) p (map (place_of H) names) h)),
+    )
+
+    by_others : (names : List (List ℕ)) → ((p : ℕ) → has_place (map (place_of H) names) p ≡ true → p < k) → ((p : ℕ) → has_place (map (place_of H) names) p ≡ true → row_creator H p ≢ row.creator) →
+        AllByRecursion (λ name. row_creator U (place_of U name) ≢ row.creator) names
+    by_others [] low other = tt
+    by_others (name ∷ names) low other =
+        let here = has_place_first (place_of H name) (map (place_of H) names) in
+        let by = (found name (low (place_of H name) here)).1 in (
+          (λ same. other (place_of H name) here (sym by ∙ same)),
+          by_others names (λ p h. low p (has_place_later (place_of H name) p (map (place_of H) names) h)) (λ p h. other p (has_place_later (place_of H name) p (map (place_of H) names) h)),
+        )
+
+    parents_fit : (names : List (List ℕ)) → ((p : ℕ) → has_place (map (place_of H) names) p ≡ true → p < k) →
+        ((p : ℕ) → has_place (first_place (map (place_of H) names)) p ≡ true → row_creator H p ≡ row.creator) →
+        ((p : ℕ) → has_place (later_places (map (place_of H) names)) p ≡ true → row_creator H p ≢ row.creator) → ParentsFit U row.creator names
+    parents_fit [] low own other = tt
+    parents_fit (name ∷ names) low own other =
+        let by = (found name (low (place_of H name) (has_place_first (place_of H name) (map (place_of H) names)))).1 in (
+          by ∙ own (place_of H name) (has_place_first (place_of H name) []),
+          by_others names (λ p h. low p (has_place_later (place_of H name) p (map (place_of H) names) h)) other,
+        )
+
+    low_places : (p : ℕ) → has_place row_places p ≡ true → p < k
+    low_places p h = shaped_H.earlier.earlier k p (subst (λ ps. has_place ps p ≡ true) (sym parents_are) h)
+
+    own_place : (p : ℕ) → has_place (first_place row_places) p ≡ true → row_creator H p ≡ row.creator
+    unfolding self_parent
+    own_place p h =
+        sym (row_creator-links H p)
+        ∙ (shaped_H.self_by_same k p (subst (λ ps. has_place (first_place ps) p ≡ true) (sym parents_are) h) ∙ creator_is)
+
+    other_places : (p : ℕ) → has_place (later_places row_places) p ≡ true → row_creator H p ≢ row.creator
+    unfolding other_parents
+    other_places p h same =
+        shaped_H.others_by_others k p (subst (λ ps. has_place (later_places ps) p ≡ true) (sym parents_are) h)
+        (row_creator-links H p ∙ (same ∙ sym creator_is))
+
+    fits : Fits n U row
+    unfolding row_places
+    fits = record {
+      member = rw (← creator_is) (shaped_H.members k (rw (length-links H) inside));
+      present = record { held = held (parent_names row.parents) low_places };
+      parents_fit = parents_fit (parent_names row.parents) low_places own_place other_places;
+    }
+
+    -- where a row has its name, it is that row
+    joined_held : place_of U row.name < length U → IsJoined n G H (suc k) U
+    unfolding name_at
+    joined_held held = record {
+      distinct = is.distinct;
+      shaped = is.shaped;
+      has_first = is.has_first;
+      has_second = λ y low. elim (cases_eq y k) [
+        | inl last ↦ subst (λ z. IsRowOf H z U) (sym last) (
+          place_of U row.name,
+          held,
+          elim (is.no_other (place_of U row.name) held) [
+            | inl of_G ↦ sym of_G.2 ∙ equal.equal of_G.0 k of_G.1 inside (ap name_in of_G.2 ∙ named)
+            | inr of_H ↦ sym of_H.2 ∙ ap (slice_get H) (distinct_H.one of_H.0 k of_H.1 inside (ap name_in of_H.2 ∙ named))
+          ],
+        )
+        | inr before ↦ is.has_second y (omega arith)
+      ];
+      no_other = is.no_other;
+    }
+      where
+        named : name_in (slice_get U (place_of U row.name)) ≡ name_in (slice_get H k)
+        named = name_at_place U row.name held ∙ ap name_in (sym at_k)
+
+    -- else it comes as the last
+    joined_more : length U ≤ place_of U row.name → IsJoined n G H (suc k) (U ++ row ∷ [])
+    joined_more free = record {
+      distinct = distinct-push U row is.distinct free;
+      shaped = shaped-push n U row is.shaped fits;
+      has_first = record { row_in = λ x h. row_stays G x U row (is.has_first.row_in x h) };
+      has_second = λ y low. elim (cases_eq y k) [
+        | inl last ↦ subst (λ z. IsRowOf H z (U ++ row ∷ [])) (sym last) (length U, omega (arith, length_push U row), row_last U row ∙ sym at_k)
+        | inr before ↦ row_stays H y U row (is.has_second y (omega arith))
+      ];
+      no_other = λ u below. elim (cases_lt u (length U)) [
+        | inl before ↦ elim (is.no_other u before) [
+          | inl of_G ↦ inl (of_G.0, of_G.1, of_G.2 ∙ sym (row_before U row u before))
+          | inr of_H ↦ inr (of_H.0, of_H.1, of_H.2 ∙ sym (row_before U row u before))
+        ]
+        | inr ge ↦ (
+            let last : u ≡ length U = omega (arith, length_push U row) in
+            inr (k, inside, at_k ∙ (sym (row_last U row) ∙ ap (slice_get (U ++ row ∷ [])) (sym last))))
+      ];
+    }
+
+  pub joined_is : (first : IsJoined n G H 0 G) (k : ℕ) → k ≤ length H → IsJoined n G H k (joined G H k)
+  unfolding joined row
+  joined_is first zero le = first
+  joined_is first (suc k) le =
+      let U : List Row = joined G H k in
+      let last : Row = get_or H k nobody in
+      let is = joined_is first k (omega arith) in
+      elim (cases_lt (place_of U last.name) (length U)) [
+        | inl held ↦ subst (IsJoined n G H (suc k)) (sym (ap (λ b. cond b U (U ++ last ∷ [])) (lt-ltb (place_of U last.name) (length U) held))) (joined_held k (omega arith) U is held)
+        | inr free ↦ subst (IsJoined n G H (suc k)) (sym (ap (λ b. cond b U (U ++ last ∷ [])) (le-ltb (place_of U last.name) (length U) free))) (joined_more k (omega arith) U is free)
+      ]
+
+-- the whole of both
+pub joined_whole : (n : ℕ) (G H : List Row) → HasDistinctNames G → IsShaped n (links G) → HasDistinctNames H → IsShaped n (links H) → HaveEqualRows G H →
+    IsJoined n G H (length H) (joined G H (length H))
+joined_whole n G H distinct_G shaped_G distinct_H shaped_H equal =
+    joined_is n G H distinct_H shaped_H equal
+    (record {
+      distinct = distinct_G;
+      shaped = shaped_G;
+      has_first = record { row_in = λ x inside. (x, inside, refl) };
+      has_second = λ y low. absurd (omega arith);
+      no_other = λ u inside. inl (u, inside, refl);
+    })
+    (length H) (omega arith)

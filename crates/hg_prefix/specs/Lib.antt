@@ -1,0 +1,4 @@
+pub mod Standing
+pub mod Orders
+pub mod Chains
+pub mod Laws

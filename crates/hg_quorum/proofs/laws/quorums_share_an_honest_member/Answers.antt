@@ -1,0 +1,23 @@
+use Rattle.std.proofs.Common.{◌*◌, true}
+use Rattle.std.proofs.lemmas.Bool.{ltb-true, not_from_false}
+use Rattle.hg_model.specs.Places.{weight_below}
+use Rattle.hg_model.specs.Links.{links}
+use Rattle.hg_model.specs.Forks.{has_fork, forkers}
+use Rattle.hg_model.proofs.PlacesLaws.{count_below-all}
+use Rattle.hg_model.proofs.QuorumLaws.{quorums_meet}
+use Rattle.hg_quorum.specs.Members.{QuorumsMeet}
+use Rattle.hg_quorum.proofs.laws.quorums_share_an_honest_member.Goals as goal
+
+weighed : QuorumsMeet
+weighed weight n one two few many_one many_two low =
+    let all = weight_below weight n (λ _. true) in
+    let m = quorums_meet weight n one two few (ltb-true (2 * all) (3 * weight_below weight n one) many_one) (ltb-true (2 * all) (3 * weight_below weight n two) many_two) low in
+    (m.0, m.1, m.2, m.3, not_from_false (few m.0) m.4)
+
+pub returns-clause-weighed : goal.returns-clause-weighed
+returns-clause-weighed c = weighed
+
+pub returns-clause-honest : goal.returns-clause-honest
+returns-clause-honest c = λ n G g one two many_one many_two.
+    let low = g.few_forkers in
+    weighed (λ _. 1) n one two (has_fork (links G)) (rw count_below-all many_one) (rw count_below-all many_two) (rw count_below-all (unfold forkers in low))

@@ -1,0 +1,10 @@
+use Rattle.std.proofs.Common.{drop, ◌+◌}
+use Rattle.hg_io.specs.Telling.{IsPutUpTo, desk}
+use Rattle.hg_model.specs.Report.{order_text}
+use Rattle.hg_report.proofs.lines.write_order.Given as goal
+
+abbrev pub invariant-loop-i : goal.invariant-loop-i
+invariant-loop-i g l =
+    let sink = g.K.Sink in
+    IsPutUpTo (desk (sink.written l.initial.sink) (sink.faults l.initial.sink) l.initial.page) (desk (sink.written l.sink) (sink.faults l.sink) l.page)
+    (order_text l.named l.names (l.i + 1) (drop l.i l.lines)) (order_text l.named l.names 1 l.lines)

@@ -1,0 +1,126 @@
+ghost use Rattle.std.specs.Prelude.{◌≡◌, ◌++◌};
+ghost use Rattle.hg_model.specs.Report.{byte_fault_text, fault_text, make_answer_text, make_fault_text, put_answer_text, sync_made_text};
+ghost use Rattle.hg_report.specs.Phrases.{phrase_text};
+ghost use Rattle.hg_report.specs.Pieces.{piece_text};
+
+use crate::pieces::Piece;
+use hg_model::{ByteFault, Fault, MakeAnswer, MakeFault, PutAnswer, SyncMade};
+
+/// What is told of an answer: two texts, each of which may be empty, and then a piece.
+#[derive(Clone, Copy)]
+pub(crate) struct Phrase<'a> {
+    pub(crate) first: &'a [u8],
+    pub(crate) second: &'a [u8],
+    pub(crate) detail: Piece<'a>,
+}
+
+/// What is wrong with an event's bytes: a word, and a number if there is one.
+fn byte_fault_parts(fault: &ByteFault) -> (&'static [u8], Piece<'static>)
+    ensures { result.0.now ++ piece_text result.1 ≡ byte_fault_text fault.now }
+{
+    match fault {
+        ByteFault::Short(at) => (b"short ", Piece::Number(*at as u64)),
+        ByteFault::BadMagic => (b"bad-magic", Piece::Bytes(b"")),
+        ByteFault::BadKind(kind) => (b"bad-kind ", Piece::Number(u64::from(*kind))),
+        ByteFault::BadLength(length) => (b"bad-length ", Piece::Number(u64::from(*length))),
+        ByteFault::Trailing(count) => (b"trailing ", Piece::Number(*count as u64)),
+    }
+}
+
+/// Why a node refuses an event: a word, and what is told of it.
+fn fault_parts(fault: &Fault) -> (&[u8], Piece<'_>)
+    ensures { result.0.now ++ piece_text result.1 ≡ fault_text fault.now }
+{
+    match fault {
+        Fault::Bytes(fault) => byte_fault_parts(fault),
+        Fault::Member(id) => (b"member ", Piece::Number(u64::from(*id))),
+        Fault::Collision(place) => (b"collision ", Piece::Number(*place as u64)),
+        Fault::Signature => (b"signature", Piece::Bytes(b"")),
+        Fault::Impostor => (b"impostor", Piece::Bytes(b"")),
+        Fault::MissingSelf(name) => (b"missing-self ", Piece::Name(name)),
+        Fault::MissingOther(name) => (b"missing-other ", Piece::Name(name)),
+        Fault::SelfCreator(place) => (b"self-creator ", Piece::Number(*place as u64)),
+        Fault::OtherCreator(place) => (b"other-creator ", Piece::Number(*place as u64)),
+        Fault::TooManyForkers(count) => (b"too-many-forkers ", Piece::Number(u64::from(*count))),
+        Fault::Full(limit) => (b"full ", Piece::Number(*limit as u64)),
+    }
+}
+
+/// Why a node makes no event: a word, and what is told of it.
+fn make_fault_parts(fault: &MakeFault) -> (&[u8], Piece<'_>)
+    ensures { result.0.now ++ piece_text result.1 ≡ make_fault_text fault.now }
+{
+    match fault {
+        MakeFault::HasFirst => (b"has-first", Piece::Bytes(b"")),
+        MakeFault::NoFirst => (b"no-first", Piece::Bytes(b"")),
+        MakeFault::MissingOther(name) => (b"missing-other ", Piece::Name(name)),
+        MakeFault::OtherCreator(place) => (b"other-creator ", Piece::Number(*place as u64)),
+        MakeFault::PayloadLong(length) => (b"payload-long ", Piece::Number(*length as u64)),
+        MakeFault::Collision(place) => (b"collision ", Piece::Number(*place as u64)),
+        MakeFault::Full(limit) => (b"full ", Piece::Number(*limit as u64)),
+    }
+}
+
+/// A word, and what is told beside it.
+fn told<'a>(second: &'a [u8], detail: Piece<'a>) -> Phrase<'a>
+    ensures { phrase_text result ≡ second.entry.now ++ piece_text detail.entry }
+{
+    Phrase {
+        first: b"",
+        second,
+        detail,
+    }
+}
+
+/// What came of bytes that were put to a node.
+pub(crate) fn put_answer_phrase(answer: &PutAnswer) -> Phrase<'_>
+    ensures { phrase_text result ≡ put_answer_text answer.now }
+{
+    match answer {
+        PutAnswer::Accepted(place) => told(b"accepted ", Piece::Number(*place as u64)),
+        PutAnswer::Known(place) => told(b"known ", Piece::Number(*place as u64)),
+        PutAnswer::Refused(fault) => {
+            let (second, detail) = fault_parts(fault);
+            Phrase {
+                first: b"refused ",
+                second,
+                detail,
+            }
+        }
+    }
+}
+
+/// What came of a node's making an event.
+pub(crate) fn make_answer_phrase(answer: &MakeAnswer) -> Phrase<'_>
+    ensures { phrase_text result ≡ make_answer_text answer.now }
+{
+    match answer {
+        MakeAnswer::Made(place) => told(b"made ", Piece::Number(*place as u64)),
+        MakeAnswer::Refused(fault) => {
+            let (second, detail) = make_fault_parts(fault);
+            Phrase {
+                first: b"refused ",
+                second,
+                detail,
+            }
+        }
+    }
+}
+
+/// What came of the event at the end of a sync.
+pub(crate) fn sync_made_phrase(made: &SyncMade) -> Phrase<'_>
+    ensures { phrase_text result ≡ sync_made_text made.now }
+{
+    match made {
+        SyncMade::Row(place) => told(b"", Piece::Number(*place as u64)),
+        SyncMade::PeerBare => told(b"none peer-bare", Piece::Bytes(b"")),
+        SyncMade::Fault(fault) => {
+            let (second, detail) = make_fault_parts(fault);
+            Phrase {
+                first: b"none ",
+                second,
+                detail,
+            }
+        }
+    }
+}

@@ -1,0 +1,94 @@
+use super::*;
+use hg_io::{Failed, SinkMem};
+use hg_model::{
+    Block, Bytes, Items, MakeAnswer, MakeFault, OrderLine, Outcome, Printed, SyncMade, SyncReport,
+};
+use std::alloc::Global;
+use std::test::Fail;
+
+// As the description of the report's lines has them.
+const TEXT: &str =
+    "1 create made 0\n2 create refused missing-other 070707070707070707070707070707070707070707070707070707070707070707070707070707070707070707070707\n3 sync taken 4 refused 1 made 5\n12 sync taken 0 refused 0 made none full 16384\nnode B events 20 forkers 1 round 4 closed 2 ordered 2\n1 A 0 round 2 time 18446744073709551615 -\n2 B 7 round 2 time 9 -\nbalance A 100\nbalance B 0\n";
+
+fn outcome(alloc: Global) -> Result<Outcome, Fail> {
+    let mut names = Vec::new(alloc);
+    names.push(Bytes::from_vec(Vec::from_slice(alloc, b"A")?))?;
+    names.push(Bytes::from_vec(Vec::from_slice(alloc, b"B")?))?;
+    let mut printed = Vec::new(alloc);
+    printed.push(Printed::Create {
+        line: 1,
+        answer: MakeAnswer::Made(0),
+    })?;
+    printed.push(Printed::Create {
+        line: 2,
+        answer: MakeAnswer::Refused(MakeFault::MissingOther([7; 48])),
+    })?;
+    printed.push(Printed::Sync {
+        line: 3,
+        report: SyncReport {
+            taken: 4,
+            refused: 1,
+            made: SyncMade::Row(5),
+        },
+    })?;
+    printed.push(Printed::Sync {
+        line: 12,
+        report: SyncReport {
+            taken: 0,
+            refused: 0,
+            made: SyncMade::Fault(MakeFault::Full(16384)),
+        },
+    })?;
+    let order = [
+        OrderLine {
+            creator: 0,
+            sequence: 0,
+            received: 2,
+            time: u64::MAX,
+            name: [1; 48],
+        },
+        OrderLine {
+            creator: 1,
+            sequence: 7,
+            received: 2,
+            time: 9,
+            name: [2; 48],
+        },
+    ];
+    printed.push(Printed::Block(Block {
+        member: 1,
+        events: 20,
+        forkers: 1,
+        greatest: 4,
+        closed: 2,
+        order: Items::from_vec(Vec::from_slice(alloc, &order)?),
+        balances: Items::from_vec(Vec::from_slice(alloc, &[100, 0])?),
+    }))?;
+    Ok(Outcome {
+        names: Items::from_vec(names),
+        printed: Items::from_vec(printed),
+    })
+}
+
+#[test]
+fn the_text_is_written(rt: HostRuntime) -> Result<(), Fail> {
+    let outcome = outcome(rt.alloc())?;
+    let mut sink = SinkMem::new(rt.alloc(), 1000, 1000, Vec::new(rt.alloc()))?;
+    assert_eq!(rt; text_of(&outcome, &mut sink), Ok(()));
+    assert!(rt; sink.bytes() == TEXT.as_bytes());
+    Ok(())
+}
+
+#[test]
+fn a_failed_call_stops_the_text(rt: HostRuntime) -> Result<(), Fail> {
+    let alloc = rt.alloc();
+    let outcome = outcome(alloc)?;
+    let calls = TEXT.len().div_ceil(50);
+    for call in 0..calls {
+        let fails = vec![in alloc; call as u64]?;
+        let mut sink = SinkMem::new(alloc, 1000, 50, fails)?;
+        assert_eq!(rt; text_of(&outcome, &mut sink), Err(Failed), "{call}");
+        assert!(rt; sink.bytes() == &TEXT.as_bytes()[..50 * call], "{call}");
+    }
+    Ok(())
+}

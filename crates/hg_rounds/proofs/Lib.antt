@@ -1,0 +1,4 @@
+pub mod StandingLaws
+pub mod KeepLaws
+pub mod PlaceLaws
+pub mod ByRowLaws

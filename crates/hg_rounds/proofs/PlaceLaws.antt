@@ -1,0 +1,129 @@
+-- The round of the last row, from the standings of the rows before it
+use Rattle.std.proofs.Common.{◌≡◌, ℕ, ◌+◌, ◌-◌, ◌<◌, ◌≤◌, Bool, cond, ◌&&◌, eqb, ltb, ◌⊎◌, inl, inr, List, [], ◌∷◌, ◌++◌, length, take, count_by, refl, sym, ap, ◌∙◌, subst, arith}
+use Rattle.std.specs.List.{list_all, AllByRecursion}
+use Rattle.std.proofs.lemmas.Bool.{cases_eq}
+use Rattle.std.proofs.lemmas.List.{length-take-le}
+use Rattle.hg_model.specs.Places.{count_below, list_below}
+use Rattle.hg_model.specs.Links.{Link, first_place, parents, self_parent}
+use Rattle.hg_model.specs.Seeing.{is_supermajority, strongly_sees}
+use Rattle.hg_model.specs.Rounds.{greatest_round, is_seen_witness, round_of, is_witness}
+use Rattle.hg_model.specs.Graph.{IsShaped}
+use Rattle.hg_model.specs.Standings.{Standing, standings_of, round_at, witnesses_in, greatest_in}
+use Rattle.hg_model.proofs.PlacesLaws.{list_below-same}
+use Rattle.hg_model.proofs.ListLaws.{count_by-list_below, length-list_below-le, all_list_below}
+use Rattle.hg_model.proofs.LinkLaws.{parents_below}
+use Rattle.hg_model.proofs.RoundLaws.{greatest_round-same, greatest_round_found, list_all-same, round_of-at, round_of_cases, round_of-pos, round_of-le}
+use Rattle.hg_model.proofs.ShapeLaws.{shaped-take}
+use Rattle.hg_model.proofs.LongerLaws.{longer-take, round_of-longer, is_witness-longer}
+use Rattle.hg_model.proofs.StandingLaws.{length-standings, round_at-standings, witnesses_in-standings}
+use Rattle.hg_rounds.specs.Tabled.{standing}
+use Rattle.hg_rounds.proofs.StandingLaws.{maximum_below_bounds}
+use Rattle.hg_rounds.proofs.ByRowLaws.{standings_last}
+
+module _ (n : ℕ) (L : List Link) (shaped : IsShaped n L) (some : 0 < length L) (S : List Standing) (is : S ≡ standings_of n (take (length L - 1) L)) where
+  abbrev pub last : ℕ
+  last = length L - 1
+
+  long : length L ≡ last + 1
+  long = omega arith
+
+  first_long : length (take last L) ≡ last
+  first_long = length-take-le last L (omega arith)
+
+  -- the table has the rows before the last
+  pub table_long : length S ≡ last
+  table_long = ap (λ (s : List Standing). length s) is ∙ (length-standings n (take last L) ∙ first_long)
+
+  pub round_told : (p : ℕ) → p < last → round_at S p ≡ round_of n L p
+  round_told p h =
+      ap (λ s. round_at s p) is
+      ∙ (round_at-standings n (take last L) p (omega (arith, first_long))
+      ∙ sym (round_of-longer (take last L) L (longer-take L last (omega arith)) n p (omega (arith, first_long))))
+
+  pub parents_told : AllByRecursion (λ p. p < length S) (parents L last)
+  parents_told = subst (λ k. AllByRecursion (λ p. p < k) (parents L last)) (sym table_long) (parents_below L last shaped.earlier)
+
+  pub greatest_told : greatest_round (round_at S) (parents L last) ≡ greatest_round (round_of n L) (parents L last)
+  greatest_told = greatest_round-same (round_at S) (round_of n L) (parents L last) (λ p h. round_told p (shaped.earlier.earlier last p h))
+
+  witnesses_told : (r : ℕ) → witnesses_in S r ≡ list_below (λ x. x) last (λ x. is_witness n L x && eqb (round_of n L x) r)
+  witnesses_told r =
+      ap (λ s. witnesses_in s r) is
+      ∙ (witnesses_in-standings n (take last L) r
+      ∙ (ap (λ k. list_below (λ x. x) k (λ x. is_witness n (take last L) x && eqb (round_of n (take last L) x) r)) first_long
+      ∙ list_below-same (λ x. x) (λ x. x) last (λ x. is_witness n (take last L) x && eqb (round_of n (take last L) x) r) (λ x. is_witness n L x && eqb (round_of n L x) r)
+      (λ x h. rw (
+        is_witness-longer (take last L) L (longer-take L last (omega arith)) n (shaped-take n L last (omega arith) shaped).earlier x (omega (arith, first_long)),
+        round_of-longer (take last L) L (longer-take L last (omega arith)) n x (omega (arith, first_long)),
+      ) refl)
+      (λ x h passes. refl)))
+
+  -- all witnesses of the table stand before the last row
+  pub witnesses_below : (r : ℕ) → AllByRecursion (λ y. y < last) (witnesses_in S r)
+  witnesses_below r = subst (AllByRecursion (λ y. y < last)) (sym (witnesses_told r))
+      (all_list_below (λ y. y < last) (λ x. x) last (λ x. is_witness n L x && eqb (round_of n L x) r) (λ k h t. h))
+
+  pub witnesses_few : (r : ℕ) → length (witnesses_in S r) ≤ last
+  witnesses_few r =
+      omega (arith, ap (λ (xs : List ℕ). length xs) (witnesses_told r), length-list_below-le (λ (x : ℕ). x) last (λ x. is_witness n L x && eqb (round_of n L x) r))
+
+  -- how many of them the last row strongly sees
+  pub seen_told : (r : ℕ) → count_by (strongly_sees n L last) (witnesses_in S r) ≡ count_below last (is_seen_witness (round_of n L) n L r last)
+  unfolding is_witness
+  seen_told r = ap (count_by (strongly_sees n L last)) (witnesses_told r) ∙ count_by-list_below (strongly_sees n L last) last (λ x. is_witness n L x && eqb (round_of n L x) r)
+
+  -- the round of the last row
+  pub last_round_told : (r seen : ℕ) (many : Bool) → r ≡ greatest_round (round_at S) (parents L last) → seen ≡ count_by (strongly_sees n L last) (witnesses_in S r) →
+      many ≡ is_supermajority n seen → cond many (r + 1) r ≡ round_of n L last
+  last_round_told r seen many r_is seen_is many_is =
+      let r_told : r ≡ greatest_round (round_of n L) (parents L last) = r_is ∙ greatest_told in
+      let seen_count : seen ≡ count_below last (is_seen_witness (round_of n L) n L r last) = seen_is ∙ seen_told r in
+      sym (round_of-at n L shaped.earlier last ∙ rw (← r_told, ← seen_count, ← many_is) refl)
+
+  last_round_fits : round_of n L last ≤ last + 1
+  last_round_fits = round_of-le n L shaped.earlier last
+
+  pub greatest_fits : greatest_round (round_at S) (parents L last) ≤ last + 1
+  greatest_fits = rw greatest_told (elim (round_of_cases n L shaped.earlier last) [
+    | inl up ↦ omega (arith, last_round_fits, up.1)
+    | inr stay ↦ omega (arith, last_round_fits, stay.1)
+  ])
+
+  -- whether it is a witness
+  pub last_witness_told : (round : ℕ) → round ≡ round_of n L last →
+      list_all (λ p. ltb (round_at S p) round) (first_place (parents L last)) ≡ is_witness n L last
+  unfolding is_witness self_parent
+  last_witness_told round is_round =
+      list_all-same (λ p. ltb (round_at S p) round) (λ p. ltb (round_of n L p) (round_of n L last)) (first_place (parents L last)) (λ p h.
+      let told = round_told p (shaped.earlier.earlier last p (Rattle.hg_model.proofs.PushLaws.first_of_places (parents L last) p h)) in
+      cc)
+
+  pub first_told : 1 ≤ round_of n L last
+  first_told = (let pos = round_of-pos n L shaped.earlier last in omega arith)
+
+  known_round : (p : ℕ) → p < last → round_of n L p ≤ greatest_in S
+  unfolding greatest_in
+  known_round p h = omega (arith, maximum_below_bounds (round_at S) (length S) p (omega (arith, table_long)), round_told p h)
+
+  -- the last row's round is at most one above the greatest
+  pub next_told : round_of n L last ≤ greatest_in S + 1
+  next_told = elim (cases_eq last 0) [
+    | inl zeroth ↦ (let le = last_round_fits in omega arith)
+    | inr later ↦
+        (let known = known_round 0 (omega arith) in
+        let pos = round_of-pos n L shaped.earlier 0 in
+        let step : round_of n L last ≤ greatest_round (round_of n L) (parents L last) + 1 = step_to (round_of_cases n L shaped.earlier last) in
+        elim (greatest_round_found (round_of n L) (parents L last)) [
+          | inl one ↦ omega arith
+          | inr found ↦ (let below = known_round found.0 (shaped.earlier.earlier last found.0 found.1) in let same = found.2 in omega arith)
+        ])
+  ]
+    where
+      step_to : {A B : Type 0} → (A × (round_of n L last ≡ greatest_round (round_of n L) (parents L last) + 1)) ⊎ (B × (round_of n L last ≡ greatest_round (round_of n L) (parents L last))) → round_of n L last ≤ greatest_round (round_of n L) (parents L last) + 1
+      step_to (inl up) = omega (arith, up.1)
+      step_to (inr stay) = omega (arith, stay.1)
+
+  -- with it the table has the standings of the whole graph
+  pub whole_told : (round : ℕ) (witness : Bool) → round ≡ round_of n L last → witness ≡ is_witness n L last → S ++ standing round witness ∷ [] ≡ standings_of n L
+  whole_told round witness is_round is_witness_told =
+      rw (is, is_round, is_witness_told) (sym (standings_last n L shaped last long))

@@ -1,0 +1,3 @@
+pub mod Listed
+pub mod Tabled
+pub mod ByRow

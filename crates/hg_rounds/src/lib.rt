@@ -1,0 +1,14 @@
+//! Rounds and witnesses as rows come one by one: each row's are found from a table of those before it.
+//! The layer above uses that a table which follows a graph row by row has the `standings_of` that graph.
+//! A row asks what it strongly sees of the witnesses of one round alone: the greatest of its parents' rounds.
+#![tactic(auto)]
+
+mod laws;
+mod place;
+mod table;
+mod told;
+mod witnesses;
+
+pub use laws::rounds_are_found_row_by_row;
+pub use place::place_round;
+pub use table::RoundTable;

@@ -1,0 +1,93 @@
+ghost use Rattle.std.specs.Prelude.{◌≡◌, ◌<◌, ◌≤◌, ◌+◌, ◌-◌, ◌^◌, [], ◌∷◌, ◌++◌, cond, length, count_by, nat_lt};
+ghost use Rattle.hg_model.specs.Links.{first_place};
+ghost use Rattle.hg_model.specs.Rounds.{greatest_round, is_witness, round_of};
+ghost use Rattle.hg_model.specs.Seeing.{is_supermajority, strongly_sees};
+ghost use Rattle.hg_model.specs.Shape.{pair_list};
+ghost use Rattle.hg_model.specs.Standings.{greatest_in, round_at};
+ghost use Rattle.std.specs.List.{AllByRecursion, list_all};
+ghost use Rattle.hg_rounds.specs.Tabled.{before_last, last_parents, last_place, standing, standings_in};
+
+use crate::table::RoundTable;
+use hg_model::{Rounds, Sight};
+
+/// The round of the sight's last row, and whether that row is a witness, from the table of the rows before it.
+/// It asks what the row strongly sees of the witnesses of one round alone. Takes no memory.
+pub fn place_round<S: Sight>(
+    sight: &S,
+    table: &RoundTable,
+    parents: Option<(usize, usize)>,
+) -> (u32, bool)
+    requires some { 0 < length (S.shape sight.now).links }
+    requires parents { pair_list parents ≡ last_parents (S.shape sight.now) }
+    requires before { table.now.standings ≡ standings_in (before_last (S.shape sight.now)) }
+    ensures round { result.0 ≡ round_of (S.shape sight.now).members (S.shape sight.now).links (last_place (S.shape sight.now)) }
+    ensures witness { result.1 ≡ is_witness (S.shape sight.now).members (S.shape sight.now).links (last_place (S.shape sight.now)) }
+    // What `RoundTable::add` needs, and does.
+    ensures first { 1 ≤ result.0 }
+    ensures next { result.0 ≤ greatest_in table.now.standings + 1 }
+    ensures whole { table.now.standings ++ standing result.0 result.1 ∷ [] ≡ standings_in (S.shape sight.now) }
+{
+    let last = sight.rows() - 1;
+    let greatest = greatest_round(table, parents);
+    let seen = count_seen(sight, table.witnesses(greatest), last);
+    let round = next_round(sight.members(), greatest, seen);
+    (round, is_first(table, parents, round))
+}
+
+/// The greatest of the parents' rounds, or 1.
+fn greatest_round(table: &RoundTable, parents: Option<(usize, usize)>) -> u32
+    requires { AllByRecursion (λ p. p < length table.now.standings) (pair_list parents) }
+    ensures { result ≡ greatest_round (round_at table.now.standings) (pair_list parents) }
+{
+    match parents {
+        None => 1,
+        Some((own, other)) => table.round(own).max(table.round(other).max(1)),
+    }
+}
+
+/// How many of these rows row `x` strongly sees.
+fn count_seen<S: Sight>(sight: &S, rows: &[usize], x: usize) -> u32
+    requires place { x < length (S.shape sight.now).links }
+    requires places { AllByRecursion (λ y. y < x) rows.now }
+    requires few { length rows.now ≤ x }
+    requires short { x < 2 ^ 32 - 1 }
+    ensures { result ≡ count_by (strongly_sees (S.shape sight.now).members (S.shape sight.now).links x) rows.now }
+{
+    let mut count = 0;
+    for y in rows {
+        if sight.strongly_sees(x, *y) {
+            count += 1;
+        }
+    }
+    count
+}
+
+/// The round after this one where so many of the witnesses are seen, or this one.
+fn next_round(members: u32, round: u32, seen: u32) -> u32
+    requires { round < 2 ^ 32 - 1 }
+    ensures { result ≡ cond (is_supermajority members seen) (round + 1) round }
+{
+    if is_supermajority(members, seen) {
+        round + 1
+    } else {
+        round
+    }
+}
+
+/// Whether the count is more than two thirds of the members.
+fn is_supermajority(members: u32, count: u32) -> bool
+    ensures { result ≡ is_supermajority members count }
+{
+    2 * u64::from(members) < 3 * u64::from(count)
+}
+
+/// Whether a row of this round has no self-parent, or one of an earlier round.
+fn is_first(table: &RoundTable, parents: Option<(usize, usize)>, round: u32) -> bool
+    requires { AllByRecursion (λ p. p < length table.now.standings) (pair_list parents) }
+    ensures { result ≡ list_all (λ p. nat_lt (round_at table.now.standings p) round) (first_place (pair_list parents)) }
+{
+    match parents {
+        None => true,
+        Some((own, _)) => table.round(own) < round,
+    }
+}

@@ -1,0 +1,192 @@
+ghost use Rattle.std.specs.Prelude.{◌≡◌, ◌<◌, ◌≤◌, ◌+◌, ◌-◌, [], ◌∷◌, ◌++◌, length, take, IfOk, OnOk};
+ghost use Rattle.hg_model.specs.Standings.{greatest_in, round_at, witness_at, witnesses_in};
+ghost use Rattle.hg_rounds.specs.Tabled.{standing};
+
+use crate::told::Told;
+use crate::witnesses::Witnesses;
+use hg_model::{Memory, Rounds};
+use std::alloc::Global;
+use std::marker::Model;
+
+/// The rounds and the witnesses of rows that come one by one, and each round's witnesses as a list.
+#[derive(Drop)]
+pub struct RoundTable {
+    alloc: Global,
+    rows: Vec<Told>,
+    /// The witnesses of each round from 0 to the next one; those of round 0 and of the next one are none.
+    lists: Vec<Witnesses>,
+    greatest: u32,
+    /// The round whose list may be full. So may the next round's be; each other list has room for one more.
+    full: usize,
+}
+
+impl Model for RoundTable {
+    ghost use Rattle.std.specs.Prelude.{◌+◌, ◌-◌, vec_capacity, vec_len};
+    ghost use Rattle.hg_rounds.specs.Tabled.{Keeps, Tabled, list_at, room_by};
+
+    ghost Value = { Tabled };
+
+    ghost view = { λ s. record { standings = s.rows.items; room = room_by (vec_capacity s.rows - vec_len s.rows) (vec_capacity s.lists - vec_len s.lists) (list_at s.lists.items s.full) (list_at s.lists.items (s.greatest + 1)) } };
+
+    ghost invariant = { λ s. Keeps s.rows.items s.lists.items s.greatest s.full };
+}
+
+impl RoundTable {
+    /// The table of no rows.
+    pub fn new(alloc: Global) -> Result<RoundTable, Memory>
+        ensures { IfOk result (λ t. t.standings ≡ []) }
+    {
+        let mut lists = Vec::new(alloc);
+        lists.push(Witnesses::new(alloc))?;
+        lists.push(Witnesses::new(alloc))?;
+        Ok(RoundTable {
+            alloc,
+            rows: Vec::new(alloc),
+            lists,
+            greatest: 0,
+            full: 0,
+        })
+    }
+
+    /// Takes the memory of one more row, of whichever round.
+    pub fn reserve(&mut self) -> Result<(), Memory>
+        ensures room { OnOk result (1 ≤ self.new.room) }
+        ensures same { self.new.standings ≡ self.old.standings }
+    {
+        self.rows.reserve(1)?;
+        self.lists.reserve(1)?;
+        let next = self.greatest as usize + 1;
+        self.lists[next].reserve()?;
+        self.lists[self.full].reserve()?;
+        Ok(())
+    }
+
+    /// One more row, of a round that is there or of the next one. Takes no memory.
+    pub fn add(&mut self, round: u32, witness: bool)
+        requires room { 1 ≤ self.old.room }
+        requires first { 1 ≤ round }
+        requires next { round ≤ greatest_in self.old.standings + 1 }
+        ensures { self.new.standings ≡ self.old.standings ++ standing round witness ∷ [] }
+    {
+        if witness {
+            self.full = round as usize;
+            self.lists[self.full].push(self.rows.len());
+        }
+        if round > self.greatest {
+            self.greatest = round;
+            self.lists.push_reserved(Witnesses::new(self.alloc));
+        }
+        self.rows.push_reserved(Told { round, witness });
+    }
+
+    /// The table of the first `len` rows, as a value of its own.
+    pub fn prefix(&self, len: usize) -> Result<RoundTable, Memory>
+        requires { len ≤ length self.now.standings }
+        ensures { IfOk result (λ t. t.standings ≡ take len self.now.standings) }
+    {
+        let mut table = RoundTable::new(self.alloc)?;
+        for x in 0..len {
+            table.reserve()?;
+            let told = &self.rows[x];
+            table.add(told.round, told.witness);
+        }
+        Ok(table)
+    }
+}
+
+impl Rounds for RoundTable {
+    ghost standings = { λ t. t.standings };
+
+    #[tactic(auto, using(crate::proofs::StandingLaws::standing_reads))]
+    fn round(&self, x: usize) -> u32 {
+        let told = &self.rows[x];
+        told.round
+    }
+
+    #[tactic(auto, using(crate::proofs::StandingLaws::standing_reads))]
+    fn is_witness(&self, x: usize) -> bool {
+        let told = &self.rows[x];
+        told.witness
+    }
+
+    #[tactic(auto, using(crate::proofs::StandingLaws::witnesses_in_above))]
+    fn witnesses(&self, r: u32) -> &[usize] {
+        if r > self.greatest {
+            return &[];
+        }
+        self.lists[r as usize].as_slice()
+    }
+
+    fn greatest(&self) -> u32 {
+        self.greatest
+    }
+}
+
+#[cfg(test)]
+mod tests {
+    use super::*;
+    use std::process::Abort;
+
+    /// Three members who sync in a ring: of each row the round, and whether it is a witness.
+    const ROWS: [(u32, bool); 15] = [
+        (1, true),
+        (1, true),
+        (1, true),
+        (1, false),
+        (1, false),
+        (1, false),
+        (2, true),
+        (2, true),
+        (2, true),
+        (2, false),
+        (3, true),
+        (3, true),
+        (3, true),
+        (3, false),
+        (4, true),
+    ];
+
+    fn ring(rt: &impl Abort, alloc: Global) -> Result<RoundTable, Memory> {
+        let mut table = RoundTable::new(alloc)?;
+        assert_eq!(rt; table.greatest(), 0);
+        for (round, witness) in &ROWS {
+            table.reserve()?;
+            assert!(rt; *round > 0 && *round - 1 <= table.greatest());
+            table.add(*round, *witness);
+            assert_eq!(rt; table.greatest(), *round);
+        }
+        Ok(table)
+    }
+
+    #[test]
+    fn lists_the_witnesses_of_each_round(rt: HostRuntime) -> Result<(), Memory> {
+        let table = ring(&rt, rt.alloc())?;
+        for (round, places) in [
+            (0, [].as_slice()),
+            (1, [0, 1, 2].as_slice()),
+            (2, [6, 7, 8].as_slice()),
+            (3, [10, 11, 12].as_slice()),
+            (4, [14].as_slice()),
+            (5, [].as_slice()),
+        ] {
+            assert!(rt; table.witnesses(round) == places, "of round {round}");
+        }
+        assert!(rt; table.rows.len() == 15);
+        assert!(rt; table.round(13) == 3 && !table.is_witness(13));
+        assert!(rt; table.round(14) == 4 && table.is_witness(14));
+        Ok(())
+    }
+
+    #[test]
+    fn tells_of_the_first_rows_as_they_came(rt: HostRuntime) -> Result<(), Memory> {
+        let table = ring(&rt, rt.alloc())?;
+        assert!(rt; table.rows.len() == 15);
+        let first = table.prefix(8)?;
+        assert_eq!(rt; first.greatest(), 2);
+        assert!(rt; first.witnesses(1) == [0, 1, 2].as_slice());
+        assert!(rt; first.witnesses(2) == [6, 7].as_slice() && first.witnesses(3).is_empty());
+        let none = table.prefix(0)?;
+        assert!(rt; none.greatest() == 0 && none.witnesses(1).is_empty());
+        Ok(())
+    }
+}

@@ -1,0 +1,16 @@
+use std::marker::Model;
+
+/// A row's round, and whether the row is a witness.
+#[derive(Drop)]
+pub struct Told {
+    pub round: u32,
+    pub witness: bool,
+}
+
+impl Model for Told {
+    ghost use Rattle.hg_model.specs.Standings.{Standing};
+
+    ghost Value = { Standing };
+
+    ghost view = { λ s. record { round = s.round; witness = s.witness } };
+}

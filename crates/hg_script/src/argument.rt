@@ -1,0 +1,195 @@
+ghost use Rattle.std.specs.Prelude.{◌≡◌, ◌<◌, ◌+◌, ◌-◌, ◌*◌, ◌^◌, ◌≢◌, false, position, IfOk, IfSome, IsTrue, SomeIff};
+ghost use Rattle.std.specs.List.{list_any};
+ghost use Rattle.std.specs.Str.{bytes_eq};
+ghost use Rattle.hg_model.specs.declared.members.MemberEntry.{MemberEntry};
+ghost use Rattle.hg_model.specs.Members.{is_digit};
+ghost use Rattle.hg_script.specs.Gives.{Gives, Reads};
+ghost use Rattle.hg_script.specs.Lawful.{IsNode};
+ghost use Rattle.hg_script.specs.Table as told;
+
+use crate::above::Above;
+use crate::fault::Why;
+use crate::stop::Stop;
+use hex::FromHexError;
+use hg_model::{Bytes, Member, Members, is_member_name};
+use std::alloc::{AllocError, Global};
+
+fn is_digit(byte: u8) -> bool
+    ensures { result ≡ is_digit byte }
+{
+    matches!(byte, b'0'..=b'9')
+}
+
+fn with_digit(value: u64, digit: u8) -> Option<u64>
+    requires { IsTrue (is_digit digit) }
+    ensures { SomeIff result (value * 10 + (digit - 48) < 2 ^ 64) (value * 10 + (digit - 48)) }
+{
+    value.checked_mul(10)?.checked_add((digit - b'0') as u64)
+}
+
+fn value_of(word: &[u8]) -> Result<u64, Why>
+    ensures { result ≡ told.below (2 ^ 64) (told.value_after 0 word.now) }
+{
+    let mut value: u64 = 0;
+    for digit in word {
+        if !is_digit(*digit) {
+            return Err(Why::Number);
+        }
+        let Some(longer) = with_digit(value, *digit) else {
+            return Err(Why::Number);
+        };
+        value = longer;
+    }
+    Ok(value)
+}
+
+/// A number of 64 bits.
+pub fn number_of(word: &[u8]) -> Result<u64, Why>
+    ensures { result ≡ told.number_of word.now }
+{
+    if word.is_empty() || word.len() > 20 {
+        return Err(Why::Number);
+    }
+    value_of(word)
+}
+
+fn place_of(members: &Members, name: &[u8]) -> Option<usize>
+    ensures value { result ≡ position (λ (e : MemberEntry). bytes_eq e.name name.now) members.now.entries }
+    ensures listed { IfSome result (λ place. place < 128) }
+{
+    members
+        .entries()
+        .iter()
+        .position(|entry| entry.name.as_slice() == name)
+}
+
+/// The member with this name.
+pub fn member_of(members: &Members, word: &[u8]) -> Result<Member, Why>
+    ensures value { result ≡ told.member_of members.now word.now }
+    ensures listed { IfOk result (λ m. m < 128) }
+{
+    match place_of(members, word) {
+        Some(place) => Ok(place as Member),
+        None => Err(Why::Member),
+    }
+}
+
+fn has_node(members: &Members, member: Member) -> bool
+    ensures { result ≡ told.has_node members.now member }
+{
+    match members.entries().get(member as usize) {
+        Some(entry) => entry.has_node,
+        None => false,
+    }
+}
+
+fn with_node(members: &Members, member: Member) -> Result<Member, Why>
+    ensures value { result ≡ told.with_node members.now member }
+    ensures node { IfOk result (λ m. IsNode members.now m × (m ≡ member)) }
+{
+    if has_node(members, member) {
+        Ok(member)
+    } else {
+        Err(Why::NoNode)
+    }
+}
+
+/// The member with this name, who must have a node.
+pub fn node_of(members: &Members, word: &[u8]) -> Result<Member, Why>
+    ensures value { result ≡ told.node_of members.now word.now }
+    ensures node { IfOk result (λ m. IsNode members.now m × (m < 128)) }
+{
+    with_node(members, member_of(members, word)?)
+}
+
+/// The member with this name, who must have a node and be another than the taker.
+pub fn peer_of(members: &Members, taker: Member, word: &[u8]) -> Result<Member, Why>
+    ensures value { result ≡ told.peer_of members.now taker word.now }
+    ensures node { IfOk result (λ m. IsNode members.now m × (m ≢ taker)) }
+{
+    let peer = member_of(members, word)?;
+    if peer == taker {
+        return Err(Why::Member);
+    }
+    with_node(members, peer)
+}
+
+/// A number below 256.
+pub fn byte_of(word: &[u8]) -> Result<u8, Why>
+    ensures { result ≡ told.byte_of word.now }
+{
+    let number = number_of(word)?;
+    if number < 256 {
+        Ok(number as u8)
+    } else {
+        Err(Why::Number)
+    }
+}
+
+/// The number of a label that was made above.
+pub fn label_of(above: &Above<'_>, word: &[u8]) -> Result<usize, Why>
+    ensures { result ≡ told.label_of above.now.labels word.now }
+{
+    match above.place_of(word) {
+        Some(place) => Ok(place),
+        None => Err(Why::Label),
+    }
+}
+
+/// The name of a label to be made.
+pub fn new_label<'a>(above: &Above<'_>, word: &'a [u8]) -> Result<&'a [u8], Why>
+    ensures value { Reads (λ label. label.now) result (told.new_label above.now.labels word.now) }
+    ensures new { IfOk result (λ label. list_any (bytes_eq label.now) above.now.labels ≡ false) }
+{
+    if !is_member_name(word) {
+        return Err(Why::Label);
+    }
+    if above.is_label(word) {
+        return Err(Why::DoubleLabel);
+    }
+    Ok(word)
+}
+
+fn is_dash(word: &[u8]) -> bool
+    ensures { result ≡ told.is_dash word.now }
+{
+    word == b"-".as_slice()
+}
+
+/// The numbers of two labels of parents, or none for `- -`.
+pub fn parents_of(above: &Above<'_>, s: &[u8], o: &[u8]) -> Result<Option<(usize, usize)>, Why>
+    ensures { result ≡ told.parents_of above.now.labels s.now o.now }
+{
+    if is_dash(s) && is_dash(o) {
+        return Ok(None);
+    }
+    if is_dash(s) || is_dash(o) {
+        return Err(Why::Label);
+    }
+    let own = label_of(above, s)?;
+    let other = label_of(above, o)?;
+    Ok(Some((own, other)))
+}
+
+fn decoded(alloc: Global, word: &[u8]) -> Result<Option<Bytes>, AllocError>
+    ensures { IfOk result (λ bytes. bytes ≡ told.raw_form word.now) }
+{
+    if word.len() < 2 || word.len() > 8192 {
+        return Ok(None);
+    }
+    match hex::decode(alloc, word) {
+        Ok(bytes) => Ok(Some(Bytes::from_vec(bytes))),
+        Err(FromHexError::OutOfMemory) => Err(AllocError),
+        Err(_) => Ok(None),
+    }
+}
+
+/// The bytes of 2 to 8,192 hexadecimal digits.
+pub fn bytes_of(alloc: Global, word: &[u8]) -> Result<Bytes, Stop<Why>>
+    ensures { Gives (λ bytes. bytes) result (told.bytes_of word.now) }
+{
+    match decoded(alloc, word)? {
+        Some(bytes) => Ok(bytes),
+        None => Err(Stop::Fault(Why::Payload)),
+    }
+}

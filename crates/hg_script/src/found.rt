@@ -1,0 +1,52 @@
+ghost use Rattle.std.specs.Prelude.{◌≡◌};
+ghost use Rattle.std.specs.Option.{option_copied};
+ghost use Rattle.hg_script.specs.Table as told;
+
+use crate::line::Action;
+use std::marker::Model;
+
+/// What a line does, and the name of the label that it makes, if it makes one. The name stands in the script's bytes.
+#[derive(Drop)]
+pub struct Found<'a> {
+    action: Action,
+    label: Option<&'a [u8]>,
+}
+
+impl<'a> Model for Found<'a> {
+    ghost use Rattle.std.specs.Option.{option_copied};
+    ghost use Rattle.hg_script.specs.Table.{Found as Line};
+
+    ghost Value = { Line };
+
+    ghost view = { λ s. record { action = s.action; label = option_copied s.label } };
+}
+
+impl<'a> Found<'a> {
+    /// A line that makes no label.
+    pub fn does(action: Action) -> Found<'a>
+        ensures { result ≡ told.does action }
+    {
+        Found {
+            action,
+            label: None,
+        }
+    }
+
+    /// A line that makes the label of this name.
+    pub fn makes(action: Action, label: &'a [u8]) -> Found<'a>
+        ensures { result ≡ told.makes action label.now }
+    {
+        Found {
+            action,
+            label: Some(label),
+        }
+    }
+
+    /// What the line does, and the label's name.
+    pub fn into_parts(self) -> (Action, Option<&'a [u8]>)
+        ensures action { result.0 ≡ self.entry.action }
+        ensures label { option_copied result.1 ≡ self.entry.label }
+    {
+        (self.action, self.label)
+    }
+}

@@ -1,4 +1,0 @@
-mod WordLaws
-mod PlaceLaws
-mod NodeLaws
-mod PlayLaws

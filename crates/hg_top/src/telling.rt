@@ -1,0 +1,122 @@
+ghost use Rattle.std.specs.Prelude.{◌≡◌, ◌++◌};
+ghost use Rattle.hg_io.specs.Telling.{Tells};
+ghost use Rattle.hg_members.specs.Text.{member_fault_text};
+ghost use Rattle.hg_report.specs.Pieces.{piece_text};
+ghost use Rattle.hg_script.specs.Text.{why_text};
+ghost use Rattle.hg_top.specs.Top.{IsToldOn, members_line, script_line, status_line};
+
+use crate::status::{File, Refusal, Status};
+use hg_io::{Failed, Sink, write_all};
+use hg_members::MemberFault;
+use hg_report::{Piece, tell_pieces};
+use hg_script::{ScriptFault, Why};
+
+/// A fault of the member file: its word, and its number if it has one.
+fn member_fault_parts(fault: MemberFault) -> (&'static [u8], Piece<'static>)
+    ensures { result.0.now ++ piece_text result.1 ≡ member_fault_text fault }
+{
+    match fault {
+        MemberFault::NotToml => (b"not-toml", Piece::Bytes(b"")),
+        MemberFault::BadCoin(coin) => (b"coin ", Piece::Signed(coin)),
+        MemberFault::Count(count) => (b"count ", Piece::Number(count as u64)),
+        MemberFault::BadName(i) => (b"name ", Piece::Number(i as u64)),
+        MemberFault::DoubleName(i) => (b"double-name ", Piece::Number(i as u64)),
+        MemberFault::BadSecret(i) => (b"secret ", Piece::Number(i as u64)),
+        MemberFault::BadBalance(i) => (b"balance ", Piece::Number(i as u64)),
+        MemberFault::BadNode(i) => (b"node ", Piece::Number(i as u64)),
+        MemberFault::SumTooLarge => (b"sum", Piece::Bytes(b"")),
+    }
+}
+
+/// Why a line is refused.
+fn why_text(why: Why) -> &'static [u8]
+    ensures { result.now ≡ why_text why }
+{
+    match why {
+        Why::Utf8 => b"utf8",
+        Why::Word => b"word",
+        Why::Arity => b"arity",
+        Why::Member => b"member",
+        Why::NoNode => b"no-node",
+        Why::Number => b"number",
+        Why::Payload => b"payload",
+        Why::Label => b"label",
+        Why::DoubleLabel => b"double-label",
+        Why::NotFirst => b"not-first",
+        Why::First => b"first",
+    }
+}
+
+/// Tells a text as it is.
+fn tell_text<E: Sink>(err: &mut E, text: &[u8]) -> Result<(), Failed>
+    ensures { Tells (E.written err.old) (E.written err.new) (E.faults err.old) (E.faults err.new) text.now result }
+{
+    write_all(err, text)
+}
+
+/// Tells a fault of the member file.
+fn tell_member_fault<E: Sink>(err: &mut E, fault: MemberFault) -> Result<(), Failed>
+    ensures { Tells (E.written err.old) (E.written err.new) (E.faults err.old) (E.faults err.new) (members_line (Refusal.Fault fault)) result }
+{
+    let (word, number) = member_fault_parts(fault);
+    tell_pieces(
+        err,
+        &[
+            Piece::Bytes(b"hashgraph: members: "),
+            Piece::Bytes(word),
+            number,
+            Piece::Bytes(b"\n"),
+        ],
+    )
+}
+
+/// Tells why a line of the script is refused.
+fn tell_script_fault<E: Sink>(err: &mut E, fault: ScriptFault) -> Result<(), Failed>
+    ensures { Tells (E.written err.old) (E.written err.new) (E.faults err.old) (E.faults err.new) (script_line (Refusal.Fault fault)) result }
+{
+    let why = why_text(fault.why);
+    tell_pieces(
+        err,
+        &[
+            Piece::Bytes(b"hashgraph: script line "),
+            Piece::Number(fault.line),
+            Piece::Bytes(b": "),
+            Piece::Bytes(why),
+            Piece::Bytes(b"\n"),
+        ],
+    )
+}
+
+/// Tells one line, or nothing where all went well.
+fn tell_status<E: Sink>(err: &mut E, status: Status) -> Result<(), Failed>
+    ensures { Tells (E.written err.old) (E.written err.new) (E.faults err.old) (E.faults err.new) (status_line status) result }
+{
+    match status {
+        Status::Done => Ok(()),
+        Status::ReadFault(File::Members) => tell_text(
+            err,
+            b"hashgraph: cannot read the member file\n",
+        ),
+        Status::ReadFault(File::Script) => tell_text(err, b"hashgraph: cannot read the script\n"),
+        Status::Usage => tell_text(
+            err,
+            b"hashgraph: usage: run --members FILE --script FILE [--workers K] or make --members N --lines L --seed S [--workers K]\n",
+        ),
+        Status::Members(Refusal::TooLong) => tell_text(err, b"hashgraph: members: too-long\n"),
+        Status::Members(Refusal::Fault(fault)) => tell_member_fault(err, fault),
+        Status::Script(Refusal::TooLong) => tell_text(err, b"hashgraph: script: too-long\n"),
+        Status::Script(Refusal::Fault(fault)) => tell_script_fault(err, fault),
+        Status::WriteFault => tell_text(err, b"hashgraph: cannot write\n"),
+        Status::Memory => tell_text(err, b"hashgraph: out of memory\n"),
+    }
+}
+
+/// Tells what a run came to on standard error, whose faults change nothing.
+pub(crate) fn tell<E: Sink>(err: &mut E, status: Status)
+    ensures { IsToldOn (E.written err.old) (E.written err.new) (E.faults err.old) (E.faults err.new) (status_line status) }
+{
+    match tell_status(err, status) {
+        Ok(()) => (),
+        Err(Failed) => (),
+    }
+}

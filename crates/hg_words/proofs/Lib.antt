@@ -1,0 +1,4 @@
+pub mod Limits
+pub mod Passing
+pub mod Readings
+mod Worked

@@ -1,0 +1,61 @@
+-- What the words of a command line ask for
+use Rattle.std.specs.Prelude.{ℕ, ◌-◌, ◌^◌, ◌≤◌, List, [], ◌∷◌, Option, Some, None, option_map, option_and_then, unwrap_or, if◌then◌else◌, codes, false}
+use Rattle.std.specs.Str.Parse.{digits_value, without_leading_plus}
+use Rattle.clap.specs.Words.{Kinds, Row, Text, fault_of, first_of, one_of, subcommand_of}
+use Rattle.clap.specs.ValueTests.{accepts}
+use Rattle.clap.specs.declared.builder.ValueParser.TheVariants.{Unsigned}
+use Rattle.hg_words.specs.Line.{command, most_workers}
+use Rattle.hg_words.specs.declared.request.Request.{Request}
+use Rattle.hg_words.specs.declared.request.Request.TheVariants as request
+
+-- a run over two files, with so many workers
+pub record Run : Type 0 where
+  pub members : Text
+  pub script : Text
+  pub workers : ℕ
+
+-- what a command asks for
+pub data Asked : Type 0 where
+  run : Run → Asked
+
+-- a request, with its texts
+abbrev pub asked : Request → Asked
+asked (request.Run members script workers) = run (record { members = members.now; script = script.now; workers = workers })
+
+-- the text that an option was given
+abbrev pub text_in : Text → List Row → Text
+text_in option rows = unwrap_or (first_of option rows) []
+
+-- the number of 32 bits that a text is, where it is one
+abbrev pub number_of : Text → Option ℕ
+number_of text =
+    if accepts false (Unsigned 0 (2 ^ 32 - 1)) text then Some (digits_value 10 (without_leading_plus text)) else None
+
+-- the number that an option was given, 0 where it was left out
+abbrev pub number_in : Text → List Row → ℕ
+number_in option rows = unwrap_or (option_and_then number_of (one_of option rows)) 0
+
+-- what the options of `run` ask for
+abbrev pub run_in : List Row → Run
+run_in rows = record {
+  members = text_in (codes "members") rows;
+  script = text_in (codes "script") rows;
+  workers = number_in (codes "workers") rows;
+}
+
+-- what a command of this name asks for, by what its options were given; `run` is the one command as yet
+abbrev pub asked_in : Text × List Row → Asked
+asked_in found = run (run_in found.1)
+
+-- the second, unless there is a fault
+abbrev pub unless_faulty : Kinds → Option Asked → Option Asked
+unless_faulty [] found = found
+unless_faulty (kind ∷ kinds) found = None
+
+-- What the words ask for, the program's name first, where clap's definition finds no fault in them
+abbrev pub request_of : List Text → Option Asked
+request_of words = unless_faulty (fault_of command words) (option_map asked_in (subcommand_of command words))
+
+-- the numbers that are asked for lie in their ranges
+abbrev pub KeepsRanges : Asked → Type 0
+KeepsRanges (run r) = r.workers ≤ most_workers
