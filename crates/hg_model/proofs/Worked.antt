@@ -1,6 +1,6 @@
 -- Worked examples, computed: two members who sync in turn, three who sync in a ring and a fourth who comes late,
--- a tie and a fork among four, and the report's text
-use Rattle.std.proofs.Common.{◌≡◌, ℕ, true, false, List, [], ◌∷◌, ◌++◌, take, codes, Some, None, refl}
+-- a tie and a fork among four, the report's text, and transfers
+use Rattle.std.proofs.Common.{◌≡◌, ℕ, true, false, List, [], ◌∷◌, ◌++◌, take, map, replicate, codes, Some, None, refl}
 use Rattle.std.specs.Fmt.{digits}
 use Rattle.hg_model.specs.declared.row.Row.{Row}
 use Rattle.hg_model.specs.declared.row.Placed.{Placed}
@@ -9,6 +9,8 @@ use Rattle.hg_model.specs.declared.answers.PutAnswer.TheVariants.{Refused}
 use Rattle.hg_model.specs.declared.answers.MakeAnswer.TheVariants as make_answer
 use Rattle.hg_model.specs.declared.answers.SyncMade.TheVariants as sync_made
 use Rattle.hg_model.specs.declared.outcome.Printed.TheVariants as printed
+use Rattle.hg_model.specs.declared.pay.Transfer.{Transfer}
+use Rattle.hg_model.specs.declared.pay.Effect.TheVariants as effect
 use Rattle.hg_model.specs.Places.{weight_below, some_below, list_below, least_below, greatest_below, values_below, by_place, reaches, table}
 use Rattle.hg_model.specs.Links.{links, parents, self_parent, other_parents, creator}
 use Rattle.hg_model.specs.Ancestry.{is_ancestor, is_self_ancestor}
@@ -21,6 +23,7 @@ use Rattle.hg_model.specs.Votes.{yes_votes, no_votes, vote_of, decides}
 use Rattle.hg_model.specs.Fame.{fame_of, fame_marks, is_closed, is_unique_famous, Marks}
 use Rattle.hg_model.specs.Order.{coin_at, sig_at, time_at, sort_by, median, can_receive, round_received, consensus_time, whitening, ordered_in, ordered, last_closed}
 use Rattle.hg_model.specs.Verdict.{row_verdict}
+use Rattle.hg_model.specs.Pay.{pay_bytes, read_pay, paid, book_of}
 use Rattle.hg_model.specs.Report.{printed_texts}
 
 -- an event with no parents, and one with parents of these names; a name is one byte here, and so is a signature
@@ -136,11 +139,51 @@ texts : printed_texts (codes "A" ∷ codes "B" ∷ [])
       forkers = 0;
       greatest = 4;
       closed = 2;
-      order = record { creator = 0; sequence = 1; received = 2; time = 3; name = 171 ∷ 1 ∷ [] } ∷ [];
+      order =
+          record { creator = 0; sequence = 1; received = 2; time = 3; effect = effect.Empty; name = 171 ∷ 1 ∷ [] }
+          ∷ record { creator = 1; sequence = 0; received = 2; time = 4; effect = effect.Unread; name = 171 ∷ 2 ∷ [] }
+          ∷ record { creator = 1; sequence = 1; received = 2; time = 5; effect = effect.Paid 1 2; name = 171 ∷ 3 ∷ [] } ∷ [];
       balances = 100 ∷ 0 ∷ [];
     }) ∷ [])
     ≡ codes "1 create made 0" ++ 10 ∷ (codes "12 sync taken 3 refused 0 made none peer-bare" ++ 10 ∷ (
-    codes "node B events 8 forkers 0 round 4 closed 2 ordered 1" ++ 10 ∷ (codes "1 A 1 round 2 time 3 -" ++ 10 ∷ (
-    codes "balance A 100" ++ 10 ∷ (codes "balance B 0" ++ 10 ∷ [])))))
+    codes "node B events 8 forkers 0 round 4 closed 2 ordered 3" ++ 10 ∷ (codes "1 A 1 round 2 time 3 -" ++ 10 ∷ (
+    codes "2 B 0 round 2 time 4 unread" ++ 10 ∷ (codes "3 B 1 round 2 time 5 paid 1 of 2" ++ 10 ∷ (
+    codes "balance A 100" ++ 10 ∷ (codes "balance B 0" ++ 10 ∷ [])))))))
 unfolding digits
 texts = refl
+
+-- transfers between two members, and to a third who is none
+abbrev pub to : ℕ → ℕ → Transfer
+to receiver amount = record { receiver = receiver; amount = amount }
+
+pay_read : read_pay (pay_bytes (to 1 30 ∷ to 2 80 ∷ [])) ≡ Some (to 1 30 ∷ to 2 80 ∷ [])
+unfolding read_pay pay_bytes
+pay_read = refl
+
+pay_spelled : pay_bytes (to 258 1027 ∷ []) ≡ 1 ∷ 1 ∷ 2 ∷ 0 ∷ 0 ∷ 0 ∷ 0 ∷ 0 ∷ 0 ∷ 4 ∷ 3 ∷ []
+unfolding pay_bytes
+pay_spelled = refl
+
+-- a byte short, a byte long, 65 transfers
+pay_refused : (read_pay (1 ∷ 0 ∷ 1 ∷ []) ∷ read_pay (0 ∷ 0 ∷ []) ∷ read_pay (pay_bytes (replicate 65 (to 1 0))) ∷ []) ≡ None ∷ None ∷ None ∷ []
+unfolding read_pay pay_bytes
+pay_refused = refl
+
+-- the first two events' transfers, one of each above what the payer holds, one to oneself and one to no member, and
+-- three bytes that are no transfers
+abbrev pub paying : ℕ → List ℕ → Row
+paying m payload = record { creator = m; parents = None; time = 0; payload = payload; sig = []; name = [] }
+
+abbrev pub ordered_at : ℕ → Placed
+ordered_at place = record { place = place; received = 2; time = 0 }
+
+four_paid : book_of (100 ∷ 0 ∷ [])
+    (paying 0 (pay_bytes (to 1 30 ∷ to 1 80 ∷ [])) ∷ paying 1 (pay_bytes (to 0 31 ∷ to 0 0 ∷ []))
+    ∷ paying 0 (pay_bytes (to 0 70 ∷ to 2 1 ∷ [])) ∷ paying 1 (1 ∷ 2 ∷ 3 ∷ []) ∷ paying 1 [] ∷ [])
+    (map ordered_at (0 ∷ 1 ∷ 2 ∷ 3 ∷ 4 ∷ []))
+    ≡ record {
+      balances = 70 ∷ 30 ∷ [];
+      effects = effect.Paid 1 2 ∷ effect.Paid 1 2 ∷ effect.Paid 1 2 ∷ effect.Unread ∷ effect.Empty ∷ [];
+    }
+unfolding book_of paid read_pay pay_bytes
+four_paid = refl

@@ -1,5 +1,5 @@
 -- What the calls of a node answer, and the events that they add: at most one each. SWIRLDS-TR-2016-01, sections 3 and 4
-use Rattle.std.specs.Prelude.{ℕ, ◌≡◌, true, cond, ◌==◌, List, [], ◌∷◌, length, Option, Result, Ok, Err}
+use Rattle.std.specs.Prelude.{ℕ, ◌≡◌, true, cond, ◌==◌, List, [], ◌∷◌, length, Option, None, Result, Ok, Err}
 use Rattle.hg_model.specs.declared.row.Row.{Row}
 use Rattle.hg_model.specs.declared.answers.ByteFault.{ByteFault}
 use Rattle.hg_model.specs.declared.answers.PutAnswer.{PutAnswer}
@@ -8,7 +8,8 @@ use Rattle.hg_model.specs.declared.answers.MakeAnswer.{MakeAnswer}
 use Rattle.hg_model.specs.declared.answers.MakeAnswer.TheVariants as answer
 use Rattle.hg_model.specs.Reading.{read_event}
 use Rattle.hg_model.specs.Spelling.{body_bytes}
-use Rattle.hg_model.specs.Verdict.{verdict, row_verdict, last_name, both_names, made_row, making}
+use Rattle.hg_model.specs.Verdict.{verdict, row_verdict, last_name, both_names, draft_rule, made_row, making}
+use Rattle.hg_model.specs.declared.answers.MakeFault.{MakeFault}
 use Rattle.hg_model.specs.Shares.{Share, whole}
 use Rattle.hg_model.specs.History.{Event, Accepts, news}
 use Rattle.hg_model.specs.History.Event.{Took, Made, Marked}
@@ -49,10 +50,15 @@ make_events v other time payload sig =
 unfoldable pub make_body : {K : Type 0} → Shown K → Option (List ℕ) → ℕ → List ℕ → List ℕ
 make_body v other time payload = body_bytes v.start.own (both_names (last_name v.start.own (graph_of v)) other) time payload
 
--- the answer and the node after making an event, whichever accepted signature it got
+-- what is wrong with such an event before it is signed
+unfoldable pub make_draft : {K : Type 0} → Shown K → Option (List ℕ) → List ℕ → Option MakeFault
+make_draft v other payload = draft_rule v.start.own (graph_of v) other payload
+
+-- the answer and the node after making an event, whichever accepted signature it got; an event that is refused before
+-- is not signed
 pub record IsMaking {K : Type 0} (accepts : K → Accepts) (old : Shown K) (other : Option (List ℕ)) (time : ℕ) (payload : List ℕ) (answer : MakeAnswer) (new : Shown K) : Type 0 where
   pub sig : List ℕ
-  pub signed : accepts old.start.keys old.start.own (make_body old other time payload) sig ≡ true
+  pub signed : make_draft old other payload ≡ None → accepts old.start.keys old.start.own (make_body old other time payload) sig ≡ true
   pub answers : answer ≡ make_answer old other time payload sig
   pub grown : new ≡ with_events old (make_events old other time payload sig)
 

@@ -11,6 +11,8 @@ pub mod Standings
 pub mod Votes
 pub mod Fame
 pub mod Order
+pub mod Prefix
+pub mod Pay
 pub mod Spelling
 pub mod Reading
 pub mod Signing

@@ -19,6 +19,10 @@ parent_names (Some names) = names.0 ∷ names.1 ∷ []
 abbrev pub is_named : List ℕ → Row → Bool
 is_named name row = bytes_eq row.name name
 
+-- a row for where there is none
+abbrev pub no_row : Row
+no_row = record { creator = 0; parents = None; time = 0; payload = []; sig = []; name = [] }
+
 -- the place of the first row with this name, or the number of rows
 abbrev pub place_of : List Row → List ℕ → ℕ
 place_of G name = position_or_len (is_named name) G

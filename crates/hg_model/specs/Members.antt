@@ -11,6 +11,13 @@ pub record MemberList : Type 0 where
 abbrev pub listed : List MemberEntry → ℕ → MemberList
 listed entries coin = record { entries = entries; coin = coin }
 
+-- the members' balances, and their names, in their order
+abbrev pub balances_of : MemberList → List ℕ
+balances_of members = map (λ (e : MemberEntry). e.balance) members.entries
+
+abbrev pub names_of : MemberList → List (List ℕ)
+names_of members = map (λ (e : MemberEntry). e.name) members.entries
+
 abbrev pub is_letter : ℕ → Bool
 is_letter b = nat_le 65 b && nat_le b 90 || nat_le 97 b && nat_le b 122
 

@@ -65,6 +65,10 @@ can_receive n L marks x r =
 unfoldable pub round_received : ℕ → List Link → Marks → ℕ → Option ℕ
 round_received n L marks x = least_below (λ r. r) (suc (length L)) (can_receive n L marks x)
 
+-- the places of the unique famous witnesses of round r
+unfoldable pub famous_places : ℕ → List Link → Marks → ℕ → List ℕ
+famous_places n L marks r = list_below (λ w. w) (length L) (is_unique_famous n L marks r)
+
 -- z is a self-ancestor of a unique famous witness of round r
 abbrev pub is_below_famous : ℕ → List Link → Marks → ℕ → ℕ → Bool
 is_below_famous n L marks r z = some_below (length L) (λ w. is_unique_famous n L marks r w && is_self_ancestor L w z)

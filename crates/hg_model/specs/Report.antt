@@ -15,6 +15,8 @@ use Rattle.hg_model.specs.declared.answers.PutAnswer.TheVariants as put_answer
 use Rattle.hg_model.specs.declared.answers.SyncMade.{SyncMade}
 use Rattle.hg_model.specs.declared.answers.SyncMade.TheVariants as sync_made
 use Rattle.hg_model.specs.declared.answers.SyncReport.{SyncReport}
+use Rattle.hg_model.specs.declared.pay.Effect.{Effect}
+use Rattle.hg_model.specs.declared.pay.Effect.TheVariants as effect
 use Rattle.hg_model.specs.declared.outcome.OrderLine.{OrderLine}
 use Rattle.hg_model.specs.declared.outcome.Block.{Block}
 use Rattle.hg_model.specs.declared.outcome.Printed.{Printed}
@@ -72,9 +74,16 @@ sync_made_text (sync_made.Fault f) = codes "none " ++ make_fault_text f
 abbrev pub name_of_member : List (List ℕ) → ℕ → List ℕ
 name_of_member names m = unwrap_or (slice_get names m) []
 
--- the end of a line of the order, with the event's name where it is asked for. No payload has an effect yet
+-- what came of an event's payload
+abbrev pub effect_text : Effect → List ℕ
+effect_text effect.Empty = codes "-"
+effect_text effect.Unread = codes "unread"
+effect_text (effect.Paid done of_all) = counted (codes "paid") done ++ counted (codes " of") of_all
+
+-- the end of a line of the order, with the event's name where it is asked for
 abbrev pub line_end : Bool → OrderLine → List ℕ
-line_end named line = cond named (codes " - " ++ encode_lower line.name ++ codes "\n") (codes " -\n")
+line_end named line =
+    codes " " ++ (effect_text line.effect ++ (cond named (codes " " ++ encode_lower line.name) [] ++ codes "\n"))
 
 -- the line of a row of the order, numbered from 1
 abbrev pub order_line_text : Bool → List (List ℕ) → ℕ → OrderLine → List ℕ

@@ -1,13 +1,15 @@
 -- A node as callers see it: what it began with, and its history. All else that it tells is a function of these two
-use Rattle.std.specs.Prelude.{ℕ, suc, ◌≡◌, ◌<◌, ◌≤◌, List, [], ◌∷◌, ◌++◌, length, map, get_or, None}
+use Rattle.std.specs.Prelude.{ℕ, suc, ◌≡◌, ◌<◌, ◌≤◌, List, [], ◌∷◌, ◌++◌, length, map, get_or}
 use Rattle.hg_model.specs.declared.row.Row.{Row}
 use Rattle.hg_model.specs.declared.row.Placed.{Placed}
 use Rattle.hg_model.specs.declared.entry.Entry.{Entry}
 use Rattle.hg_model.specs.declared.entry.Entry.TheVariants as entry
-use Rattle.hg_model.specs.Links.{Link}
+use Rattle.hg_model.specs.Links.{Link, no_row}
 use Rattle.hg_model.specs.Fame.{Marks}
 use Rattle.hg_model.specs.Order.{last_closed}
+use Rattle.hg_model.specs.Members.{MemberList, balances_of}
 use Rattle.hg_model.specs.Kept.{kept}
+use Rattle.hg_model.specs.Pay.{Book, book_of}
 use Rattle.hg_model.specs.History.{Event, State, Accepts, replay, IsHistory}
 use Rattle.hg_model.specs.History.Event.{Took, Made, Marked}
 
@@ -19,6 +21,16 @@ pub record Start (K : Type 0) : Type 0 where
   pub coin : ℕ
   pub balances : List ℕ
   pub keys : K
+
+-- what the node of a member begins with among these members, with these keys
+abbrev pub start_of : {K : Type 0} → MemberList → ℕ → K → Start K
+start_of members own keys = record {
+  own = own;
+  members = length members.entries;
+  coin = members.coin;
+  balances = balances_of members;
+  keys = keys;
+}
 
 pub record Shown (K : Type 0) : Type 0 where
   pub start : Start K
@@ -50,6 +62,10 @@ last_closed_of v = last_closed v.start.members (links_of v) (marks_of v)
 abbrev pub kept_of : {K : Type 0} → Shown K → List Placed
 kept_of v = kept v.start.members (state_of v)
 
+-- the balances that it leaves, and what came of each of its rows
+abbrev pub book_kept : {K : Type 0} → Shown K → Book
+book_kept v = book_of v.start.balances (graph_of v) (kept_of v)
+
 -- the log of a history from the row of this place on: the rows by their places
 abbrev pub log_from : ℕ → List Event → List Entry
 log_from place [] = []
@@ -59,9 +75,6 @@ log_from place (Marked len share ∷ h) = entry.Marked len share ∷ log_from pl
 
 abbrev pub log : {K : Type 0} → Shown K → List Entry
 log v = log_from 0 v.history
-
-abbrev pub no_row : Row
-no_row = record { creator = 0; parents = None; time = 0; payload = []; sig = []; name = [] }
 
 -- the event that an entry of a log tells of these rows
 abbrev pub event_of : List Row → Entry → Event

@@ -4,6 +4,7 @@
 #![tactic(auto)]
 
 mod answers;
+mod ballot;
 mod entry;
 mod gossip;
 mod items;
@@ -11,12 +12,16 @@ mod members;
 mod memory;
 mod names;
 mod outcome;
+mod pay;
+mod prefix;
 mod rounds;
 mod row;
 mod share;
 mod sight;
+mod votes;
 
 pub use answers::{ByteFault, Fault, MakeAnswer, MakeFault, PutAnswer, SyncMade, SyncReport};
+pub use ballot::Ballot;
 pub use entry::Entry;
 pub use gossip::Parcel;
 pub use items::{Bytes, Items};
@@ -24,7 +29,10 @@ pub use members::{MemberEntry, Members};
 pub use memory::Memory;
 pub use names::is_member_name;
 pub use outcome::{Block, OrderLine, Outcome, Printed};
+pub use pay::{Effect, Transfer};
+pub use prefix::Prefix;
 pub use rounds::Rounds;
 pub use row::{Member, Name, Placed, Row, Sig};
-pub use share::Share;
+pub use share::{Found, Share};
 pub use sight::{Growing, Sight};
+pub use votes::Votes;

@@ -1,5 +1,6 @@
 use crate::answers::{MakeAnswer, PutAnswer, SyncReport};
 use crate::items::{Bytes, Items};
+use crate::pay::Effect;
 use crate::row::{Member, Name};
 
 /// A row of a printed order.
@@ -12,6 +13,8 @@ pub struct OrderLine {
     pub received: u32,
     /// Its consensus timestamp.
     pub time: u64,
+    /// What came of its payload.
+    pub effect: Effect,
     pub name: Name,
 }
 

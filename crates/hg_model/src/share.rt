@@ -1,5 +1,6 @@
 ghost use Rattle.std.specs.Prelude.{◌≡◌, ◌<◌};
 
+use crate::items::Items;
 use std::marker::Model;
 
 /// A part of the witnesses: those whose index among all witnesses by place, modulo `of`, is `k`. Always `k < of`.
@@ -44,4 +45,13 @@ impl Share {
     {
         self.of
     }
+}
+
+/// What a share of the witnesses decides in the first `len` rows of a graph: its decided witnesses by place, each with
+/// its fame.
+#[derive(Debug, Drop)]
+pub struct Found {
+    pub len: usize,
+    pub share: Share,
+    pub marks: Items<(usize, bool)>,
 }

@@ -7,7 +7,7 @@ use Rattle.hg_model.specs.declared.outcome.Outcome.{Outcome}
 use Rattle.hg_model.specs.Members.{MemberList}
 use Rattle.hg_model.specs.Places.{list_below}
 use Rattle.hg_model.specs.Gossip.{Keys, NodeState, keys_of}
-use Rattle.hg_model.specs.Ledger.{block_of, names_of}
+use Rattle.hg_model.specs.Ledger.{block_of}
 use Rattle.hg_script.specs.declared.line.Source.{Source}
 use Rattle.hg_script.specs.declared.line.Source.TheVariants.{Last, Forged, Raw, Altered, Front}
 use Rattle.hg_script.specs.declared.line.Action.{Action}

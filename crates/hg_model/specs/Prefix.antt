@@ -1,0 +1,34 @@
+-- The first rows of a node's graph, as the procedures that decide fame and find the order read them
+use Rattle.std.specs.Prelude.{ℕ, ◌≡◌, ◌<◌, List}
+use Rattle.hg_model.specs.declared.row.Row.{Row}
+use Rattle.hg_model.specs.declared.ballot.Ballot.{Ballot}
+use Rattle.hg_model.specs.Links.{Link, links}
+use Rattle.hg_model.specs.Shape.{Shape, shape_of}
+use Rattle.hg_model.specs.Standings.{Standing, standings_of}
+use Rattle.hg_model.specs.Votes.{vote_of, decides}
+use Rattle.hg_model.specs.Order.{coin_at}
+
+-- rows, by how many members, and with which coin period
+pub record Graph : Type 0 where
+  pub members : ℕ
+  pub coin : ℕ
+  pub rows : List Row
+
+abbrev pub graph_of : ℕ → ℕ → List Row → Graph
+graph_of members coin rows = record { members = members; coin = coin; rows = rows }
+
+abbrev pub links_of : Graph → List Link
+links_of g = links g.rows
+
+-- the shape and the standings are those of the graph
+pub record TellsGraph (shape : Shape) (standings : List Standing) (g : Graph) : Type 0 where
+  pub shaped : shape ≡ shape_of g.members (links_of g)
+  pub standing : standings ≡ standings_of g.members (links_of g)
+  pub coin : 2 < g.coin
+
+-- the vote of y on x, and whether it decides
+abbrev pub ballot_of : Graph → ℕ → ℕ → Ballot
+ballot_of g x y = record {
+  vote = vote_of g.members g.coin (links_of g) (coin_at g.rows) x y;
+  decides = decides g.members g.coin (links_of g) (coin_at g.rows) x y;
+}
