@@ -19,7 +19,7 @@ use Rattle.hg_forks.specs.declared.line.Line.{Line}
 use Rattle.hg_forks.specs.declared.line.Line.TheVariants.{Empty, Ends, Forked}
 use Rattle.hg_forks.specs.Own.{own_link_of}
 use Rattle.hg_forks.specs.Pairs.{IsForkOf}
-use Rattle.hg_forks.specs.Lines.{is_on, makes_fork, next_line, IsLast, Tells}
+use Rattle.hg_forks.specs.Lines.{is_on, makes_fork, next_line, IsLast, IsLineOf}
 
 -- the line keeps a fork
 abbrev pub is_forked : Line → Bool
@@ -62,7 +62,7 @@ module _ (n : ℕ) (L : List Link) (s : IsShaped n L) where
       ])
 
   -- a line says whether its member has a fork
-  pub has_fork_told : (m : ℕ) (line : Line) → Tells L m line → has_fork L m ≡ is_forked line
+  pub has_fork_told : (m : ℕ) (line : Line) → IsLineOf L m line → has_fork L m ≡ is_forked line
   has_fork_told m Empty told = none_without_rows m told
   has_fork_told m (Ends last) told = none_in_line m last told
   has_fork_told m (Forked a b) told = (let order = told.order in let there = told.there in has_fork_from L m a b (omega arith) there told.fork)
@@ -120,7 +120,7 @@ module _ (n : ℕ) (L : List Link) (s : IsShaped n L) where
         }
 
     -- the lines of the other members stay
-    pub other_line : (m : ℕ) (line : Line) → m ≢ k → Tells L m line → Tells M m line
+    pub other_line : (m : ℕ) (line : Line) → m ≢ k → IsLineOf L m line → IsLineOf M m line
     other_line m Empty other told = λ x h by_m. elim (row_cases x h) [
       | inl before ↦ told x before (sym (creator_kept x before) ∙ by_m)
       | inr last ↦ other (sym by_m ∙ (ap (creator M) last ∙ creator_new))
@@ -200,11 +200,11 @@ module _ (n : ℕ) (L : List Link) (s : IsShaped n L) where
         }
 
     -- the line of the new row's member
-    pub own_line : (line : Line) → Tells L k line → Tells M k (next_line line self_parent_of (length L))
+    pub own_line : (line : Line) → IsLineOf L k line → IsLineOf M k (next_line line self_parent_of (length L))
     own_line Empty told = new_last (λ x h by_k. absurd (told x h by_k))
     own_line (Ends last) told = elim (cases_Bool (is_on self_parent_of last)) [
-      | inl on ↦ subst (λ b. Tells M k (cond b (Ends (length L)) (Forked last (length L)))) (sym on) (on_last last on told)
-      | inr off ↦ subst (λ b. Tells M k (cond b (Ends (length L)) (Forked last (length L)))) (sym off) (off_last last off told)
+      | inl on ↦ subst (λ b. IsLineOf M k (cond b (Ends (length L)) (Forked last (length L)))) (sym on) (on_last last on told)
+      | inr off ↦ subst (λ b. IsLineOf M k (cond b (Ends (length L)) (Forked last (length L)))) (sym off) (off_last last off told)
     ]
     own_line (Forked a b) told = fork_kept k a b told
 

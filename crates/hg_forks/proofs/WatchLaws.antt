@@ -14,7 +14,7 @@ use Rattle.hg_forks.specs.declared.line.Line.{Line}
 use Rattle.hg_forks.specs.declared.line.Line.TheVariants.{Empty, Ends, Forked}
 use Rattle.hg_forks.specs.Own.{own_link_of}
 use Rattle.hg_forks.specs.Pairs.{TellsFork}
-use Rattle.hg_forks.specs.Lines.{fork_in, next_line, line_of, new_forkers, lengthened, Tells, Keeps}
+use Rattle.hg_forks.specs.Lines.{fork_in, next_line, line_at, new_forkers, lengthened, IsLineOf, KeepsLines}
 use Rattle.hg_forks.proofs.LineLaws.{is_forked, has_fork_told, other_line, own_line, is_forked_next}
 
 -- two tests that agree but at m
@@ -36,12 +36,12 @@ count-changed (suc n) m one two h same = elim (cases_eq m n) [
     step true k = refl
     step false k = refl
 
-module _ (L : List Link) (lines : List Line) (forking : ℕ) (keeps : Keeps L lines forking) where
+module _ (L : List Link) (lines : List Line) (forking : ℕ) (keeps : KeepsLines L lines forking) where
   -- the fork that a line keeps
-  pub fork_told : (m : ℕ) → m < length lines → TellsFork L m (fork_in (line_of lines m))
-  fork_told m h = told (line_of lines m) (keeps.told m h)
+  pub fork_told : (m : ℕ) → m < length lines → TellsFork L m (fork_in (line_at lines m))
+  fork_told m h = told (line_at lines m) (keeps.told m h)
     where
-      told : (line : Line) → Tells L m line → TellsFork L m (fork_in line)
+      told : (line : Line) → IsLineOf L m line → TellsFork L m (fork_in line)
       told Empty t = has_fork_told (length lines) L keeps.shaped m Empty t
       told (Ends last) t = has_fork_told (length lines) L keeps.shaped m (Ends last) t
       told (Forked a b) t = t
@@ -51,7 +51,7 @@ module _ (L : List Link) (lines : List Line) (forking : ℕ) (keeps : Keeps L li
     M = L ++ own_link_of m self_parent_of ∷ []
 
     abbrev line : Line
-    line = line_of lines m
+    line = line_at lines m
 
     abbrev next : Line
     next = next_line line self_parent_of (length L)
@@ -62,10 +62,10 @@ module _ (L : List Link) (lines : List Line) (forking : ℕ) (keeps : Keeps L li
     shaped : IsShaped (length lines) M
     shaped = shape-push (length lines) L (own_link_of m self_parent_of) keeps.shaped fits
 
-    told_other : (k : ℕ) → k < length lines → k ≢ m → Tells M k (line_of lines k)
-    told_other k h other = other_line (length lines) L keeps.shaped m self_parent_of fits k (line_of lines k) other (keeps.told k h)
+    told_other : (k : ℕ) → k < length lines → k ≢ m → IsLineOf M k (line_at lines k)
+    told_other k h other = other_line (length lines) L keeps.shaped m self_parent_of fits k (line_at lines k) other (keeps.told k h)
 
-    told_own : Tells M m next
+    told_own : IsLineOf M m next
     told_own = own_line (length lines) L keeps.shaped m self_parent_of fits line (keeps.told m member)
 
     -- how many members have a fork with the row
@@ -74,8 +74,8 @@ module _ (L : List Link) (lines : List Line) (forking : ℕ) (keeps : Keeps L li
     forkers_next =
         let n = length lines in
         let counts = count-changed n m (has_fork L) (has_fork M) member (λ k h other.
-        has_fork_told n L keeps.shaped k (line_of lines k) (keeps.told k h)
-        ∙ sym (has_fork_told n M shaped k (line_of lines k) (told_other k h other))) in
+        has_fork_told n L keeps.shaped k (line_at lines k) (keeps.told k h)
+        ∙ sym (has_fork_told n M shaped k (line_at lines k) (told_other k h other))) in
         let old : from_bool (has_fork L m) ≡ from_bool (is_forked line) = ap from_bool (has_fork_told n L keeps.shaped m line (keeps.told m member)) in
         let new : from_bool (has_fork M m) ≡ from_bool (is_forked next) = ap from_bool (has_fork_told n M shaped m next told_own) in
         let step = is_forked_next line self_parent_of (length L) in
@@ -87,27 +87,27 @@ module _ (L : List Link) (lines : List Line) (forking : ℕ) (keeps : Keeps L li
     forkers-fit = (let few = keeps.few in omega (arith, forkers_next, count_below-le (length lines) (has_fork M)))
 
     -- one row more
-    pub keeps_next : Keeps M (lengthened lines m self_parent_of (length L)) (forking + new_forkers lines m self_parent_of)
+    pub keeps_next : KeepsLines M (lengthened lines m self_parent_of (length L)) (forking + new_forkers lines m self_parent_of)
     keeps_next =
         let same = length-set lines m next in
         record {
           few = rw same keeps.few;
           shaped = rw same shaped;
           told = λ k h. elim (cases_eq k m) [
-            | inl own ↦ subst (λ j. Tells M j (get_or (slice_set lines m next) j Empty)) (sym own)
-                (subst (λ l. Tells M m l) (sym (get_or-set_same lines m next Empty member)) told_own)
-            | inr other ↦ subst (λ l. Tells M k l) (sym (get_or-set_other lines m k next Empty other)) (told_other k (omega (arith, same)) other)
+            | inl own ↦ subst (λ j. IsLineOf M j (get_or (slice_set lines m next) j Empty)) (sym own)
+                (subst (λ l. IsLineOf M m l) (sym (get_or-set_same lines m next Empty member)) told_own)
+            | inr other ↦ subst (λ l. IsLineOf M k l) (sym (get_or-set_other lines m k next Empty other)) (told_other k (omega (arith, same)) other)
           ];
           count = forkers_next ∙ ap (λ n. forkers n M) (sym same);
         }
 
     -- what the three fields then are
-    pub keeps_added : (links : List Link) (longer : List Line) (count at : ℕ) → links ≡ M → at ≡ m → longer ≡ slice_set lines at next → count ≡ new_forkers lines m self_parent_of → Keeps links longer (forking + count)
+    pub keeps_added : (links : List Link) (longer : List Line) (count at : ℕ) → links ≡ M → at ≡ m → longer ≡ slice_set lines at next → count ≡ new_forkers lines m self_parent_of → KeepsLines links longer (forking + count)
     keeps_added links longer count at is_links is_at is_longer is_count =
         rw (is_links, is_count, is_longer ∙ ap (λ i. slice_set lines i next) is_at) keeps_next
 
 -- no rows
-pub keeps_none : (n : ℕ) → n < 2 ^ 32 → Keeps [] (replicate n Empty) 0
+pub keeps_none : (n : ℕ) → n < 2 ^ 32 → KeepsLines [] (replicate n Empty) 0
 unfolding forkers has_fork creator parents self_parent other_parents some_below
 keeps_none n few =
     let len = length-replicate n Empty in
@@ -119,6 +119,6 @@ keeps_none n few =
         self_by_same = λ x p h. absurd (true≢false (sym h));
         others_by_others = λ x p h. absurd (true≢false (sym h));
       };
-      told = λ m h. subst (Tells [] m) (sym (get_or-replicate n m Empty Empty (omega (arith, len)))) (λ x inside. absurd (omega arith));
+      told = λ m h. subst (IsLineOf [] m) (sym (get_or-replicate n m Empty Empty (omega (arith, len)))) (λ x inside. absurd (omega arith));
       count = sym (weight_below_none (λ _. 1) (length (replicate n Empty)) (has_fork []) (λ k h e. true≢false (sym e)));
     }

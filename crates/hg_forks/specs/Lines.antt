@@ -33,16 +33,16 @@ fork_in (Ends last) = None
 fork_in (Forked a b) = Some (a, b)
 
 -- the line of member m
-abbrev pub line_of : List Line → ℕ → Line
-line_of lines m = get_or lines m Empty
+abbrev pub line_at : List Line → ℕ → Line
+line_at lines m = get_or lines m Empty
 
 -- 1 where a row by m on this self-parent makes the first fork of m, else 0
 abbrev pub new_forkers : List Line → ℕ → Option ℕ → ℕ
-new_forkers lines m self_parent = from_bool (makes_fork (line_of lines m) self_parent)
+new_forkers lines m self_parent = from_bool (makes_fork (line_at lines m) self_parent)
 
 -- the lines once m has made row x on this self-parent
 abbrev pub lengthened : List Line → ℕ → Option ℕ → ℕ → List Line
-lengthened lines m self_parent x = slice_set lines m (next_line (line_of lines m) self_parent x)
+lengthened lines m self_parent x = slice_set lines m (next_line (line_at lines m) self_parent x)
 
 -- all rows by m are self-ancestors of its row `last`
 pub record IsLast (L : List Link) (m last : ℕ) : Type 0 where
@@ -51,14 +51,14 @@ pub record IsLast (L : List Link) (m last : ℕ) : Type 0 where
   pub above : (x : ℕ) → x < length L → creator L x ≡ m → is_self_ancestor L last x ≡ true
 
 -- what the line says of the rows by m
-abbrev pub Tells : List Link → ℕ → Line → Type 0
-Tells L m Empty = (x : ℕ) → x < length L → creator L x ≢ m
-Tells L m (Ends last) = IsLast L m last
-Tells L m (Forked a b) = IsForkOf L m a b
+abbrev pub IsLineOf : List Link → ℕ → Line → Type 0
+IsLineOf L m Empty = (x : ℕ) → x < length L → creator L x ≢ m
+IsLineOf L m (Ends last) = IsLast L m last
+IsLineOf L m (Forked a b) = IsForkOf L m a b
 
 -- a line for each member of a shaped graph, and how many members have a fork
-pub record Keeps (L : List Link) (lines : List Line) (forking : ℕ) : Type 0 where
+pub record KeepsLines (L : List Link) (lines : List Line) (forking : ℕ) : Type 0 where
   pub few : length lines < 2 ^ 32
   pub shaped : IsShaped (length lines) L
-  pub told : (m : ℕ) → m < length lines → Tells L m (line_of lines m)
+  pub told : (m : ℕ) → m < length lines → IsLineOf L m (line_at lines m)
   pub count : forking ≡ forkers (length lines) L

@@ -1,5 +1,5 @@
 ghost use Rattle.std.specs.Prelude.{◌≡◌, ◌<◌, length};
-ghost use Rattle.hg_forks.specs.Lines.{fork_in, line_of, makes_fork, new_forkers, next_line};
+ghost use Rattle.hg_forks.specs.Lines.{fork_in, line_at, makes_fork, new_forkers, next_line};
 
 use hg_model::Member;
 
@@ -52,9 +52,9 @@ pub fn fork_in(line: Line) -> Option<(usize, usize)>
 }
 
 /// The line of the member.
-pub fn line_of(lines: &[Line], m: Member) -> Line
+pub fn line_at(lines: &[Line], m: Member) -> Line
     requires { m < length lines.now }
-    ensures { result ≡ line_of lines.now m }
+    ensures { result ≡ line_at lines.now m }
 {
     lines[usize::from(m)]
 }
@@ -64,5 +64,5 @@ pub fn new_forkers(lines: &[Line], m: Member, self_parent: Option<usize>) -> u32
     requires { m < length lines.now }
     ensures { result ≡ new_forkers lines.now m self_parent }
 {
-    u32::from(makes_fork(line_of(lines, m), self_parent))
+    u32::from(makes_fork(line_at(lines, m), self_parent))
 }

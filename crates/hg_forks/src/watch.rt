@@ -4,7 +4,7 @@ ghost use Rattle.hg_model.specs.Shape.{FitsLink, shape_of, with_link};
 ghost use Rattle.hg_forks.specs.Own.{own_link_of};
 ghost use Rattle.hg_forks.specs.Pairs.{TellsFork};
 
-use crate::line::{Line, fork_in, line_of, new_forkers, next_line};
+use crate::line::{Line, fork_in, line_at, new_forkers, next_line};
 use crate::own_row::OwnRow;
 use hg_model::{Member, Memory};
 use std::alloc::Global;
@@ -28,11 +28,11 @@ impl Model for Watch {
 
     ghost Value = { Growth };
 
-    ghost use Rattle.hg_forks.specs.Lines.{Keeps};
+    ghost use Rattle.hg_forks.specs.Lines.{KeepsLines};
 
     ghost view = { λ s. record { shape = shape_of (length s.lines.items) s.rows.items; room = vec_capacity s.rows - vec_len s.rows } };
 
-    ghost invariant = { λ s. Keeps s.rows.items s.lines.items s.forkers };
+    ghost invariant = { λ s. KeepsLines s.rows.items s.lines.items s.forkers };
 }
 
 impl Watch {
@@ -71,7 +71,7 @@ impl Watch {
         ensures { self.new.shape ≡ with_link self.old.shape (own_link_of creator self_parent) }
     {
         self.forkers += new_forkers(&self.lines, creator, self_parent);
-        let line = next_line(line_of(&self.lines, creator), self_parent, self.rows.len());
+        let line = next_line(line_at(&self.lines, creator), self_parent, self.rows.len());
         self.lines[usize::from(creator)] = line;
         self.rows.push_reserved(OwnRow {
             creator,
@@ -91,7 +91,7 @@ impl Watch {
         requires { m < self.now.shape.members }
         ensures { TellsFork self.now.shape.links m result }
     {
-        fork_in(line_of(&self.lines, m))
+        fork_in(line_at(&self.lines, m))
     }
 }
 

@@ -11,10 +11,10 @@ use Rattle.hg_model.specs.declared.answers.MakeAnswer.TheVariants as answer
 use Rattle.hg_model.specs.Reading.{read_event}
 use Rattle.hg_model.specs.Spelling.{Spells}
 use Rattle.hg_model.specs.Verdict.{arrival_rule, forkers_rule, full_rule, row_verdict, made_row, making, made_or}
-use Rattle.hg_model.specs.History.{Event, Accepts, IsStep}
-use Rattle.hg_model.specs.History.Event.{Took, Marked}
-use Rattle.hg_model.specs.Shown.{Shown, with_events, graph_of, state_of, IsNode}
-use Rattle.hg_model.specs.Calls.{put_answer, put_events, taken_by, taken_from, make_answer, make_events, made_by, publish_answer, publish_events}
+use Rattle.hg_model.specs.History.{Change, Accepts, IsStep}
+use Rattle.hg_model.specs.History.Change.{Took, Marked}
+use Rattle.hg_model.specs.Shown.{Shown, with_changes, graph_of, state_of, IsNode}
+use Rattle.hg_model.specs.Calls.{put_answer, put_changes, taken_by, taken_from, make_answer, make_changes, made_by, publish_answer, publish_changes}
 use Rattle.hg_event.proofs.Reading.{AreBytes}
 use Rattle.hg_event.proofs.Spells.{read_event-Spells}
 use Rattle.hg_history.specs.Laws.{PutsAddOne, OtherPutsAddNone, PutsLeaveANode, MakesAddOne, OtherMakesAddNone, PublishesLeaveANode}
@@ -23,14 +23,14 @@ use Rattle.hg_history.proofs.SoundLaws.{history_push}
 
 -- no event, and one that may come
 
-pub with_none : {K : Type 0} (v : Shown K) (es : List Event) → es ≡ [] → with_events v es ≡ v
-with_none {K} v es none = ap (λ (h : List Event). at h) (ap (λ (more : List Event). v.history ++ more) none ∙ append-nil v.history)
+pub with_none : {K : Type 0} (v : Shown K) (es : List Change) → es ≡ [] → with_changes v es ≡ v
+with_none {K} v es none = ap (λ (h : List Change). at h) (ap (λ (more : List Change). v.history ++ more) none ∙ append-nil v.history)
   where
-    at : List Event → Shown K
+    at : List Change → Shown K
     at h = record { start = v.start; history = h }
 
-pub node_with : {K : Type 0} (accepts : K → Accepts) (v : Shown K) (e : Event) → IsNode accepts v →
-    IsStep (accepts v.start.keys) v.start.members v.start.coin v.start.own (state_of v) e → IsNode accepts (with_events v (e ∷ []))
+pub node_with : {K : Type 0} (accepts : K → Accepts) (v : Shown K) (e : Change) → IsNode accepts v →
+    IsStep (accepts v.start.keys) v.start.members v.start.coin v.start.own (state_of v) e → IsNode accepts (with_changes v (e ∷ []))
 node_with accepts v e node may = record {
   few_members = node.few_members;
   coin = node.coin;
@@ -51,8 +51,8 @@ module _ (K : Type 0) (accepts : K → Accepts) (v : Shown K) (bytes : List ℕ)
   taken_other (Refused f) row other = refl
 
   one_of_read : (read : Result Row ByteFault) → read_event bytes ≡ read → (place : ℕ) → put_answer accepts v bytes ≡ Accepted place →
-      (place ≡ length (graph_of v)) × ((row : Row) × (read_event bytes ≡ Ok row) × (put_events accepts v bytes ≡ Took row ∷ []))
-  unfolding put_answer put_events
+      (place ≡ length (graph_of v)) × ((row : Row) × (read_event bytes ≡ Ok row) × (put_changes accepts v bytes ≡ Took row ∷ []))
+  unfolding put_answer put_changes
   one_of_read (Err e) is place accepted =
       (let no_row : Refused _ ≡ Accepted place = sym (ap (λ (r : Result Row ByteFault). Rattle.hg_model.specs.Verdict.verdict_of (accepts v.start.keys) v.start.members v.start.own (graph_of v) r) is) ∙ accepted in cc)
   one_of_read (Ok row) is place accepted =
@@ -61,15 +61,15 @@ module _ (K : Type 0) (accepts : K → Accepts) (v : Shown K) (bytes : List ℕ)
         (row, is, ap (taken_from accepts v) is ∙ taken_accepted (here row) row place row_is),
       )
 
-  none_of_read : (read : Result Row ByteFault) → read_event bytes ≡ read → ((place : ℕ) → put_answer accepts v bytes ≡ Accepted place → ⊥) → put_events accepts v bytes ≡ []
-  unfolding put_answer put_events
+  none_of_read : (read : Result Row ByteFault) → read_event bytes ≡ read → ((place : ℕ) → put_answer accepts v bytes ≡ Accepted place → ⊥) → put_changes accepts v bytes ≡ []
+  unfolding put_answer put_changes
   none_of_read (Err e) is other = ap (taken_from accepts v) is
   none_of_read (Ok row) is other =
       ap (taken_from accepts v) is
       ∙ taken_other (here row) row (λ place row_is. other place (ap (λ (r : Result Row ByteFault). Rattle.hg_model.specs.Verdict.verdict_of (accepts v.start.keys) v.start.members v.start.own (graph_of v) r) is ∙ row_is))
 
   module _ (fit : AreBytes bytes) (node : IsNode accepts v) where
-    node_of_answer : (row : Row) → read_event bytes ≡ Ok row → (answer : PutAnswer) → here row ≡ answer → IsNode accepts (with_events v (taken_by answer row))
+    node_of_answer : (row : Row) → read_event bytes ≡ Ok row → (answer : PutAnswer) → here row ≡ answer → IsNode accepts (with_changes v (taken_by answer row))
     node_of_answer row is (Known p) row_is = subst (IsNode accepts) (sym (with_none v [] refl)) node
     node_of_answer row is (Refused f) row_is = subst (IsNode accepts) (sym (with_none v [] refl)) node
     node_of_answer row is (Accepted p) row_is =
@@ -80,10 +80,10 @@ module _ (K : Type 0) (accepts : K → Accepts) (v : Shown K) (bytes : List ℕ)
           accepted = row_is ∙ ap (λ (k : ℕ). Accepted k) place;
         })
 
-    node_of_read : (read : Result Row ByteFault) → read_event bytes ≡ read → IsNode accepts (with_events v (put_events accepts v bytes))
-    unfolding put_events
-    node_of_read (Err e) is = subst (IsNode accepts) (sym (with_none v (put_events accepts v bytes) (ap (taken_from accepts v) is))) node
-    node_of_read (Ok row) is = subst (λ (r : Result Row ByteFault). IsNode accepts (with_events v (taken_from accepts v r))) (sym is) (node_of_answer row is (here row) refl)
+    node_of_read : (read : Result Row ByteFault) → read_event bytes ≡ read → IsNode accepts (with_changes v (put_changes accepts v bytes))
+    unfolding put_changes
+    node_of_read (Err e) is = subst (IsNode accepts) (sym (with_none v (put_changes accepts v bytes) (ap (taken_from accepts v) is))) node
+    node_of_read (Ok row) is = subst (λ (r : Result Row ByteFault). IsNode accepts (with_changes v (taken_from accepts v r))) (sym is) (node_of_answer row is (here row) refl)
 
 pub puts_add_one : (K : Type 0) → PutsAddOne K
 puts_add_one K accepts v bytes place accepted = one_of_read K accepts v bytes (read_event bytes) refl place accepted
@@ -101,24 +101,24 @@ made_other (answer.Made p) row other = absurd (other p refl)
 made_other (answer.Refused f) row other = refl
 
 pub makes_add_one : (K : Type 0) → MakesAddOne K
-unfolding make_answer make_events
+unfolding make_answer make_changes
 makes_add_one K v other time payload sig place is = (
   made_place _ (length (graph_of v)) place is,
   ap (λ (a : MakeAnswer). made_by a (made_row v.start.own (graph_of v) other time payload sig)) is,
 )
 
 pub other_makes_add_none : (K : Type 0) → OtherMakesAddNone K
-unfolding make_events
+unfolding make_changes
 other_makes_add_none K v other time payload sig none = made_other (make_answer v other time payload sig) (made_row v.start.own (graph_of v) other time payload sig) none
 
 -- publishing
 
 pub publishes_leave_a_node : (K : Type 0) → PublishesLeaveANode K
-unfolding publish_events publish_answer
+unfolding publish_changes publish_answer
 publishes_leave_a_node K accepts v len share le node = elim (cases_Bool (eqb (publish_answer v len share) 0)) [
-  | inl none ↦ subst (IsNode accepts) (sym (with_none v (publish_events v len share) (ap (λ (b : Bool). cond b [] (Marked len share ∷ [])) none))) node
+  | inl none ↦ subst (IsNode accepts) (sym (with_none v (publish_changes v len share) (ap (λ (b : Bool). cond b [] (Marked len share ∷ [])) none))) node
   | inr some ↦ (
       let more : 0 < publish_answer v len share = (let ne = eqb-false (publish_answer v len share) 0 some in omega (arith, ne)) in
-      subst (λ (es : List Event). IsNode accepts (with_events v es)) (sym (ap (λ (b : Bool). cond b [] (Marked len share ∷ [])) some))
+      subst (λ (es : List Change). IsNode accepts (with_changes v es)) (sym (ap (λ (b : Bool). cond b [] (Marked len share ∷ [])) some))
       (node_with accepts v (Marked len share) node (record { within = le; some = more })))
 ]

@@ -4,22 +4,22 @@ use Rattle.std.proofs.lemmas.Bool.{cases_lt}
 use Rattle.std.proofs.lemmas.List.{length_push}
 use Rattle.std.proofs.lemmas.Option.{slice_get_within}
 use Rattle.hg_model.specs.declared.row.Row.{Row}
-use Rattle.hg_model.specs.History.{Event, State, Accepts, empty, with_row, with_marks, step, replay, AreSteps}
-use Rattle.hg_model.specs.History.Event.{Took, Made, Marked}
+use Rattle.hg_model.specs.History.{Change, State, Accepts, empty, with_row, with_marks, step, replay, AreSteps}
+use Rattle.hg_model.specs.History.Change.{Took, Made, Marked}
 use Rattle.hg_model.proofs.LongerLaws.{slice_get-append}
 use Rattle.hg_model.proofs.PushLaws.{nobody}
 use Rattle.hg_model.specs.Verdict.{verdict_of}
 use Rattle.hg_event.proofs.Spells.{Spells-read_event}
-use Rattle.hg_history.specs.Laws.{HasEvent, RowsCameByEvents, EventsLeftRows, VerdictsAreOfBytes}
+use Rattle.hg_history.specs.Laws.{HasChange, RowsCameByChanges, ChangesLeftRows, VerdictsAreOfBytes}
 use Rattle.hg_history.proofs.StateLaws.{rows_from}
 use Rattle.hg_history.proofs.RuleLaws.{taken_is}
 use Rattle.hg_history.proofs.OwnLaws.{before, last}
 
 -- how a row came
-abbrev Came : ℕ → List Event → Row → Type 0
-Came own h row = (row.creator ≡ own → HasEvent h (Made row)) × (row.creator ≢ own → HasEvent h (Took row))
+abbrev Came : ℕ → List Change → Row → Type 0
+Came own h row = (row.creator ≡ own → HasChange h (Made row)) × (row.creator ≢ own → HasChange h (Took row))
 
-later : (own : ℕ) (e : Event) (h : List Event) (row : Row) → Came own h row → Came own (e ∷ h) row
+later : (own : ℕ) (e : Change) (h : List Change) (row : Row) → Came own h row → Came own (e ∷ h) row
 later own e h row came = (λ is. (let i = came.0 is in (suc i.0, i.1)), λ other. (let i = came.1 other in (suc i.0, i.1)))
 
 -- the row at a place of a longer list was there, or is the last one
@@ -33,7 +33,7 @@ split G more row x at = elim (cases_lt x (length G)) [
       inr cc)
 ]
 
-came_from : (accepts : Accepts) (n c own : ℕ) (s : State) (h : List Event) → AreSteps accepts n c own s h → (x : ℕ) (row : Row) → slice_get (fold (step n c) s h).rows x ≡ Some row →
+came_from : (accepts : Accepts) (n c own : ℕ) (s : State) (h : List Change) → AreSteps accepts n c own s h → (x : ℕ) (row : Row) → slice_get (fold (step n c) s h).rows x ≡ Some row →
     (slice_get s.rows x ≡ Some row) ⊎ Came own h row
 came_from accepts n c own s [] steps x row at = inl at
 came_from accepts n c own s (Marked len share ∷ h) steps x row at = elim (came_from accepts n c own (with_marks n c s len share) h steps.1 x row at) [
@@ -61,7 +61,7 @@ came_from accepts n c own s (Made more ∷ h) steps x row at = elim (came_from a
   ]
 ]
 
-pub rows_came : RowsCameByEvents
+pub rows_came : RowsCameByChanges
 unfolding replay
 rows_came accepts n c own h is x row at = elim (came_from accepts n c own empty h is.steps x row at) [
   | inl none ↦ cc
@@ -69,23 +69,23 @@ rows_came accepts n c own h is x row at = elim (came_from accepts n c own empty 
 ]
 
 module _ (n c : ℕ) where
-  stays : (s : State) (h : List Event) (x : ℕ) (row : Row) → slice_get s.rows x ≡ Some row → slice_get (fold (step n c) s h).rows x ≡ Some row
+  stays : (s : State) (h : List Change) (x : ℕ) (row : Row) → slice_get s.rows x ≡ Some row → slice_get (fold (step n c) s h).rows x ≡ Some row
   stays s h x row at =
       let more = rows_from n c s h in
       ap (λ (G : List Row). slice_get G x) more.1 ∙ (slice_get-append s.rows more.0 nobody x (slice_get_within s.rows x row at) ∙ at)
 
-  came_here : (s : State) (row : Row) (h : List Event) → (x : ℕ) × (slice_get (fold (step n c) (with_row n s row) h).rows x ≡ Some row)
+  came_here : (s : State) (row : Row) (h : List Change) → (x : ℕ) × (slice_get (fold (step n c) (with_row n s row) h).rows x ≡ Some row)
   came_here s row h = (length s.rows, stays (with_row n s row) h (length s.rows) row (last s.rows row))
 
-  left_from : (s : State) (h : List Event) (row : Row) (i : ℕ) → (slice_get h i ≡ Some (Made row)) ⊎ (slice_get h i ≡ Some (Took row)) → (x : ℕ) × (slice_get (fold (step n c) s h).rows x ≡ Some row)
+  left_from : (s : State) (h : List Change) (row : Row) (i : ℕ) → (slice_get h i ≡ Some (Made row)) ⊎ (slice_get h i ≡ Some (Took row)) → (x : ℕ) × (slice_get (fold (step n c) s h).rows x ≡ Some row)
   left_from s [] row i at = elim at [ inl none ↦ cc | inr none ↦ cc ]
   left_from s (e ∷ h) row (suc i) at = left_from (step n c s e) h row i at
   left_from s (e ∷ h) row zero at = elim at [
-    | inl is ↦ (let same : Made row ≡ e = cc in subst (λ (d : Event). (x : ℕ) × (slice_get (fold (step n c) (step n c s d) h).rows x ≡ Some row)) same (came_here s row h))
-    | inr is ↦ (let same : Took row ≡ e = cc in subst (λ (d : Event). (x : ℕ) × (slice_get (fold (step n c) (step n c s d) h).rows x ≡ Some row)) same (came_here s row h))
+    | inl is ↦ (let same : Made row ≡ e = cc in subst (λ (d : Change). (x : ℕ) × (slice_get (fold (step n c) (step n c s d) h).rows x ≡ Some row)) same (came_here s row h))
+    | inr is ↦ (let same : Took row ≡ e = cc in subst (λ (d : Change). (x : ℕ) × (slice_get (fold (step n c) (step n c s d) h).rows x ≡ Some row)) same (came_here s row h))
   ]
 
-pub events_left : EventsLeftRows
+pub events_left : ChangesLeftRows
 unfolding replay
 events_left n c h row has = elim has [
   | inl i ↦ left_from n c empty h row i.0 (inl i.1)

@@ -11,7 +11,7 @@ use Rattle.hg_model.specs.Links.{Link, links, place_of}
 use Rattle.hg_model.specs.Graph.{name_in, name_at, HasDistinctNames}
 use Rattle.hg_model.specs.Fame.{Marks, fame_marks, is_closed}
 use Rattle.hg_model.specs.Order.{sort_by, comes_before, keyed_at, is_received_in, ordered_in, ordered, Ordered, named_in, last_closed, coin_at, order_of}
-use Rattle.hg_model.specs.History.{Event, Accepts, replay, IsHistory}
+use Rattle.hg_model.specs.History.{Change, Accepts, replay, IsHistory}
 use Rattle.hg_model.specs.Kept.{kept, kept_by_names}
 use Rattle.hg_model.proofs.LinkLaws.{length-links}
 use Rattle.hg_model.proofs.ListLaws.{all_list_below}
@@ -20,7 +20,7 @@ use Rattle.hg_model.proofs.NameLaws.{place_of_at}
 use Rattle.hg_model.proofs.PushLaws.{nobody}
 use Rattle.hg_model.proofs.SortLaws.{all_sorted}
 use Rattle.hg_prefix.specs.Standing.{StandsIn, IsMarkedPart}
-use Rattle.hg_prefix.specs.Orders.{IsPrefix, ordered_by_names}
+use Rattle.hg_prefix.specs.Orders.{IsPrefix, marked_order_by_names}
 use Rattle.hg_prefix.proofs.ClosedLaws.{closed_last, closed_up_to}
 use Rattle.hg_prefix.proofs.GrowthLaws.{no_fewer_closed, stands_in_itself, stands_in_longer}
 use Rattle.hg_prefix.proofs.OrderLaws.{order_prefix}
@@ -60,13 +60,13 @@ module _ (G U : List Row) (distinct : HasDistinctNames U) (same : (x : ℕ) → 
 
 -- where the rows of G are the first rows of U, an order that is a prefix by names is one by places
 pub prefix_by_places : (n : ℕ) (G U : List Row) (f h : Marks) → HasDistinctNames U → IsPrefix G U →
-    IsPrefix (ordered_by_names n G f) (ordered_by_names n U h) → IsPrefix (ordered n G (links G) f) (ordered n U (links U) h)
+    IsPrefix (marked_order_by_names n G f) (marked_order_by_names n U h) → IsPrefix (ordered n G (links G) f) (ordered n U (links U) h)
 unfolding name_at
 prefix_by_places n G U f h distinct first names = (
   map (placed_by U) names.0,
   sym (places_back U U distinct (λ x inside. refl) (omega arith) n h)
       ∙ (ap (map (placed_by U)) names.1
-      ∙ (map-append (placed_by U) (ordered_by_names n G f) names.0
+      ∙ (map-append (placed_by U) (marked_order_by_names n G f) names.0
       ∙ ap (λ (ps : List Placed). ps ++ map (placed_by U) names.0)
       (places_back G U distinct (λ x inside. ap name_in (subst (λ (H : List Row). Rattle.std.specs.Prelude.slice_get H x ≡ Rattle.std.specs.Prelude.slice_get G x) (sym first.1) (slice_get-append G first.0 nobody x inside)))
       (let e = ap length first.1 in omega (arith, e, length-append G first.0)) n f))),
@@ -75,7 +75,7 @@ prefix_by_places n G U f h distinct first names = (
 pub stands_as_first : (G U : List Row) → IsPrefix G U → StandsIn G U
 stands_as_first G U first = subst (StandsIn G) (sym first.1) (stands_in_longer G first.0)
 
-module _ (accepts : Accepts) (n c own : ℕ) (a b : List Event) (three : 2 < c) (is : IsHistory accepts n c own (a ++ b)) where
+module _ (accepts : Accepts) (n c own : ℕ) (a b : List Change) (three : 2 < c) (is : IsHistory accepts n c own (a ++ b)) where
   early : IsSound accepts n c own (replay n c a)
   early = sound accepts n c own a three (moment accepts n c own a b is)
 
@@ -98,7 +98,7 @@ module _ (accepts : Accepts) (n c own : ℕ) (a b : List Event) (three : 2 < c) 
   first_rows : IsPrefix (replay n c a).rows (replay n c (a ++ b)).rows
   first_rows = rows_grow n c a b
 
-  names_of_rows : IsPrefix (ordered_by_names n (replay n c a).rows (replay n c a).marks) (ordered_by_names n (replay n c (a ++ b)).rows (replay n c (a ++ b)).marks)
+  names_of_rows : IsPrefix (marked_order_by_names n (replay n c a).rows (replay n c a).marks) (marked_order_by_names n (replay n c (a ++ b)).rows (replay n c (a ++ b)).marks)
   names_of_rows =
       let G : List Row = (replay n c a).rows in
       let U : List Row = (replay n c (a ++ b)).rows in
@@ -120,9 +120,9 @@ module _ (accepts : Accepts) (n c own : ℕ) (a b : List Event) (three : 2 < c) 
       let s = replay n c a in
       let t = replay n c (a ++ b) in
       subst (λ (L : List Link). IsPrefix (map (named_in s.rows) (ordered n s.rows L s.marks)) (kept_by_names n t)) (sym early.linked)
-      (subst (λ (L : List Link). IsPrefix (ordered_by_names n s.rows s.marks) (map (named_in t.rows) (ordered n t.rows L t.marks))) (sym late.linked) names_of_rows)
+      (subst (λ (L : List Link). IsPrefix (marked_order_by_names n s.rows s.marks) (map (named_in t.rows) (ordered n t.rows L t.marks))) (sym late.linked) names_of_rows)
 
-module _ (accepts : Accepts) (n c own : ℕ) (h : List Event) (three : 2 < c) (is : IsHistory accepts n c own h) where
+module _ (accepts : Accepts) (n c own : ℕ) (h : List Change) (three : 2 < c) (is : IsHistory accepts n c own h) where
   now : IsSound accepts n c own (replay n c h)
   now = sound accepts n c own h three is
 

@@ -2,15 +2,15 @@
 use Rattle.std.proofs.Common.{◌≡◌, ℕ, suc, List, [], ◌∷◌, ◌++◌, length, get_or, fold, refl, ap, ap₂, ◌∙◌, arith}
 use Rattle.std.proofs.lemmas.List.{length_push, get_or_append_left, get_or_push}
 use Rattle.hg_model.specs.declared.row.Row.{Row}
-use Rattle.hg_model.specs.History.{Event, State, empty, with_row, with_marks, step, replay}
-use Rattle.hg_model.specs.History.Event.{Took, Made, Marked}
+use Rattle.hg_model.specs.History.{Change, State, empty, with_row, with_marks, step, replay}
+use Rattle.hg_model.specs.History.Change.{Took, Made, Marked}
 use Rattle.hg_model.specs.Shown.{log_from, no_row, history_of}
 use Rattle.hg_history.specs.Laws.{LogTellsHistory}
 use Rattle.hg_history.proofs.StateLaws.{rows_from}
 
 module _ (n c : ℕ) where
   -- the row that comes next stands at its place in the end
-  row_there : (s : State) (row : Row) (h : List Event) → get_or (fold (step n c) (with_row n s row) h).rows (length s.rows) no_row ≡ row
+  row_there : (s : State) (row : Row) (h : List Change) → get_or (fold (step n c) (with_row n s row) h).rows (length s.rows) no_row ≡ row
   row_there s row h =
       let later = rows_from n c (with_row n s row) h in
       ap (λ (G : List Row). get_or G (length s.rows) no_row) later.1
@@ -19,15 +19,15 @@ module _ (n c : ℕ) where
   next_place : (s : State) (row : Row) → suc (length s.rows) ≡ length (s.rows ++ row ∷ [])
   next_place s row = omega (arith, length_push s.rows row)
 
-  told_from : (s : State) (h : List Event) → history_of (fold (step n c) s h).rows (log_from (length s.rows) h) ≡ h
+  told_from : (s : State) (h : List Change) → history_of (fold (step n c) s h).rows (log_from (length s.rows) h) ≡ h
   told_from s [] = refl
   told_from s (Took row ∷ h) =
-      ap₂ (λ (r : Row) (rest : List Event). Took r ∷ rest) (row_there s row h)
+      ap₂ (λ (r : Row) (rest : List Change). Took r ∷ rest) (row_there s row h)
       (ap (λ (place : ℕ). history_of (fold (step n c) (with_row n s row) h).rows (log_from place h)) (next_place s row) ∙ told_from (with_row n s row) h)
   told_from s (Made row ∷ h) =
-      ap₂ (λ (r : Row) (rest : List Event). Made r ∷ rest) (row_there s row h)
+      ap₂ (λ (r : Row) (rest : List Change). Made r ∷ rest) (row_there s row h)
       (ap (λ (place : ℕ). history_of (fold (step n c) (with_row n s row) h).rows (log_from place h)) (next_place s row) ∙ told_from (with_row n s row) h)
-  told_from s (Marked len share ∷ h) = ap (λ (rest : List Event). Marked len share ∷ rest) (told_from (with_marks n c s len share) h)
+  told_from s (Marked len share ∷ h) = ap (λ (rest : List Change). Marked len share ∷ rest) (told_from (with_marks n c s len share) h)
 
 pub log_tells_history : LogTellsHistory
 unfolding replay

@@ -8,10 +8,10 @@ use Rattle.hg_model.specs.Links.{parent_names, place_of}
 use Rattle.hg_model.specs.Fits.{AreHeld}
 use Rattle.hg_model.specs.Spelling.{body_of, spelling, Spells}
 use Rattle.hg_model.specs.Verdict.{last_name, both_names, made_row, making}
-use Rattle.hg_model.specs.History.{Event, Accepts, IsMade}
-use Rattle.hg_model.specs.History.Event.{Made}
-use Rattle.hg_model.specs.Shown.{Shown, with_events, graph_of, IsNode}
-use Rattle.hg_model.specs.Calls.{make_answer, make_events, make_body, made_by}
+use Rattle.hg_model.specs.History.{Change, Accepts, IsMade}
+use Rattle.hg_model.specs.History.Change.{Made}
+use Rattle.hg_model.specs.Shown.{Shown, with_changes, graph_of, IsNode}
+use Rattle.hg_model.specs.Calls.{make_answer, make_changes, make_body, made_by}
 use Rattle.hg_model.proofs.RuleLaws.{Drafted, drafted}
 use Rattle.hg_prefix.specs.Orders.{HasNameSizes}
 use Rattle.hg_prefix.proofs.StandingLaws.{name_at_place}
@@ -69,12 +69,12 @@ module _ (K : Type 0) (accepts : K → Accepts) (v : Shown K) (other : Option (L
         made = is ∙ ap (λ (k : ℕ). answer.Made k) (made_place _ (length G) place is);
       }
 
-  node_made : (a : MakeAnswer) → make_answer v other time payload sig ≡ a → IsNode accepts (with_events v (make_events v other time payload sig))
-  unfolding make_answer make_events
+  node_made : (a : MakeAnswer) → make_answer v other time payload sig ≡ a → IsNode accepts (with_changes v (make_changes v other time payload sig))
+  unfolding make_answer make_changes
   node_made (answer.Refused f) is =
-      subst (IsNode accepts) (sym (with_none v (make_events v other time payload sig) (ap (λ (a : MakeAnswer). made_by a (made_row v.start.own (graph_of v) other time payload sig)) is))) node
+      subst (IsNode accepts) (sym (with_none v (make_changes v other time payload sig) (ap (λ (a : MakeAnswer). made_by a (made_row v.start.own (graph_of v) other time payload sig)) is))) node
   node_made (answer.Made place) is =
-      subst (λ (es : List Event). IsNode accepts (with_events v es)) (sym (ap (λ (a : MakeAnswer). made_by a (made_row v.start.own (graph_of v) other time payload sig)) is))
+      subst (λ (es : List Change). IsNode accepts (with_changes v es)) (sym (ap (λ (a : MakeAnswer). made_by a (made_row v.start.own (graph_of v) other time payload sig)) is))
       (node_with accepts v (Made (made_row v.start.own (graph_of v) other time payload sig)) node (is_made place is))
 
 pub makes_leave_a_node : (K : Type 0) → MakesLeaveANode K

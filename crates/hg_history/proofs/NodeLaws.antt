@@ -7,11 +7,11 @@ use Rattle.hg_model.specs.Links.{Link, links}
 use Rattle.hg_model.specs.Fame.{Marks, fame_marks}
 use Rattle.hg_model.specs.Order.{coin_at, ordered, order_of}
 use Rattle.hg_model.specs.Shares.{whole}
-use Rattle.hg_model.specs.History.{Event, State, Accepts, news, replay}
+use Rattle.hg_model.specs.History.{Change, State, Accepts, news, replay}
 use Rattle.hg_model.specs.Kept.{kept}
-use Rattle.hg_model.specs.History.Event.{Marked}
-use Rattle.hg_model.specs.Shown.{Shown, with_events, graph_of, state_of, IsNode}
-use Rattle.hg_model.specs.Calls.{publish_answer, publish_events, settle_events}
+use Rattle.hg_model.specs.History.Change.{Marked}
+use Rattle.hg_model.specs.Shown.{Shown, with_changes, graph_of, state_of, IsNode}
+use Rattle.hg_model.specs.Calls.{publish_answer, publish_changes, settle_changes}
 use Rattle.hg_history.specs.Laws.{IsSettled, SettlesAll}
 use Rattle.hg_history.proofs.StateLaws.{replay-push}
 use Rattle.hg_history.proofs.SettleLaws.{share, HasNoNews, marks_are_all, published}
@@ -37,26 +37,26 @@ module _ (K : Type 0) (accepts : K → Accepts) (v : Shown K) (node : IsNode acc
 
   rows_settled : (b : Bool) → (settled_state b).rows ≡ graph_of v
   unfolding settled_state
-  rows_settled true = ap (λ (h : List Event). (replay v.start.members v.start.coin h).rows) (append-nil v.history)
+  rows_settled true = ap (λ (h : List Change). (replay v.start.members v.start.coin h).rows) (append-nil v.history)
   rows_settled false = ap (λ (s : State). s.rows) (replay-push v.start.members v.start.coin v.history (Marked (length (graph_of v)) whole))
 
   no_news : (b : Bool) → eqb (publish_answer v (length (graph_of v)) whole) 0 ≡ b → news v.start.members v.start.coin (settled_state b) (length (graph_of v)) whole ≡ 0
   unfolding settled_state publish_answer
   no_news true is =
-      ap (λ (h : List Event). news v.start.members v.start.coin (replay v.start.members v.start.coin h) (length (graph_of v)) whole) (append-nil v.history)
+      ap (λ (h : List Change). news v.start.members v.start.coin (replay v.start.members v.start.coin h) (length (graph_of v)) whole) (append-nil v.history)
       ∙ eqb-true (news v.start.members v.start.coin (state_of v) (length (graph_of v)) whole) 0 is
   no_news false is =
       ap (λ (s : State). news v.start.members v.start.coin s (length (graph_of v)) whole) (replay-push v.start.members v.start.coin v.history (Marked (length (graph_of v)) whole))
       ∙ published v.start.members v.start.coin (state_of v) (length (graph_of v)) whole (omega arith)
 
-  settled : (b : Bool) → eqb (publish_answer v (length (graph_of v)) whole) 0 ≡ b → IsSettled v (with_events v (settle_events v))
-  unfolding settled_state publish_events order_of
+  settled : (b : Bool) → eqb (publish_answer v (length (graph_of v)) whole) 0 ≡ b → IsSettled v (with_changes v (settle_changes v))
+  unfolding settled_state publish_changes order_of
   settled b is =
       let t = settled_state b in
       let after = publishes_leave_a_node K accepts v (length (graph_of v)) whole (omega arith) node in
-      let same : state_of (with_events v (settle_events v)) ≡ t = ap (λ (d : Bool). replay v.start.members v.start.coin (v.history ++ cond d [] (Marked (length (graph_of v)) whole ∷ []))) is in
+      let same : state_of (with_changes v (settle_changes v)) ≡ t = ap (λ (d : Bool). replay v.start.members v.start.coin (v.history ++ cond d [] (Marked (length (graph_of v)) whole ∷ []))) is in
       let s = subst (IsSound (accepts v.start.keys) v.start.members v.start.coin v.start.own) same
-      (sound (accepts v.start.keys) v.start.members v.start.coin v.start.own (v.history ++ settle_events v) node.coin after.history) in
+      (sound (accepts v.start.keys) v.start.members v.start.coin v.start.own (v.history ++ settle_changes v) node.coin after.history) in
       let rows = rows_settled b in
       let none : news v.start.members v.start.coin t (length t.rows) whole ≡ 0 = ap (λ (G : List Row). news v.start.members v.start.coin t (length G) whole) rows ∙ no_news b is in
       let marks = marks_are_all v.start.members v.start.coin t s.even s.linked 1 (omega arith) (one_share v.start.members v.start.coin t none) s.fame in

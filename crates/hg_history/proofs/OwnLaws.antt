@@ -7,7 +7,8 @@ use Rattle.hg_model.specs.declared.row.Row.{Row}
 use Rattle.hg_model.specs.Links.{links, creator}
 use Rattle.hg_model.specs.Forks.{has_fork, forkers}
 use Rattle.hg_model.specs.Graph.{name_in, name_at, HasDistinctNames, IsShaped}
-use Rattle.hg_model.specs.Verdict.{row_creator, row_creator_in, later_name, last_name}
+use Rattle.hg_model.specs.Verdict.{later_name, last_name}
+use Rattle.hg_model.specs.Graph.{creator_at, creator_of_row}
 use Rattle.hg_model.proofs.ForkLaws.{has_fork_found, has_fork_from, is_fork_from}
 use Rattle.hg_model.proofs.LinkLaws.{length-links}
 use Rattle.hg_model.proofs.LongerLaws.{IsLonger, slice_get-append, links-longer, creator-longer, is_self_ancestor-longer}
@@ -40,7 +41,7 @@ fold_named m name (row ∷ G) = elim (fold_named m (later_name m name row) G) [
   ]
 ]
 
-fold_from : (m : ℕ) (name : Option (List ℕ)) (G : List Row) (x : ℕ) → x < length G → row_creator G x ≡ m →
+fold_from : (m : ℕ) (name : Option (List ℕ)) (G : List Row) (x : ℕ) → x < length G → creator_at G x ≡ m →
     (p : ℕ) × (x ≤ p) × (p < length G) × (fold (later_name m) name G ≡ Some (name_at G p))
 unfolding name_at
 fold_from m name [] x inside by = absurd (omega arith)
@@ -53,18 +54,18 @@ fold_from m name (row ∷ G) (suc x) inside by =
     (suc later.0, (let le = later.1 in omega arith), (let low = later.2 in omega arith), later.3)
 
 -- from each row by the member on
-pub last_from : (m : ℕ) (G : List Row) (x : ℕ) → x < length G → row_creator G x ≡ m → (p : ℕ) × (x ≤ p) × (p < length G) × (last_name m G ≡ Some (name_at G p))
+pub last_from : (m : ℕ) (G : List Row) (x : ℕ) → x < length G → creator_at G x ≡ m → (p : ℕ) × (x ≤ p) × (p < length G) × (last_name m G ≡ Some (name_at G p))
 last_from m G x inside by = fold_from m None G x inside by
 
 -- chains
 
 module _ (m : ℕ) (G : List Row) (row : Row) (chain : IsChain m G) (distinct : HasDistinctNames (G ++ row ∷ [])) where
-  joined_before : (x y : ℕ) → x < y → y < length G → row_creator (G ++ row ∷ []) x ≡ m → row_creator (G ++ row ∷ []) y ≡ m →
+  joined_before : (x y : ℕ) → x < y → y < length G → creator_at (G ++ row ∷ []) x ≡ m → creator_at (G ++ row ∷ []) y ≡ m →
       (p : ℕ) × (x ≤ p) × (p < y) × (self_parent_name (G ++ row ∷ []) y ≡ Some (name_at (G ++ row ∷ []) p))
   unfolding name_at
   joined_before x y low inside by_x by_y =
-      let by_x' = sym (ap row_creator_in (before G row x (omega arith))) ∙ by_x in
-      let by_y' = sym (ap row_creator_in (before G row y inside)) ∙ by_y in
+      let by_x' = sym (ap creator_of_row (before G row x (omega arith))) ∙ by_x in
+      let by_y' = sym (ap creator_of_row (before G row y inside)) ∙ by_y in
       let p = chain.joined x y low inside by_x' by_y' in
       let p_low : p.0 < y = p.2 in (
         p.0,
@@ -81,7 +82,7 @@ module _ (m : ℕ) (G : List Row) (row : Row) (chain : IsChain m G) (distinct : 
       | inl old ↦ joined_before x y low old by_x by_y
       | inr new ↦ (
           let at : y ≡ length G = omega (arith, length_push G row) in
-          absurd (by_other (sym (ap row_creator_in (ap (slice_get (G ++ row ∷ [])) at ∙ last G row)) ∙ by_y)))
+          absurd (by_other (sym (ap creator_of_row (ap (slice_get (G ++ row ∷ [])) at ∙ last G row)) ∙ by_y)))
     ];
   }
 
@@ -95,7 +96,7 @@ module _ (m : ℕ) (G : List Row) (row : Row) (chain : IsChain m G) (distinct : 
       | inr new ↦ (
           let at : y ≡ length G = omega (arith, length_push G row) in
           let inside_x : x < length G = omega arith in
-          let p = last_from m G x inside_x (sym (ap row_creator_in (before G row x inside_x)) ∙ by_x) in
+          let p = last_from m G x inside_x (sym (ap creator_of_row (before G row x inside_x)) ∙ by_x) in
           let p_low : p.0 < length G = p.2 in (
             p.0,
             p.1,
@@ -113,7 +114,7 @@ module _ (n : ℕ) (G : List Row) (row : Row) (shaped : IsShaped n (links G)) wh
   longer = links-longer n G (row ∷ []) shaped
 
   last_creator : creator (links (G ++ row ∷ [])) (length G) ≡ row.creator
-  last_creator = row_creator-links (G ++ row ∷ []) (length G) ∙ ap row_creator_in (last G row)
+  last_creator = row_creator-links (G ++ row ∷ []) (length G) ∙ ap creator_of_row (last G row)
 
   within : (m x : ℕ) → m ≢ row.creator → x < length (links (G ++ row ∷ [])) → creator (links (G ++ row ∷ [])) x ≡ m → x < length (links G)
   within m x other inside by =

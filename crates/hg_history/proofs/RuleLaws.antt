@@ -14,7 +14,8 @@ use Rattle.hg_model.specs.Forks.{forkers}
 use Rattle.hg_model.specs.Graph.{HasDistinctNames}
 use Rattle.hg_model.specs.Fits.{Fits}
 use Rattle.hg_model.specs.Spelling.{body_of}
-use Rattle.hg_model.specs.Verdict.{row_limit, has_bytes, is_held, row_creator, member_rule, name_rule, signature_rule, impostor_rule, missing_rule, creator_rule, arrival_rule, forkers_with, forkers_rule, full_rule, row_verdict, last_name, both_names, made_row, first_rule, other_rule, payload_rule, draft_rule, collision_rule, room_rule, made_or, making}
+use Rattle.hg_model.specs.Verdict.{row_limit, has_bytes, is_held, member_rule, name_rule, signature_rule, impostor_rule, missing_rule, creator_rule, arrival_rule, forkers_with, forkers_rule, full_rule, row_verdict, last_name, both_names, made_row, first_rule, other_rule, payload_rule, draft_rule, collision_rule, room_rule, made_or, making}
+use Rattle.hg_model.specs.Graph.{creator_at}
 use Rattle.hg_model.specs.History.{Accepts, IsTaken, IsMade}
 use Rattle.hg_model.proofs.RuleLaws.{option_or_none, one_test, below_from_test, arrives, has_room, drafted, admitted}
 
@@ -59,7 +60,7 @@ none_of_creators : (G : List Row) (m : ℕ) (parents : Option (List ℕ × List 
 unfolding is_accepted
 none_of_creators G m None = tt
 none_of_creators G m (Some names) =
-    none_of_two (not (eqb (row_creator G (place_of G names.0)) m)) (eqb (row_creator G (place_of G names.1)) m)
+    none_of_two (not (eqb (creator_at G (place_of G names.0)) m)) (eqb (creator_at G (place_of G names.1)) m)
     (Refused (fault.SelfCreator (place_of G names.0))) (Refused (fault.OtherCreator (place_of G names.1))) refl refl
 
 none_of_rules : (accepts : Accepts) (n own : ℕ) (G : List Row) (row : Row) → AcceptsNone (option_or (arrival_rule accepts n own G row) (option_or (forkers_rule n G row) (full_rule G)))

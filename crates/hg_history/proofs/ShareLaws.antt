@@ -10,8 +10,8 @@ use Rattle.hg_model.specs.Graph.{IsGraph}
 use Rattle.hg_model.specs.Fame.{mark_at, fame_marks}
 use Rattle.hg_model.specs.Order.{coin_at}
 use Rattle.hg_model.specs.Shares.{share_fame, early_fame}
-use Rattle.hg_model.specs.History.{Event, State, is_news, news, new_mark, with_marks, step, replay}
-use Rattle.hg_model.specs.History.Event.{Marked}
+use Rattle.hg_model.specs.History.{Change, State, is_news, news, new_mark, with_marks, step, replay}
+use Rattle.hg_model.specs.History.Change.{Marked}
 use Rattle.hg_prefix.specs.Standing.{AreFame}
 use Rattle.hg_history.specs.Laws.{shares_published, SharesAreAll, PublishedIsNoNews}
 use Rattle.hg_history.proofs.StateLaws.{IsEven, even_step, even_after, rows_grow, links_grow, marks_stay, mark_of_table, replay-append, replay-push}
@@ -98,5 +98,5 @@ published_is_no_news n c a b len one le =
     let marked : mark_at (replay n c (a ++ Marked len one ∷ [])).marks x ≡ Some here.0 =
     ap (λ (u : State). mark_at u.marks x) (replay-push n c a (Marked len one)) ∙ (mark_of_table (new_mark n c s len one) (length s.rows) x (omega arith) ∙ here.1) in
     let later : mark_at t.marks x ≡ Some here.0 =
-    ap (λ (h' : List Event). mark_at (replay n c h').marks x) (sym (append_assoc a (Marked len one ∷ []) b)) ∙ marks_stay n c (a ++ Marked len one ∷ []) b x here.0 marked in
+    ap (λ (h' : List Change). mark_at (replay n c h').marks x) (sym (append_assoc a (Marked len one ∷ []) b)) ∙ marks_stay n c (a ++ Marked len one ∷ []) b x here.0 marked in
     true≢false (sym parts.0 ∙ ap is_none later))

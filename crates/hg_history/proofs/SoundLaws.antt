@@ -12,8 +12,8 @@ use Rattle.hg_model.specs.Forks.{has_fork, forkers}
 use Rattle.hg_model.specs.Graph.{name_in, name_at, IsGraph}
 use Rattle.hg_model.specs.Fame.{is_closed}
 use Rattle.hg_model.specs.Verdict.{row_limit}
-use Rattle.hg_model.specs.History.{Event, State, Accepts, empty, links_with, with_row, with_marks, step, replay, IsStep, AreSteps, IsHistory, IsTaken, IsMade}
-use Rattle.hg_model.specs.History.Event.{Took, Made, Marked}
+use Rattle.hg_model.specs.History.{Change, State, Accepts, empty, links_with, with_row, with_marks, step, replay, IsStep, AreSteps, IsHistory, IsTaken, IsMade}
+use Rattle.hg_model.specs.History.Change.{Took, Made, Marked}
 use Rattle.hg_model.proofs.PlacesLaws.{weight_below_none}
 use Rattle.hg_model.proofs.PushLaws.{nobody, links-push, all_present, shaped-push, shaped-none}
 use Rattle.hg_model.proofs.NameLaws.{distinct-none, distinct-push}
@@ -98,7 +98,7 @@ module _ (accepts : Accepts) (n c own : ℕ) (member : own < n) (three : 2 < c) 
       let is = made_is accepts n own s.rows row member sound.graph.distinct made in
       sound_row s row sound is.comes (graph_made s row sound made) (chain_made s row sound made) (record { spelled = made.spelled; signed = is.comes.signed })
 
-  pub sound_step : (s : State) (e : Event) → IsSound accepts n c own s → IsStep accepts n c own s e → IsSound accepts n c own (step n c s e)
+  pub sound_step : (s : State) (e : Change) → IsSound accepts n c own s → IsStep accepts n c own s e → IsSound accepts n c own (step n c s e)
   sound_step s (Took row) sound may = sound_taken s row sound may
   sound_step s (Made row) sound may = sound_made s row sound may
   sound_step s (Marked len share) sound may = record {
@@ -111,7 +111,7 @@ module _ (accepts : Accepts) (n c own : ℕ) (member : own < n) (three : 2 < c) 
     few = sound.few;
   }
 
-  pub sound_from : (s : State) (h : List Event) → IsSound accepts n c own s → AreSteps accepts n c own s h → IsSound accepts n c own (fold (step n c) s h)
+  pub sound_from : (s : State) (h : List Change) → IsSound accepts n c own s → AreSteps accepts n c own s h → IsSound accepts n c own (fold (step n c) s h)
   sound_from s [] sound steps = sound
   sound_from s (e ∷ h) sound steps = sound_from (step n c s e) h (sound_step s e sound steps.0) steps.1
 
@@ -131,36 +131,36 @@ module _ (accepts : Accepts) (n c own : ℕ) (member : own < n) (three : 2 < c) 
     few = omega arith;
   }
 
-  pub sound_after : (h : List Event) → AreSteps accepts n c own empty h → IsSound accepts n c own (replay n c h)
+  pub sound_after : (h : List Change) → AreSteps accepts n c own empty h → IsSound accepts n c own (replay n c h)
   unfolding replay
   sound_after h steps = sound_from empty h sound_empty steps
 
-pub sound : (accepts : Accepts) (n c own : ℕ) (h : List Event) → 2 < c → IsHistory accepts n c own h → IsSound accepts n c own (replay n c h)
+pub sound : (accepts : Accepts) (n c own : ℕ) (h : List Change) → 2 < c → IsHistory accepts n c own h → IsSound accepts n c own (replay n c h)
 sound accepts n c own h three is = sound_after accepts n c own is.member three h is.steps
 
 -- moments
 
-steps_front : (accepts : Accepts) (n c own : ℕ) (s : State) (a b : List Event) → AreSteps accepts n c own s (a ++ b) → AreSteps accepts n c own s a
+steps_front : (accepts : Accepts) (n c own : ℕ) (s : State) (a b : List Change) → AreSteps accepts n c own s (a ++ b) → AreSteps accepts n c own s a
 steps_front accepts n c own s [] b steps = tt
 steps_front accepts n c own s (e ∷ a) b steps = (steps.0, steps_front accepts n c own (step n c s e) a b steps.1)
 
-steps_rest : (accepts : Accepts) (n c own : ℕ) (s : State) (a b : List Event) → AreSteps accepts n c own s (a ++ b) → AreSteps accepts n c own (fold (step n c) s a) b
+steps_rest : (accepts : Accepts) (n c own : ℕ) (s : State) (a b : List Change) → AreSteps accepts n c own s (a ++ b) → AreSteps accepts n c own (fold (step n c) s a) b
 steps_rest accepts n c own s [] b steps = steps
 steps_rest accepts n c own s (e ∷ a) b steps = steps_rest accepts n c own (step n c s e) a b steps.1
 
-steps_push : (accepts : Accepts) (n c own : ℕ) (s : State) (h : List Event) (e : Event) → AreSteps accepts n c own s h → IsStep accepts n c own (fold (step n c) s h) e → AreSteps accepts n c own s (h ++ e ∷ [])
+steps_push : (accepts : Accepts) (n c own : ℕ) (s : State) (h : List Change) (e : Change) → AreSteps accepts n c own s h → IsStep accepts n c own (fold (step n c) s h) e → AreSteps accepts n c own s (h ++ e ∷ [])
 steps_push accepts n c own s [] e steps may = (may, tt)
 steps_push accepts n c own s (d ∷ h) e steps may = (steps.0, steps_push accepts n c own (step n c s d) h e steps.1 may)
 
-pub moment : (accepts : Accepts) (n c own : ℕ) (a b : List Event) → IsHistory accepts n c own (a ++ b) → IsHistory accepts n c own a
+pub moment : (accepts : Accepts) (n c own : ℕ) (a b : List Change) → IsHistory accepts n c own (a ++ b) → IsHistory accepts n c own a
 moment accepts n c own a b is = record { member = is.member; steps = steps_front accepts n c own empty a b is.steps }
 
-pub rest : (accepts : Accepts) (n c own : ℕ) (a b : List Event) → IsHistory accepts n c own (a ++ b) → AreSteps accepts n c own (replay n c a) b
+pub rest : (accepts : Accepts) (n c own : ℕ) (a b : List Change) → IsHistory accepts n c own (a ++ b) → AreSteps accepts n c own (replay n c a) b
 unfolding replay
 rest accepts n c own a b is = steps_rest accepts n c own empty a b is.steps
 
 -- an event that may come
-pub history_push : (accepts : Accepts) (n c own : ℕ) (h : List Event) (e : Event) → IsHistory accepts n c own h → IsStep accepts n c own (replay n c h) e → IsHistory accepts n c own (h ++ e ∷ [])
+pub history_push : (accepts : Accepts) (n c own : ℕ) (h : List Change) (e : Change) → IsHistory accepts n c own h → IsStep accepts n c own (replay n c h) e → IsHistory accepts n c own (h ++ e ∷ [])
 unfolding replay
 history_push accepts n c own h e is may = record { member = is.member; steps = steps_push accepts n c own empty h e is.steps may }
 
@@ -176,18 +176,18 @@ module _ (accepts : Accepts) (n c own : ℕ) (member : own < n) (three : 2 < c) 
       (closed_with_row n c s row now.graph later.graph now.even three now.linked later.linked now.fame r
       (subst (λ (L : List Link). is_closed n L s.marks r ≡ true) now.linked closed))
 
-  closed_step : (s : State) (e : Event) (r : ℕ) → IsSound accepts n c own s → IsStep accepts n c own s e → IsClosed n s r → IsClosed n (step n c s e) r
+  closed_step : (s : State) (e : Change) (r : ℕ) → IsSound accepts n c own s → IsStep accepts n c own s e → IsClosed n s r → IsClosed n (step n c s e) r
   closed_step s (Took row) r now may closed = closed_row s row r now (sound_taken accepts n c own member three s row now may) closed
   closed_step s (Made row) r now may closed = closed_row s row r now (sound_made accepts n c own member three s row now may) closed
   closed_step s (Marked len share) r now may closed =
       closed_with_marks n s.links s.marks (with_marks n c s len share).marks (marks_step n c s (Marked len share) now.even) r closed
 
-  closed_from : (s : State) (h : List Event) (r : ℕ) → IsSound accepts n c own s → AreSteps accepts n c own s h → IsClosed n s r → IsClosed n (fold (step n c) s h) r
+  closed_from : (s : State) (h : List Change) (r : ℕ) → IsSound accepts n c own s → AreSteps accepts n c own s h → IsClosed n s r → IsClosed n (fold (step n c) s h) r
   closed_from s [] r now steps closed = closed
   closed_from s (e ∷ h) r now steps closed =
       closed_from (step n c s e) h r (sound_step accepts n c own member three s e now steps.0) steps.1 (closed_step s e r now steps.0 closed)
 
-pub closed_later : (accepts : Accepts) (n c own : ℕ) (a b : List Event) → 2 < c → IsHistory accepts n c own (a ++ b) → (r : ℕ) → IsClosed n (replay n c a) r → IsClosed n (replay n c (a ++ b)) r
+pub closed_later : (accepts : Accepts) (n c own : ℕ) (a b : List Change) → 2 < c → IsHistory accepts n c own (a ++ b) → (r : ℕ) → IsClosed n (replay n c a) r → IsClosed n (replay n c (a ++ b)) r
 closed_later accepts n c own a b three is r closed =
     subst (λ (s : State). IsClosed n s r) (sym (replay-append n c a b))
     (closed_from accepts n c own is.member three (replay n c a) b r (sound accepts n c own a three (moment accepts n c own a b is)) (rest accepts n c own a b is) closed)
@@ -199,7 +199,7 @@ event_at accepts [] all x row at = cc
 event_at accepts (first ∷ G) all zero row at = (let same : first ≡ row = cc in subst (IsEvent accepts) same all.0)
 event_at accepts (first ∷ G) all (suc x) row at = event_at accepts G all.1 x row at
 
-pub node_graph : (accepts : Accepts) (n c own : ℕ) (h : List Event) → 2 < c → IsHistory accepts n c own h → IsNodeGraph accepts n own (replay n c h).rows
+pub node_graph : (accepts : Accepts) (n c own : ℕ) (h : List Change) → 2 < c → IsHistory accepts n c own h → IsNodeGraph accepts n own (replay n c h).rows
 unfolding name_at
 node_graph accepts n c own h three is =
     let G : List Row = (replay n c h).rows in

@@ -9,9 +9,9 @@ use Rattle.hg_model.specs.Links.{Link, links, parents}
 use Rattle.hg_model.specs.Graph.{name_in, name_at, IsGraph}
 use Rattle.hg_model.specs.Fame.{Marks, is_closed}
 use Rattle.hg_model.specs.Order.{sort_by, comes_before, keyed_at, is_received_in, ordered_in, round_received, last_closed}
-use Rattle.hg_model.specs.History.{Event, State, Accepts, with_row, replay, IsHistory}
+use Rattle.hg_model.specs.History.{Change, State, Accepts, with_row, replay, IsHistory}
 use Rattle.hg_model.specs.Kept.{kept, kept_in, kept_up_to}
-use Rattle.hg_model.specs.History.Event.{Took, Made, Marked}
+use Rattle.hg_model.specs.History.Change.{Took, Made, Marked}
 use Rattle.hg_model.proofs.LinkLaws.{length-links}
 use Rattle.hg_model.proofs.LongerLaws.{slice_get-append}
 use Rattle.hg_model.proofs.NameLaws.{place_of_at}
@@ -110,7 +110,7 @@ module _ (n c : ℕ) (U : List Row) (u : IsGraph n U) (three : 2 < c) (G : List 
       (list_below-longer (keyed_at n U (links U) h) (length (links G)) (length (links U)) (is_received_in n (links U) h (λ i. eqb i r)) (let le = more in omega (arith, length-links G, length-links U)) none_later
       ∙ list_below-same (keyed_at n U (links U) h) (keyed_at n G (links G) f) (length (links G)) (is_received_in n (links U) h (λ i. eqb i r)) (is_received_in n (links G) f (λ i. eqb i r)) same_received same_keyed)
 
-module _ (accepts : Accepts) (n c own : ℕ) (a b : List Event) (three : 2 < c) (is : IsHistory accepts n c own (a ++ b)) where
+module _ (accepts : Accepts) (n c own : ℕ) (a b : List Change) (three : 2 < c) (is : IsHistory accepts n c own (a ++ b)) where
   early : IsSound accepts n c own (replay n c a)
   early = sound accepts n c own a three (moment accepts n c own a b is)
 
@@ -150,7 +150,7 @@ by_rounds accepts n c own h three is =
 
 -- a row that comes
 
-module _ (accepts : Accepts) (n c own : ℕ) (h : List Event) (e : Event) (three : 2 < c) (is : IsHistory accepts n c own (h ++ e ∷ [])) (row : Row)
+module _ (accepts : Accepts) (n c own : ℕ) (h : List Change) (e : Change) (three : 2 < c) (is : IsHistory accepts n c own (h ++ e ∷ [])) (row : Row)
     (came : replay n c (h ++ e ∷ []) ≡ with_row n (replay n c h) row) where
   before : IsSound accepts n c own (replay n c h)
   before = sound accepts n c own h three (moment accepts n c own h (e ∷ []) is)

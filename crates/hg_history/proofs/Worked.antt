@@ -19,8 +19,8 @@ use Rattle.hg_model.specs.Order.{coin_at, sig_at}
 use Rattle.hg_model.specs.Spelling.{body_of, spelling, Spells}
 use Rattle.hg_model.specs.Verdict.{making}
 use Rattle.hg_model.specs.Shares.{whole, share_fame}
-use Rattle.hg_model.specs.History.{Event, Accepts, replay, news, IsTaken, IsMade, MarksSome, IsHistory}
-use Rattle.hg_model.specs.History.Event.{Took, Made, Marked}
+use Rattle.hg_model.specs.History.{Change, Accepts, replay, news, IsTaken, IsMade, MarksSome, IsHistory}
+use Rattle.hg_model.specs.History.Change.{Took, Made, Marked}
 
 -- a name of 48 bytes, as six words
 abbrev name : ℕ → ℕ → ℕ → ℕ → ℕ → ℕ → List ℕ
@@ -232,7 +232,7 @@ made7 = record {
   made = making7;
 }
 
-abbrev events : List Event
+abbrev events : List Change
 events = Made row0 ∷ Took row1 ∷ Took row2 ∷ Made row3 ∷ Took row4 ∷ Made row5 ∷ Took row6 ∷ Made row7 ∷ []
 
 four_news : news 2 10 (replay 2 10 events) 8 whole ≡ 4

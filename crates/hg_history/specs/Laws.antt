@@ -11,11 +11,11 @@ use Rattle.hg_model.specs.Spelling.{body_of, spelling, Spells}
 use Rattle.hg_model.specs.Reading.{read_event}
 use Rattle.hg_model.specs.Verdict.{row_limit, verdict, row_verdict, made_row}
 use Rattle.hg_model.specs.Shares.{Share, Speaks, add_marks}
-use Rattle.hg_model.specs.History.{Event, Accepts, with_marks, replay, news, IsHistory}
+use Rattle.hg_model.specs.History.{Change, Accepts, with_marks, replay, news, IsHistory}
 use Rattle.hg_model.specs.Kept.{kept, kept_in, kept_up_to, kept_by_names}
-use Rattle.hg_model.specs.History.Event.{Took, Made, Marked}
-use Rattle.hg_model.specs.Shown.{Shown, with_events, graph_of, marks_of, kept_of, log_from, history_of, IsNode}
-use Rattle.hg_model.specs.Calls.{put_answer, put_events, make_answer, make_events, make_body, publish_events, settle_events}
+use Rattle.hg_model.specs.History.Change.{Took, Made, Marked}
+use Rattle.hg_model.specs.Shown.{Shown, with_changes, graph_of, marks_of, kept_of, log_from, history_of, IsNode}
+use Rattle.hg_model.specs.Calls.{put_answer, put_changes, make_answer, make_changes, make_body, publish_changes, settle_changes}
 use Rattle.hg_prefix.specs.Standing.{AreFame}
 use Rattle.hg_prefix.specs.Orders.{IsPrefix, HasNameSizes}
 use Rattle.hg_prefix.specs.Chains.{IsChain}
@@ -34,28 +34,28 @@ pub record IsNodeGraph (accepts : Accepts) (n own : ℕ) (G : List Row) : Type 0
   pub own_chain : IsChain own G
 
 -- a row came
-abbrev pub IsRow : Event → Type 0
+abbrev pub IsRow : Change → Type 0
 IsRow (Took row) = Unit {0}
 IsRow (Made row) = Unit {0}
 IsRow (Marked len share) = ⊥
 
 abbrev pub RowsAreAGraph : Type 0
-RowsAreAGraph = (accepts : Accepts) (n c own : ℕ) (h : List Event) → 2 < c → IsHistory accepts n c own h → IsNodeGraph accepts n own (replay n c h).rows
+RowsAreAGraph = (accepts : Accepts) (n c own : ℕ) (h : List Change) → 2 < c → IsHistory accepts n c own h → IsNodeGraph accepts n own (replay n c h).rows
 
 abbrev pub LinksAreThoseOfTheRows : Type 0
-LinksAreThoseOfTheRows = (accepts : Accepts) (n c own : ℕ) (h : List Event) → 2 < c → IsHistory accepts n c own h → (replay n c h).links ≡ links (replay n c h).rows
+LinksAreThoseOfTheRows = (accepts : Accepts) (n c own : ℕ) (h : List Change) → 2 < c → IsHistory accepts n c own h → (replay n c h).links ≡ links (replay n c h).rows
 
 -- the history has the event
-abbrev pub HasEvent : List Event → Event → Type 0
-HasEvent h e = (i : ℕ) × (slice_get h i ≡ Some e)
+abbrev pub HasChange : List Change → Change → Type 0
+HasChange h e = (i : ℕ) × (slice_get h i ≡ Some e)
 
 -- the rows by the own member are those that were made, and the rows by others those that were taken
-abbrev pub RowsCameByEvents : Type 0
-RowsCameByEvents = (accepts : Accepts) (n c own : ℕ) (h : List Event) → IsHistory accepts n c own h → (x : ℕ) (row : Row) → slice_get (replay n c h).rows x ≡ Some row →
-    (row.creator ≡ own → HasEvent h (Made row)) × (row.creator ≢ own → HasEvent h (Took row))
+abbrev pub RowsCameByChanges : Type 0
+RowsCameByChanges = (accepts : Accepts) (n c own : ℕ) (h : List Change) → IsHistory accepts n c own h → (x : ℕ) (row : Row) → slice_get (replay n c h).rows x ≡ Some row →
+    (row.creator ≡ own → HasChange h (Made row)) × (row.creator ≢ own → HasChange h (Took row))
 
-abbrev pub EventsLeftRows : Type 0
-EventsLeftRows = (n c : ℕ) (h : List Event) (row : Row) → HasEvent h (Made row) ⊎ HasEvent h (Took row) → (x : ℕ) × (slice_get (replay n c h).rows x ≡ Some row)
+abbrev pub ChangesLeftRows : Type 0
+ChangesLeftRows = (n c : ℕ) (h : List Change) (row : Row) → HasChange h (Made row) ⊎ HasChange h (Took row) → (x : ℕ) × (slice_get (replay n c h).rows x ≡ Some row)
 
 -- the verdict on a row with the sizes and the name of an event is that on its bytes
 abbrev pub VerdictsAreOfBytes : Type 0
@@ -63,83 +63,83 @@ VerdictsAreOfBytes = (accepts : Accepts) (n own : ℕ) (G : List Row) (bytes : L
 
 -- there is a link and a place for a mark for each row
 abbrev pub ListsAreEven : Type 0
-ListsAreEven = (n c : ℕ) (h : List Event) → (length (replay n c h).links ≡ length (replay n c h).rows) × (length (replay n c h).marks ≡ length (replay n c h).rows)
+ListsAreEven = (n c : ℕ) (h : List Change) → (length (replay n c h).links ≡ length (replay n c h).rows) × (length (replay n c h).marks ≡ length (replay n c h).rows)
 
 -- each mark is the fame of the graph now
 abbrev pub MarksAreFame : Type 0
-MarksAreFame = (accepts : Accepts) (n c own : ℕ) (h : List Event) → 2 < c → IsHistory accepts n c own h → AreFame n c (replay n c h).rows (replay n c h).marks
+MarksAreFame = (accepts : Accepts) (n c own : ℕ) (h : List Change) → 2 < c → IsHistory accepts n c own h → AreFame n c (replay n c h).rows (replay n c h).marks
 
 -- at a later moment of a history the rows of an earlier one are the first rows, with the same links
 abbrev pub RowsGrow : Type 0
-RowsGrow = (n c : ℕ) (a b : List Event) → IsPrefix (replay n c a).rows (replay n c (a ++ b)).rows
+RowsGrow = (n c : ℕ) (a b : List Change) → IsPrefix (replay n c a).rows (replay n c (a ++ b)).rows
 
 abbrev pub LinksGrow : Type 0
-LinksGrow = (n c : ℕ) (a b : List Event) → IsPrefix (replay n c a).links (replay n c (a ++ b)).links
+LinksGrow = (n c : ℕ) (a b : List Change) → IsPrefix (replay n c a).links (replay n c (a ++ b)).links
 
 -- a mark stays
 abbrev pub MarksStay : Type 0
-MarksStay = (n c : ℕ) (a b : List Event) (x : ℕ) (v : Bool) → mark_at (replay n c a).marks x ≡ Some v → mark_at (replay n c (a ++ b)).marks x ≡ Some v
+MarksStay = (n c : ℕ) (a b : List Change) (x : ℕ) (v : Bool) → mark_at (replay n c a).marks x ≡ Some v → mark_at (replay n c (a ++ b)).marks x ≡ Some v
 
 -- a closed round stays closed
 abbrev pub ClosedStays : Type 0
-ClosedStays = (accepts : Accepts) (n c own : ℕ) (a b : List Event) → 2 < c → IsHistory accepts n c own (a ++ b) → (r : ℕ) →
+ClosedStays = (accepts : Accepts) (n c own : ℕ) (a b : List Change) → 2 < c → IsHistory accepts n c own (a ++ b) → (r : ℕ) →
     IsTrue (is_closed n (replay n c a).links (replay n c a).marks r) → IsTrue (is_closed n (replay n c (a ++ b)).links (replay n c (a ++ b)).marks r)
 
 -- a moment of a history is a history, and so is one with a further event that may come
 abbrev pub MomentsAreHistories : Type 0
-MomentsAreHistories = (accepts : Accepts) (n c own : ℕ) (a b : List Event) → IsHistory accepts n c own (a ++ b) → IsHistory accepts n c own a
+MomentsAreHistories = (accepts : Accepts) (n c own : ℕ) (a b : List Change) → IsHistory accepts n c own (a ++ b) → IsHistory accepts n c own a
 
 -- to publish fame leaves the rows and their links
 abbrev pub MarkingLeavesRows : Type 0
-MarkingLeavesRows = (n c : ℕ) (h : List Event) (len : ℕ) (share : Share) →
+MarkingLeavesRows = (n c : ℕ) (h : List Change) (len : ℕ) (share : Share) →
     ((replay n c (h ++ Marked len share ∷ [])).rows ≡ (replay n c h).rows) × ((replay n c (h ++ Marked len share ∷ [])).links ≡ (replay n c h).links)
 
 -- what a share has found at one moment speaks of the rows at each later one
 abbrev pub FoundLasts : Type 0
-FoundLasts = (n c : ℕ) (a b : List Event) (len : ℕ) (share : Share) (marks : List (ℕ × Bool)) →
+FoundLasts = (n c : ℕ) (a b : List Change) (len : ℕ) (share : Share) (marks : List (ℕ × Bool)) →
     Speaks n c (replay n c a).rows (replay n c a).links len share marks → Speaks n c (replay n c (a ++ b)).rows (replay n c (a ++ b)).links len share marks
 
 -- of two moments of a history the order kept at the earlier is a prefix of that kept at the later
-abbrev pub OrderGrows : Type 0
-OrderGrows = (accepts : Accepts) (n c own : ℕ) (a b : List Event) → 2 < c → IsHistory accepts n c own (a ++ b) →
+abbrev pub KeptOrderGrows : Type 0
+KeptOrderGrows = (accepts : Accepts) (n c own : ℕ) (a b : List Change) → 2 < c → IsHistory accepts n c own (a ++ b) →
     IsPrefix (kept n (replay n c a)) (kept n (replay n c (a ++ b)))
 
 -- so by names
 abbrev pub NamedOrderGrows : Type 0
-NamedOrderGrows = (accepts : Accepts) (n c own : ℕ) (a b : List Event) → 2 < c → IsHistory accepts n c own (a ++ b) →
+NamedOrderGrows = (accepts : Accepts) (n c own : ℕ) (a b : List Change) → 2 < c → IsHistory accepts n c own (a ++ b) →
     IsPrefix (kept_by_names n (replay n c a)) (kept_by_names n (replay n c (a ++ b)))
 
 -- the kept order is a prefix of the order of the graph with its own fame
 abbrev pub KeptIsOfTheGraph : Type 0
-KeptIsOfTheGraph = (accepts : Accepts) (n c own : ℕ) (h : List Event) → 2 < c → IsHistory accepts n c own h →
+KeptIsOfTheGraph = (accepts : Accepts) (n c own : ℕ) (h : List Change) → 2 < c → IsHistory accepts n c own h →
     IsPrefix (kept n (replay n c h)) (order_of n c (replay n c h).rows)
 
 -- the first k of m shares of the first `len` rows, published one after the other
-abbrev pub shares_published : ℕ → ℕ → ℕ → List Event
+abbrev pub shares_published : ℕ → ℕ → ℕ → List Change
 shares_published len m zero = []
 shares_published len m (suc k) = shares_published len m k ++ Marked len (record { k = k; «of» = m }) ∷ []
 
 -- all shares of the whole graph have all its fame
 abbrev pub SharesAreAll : Type 0
-SharesAreAll = (accepts : Accepts) (n c own : ℕ) (h : List Event) → 2 < c → IsHistory accepts n c own h → (m : ℕ) → 0 < m →
+SharesAreAll = (accepts : Accepts) (n c own : ℕ) (h : List Change) → 2 < c → IsHistory accepts n c own h → (m : ℕ) → 0 < m →
     let G = (replay n c h).rows in
     let t = replay n c (h ++ shares_published (length G) m m) in
     (t.rows ≡ G) × (t.marks ≡ fame_marks n c (links G) (coin_at G))
 
 -- to publish what a share found is to add its marks one after the other
 abbrev pub PublishingAddsMarks : Type 0
-PublishingAddsMarks = (n c : ℕ) (h : List Event) (len : ℕ) (share : Share) (found : List (ℕ × Bool)) →
+PublishingAddsMarks = (n c : ℕ) (h : List Change) (len : ℕ) (share : Share) (found : List (ℕ × Bool)) →
     let s = replay n c h in Speaks n c s.rows s.links len share found →
     ((add_marks s.marks found).marks ≡ (with_marks n c s len share).marks) × ((add_marks s.marks found).count ≡ news n c s len share)
 
 -- what a share found in the first rows is no news once it was published, whatever comes then
 abbrev pub PublishedIsNoNews : Type 0
-PublishedIsNoNews = (n c : ℕ) (a b : List Event) (len : ℕ) (share : Share) → len ≤ length (replay n c a).rows →
+PublishedIsNoNews = (n c : ℕ) (a b : List Change) (len : ℕ) (share : Share) → len ≤ length (replay n c a).rows →
     news n c (replay n c (a ++ Marked len share ∷ b)) len share ≡ 0
 
 -- the rows and the log tell the history
 abbrev pub LogTellsHistory : Type 0
-LogTellsHistory = (n c : ℕ) (h : List Event) → history_of (replay n c h).rows (log_from 0 h) ≡ h
+LogTellsHistory = (n c : ℕ) (h : List Change) → history_of (replay n c h).rows (log_from 0 h) ≡ h
 
 -- the first rows of a graph are a graph, with the first links
 abbrev pub FirstRowsAreAGraph : Type 0
@@ -147,17 +147,17 @@ FirstRowsAreAGraph = (n len : ℕ) (G : List Row) → IsGraph n G → IsGraph n 
 
 -- the kept order is that of the closed rounds, one after the other
 abbrev pub OrderByRounds : Type 0
-OrderByRounds = (accepts : Accepts) (n c own : ℕ) (h : List Event) → 2 < c → IsHistory accepts n c own h →
+OrderByRounds = (accepts : Accepts) (n c own : ℕ) (h : List Change) → 2 < c → IsHistory accepts n c own h →
     let s = replay n c h in kept n s ≡ kept_up_to n s (last_closed n s.links s.marks)
 
 -- and what a closed round has received stays
 abbrev pub RoundsStay : Type 0
-RoundsStay = (accepts : Accepts) (n c own : ℕ) (a b : List Event) → 2 < c → IsHistory accepts n c own (a ++ b) → (r : ℕ) →
+RoundsStay = (accepts : Accepts) (n c own : ℕ) (a b : List Change) → 2 < c → IsHistory accepts n c own (a ++ b) → (r : ℕ) →
     IsTrue (is_closed n (replay n c a).links (replay n c a).marks r) → kept_in n (replay n c (a ++ b)) r ≡ kept_in n (replay n c a) r
 
 -- a row that comes closes no round, and so leaves the kept order
 abbrev pub RowsLeaveTheOrder : Type 0
-RowsLeaveTheOrder = (accepts : Accepts) (n c own : ℕ) (h : List Event) (e : Event) → 2 < c → IsHistory accepts n c own (h ++ e ∷ []) → IsRow e →
+RowsLeaveTheOrder = (accepts : Accepts) (n c own : ℕ) (h : List Change) (e : Change) → 2 < c → IsHistory accepts n c own (h ++ e ∷ []) → IsRow e →
     let s = replay n c h in let t = replay n c (h ++ e ∷ []) in
     (last_closed n t.links t.marks ≡ last_closed n s.links s.marks) × (kept n t ≡ kept n s)
 
@@ -166,36 +166,36 @@ RowsLeaveTheOrder = (accepts : Accepts) (n c own : ℕ) (h : List Event) (e : Ev
 -- accepted bytes add one event, the row that they spell, at the next place; others add none
 abbrev pub PutsAddOne : (K : Type 0) → Type 0
 PutsAddOne K = (accepts : K → Accepts) (v : Shown K) (bytes : List ℕ) (place : ℕ) → put_answer accepts v bytes ≡ Accepted place →
-    (place ≡ length (graph_of v)) × ((row : Row) × (read_event bytes ≡ Ok row) × (put_events accepts v bytes ≡ Took row ∷ []))
+    (place ≡ length (graph_of v)) × ((row : Row) × (read_event bytes ≡ Ok row) × (put_changes accepts v bytes ≡ Took row ∷ []))
 
 abbrev pub OtherPutsAddNone : (K : Type 0) → Type 0
 OtherPutsAddNone K = (accepts : K → Accepts) (v : Shown K) (bytes : List ℕ) → ((place : ℕ) → put_answer accepts v bytes ≡ Accepted place → ⊥) →
-    put_events accepts v bytes ≡ []
+    put_changes accepts v bytes ≡ []
 
 -- and leave a node
 abbrev pub PutsLeaveANode : (K : Type 0) → Type 0
 PutsLeaveANode K = (accepts : K → Accepts) (v : Shown K) (bytes : List ℕ) → ((i : ℕ) → get_or bytes i 0 < 256) → IsNode accepts v →
-    IsNode accepts (with_events v (put_events accepts v bytes))
+    IsNode accepts (with_changes v (put_changes accepts v bytes))
 
 -- so does an event that is made add one event
 abbrev pub MakesAddOne : (K : Type 0) → Type 0
 MakesAddOne K = (v : Shown K) (other : Option (List ℕ)) (time : ℕ) (payload sig : List ℕ) (place : ℕ) → make_answer v other time payload sig ≡ made.Made place →
-    (place ≡ length (graph_of v)) × (make_events v other time payload sig ≡ Made (made_row v.start.own (graph_of v) other time payload sig) ∷ [])
+    (place ≡ length (graph_of v)) × (make_changes v other time payload sig ≡ Made (made_row v.start.own (graph_of v) other time payload sig) ∷ [])
 
 abbrev pub OtherMakesAddNone : (K : Type 0) → Type 0
 OtherMakesAddNone K = (v : Shown K) (other : Option (List ℕ)) (time : ℕ) (payload sig : List ℕ) → ((place : ℕ) → make_answer v other time payload sig ≡ made.Made place → ⊥) →
-    make_events v other time payload sig ≡ []
+    make_changes v other time payload sig ≡ []
 
 -- and leaves a node, where the signature is accepted
 abbrev pub MakesLeaveANode : (K : Type 0) → Type 0
 MakesLeaveANode K = (accepts : K → Accepts) (v : Shown K) (other : Option (List ℕ)) (time : ℕ) (payload sig : List ℕ) → time < 2 ^ 64 → length sig ≡ 64 →
     accepts v.start.keys v.start.own (make_body v other time payload) sig ≡ true → IsNode accepts v →
-    IsNode accepts (with_events v (make_events v other time payload sig))
+    IsNode accepts (with_changes v (make_changes v other time payload sig))
 
 -- to publish leaves a node
 abbrev pub PublishesLeaveANode : (K : Type 0) → Type 0
 PublishesLeaveANode K = (accepts : K → Accepts) (v : Shown K) (len : ℕ) (share : Share) → len ≤ length (graph_of v) → IsNode accepts v →
-    IsNode accepts (with_events v (publish_events v len share))
+    IsNode accepts (with_changes v (publish_changes v len share))
 
 -- what a settled node is: its marks are the fame of its graph, and its kept order is the order
 pub record IsSettled {K : Type 0} (old new : Shown K) : Type 0 where
@@ -204,4 +204,4 @@ pub record IsSettled {K : Type 0} (old new : Shown K) : Type 0 where
   pub kept : kept_of new ≡ order_of old.start.members old.start.coin (graph_of old)
 
 abbrev pub SettlesAll : (K : Type 0) → Type 0
-SettlesAll K = (accepts : K → Accepts) (v : Shown K) → IsNode accepts v → IsSettled v (with_events v (settle_events v))
+SettlesAll K = (accepts : K → Accepts) (v : Shown K) → IsNode accepts v → IsSettled v (with_changes v (settle_changes v))

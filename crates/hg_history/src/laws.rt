@@ -1,4 +1,4 @@
-ghost use Rattle.hg_history.specs.Laws.{ClosedStays, EventsLeftRows, FirstRowsAreAGraph, FoundLasts, KeptIsOfTheGraph, LinksAreThoseOfTheRows, LinksGrow, ListsAreEven, LogTellsHistory, MakesAddOne, MakesLeaveANode, MarkingLeavesRows, MarksAreFame, MarksStay, MomentsAreHistories, NamedOrderGrows, OrderByRounds, OrderGrows, OtherMakesAddNone, OtherPutsAddNone, PublishedIsNoNews, PublishesLeaveANode, PublishingAddsMarks, PutsAddOne, PutsLeaveANode, RoundsStay, RowsAreAGraph, RowsCameByEvents, RowsGrow, RowsLeaveTheOrder, SettlesAll, SharesAreAll, VerdictsAreOfBytes};
+ghost use Rattle.hg_history.specs.Laws.{ClosedStays, ChangesLeftRows, FirstRowsAreAGraph, FoundLasts, KeptIsOfTheGraph, LinksAreThoseOfTheRows, LinksGrow, ListsAreEven, LogTellsHistory, MakesAddOne, MakesLeaveANode, MarkingLeavesRows, MarksAreFame, MarksStay, MomentsAreHistories, NamedOrderGrows, OrderByRounds, KeptOrderGrows, OtherMakesAddNone, OtherPutsAddNone, PublishedIsNoNews, PublishesLeaveANode, PublishingAddsMarks, PutsAddOne, PutsLeaveANode, RoundsStay, RowsAreAGraph, RowsCameByChanges, RowsGrow, RowsLeaveTheOrder, SettlesAll, SharesAreAll, VerdictsAreOfBytes};
 
 /// A law: after each history the rows are a graph of signed events, in which the node's own member has one chain,
 /// and their links are those that were made as the rows came. A moment of a history is a history.
@@ -11,9 +11,9 @@ pub fn rows_are_a_graph()
 
 /// A law: the rows by the node's own member are those that it made, the rows by others those that it took; a row is
 /// taken where its bytes are accepted.
-pub fn rows_came_by_events()
-    ensures came { RowsCameByEvents }
-    ensures left { EventsLeftRows }
+pub fn rows_came_by_changes()
+    ensures came { RowsCameByChanges }
+    ensures left { ChangesLeftRows }
     ensures bytes { VerdictsAreOfBytes }
 {}
 
@@ -35,7 +35,7 @@ pub fn history_grows()
 /// A law: the order kept at a moment is a prefix of that kept at each later one, by places and by names, and of the
 /// order of the graph.
 pub fn order_grows()
-    ensures places { OrderGrows }
+    ensures places { KeptOrderGrows }
     ensures names { NamedOrderGrows }
     ensures graph { KeptIsOfTheGraph }
 {}

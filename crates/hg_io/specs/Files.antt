@@ -7,13 +7,13 @@ use Rattle.std.specs.Str.{bytes_eq}
 abbrev pub Files : Type 0
 Files = List (List ℕ × List ℕ)
 
-abbrev pub is_named : List ℕ → List ℕ × List ℕ → Bool
-is_named name file = bytes_eq file.0 name
+abbrev pub is_file : List ℕ → List ℕ × List ℕ → Bool
+is_file name file = bytes_eq file.0 name
 
 -- the bytes of the first file of this name
 abbrev pub content_of : Files → List ℕ → Option (List ℕ)
-content_of files name = option_map (λ file. file.1) (find (is_named name) files)
+content_of files name = option_map (λ file. file.1) (find (is_file name) files)
 
 -- the place of the first file of this name, or past the last where there is none
-abbrev pub place_of : Files → List ℕ → ℕ
-place_of files name = position_or_len (is_named name) files
+abbrev pub file_place : Files → List ℕ → ℕ
+file_place files name = position_or_len (is_file name) files

@@ -1,7 +1,7 @@
 -- A shelf in memory, as its users see it.
 use Rattle.std.specs.Prelude.{◌≡◌, ℕ, ◌+◌, ◌<◌, List, [], drop, length, replicate, slice_index, slice_set, Option, Some, None, option_and_then, option_map, slice_get, unwrap_or, Result, Ok, Err}
-use Rattle.hg_io.specs.Faults.{counted}
-use Rattle.hg_io.specs.Files.{Files, content_of, place_of}
+use Rattle.hg_io.specs.Faults.{raised}
+use Rattle.hg_io.specs.Files.{Files, content_of, file_place}
 
 pub record ShelfState : Type 0 where
   pub files : Files
@@ -32,29 +32,29 @@ started_bytes files started = unwrap_or (option_map (λ file. file.1) (option_an
 
 -- the file of this name is started
 abbrev pub IsAt : ShelfState → List ℕ → Type 0
-IsAt s name = (s.started ≡ Some (place_of s.files name)) × (place_of s.files name < length s.files)
+IsAt s name = (s.started ≡ Some (file_place s.files name)) × (file_place s.files name < length s.files)
 
 -- how many calls failed at this name
 abbrev pub faults_at : ShelfState → List ℕ → ℕ
-faults_at s name = slice_index s.faults (place_of s.files name)
+faults_at s name = slice_index s.faults (file_place s.files name)
 
 -- one more fault, at this place
 abbrev pub after_fault : ShelfState → ℕ → ShelfState
-after_fault s place = record s { faults = slice_set s.faults place (counted (slice_index s.faults place)) }
+after_fault s place = record s { faults = slice_set s.faults place (raised (slice_index s.faults place)) }
 
 -- one more call
 abbrev pub called : ShelfState → ShelfState
-called s = record s { calls = counted s.calls }
+called s = record s { calls = raised s.calls }
 
 -- the shelf after a start of this name that gave this
 abbrev pub after_start : {T E : Type 0} → ShelfState → List ℕ → Result T E → ShelfState
 after_start s name (Ok x) = record (called s) {
-  started = Some (place_of s.files name);
+  started = Some (file_place s.files name);
   left = unwrap_or (content_of s.files name) [];
 }
-after_start s name (Err e) = after_fault (called s) (place_of s.files name)
+after_start s name (Err e) = after_fault (called s) (file_place s.files name)
 
 -- the shelf after a read with this name that gave this
 abbrev pub after_read : {E : Type 0} → ShelfState → List ℕ → Result ℕ E → ShelfState
 after_read s name (Ok k) = record (called s) { left = drop k s.left }
-after_read s name (Err e) = after_fault (called s) (place_of s.files name)
+after_read s name (Err e) = after_fault (called s) (file_place s.files name)

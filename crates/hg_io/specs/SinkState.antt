@@ -1,6 +1,6 @@
 -- A sink in memory, as its users see it.
 use Rattle.std.specs.Prelude.{ℕ, ◌-◌, ◌<◌, ◌≤◌, ◌⊎◌, List, [], ◌++◌, length, min, take, Contains, Result, Ok, Err}
-use Rattle.hg_io.specs.Faults.{counted}
+use Rattle.hg_io.specs.Faults.{raised}
 
 pub record SinkState : Type 0 where
   -- what it took so far, and the greatest number of bytes that it takes in all
@@ -28,5 +28,5 @@ taken_count s piece = min (min (length piece) s.most) (s.room - length s.bytes)
 
 -- the sink after a call with this piece that gave this
 abbrev pub after_write : {E : Type 0} → SinkState → List ℕ → Result ℕ E → SinkState
-after_write s piece (Ok k) = record s { bytes = s.bytes ++ take k piece; calls = counted s.calls }
-after_write s piece (Err e) = record s { calls = counted s.calls; faults = counted s.faults }
+after_write s piece (Ok k) = record s { bytes = s.bytes ++ take k piece; calls = raised s.calls }
+after_write s piece (Err e) = record s { calls = raised s.calls; faults = raised s.faults }

@@ -1,7 +1,7 @@
 ghost use Rattle.std.specs.Prelude.{◌≡◌, ◌↔◌, ◌<◌, ◌≤◌, ◌⊎◌, ◌++◌, ◌+◌, ◌-◌, [], ℕ, List, Contains, None, Some, IfOk, IsErr, IsTrue, OnErr, OnOk, drop, length, min, position, slice_index, slice_set, string_bytes, take, unwrap_or};
 ghost use Rattle.std.specs.Str.{bytes_eq};
 ghost use Rattle.hg_io.specs.Faults.{Rose};
-ghost use Rattle.hg_io.specs.Files.{content_of, place_of};
+ghost use Rattle.hg_io.specs.Files.{content_of, file_place};
 ghost use Rattle.hg_io.specs.FilesOf.{files_of};
 ghost use Rattle.hg_io.specs.ShelfState.{IsAt, after_fault, after_read, after_start, called, faults_at, new_shelf, started_bytes};
 
@@ -129,8 +129,8 @@ fn found_place(files: &[(String, Vec<u8>)], name: &str) -> Option<usize>
 }
 
 // The same, or else the place past the last.
-fn place_of(files: &[(String, Vec<u8>)], name: &str) -> usize
-    ensures place { result ≡ place_of (files_of files.now) name.now }
+fn file_place(files: &[(String, Vec<u8>)], name: &str) -> usize
+    ensures place { result ≡ file_place (files_of files.now) name.now }
     ensures within { result ≤ length files.now }
     ensures none { (length files.now ≤ result) ↔ (content_of (files_of files.now) name.now ≡ None) }
     ensures content { unwrap_or (content_of (files_of files.now) name.now) [] ≡ started_bytes (files_of files.now) (Some result) }
@@ -166,7 +166,7 @@ impl Shelf for ShelfMem {
         ensures cause { OnErr result (Rose (faults_at self.old name.now) (faults_at self.new name.now)) }
         ensures counts { (other : List ℕ) → faults_at self.old other ≤ faults_at self.new other }
     {
-        let place = place_of(self.files.as_slice(), name);
+        let place = file_place(self.files.as_slice(), name);
         if self.next_fails() || place == self.files.len() {
             self.count_fault(place);
             return Err(Failed);
@@ -186,7 +186,7 @@ impl Shelf for ShelfMem {
         ensures cause { OnErr result (Rose (faults_at self.old name.now) (faults_at self.new name.now)) }
         ensures counts { (other : List ℕ) → faults_at self.old other ≤ faults_at self.new other }
     {
-        let place = place_of(self.files.as_slice(), name);
+        let place = file_place(self.files.as_slice(), name);
         if self.next_fails() {
             self.count_fault(place);
             return Err(Failed);

@@ -15,7 +15,7 @@ use Rattle.hg_model.specs.declared.members.MemberEntry.{MemberEntry}
 use Rattle.hg_model.specs.Members.{IsEntry, IsMemberList, is_member_name, listed}
 use Rattle.hg_members.specs.declared.fault.MemberFault.{MemberFault}
 use Rattle.hg_members.specs.declared.fault.MemberFault.TheVariants.{BadCoin, Count, BadName, DoubleName, BadSecret, BadBalance, BadNode}
-use Rattle.hg_members.specs.MemberFile.{◌>>=◌, coin_number, coin_of, count_of, counted, name_form, name_in, name_of, secret_form, secret_in, balance_of, node_of, text_at, has_name, member_of, members_after}
+use Rattle.hg_members.specs.MemberFile.{◌>>=◌, coin_number, coin_of, count_of, checked_count, name_form, entry_name, name_of, secret_form, entry_secret, balance_of, node_flag, text_at, has_name, checked_member, members_after}
 
 -- what the first check gave, where both pass
 bind_ok : {A B : Type 0} (r : Result A MemberFault) (next : A → Result B MemberFault) (y : B) → (r >>= next) ≡ Ok y → (x : A) × (r ≡ Ok x) × (next x ≡ Ok y)
@@ -67,7 +67,7 @@ coin_of-ok : (found : Option Data) (coin : ℕ) → coin_of found ≡ Ok coin �
 coin_of-ok None coin h = let e : 10 ≡ coin = cc in (omega arith, omega arith)
 coin_of-ok (Some value) coin h = coin_number-ok (unwrap_or (as_integer value) (pos 0)) coin h
 
-counted-ok : (found entries : Items) → counted found ≡ Ok entries → (2 ≤ count_of entries) × (count_of entries ≤ 128)
+counted-ok : (found entries : Items) → checked_count found ≡ Ok entries → (2 ≤ count_of entries) × (count_of entries ≤ 128)
 counted-ok found entries h =
     elim (cases_Bool (nat_le 2 (count_of found) && nat_le (count_of found) 128)) [
       | inl lawful ↦
@@ -82,8 +82,8 @@ counted-ok found entries h =
 name_of-ok : (earlier : List MemberEntry) (entry : Data) (name : List ℕ) → name_of earlier entry ≡ Ok name
     → (is_member_name name ≡ true) × (has_name earlier name ≡ false)
 name_of-ok earlier entry name h =
-    let (form, named, last) = bind_ok (ok_or (name_in entry) (BadName (length earlier))) _ name h in
-    let (text, formed) = and_then-some name_form (text_at (codes "name") entry) form (ok_or-ok (name_in entry) (BadName (length earlier)) form named) in
+    let (form, named, last) = bind_ok (ok_or (entry_name entry) (BadName (length earlier))) _ name h in
+    let (text, formed) = and_then-some name_form (text_at (codes "name") entry) form (ok_or-ok (entry_name entry) (BadName (length earlier)) form named) in
     elim (cases_Bool (has_name earlier form)) [
       | inl double ↦ absurd (let none : Err (DoubleName (length earlier)) ≡ Ok name = rw double at last in cc)
       | inr new ↦
@@ -92,20 +92,20 @@ name_of-ok earlier entry name h =
           rw (← e) (name_form-some text form formed, new)
     ]
 
-secret_in-some : (entry : Data) (secret : List ℕ) → secret_in entry ≡ Some secret → (1 ≤ length secret) × (length secret ≤ 128)
+secret_in-some : (entry : Data) (secret : List ℕ) → entry_secret entry ≡ Some secret → (1 ≤ length secret) × (length secret ≤ 128)
 secret_in-some entry secret h = let (text, formed) = and_then-some secret_form (text_at (codes "secret") entry) secret h in secret_form-some text secret formed
 
-member_of-ok : (earlier : List MemberEntry) (entry : Data) (m : MemberEntry) → member_of earlier entry ≡ Ok m
+member_of-ok : (earlier : List MemberEntry) (entry : Data) (m : MemberEntry) → checked_member earlier entry ≡ Ok m
     → IsEntry m × (has_name earlier m.name ≡ false)
 member_of-ok earlier entry m h =
     let place = length earlier in
     let (name, named, with_name) = bind_ok (name_of earlier entry) _ m h in
-    let (secret, read, with_secret) = bind_ok (ok_or (secret_in entry) (BadSecret place)) _ m with_name in
+    let (secret, read, with_secret) = bind_ok (ok_or (entry_secret entry) (BadSecret place)) _ m with_name in
     let (balance, given, with_balance) = bind_ok (ok_or (balance_of (get (codes "balance") entry)) (BadBalance place)) _ m with_secret in
-    let (has_node, told, with_node) = bind_ok (ok_or (node_of (get (codes "node") entry)) (BadNode place)) _ m with_balance in
+    let (has_node, told, with_node) = bind_ok (ok_or (node_flag (get (codes "node") entry)) (BadNode place)) _ m with_balance in
     let e : record { name = name; secret = secret; balance = balance; has_node = has_node } ≡ m = cc in
     let (form, new) = name_of-ok earlier entry name named in
-    let (some, fits) = secret_in-some entry secret (ok_or-ok (secret_in entry) (BadSecret place) secret read) in
+    let (some, fits) = secret_in-some entry secret (ok_or-ok (entry_secret entry) (BadSecret place) secret read) in
     rw (← e) (record { name = form; secret_some = some; secret_fits = fits }, new)
 
 -- members that are each lawful, and have names of their own
@@ -127,7 +127,7 @@ members_after-ok : (earlier : List MemberEntry) (entries : Items) (members : Lis
     → members_after earlier entries ≡ Ok members → AreMembers members × (length members ≡ length earlier + count_of entries)
 members_after-ok earlier no_items members are h = let e : earlier ≡ members = cc in rw (← e) (are, omega arith)
 members_after-ok earlier (item entry rest) members are h =
-    let (m, read, after) = bind_ok (member_of earlier entry) _ members h in
+    let (m, read, after) = bind_ok (checked_member earlier entry) _ members h in
     let (lawful, new) = member_of-ok earlier entry m read in
     let (all, count) = members_after-ok (earlier ++ m ∷ []) rest members (more_members earlier m are lawful new) after in
     (all, omega (arith, length-append earlier (m ∷ [])))
@@ -136,7 +136,7 @@ none_are : AreMembers []
 none_are = record { entries = All-nil IsEntry; distinct = λ i j d before below. absurd (omega arith) }
 
 -- what is read from 2 to 128 entries
-pub members_few : (found entries : Items) (members : List MemberEntry) → counted found ≡ Ok entries → members_after [] entries ≡ Ok members
+pub members_few : (found entries : Items) (members : List MemberEntry) → checked_count found ≡ Ok entries → members_after [] entries ≡ Ok members
     → length members ≤ 128
 members_few found entries members sized read =
     let (low, high) = counted-ok found entries sized in
@@ -144,7 +144,7 @@ members_few found entries members sized read =
     omega arith
 
 pub members_lawful : (given : Option Data) (coin : ℕ) (found entries : Items) (members : List MemberEntry)
-    → coin_of given ≡ Ok coin → counted found ≡ Ok entries → members_after [] entries ≡ Ok members
+    → coin_of given ≡ Ok coin → checked_count found ≡ Ok entries → members_after [] entries ≡ Ok members
     → sum_by (λ (e : MemberEntry). e.balance) members < 2 ^ 63 → IsMemberList (listed members coin)
 members_lawful given coin found entries members tossed sized read sum =
     let (coin_low, coin_high) = coin_of-ok given coin tossed in

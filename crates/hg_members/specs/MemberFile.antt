@@ -42,8 +42,8 @@ count_of no_items = 0
 count_of (item value rest) = suc (count_of rest)
 
 -- 2 to 128 entries
-abbrev pub counted : Items → Result Items MemberFault
-counted entries = if nat_le 2 (count_of entries) && nat_le (count_of entries) 128 then Ok entries else Err (Count (count_of entries))
+abbrev pub checked_count : Items → Result Items MemberFault
+checked_count entries = if nat_le 2 (count_of entries) && nat_le (count_of entries) 128 then Ok entries else Err (Count (count_of entries))
 
 -- the text under a key of an entry
 abbrev pub text_at : List ℕ → Data → Option (List ℕ)
@@ -63,11 +63,11 @@ balance_number (negsuc n) = None
 
 -- the fields of an entry, where they have their form
 
-abbrev pub name_in : Data → Option (List ℕ)
-name_in entry = option_and_then name_form (text_at (codes "name") entry)
+abbrev pub entry_name : Data → Option (List ℕ)
+entry_name entry = option_and_then name_form (text_at (codes "name") entry)
 
-abbrev pub secret_in : Data → Option (List ℕ)
-secret_in entry = option_and_then secret_form (text_at (codes "secret") entry)
+abbrev pub entry_secret : Data → Option (List ℕ)
+entry_secret entry = option_and_then secret_form (text_at (codes "secret") entry)
 
 -- 0 where none is given
 abbrev pub balance_of : Option Data → Option ℕ
@@ -75,9 +75,9 @@ balance_of None = Some 0
 balance_of (Some value) = option_and_then balance_number (as_integer value)
 
 -- true where none is given
-abbrev pub node_of : Option Data → Option Bool
-node_of None = Some true
-node_of (Some value) = as_bool value
+abbrev pub node_flag : Option Data → Option Bool
+node_flag None = Some true
+node_flag (Some value) = as_bool value
 
 -- some member has the name
 abbrev pub has_name : List MemberEntry → List ℕ → Bool
@@ -86,22 +86,22 @@ has_name members name = list_any (λ (e : MemberEntry). bytes_eq e.name name) me
 -- a name that no earlier member has
 abbrev pub name_of : List MemberEntry → Data → Result (List ℕ) MemberFault
 name_of earlier entry = do
-  name ← ok_or (name_in entry) (BadName (length earlier))
+  name ← ok_or (entry_name entry) (BadName (length earlier))
   if has_name earlier name then Err (DoubleName (length earlier)) else Ok name
 
 -- the member that an entry tells, behind the earlier ones
-abbrev pub member_of : List MemberEntry → Data → Result MemberEntry MemberFault
-member_of earlier entry = do
+abbrev pub checked_member : List MemberEntry → Data → Result MemberEntry MemberFault
+checked_member earlier entry = do
   name ← name_of earlier entry
-  secret ← ok_or (secret_in entry) (BadSecret (length earlier))
+  secret ← ok_or (entry_secret entry) (BadSecret (length earlier))
   balance ← ok_or (balance_of (get (codes "balance") entry)) (BadBalance (length earlier))
-  has_node ← ok_or (node_of (get (codes "node") entry)) (BadNode (length earlier))
+  has_node ← ok_or (node_flag (get (codes "node") entry)) (BadNode (length earlier))
   Ok (record { name = name; secret = secret; balance = balance; has_node = has_node })
 
 -- the earlier members, and those of the entries
 abbrev pub members_after : List MemberEntry → Items → Result (List MemberEntry) MemberFault
 members_after earlier no_items = Ok earlier
-members_after earlier (item entry rest) = member_of earlier entry >>= (λ m. members_after (earlier ++ m ∷ []) rest)
+members_after earlier (item entry rest) = checked_member earlier entry >>= (λ m. members_after (earlier ++ m ∷ []) rest)
 
 -- members whose balances add up to less than 2^63
 abbrev pub summed : ℕ → List MemberEntry → Result MemberList MemberFault
@@ -111,7 +111,7 @@ summed coin members =
 abbrev pub members_in : Data → Result MemberList MemberFault
 members_in document = do
   coin ← coin_of (get (codes "coin") document)
-  entries ← counted (entries_of (get (codes "member") document))
+  entries ← checked_count (entries_of (get (codes "member") document))
   members ← members_after [] entries
   summed coin members
 

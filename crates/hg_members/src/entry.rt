@@ -12,8 +12,8 @@ use hg_model::{Bytes, MemberEntry, is_member_name};
 use std::alloc::{AllocError, Global};
 use toml::Value;
 
-fn name_in(entry: &Value) -> Option<&str>
-    ensures { option_copied result ≡ told.name_in (view entry.now) }
+fn entry_name(entry: &Value) -> Option<&str>
+    ensures { option_copied result ≡ told.entry_name (view entry.now) }
 {
     let name = entry.get("name")?.as_str()?;
     if is_member_name(name.as_bytes()) {
@@ -36,8 +36,8 @@ fn decoded(alloc: Global, text: &str) -> Result<Option<Bytes>, AllocError>
     }
 }
 
-fn secret_in(alloc: Global, entry: &Value) -> Result<Option<Bytes>, AllocError>
-    ensures { IfOk result (λ secret. secret ≡ told.secret_in (view entry.now)) }
+fn entry_secret(alloc: Global, entry: &Value) -> Result<Option<Bytes>, AllocError>
+    ensures { IfOk result (λ secret. secret ≡ told.entry_secret (view entry.now)) }
 {
     let Some(value) = entry.get("secret") else {
         return Ok(None);
@@ -63,7 +63,7 @@ fn balance_in(entry: &Value) -> Option<u64>
 }
 
 fn node_in(entry: &Value) -> Option<bool>
-    ensures { result ≡ told.node_of (get (codes "node") (view entry.now)) }
+    ensures { result ≡ told.node_flag (get (codes "node") (view entry.now)) }
 {
     match entry.get("node") {
         Some(value) => value.as_bool(),
@@ -80,7 +80,7 @@ fn has_name(members: &[MemberEntry], name: &[u8]) -> bool
 fn name_of<'a>(earlier: &[MemberEntry], entry: &'a Value) -> Result<&'a str, MemberFault>
     ensures { Reads (λ name. name.now) result (told.name_of earlier.now (view entry.now)) }
 {
-    let name = name_in(entry).ok_or(MemberFault::BadName(earlier.len()))?;
+    let name = entry_name(entry).ok_or(MemberFault::BadName(earlier.len()))?;
     if has_name(earlier, name.as_bytes()) {
         return Err(MemberFault::DoubleName(earlier.len()));
     }
@@ -88,12 +88,12 @@ fn name_of<'a>(earlier: &[MemberEntry], entry: &'a Value) -> Result<&'a str, Mem
 }
 
 /// The member that an entry tells, behind the earlier ones.
-pub fn member_of(alloc: Global, earlier: &[MemberEntry], entry: &Value) -> Result<MemberEntry, Stop>
-    ensures { Gives (λ m. m) result (told.member_of earlier.now (view entry.now)) }
+pub fn checked_member(alloc: Global, earlier: &[MemberEntry], entry: &Value) -> Result<MemberEntry, Stop>
+    ensures { Gives (λ m. m) result (told.checked_member earlier.now (view entry.now)) }
 {
     let place = earlier.len();
     let name = name_of(earlier, entry)?;
-    let secret = secret_in(alloc, entry)?.ok_or(MemberFault::BadSecret(place))?;
+    let secret = entry_secret(alloc, entry)?.ok_or(MemberFault::BadSecret(place))?;
     let balance = balance_in(entry).ok_or(MemberFault::BadBalance(place))?;
     let has_node = node_in(entry).ok_or(MemberFault::BadNode(place))?;
     let name = Bytes::from_vec(Vec::from_slice(alloc, name.as_bytes())?);

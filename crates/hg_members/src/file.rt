@@ -7,7 +7,7 @@ ghost use Rattle.hg_model.specs.Members.{IsMemberList, listed};
 ghost use Rattle.hg_members.specs.Gives.{Gives, Reads};
 ghost use Rattle.hg_members.specs.MemberFile as told;
 
-use crate::entry::member_of;
+use crate::entry::checked_member;
 use crate::fault::MemberFault;
 use crate::stop::Stop;
 use hg_model::{MemberEntry, Members, Memory};
@@ -57,7 +57,7 @@ fn array_in(document: &Value) -> Option<&Array>
 
 #[tactic(auto, using(crate::proofs::Entries::count_of_items))]
 fn entries_in(document: &Value) -> Result<&Array, MemberFault>
-    ensures { Reads (λ array. array_view array.now) result (told.counted (told.entries_of (get (codes "member") (view document.now)))) }
+    ensures { Reads (λ array. array_view array.now) result (told.checked_count (told.entries_of (get (codes "member") (view document.now)))) }
 {
     let entries = array_in(document).ok_or(MemberFault::Count(0))?;
     let count = entries.len();
@@ -73,7 +73,7 @@ fn members_from(alloc: Global, entries: &Array) -> Result<Vec<MemberEntry>, Stop
 {
     let mut members = Vec::new(alloc);
     for entry in entries {
-        let member = member_of(alloc, members.as_slice(), entry)?;
+        let member = checked_member(alloc, members.as_slice(), entry)?;
         members.push(member)?;
     }
     Ok(members)

@@ -9,7 +9,7 @@ use Rattle.hg_model.specs.Links.{Link, links, parents_in, creator_in, first_plac
 use Rattle.hg_model.specs.Ancestry.{is_ancestor, is_self_ancestor, some_ancestor}
 use Rattle.hg_model.specs.Forks.{is_fork, has_fork_below}
 use Rattle.hg_model.specs.Seeing.{sees, sees_through, strongly_sees, is_supermajority}
-use Rattle.hg_model.specs.Rounds.{greatest_round, is_witness_by, is_seen_witness, round_from, round_of, is_witness}
+use Rattle.hg_model.specs.Rounds.{parent_round, is_witness_by, is_seen_witness, round_from, round_of, is_witness}
 use Rattle.hg_model.specs.Votes.{is_voter, yes_votes, no_votes, vote_from, vote_of, decides}
 use Rattle.hg_model.specs.Graph.{IsShaped}
 use Rattle.hg_model.specs.Order.{sig_in, middle_bit, coin_at}
@@ -109,7 +109,7 @@ module _ (L M : List Link) (longer : IsLonger L M) where
   module _ (n : ℕ) where
     round_from-longer : (round : ℕ → ℕ) (x : ℕ) → x < length L → round_from n M round x ≡ round_from n L round x
     round_from-longer round x h =
-        let r = greatest_round round (parents L x) in
+        let r = parent_round round (parents L x) in
         rw (parents-longer x h)
         (ap (λ count. cond (is_supermajority n count) (r + 1) r)
         (weight_below-same (λ _. 1) x (is_seen_witness round n M r x) (is_seen_witness round n L r x)

@@ -9,7 +9,8 @@ use Rattle.std.proofs.lemmas.Option.{slice_get-get_or}
 use Rattle.hg_model.specs.declared.row.Row.{Row}
 use Rattle.hg_model.specs.Links.{is_named, place_of}
 use Rattle.hg_model.specs.Graph.{name_in, name_at, HasDistinctNames}
-use Rattle.hg_model.specs.Verdict.{row_creator, later_name, last_name}
+use Rattle.hg_model.specs.Verdict.{later_name, last_name}
+use Rattle.hg_model.specs.Graph.{creator_at}
 use Rattle.hg_model.proofs.PushLaws.{nobody}
 
 pub same_bytes : (a b : List ℕ) → a ≡ b → bytes_eq a b ≡ true
@@ -35,7 +36,7 @@ place_of_at G distinct x name inside at_x =
 
 -- a row by the member with this name
 abbrev pub IsNamedBy : List Row → ℕ → List ℕ → Type 0
-IsNamedBy G m name = (x : ℕ) × (x < length G) × (name_at G x ≡ name) × (row_creator G x ≡ m)
+IsNamedBy G m name = (x : ℕ) × (x < length G) × (name_at G x ≡ name) × (creator_at G x ≡ m)
 
 later_found : (m : ℕ) (G : List Row) (last : Option (List ℕ)) (name : List ℕ) → fold (later_name m) last G ≡ Some name → (last ≡ Some name) ⊎ IsNamedBy G m name
 unfolding name_at
@@ -59,12 +60,12 @@ last_found m G name is = elim (later_found m G None name is) [
 ]
 
 -- the row at the place of a member's last name is the member's
-pub last_is_own : (m : ℕ) (G : List Row) (name : List ℕ) → HasDistinctNames G → last_name m G ≡ Some name → (place_of G name < length G) × (row_creator G (place_of G name) ≡ m)
+pub last_is_own : (m : ℕ) (G : List Row) (name : List ℕ) → HasDistinctNames G → last_name m G ≡ Some name → (place_of G name < length G) × (creator_at G (place_of G name) ≡ m)
 last_is_own m G name distinct is =
     let found = last_found m G name is in
     let place = place_of_at G distinct found.0 name found.1 found.2 in
     let low = found.1 in
-    (omega arith, ap (row_creator G) place ∙ found.3)
+    (omega arith, ap (creator_at G) place ∙ found.3)
 
 pub distinct-none : HasDistinctNames []
 distinct-none = record { one = λ x y hx hy same. absurd (omega arith) }

@@ -11,7 +11,7 @@ use Rattle.hg_model.specs.Places.{has_place}
 use Rattle.hg_model.specs.Links.{Link, parent_names, is_named, place_of, link_in, links, parents_in, creator_in, first_place, later_places, parents, self_parent, other_parents, creator}
 use Rattle.hg_model.specs.Graph.{IsShaped}
 use Rattle.hg_model.specs.Shape.{FitsLink}
-use Rattle.hg_model.specs.Verdict.{row_creator, row_creator_in}
+use Rattle.hg_model.specs.Graph.{creator_at, creator_of_row}
 use Rattle.hg_model.specs.Fits.{AreHeld, IsPresent, ParentsFit, Fits}
 
 abbrev pub nobody : Row
@@ -51,11 +51,11 @@ pub link_at : (G : List Row) (x : ℕ) → x < length G → slice_get (links G) 
 unfolding links
 link_at G x inside = slice_get-map (link_in G) G x ∙ ap (option_map (link_in G)) (slice_get-get_or G x nobody inside)
 
-pub row_creator-links : (G : List Row) (x : ℕ) → creator (links G) x ≡ row_creator G x
+pub row_creator-links : (G : List Row) (x : ℕ) → creator (links G) x ≡ creator_at G x
 unfolding creator links
 row_creator-links G x = ap creator_in (slice_get-map (link_in G) G x) ∙ either (slice_get G x)
   where
-    either : (o : Option Row) → creator_in (option_map (link_in G) o) ≡ row_creator_in o
+    either : (o : Option Row) → creator_in (option_map (link_in G) o) ≡ creator_of_row o
     either None = refl
     either (Some row) = refl
 
@@ -177,21 +177,21 @@ place_below G (name ∷ names) p held h = elim (or_cases (eqb (place_of G name) 
   | inr later ↦ place_below G names p held.1 later
 ]
 
-own_creator : (G : List Row) (m : ℕ) (names : List (List ℕ)) (p : ℕ) → ParentsFit G m names → has_place (first_place (map (place_of G) names)) p ≡ true → row_creator G p ≡ m
+own_creator : (G : List Row) (m : ℕ) (names : List (List ℕ)) (p : ℕ) → ParentsFit G m names → has_place (first_place (map (place_of G) names)) p ≡ true → creator_at G p ≡ m
 own_creator G m [] p fit h = absurd (true≢false (sym h))
 own_creator G m (own ∷ others) p fit h = elim (or_cases (eqb (place_of G own) p) false h) [
-  | inl same ↦ subst (λ (k : ℕ). row_creator G k ≡ m) (eqb-true (place_of G own) p same) fit.0
+  | inl same ↦ subst (λ (k : ℕ). creator_at G k ≡ m) (eqb-true (place_of G own) p same) fit.0
   | inr none ↦ absurd (true≢false (sym none))
 ]
 
-others_creator : (G : List Row) (m : ℕ) (names : List (List ℕ)) (p : ℕ) → AllByRecursion (λ name. row_creator G (place_of G name) ≢ m) names → has_place (map (place_of G) names) p ≡ true → row_creator G p ≢ m
+others_creator : (G : List Row) (m : ℕ) (names : List (List ℕ)) (p : ℕ) → AllByRecursion (λ name. creator_at G (place_of G name) ≢ m) names → has_place (map (place_of G) names) p ≡ true → creator_at G p ≢ m
 others_creator G m [] p fit h = absurd (true≢false (sym h))
 others_creator G m (name ∷ names) p fit h = elim (or_cases (eqb (place_of G name) p) (has_place (map (place_of G) names) p) h) [
-  | inl same ↦ subst (λ (k : ℕ). row_creator G k ≢ m) (eqb-true (place_of G name) p same) fit.0
+  | inl same ↦ subst (λ (k : ℕ). creator_at G k ≢ m) (eqb-true (place_of G name) p same) fit.0
   | inr later ↦ others_creator G m names p fit.1 later
 ]
 
-other_creator : (G : List Row) (m : ℕ) (names : List (List ℕ)) (p : ℕ) → ParentsFit G m names → has_place (later_places (map (place_of G) names)) p ≡ true → row_creator G p ≢ m
+other_creator : (G : List Row) (m : ℕ) (names : List (List ℕ)) (p : ℕ) → ParentsFit G m names → has_place (later_places (map (place_of G) names)) p ≡ true → creator_at G p ≢ m
 other_creator G m [] p fit h = absurd (true≢false (sym h))
 other_creator G m (own ∷ others) p fit h = others_creator G m others p fit.1 h
 

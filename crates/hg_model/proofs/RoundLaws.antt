@@ -5,30 +5,30 @@ use Rattle.std.specs.List.{list_all}
 use Rattle.hg_model.specs.Places.{by_place, has_place, count_below, IsEarlier}
 use Rattle.hg_model.specs.Links.{Link, parents, self_parent}
 use Rattle.hg_model.specs.Seeing.{is_supermajority}
-use Rattle.hg_model.specs.Rounds.{greatest_round, is_witness_by, is_seen_witness, round_from, round_of}
+use Rattle.hg_model.specs.Rounds.{parent_round, is_witness_by, is_seen_witness, round_from, round_of}
 use Rattle.hg_model.proofs.PlacesLaws.{only_below, only_below-at, by_place-at, weight_below-same, count_below-le}
 use Rattle.hg_model.proofs.ReachLaws.{has_place_first, has_place_later}
 use Rattle.hg_model.proofs.AncestryLaws.{self_parent_earlier}
 
 -- the greatest round of some places
 
-pub greatest_round-same : (one two : ℕ → ℕ) (ps : List ℕ) → ((p : ℕ) → has_place ps p ≡ true → one p ≡ two p) → greatest_round one ps ≡ greatest_round two ps
+pub greatest_round-same : (one two : ℕ → ℕ) (ps : List ℕ) → ((p : ℕ) → has_place ps p ≡ true → one p ≡ two p) → parent_round one ps ≡ parent_round two ps
 greatest_round-same one two [] same = refl
 greatest_round-same one two (p ∷ ps) same =
     let first = same p (has_place_first p ps) in
     let rest = greatest_round-same one two ps (λ q h. same q (has_place_later p q ps h)) in
     cc
 
-pub greatest_round_bounds : (round : ℕ → ℕ) (ps : List ℕ) (p : ℕ) → has_place ps p ≡ true → round p ≤ greatest_round round ps
+pub greatest_round_bounds : (round : ℕ → ℕ) (ps : List ℕ) (p : ℕ) → has_place ps p ≡ true → round p ≤ parent_round round ps
 greatest_round_bounds round [] p h = absurd (true≢false (sym h))
 greatest_round_bounds round (q ∷ ps) p h = elim (or_cases (eqb q p) (has_place ps p) h) [
   | inl first ↦ (let e : round q ≡ round p = ap round (eqb-true q p first) in omega arith)
   | inr rest ↦ omega (arith, greatest_round_bounds round ps p rest)
 ]
 
-pub greatest_round_found : (round : ℕ → ℕ) (ps : List ℕ) → (greatest_round round ps ≡ 1) ⊎ ((p : ℕ) × (has_place ps p ≡ true) × (round p ≡ greatest_round round ps))
+pub greatest_round_found : (round : ℕ → ℕ) (ps : List ℕ) → (parent_round round ps ≡ 1) ⊎ ((p : ℕ) × (has_place ps p ≡ true) × (round p ≡ parent_round round ps))
 greatest_round_found round [] = inl refl
-greatest_round_found round (q ∷ ps) = elim (cases_lt (round q) (greatest_round round ps)) [
+greatest_round_found round (q ∷ ps) = elim (cases_lt (round q) (parent_round round ps)) [
   | inl lower ↦ elim (greatest_round_found round ps) [
     | inl one ↦ inl (omega arith)
     | inr found ↦ inr (found.0, has_place_later q found.0 ps found.1, omega (arith, found.2))
@@ -36,7 +36,7 @@ greatest_round_found round (q ∷ ps) = elim (cases_lt (round q) (greatest_round
   | inr greatest ↦ inr (q, has_place_first q ps, omega arith)
 ]
 
-pub greatest_round-pos : (round : ℕ → ℕ) (ps : List ℕ) → 0 < greatest_round round ps
+pub greatest_round-pos : (round : ℕ → ℕ) (ps : List ℕ) → 0 < parent_round round ps
 greatest_round-pos round [] = omega arith
 greatest_round-pos round (q ∷ ps) = omega (arith, greatest_round-pos round ps)
 
@@ -62,9 +62,9 @@ module _ (n : ℕ) (L : List Link) (e : IsEarlier (parents L)) where
   pub round_from-same : (one two : ℕ → ℕ) (x : ℕ) → ((p : ℕ) → p < x → one p ≡ two p) → round_from n L one x ≡ round_from n L two x
   round_from-same one two x same =
       rw (greatest_round-same one two (parents L x) (λ p h. same p (e.earlier x p h)))
-      (ap (λ count. cond (is_supermajority n count) (greatest_round two (parents L x) + 1) (greatest_round two (parents L x)))
-      (weight_below-same (λ _. 1) x (is_seen_witness one n L (greatest_round two (parents L x)) x) (is_seen_witness two n L (greatest_round two (parents L x)) x)
-      (λ y hy. is_seen_witness-same one two (greatest_round two (parents L x)) x y (λ p hp. same p (omega arith)))))
+      (ap (λ count. cond (is_supermajority n count) (parent_round two (parents L x) + 1) (parent_round two (parents L x)))
+      (weight_below-same (λ _. 1) x (is_seen_witness one n L (parent_round two (parents L x)) x) (is_seen_witness two n L (parent_round two (parents L x)) x)
+      (λ y hy. is_seen_witness-same one two (parent_round two (parents L x)) x y (λ p hp. same p (omega arith)))))
 
   -- the equation of rounds
   pub round_of-at : (x : ℕ) → round_of n L x ≡ round_from n L (round_of n L) x
@@ -74,11 +74,11 @@ module _ (n : ℕ) (L : List Link) (e : IsEarlier (parents L)) where
       ∙ round_from-same (only_below 0 x (by_place 0 (round_from n L))) (by_place 0 (round_from n L)) x (λ p h. only_below-at 0 x (by_place 0 (round_from n L)) p h)
 
   -- the round is the greatest of the parents', or one more
-  pub round_of_cases : (x : ℕ) → let r = greatest_round (round_of n L) (parents L x) in
+  pub round_of_cases : (x : ℕ) → let r = parent_round (round_of n L) (parents L x) in
       ((is_supermajority n (count_below x (is_seen_witness (round_of n L) n L r x)) ≡ true) × (round_of n L x ≡ r + 1))
       ⊎ ((is_supermajority n (count_below x (is_seen_witness (round_of n L) n L r x)) ≡ false) × (round_of n L x ≡ r))
   round_of_cases x =
-      let r = greatest_round (round_of n L) (parents L x) in
+      let r = parent_round (round_of n L) (parents L x) in
       elim (cases_Bool (is_supermajority n (count_below x (is_seen_witness (round_of n L) n L r x)))) [
         | inl up ↦ inl (up, round_of-at x ∙ ap (λ b. cond b (r + 1) r) up)
         | inr stay ↦ inr (stay, round_of-at x ∙ ap (λ b. cond b (r + 1) r) stay)
@@ -99,9 +99,9 @@ module _ (n : ℕ) (L : List Link) (e : IsEarlier (parents L)) where
   round_of-le_to (suc k) x h = elim (greatest_round_found (round_of n L) (parents L x)) [
     | inl one ↦ elim (cases_eq x 0) [
       | inl first ↦ elim (round_of_cases x) [
-        | inl up ↦ absurd (let count = count_below x (is_seen_witness (round_of n L) n L (greatest_round (round_of n L) (parents L x)) x) in
+        | inl up ↦ absurd (let count = count_below x (is_seen_witness (round_of n L) n L (parent_round (round_of n L) (parents L x)) x) in
             let many : 2 * n < 3 * count = ltb-true (2 * n) (3 * count) up.0 in
-            let few : count ≤ x = count_below-le x (is_seen_witness (round_of n L) n L (greatest_round (round_of n L) (parents L x)) x) in
+            let few : count ≤ x = count_below-le x (is_seen_witness (round_of n L) n L (parent_round (round_of n L) (parents L x)) x) in
             omega arith)
         | inr stay ↦ omega (arith, stay.1, one)
       ]

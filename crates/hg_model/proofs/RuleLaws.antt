@@ -9,7 +9,8 @@ use Rattle.hg_model.specs.Links.{parent_names, place_of}
 use Rattle.hg_model.specs.Graph.{HasDistinctNames}
 use Rattle.hg_model.specs.Fits.{AreHeld, ParentsFit, Fits}
 use Rattle.hg_model.specs.Spelling.{payload_limit}
-use Rattle.hg_model.specs.Verdict.{row_limit, row_creator, is_held, member_rule, name_rule, signature_rule, impostor_rule, missing_rule, creator_rule, arrival_rule, forkers_rule, full_rule, last_name, both_names, first_rule, other_rule, payload_rule, draft_rule, collision_rule, room_rule}
+use Rattle.hg_model.specs.Verdict.{row_limit, is_held, member_rule, name_rule, signature_rule, impostor_rule, missing_rule, creator_rule, arrival_rule, forkers_rule, full_rule, last_name, both_names, first_rule, other_rule, payload_rule, draft_rule, collision_rule, room_rule}
+use Rattle.hg_model.specs.Graph.{creator_at}
 use Rattle.hg_model.proofs.NameLaws.{last_is_own}
 
 pub option_or_none : {A : Type 0} (a b : Option A) → option_or a b ≡ None → (a ≡ None) × (b ≡ None)
@@ -65,11 +66,11 @@ parents_fit : (G : List Row) (m : ℕ) (parents : Option (List ℕ × List ℕ))
 parents_fit G m None missing creators = (tt, tt)
 parents_fit G m (Some names) missing creators =
     let held = two_tests (not (is_held G names.0)) (not (is_held G names.1)) _ _ missing in
-    let by = two_tests (not (eqb (row_creator G (place_of G names.0)) m)) (eqb (row_creator G (place_of G names.1)) m) _ _ creators in (
+    let by = two_tests (not (eqb (creator_at G (place_of G names.0)) m)) (eqb (creator_at G (place_of G names.1)) m) _ _ creators in (
       (held_below G names.0 (not_false (is_held G names.0) held.0), (held_below G names.1 (not_false (is_held G names.1) held.1), tt)),
       (
-        eqb-true (row_creator G (place_of G names.0)) m (not_false (eqb (row_creator G (place_of G names.0)) m) by.0),
-        (eqb-false (row_creator G (place_of G names.1)) m by.1, tt),
+        eqb-true (creator_at G (place_of G names.0)) m (not_false (eqb (creator_at G (place_of G names.0)) m) by.0),
+        (eqb-false (creator_at G (place_of G names.1)) m by.1, tt),
       ),
     )
 
@@ -107,10 +108,10 @@ made_parents G m None None distinct is first others = (tt, tt)
 made_parents G m (Some last) None distinct is first others = cc
 made_parents G m None (Some other) distinct is first others = cc
 made_parents G m (Some last) (Some other) distinct is first others =
-    let tests = two_tests (not (is_held G other)) (eqb (row_creator G (place_of G other)) m) _ _ others in
+    let tests = two_tests (not (is_held G other)) (eqb (creator_at G (place_of G other)) m) _ _ others in
     let own = last_is_own m G last distinct is in (
       (own.0, (held_below G other (not_false (is_held G other) tests.0), tt)),
-      (own.1, (eqb-false (row_creator G (place_of G other)) m tests.1, tt)),
+      (own.1, (eqb-false (creator_at G (place_of G other)) m tests.1, tt)),
     )
 
 -- what holds of a draft against which no rule speaks

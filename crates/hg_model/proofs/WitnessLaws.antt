@@ -6,7 +6,7 @@ use Rattle.hg_model.specs.Links.{Link, parents, self_parent, creator}
 use Rattle.hg_model.specs.Ancestry.{is_ancestor, is_self_ancestor}
 use Rattle.hg_model.specs.Forks.{forkers}
 use Rattle.hg_model.specs.Seeing.{strongly_sees, is_supermajority}
-use Rattle.hg_model.specs.Rounds.{greatest_round, is_witness_by, is_seen_witness, round_of, is_witness}
+use Rattle.hg_model.specs.Rounds.{parent_round, is_witness_by, is_seen_witness, round_of, is_witness}
 use Rattle.hg_model.specs.Graph.{IsShaped}
 use Rattle.hg_model.proofs.PlacesLaws.{weight_below_found, weight_below_grows}
 use Rattle.hg_model.proofs.QuorumLaws.{members_with, weight_below-members}
@@ -75,7 +75,7 @@ module _ (n : ℕ) (L : List Link) (e : IsEarlier (parents L)) where
   quorum_to : (k x r : ℕ) → x < k → 0 < r → round_of n L x ≡ r + 1 → is_supermajority n (count_below x (is_seen_witness (round_of n L) n L r x)) ≡ true
   quorum_to zero x r h pos is = absurd (omega arith)
   quorum_to (suc k) x r h pos is = elim (round_of_cases n L e x) [
-    | inl up ↦ (let same : greatest_round (round_of n L) (parents L x) ≡ r = omega (arith, up.1) in rw same at up.0)
+    | inl up ↦ (let same : parent_round (round_of n L) (parents L x) ≡ r = omega (arith, up.1) in rw same at up.0)
     | inr stay ↦ elim (greatest_round_found (round_of n L) (parents L x)) [
       | inl one ↦ absurd (omega (arith, stay.1))
       | inr found ↦

@@ -12,14 +12,14 @@ use Rattle.hg_model.specs.Fame.{fame_of, is_closed, is_unique_famous, Marks}
 use Rattle.hg_model.specs.Order.{coin_at, sig_at, time_at, sort_by, median, can_receive, round_received, consensus_time, whitening, ordered_in}
 use Rattle.hg_model.specs.Graph.{name_at}
 use Rattle.hg_model.specs.Shares.{Share, whole, share_fame}
-use Rattle.hg_model.specs.History.{Event, replay, news}
+use Rattle.hg_model.specs.History.{Change, replay, news}
 use Rattle.hg_model.specs.Kept.{kept}
-use Rattle.hg_model.specs.History.Event.{Took, Made, Marked}
+use Rattle.hg_model.specs.History.Change.{Took, Made, Marked}
 use Rattle.hg_model.specs.Shown.{log_from}
 use Rattle.hg_model.proofs.Worked.{first, made, placed, two_members, two_marks, three_members}
 
 -- what the second of two members did in six syncs in turn
-abbrev eight_rows : List Event
+abbrev eight_rows : List Change
 eight_rows =
     Made (first 1 2) ∷ Took (first 0 1) ∷ Took (made 0 1 2 3) ∷ Made (made 1 2 3 4) ∷ Took (made 0 3 4 5)
     ∷ Made (made 1 4 5 6) ∷ Took (made 0 5 6 7) ∷ Made (made 1 6 7 8) ∷ []

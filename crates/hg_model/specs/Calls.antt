@@ -11,39 +11,39 @@ use Rattle.hg_model.specs.Spelling.{body_bytes}
 use Rattle.hg_model.specs.Verdict.{verdict, row_verdict, last_name, both_names, draft_rule, made_row, making}
 use Rattle.hg_model.specs.declared.answers.MakeFault.{MakeFault}
 use Rattle.hg_model.specs.Shares.{Share, whole}
-use Rattle.hg_model.specs.History.{Event, Accepts, news}
-use Rattle.hg_model.specs.History.Event.{Took, Made, Marked}
-use Rattle.hg_model.specs.Shown.{Shown, with_events, state_of, graph_of}
+use Rattle.hg_model.specs.History.{Change, Accepts, news}
+use Rattle.hg_model.specs.History.Change.{Took, Made, Marked}
+use Rattle.hg_model.specs.Shown.{Shown, with_changes, state_of, graph_of}
 
 -- what comes of bytes that are put to the node
 unfoldable pub put_answer : {K : Type 0} → (K → Accepts) → Shown K → List ℕ → PutAnswer
 put_answer accepts v bytes = verdict (accepts v.start.keys) v.start.members v.start.own (graph_of v) bytes
 
-abbrev pub taken_by : PutAnswer → Row → List Event
+abbrev pub taken_by : PutAnswer → Row → List Change
 taken_by (Accepted p) row = Took row ∷ []
 taken_by (Known p) row = []
 taken_by (Refused f) row = []
 
 -- by what was read of the bytes
-abbrev pub taken_from : {K : Type 0} → (K → Accepts) → Shown K → Result Row ByteFault → List Event
+abbrev pub taken_from : {K : Type 0} → (K → Accepts) → Shown K → Result Row ByteFault → List Change
 taken_from accepts v (Err e) = []
 taken_from accepts v (Ok row) = taken_by (row_verdict (accepts v.start.keys) v.start.members v.start.own (graph_of v) row) row
 
 -- the events that they add: the row that they spell, where they are accepted
-unfoldable pub put_events : {K : Type 0} → (K → Accepts) → Shown K → List ℕ → List Event
-put_events accepts v bytes = taken_from accepts v (read_event bytes)
+unfoldable pub put_changes : {K : Type 0} → (K → Accepts) → Shown K → List ℕ → List Change
+put_changes accepts v bytes = taken_from accepts v (read_event bytes)
 
 -- what comes of making an event under this signature
 unfoldable pub make_answer : {K : Type 0} → Shown K → Option (List ℕ) → ℕ → List ℕ → List ℕ → MakeAnswer
 make_answer v other time payload sig = making v.start.own (graph_of v) other time payload sig
 
-abbrev pub made_by : MakeAnswer → Row → List Event
+abbrev pub made_by : MakeAnswer → Row → List Change
 made_by (answer.Made p) row = Made row ∷ []
 made_by (answer.Refused f) row = []
 
 -- the events that it adds: the row, where it is made
-unfoldable pub make_events : {K : Type 0} → Shown K → Option (List ℕ) → ℕ → List ℕ → List ℕ → List Event
-make_events v other time payload sig =
+unfoldable pub make_changes : {K : Type 0} → Shown K → Option (List ℕ) → ℕ → List ℕ → List ℕ → List Change
+make_changes v other time payload sig =
     made_by (make_answer v other time payload sig) (made_row v.start.own (graph_of v) other time payload sig)
 
 -- what the node signs for such an event
@@ -60,16 +60,16 @@ pub record IsMaking {K : Type 0} (accepts : K → Accepts) (old : Shown K) (othe
   pub sig : List ℕ
   pub signed : make_draft old other payload ≡ None → accepts old.start.keys old.start.own (make_body old other time payload) sig ≡ true
   pub answers : answer ≡ make_answer old other time payload sig
-  pub grown : new ≡ with_events old (make_events old other time payload sig)
+  pub grown : new ≡ with_changes old (make_changes old other time payload sig)
 
 -- how many witnesses are marked by publishing what a share finds in the first `len` rows
 unfoldable pub publish_answer : {K : Type 0} → Shown K → ℕ → Share → ℕ
 publish_answer v len share = news v.start.members v.start.coin (state_of v) len share
 
 -- the events that it adds: one, where it marks some
-unfoldable pub publish_events : {K : Type 0} → Shown K → ℕ → Share → List Event
-publish_events v len share = cond (publish_answer v len share == 0) [] (Marked len share ∷ [])
+unfoldable pub publish_changes : {K : Type 0} → Shown K → ℕ → Share → List Change
+publish_changes v len share = cond (publish_answer v len share == 0) [] (Marked len share ∷ [])
 
 -- to settle is to publish the fame of the whole graph
-abbrev pub settle_events : {K : Type 0} → Shown K → List Event
-settle_events v = publish_events v (length (graph_of v)) whole
+abbrev pub settle_changes : {K : Type 0} → Shown K → List Change
+settle_changes v = publish_changes v (length (graph_of v)) whole

@@ -3,7 +3,7 @@ use Rattle.std.specs.Prelude.{ℕ, ◌≡◌, ◌≢◌, ◌<◌, List, [], ◌�
 use Rattle.std.specs.List.{AllByRecursion}
 use Rattle.hg_model.specs.declared.row.Row.{Row}
 use Rattle.hg_model.specs.Links.{parent_names, place_of}
-use Rattle.hg_model.specs.Verdict.{row_creator}
+use Rattle.hg_model.specs.Graph.{creator_at}
 
 -- each of these names is a row's
 abbrev pub AreHeld : List Row → List (List ℕ) → Type 0
@@ -17,7 +17,7 @@ pub record IsPresent (G : List Row) (row : Row) : Type 0 where
 abbrev pub ParentsFit : List Row → ℕ → List (List ℕ) → Type 0
 ParentsFit G m [] = Unit {0}
 ParentsFit G m (own ∷ others) =
-    (row_creator G (place_of G own) ≡ m) × AllByRecursion (λ name. row_creator G (place_of G name) ≢ m) others
+    (creator_at G (place_of G own) ≡ m) × AllByRecursion (λ name. creator_at G (place_of G name) ≢ m) others
 
 -- what a row must meet to come after the rows of a shaped graph: its creator is a member, its parents are held, the
 -- first of them by its own creator, the later ones by others

@@ -16,10 +16,10 @@ use Rattle.hg_model.specs.Verdict.{row_verdict, made_row, making}
 use Rattle.hg_model.specs.Shares.{Share, early_fame}
 
 -- a row was taken, or made, or the witnesses of a share were marked with the fame that the first so many rows decide
-pub data Event : Type 0 where
-  Took : Row → Event
-  Made : Row → Event
-  Marked : ℕ → Share → Event
+pub data Change : Type 0 where
+  Took : Row → Change
+  Made : Row → Change
+  Marked : ℕ → Share → Change
 
 -- the rows, the link of each as it was when the row came, and the published marks
 pub record State : Type 0 where
@@ -65,13 +65,13 @@ abbrev pub with_marks : ℕ → ℕ → State → ℕ → Share → State
 with_marks n c s len share = record { rows = s.rows; links = s.links; marks = table (new_mark n c s len share) (length s.rows) }
 
 -- what one event does to a state of a node among n members, with coin period c
-abbrev pub step : ℕ → ℕ → State → Event → State
+abbrev pub step : ℕ → ℕ → State → Change → State
 step n c s (Took row) = with_row n s row
 step n c s (Made row) = with_row n s row
 step n c s (Marked len share) = with_marks n c s len share
 
 -- the state after these events
-unfoldable pub replay : ℕ → ℕ → List Event → State
+unfoldable pub replay : ℕ → ℕ → List Change → State
 replay n c h = fold (step n c) empty h
 
 -- which signatures are accepted: by a member, of the signed bytes
@@ -101,17 +101,17 @@ pub record MarksSome (n c : ℕ) (s : State) (len : ℕ) (share : Share) : Type 
   pub some : 0 < news n c s len share
 
 -- the event may come in this state
-abbrev pub IsStep : Accepts → ℕ → ℕ → ℕ → State → Event → Type 0
+abbrev pub IsStep : Accepts → ℕ → ℕ → ℕ → State → Change → Type 0
 IsStep accepts n c own s (Took row) = IsTaken accepts n own s.rows row
 IsStep accepts n c own s (Made row) = IsMade accepts own s.rows row
 IsStep accepts n c own s (Marked len share) = MarksSome n c s len share
 
 -- so may these, one after the other
-abbrev pub AreSteps : Accepts → ℕ → ℕ → ℕ → State → List Event → Type 0
+abbrev pub AreSteps : Accepts → ℕ → ℕ → ℕ → State → List Change → Type 0
 AreSteps accepts n c own s [] = Unit {0}
 AreSteps accepts n c own s (e ∷ h) = IsStep accepts n c own s e × AreSteps accepts n c own (step n c s e) h
 
 -- a history of the node of the member `own` among n, with coin period c; a moment of it is any prefix
-pub record IsHistory (accepts : Accepts) (n c own : ℕ) (h : List Event) : Type 0 where
+pub record IsHistory (accepts : Accepts) (n c own : ℕ) (h : List Change) : Type 0 where
   pub member : own < n
   pub steps : AreSteps accepts n c own empty h

@@ -24,45 +24,45 @@ use Rattle.hg_model.specs.declared.outcome.Printed.TheVariants as printed
 use Rattle.hg_model.specs.declared.outcome.Outcome.{Outcome}
 
 -- a word, a space and a number
-abbrev pub counted : List ℕ → ℕ → List ℕ
-counted word number = word ++ codes " " ++ decimal number
+abbrev pub with_number : List ℕ → ℕ → List ℕ
+with_number word number = word ++ codes " " ++ decimal number
 
 abbrev pub byte_fault_text : ByteFault → List ℕ
-byte_fault_text (byte_fault.Short at) = counted (codes "short") at
+byte_fault_text (byte_fault.Short at) = with_number (codes "short") at
 byte_fault_text byte_fault.BadMagic = codes "bad-magic"
-byte_fault_text (byte_fault.BadKind kind) = counted (codes "bad-kind") kind
-byte_fault_text (byte_fault.BadLength len) = counted (codes "bad-length") len
-byte_fault_text (byte_fault.Trailing count) = counted (codes "trailing") count
+byte_fault_text (byte_fault.BadKind kind) = with_number (codes "bad-kind") kind
+byte_fault_text (byte_fault.BadLength len) = with_number (codes "bad-length") len
+byte_fault_text (byte_fault.Trailing count) = with_number (codes "trailing") count
 
 abbrev pub fault_text : Fault → List ℕ
 fault_text (fault.Bytes e) = byte_fault_text e
-fault_text (fault.Member id) = counted (codes "member") id
-fault_text (fault.Collision p) = counted (codes "collision") p
+fault_text (fault.Member id) = with_number (codes "member") id
+fault_text (fault.Collision p) = with_number (codes "collision") p
 fault_text fault.Signature = codes "signature"
 fault_text fault.Impostor = codes "impostor"
 fault_text (fault.MissingSelf name) = codes "missing-self " ++ encode_lower name
 fault_text (fault.MissingOther name) = codes "missing-other " ++ encode_lower name
-fault_text (fault.SelfCreator p) = counted (codes "self-creator") p
-fault_text (fault.OtherCreator p) = counted (codes "other-creator") p
-fault_text (fault.TooManyForkers k) = counted (codes "too-many-forkers") k
-fault_text (fault.Full limit) = counted (codes "full") limit
+fault_text (fault.SelfCreator p) = with_number (codes "self-creator") p
+fault_text (fault.OtherCreator p) = with_number (codes "other-creator") p
+fault_text (fault.TooManyForkers k) = with_number (codes "too-many-forkers") k
+fault_text (fault.Full limit) = with_number (codes "full") limit
 
 abbrev pub make_fault_text : MakeFault → List ℕ
 make_fault_text make_fault.HasFirst = codes "has-first"
 make_fault_text make_fault.NoFirst = codes "no-first"
 make_fault_text (make_fault.MissingOther name) = codes "missing-other " ++ encode_lower name
-make_fault_text (make_fault.OtherCreator p) = counted (codes "other-creator") p
-make_fault_text (make_fault.PayloadLong len) = counted (codes "payload-long") len
-make_fault_text (make_fault.Collision p) = counted (codes "collision") p
-make_fault_text (make_fault.Full limit) = counted (codes "full") limit
+make_fault_text (make_fault.OtherCreator p) = with_number (codes "other-creator") p
+make_fault_text (make_fault.PayloadLong len) = with_number (codes "payload-long") len
+make_fault_text (make_fault.Collision p) = with_number (codes "collision") p
+make_fault_text (make_fault.Full limit) = with_number (codes "full") limit
 
 abbrev pub make_answer_text : MakeAnswer → List ℕ
-make_answer_text (make_answer.Made p) = counted (codes "made") p
+make_answer_text (make_answer.Made p) = with_number (codes "made") p
 make_answer_text (make_answer.Refused f) = codes "refused " ++ make_fault_text f
 
 abbrev pub put_answer_text : PutAnswer → List ℕ
-put_answer_text (put_answer.Accepted p) = counted (codes "accepted") p
-put_answer_text (put_answer.Known p) = counted (codes "known") p
+put_answer_text (put_answer.Accepted p) = with_number (codes "accepted") p
+put_answer_text (put_answer.Known p) = with_number (codes "known") p
 put_answer_text (put_answer.Refused f) = codes "refused " ++ fault_text f
 
 abbrev pub sync_made_text : SyncMade → List ℕ
@@ -78,7 +78,7 @@ name_of_member names m = unwrap_or (slice_get names m) []
 abbrev pub effect_text : Effect → List ℕ
 effect_text effect.Empty = codes "-"
 effect_text effect.Unread = codes "unread"
-effect_text (effect.Paid done of_all) = counted (codes "paid") done ++ counted (codes " of") of_all
+effect_text (effect.Paid done of_all) = with_number (codes "paid") done ++ with_number (codes " of") of_all
 
 -- the end of a line of the order, with the event's name where it is asked for
 abbrev pub line_end : Bool → OrderLine → List ℕ
@@ -88,8 +88,8 @@ line_end named line =
 -- the line of a row of the order, numbered from 1
 abbrev pub order_line_text : Bool → List (List ℕ) → ℕ → OrderLine → List ℕ
 order_line_text named names number line =
-    decimal number ++ codes " " ++ name_of_member names line.creator ++ counted [] line.sequence
-    ++ counted (codes " round") line.received ++ counted (codes " time") line.time ++ line_end named line
+    decimal number ++ codes " " ++ name_of_member names line.creator ++ with_number [] line.sequence
+    ++ with_number (codes " round") line.received ++ with_number (codes " time") line.time ++ line_end named line
 
 -- the lines of an order, the first with this number
 abbrev pub order_text : Bool → List (List ℕ) → ℕ → List OrderLine → List ℕ
@@ -97,7 +97,7 @@ order_text named names number [] = []
 order_text named names number (line ∷ lines) = order_line_text named names number line ++ order_text named names (suc number) lines
 
 abbrev pub balance_text : List (List ℕ) → ℕ → ℕ → List ℕ
-balance_text names m balance = codes "balance " ++ name_of_member names m ++ counted [] balance ++ codes "\n"
+balance_text names m balance = codes "balance " ++ name_of_member names m ++ with_number [] balance ++ codes "\n"
 
 -- the balances of the members from m on
 abbrev pub balances_text : List (List ℕ) → ℕ → List ℕ → List ℕ
@@ -107,8 +107,8 @@ balances_text names m (balance ∷ balances) = balance_text names m balance ++ b
 -- the first line of a block
 abbrev pub head_text : List (List ℕ) → Block → List ℕ
 head_text names b =
-    codes "node " ++ name_of_member names b.member ++ counted (codes " events") b.events ++ counted (codes " forkers") b.forkers
-    ++ counted (codes " round") b.greatest ++ counted (codes " closed") b.closed ++ counted (codes " ordered") (length b.order) ++ codes "\n"
+    codes "node " ++ name_of_member names b.member ++ with_number (codes " events") b.events ++ with_number (codes " forkers") b.forkers
+    ++ with_number (codes " round") b.greatest ++ with_number (codes " closed") b.closed ++ with_number (codes " ordered") (length b.order) ++ codes "\n"
 
 abbrev pub block_text : Bool → List (List ℕ) → Block → List ℕ
 block_text named names b = head_text names b ++ order_text named names 1 b.order ++ balances_text names 0 b.balances
@@ -119,11 +119,11 @@ answer_line line word answer = decimal line ++ codes " " ++ word ++ codes " " ++
 
 abbrev pub pull_line : ℕ → ℕ → ℕ → List ℕ
 pull_line line taken refused =
-    decimal line ++ (counted (codes " pull taken") taken ++ (counted (codes " refused") refused ++ codes "\n"))
+    decimal line ++ (with_number (codes " pull taken") taken ++ (with_number (codes " refused") refused ++ codes "\n"))
 
 abbrev pub sync_line : ℕ → SyncReport → List ℕ
 sync_line line r =
-    decimal line ++ (counted (codes " sync taken") r.taken ++ (counted (codes " refused") r.refused
+    decimal line ++ (with_number (codes " sync taken") r.taken ++ (with_number (codes " refused") r.refused
     ++ (codes " made " ++ (sync_made_text r.made ++ codes "\n"))))
 
 abbrev pub printed_text : List (List ℕ) → Printed → List ℕ

@@ -6,9 +6,9 @@ use Rattle.hg_model.specs.Links.{Link, parents, self_parent}
 use Rattle.hg_model.specs.Seeing.{strongly_sees, is_supermajority}
 
 -- the greatest of the parents' rounds, or 1
-abbrev pub greatest_round : (ℕ → ℕ) → List ℕ → ℕ
-greatest_round round [] = 1
-greatest_round round (p ∷ ps) = max (round p) (greatest_round round ps)
+abbrev pub parent_round : (ℕ → ℕ) → List ℕ → ℕ
+parent_round round [] = 1
+parent_round round (p ∷ ps) = max (round p) (parent_round round ps)
 
 -- with these rounds x is a witness: it has no self-parent, or a round above its self-parent's
 abbrev pub is_witness_by : (ℕ → ℕ) → List Link → ℕ → Bool
@@ -22,7 +22,7 @@ is_seen_witness round n L r x y = is_witness_by round L y && round y == r && str
 -- and one more where the witnesses of round r that x strongly sees number more than two thirds of the members
 abbrev pub round_from : ℕ → List Link → (ℕ → ℕ) → ℕ → ℕ
 round_from n L round x =
-    let r = greatest_round round (parents L x) in
+    let r = parent_round round (parents L x) in
     cond (is_supermajority n (count_below x (is_seen_witness round n L r x))) (r + 1) r
 
 unfoldable pub round_of : ℕ → List Link → ℕ → ℕ

@@ -10,8 +10,8 @@ use Rattle.hg_model.specs.Order.{last_closed}
 use Rattle.hg_model.specs.Members.{MemberList, balances_of}
 use Rattle.hg_model.specs.Kept.{kept}
 use Rattle.hg_model.specs.Pay.{Book, book_of}
-use Rattle.hg_model.specs.History.{Event, State, Accepts, replay, IsHistory}
-use Rattle.hg_model.specs.History.Event.{Took, Made, Marked}
+use Rattle.hg_model.specs.History.{Change, State, Accepts, replay, IsHistory}
+use Rattle.hg_model.specs.History.Change.{Took, Made, Marked}
 
 -- what a node begins with and never changes: its own member, how many members there are, the coin period, the balances,
 -- and what it signs with and checks signatures by
@@ -34,11 +34,11 @@ start_of members own keys = record {
 
 pub record Shown (K : Type 0) : Type 0 where
   pub start : Start K
-  pub history : List Event
+  pub history : List Change
 
 -- the node with more events
-abbrev pub with_events : {K : Type 0} → Shown K → List Event → Shown K
-with_events v es = record { start = v.start; history = v.history ++ es }
+abbrev pub with_changes : {K : Type 0} → Shown K → List Change → Shown K
+with_changes v es = record { start = v.start; history = v.history ++ es }
 
 -- the state that the history leaves
 abbrev pub state_of : {K : Type 0} → Shown K → State
@@ -67,7 +67,7 @@ abbrev pub book_kept : {K : Type 0} → Shown K → Book
 book_kept v = book_of v.start.balances (graph_of v) (kept_of v)
 
 -- the log of a history from the row of this place on: the rows by their places
-abbrev pub log_from : ℕ → List Event → List Entry
+abbrev pub log_from : ℕ → List Change → List Entry
 log_from place [] = []
 log_from place (Took row ∷ h) = entry.Took place ∷ log_from (suc place) h
 log_from place (Made row ∷ h) = entry.Made place ∷ log_from (suc place) h
@@ -77,14 +77,14 @@ abbrev pub log : {K : Type 0} → Shown K → List Entry
 log v = log_from 0 v.history
 
 -- the event that an entry of a log tells of these rows
-abbrev pub event_of : List Row → Entry → Event
-event_of G (entry.Took place) = Took (get_or G place no_row)
-event_of G (entry.Made place) = Made (get_or G place no_row)
-event_of G (entry.Marked len share) = Marked len share
+abbrev pub change_of : List Row → Entry → Change
+change_of G (entry.Took place) = Took (get_or G place no_row)
+change_of G (entry.Made place) = Made (get_or G place no_row)
+change_of G (entry.Marked len share) = Marked len share
 
 -- the history that rows and a log tell
-abbrev pub history_of : List Row → List Entry → List Event
-history_of G entries = map (event_of G) entries
+abbrev pub history_of : List Row → List Entry → List Change
+history_of G entries = map (change_of G) entries
 
 -- what every node is, where these signatures are accepted
 pub record IsNode {K : Type 0} (accepts : K → Accepts) (v : Shown K) : Type 0 where

@@ -23,13 +23,13 @@ use Rattle.hg_model.specs.Reading.{read_event}
 abbrev pub row_limit : ℕ
 row_limit = 16384
 
-abbrev pub row_creator_in : Option Row → ℕ
-row_creator_in None = 0
-row_creator_in (Some row) = row.creator
+abbrev pub creator_of_row : Option Row → ℕ
+creator_of_row None = 0
+creator_of_row (Some row) = row.creator
 
 -- the creator of the row at a place
-abbrev pub row_creator : List Row → ℕ → ℕ
-row_creator G p = row_creator_in (slice_get G p)
+abbrev pub creator_at : List Row → ℕ → ℕ
+creator_at G p = creator_of_row (slice_get G p)
 
 -- the row of this place has these bytes
 abbrev pub has_bytes : List Row → ℕ → List ℕ → Bool
@@ -65,8 +65,8 @@ missing_rule G (Some names) =
 abbrev pub creator_rule : List Row → ℕ → Option (List ℕ × List ℕ) → Option PutAnswer
 creator_rule G m None = None
 creator_rule G m (Some names) =
-    if not (row_creator G (place_of G names.0) == m) then Some (Refused (fault.SelfCreator (place_of G names.0)))
-    else if row_creator G (place_of G names.1) == m then Some (Refused (fault.OtherCreator (place_of G names.1))) else None
+    if not (creator_at G (place_of G names.0) == m) then Some (Refused (fault.SelfCreator (place_of G names.0)))
+    else if creator_at G (place_of G names.1) == m then Some (Refused (fault.OtherCreator (place_of G names.1))) else None
 
 -- how many members have a fork with the row
 abbrev pub forkers_with : ℕ → List Row → Row → ℕ
@@ -158,7 +158,7 @@ abbrev pub other_rule : ℕ → List Row → Option (List ℕ) → Option MakeFa
 other_rule own G None = None
 other_rule own G (Some other) =
     if not (is_held G other) then Some (make_fault.MissingOther other)
-    else if row_creator G (place_of G other) == own then Some (make_fault.OtherCreator (place_of G other)) else None
+    else if creator_at G (place_of G other) == own then Some (make_fault.OtherCreator (place_of G other)) else None
 
 abbrev pub payload_rule : List ℕ → Option MakeFault
 payload_rule payload = if nat_lt payload_limit (length payload) then Some (make_fault.PayloadLong (length payload)) else None

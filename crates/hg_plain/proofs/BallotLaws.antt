@@ -11,7 +11,7 @@ use Rattle.hg_model.proofs.ListLaws.{count_by-list_below, length-list_below-le, 
 use Rattle.hg_model.proofs.VoteLaws.{vote_of-at}
 use Rattle.hg_plain.specs.declared.votes.Ballot.{Ballot}
 use Rattle.hg_plain.specs.declared.votes.Tally.{Tally}
-use Rattle.hg_plain.specs.Tables.{Tells}
+use Rattle.hg_plain.specs.Tables.{IsTableOf}
 use Rattle.hg_plain.specs.Elections.{voters_of, no_ballot, ballot_of, vote_at, tally_of}
 
 pub voters_below : (n : ℕ) (L : List Link) (y m : ℕ) (voters : List ℕ) → voters ≡ voters_of n L y → y ≤ m → AllByRecursion (λ w. w < m) voters
@@ -23,18 +23,18 @@ unfolding voters_of
 few_voters n L y voters is = rw is (length-list_below-le (λ w. w) y (is_voter n L y))
 
 module _ (n c : ℕ) (L : List Link) (coin : ℕ → Bool) (x y : ℕ) where
-  vote_at-told : (ballots : List Ballot) (w : ℕ) → Tells no_ballot (ballot_of n c L coin x) y ballots → w < y → vote_at ballots w ≡ vote_of n c L coin x w
+  vote_at-told : (ballots : List Ballot) (w : ℕ) → IsTableOf no_ballot (ballot_of n c L coin x) y ballots → w < y → vote_at ballots w ≡ vote_of n c L coin x w
   unfolding ballot_of
   vote_at-told ballots w told h = ap (λ (b : Ballot). b.vote) (told.at w h)
 
-  counted_yes : (ballots : List Ballot) → Tells no_ballot (ballot_of n c L coin x) y ballots →
+  counted_yes : (ballots : List Ballot) → IsTableOf no_ballot (ballot_of n c L coin x) y ballots →
       (tally_of ballots (voters_of n L y)).yes ≡ yes_votes n L (vote_of n c L coin x) y
   unfolding tally_of voters_of
   counted_yes ballots told =
       count_by-list_below (vote_at ballots) y (is_voter n L y)
       ∙ weight_below-same (λ _. 1) y _ _ (λ w h. rw (vote_at-told ballots w told h) refl)
 
-  counted_no : (ballots : List Ballot) → Tells no_ballot (ballot_of n c L coin x) y ballots →
+  counted_no : (ballots : List Ballot) → IsTableOf no_ballot (ballot_of n c L coin x) y ballots →
       (tally_of ballots (voters_of n L y)).no ≡ no_votes n L (vote_of n c L coin x) y
   unfolding tally_of voters_of
   counted_no ballots told =
@@ -57,7 +57,7 @@ module _ (n c : ℕ) (L : List Link) (coin : ℕ → Bool) (x y : ℕ) where
 
   -- any other number of rounds above x
   pub ballot_far : (ballots : List Ballot) (voters : List ℕ) (above m : ℕ) (bit : Bool) (tally : Tally) (weighed : Ballot) (witness : Bool) →
-      Tells no_ballot (ballot_of n c L coin x) y ballots → voters ≡ voters_of n L y → above ≡ rounds_above n L x y → above ≢ 1 → m ≡ n → bit ≡ coin y →
+      IsTableOf no_ballot (ballot_of n c L coin x) y ballots → voters ≡ voters_of n L y → above ≡ rounds_above n L x y → above ≢ 1 → m ≡ n → bit ≡ coin y →
       tally ≡ tally_of ballots voters → weighed.vote ≡ weighed_vote m c above tally.yes tally.no bit → weighed.decides ≡ weighed_decides m c above tally.yes tally.no →
       witness ≡ is_witness n L y → ◌≡◌ {A = Ballot} (record { vote = weighed.vote; decides = witness && weighed.decides }) (ballot_of n c L coin x y)
   unfolding ballot_of decides

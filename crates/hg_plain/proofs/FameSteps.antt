@@ -9,13 +9,13 @@ use Rattle.hg_model.specs.Fame.{fame_of}
 use Rattle.hg_model.proofs.PlacesLaws.{least_below_zero, least_below_passes, least_below_fails}
 use Rattle.hg_model.proofs.SearchLaws.{least_below-same, option_map-least_below}
 use Rattle.hg_model.proofs.FameLaws.{fame_of_witness}
-use Rattle.hg_plain.specs.Tables.{Tells}
+use Rattle.hg_plain.specs.Tables.{IsTableOf}
 use Rattle.hg_plain.specs.declared.votes.Ballot.{Ballot}
 use Rattle.hg_plain.specs.declared.fame.Decision.{Decision}
-use Rattle.hg_plain.specs.Elections.{no_ballot, ballot_of, vote_at, decides_at, decision_at, first_of, vote_in}
+use Rattle.hg_plain.specs.Elections.{no_ballot, ballot_of, vote_at, decides_at, decision_at, earlier_of, decided_vote}
 
 first_of-decision_at : (n : ℕ) (L : List Link) (ballots : List Ballot) (earlier : Option ℕ) (y : ℕ) →
-    first_of (option_map (decision_at n L ballots) earlier) (decision_at n L ballots y) ≡ decision_at n L ballots (lesser_of (round_of n L) earlier y)
+    earlier_of (option_map (decision_at n L ballots) earlier) (decision_at n L ballots y) ≡ decision_at n L ballots (lesser_of (round_of n L) earlier y)
 first_of-decision_at n L ballots None y = refl
 first_of-decision_at n L ballots (Some z) y = elim (cases_Bool (leb (round_of n L z) (round_of n L y))) [
   | inl le ↦ rw le refl
@@ -32,7 +32,7 @@ first_decision_fails n L ballots y fails = ap (option_map (decision_at n L ballo
 
 pub first_decision_passes : (n : ℕ) (L : List Link) (ballots : List Ballot) (y : ℕ) → decides_at ballots y ≡ true →
     option_map (decision_at n L ballots) (least_below (round_of n L) (y + 1) (decides_at ballots))
-    ≡ Some (first_of (option_map (decision_at n L ballots) (least_below (round_of n L) y (decides_at ballots))) (decision_at n L ballots y))
+    ≡ Some (earlier_of (option_map (decision_at n L ballots) (least_below (round_of n L) y (decides_at ballots))) (decision_at n L ballots y))
 first_decision_passes n L ballots y passes =
     ap (option_map (decision_at n L ballots)) (least_below_passes (round_of n L) y (decides_at ballots) passes)
     ∙ ap (λ d. Some d) (sym (first_of-decision_at n L ballots (least_below (round_of n L) y (decides_at ballots)) y))
@@ -43,8 +43,8 @@ twice_mapped g f (Some x) = refl
 
 -- the vote of the first decision is the fame
 pub fame_from_ballots : (n c : ℕ) (L : List Link) (coin : ℕ → Bool) (x : ℕ) (ballots : List Ballot) → x < length L → is_witness n L x ≡ true →
-    Tells no_ballot (ballot_of n c L coin x) (length L) ballots →
-    vote_in (option_map (decision_at n L ballots) (least_below (round_of n L) (length L) (decides_at ballots))) ≡ fame_of n c L coin x
+    IsTableOf no_ballot (ballot_of n c L coin x) (length L) ballots →
+    decided_vote (option_map (decision_at n L ballots) (least_below (round_of n L) (length L) (decides_at ballots))) ≡ fame_of n c L coin x
 unfolding ballot_of
 fame_from_ballots n c L coin x ballots h witness told =
     let key = round_of n L in

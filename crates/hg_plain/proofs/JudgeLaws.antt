@@ -14,7 +14,7 @@ use Rattle.hg_model.specs.Order.{sig_at, time_at, median, xor_bytes, can_receive
 use Rattle.hg_model.proofs.PlacesLaws.{list_below-same}
 use Rattle.hg_model.proofs.ListLaws.{map-list_below, list_any-list_below, list_all-list_below, none-list_below, all_list_below}
 use Rattle.hg_model.proofs.SearchLaws.{IsFoundBelow, least_below_found, least_below-same, greatest_below-same}
-use Rattle.hg_plain.specs.Tables.{Tells}
+use Rattle.hg_plain.specs.Tables.{IsTableOf}
 use Rattle.hg_plain.specs.Judges.{judges_of}
 use Rattle.hg_plain.specs.Received.{is_below_all, received_by, is_new_to_line, is_first_below, times_by, whitening_by}
 
@@ -48,7 +48,7 @@ module _ (n : ℕ) (L : List Link) (marks : Marks) where
   ]
 
   -- the table of judges tells the rounds received
-  pub received_is : (judges : List (List ℕ)) (x : ℕ) → Tells [] (judges_of n L marks) (suc (length L)) judges → received_by L judges x ≡ round_received n L marks x
+  pub received_is : (judges : List (List ℕ)) (x : ℕ) → IsTableOf [] (judges_of n L marks) (suc (length L)) judges → received_by L judges x ≡ round_received n L marks x
   unfolding received_by round_received
   received_is judges x told =
       rw told.len (least_below-same (λ r. r) (suc (length L)) _ (can_receive n L marks x)
@@ -95,14 +95,14 @@ module _ (n : ℕ) (L : List Link) (marks : Marks) where
   ]
 
   -- all judges are rows
-  pub judges_within : (judges : List (List ℕ)) (m : ℕ) → Tells [] (judges_of n L marks) (suc (length L)) judges → length L ≤ m →
+  pub judges_within : (judges : List (List ℕ)) (m : ℕ) → IsTableOf [] (judges_of n L marks) (suc (length L)) judges → length L ≤ m →
       All (λ (round : List ℕ). All (λ w. w < m) round) judges
   judges_within judges m told le = λ r d h.
       let inside : r < suc (length L) = omega (arith, told.len) in
       All-same (λ w. w < m) (get_or judges r d) (judges_of n L marks r) (get_or_default judges r d [] h ∙ told.at r inside) (judges_below r m le)
 
   -- the table of closed rounds tells the last of them
-  pub last_closed_is : (closed : List Bool) → Tells false (is_closed n L marks) (suc (length L)) closed →
+  pub last_closed_is : (closed : List Bool) → IsTableOf false (is_closed n L marks) (suc (length L)) closed →
       greatest_below (length closed) (λ r. get_or closed r false) ≡ last_closed n L marks
   unfolding last_closed
   last_closed_is closed told = rw told.len (greatest_below-same (suc (length L)) _ (is_closed n L marks) told.at)

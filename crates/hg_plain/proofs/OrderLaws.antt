@@ -16,7 +16,7 @@ use Rattle.hg_model.proofs.ListLaws.{map-list_below, all_list_below, IsPairwise-
 use Rattle.hg_model.proofs.SortLaws.{IsPairwise, IsPairwise-weaker, AgreesBackwards, all_sorted, sort_by-same, sort_by-map}
 use Rattle.hg_model.proofs.CompareLaws.{then_assoc, slice_cmp-append, is_lt-then}
 use Rattle.hg_plain.specs.declared.order.Key.{Key}
-use Rattle.hg_plain.specs.Tables.{Tells}
+use Rattle.hg_plain.specs.Tables.{IsTableOf}
 use Rattle.hg_plain.specs.Judges.{judges_of}
 use Rattle.hg_plain.specs.Received.{whitening_by}
 use Rattle.hg_plain.specs.Keys.{key_in, key_by, is_received_by, round_by, IsWide, key_less, placed_of}
@@ -56,7 +56,7 @@ placed_parts : (keys : List Key) → map (λ (keyed : List ℕ × Placed). keyed
 placed_parts [] = refl
 placed_parts (k ∷ ks) = ap (λ rest. placed_of k ∷ rest) (placed_parts ks)
 
-module _ (n : ℕ) (G : List Row) (L : List Link) (marks : Marks) (judges : List (List ℕ)) (told : Tells [] (judges_of n L marks) (suc (length L)) judges) where
+module _ (n : ℕ) (G : List Row) (L : List Link) (marks : Marks) (judges : List (List ℕ)) (told : IsTableOf [] (judges_of n L marks) (suc (length L)) judges) where
   key_place : (x : ℕ) → (key_by G L judges x).place ≡ x
   unfolding key_by
   key_place x = refl

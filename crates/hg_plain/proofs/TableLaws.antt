@@ -9,10 +9,10 @@ use Rattle.std.proofs.lemmas.List.FromFn.{get_or-map-range_with_len, length-map-
 use Rattle.hg_model.specs.Places.{table}
 use Rattle.std.proofs.lemmas.List.Sums.{prefix_len-le-length}
 use Rattle.std.proofs.lemmas.Option.{slice_get_read, slice_get-get_or}
-use Rattle.hg_plain.specs.Tables.{Tells, cells_of, column_at, cell_at, TellsPairs}
+use Rattle.hg_plain.specs.Tables.{IsTableOf, cells_of, column_at, cell_at, TellsPairs}
 
 -- a table with one more value
-pub Tells_more : {A : Type 0} (default : A) (value : ℕ → A) (n : ℕ) (xs : List A) (last : A) → Tells default value n xs → last ≡ value n → Tells default value (n + 1) (xs ++ last ∷ [])
+pub Tells_more : {A : Type 0} (default : A) (value : ℕ → A) (n : ℕ) (xs : List A) (last : A) → IsTableOf default value n xs → last ≡ value n → IsTableOf default value (n + 1) (xs ++ last ∷ [])
 Tells_more default value n xs last told is = record {
   len = length_push xs last ∙ ap (λ (k : ℕ). k + 1) told.len;
   at = λ k h. elim (cases_lt k n) [
@@ -21,7 +21,7 @@ Tells_more default value n xs last told is = record {
   ];
 }
 
-pub Tells_none : {A : Type 0} (default : A) (value : ℕ → A) → Tells default value 0 []
+pub Tells_none : {A : Type 0} (default : A) (value : ℕ → A) → IsTableOf default value 0 []
 Tells_none default value = record { len = refl; at = λ k h. absurd (omega arith) }
 
 pub ruleset tells_steps = (Tells_more, Tells_none)
@@ -49,7 +49,7 @@ column_read columns y column h is = ap cells_of (slice_get_read columns (length 
 
 -- one more column
 pub TellsPairs_more : (related : ℕ → ℕ → Bool) (rows n : ℕ) (columns : List (Vec Bool)) (last : Vec Bool) →
-    TellsPairs related rows n columns → Tells false (λ x. related x n) rows last.items → TellsPairs related rows (n + 1) (columns ++ last ∷ [])
+    TellsPairs related rows n columns → IsTableOf false (λ x. related x n) rows last.items → TellsPairs related rows (n + 1) (columns ++ last ∷ [])
 TellsPairs_more related rows n columns last told is = record {
   len = length_push columns last ∙ ap (λ (k : ℕ). k + 1) told.len;
   column = λ y h. elim (cases_lt y n) [
@@ -79,7 +79,7 @@ position_or_length test xs = elim (cases_lt (position_or_len test xs) (length xs
 ]
 
 -- a table that is whole is the list of the values
-pub Tells-table : {A : Type 0} (default : A) (value : ℕ → A) (n m : ℕ) (items : List A) → Tells default value n items → n ≡ m → items ≡ table value m
+pub Tells-table : {A : Type 0} (default : A) (value : ℕ → A) (n m : ℕ) (items : List A) → IsTableOf default value n items → n ≡ m → items ≡ table value m
 Tells-table default value n m items told same =
     ext_get_or default items (table value m) (told.len ∙ (same ∙ sym (length-map-range_with_len value 0 m)))
     (λ k h. let below : k < m = omega (arith, told.len) in

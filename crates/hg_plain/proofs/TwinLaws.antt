@@ -6,7 +6,7 @@ use Rattle.std.proofs.lemmas.Option.{slice_get_read, slice_get_cases}
 use Rattle.hg_model.specs.declared.row.Row.{Row}
 use Rattle.hg_model.specs.Places.{has_place, IsEarlier}
 use Rattle.hg_model.specs.Links.{place_of, parent_names, first_place, links, parents, self_parent, creator}
-use Rattle.hg_model.specs.Verdict.{row_creator, row_creator_in}
+use Rattle.hg_model.specs.Graph.{creator_at, creator_of_row}
 use Rattle.hg_model.specs.Forks.{has_fork}
 use Rattle.hg_model.proofs.PlacesLaws.{some_below_from, some_below_found}
 use Rattle.hg_model.proofs.LinkLaws.{length-links, creator-links, self_parent-links, same_place-same_name}
@@ -27,9 +27,9 @@ same_places G None (Some other) h = absurd (true≢false (sym h))
 same_places G (Some names) None h = absurd (true≢false (sym h))
 same_places G (Some names) (Some other) h = ap (λ name. place_of G name ∷ []) ((bytes_eq-Decides names.0 other.0).0 h)
 
-abbrev first_of : List ℕ → ℕ
-first_of [] = 0
-first_of (p ∷ ps) = p
+abbrev earlier_of : List ℕ → ℕ
+earlier_of [] = 0
+earlier_of (p ∷ ps) = p
 
 -- and equal places, where there are rows, for equal names
 same_names : (G : List Row) (one two : Option (List ℕ × List ℕ)) →
@@ -39,12 +39,12 @@ same_names G None None found same = refl
 same_names G None (Some other) found same = absurd cc
 same_names G (Some names) None found same = absurd cc
 same_names G (Some names) (Some other) found same =
-    let one_place : place_of G names.0 ≡ place_of G other.0 = ap first_of same in
+    let one_place : place_of G names.0 ≡ place_of G other.0 = ap earlier_of same in
     let inside : place_of G names.0 < length G = found (place_of G names.0) (has_place_first (place_of G names.0) []) in
     (bytes_eq-Decides names.0 other.0).1 (same_place-same_name G names.0 other.0 inside one_place)
 
-row_creator-links : (G : List Row) (x : ℕ) → x < length G → (row : Row) → row ≡ get_or G x row → row_creator G x ≡ creator (links G) x
-row_creator-links G x h row is = ap row_creator_in (slice_get_read G (length G) x row refl h is) ∙ sym (creator-links G x row h is)
+row_creator-links : (G : List Row) (x : ℕ) → x < length G → (row : Row) → row ≡ get_or G x row → creator_at G x ≡ creator (links G) x
+row_creator-links G x h row is = ap creator_of_row (slice_get_read G (length G) x row refl h is) ∙ sym (creator-links G x row h is)
 
 -- the row at a place
 row_at : (G : List Row) (x : ℕ) → x < length G → (row : Row) × (row ≡ get_or G x row)
@@ -85,10 +85,10 @@ module _ (G : List Row) (e : IsEarlier (parents (links G))) (own : (x p : ℕ) �
   unfolding has_twins has_twin_before
   twins_to_has x y m hx hy t =
       let row = row_at G x hx in
-      let test = λ (x : ℕ). eqb (row_creator G x) m && has_twin_before G x in
+      let test = λ (x : ℕ). eqb (creator_at G x) m && has_twin_before G x in
       some_below_from (length G) test x hx
-      (and_from (eqb (row_creator G x) m) (has_twin_before G x)
-      (eq-eqb (row_creator G x) m (row_creator-links G x hx row.0 row.1 ∙ t.first))
+      (and_from (eqb (creator_at G x) m) (has_twin_before G x)
+      (eq-eqb (creator_at G x) m (row_creator-links G x hx row.0 row.1 ∙ t.first))
       (some_below_from x (is_twin G x) y hy (rows_from_twins x y m hx (omega arith) t)))
 
   has_twins-from : (m : ℕ) → has_fork (links G) m ≡ true → has_twins G m ≡ true
@@ -104,15 +104,15 @@ module _ (G : List Row) (e : IsEarlier (parents (links G))) (own : (x p : ℕ) �
   has_twins-to : (m : ℕ) → has_twins G m ≡ true → has_fork (links G) m ≡ true
   unfolding has_twins has_twin_before
   has_twins-to m h =
-      let found = some_below_found (length G) (λ x. eqb (row_creator G x) m && has_twin_before G x) h in
+      let found = some_below_found (length G) (λ x. eqb (creator_at G x) m && has_twin_before G x) h in
       let x : ℕ = found.0 in
       let hx : x < length G = found.1 in
-      let parts = and_parts (eqb (row_creator G x) m) (has_twin_before G x) found.2 in
+      let parts = and_parts (eqb (creator_at G x) m) (has_twin_before G x) found.2 in
       let before = some_below_found x (is_twin G x) parts.1 in
       let y : ℕ = before.0 in
       let hy : y < x = before.1 in
       let row = row_at G x hx in
-      let by_m : creator (links G) x ≡ m = sym (row_creator-links G x hx row.0 row.1) ∙ eqb-true (row_creator G x) m parts.0 in
+      let by_m : creator (links G) x ≡ m = sym (row_creator-links G x hx row.0 row.1) ∙ eqb-true (creator_at G x) m parts.0 in
       let len = length-links G in
       has_fork_from (links G) m x y (omega arith) (omega arith)
       (is_fork_from (links G) m x y (fork_of_twins (links G) e own m x y (twins_from_rows x y m hx hy by_m before.2)))

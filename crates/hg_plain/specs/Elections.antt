@@ -36,10 +36,10 @@ abbrev pub decision_at : ℕ → List Link → List Ballot → ℕ → Decision
 decision_at n L ballots y = record { round = round_of n L y; vote = vote_at ballots y }
 
 -- of two decisions the one of the lesser round; the earlier where the rounds are equal
-abbrev pub first_of : Option Decision → Decision → Decision
-first_of None later = later
-first_of (Some earlier) later = cond (nat_le earlier.round later.round) earlier later
+abbrev pub earlier_of : Option Decision → Decision → Decision
+earlier_of None later = later
+earlier_of (Some earlier) later = cond (nat_le earlier.round later.round) earlier later
 
 -- the vote of a decision, if there is one
-abbrev pub vote_in : Option Decision → Option Bool
-vote_in decision = option_map (λ (d : Decision). d.vote) decision
+abbrev pub decided_vote : Option Decision → Option Bool
+decided_vote decision = option_map (λ (d : Decision). d.vote) decision

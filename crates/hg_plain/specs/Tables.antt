@@ -3,7 +3,7 @@ use Rattle.std.specs.Prelude.{ℕ, ◌≡◌, ◌<◌, Bool, false, List, [], le
 use Rattle.std.specs.Global.{Vec}
 
 -- xs has the value at each place below n, and no more; `default` stands for what is past its end
-pub record Tells {A : Type 0} (default : A) (value : ℕ → A) (n : ℕ) (xs : List A) : Type 0 where
+pub record IsTableOf {A : Type 0} (default : A) (value : ℕ → A) (n : ℕ) (xs : List A) : Type 0 where
   pub len : length xs ≡ n
   pub at : (k : ℕ) → k < n → get_or xs k default ≡ value k
 
@@ -22,4 +22,4 @@ cell_at columns x y = get_or (column_at columns y) x false
 -- a column for each place y below n, which has at each place x below `rows` whether x stands in the relation to y
 pub record TellsPairs (related : ℕ → ℕ → Bool) (rows n : ℕ) (columns : List (Vec Bool)) : Type 0 where
   pub len : length columns ≡ n
-  pub column : (y : ℕ) → y < n → Tells false (λ x. related x y) rows (column_at columns y)
+  pub column : (y : ℕ) → y < n → IsTableOf false (λ x. related x y) rows (column_at columns y)

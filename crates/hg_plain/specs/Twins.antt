@@ -3,7 +3,7 @@ use Rattle.std.specs.Prelude.{ℕ, Bool, true, false, ◌&&◌, ◌==◌, List, 
 use Rattle.std.specs.Str.{bytes_eq}
 use Rattle.hg_model.specs.declared.row.Row.{Row}
 use Rattle.hg_model.specs.Places.{some_below}
-use Rattle.hg_model.specs.Verdict.{row_creator}
+use Rattle.hg_model.specs.Graph.{creator_at}
 
 abbrev pub is_same_self_parent : Option (List ℕ × List ℕ) → Option (List ℕ × List ℕ) → Bool
 is_same_self_parent None None = true
@@ -29,4 +29,4 @@ has_twin_before G x = some_below x (is_twin G x)
 
 -- member m has twins
 unfoldable pub has_twins : List Row → ℕ → Bool
-has_twins G m = some_below (length G) (λ x. row_creator G x == m && has_twin_before G x)
+has_twins G m = some_below (length G) (λ x. creator_at G x == m && has_twin_before G x)

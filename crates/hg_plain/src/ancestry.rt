@@ -3,7 +3,7 @@ ghost use Rattle.std.specs.List.{list_any};
 ghost use Rattle.hg_model.specs.Places.{IsEarlier};
 ghost use Rattle.hg_model.specs.Links.{parents, self_parent};
 ghost use Rattle.hg_model.specs.Ancestry.{is_ancestor, is_self_ancestor};
-ghost use Rattle.hg_plain.specs.Tables.{Tells, TellsPairs};
+ghost use Rattle.hg_plain.specs.Tables.{IsTableOf, TellsPairs};
 
 use crate::links::{PlainLink, parents_of, self_parent_of};
 use crate::tables::cell;
@@ -99,7 +99,7 @@ fn any_self_parent(links: &[PlainLink], column: &[bool], x: usize) -> bool
 fn next_ancestor(links: &[PlainLink], column: &[bool], x: usize, y: usize) -> bool
     requires earlier { IsEarlier (parents links.now) }
     requires place { x < length links.now }
-    requires known { Tells false (λ k. is_ancestor links.now k y) x column.now }
+    requires known { IsTableOf false (λ k. is_ancestor links.now k y) x column.now }
     ensures { result ≡ is_ancestor links.now x y }
 {
     x == y || any_parent(links, column, x)
@@ -108,7 +108,7 @@ fn next_ancestor(links: &[PlainLink], column: &[bool], x: usize, y: usize) -> bo
 fn next_self_ancestor(links: &[PlainLink], column: &[bool], x: usize, y: usize) -> bool
     requires earlier { IsEarlier (parents links.now) }
     requires place { x < length links.now }
-    requires known { Tells false (λ k. is_self_ancestor links.now k y) x column.now }
+    requires known { IsTableOf false (λ k. is_self_ancestor links.now k y) x column.now }
     ensures { result ≡ is_self_ancestor links.now x y }
 {
     x == y || any_self_parent(links, column, x)
@@ -117,7 +117,7 @@ fn next_self_ancestor(links: &[PlainLink], column: &[bool], x: usize, y: usize) 
 #[tactic(auto, using(crate::proofs::TableLaws::tells_steps))]
 fn ancestor_column(alloc: Global, links: &[PlainLink], y: usize) -> Result<Vec<bool>, Memory>
     requires { IsEarlier (parents links.now) }
-    ensures { IfOk result (λ v. Tells false (λ x. is_ancestor links.now x y) (length links.now) v.items) }
+    ensures { IfOk result (λ v. IsTableOf false (λ x. is_ancestor links.now x y) (length links.now) v.items) }
 {
     let mut column = Vec::with_capacity(alloc, links.len())?;
     for x in 0..links.len() {
@@ -129,7 +129,7 @@ fn ancestor_column(alloc: Global, links: &[PlainLink], y: usize) -> Result<Vec<b
 #[tactic(auto, using(crate::proofs::TableLaws::tells_steps))]
 fn self_ancestor_column(alloc: Global, links: &[PlainLink], y: usize) -> Result<Vec<bool>, Memory>
     requires { IsEarlier (parents links.now) }
-    ensures { IfOk result (λ v. Tells false (λ x. is_self_ancestor links.now x y) (length links.now) v.items) }
+    ensures { IfOk result (λ v. IsTableOf false (λ x. is_self_ancestor links.now x y) (length links.now) v.items) }
 {
     let mut column = Vec::with_capacity(alloc, links.len())?;
     for x in 0..links.len() {

@@ -3,8 +3,8 @@ ghost use Rattle.hg_model.specs.Places.{least_below};
 ghost use Rattle.hg_model.specs.Rounds.{round_of};
 ghost use Rattle.hg_model.specs.Fame.{fame_of, fame_marks};
 ghost use Rattle.hg_model.specs.Order.{coin_at};
-ghost use Rattle.hg_plain.specs.Tables.{Tells};
-ghost use Rattle.hg_plain.specs.Elections.{voters_of, decides_at, decision_at, first_of, vote_in};
+ghost use Rattle.hg_plain.specs.Tables.{IsTableOf};
+ghost use Rattle.hg_plain.specs.Elections.{voters_of, decides_at, decision_at, earlier_of, decided_vote};
 
 use crate::sight::PlainSight;
 use crate::votes::{Ballot, ballots, voters};
@@ -19,8 +19,8 @@ pub struct Decision {
 }
 
 /// Of two decisions that of the lesser round, the earlier where the rounds are equal.
-fn first_of(earlier: Option<Decision>, later: Decision) -> Decision
-    ensures { result ≡ first_of earlier later }
+fn earlier_of(earlier: Option<Decision>, later: Decision) -> Decision
+    ensures { result ≡ earlier_of earlier later }
 {
     match earlier {
         Some(decision) if decision.round <= later.round => decision,
@@ -41,15 +41,15 @@ fn first_decision(sight: &PlainSight, ballots: &[Ballot]) -> Option<Decision>
                 round: sight.round(y),
                 vote: ballots[y].vote,
             };
-            first = Some(first_of(first, decision));
+            first = Some(earlier_of(first, decision));
         }
     }
     first
 }
 
 /// The vote of a decision, if there is one.
-fn vote_in(decision: Option<Decision>) -> Option<bool>
-    ensures { result ≡ vote_in decision }
+fn decided_vote(decision: Option<Decision>) -> Option<bool>
+    ensures { result ≡ decided_vote decision }
 {
     decision.map(|decision| decision.vote)
 }
@@ -67,14 +67,14 @@ fn fame(
     requires short { length rows.now < 2 ^ 32 - 1 }
     requires period { 0 < period }
     requires candidate { x < length sight.now.links }
-    requires voters { Tells [] (voters_of sight.now.members sight.now.links) (length sight.now.links) voters.now }
+    requires voters { IsTableOf [] (voters_of sight.now.members sight.now.links) (length sight.now.links) voters.now }
     ensures { IfOk result (λ fame. fame ≡ fame_of sight.now.members period sight.now.links (coin_at rows.now) x) }
 {
     if !sight.is_witness(x) {
         return Ok(None);
     }
     let ballots = ballots(alloc, sight, rows, period, voters, x)?;
-    Ok(vote_in(first_decision(sight, &ballots)))
+    Ok(decided_vote(first_decision(sight, &ballots)))
 }
 
 /// The fame of all rows.

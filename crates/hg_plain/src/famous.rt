@@ -1,7 +1,7 @@
 ghost use Rattle.std.specs.Prelude.{◌≡◌, ◌<◌, ◌+◌, ◌-◌, ◌^◌, [], false, suc, length, IfOk, slice_index_or};
 ghost use Rattle.hg_model.specs.Places.{some_below, greatest_below};
 ghost use Rattle.hg_model.specs.Fame.{is_witness_in, is_unmarked, is_closed, is_famous_in, is_rival, is_unique_famous};
-ghost use Rattle.hg_plain.specs.Tables.{Tells};
+ghost use Rattle.hg_plain.specs.Tables.{IsTableOf};
 ghost use Rattle.hg_plain.specs.Judges.{judges_of};
 
 use crate::sight::PlainSight;
@@ -70,7 +70,7 @@ pub fn closed_rounds(
 ) -> Result<Vec<bool>, Memory>
     requires same { length marks.now ≡ length sight.now.links }
     requires short { length marks.now < 2 ^ 32 - 1 }
-    ensures { IfOk result (λ v. Tells false (is_closed sight.now.members sight.now.links marks.now) (suc (length sight.now.links)) v.items) }
+    ensures { IfOk result (λ v. IsTableOf false (is_closed sight.now.members sight.now.links marks.now) (suc (length sight.now.links)) v.items) }
 {
     let mut closed = Vec::new(alloc);
     for r in 0..marks.len() as u32 + 1 {
@@ -173,8 +173,8 @@ pub fn judges(
 ) -> Result<Vec<Items<usize>>, Memory>
     requires same { length marks.now ≡ length sight.now.links }
     requires short { length marks.now < 2 ^ 32 - 1 }
-    requires closed { Tells false (is_closed sight.now.members sight.now.links marks.now) (suc (length sight.now.links)) closed.now }
-    ensures { IfOk result (λ v. Tells [] (judges_of sight.now.members sight.now.links marks.now) (suc (length sight.now.links)) v.items) }
+    requires closed { IsTableOf false (is_closed sight.now.members sight.now.links marks.now) (suc (length sight.now.links)) closed.now }
+    ensures { IfOk result (λ v. IsTableOf [] (judges_of sight.now.members sight.now.links marks.now) (suc (length sight.now.links)) v.items) }
 {
     let mut judges = Vec::new(alloc);
     for (r, is_closed) in closed.iter().enumerate() {

@@ -3,7 +3,7 @@ ghost use Rattle.hg_model.specs.Places.{IsEarlier, has_place};
 ghost use Rattle.hg_model.specs.Links.{creator, links, parents, self_parent};
 ghost use Rattle.hg_model.specs.Forks.{forkers, has_fork};
 ghost use Rattle.hg_model.specs.Graph.{IsShaped};
-ghost use Rattle.hg_model.specs.Verdict.{row_creator};
+ghost use Rattle.hg_model.specs.Graph.{creator_at};
 ghost use Rattle.hg_plain.specs.Twins.{has_twin_before, has_twins, is_same_self_parent, is_twin, is_twin_row};
 
 use hg_model::{Name, Row};
@@ -47,7 +47,7 @@ fn has_twins(rows: &[Row], member: u32) -> bool
 
 fn is_by(rows: &[Row], x: usize, member: u32) -> bool
     requires { x < length rows.now }
-    ensures { result ≡ (row_creator rows.now x == member) }
+    ensures { result ≡ (creator_at rows.now x == member) }
 {
     u32::from(rows[x].creator) == member
 }

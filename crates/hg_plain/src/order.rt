@@ -4,7 +4,7 @@ ghost use Rattle.hg_model.specs.Places.{list_below, IsEarlier};
 ghost use Rattle.hg_model.specs.Links.{parents};
 ghost use Rattle.hg_model.specs.Fame.{is_closed};
 ghost use Rattle.hg_model.specs.Order.{sort_by, ordered};
-ghost use Rattle.hg_plain.specs.Tables.{Tells};
+ghost use Rattle.hg_plain.specs.Tables.{IsTableOf};
 ghost use Rattle.hg_plain.specs.Received.{whitening_by};
 ghost use Rattle.hg_plain.specs.Keys.{IsWide, key_in, key_by, key_if, is_received_by, key_less, placed_of};
 
@@ -66,7 +66,7 @@ fn key_by(
     requires same { length rows.now ≡ length sight.now.links }
     requires short { length judges.now < 2 ^ 32 }
     requires judges { All (λ (round : List ℕ). All (λ w. w < length sight.now.links) round) judges.now }
-    requires whitenings { Tells [] (λ r. whitening_by rows.now (slice_index_or judges.now r [])) (length judges.now) whitenings.now }
+    requires whitenings { IsTableOf [] (λ r. whitening_by rows.now (slice_index_or judges.now r [])) (length judges.now) whitenings.now }
     requires row { x < length sight.now.links }
     requires earlier { IsEarlier (parents sight.now.links) }
     ensures value { IfOk result (λ key. key ≡ key_if rows.now sight.now.links judges.now x) }
@@ -104,7 +104,7 @@ fn keys(
     requires same { length rows.now ≡ length sight.now.links }
     requires short { length judges.now < 2 ^ 32 }
     requires judges { All (λ (round : List ℕ). All (λ w. w < length sight.now.links) round) judges.now }
-    requires whitenings { Tells [] (λ r. whitening_by rows.now (slice_index_or judges.now r [])) (length judges.now) whitenings.now }
+    requires whitenings { IsTableOf [] (λ r. whitening_by rows.now (slice_index_or judges.now r [])) (length judges.now) whitenings.now }
     requires earlier { IsEarlier (parents sight.now.links) }
     ensures keys { IfOk result (λ v. v.items ≡ list_below (key_by rows.now sight.now.links judges.now) (length sight.now.links) (is_received_by sight.now.links judges.now)) }
     ensures wide { IfOk result (λ v. All IsWide v.items) }
@@ -154,7 +154,7 @@ pub fn ordered_rows(
     requires marked { length marks.now ≡ length sight.now.links }
     requires short { length rows.now < 2 ^ 32 - 1 }
     requires earlier { IsEarlier (parents sight.now.links) }
-    requires closed { Tells false (is_closed sight.now.members sight.now.links marks.now) (suc (length sight.now.links)) closed.now }
+    requires closed { IsTableOf false (is_closed sight.now.members sight.now.links marks.now) (suc (length sight.now.links)) closed.now }
     ensures order { IfOk result (λ v. v.items ≡ ordered sight.now.members rows.now sight.now.links marks.now) }
     ensures within { IfOk result (λ v. All (λ (p : Placed). p.place < length sight.now.links) v.items) }
 {

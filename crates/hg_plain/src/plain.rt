@@ -8,7 +8,7 @@ ghost use Rattle.hg_model.specs.Order.{coin_at, last_closed, order_of, sequence_
 ghost use Rattle.hg_model.specs.Ledger.{closed_of, order_line};
 ghost use Rattle.hg_model.specs.declared.row.Placed.{Placed};
 ghost use Rattle.hg_model.specs.Shape.{shape_of};
-ghost use Rattle.hg_plain.specs.Tables.{Tells};
+ghost use Rattle.hg_plain.specs.Tables.{IsTableOf};
 
 use crate::fame::marks;
 use crate::famous::{closed_rounds, last_closed};
@@ -51,7 +51,7 @@ fn elect(alloc: Global, rows: &[Row], members: u32, coin: u32) -> Result<Elected
     requires coin { 0 < coin }
     ensures sight { IfOk result (λ e. e.sight ≡ shape_of members (links rows.now)) }
     ensures marks { IfOk result (λ e. e.marks.items ≡ fame_marks members coin (links rows.now) (coin_at rows.now)) }
-    ensures closed { IfOk result (λ e. Tells false (is_closed e.sight.members e.sight.links e.marks.items) (suc (length e.sight.links)) e.closed.items) }
+    ensures closed { IfOk result (λ e. IsTableOf false (is_closed e.sight.members e.sight.links e.marks.items) (suc (length e.sight.links)) e.closed.items) }
     ensures same { IfOk result (λ e. length rows.now ≡ length e.sight.links) }
     ensures marked { IfOk result (λ e. length e.marks.items ≡ length e.sight.links) }
 {
@@ -85,7 +85,7 @@ pub fn plain_order(
 /// What the procedures tell besides the order.
 fn state_of(graph: &Elected) -> PlainState
     requires short { length graph.now.sight.links < 2 ^ 32 - 1 }
-    requires closed { Tells false (is_closed graph.now.sight.members graph.now.sight.links graph.now.marks.items) (suc (length graph.now.sight.links)) graph.now.closed.items }
+    requires closed { IsTableOf false (is_closed graph.now.sight.members graph.now.sight.links graph.now.marks.items) (suc (length graph.now.sight.links)) graph.now.closed.items }
     ensures forkers { result.forkers ≡ forkers graph.now.sight.members graph.now.sight.links }
     ensures greatest { result.greatest ≡ last_round graph.now.sight.members graph.now.sight.links }
     ensures closed { result.closed ≡ last_closed graph.now.sight.members graph.now.sight.links graph.now.marks.items }

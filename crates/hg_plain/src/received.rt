@@ -4,7 +4,7 @@ ghost use Rattle.hg_model.specs.Places.{IsEarlier};
 ghost use Rattle.hg_model.specs.Links.{parents};
 ghost use Rattle.hg_model.specs.Ancestry.{is_ancestor, is_self_ancestor};
 ghost use Rattle.hg_model.specs.Order.{median, xor_bytes};
-ghost use Rattle.hg_plain.specs.Tables.{Tells};
+ghost use Rattle.hg_plain.specs.Tables.{IsTableOf};
 ghost use Rattle.hg_plain.specs.Received.{is_below_all, received_by, is_new_to_line, is_first_below, times_by, whitening_by};
 
 use crate::sight::PlainSight;
@@ -182,7 +182,7 @@ fn whitening(rows: &[Row], judges: &[usize]) -> Sig
 #[tactic(auto, using(crate::proofs::TableLaws::tells_steps))]
 pub fn whitenings(alloc: Global, rows: &[Row], judges: &[Items<usize>]) -> Result<Vec<Sig>, Memory>
     requires { All (λ (round : List ℕ). All (λ w. w < length rows.now) round) judges.now }
-    ensures { IfOk result (λ v. Tells [] (λ r. whitening_by rows.now (slice_index_or judges.now r [])) (length judges.now) v.items) }
+    ensures { IfOk result (λ v. IsTableOf [] (λ r. whitening_by rows.now (slice_index_or judges.now r [])) (length judges.now) v.items) }
 {
     let mut whitenings = Vec::new(alloc);
     for round in judges {

@@ -2,8 +2,8 @@ ghost use Rattle.std.specs.Prelude.{◌≡◌, ◌<◌, ◌≤◌, ◌-◌, ◌^
 ghost use Rattle.hg_model.specs.Places.{IsEarlier, count_below, maximum_below};
 ghost use Rattle.hg_model.specs.Links.{parents};
 ghost use Rattle.hg_model.specs.Seeing.{is_supermajority, strongly_sees};
-ghost use Rattle.hg_model.specs.Rounds.{greatest_round, is_seen_witness, is_witness_by, round_of};
-ghost use Rattle.hg_plain.specs.Tables.{Tells, TellsPairs};
+ghost use Rattle.hg_model.specs.Rounds.{parent_round, is_seen_witness, is_witness_by, round_of};
+ghost use Rattle.hg_plain.specs.Tables.{IsTableOf, TellsPairs};
 
 use crate::links::{PlainLink, parents_of, self_parent_of};
 use crate::seeing::Seeing;
@@ -16,7 +16,7 @@ use std::alloc::Global;
 pub fn rounds_of(alloc: Global, seeing: &Seeing, strong: &[Vec<bool>]) -> Result<Vec<u32>, Memory>
     requires strong { TellsPairs (strongly_sees seeing.now.members seeing.now.links) (length seeing.now.links) (length seeing.now.links) strong.now }
     requires short { length seeing.now.links < 2 ^ 32 - 1 }
-    ensures { IfOk result (λ v. Tells 0 (round_of seeing.now.members seeing.now.links) (length seeing.now.links) v.items) }
+    ensures { IfOk result (λ v. IsTableOf 0 (round_of seeing.now.members seeing.now.links) (length seeing.now.links) v.items) }
 {
     let len = seeing.ancestry().links().len();
     let mut rounds = Vec::with_capacity(alloc, len)?;
@@ -30,11 +30,11 @@ pub fn rounds_of(alloc: Global, seeing: &Seeing, strong: &[Vec<bool>]) -> Result
 fn next_round(seeing: &Seeing, strong: &[Vec<bool>], rounds: &[u32], x: usize) -> u32
     requires place { x < length seeing.now.links }
     requires strong { TellsPairs (strongly_sees seeing.now.members seeing.now.links) (length seeing.now.links) (length seeing.now.links) strong.now }
-    requires known { Tells 0 (round_of seeing.now.members seeing.now.links) x rounds.now }
+    requires known { IsTableOf 0 (round_of seeing.now.members seeing.now.links) x rounds.now }
     requires short { x < 2 ^ 32 - 1 }
     ensures { result ≡ round_of seeing.now.members seeing.now.links x }
 {
-    let r = greatest_round(seeing.ancestry().links(), rounds, x);
+    let r = parent_round(seeing.ancestry().links(), rounds, x);
     if is_supermajority(seeing.members(), count_seen(seeing, strong, rounds, r, x)) {
         r + 1
     } else {
@@ -43,11 +43,11 @@ fn next_round(seeing: &Seeing, strong: &[Vec<bool>], rounds: &[u32], x: usize) -
 }
 
 /// The greatest of the rounds of the parents of row `x`, or 1.
-fn greatest_round(links: &[PlainLink], rounds: &[u32], x: usize) -> u32
+fn parent_round(links: &[PlainLink], rounds: &[u32], x: usize) -> u32
     requires place { x < length links.now }
     requires earlier { IsEarlier (parents links.now) }
     requires known { x ≤ length rounds.now }
-    ensures { result ≡ greatest_round (λ p. slice_index rounds.now p) (parents links.now x) }
+    ensures { result ≡ parent_round (λ p. slice_index rounds.now p) (parents links.now x) }
 {
     match parents_of(links, x) {
         None => 1,

@@ -3,7 +3,7 @@ ghost use Rattle.hg_model.specs.Links.{creator, links};
 ghost use Rattle.hg_model.specs.Graph.{IsShaped};
 ghost use Rattle.hg_model.specs.Ancestry.{is_ancestor, some_ancestor};
 ghost use Rattle.hg_model.specs.Forks.{has_fork, has_fork_below, is_fork};
-ghost use Rattle.hg_plain.specs.Tables.{Tells, TellsPairs};
+ghost use Rattle.hg_plain.specs.Tables.{IsTableOf, TellsPairs};
 
 use crate::ancestry::Ancestry;
 use crate::forks::has_fork;
@@ -24,13 +24,13 @@ pub struct Seeing {
 
 impl Model for Seeing {
     ghost use Rattle.hg_model.specs.Shape.{Shape, shape_of};
-    ghost use Rattle.hg_plain.specs.Held.{HoldsForks};
+    ghost use Rattle.hg_plain.specs.Held.{HoldsForkTable};
 
     ghost Value = { Shape };
 
     ghost view = { λ s. shape_of s.members s.ancestry };
 
-    ghost invariant = { λ s. HoldsForks s.members s.ancestry s.forked.items };
+    ghost invariant = { λ s. HoldsForkTable s.members s.ancestry s.forked.items };
 }
 
 impl Seeing {
@@ -112,7 +112,7 @@ fn forked_column(
     has: bool,
 ) -> Result<Vec<bool>, Memory>
     requires { has ≡ has_fork ancestry.now member }
-    ensures { IfOk result (λ v. Tells false (λ x. has_fork_below ancestry.now x member) (length ancestry.now) v.items) }
+    ensures { IfOk result (λ v. IsTableOf false (λ x. has_fork_below ancestry.now x member) (length ancestry.now) v.items) }
 {
     let len = ancestry.links().len();
     let mut column = Vec::with_capacity(alloc, len)?;

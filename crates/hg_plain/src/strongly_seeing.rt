@@ -2,7 +2,7 @@ ghost use Rattle.std.specs.Prelude.{◌≡◌, ℕ, ◌<◌, ◌≤◌, ◌&&◌
 ghost use Rattle.hg_model.specs.Places.{count_below};
 ghost use Rattle.hg_model.specs.Links.{creator};
 ghost use Rattle.hg_model.specs.Seeing.{sees, sees_through, strongly_sees};
-ghost use Rattle.hg_plain.specs.Tables.{Tells, TellsPairs, cell_at, column_at};
+ghost use Rattle.hg_plain.specs.Tables.{IsTableOf, TellsPairs, cell_at, column_at};
 
 use crate::ancestry::any_parent;
 use crate::links::creator_of;
@@ -27,7 +27,7 @@ pub fn strong_columns(alloc: Global, seeing: &Seeing) -> Result<Vec<Vec<bool>>, 
 #[tactic(auto, using(crate::proofs::TableLaws::tells_steps))]
 fn strong_column(alloc: Global, seeing: &Seeing, y: usize) -> Result<Vec<bool>, Memory>
     requires { y < length seeing.now.links }
-    ensures { IfOk result (λ v. Tells false (λ x. strongly_sees seeing.now.members seeing.now.links x y) (length seeing.now.links) v.items) }
+    ensures { IfOk result (λ v. IsTableOf false (λ x. strongly_sees seeing.now.members seeing.now.links x y) (length seeing.now.links) v.items) }
 {
     let through = through_columns(alloc, seeing, y)?;
     let len = seeing.ancestry().links().len();
@@ -86,7 +86,7 @@ fn through_column(
     member: u32,
 ) -> Result<Vec<bool>, Memory>
     requires { y < length seeing.now.links }
-    ensures { IfOk result (λ v. Tells false (λ x. sees_through seeing.now.links x y member) (length seeing.now.links) v.items) }
+    ensures { IfOk result (λ v. IsTableOf false (λ x. sees_through seeing.now.links x y member) (length seeing.now.links) v.items) }
 {
     let len = seeing.ancestry().links().len();
     let mut column = Vec::with_capacity(alloc, len)?;
@@ -101,7 +101,7 @@ fn through_column(
 fn next_through(seeing: &Seeing, column: &[bool], x: usize, y: usize, member: u32) -> bool
     requires place { x < length seeing.now.links }
     requires seen { y < length seeing.now.links }
-    requires known { Tells false (λ k. sees_through seeing.now.links k y member) x column.now }
+    requires known { IsTableOf false (λ k. sees_through seeing.now.links k y member) x column.now }
     ensures { result ≡ sees_through seeing.now.links x y member }
 {
     let links = seeing.ancestry().links();

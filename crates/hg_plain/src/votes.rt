@@ -2,7 +2,7 @@ ghost use Rattle.std.specs.Prelude.{◌≡◌, ◌<◌, ◌≤◌, ◌-◌, ◌^
 ghost use Rattle.std.specs.List.{AllByRecursion};
 ghost use Rattle.hg_model.specs.Votes.{is_voter, weighed_vote, weighed_decides};
 ghost use Rattle.hg_model.specs.Order.{coin_at};
-ghost use Rattle.hg_plain.specs.Tables.{Tells};
+ghost use Rattle.hg_plain.specs.Tables.{IsTableOf};
 ghost use Rattle.hg_plain.specs.Elections.{voters_of, no_ballot, ballot_of, tally_of};
 
 use crate::sight::PlainSight;
@@ -53,7 +53,7 @@ fn voters_of(alloc: Global, sight: &PlainSight, y: usize) -> Result<Items<usize>
 /// The voters of each row.
 #[tactic(auto, using(crate::proofs::TableLaws::tells_steps))]
 pub fn voters(alloc: Global, sight: &PlainSight) -> Result<Vec<Items<usize>>, Memory>
-    ensures { IfOk result (λ v. Tells [] (voters_of sight.now.members sight.now.links) (length sight.now.links) v.items) }
+    ensures { IfOk result (λ v. IsTableOf [] (voters_of sight.now.members sight.now.links) (length sight.now.links) v.items) }
 {
     let mut voters = Vec::new(alloc);
     for y in 0..sight.len() {
@@ -124,7 +124,7 @@ fn next_ballot(
     requires candidate { x < length sight.now.links }
     requires row { y < length sight.now.links }
     requires voters { voters.now ≡ voters_of sight.now.members sight.now.links y }
-    requires known { Tells no_ballot (ballot_of sight.now.members period sight.now.links (coin_at rows.now) x) y ballots.now }
+    requires known { IsTableOf no_ballot (ballot_of sight.now.members period sight.now.links (coin_at rows.now) x) y ballots.now }
     ensures { result ≡ ballot_of sight.now.members period sight.now.links (coin_at rows.now) x y }
 {
     let above = sight.round(y).saturating_sub(sight.round(x));
@@ -156,8 +156,8 @@ pub fn ballots(
     requires short { length rows.now < 2 ^ 32 - 1 }
     requires period { 0 < period }
     requires candidate { x < length sight.now.links }
-    requires voters { Tells [] (voters_of sight.now.members sight.now.links) (length sight.now.links) voters.now }
-    ensures { IfOk result (λ v. Tells no_ballot (ballot_of sight.now.members period sight.now.links (coin_at rows.now) x) (length sight.now.links) v.items) }
+    requires voters { IsTableOf [] (voters_of sight.now.members sight.now.links) (length sight.now.links) voters.now }
+    ensures { IfOk result (λ v. IsTableOf no_ballot (ballot_of sight.now.members period sight.now.links (coin_at rows.now) x) (length sight.now.links) v.items) }
 {
     let mut ballots = Vec::new(alloc);
     for y in 0..sight.len() {

@@ -15,7 +15,7 @@ use Rattle.hg_model.specs.Verdict.{is_held}
 use Rattle.hg_model.specs.Gossip.{lacking}
 use Rattle.std.proofs.Math.Seq.{drop-cons}
 use Rattle.hg_play.specs.Labels.{later_row}
-use Rattle.hg_play.specs.Node.{IsNode, IsShort, missing_row, node}
+use Rattle.hg_play.specs.Node.{IsNodeState, IsShort, missing_row, node}
 
 all-push : {A : Type 0} (P : A → Type 0) (xs : List A) (x : A) → AllByRecursion P xs → P x → AllByRecursion P (xs ++ x ∷ [])
 all-push P [] x all here = (here, tt)
@@ -26,7 +26,7 @@ all_at P [] k d all inside = absurd (omega arith)
 all_at P (x ∷ xs) Rattle.std.proofs.Common.zero d all inside = all.0
 all_at P (x ∷ xs) (Rattle.std.proofs.Common.suc k) d all inside = all_at P xs k d all.1 (omega arith)
 
-pub new_is_node : (n own : ℕ) → own < n → n ≤ 128 → IsNode (node n own [])
+pub new_is_node : (n own : ℕ) → own < n → n ≤ 128 → IsNodeState (node n own [])
 new_is_node n own member few = record {
   own = member;
   members = few;
@@ -36,7 +36,7 @@ new_is_node n own member few = record {
   room = omega arith;
 }
 
-node-push : (n own : ℕ) (G : List Row) (row : Row) → IsNode (node n own G) → Fits n G row → length G ≤ place_of G row.name → IsShort row → length G < row_limit → IsNode (node n own (G ++ row ∷ []))
+node-push : (n own : ℕ) (G : List Row) (row : Row) → IsNodeState (node n own G) → Fits n G row → length G ≤ place_of G row.name → IsShort row → length G < row_limit → IsNodeState (node n own (G ++ row ∷ []))
 node-push n own G row is fits new_name short room = record {
   own = is.own;
   members = is.members;
@@ -47,16 +47,16 @@ node-push n own G row is fits new_name short room = record {
 }
 
 -- a row that is put and not refused
-pub taken_is_node : (accepts : ℕ → List ℕ → List ℕ → Rattle.std.specs.Prelude.Bool) (n own : ℕ) (G H : List Row) (row : Row) → IsNode (node n own G) → IsShort row →
-    arrival_rule accepts n own G row ≡ None → option_or (forkers_rule n G row) (full_rule G) ≡ None → H ≡ G ++ row ∷ [] → IsNode (node n own H)
+pub taken_is_node : (accepts : ℕ → List ℕ → List ℕ → Rattle.std.specs.Prelude.Bool) (n own : ℕ) (G H : List Row) (row : Row) → IsNodeState (node n own G) → IsShort row →
+    arrival_rule accepts n own G row ≡ None → option_or (forkers_rule n G row) (full_rule G) ≡ None → H ≡ G ++ row ∷ [] → IsNodeState (node n own H)
 taken_is_node accepts n own G H row is short arrival rest grown =
     let a = arrives accepts n own G row arrival in
     rw grown (node-push n own G row is a.fits a.new_name short (has_room n G row rest))
 
 -- a row that is made and not refused
-pub made_is_node : (n own : ℕ) (G H : List Row) (other : Option (List ℕ)) (time : ℕ) (payload sig : List ℕ) → IsNode (node n own G) →
+pub made_is_node : (n own : ℕ) (G H : List Row) (other : Option (List ℕ)) (time : ℕ) (payload sig : List ℕ) → IsNodeState (node n own G) →
     draft_rule own G other payload ≡ None → option_or (collision_rule G (signed_row own (both_names (last_name own G) other) time payload sig)) (room_rule G) ≡ None →
-    H ≡ G ++ signed_row own (both_names (last_name own G) other) time payload sig ∷ [] → IsNode (node n own H)
+    H ≡ G ++ signed_row own (both_names (last_name own G) other) time payload sig ∷ [] → IsNodeState (node n own H)
 made_is_node n own G H other time payload sig is draft rest grown =
     let row : Row = signed_row own (both_names (last_name own G) other) time payload sig in
     let d = drafted n own G other payload is.distinct draft in

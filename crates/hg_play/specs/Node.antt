@@ -18,7 +18,7 @@ abbrev pub IsShort : Row → Type 0
 IsShort row = length row.payload ≤ payload_limit
 
 -- what every node keeps to
-pub record IsNode (s : NodeState) : Type 0 where
+pub record IsNodeState (s : NodeState) : Type 0 where
   pub own : s.own < s.members
   pub members : s.members ≤ 128
   pub shaped : IsShaped s.members (links s.rows)

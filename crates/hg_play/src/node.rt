@@ -12,7 +12,7 @@ ghost use Rattle.hg_model.specs.Gossip.{count_refused, count_taken, lacking, mak
 ghost use Rattle.hg_model.specs.Fits.{Fits};
 ghost use Rattle.hg_sign.specs.Table.{accepts_by, signature_by};
 ghost use Rattle.hg_play.specs.Labels.{last_bytes};
-ghost use Rattle.hg_play.specs.Node.{IsNode, IsShort, keys_by, missing_row, node};
+ghost use Rattle.hg_play.specs.Node.{IsNodeState, IsShort, keys_by, missing_row, node};
 
 use crate::rules::{
     both_names, creator_rule, draft_rule, forkers_rule, full_rule, impostor_rule, is_held,
@@ -156,13 +156,13 @@ fn put_row(
     bytes: &[u8],
     body: &[u8],
 ) -> Result<PutAnswer, Memory>
-    requires node { IsNode (node members own rows.old.items) }
+    requires node { IsNodeState (node members own rows.old.items) }
     requires row { IsShort row }
     requires bytes { bytes.now ≡ spelling row }
     requires body { body.now ≡ body_of row }
     ensures answer { IfOk result (λ answer. answer ≡ row_verdict (accepts_by keys.now) members own rows.old.items row) }
     ensures rows { IfOk result (λ answer. rows.new.items ≡ with_answer rows.old.items row answer) }
-    ensures node { IsNode (node members own rows.new.items) }
+    ensures node { IsNodeState (node members own rows.new.items) }
 {
     match arrival_rule(alloc, keys, members, own, rows, &row, bytes, body)? {
         Some(answer) => Ok(answer),
@@ -201,10 +201,10 @@ fn put_bytes(
     rows: &mut Vec<Row>,
     bytes: &[u8],
 ) -> Result<PutAnswer, Memory>
-    requires { IsNode (node members own rows.old.items) }
+    requires { IsNodeState (node members own rows.old.items) }
     ensures answer { IfOk result (λ answer. answer ≡ verdict (accepts_by keys.now) members own rows.old.items bytes.now) }
     ensures rows { OnOk result (rows.new.items ≡ rows_after (accepts_by keys.now) members own rows.old.items bytes.now) }
-    ensures node { IsNode (node members own rows.new.items) }
+    ensures node { IsNodeState (node members own rows.new.items) }
 {
     match decode(bytes) {
         Err(fault) => Ok(PutAnswer::Refused(Fault::Bytes(fault))),
@@ -226,10 +226,10 @@ fn make_row(
     time: u64,
     payload: &[u8],
 ) -> Result<MakeAnswer, Memory>
-    requires node { IsNode (node members own rows.old.items) }
+    requires node { IsNodeState (node members own rows.old.items) }
     ensures answer { IfOk result (λ answer. answer ≡ making_by (keys_by keys.now) (node members own rows.old.items) other time payload.now) }
     ensures rows { IfOk result (λ answer. node members own rows.new.items ≡ node_made (keys_by keys.now) (node members own rows.old.items) other time payload.now) }
-    ensures node { IsNode (node members own rows.new.items) }
+    ensures node { IsNodeState (node members own rows.new.items) }
 {
     match draft_rule(rows, own, &other, payload) {
         Some(fault) => Ok(MakeAnswer::Refused(fault)),
@@ -323,19 +323,19 @@ pub(crate) struct Node {
 
 impl Model for Node {
     ghost use Rattle.hg_model.specs.Gossip.{NodeState};
-    ghost use Rattle.hg_play.specs.Node.{IsNode, node};
+    ghost use Rattle.hg_play.specs.Node.{IsNodeState, node};
 
     ghost Value = { NodeState };
 
     ghost view = { λ s. node s.members s.own s.rows.items };
 
-    ghost invariant = { λ s. IsNode (node s.members s.own s.rows.items) };
+    ghost invariant = { λ s. IsNodeState (node s.members s.own s.rows.items) };
 }
 
 impl Node {
     ghost use Rattle.hg_model.specs.Gossip.{new_node, verdict_by, node_put, making_by, node_made, made_after, node_after, parcel_for, report_with, node_with, taking};
     ghost use Rattle.hg_play.specs.Labels.{last_bytes};
-    ghost use Rattle.hg_play.specs.Node.{IsNode, keys_by, told};
+    ghost use Rattle.hg_play.specs.Node.{IsNodeState, keys_by, told};
 
     /// A node without rows. Takes no memory.
     pub(crate) fn new(alloc: Global, members: u32, own: Member) -> Node
@@ -352,7 +352,7 @@ impl Node {
 
     pub(crate) fn rows(&self) -> &[Row]
         ensures value { result.now ≡ self.now.rows }
-        ensures node { IsNode self.now }
+        ensures node { IsNodeState self.now }
     {
         self.rows.as_slice()
     }

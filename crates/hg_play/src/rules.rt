@@ -1,7 +1,8 @@
 ghost use Rattle.std.specs.Prelude.{◌≡◌, None, fold, position};
 ghost use Rattle.std.specs.Option.{option_copied, option_or};
 ghost use Rattle.hg_model.specs.Links.{is_named, place_of};
-ghost use Rattle.hg_model.specs.Verdict.{both_names, collision_rule, forkers_answer, impostor_rule, creator_rule, draft_rule, first_rule, full_rule, has_bytes, is_held, last_name, member_rule, missing_rule, name_rule, other_rule, payload_rule, room_rule, row_creator};
+ghost use Rattle.hg_model.specs.Verdict.{both_names, collision_rule, forkers_answer, impostor_rule, creator_rule, draft_rule, first_rule, full_rule, has_bytes, is_held, last_name, member_rule, missing_rule, name_rule, other_rule, payload_rule, room_rule};
+ghost use Rattle.hg_model.specs.Graph.{creator_at};
 ghost use Rattle.hg_model.specs.Spelling.{payload_limit, spelling};
 ghost use Rattle.hg_play.specs.Labels.{later_row};
 
@@ -38,8 +39,8 @@ pub(crate) fn is_held(rows: &[Row], name: &Name) -> bool
 }
 
 /// The creator of the row at a place, 0 where there is none.
-fn row_creator(rows: &[Row], place: usize) -> Member
-    ensures { result ≡ row_creator rows.now place }
+fn creator_at(rows: &[Row], place: usize) -> Member
+    ensures { result ≡ creator_at rows.now place }
 {
     match rows.get(place) {
         Some(row) => row.creator,
@@ -110,9 +111,9 @@ pub(crate) fn creator_rule(
         None => return None,
         Some(names) => (place_of(rows, &names.0), place_of(rows, &names.1)),
     };
-    if row_creator(rows, own) != creator {
+    if creator_at(rows, own) != creator {
         Some(PutAnswer::Refused(Fault::SelfCreator(own)))
-    } else if row_creator(rows, other) == creator {
+    } else if creator_at(rows, other) == creator {
         Some(PutAnswer::Refused(Fault::OtherCreator(other)))
     } else {
         None
@@ -148,7 +149,7 @@ fn other_rule(rows: &[Row], own: Member, other: &Option<Name>) -> Option<MakeFau
     let place = place_of(rows, name);
     if !(place < rows.len()) {
         Some(MakeFault::MissingOther(*name))
-    } else if row_creator(rows, place) == own {
+    } else if creator_at(rows, place) == own {
         Some(MakeFault::OtherCreator(place))
     } else {
         None

@@ -8,7 +8,7 @@ use Rattle.hg_model.specs.Links.{parent_names, place_of, links, first_place, sel
 use Rattle.hg_model.specs.Ancestry.{is_self_ancestor}
 use Rattle.hg_model.specs.Forks.{has_fork}
 use Rattle.hg_model.specs.Graph.{name_in, name_at, HasDistinctNames, IsShaped}
-use Rattle.hg_model.specs.Verdict.{row_creator, row_creator_in}
+use Rattle.hg_model.specs.Graph.{creator_at, creator_of_row}
 use Rattle.hg_model.proofs.AncestryLaws.{self_parent_earlier, is_self_ancestor_self, is_self_ancestor_by}
 use Rattle.hg_model.proofs.ForkLaws.{has_fork_found}
 use Rattle.hg_model.proofs.LinkLaws.{length-links, self_parent-links}
@@ -32,10 +32,10 @@ self_parent_named U u name inside is =
     self_parent-links U u row inside (sym (get_or_from_slice_get U u row row at))
     ∙ first_name (place_of U) row.parents name (sym (ap self_parent_name_in at) ∙ is)
 
-module _ (n m : ℕ) (U line : List Row) (distinct : HasDistinctNames U) (shaped : IsShaped n (links U)) (chain : IsChain m line) (of_line : (u : ℕ) → u < length U → row_creator U u ≡ m → IsRowOf U u line) where
+module _ (n m : ℕ) (U line : List Row) (distinct : HasDistinctNames U) (shaped : IsShaped n (links U)) (chain : IsChain m line) (of_line : (u : ℕ) → u < length U → creator_at U u ≡ m → IsRowOf U u line) where
   -- of two rows by m the one that is later in the chain has the other as self-ancestor
   above : (k u v x y : ℕ) → u < k → u < length U → v < length U → y < length line → slice_get line y ≡ slice_get U u → slice_get line x ≡ slice_get U v →
-      row_creator U u ≡ m → row_creator U v ≡ m → x ≤ y → is_self_ancestor (links U) u v ≡ true
+      creator_at U u ≡ m → creator_at U v ≡ m → x ≤ y → is_self_ancestor (links U) u v ≡ true
   unfolding name_at
   above zero u v x y low inside_u inside_v inside_y at_y at_x by_u by_v le = absurd (omega arith)
   above (suc k) u v x y low inside_u inside_v inside_y at_y at_x by_u by_v le = elim (cases_eq x y) [
@@ -44,14 +44,14 @@ module _ (n m : ℕ) (U line : List Row) (distinct : HasDistinctNames U) (shaped
         let e : u ≡ v = distinct.one u v inside_u inside_v (ap name_in rows) in
         subst (λ w. is_self_ancestor (links U) u w ≡ true) e (is_self_ancestor_self (links U) shaped.earlier u))
     | inr other ↦ (
-        let p = chain.joined x y (omega arith) inside_y (ap row_creator_in at_x ∙ by_v) (ap row_creator_in at_y ∙ by_u) in
+        let p = chain.joined x y (omega arith) inside_y (ap creator_of_row at_x ∙ by_v) (ap creator_of_row at_y ∙ by_u) in
         let p_low : p.0 < y = p.2 in
         let name : List ℕ = name_at line p.0 in
         let q : ℕ = place_of U name in
         let own : self_parent (links U) u ≡ q ∷ [] = self_parent_named U u name inside_u (sym (ap self_parent_name_in at_y) ∙ p.3) in
         let has : has_place (self_parent (links U) u) q ≡ true = subst (λ ps. has_place ps q ≡ true) (sym own) (has_place_first q []) in
         let before : q < u = (self_parent_earlier (links U) shaped.earlier).earlier u q has in
-        let by_q : row_creator U q ≡ m = sym (row_creator-links U q) ∙ (shaped.self_by_same u q has ∙ (row_creator-links U u ∙ by_u)) in
+        let by_q : creator_at U q ≡ m = sym (row_creator-links U q) ∙ (shaped.self_by_same u q has ∙ (row_creator-links U u ∙ by_u)) in
         let z = of_line q (omega arith) by_q in
         let at_p : z.0 ≡ p.0 = chain.distinct.one z.0 p.0 z.1 (omega arith) (ap name_in z.2 ∙ name_at_place U name (omega arith)) in
         is_self_ancestor_by (links U) shaped.earlier u q v has
@@ -66,8 +66,8 @@ module _ (n m : ℕ) (U line : List Row) (distinct : HasDistinctNames U) (shaped
       let b : ℕ = f.1 in
       let inside_a : a < length U = rw (← len) f.2 in
       let inside_b : b < length U = rw (← len) f.3 in
-      let by_a : row_creator U a ≡ m = sym (row_creator-links U a) ∙ f.4.first in
-      let by_b : row_creator U b ≡ m = sym (row_creator-links U b) ∙ f.4.second in
+      let by_a : creator_at U a ≡ m = sym (row_creator-links U a) ∙ f.4.first in
+      let by_b : creator_at U b ≡ m = sym (row_creator-links U b) ∙ f.4.second in
       let x = of_line a inside_a by_a in
       let y = of_line b inside_b by_b in
       elim (cases_lt x.0 y.0) [

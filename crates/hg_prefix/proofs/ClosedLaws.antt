@@ -7,7 +7,7 @@ use Rattle.hg_model.specs.Order.{last_closed}
 use Rattle.hg_model.proofs.AncestryLaws.{is_ancestor-le}
 use Rattle.hg_model.proofs.LateLaws.{closed_mark}
 use Rattle.hg_model.proofs.WitnessLaws.{witness_below}
-use Rattle.hg_prefix.proofs.LeastLaws.{greatest_below_bounds, greatest_below_passes}
+use Rattle.hg_prefix.proofs.LeastLaws.{greatest_below_bounds, greatest_below_true}
 use Rattle.hg_prefix.proofs.FamousLaws.{witness_of_closed, closed_from, closed_bounds}
 
 module _ (n : ℕ) (L : List Link) (e : IsEarlier (parents L)) (marks : Marks) where
@@ -34,4 +34,4 @@ module _ (n : ℕ) (L : List Link) (e : IsEarlier (parents L)) (marks : Marks) w
   pub closed_up_to : (r : ℕ) → 0 < r → r ≤ last_closed n L marks → is_closed n L marks r ≡ true
   unfolding last_closed
   closed_up_to r pos le =
-      closed_below (last_closed n L marks) r (greatest_below_passes (suc (length L)) (is_closed n L marks) (omega arith)) pos le
+      closed_below (last_closed n L marks) r (greatest_below_true (suc (length L)) (is_closed n L marks) (omega arith)) pos le

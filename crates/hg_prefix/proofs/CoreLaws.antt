@@ -6,7 +6,7 @@ use Rattle.hg_model.specs.Links.{links}
 use Rattle.hg_model.specs.Forks.{has_fork, forkers}
 use Rattle.hg_model.specs.Fame.{fame_marks}
 use Rattle.hg_model.specs.Order.{coin_at}
-use Rattle.hg_model.specs.Verdict.{row_creator_in}
+use Rattle.hg_model.specs.Graph.{creator_of_row}
 use Rattle.hg_model.proofs.PlacesLaws.{weight_below-le}
 use Rattle.hg_prefix.specs.Chains.{HasOneChain}
 use Rattle.hg_prefix.specs.Laws.{ChainsStandInOne, OrdersOfChains, OwnOrdersOfChains}
@@ -19,8 +19,8 @@ use Rattle.hg_prefix.proofs.OwnLaws.{own_fame, own_order}
 chain_no_fork : (n m : ℕ) (G H U : List Row) → IsJoined n G H (length H) U → HasOneChain m G H → has_fork (links U) m ≡ false
 chain_no_fork n m G H U is one =
     no_fork n m U one.line is.distinct is.shaped one.chain (λ u inside by. elim (is.no_other u inside) [
-      | inl of_G ↦ (let z = one.has_first of_G.0 of_G.1 (ap row_creator_in of_G.2 ∙ by) in (z.0, z.1, z.2 ∙ of_G.2))
-      | inr of_H ↦ (let z = one.has_second of_H.0 of_H.1 (ap row_creator_in of_H.2 ∙ by) in (z.0, z.1, z.2 ∙ of_H.2))
+      | inl of_G ↦ (let z = one.has_first of_G.0 of_G.1 (ap creator_of_row of_G.2 ∙ by) in (z.0, z.1, z.2 ∙ of_G.2))
+      | inr of_H ↦ (let z = one.has_second of_H.0 of_H.1 (ap creator_of_row of_H.2 ∙ by) in (z.0, z.1, z.2 ∙ of_H.2))
     ])
 
 pub stand_in_one : ChainsStandInOne

@@ -8,7 +8,8 @@ use Rattle.hg_model.specs.declared.row.Row.{Row}
 use Rattle.hg_model.specs.Places.{has_place}
 use Rattle.hg_model.specs.Links.{parent_names, place_of, links, first_place, later_places, creator, parents, self_parent, other_parents}
 use Rattle.hg_model.specs.Graph.{name_in, name_at, HasDistinctNames, IsShaped}
-use Rattle.hg_model.specs.Verdict.{row_creator, row_creator_in, is_held}
+use Rattle.hg_model.specs.Verdict.{is_held}
+use Rattle.hg_model.specs.Graph.{creator_at, creator_of_row}
 use Rattle.hg_model.specs.Fits.{AreHeld, ParentsFit, Fits}
 use Rattle.hg_model.proofs.LinkLaws.{length-links, parents-links}
 use Rattle.hg_model.proofs.LongerLaws.{slice_get-append}
@@ -20,13 +21,13 @@ use Rattle.hg_prefix.specs.Chains.{HaveEqualRows}
 use Rattle.hg_prefix.proofs.StandingLaws.{name_at_place}
 
 -- the rows with one more, unless one has its name
-abbrev with_row : List Row → Row → List Row
-with_row G row = cond (is_held G row.name) G (G ++ row ∷ [])
+abbrev row_added : List Row → Row → List Row
+row_added G row = cond (is_held G row.name) G (G ++ row ∷ [])
 
 -- the rows of G, and the first k of H
 unfoldable pub joined : List Row → List Row → ℕ → List Row
 joined G H zero = G
-joined G H (suc k) = with_row (joined G H k) (get_or H k nobody)
+joined G H (suc k) = row_added (joined G H k) (get_or H k nobody)
 
 -- what the first k rows of H make of G
 pub record IsJoined (n : ℕ) (G H : List Row) (k : ℕ) (U : List Row) : Type 0 where
@@ -67,15 +68,15 @@ module _ (n : ℕ) (G H : List Row) (distinct_H : HasDistinctNames H) (shaped_H 
     parents_are = parents-links H k (get_or H k nobody) inside (sym (get_or_from_slice_get H k (get_or H k nobody) (get_or H k nobody) at_k))
 
     creator_is : creator (links H) k ≡ row.creator
-    creator_is = row_creator-links H k ∙ ap row_creator_in at_k
+    creator_is = row_creator-links H k ∙ ap creator_of_row at_k
 
     -- a row of H before k is found in U by its name
-    found : (name : List ℕ) → place_of H name < k → (place_of U name < length U) × (row_creator U (place_of U name) ≡ row_creator H (place_of H name))
+    found : (name : List ℕ) → place_of H name < k → (place_of U name < length U) × (creator_at U (place_of U name) ≡ creator_at H (place_of H name))
     unfolding name_at
     found name low =
         let u = is.has_second (place_of H name) low in
         let place : place_of U name ≡ u.0 = place_of_at U is.distinct u.0 name u.1 (ap name_in u.2 ∙ name_at_place H name (omega arith)) in
-        (rw place u.1, ap (row_creator U) place ∙ ap row_creator_in u.2)
+        (rw place u.1, ap (creator_at U) place ∙ ap creator_of_row u.2)
 
     held : (names : List (List ℕ)) → ((p : ℕ) → has_place (map (place_of H) names) p ≡ true → p < k) → AreHeld U names
     held [] low = tt
@@ -84,8 +85,8 @@ module _ (n : ℕ) (G H : List Row) (distinct_H : HasDistinctNames H) (shaped_H 
       held names (λ p h. low p (has_place_later (place_of H name) p (map (place_of H) names) h)),
     )
 
-    by_others : (names : List (List ℕ)) → ((p : ℕ) → has_place (map (place_of H) names) p ≡ true → p < k) → ((p : ℕ) → has_place (map (place_of H) names) p ≡ true → row_creator H p ≢ row.creator) →
-        AllByRecursion (λ name. row_creator U (place_of U name) ≢ row.creator) names
+    by_others : (names : List (List ℕ)) → ((p : ℕ) → has_place (map (place_of H) names) p ≡ true → p < k) → ((p : ℕ) → has_place (map (place_of H) names) p ≡ true → creator_at H p ≢ row.creator) →
+        AllByRecursion (λ name. creator_at U (place_of U name) ≢ row.creator) names
     by_others [] low other = tt
     by_others (name ∷ names) low other =
         let here = has_place_first (place_of H name) (map (place_of H) names) in
@@ -95,8 +96,8 @@ module _ (n : ℕ) (G H : List Row) (distinct_H : HasDistinctNames H) (shaped_H 
         )
 
     parents_fit : (names : List (List ℕ)) → ((p : ℕ) → has_place (map (place_of H) names) p ≡ true → p < k) →
-        ((p : ℕ) → has_place (first_place (map (place_of H) names)) p ≡ true → row_creator H p ≡ row.creator) →
-        ((p : ℕ) → has_place (later_places (map (place_of H) names)) p ≡ true → row_creator H p ≢ row.creator) → ParentsFit U row.creator names
+        ((p : ℕ) → has_place (first_place (map (place_of H) names)) p ≡ true → creator_at H p ≡ row.creator) →
+        ((p : ℕ) → has_place (later_places (map (place_of H) names)) p ≡ true → creator_at H p ≢ row.creator) → ParentsFit U row.creator names
     parents_fit [] low own other = tt
     parents_fit (name ∷ names) low own other =
         let by = (found name (low (place_of H name) (has_place_first (place_of H name) (map (place_of H) names)))).1 in (
@@ -107,13 +108,13 @@ module _ (n : ℕ) (G H : List Row) (distinct_H : HasDistinctNames H) (shaped_H 
     low_places : (p : ℕ) → has_place row_places p ≡ true → p < k
     low_places p h = shaped_H.earlier.earlier k p (subst (λ ps. has_place ps p ≡ true) (sym parents_are) h)
 
-    own_place : (p : ℕ) → has_place (first_place row_places) p ≡ true → row_creator H p ≡ row.creator
+    own_place : (p : ℕ) → has_place (first_place row_places) p ≡ true → creator_at H p ≡ row.creator
     unfolding self_parent
     own_place p h =
         sym (row_creator-links H p)
         ∙ (shaped_H.self_by_same k p (subst (λ ps. has_place (first_place ps) p ≡ true) (sym parents_are) h) ∙ creator_is)
 
-    other_places : (p : ℕ) → has_place (later_places row_places) p ≡ true → row_creator H p ≢ row.creator
+    other_places : (p : ℕ) → has_place (later_places row_places) p ≡ true → creator_at H p ≢ row.creator
     unfolding other_parents
     other_places p h same =
         shaped_H.others_by_others k p (subst (λ ps. has_place (later_places ps) p ≡ true) (sym parents_are) h)

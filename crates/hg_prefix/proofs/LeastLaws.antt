@@ -67,12 +67,12 @@ greatest_below_bounds (suc n) test k low passes = elim (cases_Bool (test n)) [
 ]
 
 -- the greatest passes, unless it is 0
-pub greatest_below_passes : (n : ℕ) (test : ℕ → Bool) → 0 < greatest_below n test → test (greatest_below n test) ≡ true
+pub greatest_below_true : (n : ℕ) (test : ℕ → Bool) → 0 < greatest_below n test → test (greatest_below n test) ≡ true
 unfolding greatest_below
-greatest_below_passes zero test pos = absurd (omega arith)
-greatest_below_passes (suc n) test pos = elim (cases_Bool (test n)) [
+greatest_below_true zero test pos = absurd (omega arith)
+greatest_below_true (suc n) test pos = elim (cases_Bool (test n)) [
   | inl last ↦ (let is : greatest_below (suc n) test ≡ n = rw last refl in subst (λ k. test k ≡ true) (sym is) last)
   | inr fails ↦ (
       let is : greatest_below (suc n) test ≡ greatest_below n test = rw fails refl in
-      subst (λ k. test k ≡ true) (sym is) (greatest_below_passes n test (omega arith)))
+      subst (λ k. test k ≡ true) (sym is) (greatest_below_true n test (omega arith)))
 ]

@@ -7,7 +7,7 @@ use Rattle.hg_model.specs.Links.{Link, parents, self_parent, first_place, creato
 use Rattle.hg_model.specs.Ancestry.{is_ancestor, is_self_ancestor, some_ancestor}
 use Rattle.hg_model.specs.Forks.{is_fork, has_fork_below}
 use Rattle.hg_model.specs.Seeing.{sees, sees_through, strongly_sees, is_supermajority}
-use Rattle.hg_model.specs.Rounds.{greatest_round, is_witness_by, is_seen_witness, round_of, is_witness}
+use Rattle.hg_model.specs.Rounds.{parent_round, is_witness_by, is_seen_witness, round_of, is_witness}
 use Rattle.hg_model.specs.Votes.{is_voter, vote_of, decides}
 use Rattle.hg_model.proofs.PlacesLaws.{some_below_from, some_below_found, weight_below-same}
 use Rattle.hg_model.proofs.ReachLaws.{bool_iff, reaches_self, reaches_by, reaches_cases}
@@ -40,7 +40,7 @@ has_place_back place (q ∷ ps) u h = elim (or_cases (eqb (place q) u) (has_plac
   | inr later ↦ (let found = has_place_back place ps u later in (found.0, or_right (eqb q found.0) (has_place ps found.0) found.1, found.2))
 ]
 
-greatest_round-map : (round : ℕ → ℕ) (place : ℕ → ℕ) (ps : List ℕ) → greatest_round round (map place ps) ≡ greatest_round (λ p. round (place p)) ps
+greatest_round-map : (round : ℕ → ℕ) (place : ℕ → ℕ) (ps : List ℕ) → parent_round round (map place ps) ≡ parent_round (λ p. round (place p)) ps
 greatest_round-map round place [] = refl
 greatest_round-map round place (p ∷ ps) = ap (max (round (place p))) (greatest_round-map round place ps)
 
@@ -152,9 +152,9 @@ module _ (n : ℕ) (L V : List Link) (l : IsEarlier (parents L)) (v : IsEarlier 
       ap (is_supermajority n) (weight_below-same (λ _. 1) n (sees_through V (place x) (place y)) (sees_through L x y) (λ m hm. sees_through-moved x y m hx hy))
 
   greatest_round-moved : (far near : ℕ → ℕ) (x : ℕ) → x < length L → ((p : ℕ) → p < x → far (place p) ≡ near p) →
-      greatest_round far (parents V (place x)) ≡ greatest_round near (parents L x)
+      parent_round far (parents V (place x)) ≡ parent_round near (parents L x)
   greatest_round-moved far near x inside same =
-      ap (greatest_round far) (moved.parents_there x inside)
+      ap (parent_round far) (moved.parents_there x inside)
       ∙ (greatest_round-map far place (parents L x) ∙ greatest_round-same (λ p. far (place p)) near (parents L x) (λ p h. same p (l.earlier x p h)))
 
   -- a test of the self-parent that is moved
@@ -215,7 +215,7 @@ module _ (n : ℕ) (L V : List Link) (l : IsEarlier (parents L)) (v : IsEarlier 
   round_of-moved_to zero x low inside = absurd (omega arith)
   round_of-moved_to (suc k) x low inside =
       let before = λ (p : ℕ) (h : p < x). round_of-moved_to k p (omega arith) (omega arith) in
-      let r = greatest_round (round_of n L) (parents L x) in
+      let r = parent_round (round_of n L) (parents L x) in
       let count = count_below x (is_seen_witness (round_of n L) n L r x) in
       round_of-at n V v (place x)
       ∙ (rw (greatest_round-moved (round_of n V) (round_of n L) x inside before, seen_count-moved (round_of n V) (round_of n L) r x inside before) refl

@@ -18,7 +18,7 @@ use Rattle.hg_model.proofs.PlacesLaws.{weight_below-same}
 use Rattle.hg_model.proofs.QuorumLaws.{weight_below_split}
 use Rattle.hg_model.proofs.SortLaws.{HasSameSums, one_ascending, all_sorted, sort_by-sums, sort_by-ascending, sort_by-map}
 use Rattle.hg_prefix.specs.Standing.{place_in, IsMarkedPart}
-use Rattle.hg_prefix.specs.Orders.{IsPrefix, ordered_by_names, HasNameSizes}
+use Rattle.hg_prefix.specs.Orders.{IsPrefix, marked_order_by_names, HasNameSizes}
 use Rattle.hg_prefix.proofs.WeightLaws.{list_below-matched}
 use Rattle.hg_prefix.proofs.SumLaws.{bytes_less, bytes_order, bytes_tie, ascending_joined}
 use Rattle.hg_prefix.proofs.FamousLaws.{received_is}
@@ -67,7 +67,7 @@ module _ (n size : ℕ) (G : List Row) (marks : Marks) (sizes : HasNameSizes siz
       named placed name = record { name = name; received = placed.received; time = placed.time }
 
   -- the order by names is told by the sorted keys
-  names_by_keys : ordered_by_names n G marks ≡ map (named_by size) (keys_in n G marks always)
+  names_by_keys : marked_order_by_names n G marks ≡ map (named_by size) (keys_in n G marks always)
   unfolding ordered_in always
   names_by_keys =
       let rows = list_below (keyed_at n G (links G) marks) (length (links G)) (is_received_in n (links G) marks always) in
@@ -218,7 +218,7 @@ module _ (n c : ℕ) (U : List Row) (u : IsGraph n U) (three : 2 < c) (G H : Lis
       ∙ sym (sum_by-append weight (sort_by bytes_less here) (sort_by bytes_less rest))))))
 
   -- the order of the graph that closed no more rounds is a prefix of the other's
-  pub order_prefix : (size : ℕ) → HasNameSizes size G → HasNameSizes size H → IsPrefix (ordered_by_names n G f) (ordered_by_names n H h)
+  pub order_prefix : (size : ℕ) → HasNameSizes size G → HasNameSizes size H → IsPrefix (marked_order_by_names n G f) (marked_order_by_names n H h)
   order_prefix size sizes_G sizes_H = (
     map (named_by size) (keys_in n H h after_last),
     names_by_keys n size H h sizes_H
@@ -229,7 +229,7 @@ module _ (n c : ℕ) (U : List Row) (u : IsGraph n U) (three : 2 < c) (G H : Lis
 
 -- of the two orders one is a prefix of the other
 pub one_order : (n c size : ℕ) (U : List Row) (u : IsGraph n U) (three : 2 < c) (G H : List Row) (f h : Marks) → IsMarkedPart n c U G f → IsMarkedPart n c U H h →
-    HasNameSizes size G → HasNameSizes size H → IsPrefix (ordered_by_names n G f) (ordered_by_names n H h) ⊎ IsPrefix (ordered_by_names n H h) (ordered_by_names n G f)
+    HasNameSizes size G → HasNameSizes size H → IsPrefix (marked_order_by_names n G f) (marked_order_by_names n H h) ⊎ IsPrefix (marked_order_by_names n H h) (marked_order_by_names n G f)
 one_order n c size U u three G H f h g k sizes_G sizes_H = elim (cases_lt (last_closed n (links H) h) (last_closed n (links G) f)) [
   | inl more ↦ inr (order_prefix n c U u three H G h f k g (omega arith) size sizes_H sizes_G)
   | inr no_more ↦ inl (order_prefix n c U u three G H f h g k no_more size sizes_G sizes_H)

@@ -7,7 +7,7 @@ use Rattle.hg_model.specs.Fame.{fame_marks}
 use Rattle.hg_model.specs.Order.{coin_at, order_of, order_by_names}
 use Rattle.hg_model.proofs.LateLaws.{fame_of_mark}
 use Rattle.hg_prefix.specs.Standing.{StandsIn, AreFame, IsMarkedPart}
-use Rattle.hg_prefix.specs.Orders.{ordered_by_names}
+use Rattle.hg_prefix.specs.Orders.{marked_order_by_names}
 use Rattle.hg_prefix.specs.Laws.{OwnOrdersArePrefixes}
 use Rattle.hg_prefix.proofs.OrderLaws.{one_order}
 
@@ -17,7 +17,7 @@ own_fame n c G = record { fame = fame_of_mark n c (links G) (coin_at G) }
 pub own_part : (n c : ℕ) (U G : List Row) → IsGraph n G → StandsIn G U → IsMarkedPart n c U G (fame_marks n c (links G) (coin_at G))
 own_part n c U G g stands = record { graph = g; stands = stands; fame = own_fame n c G }
 
-pub own_order : (n c : ℕ) (G : List Row) → order_by_names n c G ≡ ordered_by_names n G (fame_marks n c (links G) (coin_at G))
+pub own_order : (n c : ℕ) (G : List Row) → order_by_names n c G ≡ marked_order_by_names n G (fame_marks n c (links G) (coin_at G))
 unfolding order_of
 own_order n c G = refl
 

@@ -6,7 +6,7 @@ use Rattle.hg_model.specs.declared.row.Row.{Row}
 use Rattle.hg_model.specs.Links.{parent_names, is_named, place_of, links, parents}
 use Rattle.hg_model.specs.Graph.{name_in, name_at, HasDistinctNames, IsShaped}
 use Rattle.hg_model.specs.Order.{sig_in, sig_at, time_in, time_at, middle_bit, coin_at}
-use Rattle.hg_model.specs.Verdict.{row_creator_in}
+use Rattle.hg_model.specs.Graph.{creator_of_row}
 use Rattle.hg_model.specs.Fits.{AreHeld}
 use Rattle.hg_model.proofs.LinkLaws.{length-links, parents-links}
 use Rattle.hg_model.proofs.PushLaws.{nobody, row_creator-links, present_at}
@@ -80,7 +80,7 @@ module _ (G U : List Row) (distinct_G : HasDistinctNames G) (distinct_U : HasDis
       apart = λ x y hx hy same. places_apart x y (rw (← length-links G) hx) (rw (← length-links G) hy) same;
       parents_there = λ x h. parents_there x (rw (← length-links G) h);
       creator_there = λ x h.
-          row_creator-links U (place_in U G x) ∙ (ap row_creator_in (row_there x (rw (← length-links G) h)) ∙ sym (row_creator-links G x));
+          row_creator-links U (place_in U G x) ∙ (ap creator_of_row (row_there x (rw (← length-links G) h)) ∙ sym (row_creator-links G x));
     }
 
 pub parts_alike : PartsAreAlike

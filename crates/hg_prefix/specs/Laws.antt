@@ -6,7 +6,7 @@ use Rattle.hg_model.specs.Links.{links}
 use Rattle.hg_model.specs.Fame.{Marks, is_closed}
 use Rattle.hg_model.specs.Graph.{IsGraph}
 use Rattle.hg_model.specs.Order.{last_closed, order_by_names}
-use Rattle.hg_prefix.specs.Orders.{IsPrefix, ordered_by_names, HasNameSizes}
+use Rattle.hg_prefix.specs.Orders.{IsPrefix, marked_order_by_names, HasNameSizes}
 use Rattle.hg_prefix.specs.Standing.{StandsIn, HasTheSame, AreFame, IsMarkedPart, HasUniqueFamous}
 use Rattle.hg_prefix.specs.Chains.{HaveEqualRows, HasOneChain}
 
@@ -24,13 +24,13 @@ FamousAreTheSame = (n c : ℕ) (U G H : List Row) (f h : Marks) → IsGraph n U 
 abbrev pub FewerRoundsArePrefixes : Type 0
 FewerRoundsArePrefixes = (n c size : ℕ) (U G H : List Row) (f h : Marks) → IsGraph n U → 2 < c → IsMarkedPart n c U G f → IsMarkedPart n c U H h →
     HasNameSizes size G → HasNameSizes size H → last_closed n (links G) f ≤ last_closed n (links H) h →
-    IsPrefix (ordered_by_names n G f) (ordered_by_names n H h)
+    IsPrefix (marked_order_by_names n G f) (marked_order_by_names n H h)
 
 -- so one of the two is a prefix of the other
 abbrev pub OrdersArePrefixes : Type 0
 OrdersArePrefixes = (n c size : ℕ) (U G H : List Row) (f h : Marks) → IsGraph n U → 2 < c → IsMarkedPart n c U G f → IsMarkedPart n c U H h →
     HasNameSizes size G → HasNameSizes size H →
-    IsPrefix (ordered_by_names n G f) (ordered_by_names n H h) ⊎ IsPrefix (ordered_by_names n H h) (ordered_by_names n G f)
+    IsPrefix (marked_order_by_names n G f) (marked_order_by_names n H h) ⊎ IsPrefix (marked_order_by_names n H h) (marked_order_by_names n G f)
 
 -- and with the fame of each graph itself as its marks
 abbrev pub OwnOrdersArePrefixes : Type 0
@@ -62,7 +62,7 @@ abbrev pub OrdersOfChains : Type 0
 OrdersOfChains = (n c size : ℕ) (G H : List Row) (f h : Marks) (faulty : ℕ → Bool) → 2 < c → IsGraph n G → IsGraph n H →
     AreFame n c G f → AreFame n c H h → HaveEqualRows G H → HasNameSizes size G → HasNameSizes size H →
     3 * count_below n faulty < n → ((m : ℕ) → m < n → faulty m ≡ false → HasOneChain m G H) →
-    IsPrefix (ordered_by_names n G f) (ordered_by_names n H h) ⊎ IsPrefix (ordered_by_names n H h) (ordered_by_names n G f)
+    IsPrefix (marked_order_by_names n G f) (marked_order_by_names n H h) ⊎ IsPrefix (marked_order_by_names n H h) (marked_order_by_names n G f)
 
 -- so with their own fame as marks
 abbrev pub OwnOrdersOfChains : Type 0

@@ -11,8 +11,8 @@ abbrev pub IsPrefix : {A : Type 0} → List A → List A → Type 0
 IsPrefix {A} xs ys = (rest : List A) × (ys ≡ xs ++ rest)
 
 -- the order of a graph with these marks, by names
-abbrev pub ordered_by_names : ℕ → List Row → Marks → List Ordered
-ordered_by_names n G marks = map (named_in G) (ordered n G (links G) marks)
+abbrev pub marked_order_by_names : ℕ → List Row → Marks → List Ordered
+marked_order_by_names n G marks = map (named_in G) (ordered n G (links G) marks)
 
 -- all names have one size, so that the keys of the order tell them apart
 pub record HasNameSizes (size : ℕ) (G : List Row) : Type 0 where

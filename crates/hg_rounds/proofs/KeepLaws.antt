@@ -5,7 +5,7 @@ use Rattle.std.proofs.lemmas.List.{length_push, length-set, get_or_append_left, 
 use Rattle.hg_model.specs.Places.{list_below, maximum_below}
 use Rattle.hg_model.specs.Standings.{Standing, witnesses_in, greatest_in}
 use Rattle.hg_rounds.specs.Listed.{Listed}
-use Rattle.hg_rounds.specs.Tabled.{standing, nothing, list_at, room_by, Keeps}
+use Rattle.hg_rounds.specs.Tabled.{standing, nothing, list_at, room_by, KeepsLists}
 use Rattle.hg_rounds.proofs.StandingLaws.{witnesses_in_above, witnesses_in_push, greatest_in_push, by_row_push}
 
 none_of : (lists : List Listed) → length lists ≡ 2 → (list_at lists 0).places ≡ [] → (list_at lists 1).places ≡ [] → (r : ℕ) → r < length lists → (list_at lists r).places ≡ witnesses_in [] r
@@ -15,7 +15,7 @@ none_of lists two zeroth one (suc zero) h = one
 none_of lists two zeroth one (suc (suc r)) h = absurd (omega arith)
 
 -- no rows: the lists of round 0 and of round 1
-pub keeps_none : (zeroth one : Listed) → zeroth.places ≡ [] → one.places ≡ [] → Keeps [] (zeroth ∷ one ∷ []) 0 0
+pub keeps_none : (zeroth one : Listed) → zeroth.places ≡ [] → one.places ≡ [] → KeepsLists [] (zeroth ∷ one ∷ []) 0 0
 unfolding greatest_in maximum_below
 keeps_none zeroth one none_zeroth none_one = record {
   by_row = record { first = λ x h. absurd (omega arith); next = λ x h. absurd (omega arith) };
@@ -30,7 +30,7 @@ keeps_none zeroth one none_zeroth none_one = record {
 pub room_parts : (rows lists : ℕ) (full next : Listed) → 1 ≤ room_by rows lists full next → (1 ≤ full.room) × (1 ≤ next.room)
 room_parts rows lists full next h = (omega arith, omega arith)
 
-module _ (S : List Standing) (lists : List Listed) (top full : ℕ) (keeps : Keeps S lists top full) (roomy : 1 ≤ (list_at lists full).room) (roomy_next : 1 ≤ (list_at lists (top + 1)).room) where
+module _ (S : List Standing) (lists : List Listed) (top full : ℕ) (keeps : KeepsLists S lists top full) (roomy : 1 ≤ (list_at lists full).room) (roomy_next : 1 ≤ (list_at lists (top + 1)).room) where
   -- there is room in each list
   pub all_roomy : (r : ℕ) → r < length lists → 1 ≤ (list_at lists r).room
   all_roomy r h = elim (cases_eq r full) [
@@ -94,7 +94,7 @@ module _ (S : List Standing) (lists : List Listed) (top full : ℕ) (keeps : Kee
       greatest_is = greatest_in_push S (standing round witness) ∙ ap (λ k. max k round) (sym keeps.greatest)
 
       -- in a round that is there
-      pub keeps_stayed : round ≤ top → Keeps T marked top may_be_full
+      pub keeps_stayed : round ≤ top → KeepsLists T marked top may_be_full
       keeps_stayed low = record {
         by_row = by_row;
         greatest = omega (arith, greatest_is);
@@ -105,7 +105,7 @@ module _ (S : List Standing) (lists : List Listed) (top full : ℕ) (keeps : Kee
       }
 
       -- in the next round, which has a list after it then
-      pub keeps_opened : (empty : Listed) → top < round → empty.places ≡ [] → Keeps T (marked ++ empty ∷ []) round may_be_full
+      pub keeps_opened : (empty : Listed) → top < round → empty.places ≡ [] → KeepsLists T (marked ++ empty ∷ []) round may_be_full
       keeps_opened empty high none =
           let long : length (marked ++ empty ∷ []) ≡ length lists + 1 = length_push marked empty ∙ ap (λ k. k + 1) m.long in
           let all : length lists ≡ top + 2 = keeps.long in

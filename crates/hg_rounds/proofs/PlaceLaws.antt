@@ -6,7 +6,7 @@ use Rattle.std.proofs.lemmas.List.{length-take-le}
 use Rattle.hg_model.specs.Places.{count_below, list_below}
 use Rattle.hg_model.specs.Links.{Link, first_place, parents, self_parent}
 use Rattle.hg_model.specs.Seeing.{is_supermajority, strongly_sees}
-use Rattle.hg_model.specs.Rounds.{greatest_round, is_seen_witness, round_of, is_witness}
+use Rattle.hg_model.specs.Rounds.{parent_round, is_seen_witness, round_of, is_witness}
 use Rattle.hg_model.specs.Graph.{IsShaped}
 use Rattle.hg_model.specs.Standings.{Standing, standings_of, round_at, witnesses_in, greatest_in}
 use Rattle.hg_model.proofs.PlacesLaws.{list_below-same}
@@ -43,7 +43,7 @@ module _ (n : ℕ) (L : List Link) (shaped : IsShaped n L) (some : 0 < length L)
   pub parents_told : AllByRecursion (λ p. p < length S) (parents L last)
   parents_told = subst (λ k. AllByRecursion (λ p. p < k) (parents L last)) (sym table_long) (parents_below L last shaped.earlier)
 
-  pub greatest_told : greatest_round (round_at S) (parents L last) ≡ greatest_round (round_of n L) (parents L last)
+  pub greatest_told : parent_round (round_at S) (parents L last) ≡ parent_round (round_of n L) (parents L last)
   greatest_told = greatest_round-same (round_at S) (round_of n L) (parents L last) (λ p h. round_told p (shaped.earlier.earlier last p h))
 
   witnesses_told : (r : ℕ) → witnesses_in S r ≡ list_below (λ x. x) last (λ x. is_witness n L x && eqb (round_of n L x) r)
@@ -73,17 +73,17 @@ module _ (n : ℕ) (L : List Link) (shaped : IsShaped n L) (some : 0 < length L)
   seen_told r = ap (count_by (strongly_sees n L last)) (witnesses_told r) ∙ count_by-list_below (strongly_sees n L last) last (λ x. is_witness n L x && eqb (round_of n L x) r)
 
   -- the round of the last row
-  pub last_round_told : (r seen : ℕ) (many : Bool) → r ≡ greatest_round (round_at S) (parents L last) → seen ≡ count_by (strongly_sees n L last) (witnesses_in S r) →
+  pub last_round_told : (r seen : ℕ) (many : Bool) → r ≡ parent_round (round_at S) (parents L last) → seen ≡ count_by (strongly_sees n L last) (witnesses_in S r) →
       many ≡ is_supermajority n seen → cond many (r + 1) r ≡ round_of n L last
   last_round_told r seen many r_is seen_is many_is =
-      let r_told : r ≡ greatest_round (round_of n L) (parents L last) = r_is ∙ greatest_told in
+      let r_told : r ≡ parent_round (round_of n L) (parents L last) = r_is ∙ greatest_told in
       let seen_count : seen ≡ count_below last (is_seen_witness (round_of n L) n L r last) = seen_is ∙ seen_told r in
       sym (round_of-at n L shaped.earlier last ∙ rw (← r_told, ← seen_count, ← many_is) refl)
 
   last_round_fits : round_of n L last ≤ last + 1
   last_round_fits = round_of-le n L shaped.earlier last
 
-  pub greatest_fits : greatest_round (round_at S) (parents L last) ≤ last + 1
+  pub greatest_fits : parent_round (round_at S) (parents L last) ≤ last + 1
   greatest_fits = rw greatest_told (elim (round_of_cases n L shaped.earlier last) [
     | inl up ↦ omega (arith, last_round_fits, up.1)
     | inr stay ↦ omega (arith, last_round_fits, stay.1)
@@ -112,14 +112,14 @@ module _ (n : ℕ) (L : List Link) (shaped : IsShaped n L) (some : 0 < length L)
     | inr later ↦
         (let known = known_round 0 (omega arith) in
         let pos = round_of-pos n L shaped.earlier 0 in
-        let step : round_of n L last ≤ greatest_round (round_of n L) (parents L last) + 1 = step_to (round_of_cases n L shaped.earlier last) in
+        let step : round_of n L last ≤ parent_round (round_of n L) (parents L last) + 1 = step_to (round_of_cases n L shaped.earlier last) in
         elim (greatest_round_found (round_of n L) (parents L last)) [
           | inl one ↦ omega arith
           | inr found ↦ (let below = known_round found.0 (shaped.earlier.earlier last found.0 found.1) in let same = found.2 in omega arith)
         ])
   ]
     where
-      step_to : {A B : Type 0} → (A × (round_of n L last ≡ greatest_round (round_of n L) (parents L last) + 1)) ⊎ (B × (round_of n L last ≡ greatest_round (round_of n L) (parents L last))) → round_of n L last ≤ greatest_round (round_of n L) (parents L last) + 1
+      step_to : {A B : Type 0} → (A × (round_of n L last ≡ parent_round (round_of n L) (parents L last) + 1)) ⊎ (B × (round_of n L last ≡ parent_round (round_of n L) (parents L last))) → round_of n L last ≤ parent_round (round_of n L) (parents L last) + 1
       step_to (inl up) = omega (arith, up.1)
       step_to (inr stay) = omega (arith, stay.1)
 

@@ -43,7 +43,7 @@ pub record IsByRow (S : List Standing) : Type 0 where
 
 -- a list for each round from 0 to the next one, which has the round's witnesses; and room for one more place in each,
 -- but perhaps in that of round `full` and in that of the next round
-pub record Keeps (S : List Standing) (lists : List Listed) (top full : ℕ) : Type 0 where
+pub record KeepsLists (S : List Standing) (lists : List Listed) (top full : ℕ) : Type 0 where
   pub by_row : IsByRow S
   pub greatest : top ≡ greatest_in S
   pub long : length lists ≡ top + 2

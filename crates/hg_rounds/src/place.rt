@@ -1,6 +1,6 @@
 ghost use Rattle.std.specs.Prelude.{◌≡◌, ◌<◌, ◌≤◌, ◌+◌, ◌-◌, ◌^◌, [], ◌∷◌, ◌++◌, cond, length, count_by, nat_lt};
 ghost use Rattle.hg_model.specs.Links.{first_place};
-ghost use Rattle.hg_model.specs.Rounds.{greatest_round, is_witness, round_of};
+ghost use Rattle.hg_model.specs.Rounds.{parent_round, is_witness, round_of};
 ghost use Rattle.hg_model.specs.Seeing.{is_supermajority, strongly_sees};
 ghost use Rattle.hg_model.specs.Shape.{pair_list};
 ghost use Rattle.hg_model.specs.Standings.{greatest_in, round_at};
@@ -28,16 +28,16 @@ pub fn place_round<S: Sight>(
     ensures whole { table.now.standings ++ standing result.0 result.1 ∷ [] ≡ standings_in (S.shape sight.now) }
 {
     let last = sight.rows() - 1;
-    let greatest = greatest_round(table, parents);
+    let greatest = parent_round(table, parents);
     let seen = count_seen(sight, table.witnesses(greatest), last);
     let round = next_round(sight.members(), greatest, seen);
     (round, is_first(table, parents, round))
 }
 
 /// The greatest of the parents' rounds, or 1.
-fn greatest_round(table: &RoundTable, parents: Option<(usize, usize)>) -> u32
+fn parent_round(table: &RoundTable, parents: Option<(usize, usize)>) -> u32
     requires { AllByRecursion (λ p. p < length table.now.standings) (pair_list parents) }
-    ensures { result ≡ greatest_round (round_at table.now.standings) (pair_list parents) }
+    ensures { result ≡ parent_round (round_at table.now.standings) (pair_list parents) }
 {
     match parents {
         None => 1,

@@ -22,13 +22,13 @@ pub struct RoundTable {
 
 impl Model for RoundTable {
     ghost use Rattle.std.specs.Prelude.{◌+◌, ◌-◌, vec_capacity, vec_len};
-    ghost use Rattle.hg_rounds.specs.Tabled.{Keeps, Tabled, list_at, room_by};
+    ghost use Rattle.hg_rounds.specs.Tabled.{KeepsLists, Tabled, list_at, room_by};
 
     ghost Value = { Tabled };
 
     ghost view = { λ s. record { standings = s.rows.items; room = room_by (vec_capacity s.rows - vec_len s.rows) (vec_capacity s.lists - vec_len s.lists) (list_at s.lists.items s.full) (list_at s.lists.items (s.greatest + 1)) } };
 
-    ghost invariant = { λ s. Keeps s.rows.items s.lists.items s.greatest s.full };
+    ghost invariant = { λ s. KeepsLists s.rows.items s.lists.items s.greatest s.full };
 }
 
 impl RoundTable {

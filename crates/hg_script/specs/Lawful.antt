@@ -13,26 +13,26 @@ use Rattle.hg_script.specs.declared.line.Line.{Line}
 use Rattle.hg_script.specs.Table.{Above, Found, has_node}
 
 -- the number is that of a member with a node
-abbrev pub IsNode : MemberList → ℕ → Type 0
-IsNode members m = has_node members m ≡ true
+abbrev pub HasNode : MemberList → ℕ → Type 0
+HasNode members m = has_node members m ≡ true
 
 abbrev pub IsGossip : MemberList → Gossip → Type 0
-IsGossip members (Create member time) = IsNode members member
-IsGossip members (Sync taker peer time) = IsNode members taker × IsNode members peer × (taker ≢ peer)
-IsGossip members (Pull taker peer) = IsNode members taker × IsNode members peer × (taker ≢ peer)
-IsGossip members (Join member label time) = IsNode members member
-IsGossip members (Give member label) = IsNode members member
+IsGossip members (Create member time) = HasNode members member
+IsGossip members (Sync taker peer time) = HasNode members taker × HasNode members peer × (taker ≢ peer)
+IsGossip members (Pull taker peer) = HasNode members taker × HasNode members peer × (taker ≢ peer)
+IsGossip members (Join member label time) = HasNode members member
+IsGossip members (Give member label) = HasNode members member
 
 abbrev pub IsSource : MemberList → Source → Type 0
-IsSource members (Last member) = IsNode members member
+IsSource members (Last member) = HasNode members member
 IsSource members _ = ⊤
 
 -- the members that the action names have nodes
 abbrev pub IsLawful : MemberList → Action → Type 0
 IsLawful members (action.Gossip g) = IsGossip members g
 IsLawful members (action.Label s) = IsSource members s
-IsLawful members (action.Show member) = IsNode members member
-IsLawful members (action.Names member) = IsNode members member
+IsLawful members (action.Show member) = HasNode members member
+IsLawful members (action.Names member) = HasNode members member
 
 abbrev pub IsLine : MemberList → Line → Type 0
 IsLine members line = IsLawful members line.action

@@ -4,7 +4,7 @@ ghost use Rattle.std.specs.Str.{bytes_eq};
 ghost use Rattle.hg_model.specs.declared.members.MemberEntry.{MemberEntry};
 ghost use Rattle.hg_model.specs.Members.{is_digit};
 ghost use Rattle.hg_script.specs.Gives.{Gives, Reads};
-ghost use Rattle.hg_script.specs.Lawful.{IsNode};
+ghost use Rattle.hg_script.specs.Lawful.{HasNode};
 ghost use Rattle.hg_script.specs.Table as told;
 
 use crate::above::Above;
@@ -85,7 +85,7 @@ fn has_node(members: &Members, member: Member) -> bool
 
 fn with_node(members: &Members, member: Member) -> Result<Member, Why>
     ensures value { result ≡ told.with_node members.now member }
-    ensures node { IfOk result (λ m. IsNode members.now m × (m ≡ member)) }
+    ensures node { IfOk result (λ m. HasNode members.now m × (m ≡ member)) }
 {
     if has_node(members, member) {
         Ok(member)
@@ -97,7 +97,7 @@ fn with_node(members: &Members, member: Member) -> Result<Member, Why>
 /// The member with this name, who must have a node.
 pub fn node_of(members: &Members, word: &[u8]) -> Result<Member, Why>
     ensures value { result ≡ told.node_of members.now word.now }
-    ensures node { IfOk result (λ m. IsNode members.now m × (m < 128)) }
+    ensures node { IfOk result (λ m. HasNode members.now m × (m < 128)) }
 {
     with_node(members, member_of(members, word)?)
 }
@@ -105,7 +105,7 @@ pub fn node_of(members: &Members, word: &[u8]) -> Result<Member, Why>
 /// The member with this name, who must have a node and be another than the taker.
 pub fn peer_of(members: &Members, taker: Member, word: &[u8]) -> Result<Member, Why>
     ensures value { result ≡ told.peer_of members.now taker word.now }
-    ensures node { IfOk result (λ m. IsNode members.now m × (m ≢ taker)) }
+    ensures node { IfOk result (λ m. HasNode members.now m × (m ≢ taker)) }
 {
     let peer = member_of(members, word)?;
     if peer == taker {

@@ -35,17 +35,17 @@ as_refusal (Ok x) = Ok x
 as_refusal (Err f) = Err (Fault f)
 
 -- the members that a member file's bytes tell, or what is wrong with them
-abbrev pub members_in : List ℕ → Result MemberList (Refusal MemberFault)
-members_in bytes = if nat_lt member_limit (length bytes) then Err TooLong else as_refusal (members_of bytes)
+abbrev pub accepted_members : List ℕ → Result MemberList (Refusal MemberFault)
+accepted_members bytes = if nat_lt member_limit (length bytes) then Err TooLong else as_refusal (members_of bytes)
 
 -- the lines that a script's bytes are, or what is wrong with them
-abbrev pub lines_in : MemberList → List ℕ → Result (List Line) (Refusal ScriptFault)
-lines_in members bytes = if nat_lt script_limit (length bytes) then Err TooLong else as_refusal (lines_of bytes members)
+abbrev pub accepted_lines : MemberList → List ℕ → Result (List Line) (Refusal ScriptFault)
+accepted_lines members bytes = if nat_lt script_limit (length bytes) then Err TooLong else as_refusal (lines_of bytes members)
 
 -- the report of a run over the bytes of a member file and of a script, if both are accepted
 abbrev pub report_of : List ℕ → List ℕ → Option (List ℕ)
 report_of member_bytes script_bytes =
-    option_and_then (λ members. option_map (λ lines. report_text (play members lines)) (result_ok (lines_in members script_bytes))) (result_ok (members_in member_bytes))
+    option_and_then (λ members. option_map (λ lines. report_text (play members lines)) (result_ok (accepted_lines members script_bytes))) (result_ok (accepted_members member_bytes))
 
 -- the shelf has these bytes under the name, where it tells what it has
 abbrev pub Has : Option Files → List ℕ → List ℕ → Type 0
@@ -59,8 +59,8 @@ pub record FileNames : Type 0 where
 abbrev pub file_names : List ℕ → List ℕ → FileNames
 file_names members script = record { members = members; script = script }
 
-abbrev pub names_of : Run → FileNames
-names_of request = file_names request.members request.script
+abbrev pub file_names_of : Run → FileNames
+file_names_of request = file_names request.members request.script
 
 -- the text is the report of a run over the two files
 pub record IsReport (holds : Option Files) (names : FileNames) (text : List ℕ) : Type 0 where
@@ -73,19 +73,19 @@ pub record IsReport (holds : Option Files) (names : FileNames) (text : List ℕ)
 -- the member file is refused, and this is what is wrong with it
 abbrev pub HasBadMembers : Option Files → FileNames → Refusal MemberFault → Type 0
 HasBadMembers holds names refusal =
-    IfSome holds (λ files. IsSomeAnd (content_of files names.members) (λ bytes. members_in bytes ≡ Err refusal))
+    IfSome holds (λ files. IsSomeAnd (content_of files names.members) (λ bytes. accepted_members bytes ≡ Err refusal))
 
 -- the member file is accepted
 abbrev pub HasGoodMembers : Option Files → FileNames → Type 0
 HasGoodMembers holds names =
-    IfSome holds (λ files. (members : MemberList) × IsSomeAnd (content_of files names.members) (λ bytes. members_in bytes ≡ Ok members))
+    IfSome holds (λ files. (members : MemberList) × IsSomeAnd (content_of files names.members) (λ bytes. accepted_members bytes ≡ Ok members))
 
 -- the member file is accepted, and the script is refused: this is what is wrong with it
 abbrev pub HasBadScript : Option Files → FileNames → Refusal ScriptFault → Type 0
 HasBadScript holds names refusal =
     IfSome holds (λ files. (members : MemberList)
-    × IsSomeAnd (content_of files names.members) (λ bytes. members_in bytes ≡ Ok members)
-    × IsSomeAnd (content_of files names.script) (λ bytes. lines_in members bytes ≡ Err refusal))
+    × IsSomeAnd (content_of files names.members) (λ bytes. accepted_members bytes ≡ Ok members)
+    × IsSomeAnd (content_of files names.script) (λ bytes. accepted_lines members bytes ≡ Err refusal))
 
 -- what the outside counts and tells: the shelf's faults by name, and the faults and the bytes of standard output
 pub record Outside : Type 0 where
@@ -115,7 +115,7 @@ Ends holds names before after Memory = after.written ≡ before.written
 -- what words come to: a request that is accepted, or just the status of a faulty command line, or want of memory
 abbrev pub EndsBy : Option Files → Option Asked → Outside → Outside → Status → Type 0
 EndsBy holds None before after status = ((status ≡ Usage) ⊎ (status ≡ Memory)) × (after.written ≡ before.written)
-EndsBy holds (Some (run request)) before after status = Ends holds (names_of request) before after status
+EndsBy holds (Some (run request)) before after status = Ends holds (file_names_of request) before after status
 
 -- The status of a faulty command line comes for faulty words alone, and they get no other, or want of memory
 pub record IsUsage (words : List (List ℕ)) (status : Status) : Type 0 where
@@ -139,8 +139,8 @@ abbrev pub IsRefused : Option Files → List (List ℕ) → Outside → Outside 
 IsRefused holds words before after status =
     (request : Run) (files : Files) → request_of words ≡ Some (run request) → holds ≡ Some files →
     (Rose (before.read_faults request.members) (after.read_faults request.members) → ⊥) →
-    ((refusal : Refusal MemberFault) → HasBadMembers holds (names_of request) refusal → (status ≡ Members refusal) ⊎ (status ≡ Memory))
-    × ((refusal : Refusal ScriptFault) → HasBadScript holds (names_of request) refusal →
+    ((refusal : Refusal MemberFault) → HasBadMembers holds (file_names_of request) refusal → (status ≡ Members refusal) ⊎ (status ≡ Memory))
+    × ((refusal : Refusal ScriptFault) → HasBadScript holds (file_names_of request) refusal →
     (Rose (before.read_faults request.script) (after.read_faults request.script) → ⊥) → (status ≡ Script refusal) ⊎ (status ≡ Memory))
 
 -- the lines that tell what is wrong with a file

@@ -18,7 +18,7 @@ use Rattle.clap.specs.declared.builder.ValueParser.TheVariants.{Signed, Unsigned
 use Rattle.clap.specs.declared.builder.value_parser.Reading.TheVariants.{WithoutMinus}
 use Rattle.clap.proofs.CallerReads.{signed_reads}
 use Rattle.clap.proofs.ValueTestLemmas.{accepts-Accepts, Accepts-accepts}
-use Rattle.hg_words.specs.Asked.{Asked, KeepsRanges, asked_in, number_in, number_of}
+use Rattle.hg_words.specs.Asked.{Asked, KeepsRanges, asked_in, number_in, text_number}
 use Rattle.hg_words.specs.Line.{command, most_workers}
 use Rattle.hg_words.proofs.Passing.{both_none}
 use Rattle.hg_words.proofs.Passing as passing
@@ -107,7 +107,7 @@ Good-accepted words found e is =
 abbrev Reads : Text → Result ℕ ⊤ → Type 0
 Reads t r = ParsesUnsigned 32 10 t r
 
-number_reads : (t : Text) → ReadsOne Reads t (number_of t)
+number_reads : (t : Text) → ReadsOne Reads t (text_number t)
 number_reads t = go (accepts false (Unsigned 0 (2 ^ 32 - 1)) t) refl
   where
     go : (b : Bool) → accepts false (Unsigned 0 (2 ^ 32 - 1)) t ≡ b → ReadsOne Reads t (if b then Some (digits_value 10 (without_leading_plus t)) else None)
@@ -130,12 +130,12 @@ value_accepted t e = accepts-Accepts false range t (go (accepts false range t) e
     go false none = cc
 
 abbrev Bounded : Option Text → Type 0
-Bounded text = unwrap_or (option_and_then number_of text) 0 ≤ most_workers
+Bounded text = unwrap_or (option_and_then text_number text) 0 ≤ most_workers
 
 first_bounded : (values : List Text) → Pass values → Bounded (option_map without_minus (slice_get values 0))
 first_bounded [] pass = omega arith
 first_bounded (t ∷ values) pass =
-    let read = signed_reads ⊤ Reads 32 0 most_workers t (number_of (without_minus t)) (number_reads (without_minus t)) (λ u x parsed. parsed) (omega arith)
+    let read = signed_reads ⊤ Reads 32 0 most_workers t (text_number (without_minus t)) (number_reads (without_minus t)) (λ u x parsed. parsed) (omega arith)
     (value_accepted t (both_none _ _ pass).0) in
     rw read.1 read.3
 

@@ -8,7 +8,7 @@ use Rattle.clap.specs.declared.parser.matches.Found.{Found}
 use Rattle.clap.specs.declared.builder.ValueParser.TheVariants.{Unsigned}
 use Rattle.clap.proofs.ValueTestLemmas.{accepts-Accepts, Accepts-accepts}
 use Rattle.clap.proofs.WalkLemmas.{first_value-rows, one_text-rows}
-use Rattle.hg_words.specs.Asked.{number_of}
+use Rattle.hg_words.specs.Asked.{text_number}
 
 unwrap_or-now : (found : Option (Bor Text)) (other : Bor Text) → (unwrap_or found other).now ≡ unwrap_or (option_map (λ s. s.now) found) other.now
 unwrap_or-now None other = refl
@@ -34,13 +34,13 @@ abbrev is_number : Text → Bool
 is_number t = accepts false (Unsigned 0 (2 ^ 32 - 1)) t
 
 -- the number that a text is read as
-number_read : (t : Text) (r : Option ℕ) → ReadsOne Reads t r → r ≡ number_of t
+number_read : (t : Text) (r : Option ℕ) → ReadsOne Reads t r → r ≡ text_number t
 number_read t (Some n) read =
     let taken : is_number t ≡ true = Accepts-accepts false (Unsigned 0 (2 ^ 32 - 1)) t (read.0.0.0, omega (arith, read.0.0.1), omega arith, omega (arith, read.0.0.1)) in
     rw taken (ap (λ (v : ℕ). some v) read.0.1)
 number_read t None read = go (is_number t) refl
   where
-    go : (b : Bool) → is_number t ≡ b → none ≡ number_of t
+    go : (b : Bool) → is_number t ≡ b → none ≡ text_number t
     go false is = rw is refl
     go true is =
         let taken = accepts-Accepts false (Unsigned 0 (2 ^ 32 - 1)) t is in
@@ -48,9 +48,9 @@ number_read t None read = go (is_number t) refl
 
 -- the number of an option
 pub number_found : (f : Found) (id : Text) (r : Option ℕ) → (one_text f id ≡ None → r ≡ None)
-    → ((t : Text) → one_text f id ≡ Some t → ReadsOne Reads t r) → r ≡ option_and_then number_of (one_of id (rows_of f))
-number_found f id r none value = go (one_text f id) refl ∙ ap (option_and_then number_of) (one_text-rows f id)
+    → ((t : Text) → one_text f id ≡ Some t → ReadsOne Reads t r) → r ≡ option_and_then text_number (one_of id (rows_of f))
+number_found f id r none value = go (one_text f id) refl ∙ ap (option_and_then text_number) (one_text-rows f id)
   where
-    go : (o : Option Text) → one_text f id ≡ o → r ≡ option_and_then number_of o
+    go : (o : Option Text) → one_text f id ≡ o → r ≡ option_and_then text_number o
     go None is = none is
     go (Some t) is = number_read t r (value t is)

@@ -27,13 +27,13 @@ abbrev pub text_in : Text → List Row → Text
 text_in option rows = unwrap_or (first_of option rows) []
 
 -- the number of 32 bits that a text is, where it is one
-abbrev pub number_of : Text → Option ℕ
-number_of text =
+abbrev pub text_number : Text → Option ℕ
+text_number text =
     if accepts false (Unsigned 0 (2 ^ 32 - 1)) text then Some (digits_value 10 (without_leading_plus text)) else None
 
 -- the number that an option was given, 0 where it was left out
 abbrev pub number_in : Text → List Row → ℕ
-number_in option rows = unwrap_or (option_and_then number_of (one_of option rows)) 0
+number_in option rows = unwrap_or (option_and_then text_number (one_of option rows)) 0
 
 -- what the options of `run` ask for
 abbrev pub run_in : List Row → Run

@@ -1,6 +1,6 @@
 use Rattle.std.proofs.Common.{sym, ◌∙◌, ap}
 use Rattle.hg_model.proofs.FameLaws.{fame_of_other}
-use Rattle.hg_plain.specs.Elections.{vote_in}
+use Rattle.hg_plain.specs.Elections.{decided_vote}
 use Rattle.hg_plain.proofs.FameSteps.{fame_from_ballots}
 use Rattle.hg_plain.proofs.fame.fame.Goals as goal
 
@@ -9,7 +9,7 @@ returns-then-not-is_witness c = sym (fame_of_other _ _ _ _ _ (sym c.is_witness.e
 
 pub returns : goal.returns
 returns c =
-    c.vote_in.ensures
-    ∙ (ap vote_in c.first_decision.ensures
+    c.decided_vote.ensures
+    ∙ (ap decided_vote c.first_decision.ensures
     ∙ fame_from_ballots _ _ _ _ _ c.deref.result.now c.requires.candidate (sym c.is_witness.ensures ∙ c.if-not-is_witness.false)
     (rw (c.deref.ensures.value) c.in_ok-ballots.ensures))

@@ -1,7 +1,7 @@
 use Rattle.std.proofs.Common.{◌≡◌, ◌∙◌, ◌++◌, List, ℕ, ap, codes, subst, sym, append_assoc}
 use Rattle.std.specs.Fmt.{decimal}
 use Rattle.hg_io.specs.Telling.{Puts, desk}
-use Rattle.hg_model.specs.Report.{counted}
+use Rattle.hg_model.specs.Report.{with_number}
 use Rattle.hg_report.specs.Pieces.{piece_text}
 use Rattle.hg_report.proofs.text.write_sync.Goals as goal
 
@@ -15,5 +15,5 @@ returns g c =
     ∙ ap (λ (t : List ℕ). t ++ end) c.sync_made_phrase-phrase.ensures in
     subst (λ (t : List ℕ). Puts (desk (sink.written c.args.sink.now) (sink.faults c.args.sink.now) c.args.page.now)
     (desk (sink.written c.write_pieces.new.sink) (sink.faults c.write_pieces.new.sink) c.write_pieces.new.page)
-    (decimal c.args.line ++ (counted (codes " sync taken") r.taken ++ (counted (codes " refused") r.refused ++ (codes " made " ++ t)))) c.write_pieces.result)
+    (decimal c.args.line ++ (with_number (codes " sync taken") r.taken ++ (with_number (codes " refused") r.refused ++ (codes " made " ++ t)))) c.write_pieces.result)
     whole c.write_pieces.ensures

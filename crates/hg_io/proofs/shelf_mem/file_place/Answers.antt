@@ -1,6 +1,6 @@
 use Rattle.std.proofs.Common.{ℕ, Option, length, unwrap_or, ap, ◌∙◌}
 use Rattle.hg_io.proofs.Places.{bytes_in_memory, none_in_memory, place_in_memory}
-use Rattle.hg_io.proofs.shelf_mem.place_of.Goals as goal
+use Rattle.hg_io.proofs.shelf_mem.file_place.Goals as goal
 
 pub returns-clause-place : goal.returns-clause-place
 returns-clause-place c =

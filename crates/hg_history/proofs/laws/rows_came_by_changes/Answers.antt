@@ -1,5 +1,5 @@
 use Rattle.hg_history.proofs.EventLaws.{rows_came, events_left, verdicts_of_bytes}
-use Rattle.hg_history.proofs.laws.rows_came_by_events.Goals as goal
+use Rattle.hg_history.proofs.laws.rows_came_by_changes.Goals as goal
 
 pub returns-clause-came : goal.returns-clause-came
 returns-clause-came c = rows_came
