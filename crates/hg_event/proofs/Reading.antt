@@ -10,7 +10,8 @@ use Rattle.std.proofs.lemmas.Slice.Eq.{bytes_eq-Decides}
 use Rattle.hg_model.specs.declared.answers.ByteFault.{ByteFault}
 use Rattle.hg_model.specs.declared.answers.ByteFault.TheVariants.{Short, BadMagic, BadLength}
 use Rattle.hg_model.specs.Spelling.{magic, parent_bytes, payload_bytes, payload_limit}
-use Rattle.hg_model.specs.Reading.{◌>>=◌, bytes_field, number_field, after_magic, parents_field, payload_field}
+use Rattle.hg_model.specs.Results.{◌>>=◌}
+use Rattle.hg_model.specs.Reading.{bytes_field, number_field, after_magic, parents_field, payload_field}
 
 -- ---- a reading that went on
 

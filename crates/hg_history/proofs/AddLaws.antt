@@ -12,7 +12,8 @@ use Rattle.hg_model.specs.Links.{Link}
 use Rattle.hg_model.specs.Rounds.{is_witness}
 use Rattle.hg_model.specs.Fame.{Marks, mark_at, fame_of, is_yes}
 use Rattle.hg_model.specs.Order.{coin_at}
-use Rattle.hg_model.specs.Shares.{Share, is_of_share, share_fame, early_fame, found_in, Adding, add_mark, add_marks}
+use Rattle.hg_model.specs.Shares.{Share, is_of_share, share_fame, early_fame, found_in}
+use Rattle.hg_history.specs.Adding.{Adding, add_mark, add_marks}
 use Rattle.hg_model.specs.History.{news, new_mark, replay}
 use Rattle.hg_history.specs.Laws.{PublishingAddsMarks}
 use Rattle.hg_history.proofs.StateLaws.{even_after, mark_of_table}

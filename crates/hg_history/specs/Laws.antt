@@ -10,7 +10,8 @@ use Rattle.hg_model.specs.Order.{coin_at, order_of, last_closed}
 use Rattle.hg_model.specs.Spelling.{body_of, spelling, Spells}
 use Rattle.hg_model.specs.Reading.{read_event}
 use Rattle.hg_model.specs.Verdict.{row_limit, verdict, row_verdict, made_row}
-use Rattle.hg_model.specs.Shares.{Share, Speaks, add_marks}
+use Rattle.hg_model.specs.Shares.{Share, Speaks}
+use Rattle.hg_history.specs.Adding.{add_marks}
 use Rattle.hg_model.specs.History.{Change, Accepts, with_marks, replay, news, IsHistory}
 use Rattle.hg_model.specs.Kept.{kept, kept_in, kept_up_to, kept_by_names}
 use Rattle.hg_model.specs.History.Change.{Took, Made, Marked}
@@ -25,7 +26,7 @@ pub record IsEvent (accepts : Accepts) (row : Row) : Type 0 where
   pub spelled : Spells (spelling row) row
   pub signed : IsTrue (accepts row.creator (body_of row) row.sig)
 
--- the rows after a history are a graph of events, whose links are those that were made as the rows came
+-- a graph of signed events with names of 48 bytes, not more than a node takes, in which the own member's rows are one chain
 pub record IsNodeGraph (accepts : Accepts) (n own : ℕ) (G : List Row) : Type 0 where
   pub graph : IsGraph n G
   pub events : (x : ℕ) (row : Row) → slice_get G x ≡ Some row → IsEvent accepts row
@@ -45,7 +46,7 @@ RowsAreAGraph = (accepts : Accepts) (n c own : ℕ) (h : List Change) → 2 < c 
 abbrev pub LinksAreThoseOfTheRows : Type 0
 LinksAreThoseOfTheRows = (accepts : Accepts) (n c own : ℕ) (h : List Change) → 2 < c → IsHistory accepts n c own h → (replay n c h).links ≡ links (replay n c h).rows
 
--- the history has the event
+-- the history has the change
 abbrev pub HasChange : List Change → Change → Type 0
 HasChange h e = (i : ℕ) × (slice_get h i ≡ Some e)
 
@@ -54,6 +55,7 @@ abbrev pub RowsCameByChanges : Type 0
 RowsCameByChanges = (accepts : Accepts) (n c own : ℕ) (h : List Change) → IsHistory accepts n c own h → (x : ℕ) (row : Row) → slice_get (replay n c h).rows x ≡ Some row →
     (row.creator ≡ own → HasChange h (Made row)) × (row.creator ≢ own → HasChange h (Took row))
 
+-- a row that came stands among the rows
 abbrev pub ChangesLeftRows : Type 0
 ChangesLeftRows = (n c : ℕ) (h : List Change) (row : Row) → HasChange h (Made row) ⊎ HasChange h (Took row) → (x : ℕ) × (slice_get (replay n c h).rows x ≡ Some row)
 
@@ -85,7 +87,7 @@ abbrev pub ClosedStays : Type 0
 ClosedStays = (accepts : Accepts) (n c own : ℕ) (a b : List Change) → 2 < c → IsHistory accepts n c own (a ++ b) → (r : ℕ) →
     IsTrue (is_closed n (replay n c a).links (replay n c a).marks r) → IsTrue (is_closed n (replay n c (a ++ b)).links (replay n c (a ++ b)).marks r)
 
--- a moment of a history is a history, and so is one with a further event that may come
+-- a moment of a history is a history
 abbrev pub MomentsAreHistories : Type 0
 MomentsAreHistories = (accepts : Accepts) (n c own : ℕ) (a b : List Change) → IsHistory accepts n c own (a ++ b) → IsHistory accepts n c own a
 
@@ -163,11 +165,12 @@ RowsLeaveTheOrder = (accepts : Accepts) (n c own : ℕ) (h : List Change) (e : C
 
 -- Laws of a node with any keys K, as its callers see it
 
--- accepted bytes add one event, the row that they spell, at the next place; others add none
+-- accepted bytes add one change, the row that they spell, at the next place
 abbrev pub PutsAddOne : (K : Type 0) → Type 0
 PutsAddOne K = (accepts : K → Accepts) (v : Shown K) (bytes : List ℕ) (place : ℕ) → put_answer accepts v bytes ≡ Accepted place →
     (place ≡ length (graph_of v)) × ((row : Row) × (read_event bytes ≡ Ok row) × (put_changes accepts v bytes ≡ Took row ∷ []))
 
+-- bytes that are not accepted add none
 abbrev pub OtherPutsAddNone : (K : Type 0) → Type 0
 OtherPutsAddNone K = (accepts : K → Accepts) (v : Shown K) (bytes : List ℕ) → ((place : ℕ) → put_answer accepts v bytes ≡ Accepted place → ⊥) →
     put_changes accepts v bytes ≡ []
@@ -177,7 +180,7 @@ abbrev pub PutsLeaveANode : (K : Type 0) → Type 0
 PutsLeaveANode K = (accepts : K → Accepts) (v : Shown K) (bytes : List ℕ) → ((i : ℕ) → get_or bytes i 0 < 256) → IsNode accepts v →
     IsNode accepts (with_changes v (put_changes accepts v bytes))
 
--- so does an event that is made add one event
+-- so does an event that is made add one change
 abbrev pub MakesAddOne : (K : Type 0) → Type 0
 MakesAddOne K = (v : Shown K) (other : Option (List ℕ)) (time : ℕ) (payload sig : List ℕ) (place : ℕ) → make_answer v other time payload sig ≡ made.Made place →
     (place ≡ length (graph_of v)) × (make_changes v other time payload sig ≡ Made (made_row v.start.own (graph_of v) other time payload sig) ∷ [])

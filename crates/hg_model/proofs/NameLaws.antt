@@ -13,8 +13,8 @@ use Rattle.hg_model.specs.Verdict.{later_name, last_name}
 use Rattle.hg_model.specs.Graph.{creator_at}
 use Rattle.hg_model.proofs.PushLaws.{nobody}
 
-pub same_bytes : (a b : List ℕ) → a ≡ b → bytes_eq a b ≡ true
-same_bytes a b same = (bytes_eq-Decides a b).1 same
+pub bytes_eq-same : (a b : List ℕ) → a ≡ b → bytes_eq a b ≡ true
+bytes_eq-same a b same = (bytes_eq-Decides a b).1 same
 
 pub bytes_same : (a b : List ℕ) → bytes_eq a b ≡ true → a ≡ b
 bytes_same a b same = (bytes_eq-Decides a b).0 same
@@ -32,7 +32,7 @@ place_of_at G distinct x name inside at_x =
     let names : name_at G k ≡ name_at G x = name-at G k inside_k ∙ (bytes_same (get_or G k nobody).name name same ∙ sym at_x) in
     let places = distinct.one k x inside_k inside names in
     absurd (omega arith)))
-    (λ h. same_bytes (get_or G x nobody).name name (sym (name-at G x inside) ∙ at_x))
+    (λ h. bytes_eq-same (get_or G x nobody).name name (sym (name-at G x inside) ∙ at_x))
 
 -- a row by the member with this name
 abbrev pub IsNamedBy : List Row → ℕ → List ℕ → Type 0
@@ -76,7 +76,7 @@ not_before G row k free inside same =
     let at_k : name_at (G ++ row ∷ []) k ≡ (get_or G k nobody).name =
     name-at (G ++ row ∷ []) k (omega arith) ∙ ap (λ (r : Row). r.name) (get_or_append_left G (row ∷ []) nobody k inside) in
     let fails = fails_before_first (is_named row.name) G k nobody (omega arith) in
-    true≢false (sym (same_bytes (get_or G k nobody).name row.name (sym at_k ∙ same)) ∙ fails)
+    true≢false (sym (bytes_eq-same (get_or G k nobody).name row.name (sym at_k ∙ same)) ∙ fails)
 
 last_named : (G : List Row) (row : Row) (x : ℕ) → x ≡ length G → name_at (G ++ row ∷ []) x ≡ row.name
 last_named G row x last =

@@ -75,7 +75,7 @@ present_at n G shaped x inside = record {
       omega arith);
 }
 
-all_from : {A : Type 0} (P : A → Type 0) (d : A) (xs : List A) → ((k : ℕ) → k < length xs → P (get_or xs k d)) → AllByRecursion P xs
+pub all_from : {A : Type 0} (P : A → Type 0) (d : A) (xs : List A) → ((k : ℕ) → k < length xs → P (get_or xs k d)) → AllByRecursion P xs
 all_from P d [] each = tt
 all_from P d (x ∷ xs) each = (each 0 (omega arith), all_from P d xs (λ k h. each (Rattle.std.proofs.Common.suc k) (omega arith)))
 
@@ -97,7 +97,7 @@ pub later_of_places : (ps : List ℕ) (p : ℕ) → has_place (later_places ps) 
 later_of_places [] p h = h
 later_of_places (q ∷ ps) p h = or_right (eqb q p) (has_place ps p) h
 
-nowhere : Link
+pub nowhere : Link
 nowhere = record { creator = 0; parents = [] }
 
 module _ (n : ℕ) (L : List Link) (link : Link) where

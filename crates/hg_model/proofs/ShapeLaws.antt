@@ -10,10 +10,10 @@ use Rattle.hg_model.proofs.LinkLaws.{parents_past}
 use Rattle.hg_model.proofs.LongerLaws.{longer-take, parents-longer, creator-longer}
 use Rattle.hg_model.proofs.PushLaws.{first_of_places, later_of_places}
 
-none_there : (p : ℕ) → has_place [] p ≡ true → ⊥
+pub none_there : (p : ℕ) → has_place [] p ≡ true → ⊥
 none_there p h = true≢false (sym h)
 
-one_there : (a p : ℕ) → has_place (a ∷ []) p ≡ true → a ≡ p
+pub one_there : (a p : ℕ) → has_place (a ∷ []) p ≡ true → a ≡ p
 one_there a p h = elim (or_cases (eqb a p) (has_place [] p) h) [ inl same ↦ eqb-true a p same | inr none ↦ absurd (none_there p none) ]
 
 -- a row without parents fits where its creator is a member

@@ -1,4 +1,4 @@
--- What the calls of a node answer, and the events that they add: at most one each. SWIRLDS-TR-2016-01, sections 3 and 4
+-- What the calls of a node answer, and the changes that they add: at most one each. SWIRLDS-TR-2016-01, sections 3 and 4
 use Rattle.std.specs.Prelude.{ℕ, ◌≡◌, true, cond, ◌==◌, List, [], ◌∷◌, length, Option, None, Result, Ok, Err}
 use Rattle.hg_model.specs.declared.row.Row.{Row}
 use Rattle.hg_model.specs.declared.answers.ByteFault.{ByteFault}
@@ -29,7 +29,7 @@ abbrev pub taken_from : {K : Type 0} → (K → Accepts) → Shown K → Result 
 taken_from accepts v (Err e) = []
 taken_from accepts v (Ok row) = taken_by (row_verdict (accepts v.start.keys) v.start.members v.start.own (graph_of v) row) row
 
--- the events that they add: the row that they spell, where they are accepted
+-- the changes that they add: the row that they spell, where they are accepted
 unfoldable pub put_changes : {K : Type 0} → (K → Accepts) → Shown K → List ℕ → List Change
 put_changes accepts v bytes = taken_from accepts v (read_event bytes)
 
@@ -41,7 +41,7 @@ abbrev pub made_by : MakeAnswer → Row → List Change
 made_by (answer.Made p) row = Made row ∷ []
 made_by (answer.Refused f) row = []
 
--- the events that it adds: the row, where it is made
+-- the changes that it adds: the row, where it is made
 unfoldable pub make_changes : {K : Type 0} → Shown K → Option (List ℕ) → ℕ → List ℕ → List ℕ → List Change
 make_changes v other time payload sig =
     made_by (make_answer v other time payload sig) (made_row v.start.own (graph_of v) other time payload sig)
@@ -58,6 +58,7 @@ make_draft v other payload = draft_rule v.start.own (graph_of v) other payload
 -- is not signed
 pub record IsMaking {K : Type 0} (accepts : K → Accepts) (old : Shown K) (other : Option (List ℕ)) (time : ℕ) (payload : List ℕ) (answer : MakeAnswer) (new : Shown K) : Type 0 where
   pub sig : List ℕ
+  pub sized : length sig ≡ 64
   pub signed : make_draft old other payload ≡ None → accepts old.start.keys old.start.own (make_body old other time payload) sig ≡ true
   pub answers : answer ≡ make_answer old other time payload sig
   pub grown : new ≡ with_changes old (make_changes old other time payload sig)
@@ -66,7 +67,7 @@ pub record IsMaking {K : Type 0} (accepts : K → Accepts) (old : Shown K) (othe
 unfoldable pub publish_answer : {K : Type 0} → Shown K → ℕ → Share → ℕ
 publish_answer v len share = news v.start.members v.start.coin (state_of v) len share
 
--- the events that it adds: one, where it marks some
+-- the changes that it adds: one, where it marks some
 unfoldable pub publish_changes : {K : Type 0} → Shown K → ℕ → Share → List Change
 publish_changes v len share = cond (publish_answer v len share == 0) [] (Marked len share ∷ [])
 

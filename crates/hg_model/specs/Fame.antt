@@ -1,5 +1,5 @@
 -- Fame, closed rounds, unique famous witnesses. SWIRLDS-TR-2016-01, section 4, procedures decideFame and findOrder.
--- A departure: a round gives order only if it has a witness, and a unique famous one.
+-- A departure: a round without a witness is not closed.
 use Rattle.std.specs.Prelude.{ℕ, Bool, false, not, ◌&&◌, ◌==◌, nat_lt, nat_le, List, length, get_or, Option, Some, None, option_map, is_none}
 use Rattle.hg_model.specs.Places.{some_below, least_below, table}
 use Rattle.hg_model.specs.Links.{Link, creator}
@@ -10,7 +10,7 @@ use Rattle.hg_model.specs.Votes.{vote_of, decides}
 abbrev pub is_decider : ℕ → ℕ → List Link → (ℕ → Bool) → ℕ → ℕ → Bool
 is_decider n c L coin x y = nat_lt x (length L) && is_witness n L x && decides n c L coin x y
 
--- the decision of the first decider, by round and then by place
+-- the fame of x: the vote of its first decider, by round and then by place; none without one
 unfoldable pub fame_of : ℕ → ℕ → List Link → (ℕ → Bool) → ℕ → Option Bool
 fame_of n c L coin x =
     option_map (vote_of n c L coin x) (least_below (round_of n L) (length L) (is_decider n c L coin x))
@@ -39,6 +39,7 @@ unfoldable pub is_closed : ℕ → List Link → Marks → ℕ → Bool
 is_closed n L marks r =
     some_below (length L) (is_witness_in n L r) && not (some_below (length L) (is_unmarked n L marks r))
 
+-- the mark is there, and is TRUE
 abbrev pub is_yes : Option Bool → Bool
 is_yes None = false
 is_yes (Some v) = v

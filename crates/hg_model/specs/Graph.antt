@@ -22,6 +22,14 @@ name_in (Some row) = row.name
 unfoldable pub name_at : List Row → ℕ → List ℕ
 name_at G x = name_in (slice_get G x)
 
+abbrev pub creator_of_row : Option Row → ℕ
+creator_of_row None = 0
+creator_of_row (Some row) = row.creator
+
+-- the creator of row x
+abbrev pub creator_at : List Row → ℕ → ℕ
+creator_at G x = creator_of_row (slice_get G x)
+
 -- no two rows have one name
 pub record HasDistinctNames (G : List Row) : Type 0 where
   pub one : (x y : ℕ) → x < length G → y < length G → name_at G x ≡ name_at G y → x ≡ y
@@ -32,19 +40,9 @@ pub record IsGraph (n : ℕ) (G : List Row) : Type 0 where
   pub shaped : IsShaped n (links G)
   pub few_forkers : 3 * forkers n (links G) < n
 
--- the tests of the above, for rows that are written out
-
+-- x is so placed, as a test
 abbrev pub is_shaped_at : ℕ → List Link → ℕ → Bool
 is_shaped_at n L x =
     nat_lt (creator L x) n && list_all (λ p. nat_lt p x) (parents L x)
     && list_all (λ p. creator L p == creator L x) (self_parent L x)
     && list_all (λ p. not (creator L p == creator L x)) (other_parents L x)
-
-abbrev pub is_named_before : List Row → ℕ → Bool
-is_named_before G x = some_below x (λ y. bytes_eq (name_at G y) (name_at G x))
-
-unfoldable pub is_graph : ℕ → List Row → Bool
-is_graph n G =
-    let L = links G in
-    not (some_below (length G) (λ x. not (is_shaped_at n L x))) && not (some_below (length G) (is_named_before G))
-    && nat_lt (3 * forkers n L) n

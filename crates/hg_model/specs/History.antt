@@ -1,7 +1,7 @@
--- What a node did, event by event, and the rows and published marks that this leaves. SWIRLDS-TR-2016-01, sections 3 and 4.
--- An event of a history is what happened at a node; what members gossip is a row here. Departures: fame is published by
--- shares, of the first rows only, so that workers can decide while rows come; and a witness that comes into a round that
--- is closed is not famous at once.
+-- What a node did, change by change, and the rows and published marks that this leaves. SWIRLDS-TR-2016-01, sections 3 and 4.
+-- A change is what happened at a node; the events that members gossip are rows here. Departures: fame is published by
+-- shares, of the first rows only, so that workers can decide while rows come; and a witness that comes into a closed round
+-- is at once marked as not famous.
 use Rattle.std.specs.Prelude.{ℕ, ◌≡◌, ◌<◌, ◌≤◌, Bool, true, false, cond, ◌&&◌, List, [], ◌∷◌, ◌++◌, length, fold, Option, Some, None, is_none, is_some}
 use Rattle.std.specs.Option.{option_or}
 use Rattle.hg_model.specs.declared.row.Row.{Row}
@@ -27,6 +27,7 @@ pub record State : Type 0 where
   pub links : List Link
   pub marks : Marks
 
+-- the state before any change
 abbrev pub empty : State
 empty = record { rows = []; links = []; marks = [] }
 
@@ -64,13 +65,13 @@ new_mark n c s len share x = option_or (mark_at s.marks x) (early_fame n c s.row
 abbrev pub with_marks : ℕ → ℕ → State → ℕ → Share → State
 with_marks n c s len share = record { rows = s.rows; links = s.links; marks = table (new_mark n c s len share) (length s.rows) }
 
--- what one event does to a state of a node among n members, with coin period c
+-- what one change does to a state of a node among n members, with coin period c
 abbrev pub step : ℕ → ℕ → State → Change → State
 step n c s (Took row) = with_row n s row
 step n c s (Made row) = with_row n s row
 step n c s (Marked len share) = with_marks n c s len share
 
--- the state after these events
+-- the state after these changes
 unfoldable pub replay : ℕ → ℕ → List Change → State
 replay n c h = fold (step n c) empty h
 
@@ -83,7 +84,7 @@ pub record IsTaken (accepts : Accepts) (n own : ℕ) (G : List Row) (row : Row) 
   pub spelled : Spells (spelling row) row
   pub accepted : row_verdict accepts n own G row ≡ Accepted (length G)
 
--- the row has them too, and is what the node makes for some arguments, under a signature that is accepted; its self-parent
+-- the row has the sizes and the name of an event, and is what the node makes for some arguments, under a signature that is accepted; its self-parent
 -- is then the last row that the node made
 pub record IsMade (accepts : Accepts) (own : ℕ) (G : List Row) (row : Row) : Type 0 where
   pub other : Option (List ℕ)
@@ -100,7 +101,7 @@ pub record MarksSome (n c : ℕ) (s : State) (len : ℕ) (share : Share) : Type 
   pub within : len ≤ length s.rows
   pub some : 0 < news n c s len share
 
--- the event may come in this state
+-- the change may come in this state
 abbrev pub IsStep : Accepts → ℕ → ℕ → ℕ → State → Change → Type 0
 IsStep accepts n c own s (Took row) = IsTaken accepts n own s.rows row
 IsStep accepts n c own s (Made row) = IsMade accepts own s.rows row

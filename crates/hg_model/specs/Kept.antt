@@ -4,7 +4,7 @@ use Rattle.hg_model.specs.declared.row.Placed.{Placed}
 use Rattle.hg_model.specs.Order.{ordered_in, ordered, Ordered, named_in}
 use Rattle.hg_model.specs.History.{State}
 
--- all of it
+-- the order that a node keeps
 abbrev pub kept : ℕ → State → List Placed
 kept n s = ordered n s.rows s.links s.marks
 

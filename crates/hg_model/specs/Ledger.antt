@@ -1,5 +1,5 @@
--- What a node's block shows: counts of its graph, its order by the procedures computed whole, what came of the payload of
--- each event of the order, and the balances that they leave
+-- What a node's block shows: counts of its graph, the order by the graph's own fame, what came of the payload of each
+-- event of the order, and the balances that they leave
 use Rattle.std.specs.Prelude.{ℕ, List, length, map, zip}
 use Rattle.hg_model.specs.declared.outcome.OrderLine.{OrderLine}
 use Rattle.hg_model.specs.declared.outcome.Block.{Block}

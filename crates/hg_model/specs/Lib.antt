@@ -14,6 +14,7 @@ pub mod Order
 pub mod Prefix
 pub mod Pay
 pub mod Spelling
+pub mod Results
 pub mod Reading
 pub mod Signing
 pub mod Verdict

@@ -1,6 +1,6 @@
 -- The members: who they are, and what every list of them keeps to.
-use Rattle.std.specs.Prelude.{ℕ, ◌≡◌, ◌<◌, ◌≤◌, ◌^◌, Bool, true, ◌&&◌, ◌||◌, ◌==◌, not, nat_le, List, [], ◌∷◌, length, map, sum_by, AllPairs, All, IsTrue}
-use Rattle.std.specs.List.{list_all, list_any}
+use Rattle.std.specs.Prelude.{ℕ, ◌≡◌, ◌<◌, ◌≤◌, ◌^◌, Bool, true, false, ◌&&◌, ◌||◌, ◌==◌, nat_le, List, [], ◌∷◌, length, map, sum_by, AllPairs, All}
+use Rattle.std.specs.List.{list_all}
 use Rattle.hg_model.specs.declared.members.MemberEntry.{MemberEntry}
 
 -- members in their order, and the coin period
@@ -29,7 +29,7 @@ abbrev pub is_name_byte : ℕ → Bool
 is_name_byte b = is_letter b || is_digit b || b == 95
 
 abbrev pub starts_with_letter : List ℕ → Bool
-starts_with_letter [] = Rattle.std.specs.Prelude.false
+starts_with_letter [] = false
 starts_with_letter (b ∷ rest) = is_letter b
 
 -- 1 to 16 letters, digits and underscores, the first a letter

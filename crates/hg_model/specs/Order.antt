@@ -1,4 +1,5 @@
 -- Rounds received, consensus timestamps, whitened signatures and the order. SWIRLDS-TR-2016-01, section 4, procedure findOrder.
+-- A departure: a round without a unique famous witness receives nothing.
 -- Where the report leaves room: of an even number of times the median is the lower of the middle two; signatures compare
 -- as bytes from the first on; a last tie is broken by the name. The coin is the highest bit of byte 32 of the signature.
 use Rattle.std.specs.Prelude.{ℕ, suc, ◌-◌, ◌/◌, Bool, true, cond, not, ◌&&◌, nat_lt, nat_le, List, [], ◌∷◌, ◌++◌, length, get_or, fold, map, replicate, unwrap_or, is_some, Option, Some, None, slice_get, bit_xor}
@@ -29,7 +30,7 @@ time_at G x = time_in (slice_get G x)
 unfoldable pub sig_at : List Row → ℕ → List ℕ
 sig_at G x = sig_in (slice_get G x)
 
--- the highest bit of byte 32
+-- the highest bit of byte 32, bytes counted from 0
 abbrev pub middle_bit : List ℕ → Bool
 middle_bit sig = nat_le 128 (get_or sig 32 0)
 
@@ -111,6 +112,7 @@ order_key n G L marks p =
 abbrev pub keyed_at : ℕ → List Row → List Link → Marks → ℕ → List ℕ × Placed
 keyed_at n G L marks x = (order_key n G L marks (placed_at n G L marks x), placed_at n G L marks x)
 
+-- a has the lesser key
 abbrev pub comes_before : List ℕ × Placed → List ℕ × Placed → Bool
 comes_before a b = is_lt (slice_cmp nat_cmp a.0 b.0)
 

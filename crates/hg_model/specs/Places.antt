@@ -1,4 +1,4 @@
--- Recursion, search, counts and lists over the places 0, 1, 2 .. of a list: the only recursions of these definitions
+-- Recursion, search, counts and lists over the places 0, 1, 2 .. of a list: the only recursions over places
 use Rattle.std.specs.Prelude.{ℕ, zero, suc, ◌+◌, ◌<◌, ◌≡◌, Bool, true, false, cond, ◌||◌, ◌==◌, nat_le, max, List, [], ◌∷◌, ◌++◌, get_or, map, Option, Some, None}
 use Rattle.std.specs.List.{list_any, range_with_len}
 
@@ -61,7 +61,7 @@ table value n = map value (range_with_len 0 n)
 abbrev pub has_place : List ℕ → ℕ → Bool
 has_place places place = list_any (λ p. p == place) places
 
--- x is y, or y is reached from a place that `next` gives at x
+-- x is y, or y is reached from a lower place that `next` gives at x
 unfoldable pub reaches : (ℕ → List ℕ) → ℕ → ℕ → Bool
 reaches next x y = by_place false (λ reaches_y x. x == y || list_any reaches_y (next x)) x
 

@@ -8,12 +8,7 @@ use Rattle.hg_model.specs.declared.row.Row.{Row}
 use Rattle.hg_model.specs.declared.answers.ByteFault.{ByteFault}
 use Rattle.hg_model.specs.declared.answers.ByteFault.TheVariants.{Short, BadMagic, BadKind, BadLength, Trailing}
 use Rattle.hg_model.specs.Spelling.{magic, payload_limit}
-
--- the rest of the reading, unless a fault was met
-infixl 10 ◌>>=◌
-abbrev pub ◌>>=◌ : {A B : Type 0} → Result A ByteFault → (A → Result B ByteFault) → Result B ByteFault
-(Ok x) >>= next = next x
-(Err fault) >>= next = Err fault
+use Rattle.hg_model.specs.Results.{◌>>=◌}
 
 -- a field's value and the bytes that are left, or the fault
 abbrev pub Field : Type 0 → Type 0

@@ -25,6 +25,7 @@ round_from n L round x =
     let r = parent_round round (parents L x) in
     cond (is_supermajority n (count_below x (is_seen_witness round n L r x))) (r + 1) r
 
+-- the round of x
 unfoldable pub round_of : ℕ → List Link → ℕ → ℕ
 round_of n L x = by_place 0 (round_from n L) x
 

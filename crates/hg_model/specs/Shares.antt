@@ -1,12 +1,11 @@
 -- Shares of the witnesses, and what the procedure decideFame of SWIRLDS-TR-2016-01, section 4, finds for one of them.
 -- Shares are our own: with them several workers look for fame beside each other
-use Rattle.std.specs.Prelude.{ℕ, ◌≡◌, ◌≤◌, ◌+◌, ◌%◌, Bool, cond, ◌&&◌, ◌==◌, nat_lt, List, length, take, fold, Option, Some, None, is_some, is_none, slice_set}
-use Rattle.std.specs.Option.{option_or}
+use Rattle.std.specs.Prelude.{ℕ, ◌≡◌, ◌≤◌, ◌%◌, Bool, cond, ◌&&◌, ◌==◌, nat_lt, List, length, take, Option, None, is_some}
 use Rattle.hg_model.specs.declared.row.Row.{Row}
 use Rattle.hg_model.specs.Places.{count_below, list_below}
 use Rattle.hg_model.specs.Links.{Link}
 use Rattle.hg_model.specs.Rounds.{is_witness}
-use Rattle.hg_model.specs.Fame.{Marks, mark_at, fame_of, is_yes}
+use Rattle.hg_model.specs.Fame.{fame_of, is_yes}
 use Rattle.hg_model.specs.Order.{coin_at}
 
 -- share k of so many
@@ -37,22 +36,6 @@ found_in n c G L share =
     list_below (λ x. (x, is_yes (share_fame n c G L share x))) (length L) (λ x. is_some (share_fame n c G L share x))
 
 -- these places with fame are what the share finds in the first `len` rows of a graph
-pub record Speaks (n c : ℕ) (G : List Row) (L : List Link) (len : ℕ) (share : Share) (marks : List (ℕ × Bool)) : Type 0 where
+pub record Speaks (n c : ℕ) (G : List Row) (L : List Link) (len : ℕ) (share : Share) (found : List (ℕ × Bool)) : Type 0 where
   pub within : len ≤ length G
-  pub told : marks ≡ found_in n c (take len G) (take len L) share
-
--- marks to which more are added, and how many came new
-pub record Adding : Type 0 where
-  pub marks : Marks
-  pub count : ℕ
-
--- a place's fame becomes its mark, if it has none
-abbrev pub add_mark : Adding → ℕ × Bool → Adding
-add_mark a found = record {
-  marks = slice_set a.marks found.0 (option_or (mark_at a.marks found.0) (Some found.1));
-  count = a.count + cond (is_none (mark_at a.marks found.0)) 1 0;
-}
-
--- one after the other
-unfoldable pub add_marks : Marks → List (ℕ × Bool) → Adding
-add_marks marks found = fold add_mark (record { marks = marks; count = 0 }) found
+  pub told : found ≡ found_in n c (take len G) (take len L) share

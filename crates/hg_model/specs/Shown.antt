@@ -13,8 +13,8 @@ use Rattle.hg_model.specs.Pay.{Book, book_of}
 use Rattle.hg_model.specs.History.{Change, State, Accepts, replay, IsHistory}
 use Rattle.hg_model.specs.History.Change.{Took, Made, Marked}
 
--- what a node begins with and never changes: its own member, how many members there are, the coin period, the balances,
--- and what it signs with and checks signatures by
+-- what a node begins with and never changes: its own member, how many members there are, the coin period, the
+-- starting balances, and what it signs with and checks signatures by
 pub record Start (K : Type 0) : Type 0 where
   pub own : ℕ
   pub members : ℕ
@@ -32,11 +32,12 @@ start_of members own keys = record {
   keys = keys;
 }
 
+-- a node: what it began with, and its history
 pub record Shown (K : Type 0) : Type 0 where
   pub start : Start K
   pub history : List Change
 
--- the node with more events
+-- the node with more changes
 abbrev pub with_changes : {K : Type 0} → Shown K → List Change → Shown K
 with_changes v es = record { start = v.start; history = v.history ++ es }
 
@@ -76,7 +77,7 @@ log_from place (Marked len share ∷ h) = entry.Marked len share ∷ log_from pl
 abbrev pub log : {K : Type 0} → Shown K → List Entry
 log v = log_from 0 v.history
 
--- the event that an entry of a log tells of these rows
+-- the change that an entry of a log tells of these rows
 abbrev pub change_of : List Row → Entry → Change
 change_of G (entry.Took place) = Took (get_or G place no_row)
 change_of G (entry.Made place) = Made (get_or G place no_row)

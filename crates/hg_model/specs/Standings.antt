@@ -10,6 +10,7 @@ pub record Standing : Type 0 where
   pub round : ℕ
   pub witness : Bool
 
+-- the standing of x
 abbrev pub standing_of : ℕ → List Link → ℕ → Standing
 standing_of n L x = record { round = round_of n L x; witness = is_witness n L x }
 

@@ -15,6 +15,7 @@ use Rattle.hg_model.specs.declared.answers.PutAnswer.TheVariants.{Accepted, Know
 use Rattle.hg_model.specs.declared.answers.MakeAnswer.{MakeAnswer}
 use Rattle.hg_model.specs.declared.answers.MakeAnswer.TheVariants as make_answer
 use Rattle.hg_model.specs.Links.{links, place_of}
+use Rattle.hg_model.specs.Graph.{creator_at}
 use Rattle.hg_model.specs.Forks.{forkers}
 use Rattle.hg_model.specs.Spelling.{body_of, body_bytes, spelling, payload_limit}
 use Rattle.hg_model.specs.Reading.{read_event}
@@ -22,14 +23,6 @@ use Rattle.hg_model.specs.Reading.{read_event}
 -- the greatest number of rows of a node
 abbrev pub row_limit : ℕ
 row_limit = 16384
-
-abbrev pub creator_of_row : Option Row → ℕ
-creator_of_row None = 0
-creator_of_row (Some row) = row.creator
-
--- the creator of the row at a place
-abbrev pub creator_at : List Row → ℕ → ℕ
-creator_at G p = creator_of_row (slice_get G p)
 
 -- the row of this place has these bytes
 abbrev pub has_bytes : List Row → ℕ → List ℕ → Bool
@@ -72,7 +65,7 @@ creator_rule G m (Some names) =
 abbrev pub forkers_with : ℕ → List Row → Row → ℕ
 forkers_with n G row = forkers n (links (G ++ row ∷ []))
 
--- k forking members of n are a third or more
+-- the answer where k forking members of n are a third or more
 abbrev pub forkers_answer : ℕ → ℕ → Option PutAnswer
 forkers_answer n k = if nat_le n (3 * k) then Some (Refused (fault.TooManyForkers k)) else None
 
@@ -82,7 +75,7 @@ forkers_rule n G row = forkers_answer n (forkers_with n G row)
 abbrev pub full_rule : List Row → Option PutAnswer
 full_rule G = if nat_le row_limit (length G) then Some (Refused (fault.Full row_limit)) else None
 
--- what is wrong with a row before the forks that it would make are counted
+-- what the rules before the count of forks answer, if one does
 abbrev pub arrival_rule : (ℕ → List ℕ → List ℕ → Bool) → ℕ → ℕ → List Row → Row → Option PutAnswer
 arrival_rule accepts n own G row =
     option_or (member_rule n row) (option_or (name_rule G row) (option_or (signature_rule accepts row)
@@ -115,11 +108,6 @@ verdict accepts n own G bytes = verdict_of accepts n own G (read_event bytes)
 -- the rows after them
 abbrev pub rows_after : (ℕ → List ℕ → List ℕ → Bool) → ℕ → ℕ → List Row → List ℕ → List Row
 rows_after accepts n own G bytes = rows_with accepts n own G (read_event bytes)
-
--- the rows with one more, unless there is an answer that refuses it
-abbrev pub unless : Option PutAnswer → List Row → Row → List Row
-unless None G row = G ++ row ∷ []
-unless (Some answer) G row = G
 
 -- the rules of making
 

@@ -1,5 +1,5 @@
 -- Votes and decisions. SWIRLDS-TR-2016-01, section 4, procedure decideFame
-use Rattle.std.specs.Prelude.{ℕ, ◌-◌, ◌%◌, Bool, cond, not, ◌&&◌, ◌==◌, nat_lt, nat_le, max, List, length}
+use Rattle.std.specs.Prelude.{ℕ, ◌-◌, ◌%◌, Bool, false, cond, not, ◌&&◌, ◌==◌, nat_lt, nat_le, max, List}
 use Rattle.hg_model.specs.Places.{count_below, by_place}
 use Rattle.hg_model.specs.Links.{Link}
 use Rattle.hg_model.specs.Seeing.{sees, is_supermajority}
@@ -13,7 +13,7 @@ majority yes_votes no_votes = nat_le no_votes yes_votes
 abbrev pub is_strong : ℕ → ℕ → ℕ → Bool
 is_strong n yes_votes no_votes = is_supermajority n (max yes_votes no_votes)
 
--- d rounds above the candidate no coin is thrown
+-- d rounds above the candidate is a normal round, in which no coin is thrown
 abbrev pub is_normal : ℕ → ℕ → Bool
 is_normal c d = nat_lt 0 (d % c)
 
@@ -50,7 +50,7 @@ vote_from n c L coin x vote y =
 
 -- the vote of y on x; `coin y` is the middle bit of the signature of y
 unfoldable pub vote_of : ℕ → ℕ → List Link → (ℕ → Bool) → ℕ → ℕ → Bool
-vote_of n c L coin x y = by_place Rattle.std.specs.Prelude.false (vote_from n c L coin x) y
+vote_of n c L coin x y = by_place false (vote_from n c L coin x) y
 
 -- y decides the fame of x, which is then the vote of y
 unfoldable pub decides : ℕ → ℕ → List Link → (ℕ → Bool) → ℕ → ℕ → Bool

@@ -5,6 +5,7 @@ use crate::row::{Member, Name};
 pub enum ByteFault {
     /// The input, of this many bytes, ends inside a field or before one that must come.
     Short(usize),
+    /// One of the first four bytes, as far as they are there, is not that of `HGE1`.
     BadMagic,
     /// A kind byte above 1.
     BadKind(u8),
@@ -17,6 +18,7 @@ pub enum ByteFault {
 /// Why a node refuses an event: the first of these that holds.
 #[derive(Clone, Copy, Debug, PartialEq, Eq)]
 pub enum Fault {
+    /// The bytes spell no event.
     Bytes(ByteFault),
     /// The creator's number is no member's.
     Member(Member),
@@ -26,7 +28,9 @@ pub enum Fault {
     Signature,
     /// The creator is the node's own member, and the node did not make the event.
     Impostor,
+    /// No row has this name, the self-parent's.
     MissingSelf(Name),
+    /// No row has this name, the other-parent's.
     MissingOther(Name),
     /// The self-parent, at this place, is by another creator.
     SelfCreator(usize),
@@ -34,7 +38,7 @@ pub enum Fault {
     OtherCreator(usize),
     /// With the event so many members would have a fork, a third of all or more.
     TooManyForkers(u32),
-    /// The node holds its greatest number of rows.
+    /// The node holds so many rows, the most that it takes.
     Full(usize),
 }
 
@@ -55,6 +59,7 @@ pub enum MakeFault {
     HasFirst,
     /// An other-parent was given, and the node has made no event.
     NoFirst,
+    /// No row has this name, the other-parent's.
     MissingOther(Name),
     /// The other-parent, at this place, is the node's own.
     OtherCreator(usize),
@@ -62,7 +67,7 @@ pub enum MakeFault {
     PayloadLong(usize),
     /// The row at this place has the new event's name.
     Collision(usize),
-    /// The node holds its greatest number of rows.
+    /// The node holds so many rows, the most that it takes.
     Full(usize),
 }
 
@@ -79,12 +84,14 @@ pub enum MakeAnswer {
 pub enum SyncMade {
     /// It is now the row at this place.
     Row(usize),
-    /// The peer has made no event that could be the other-parent.
+    /// The peer has made no event.
     PeerBare,
+    /// None was made, for this cause.
     Fault(MakeFault),
 }
 
 /// What came of a sync: how many of the peer's rows were taken, how many refused, and the event made.
+/// Rows that it had count as neither.
 #[derive(Clone, Copy, Debug, PartialEq, Eq)]
 pub struct SyncReport {
     pub taken: u64,

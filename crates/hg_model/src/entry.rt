@@ -1,6 +1,6 @@
 use crate::share::Share;
 
-/// What a node's log has of an event of its history.
+/// What a node's log has of a change of its history.
 #[derive(Clone, Copy, Debug, PartialEq, Eq)]
 pub enum Entry {
     /// The row at this place was taken.

@@ -1,6 +1,6 @@
 //! The hashgraph's types and definitions: what every other crate's contracts speak of.
 //! `specs/` is the text that a reader must believe; it follows SWIRLDS-TR-2016-01 and computes on written-out graphs.
-//! The layers above use the types below and the words of `specs/`, and nothing else.
+//! The layers above use the types below, the words of `specs/` and the lemmas of `proofs/`.
 #![tactic(auto)]
 
 mod answers;

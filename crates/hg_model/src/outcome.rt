@@ -11,7 +11,7 @@ pub struct OrderLine {
     pub sequence: u64,
     /// The round that received it.
     pub received: u32,
-    /// Its consensus timestamp.
+    /// Its consensus timestamp, in the creators' own unit.
     pub time: u64,
     /// What came of its payload.
     pub effect: Effect,
@@ -22,7 +22,9 @@ pub struct OrderLine {
 #[derive(Debug, Drop)]
 pub struct Block {
     pub member: Member,
+    /// How many rows the graph has.
     pub events: u64,
+    /// How many members have a fork.
     pub forkers: u32,
     /// The greatest round, 0 without rows.
     pub greatest: u32,

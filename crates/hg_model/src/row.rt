@@ -13,16 +13,18 @@ pub type Sig = [u8; 64];
 #[derive(Clone, Debug, Drop)]
 pub struct Row {
     pub creator: Member,
-    /// The names of the self-parent and of the other-parent.
+    /// The names of the self-parent and of the other-parent; none of a member's first event.
     pub parents: Option<(Name, Name)>,
     /// As the creator claims it, in no unit of ours.
     pub time: u64,
+    /// 0 to 1,024 bytes.
     pub payload: Bytes,
     pub sig: Sig,
     pub name: Name,
 }
 
-/// A row of the order: its place in the graph, the round that received it, and its consensus timestamp.
+/// A row of the order: its place in the graph, the round that received it, and its consensus timestamp, in the creators'
+/// own unit.
 #[derive(Clone, Copy, Debug, PartialEq, Eq)]
 pub struct Placed {
     pub place: usize,

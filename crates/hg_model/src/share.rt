@@ -32,6 +32,7 @@ impl Share {
         Share { k, of }
     }
 
+    /// Its number, from 0.
     pub fn k(&self) -> u32
         ensures value { result ≡ self.now.k }
         ensures lawful { self.now.k < self.now.of }
@@ -39,6 +40,7 @@ impl Share {
         self.k
     }
 
+    /// How many shares there are, at least 1.
     pub fn of(&self) -> u32
         ensures value { result ≡ self.now.of }
         ensures lawful { self.now.k < self.now.of }

@@ -13,13 +13,13 @@ pub trait Sight {
     /// The graph: how many members there are, and each row's creator and parents.
     ghost shape: { Self → Shape };
 
-    /// How many rows there are.
+    /// How many rows there are, fewer than 2^32 - 1.
     fn rows(&self) -> usize
         ensures value { result ≡ length (shape self.now).links }
         ensures short { result < 2 ^ 32 - 1 }
         ensures shaped { IsShaped (shape self.now).members (shape self.now).links };
 
-    /// How many members there are.
+    /// How many members there are, at most 128.
     fn members(&self) -> u32
         ensures value { result ≡ (shape self.now).members }
         ensures few { result ≤ 128 }
@@ -36,7 +36,7 @@ pub trait Sight {
         requires { x < length (shape self.now).links }
         ensures { place_list result ≡ self_parent (shape self.now).links x };
 
-    /// Whether row `y` is an ancestor of row `x`.
+    /// Whether row `y` is an ancestor of row `x`; each is its own ancestor.
     fn ancestor(&self, x: usize, y: usize) -> bool
         requires left { x < length (shape self.now).links }
         requires right { y < length (shape self.now).links }
@@ -60,12 +60,13 @@ pub trait Growing: Sight {
     /// For how many more rows there is memory at least.
     ghost room: { Self → ℕ };
 
-    /// Takes the memory of one more row.
+    /// Takes the memory of one more row. An error leaves the graph.
     fn reserve(&mut self) -> Result<(), Memory>
         ensures room { OnOk result (1 ≤ room self.new) }
         ensures same { Self.shape self.new ≡ Self.shape self.old };
 
-    /// One more row, by the member, with a self-parent and an other-parent or without parents. Takes no memory.
+    /// One more row, by the member, with parents or without: places, the self-parent's first.
+    /// Takes no memory; `reserve` comes before it.
     fn extend(&mut self, parents: Option<(usize, usize)>, creator: Member)
         requires room { 1 ≤ room self.old }
         requires fits { FitsLink (Self.shape self.old).members (Self.shape self.old).links (link_of creator parents) }

@@ -1,7 +1,8 @@
 -- A node of the program: the keys it signs with, and what its rows keep to
-use Rattle.std.specs.Prelude.{ℕ, ◌<◌, ◌≤◌, cond, List, [], ◌∷◌, length}
+use Rattle.std.specs.Prelude.{ℕ, ◌<◌, ◌≤◌, cond, List, [], ◌∷◌, ◌++◌, length, Option, Some, None}
 use Rattle.std.specs.List.{AllByRecursion}
 use Rattle.hg_model.specs.declared.row.Row.{Row}
+use Rattle.hg_model.specs.declared.answers.PutAnswer.{PutAnswer}
 use Rattle.hg_model.specs.Links.{links}
 use Rattle.hg_model.specs.Graph.{IsShaped, HasDistinctNames}
 use Rattle.hg_model.specs.Spelling.{payload_limit, spelling}
@@ -32,6 +33,11 @@ node members own rows = record { members = members; own = own; rows = rows }
 -- the bytes of the row, unless its name is held
 abbrev pub missing_row : List Row → Row → List (List ℕ)
 missing_row held row = cond (is_held held row.name) [] (spelling row ∷ [])
+
+-- the rows with one more, unless there is an answer that refuses it
+abbrev pub unless : Option PutAnswer → List Row → Row → List Row
+unless None G row = G ++ row ∷ []
+unless (Some answer) G row = G
 
 -- a node that takes events, from its parts
 abbrev pub told : NodeState → ℕ → ℕ → Taking

@@ -7,12 +7,12 @@ ghost use Rattle.hg_model.specs.Links.{links};
 ghost use Rattle.hg_model.specs.Graph.{IsShaped};
 ghost use Rattle.hg_model.specs.Forks.{forkers};
 ghost use Rattle.hg_model.specs.Spelling.{body_bytes, body_of, payload_limit, spelling};
-ghost use Rattle.hg_model.specs.Verdict.{arrival_rule, forkers_answer, forkers_rule, full_rule, impostor_rule, name_rule, row_limit, row_verdict, rows_after, signature_rule, signed_row, unless, verdict, with_answer};
+ghost use Rattle.hg_model.specs.Verdict.{arrival_rule, forkers_answer, forkers_rule, full_rule, impostor_rule, name_rule, row_limit, row_verdict, rows_after, signature_rule, signed_row, verdict, with_answer};
 ghost use Rattle.hg_model.specs.Gossip.{count_refused, count_taken, lacking, making_by, node_made};
 ghost use Rattle.hg_model.specs.Fits.{Fits};
 ghost use Rattle.hg_sign.specs.Table.{accepts_by, signature_by};
 ghost use Rattle.hg_play.specs.Labels.{last_bytes};
-ghost use Rattle.hg_play.specs.Node.{IsNodeState, IsShort, keys_by, missing_row, node};
+ghost use Rattle.hg_play.specs.Node.{IsNodeState, IsShort, keys_by, missing_row, node, unless};
 
 use crate::rules::{
     both_names, creator_rule, draft_rule, forkers_rule, full_rule, impostor_rule, is_held,

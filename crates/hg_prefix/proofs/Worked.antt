@@ -9,7 +9,8 @@ use Rattle.hg_model.specs.Links.{links, parents, self_parent, other_parents, cre
 use Rattle.hg_model.specs.Ancestry.{is_ancestor, is_self_ancestor}
 use Rattle.hg_model.specs.Forks.{is_fork, has_fork_below, has_fork, forkers}
 use Rattle.hg_model.specs.Seeing.{sees, sees_through, strongly_sees}
-use Rattle.hg_model.specs.Graph.{IsGraph, is_graph, name_at}
+use Rattle.hg_model.specs.Graph.{IsGraph, name_at}
+use Rattle.hg_model.proofs.TestLaws.{is_graph}
 use Rattle.hg_model.specs.Rounds.{round_of, is_witness}
 use Rattle.hg_model.specs.Votes.{vote_of, decides}
 use Rattle.hg_model.specs.Fame.{fame_of, fame_marks, is_closed, is_unique_famous}

@@ -1,7 +1,8 @@
 use Rattle.std.proofs.Common.{◌≡◌, ◌∙◌, List, Option, None, ap, subst, sym}
 use Rattle.hg_model.specs.declared.row.Row.{Row}
 use Rattle.hg_model.specs.declared.answers.PutAnswer.{PutAnswer}
-use Rattle.hg_model.specs.Verdict.{arrival_rule, unless}
+use Rattle.hg_model.specs.Verdict.{arrival_rule}
+use Rattle.hg_play.specs.Node.{unless}
 use Rattle.hg_sign.specs.Table.{accepts_by}
 use Rattle.hg_play.proofs.NodeLaws.{taken_is_node}
 use Rattle.hg_play.proofs.node.put_row.Goals as goal
