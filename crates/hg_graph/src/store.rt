@@ -1,8 +1,10 @@
-ghost use Rattle.std.specs.Prelude.{◌≡◌, ◌<◌, ◌≤◌, ◌++◌, ◌∷◌, [], Some, length, map, option_map, slice_get, Contains, OnOk};
+ghost use Rattle.std.specs.Prelude.{◌≡◌, ◌<◌, ◌≤◌, ◌++◌, ◌∷◌, [], Some, length, option_map, slice_get, OnOk, false};
+ghost use Rattle.std.specs.List.{list_any};
+ghost use Rattle.std.specs.Str.{bytes_eq};
 ghost use Rattle.indexmap.specs.IndexSet.{spare};
 ghost use Rattle.hg_model.specs.Links.{place_of};
 ghost use Rattle.hg_model.specs.Spelling.{spelling};
-ghost use Rattle.hg_graph.specs.Stored.{found_place, name_of};
+ghost use Rattle.hg_graph.specs.Stored.{found_place};
 
 use hg_model::{Bytes, Memory, Name, Row};
 use indexmap::IndexSet;
@@ -98,7 +100,7 @@ impl RowStore {
 /// Enters a name for which there is room.
 fn add_name(names: &mut IndexSet<Name>, name: Name)
     requires room { 1 ≤ spare names.old }
-    requires new { ¬ Contains names.old.keys name }
+    requires new { list_any (bytes_eq name) names.old.keys ≡ false }
     ensures { names.new.keys ≡ names.old.keys ++ name ∷ [] }
 {
     names.insert(name).unwrap();
