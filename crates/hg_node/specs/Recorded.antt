@@ -5,7 +5,7 @@ use Rattle.hg_model.specs.declared.entry.Entry.{Entry}
 use Rattle.hg_model.specs.Links.{place_of}
 use Rattle.hg_model.specs.Verdict.{last_name}
 use Rattle.hg_model.specs.Prefix.{Graph}
-use Rattle.hg_graph.specs.Held.{with_row}
+use Rattle.hg_graph.specs.Held.{graph_with}
 use Rattle.hg_model.specs.History.{Accepts}
 use Rattle.hg_model.specs.Shown.{Shown, graph_of, log, history_of, IsNode}
 
@@ -20,7 +20,7 @@ recorded own graph log = record { own = own; graph = graph; log = log }
 
 -- with one row more, which came as the entry says
 abbrev pub recorded_with : Recorded → Row → Entry → Recorded
-recorded_with r row entry = recorded r.own (with_row r.graph row) (r.log ++ entry ∷ [])
+recorded_with r row entry = recorded r.own (graph_with r.graph row) (r.log ++ entry ∷ [])
 
 -- the place of the last row that the member made
 abbrev pub last_place : ℕ → List Row → Option ℕ
