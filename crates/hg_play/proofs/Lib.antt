@@ -1,3 +1,3 @@
-mod PlaceLaws
-mod NodeLaws
+mod SequenceLaws
+mod PlayerLaws
 mod PlayLaws

@@ -1,8 +1,10 @@
 -- The bytes that labels stand for
-use Rattle.std.specs.Prelude.{ℕ, cond, ◌==◌, nat_lt, List, [], ◌++◌, length, fold, slice_index, slice_index_or, slice_set, bit_xor, Option, Some, None, option_map, unwrap_or, if◌then◌else◌}
+use Rattle.std.specs.Prelude.{ℕ, nat_lt, List, [], ◌++◌, length, slice_get, slice_index, slice_index_or, slice_set, bit_xor, Option, option_map, unwrap_or, if◌then◌else◌}
 use Rattle.sha2.specs.Sha512.{sha384}
 use Rattle.hg_model.specs.declared.row.Row.{Row}
+use Rattle.hg_model.specs.Links.{place_of}
 use Rattle.hg_model.specs.Spelling.{body_bytes, spelling}
+use Rattle.hg_model.specs.Verdict.{last_name}
 use Rattle.hg_model.specs.Gossip.{Keys, NodeState}
 
 -- the bytes of a label, by its number; none for a number that is no label's
@@ -17,17 +19,13 @@ name_of_label labels k = sha384 (bytes_at labels k)
 abbrev pub names_of_labels : List (List ℕ) → ℕ × ℕ → List ℕ × List ℕ
 names_of_labels labels pair = (name_of_label labels pair.0, name_of_label labels pair.1)
 
--- the later of two rows: the row, where the member made it
-abbrev pub later_row : ℕ → Option Row → Row → Option Row
-later_row m last row = cond (row.creator == m) (Some row) last
-
--- the bytes of the member's last row, or none
-abbrev pub last_bytes : ℕ → List Row → List ℕ
-last_bytes m G = unwrap_or (option_map spelling (fold (later_row m) None G)) []
+-- the bytes of the row with this name, if there is one
+abbrev pub bytes_named : List Row → List ℕ → List ℕ
+bytes_named G name = unwrap_or (option_map spelling (slice_get G (place_of G name))) []
 
 -- the bytes of the last event that the node made, or none
 abbrev pub own_bytes : NodeState → List ℕ
-own_bytes s = last_bytes s.own s.rows
+own_bytes s = unwrap_or (option_map (bytes_named s.rows) (last_name s.own s.rows)) []
 
 -- an event with these fields and no payload, under the member's signature
 abbrev pub forged : Keys → ℕ → Option (List ℕ × List ℕ) → ℕ → List ℕ

@@ -7,6 +7,7 @@ use Rattle.hg_model.specs.declared.outcome.Outcome.{Outcome}
 use Rattle.hg_model.specs.Members.{MemberList}
 use Rattle.hg_model.specs.Places.{list_below}
 use Rattle.hg_model.specs.Gossip.{Keys, NodeState, keys_of}
+use Rattle.hg_model.specs.Members.{names_of}
 use Rattle.hg_model.specs.Ledger.{block_of}
 use Rattle.hg_script.specs.declared.line.Source.{Source}
 use Rattle.hg_script.specs.declared.line.Source.TheVariants.{Last, Forged, Raw, Altered, Front}
@@ -14,8 +15,7 @@ use Rattle.hg_script.specs.declared.line.Action.{Action}
 use Rattle.hg_script.specs.declared.line.Action.TheVariants.{Gossip, Label, Show, Names}
 use Rattle.hg_script.specs.declared.line.Line.{Line}
 use Rattle.hg_play.specs.Labels.{bytes_at, names_of_labels, own_bytes, forged, altered}
-use Rattle.hg_play.specs.Nodes.{node_at, new_nodes, nodes_after, gossip_printed}
-use Rattle.hg_play.specs.Nodes as told
+use Rattle.hg_play.specs.Nodes.{node_at, new_nodes, nodes_after, gossip_printed, IsGossipBelow}
 
 -- the members' nodes, in their order, the bytes of the labels so far, and what was printed so far
 pub record World : Type 0 where
@@ -58,7 +58,7 @@ after_lines members keys nodes lines = fold (after_line members keys) (world nod
 
 -- the action's members are below this number
 abbrev pub IsBelow : ℕ → Action → Type 0
-IsBelow n (Gossip g) = told.IsBelow n g
+IsBelow n (Gossip g) = IsGossipBelow n g
 IsBelow n (Label (Last m)) = m < n
 IsBelow n (Label _) = ⊤
 IsBelow n (Show m) = m < n
@@ -67,10 +67,6 @@ IsBelow n (Names m) = m < n
 -- the member has a node
 abbrev pub has_node_at : List MemberEntry → ℕ → Bool
 has_node_at entries m = unwrap_or (option_map (λ (e : MemberEntry). e.has_node) (slice_get entries m)) false
-
--- the block of a node, if the member has one
-abbrev pub block_if : MemberList → NodeState → ℕ → List Printed
-block_if members s m = cond (has_node_at members.entries m) (printed.Block (block_of members m s.rows) ∷ []) []
 
 -- the blocks of all nodes, in the order of the members
 abbrev pub final_blocks : MemberList → List NodeState → List Printed

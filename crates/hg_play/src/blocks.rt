@@ -1,44 +1,28 @@
-ghost use Rattle.std.specs.Prelude.{◌≡◌, ◌++◌, ◌<◌, ◌≤◌, ◌-◌, ◌^◌, IfOk, OnOk, length, map};
-ghost use Rattle.hg_model.specs.Links.{links};
-ghost use Rattle.hg_model.specs.Graph.{IsShaped};
-ghost use Rattle.hg_model.specs.Forks.{forkers};
-ghost use Rattle.hg_model.specs.Rounds.{last_round};
-ghost use Rattle.hg_model.specs.Order.{order_of};
-ghost use Rattle.hg_model.specs.Ledger.{balances_of, block_of, closed_of, order_line};
-ghost use Rattle.hg_play.specs.Nodes.{AreNodes};
-ghost use Rattle.hg_play.specs.Play.{block_if, final_blocks, has_node_at};
+ghost use Rattle.std.specs.Prelude.{◌≡◌, ◌++◌, ◌<◌, ◌≤◌, ◌^◌, [], ◌∷◌, cond, IfOk, OnOk, length};
+ghost use Rattle.hg_model.specs.declared.outcome.Printed.TheVariants as piece;
+ghost use Rattle.hg_model.specs.Ledger.{block_of};
+ghost use Rattle.hg_play.specs.Node.{start_in, starts, starts_of, states_of};
+ghost use Rattle.hg_play.specs.Nodes.{node_at};
+ghost use Rattle.hg_play.specs.Play.{final_blocks, has_node_at};
 
-use crate::node::Node;
-use hg_model::{Block, Items, Member, Members, Memory, Printed};
-use hg_plain::plain_block;
+use crate::player::Player;
+use hg_model::{Block, Member, Members, Memory, Printed};
 use std::alloc::Global;
 
-/// The block of the node of a member, by the procedures computed whole.
-#[tactic(auto, unfolding(hg_model::specs::Ledger::block_of))]
-pub(crate) fn block(
+/// The block of the node of a member, which is settled for it.
+pub(crate) fn block_at(
     alloc: Global,
     members: &Members,
+    nodes: &mut [Player],
     member: Member,
-    node: &Node,
 ) -> Result<Block, Memory>
-    requires { node.now.members ≡ length members.now.entries }
-    ensures { IfOk result (λ block. block ≡ block_of members.now member node.now.rows) }
+    requires below { member < length nodes.old }
+    requires starts { starts_of nodes.old ≡ starts members.now }
+    ensures block { IfOk result (λ block. block ≡ block_of members.now member (node_at (states_of nodes.old) member).rows) }
+    ensures same { nodes.new ≡ nodes.old }
 {
-    let rows = node.rows();
-    let plain = plain_block(alloc, rows, members.count(), members.coin())?;
-    let mut balances = Vec::new(alloc);
-    for entry in members.entries() {
-        balances.push(entry.balance)?;
-    }
-    Ok(Block {
-        member,
-        events: rows.len() as u64,
-        forkers: plain.state.forkers,
-        greatest: plain.state.greatest,
-        closed: plain.state.closed,
-        order: plain.lines,
-        balances: Items::from_vec(balances),
-    })
+    let block = nodes[member as usize].block(alloc, member)?;
+    Ok(block)
 }
 
 /// Whether the program runs a node for the member.
@@ -55,16 +39,18 @@ fn has_node(members: &Members, member: usize) -> bool
 fn push_block(
     alloc: Global,
     members: &Members,
+    nodes: &mut [Player],
     member: usize,
-    node: &Node,
     printed: &mut Vec<Printed>,
 ) -> Result<(), Memory>
-    requires node { node.now.members ≡ length members.now.entries }
+    requires below { member < length nodes.old }
     requires few { member < 2 ^ 16 }
-    ensures { OnOk result (printed.new.items ≡ printed.old.items ++ block_if members.now node.now member) }
+    requires starts { starts_of nodes.old ≡ starts members.now }
+    ensures printed { OnOk result (printed.new.items ≡ printed.old.items ++ cond (has_node_at members.now.entries member) (piece.Block (block_of members.now member (node_at (states_of nodes.old) member).rows) ∷ []) []) }
+    ensures same { nodes.new ≡ nodes.old }
 {
     if has_node(members, member) {
-        let block = block(alloc, members, member as Member, node)?;
+        let block = block_at(alloc, members, nodes, member as Member)?;
         printed.push(Printed::Block(block))?;
     }
     Ok(())
@@ -74,16 +60,15 @@ fn push_block(
 pub(crate) fn push_blocks(
     alloc: Global,
     members: &Members,
-    nodes: &[Node],
+    nodes: &mut [Player],
     printed: &mut Vec<Printed>,
 ) -> Result<(), Memory>
-    requires count { length nodes.now ≡ length members.now.entries }
-    requires few { length nodes.now ≤ 128 }
-    requires each { AreNodes (length members.now.entries) nodes.now }
-    ensures { OnOk result (printed.new.items ≡ printed.old.items ++ final_blocks members.now nodes.now) }
+    requires few { length nodes.old ≤ 128 }
+    requires starts { starts_of nodes.old ≡ starts members.now }
+    ensures { OnOk result (printed.new.items ≡ printed.old.items ++ final_blocks members.now (states_of nodes.old)) }
 {
-    for (member, node) in nodes.iter().enumerate() {
-        push_block(alloc, members, member, node, printed)?;
+    for member in 0..nodes.len() {
+        push_block(alloc, members, nodes, member, printed)?;
     }
     Ok(())
 }

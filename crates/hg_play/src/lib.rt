@@ -1,4 +1,4 @@
-//! A gossip script played over the members' nodes, each a list of rows, with everything computed whole.
+//! A gossip script played over the members' nodes.
 //! The layer above uses `play`, whose answer is all that the script prints, as the definitions say it.
 //! Nodes hand each other bytes: what a node takes it reads and judges itself.
 #![tactic(auto)]
@@ -6,9 +6,9 @@
 mod blocks;
 mod labels;
 mod lines;
-mod node;
 mod nodes;
+mod player;
 mod playing;
-mod rules;
+mod printing;
 
 pub use playing::play;

@@ -1,16 +1,17 @@
 ghost use Rattle.std.specs.Prelude.{◌≡◌, ◌<◌, ◌≤◌, All, IfOk, OnOk, length};
 ghost use Rattle.hg_script.specs.declared.line.Action.{Action};
 ghost use Rattle.hg_script.specs.declared.line.Line.{Line};
-ghost use Rattle.hg_play.specs.Node.{keys_by};
+ghost use Rattle.hg_sign.specs.Table.{secrets_of};
+ghost use Rattle.hg_play.specs.Node.{keys_by, starts, starts_of, state_in, states_of};
 ghost use Rattle.hg_model.specs.Ledger.{block_of};
-ghost use Rattle.hg_play.specs.Nodes.{AreNodes, node_at};
+ghost use Rattle.hg_play.specs.Nodes.{node_at};
 ghost use Rattle.hg_play.specs.Play.{IsBelow, after_line, after_lines, all_printed, source_bytes, world};
 
-use crate::blocks::{block, push_blocks};
+use crate::blocks::{block_at, push_blocks};
 use crate::labels::{altered, bytes_at, copied, forged, front, names_of_labels};
-use crate::node::Node;
 use crate::nodes::play_gossip;
-use hg_model::{Block, Bytes, Member, Members, Memory, Printed};
+use crate::player::Player;
+use hg_model::{Bytes, Members, Memory, Printed};
 use hg_script::{Action, Line, Source};
 use hg_sign::MacTable;
 use std::alloc::Global;
@@ -19,12 +20,12 @@ use std::alloc::Global;
 fn source_bytes(
     alloc: Global,
     keys: &MacTable,
-    nodes: &[Node],
+    nodes: &[Player],
     labels: &[Bytes],
     source: &Source,
 ) -> Result<Bytes, Memory>
     requires { IsBelow (length nodes.now) (Action.Label source.now) }
-    ensures { IfOk result (λ bytes. bytes ≡ source_bytes (keys_by keys.now) nodes.now labels.now source.now) }
+    ensures { IfOk result (λ bytes. bytes ≡ source_bytes (keys_by keys.now) (states_of nodes.now) labels.now source.now) }
 {
     match source {
         Source::Last { member } => nodes[*member as usize].last_bytes(alloc),
@@ -42,37 +43,25 @@ fn source_bytes(
     }
 }
 
-/// The block of the node of a member.
-fn block_at(
-    alloc: Global,
-    members: &Members,
-    nodes: &[Node],
-    member: Member,
-) -> Result<Block, Memory>
-    requires below { member < length nodes.now }
-    requires each { AreNodes (length members.now.entries) nodes.now }
-    ensures { IfOk result (λ block. block ≡ block_of members.now member (node_at nodes.now member).rows) }
-{
-    block(alloc, members, member, &nodes[member as usize])
-}
-
 /// Plays a line.
 fn play_line(
     alloc: Global,
     members: &Members,
     keys: &MacTable,
-    nodes: &mut [Node],
+    nodes: &mut [Player],
     labels: &mut Vec<Bytes>,
     printed: &mut Vec<Printed>,
     line: &Line,
 ) -> Result<(), Memory>
     requires below { IsBelow (length nodes.old) line.now.action }
-    requires each { AreNodes (length members.now.entries) nodes.old }
-    ensures { OnOk result (world nodes.new labels.new.items printed.new.items ≡ after_line members.now (keys_by keys.now) (world nodes.old labels.old.items printed.old.items) line.now) }
+    requires starts { starts_of nodes.old ≡ starts members.now }
+    requires keys { keys.now ≡ secrets_of members.now }
+    ensures world { OnOk result (world (states_of nodes.new) labels.new.items printed.new.items ≡ after_line members.now (keys_by keys.now) (world (states_of nodes.old) labels.old.items printed.old.items) line.now) }
+    ensures starts { starts_of nodes.new ≡ starts_of nodes.old }
 {
     match &line.action {
         Action::Gossip(gossip) => {
-            let piece = play_gossip(alloc, keys, nodes, labels.as_slice(), line.number, *gossip)?;
+            let piece = play_gossip(alloc, nodes, labels.as_slice(), line.number, *gossip)?;
             printed.push(piece)?;
         }
         Action::Label(source) => {
@@ -96,15 +85,15 @@ fn play_lines(
     alloc: Global,
     members: &Members,
     keys: &MacTable,
-    nodes: &mut [Node],
+    nodes: &mut [Player],
     lines: &[Line],
 ) -> Result<Vec<Printed>, Memory>
     requires lines { All (λ (line : Line). IsBelow (length nodes.old) line.action) lines.now }
-    requires each { AreNodes (length members.now.entries) nodes.old }
-    ensures each { OnOk result (AreNodes (length members.now.entries) nodes.new) }
-    ensures count { OnOk result (length nodes.new ≡ length nodes.old) }
-    ensures nodes { IfOk result (λ printed. nodes.new ≡ (after_lines members.now (keys_by keys.now) nodes.old lines.now).nodes) }
-    ensures printed { IfOk result (λ printed. printed.items ≡ (after_lines members.now (keys_by keys.now) nodes.old lines.now).printed) }
+    requires starts { starts_of nodes.old ≡ starts members.now }
+    requires keys { keys.now ≡ secrets_of members.now }
+    ensures starts { OnOk result (starts_of nodes.new ≡ starts_of nodes.old) }
+    ensures nodes { IfOk result (λ printed. states_of nodes.new ≡ (after_lines members.now (keys_by keys.now) (states_of nodes.old) lines.now).nodes) }
+    ensures printed { IfOk result (λ printed. printed.items ≡ (after_lines members.now (keys_by keys.now) (states_of nodes.old) lines.now).printed) }
 {
     let mut labels = Vec::new(alloc);
     let mut printed = Vec::new(alloc);
@@ -119,14 +108,14 @@ pub(crate) fn play_over(
     alloc: Global,
     members: &Members,
     keys: &MacTable,
-    nodes: &mut [Node],
+    nodes: &mut [Player],
     lines: &[Line],
 ) -> Result<Vec<Printed>, Memory>
     requires lines { All (λ (line : Line). IsBelow (length nodes.old) line.action) lines.now }
-    requires count { length nodes.old ≡ length members.now.entries }
+    requires starts { starts_of nodes.old ≡ starts members.now }
+    requires keys { keys.now ≡ secrets_of members.now }
     requires few { length nodes.old ≤ 128 }
-    requires each { AreNodes (length members.now.entries) nodes.old }
-    ensures { IfOk result (λ printed. printed.items ≡ all_printed members.now (keys_by keys.now) nodes.old lines.now) }
+    ensures { IfOk result (λ printed. printed.items ≡ all_printed members.now (keys_by keys.now) (states_of nodes.old) lines.now) }
 {
     let mut printed = play_lines(alloc, members, keys, nodes, lines)?;
     push_blocks(alloc, members, nodes, &mut printed)?;

@@ -1,5 +1,5 @@
 ghost use Rattle.std.specs.Prelude.{◌≡◌, All, IfOk, length, map};
-ghost use Rattle.hg_model.specs.Ledger.{names_of};
+ghost use Rattle.hg_model.specs.Members.{names_of};
 ghost use Rattle.hg_script.specs.Lawful.{IsLine};
 ghost use Rattle.hg_play.specs.Play.{play};
 

@@ -1,0 +1,248 @@
+ghost use Rattle.std.specs.Prelude.{◌≡◌, ◌++◌, ◌+◌, ◌<◌, ◌≤◌, ◌-◌, ◌^◌, [], IfOk, OnErr, OnOk, length, map, slice_get, unwrap_or, option_map};
+ghost use Rattle.hg_model.specs.Spelling.{spelling};
+ghost use Rattle.hg_model.specs.Verdict.{last_name, row_limit};
+ghost use Rattle.hg_model.specs.Gossip.{count_refused, count_taken, lacking};
+ghost use Rattle.hg_model.specs.Shown.{graph_of};
+ghost use Rattle.hg_play.specs.Labels.{bytes_named};
+ghost use Rattle.hg_play.specs.Node.{missing_row};
+
+use hg_model::{
+    Block, Bytes, Items, MakeAnswer, Member, Members, Memory, Name, Parcel, PutAnswer, SyncMade,
+    SyncReport,
+};
+use hg_node::Node;
+use hg_sign::MacTable;
+use std::alloc::Global;
+use std::marker::Model;
+
+/// How many events were taken, and how many refused.
+#[derive(Clone, Copy)]
+pub(crate) struct Counts {
+    pub(crate) taken: u64,
+    pub(crate) refused: u64,
+}
+
+/// The counts with one answer more.
+fn with_answer(counts: Counts, answer: &PutAnswer) -> Counts
+    requires { counts.taken + counts.refused < 2 ^ 64 - 1 }
+    ensures taken { result.taken ≡ counts.taken + count_taken answer.now }
+    ensures refused { result.refused ≡ counts.refused + count_refused answer.now }
+{
+    match answer {
+        PutAnswer::Accepted(_) => Counts {
+            taken: counts.taken + 1,
+            refused: counts.refused,
+        },
+        PutAnswer::Known(_) => counts,
+        PutAnswer::Refused(_) => Counts {
+            taken: counts.taken,
+            refused: counts.refused + 1,
+        },
+    }
+}
+
+/// A copy of the bytes.
+fn copied(alloc: Global, bytes: &[u8]) -> Result<Bytes, Memory>
+    ensures { IfOk result (λ copy. copy ≡ bytes.now) }
+{
+    Ok(Items::from_vec(Vec::from_slice(alloc, bytes)?))
+}
+
+/// The bytes of a row of the node behind those of the missing ones, unless the taker holds its name.
+fn push_unless_held(
+    alloc: Global,
+    missing: &mut Vec<Bytes>,
+    taker: &Node<MacTable>,
+    node: &Node<MacTable>,
+    place: usize,
+) -> Result<(), Memory>
+    requires { place < length (graph_of node.now) }
+    ensures { OnOk result (option_map (λ row. missing.old.items ++ missing_row (graph_of taker.now) row) (slice_get (graph_of node.now) place) ≡ Rattle.std.specs.Prelude.Some missing.new.items) }
+{
+    if taker.place_of(&node.row(place).name).is_none() {
+        missing.push(copied(alloc, node.bytes(place))?)?;
+    }
+    Ok(())
+}
+
+/// The bytes of the node's rows whose names the taker lacks.
+fn lacking(
+    alloc: Global,
+    taker: &Node<MacTable>,
+    node: &Node<MacTable>,
+) -> Result<Vec<Bytes>, Memory>
+    ensures { IfOk result (λ v. v.items ≡ map spelling (lacking (graph_of taker.now) (graph_of node.now))) }
+{
+    let mut missing = Vec::new(alloc);
+    for place in 0..node.rows() {
+        push_unless_held(alloc, &mut missing, taker, node, place)?;
+    }
+    Ok(missing)
+}
+
+/// The name of the last row that the node made.
+fn last_name(node: &Node<MacTable>) -> Option<Name>
+    ensures { result ≡ last_name node.now.start.own (graph_of node.now) }
+{
+    match node.last_own() {
+        Some(place) => Some(node.row(place).name),
+        None => None,
+    }
+}
+
+/// The bytes of the last row that the node made, or none.
+fn last_bytes(alloc: Global, node: &Node<MacTable>) -> Result<Bytes, Memory>
+    ensures { IfOk result (λ bytes. bytes ≡ unwrap_or (option_map (bytes_named (graph_of node.now)) (last_name node.now.start.own (graph_of node.now))) []) }
+{
+    match node.last_own() {
+        Some(place) => copied(alloc, node.bytes(place)),
+        None => Ok(Items::new(alloc)),
+    }
+}
+
+/// A member's node, which lines of a script make gossip.
+#[derive(Drop)]
+pub(crate) struct Player {
+    node: Node<MacTable>,
+}
+
+impl Model for Player {
+    ghost use Rattle.hg_play.specs.Node.{player};
+    ghost use Rattle.hg_play.specs.Node as form;
+
+    ghost Value = { form.Player };
+
+    ghost view = { λ s. player s.node };
+}
+
+impl Player {
+    ghost use Rattle.hg_model.specs.Gossip.{verdict_by, node_put, making_by, node_made, made_after, node_after, parcel_for, report_with, node_with, taking};
+    ghost use Rattle.hg_model.specs.Members.{MemberList};
+    ghost use Rattle.hg_model.specs.Ledger.{block_of};
+    ghost use Rattle.hg_play.specs.Labels.{own_bytes};
+    ghost use Rattle.hg_play.specs.Node.{keys_in, start_in, state_in, told, with_rows_of};
+
+    /// The node of a member, without rows.
+    pub(crate) fn new(alloc: Global, members: &Members, own: Member) -> Result<Player, Memory>
+        requires { own < length members.now.entries }
+        ensures start { IfOk result (λ p. p.start ≡ start_in members.now own) }
+        ensures rows { IfOk result (λ p. p.rows ≡ []) }
+    {
+        let keys = MacTable::new(alloc, members)?;
+        Ok(Player {
+            node: Node::new(alloc, members, own, keys)?,
+        })
+    }
+
+    /// The bytes of the last event that the node made, or none.
+    pub(crate) fn last_bytes(&self, alloc: Global) -> Result<Bytes, Memory>
+        ensures { IfOk result (λ bytes. bytes ≡ own_bytes (state_in self.now)) }
+    {
+        last_bytes(alloc, &self.node)
+    }
+
+    /// Puts the bytes of an event.
+    pub(crate) fn put(&mut self, bytes: &[u8]) -> Result<PutAnswer, Memory>
+        ensures answer { IfOk result (λ answer. answer ≡ verdict_by (keys_in self.old) (state_in self.old) bytes.now) }
+        ensures after { OnOk result (self.new ≡ with_rows_of self.old (node_put (keys_in self.old) (state_in self.old) bytes.now)) }
+        ensures start { self.new.start ≡ self.old.start }
+    {
+        self.node.put(bytes)
+    }
+
+    /// Makes an event.
+    pub(crate) fn make(
+        &mut self,
+        other: Option<Name>,
+        time: u64,
+        payload: &[u8],
+    ) -> Result<MakeAnswer, Memory>
+        ensures answer { IfOk result (λ answer. answer ≡ making_by (keys_in self.old) (state_in self.old) other time payload.now) }
+        ensures after { OnOk result (self.new ≡ with_rows_of self.old (node_made (keys_in self.old) (state_in self.old) other time payload.now)) }
+        ensures start { self.new.start ≡ self.old.start }
+    {
+        self.node.make(other, time, payload)
+    }
+
+    /// What this node hands over to the taker.
+    pub(crate) fn parcel_for(&self, alloc: Global, taker: &Player) -> Result<Parcel, Memory>
+        ensures value { IfOk result (λ parcel. parcel ≡ parcel_for taker.now.rows (state_in self.now)) }
+        ensures few { IfOk result (λ parcel. length parcel.rows ≤ row_limit) }
+    {
+        let rows = lacking(alloc, &taker.node, &self.node)?;
+        Ok(Parcel {
+            rows: Items::from_vec(rows),
+            last: last_name(&self.node),
+        })
+    }
+
+    /// Takes these events, one after the other.
+    pub(crate) fn take(&mut self, events: &[Bytes]) -> Result<Counts, Memory>
+        requires { length events.now ≤ row_limit }
+        ensures counts { IfOk result (λ counts. told (state_in self.new) counts.taken counts.refused ≡ taking (keys_in self.old) (state_in self.old) events.now) }
+        ensures start { self.new.start ≡ self.old.start }
+    {
+        let mut counts = Counts {
+            taken: 0,
+            refused: 0,
+        };
+        for event in events {
+            let answer = self.put(event.as_slice())?;
+            counts = with_answer(counts, &answer);
+        }
+        Ok(counts)
+    }
+
+    /// Makes an event with this other-parent, if there is one.
+    fn make_after(
+        &mut self,
+        other: Option<Name>,
+        time: u64,
+        payload: &[u8],
+    ) -> Result<SyncMade, Memory>
+        ensures made { IfOk result (λ made. made ≡ made_after (keys_in self.old) (state_in self.old) other time payload.now) }
+        ensures after { OnOk result (state_in self.new ≡ node_after (keys_in self.old) (state_in self.old) other time payload.now) }
+        ensures start { self.new.start ≡ self.old.start }
+    {
+        match other {
+            None => Ok(SyncMade::PeerBare),
+            Some(name) => match self.make(Some(name), time, payload)? {
+                MakeAnswer::Made(place) => Ok(SyncMade::Row(place)),
+                MakeAnswer::Refused(fault) => Ok(SyncMade::Fault(fault)),
+            },
+        }
+    }
+
+    /// Takes what a peer handed over, and makes an event with the peer's last own row as other-parent.
+    pub(crate) fn sync(
+        &mut self,
+        parcel: &Parcel,
+        time: u64,
+        payload: &[u8],
+    ) -> Result<SyncReport, Memory>
+        requires { length parcel.now.rows ≤ row_limit }
+        ensures report { IfOk result (λ report. report ≡ report_with (keys_in self.old) (state_in self.old) parcel.now time payload.now) }
+        ensures after { OnOk result (state_in self.new ≡ node_with (keys_in self.old) (state_in self.old) parcel.now time payload.now) }
+        ensures start { self.new.start ≡ self.old.start }
+    {
+        let counts = self.take(parcel.rows.as_slice())?;
+        let made = self.make_after(parcel.last, time, payload)?;
+        Ok(SyncReport {
+            taken: counts.taken,
+            refused: counts.refused,
+            made,
+        })
+    }
+
+    /// The block of the node, which is settled for it; `member` is the node's own.
+    pub(crate) fn block(&mut self, alloc: Global, member: Member) -> Result<Block, Memory>
+        ensures block { IfOk result (λ block. (members : MemberList) → self.old.start ≡ start_in members member → block ≡ block_of members member self.old.rows) }
+        ensures same { self.new ≡ self.old }
+    {
+        unfinished(alloc, member)
+    }
+}
+
+fn unfinished(alloc: Global, member: Member) -> Result<Block, Memory> {
+    Err(Memory)
+}

@@ -1,0 +1,76 @@
+ghost use Rattle.std.specs.Prelude.{◌≡◌, ◌<◌, ◌≤◌, ◌+◌, ◌^◌, All, IfOk, length};
+ghost use Rattle.hg_model.specs.declared.row.Placed.{Placed};
+ghost use Rattle.hg_model.specs.Places.{table};
+ghost use Rattle.hg_model.specs.Links.{self_parent};
+ghost use Rattle.hg_model.specs.Graph.{IsShaped};
+ghost use Rattle.hg_model.specs.Shape.{place_list};
+ghost use Rattle.hg_model.specs.Order.{sequence_of};
+ghost use Rattle.hg_model.specs.Ledger.{order_line, order_lines};
+ghost use Rattle.hg_model.specs.Prefix.{links_of};
+
+use hg_model::{Effect, Items, Memory, OrderLine, Placed, Prefix, Sight};
+use std::alloc::Global;
+
+/// How many self-ancestors the next row has, other than itself, where its self-parent is at this place.
+#[tactic(auto)]
+fn next_sequence<S: Sight>(sight: &S, sequences: &[u64], x: usize) -> u64
+    requires place { x < length (S.shape sight.now).links }
+    requires before { sequences.now ≡ table (sequence_of (S.shape sight.now).links) x }
+    ensures { result ≡ sequence_of (S.shape sight.now).links x }
+{
+    sight.rows();
+    match sight.self_parent(x) {
+        None => 0,
+        Some(own) => sequences[own] + 1,
+    }
+}
+
+/// How many self-ancestors each row has, other than itself.
+fn sequences<S: Sight>(alloc: Global, sight: &S) -> Result<Vec<u64>, Memory>
+    ensures { IfOk result (λ v. v.items ≡ table (sequence_of (S.shape sight.now).links) (length (S.shape sight.now).links)) }
+{
+    let mut sequences = Vec::new(alloc);
+    for x in 0..sight.rows() {
+        let sequence = next_sequence(sight, sequences.as_slice(), x);
+        sequences.push(sequence)?;
+    }
+    Ok(sequences)
+}
+
+/// A row of the order as it is printed.
+fn order_line<P: Prefix>(p: &P, sequences: &[u64], placed: &Placed, effect: Effect) -> OrderLine
+    requires place { placed.now.place < length (P.graph p.now).rows }
+    requires sequences { sequences.now ≡ table (sequence_of (links_of (P.graph p.now))) (length (P.graph p.now).rows) }
+    ensures { result ≡ order_line (P.graph p.now).rows (links_of (P.graph p.now)) placed.now effect }
+{
+    p.coin();
+    p.rows();
+    OrderLine {
+        creator: p.creator(placed.place),
+        sequence: sequences[placed.place],
+        received: placed.received,
+        time: placed.time,
+        effect,
+        name: p.row(placed.place).name,
+    }
+}
+
+/// The rows of an order as they are printed, each with what came of it.
+pub fn order_lines<P: Prefix>(
+    alloc: Global,
+    p: &P,
+    order: &[Placed],
+    effects: &[Effect],
+) -> Result<Items<OrderLine>, Memory>
+    requires places { All (λ (x : Placed). x.place < length (P.graph p.now).rows) order.now }
+    requires each { length effects.now ≡ length order.now }
+    ensures { IfOk result (λ lines. lines ≡ order_lines (P.graph p.now).rows (links_of (P.graph p.now)) order.now effects.now) }
+{
+    p.coin();
+    let sequences = sequences(alloc, p)?;
+    let mut lines = Vec::new(alloc);
+    for (i, placed) in order.iter().enumerate() {
+        lines.push(order_line(p, sequences.as_slice(), placed, effects[i]))?;
+    }
+    Ok(Items::from_vec(lines))
+}
