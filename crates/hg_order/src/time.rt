@@ -1,0 +1,74 @@
+ghost use Rattle.std.specs.Prelude.{◌≡◌, ◌<◌, ◌≤◌, ◌-◌, ◌/◌, ◌++◌, ℕ, true, All, length, take, drop, slice_index};
+ghost use Rattle.hg_model.specs.Prefix.{links_of};
+ghost use Rattle.hg_model.specs.Ancestry.{is_ancestor};
+ghost use Rattle.hg_model.specs.Fame.{Marks};
+ghost use Rattle.hg_model.specs.Order.{consensus_time, median};
+ghost use Rattle.hg_order.specs.Famous.{famous_of, AreFamous, all_have, first_holder, times_of, IsBelowAll};
+
+use hg_model::{Prefix, Sight};
+
+/// The consensus timestamp of row `x` by the unique famous witnesses of a round, all of which have it as ancestor.
+pub fn time_of<P: Prefix>(p: &P, ufw: &[usize], x: usize) -> u64
+    requires famous { AreFamous (P.graph p.now) ufw.now }
+    requires received { IsBelowAll (P.graph p.now) ufw.now x }
+    ensures { (marks : Marks) (r : ℕ) → ufw.now ≡ famous_of (P.graph p.now) marks r → result ≡ consensus_time (P.graph p.now).members (P.graph p.now).rows (links_of (P.graph p.now)) marks r x }
+{
+    p.coin();
+    let mut times = [0; 128];
+    let times = &mut times[..ufw.len()];
+    fill_times(p, ufw, x, times);
+    median_of(times)
+}
+
+/// The times at which the lines of these rows first had row `x` as ancestor.
+fn fill_times<P: Prefix>(p: &P, places: &[usize], x: usize, times: &mut [u64])
+    requires places { All (λ w. w < length (links_of (P.graph p.now))) places.now }
+    requires have { IsBelowAll (P.graph p.now) places.now x }
+    requires same { length times.old ≡ length places.now }
+    ensures { times.new ≡ times_of (P.graph p.now).rows (links_of (P.graph p.now)) x places.now }
+{
+    for (i, w) in places.iter().enumerate() {
+        times[i] = holder_time(p, *w, x);
+    }
+}
+
+/// The time at which the line of row `w` first had row `x` as ancestor.
+fn holder_time<P: Prefix>(p: &P, w: usize, x: usize) -> u64 {
+    p.coin();
+    p.row(first_holder(p, x, w)).time
+}
+
+/// The first of the line of row `w` that has row `x` as ancestor.
+fn first_holder<S: Sight>(sight: &S, x: usize, w: usize) -> usize
+    requires place { w < length (S.shape sight.now).links }
+    requires has { is_ancestor (S.shape sight.now).links w x ≡ true }
+    ensures value { result ≡ first_holder (S.shape sight.now).links x w }
+    ensures within { result ≤ w }
+{
+    let mut z = w;
+    while let Some(before) = sight.self_parent(z) {
+        if !sight.ancestor(before, x) {
+            break;
+        }
+        z = before;
+    }
+    z
+}
+
+/// Of k times that at place (k - 1) / 2, or 0 if there is none.
+fn middle_of(times: &[u64]) -> u64
+    ensures { result ≡ slice_index times.now ((length times.now - 1) / 2) }
+{
+    match times.get(times.len().saturating_sub(1) / 2) {
+        None => 0,
+        Some(time) => *time,
+    }
+}
+
+/// Of k times in ascending order that at place (k - 1) / 2, or 0 if there is none.
+fn median_of(times: &mut [u64]) -> u64
+    ensures { result ≡ median times.old }
+{
+    times.sort_unstable();
+    middle_of(times)
+}
