@@ -1,0 +1,6 @@
+pub mod ImageLaws
+pub mod LineLaws
+pub mod FamousLaws
+pub mod HolderLaws
+pub mod StepLaws
+pub mod RoundLaws

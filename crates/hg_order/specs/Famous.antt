@@ -27,11 +27,13 @@ all_have L places x = list_all (λ w. is_ancestor L w x) places
 abbrev pub IsBelowAll : Graph → List ℕ → ℕ → Type 0
 IsBelowAll g places x = (x < length (links_of g)) × (all_have (links_of g) places x ≡ true)
 
+-- z is marked famous, by the creator of y, and is not y
+abbrev pub is_rival_to : List Link → Marks → ℕ → ℕ → Bool
+is_rival_to L marks y z = is_yes (mark_at marks z) && creator L z == creator L y && not (z == y)
+
 -- among these witnesses y is famous, and no other by its creator is
 abbrev pub is_lone : List Link → Marks → List ℕ → ℕ → Bool
-is_lone L marks witnesses y =
-    is_yes (mark_at marks y)
-    && not (list_any (λ z. is_yes (mark_at marks z) && creator L z == creator L y && not (z == y)) witnesses)
+is_lone L marks witnesses y = is_yes (mark_at marks y) && not (list_any (is_rival_to L marks y) witnesses)
 
 -- the first of the line of w that has x as ancestor
 unfoldable pub first_holder : List Link → ℕ → ℕ → ℕ

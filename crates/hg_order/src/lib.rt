@@ -7,6 +7,7 @@ mod famous;
 mod order;
 mod received;
 mod time;
+mod told;
 mod white;
 
 pub use famous::unique_famous;

@@ -34,16 +34,18 @@ fn xor(sig: &Sig, others: &Sig) -> Sig
 }
 
 /// 64 bytes 0.
-fn no_signature() -> Sig
+pub fn no_signature() -> Sig
     ensures { result ≡ replicate 64 0 }
 {
     [0; 64]
 }
 
 /// The signatures of these rows, XORed.
+#[tactic(auto, using(crate::proofs::StepLaws::row_told, crate::proofs::StepLaws::whitening_steps))]
 pub fn whitening<P: Prefix>(p: &P, places: &[usize]) -> Sig
     requires { All (λ w. w < length (P.graph p.now).rows) places.now }
-    ensures { result ≡ whitening_of (P.graph p.now).rows places.now }
+    ensures value { result ≡ whitening_of (P.graph p.now).rows places.now }
+    ensures long { length result ≡ 64 }
 {
     let mut white = no_signature();
     for w in places {
