@@ -26,7 +26,7 @@ filter_one : {A : Type 0} (test : A → Bool) (x : A) (b : Bool) → filter test
 filter_one test x false = refl
 filter_one test x true = refl
 
-filter-list_below : {A : Type 0} (test : A → Bool) (value : ℕ → A) (n : ℕ) (passes : ℕ → Bool) →
+pub filter-list_below : {A : Type 0} (test : A → Bool) (value : ℕ → A) (n : ℕ) (passes : ℕ → Bool) →
     filter test (list_below value n passes) ≡ list_below value n (λ k. passes k && test (value k))
 unfolding list_below
 filter-list_below test value zero passes = refl

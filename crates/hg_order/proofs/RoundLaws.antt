@@ -131,14 +131,19 @@ module _ (g : Graph) (s : IsShaped g.members (links_of g)) (marks : Marks) (r : 
   all_inside famous [] below = tt
   all_inside famous (x ∷ fresh) below = (below.0.0, all_inside famous fresh below.1)
 
+  -- rows placed by a round that is this one, if there are any
+  same_round : (famous fresh : List ℕ) (k : ℕ) → (0 < length fresh → k ≡ r) → map (placed_below g.rows (links_of g) famous k) fresh ≡ map (placed_below g.rows (links_of g) famous r) fresh
+  same_round famous [] k same = refl
+  same_round famous (x ∷ fresh) k same = ap (λ (j : ℕ). map (placed_below g.rows (links_of g) famous j) (x ∷ fresh)) (same (omega arith))
+
   -- the sorted rows of the round
-  pub sorted_is_placed : (famous fresh whitened : List ℕ) → famous ≡ famous_of g marks r → AllByRecursion (IsBelowAll g famous) fresh → All (IsWide g.rows) fresh →
+  pub sorted_is_placed : (famous fresh whitened : List ℕ) (k : ℕ) → (0 < length fresh → k ≡ r) → famous ≡ famous_of g marks r → AllByRecursion (IsBelowAll g famous) fresh → All (IsWide g.rows) fresh →
       whitened ≡ whitening_of g.rows famous → length whitened ≡ 64 →
-      sort_by (placed_less g.rows whitened) (map (placed_below g.rows (links_of g) famous r) fresh) ≡ placed_in g marks r fresh
+      sort_by (placed_less g.rows whitened) (map (placed_below g.rows (links_of g) famous k) fresh) ≡ placed_in g marks r fresh
   unfolding white
-  sorted_is_placed famous fresh whitened are below wide is long =
+  sorted_is_placed famous fresh whitened k same are below wide is long =
       let white_is : whitened ≡ whitening g.members g.rows (links_of g) marks r = is ∙ (ap (whitening_of g.rows) are ∙ whitening_is g.members (links_of g) marks r g.rows) in
-      ap₂ (λ (w : List ℕ) (ps : List Placed). sort_by (placed_less g.rows w) ps) white_is (same_rows famous fresh are below)
+      ap₂ (λ (w : List ℕ) (ps : List Placed). sort_by (placed_less g.rows w) ps) white_is (same_round famous fresh k same ∙ same_rows famous fresh are below)
       ∙ sort_by-same (placed_less g.rows (whitening g.members g.rows (links_of g) marks r)) (is_placed_before g marks) (map (placed_by g marks r) fresh)
       (pairwise_of_all IsOfRound (λ a b. placed_less g.rows (whitening g.members g.rows (links_of g) marks r) b a ≡ is_placed_before g marks b a) (map (placed_by g marks r) fresh) sorts_alike
       (of_round fresh (all_inside famous fresh below) (recursion_from_All (IsWide g.rows) fresh wide) (ap (λ (w : List ℕ). length w) (sym white_is) ∙ long)))

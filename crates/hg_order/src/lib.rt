@@ -6,6 +6,8 @@
 mod famous;
 mod order;
 mod received;
+#[cfg(test)]
+mod tests;
 mod time;
 mod told;
 mod white;

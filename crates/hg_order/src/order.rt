@@ -17,15 +17,27 @@ use std::cmp::Ordering;
 /// the round.
 pub fn order_round<P: Prefix>(p: &P, ufw: &[usize], fresh: &[usize], out: &mut [Placed])
     requires famous { AreFamous (P.graph p.now) ufw.now }
-    requires some { 0 < length ufw.now }
+    requires some { 0 < length fresh.now → 0 < length ufw.now }
     requires received { AllByRecursion (IsBelowAll (P.graph p.now) ufw.now) fresh.now }
     requires same { length out.old ≡ length fresh.now }
     ensures placed { (marks : Marks) (r : ℕ) → ufw.now ≡ famous_of (P.graph p.now) marks r → out.new ≡ placed_in (P.graph p.now) marks r fresh.now }
     ensures whole { (marks : Marks) (r : ℕ) → ufw.now ≡ famous_of (P.graph p.now) marks r → fresh.now ≡ received_places (P.graph p.now) marks r → out.new ≡ received_order (P.graph p.now) marks r }
 {
     told(p);
-    place_rows(p, ufw, p.round(ufw[0]), fresh, out);
+    place_rows(p, ufw, round_of(p, ufw), fresh, out);
     sort_placed(p, &whitening(p, ufw), out);
+}
+
+/// The round of these unique famous witnesses, or 0 if there is none.
+fn round_of<P: Prefix>(p: &P, ufw: &[usize]) -> u32
+    requires { AreFamous (P.graph p.now) ufw.now }
+    ensures { (marks : Marks) (r : ℕ) → ufw.now ≡ famous_of (P.graph p.now) marks r → 0 < length ufw.now → result ≡ r }
+{
+    told(p);
+    match ufw {
+        [] => 0,
+        [first, ..] => p.round(*first),
+    }
 }
 
 /// The rows at the places `fresh` as the round places them, in their order.
