@@ -56,7 +56,8 @@ impl<V: Signer> Node<V> {
 
     /// The node of the member `own`, without rows.
     pub fn new(alloc: Global, members: &Members, own: Member, keys: V) -> Result<Node<V>, Memory>
-        where V: Drop
+    where
+        V: Drop,
         requires { own < length members.now.entries }
         ensures start { IfOk result (λ node. node.start ≡ start_of members.now own keys) }
         ensures history { IfOk result (λ node. node.history ≡ []) }
@@ -104,8 +105,14 @@ impl<V: Signer> Node<V> {
             Ok(parents) => parents,
             Err(fault) => return Ok(MakeAnswer::Refused(fault)),
         };
-        let (row, bytes) =
-            signed_event(self.alloc, &self.keys, &self.chronicle, other, time, payload)?;
+        let (row, bytes) = signed_event(
+            self.alloc,
+            &self.keys,
+            &self.chronicle,
+            other,
+            time,
+            payload,
+        )?;
         match row_rule(&self.chronicle, &row) {
             Err(fault) => Ok(MakeAnswer::Refused(fault)),
             Ok(()) => {
