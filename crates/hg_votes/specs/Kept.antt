@@ -12,10 +12,10 @@ pub record Kept : Type 0 where
   pub candidate : ℕ
   pub counted : ℕ
 
--- the voters are those of the graph's witnesses
-pub record HoldsVoters (g : Graph) (voters : List (List ℕ)) : Type 0 where
-  pub len : length voters ≡ length g.rows
-  pub at : (y : ℕ) → y < length g.rows → IsTrue (is_witness g.members (links_of g) y) → get_or voters y [] ≡ voters_of g y
+-- the voters are those of the graph's witnesses among the first k rows
+pub record HoldsVoters (g : Graph) (k : ℕ) (voters : List (List ℕ)) : Type 0 where
+  pub len : length voters ≡ k
+  pub at : (y : ℕ) → y < k → IsTrue (is_witness g.members (links_of g) y) → get_or voters y [] ≡ voters_of g y
 
 -- the ballots on x are those of the graph, up to this round
 pub record HoldsBallots (g : Graph) (x last : ℕ) (ballots : List Ballot) : Type 0 where
@@ -30,6 +30,6 @@ pub record IsOpened (g : Graph) (x last : ℕ) : Type 0 where
 
 -- all that is kept is the graph's
 pub record IsMadeFor (kept : Kept) (g : Graph) : Type 0 where
-  pub voters : HoldsVoters g kept.voters
+  pub voters : HoldsVoters g (length g.rows) kept.voters
   pub ballots : HoldsBallots g kept.candidate kept.counted kept.ballots
   pub opened : 0 < kept.counted → IsOpened g kept.candidate kept.counted

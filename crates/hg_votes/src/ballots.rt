@@ -24,6 +24,7 @@ pub fn no_ballots(alloc: Global, len: usize) -> Result<Vec<Ballot>, Memory>
 }
 
 /// The ballot of witness `y` on `x`, from the ballots of the rounds before it.
+#[tactic(auto, using(crate::proofs::PrefixReads::prefix_reads))]
 fn next_ballot<P: Prefix>(p: &P, voters: &[usize], ballots: &[Ballot], x: usize, y: usize) -> Ballot
     requires counted { IsCounted (P.graph p.now) x (round_of (P.graph p.now).members (links_of (P.graph p.now)) y) y }
     requires candidate { x < length (P.graph p.now).rows }
@@ -50,6 +51,7 @@ fn next_ballot<P: Prefix>(p: &P, voters: &[usize], ballots: &[Ballot], x: usize,
 }
 
 /// Counts the votes on `x` of the witnesses of round `r`, where those of the rounds before are counted.
+#[tactic(auto, using(crate::proofs::PrefixReads::prefix_reads))]
 pub fn count_round<P: Prefix>(
     p: &P,
     voters: &[Items<usize>],
@@ -58,7 +60,7 @@ pub fn count_round<P: Prefix>(
     r: u32,
 )
     requires opened { IsOpened (P.graph p.now) x (r - 1) }
-    requires voters { HoldsVoters (P.graph p.now) voters.now }
+    requires voters { HoldsVoters (P.graph p.now) (length (P.graph p.now).rows) voters.now }
     requires before { HoldsBallots (P.graph p.now) x (r - 1) ballots.old }
     ensures { HoldsBallots (P.graph p.now) x r ballots.new }
 {

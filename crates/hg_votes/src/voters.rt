@@ -1,29 +1,47 @@
-ghost use Rattle.std.specs.Prelude.{◌≡◌, ◌<◌, length, IfOk};
+ghost use Rattle.std.specs.Prelude.{◌≡◌, ◌<◌, ◌-◌, length, IfOk};
+ghost use Rattle.std.specs.List.{AllByRecursion, filter};
+ghost use Rattle.hg_model.specs.Prefix.{links_of};
+ghost use Rattle.hg_model.specs.Seeing.{strongly_sees};
 ghost use Rattle.hg_votes.specs.Tallies.{voters_of};
 ghost use Rattle.hg_votes.specs.Kept.{HoldsVoters};
 
 use hg_model::{Items, Memory, Prefix};
 use std::alloc::Global;
 
+/// Those of the rows that row `y` strongly sees, in order.
 #[tactic(auto, using(crate::proofs::PrefixReads::prefix_reads))]
-/// The voters of witness `y`: the witnesses of the round before its own that it strongly sees.
+fn seen_among<P: Prefix>(
+    alloc: Global,
+    p: &P,
+    rows: &[usize],
+    y: usize,
+) -> Result<Items<usize>, Memory>
+    requires place { y < length (P.graph p.now).rows }
+    requires places { AllByRecursion (λ w. w < length (P.graph p.now).rows) rows.now }
+    ensures { IfOk result (λ seen. seen ≡ filter (strongly_sees (P.graph p.now).members (links_of (P.graph p.now)) y) rows.now) }
+{
+    let mut seen = Vec::new(alloc);
+    for w in rows {
+        if p.strongly_sees(y, *w) {
+            seen.push(*w)?;
+        }
+    }
+    Ok(Items::from_vec(seen))
+}
+
+/// The voters of row `y`: the witnesses of the round before its own that it strongly sees.
+#[tactic(auto, using(crate::proofs::PrefixReads::prefix_reads))]
 fn voters_of<P: Prefix>(alloc: Global, p: &P, y: usize) -> Result<Items<usize>, Memory>
     requires { y < length (P.graph p.now).rows }
     ensures { IfOk result (λ v. v ≡ voters_of (P.graph p.now) y) }
 {
-    let before = p.round(y).saturating_sub(1);
-    let mut voters = Vec::new(alloc);
-    for w in p.witnesses(before) {
-        if p.strongly_sees(y, *w) {
-            voters.push(*w)?;
-        }
-    }
-    Ok(Items::from_vec(voters))
+    seen_among(alloc, p, p.witnesses(p.round(y).saturating_sub(1)), y)
 }
 
 /// By place the voters of each witness, and none of other rows.
+#[tactic(auto, using(crate::proofs::PrefixReads::prefix_reads))]
 pub fn voters_by_place<P: Prefix>(alloc: Global, p: &P) -> Result<Vec<Items<usize>>, Memory>
-    ensures { IfOk result (λ v. HoldsVoters (P.graph p.now) v.items) }
+    ensures { IfOk result (λ v. HoldsVoters (P.graph p.now) (length (P.graph p.now).rows) v.items) }
 {
     let mut voters = Vec::new(alloc);
     for y in 0..p.rows() {
