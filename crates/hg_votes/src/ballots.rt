@@ -1,7 +1,6 @@
-ghost use Rattle.std.specs.Prelude.{◌≡◌, ◌<◌, ◌-◌, length, IfOk};
+ghost use Rattle.std.specs.Prelude.{◌≡◌, ◌<◌, ◌-◌, ◌^◌, length, IfOk};
 ghost use Rattle.hg_model.specs.Prefix.{IsCounted, ballot_of, links_of};
 ghost use Rattle.hg_model.specs.Rounds.{round_of};
-ghost use Rattle.hg_votes.specs.Tallies.{voters_of};
 ghost use Rattle.hg_votes.specs.Kept.{HoldsBallots, HoldsVoters, IsOpened};
 
 use crate::tally::count_votes;
@@ -25,10 +24,17 @@ pub fn no_ballots(alloc: Global, len: usize) -> Result<Vec<Ballot>, Memory>
 
 /// The ballot of witness `y` on `x`, from the ballots of the rounds before it.
 #[tactic(auto, using(crate::proofs::PrefixReads::prefix_reads))]
-fn next_ballot<P: Prefix>(p: &P, voters: &[usize], ballots: &[Ballot], x: usize, y: usize) -> Ballot
+fn next_ballot<P: Prefix>(
+    p: &P,
+    voters: &[Items<usize>],
+    ballots: &[Ballot],
+    x: usize,
+    y: usize,
+) -> Ballot
     requires counted { IsCounted (P.graph p.now) x (round_of (P.graph p.now).members (links_of (P.graph p.now)) y) y }
     requires candidate { x < length (P.graph p.now).rows }
-    requires voters { voters.now ≡ voters_of (P.graph p.now) y }
+    requires short { length (P.graph p.now).rows < 2 ^ 32 - 1 }
+    requires voters { HoldsVoters (P.graph p.now) (length (P.graph p.now).rows) voters.now }
     requires before { HoldsBallots (P.graph p.now) x (round_of (P.graph p.now).members (links_of (P.graph p.now)) y - 1) ballots.now }
     ensures { result ≡ ballot_of (P.graph p.now) x y }
 {
@@ -39,7 +45,7 @@ fn next_ballot<P: Prefix>(p: &P, voters: &[usize], ballots: &[Ballot], x: usize,
             decides: false,
         };
     }
-    let tally = count_votes(voters, ballots);
+    let tally = count_votes(voters[y].as_slice(), ballots);
     weigh(
         above,
         p.coin(),
@@ -59,12 +65,14 @@ pub fn count_round<P: Prefix>(
     x: usize,
     r: u32,
 )
+    requires first { 0 < r }
     requires opened { IsOpened (P.graph p.now) x (r - 1) }
+    requires short { length (P.graph p.now).rows < 2 ^ 32 - 1 }
     requires voters { HoldsVoters (P.graph p.now) (length (P.graph p.now).rows) voters.now }
     requires before { HoldsBallots (P.graph p.now) x (r - 1) ballots.old }
     ensures { HoldsBallots (P.graph p.now) x r ballots.new }
 {
     for y in p.witnesses(r) {
-        ballots[*y] = next_ballot(p, voters[*y].as_slice(), ballots, x, *y);
+        ballots[*y] = next_ballot(p, voters, ballots, x, *y);
     }
 }

@@ -5,24 +5,23 @@ ghost use Rattle.hg_model.specs.Seeing.{strongly_sees};
 ghost use Rattle.hg_votes.specs.Tallies.{voters_of};
 ghost use Rattle.hg_votes.specs.Kept.{HoldsVoters};
 
-use hg_model::{Items, Memory, Prefix};
+use hg_model::{Items, Memory, Prefix, Sight};
 use std::alloc::Global;
 
 /// Those of the rows that row `y` strongly sees, in order.
-#[tactic(auto, using(crate::proofs::PrefixReads::prefix_reads))]
-fn seen_among<P: Prefix>(
+fn seen_among<S: Sight>(
     alloc: Global,
-    p: &P,
+    sight: &S,
     rows: &[usize],
     y: usize,
 ) -> Result<Items<usize>, Memory>
-    requires place { y < length (P.graph p.now).rows }
-    requires places { AllByRecursion (λ w. w < length (P.graph p.now).rows) rows.now }
-    ensures { IfOk result (λ seen. seen ≡ filter (strongly_sees (P.graph p.now).members (links_of (P.graph p.now)) y) rows.now) }
+    requires place { y < length (S.shape sight.now).links }
+    requires places { AllByRecursion (λ w. w < length (S.shape sight.now).links) rows.now }
+    ensures { IfOk result (λ seen. seen ≡ filter (strongly_sees (S.shape sight.now).members (S.shape sight.now).links y) rows.now) }
 {
     let mut seen = Vec::new(alloc);
     for w in rows {
-        if p.strongly_sees(y, *w) {
+        if sight.strongly_sees(y, *w) {
             seen.push(*w)?;
         }
     }
