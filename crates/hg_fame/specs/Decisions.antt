@@ -1,5 +1,5 @@
 -- Who decides the fame of a witness
-use Rattle.std.specs.Prelude.{ℕ, ◌≡◌, ◌≤◌, Bool, false, ◌&&◌, List, length, Option, find, option_map}
+use Rattle.std.specs.Prelude.{ℕ, ◌≡◌, ◌<◌, ◌≤◌, Bool, false, ◌&&◌, List, length, Option, find, option_map}
 use Rattle.hg_model.specs.Places.{least_below}
 use Rattle.hg_model.specs.Rounds.{round_of}
 use Rattle.hg_model.specs.Votes.{vote_of, decides}
@@ -27,4 +27,4 @@ decider_in g x r = find (decides_in g x) (witnesses_in (standings_of g.members (
 
 -- no row of a round up to this one decides the fame of x
 pub record IsOpen (g : Graph) (x last : ℕ) : Type 0 where
-  pub none : (y : ℕ) → round_of g.members (links_of g) y ≤ last → decides_in g x y ≡ false
+  pub none : (y : ℕ) → y < length g.rows → round_of g.members (links_of g) y ≤ last → decides_in g x y ≡ false
