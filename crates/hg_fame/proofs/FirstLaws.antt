@@ -59,9 +59,9 @@ module _ (key : ℕ → ℕ) (test : ℕ → Bool) (r : ℕ) where
       let found = subst (λ o. IfSome o (IsFoundBelow test n)) is (least_below_found key n test) in
       let le = low j found.0 found.1 in
       let apart : key j ≢ r = λ same.
-          let passes : in_key j ≡ true = rw (found.1, same) (eq-eqb r r refl) in
-          let some = least_below_some (λ _. 0) n in_key j found.0 passes in
-          some_not_none some.1 none in
+      let passes : in_key j ≡ true = rw (found.1, same) (eq-eqb r r refl) in
+      let some = least_below_some (λ _. 0) n in_key j found.0 passes in
+      some_not_none some.1 none in
       omega (arith, le, apart)
 
   lesser_late : (n y : ℕ) (found : Option ℕ) → key n ≡ r → IfSome found (λ j. r < key j) → n ≡ y → Some (lesser_of key found n) ≡ Some y

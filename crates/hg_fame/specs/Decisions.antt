@@ -26,5 +26,5 @@ abbrev pub decider_in : Graph → ℕ → ℕ → Option ℕ
 decider_in g x r = find (decides_in g x) (witnesses_in (standings_of g.members (links_of g)) r)
 
 -- no row of a round up to this one decides the fame of x
-pub record IsOpen (g : Graph) (x last : ℕ) : Type 0 where
+pub record IsUndecided (g : Graph) (x last : ℕ) : Type 0 where
   pub none : (y : ℕ) → y < length g.rows → round_of g.members (links_of g) y ≤ last → decides_in g x y ≡ false
