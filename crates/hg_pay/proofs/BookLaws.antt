@@ -147,13 +147,13 @@ come_one payer p t balances after bits next i is_done come place done left told 
     let same : can_pay p.balances payer t ≡ is_done = ap (λ (b : List ℕ). can_pay b payer t) (sym come.left) ∙ sym done in
     elim (cases_Bool is_done) [
       | inl can ↦ record {
-          left = left ∙ rw (same, can) (ap (λ (b : List ℕ). moved b payer t) come.left);
-          told = told ∙ rw (same, can) (ap₂ (λ (b j : ℕ). bit_or b (2 ^ j)) come.told (sym place) ∙ bits_set p.done);
-        }
+        left = left ∙ rw (same, can) (ap (λ (b : List ℕ). moved b payer t) come.left);
+        told = told ∙ rw (same, can) (ap₂ (λ (b j : ℕ). bit_or b (2 ^ j)) come.told (sym place) ∙ bits_set p.done);
+      }
       | inr cannot ↦ record {
-          left = left ∙ rw (same, cannot) come.left;
-          told = told ∙ rw (same, cannot) (come.told ∙ sym (bits_push_no p.done));
-        }
+        left = left ∙ rw (same, cannot) come.left;
+        told = told ∙ rw (same, cannot) (come.told ∙ sym (bits_push_no p.done));
+      }
     ]
 
 -- a transfer is done or not, and its bit is set or not

@@ -7,6 +7,8 @@ mod book;
 mod laws;
 mod pay;
 mod paying;
+#[cfg(test)]
+mod tests;
 
 pub use book::Book;
 pub use laws::{pays_are_spelled, sum_is_kept};
