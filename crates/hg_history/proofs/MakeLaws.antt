@@ -11,7 +11,7 @@ use Rattle.hg_model.specs.Verdict.{last_name, both_names, made_row, making}
 use Rattle.hg_model.specs.History.{Change, Accepts, IsMade}
 use Rattle.hg_model.specs.History.Change.{Made}
 use Rattle.hg_model.specs.Shown.{Shown, with_changes, graph_of, IsNode}
-use Rattle.hg_model.specs.Calls.{make_answer, make_changes, make_body, made_by}
+use Rattle.hg_model.specs.Calls.{make_answer, make_changes, make_body, make_draft, made_by}
 use Rattle.hg_model.proofs.RuleLaws.{Drafted, drafted}
 use Rattle.hg_prefix.specs.Orders.{HasNameSizes}
 use Rattle.hg_prefix.proofs.StandingLaws.{name_at_place}
@@ -45,10 +45,10 @@ made_spells n own G other time payload sig small early sized sizes draft = recor
 }
 
 module _ (K : Type 0) (accepts : K → Accepts) (v : Shown K) (other : Option (List ℕ)) (time : ℕ) (payload sig : List ℕ) (early : time < 2 ^ 64) (sized : length sig ≡ 64)
-    (signed : accepts v.start.keys v.start.own (make_body v other time payload) sig ≡ true) (node : IsNode accepts v) where
+    (signed : make_draft v other payload ≡ None → accepts v.start.keys v.start.own (make_body v other time payload) sig ≡ true) (node : IsNode accepts v) where
   is_made : (place : ℕ) → making v.start.own (graph_of v) other time payload sig ≡ answer.Made place →
       IsMade (accepts v.start.keys) v.start.own (graph_of v) (made_row v.start.own (graph_of v) other time payload sig)
-  unfolding make_body body_of
+  unfolding make_body make_draft body_of
   is_made place is =
       let own = v.start.own in
       let G : List Row = graph_of v in
@@ -65,7 +65,7 @@ module _ (K : Type 0) (accepts : K → Accepts) (v : Shown K) (other : Option (L
         sig = sig;
         fields = refl;
         spelled = made_spells v.start.members own G other time payload sig (omega arith) early sized sizes draft;
-        signed = signed;
+        signed = signed none;
         made = is ∙ ap (λ (k : ℕ). answer.Made k) (made_place _ (length G) place is);
       }
 

@@ -84,6 +84,13 @@ unfolding is_accepted
 none_speaks None p q refuses is = refl
 none_speaks (Some a) p q refuses is = absurd (true≢false (sym (ap is_accepted is) ∙ refuses))
 
+-- what a rule answers accepts nothing
+pub rule_accepts_none : (accepts : Accepts) (n own : ℕ) (G : List Row) (row : Row) (a : PutAnswer) (place : ℕ) →
+    option_or (arrival_rule accepts n own G row) (option_or (forkers_rule n G row) (full_rule G)) ≡ Some a → a ≡ Accepted place → ⊥
+unfolding is_accepted
+rule_accepts_none accepts n own G row a place speaks is =
+    true≢false (sym (ap is_accepted is) ∙ subst AcceptsNone speaks (none_of_rules accepts n own G row))
+
 -- an accepted row comes at the next place
 pub accepted_place : (accepts : Accepts) (n own : ℕ) (G : List Row) (row : Row) (place : ℕ) → row_verdict accepts n own G row ≡ Accepted place → place ≡ length G
 accepted_place accepts n own G row place is =

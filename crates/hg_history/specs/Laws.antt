@@ -1,5 +1,5 @@
 -- What holds of every history, and of every node, as public functions state it. No law here asks anything of the other members
-use Rattle.std.specs.Prelude.{ℕ, zero, suc, ◌≡◌, ◌≢◌, ◌<◌, ◌≤◌, ◌^◌, ◌⊎◌, Bool, true, List, [], ◌∷◌, ◌++◌, length, take, get_or, Option, Some, Ok, slice_get, IsTrue}
+use Rattle.std.specs.Prelude.{ℕ, zero, suc, ◌≡◌, ◌≢◌, ◌<◌, ◌≤◌, ◌^◌, ◌⊎◌, Bool, true, List, [], ◌∷◌, ◌++◌, length, take, get_or, Option, Some, None, Ok, slice_get, IsTrue}
 use Rattle.hg_model.specs.declared.row.Row.{Row}
 use Rattle.hg_model.specs.declared.answers.PutAnswer.TheVariants.{Accepted}
 use Rattle.hg_model.specs.declared.answers.MakeAnswer.TheVariants as made
@@ -16,7 +16,7 @@ use Rattle.hg_model.specs.History.{Change, Accepts, with_marks, replay, news, Is
 use Rattle.hg_model.specs.Kept.{kept, kept_in, kept_up_to, kept_by_names}
 use Rattle.hg_model.specs.History.Change.{Took, Made, Marked}
 use Rattle.hg_model.specs.Shown.{Shown, with_changes, graph_of, marks_of, kept_of, log_from, history_of, IsNode}
-use Rattle.hg_model.specs.Calls.{put_answer, put_changes, make_answer, make_changes, make_body, publish_changes, settle_changes}
+use Rattle.hg_model.specs.Calls.{put_answer, put_changes, make_answer, make_changes, make_body, make_draft, publish_changes, settle_changes}
 use Rattle.hg_prefix.specs.Standing.{AreFame}
 use Rattle.hg_prefix.specs.Orders.{IsPrefix, HasNameSizes}
 use Rattle.hg_prefix.specs.Chains.{IsChain}
@@ -189,10 +189,10 @@ abbrev pub OtherMakesAddNone : (K : Type 0) → Type 0
 OtherMakesAddNone K = (v : Shown K) (other : Option (List ℕ)) (time : ℕ) (payload sig : List ℕ) → ((place : ℕ) → make_answer v other time payload sig ≡ made.Made place → ⊥) →
     make_changes v other time payload sig ≡ []
 
--- and leaves a node, where the signature is accepted
+-- and leaves a node, where the signature is accepted; an event that is refused before is not signed
 abbrev pub MakesLeaveANode : (K : Type 0) → Type 0
 MakesLeaveANode K = (accepts : K → Accepts) (v : Shown K) (other : Option (List ℕ)) (time : ℕ) (payload sig : List ℕ) → time < 2 ^ 64 → length sig ≡ 64 →
-    accepts v.start.keys v.start.own (make_body v other time payload) sig ≡ true → IsNode accepts v →
+    (make_draft v other payload ≡ None → accepts v.start.keys v.start.own (make_body v other time payload) sig ≡ true) → IsNode accepts v →
     IsNode accepts (with_changes v (make_changes v other time payload sig))
 
 -- to publish leaves a node

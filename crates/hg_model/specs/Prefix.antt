@@ -1,9 +1,10 @@
 -- The first rows of a node's graph, as the procedures that decide fame and find the order read them
-use Rattle.std.specs.Prelude.{ℕ, ◌≡◌, ◌<◌, List}
+use Rattle.std.specs.Prelude.{ℕ, ◌≡◌, ◌<◌, ◌≤◌, List, length, IsTrue}
 use Rattle.hg_model.specs.declared.row.Row.{Row}
 use Rattle.hg_model.specs.declared.ballot.Ballot.{Ballot}
 use Rattle.hg_model.specs.Links.{Link, links}
 use Rattle.hg_model.specs.Shape.{Shape, shape_of}
+use Rattle.hg_model.specs.Rounds.{round_of, is_witness}
 use Rattle.hg_model.specs.Standings.{Standing, standings_of}
 use Rattle.hg_model.specs.Votes.{vote_of, decides}
 use Rattle.hg_model.specs.Order.{coin_at}
@@ -32,3 +33,10 @@ ballot_of g x y = record {
   vote = vote_of g.members g.coin (links_of g) (coin_at g.rows) x y;
   decides = decides g.members g.coin (links_of g) (coin_at g.rows) x y;
 }
+
+-- y is a witness of a round above the candidate's, and at most `last`, up to which votes are counted
+pub record IsCounted (g : Graph) (candidate last y : ℕ) : Type 0 where
+  pub place : y < length g.rows
+  pub witness : IsTrue (is_witness g.members (links_of g) y)
+  pub above : round_of g.members (links_of g) candidate < round_of g.members (links_of g) y
+  pub counted : round_of g.members (links_of g) y ≤ last

@@ -1,14 +1,14 @@
 ghost use Rattle.std.specs.Prelude.{◌≡◌, ℕ, ◌<◌, ◌≤◌, ◌+◌, IsTrue, length};
 ghost use Rattle.hg_model.specs.Rounds.{is_witness, last_round, round_of};
-ghost use Rattle.hg_model.specs.Prefix.{Graph, ballot_of, links_of};
+ghost use Rattle.hg_model.specs.Prefix.{Graph, IsCounted, ballot_of, links_of};
 
 use crate::ballot::Ballot;
 use crate::prefix::Prefix;
 
 /// The votes of a prefix's witnesses on the fame of one of them, the candidate, round by round. Takes no memory.
 pub trait Votes {
-    /// The prefix that it was made for.
-    ghost graph: { Self → Graph };
+    /// It was made for this graph, and the votes that it has counted are the graph's.
+    ghost MadeFor: { Self → Graph → Type 0 };
 
     /// The place of the witness that is voted on.
     ghost candidate: { Self → ℕ };
@@ -18,35 +18,33 @@ pub trait Votes {
 
     /// Witness `x` is the candidate, and no vote on it is counted.
     fn open<P: Prefix>(&mut self, p: &P, x: usize)
-        requires made { graph self.old ≡ P.graph p.now }
-        requires place { x < length (graph self.old).rows }
-        requires witness { IsTrue (is_witness (graph self.old).members (links_of (graph self.old)) x) }
-        ensures same { graph self.new ≡ graph self.old }
+        requires made { MadeFor self.old (P.graph p.now) }
+        requires place { x < length (P.graph p.now).rows }
+        requires witness { IsTrue (is_witness (P.graph p.now).members (links_of (P.graph p.now)) x) }
+        ensures made { MadeFor self.new (P.graph p.now) }
         ensures candidate { candidate self.new ≡ x }
-        ensures counted { counted self.new ≡ round_of (graph self.old).members (links_of (graph self.old)) x };
+        ensures counted { counted self.new ≡ round_of (P.graph p.now).members (links_of (P.graph p.now)) x };
 
     /// The votes of the witnesses of one round more are counted.
     fn advance<P: Prefix>(&mut self, p: &P)
-        requires made { graph self.old ≡ P.graph p.now }
+        requires made { MadeFor self.old (P.graph p.now) }
         requires opened { 0 < counted self.old }
-        ensures same { graph self.new ≡ graph self.old }
+        requires more { counted self.old < last_round (P.graph p.now).members (links_of (P.graph p.now)) }
+        ensures made { MadeFor self.new (P.graph p.now) }
         ensures candidate { candidate self.new ≡ candidate self.old }
         ensures counted { counted self.new ≡ counted self.old + 1 };
 
     /// Witness `x` is the candidate, and the votes of all witnesses of later rounds are counted.
     fn fill<P: Prefix>(&mut self, p: &P, x: usize)
-        requires made { graph self.old ≡ P.graph p.now }
-        requires place { x < length (graph self.old).rows }
-        requires witness { IsTrue (is_witness (graph self.old).members (links_of (graph self.old)) x) }
-        ensures same { graph self.new ≡ graph self.old }
+        requires made { MadeFor self.old (P.graph p.now) }
+        requires place { x < length (P.graph p.now).rows }
+        requires witness { IsTrue (is_witness (P.graph p.now).members (links_of (P.graph p.now)) x) }
+        ensures made { MadeFor self.new (P.graph p.now) }
         ensures candidate { candidate self.new ≡ x }
-        ensures counted { last_round (graph self.old).members (links_of (graph self.old)) ≤ counted self.new };
+        ensures counted { last_round (P.graph p.now).members (links_of (P.graph p.now)) ≤ counted self.new };
 
     /// The vote of witness `y`, of a counted round above the candidate's, and whether it decides.
     fn ballot(&self, y: usize) -> Ballot
-        requires place { y < length (graph self.now).rows }
-        requires witness { IsTrue (is_witness (graph self.now).members (links_of (graph self.now)) y) }
-        requires later { round_of (graph self.now).members (links_of (graph self.now)) (candidate self.now) < round_of (graph self.now).members (links_of (graph self.now)) y }
-        requires counted { round_of (graph self.now).members (links_of (graph self.now)) y ≤ counted self.now }
-        ensures { result ≡ ballot_of (graph self.now) (candidate self.now) y };
+        requires { (g : Graph) × MadeFor self.now g × IsCounted g (candidate self.now) (counted self.now) y }
+        ensures { (g : Graph) → MadeFor self.now g → IsCounted g (candidate self.now) (counted self.now) y → result ≡ ballot_of g (candidate self.now) y };
 }

@@ -8,8 +8,8 @@ use Rattle.hg_rounds.specs.Tabled.{last_parents}
 use Rattle.hg_rounds.proofs.PlaceLaws.{parents_told, witnesses_below, witnesses_few, greatest_fits, last_round_told, last_witness_told, next_told, whole_told}
 use Rattle.hg_rounds.proofs.place.place_round.Goals as goal
 
-pub greatest_round-greatest-requires : goal.greatest_round-greatest-requires
-greatest_round-greatest-requires g c =
+pub parent_round-greatest-requires : goal.parent_round-greatest-requires
+parent_round-greatest-requires g c =
     rw c.requires.parents (parents_told _ _ c.rows-last.ensures.shaped c.requires.some _ c.requires.before)
 
 pub is_first-requires : goal.is_first-requires
@@ -27,8 +27,8 @@ count_seen-seen-requires-clause-few g c =
 pub next_round-round-requires : goal.next_round-round-requires
 next_round-round-requires g c =
     let shape = g.S.Sight.shape c.args.sight.now in
-    let same : c.greatest_round-greatest.result ≡ parent_round (round_at c.args.table.now.standings) (last_parents shape) =
-    c.greatest_round-greatest.ensures ∙ ap (parent_round (round_at c.args.table.now.standings)) c.requires.parents in
+    let same : c.parent_round-greatest.result ≡ parent_round (round_at c.args.table.now.standings) (last_parents shape) =
+    c.parent_round-greatest.ensures ∙ ap (parent_round (round_at c.args.table.now.standings)) c.requires.parents in
     let fits = greatest_fits _ _ c.rows-last.ensures.shaped c.requires.some _ c.requires.before in
     let value = c.rows-last.ensures.value in
     let short = c.rows-last.ensures.short in
@@ -37,7 +37,7 @@ next_round-round-requires g c =
 pub returns-clause-round : goal.returns-clause-round
 returns-clause-round g c =
     let shape = g.S.Sight.shape c.args.sight.now in
-    let r_is = c.greatest_round-greatest.ensures ∙ ap (parent_round (round_at c.args.table.now.standings)) c.requires.parents in
+    let r_is = c.parent_round-greatest.ensures ∙ ap (parent_round (round_at c.args.table.now.standings)) c.requires.parents in
     let seen_is = c.count_seen-seen.ensures ∙ ap₂ (λ (x : ℕ) (ws : List ℕ). count_by (strongly_sees shape.members shape.links x) ws) (ap (λ k. k - 1) c.rows-last.ensures.value) c.witnesses.ensures in
     let many_is = ap (λ k. is_supermajority k c.count_seen-seen.result) c.members.ensures.value in
     c.next_round-round.ensures ∙ last_round_told _ _ c.rows-last.ensures.shaped c.requires.some _ c.requires.before _ _ _ r_is seen_is many_is

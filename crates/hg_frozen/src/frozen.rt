@@ -1,0 +1,115 @@
+ghost use Rattle.std.specs.Prelude.{◌≡◌, ◌<◌, length};
+ghost use Rattle.hg_model.specs.Links.{links};
+ghost use Rattle.hg_model.specs.Prefix.{graph_of, links_of};
+ghost use Rattle.hg_model.specs.Shape.{shape_of};
+ghost use Rattle.hg_model.specs.Standings.{standings_of};
+
+use hg_model::{Member, Prefix, Rounds, Row, Sight};
+use std::marker::Model;
+
+/// Rows of a graph, with their sight and their rounds.
+#[derive(Drop)]
+pub struct Frozen<S: Sight, R: Rounds> {
+    coin: u32,
+    rows: Vec<Row>,
+    sight: S,
+    rounds: R,
+}
+
+impl<S: Sight, R: Rounds> Model for Frozen<S, R> {
+    ghost use Rattle.hg_model.specs.Prefix.{Graph, TellsGraph, graph_of};
+
+    ghost Value = { Graph };
+
+    ghost view = { λ s. graph_of (S.shape s.sight).members s.coin s.rows.items };
+
+    ghost invariant = { λ s. TellsGraph (S.shape s.sight) (R.standings s.rounds) (graph_of (S.shape s.sight).members s.coin s.rows.items) };
+}
+
+impl<S: Sight, R: Rounds> Frozen<S, R> {
+    /// These rows, with the sight and the rounds of just them, and the coin period in rounds. Takes no memory.
+    pub fn of(rows: Vec<Row>, sight: S, rounds: R, coin: u32) -> Frozen<S, R>
+        requires sight { S.shape sight ≡ shape_of (S.shape sight).members (links rows.items) }
+        requires rounds { R.standings rounds ≡ standings_of (S.shape sight).members (links rows.items) }
+        requires coin { 2 < coin }
+        ensures { result ≡ graph_of (S.shape sight).members coin rows.items }
+    {
+        Frozen {
+            coin,
+            rows,
+            sight,
+            rounds,
+        }
+    }
+
+    /// How many rows there are.
+    pub fn len(&self) -> usize
+        ensures { result ≡ length self.now.rows }
+    {
+        self.rows.len()
+    }
+}
+
+impl<S: Sight, R: Rounds> Sight for Frozen<S, R> {
+    ghost shape = { λ g. shape_of g.members (links_of g) };
+
+    fn rows(&self) -> usize {
+        self.sight.rows()
+    }
+
+    fn members(&self) -> u32 {
+        self.sight.members()
+    }
+
+    fn creator(&self, x: usize) -> Member {
+        self.sight.creator(x)
+    }
+
+    fn self_parent(&self, x: usize) -> Option<usize> {
+        self.sight.self_parent(x)
+    }
+
+    fn ancestor(&self, x: usize, y: usize) -> bool {
+        self.sight.ancestor(x, y)
+    }
+
+    fn sees(&self, x: usize, y: usize) -> bool {
+        self.sight.sees(x, y)
+    }
+
+    fn strongly_sees(&self, x: usize, y: usize) -> bool {
+        self.sight.strongly_sees(x, y)
+    }
+}
+
+impl<S: Sight, R: Rounds> Rounds for Frozen<S, R> {
+    ghost standings = { λ g. standings_of g.members (links_of g) };
+
+    fn round(&self, x: usize) -> u32 {
+        self.rounds.round(x)
+    }
+
+    fn is_witness(&self, x: usize) -> bool {
+        self.rounds.is_witness(x)
+    }
+
+    fn witnesses(&self, r: u32) -> &[usize] {
+        self.rounds.witnesses(r)
+    }
+
+    fn greatest(&self) -> u32 {
+        self.rounds.greatest()
+    }
+}
+
+impl<S: Sight, R: Rounds> Prefix for Frozen<S, R> {
+    ghost graph = { λ g. g };
+
+    fn row(&self, x: usize) -> &Row {
+        &self.rows[x]
+    }
+
+    fn coin(&self) -> u32 {
+        self.coin
+    }
+}

@@ -1,0 +1,144 @@
+-- What a graph keeps beside its rows, at first and with a row more
+use Rattle.std.proofs.Common.{◌≡◌, inl, inr, ℕ, ◌+◌, ◌-◌, ◌<◌, ◌≤◌, Option, List, [], ◌∷◌, ◌++◌, length, get_or, Some, slice_get, sym, refl, ap, ap₂, ◌∙◌, subst, arith}
+use Rattle.std.proofs.lemmas.Bool.{cases_lt, true≢false}
+use Rattle.std.proofs.lemmas.List.{length_push, get_or_append_left, get_or_push}
+use Rattle.std.proofs.lemmas.Option.{slice_get-get_or, slice_get_past}
+use Rattle.hg_model.specs.declared.row.Row.{Row}
+use Rattle.hg_model.specs.Places.{some_below}
+use Rattle.hg_model.specs.Links.{Link, place_of, link_in, links, first_place, parents as parents_at}
+use Rattle.hg_model.specs.Forks.{has_fork, forkers}
+use Rattle.hg_model.specs.Graph.{IsShaped, IsGraph}
+use Rattle.hg_model.specs.Shape.{Shape, FitsLink, shape_of, link_of, pair_list, place_list, with_link}
+use Rattle.hg_model.specs.Standings.{Standing, standings_of}
+use Rattle.hg_model.specs.Spelling.{Spells, spelling}
+use Rattle.hg_model.specs.Verdict.{row_limit}
+use Rattle.hg_model.specs.Prefix.{Graph, graph_of}
+use Rattle.hg_model.proofs.PlacesLaws.{weight_below_none}
+use Rattle.hg_model.proofs.LongerLaws.{slice_get-append}
+use Rattle.hg_model.proofs.NameLaws.{distinct-none}
+use Rattle.hg_model.proofs.PushLaws.{nobody, shaped-none}
+use Rattle.hg_model.proofs.LinkLaws.{length-links, parents_read}
+use Rattle.hg_forks.specs.Own.{own_link_of, own_links, own_shape}
+use Rattle.hg_forks.proofs.OwnLaws.{own_links_serve}
+use Rattle.hg_rounds.specs.Tabled.{last_parents}
+use Rattle.hg_graph.specs.Held.{Held, AreEvents, IsHeld, Keeps, shape_in, with_row}
+use Rattle.hg_graph.proofs.NextLaws.{links_next, fits_last, name_next}
+
+-- without rows
+
+no_forkers : (n : ℕ) → forkers n (links []) ≡ 0
+unfolding forkers has_fork some_below links
+no_forkers n = weight_below_none (λ _. 1) n (has_fork (links [])) (λ m inside forks. absurd (true≢false (sym forks)))
+
+held_none : (n c : ℕ) → 0 < n → n ≤ 128 → 2 < c → IsHeld (graph_of n c [])
+held_none n c some few three = record {
+  some_members = some;
+  few_members = few;
+  coin = three;
+  graph = record { distinct = distinct-none; shaped = shaped-none n; few_forkers = omega (arith, no_forkers n) };
+  events = λ x row is. (let past : slice_get [] x ≡ Some row = is in absurd (none_there x row past));
+  few = omega arith;
+}
+  where
+    none_there : (x : ℕ) (row : Row) → slice_get [] x ≡ Some row → ⊥
+    none_there x row is = (let gone = slice_get_past {X = Row} [] x (omega arith) in cc)
+
+pub keeps_none : (n c : ℕ) → 0 < n → n ≤ 128 → 2 < c → Keeps (graph_of n c []) (shape_of n []) (shape_of n []) []
+unfolding links own_links standings_of
+keeps_none n c some few three = record { held = held_none n c some few three; seen = refl; forked = refl; placed = refl }
+
+-- with one more
+
+events_with : (G : List Row) (row : Row) → AreEvents G → Spells (spelling row) row → AreEvents (G ++ row ∷ [])
+events_with G row all here x r is = elim (cases_lt x (length G)) [
+  | inl before ↦ all x r (sym (slice_get-append G (row ∷ []) nobody x before) ∙ is)
+  | inr ge ↦ elim (cases_lt (length G) x) [
+    | inl after ↦ (let gone = slice_get_past (G ++ row ∷ []) x (omega (arith, length_push G row)) in absurd (nothing gone))
+    | inr le ↦ (
+        let last : x ≡ length G = omega arith in
+        let there : slice_get (G ++ row ∷ []) x ≡ Some row =
+        slice_get-get_or (G ++ row ∷ []) x nobody (omega (arith, length_push G row))
+        ∙ ap (λ (r : Row). Some r) (get_or_push G row nobody x (sym last)) in
+        let same : row ≡ r = cc in
+        subst (λ (r : Row). Spells (spelling r) r) same here)
+  ]
+]
+  where
+    nothing : slice_get (G ++ row ∷ []) x ≡ Rattle.std.proofs.Common.None → ⊥
+    nothing gone = cc
+
+-- without other-parents
+
+pub own_fits : (n : ℕ) (L : List Link) (m : ℕ) (parents : Option (ℕ × ℕ)) (own : Option ℕ) → place_list own ≡ first_place (pair_list parents) → FitsLink n L (link_of m parents) → FitsLink n (own_links L) (own_link_of m own)
+own_fits n L m parents own is fits =
+    subst (λ (ps : List ℕ). FitsLink n (own_links L) (record { creator = m; parents = ps })) (sym is) ((own_links_serve n L).fits (link_of m parents) fits)
+
+own_push : (n : ℕ) (L : List Link) (m : ℕ) (parents : Option (ℕ × ℕ)) (own : Option ℕ) → place_list own ≡ first_place (pair_list parents) → own_links L ++ own_link_of m own ∷ [] ≡ own_links (L ++ link_of m parents ∷ [])
+own_push n L m parents own is =
+    ap (λ (ps : List ℕ). own_links L ++ record { creator = m; parents = ps } ∷ []) is ∙ sym ((own_links_serve n L).push (link_of m parents))
+
+pub own_forkers : (n : ℕ) (L : List Link) (m : ℕ) (parents : Option (ℕ × ℕ)) (own : Option ℕ) → place_list own ≡ first_place (pair_list parents) → forkers n (own_links L ++ own_link_of m own ∷ []) ≡ forkers n (L ++ link_of m parents ∷ [])
+own_forkers n L m parents own is = ap (forkers n) (own_push n L m parents own is) ∙ (own_links_serve n (L ++ link_of m parents ∷ [])).forkers
+
+-- what a row needs, and does, that may come into a graph with these parents
+pub record Comes (g : Graph) (row : Row) (parents : Option (ℕ × ℕ)) (sight watched : Shape) : Type 0 where
+  pub fits : FitsLink sight.members sight.links (link_of row.creator parents)
+  pub short : length sight.links + 1 < 4294967295
+  pub own_fits : (own : Option ℕ) → place_list own ≡ first_place (pair_list parents) → FitsLink watched.members watched.links (own_link_of row.creator own)
+  pub fresh : place_of g.rows row.name ≡ length g.rows
+  pub last : (after : Shape) → after ≡ with_link sight (link_of row.creator parents) → pair_list parents ≡ last_parents after
+  pub keeps : (own : Option ℕ) → place_list own ≡ first_place (pair_list parents) → (rows : List Row) (after watched_after : Shape) (standings : List Standing) →
+      rows ≡ g.rows ++ row ∷ [] → after ≡ with_link sight (link_of row.creator parents) → watched_after ≡ with_link watched (own_link_of row.creator own) →
+      standings ≡ standings_of after.members after.links → Keeps (graph_of g.members g.coin rows) after watched_after standings
+
+module _ (g : Graph) (row : Row) (bytes : List ℕ) (parents : Option (ℕ × ℕ)) (held : IsHeld g) (limit : length g.rows < row_limit) (spells : Spells bytes row)
+    (is : link_in g.rows row ≡ link_of row.creator parents) (graph : IsGraph g.members (g.rows ++ row ∷ [])) where
+  held_with : IsHeld (with_row g row)
+  held_with = record {
+    some_members = held.some_members;
+    few_members = held.few_members;
+    coin = held.coin;
+    graph = graph;
+    events = events_with g.rows row held.events (subst (λ (b : List ℕ). Spells b row) spells.spelled spells);
+    few = omega (arith, length_push g.rows row);
+  }
+
+  linked : links (g.rows ++ row ∷ []) ≡ links g.rows ++ link_of row.creator parents ∷ []
+  linked = links_next g.members g.rows row held.graph.shaped graph.shaped ∙ ap (λ (l : Link). links g.rows ++ l ∷ []) is
+
+  fits_next : FitsLink g.members (links g.rows) (link_of row.creator parents)
+  fits_next = fits_last g.members (links g.rows) (link_of row.creator parents) (subst (IsShaped g.members) linked graph.shaped)
+
+  last_on : (L : List Link) → L ≡ links g.rows ++ link_of row.creator parents ∷ [] → pair_list parents ≡ parents_at L (length L - 1)
+  last_on L at =
+      let link = link_of row.creator parents in
+      let long : length L ≡ length (links g.rows) + 1 = ap length at ∙ length_push (links g.rows) link in
+      let here : link ≡ get_or L (length L - 1) link = sym (ap (λ (M : List Link). get_or M (length L - 1) link) at ∙ get_or_push (links g.rows) link link (length L - 1) (omega arith)) in
+      sym (parents_read L (length L - 1) link (omega arith) here)
+
+  comes_to : (watched : Shape) → watched ≡ own_shape (shape_in g) → Comes g row parents (shape_in g) watched
+  comes_to watched forked = record {
+    fits = fits_next;
+    short = omega (arith, length-links g.rows);
+    own_fits = λ own first. rw forked (own_fits g.members (links g.rows) row.creator parents own first fits_next);
+    fresh = name_next g.rows row graph.distinct;
+    last = λ after at. last_on after.links (ap (λ (s : Shape). s.links) at);
+    keeps = λ own first rows after watched_after standings rows_are at watched_at placed. rw (rows_are, placed) (record {
+      held = held_with;
+      seen = at ∙ ap (shape_of g.members) (sym linked);
+      forked = watched_at
+          ∙ (ap (λ (s : Shape). with_link s (own_link_of row.creator own)) forked
+          ∙ ap (shape_of g.members) (own_push g.members (links g.rows) row.creator parents own first ∙ ap own_links (sym linked)));
+      placed = ap (λ (s : Shape). standings_of s.members s.links) (at ∙ ap (shape_of g.members) (sym linked));
+    });
+  }
+
+-- the same of the graph of a value
+pub comes : {g : Graph} {room : ℕ} {v : Held} → record { graph = g; room = room } ≡ v → {sight watched : Shape} {standings : List Standing} → Keeps g sight watched standings →
+    (row : Row) (bytes : List ℕ) (parents : Option (ℕ × ℕ)) → length v.graph.rows < row_limit → Spells bytes row → link_in v.graph.rows row ≡ link_of row.creator parents →
+    IsGraph v.graph.members (v.graph.rows ++ row ∷ []) → Comes g row parents sight watched
+comes {g} {room} {v} view {sight} {watched} keeps row bytes parents limit spells is graph =
+    let same : v.graph ≡ g = ap (λ (v : Held). v.graph) (sym view) in
+    subst (λ (s : Shape). Comes g row parents s watched) (sym keeps.seen)
+    (comes_to g row bytes parents keeps.held (subst (λ (g : Graph). length g.rows < row_limit) same limit) spells
+    (subst (λ (g : Graph). link_in g.rows row ≡ link_of row.creator parents) same is) (subst (λ (g : Graph). IsGraph g.members (g.rows ++ row ∷ [])) same graph) watched keeps.forked)

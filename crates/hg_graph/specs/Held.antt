@@ -1,0 +1,46 @@
+-- A node's graph as callers see it, and what every such graph keeps to
+use Rattle.std.specs.Prelude.{ℕ, ◌≡◌, ◌<◌, ◌≤◌, List, [], ◌∷◌, ◌++◌, length, Option, Some, slice_get}
+use Rattle.hg_model.specs.declared.row.Row.{Row}
+use Rattle.hg_model.specs.Links.{links}
+use Rattle.hg_model.specs.Graph.{IsGraph}
+use Rattle.hg_model.specs.Shape.{Shape, shape_of}
+use Rattle.hg_model.specs.Standings.{Standing, standings_of}
+use Rattle.hg_model.specs.Spelling.{Spells, spelling}
+use Rattle.hg_model.specs.Verdict.{row_limit}
+use Rattle.hg_model.specs.Prefix.{Graph, graph_of, links_of}
+use Rattle.hg_forks.specs.Own.{own_shape}
+
+-- a graph, and for how many more rows there is memory at least
+pub record Held : Type 0 where
+  pub graph : Graph
+  pub room : ℕ
+
+-- the graph with one row more
+abbrev pub with_row : Graph → Row → Graph
+with_row g row = graph_of g.members g.coin (g.rows ++ row ∷ [])
+
+abbrev pub shape_in : Graph → Shape
+shape_in g = shape_of g.members (links_of g)
+
+abbrev pub standings_in : Graph → List Standing
+standings_in g = standings_of g.members (links_of g)
+
+-- each row has the sizes and the name of an event
+abbrev pub AreEvents : List Row → Type 0
+AreEvents G = (x : ℕ) (row : Row) → slice_get G x ≡ Some row → Spells (spelling row) row
+
+-- a graph of 1 to 128 members and of at most so many events as a node holds
+pub record IsHeld (g : Graph) : Type 0 where
+  pub some_members : 0 < g.members
+  pub few_members : g.members ≤ 128
+  pub coin : 2 < g.coin
+  pub graph : IsGraph g.members g.rows
+  pub events : AreEvents g.rows
+  pub few : length g.rows ≤ row_limit
+
+-- what is kept beside the rows: their sight, the same without other-parents, and their standings
+pub record Keeps (g : Graph) (sight watched : Shape) (standings : List Standing) : Type 0 where
+  pub held : IsHeld g
+  pub seen : sight ≡ shape_in g
+  pub forked : watched ≡ own_shape (shape_in g)
+  pub placed : standings ≡ standings_in g

@@ -1,0 +1,27 @@
+-- Rows with their bytes and names, and for how many more rows there is memory
+use Rattle.std.specs.Prelude.{ℕ, ◌≡◌, List, map, min, Option, Some, None, if◌then◌else◌}
+use Rattle.hg_model.specs.declared.row.Row.{Row}
+use Rattle.hg_model.specs.Links.{place_of}
+use Rattle.hg_model.specs.Spelling.{spelling}
+use Rattle.hg_model.specs.Verdict.{is_held}
+
+-- rows, and for how many more there is memory at least
+pub record Stored : Type 0 where
+  pub rows : List Row
+  pub room : ℕ
+
+abbrev pub name_of : Row → List ℕ
+name_of row = row.name
+
+-- the place of the row with this name, if there is one
+abbrev pub found_place : List Row → List ℕ → Option ℕ
+found_place G name = if is_held G name then Some (place_of G name) else None
+
+-- of each row the bytes that spell it, and its name
+pub record IsStored (rows : List Row) (bytes names : List (List ℕ)) : Type 0 where
+  pub spelled : bytes ≡ map spelling rows
+  pub named : names ≡ map name_of rows
+
+-- the least of three rooms
+abbrev pub least_of : ℕ → ℕ → ℕ → ℕ
+least_of a b c = min a (min b c)

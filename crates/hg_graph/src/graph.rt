@@ -1,0 +1,205 @@
+ghost use Rattle.std.specs.Prelude.{◌≡◌, ◌<◌, ◌≤◌, ◌++◌, ◌∷◌, [], Some, length, option_map, slice_get, IfOk, OnOk};
+ghost use Rattle.hg_model.specs.Links.{first_place, link_in, links};
+ghost use Rattle.hg_model.specs.Forks.{forkers};
+ghost use Rattle.hg_model.specs.Graph.{IsGraph};
+ghost use Rattle.hg_model.specs.Shape.{FitsLink, link_of, pair_list, place_list};
+ghost use Rattle.hg_model.specs.Spelling.{Spells, spelling};
+ghost use Rattle.hg_model.specs.Verdict.{row_limit};
+ghost use Rattle.hg_model.specs.Prefix.{graph_of};
+ghost use Rattle.hg_graph.specs.Stored.{found_place};
+ghost use Rattle.hg_graph.specs.Held.{IsHeld, with_row};
+
+use crate::store::RowStore;
+use hg_ancestry::BitSight;
+use hg_forks::Watch;
+use hg_model::{Bytes, Growing, Member, Memory, Name, Prefix, Rounds, Row, Sight};
+use hg_rounds::{RoundTable, place_round};
+use std::alloc::Global;
+use std::marker::Model;
+
+/// A node's graph. Of its members fewer than a third have a fork, and each row is an event.
+#[derive(Drop)]
+pub struct EventGraph {
+    members: u32,
+    coin: u32,
+    store: RowStore,
+    sight: BitSight,
+    watch: Watch,
+    rounds: RoundTable,
+}
+
+impl Model for EventGraph {
+    ghost use Rattle.std.specs.Prelude.{min};
+    ghost use Rattle.hg_model.specs.Prefix.{graph_of};
+    ghost use Rattle.hg_graph.specs.Stored.{least_of};
+    ghost use Rattle.hg_graph.specs.Held.{Held, Keeps};
+
+    ghost Value = { Held };
+
+    ghost view = { λ s. record { graph = graph_of s.members s.coin s.store.rows; room = min s.store.room (least_of s.sight.room s.watch.room s.rounds.room) } };
+
+    ghost invariant = { λ s. Keeps (graph_of s.members s.coin s.store.rows) s.sight.shape s.watch.shape s.rounds.standings };
+}
+
+impl EventGraph {
+    /// The graph of no rows by so many members, with a coin period in rounds.
+    pub fn new(alloc: Global, members: u32, coin: u32) -> Result<EventGraph, Memory>
+        requires some { 0 < members }
+        requires few { members ≤ 128 }
+        requires coin { 2 < coin }
+        ensures { IfOk result (λ g. g.graph ≡ graph_of members coin []) }
+    {
+        Ok(EventGraph {
+            members,
+            coin,
+            store: RowStore::new(alloc),
+            sight: BitSight::new(alloc, members)?,
+            watch: Watch::new(alloc, members)?,
+            rounds: RoundTable::new(alloc)?,
+        })
+    }
+
+    /// How many rows there are.
+    pub fn len(&self) -> usize
+        ensures value { result ≡ length self.now.graph.rows }
+        ensures lawful { IsHeld self.now.graph }
+    {
+        self.store.len()
+    }
+
+    /// The bytes of row `x`.
+    pub fn bytes(&self, x: usize) -> &[u8]
+        requires { x < length self.now.graph.rows }
+        ensures { option_map spelling (slice_get self.now.graph.rows x) ≡ Some result.now }
+    {
+        self.store.bytes(x)
+    }
+
+    /// The place of the row with this name, if there is one.
+    pub fn place_of(&self, name: &Name) -> Option<usize>
+        ensures { result ≡ found_place self.now.graph.rows name.now }
+    {
+        self.store.place_of(name)
+    }
+
+    /// How many members have a fork once the member has made one row more, on these parents.
+    pub fn would(&self, creator: Member, parents: Option<(usize, usize)>) -> u32
+        requires { FitsLink self.now.graph.members (links self.now.graph.rows) (link_of creator parents) }
+        ensures { result ≡ forkers self.now.graph.members (links self.now.graph.rows ++ link_of creator parents ∷ []) }
+    {
+        self.watch.would(creator, own_of(parents))
+    }
+
+    /// How many members have a fork.
+    pub fn forkers(&self) -> u32
+        ensures { result ≡ forkers self.now.graph.members (links self.now.graph.rows) }
+    {
+        self.watch.forkers()
+    }
+
+    /// Takes the memory of one more row.
+    pub fn reserve(&mut self) -> Result<(), Memory>
+        ensures room { OnOk result (1 ≤ self.new.room) }
+        ensures same { self.new.graph ≡ self.old.graph }
+    {
+        self.store.reserve()?;
+        self.sight.reserve()?;
+        self.watch.reserve()?;
+        self.rounds.reserve()?;
+        Ok(())
+    }
+
+    /// One more row, with its bytes and its parents' places. Takes no memory.
+    pub fn push(&mut self, row: Row, bytes: Bytes, parents: Option<(usize, usize)>)
+        requires room { 1 ≤ self.old.room }
+        requires limit { length self.old.graph.rows < row_limit }
+        requires spelled { Spells bytes row }
+        requires link { link_in self.old.graph.rows row ≡ link_of row.creator parents }
+        requires graph { IsGraph self.old.graph.members (self.old.graph.rows ++ row ∷ []) }
+        ensures { self.new.graph ≡ with_row self.old.graph row }
+    {
+        self.sight.extend(parents, row.creator);
+        self.watch.add(row.creator, own_of(parents));
+        let (round, witness) = place_round(&self.sight, &self.rounds, parents);
+        self.rounds.add(round, witness);
+        self.store.push(row, bytes);
+    }
+}
+
+/// The self-parent's place.
+fn own_of(parents: Option<(usize, usize)>) -> Option<usize>
+    ensures { place_list result ≡ first_place (pair_list parents) }
+{
+    match parents {
+        None => None,
+        Some((own, _)) => Some(own),
+    }
+}
+
+impl Sight for EventGraph {
+    ghost use Rattle.hg_graph.specs.Held.{shape_in};
+
+    ghost shape = { λ g. shape_in g.graph };
+
+    fn rows(&self) -> usize {
+        self.sight.rows()
+    }
+
+    fn members(&self) -> u32 {
+        self.sight.members()
+    }
+
+    fn creator(&self, x: usize) -> Member {
+        self.sight.creator(x)
+    }
+
+    fn self_parent(&self, x: usize) -> Option<usize> {
+        self.sight.self_parent(x)
+    }
+
+    fn ancestor(&self, x: usize, y: usize) -> bool {
+        self.sight.ancestor(x, y)
+    }
+
+    fn sees(&self, x: usize, y: usize) -> bool {
+        self.sight.sees(x, y)
+    }
+
+    fn strongly_sees(&self, x: usize, y: usize) -> bool {
+        self.sight.strongly_sees(x, y)
+    }
+}
+
+impl Rounds for EventGraph {
+    ghost use Rattle.hg_graph.specs.Held.{standings_in};
+
+    ghost standings = { λ g. standings_in g.graph };
+
+    fn round(&self, x: usize) -> u32 {
+        self.rounds.round(x)
+    }
+
+    fn is_witness(&self, x: usize) -> bool {
+        self.rounds.is_witness(x)
+    }
+
+    fn witnesses(&self, r: u32) -> &[usize] {
+        self.rounds.witnesses(r)
+    }
+
+    fn greatest(&self) -> u32 {
+        self.rounds.greatest()
+    }
+}
+
+impl Prefix for EventGraph {
+    ghost graph = { λ g. g.graph };
+
+    fn row(&self, x: usize) -> &Row {
+        self.store.row(x)
+    }
+
+    fn coin(&self) -> u32 {
+        self.coin
+    }
+}

@@ -1,0 +1,107 @@
+ghost use Rattle.std.specs.Prelude.{◌≡◌, ◌<◌, ◌≤◌, ◌++◌, ◌∷◌, [], Some, length, option_map, slice_get, OnOk, false};
+ghost use Rattle.std.specs.List.{list_any};
+ghost use Rattle.std.specs.Str.{bytes_eq};
+ghost use Rattle.indexmap.specs.IndexSet.{spare};
+ghost use Rattle.hg_model.specs.Links.{place_of};
+ghost use Rattle.hg_model.specs.Spelling.{spelling};
+ghost use Rattle.hg_graph.specs.Stored.{found_place};
+
+use hg_model::{Bytes, Memory, Name, Row};
+use indexmap::IndexSet;
+use std::alloc::Global;
+use std::marker::Model;
+
+/// Rows in the order in which they came, each with its bytes, and found by its name.
+#[derive(Drop)]
+pub struct RowStore {
+    rows: Vec<Row>,
+    bytes: Vec<Bytes>,
+    names: IndexSet<Name>,
+}
+
+impl Model for RowStore {
+    ghost use Rattle.std.specs.Prelude.{◌-◌, vec_capacity, vec_len};
+    ghost use Rattle.indexmap.specs.IndexSet.{spare};
+    ghost use Rattle.hg_graph.specs.Stored.{IsStored, Stored, least_of};
+
+    ghost Value = { Stored };
+
+    ghost view = { λ s. record { rows = s.rows.items; room = least_of (vec_capacity s.rows - vec_len s.rows) (vec_capacity s.bytes - vec_len s.bytes) (spare s.names) } };
+
+    ghost invariant = { λ s. IsStored s.rows.items s.bytes.items s.names.keys };
+}
+
+impl RowStore {
+    /// No rows. Takes no memory.
+    pub fn new(alloc: Global) -> RowStore
+        ensures { result.rows ≡ [] }
+    {
+        RowStore {
+            rows: Vec::new(alloc),
+            bytes: Vec::new(alloc),
+            names: IndexSet::new(alloc),
+        }
+    }
+
+    /// How many rows there are.
+    pub fn len(&self) -> usize
+        ensures { result ≡ length self.now.rows }
+    {
+        self.rows.len()
+    }
+
+    /// The row at a place.
+    pub fn row(&self, x: usize) -> &Row
+        requires { x < length self.now.rows }
+        ensures { slice_get self.now.rows x ≡ Some result.now }
+    {
+        &self.rows[x]
+    }
+
+    /// The bytes of the row at a place.
+    pub fn bytes(&self, x: usize) -> &[u8]
+        requires { x < length self.now.rows }
+        ensures { option_map spelling (slice_get self.now.rows x) ≡ Some result.now }
+    {
+        self.bytes[x].as_slice()
+    }
+
+    /// The place of the row with this name, if there is one.
+    pub fn place_of(&self, name: &Name) -> Option<usize>
+        ensures { result ≡ found_place self.now.rows name.now }
+    {
+        self.names.get_index_of(name)
+    }
+
+    /// Takes the memory of one more row.
+    pub fn reserve(&mut self) -> Result<(), Memory>
+        ensures room { OnOk result (1 ≤ self.new.room) }
+        ensures same { self.new.rows ≡ self.old.rows }
+    {
+        self.rows.reserve(1)?;
+        self.bytes.reserve(1)?;
+        self.names.reserve(1)?;
+        Ok(())
+    }
+
+    /// One more row, under a name that no other has. Takes no memory.
+    pub fn push(&mut self, row: Row, bytes: Bytes)
+        requires room { 1 ≤ self.old.room }
+        requires bytes { bytes ≡ spelling row }
+        requires new { place_of self.old.rows row.name ≡ length self.old.rows }
+        ensures { self.new.rows ≡ self.old.rows ++ row ∷ [] }
+    {
+        add_name(&mut self.names, row.name);
+        self.bytes.push_reserved(bytes);
+        self.rows.push_reserved(row);
+    }
+}
+
+/// Enters a name for which there is room.
+fn add_name(names: &mut IndexSet<Name>, name: Name)
+    requires room { 1 ≤ spare names.old }
+    requires new { list_any (bytes_eq name) names.old.keys ≡ false }
+    ensures { names.new.keys ≡ names.old.keys ++ name ∷ [] }
+{
+    names.insert(name).unwrap();
+}

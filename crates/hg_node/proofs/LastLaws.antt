@@ -1,0 +1,34 @@
+-- The place of the last row that a member made
+use Rattle.std.proofs.Common.{◌≡◌, ℕ, ◌<◌, ◌≤◌, Bool, true, false, cond, eqb, List, [], ◌∷◌, ◌++◌, length, Option, Some, None, option_map, fold, sym, refl, ap, ◌∙◌, arith}
+use Rattle.std.proofs.lemmas.List.{length_push}
+use Rattle.std.proofs.lemmas.List.Sums.{fold-append}
+use Rattle.hg_model.specs.declared.row.Row.{Row}
+use Rattle.hg_model.specs.Links.{place_of}
+use Rattle.hg_model.specs.Graph.{name_in, name_at, HasDistinctNames}
+use Rattle.hg_model.specs.Verdict.{later_name, last_name}
+use Rattle.hg_model.proofs.NameLaws.{place_of_at, last_is_own}
+use Rattle.hg_model.proofs.PushLaws.{place_of-append}
+use Rattle.hg_history.proofs.OwnLaws.{last}
+use Rattle.hg_node.specs.Recorded.{last_place}
+
+-- the last name with a row more
+last_name-push : (m : ℕ) (G : List Row) (row : Row) → last_name m (G ++ row ∷ []) ≡ cond (eqb row.creator m) (Some row.name) (last_name m G)
+last_name-push m G row = fold-append (later_name m) None G (row ∷ [])
+
+module _ (m : ℕ) (G : List Row) (row : Row) (distinct : HasDistinctNames G) (distinct' : HasDistinctNames (G ++ row ∷ [])) where
+  old_stays : (last : Option (List ℕ)) → last_name m G ≡ last → option_map (place_of (G ++ row ∷ [])) last ≡ option_map (place_of G) last
+  old_stays None is = refl
+  old_stays (Some name) is = ap (λ (p : ℕ). Some p) (place_of-append G (row ∷ []) name (last_is_own m G name distinct is).0)
+
+  new_place : place_of (G ++ row ∷ []) row.name ≡ length G
+  unfolding name_at
+  new_place = place_of_at (G ++ row ∷ []) distinct' (length G) row.name (omega (arith, length_push G row)) (ap name_in (last G row))
+
+  by_test : (b : Bool) → eqb row.creator m ≡ b → last_place m (G ++ row ∷ []) ≡ cond b (Some (length G)) (last_place m G)
+  by_test true is =
+      ap (option_map (place_of (G ++ row ∷ []))) (last_name-push m G row ∙ ap (λ (b : Bool). cond b (Some row.name) (last_name m G)) is) ∙ ap (λ (p : ℕ). Some p) new_place
+  by_test false is =
+      ap (option_map (place_of (G ++ row ∷ []))) (last_name-push m G row ∙ ap (λ (b : Bool). cond b (Some row.name) (last_name m G)) is) ∙ old_stays (last_name m G) refl
+
+  pub last_place-push : last_place m (G ++ row ∷ []) ≡ cond (eqb row.creator m) (Some (length G)) (last_place m G)
+  last_place-push = by_test (eqb row.creator m) refl

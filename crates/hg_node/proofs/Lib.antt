@@ -1,0 +1,4 @@
+pub mod LastLaws
+pub mod RecordLaws
+pub mod PutLaws
+pub mod MakeLaws

@@ -1,0 +1,107 @@
+-- What the making of an event answers, and what it leaves recorded
+use Rattle.std.proofs.Common.{◌≡◌, ℕ, ◌<◌, ◌^◌, true, List, [], ◌∷◌, ◌++◌, length, Option, Some, None, refl, sym, ap, ◌∙◌, subst}
+use Rattle.std.specs.Option.{option_or}
+use Rattle.hg_model.specs.declared.row.Row.{Row}
+use Rattle.hg_model.specs.declared.entry.Entry.TheVariants as entry
+use Rattle.hg_model.specs.declared.answers.MakeAnswer.{MakeAnswer}
+use Rattle.hg_model.specs.declared.answers.MakeAnswer.TheVariants as answer
+use Rattle.hg_model.specs.declared.answers.MakeFault.{MakeFault}
+use Rattle.hg_model.specs.Graph.{IsGraph}
+use Rattle.hg_model.specs.Spelling.{body_bytes}
+use Rattle.hg_model.specs.Verdict.{row_limit, last_name, both_names, signed_row, made_row, draft_rule, collision_rule, room_rule, made_or, making}
+use Rattle.hg_model.specs.History.{Event, Accepts}
+use Rattle.hg_model.specs.History.Event.{Made}
+use Rattle.hg_model.specs.Shown.{Shown, with_events, graph_of, IsNode}
+use Rattle.hg_model.specs.Calls.{IsMaking, make_answer, make_events, make_body, make_draft, made_by}
+use Rattle.hg_model.proofs.RuleLaws.{admitted}
+use Rattle.hg_history.proofs.CallLaws.{with_none}
+use Rattle.hg_history.proofs.MakeLaws.{makes_leave_a_node}
+use Rattle.hg_node.specs.Recorded.{Recorded, recorded_with, shown, IsRecorded}
+use Rattle.hg_node.proofs.RecordLaws.{shown_after, recorded_after}
+use Rattle.hg_node.proofs.PutLaws.{recorded_graph}
+
+-- what a node becomes that makes the row
+pub record MakesRow {K : Type 0} (accepts : K → Accepts) (v w : Shown K) (r : Recorded) (row : Row) (other : Option (List ℕ)) (time : ℕ) (payload : List ℕ) : Type 0 where
+  pub making : IsMaking accepts v other time payload (answer.Made (length r.graph.rows)) w
+  pub recorded : IsRecorded accepts w (recorded_with r row (entry.Made (length r.graph.rows)))
+  pub graph : IsGraph r.graph.members (r.graph.rows ++ row ∷ [])
+  pub limit : length r.graph.rows < row_limit
+
+module _ {K : Type 0} (accepts : K → Accepts) (balances : List ℕ) (keys : K) (r : Recorded) (other : Option (List ℕ)) (time : ℕ) (payload : List ℕ) (is : IsRecorded accepts (shown balances keys r) r) where
+  abbrev before : Shown K
+  before = shown balances keys r
+
+  draft_is : make_draft before other payload ≡ draft_rule r.own r.graph.rows other payload
+  unfolding make_draft
+  draft_is = ap (λ (G : List Row). draft_rule r.own G other payload) is.rows
+
+  -- the answer to a draft, whatever the signature
+  answer_by : (sig : List ℕ) → make_answer before other time payload sig
+      ≡ made_or (option_or (draft_rule r.own r.graph.rows other payload)
+      (option_or (collision_rule r.graph.rows (made_row r.own r.graph.rows other time payload sig)) (room_rule r.graph.rows))) (length r.graph.rows)
+  unfolding make_answer
+  answer_by sig = ap (λ (G : List Row). making r.own G other time payload sig) is.rows
+
+  refused : (sig : List ℕ) (f : MakeFault) → make_answer before other time payload sig ≡ answer.Refused f → with_events before (make_events before other time payload sig) ≡ before
+  unfolding make_events
+  refused sig f is_refused =
+      with_none before (make_events before other time payload sig)
+      (ap (λ (a : MakeAnswer). made_by a (made_row before.start.own (graph_of before) other time payload sig)) is_refused)
+
+  -- against the draft of which a rule speaks
+  pub draft_refused : (f : MakeFault) → Some f ≡ draft_rule r.own r.graph.rows other payload → IsMaking accepts before other time payload (answer.Refused f) before
+  draft_refused f speaks =
+      let is_answer : make_answer before other time payload [] ≡ answer.Refused f = answer_by []
+      ∙ ap (λ (o : Option MakeFault). made_or (option_or o (option_or (collision_rule r.graph.rows (made_row r.own r.graph.rows other time payload [])) (room_rule r.graph.rows))) (length r.graph.rows)) (sym speaks) in
+      record {
+        sig = [];
+        signed = λ silent. (let some : Some f ≡ None = speaks ∙ (sym draft_is ∙ silent) in cc);
+        answers = sym is_answer;
+        grown = sym (refused [] f is_answer);
+      }
+
+  module _ (sig : List ℕ) (row : Row) (silent : None ≡ draft_rule r.own r.graph.rows other payload)
+      (signed : accepts keys r.own (body_bytes r.own (both_names (last_name r.own r.graph.rows) other) time payload) sig ≡ true)
+      (is_row : row ≡ made_row r.own r.graph.rows other time payload sig) where
+    is_signed : accepts keys r.own (make_body before other time payload) sig ≡ true
+    unfolding make_body
+    is_signed = subst (λ (G : List Row). accepts keys r.own (body_bytes r.own (both_names (last_name r.own G) other) time payload) sig ≡ true) (sym is.rows) signed
+
+    answer_of : (o : Option MakeFault) → o ≡ option_or (collision_rule r.graph.rows row) (room_rule r.graph.rows) → make_answer before other time payload sig ≡ made_or o (length r.graph.rows)
+    answer_of o rest =
+        answer_by sig
+        ∙ (ap (λ (d : Option MakeFault). made_or (option_or d (option_or (collision_rule r.graph.rows (made_row r.own r.graph.rows other time payload sig)) (room_rule r.graph.rows))) (length r.graph.rows)) (sym silent)
+        ∙ (ap (λ (x : Row). made_or (option_or (collision_rule r.graph.rows x) (room_rule r.graph.rows)) (length r.graph.rows)) (sym is_row)
+        ∙ ap (λ (e : Option MakeFault). made_or e (length r.graph.rows)) (sym rest)))
+
+    -- against the signed row of which a rule speaks
+    pub row_refused : (f : MakeFault) → Some f ≡ option_or (collision_rule r.graph.rows row) (room_rule r.graph.rows) → IsMaking accepts before other time payload (answer.Refused f) before
+    row_refused f speaks = record {
+      sig = sig;
+      signed = λ none. is_signed;
+      answers = sym (answer_of (Some f) speaks);
+      grown = sym (refused sig f (answer_of (Some f) speaks));
+    }
+
+    -- against which none does
+    pub row_made : time < 2 ^ 64 → length sig ≡ 64 → None ≡ option_or (collision_rule r.graph.rows row) (room_rule r.graph.rows) →
+        MakesRow accepts before (shown balances keys (recorded_with r row (entry.Made (length r.graph.rows)))) r row other time payload
+    unfolding make_events
+    row_made early sized rest =
+        let is_answer = answer_of None rest in
+        let events : make_events before other time payload sig ≡ Made row ∷ [] =
+        ap (λ (a : MakeAnswer). made_by a (made_row before.start.own (graph_of before) other time payload sig)) is_answer
+        ∙ (ap (λ (G : List Row). Made (made_row r.own G other time payload sig) ∷ []) is.rows ∙ ap (λ (x : Row). Made x ∷ []) (sym is_row)) in
+        let node = subst (λ (es : List Event). IsNode accepts (with_events before es)) events (makes_leave_a_node K accepts before other time payload sig early sized (λ none. is_signed) is.node) in
+        let recorded = recorded_after accepts balances keys r row (Made row) (entry.Made (length r.graph.rows)) (λ s. refl) refl is node in
+        record {
+          making = record {
+            sig = sig;
+            signed = λ none. is_signed;
+            answers = sym is_answer;
+            grown = sym (ap (with_events before) events ∙ shown_after accepts balances keys r row (Made row) (entry.Made (length r.graph.rows)) (λ s. refl) refl is);
+          };
+          recorded = recorded;
+          graph = recorded_graph accepts balances keys (recorded_with r row (entry.Made (length r.graph.rows))) recorded;
+          limit = (admitted r.graph.rows row (sym rest)).room;
+        }
