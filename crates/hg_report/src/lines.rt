@@ -31,7 +31,7 @@ fn write_order_line<'a, K: Sink>(
     number: u64,
     line: &'a OrderLine,
 ) -> Result<(), Failed>
-    ensures { Puts (desk (K.written sink.old) (K.faults sink.old) page.old) (desk (K.written sink.new) (K.faults sink.new) page.new) (order_line_text named names.entry.now number line.entry.now) result }
+    ensures { Puts (desk K.Sink sink.old page.old) (desk K.Sink sink.new page.new) (order_line_text named names.entry.now number line.entry.now) result }
 {
     let [dash, name, end] = line_end(named, line);
     write_pieces(
@@ -62,7 +62,7 @@ fn write_order<'a, K: Sink>(
     names: &'a [Bytes],
     lines: &'a [OrderLine],
 ) -> Result<(), Failed>
-    ensures { Puts (desk (K.written sink.old) (K.faults sink.old) page.old) (desk (K.written sink.new) (K.faults sink.new) page.new) (order_text named names.entry.now 1 lines.entry.now) result }
+    ensures { Puts (desk K.Sink sink.old page.old) (desk K.Sink sink.new page.new) (order_text named names.entry.now 1 lines.entry.now) result }
 {
     for (i, line) in lines.iter().enumerate() {
         write_order_line(page, sink, named, names, i as u64 + 1, line)?;
@@ -77,7 +77,7 @@ fn write_balance<K: Sink>(
     member: usize,
     balance: u64,
 ) -> Result<(), Failed>
-    ensures { Puts (desk (K.written sink.old) (K.faults sink.old) page.old) (desk (K.written sink.new) (K.faults sink.new) page.new) (balance_text names.now member balance) result }
+    ensures { Puts (desk K.Sink sink.old page.old) (desk K.Sink sink.new page.new) (balance_text names.now member balance) result }
 {
     write_pieces(
         page,
@@ -99,7 +99,7 @@ fn write_balances<K: Sink>(
     names: &[Bytes],
     balances: &[u64],
 ) -> Result<(), Failed>
-    ensures { Puts (desk (K.written sink.old) (K.faults sink.old) page.old) (desk (K.written sink.new) (K.faults sink.new) page.new) (balances_text names.now 0 balances.now) result }
+    ensures { Puts (desk K.Sink sink.old page.old) (desk K.Sink sink.new page.new) (balances_text names.now 0 balances.now) result }
 {
     for (i, balance) in balances.iter().enumerate() {
         write_balance(page, sink, names, i, *balance)?;
@@ -114,7 +114,7 @@ fn write_head<K: Sink>(
     names: &[Bytes],
     block: &Block,
 ) -> Result<(), Failed>
-    ensures { Puts (desk (K.written sink.old) (K.faults sink.old) page.old) (desk (K.written sink.new) (K.faults sink.new) page.new) (head_text names.now block.now) result }
+    ensures { Puts (desk K.Sink sink.old page.old) (desk K.Sink sink.new page.new) (head_text names.now block.now) result }
 {
     write_pieces(
         page,
@@ -145,7 +145,7 @@ pub(crate) fn write_block<'a, K: Sink>(
     names: &'a [Bytes],
     block: &'a Block,
 ) -> Result<(), Failed>
-    ensures { Puts (desk (K.written sink.old) (K.faults sink.old) page.old) (desk (K.written sink.new) (K.faults sink.new) page.new) (block_text named names.entry.now block.entry.now) result }
+    ensures { Puts (desk K.Sink sink.old page.old) (desk K.Sink sink.new page.new) (block_text named names.entry.now block.entry.now) result }
 {
     write_head(page, sink, names, block)?;
     write_order(page, sink, named, names, block.order.as_slice())?;

@@ -217,55 +217,31 @@ fn line_by<'a>(
     ensures value { Gives (λ found. found) result (told.line_by members.now above.now verb (map (λ word. word.now) arguments.now)) }
     ensures lawful { IfOk result (IsFound members.now above.now) }
 {
-    match verb {
-        Verb::Create => match arguments {
-            [x, t] => Ok(create(members, above, x, t)?),
-            _ => Err(Stop::Fault(Why::Arity)),
-        },
-        Verb::Sync => match arguments {
-            [x, y, t] => Ok(sync(members, above, x, y, t)?),
-            _ => Err(Stop::Fault(Why::Arity)),
-        },
-        Verb::Pull => match arguments {
-            [x, y] => Ok(pull(members, x, y)?),
-            _ => Err(Stop::Fault(Why::Arity)),
-        },
-        Verb::Join => match arguments {
-            [x, l, t] => Ok(join(members, above, x, l, t)?),
-            _ => Err(Stop::Fault(Why::Arity)),
-        },
-        Verb::Name => match arguments {
-            [l, x] => Ok(name(members, above, l, x)?),
-            _ => Err(Stop::Fault(Why::Arity)),
-        },
-        Verb::Forge => match arguments {
-            [l, m, s, o, t] => Ok(forge(members, above, l, m, s, o, t)?),
-            _ => Err(Stop::Fault(Why::Arity)),
-        },
-        Verb::Raw => match arguments {
-            [l, h] => raw(alloc, above, l, h),
-            _ => Err(Stop::Fault(Why::Arity)),
-        },
-        Verb::Alter => match arguments {
-            [l, l2, place, b] => Ok(alter(above, l, l2, place, b)?),
-            _ => Err(Stop::Fault(Why::Arity)),
-        },
-        Verb::Cut => match arguments {
-            [l, l2, k] => Ok(cut(above, l, l2, k)?),
-            _ => Err(Stop::Fault(Why::Arity)),
-        },
-        Verb::Give => match arguments {
-            [x, l] => Ok(give(members, above, x, l)?),
-            _ => Err(Stop::Fault(Why::Arity)),
-        },
-        Verb::Show => match arguments {
-            [x] => Ok(show(members, x)?),
-            _ => Err(Stop::Fault(Why::Arity)),
-        },
-        Verb::Names => match arguments {
-            [x] => Ok(names(members, x)?),
-            _ => Err(Stop::Fault(Why::Arity)),
-        },
+    match (verb, arguments) {
+        (Verb::Create, [x, t]) => Ok(create(members, above, x, t)?),
+        (Verb::Create, _) => Err(Stop::Fault(Why::Arity)),
+        (Verb::Sync, [x, y, t]) => Ok(sync(members, above, x, y, t)?),
+        (Verb::Sync, _) => Err(Stop::Fault(Why::Arity)),
+        (Verb::Pull, [x, y]) => Ok(pull(members, x, y)?),
+        (Verb::Pull, _) => Err(Stop::Fault(Why::Arity)),
+        (Verb::Join, [x, l, t]) => Ok(join(members, above, x, l, t)?),
+        (Verb::Join, _) => Err(Stop::Fault(Why::Arity)),
+        (Verb::Name, [l, x]) => Ok(name(members, above, l, x)?),
+        (Verb::Name, _) => Err(Stop::Fault(Why::Arity)),
+        (Verb::Forge, [l, m, s, o, t]) => Ok(forge(members, above, l, m, s, o, t)?),
+        (Verb::Forge, _) => Err(Stop::Fault(Why::Arity)),
+        (Verb::Raw, [l, h]) => raw(alloc, above, l, h),
+        (Verb::Raw, _) => Err(Stop::Fault(Why::Arity)),
+        (Verb::Alter, [l, l2, place, b]) => Ok(alter(above, l, l2, place, b)?),
+        (Verb::Alter, _) => Err(Stop::Fault(Why::Arity)),
+        (Verb::Cut, [l, l2, k]) => Ok(cut(above, l, l2, k)?),
+        (Verb::Cut, _) => Err(Stop::Fault(Why::Arity)),
+        (Verb::Give, [x, l]) => Ok(give(members, above, x, l)?),
+        (Verb::Give, _) => Err(Stop::Fault(Why::Arity)),
+        (Verb::Show, [x]) => Ok(show(members, x)?),
+        (Verb::Show, _) => Err(Stop::Fault(Why::Arity)),
+        (Verb::Names, [x]) => Ok(names(members, x)?),
+        (Verb::Names, _) => Err(Stop::Fault(Why::Arity)),
     }
 }
 
