@@ -2,13 +2,14 @@
 use Rattle.std.proofs.Common.{◌≡◌, ℕ, List, [], ◌∷◌, take, Result, Ok, Err, refl}
 use Rattle.std.specs.Option.{ok_or}
 use Rattle.hg_model.specs.Members.{MemberList}
+use Rattle.hg_model.specs.Results.{◌>>=◌}
 use Rattle.hg_script.specs.declared.fault.Why.{Why}
 use Rattle.hg_script.specs.declared.fault.Why.TheVariants.{Word}
 use Rattle.hg_script.specs.declared.verb.Verb.{Verb}
 use Rattle.hg_script.specs.declared.verb.Verb.TheVariants as verb
 use Rattle.hg_script.specs.declared.words.TheConstants.{MOST_WORDS}
 use Rattle.hg_script.specs.Script.{line_in}
-use Rattle.hg_script.specs.Table.{◌>>=◌, Above, Found, found_by, line_by, alter, create, cut, forge, give, join, name, names, pull, raw, show, sync, one_word, two_words, three_words, four_words, five_words, verb_of}
+use Rattle.hg_script.specs.Table.{Above, Found, found_by, line_by, alter, create, cut, forge, give, join, name, names, pull, raw, show, sync, one_word, two_words, three_words, four_words, five_words, verb_of}
 
 one_enough : (line : List ℕ → Result Found Why) (words : List (List ℕ)) → one_word line (take 7 words) ≡ one_word line words
 one_enough line [] = refl

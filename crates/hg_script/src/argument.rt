@@ -3,7 +3,8 @@ ghost use Rattle.std.specs.List.{list_any};
 ghost use Rattle.std.specs.Str.{bytes_eq};
 ghost use Rattle.hg_model.specs.declared.members.MemberEntry.{MemberEntry};
 ghost use Rattle.hg_model.specs.Members.{is_digit};
-ghost use Rattle.hg_script.specs.Gives.{Gives, Reads};
+ghost use Rattle.hg_model.specs.Results.{Reads};
+ghost use Rattle.hg_script.specs.Gives.{Gives};
 ghost use Rattle.hg_script.specs.Lawful.{HasNode};
 ghost use Rattle.hg_script.specs.Table as told;
 
