@@ -29,7 +29,7 @@ world nodes labels printed = record { nodes = nodes; labels = labels; printed = 
 -- the bytes from a source
 abbrev pub source_bytes : Keys → List NodeState → List (List ℕ) → Source → List ℕ
 source_bytes keys nodes labels (Last m) = own_bytes (node_at nodes m)
-source_bytes keys nodes labels (Forged m parents time) = forged keys m (option_map (names_of_labels labels) parents) time
+source_bytes keys nodes labels (Forged m parents time payload) = forged keys m (option_map (names_of_labels labels) parents) time payload
 source_bytes keys nodes labels (Raw bytes) = bytes
 source_bytes keys nodes labels (Altered label at mask) = altered (bytes_at labels label) at mask
 source_bytes keys nodes labels (Front label len) = take len (bytes_at labels label)
