@@ -1,5 +1,5 @@
 ghost use Rattle.hg_io.specs.Telling.{Puts, desk};
-ghost use Rattle.std.specs.Prelude.{◌≡◌, ◌++◌, codes};
+ghost use Rattle.std.specs.Prelude.{◌≡◌, ◌++◌, codes, length};
 ghost use Rattle.hg_model.specs.Report.{balance_text, balances_text, block_text, effect_text, head_text, line_end, order_line_text, order_text};
 ghost use Rattle.hg_report.specs.Pieces.{pieces_text};
 
@@ -8,8 +8,9 @@ use hg_io::{Failed, Page, Sink};
 use hg_model::{Block, Bytes, Effect, OrderLine};
 
 /// What came of an event's payload, behind a blank.
-fn effect_pieces(effect: &Effect) -> [Piece<'static>; 4]
-    ensures { pieces_text result ≡ codes " " ++ effect_text effect.now }
+fn effect_pieces(effect: &Effect) -> [Piece<'_>; 4]
+    ensures text { pieces_text result ≡ codes " " ++ effect_text effect.now }
+    ensures four { length result ≡ 4 }
 {
     let none = Piece::Bytes(b"");
     match effect {
