@@ -1,18 +1,19 @@
 -- What a graph keeps beside its rows, at first and with a row more
-use Rattle.std.proofs.Common.{◌≡◌, inl, inr, ℕ, ◌+◌, ◌-◌, ◌<◌, ◌≤◌, Option, List, [], ◌∷◌, ◌++◌, length, get_or, Some, slice_get, sym, refl, ap, ap₂, ◌∙◌, subst, arith}
+use Rattle.std.proofs.Common.{◌≡◌, inl, inr, ℕ, ◌+◌, ◌-◌, ◌<◌, ◌≤◌, Option, List, [], ◌∷◌, ◌++◌, length, take, get_or, Some, slice_get, sym, refl, ap, ap₂, ◌∙◌, subst, arith}
 use Rattle.std.proofs.lemmas.Bool.{cases_lt, true≢false}
-use Rattle.std.proofs.lemmas.List.{length_push, get_or_append_left, get_or_push}
+use Rattle.std.proofs.lemmas.List.{take_all, length_push, get_or_append_left, get_or_push}
 use Rattle.std.proofs.lemmas.Option.{slice_get-get_or, slice_get_past}
 use Rattle.hg_model.specs.declared.row.Row.{Row}
 use Rattle.hg_model.specs.Places.{some_below}
 use Rattle.hg_model.specs.Links.{Link, place_of, link_in, links, first_place, parents as parents_at}
 use Rattle.hg_model.specs.Forks.{has_fork, forkers}
 use Rattle.hg_model.specs.Graph.{IsShaped, IsGraph}
-use Rattle.hg_model.specs.Shape.{Shape, FitsLink, shape_of, link_of, pair_list, place_list, with_link}
+use Rattle.hg_model.specs.Shape.{Shape, FitsLink, first_links, shape_of, link_of, pair_list, place_list, with_link}
 use Rattle.hg_model.specs.Standings.{Standing, standings_of}
 use Rattle.hg_model.specs.Spelling.{Spells, spelling}
 use Rattle.hg_model.specs.Verdict.{row_limit}
 use Rattle.hg_model.specs.Prefix.{Graph, graph_of}
+use Rattle.hg_model.proofs.StandingLaws.{length-standings}
 use Rattle.hg_model.proofs.PlacesLaws.{weight_below_none}
 use Rattle.hg_model.proofs.LongerLaws.{slice_get-append}
 use Rattle.hg_model.proofs.NameLaws.{distinct-none}
@@ -21,7 +22,7 @@ use Rattle.hg_model.proofs.LinkLaws.{length-links, parents_read}
 use Rattle.hg_forks.specs.Own.{own_link_of, own_links, own_shape}
 use Rattle.hg_forks.proofs.OwnLaws.{own_links_serve}
 use Rattle.hg_rounds.specs.Tabled.{last_parents}
-use Rattle.hg_graph.specs.Held.{Held, AreEvents, IsHeld, Keeps, shape_in, with_row}
+use Rattle.hg_graph.specs.Held.{Held, AreEvents, IsHeld, KeepsGraph, shape_in, graph_with}
 use Rattle.hg_graph.proofs.NextLaws.{links_next, fits_last, name_next}
 
 -- without rows
@@ -43,7 +44,7 @@ held_none n c some few three = record {
     none_there : (x : ℕ) (row : Row) → slice_get [] x ≡ Some row → ⊥
     none_there x row is = (let gone = slice_get_past {X = Row} [] x (omega arith) in cc)
 
-pub keeps_none : (n c : ℕ) → 0 < n → n ≤ 128 → 2 < c → Keeps (graph_of n c []) (shape_of n []) (shape_of n []) []
+pub keeps_none : (n c : ℕ) → 0 < n → n ≤ 128 → 2 < c → KeepsGraph (graph_of n c []) (shape_of n []) (shape_of n []) []
 unfolding links own_links standings_of
 keeps_none n c some few three = record { held = held_none n c some few three; seen = refl; forked = refl; placed = refl }
 
@@ -89,11 +90,11 @@ pub record Comes (g : Graph) (row : Row) (parents : Option (ℕ × ℕ)) (sight 
   pub last : (after : Shape) → after ≡ with_link sight (link_of row.creator parents) → pair_list parents ≡ last_parents after
   pub keeps : (own : Option ℕ) → place_list own ≡ first_place (pair_list parents) → (rows : List Row) (after watched_after : Shape) (standings : List Standing) →
       rows ≡ g.rows ++ row ∷ [] → after ≡ with_link sight (link_of row.creator parents) → watched_after ≡ with_link watched (own_link_of row.creator own) →
-      standings ≡ standings_of after.members after.links → Keeps (graph_of g.members g.coin rows) after watched_after standings
+      standings ≡ standings_of after.members after.links → KeepsGraph (graph_of g.members g.coin rows) after watched_after standings
 
 module _ (g : Graph) (row : Row) (bytes : List ℕ) (parents : Option (ℕ × ℕ)) (held : IsHeld g) (limit : length g.rows < row_limit) (spells : Spells bytes row)
     (is : link_in g.rows row ≡ link_of row.creator parents) (graph : IsGraph g.members (g.rows ++ row ∷ [])) where
-  held_with : IsHeld (with_row g row)
+  held_with : IsHeld (graph_with g row)
   held_with = record {
     some_members = held.some_members;
     few_members = held.few_members;
@@ -134,7 +135,7 @@ module _ (g : Graph) (row : Row) (bytes : List ℕ) (parents : Option (ℕ × �
   }
 
 -- the same of the graph of a value
-pub comes : {g : Graph} {room : ℕ} {v : Held} → record { graph = g; room = room } ≡ v → {sight watched : Shape} {standings : List Standing} → Keeps g sight watched standings →
+pub comes : {g : Graph} {room : ℕ} {v : Held} → record { graph = g; room = room } ≡ v → {sight watched : Shape} {standings : List Standing} → KeepsGraph g sight watched standings →
     (row : Row) (bytes : List ℕ) (parents : Option (ℕ × ℕ)) → length v.graph.rows < row_limit → Spells bytes row → link_in v.graph.rows row ≡ link_of row.creator parents →
     IsGraph v.graph.members (v.graph.rows ++ row ∷ []) → Comes g row parents sight watched
 comes {g} {room} {v} view {sight} {watched} keeps row bytes parents limit spells is graph =
@@ -142,3 +143,18 @@ comes {g} {room} {v} view {sight} {watched} keeps row bytes parents limit spells
     subst (λ (s : Shape). Comes g row parents s watched) (sym keeps.seen)
     (comes_to g row bytes parents keeps.held (subst (λ (g : Graph). length g.rows < row_limit) same limit) spells
     (subst (λ (g : Graph). link_in g.rows row ≡ link_of row.creator parents) same is) (subst (λ (g : Graph). IsGraph g.members (g.rows ++ row ∷ [])) same graph) watched keeps.forked)
+
+-- the first rows, of which there are as many as all
+
+pub all_links : {g : Graph} {sight watched : Shape} {standings : List Standing} → KeepsGraph g sight watched standings → (len : ℕ) → len ≡ length g.rows →
+    (len ≤ length sight.links) × (len ≤ length standings) × (first_links sight len ≡ shape_in g) × (take len standings ≡ standings_of g.members (links g.rows))
+all_links {g} keeps len is =
+    let n = g.members in
+    let L = links g.rows in
+    let short : length L ≡ length g.rows = length-links g.rows in
+    let placed = length-standings n L in (
+      rw keeps.seen (omega arith),
+      rw keeps.placed (omega arith),
+      ap (λ (s : Shape). first_links s len) keeps.seen ∙ ap (shape_of n) (take_all len L (omega arith)),
+      ap (take len) keeps.placed ∙ take_all len (standings_of n L) (omega arith),
+    )

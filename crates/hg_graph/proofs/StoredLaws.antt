@@ -4,28 +4,31 @@ use Rattle.std.specs.List.{list_any, position, position_or_len}
 use Rattle.std.specs.Str.{bytes_eq}
 use Rattle.std.proofs.lemmas.Bool.{cases_Bool, true≢false, false_from_ne_true}
 use Rattle.std.proofs.lemmas.List.{length-map}
+use Rattle.std.proofs.lemmas.Slice.Eq.{bytes_eq-Decides}
 use Rattle.indexmap.specs.IndexSet.{insert_key}
 use Rattle.hg_model.specs.declared.row.Row.{Row}
 use Rattle.hg_model.specs.Links.{is_named, place_of}
-use Rattle.hg_model.proofs.NameLaws.{same_bytes, bytes_same}
-use Rattle.hg_graph.specs.Stored.{name_of, found_place}
+use Rattle.hg_graph.specs.Stored.{row_name, found_place}
 
 turned : (a b : List ℕ) → bytes_eq a b ≡ bytes_eq b a
-turned a b = elim (cases_Bool (bytes_eq b a)) [
-  | inl same ↦ same_bytes a b (sym (bytes_same b a same)) ∙ sym same
-  | inr other ↦ false_from_ne_true (bytes_eq a b) (λ same. true≢false (sym (same_bytes b a (sym (bytes_same a b same))) ∙ other)) ∙ sym other
-]
+turned a b =
+    let one = bytes_eq-Decides a b in
+    let other = bytes_eq-Decides b a in
+    elim (cases_Bool (bytes_eq b a)) [
+      | inl same ↦ one.1 (sym (other.0 same)) ∙ sym same
+      | inr apart ↦ false_from_ne_true (bytes_eq a b) (λ same. true≢false (sym (other.1 (sym (one.0 same))) ∙ apart)) ∙ sym apart
+    ]
 
 -- a name stands where its row does
-name_place : (G : List Row) (name : List ℕ) → position_or_len (bytes_eq name) (map name_of G) ≡ place_of G name
+name_place : (G : List Row) (name : List ℕ) → position_or_len (bytes_eq name) (map row_name G) ≡ place_of G name
 name_place [] name = refl
 name_place (row ∷ G) name = rw (turned name row.name, name_place G name) refl
 
-pub name_found : (G : List Row) (name : List ℕ) → position (bytes_eq name) (map name_of G) ≡ found_place G name
-name_found G name = rw (name_place G name, length-map G name_of) refl
+pub name_found : (G : List Row) (name : List ℕ) → position (bytes_eq name) (map row_name G) ≡ found_place G name
+name_found G name = rw (name_place G name, length-map G row_name) refl
 
 -- a name that no row has is none of the names
-pub name_absent : (G : List Row) (name : List ℕ) → place_of G name ≡ length G → list_any (bytes_eq name) (map name_of G) ≡ false
+pub name_absent : (G : List Row) (name : List ℕ) → place_of G name ≡ length G → list_any (bytes_eq name) (map row_name G) ≡ false
 name_absent [] name past = refl
 name_absent (row ∷ G) name past = elim (cases_Bool (is_named name row)) [
   | inl here ↦ (

@@ -1,7 +1,6 @@
 -- A node's graph as callers see it, and what every such graph keeps to
-use Rattle.std.specs.Prelude.{ℕ, ◌≡◌, ◌<◌, ◌≤◌, List, [], ◌∷◌, ◌++◌, length, Option, Some, slice_get}
+use Rattle.std.specs.Prelude.{ℕ, ◌≡◌, ◌<◌, ◌≤◌, List, [], ◌∷◌, ◌++◌, length, Some, slice_get}
 use Rattle.hg_model.specs.declared.row.Row.{Row}
-use Rattle.hg_model.specs.Links.{links}
 use Rattle.hg_model.specs.Graph.{IsGraph}
 use Rattle.hg_model.specs.Shape.{Shape, shape_of}
 use Rattle.hg_model.specs.Standings.{Standing, standings_of}
@@ -16,14 +15,11 @@ pub record Held : Type 0 where
   pub room : ℕ
 
 -- the graph with one row more
-abbrev pub with_row : Graph → Row → Graph
-with_row g row = graph_of g.members g.coin (g.rows ++ row ∷ [])
+abbrev pub graph_with : Graph → Row → Graph
+graph_with g row = graph_of g.members g.coin (g.rows ++ row ∷ [])
 
 abbrev pub shape_in : Graph → Shape
 shape_in g = shape_of g.members (links_of g)
-
-abbrev pub standings_in : Graph → List Standing
-standings_in g = standings_of g.members (links_of g)
 
 -- each row has the sizes and the name of an event
 abbrev pub AreEvents : List Row → Type 0
@@ -39,8 +35,8 @@ pub record IsHeld (g : Graph) : Type 0 where
   pub few : length g.rows ≤ row_limit
 
 -- what is kept beside the rows: their sight, the same without other-parents, and their standings
-pub record Keeps (g : Graph) (sight watched : Shape) (standings : List Standing) : Type 0 where
+pub record KeepsGraph (g : Graph) (sight watched : Shape) (standings : List Standing) : Type 0 where
   pub held : IsHeld g
   pub seen : sight ≡ shape_in g
   pub forked : watched ≡ own_shape (shape_in g)
-  pub placed : standings ≡ standings_in g
+  pub placed : standings ≡ standings_of g.members (links_of g)

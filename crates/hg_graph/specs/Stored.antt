@@ -10,8 +10,8 @@ pub record Stored : Type 0 where
   pub rows : List Row
   pub room : ℕ
 
-abbrev pub name_of : Row → List ℕ
-name_of row = row.name
+abbrev pub row_name : Row → List ℕ
+row_name row = row.name
 
 -- the place of the row with this name, if there is one
 abbrev pub found_place : List Row → List ℕ → Option ℕ
@@ -20,7 +20,7 @@ found_place G name = if is_held G name then Some (place_of G name) else None
 -- of each row the bytes that spell it, and its name
 pub record IsStored (rows : List Row) (bytes names : List (List ℕ)) : Type 0 where
   pub spelled : bytes ≡ map spelling rows
-  pub named : names ≡ map name_of rows
+  pub named : names ≡ map row_name rows
 
 -- the least of three rooms
 abbrev pub least_of : ℕ → ℕ → ℕ → ℕ

@@ -5,13 +5,15 @@ ghost use Rattle.hg_model.specs.Graph.{IsGraph};
 ghost use Rattle.hg_model.specs.Shape.{FitsLink, link_of, pair_list, place_list};
 ghost use Rattle.hg_model.specs.Spelling.{Spells, spelling};
 ghost use Rattle.hg_model.specs.Verdict.{row_limit};
-ghost use Rattle.hg_model.specs.Prefix.{graph_of};
+ghost use Rattle.hg_model.specs.Prefix.{graph_of, links_of};
+ghost use Rattle.hg_model.specs.Standings.{standings_of};
 ghost use Rattle.hg_graph.specs.Stored.{found_place};
-ghost use Rattle.hg_graph.specs.Held.{IsHeld, with_row};
+ghost use Rattle.hg_graph.specs.Held.{IsHeld, graph_with, shape_in};
 
 use crate::store::RowStore;
 use hg_ancestry::BitSight;
 use hg_forks::Watch;
+use hg_frozen::Frozen;
 use hg_model::{Bytes, Growing, Member, Memory, Name, Prefix, Rounds, Row, Sight};
 use hg_rounds::{RoundTable, place_round};
 use std::alloc::Global;
@@ -32,13 +34,13 @@ impl Model for EventGraph {
     ghost use Rattle.std.specs.Prelude.{min};
     ghost use Rattle.hg_model.specs.Prefix.{graph_of};
     ghost use Rattle.hg_graph.specs.Stored.{least_of};
-    ghost use Rattle.hg_graph.specs.Held.{Held, Keeps};
+    ghost use Rattle.hg_graph.specs.Held.{Held, KeepsGraph};
 
     ghost Value = { Held };
 
     ghost view = { λ s. record { graph = graph_of s.members s.coin s.store.rows; room = min s.store.room (least_of s.sight.room s.watch.room s.rounds.room) } };
 
-    ghost invariant = { λ s. Keeps (graph_of s.members s.coin s.store.rows) s.sight.shape s.watch.shape s.rounds.standings };
+    ghost invariant = { λ s. KeepsGraph (graph_of s.members s.coin s.store.rows) s.sight.shape s.watch.shape s.rounds.standings };
 }
 
 impl EventGraph {
@@ -116,13 +118,26 @@ impl EventGraph {
         requires spelled { Spells bytes row }
         requires link { link_in self.old.graph.rows row ≡ link_of row.creator parents }
         requires graph { IsGraph self.old.graph.members (self.old.graph.rows ++ row ∷ []) }
-        ensures { self.new.graph ≡ with_row self.old.graph row }
+        ensures { self.new.graph ≡ graph_with self.old.graph row }
     {
         self.sight.extend(parents, row.creator);
         self.watch.add(row.creator, own_of(parents));
         let (round, witness) = place_round(&self.sight, &self.rounds, parents);
         self.rounds.add(round, witness);
         self.store.push(row, bytes);
+    }
+
+    /// The same rows as a value of its own, with their sight and their rounds.
+    pub fn freeze(&self) -> Result<Frozen<BitSight, RoundTable>, Memory>
+        ensures { IfOk result (λ frozen. frozen ≡ self.now.graph) }
+    {
+        let len = self.store.len();
+        Ok(Frozen::of(
+            self.store.copy_rows()?,
+            self.sight.prefix(len)?,
+            self.rounds.prefix(len)?,
+            self.coin,
+        ))
     }
 }
 
@@ -137,8 +152,6 @@ fn own_of(parents: Option<(usize, usize)>) -> Option<usize>
 }
 
 impl Sight for EventGraph {
-    ghost use Rattle.hg_graph.specs.Held.{shape_in};
-
     ghost shape = { λ g. shape_in g.graph };
 
     fn rows(&self) -> usize {
@@ -171,9 +184,7 @@ impl Sight for EventGraph {
 }
 
 impl Rounds for EventGraph {
-    ghost use Rattle.hg_graph.specs.Held.{standings_in};
-
-    ghost standings = { λ g. standings_in g.graph };
+    ghost standings = { λ g. standings_of g.graph.members (links_of g.graph) };
 
     fn round(&self, x: usize) -> u32 {
         self.rounds.round(x)

@@ -1,4 +1,4 @@
-ghost use Rattle.std.specs.Prelude.{◌≡◌, ◌<◌, ◌≤◌, ◌++◌, ◌∷◌, [], Some, length, option_map, slice_get, OnOk, false};
+ghost use Rattle.std.specs.Prelude.{◌≡◌, ◌<◌, ◌≤◌, ◌++◌, ◌∷◌, [], Some, length, option_map, slice_get, IfOk, OnOk, false};
 ghost use Rattle.std.specs.List.{list_any};
 ghost use Rattle.std.specs.Str.{bytes_eq};
 ghost use Rattle.indexmap.specs.IndexSet.{spare};
@@ -14,6 +14,7 @@ use std::marker::Model;
 /// Rows in the order in which they came, each with its bytes, and found by its name.
 #[derive(Drop)]
 pub struct RowStore {
+    alloc: Global,
     rows: Vec<Row>,
     bytes: Vec<Bytes>,
     names: IndexSet<Name>,
@@ -37,6 +38,7 @@ impl RowStore {
         ensures { result.rows ≡ [] }
     {
         RowStore {
+            alloc,
             rows: Vec::new(alloc),
             bytes: Vec::new(alloc),
             names: IndexSet::new(alloc),
@@ -95,6 +97,29 @@ impl RowStore {
         self.bytes.push_reserved(bytes);
         self.rows.push_reserved(row);
     }
+
+    /// The rows, in memory of their own.
+    pub fn copy_rows(&self) -> Result<Vec<Row>, Memory>
+        ensures { IfOk result (λ rows. rows.items ≡ self.now.rows) }
+    {
+        copy_rows(self.alloc, &self.rows)
+    }
+}
+
+fn copy_rows(alloc: Global, rows: &[Row]) -> Result<Vec<Row>, Memory>
+    ensures { IfOk result (λ copy. copy.items ≡ rows.now) }
+{
+    let mut copy = Vec::with_capacity(alloc, rows.len())?;
+    for row in rows {
+        copy.push(copy_of(row)?)?;
+    }
+    Ok(copy)
+}
+
+fn copy_of(row: &Row) -> Result<Row, Memory>
+    ensures { IfOk result (λ copy. copy ≡ row.now) }
+{
+    Ok(row.clone()?)
 }
 
 /// Enters a name for which there is room.

@@ -1,15 +1,21 @@
 -- The place of the last row that a member made
-use Rattle.std.proofs.Common.{◌≡◌, ℕ, ◌<◌, ◌≤◌, Bool, true, false, cond, eqb, List, [], ◌∷◌, ◌++◌, length, Option, Some, None, option_map, fold, sym, refl, ap, ◌∙◌, arith}
+use Rattle.std.proofs.Common.{◌≡◌, ℕ, ◌+◌, ◌*◌, ◌<◌, ◌≤◌, Bool, true, false, cond, eqb, List, [], ◌∷◌, ◌++◌, length, Option, Some, None, option_map, slice_get, fold, sym, refl, ap, ◌∙◌, subst, arith}
 use Rattle.std.proofs.lemmas.List.{length_push}
 use Rattle.std.proofs.lemmas.List.Sums.{fold-append}
 use Rattle.hg_model.specs.declared.row.Row.{Row}
+use Rattle.hg_model.specs.declared.entry.Entry.{Entry}
 use Rattle.hg_model.specs.Links.{place_of}
 use Rattle.hg_model.specs.Graph.{name_in, name_at, HasDistinctNames}
 use Rattle.hg_model.specs.Verdict.{later_name, last_name}
 use Rattle.hg_model.proofs.NameLaws.{place_of_at, last_is_own}
 use Rattle.hg_model.proofs.PushLaws.{place_of-append}
+use Rattle.hg_prefix.proofs.StandingLaws.{name_at_place}
 use Rattle.hg_history.proofs.OwnLaws.{last}
-use Rattle.hg_node.specs.Recorded.{last_place}
+use Rattle.hg_node.specs.Recorded.{Recorded, recorded_with, last_place, KeepsLast}
+
+read_name : (G : List Row) (x : ℕ) (row : Row) → slice_get G x ≡ Some row → name_at G x ≡ row.name
+unfolding name_at
+read_name G x row at = ap name_in at
 
 -- the last name with a row more
 last_name-push : (m : ℕ) (G : List Row) (row : Row) → last_name m (G ++ row ∷ []) ≡ cond (eqb row.creator m) (Some row.name) (last_name m G)
@@ -32,3 +38,30 @@ module _ (m : ℕ) (G : List Row) (row : Row) (distinct : HasDistinctNames G) (d
 
   pub last_place-push : last_place m (G ++ row ∷ []) ≡ cond (eqb row.creator m) (Some (length G)) (last_place m G)
   last_place-push = by_test (eqb row.creator m) refl
+
+-- the row at that place has the last name
+pub last_read : (m : ℕ) (G : List Row) (place : ℕ) → HasDistinctNames G → Some place ≡ last_place m G → (place < length G) × ((row : Row) → slice_get G place ≡ Some row → Some row.name ≡ last_name m G)
+last_read m G place distinct is = by_name (last_name m G) refl
+  where
+    by_name : (last : Option (List ℕ)) → last_name m G ≡ last → (place < length G) × ((row : Row) → slice_get G place ≡ Some row → Some row.name ≡ last_name m G)
+    by_name None none = (let no_place : Some place ≡ None = is ∙ ap (option_map (place_of G)) none in cc)
+    by_name (Some name) some =
+        let here : Some place ≡ Some (place_of G name) = is ∙ ap (option_map (place_of G)) some in
+        let same : place ≡ place_of G name = cc in
+        let held = (last_is_own m G name distinct some).0 in (
+          subst (λ (p : ℕ). p < length G) (sym same) held,
+          λ row at.
+              let named : name_at G (place_of G name) ≡ name = name_at_place G name held in
+              let read : name_at G place ≡ row.name = read_name G place row at in
+              ap (λ (x : List ℕ). Some x) (sym read ∙ (ap (name_at G) same ∙ named)) ∙ sym some,
+        )
+
+-- what is kept once a row and an entry have come
+pub kept_with : (r : Recorded) (row : Row) (told : Entry) (last_own later : Option ℕ) (capacity room : ℕ) → KeepsLast r last_own capacity → HasDistinctNames (r.graph.rows ++ row ∷ []) →
+    later ≡ cond (eqb row.creator r.own) (Some (length r.graph.rows)) last_own → 2 * (length r.graph.rows + 1) ≤ room → KeepsLast (recorded_with r row told) later room
+kept_with r row told last_own later capacity room keeps distinct is memory = record {
+  distinct = distinct;
+  last = is ∙ (ap (cond (eqb row.creator r.own) (Some (length r.graph.rows))) keeps.last ∙ sym (last_place-push r.own r.graph.rows row keeps.distinct distinct));
+  few_entries = (let few = keeps.few_entries in omega (arith, few, length_push r.log told, length_push r.graph.rows row));
+  memory = omega (arith, memory, length_push r.graph.rows row);
+}

@@ -1,4 +1,6 @@
+pub mod PlaceLaws
 pub mod LastLaws
 pub mod RecordLaws
+pub mod ArrivalLaws
 pub mod PutLaws
 pub mod MakeLaws

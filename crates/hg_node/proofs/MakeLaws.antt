@@ -1,6 +1,8 @@
 -- What the making of an event answers, and what it leaves recorded
-use Rattle.std.proofs.Common.{◌≡◌, ℕ, ◌<◌, ◌^◌, true, List, [], ◌∷◌, ◌++◌, length, Option, Some, None, refl, sym, ap, ◌∙◌, subst}
+use Rattle.std.proofs.Common.{◌≡◌, ℕ, ◌<◌, ◌^◌, true, List, [], ◌∷◌, ◌++◌, length, Option, Some, None, Result, Ok, Err, refl, sym, ap, ◌∙◌, subst}
+use Rattle.std.specs.Prelude.{replicate, OnErr}
 use Rattle.std.specs.Option.{option_or}
+use Rattle.std.proofs.lemmas.List.{length-replicate}
 use Rattle.hg_model.specs.declared.row.Row.{Row}
 use Rattle.hg_model.specs.declared.entry.Entry.TheVariants as entry
 use Rattle.hg_model.specs.declared.answers.MakeAnswer.{MakeAnswer}
@@ -9,10 +11,10 @@ use Rattle.hg_model.specs.declared.answers.MakeFault.{MakeFault}
 use Rattle.hg_model.specs.Graph.{IsGraph}
 use Rattle.hg_model.specs.Spelling.{body_bytes}
 use Rattle.hg_model.specs.Verdict.{row_limit, last_name, both_names, signed_row, made_row, draft_rule, collision_rule, room_rule, made_or, making}
-use Rattle.hg_model.specs.History.{Event, Accepts}
-use Rattle.hg_model.specs.History.Event.{Made}
-use Rattle.hg_model.specs.Shown.{Shown, with_events, graph_of, IsNode}
-use Rattle.hg_model.specs.Calls.{IsMaking, make_answer, make_events, make_body, make_draft, made_by}
+use Rattle.hg_model.specs.History.{Change, Accepts}
+use Rattle.hg_model.specs.History.Change.{Made}
+use Rattle.hg_model.specs.Shown.{Shown, with_changes, graph_of, IsNode}
+use Rattle.hg_model.specs.Calls.{IsMaking, make_answer, make_changes, make_body, make_draft, made_by}
 use Rattle.hg_model.proofs.RuleLaws.{admitted}
 use Rattle.hg_history.proofs.CallLaws.{with_none}
 use Rattle.hg_history.proofs.MakeLaws.{makes_leave_a_node}
@@ -35,6 +37,11 @@ module _ {K : Type 0} (accepts : K → Accepts) (balances : List ℕ) (keys : K)
   unfolding make_draft
   draft_is = ap (λ (G : List Row). draft_rule r.own G other payload) is.rows
 
+  -- where no rule speaks against the draft, that is no matter of memory
+  pub draft_silent : {A E : Type 0} (result : Result A E) → None ≡ draft_rule r.own r.graph.rows other payload → OnErr result (make_draft before other payload ≡ None)
+  draft_silent (Ok x) silent = tt
+  draft_silent (Err e) silent = draft_is ∙ sym silent
+
   -- the answer to a draft, whatever the signature
   answer_by : (sig : List ℕ) → make_answer before other time payload sig
       ≡ made_or (option_or (draft_rule r.own r.graph.rows other payload)
@@ -42,25 +49,31 @@ module _ {K : Type 0} (accepts : K → Accepts) (balances : List ℕ) (keys : K)
   unfolding make_answer
   answer_by sig = ap (λ (G : List Row). making r.own G other time payload sig) is.rows
 
-  refused : (sig : List ℕ) (f : MakeFault) → make_answer before other time payload sig ≡ answer.Refused f → with_events before (make_events before other time payload sig) ≡ before
-  unfolding make_events
+  refused : (sig : List ℕ) (f : MakeFault) → make_answer before other time payload sig ≡ answer.Refused f → with_changes before (make_changes before other time payload sig) ≡ before
+  unfolding make_changes
   refused sig f is_refused =
-      with_none before (make_events before other time payload sig)
+      with_none before (make_changes before other time payload sig)
       (ap (λ (a : MakeAnswer). made_by a (made_row before.start.own (graph_of before) other time payload sig)) is_refused)
+
+  -- what stands for the signature of a draft that is refused
+  no_sig : List ℕ
+  no_sig = replicate 64 0
 
   -- against the draft of which a rule speaks
   pub draft_refused : (f : MakeFault) → Some f ≡ draft_rule r.own r.graph.rows other payload → IsMaking accepts before other time payload (answer.Refused f) before
+  unfolding no_sig
   draft_refused f speaks =
-      let is_answer : make_answer before other time payload [] ≡ answer.Refused f = answer_by []
-      ∙ ap (λ (o : Option MakeFault). made_or (option_or o (option_or (collision_rule r.graph.rows (made_row r.own r.graph.rows other time payload [])) (room_rule r.graph.rows))) (length r.graph.rows)) (sym speaks) in
+      let is_answer : make_answer before other time payload no_sig ≡ answer.Refused f = answer_by no_sig
+      ∙ ap (λ (o : Option MakeFault). made_or (option_or o (option_or (collision_rule r.graph.rows (made_row r.own r.graph.rows other time payload no_sig)) (room_rule r.graph.rows))) (length r.graph.rows)) (sym speaks) in
       record {
-        sig = [];
+        sig = no_sig;
+        sized = length-replicate {A = ℕ} 64 0;
         signed = λ silent. (let some : Some f ≡ None = speaks ∙ (sym draft_is ∙ silent) in cc);
         answers = sym is_answer;
-        grown = sym (refused [] f is_answer);
+        grown = sym (refused no_sig f is_answer);
       }
 
-  module _ (sig : List ℕ) (row : Row) (silent : None ≡ draft_rule r.own r.graph.rows other payload)
+  module _ (sig : List ℕ) (sized : length sig ≡ 64) (row : Row) (silent : None ≡ draft_rule r.own r.graph.rows other payload)
       (signed : accepts keys r.own (body_bytes r.own (both_names (last_name r.own r.graph.rows) other) time payload) sig ≡ true)
       (is_row : row ≡ made_row r.own r.graph.rows other time payload sig) where
     is_signed : accepts keys r.own (make_body before other time payload) sig ≡ true
@@ -78,28 +91,30 @@ module _ {K : Type 0} (accepts : K → Accepts) (balances : List ℕ) (keys : K)
     pub row_refused : (f : MakeFault) → Some f ≡ option_or (collision_rule r.graph.rows row) (room_rule r.graph.rows) → IsMaking accepts before other time payload (answer.Refused f) before
     row_refused f speaks = record {
       sig = sig;
+      sized = sized;
       signed = λ none. is_signed;
       answers = sym (answer_of (Some f) speaks);
       grown = sym (refused sig f (answer_of (Some f) speaks));
     }
 
     -- against which none does
-    pub row_made : time < 2 ^ 64 → length sig ≡ 64 → None ≡ option_or (collision_rule r.graph.rows row) (room_rule r.graph.rows) →
+    pub row_made : time < 2 ^ 64 → None ≡ option_or (collision_rule r.graph.rows row) (room_rule r.graph.rows) →
         MakesRow accepts before (shown balances keys (recorded_with r row (entry.Made (length r.graph.rows)))) r row other time payload
-    unfolding make_events
-    row_made early sized rest =
+    unfolding make_changes
+    row_made early rest =
         let is_answer = answer_of None rest in
-        let events : make_events before other time payload sig ≡ Made row ∷ [] =
+        let events : make_changes before other time payload sig ≡ Made row ∷ [] =
         ap (λ (a : MakeAnswer). made_by a (made_row before.start.own (graph_of before) other time payload sig)) is_answer
         ∙ (ap (λ (G : List Row). Made (made_row r.own G other time payload sig) ∷ []) is.rows ∙ ap (λ (x : Row). Made x ∷ []) (sym is_row)) in
-        let node = subst (λ (es : List Event). IsNode accepts (with_events before es)) events (makes_leave_a_node K accepts before other time payload sig early sized (λ none. is_signed) is.node) in
+        let node = subst (λ (es : List Change). IsNode accepts (with_changes before es)) events (makes_leave_a_node K accepts before other time payload sig early sized (λ none. is_signed) is.node) in
         let recorded = recorded_after accepts balances keys r row (Made row) (entry.Made (length r.graph.rows)) (λ s. refl) refl is node in
         record {
           making = record {
             sig = sig;
+            sized = sized;
             signed = λ none. is_signed;
             answers = sym is_answer;
-            grown = sym (ap (with_events before) events ∙ shown_after accepts balances keys r row (Made row) (entry.Made (length r.graph.rows)) (λ s. refl) refl is);
+            grown = sym (ap (with_changes before) events ∙ shown_after accepts balances keys r row (Made row) (entry.Made (length r.graph.rows)) (λ s. refl) refl is);
           };
           recorded = recorded;
           graph = recorded_graph accepts balances keys (recorded_with r row (entry.Made (length r.graph.rows))) recorded;

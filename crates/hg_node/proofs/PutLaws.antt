@@ -1,6 +1,6 @@
 -- What a put answers, and what it leaves recorded
 use Rattle.std.proofs.Common.{◌≡◌, ℕ, ◌<◌, List, [], ◌∷◌, ◌++◌, length, Option, Some, None, Result, Ok, Err, refl, sym, ap, ◌∙◌, subst}
-use Rattle.std.specs.Prelude.{unwrap_or}
+use Rattle.std.specs.Prelude.{unwrap_or, IfOk, OnOk, OnErr}
 use Rattle.std.specs.Option.{option_or}
 use Rattle.hg_model.specs.declared.row.Row.{Row}
 use Rattle.hg_model.specs.declared.entry.Entry.TheVariants as entry
@@ -11,10 +11,10 @@ use Rattle.hg_model.specs.declared.answers.PutAnswer.TheVariants.{Accepted, Know
 use Rattle.hg_model.specs.Graph.{IsGraph}
 use Rattle.hg_model.specs.Reading.{read_event}
 use Rattle.hg_model.specs.Verdict.{row_limit, verdict_of, row_verdict, arrival_rule, forkers_rule, full_rule}
-use Rattle.hg_model.specs.History.{Event, State, Accepts, replay}
-use Rattle.hg_model.specs.History.Event.{Took}
-use Rattle.hg_model.specs.Shown.{Shown, with_events, graph_of, IsNode}
-use Rattle.hg_model.specs.Calls.{put_answer, put_events, taken_by, taken_from}
+use Rattle.hg_model.specs.History.{Change, State, Accepts, replay}
+use Rattle.hg_model.specs.History.Change.{Took}
+use Rattle.hg_model.specs.Shown.{Shown, with_changes, graph_of, IsNode}
+use Rattle.hg_model.specs.Calls.{put_answer, put_changes, taken_by, taken_from}
 use Rattle.hg_model.proofs.RuleLaws.{option_or_none, has_room}
 use Rattle.hg_event.proofs.Reading.{AreBytes}
 use Rattle.hg_history.proofs.RuleLaws.{rule_accepts_none}
@@ -27,10 +27,17 @@ use Rattle.hg_node.proofs.RecordLaws.{shown_after, recorded_after}
 -- what a node becomes that takes the row
 pub record IsTaking {K : Type 0} (accepts : K → Accepts) (v w : Shown K) (r : Recorded) (row : Row) (bytes : List ℕ) : Type 0 where
   pub answer : put_answer accepts v bytes ≡ Accepted (length r.graph.rows)
-  pub grown : w ≡ with_events v (put_events accepts v bytes)
+  pub grown : w ≡ with_changes v (put_changes accepts v bytes)
   pub recorded : IsRecorded accepts w (recorded_with r row (entry.Took (length r.graph.rows)))
   pub graph : IsGraph r.graph.members (r.graph.rows ++ row ∷ [])
   pub limit : length r.graph.rows < row_limit
+
+-- what a put left recorded, and answered
+pub record IsPut {K E : Type 0} (accepts : K → Accepts) (v w : Shown K) (s : Recorded) (bytes : List ℕ) (result : Result PutAnswer E) : Type 0 where
+  pub recorded : IsRecorded accepts w s
+  pub answer : IfOk result (λ a. a ≡ put_answer accepts v bytes)
+  pub ok : OnOk result (w ≡ with_changes v (put_changes accepts v bytes))
+  pub free : OnErr result (put_answer accepts v bytes ≡ Accepted (length (graph_of v)))
 
 -- the rows of what is recorded are a graph
 pub recorded_graph : {K : Type 0} (accepts : K → Accepts) (balances : List ℕ) (keys : K) (r : Recorded) → IsRecorded accepts (shown balances keys r) r → IsGraph r.graph.members r.graph.rows
@@ -38,18 +45,18 @@ recorded_graph accepts balances keys r is =
     subst (λ (G : List Row). IsGraph r.graph.members G) is.rows
     (sound (accepts keys) r.graph.members r.graph.coin r.own (shown balances keys r).history is.node.coin is.node.history).graph
 
+-- bytes that are no event's
+pub put_faulty : {K : Type 0} (accepts : K → Accepts) (v : Shown K) (bytes : List ℕ) (e : ByteFault) → read_event bytes ≡ Err e →
+    (Refused (fault.Bytes e) ≡ put_answer accepts v bytes) × (v ≡ with_changes v (put_changes accepts v bytes))
+unfolding put_answer put_changes
+put_faulty accepts v bytes e read = (
+  sym (ap (verdict_of (accepts v.start.keys) v.start.members v.start.own (graph_of v)) read),
+  sym (with_none v (put_changes accepts v bytes) (ap (taken_from accepts v) read)),
+)
+
 module _ {K : Type 0} (accepts : K → Accepts) (balances : List ℕ) (keys : K) (r : Recorded) (bytes : List ℕ) (is : IsRecorded accepts (shown balances keys r) r) where
   abbrev rules : Row → Option PutAnswer
   rules row = all_rules (accepts keys) r.graph.members r.own r.graph.rows row
-
-  -- bytes that are no event's
-  pub put_faulty : (e : ByteFault) → read_event bytes ≡ Err e →
-      (put_answer accepts (shown balances keys r) bytes ≡ Refused (fault.Bytes e)) × (with_events (shown balances keys r) (put_events accepts (shown balances keys r) bytes) ≡ shown balances keys r)
-  unfolding put_answer put_events
-  put_faulty e read = (
-    ap (verdict_of (accepts keys) r.graph.members r.own (graph_of (shown balances keys r))) read,
-    with_none (shown balances keys r) (put_events accepts (shown balances keys r) bytes) (ap (taken_from accepts (shown balances keys r)) read),
-  )
 
   module _ (row : Row) (read : read_event bytes ≡ Ok row) where
     answer_by : put_answer accepts (shown balances keys r) bytes ≡ unwrap_or (rules row) (Accepted (length r.graph.rows))
@@ -60,29 +67,47 @@ module _ {K : Type 0} (accepts : K → Accepts) (balances : List ℕ) (keys : K)
 
     -- against which a rule speaks
     pub put_refused : (a : PutAnswer) → Some a ≡ rules row →
-        (put_answer accepts (shown balances keys r) bytes ≡ a) × (with_events (shown balances keys r) (put_events accepts (shown balances keys r) bytes) ≡ shown balances keys r)
+        (a ≡ put_answer accepts (shown balances keys r) bytes) × (shown balances keys r ≡ with_changes (shown balances keys r) (put_changes accepts (shown balances keys r) bytes))
     put_refused a speaks =
         let answer : put_answer accepts (shown balances keys r) bytes ≡ a = answer_by ∙ ap (λ (o : Option PutAnswer). unwrap_or o (Accepted (length r.graph.rows))) (sym speaks) in (
-          answer,
-          with_none (shown balances keys r) (put_events accepts (shown balances keys r) bytes)
-              (other_puts_add_none K accepts (shown balances keys r) bytes (λ place accepted. rule_accepts_none (accepts keys) r.graph.members r.own r.graph.rows row a place (sym speaks) (sym answer ∙ accepted))),
+          sym answer,
+          sym (with_none (shown balances keys r) (put_changes accepts (shown balances keys r) bytes)
+              (other_puts_add_none K accepts (shown balances keys r) bytes (λ place accepted. rule_accepts_none (accepts keys) r.graph.members r.own r.graph.rows row a place (sym speaks) (sym answer ∙ accepted)))),
         )
 
     -- against which none does
     pub put_taken : AreBytes bytes → None ≡ rules row → IsTaking accepts (shown balances keys r) (shown balances keys (recorded_with r row (entry.Took (length r.graph.rows)))) r row bytes
-    unfolding put_events
+    unfolding put_changes
     put_taken fit silent =
         let answer : put_answer accepts (shown balances keys r) bytes ≡ Accepted (length r.graph.rows) = answer_by ∙ ap (λ (o : Option PutAnswer). unwrap_or o (Accepted (length r.graph.rows))) (sym silent) in
         let by_row : row_verdict (accepts keys) r.graph.members r.own (graph_of (shown balances keys r)) row ≡ Accepted (length r.graph.rows) =
         ap (λ (G : List Row). row_verdict (accepts keys) r.graph.members r.own G row) is.rows ∙ ap (λ (o : Option PutAnswer). unwrap_or o (Accepted (length r.graph.rows))) (sym silent) in
-        let events : put_events accepts (shown balances keys r) bytes ≡ Took row ∷ [] = ap (taken_from accepts (shown balances keys r)) read ∙ ap (λ (a : PutAnswer). taken_by a row) by_row in
-        let node = subst (λ (es : List Event). IsNode accepts (with_events (shown balances keys r) es)) events (puts_leave_a_node K accepts (shown balances keys r) bytes fit is.node) in
+        let events : put_changes accepts (shown balances keys r) bytes ≡ Took row ∷ [] = ap (taken_from accepts (shown balances keys r)) read ∙ ap (λ (a : PutAnswer). taken_by a row) by_row in
+        let node = subst (λ (es : List Change). IsNode accepts (with_changes (shown balances keys r) es)) events (puts_leave_a_node K accepts (shown balances keys r) bytes fit is.node) in
         let recorded = recorded_after accepts balances keys r row (Took row) (entry.Took (length r.graph.rows)) (λ s. refl) refl is node in
         let rest = (option_or_none (arrival_rule (accepts keys) r.graph.members r.own r.graph.rows row) _ (sym silent)).1 in
         record {
           answer = answer;
-          grown = sym (ap (with_events (shown balances keys r)) events ∙ shown_after accepts balances keys r row (Took row) (entry.Took (length r.graph.rows)) (λ s. refl) refl is);
+          grown = sym (ap (with_changes (shown balances keys r)) events ∙ shown_after accepts balances keys r row (Took row) (entry.Took (length r.graph.rows)) (λ s. refl) refl is);
           recorded = recorded;
           graph = recorded_graph accepts balances keys (recorded_with r row (entry.Took (length r.graph.rows))) recorded;
           limit = has_room r.graph.members r.graph.rows row rest;
         }
+
+    -- and what is left, whether there was memory for the row or not
+    pub put_ends : {E : Type 0} (result : Result PutAnswer E) (s : Recorded) → AreBytes bytes → None ≡ rules row →
+        IfOk result (λ a. a ≡ Accepted (length r.graph.rows)) → OnOk result (s ≡ recorded_with r row (entry.Took (length r.graph.rows))) → OnErr result (s ≡ r) → IsPut accepts (shown balances keys r) (shown balances keys s) s bytes result
+    put_ends (Ok a) s fit silent answer ok err =
+        let taking = put_taken fit silent in
+        record {
+          recorded = subst (λ (t : Recorded). IsRecorded accepts (shown balances keys t) t) (sym ok) taking.recorded;
+          answer = answer ∙ sym taking.answer;
+          ok = ap (shown balances keys) ok ∙ taking.grown;
+          free = tt;
+        }
+    put_ends (Err e) s fit silent answer ok err = record {
+      recorded = subst (λ (t : Recorded). IsRecorded accepts (shown balances keys t) t) (sym err) is;
+      answer = tt;
+      ok = tt;
+      free = (put_taken fit silent).answer ∙ ap (λ (G : List Row). Accepted (length G)) (sym is.rows);
+    }

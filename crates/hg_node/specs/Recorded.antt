@@ -3,9 +3,10 @@ use Rattle.std.specs.Prelude.{ℕ, ◌≡◌, ◌≤◌, ◌*◌, List, [], ◌�
 use Rattle.hg_model.specs.declared.row.Row.{Row}
 use Rattle.hg_model.specs.declared.entry.Entry.{Entry}
 use Rattle.hg_model.specs.Links.{place_of}
+use Rattle.hg_model.specs.Graph.{HasDistinctNames}
 use Rattle.hg_model.specs.Verdict.{last_name}
 use Rattle.hg_model.specs.Prefix.{Graph}
-use Rattle.hg_graph.specs.Held.{with_row}
+use Rattle.hg_graph.specs.Held.{graph_with}
 use Rattle.hg_model.specs.History.{Accepts}
 use Rattle.hg_model.specs.Shown.{Shown, graph_of, log, history_of, IsNode}
 
@@ -20,14 +21,15 @@ recorded own graph log = record { own = own; graph = graph; log = log }
 
 -- with one row more, which came as the entry says
 abbrev pub recorded_with : Recorded → Row → Entry → Recorded
-recorded_with r row entry = recorded r.own (with_row r.graph row) (r.log ++ entry ∷ [])
+recorded_with r row entry = recorded r.own (graph_with r.graph row) (r.log ++ entry ∷ [])
 
 -- the place of the last row that the member made
 abbrev pub last_place : ℕ → List Row → Option ℕ
 last_place own G = option_map (place_of G) (last_name own G)
 
--- the member's last place, and entries and memory for no more than two of them for each row
-pub record Keeps (r : Recorded) (last_own : Option ℕ) (capacity : ℕ) : Type 0 where
+-- the place of the member's last row is kept, and of the log no more entries and at least the memory of two for each row
+pub record KeepsLast (r : Recorded) (last_own : Option ℕ) (capacity : ℕ) : Type 0 where
+  pub distinct : HasDistinctNames r.graph.rows
   pub last : last_own ≡ last_place r.own r.graph.rows
   pub few_entries : length r.log ≤ 2 * length r.graph.rows
   pub memory : 2 * length r.graph.rows ≤ capacity

@@ -4,35 +4,38 @@ ghost use Rattle.hg_model.specs.declared.row.Row.{Row};
 ghost use Rattle.std.specs.Result.{result_err};
 ghost use Rattle.hg_event.specs.View.{row_of};
 ghost use Rattle.hg_model.specs.Links.{link_in, links, parent_names, place_of};
+ghost use Rattle.hg_model.specs.Graph.{creator_at};
 ghost use Rattle.hg_model.specs.Forks.{forkers};
 ghost use Rattle.hg_model.specs.Shape.{FitsLink, link_of, pair_list};
 ghost use Rattle.hg_model.specs.Spelling.{Spells};
-ghost use Rattle.hg_model.specs.Verdict.{arrival_rule, creator_rule, forkers_answer, full_rule, impostor_rule, member_rule, missing_rule, name_rule, signature_rule};
-ghost use Rattle.hg_node.specs.Arrival.{all_rules};
+ghost use Rattle.hg_model.specs.Verdict.{arrival_rule, forkers_rule, full_rule, impostor_rule, member_rule, name_rule, signature_rule};
+ghost use Rattle.hg_node.specs.Arrival.{LinkComes, all_rules, parents_rule};
 
 use crate::ROW_LIMIT;
+use crate::chronicle::Chronicle;
 use hg_event::{EventView, body_of};
 use hg_graph::EventGraph;
 use hg_model::{Fault, Member, Name, PutAnswer, Sight};
 use hg_sign::Signer;
 
-/// The places of the parents of an event that is put to the node of the member `own`, or the answer of the first rule
+/// The places of the parents of an event that is put to a node with these records, or the answer of the first rule
 /// that speaks against it. Takes no memory; before the name is known to be new it does not look at the signature.
 pub fn parents_of_arrival<V: Signer>(
     keys: &V,
-    own: Member,
-    graph: &EventGraph,
+    chronicle: &Chronicle,
     view: &EventView<'_>,
     name: &Name,
     bytes: &[u8],
 ) -> Result<Option<(usize, usize)>, PutAnswer>
     requires spelled { Spells bytes.now (row_of view.now) }
     requires name { name.now ≡ (row_of view.now).name }
-    ensures answer { result_err result ≡ all_rules (V.accepts keys.now) graph.now.graph.members own graph.now.graph.rows (row_of view.now) }
-    ensures link { IfOk result (λ parents. link_in graph.now.graph.rows (row_of view.now) ≡ link_of (row_of view.now).creator parents) }
+    ensures answer { result_err result ≡ all_rules (V.accepts keys.now) chronicle.now.graph.members chronicle.now.own chronicle.now.graph.rows (row_of view.now) }
+    ensures link { IfOk result (λ parents. link_in chronicle.now.graph.rows (row_of view.now) ≡ link_of (row_of view.now).creator parents) }
 {
-    let parents = arrival_rule(keys, own, graph, view, name, bytes)?;
-    forkers_rule(graph, view.creator, parents)?;
+    let graph = chronicle.graph();
+    let members = graph.members();
+    let parents = arrival_rule(keys, members, chronicle.own(), graph, view, name, bytes)?;
+    forkers_rule(members, graph, view, parents)?;
     full_rule(graph)?;
     Ok(parents)
 }
@@ -40,6 +43,7 @@ pub fn parents_of_arrival<V: Signer>(
 /// What is wrong with an event before the forks that it would make are counted.
 fn arrival_rule<V: Signer>(
     keys: &V,
+    members: u32,
     own: Member,
     graph: &EventGraph,
     view: &EventView<'_>,
@@ -48,16 +52,14 @@ fn arrival_rule<V: Signer>(
 ) -> Result<Option<(usize, usize)>, PutAnswer>
     requires spelled { Spells bytes.now (row_of view.now) }
     requires name { name.now ≡ (row_of view.now).name }
-    ensures answer { result_err result ≡ arrival_rule (V.accepts keys.now) graph.now.graph.members own graph.now.graph.rows (row_of view.now) }
+    ensures answer { result_err result ≡ arrival_rule (V.accepts keys.now) members own graph.now.graph.rows (row_of view.now) }
     ensures places { IfOk result (λ parents. pair_list parents ≡ map (place_of graph.now.graph.rows) (parent_names (row_of view.now).parents)) }
 {
-    member_rule(graph.members(), view)?;
+    member_rule(members, view)?;
     name_rule(graph, name, bytes)?;
     signature_rule(keys, view)?;
     impostor_rule(own, view)?;
-    let parents = parent_places(graph, view.parents)?;
-    creator_rule(graph, view.creator, parents)?;
-    Ok(parents)
+    parent_places(graph, view)
 }
 
 fn member_rule(members: u32, view: &EventView<'_>) -> Result<(), PutAnswer>
@@ -104,16 +106,15 @@ fn impostor_rule(own: Member, view: &EventView<'_>) -> Result<(), PutAnswer>
     Ok(())
 }
 
-/// The places of the rows with these names, the only look-up of either.
+/// The places of the event's parents, if they are rows by the right members.
 fn parent_places(
     graph: &EventGraph,
-    parents: Option<(&Name, &Name)>,
+    view: &EventView<'_>,
 ) -> Result<Option<(usize, usize)>, PutAnswer>
-    ensures answer { result_err result ≡ missing_rule graph.now.graph.rows (option_map (λ names. (names.0.now, names.1.now)) parents) }
-    ensures places { IfOk result (λ places. pair_list places ≡ map (place_of graph.now.graph.rows) (parent_names (option_map (λ names. (names.0.now, names.1.now)) parents))) }
-    ensures within { IfOk result (λ places. AllByRecursion (λ p. p < length graph.now.graph.rows) (pair_list places)) }
+    ensures answer { result_err result ≡ parents_rule graph.now.graph.rows (row_of view.now) }
+    ensures places { IfOk result (λ parents. pair_list parents ≡ map (place_of graph.now.graph.rows) (parent_names (row_of view.now).parents)) }
 {
-    let Some((own_name, other_name)) = parents else {
+    let Some((own_name, other_name)) = view.parents else {
         return Ok(None);
     };
     let Some(own) = graph.place_of(own_name) else {
@@ -122,41 +123,37 @@ fn parent_places(
     let Some(other) = graph.place_of(other_name) else {
         return Err(PutAnswer::Refused(Fault::MissingOther(*other_name)));
     };
+    if creator_at(graph, own) != view.creator {
+        return Err(PutAnswer::Refused(Fault::SelfCreator(own)));
+    }
+    if creator_at(graph, other) == view.creator {
+        return Err(PutAnswer::Refused(Fault::OtherCreator(other)));
+    }
     Ok(Some((own, other)))
 }
 
-/// Whether these parents are by the right members.
-fn creator_rule(
-    graph: &EventGraph,
-    creator: Member,
-    parents: Option<(usize, usize)>,
-) -> Result<(), PutAnswer>
-    requires { AllByRecursion (λ p. p < length graph.now.graph.rows) (pair_list parents) }
-    ensures { (names : Option (List ℕ × List ℕ)) → pair_list parents ≡ map (place_of graph.now.graph.rows) (parent_names names) → result_err result ≡ creator_rule graph.now.graph.rows creator names }
+/// Who made the row at a place.
+#[tactic(auto, using(crate::proofs::PlaceLaws::creators))]
+pub fn creator_at(graph: &EventGraph, place: usize) -> Member
+    requires { place < length graph.now.graph.rows }
+    ensures { result ≡ creator_at graph.now.graph.rows place }
 {
-    let Some((own, other)) = parents else {
-        return Ok(());
-    };
-    if graph.creator(own) != creator {
-        return Err(PutAnswer::Refused(Fault::SelfCreator(own)));
-    }
-    if graph.creator(other) == creator {
-        return Err(PutAnswer::Refused(Fault::OtherCreator(other)));
-    }
-    Ok(())
+    graph.creator(place)
 }
 
-/// Whether with a row more, by the member on these parents, too many members have a fork.
+/// Whether with the event too many members would have a fork.
 fn forkers_rule(
+    members: u32,
     graph: &EventGraph,
-    creator: Member,
+    view: &EventView<'_>,
     parents: Option<(usize, usize)>,
 ) -> Result<(), PutAnswer>
-    requires { FitsLink graph.now.graph.members (links graph.now.graph.rows) (link_of creator parents) }
-    ensures { result_err result ≡ forkers_answer graph.now.graph.members (forkers graph.now.graph.members (links graph.now.graph.rows ++ link_of creator parents ∷ [])) }
+    requires members { members ≡ graph.now.graph.members }
+    requires link { LinkComes members graph.now.graph.rows (row_of view.now) parents }
+    ensures { result_err result ≡ forkers_rule members graph.now.graph.rows (row_of view.now) }
 {
-    let forkers = graph.would(creator, parents);
-    if u64::from(graph.members()) <= 3 * u64::from(forkers) {
+    let forkers = graph.would(view.creator, parents);
+    if u64::from(members) <= 3 * u64::from(forkers) {
         return Err(PutAnswer::Refused(Fault::TooManyForkers(forkers)));
     }
     Ok(())

@@ -1,4 +1,4 @@
-ghost use Rattle.std.specs.Prelude.{◌≡◌, ◌<◌, ◌≤◌, ◌++◌, ◌∷◌, [], length, IfOk, OnOk, OnErr};
+ghost use Rattle.std.specs.Prelude.{◌≡◌, ◌<◌, ◌≤◌, ◌++◌, ◌∷◌, ◌==◌, [], Some, cond, length, IfOk, OnOk, OnErr};
 ghost use Rattle.hg_model.specs.declared.entry.Entry.{Entry};
 ghost use Rattle.hg_model.specs.Links.{link_in};
 ghost use Rattle.hg_model.specs.Graph.{IsGraph};
@@ -24,18 +24,16 @@ pub struct Chronicle {
 
 impl Model for Chronicle {
     ghost use Rattle.std.specs.Prelude.{vec_capacity};
-    ghost use Rattle.hg_node.specs.Recorded.{Recorded, Keeps, recorded};
+    ghost use Rattle.hg_node.specs.Recorded.{Recorded, KeepsLast, recorded};
 
     ghost Value = { Recorded };
 
     ghost view = { λ s. recorded s.own s.graph.graph s.log.items };
 
-    ghost invariant = { λ s. Keeps (recorded s.own s.graph.graph s.log.items) s.last_own (vec_capacity s.log) };
+    ghost invariant = { λ s. KeepsLast (recorded s.own s.graph.graph s.log.items) s.last_own (vec_capacity s.log) };
 }
 
 impl Chronicle {
-    ghost use Rattle.hg_graph.specs.Held.{IsHeld};
-
     /// No rows and no entries: what the member's node begins with.
     pub fn new(alloc: Global, members: u32, coin: u32, own: Member) -> Result<Chronicle, Memory>
         requires some { 0 < members }
@@ -58,8 +56,7 @@ impl Chronicle {
     }
 
     pub fn graph(&self) -> &EventGraph
-        ensures value { result.now.graph ≡ self.now.graph }
-        ensures lawful { IsHeld self.now.graph }
+        ensures { result.now.graph ≡ self.now.graph }
     {
         &self.graph
     }
@@ -106,11 +103,21 @@ impl Chronicle {
         let place = self.graph.len();
         self.graph.reserve()?;
         self.log.reserve(2 * (place + 1) - self.log.len())?;
-        if row.creator == self.own {
-            self.last_own = Some(place);
-        }
+        self.last_own = later_place(self.last_own, self.own, row.creator, place);
         self.graph.push(row, bytes, parents);
         self.log.push_reserved(entry);
         Ok(())
     }
+}
+
+/// The later of two places: the next row's, where the member made it.
+fn later_place(
+    last: Option<usize>,
+    own: Member,
+    creator: Member,
+    place: usize,
+) -> Option<usize>
+    ensures { result ≡ cond (creator == own) (Some place) last }
+{
+    if creator == own { Some(place) } else { last }
 }

@@ -4,33 +4,35 @@ ghost use Rattle.std.specs.Result.{result_err};
 ghost use Rattle.hg_model.specs.Links.{parent_names, place_of};
 ghost use Rattle.hg_model.specs.Shape.{pair_list, place_list};
 ghost use Rattle.hg_model.specs.Spelling.{Spells, body_bytes, payload_limit};
-ghost use Rattle.hg_model.specs.Verdict.{both_names, collision_rule, draft_rule, first_rule, last_name, other_rule, payload_rule, room_rule, signed_row};
+ghost use Rattle.hg_model.specs.Verdict.{both_names, collision_rule, draft_rule, first_rule, last_name, other_rule, made_row, payload_rule, room_rule};
 
 use crate::ROW_LIMIT;
+use crate::arrival::creator_at;
 use crate::chronicle::Chronicle;
 use hg_event::{PAYLOAD_LIMIT, encode_body};
 use hg_graph::EventGraph;
-use hg_model::{Bytes, Items, MakeFault, Member, Memory, Name, Row, Sight};
+use hg_model::{Bytes, Items, MakeFault, Member, Memory, Name, Row};
 use hg_name::name_of;
 use hg_sign::Signer;
 use std::alloc::Global;
 
-/// The places of the parents of the event that a node makes, whose last own row has the name `last`, or what is wrong
-/// with the event before it is signed. Takes no memory.
+/// The places of the parents of the event that a node with these records makes, or what is wrong with the event before it
+/// is signed. Takes no memory.
 pub fn parents_of_draft(
     chronicle: &Chronicle,
-    last: &Option<Name>,
     other: &Option<Name>,
     payload: &[u8],
 ) -> Result<Option<(usize, usize)>, MakeFault>
-    requires { last.now ≡ last_name chronicle.now.own chronicle.now.graph.rows }
     ensures fault { result_err result ≡ draft_rule chronicle.now.own chronicle.now.graph.rows other.now payload.now }
-    ensures places { IfOk result (λ parents. pair_list parents ≡ map (place_of chronicle.now.graph.rows) (parent_names (both_names last.now other.now))) }
+    ensures places { IfOk result (λ parents. pair_list parents ≡ map (place_of chronicle.now.graph.rows) (parent_names (both_names (last_name chronicle.now.own chronicle.now.graph.rows) other.now))) }
 {
-    first_rule(last, other)?;
+    first_rule(&chronicle.last_name(), other)?;
     let other_parent = other_place(chronicle.graph(), chronicle.own(), other)?;
     payload_rule(payload)?;
-    Ok(both_places(chronicle.last_own(), other_parent))
+    match (chronicle.last_own(), other_parent) {
+        (Some(own), Some(other)) => Ok(Some((own, other))),
+        _ => Ok(None),
+    }
 }
 
 /// An other-parent for each event but the node's first.
@@ -59,7 +61,7 @@ fn other_place(
     let Some(place) = graph.place_of(name) else {
         return Err(MakeFault::MissingOther(*name));
     };
-    if graph.creator(place) == own {
+    if creator_at(graph, place) == own {
         return Err(MakeFault::OtherCreator(place));
     }
     Ok(Some(place))
@@ -74,18 +76,8 @@ fn payload_rule(payload: &[u8]) -> Result<(), MakeFault>
     Ok(())
 }
 
-/// Both parents' places, or none.
-fn both_places(own: Option<usize>, other: Option<usize>) -> Option<(usize, usize)>
-    ensures { (place : List ℕ → ℕ) (last : Option (List ℕ)) (name : Option (List ℕ)) → own ≡ option_map place last → other ≡ option_map place name → pair_list result ≡ map place (parent_names (both_names last name)) }
-{
-    match (own, other) {
-        (Some(own), Some(other)) => Some((own, other)),
-        _ => None,
-    }
-}
-
 /// Both parents' names, or none.
-pub fn both_names(last: Option<Name>, other: Option<Name>) -> Option<(Name, Name)>
+fn both_names(last: Option<Name>, other: Option<Name>) -> Option<(Name, Name)>
     ensures { result ≡ both_names last other }
 {
     match (last, other) {
@@ -94,26 +86,28 @@ pub fn both_names(last: Option<Name>, other: Option<Name>) -> Option<(Name, Name
     }
 }
 
-/// The event with these fields, signed by its creator, and its bytes. It is written out once.
+/// The event that a node with these records makes, signed, and its bytes, which are written out once.
 pub fn signed_event<V: Signer>(
     alloc: Global,
     keys: &V,
-    own: Member,
-    parents: Option<(Name, Name)>,
+    chronicle: &Chronicle,
+    other: Option<Name>,
     time: u64,
     payload: &[u8],
 ) -> Result<(Row, Bytes), Memory>
     requires { length payload.now ≤ payload_limit }
-    ensures row { IfOk result (λ event. event.0 ≡ signed_row own parents time payload.now event.0.sig) }
-    ensures accepted { IfOk result (λ event. V.accepts keys.now own (body_bytes own parents time payload.now) event.0.sig ≡ true) }
+    ensures row { IfOk result (λ event. event.0 ≡ made_row chronicle.now.own chronicle.now.graph.rows other time payload.now event.0.sig) }
+    ensures accepted { IfOk result (λ event. V.accepts keys.now chronicle.now.own (body_bytes chronicle.now.own (both_names (last_name chronicle.now.own chronicle.now.graph.rows) other) time payload.now) event.0.sig ≡ true) }
     ensures spelled { IfOk result (λ event. Spells event.1 event.0) }
     ensures sized { IfOk result (λ event. length event.0.sig ≡ 64) }
 {
-    let mut bytes = encode_body(alloc, own, &parents, time, payload)?;
-    let sig = keys.sign(own, bytes.as_slice());
+    let creator = chronicle.own();
+    let parents = both_names(chronicle.last_name(), other);
+    let mut bytes = encode_body(alloc, creator, &parents, time, payload)?;
+    let sig = keys.sign(creator, bytes.as_slice());
     bytes.extend_from_slice(&sig).unwrap();
     let row = Row {
-        creator: own,
+        creator,
         parents,
         time,
         payload: Items::from_vec(Vec::from_slice(alloc, payload)?),
@@ -124,9 +118,10 @@ pub fn signed_event<V: Signer>(
 }
 
 /// What is wrong with an event that is signed. Takes no memory.
-pub fn row_rule(graph: &EventGraph, row: &Row) -> Result<(), MakeFault>
-    ensures { result_err result ≡ option_or (collision_rule graph.now.graph.rows row.now) (room_rule graph.now.graph.rows) }
+pub fn row_rule(chronicle: &Chronicle, row: &Row) -> Result<(), MakeFault>
+    ensures { result_err result ≡ option_or (collision_rule chronicle.now.graph.rows row.now) (room_rule chronicle.now.graph.rows) }
 {
+    let graph = chronicle.graph();
     if let Some(place) = graph.place_of(&row.name) {
         return Err(MakeFault::Collision(place));
     }

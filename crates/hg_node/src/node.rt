@@ -1,20 +1,28 @@
-ghost use Rattle.std.specs.Prelude.{◌≡◌, ◌<◌, [], None, Some, length, option_map, slice_get, IfOk, OnErr, OnOk};
+ghost use Rattle.std.specs.Prelude.{◌≡◌, ◌<◌, ◌++◌, ◌∷◌, [], None, Some, length, map, option_map, slice_get, IfOk, OnErr, OnOk};
+ghost use Rattle.hg_model.specs.declared.members.MemberEntry.{MemberEntry};
 ghost use Rattle.hg_event.specs.View.{row_of};
 ghost use Rattle.hg_model.specs.Forks.{forkers};
 ghost use Rattle.hg_model.specs.Prefix.{graph_of as prefix_of};
 ghost use Rattle.hg_model.specs.Rounds.{last_round};
-ghost use Rattle.hg_model.specs.Spelling.{spelling};
+ghost use Rattle.hg_model.specs.Spelling.{Spells, spelling};
+ghost use Rattle.hg_model.specs.Links.{link_in};
+ghost use Rattle.hg_model.specs.Graph.{IsGraph};
+ghost use Rattle.hg_model.specs.Verdict.{row_limit};
+ghost use Rattle.hg_model.specs.declared.entry.Entry.TheVariants.{Took};
+ghost use Rattle.hg_model.specs.Shape.{link_of};
+ghost use Rattle.hg_node.specs.Recorded.{recorded_with};
 ghost use Rattle.hg_model.specs.declared.answers.PutAnswer.TheVariants.{Accepted};
-ghost use Rattle.hg_model.specs.Shown.{graph_of, log, start_of, with_events, IsNode};
-ghost use Rattle.hg_model.specs.Calls.{IsMaking, make_draft, put_answer, put_events};
+ghost use Rattle.hg_model.specs.Shown.{graph_of, log, start_of, with_changes, IsNode};
+ghost use Rattle.hg_model.specs.Calls.{IsMaking, make_draft, put_answer, put_changes};
 
 use crate::arrival::parents_of_arrival;
 use crate::chronicle::Chronicle;
-use crate::draft::{both_names, parents_of_draft, row_rule, signed_event};
+use crate::draft::{parents_of_draft, row_rule, signed_event};
 use hg_event::{EventView, decode};
 use hg_graph::EventGraph;
 use hg_model::{
-    Entry, Fault, Items, MakeAnswer, Member, Members, Memory, Name, Prefix, PutAnswer, Rounds, Row,
+    Entry, Fault, Items, MakeAnswer, Member, MemberEntry, Members, Memory, Name, Prefix, PutAnswer,
+    Rounds, Row,
 };
 use hg_name::name_of;
 use hg_sign::Signer;
@@ -23,7 +31,7 @@ use std::marker::Model;
 
 /// The node of a member, which signs and checks with its keys.
 #[derive(Drop)]
-pub struct Node<V> {
+pub struct Node<V: Signer> {
     alloc: Global,
     balances: Vec<u64>,
     keys: V,
@@ -48,6 +56,7 @@ impl<V: Signer> Node<V> {
 
     /// The node of the member `own`, without rows.
     pub fn new(alloc: Global, members: &Members, own: Member, keys: V) -> Result<Node<V>, Memory>
+        where V: Drop
         requires { own < length members.now.entries }
         ensures start { IfOk result (λ node. node.start ≡ start_of members.now own keys) }
         ensures history { IfOk result (λ node. node.history ≡ []) }
@@ -65,7 +74,7 @@ impl<V: Signer> Node<V> {
     /// Puts the bytes of an event. Only to accept it takes memory.
     pub fn put(&mut self, bytes: &[u8]) -> Result<PutAnswer, Memory>
         ensures answer { IfOk result (λ answer. answer ≡ put_answer V.accepts self.old bytes.now) }
-        ensures ok { OnOk result (self.new ≡ with_events self.old (put_events V.accepts self.old bytes.now)) }
+        ensures ok { OnOk result (self.new ≡ with_changes self.old (put_changes V.accepts self.old bytes.now)) }
         ensures err { OnErr result (self.new ≡ self.old) }
         ensures free { OnErr result (put_answer V.accepts self.old bytes.now ≡ Accepted (length (graph_of self.old))) }
     {
@@ -74,10 +83,168 @@ impl<V: Signer> Node<V> {
             Err(fault) => return Ok(PutAnswer::Refused(Fault::Bytes(fault))),
         };
         let name = name_of(bytes);
-        let own = self.chronicle.own();
-        match parents_of_arrival(&self.keys, own, self.chronicle.graph(), &view, &name, bytes) {
-            Ok(parents) => self.take(&view, name, bytes, parents),
+        match parents_of_arrival(&self.keys, &self.chronicle, &view, &name, bytes) {
+            Ok(parents) => take(self.alloc, &mut self.chronicle, &view, name, bytes, parents),
             Err(answer) => Ok(answer),
         }
     }
+    /// Makes an event of the node's member on its last one, with this other-parent, or its first one without parents.
+    /// The time is any, in no unit of ours. To tell that the event is refused before it is signed takes no memory.
+    pub fn make(
+        &mut self,
+        other: Option<Name>,
+        time: u64,
+        payload: &[u8],
+    ) -> Result<MakeAnswer, Memory>
+        ensures ok { IfOk result (λ answer. IsMaking V.accepts self.old other time payload.now answer self.new) }
+        ensures err { OnErr result (self.new ≡ self.old) }
+        ensures free { OnErr result (make_draft self.old other payload.now ≡ None) }
+    {
+        let parents = match parents_of_draft(&self.chronicle, &other, payload) {
+            Ok(parents) => parents,
+            Err(fault) => return Ok(MakeAnswer::Refused(fault)),
+        };
+        let (row, bytes) =
+            signed_event(self.alloc, &self.keys, &self.chronicle, other, time, payload)?;
+        match row_rule(&self.chronicle, &row) {
+            Err(fault) => Ok(MakeAnswer::Refused(fault)),
+            Ok(()) => {
+                let place = self.chronicle.graph().len();
+                self.chronicle.add(row, bytes, parents, Entry::Made(place))?;
+                Ok(MakeAnswer::Made(place))
+            }
+        }
+    }
+
+    /// The node's own member.
+    pub fn own(&self) -> Member
+        ensures { result ≡ self.now.start.own }
+    {
+        self.chronicle.own()
+    }
+
+    /// The node's graph.
+    pub fn graph(&self) -> &EventGraph
+        ensures { result.now.graph ≡ prefix_of self.now.start.members self.now.start.coin (graph_of self.now) }
+    {
+        self.chronicle.graph()
+    }
+
+    /// How many rows there are.
+    pub fn rows(&self) -> usize
+        ensures value { result ≡ length (graph_of self.now) }
+        ensures node { IsNode V.accepts self.now }
+    {
+        self.chronicle.graph().len()
+    }
+
+    /// The row at a place below the number of rows.
+    pub fn row(&self, place: usize) -> &Row
+        requires { place < length (graph_of self.now) }
+        ensures { slice_get (graph_of self.now) place ≡ Some result.now }
+    {
+        self.chronicle.graph().row(place)
+    }
+
+    /// The bytes of the row at a place below the number of rows.
+    pub fn bytes(&self, place: usize) -> &[u8]
+        requires { place < length (graph_of self.now) }
+        ensures { option_map spelling (slice_get (graph_of self.now) place) ≡ Some result.now }
+    {
+        self.chronicle.graph().bytes(place)
+    }
+
+    /// The place of the row with this name, if there is one.
+    pub fn place_of(&self, name: &Name) -> Option<usize>
+        ensures { result ≡ found_place (graph_of self.now) name.now }
+    {
+        self.chronicle.graph().place_of(name)
+    }
+
+    /// The place of the last row that the node made, if it made any.
+    pub fn last_own(&self) -> Option<usize>
+        ensures { result ≡ last_place self.now.start.own (graph_of self.now) }
+    {
+        self.chronicle.last_own()
+    }
+
+    /// How many members have a fork.
+    pub fn forkers(&self) -> u32
+        ensures { result ≡ forkers self.now.start.members (links (graph_of self.now)) }
+    {
+        self.chronicle.graph().forkers()
+    }
+
+    /// The greatest round, 0 without rows.
+    pub fn greatest(&self) -> u32
+        ensures { result ≡ last_round self.now.start.members (links (graph_of self.now)) }
+    {
+        self.chronicle.graph().greatest()
+    }
+
+    /// What the node did, change by change, the rows by their places.
+    pub fn log(&self) -> &[Entry]
+        ensures { result.now ≡ log self.now }
+    {
+        self.chronicle.log()
+    }
+
+    /// How many changes there were.
+    pub fn changes(&self) -> usize
+        ensures { result ≡ length self.now.history }
+    {
+        self.chronicle.log().len()
+    }
+}
+
+/// Takes the event of these bytes, on its parents' places.
+fn take(
+    alloc: Global,
+    chronicle: &mut Chronicle,
+    view: &EventView<'_>,
+    name: Name,
+    bytes: &[u8],
+    parents: Option<(usize, usize)>,
+) -> Result<PutAnswer, Memory>
+    requires limit { length chronicle.old.graph.rows < row_limit }
+    requires spelled { Spells bytes.now (row_of view.now) }
+    requires name { name ≡ (row_of view.now).name }
+    requires link { link_in chronicle.old.graph.rows (row_of view.now) ≡ link_of (row_of view.now).creator parents }
+    requires graph { IsGraph chronicle.old.graph.members (chronicle.old.graph.rows ++ row_of view.now ∷ []) }
+    ensures answer { IfOk result (λ answer. answer ≡ Accepted (length chronicle.old.graph.rows)) }
+    ensures ok { OnOk result (chronicle.new ≡ recorded_with chronicle.old (row_of view.now) (Took (length chronicle.old.graph.rows))) }
+    ensures err { OnErr result (chronicle.new ≡ chronicle.old) }
+{
+    let place = chronicle.graph().len();
+    let row = row_with(alloc, view, name)?;
+    let bytes = Items::from_vec(Vec::from_slice(alloc, bytes)?);
+    chronicle.add(row, bytes, parents, Entry::Took(place))?;
+    Ok(PutAnswer::Accepted(place))
+}
+
+/// The row of an event that was read, under its name.
+fn row_with(alloc: Global, view: &EventView<'_>, name: Name) -> Result<Row, Memory>
+    requires { name ≡ (row_of view.now).name }
+    ensures { IfOk result (λ row. row ≡ row_of view.now) }
+{
+    let payload = view.payload;
+    Ok(Row {
+        creator: view.creator,
+        parents: view.parents.map(|names| (*names.0, *names.1)),
+        time: view.time,
+        payload: Items::from_vec(Vec::from_slice(alloc, payload)?),
+        sig: *view.sig,
+        name,
+    })
+}
+
+/// The members' balances.
+fn balances_of(alloc: Global, entries: &[MemberEntry]) -> Result<Vec<u64>, Memory>
+    ensures { IfOk result (λ balances. balances.items ≡ map (λ (e : MemberEntry). e.balance) entries.now) }
+{
+    let mut balances = Vec::with_capacity(alloc, entries.len())?;
+    for entry in entries {
+        balances.push(entry.balance)?;
+    }
+    Ok(balances)
 }
