@@ -23,7 +23,12 @@ use std::process::ExitCode;
 use std::rt::Files;
 
 /// The packed cases, which lie where the program runs.
-const PACKS: [&str; 3] = ["first-path.cases", "further.cases", "stage-a.cases"];
+const PACKS: [&str; 4] = [
+    "first-path.cases",
+    "further.cases",
+    "stage-a.cases",
+    "transfers.cases",
+];
 
 /// Plays the next case, tells how it differs, if it does, and counts it.
 fn play_next<R: AllocGlobal + Print>(

@@ -59,25 +59,25 @@ fold_members keys t (event ∷ events) = fold_members keys (take_event keys t ev
 taking_members : (keys : Keys) (s : NodeState) (events : List (List ℕ)) → (taking keys s events).node.members ≡ s.members
 taking_members keys s events = fold_members keys (record { node = s; taken = 0; refused = 0 }) events
 
-made_members : (keys : Keys) (s : NodeState) (last : Option (List ℕ)) (time : ℕ) → (Rattle.hg_model.specs.Gossip.node_after keys s last time []).members ≡ s.members
-made_members keys s None time = refl
-made_members keys s (Some name) time = refl
+made_members : (keys : Keys) (s : NodeState) (last : Option (List ℕ)) (time : ℕ) (payload : List ℕ) → (Rattle.hg_model.specs.Gossip.node_after keys s last time payload).members ≡ s.members
+made_members keys s None time payload = refl
+made_members keys s (Some name) time payload = refl
 
 -- a node knows after a line of gossip as many members as before
 node_after-members : (keys : Keys) (nodes : List NodeState) (labels : List (List ℕ)) (s : NodeState) (g : Gossip) → (node_after keys nodes labels s g).members ≡ s.members
-node_after-members keys nodes labels s (Create m time) = refl
-node_after-members keys nodes labels s (Sync taker peer time) =
+node_after-members keys nodes labels s (Create m time payload) = refl
+node_after-members keys nodes labels s (Sync taker peer time payload) =
     let parcel : Parcel = parcel_for s.rows (node_at nodes peer) in
-    made_members keys (taking keys s parcel.rows).node parcel.last time ∙ taking_members keys s parcel.rows
+    made_members keys (taking keys s parcel.rows).node parcel.last time payload ∙ taking_members keys s parcel.rows
 node_after-members keys nodes labels s (Pull taker peer) = taking_members keys s (parcel_for s.rows (node_at nodes peer)).rows
-node_after-members keys nodes labels s (Join m label time) = refl
+node_after-members keys nodes labels s (Join m label time payload) = refl
 node_after-members keys nodes labels s (Give m label) = refl
 
 actor_below : (n : ℕ) (g : Gossip) → told.IsBelow n g → actor g < n
-actor_below n (Create m time) below = below
-actor_below n (Sync taker peer time) below = below.0
+actor_below n (Create m time payload) below = below
+actor_below n (Sync taker peer time payload) below = below.0
 actor_below n (Pull taker peer) below = below.0
-actor_below n (Join m label time) below = below
+actor_below n (Join m label time payload) below = below
 actor_below n (Give m label) below = below
 
 nodes_after-are : (keys : Keys) (n : ℕ) (nodes : List NodeState) (labels : List (List ℕ)) (g : Gossip) → AreNodes n nodes → told.IsBelow (length nodes) g →
@@ -109,15 +109,15 @@ has_node_below entries m has = elim (cases_lt m (length entries)) [
 ]
 
 gossip_below : (members : MemberList) (g : Gossip) → IsGossip members g → told.IsBelow (length members.entries) g
-gossip_below members (Create m time) node = has_node_below members.entries m node
-gossip_below members (Sync taker peer time) node = (has_node_below members.entries taker node.0, has_node_below members.entries peer node.1)
+gossip_below members (Create m time payload) node = has_node_below members.entries m node.0
+gossip_below members (Sync taker peer time payload) node = (has_node_below members.entries taker node.0, has_node_below members.entries peer node.1)
 gossip_below members (Pull taker peer) node = (has_node_below members.entries taker node.0, has_node_below members.entries peer node.1)
-gossip_below members (Join m label time) node = has_node_below members.entries m node
+gossip_below members (Join m label time payload) node = has_node_below members.entries m node.0
 gossip_below members (Give m label) node = has_node_below members.entries m node
 
 source_below : (members : MemberList) (s : Source) → IsSource members s → IsBelow (length members.entries) (action.Label s)
 source_below members (Last m) node = has_node_below members.entries m node
-source_below members (Forged m parents time) node = tt
+source_below members (Forged m parents time payload) fits = fits
 source_below members (Raw bytes) node = tt
 source_below members (Altered label at mask) node = tt
 source_below members (Front label len) node = tt

@@ -29,9 +29,9 @@ last_bytes m G = unwrap_or (option_map spelling (fold (later_row m) None G)) []
 abbrev pub own_bytes : NodeState → List ℕ
 own_bytes s = last_bytes s.own s.rows
 
--- an event with these fields and no payload, under the member's signature
-abbrev pub forged : Keys → ℕ → Option (List ℕ × List ℕ) → ℕ → List ℕ
-forged keys m parents time = body_bytes m parents time [] ++ keys.sign m (body_bytes m parents time [])
+-- an event with these fields, under the member's signature
+abbrev pub forged : Keys → ℕ → Option (List ℕ × List ℕ) → ℕ → List ℕ → List ℕ
+forged keys m parents time payload = body_bytes m parents time payload ++ keys.sign m (body_bytes m parents time payload)
 
 -- the byte at a place XORed with the mask, if there is one
 abbrev pub altered : List ℕ → ℕ → ℕ → List ℕ

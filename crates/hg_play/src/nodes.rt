@@ -32,12 +32,13 @@ fn make(
     member: usize,
     other: Option<Name>,
     time: u64,
+    payload: &[u8],
 ) -> Result<MakeAnswer, Memory>
     requires { member < length nodes.old }
-    ensures answer { IfOk result (λ answer. answer ≡ making_by (keys_by keys.now) (node_at nodes.old member) other time []) }
-    ensures nodes { OnOk result (nodes.new ≡ slice_set nodes.old member (node_made (keys_by keys.now) (node_at nodes.old member) other time [])) }
+    ensures answer { IfOk result (λ answer. answer ≡ making_by (keys_by keys.now) (node_at nodes.old member) other time payload.now) }
+    ensures nodes { OnOk result (nodes.new ≡ slice_set nodes.old member (node_made (keys_by keys.now) (node_at nodes.old member) other time payload.now)) }
 {
-    let answer = nodes[member].make(alloc, keys, other, time, &[])?;
+    let answer = nodes[member].make(alloc, keys, other, time, payload)?;
     Ok(answer)
 }
 
@@ -49,14 +50,15 @@ fn sync(
     taker: usize,
     peer: usize,
     time: u64,
+    payload: &[u8],
 ) -> Result<SyncReport, Memory>
     requires taker { taker < length nodes.old }
     requires peer { peer < length nodes.old }
-    ensures report { IfOk result (λ report. report ≡ sync_report (keys_by keys.now) (node_at nodes.old taker) (node_at nodes.old peer) time []) }
-    ensures nodes { OnOk result (nodes.new ≡ slice_set nodes.old taker (node_synced (keys_by keys.now) (node_at nodes.old taker) (node_at nodes.old peer) time [])) }
+    ensures report { IfOk result (λ report. report ≡ sync_report (keys_by keys.now) (node_at nodes.old taker) (node_at nodes.old peer) time payload.now) }
+    ensures nodes { OnOk result (nodes.new ≡ slice_set nodes.old taker (node_synced (keys_by keys.now) (node_at nodes.old taker) (node_at nodes.old peer) time payload.now)) }
 {
     let parcel = nodes[peer].parcel_for(alloc, nodes[taker].rows())?;
-    let report = nodes[taker].sync(alloc, keys, &parcel, time, &[])?;
+    let report = nodes[taker].sync(alloc, keys, &parcel, time, payload)?;
     Ok(report)
 }
 
@@ -102,23 +104,35 @@ pub(crate) fn play_gossip(
     nodes: &mut [Node],
     labels: &[Bytes],
     line: u64,
-    gossip: Gossip,
+    gossip: &Gossip,
 ) -> Result<Printed, Memory>
-    requires { IsBelow (length nodes.old) gossip }
-    ensures printed { IfOk result (λ printed. printed ≡ gossip_printed (keys_by keys.now) nodes.old labels.now line gossip) }
-    ensures nodes { OnOk result (nodes.new ≡ nodes_after (keys_by keys.now) nodes.old labels.now gossip) }
+    requires { IsBelow (length nodes.old) gossip.now }
+    ensures printed { IfOk result (λ printed. printed ≡ gossip_printed (keys_by keys.now) nodes.old labels.now line gossip.now) }
+    ensures nodes { OnOk result (nodes.new ≡ nodes_after (keys_by keys.now) nodes.old labels.now gossip.now) }
 {
     match gossip {
-        Gossip::Create { member, time } => {
-            let answer = make(alloc, keys, nodes, member as usize, None, time)?;
+        Gossip::Create {
+            member,
+            time,
+            payload,
+        } => {
+            let payload = payload.as_slice();
+            let answer = make(alloc, keys, nodes, *member as usize, None, *time, payload)?;
             Ok(Printed::Create { line, answer })
         }
-        Gossip::Sync { taker, peer, time } => {
-            let report = sync(alloc, keys, nodes, taker as usize, peer as usize, time)?;
+        Gossip::Sync {
+            taker,
+            peer,
+            time,
+            payload,
+        } => {
+            let payload = payload.as_slice();
+            let (taker, peer) = (*taker as usize, *peer as usize);
+            let report = sync(alloc, keys, nodes, taker, peer, *time, payload)?;
             Ok(Printed::Sync { line, report })
         }
         Gossip::Pull { taker, peer } => {
-            let counts = pull(alloc, keys, nodes, taker as usize, peer as usize)?;
+            let counts = pull(alloc, keys, nodes, *taker as usize, *peer as usize)?;
             Ok(Printed::Pull {
                 line,
                 taken: counts.taken,
@@ -129,14 +143,16 @@ pub(crate) fn play_gossip(
             member,
             label,
             time,
+            payload,
         } => {
-            let other = Some(name_of_label(labels, label));
-            let answer = make(alloc, keys, nodes, member as usize, other, time)?;
+            let other = Some(name_of_label(labels, *label));
+            let payload = payload.as_slice();
+            let answer = make(alloc, keys, nodes, *member as usize, other, *time, payload)?;
             Ok(Printed::Join { line, answer })
         }
         Gossip::Give { member, label } => {
-            let bytes = bytes_at(labels, label);
-            let answer = give(alloc, keys, nodes, member as usize, bytes)?;
+            let bytes = bytes_at(labels, *label);
+            let answer = give(alloc, keys, nodes, *member as usize, bytes)?;
             Ok(Printed::Give { line, answer })
         }
     }

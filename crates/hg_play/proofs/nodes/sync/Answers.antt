@@ -1,4 +1,4 @@
-use Rattle.std.proofs.Common.{◌∙◌, [], ap, ap₂, sym, slice_set}
+use Rattle.std.proofs.Common.{◌∙◌, ap, ap₂, sym, slice_set}
 use Rattle.hg_model.specs.declared.gossip.Parcel.{Parcel}
 use Rattle.hg_model.specs.Gossip.{NodeState, node_with}
 use Rattle.hg_play.specs.Node.{keys_by}
@@ -14,4 +14,4 @@ returns-clause-nodes c =
     let peer = node_at_is nodes c.args.peer c.index-nodes-peer.result c.requires.peer c.index-nodes-peer.is in
     let parcel = parcel_is nodes c.args.taker c.args.peer _ _ _ _ taker peer c.rows.ensures.value c.in_ok-parcel.ensures.value in
     ap (λ (s : NodeState). slice_set nodes c.args.taker s)
-    (c.in_ok-report.ensures.after ∙ ap₂ (λ (s : NodeState) (q : Parcel). node_with keys s q c.args.time []) same parcel)
+    (c.in_ok-report.ensures.after ∙ ap₂ (λ (s : NodeState) (q : Parcel). node_with keys s q c.args.time c.args.payload.now) same parcel)
