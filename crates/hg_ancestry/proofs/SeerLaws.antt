@@ -1,6 +1,6 @@
 -- The members through whom a row sees another
-use Rattle.std.proofs.Common.{◌≡◌, ℕ, zero, suc, ◌+◌, ◌<◌, ◌≤◌, ◌||◌, ◌&&◌, eqb, true, false, Bool, List, length, sym, ap, ◌∙◌, refl, inl, inr, arith, add-one, ap₂}
-use Rattle.std.proofs.lemmas.Bool.{cases_lt, cases_eq, and_parts, false_from_ne_true, eq-eqb, ne_eqb}
+use Rattle.std.proofs.Common.{◌≡◌, ℕ, zero, suc, ◌+◌, ◌*◌, ◌<◌, lt-ltb, ◌≤◌, ◌||◌, ◌&&◌, eqb, true, false, Bool, List, length, sym, ap, ◌∙◌, refl, inl, inr, arith, add-one, ap₂}
+use Rattle.std.proofs.lemmas.Bool.{cases_lt, cases_eq, and_parts, false_from_ne_true, eq-eqb, ne_eqb, ltb-true, true≢false}
 use Rattle.hg_model.specs.Places.{count_below, some_below, IsEarlier}
 use Rattle.hg_model.specs.Links.{Link, parents, creator}
 use Rattle.hg_model.specs.Ancestry.{is_ancestor}
@@ -9,7 +9,7 @@ use Rattle.hg_model.specs.Graph.{IsShaped}
 use Rattle.hg_bits.specs.Words.{IsFirst, NoneFrom}
 use Rattle.hg_bits.specs.Rows.{is_over}
 use Rattle.hg_ancestry.specs.Held.{is_apart}
-use Rattle.hg_model.proofs.PlacesLaws.{some_below_none, some_below_next, count_below_fails, weight_below-same}
+use Rattle.hg_model.proofs.PlacesLaws.{some_below_none, some_below_next, some_below_found, some_below_from, count_below_fails, weight_below-same, weight_below-le}
 use Rattle.hg_model.proofs.AncestryLaws.{is_ancestor-le}
 use Rattle.hg_model.proofs.SightLaws.{sees-is_ancestor, sees_through_found, strongly_sees-is_ancestor}
 
@@ -45,9 +45,20 @@ strong_by_members n L x y has s few hx told =
     let le : z.0 ≤ x = z.1 in
     absurd (omega (arith, s.members z.0 (omega arith), z.3)))))
 
--- no row strongly sees a later one
-pub strong_past : (n : ℕ) (L : List Link) (x y : ℕ) → IsEarlier (parents L) → x < y → strongly_sees n L x y ≡ false
-strong_past n L x y e h = false_from_ne_true (strongly_sees n L x y) (λ strong. absurd (omega (arith, is_ancestor-le L e x y (strongly_sees-is_ancestor L e n x y strong))))
+-- more than two thirds already among the first rows
+pub strong_by_first : (n : ℕ) (L : List Link) (x y z : ℕ) (has : ℕ → Bool) → IsShaped n L → n ≤ 128 → x < length L → z ≤ x + 1 → ((m : ℕ) → has m ≡ some_below z (is_seer_by L x y m)) →
+    is_supermajority n (count_below 128 has) ≡ true → strongly_sees n L x y ≡ true
+strong_by_first n L x y z has s few hx le told strong =
+    let all : ℕ → Bool = sees_through L x y in
+    let more : count_below 128 has ≤ count_below 128 all = weight_below-le (λ _. 1) 128 has all (λ m h passes.
+        let found = some_below_found z (is_seer_by L x y m) (sym (told m) ∙ passes) in
+        sym (seers_all L x y m) ∙ some_below_from (x + 1) (is_seer_by L x y m) found.0 (omega (arith, found.1)) found.2) in
+    sym (strong_by_members n L x y all s few hx (λ m. refl))
+    ∙ lt-ltb (2 * n) (3 * count_below 128 all) (omega (arith, more, ltb-true (2 * n) (3 * count_below 128 has) strong))
+
+-- what is strongly seen is an ancestor
+pub strong_above : (n : ℕ) (L : List Link) (x y : ℕ) → IsEarlier (parents L) → is_ancestor L x y ≡ false → strongly_sees n L x y ≡ false
+strong_above n L x y e none = false_from_ne_true (strongly_sees n L x y) (λ strong. true≢false (sym (strongly_sees-is_ancestor L e n x y strong) ∙ none))
 
 same_test : (a b : ℕ) → eqb a b ≡ eqb b a
 same_test a b = elim (cases_eq a b) [
