@@ -1,4 +1,4 @@
-ghost use Rattle.std.specs.Prelude.{◌≡◌, ◌<◌, ◌||◌, ◌&&◌, ◌==◌, ℕ, length};
+ghost use Rattle.std.specs.Prelude.{◌≡◌, ◌<◌, ◌≤◌, ◌||◌, ◌&&◌, ◌==◌, ℕ, length};
 ghost use Rattle.hg_model.specs.Links.{creator};
 ghost use Rattle.hg_model.specs.Ancestry.{is_ancestor};
 ghost use Rattle.hg_model.specs.Seeing.{sees, strongly_sees};
@@ -57,7 +57,7 @@ fn has_seers_over(
 ) -> bool
     requires known { HoldsSight members links.now rows.now masks.now }
     requires left { x < length links.now }
-    requires right { y < length links.now }
+    requires before { y ≤ x }
     ensures { result ≡ strongly_sees members links.now x y }
 {
     let mut mask = 0;

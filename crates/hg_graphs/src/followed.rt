@@ -55,8 +55,8 @@ impl Followed {
         self.sight.reserve()?;
         self.watch.reserve()?;
         self.table.reserve()?;
-        self.watch.add(creator, own_of(parents));
         self.sight.extend(parents, creator);
+        self.watch.add(creator, own_of(parents));
         let (round, witness) = place_round(&self.sight, &self.table, parents);
         self.table.add(round, witness);
         Ok(())
