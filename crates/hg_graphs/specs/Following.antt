@@ -2,7 +2,7 @@
 use Rattle.std.specs.Prelude.{ℕ, ◌≡◌, ◌≢◌, ◌<◌, List, length}
 use Rattle.hg_model.specs.declared.row.Row.{Row}
 use Rattle.hg_model.specs.Links.{place_of}
-use Rattle.hg_model.specs.Verdict.{row_creator}
+use Rattle.hg_model.specs.Graph.{creator_at}
 use Rattle.hg_model.specs.Shape.{Shape}
 use Rattle.hg_model.specs.Standings.{Standing}
 use Rattle.hg_forks.specs.Own.{own_shape}
@@ -21,9 +21,9 @@ pub record NamedRows : Type 0 where
 -- there is a row with this name, by member m
 pub record IsCreatorOf (G : List Row) (name : List ℕ) (m : ℕ) : Type 0 where
   pub held : place_of G name < length G
-  pub by_m : row_creator G (place_of G name) ≡ m
+  pub by_m : creator_at G (place_of G name) ≡ m
 
 -- there is a row with this name, by another than m
 pub record IsByAnother (G : List Row) (name : List ℕ) (m : ℕ) : Type 0 where
   pub held : place_of G name < length G
-  pub by_other : row_creator G (place_of G name) ≢ m
+  pub by_other : creator_at G (place_of G name) ≢ m
