@@ -1,4 +1,4 @@
-ghost use Rattle.std.specs.Prelude.{◌≡◌, ◌<◌, ◌≤◌, ◌-◌, ◌+◌, ◌^◌, [], Some, suc, length, slice_get, slice_index_or, IfOk};
+ghost use Rattle.std.specs.Prelude.{◌≡◌, ◌<◌, ◌≤◌, ◌-◌, ◌+◌, ◌^◌, [], Some, suc, length, slice_get, slice_index_or, IfOk, refl};
 ghost use Rattle.hg_model.specs.Links.{links};
 ghost use Rattle.hg_model.specs.Graph.{IsShaped};
 ghost use Rattle.hg_model.specs.Fame.{is_witness_in};
@@ -169,6 +169,10 @@ impl<'a> Rounds for PlainPrefix<'a> {
 
 impl<'a> Prefix for PlainPrefix<'a> {
     ghost graph = { λ g. g };
+
+    ghost sees_graph = { λ g. refl };
+
+    ghost has_rounds = { λ g. refl };
 
     fn row(&self, x: usize) -> &Row {
         row_at(self.rows, x)
