@@ -17,6 +17,7 @@ use Rattle.hg_model.proofs.ShapeLaws.{shaped-take}
 use Rattle.hg_model.proofs.LongerLaws.{longer-append, longer-take, is_ancestor-longer, has_fork_below-longer}
 use Rattle.hg_bits.specs.Masks.{mask_has}
 use Rattle.hg_bits.proofs.RowLaws.{table-same}
+use Rattle.hg_ancestry.proofs.SeerLaws.{eqb_turned}
 use Rattle.hg_ancestry.specs.Held.{is_above, row_at, HoldsSight}
 
 -- nothing
@@ -37,18 +38,12 @@ module _ (n : ℕ) (L : List Link) (link : Link) (s : IsShaped n L) (fits : Fits
   pub parents_last : parents (L ++ link ∷ []) (length L) ≡ link.parents
   parents_last = parents_read (L ++ link ∷ []) (length L) link (omega (arith, length_push L link)) (sym (get_or_push L link link (length L) refl))
 
-  same_test : (a b : ℕ) → eqb a b ≡ eqb b a
-  same_test a b = elim (cases_eq a b) [
-    | inl same ↦ eq-eqb a b same ∙ sym (eq-eqb b a (sym same))
-    | inr apart ↦ ne_eqb a b apart ∙ sym (ne_eqb b a (λ same. apart (sym same)))
-  ]
-
   -- the ancestors of the new row: itself, and what is above its parents
   pub above_last : (y : ℕ) → is_ancestor (L ++ link ∷ []) (length L) y ≡ (eqb y (length L) || list_any (λ p. is_ancestor L p y) link.parents)
   above_last y =
       let M = L ++ link ∷ [] in
       is_ancestor-at M (shape-push n L link s fits).earlier (length L) y
-      ∙ ap₂ (λ (a b : Bool). a || b) (same_test (length L) y)
+      ∙ ap₂ (λ (a b : Bool). a || b) (eqb_turned (length L) y)
       (ap (list_any (λ p. is_ancestor M p y)) parents_last
       ∙ list_any-same (λ p. is_ancestor M p y) (λ p. is_ancestor L p y) link.parents (λ p h. is_ancestor-longer L M (longer-append L (link ∷ [])) p y (fits.earlier p h)))
 

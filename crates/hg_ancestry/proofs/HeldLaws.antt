@@ -2,6 +2,7 @@
 use Rattle.std.proofs.Common.{◌≡◌, ℕ, ◌+◌, ◌<◌, ◌≤◌, ◌||◌, ◌&&◌, not, eqb, true, false, List, [], ◌∷◌, Bool, length, get_or, replicate, Option, Some, None, sym, ap, ◌∙◌, refl, inl, inr, arith}
 use Rattle.std.proofs.lemmas.Bool.{cases_lt, and_parts, and_from, eq-eqb, eqb-true, not-true, not_from_false, false_from_ne_true}
 use Rattle.std.proofs.lemmas.List.{get_or_read, get_or_past, get_or-replicate, length-replicate}
+use Rattle.std.proofs.Math.Bool.{or-false}
 use Rattle.hg_model.specs.Places.{table, IsEarlier}
 use Rattle.hg_model.specs.Links.{Link, parents, creator}
 use Rattle.hg_model.specs.Ancestry.{is_ancestor}
@@ -65,10 +66,6 @@ module _ (L : List Link) (e : IsEarlier (parents L)) (rows : List (List Bool)) (
   unfolding union_of
   joined_long row other = length-table (λ k. is_in row k || is_in other k) (length row)
 
-  or_none : (b : Bool) → b ≡ (b || false)
-  or_none true = refl
-  or_none false = refl
-
   -- that of two parents' ancestors
   pub filled_on : (n own other : ℕ) → own < length L → other < length L →
       union_of (union_of (replicate n false) (row_at rows own)) (row_at rows other) ≡ table (is_above L (Some (own, other))) n
@@ -80,7 +77,7 @@ module _ (L : List Link) (e : IsEarlier (parents L)) (rows : List (List Bool)) (
       is_table (union_of first (row_at rows other)) (is_above L (Some (own, other))) n (joined_long first (row_at rows other) ∙ (first_long ∙ long))
       (λ k h. joined_one first other k hother (omega (arith, first_long, long))
       ∙ (ap (λ b. b || is_ancestor L other k) (joined_one empty own k hown (omega (arith, long)) ∙ ap (λ b. b || is_ancestor L own k) (get_or-replicate n k false false h))
-      ∙ ap (λ b. is_ancestor L own k || b) (or_none (is_ancestor L other k))))
+      ∙ ap (λ b. is_ancestor L own k || b) (sym (or-false (is_ancestor L other k)))))
 
 -- and the place of the row itself
 pub filled_last : (test : ℕ → Bool) (row : List Bool) (n i : ℕ) → row ≡ table test n → with_place row i ≡ table (λ k. eqb k i || test k) n

@@ -1,6 +1,9 @@
 -- The members through whom a row sees another
-use Rattle.std.proofs.Common.{◌≡◌, ℕ, zero, suc, ◌+◌, ◌<◌, ◌≤◌, ◌||◌, ◌&&◌, eqb, true, false, Bool, List, length, sym, ap, ◌∙◌, refl, inl, inr, arith, add-one, ap₂}
-use Rattle.std.proofs.lemmas.Bool.{cases_lt, cases_eq, and_parts, false_from_ne_true, eq-eqb, ne_eqb}
+use Rattle.std.proofs.Common.{◌≡◌, ℕ, zero, suc, ◌+◌, ◌*◌, ◌<◌, lt-ltb, ◌≤◌, ◌||◌, ◌&&◌, eqb, true, false, Bool, List, length, sym, ap, ◌∙◌, refl, inl, inr, arith, add-one, ap₂}
+use Rattle.std.proofs.lemmas.Bool.{cases_lt, cases_eq, and_parts, false_from_ne_true, eq-eqb, ne_eqb, ltb-true, true≢false}
+use Rattle.std.proofs.Math.Bool.{or-false, or_comm}
+use Rattle.hg_bits.specs.Masks.{mask_has}
+use Rattle.hg_bits.proofs.MaskLaws.{mask_none}
 use Rattle.hg_model.specs.Places.{count_below, some_below, IsEarlier}
 use Rattle.hg_model.specs.Links.{Link, parents, creator}
 use Rattle.hg_model.specs.Ancestry.{is_ancestor}
@@ -9,7 +12,7 @@ use Rattle.hg_model.specs.Graph.{IsShaped}
 use Rattle.hg_bits.specs.Words.{IsFirst, NoneFrom}
 use Rattle.hg_bits.specs.Rows.{is_over}
 use Rattle.hg_ancestry.specs.Held.{is_apart}
-use Rattle.hg_model.proofs.PlacesLaws.{some_below_none, some_below_next, count_below_fails, weight_below-same}
+use Rattle.hg_model.proofs.PlacesLaws.{some_below_none, some_below_next, some_below_found, some_below_from, count_below_fails, weight_below-same, weight_below-le, weight_below_none}
 use Rattle.hg_model.proofs.AncestryLaws.{is_ancestor-le}
 use Rattle.hg_model.proofs.SightLaws.{sees-is_ancestor, sees_through_found, strongly_sees-is_ancestor}
 
@@ -45,12 +48,28 @@ strong_by_members n L x y has s few hx told =
     let le : z.0 ≤ x = z.1 in
     absurd (omega (arith, s.members z.0 (omega arith), z.3)))))
 
--- no row strongly sees a later one
-pub strong_past : (n : ℕ) (L : List Link) (x y : ℕ) → IsEarlier (parents L) → x < y → strongly_sees n L x y ≡ false
-strong_past n L x y e h = false_from_ne_true (strongly_sees n L x y) (λ strong. absurd (omega (arith, is_ancestor-le L e x y (strongly_sees-is_ancestor L e n x y strong))))
+-- no members are not more than two thirds
+pub none_are_few : (n : ℕ) → is_supermajority n (count_below 128 (mask_has 0)) ≡ false
+none_are_few n = false_from_ne_true (is_supermajority n (count_below 128 (mask_has 0))) (λ over.
+    absurd (omega (arith, ltb-true (2 * n) (3 * count_below 128 (mask_has 0)) over, weight_below_none (λ _. 1) 128 (mask_has 0) (λ m inside has. true≢false (sym has ∙ mask_none m)))))
 
-same_test : (a b : ℕ) → eqb a b ≡ eqb b a
-same_test a b = elim (cases_eq a b) [
+-- more than two thirds already among the first rows
+pub strong_by_first : (n : ℕ) (L : List Link) (x y z : ℕ) (has : ℕ → Bool) → IsShaped n L → n ≤ 128 → x < length L → z ≤ x + 1 → ((m : ℕ) → has m ≡ some_below z (is_seer_by L x y m)) →
+    is_supermajority n (count_below 128 has) ≡ true → strongly_sees n L x y ≡ true
+strong_by_first n L x y z has s few hx le told strong =
+    let all : ℕ → Bool = sees_through L x y in
+    let more : count_below 128 has ≤ count_below 128 all = weight_below-le (λ _. 1) 128 has all (λ m h passes.
+        let found = some_below_found z (is_seer_by L x y m) (sym (told m) ∙ passes) in
+        sym (seers_all L x y m) ∙ some_below_from (x + 1) (is_seer_by L x y m) found.0 (omega (arith, found.1)) found.2) in
+    sym (strong_by_members n L x y all s few hx (λ m. refl))
+    ∙ lt-ltb (2 * n) (3 * count_below 128 all) (omega (arith, more, ltb-true (2 * n) (3 * count_below 128 has) strong))
+
+-- what is strongly seen is an ancestor
+pub strong_above : (n : ℕ) (L : List Link) (x y : ℕ) → IsEarlier (parents L) → is_ancestor L x y ≡ false → strongly_sees n L x y ≡ false
+strong_above n L x y e none = false_from_ne_true (strongly_sees n L x y) (λ strong. true≢false (sym (strongly_sees-is_ancestor L e n x y strong) ∙ none))
+
+pub eqb_turned : (a b : ℕ) → eqb a b ≡ eqb b a
+eqb_turned a b = elim (cases_eq a b) [
   | inl same ↦ eq-eqb a b same ∙ sym (eq-eqb b a (sym same))
   | inr apart ↦ ne_eqb a b apart ∙ sym (ne_eqb b a (λ same. apart (sym same)))
 ]
@@ -62,12 +81,8 @@ skipped test from zero le none = (let same : from ≡ 0 = omega arith in rw same
 skipped test from (suc n) le none = elim (cases_lt n from) [
   | inl last ↦ (let same : from ≡ suc n = omega arith in rw same refl)
   | inr more ↦ ap (λ k. some_below k test) (sym (add-one n)) ∙ (some_below_next n test
-      ∙ (ap (λ b. some_below n test || b) (none n more (omega arith)) ∙ (or_none (some_below n test) ∙ skipped test from n more (λ i h l. none i h (omega arith)))))
+      ∙ (ap (λ b. some_below n test || b) (none n more (omega arith)) ∙ (or-false (some_below n test) ∙ skipped test from n more (λ i h l. none i h (omega arith)))))
 ]
-  where
-    or_none : (b : Bool) → (b || false) ≡ b
-    or_none true = refl
-    or_none false = refl
 
 module _ (L : List Link) (row other : List Bool) (from : ℕ) (mask : ℕ → Bool) (told : (m : ℕ) → mask m ≡ some_below from (λ a. is_over row other a && eqb (creator L a) m)) where
   apart_none : (a m : ℕ) → is_over row other a ≡ false → (is_over row other a && eqb (creator L a) m) ≡ false
@@ -78,14 +93,8 @@ module _ (L : List Link) (row other : List Bool) (from : ℕ) (mask : ℕ → Bo
   apart_next a member result first by_member made m =
       let test : ℕ → Bool = λ a. is_over row other a && eqb (creator L a) m in
       let before : some_below a test ≡ mask m = skipped test from a first.low (λ i h l. apart_none i m (first.none_before i h l)) ∙ sym (told m) in
-      let here : test a ≡ eqb m member = ap (λ b. b && eqb (creator L a) m) first.passes ∙ (ap (λ c. eqb c m) (sym by_member) ∙ same_test member m) in
-      made m ∙ (or_turned (eqb m member) (mask m) ∙ (ap₂ (λ (b c : Bool). b || c) (sym before) (sym here) ∙ sym (some_below_next a test)))
-    where
-      or_turned : (a b : Bool) → (a || b) ≡ (b || a)
-      or_turned true true = refl
-      or_turned true false = refl
-      or_turned false true = refl
-      or_turned false false = refl
+      let here : test a ≡ eqb m member = ap (λ b. b && eqb (creator L a) m) first.passes ∙ (ap (λ c. eqb c m) (sym by_member) ∙ eqb_turned member m) in
+      made m ∙ (or_comm (eqb m member) (mask m) ∙ (ap₂ (λ (b c : Bool). b || c) (sym before) (sym here) ∙ sym (some_below_next a test)))
 
   pub apart_all : from ≤ length row → NoneFrom (is_over row other) from (length row) → (m : ℕ) → mask m ≡ is_apart L row other m
   apart_all le none m = told m ∙ sym (skipped (λ a. is_over row other a && eqb (creator L a) m) from (length row) le (λ i h l. apart_none i m (none i h l)))

@@ -1,7 +1,7 @@
 ghost use Rattle.std.specs.Prelude.{◌≡◌, ◌<◌, ◌≤◌, ◌||◌, ◌&&◌, ◌==◌, ℕ, length};
 ghost use Rattle.hg_model.specs.Links.{creator};
 ghost use Rattle.hg_model.specs.Ancestry.{is_ancestor};
-ghost use Rattle.hg_model.specs.Seeing.{sees, sees_through, strongly_sees};
+ghost use Rattle.hg_model.specs.Seeing.{sees, strongly_sees};
 ghost use Rattle.hg_bits.specs.Masks.{mask_has};
 ghost use Rattle.hg_ancestry.specs.Held.{HoldsSight};
 
@@ -42,31 +42,33 @@ pub fn strongly_sees(
     requires right { y < length links.now }
     ensures { result ≡ strongly_sees members links.now x y }
 {
-    if x < y {
-        return false;
-    }
-    members_over(seers(links, rows, masks, members, x, y), members)
+    has_ancestor(links, rows, x, y) && has_seers_over(links, rows, masks, members, x, y)
 }
 
-/// The members with a row among the ancestors of row `x` that sees row `y`.
-fn seers(
+/// Whether more than two thirds of the members have a row among the ancestors of row `x` that sees row `y`.
+/// It looks no further than the first rows by so many.
+fn has_seers_over(
     links: &[PlacedLink],
     rows: &[BitRow],
     masks: &[u128],
     members: u32,
     x: usize,
     y: usize,
-) -> u128
+) -> bool
     requires known { HoldsSight members links.now rows.now masks.now }
     requires left { x < length links.now }
     requires before { y ≤ x }
-    ensures { (m : ℕ) → mask_has result m ≡ sees_through links.now x y m }
+    ensures { result ≡ strongly_sees members links.now x y }
 {
     let mut mask = 0;
     for z in y..x + 1 {
-        mask = with_seer(mask, links, rows, masks, members, x, y, z);
+        let seers = with_seer(mask, links, rows, masks, members, x, y, z);
+        if seers != mask && members_over(seers, members) {
+            return true;
+        }
+        mask = seers;
     }
-    mask
+    false
 }
 
 /// The set with the creator of row `z`, if row `z` is an ancestor of row `x` and sees row `y`.

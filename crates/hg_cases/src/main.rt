@@ -7,6 +7,7 @@ mod case;
 mod outcome;
 mod pack;
 mod playing;
+mod tally;
 mod telling;
 mod trouble;
 
@@ -14,6 +15,7 @@ use crate::case::{Case, read_case};
 use crate::outcome::difference;
 use crate::pack::Pack;
 use crate::playing::play;
+use crate::tally::Tally;
 use crate::telling::tell;
 use crate::trouble::Trouble;
 use std::fs;
@@ -21,17 +23,19 @@ use std::process::ExitCode;
 use std::rt::Files;
 
 /// The packed cases, which lie where the program runs.
-const PACKS: [&str; 3] = ["first-path.cases", "further.cases", "stage-a.cases"];
+const PACKS: [&str; 4] = [
+    "first-path.cases",
+    "further.cases",
+    "stage-a.cases",
+    "transfers.cases",
+];
 
-/// How many cases were played, and how many of them differ.
-#[derive(Clone, Copy)]
-struct Tally {
-    cases: u64,
-    differ: u64,
-}
-
-/// Plays the next case, and says whether it differs.
-fn play_next<R: AllocGlobal + Print>(rt: &R, pack: &mut Pack<'_>) -> Result<bool, Trouble> {
+/// Plays the next case, tells how it differs, if it does, and counts it.
+fn play_next<R: AllocGlobal + Print>(
+    rt: &R,
+    pack: &mut Pack<'_>,
+    tally: Tally,
+) -> Result<Tally, Trouble> {
     let Case {
         name,
         words,
@@ -40,13 +44,11 @@ fn play_next<R: AllocGlobal + Print>(rt: &R, pack: &mut Pack<'_>) -> Result<bool
     } = read_case(rt.alloc(), pack)?;
     let played = play(rt.alloc(), words.as_slice(), files)?;
     let got = played.outcome();
-    match difference(&wanted, &got) {
-        Some(part) => {
-            tell(rt, name, part, &wanted, &got)?;
-            Ok(true)
-        }
-        None => Ok(false),
+    let part = difference(&wanted, &got);
+    if let Some(part) = part {
+        tell(rt, name, part, &wanted, &got)?;
     }
+    Ok(tally.with(part))
 }
 
 /// Plays all cases of a pack, to its end.
@@ -55,9 +57,7 @@ fn play_pack<R: AllocGlobal + Print>(rt: &R, bytes: &[u8], tally: Tally) -> Resu
     let mut pack = Pack::new(bytes);
     let count = pack.count()?;
     for _ in 0..count {
-        let differs = play_next(rt, &mut pack)?;
-        tally.cases = tally.cases.saturating_add(1);
-        tally.differ = tally.differ.saturating_add(u64::from(differs));
+        tally = play_next(rt, &mut pack, tally)?;
     }
     pack.end()?;
     Ok(tally)
@@ -75,10 +75,7 @@ fn play_file<R: AllocGlobal + Files + Print>(
 
 /// Plays all packs, and tells how many cases there are and how many of them differ.
 fn play_all<R: AllocGlobal + Files + Print + Eprint>(rt: &R) -> Result<Tally, Trouble> {
-    let mut tally = Tally {
-        cases: 0,
-        differ: 0,
-    };
+    let mut tally = Tally::new();
     for name in PACKS {
         tally = match play_file(rt, name, tally) {
             Ok(tally) => tally,

@@ -1,4 +1,4 @@
-ghost use Rattle.std.specs.Prelude.{◌≡◌, ◌↔◌, ◌≤◌, ◌++◌, ◌∷◌, Contains, IfSome, IsOk, IsSome, drop, length, take};
+ghost use Rattle.std.specs.Prelude.{◌≡◌, ◌↔◌, ◌≤◌, ◌++◌, ◌∷◌, Contains, IfOk, IfSome, IsOk, IsSome, drop, length, take};
 
 use crate::trouble::Trouble;
 
@@ -38,7 +38,10 @@ impl<'a> Pack<'a> {
     }
 
     /// The next line as text.
-    pub fn text(&mut self) -> Result<&'a str, Trouble> {
+    pub fn text(&mut self) -> Result<&'a str, Trouble>
+        ensures cut { IfOk result (λ text. self.old.rest.now ≡ text.now ++ 10 ∷ self.new.rest.now) }
+        ensures first { IfOk result (λ text. Contains text.now 10 → ⊥) }
+    {
         let line = self.line().ok_or(Trouble::Broken)?;
         str::from_utf8(line).ok().ok_or(Trouble::Broken)
     }

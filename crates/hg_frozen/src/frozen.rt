@@ -1,4 +1,4 @@
-ghost use Rattle.std.specs.Prelude.{◌≡◌, ◌<◌, length};
+ghost use Rattle.std.specs.Prelude.{◌≡◌, ◌<◌, length, refl};
 ghost use Rattle.hg_model.specs.Links.{links};
 ghost use Rattle.hg_model.specs.Prefix.{graph_of, links_of};
 ghost use Rattle.hg_model.specs.Shape.{shape_of};
@@ -104,6 +104,10 @@ impl<S: Sight, R: Rounds> Rounds for Frozen<S, R> {
 
 impl<S: Sight, R: Rounds> Prefix for Frozen<S, R> {
     ghost graph = { λ g. g };
+
+    ghost sees_graph = { λ g. refl };
+
+    ghost has_rounds = { λ g. refl };
 
     fn row(&self, x: usize) -> &Row {
         &self.rows[x]

@@ -1,4 +1,4 @@
-ghost use Rattle.std.specs.Prelude.{◌≡◌, ◌<◌, ◌≤◌, ◌++◌, ◌∷◌, [], Some, length, option_map, slice_get, IfOk, OnOk};
+ghost use Rattle.std.specs.Prelude.{◌≡◌, ◌<◌, ◌≤◌, ◌++◌, ◌∷◌, [], Some, length, option_map, slice_get, IfOk, OnOk, refl};
 ghost use Rattle.hg_model.specs.Links.{first_place, link_in, links};
 ghost use Rattle.hg_model.specs.Forks.{forkers};
 ghost use Rattle.hg_model.specs.Graph.{IsGraph};
@@ -205,6 +205,10 @@ impl Rounds for EventGraph {
 
 impl Prefix for EventGraph {
     ghost graph = { λ g. g.graph };
+
+    ghost sees_graph = { λ g. refl };
+
+    ghost has_rounds = { λ g. refl };
 
     fn row(&self, x: usize) -> &Row {
         self.store.row(x)

@@ -4,7 +4,8 @@ use Rattle.std.proofs.Math.Seq.{take-append_seam}
 use Rattle.std.proofs.lemmas.List.{take-append-drop}
 use Rattle.hg_io.specs.Bytes.{Appends, AppendsPart}
 use Rattle.hg_io.specs.Faults.{Rose}
-use Rattle.hg_io.specs.Telling.{Desk, IsPut, IsPutUpTo, IsStopped, Puts, Tells}
+use Rattle.hg_io.specs.Telling.{Desk, IsPut, IsPutUpTo, IsStopped, Puts, Tells, desk}
+use Rattle.hg_io.specs.declared.sink.Sink as sink
 use Rattle.hg_io.proofs.Appended.{option_map-append}
 
 -- two pieces that are cut off a list, one after the other
@@ -128,14 +129,17 @@ part_of_stop a b text stop = (
 pub stopped_part : (a b : Desk) (text : List ℕ) → a.held ≡ [] → IsStopped a b text → AppendsPart a.written b.written text
 stopped_part a b text none stop = rw none at (part_of_stop a b text stop)
 
-pub told_by_page : {T E : Type 0} (a b c : Desk) (text : List ℕ) (r : Result T E) → a.held ≡ [] → IsPut a b text
-    → Tells b.written c.written b.faults c.faults b.held r → Tells a.written c.written a.faults c.faults text r
-told_by_page a b c text (Ok x) none put told =
-    let whole : text ≡ put.sent ++ b.held = rw none at put.split in
-    (rw whole (append_twice a.written b.written c.written put.sent b.held put.written told.0), omega (arith, put.faults, told.1))
-told_by_page a b c text (Err e) none put told =
+pub told_by_page : {S T E : Type 0} (K : sink.Ghosts S) (first middle last : S) (none held text : List ℕ) (r : Result T E) → none ≡ []
+    → IsPut (desk K first none) (desk K middle held) text → Tells K middle last held r → Tells K first last text r
+told_by_page K first middle last none held text (Ok x) empty put told =
+    let whole : text ≡ put.sent ++ held = rw empty at put.split in
+    (rw whole (append_twice (K.written first) (K.written middle) (K.written last) put.sent held put.written told.0), omega (arith, put.faults, told.1))
+told_by_page K first middle last none held text (Err e) empty put told =
+    let a = desk K first none in
+    let b = desk K middle held in
+    let c = desk K last [] in
     let stop : IsStopped a c (text ++ []) = stops_then put (stops_sending b c [] told.0 told.1 told.2) in
-    (rw (append-nil text) at (stopped_part a c (text ++ []) none stop), stop.rose, stop.faults)
+    (rw (append-nil text) at (stopped_part a c (text ++ []) empty stop), stop.rose, stop.faults)
 
 -- ---- a text piece by piece
 

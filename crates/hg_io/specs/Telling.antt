@@ -2,12 +2,14 @@
 use Rattle.std.specs.Prelude.{◌≡◌, ℕ, ◌<◌, ◌≤◌, List, ◌++◌, length, Option, Result, Ok, Err}
 use Rattle.hg_io.specs.Bytes.{Appends, AppendsPart}
 use Rattle.hg_io.specs.Faults.{Rose}
+use Rattle.hg_io.specs.declared.sink.Sink as sink
 
--- what came of telling a text: it was written whole, or a front of it and not all, with a fault that was counted.
--- No count falls.
-abbrev pub Tells : {T E : Type 0} → Option (List ℕ) → Option (List ℕ) → ℕ → ℕ → List ℕ → Result T E → Type 0
-Tells before after faults_before faults_after text (Ok x) = Appends before after text × (faults_before ≤ faults_after)
-Tells before after faults_before faults_after text (Err e) = AppendsPart before after text × Rose faults_before faults_after × (faults_before ≤ faults_after)
+-- what came of telling a text to a sink K: it was written whole, or a front of it and not all, with a fault that was
+-- counted. No count falls.
+abbrev pub Tells : {S T E : Type 0} → sink.Ghosts S → S → S → List ℕ → Result T E → Type 0
+Tells K before after text (Ok x) = Appends (K.written before) (K.written after) text × (K.faults before ≤ K.faults after)
+Tells K before after text (Err e) =
+    AppendsPart (K.written before) (K.written after) text × Rose (K.faults before) (K.faults after) × (K.faults before ≤ K.faults after)
 
 -- a sink and the page before it: what was written, how often it failed, and what the page holds
 pub record Desk : Type 0 where
@@ -15,8 +17,8 @@ pub record Desk : Type 0 where
   pub faults : ℕ
   pub held : List ℕ
 
-abbrev pub desk : Option (List ℕ) → ℕ → List ℕ → Desk
-desk written faults held = record { written = written; faults = faults; held = held }
+abbrev pub desk : {S : Type 0} → sink.Ghosts S → S → List ℕ → Desk
+desk K now held = record { written = K.written now; faults = K.faults now; held = held }
 
 -- a text went behind what was held: some first bytes of them are written now, and the page holds the others
 pub record IsPut (before after : Desk) (text : List ℕ) : Type 0 where

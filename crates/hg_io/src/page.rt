@@ -26,7 +26,7 @@ impl Model for Page {
 
 // Gives the sink all bytes of the page.
 fn send<K: Sink>(bytes: &mut ArrayVec<u8, PAGE>, sink: &mut K) -> Result<(), Failed>
-    ensures told { Tells (K.written sink.old) (K.written sink.new) (K.faults sink.old) (K.faults sink.new) bytes.old.items result }
+    ensures told { Tells K.Sink sink.old sink.new bytes.old.items result }
     ensures empty { OnOk result (bytes.new.items ≡ []) }
 {
     write_all(sink, bytes.as_slice())?;
@@ -38,7 +38,7 @@ fn send<K: Sink>(bytes: &mut ArrayVec<u8, PAGE>, sink: &mut K) -> Result<(), Fai
 #[tactic(auto, using(crate::proofs::Told::stops_straight))]
 fn begin<K: Sink>(bytes: &mut ArrayVec<u8, PAGE>, sink: &mut K, piece: &[u8]) -> Result<(), Failed>
     requires { bytes.old.items ≡ [] }
-    ensures { Puts (desk (K.written sink.old) (K.faults sink.old) bytes.old.items) (desk (K.written sink.new) (K.faults sink.new) bytes.new.items) piece.now result }
+    ensures { Puts (desk K.Sink sink.old bytes.old.items) (desk K.Sink sink.new bytes.new.items) piece.now result }
 {
     if bytes.try_extend_from_slice(piece).is_ok() {
         return Ok(());
@@ -50,7 +50,7 @@ fn begin<K: Sink>(bytes: &mut ArrayVec<u8, PAGE>, sink: &mut K, piece: &[u8]) ->
 // Puts a piece behind the bytes of the page.
 #[tactic(auto, using(crate::proofs::Told::stops_sending, crate::proofs::Told::puts_after_sending, crate::proofs::Told::stops_after_sending))]
 fn put<K: Sink>(bytes: &mut ArrayVec<u8, PAGE>, sink: &mut K, piece: &[u8]) -> Result<(), Failed>
-    ensures { Puts (desk (K.written sink.old) (K.faults sink.old) bytes.old.items) (desk (K.written sink.new) (K.faults sink.new) bytes.new.items) piece.now result }
+    ensures { Puts (desk K.Sink sink.old bytes.old.items) (desk K.Sink sink.new bytes.new.items) piece.now result }
 {
     if bytes.try_extend_from_slice(piece).is_ok() {
         return Ok(());
@@ -72,14 +72,14 @@ impl Page {
 
     /// Puts the bytes behind those of the page, which go to the sink first where there is no room for both.
     pub fn put<K: Sink>(&mut self, sink: &mut K, bytes: &[u8]) -> Result<(), Failed>
-        ensures { Puts (desk (K.written sink.old) (K.faults sink.old) self.old) (desk (K.written sink.new) (K.faults sink.new) self.new) bytes.now result }
+        ensures { Puts (desk K.Sink sink.old self.old) (desk K.Sink sink.new self.new) bytes.now result }
     {
         put(&mut self.bytes, sink, bytes)
     }
 
     /// Gives the sink all bytes of the page.
     pub fn send<K: Sink>(&mut self, sink: &mut K) -> Result<(), Failed>
-        ensures { Tells (K.written sink.old) (K.written sink.new) (K.faults sink.old) (K.faults sink.new) self.old result }
+        ensures { Tells K.Sink sink.old sink.new self.old result }
     {
         send(&mut self.bytes, sink)
     }

@@ -4,12 +4,7 @@ use Rattle.hg_members.specs.declared.fault.MemberFault.{MemberFault}
 use Rattle.hg_members.specs.declared.stop.Stop.{Stop}
 use Rattle.hg_members.specs.declared.stop.Stop.TheVariants.{Memory, Fault}
 
--- the value that is read, as it is seen, or the same fault
-abbrev pub Reads : {X Y : Type 0} → (X → Y) → Result X MemberFault → Result Y MemberFault → Type 0
-Reads view (Ok x) read = read ≡ Ok (view x)
-Reads view (Err fault) read = read ≡ Err fault
-
--- the same, unless memory runs out
+-- the value that is read, as it is seen, or the same fault, unless memory runs out
 abbrev pub Gives : {X Y : Type 0} → (X → Y) → Result X Stop → Result Y MemberFault → Type 0
 Gives view (Ok x) read = read ≡ Ok (view x)
 Gives view (Err Memory) read = ⊤

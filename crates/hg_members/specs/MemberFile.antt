@@ -10,14 +10,9 @@ use Rattle.toml.specs.Data.{Data, Items, no_items, item, table, get, as_array, a
 use Rattle.toml.specs.Parse.{parse_document}
 use Rattle.hg_model.specs.declared.members.MemberEntry.{MemberEntry}
 use Rattle.hg_model.specs.Members.{MemberList, listed, is_member_name}
+use Rattle.hg_model.specs.Results.{◌>>=◌}
 use Rattle.hg_members.specs.declared.fault.MemberFault.{MemberFault}
 use Rattle.hg_members.specs.declared.fault.MemberFault.TheVariants.{NotToml, BadCoin, Count, BadName, DoubleName, BadSecret, BadBalance, BadNode, SumTooLarge}
-
--- one check after the other, up to the first fault
-infixl 10 ◌>>=◌
-abbrev pub ◌>>=◌ : {A B : Type 0} → Result A MemberFault → (A → Result B MemberFault) → Result B MemberFault
-Ok x >>= next = next x
-Err fault >>= next = Err fault
 
 -- the document that the bytes are, if they are one
 abbrev pub document_of : List ℕ → Option Data

@@ -2,7 +2,8 @@ ghost use Rattle.std.specs.Prelude.{◌≡◌, codes, IfOk};
 ghost use Rattle.std.specs.Option.{option_copied};
 ghost use Rattle.toml.specs.Data.{get};
 ghost use Rattle.toml.specs.View.{view};
-ghost use Rattle.hg_members.specs.Gives.{Gives, Reads};
+ghost use Rattle.hg_model.specs.Results.{Reads};
+ghost use Rattle.hg_members.specs.Gives.{Gives};
 ghost use Rattle.hg_members.specs.MemberFile as told;
 
 use crate::fault::MemberFault;

@@ -4,7 +4,8 @@ ghost use Rattle.toml.specs.Data.{as_array, get};
 ghost use Rattle.toml.specs.View.{array_view, view};
 ghost use Rattle.hg_model.specs.declared.members.MemberEntry.{MemberEntry};
 ghost use Rattle.hg_model.specs.Members.{IsMemberList, listed};
-ghost use Rattle.hg_members.specs.Gives.{Gives, Reads};
+ghost use Rattle.hg_model.specs.Results.{Reads};
+ghost use Rattle.hg_members.specs.Gives.{Gives};
 ghost use Rattle.hg_members.specs.MemberFile as told;
 
 use crate::entry::checked_member;

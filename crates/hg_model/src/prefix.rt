@@ -1,5 +1,7 @@
 ghost use Rattle.std.specs.Prelude.{◌≡◌, ◌<◌, Some, length, slice_get};
-ghost use Rattle.hg_model.specs.Prefix.{Graph, TellsGraph};
+ghost use Rattle.hg_model.specs.Prefix.{Graph, TellsGraph, links_of};
+ghost use Rattle.hg_model.specs.Shape.{shape_of};
+ghost use Rattle.hg_model.specs.Standings.{standings_of};
 
 use crate::rounds::Rounds;
 use crate::row::Row;
@@ -19,4 +21,10 @@ pub trait Prefix: Sight + Rounds {
     fn coin(&self) -> u32
         ensures value { result ≡ (graph self.now).coin }
         ensures told { TellsGraph (Self.shape self.now) (Self.standings self.now) (graph self.now) };
+
+    /// It sees what the graph's rows see of each other.
+    ghost sees_graph: { (p : Self) → Self.shape p ≡ shape_of (graph p).members (links_of (graph p)) };
+
+    /// Its rounds are the graph's.
+    ghost has_rounds: { (p : Self) → Self.standings p ≡ standings_of (graph p).members (links_of (graph p)) };
 }

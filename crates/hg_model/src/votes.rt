@@ -23,7 +23,8 @@ pub trait Votes {
         requires witness { IsTrue (is_witness (P.graph p.now).members (links_of (P.graph p.now)) x) }
         ensures made { MadeFor self.new (P.graph p.now) }
         ensures candidate { candidate self.new ≡ x }
-        ensures counted { counted self.new ≡ round_of (P.graph p.now).members (links_of (P.graph p.now)) x };
+        ensures counted { counted self.new ≡ round_of (P.graph p.now).members (links_of (P.graph p.now)) x }
+        ensures opened { 0 < counted self.new };
 
     /// The votes of the witnesses of one round more are counted.
     fn advance<P: Prefix>(&mut self, p: &P)

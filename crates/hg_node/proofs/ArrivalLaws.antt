@@ -1,13 +1,11 @@
 -- An event against which no rule of its arrival speaks adds its link
-use Rattle.std.proofs.Common.{◌≡◌, ℕ, List, [], ◌∷◌, ◌++◌, map, Option, Some, None, refl, sym, ap, ap₂, ◌∙◌, subst}
-use Rattle.std.specs.Option.{option_or}
+use Rattle.std.proofs.Common.{◌≡◌, ℕ, List, [], ◌∷◌, ◌++◌, map, Option, None, sym, ap, ◌∙◌, subst}
 use Rattle.hg_model.specs.declared.row.Row.{Row}
-use Rattle.hg_model.specs.declared.answers.PutAnswer.{PutAnswer}
 use Rattle.hg_model.specs.Links.{Link, links, link_in, parent_names, place_of}
 use Rattle.hg_model.specs.Forks.{forkers}
 use Rattle.hg_model.specs.Graph.{IsShaped}
 use Rattle.hg_model.specs.Shape.{FitsLink, link_of, pair_list}
-use Rattle.hg_model.specs.Verdict.{arrival_rule, forkers_answer, forkers_rule, forkers_with, full_rule}
+use Rattle.hg_model.specs.Verdict.{arrival_rule}
 use Rattle.hg_model.specs.History.{Accepts}
 use Rattle.hg_model.proofs.RuleLaws.{arrives}
 use Rattle.hg_graph.proofs.NextLaws.{adds_link}

@@ -4,3 +4,4 @@ pub mod RecordLaws
 pub mod ArrivalLaws
 pub mod PutLaws
 pub mod MakeLaws
+pub mod OneLaws

@@ -10,7 +10,7 @@ use Rattle.hg_model.specs.declared.answers.MakeAnswer.TheVariants as answer
 use Rattle.hg_model.specs.declared.answers.MakeFault.{MakeFault}
 use Rattle.hg_model.specs.Graph.{IsGraph}
 use Rattle.hg_model.specs.Spelling.{body_bytes}
-use Rattle.hg_model.specs.Verdict.{row_limit, last_name, both_names, signed_row, made_row, draft_rule, collision_rule, room_rule, made_or, making}
+use Rattle.hg_model.specs.Verdict.{row_limit, last_name, both_names, made_row, draft_rule, collision_rule, room_rule, made_or, making}
 use Rattle.hg_model.specs.History.{Change, Accepts}
 use Rattle.hg_model.specs.History.Change.{Made}
 use Rattle.hg_model.specs.Shown.{Shown, with_changes, graph_of, IsNode}

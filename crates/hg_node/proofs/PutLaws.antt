@@ -1,17 +1,16 @@
 -- What a put answers, and what it leaves recorded
 use Rattle.std.proofs.Common.{◌≡◌, ℕ, ◌<◌, List, [], ◌∷◌, ◌++◌, length, Option, Some, None, Result, Ok, Err, refl, sym, ap, ◌∙◌, subst}
 use Rattle.std.specs.Prelude.{unwrap_or, IfOk, OnOk, OnErr}
-use Rattle.std.specs.Option.{option_or}
 use Rattle.hg_model.specs.declared.row.Row.{Row}
 use Rattle.hg_model.specs.declared.entry.Entry.TheVariants as entry
 use Rattle.hg_model.specs.declared.answers.ByteFault.{ByteFault}
 use Rattle.hg_model.specs.declared.answers.Fault.TheVariants as fault
 use Rattle.hg_model.specs.declared.answers.PutAnswer.{PutAnswer}
-use Rattle.hg_model.specs.declared.answers.PutAnswer.TheVariants.{Accepted, Known, Refused}
+use Rattle.hg_model.specs.declared.answers.PutAnswer.TheVariants.{Accepted, Refused}
 use Rattle.hg_model.specs.Graph.{IsGraph}
 use Rattle.hg_model.specs.Reading.{read_event}
-use Rattle.hg_model.specs.Verdict.{row_limit, verdict_of, row_verdict, arrival_rule, forkers_rule, full_rule}
-use Rattle.hg_model.specs.History.{Change, State, Accepts, replay}
+use Rattle.hg_model.specs.Verdict.{row_limit, verdict_of, row_verdict, arrival_rule}
+use Rattle.hg_model.specs.History.{Change, Accepts}
 use Rattle.hg_model.specs.History.Change.{Took}
 use Rattle.hg_model.specs.Shown.{Shown, with_changes, graph_of, IsNode}
 use Rattle.hg_model.specs.Calls.{put_answer, put_changes, taken_by, taken_from}

@@ -10,7 +10,7 @@ use Rattle.hg_model.specs.declared.entry.Entry.{Entry}
 use Rattle.hg_model.specs.declared.entry.Entry.TheVariants as entry
 use Rattle.hg_model.specs.History.{Change, State, Accepts, empty, step, replay, with_row, with_marks}
 use Rattle.hg_model.specs.History.Change.{Took, Made, Marked}
-use Rattle.hg_model.specs.Shown.{Shown, with_changes, graph_of, state_of, log, log_from, history_of, IsNode}
+use Rattle.hg_model.specs.Shown.{Shown, with_changes, state_of, log_from, history_of, IsNode}
 use Rattle.hg_history.proofs.StateLaws.{replay-push}
 use Rattle.hg_history.proofs.LogLaws.{log_tells_history}
 use Rattle.hg_node.specs.Recorded.{Recorded, recorded, recorded_with, shown, IsRecorded}

@@ -1,2 +1,3 @@
 pub mod Recorded
 pub mod Arrival
+pub mod Laws

@@ -111,12 +111,7 @@ impl Chronicle {
 }
 
 /// The later of two places: the next row's, where the member made it.
-fn later_place(
-    last: Option<usize>,
-    own: Member,
-    creator: Member,
-    place: usize,
-) -> Option<usize>
+fn later_place(last: Option<usize>, own: Member, creator: Member, place: usize) -> Option<usize>
     ensures { result ≡ cond (creator == own) (Some place) last }
 {
     if creator == own { Some(place) } else { last }

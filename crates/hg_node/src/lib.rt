@@ -6,8 +6,12 @@
 mod arrival;
 mod chronicle;
 mod draft;
+mod laws;
 mod node;
+#[cfg(test)]
+mod tests;
 
+pub use laws::making_is_one;
 pub use node::Node;
 
 /// The greatest number of rows of a node.

@@ -7,7 +7,7 @@ ghost use Rattle.hg_model.specs.Rounds.{last_round};
 ghost use Rattle.hg_model.specs.Spelling.{Spells, spelling};
 ghost use Rattle.hg_model.specs.Links.{link_in};
 ghost use Rattle.hg_model.specs.Graph.{IsGraph};
-ghost use Rattle.hg_model.specs.Verdict.{row_limit};
+ghost use Rattle.hg_model.specs.Verdict.{last_name, row_limit};
 ghost use Rattle.hg_model.specs.declared.entry.Entry.TheVariants.{Took};
 ghost use Rattle.hg_model.specs.Shape.{link_of};
 ghost use Rattle.hg_node.specs.Recorded.{recorded_with};
@@ -56,7 +56,8 @@ impl<V: Signer> Node<V> {
 
     /// The node of the member `own`, without rows.
     pub fn new(alloc: Global, members: &Members, own: Member, keys: V) -> Result<Node<V>, Memory>
-        where V: Drop
+    where
+        V: Drop,
         requires { own < length members.now.entries }
         ensures start { IfOk result (λ node. node.start ≡ start_of members.now own keys) }
         ensures history { IfOk result (λ node. node.history ≡ []) }
@@ -104,8 +105,14 @@ impl<V: Signer> Node<V> {
             Ok(parents) => parents,
             Err(fault) => return Ok(MakeAnswer::Refused(fault)),
         };
-        let (row, bytes) =
-            signed_event(self.alloc, &self.keys, &self.chronicle, other, time, payload)?;
+        let (row, bytes) = signed_event(
+            self.alloc,
+            &self.keys,
+            &self.chronicle,
+            other,
+            time,
+            payload,
+        )?;
         match row_rule(&self.chronicle, &row) {
             Err(fault) => Ok(MakeAnswer::Refused(fault)),
             Ok(()) => {
@@ -166,6 +173,13 @@ impl<V: Signer> Node<V> {
         ensures { result ≡ last_place self.now.start.own (graph_of self.now) }
     {
         self.chronicle.last_own()
+    }
+
+    /// The name of the last row that the node made, if it made any.
+    pub fn last_name(&self) -> Option<Name>
+        ensures { result ≡ last_name self.now.start.own (graph_of self.now) }
+    {
+        self.chronicle.last_name()
     }
 
     /// How many members have a fork.

@@ -2,7 +2,7 @@ pub mod TableLaws
 pub mod BallotLaws
 pub mod FameSteps
 pub mod StepLaws
-pub mod JudgeLaws
+pub mod ClosedLaws
+pub mod PrefixLaws
 pub mod TwinLaws
-pub mod KeyLaws
 pub mod OrderLaws

@@ -1,114 +1,160 @@
--- Sorted keys are the order
-use Rattle.std.proofs.Common.{◌≡◌, ℕ, suc, ◌<◌, ◌≤◌, Bool, true, false, ◌&&◌, List, [], ◌∷◌, ◌++◌, length, get_or, map, All, is_some, is_lt, unwrap_or, nat_cmp, Ordering, refl, sym, ◌∙◌, ap, ap₂, arith}
-use Rattle.std.specs.Ordering.{ordering_then}
-use Rattle.std.specs.Cmp.Lexicographic.{slice_cmp}
-use Rattle.std.proofs.lemmas.Bool.{and_parts}
-use Rattle.std.proofs.lemmas.List.Elements.{All-map, All-from_recursion, recursion_from_All}
+-- The order is that of its rounds, one after the other
+use Rattle.std.proofs.Common.{◌≡◌, inl, inr, ℕ, zero, suc, ◌+◌, ◌<◌, ◌≤◌, Bool, true, false, cond, not, ◌&&◌, ltb, eqb, List, [], ◌∷◌, ◌++◌, length, get_or, map, All, Option, Some, None, IfSome, is_some, unwrap_or, sym, refl, ap, ap₂, ◌∙◌, arith, add-one}
+use Rattle.std.specs.Prelude.{filter}
+use Rattle.std.specs.List.{AllByRecursion}
+use Rattle.std.proofs.lemmas.Bool.{cases_Bool, cases_lt, and_right, ltb-true, ltb-false, lt-ltb, le-ltb, eq-eqb, ne_eqb}
+use Rattle.std.proofs.lemmas.List.{map-append}
+use Rattle.std.proofs.lemmas.List.Elements.{All-map, All-from_recursion}
 use Rattle.hg_model.specs.declared.row.Row.{Row}
 use Rattle.hg_model.specs.declared.row.Placed.{Placed}
 use Rattle.hg_model.specs.Places.{list_below}
 use Rattle.hg_model.specs.Links.{Link}
-use Rattle.hg_model.specs.Graph.{name_at}
 use Rattle.hg_model.specs.Fame.{Marks}
-use Rattle.hg_model.specs.Order.{sig_at, xor_bytes, sort_by, round_received, received_or_zero, keyed_at, comes_before, is_received_in, ordered_in}
+use Rattle.hg_model.specs.Order.{insert_by, sort_by, comes_before, keyed_at, is_received_in, ordered_in, ordered, round_received, received_or_zero, can_receive}
+use Rattle.hg_model.proofs.ListLaws.{all_list_below}
 use Rattle.hg_model.proofs.PlacesLaws.{list_below-same}
-use Rattle.hg_model.proofs.ListLaws.{map-list_below, all_list_below, IsPairwise-list_below}
-use Rattle.hg_model.proofs.SortLaws.{IsPairwise, IsPairwise-weaker, AgreesBackwards, all_sorted, sort_by-same, sort_by-map}
-use Rattle.hg_model.proofs.CompareLaws.{then_assoc, slice_cmp-append, is_lt-then}
-use Rattle.hg_plain.specs.declared.order.Key.{Key}
-use Rattle.hg_plain.specs.Tables.{IsTableOf}
-use Rattle.hg_plain.specs.Judges.{judges_of}
-use Rattle.hg_plain.specs.Received.{whitening_by}
-use Rattle.hg_plain.specs.Keys.{key_in, key_by, is_received_by, round_by, IsWide, key_less, placed_of}
-use Rattle.hg_plain.proofs.JudgeLaws.{received_is, round_received_closed, consensus_time_is, whitening_is}
+use Rattle.hg_model.proofs.SearchLaws.{IsFoundBelow, least_below_found}
+use Rattle.hg_model.proofs.SortLaws.{all_sorted}
+use Rattle.hg_order.proofs.FamousLaws.{filter-list_below}
+use Rattle.hg_plain.specs.Rounds.{ordered_before}
 
--- a key as the definition has it: a list of numbers, and the placed row
-abbrev pub numbers_of : Key → List ℕ
-numbers_of key = key.received ∷ key.time ∷ (key.whitened ++ key.name)
+-- a sorted list falls apart at a test that the lesser elements pass
 
-abbrev pub keyed_of : Key → List ℕ × Placed
-keyed_of key = (numbers_of key, placed_of key)
+module _ {A : Type 0} (less : A → A → Bool) (low : A → Bool) (order : (a b : A) → low a ≡ true → low b ≡ false → (less a b ≡ true) × (less b a ≡ false)) where
+  insert_low : (x : A) (xs ys : List A) → low x ≡ true → AllByRecursion (λ y. low y ≡ false) ys → insert_by less x (xs ++ ys) ≡ insert_by less x xs ++ ys
+  insert_low x [] [] is high = refl
+  insert_low x [] (y ∷ ys) is high = rw (order x y is high.0).1 refl
+  insert_low x (a ∷ xs) ys is high = elim (cases_Bool (less a x)) [
+    | inl before ↦ rw (before, insert_low x xs ys is high) refl
+    | inr after ↦ rw after refl
+  ]
 
--- of keys whose places ascend the last tie is broken as they stand
+  insert_high : (x : A) (xs ys : List A) → low x ≡ false → AllByRecursion (λ y. low y ≡ true) xs → insert_by less x (xs ++ ys) ≡ xs ++ insert_by less x ys
+  insert_high x [] ys is all = refl
+  insert_high x (a ∷ xs) ys is all = rw ((order a x all.0 is).0, insert_high x xs ys is all.1) refl
 
-last_tie : (r t w n : Ordering) (a b : ℕ) → b ≤ a →
-    is_lt (ordering_then r (ordering_then t (ordering_then w (ordering_then n (nat_cmp a b))))) ≡ is_lt (ordering_then r (ordering_then t (ordering_then w n)))
-last_tie r t w n a b le =
-    ap is_lt (ap (λ o. ordering_then r (ordering_then t o)) (sym (then_assoc w n (nat_cmp a b)))
-    ∙ (ap (ordering_then r) (sym (then_assoc t (ordering_then w n) (nat_cmp a b)))
-    ∙ sym (then_assoc r (ordering_then t (ordering_then w n)) (nat_cmp a b))))
-    ∙ is_lt-then (ordering_then r (ordering_then t (ordering_then w n))) a b le
+  all_kept : (test : A → Bool) (xs : List A) → AllByRecursion (λ x. test x ≡ true) (filter test xs)
+  all_kept test [] = tt
+  all_kept test (x ∷ xs) = elim (cases_Bool (test x)) [
+    | inl kept ↦ rw kept (kept, all_kept test xs)
+    | inr left ↦ rw left (all_kept test xs)
+  ]
 
-abbrev pub StandsBefore : Key → Key → Type 0
-StandsBefore a b = a.place < b.place
+  all_high : (xs : List A) → AllByRecursion (λ x. low x ≡ false) (filter (λ x. not (low x)) xs)
+  all_high [] = tt
+  all_high (x ∷ xs) = elim (cases_Bool (low x)) [
+    | inl is ↦ rw is (all_high xs)
+    | inr is ↦ rw is (is, all_high xs)
+  ]
 
-sorts_alike : (a b : Key) → IsWide a → IsWide b → StandsBefore a b → comes_before (keyed_of b) (keyed_of a) ≡ key_less b a
-sorts_alike a b wide_a wide_b before =
-    let append = slice_cmp-append b.whitened a.whitened b.name a.name (wide_b ∙ sym wide_a) in
-    ap (λ o. is_lt (ordering_then (nat_cmp b.received a.received) (ordering_then (nat_cmp b.time a.time) o))) append
-    ∙ sym (last_tie (nat_cmp b.received a.received) (nat_cmp b.time a.time) (slice_cmp nat_cmp b.whitened a.whitened) (slice_cmp nat_cmp b.name a.name) b.place a.place (omega arith))
+  sort_split : (xs : List A) → sort_by less xs ≡ sort_by less (filter low xs) ++ sort_by less (filter (λ x. not (low x)) xs)
+  unfolding sort_by
+  sort_split [] = refl
+  sort_split (x ∷ xs) =
+      let lows = sort_by less (filter low xs) in
+      let highs = sort_by less (filter (λ y. not (low y)) xs) in
+      elim (cases_Bool (low x)) [
+        | inl is ↦ ap (insert_by less x) (sort_split xs)
+            ∙ (insert_low x lows highs is (all_sorted (λ y. low y ≡ false) less (filter (λ y. not (low y)) xs) (all_high xs)) ∙ rw is refl)
+        | inr is ↦ ap (insert_by less x) (sort_split xs)
+            ∙ (insert_high x lows highs is (all_sorted (λ y. low y ≡ true) less (filter low xs) (all_kept low xs)) ∙ rw is refl)
+      ]
 
-agree : (keys : List Key) → All IsWide keys → IsPairwise StandsBefore keys → AgreesBackwards (λ a b. comes_before (keyed_of a) (keyed_of b)) key_less keys
-agree keys wide places =
-    IsPairwise-weaker IsWide StandsBefore (λ a b. comes_before (keyed_of b) (keyed_of a) ≡ key_less b a) keys sorts_alike (recursion_from_All IsWide keys wide) places
+-- keys fall apart by their rounds
 
-placed_parts : (keys : List Key) → map (λ (keyed : List ℕ × Placed). keyed.1) (map keyed_of keys) ≡ map placed_of keys
-placed_parts [] = refl
-placed_parts (k ∷ ks) = ap (λ rest. placed_of k ∷ rest) (placed_parts ks)
+abbrev is_before : ℕ → List ℕ × Placed → Bool
+is_before r keyed = ltb (get_or keyed.0 0 0) r
 
-module _ (n : ℕ) (G : List Row) (L : List Link) (marks : Marks) (judges : List (List ℕ)) (told : IsTableOf [] (judges_of n L marks) (suc (length L)) judges) where
-  key_place : (x : ℕ) → (key_by G L judges x).place ≡ x
-  unfolding key_by
-  key_place x = refl
+apart : (r : ℕ) (a b : List ℕ) (p q : Placed) → ltb (get_or a 0 0) r ≡ true → ltb (get_or b 0 0) r ≡ false → (comes_before (a, p) (b, q) ≡ true) × (comes_before (b, q) (a, p) ≡ false)
+apart r a [] p q low high = absurd (let some = ltb-true (get_or a 0 0) r low in let none = ltb-false 0 r high in omega arith)
+apart r [] (y ∷ ys) p q low high = (refl, refl)
+apart r (x ∷ xs) (y ∷ ys) p q low high =
+    let lt = ltb-true x r low in
+    let ge = ltb-false y r high in
+    let less : ltb x y ≡ true = lt-ltb x y (omega arith) in
+    let not_less : ltb y x ≡ false = le-ltb y x (omega arith) in
+    let differ : eqb y x ≡ false = ne_eqb y x (λ e. absurd (omega arith)) in
+    (rw less refl, rw (not_less, differ) refl)
 
-  places_ascend : (N : ℕ) (test : ℕ → Bool) → IsPairwise StandsBefore (list_below (key_by G L judges) N test)
-  places_ascend N test = IsPairwise-list_below StandsBefore (key_by G L judges) N test (λ j k h. rw (key_place j, key_place k) h)
+low_test : (s : Bool) (z r : ℕ) → ((s && ltb z (suc r)) && ltb z r) ≡ (s && ltb z r)
+low_test false z r = refl
+low_test true z r = elim (cases_lt z r) [
+  | inl low ↦ rw (lt-ltb z r low, lt-ltb z (suc r) (omega arith)) refl
+  | inr high ↦ rw (le-ltb z r high) (none (ltb z (suc r)))
+]
+  where
+    none : (b : Bool) → (b && false) ≡ false
+    none true = refl
+    none false = refl
 
-  key_by_is : (x : ℕ) → is_some (round_received n L marks x) ≡ true → keyed_of (key_by G L judges x) ≡ keyed_at n G L marks x
-  unfolding key_by
-  key_by_is x some =
-      let r = received_or_zero n L marks x in
-      let closed = round_received_closed n L marks x some in
-      let same_round : round_by L judges x ≡ r = ap (λ o. unwrap_or o 0) (received_is n L marks judges x told) in
-      let same_judges : get_or judges r [] ≡ judges_of n L marks r = told.at r closed.0 in
-      let same_time = consensus_time_is n L marks G r x closed.1 in
-      let same_whitening = whitening_is n L marks G r closed.1 in
-      ap (λ s. keyed_of (key_in G L (get_or judges s []) (whitening_by G (get_or judges s [])) s x)) same_round
-      ∙ (ap (λ round. keyed_of (key_in G L round (whitening_by G round) r x)) same_judges
-      ∙ ap₂ (λ time white. keyed_of (record { received = r; time = time; whitened = xor_bytes (sig_at G x) white; name = name_at G x; place = x })) same_time same_whitening)
+last_test : (s : Bool) (z r : ℕ) → ((s && ltb z (suc r)) && not (ltb z r)) ≡ (s && eqb z r)
+last_test false z r = refl
+last_test true z r = elim (cases_lt z r) [
+  | inl low ↦ rw (lt-ltb z r low, lt-ltb z (suc r) (omega arith), ne_eqb z r (λ e. absurd (omega arith))) refl
+  | inr high ↦ elim (cases_lt z (suc r)) [
+    | inl same ↦ rw (le-ltb z r high, lt-ltb z (suc r) same, eq-eqb z r (omega arith)) refl
+    | inr past ↦ rw (le-ltb z r high, le-ltb z (suc r) past, ne_eqb z r (λ e. absurd (omega arith))) refl
+  ]
+]
 
-  received_alike : (x : ℕ) → is_received_in n L marks (λ _. true) x ≡ is_received_by L judges x
-  unfolding is_received_by
-  received_alike x = and_true (is_some (round_received n L marks x)) ∙ ap is_some (sym (received_is n L marks judges x told))
-    where
-      and_true : (b : Bool) → (b && true) ≡ b
-      and_true true = refl
-      and_true false = refl
+never : (b : Bool) (z : ℕ) → (b && ltb z 0) ≡ false
+never b z = and_right b (ltb z 0) (le-ltb z 0 (omega arith))
 
-  is_received : (x : ℕ) → is_received_in n L marks (λ _. true) x ≡ true → is_some (round_received n L marks x) ≡ true
-  is_received x e = (and_parts (is_some (round_received n L marks x)) true e).0
+module _ (n : ℕ) (G : List Row) (L : List Link) (marks : Marks) where
+  abbrev received : (ℕ → Bool) → ℕ → Bool
+  received test = is_received_in n L marks test
 
-  pub order_is : (keys : List Key) → All IsWide keys → keys ≡ list_below (key_by G L judges) (length L) (is_received_by L judges) →
-      map placed_of (sort_by key_less keys) ≡ ordered_in n G L marks (λ _. true)
+  abbrev seconds : List (List ℕ × Placed) → List Placed
+  seconds xs = map (λ (keyed : List ℕ × Placed). keyed.1) xs
+
+  none_below : (m : ℕ) → list_below (keyed_at n G L marks) m (received (λ k. ltb k 0)) ≡ []
+  unfolding list_below
+  none_below zero = refl
+  none_below (suc m) =
+      ap₂ (λ (xs : List (List ℕ × Placed)) (b : Bool). xs ++ cond b (keyed_at n G L marks m ∷ []) []) (none_below m) (never (is_some (round_received n L marks m)) (received_or_zero n L marks m))
+
+  pub before_none : ordered_before n G L marks 0 ≡ []
+  unfolding ordered_before ordered_in sort_by
+  before_none = ap (λ xs. seconds (sort_by comes_before xs)) (none_below (length L))
+
+  pub before_more : (r : ℕ) → ordered_before n G L marks (r + 1) ≡ ordered_before n G L marks r ++ ordered_in n G L marks (λ k. eqb k r)
+  unfolding ordered_before ordered_in
+  before_more r =
+      rw (add-one r)
+      (let keyed = keyed_at n G L marks in
+      let all = received (λ k. ltb k (suc r)) in
+      let rows = list_below keyed (length L) all in
+      let lows : filter (is_before r) rows ≡ list_below keyed (length L) (received (λ k. ltb k r)) =
+      filter-list_below (is_before r) keyed (length L) all
+      ∙ list_below-same keyed keyed (length L) (λ x. all x && is_before r (keyed x)) (received (λ k. ltb k r))
+      (λ x h. low_test (is_some (round_received n L marks x)) (received_or_zero n L marks x) r) (λ x h e. refl) in
+      let lasts : filter (λ k. not (is_before r k)) rows ≡ list_below keyed (length L) (received (λ k. eqb k r)) =
+      filter-list_below (λ k. not (is_before r k)) keyed (length L) all
+      ∙ list_below-same keyed keyed (length L) (λ x. all x && not (is_before r (keyed x))) (received (λ k. eqb k r))
+      (λ x h. last_test (is_some (round_received n L marks x)) (received_or_zero n L marks x) r) (λ x h e. refl) in
+      ap seconds (sort_split comes_before (is_before r) (λ a b low high. apart r a.0 b.0 a.1 b.1 low high) rows)
+      ∙ (map-append (λ (k : List ℕ × Placed). k.1) (sort_by comes_before (filter (is_before r) rows)) (sort_by comes_before (filter (λ k. not (is_before r k)) rows))
+      ∙ ap₂ (λ (xs ys : List (List ℕ × Placed)). seconds (sort_by comes_before xs) ++ seconds (sort_by comes_before ys)) lows lasts))
+
+  found_before : (o : Option ℕ) (x : ℕ) → IfSome o (IsFoundBelow (can_receive n L marks x) (suc (length L))) → (is_some o && ltb (unwrap_or o 0) (suc (length L))) ≡ (is_some o && true)
+  found_before None x found = refl
+  found_before (Some k) x found = lt-ltb k (suc (length L)) found.0
+
+  -- all rounds are before the one after as many as there are rows
+  pub before_all : ordered_before n G L marks (suc (length L)) ≡ ordered n G L marks
+  unfolding ordered_before ordered_in round_received
+  before_all =
+      ap (λ xs. seconds (sort_by comes_before xs))
+      (list_below-same (keyed_at n G L marks) (keyed_at n G L marks) (length L) (received (λ k. ltb k (suc (length L)))) (received (λ _. true))
+      (λ x h. found_before (round_received n L marks x) x (least_below_found (λ r. r) (suc (length L)) (can_receive n L marks x))) (λ x h e. refl))
+
+  pub ordered_within : All (λ (p : Placed). p.place < length L) (ordered n G L marks)
   unfolding ordered_in
-  order_is keys wide is =
-      let second = λ (keyed : List ℕ × Placed). keyed.1 in
-      let received = is_received_in n L marks (λ _. true) in
-      let by_place : map keyed_of keys ≡ list_below (keyed_at n G L marks) (length L) received =
-      ap (map keyed_of) is
-      ∙ (map-list_below keyed_of (key_by G L judges) (length L) (is_received_by L judges)
-      ∙ sym (list_below-same (keyed_at n G L marks) (λ x. keyed_of (key_by G L judges x)) (length L) received (is_received_by L judges)
-      (λ x h. received_alike x) (λ x h e. sym (key_by_is x (is_received x e))))) in
-      let sorts = sort_by-same (λ a b. comes_before (keyed_of a) (keyed_of b)) key_less keys (agree keys wide (rw is (places_ascend (length L) (is_received_by L judges)))) in
-      sym (ap (λ xs. map second (sort_by comes_before xs)) (sym by_place)
-      ∙ (ap (map second) (sort_by-map keyed_of comes_before keys)
-      ∙ (placed_parts (sort_by (λ a b. comes_before (keyed_of a) (keyed_of b)) keys)
-      ∙ ap (map placed_of) sorts)))
+  ordered_within =
+      let P : List ℕ × Placed → Type 0 = λ keyed. keyed.1.place < length L in
+      let rows = list_below (keyed_at n G L marks) (length L) (received (λ _. true)) in
+      All-map (λ (p : Placed). p.place < length L) (λ (keyed : List ℕ × Placed). keyed.1) (sort_by comes_before rows)
+      (All-from_recursion P (sort_by comes_before rows) (all_sorted P comes_before rows
+      (all_list_below P (keyed_at n G L marks) (length L) (received (λ _. true)) (λ x h e. h))))
 
-  pub places_within : (keys : List Key) → keys ≡ list_below (key_by G L judges) (length L) (is_received_by L judges) →
-      All (λ (p : Placed). p.place < length L) (map placed_of (sort_by key_less keys))
-  places_within keys is =
-      let P : Placed → Type 0 = λ p. p.place < length L in
-      let Q : Key → Type 0 = λ k. k.place < length L in
-      All-map P placed_of (sort_by key_less keys) (All-from_recursion Q (sort_by key_less keys) (all_sorted Q key_less keys
-      (rw is (all_list_below Q (key_by G L judges) (length L) (is_received_by L judges) (λ k h e. rw (key_place k) h)))))
+pub ruleset order_steps = (before_none, before_more)

@@ -1,7 +1,11 @@
 -- What the tables of a graph hold
-use Rattle.std.specs.Prelude.{ℕ, ◌≡◌, Bool, List, length}
+use Rattle.std.specs.Prelude.{ℕ, suc, ◌≡◌, ◌<◌, ◌≤◌, ◌-◌, ◌^◌, Bool, List, [], length}
 use Rattle.std.specs.Global.{Vec}
-use Rattle.hg_model.specs.Links.{Link}
+use Rattle.hg_model.specs.declared.row.Row.{Row}
+use Rattle.hg_model.specs.Places.{list_below}
+use Rattle.hg_model.specs.Links.{Link, links}
+use Rattle.hg_model.specs.Shape.{Shape}
+use Rattle.hg_model.specs.Fame.{is_witness_in}
 use Rattle.hg_model.specs.Ancestry.{is_ancestor, is_self_ancestor}
 use Rattle.hg_model.specs.Graph.{IsShaped}
 use Rattle.hg_model.specs.Forks.{has_fork_below, forkers}
@@ -25,3 +29,16 @@ pub record HoldsRounds (n : ℕ) (L : List Link) (strong : List (Vec Bool)) (rou
   pub round_of : IsTableOf 0 (round_of n L) (length L) rounds
   pub forkers : forking ≡ forkers n L
   pub last_round : greatest ≡ last_round n L
+
+-- the witnesses of round r, in order
+unfoldable pub witnesses_of : ℕ → List Link → ℕ → List ℕ
+witnesses_of n L r = list_below (λ w. w) (length L) (is_witness_in n L r)
+
+-- rows of few members with the tables of just them, a coin period, and the witnesses of each round up to the greatest
+pub record HoldsPrefix (G : List Row) (shape : Shape) (coin : ℕ) (witnesses : List (List ℕ)) : Type 0 where
+  pub same : shape.links ≡ links G
+  pub shaped : IsShaped shape.members (links G)
+  pub short : length (links G) < 2 ^ 32 - 1
+  pub few : shape.members ≤ 128
+  pub lawful_coin : 2 < coin
+  pub witnesses_of : IsTableOf [] (witnesses_of shape.members (links G)) (suc (last_round shape.members (links G))) witnesses

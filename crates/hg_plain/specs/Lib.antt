@@ -1,7 +1,5 @@
 pub mod Tables
 pub mod Elections
-pub mod Judges
-pub mod Received
 pub mod Held
 pub mod Twins
-pub mod Keys
+pub mod Rounds

@@ -1,17 +1,18 @@
 //! The report's procedures computed whole from a list of rows: the yardstick for every faster form.
-//! The layer above uses `plain_order`, `plain_state` and `plain_block`, which are the definitions, and `plain_forkers`.
+//! The layer above uses `plain_order`, `plain_state` and `plain_whole`, which are the definitions, and `plain_forkers`.
 //! Each relation is filled into a table once, so that time grows with the cube of the rows.
 #![tactic(auto)]
 
 mod ancestry;
 #[cfg(test)]
 mod checked;
+mod closed;
 mod fame;
-mod famous;
 mod forks;
 mod links;
 mod order;
 mod plain;
+mod prefix;
 mod received;
 mod rounds;
 mod seeing;
@@ -21,4 +22,4 @@ mod tables;
 mod votes;
 
 pub use forks::plain_forkers;
-pub use plain::{PlainBlock, PlainState, plain_block, plain_order, plain_state};
+pub use plain::{PlainState, PlainWhole, plain_order, plain_state, plain_whole};

@@ -1,166 +1,119 @@
-ghost use Rattle.std.specs.Prelude.{◌≡◌, ◌<◌, ◌-◌, ◌^◌, ℕ, List, [], All, suc, false, length, map, IfOk, IfSome, OnOk, ◌++◌, slice_index_or};
-ghost use Rattle.std.specs.Option.{option_to_list};
-ghost use Rattle.hg_model.specs.Places.{list_below, IsEarlier};
-ghost use Rattle.hg_model.specs.Links.{parents};
+ghost use Rattle.std.specs.Prelude.{◌≡◌, ◌<◌, ◌≤◌, ◌&&◌, ◌==◌, ◌++◌, ◌^◌, All, None, false, suc, length, get_or, is_some, unwrap_or, IfOk, OnOk};
 ghost use Rattle.hg_model.specs.Fame.{is_closed};
-ghost use Rattle.hg_model.specs.Order.{sort_by, ordered};
+ghost use Rattle.hg_model.specs.Places.{list_below};
+ghost use Rattle.hg_model.specs.Order.{ordered, round_received};
+ghost use Rattle.hg_model.specs.Prefix.{links_of};
+ghost use Rattle.hg_model.specs.declared.row.Placed.{Placed};
+ghost use Rattle.hg_order.specs.Round.{received_order, received_places};
 ghost use Rattle.hg_plain.specs.Tables.{IsTableOf};
-ghost use Rattle.hg_plain.specs.Received.{whitening_by};
-ghost use Rattle.hg_plain.specs.Keys.{IsWide, key_in, key_by, key_if, is_received_by, key_less, placed_of};
+ghost use Rattle.hg_plain.specs.Rounds.{is_round};
 
-use crate::famous::judges;
-use crate::received::{consensus_time, round_received, whitenings, xor};
-use crate::sight::PlainSight;
-use hg_model::{Items, Memory, Name, Placed, Row, Sig};
+use crate::prefix::PlainPrefix;
+use crate::received::rounds_received;
+use hg_model::{Memory, Placed, Sight};
+use hg_order::{order_round, unique_famous};
 use std::alloc::Global;
 
-/// What a row of the order is sorted by, in the order of the fields.
-#[derive(Clone, Copy, Debug, PartialEq, Eq, PartialOrd, Ord)]
-pub struct Key {
-    pub received: u32,
-    pub time: u64,
-    /// The signature, XORed with those of the judges.
-    pub whitened: Sig,
-    pub name: Name,
-    pub place: usize,
-}
-
-/// The key of row `x`, which round `r` with these judges receives.
-#[tactic(auto, using(hg_model::proofs::RowLaws::row_reads))]
-fn key_in(
-    alloc: Global,
-    sight: &PlainSight,
-    rows: &[Row],
-    judges: &[usize],
-    whitening: &Sig,
-    r: u32,
-    x: usize,
-) -> Result<Key, Memory>
-    requires same { length rows.now ≡ length sight.now.links }
-    requires judges { All (λ w. w < length sight.now.links) judges.now }
-    requires row { x < length sight.now.links }
-    requires earlier { IsEarlier (parents sight.now.links) }
-    ensures value { IfOk result (λ key. key ≡ key_in rows.now sight.now.links judges.now whitening.now r x) }
-    ensures wide { IfOk result IsWide }
-{
-    let time = consensus_time(alloc, sight, rows, judges, x)?;
-    let row = &rows[x];
-    Ok(Key {
-        received: r,
-        time,
-        whitened: xor(&row.sig, whitening),
-        name: row.name,
-        place: x,
-    })
-}
-
-/// The key of row `x`, if some round receives it.
-fn key_by(
-    alloc: Global,
-    sight: &PlainSight,
-    rows: &[Row],
-    judges: &[Items<usize>],
-    whitenings: &[Sig],
-    x: usize,
-) -> Result<Option<Key>, Memory>
-    requires same { length rows.now ≡ length sight.now.links }
-    requires short { length judges.now < 2 ^ 32 }
-    requires judges { All (λ (round : List ℕ). All (λ w. w < length sight.now.links) round) judges.now }
-    requires whitenings { IsTableOf [] (λ r. whitening_by rows.now (slice_index_or judges.now r [])) (length judges.now) whitenings.now }
-    requires row { x < length sight.now.links }
-    requires earlier { IsEarlier (parents sight.now.links) }
-    ensures value { IfOk result (λ key. key ≡ key_if rows.now sight.now.links judges.now x) }
-    ensures wide { IfOk result (λ key. IfSome key IsWide) }
-{
-    match round_received(sight, judges, x) {
-        None => Ok(None),
-        Some(r) => {
-            let round = judges[r as usize].as_slice();
-            let whitening = &whitenings[r as usize];
-            Ok(Some(key_in(alloc, sight, rows, round, whitening, r, x)?))
-        }
-    }
-}
-
-/// Adds the key, if there is one.
-fn push_key(keys: &mut Vec<Key>, key: Option<Key>) -> Result<(), Memory>
-    ensures { OnOk result (keys.new.items ≡ keys.old.items ++ option_to_list key) }
-{
-    match key {
-        None => Ok(()),
-        Some(key) => Ok(keys.push(key)?),
-    }
-}
-
-/// The keys of all rows that some round receives, by place.
-#[tactic(auto, using(crate::proofs::KeyLaws::key_steps))]
-fn keys(
-    alloc: Global,
-    sight: &PlainSight,
-    rows: &[Row],
-    judges: &[Items<usize>],
-    whitenings: &[Sig],
-) -> Result<Vec<Key>, Memory>
-    requires same { length rows.now ≡ length sight.now.links }
-    requires short { length judges.now < 2 ^ 32 }
-    requires judges { All (λ (round : List ℕ). All (λ w. w < length sight.now.links) round) judges.now }
-    requires whitenings { IsTableOf [] (λ r. whitening_by rows.now (slice_index_or judges.now r [])) (length judges.now) whitenings.now }
-    requires earlier { IsEarlier (parents sight.now.links) }
-    ensures keys { IfOk result (λ v. v.items ≡ list_below (key_by rows.now sight.now.links judges.now) (length sight.now.links) (is_received_by sight.now.links judges.now)) }
-    ensures wide { IfOk result (λ v. All IsWide v.items) }
-{
-    let mut keys = Vec::new(alloc);
-    for x in 0..sight.len() {
-        let key = key_by(alloc, sight, rows, judges, whitenings, x)?;
-        push_key(&mut keys, key)?;
-    }
-    Ok(keys)
-}
-
-/// Sorts keys.
-fn sort_keys(keys: &mut Vec<Key>)
-    ensures { keys.new.items ≡ sort_by key_less keys.old.items }
-{
-    keys.sort_unstable();
-}
-
-/// The placed row of a key.
-fn placed_of(key: &Key) -> Placed
-    ensures { result ≡ placed_of key.now }
-{
-    Placed {
-        place: key.place,
-        received: key.received,
-        time: key.time,
-    }
-}
-
-/// The placed rows of keys.
-fn placed_rows(alloc: Global, keys: &[Key]) -> Result<Vec<Placed>, Memory>
-    ensures { IfOk result (λ v. v.items ≡ map placed_of keys.now) }
-{
-    Ok(keys.iter().map(placed_of).collect(alloc)?)
-}
-
 /// The rows that closed rounds receive, in order.
+#[tactic(auto, using(crate::proofs::OrderLaws::order_steps))]
 pub fn ordered_rows(
     alloc: Global,
-    rows: &[Row],
-    sight: &PlainSight,
+    p: &PlainPrefix<'_>,
     marks: &[Option<bool>],
     closed: &[bool],
 ) -> Result<Vec<Placed>, Memory>
-    requires same { length rows.now ≡ length sight.now.links }
-    requires marked { length marks.now ≡ length sight.now.links }
-    requires short { length rows.now < 2 ^ 32 - 1 }
-    requires earlier { IsEarlier (parents sight.now.links) }
-    requires closed { IsTableOf false (is_closed sight.now.members sight.now.links marks.now) (suc (length sight.now.links)) closed.now }
-    ensures order { IfOk result (λ v. v.items ≡ ordered sight.now.members rows.now sight.now.links marks.now) }
-    ensures within { IfOk result (λ v. All (λ (p : Placed). p.place < length sight.now.links) v.items) }
+    requires closed { IsTableOf false (is_closed p.now.members (links_of p.now) marks.now) (suc (length (links_of p.now))) closed.now }
+    requires short { length closed.now < 2 ^ 32 }
+    ensures order { IfOk result (λ v. v.items ≡ ordered p.now.members p.now.rows (links_of p.now) marks.now) }
+    ensures within { IfOk result (λ v. All (λ (q : Placed). q.place < length (links_of p.now)) v.items) }
 {
-    let judges = judges(alloc, sight, marks, closed)?;
-    let whitenings = whitenings(alloc, rows, &judges)?;
-    let mut keys = keys(alloc, sight, rows, &judges, &whitenings)?;
-    sort_keys(&mut keys);
-    placed_rows(alloc, &keys)
+    let received = rounds_received(alloc, p, marks, closed)?;
+    let mut order = Vec::new(alloc);
+    for r in 0..closed.len() as u32 {
+        push_round(alloc, p, marks, &received, r, &mut order)?;
+    }
+    Ok(order)
+}
+
+/// What round `r` receives, behind the rows of earlier rounds.
+fn push_round(
+    alloc: Global,
+    p: &PlainPrefix<'_>,
+    marks: &[Option<bool>],
+    received: &[Option<u32>],
+    r: u32,
+    order: &mut Vec<Placed>,
+) -> Result<(), Memory>
+    requires received { IsTableOf None (round_received p.now.members (links_of p.now) marks.now) (length (links_of p.now)) received.now }
+    ensures { OnOk result (order.new.items ≡ order.old.items ++ received_order p.now marks.now r) }
+{
+    let fresh = received_places(alloc, received, r)?;
+    let round = round_order(alloc, p, marks, r, &fresh)?;
+    order.extend_from_slice(&round)?;
+    Ok(())
+}
+
+/// The places of the rows that round `r` receives.
+#[tactic(auto, using(hg_model::proofs::PlacesLaws::list_steps))]
+fn received_places(alloc: Global, received: &[Option<u32>], r: u32) -> Result<Vec<usize>, Memory>
+    ensures { IfOk result (λ v. v.items ≡ list_below (λ x. x) (length received.now) (λ x. is_round r (get_or received.now x None))) }
+{
+    let mut places = Vec::new(alloc);
+    for x in 0..received.len() {
+        if is_round(r, received[x]) {
+            places.push(x)?;
+        }
+    }
+    Ok(places)
+}
+
+fn is_round(r: u32, received: Option<u32>) -> bool
+    ensures { result ≡ is_round r received }
+{
+    match received {
+        None => false,
+        Some(k) => k == r,
+    }
+}
+
+/// What round `r` receives, the rows at the places `fresh`, in order.
+fn round_order(
+    alloc: Global,
+    p: &PlainPrefix<'_>,
+    marks: &[Option<bool>],
+    r: u32,
+    fresh: &[usize],
+) -> Result<Vec<Placed>, Memory>
+    requires { fresh.now ≡ received_places p.now marks.now r }
+    ensures { IfOk result (λ v. v.items ≡ received_order p.now marks.now r) }
+{
+    let mut placed = vec![in alloc; NOWHERE; fresh.len()]?;
+    let mut places = vec![in alloc; 0; p.members() as usize]?;
+    place_fresh(p, marks, r, fresh, &mut places, &mut placed);
+    Ok(placed)
+}
+
+/// A row before it is placed.
+const NOWHERE: Placed = Placed {
+    place: 0,
+    received: 0,
+    time: 0,
+};
+
+/// Places what round `r` receives, in order; `places` has room for a row of each member.
+fn place_fresh(
+    p: &PlainPrefix<'_>,
+    marks: &[Option<bool>],
+    r: u32,
+    fresh: &[usize],
+    places: &mut [usize],
+    placed: &mut [Placed],
+)
+    requires fresh { fresh.now ≡ received_places p.now marks.now r }
+    requires room { p.now.members ≤ length places.old }
+    requires same { length placed.old ≡ length fresh.now }
+    ensures { placed.new ≡ received_order p.now marks.now r }
+{
+    let count = unique_famous(p, marks, r, places);
+    order_round(p, &places[..count], fresh, placed);
 }

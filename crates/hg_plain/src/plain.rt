@@ -1,20 +1,21 @@
-ghost use Rattle.std.specs.Prelude.{◌≡◌, ◌<◌, ◌-◌, ◌^◌, suc, false, All, length, map, IfOk};
+ghost use Rattle.std.specs.Prelude.{◌≡◌, ◌<◌, ◌≤◌, ◌-◌, ◌^◌, suc, false, All, length, map, IfOk};
 ghost use Rattle.hg_model.specs.Links.{links};
 ghost use Rattle.hg_model.specs.Forks.{forkers};
 ghost use Rattle.hg_model.specs.Graph.{IsShaped};
 ghost use Rattle.hg_model.specs.Rounds.{last_round};
 ghost use Rattle.hg_model.specs.Fame.{fame_marks, is_closed};
 ghost use Rattle.hg_model.specs.Order.{coin_at, last_closed, order_of, sequence_of};
-ghost use Rattle.hg_model.specs.Ledger.{closed_of, order_line};
+ghost use Rattle.hg_model.specs.Ledger.{closed_of};
 ghost use Rattle.hg_model.specs.declared.row.Placed.{Placed};
-ghost use Rattle.hg_model.specs.Shape.{shape_of};
+ghost use Rattle.hg_model.specs.Prefix.{graph_of, links_of};
 ghost use Rattle.hg_plain.specs.Tables.{IsTableOf};
 
+use crate::closed::{closed_rounds, last_closed};
 use crate::fame::marks;
-use crate::famous::{closed_rounds, last_closed};
 use crate::order::ordered_rows;
+use crate::prefix::PlainPrefix;
 use crate::sight::PlainSight;
-use hg_model::{Items, Memory, OrderLine, Placed, Row};
+use hg_model::{Items, Memory, Placed, Row};
 use std::alloc::Global;
 
 /// What the procedures tell of a graph besides its order.
@@ -28,38 +29,40 @@ pub struct PlainState {
     pub closed: u32,
 }
 
-/// All that is printed of a graph: its counts and its order.
+/// All that the procedures tell of a graph.
 #[derive(Debug, Drop)]
-pub struct PlainBlock {
+pub struct PlainWhole {
     pub state: PlainState,
-    pub lines: Items<OrderLine>,
+    /// The rows that closed rounds receive, in order.
+    pub order: Items<Placed>,
+    /// For each of these rows how many self-ancestors it has other than itself.
+    pub sequences: Items<u64>,
 }
 
-/// A graph with its fame: what its rows see, a mark for each row, and whether each round is closed.
+/// A graph with its fame: its tables, a mark for each row, and whether each round is closed.
 #[derive(Drop)]
-struct Elected {
-    sight: PlainSight,
+struct Elected<'a> {
+    prefix: PlainPrefix<'a>,
     marks: Vec<Option<bool>>,
     closed: Vec<bool>,
 }
 
 /// Elects the famous witnesses of the rows, and closes rounds.
 #[tactic(auto, using(hg_model::proofs::LinkLaws::link_lengths))]
-fn elect(alloc: Global, rows: &[Row], members: u32, coin: u32) -> Result<Elected, Memory>
+fn elect<'a>(alloc: Global, rows: &'a [Row], members: u32, coin: u32) -> Result<Elected<'a>, Memory>
     requires shaped { IsShaped members (links rows.now) }
     requires short { length rows.now < 2 ^ 32 - 1 }
-    requires coin { 0 < coin }
-    ensures sight { IfOk result (λ e. e.sight ≡ shape_of members (links rows.now)) }
+    requires few { members ≤ 128 }
+    requires coin { 2 < coin }
+    ensures graph { IfOk result (λ e. e.prefix ≡ graph_of members coin rows.now) }
     ensures marks { IfOk result (λ e. e.marks.items ≡ fame_marks members coin (links rows.now) (coin_at rows.now)) }
-    ensures closed { IfOk result (λ e. IsTableOf false (is_closed e.sight.members e.sight.links e.marks.items) (suc (length e.sight.links)) e.closed.items) }
-    ensures same { IfOk result (λ e. length rows.now ≡ length e.sight.links) }
-    ensures marked { IfOk result (λ e. length e.marks.items ≡ length e.sight.links) }
+    ensures closed { IfOk result (λ e. IsTableOf false (is_closed members (links rows.now) e.marks.items) (suc (length (links rows.now))) e.closed.items) }
 {
     let sight = PlainSight::new(alloc, rows, members)?;
     let marks = marks(alloc, &sight, rows, coin)?;
     let closed = closed_rounds(alloc, &sight, &marks)?;
     Ok(Elected {
-        sight,
+        prefix: PlainPrefix::new(alloc, rows, sight, coin)?,
         marks,
         closed,
     })
@@ -75,24 +78,25 @@ pub fn plain_order(
 ) -> Result<Vec<Placed>, Memory>
     requires shaped { IsShaped members (links rows.now) }
     requires short { length rows.now < 2 ^ 32 - 1 }
-    requires coin { 0 < coin }
+    requires few { members ≤ 128 }
+    requires coin { 2 < coin }
     ensures { IfOk result (λ v. v.items ≡ order_of members coin rows.now) }
 {
     let graph = elect(alloc, rows, members, coin)?;
-    ordered_rows(alloc, rows, &graph.sight, &graph.marks, &graph.closed)
+    ordered_rows(alloc, &graph.prefix, &graph.marks, &graph.closed)
 }
 
 /// What the procedures tell besides the order.
-fn state_of(graph: &Elected) -> PlainState
-    requires short { length graph.now.sight.links < 2 ^ 32 - 1 }
-    requires closed { IsTableOf false (is_closed graph.now.sight.members graph.now.sight.links graph.now.marks.items) (suc (length graph.now.sight.links)) graph.now.closed.items }
-    ensures forkers { result.forkers ≡ forkers graph.now.sight.members graph.now.sight.links }
-    ensures greatest { result.greatest ≡ last_round graph.now.sight.members graph.now.sight.links }
-    ensures closed { result.closed ≡ last_closed graph.now.sight.members graph.now.sight.links graph.now.marks.items }
+fn state_of(graph: &Elected<'_>) -> PlainState
+    requires short { length graph.now.closed.items < 2 ^ 32 }
+    requires closed { IsTableOf false (is_closed graph.now.prefix.members (links_of graph.now.prefix) graph.now.marks.items) (suc (length (links_of graph.now.prefix))) graph.now.closed.items }
+    ensures forkers { result.forkers ≡ forkers graph.now.prefix.members (links_of graph.now.prefix) }
+    ensures greatest { result.greatest ≡ last_round graph.now.prefix.members (links_of graph.now.prefix) }
+    ensures closed { result.closed ≡ last_closed graph.now.prefix.members (links_of graph.now.prefix) graph.now.marks.items }
 {
     PlainState {
-        forkers: graph.sight.forkers(),
-        greatest: graph.sight.greatest(),
+        forkers: graph.prefix.tables().forkers(),
+        greatest: graph.prefix.tables().greatest(),
         closed: last_closed(&graph.closed),
     }
 }
@@ -106,7 +110,8 @@ pub fn plain_state(
 ) -> Result<PlainState, Memory>
     requires shaped { IsShaped members (links rows.now) }
     requires short { length rows.now < 2 ^ 32 - 1 }
-    requires coin { 0 < coin }
+    requires few { members ≤ 128 }
+    requires coin { 2 < coin }
     ensures forkers { IfOk result (λ state. state.forkers ≡ forkers members (links rows.now)) }
     ensures greatest { IfOk result (λ state. state.greatest ≡ last_round members (links rows.now)) }
     ensures closed { IfOk result (λ state. state.closed ≡ closed_of members coin rows.now) }
@@ -130,61 +135,42 @@ fn sequence_of(sight: &PlainSight, x: usize) -> u64
     count
 }
 
-/// A placed row as it is printed.
-#[tactic(auto, using(hg_model::proofs::RowLaws::row_reads))]
-fn order_line(rows: &[Row], sight: &PlainSight, placed: &Placed) -> OrderLine
-    requires row { placed.now.place < length rows.now }
-    requires link { placed.now.place < length sight.now.links }
-    ensures { result ≡ order_line rows.now sight.now.links placed.now }
+/// For each placed row how many self-ancestors it has other than itself.
+fn sequences(alloc: Global, sight: &PlainSight, order: &[Placed]) -> Result<Vec<u64>, Memory>
+    requires { All (λ (p : Placed). p.place < length sight.now.links) order.now }
+    ensures { IfOk result (λ v. v.items ≡ map (λ (p : Placed). sequence_of sight.now.links p.place) order.now) }
 {
-    OrderLine {
-        creator: sight.creator(placed.place),
-        sequence: sequence_of(sight, placed.place),
-        received: placed.received,
-        time: placed.time,
-        name: rows[placed.place].name,
-    }
-}
-
-/// Placed rows as they are printed.
-fn order_lines(
-    alloc: Global,
-    rows: &[Row],
-    sight: &PlainSight,
-    order: &[Placed],
-) -> Result<Vec<OrderLine>, Memory>
-    requires rows { length rows.now ≡ length sight.now.links }
-    requires placed { All (λ (p : Placed). p.place < length sight.now.links) order.now }
-    ensures { IfOk result (λ v. v.items ≡ map (order_line rows.now sight.now.links) order.now) }
-{
-    let mut lines = Vec::with_capacity(alloc, order.len())?;
+    let mut sequences = Vec::with_capacity(alloc, order.len())?;
     for placed in order {
-        lines.push(order_line(rows, sight, placed))?;
+        sequences.push(sequence_of(sight, placed.place))?;
     }
-    Ok(lines)
+    Ok(sequences)
 }
 
-/// All that is printed of a graph, from one table of what its rows see.
-pub fn plain_block(
+/// All that the procedures tell of a graph, from one set of tables.
+pub fn plain_whole(
     alloc: Global,
     rows: &[Row],
     members: u32,
     coin: u32,
-) -> Result<PlainBlock, Memory>
+) -> Result<PlainWhole, Memory>
     requires shaped { IsShaped members (links rows.now) }
     requires short { length rows.now < 2 ^ 32 - 1 }
-    requires coin { 0 < coin }
-    ensures forkers { IfOk result (λ block. block.state.forkers ≡ forkers members (links rows.now)) }
-    ensures greatest { IfOk result (λ block. block.state.greatest ≡ last_round members (links rows.now)) }
-    ensures closed { IfOk result (λ block. block.state.closed ≡ closed_of members coin rows.now) }
-    ensures lines { IfOk result (λ block. block.lines ≡ map (order_line rows.now (links rows.now)) (order_of members coin rows.now)) }
+    requires few { members ≤ 128 }
+    requires coin { 2 < coin }
+    ensures forkers { IfOk result (λ whole. whole.state.forkers ≡ forkers members (links rows.now)) }
+    ensures greatest { IfOk result (λ whole. whole.state.greatest ≡ last_round members (links rows.now)) }
+    ensures closed { IfOk result (λ whole. whole.state.closed ≡ closed_of members coin rows.now) }
+    ensures order { IfOk result (λ whole. whole.order ≡ order_of members coin rows.now) }
+    ensures sequences { IfOk result (λ whole. whole.sequences ≡ map (λ (p : Placed). sequence_of (links rows.now) p.place) (order_of members coin rows.now)) }
 {
     let graph = elect(alloc, rows, members, coin)?;
-    let order = ordered_rows(alloc, rows, &graph.sight, &graph.marks, &graph.closed)?;
-    let lines = order_lines(alloc, rows, &graph.sight, &order)?;
-    Ok(PlainBlock {
+    let order = ordered_rows(alloc, &graph.prefix, &graph.marks, &graph.closed)?;
+    let sequences = sequences(alloc, graph.prefix.tables(), &order)?;
+    Ok(PlainWhole {
         state: state_of(&graph),
-        lines: Items::from_vec(lines),
+        order: Items::from_vec(order),
+        sequences: Items::from_vec(sequences),
     })
 }
 
@@ -194,6 +180,7 @@ mod tests {
     use crate::checked::{is_shaped, row_of};
     use crate::links::links_of;
     use hg_model::Member;
+    use hg_order::{order_round, received_in, time_of, unique_famous};
 
     type Event = (u8, Member, Option<(u8, u8)>, u64);
 
@@ -244,17 +231,6 @@ mod tests {
         }
     }
 
-    // The rows of a written-out list are named by their numbers.
-    fn line(creator: Member, sequence: u64, received: u32, time: u64, number: u8) -> OrderLine {
-        OrderLine {
-            creator,
-            sequence,
-            received,
-            time,
-            name: [number; 48],
-        }
-    }
-
     fn state(forkers: u32, greatest: u32, closed: u32) -> PlainState {
         PlainState {
             forkers,
@@ -300,23 +276,68 @@ mod tests {
         Ok(())
     }
 
+    // Rows 3 and 4 are the unique famous witnesses of round 2. Row 5 is an ancestor of neither.
     #[test]
-    fn lists_the_lines_of_a_ring(rt: HostRuntime) -> Result<(), Memory> {
+    fn finds_what_a_round_receives(rt: HostRuntime) -> Result<(), Memory> {
+        let alloc = rt.alloc();
+        let rows = rows_of(alloc, &TWO_MEMBERS)?;
+        assert!(rt; rows.len() == 8 && is_shaped(&links_of(alloc, &rows)?, 2));
+        let graph = elect(alloc, &rows, 2, 10)?;
+        let mut places = vec![in alloc; 9; 2]?;
+        let count = unique_famous(&graph.prefix, &graph.marks, 2, &mut places);
+        let ufw = &places[..count];
+        assert!(rt; ufw.len() == 2);
+        assert_eq!(rt; ufw, [3, 4].as_slice());
+        assert!(rt; received_in(&graph.prefix, ufw, 3));
+        assert!(rt; !received_in(&graph.prefix, ufw, 4) && !received_in(&graph.prefix, ufw, 5));
+        assert_eq!(rt; time_of(&graph.prefix, ufw, 3), 4);
+        Ok(())
+    }
+
+    #[test]
+    fn orders_a_part_of_a_round(rt: HostRuntime) -> Result<(), Memory> {
+        let alloc = rt.alloc();
+        let rows = rows_of(alloc, &TWO_MEMBERS)?;
+        assert!(rt; rows.len() == 8 && is_shaped(&links_of(alloc, &rows)?, 2));
+        let graph = elect(alloc, &rows, 2, 10)?;
+        let mut places = vec![in alloc; 9; 2]?;
+        let count = unique_famous(&graph.prefix, &graph.marks, 2, &mut places);
+        let ufw = &places[..count];
+        assert!(rt;
+            ufw.len() == 2
+                && received_in(&graph.prefix, ufw, 2)
+                && received_in(&graph.prefix, ufw, 0)
+        );
+        let mut out = vec![in alloc; placed(9, 0, 0); 2]?;
+        order_round(&graph.prefix, ufw, &[2, 0], &mut out);
+        assert_eq!(rt;
+            out.as_slice(),
+            [placed(0, 2, 2), placed(2, 2, 3)].as_slice()
+        );
+        Ok(())
+    }
+
+    #[test]
+    fn tells_the_whole_of_a_ring(rt: HostRuntime) -> Result<(), Memory> {
         let alloc = rt.alloc();
         let rows = rows_of(alloc, &RING)?;
         assert!(rt; rows.len() == 15 && is_shaped(&links_of(alloc, &rows)?, 4));
-        let block = plain_block(alloc, &rows, 4, 10)?;
-        assert_eq!(rt; block.state, state(0, 4, 2));
+        let whole = plain_whole(alloc, &rows, 4, 10)?;
+        assert_eq!(rt; whole.state, state(0, 4, 2));
         let expected = [
-            line(0, 0, 2, 50, 0),
-            line(1, 0, 2, 52, 2),
-            line(1, 1, 2, 55, 3),
-            line(2, 1, 2, 60, 4),
-            line(2, 0, 2, 65, 1),
-            line(0, 1, 2, 70, 5),
-            line(1, 2, 2, 80, 6),
+            placed(0, 2, 50),
+            placed(2, 2, 52),
+            placed(3, 2, 55),
+            placed(4, 2, 60),
+            placed(1, 2, 65),
+            placed(5, 2, 70),
+            placed(6, 2, 80),
         ];
-        assert_eq!(rt; block.lines.as_slice(), expected.as_slice());
+        assert_eq!(rt; whole.order.as_slice(), expected.as_slice());
+        assert_eq!(rt;
+            whole.sequences.as_slice(),
+            [0, 0, 1, 1, 0, 1, 2].as_slice()
+        );
         Ok(())
     }
 
@@ -325,9 +346,9 @@ mod tests {
         let alloc = rt.alloc();
         let rows = rows_of(alloc, &[])?;
         assert!(rt; rows.len() == 0 && is_shaped(&links_of(alloc, &rows)?, 2));
-        let block = plain_block(alloc, &rows, 2, 10)?;
-        assert_eq!(rt; block.state, state(0, 0, 0));
-        assert!(rt; block.lines.as_slice().is_empty());
+        let whole = plain_whole(alloc, &rows, 2, 10)?;
+        assert_eq!(rt; whole.state, state(0, 0, 0));
+        assert!(rt; whole.order.as_slice().is_empty());
         Ok(())
     }
 }

@@ -1,5 +1,5 @@
 -- What a node's rows become when bytes are put to it, and when it makes an event
-use Rattle.std.proofs.Common.{◌≡◌, ℕ, true, List, [], ◌∷◌, ◌++◌, length, Option, Some, None, Ok, Err, sym, refl, ap, ◌∙◌}
+use Rattle.std.proofs.Common.{◌≡◌, ℕ, suc, ◌+◌, ◌<◌, ◌≤◌, Bool, true, false, not, cond, List, [], ◌∷◌, ◌++◌, length, map, fold, drop, get_or, slice_get, Option, Some, None, option_map, Ok, Err, sym, refl, ap, ◌∙◌, add-one, append_assoc, arith}
 use Rattle.std.specs.Prelude.{Result}
 use Rattle.hg_model.specs.declared.row.Row.{Row}
 use Rattle.hg_model.specs.declared.answers.ByteFault.{ByteFault}
@@ -14,6 +14,21 @@ use Rattle.hg_model.specs.History.{Change, Accepts, replay}
 use Rattle.hg_model.specs.History.Change.{Took, Made}
 use Rattle.hg_model.specs.Shown.{Shown, with_changes, graph_of}
 use Rattle.hg_model.specs.Calls.{taken_by, taken_from, put_changes, make_answer, made_by, make_changes, make_draft, IsMaking}
+use Rattle.std.proofs.lemmas.List.{length-map, length-append}
+use Rattle.std.proofs.lemmas.Option.{slice_get-get_or}
+use Rattle.std.proofs.Math.Seq.{drop-cons}
+use Rattle.std.proofs.lemmas.Slice.Eq.{bytes_eq-Decides}
+use Rattle.hg_model.specs.Links.{no_row}
+use Rattle.hg_model.specs.Spelling.{spelling}
+use Rattle.hg_model.specs.Verdict.{is_held, row_limit}
+use Rattle.hg_model.specs.Shown.{IsNode}
+use Rattle.hg_history.proofs.SoundLaws.{sound}
+use Rattle.hg_model.specs.Gossip.{lacking, making_by, node_made, node_put}
+use Rattle.hg_model.specs.Calls.{make_body}
+use Rattle.hg_sign.specs.Table.{signature_by, accepts_by}
+use Rattle.hg_node.specs.Laws.{signature_made}
+use Rattle.hg_node.proofs.OneLaws.{making_is_one}
+use Rattle.hg_play.specs.Node.{Player, player, with_rows_of, keys_in, state_in, missing_row}
 use Rattle.hg_history.proofs.StateLaws.{replay-push}
 use Rattle.hg_history.proofs.CallLaws.{with_none}
 
@@ -50,3 +65,69 @@ module _ {K : Type 0} (v : Shown K) where
       graph_of (with_changes v (make_changes v other time payload sig)) ≡ with_made (graph_of v) (made_row v.start.own (graph_of v) other time payload sig) (making v.start.own (graph_of v) other time payload sig)
   unfolding make_changes make_answer
   rows_made other time payload sig = made_rows (making v.start.own (graph_of v) other time payload sig) (made_row v.start.own (graph_of v) other time payload sig)
+
+-- a player's node to which bytes were put
+pub player_put : (v : Shown (List (List ℕ))) (bytes : List ℕ) → player (with_changes v (put_changes accepts_by v bytes)) ≡ with_rows_of (player v) (node_put (keys_in (player v)) (state_in (player v)) bytes)
+player_put v bytes = ap (λ (G : List Row). let p : Player = record { start = v.start; rows = G } in p) (rows_put v accepts_by bytes)
+
+-- the answer and the player's node where it made an event, or refused to
+pub record HasMade (v w : Shown (List (List ℕ))) (other : Option (List ℕ)) (time : ℕ) (payload : List ℕ) (a : MakeAnswer) : Type 0 where
+  pub answer : a ≡ making_by (keys_in (player v)) (state_in (player v)) other time payload
+  pub after : player w ≡ with_rows_of (player v) (node_made (keys_in (player v)) (state_in (player v)) other time payload)
+
+one_accepted : (secrets : List (List ℕ)) (m : ℕ) (body sig : List ℕ) → accepts_by secrets m body sig ≡ true → sig ≡ signature_by secrets m body
+one_accepted secrets m body sig is = (bytes_eq-Decides sig (signature_by secrets m body)).0 is
+
+pub player_made : (v w : Shown (List (List ℕ))) (other : Option (List ℕ)) (time : ℕ) (payload : List ℕ) (a : MakeAnswer) → IsMaking accepts_by v other time payload a w → HasMade v w other time payload a
+unfolding make_answer make_body
+player_made v w other time payload a is =
+    let one = making_is_one (List (List ℕ)) accepts_by (signature_by v.start.keys) v w other time payload a (one_accepted v.start.keys) is in
+    record {
+      answer = one.0;
+      after = ap player one.1 ∙ ap (λ (G : List Row). let p : Player = record { start = v.start; rows = G } in p) (rows_made v other time payload (signature_made (signature_by v.start.keys) v other time payload));
+    }
+
+-- the bytes of one row more that a taker lacks
+missing_at : (held rows : List Row) (k : ℕ) (d : Row) → k < length rows →
+    missing_row held (get_or rows k d) ++ map spelling (lacking held (drop (k + 1) rows)) ≡ map spelling (lacking held (drop k rows))
+missing_at held rows k d inside = rw (add-one, drop-cons rows k d inside) (one (is_held held (get_or rows k d).name) (get_or rows k d) (lacking held (drop (suc k) rows)))
+  where
+    one : (b : Bool) (row : Row) (rest : List Row) → cond b [] (spelling row ∷ []) ++ map spelling rest ≡ map spelling (cond (not b) (row ∷ rest) rest)
+    one true row rest = refl
+    one false row rest = refl
+
+pub missing_more : (held rows : List Row) (k : ℕ) (before after all : List (List ℕ)) → k < length rows → option_map (λ (row : Row). before ++ missing_row held row) (slice_get rows k) ≡ Some after →
+    before ++ map spelling (lacking held (drop k rows)) ≡ all → after ++ map spelling (lacking held (drop (k + 1) rows)) ≡ all
+missing_more held rows k before after all inside grown is =
+    let row : Row = get_or rows k no_row in
+    let rest : List (List ℕ) = map spelling (lacking held (drop (k + 1) rows)) in
+    let some : Some (before ++ missing_row held row) ≡ Some after = sym (ap (option_map (λ (r : Row). before ++ missing_row held r)) (slice_get-get_or rows k no_row inside)) ∙ grown in
+    let same : before ++ missing_row held row ≡ after = cc in
+    ap (λ (xs : List (List ℕ)). xs ++ rest) (sym same)
+    ∙ (append_assoc before (missing_row held row) rest
+    ∙ (ap (λ (xs : List (List ℕ)). before ++ xs) (missing_at held rows k no_row inside) ∙ is))
+
+-- no more than the rows
+either_length : {A : Type 0} (x : A) (rest : List A) (n : ℕ) → length rest ≤ n → (b : Bool) → length (cond b (x ∷ rest) rest) ≤ suc n
+either_length x rest n few true = omega arith
+either_length x rest n few false = omega arith
+
+lacking_length : (held rows : List Row) → length (lacking held rows) ≤ length rows
+lacking_length held [] = omega arith
+lacking_length held (row ∷ rows) = either_length row (lacking held rows) (length rows) (lacking_length held rows) (not (is_held held row.name))
+
+pub missing_length : (held rows : List Row) → length (map spelling (lacking held rows)) ≤ length rows
+missing_length held rows = (let long = length-map (lacking held rows) spelling in let few = lacking_length held rows in omega (arith, long, few))
+
+-- a node without changes has no rows
+pub no_rows : (n c : ℕ) (h : List Change) → h ≡ [] → (replay n c h).rows ≡ []
+unfolding replay
+no_rows n c h none = ap (λ (es : List Change). (fold (Rattle.hg_model.specs.History.step n c) Rattle.hg_model.specs.History.empty es).rows) none
+
+-- no more than a node has rows
+pub missing_few : (taker v : Shown (List (List ℕ))) → IsNode accepts_by v → (missing rest : List (List ℕ)) → missing ++ rest ≡ map spelling (lacking (graph_of taker) (graph_of v)) → length missing ≤ row_limit
+missing_few taker v is missing rest whole =
+    let few : length (graph_of v) ≤ row_limit = (sound (accepts_by v.start.keys) v.start.members v.start.coin v.start.own v.history is.coin is.history).few in
+    let long = missing_length (graph_of taker) (graph_of v) in
+    let both : length missing + length rest ≡ length (map spelling (lacking (graph_of taker) (graph_of v))) = sym (length-append missing rest) ∙ ap length whole in
+    omega (arith, few, long, both)

@@ -27,9 +27,9 @@ bytes_named G name = unwrap_or (option_map spelling (slice_get G (place_of G nam
 abbrev pub own_bytes : NodeState → List ℕ
 own_bytes s = unwrap_or (option_map (bytes_named s.rows) (last_name s.own s.rows)) []
 
--- an event with these fields and no payload, under the member's signature
-abbrev pub forged : Keys → ℕ → Option (List ℕ × List ℕ) → ℕ → List ℕ
-forged keys m parents time = body_bytes m parents time [] ++ keys.sign m (body_bytes m parents time [])
+-- an event with these fields, under the member's signature
+abbrev pub forged : Keys → ℕ → Option (List ℕ × List ℕ) → ℕ → List ℕ → List ℕ
+forged keys m parents time payload = body_bytes m parents time payload ++ keys.sign m (body_bytes m parents time payload)
 
 -- the byte at a place XORed with the mask, if there is one
 abbrev pub altered : List ℕ → ℕ → ℕ → List ℕ

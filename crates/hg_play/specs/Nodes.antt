@@ -31,18 +31,18 @@ keys_at players m = keys_in (player_at players m)
 
 -- the member whose node does it
 abbrev pub actor : Gossip → ℕ
-actor (Create m time) = m
-actor (Sync taker peer time) = taker
+actor (Create m time payload) = m
+actor (Sync taker peer time payload) = taker
 actor (Pull taker peer) = taker
-actor (Join m label time) = m
+actor (Join m label time payload) = m
 actor (Give m label) = m
 
 -- the members are below this number
 abbrev pub IsGossipBelow : ℕ → Gossip → Type 0
-IsGossipBelow n (Create m time) = m < n
-IsGossipBelow n (Sync taker peer time) = (taker < n) × (peer < n)
+IsGossipBelow n (Create m time payload) = m < n
+IsGossipBelow n (Sync taker peer time payload) = (taker < n) × (peer < n)
 IsGossipBelow n (Pull taker peer) = (taker < n) × (peer < n)
-IsGossipBelow n (Join m label time) = m < n
+IsGossipBelow n (Join m label time payload) = m < n
 IsGossipBelow n (Give m label) = m < n
 
 -- what a node takes that pulls from a peer
@@ -51,20 +51,20 @@ pulled keys s peer = taking keys s (parcel_for s.rows peer).rows
 
 -- the node of the actor s after it, with these nodes and labels
 abbrev pub node_by : Keys → List NodeState → List (List ℕ) → NodeState → Gossip → NodeState
-node_by keys nodes labels s (Create m time) = node_made keys s None time []
-node_by keys nodes labels s (Sync taker peer time) = node_synced keys s (node_at nodes peer) time []
+node_by keys nodes labels s (Create m time payload) = node_made keys s None time payload
+node_by keys nodes labels s (Sync taker peer time payload) = node_synced keys s (node_at nodes peer) time payload
 node_by keys nodes labels s (Pull taker peer) = (pulled keys s (node_at nodes peer)).node
-node_by keys nodes labels s (Join m label time) = node_made keys s (Some (name_of_label labels label)) time []
+node_by keys nodes labels s (Join m label time payload) = node_made keys s (Some (name_of_label labels label)) time payload
 node_by keys nodes labels s (Give m label) = node_put keys s (bytes_at labels label)
 
 -- what is printed of it, under the line's number
 abbrev pub printed_by : Keys → List NodeState → List (List ℕ) → ℕ → NodeState → Gossip → Printed
-printed_by keys nodes labels number s (Create m time) = printed.Create number (making_by keys s None time [])
-printed_by keys nodes labels number s (Sync taker peer time) = printed.Sync number (sync_report keys s (node_at nodes peer) time [])
+printed_by keys nodes labels number s (Create m time payload) = printed.Create number (making_by keys s None time payload)
+printed_by keys nodes labels number s (Sync taker peer time payload) = printed.Sync number (sync_report keys s (node_at nodes peer) time payload)
 printed_by keys nodes labels number s (Pull taker peer) =
     printed.Pull number (pulled keys s (node_at nodes peer)).taken (pulled keys s (node_at nodes peer)).refused
-printed_by keys nodes labels number s (Join m label time) =
-    printed.Join number (making_by keys s (Some (name_of_label labels label)) time [])
+printed_by keys nodes labels number s (Join m label time payload) =
+    printed.Join number (making_by keys s (Some (name_of_label labels label)) time payload)
 printed_by keys nodes labels number s (Give m label) = printed.Give number (verdict_by keys s (bytes_at labels label))
 
 -- all nodes after it, and what is printed

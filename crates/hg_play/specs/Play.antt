@@ -1,5 +1,5 @@
 -- A script played over the members' nodes, one line after the other, and what it prints
-use Rattle.std.specs.Prelude.{ℕ, ◌<◌, ⊤, cond, Bool, false, List, [], ◌∷◌, ◌++◌, fold, length, take, slice_get, option_map, unwrap_or}
+use Rattle.std.specs.Prelude.{ℕ, ◌<◌, ◌≤◌, ⊤, cond, Bool, false, List, [], ◌∷◌, ◌++◌, fold, length, take, slice_get, option_map, unwrap_or}
 use Rattle.hg_model.specs.declared.members.MemberEntry.{MemberEntry}
 use Rattle.hg_model.specs.declared.outcome.Printed.{Printed}
 use Rattle.hg_model.specs.declared.outcome.Printed.TheVariants as printed
@@ -9,6 +9,7 @@ use Rattle.hg_model.specs.Places.{list_below}
 use Rattle.hg_model.specs.Gossip.{Keys, NodeState, keys_of}
 use Rattle.hg_model.specs.Members.{names_of}
 use Rattle.hg_model.specs.Ledger.{block_of}
+use Rattle.hg_model.specs.Spelling.{payload_limit}
 use Rattle.hg_script.specs.declared.line.Source.{Source}
 use Rattle.hg_script.specs.declared.line.Source.TheVariants.{Last, Forged, Raw, Altered, Front}
 use Rattle.hg_script.specs.declared.line.Action.{Action}
@@ -29,7 +30,7 @@ world nodes labels printed = record { nodes = nodes; labels = labels; printed = 
 -- the bytes from a source
 abbrev pub source_bytes : Keys → List NodeState → List (List ℕ) → Source → List ℕ
 source_bytes keys nodes labels (Last m) = own_bytes (node_at nodes m)
-source_bytes keys nodes labels (Forged m parents time) = forged keys m (option_map (names_of_labels labels) parents) time
+source_bytes keys nodes labels (Forged m parents time payload) = forged keys m (option_map (names_of_labels labels) parents) time payload
 source_bytes keys nodes labels (Raw bytes) = bytes
 source_bytes keys nodes labels (Altered label at mask) = altered (bytes_at labels label) at mask
 source_bytes keys nodes labels (Front label len) = take len (bytes_at labels label)
@@ -56,10 +57,11 @@ after_line members keys w line = after_action members keys w line.number line.ac
 abbrev pub after_lines : MemberList → Keys → List NodeState → List Line → World
 after_lines members keys nodes lines = fold (after_line members keys) (world nodes [] []) lines
 
--- the action's members are below this number
+-- the action's members are below this number, and the payload of an event that is forged is not too long
 abbrev pub IsBelow : ℕ → Action → Type 0
 IsBelow n (Gossip g) = IsGossipBelow n g
 IsBelow n (Label (Last m)) = m < n
+IsBelow n (Label (Forged m parents time payload)) = length payload ≤ payload_limit
 IsBelow n (Label _) = ⊤
 IsBelow n (Show m) = m < n
 IsBelow n (Names m) = m < n

@@ -1,4 +1,5 @@
-ghost use Rattle.std.specs.Prelude.{◌≡◌, IfOk, option_map, take};
+ghost use Rattle.std.specs.Prelude.{◌≡◌, ◌≤◌, IfOk, length, option_map, take};
+ghost use Rattle.hg_model.specs.Spelling.{payload_limit};
 ghost use Rattle.hg_sign.specs.Table.{signature_by};
 ghost use Rattle.hg_play.specs.Labels.{altered, bytes_at, forged, name_of_label, names_of_labels};
 ghost use Rattle.hg_play.specs.Node.{keys_by};
@@ -39,17 +40,19 @@ pub(crate) fn names_of_labels(
     }
 }
 
-/// An event with these fields and no payload, under the member's signature.
+/// An event with these fields, under the member's signature.
 pub(crate) fn forged(
     alloc: Global,
     keys: &MacTable,
     creator: Member,
     parents: &Option<(Name, Name)>,
     time: u64,
+    payload: &[u8],
 ) -> Result<Bytes, Memory>
-    ensures { IfOk result (λ bytes. bytes ≡ forged (keys_by keys.now) creator parents.now time) }
+    requires { length payload.now ≤ payload_limit }
+    ensures { IfOk result (λ bytes. bytes ≡ forged (keys_by keys.now) creator parents.now time payload.now) }
 {
-    let mut bytes = encode_body(alloc, creator, parents, time, &[])?;
+    let mut bytes = encode_body(alloc, creator, parents, time, payload)?;
     let sig = keys.sign(creator, bytes.as_slice());
     bytes.extend_from_slice(&sig)?;
     Ok(Items::from_vec(bytes))

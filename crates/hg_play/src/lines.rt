@@ -33,9 +33,10 @@ fn source_bytes(
             creator,
             parents,
             time,
+            payload,
         } => {
             let names = names_of_labels(labels, parents);
-            forged(alloc, keys, *creator, &names, *time)
+            forged(alloc, keys, *creator, &names, *time, payload.as_slice())
         }
         Source::Raw { bytes } => copied(alloc, bytes.as_slice()),
         Source::Altered { label, at, mask } => altered(alloc, bytes_at(labels, *label), *at, *mask),
@@ -61,7 +62,7 @@ fn play_line(
 {
     match &line.action {
         Action::Gossip(gossip) => {
-            let piece = play_gossip(alloc, nodes, labels.as_slice(), line.number, *gossip)?;
+            let piece = play_gossip(alloc, nodes, labels.as_slice(), line.number, gossip)?;
             printed.push(piece)?;
         }
         Action::Label(source) => {

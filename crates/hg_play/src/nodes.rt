@@ -1,4 +1,4 @@
-ghost use Rattle.std.specs.Prelude.{◌≡◌, ◌<◌, ◌≤◌, [], IfOk, None, OnOk, Some, length, slice_set};
+ghost use Rattle.std.specs.Prelude.{◌≡◌, ◌<◌, ◌≤◌, IfOk, None, OnOk, Some, length, slice_set};
 ghost use Rattle.hg_model.specs.Gossip.{making_by, node_made, node_put, node_synced, sync_report, verdict_by};
 ghost use Rattle.hg_play.specs.Labels.{bytes_at, name_of_label};
 ghost use Rattle.hg_play.specs.Node.{starts, starts_of, states_of, told};
@@ -30,13 +30,14 @@ fn make(
     member: usize,
     other: Option<Name>,
     time: u64,
+    payload: &[u8],
 ) -> Result<MakeAnswer, Memory>
     requires { member < length nodes.old }
-    ensures answer { IfOk result (λ answer. answer ≡ making_by (keys_at nodes.old member) (node_at (states_of nodes.old) member) other time []) }
-    ensures nodes { OnOk result (states_of nodes.new ≡ slice_set (states_of nodes.old) member (node_made (keys_at nodes.old member) (node_at (states_of nodes.old) member) other time [])) }
+    ensures answer { IfOk result (λ answer. answer ≡ making_by (keys_at nodes.old member) (node_at (states_of nodes.old) member) other time payload.now) }
+    ensures nodes { OnOk result (states_of nodes.new ≡ slice_set (states_of nodes.old) member (node_made (keys_at nodes.old member) (node_at (states_of nodes.old) member) other time payload.now)) }
     ensures starts { starts_of nodes.new ≡ starts_of nodes.old }
 {
-    let answer = nodes[member].make(other, time, &[])?;
+    let answer = nodes[member].make(other, time, payload)?;
     Ok(answer)
 }
 
@@ -47,15 +48,16 @@ fn sync(
     taker: usize,
     peer: usize,
     time: u64,
+    payload: &[u8],
 ) -> Result<SyncReport, Memory>
     requires taker { taker < length nodes.old }
     requires peer { peer < length nodes.old }
-    ensures report { IfOk result (λ report. report ≡ sync_report (keys_at nodes.old taker) (node_at (states_of nodes.old) taker) (node_at (states_of nodes.old) peer) time []) }
-    ensures nodes { OnOk result (states_of nodes.new ≡ slice_set (states_of nodes.old) taker (node_synced (keys_at nodes.old taker) (node_at (states_of nodes.old) taker) (node_at (states_of nodes.old) peer) time [])) }
+    ensures report { IfOk result (λ report. report ≡ sync_report (keys_at nodes.old taker) (node_at (states_of nodes.old) taker) (node_at (states_of nodes.old) peer) time payload.now) }
+    ensures nodes { OnOk result (states_of nodes.new ≡ slice_set (states_of nodes.old) taker (node_synced (keys_at nodes.old taker) (node_at (states_of nodes.old) taker) (node_at (states_of nodes.old) peer) time payload.now)) }
     ensures starts { starts_of nodes.new ≡ starts_of nodes.old }
 {
     let parcel = nodes[peer].parcel_for(alloc, &nodes[taker])?;
-    let report = nodes[taker].sync(&parcel, time, &[])?;
+    let report = nodes[taker].sync(&parcel, time, payload)?;
     Ok(report)
 }
 
@@ -95,24 +97,34 @@ pub(crate) fn play_gossip(
     nodes: &mut [Player],
     labels: &[Bytes],
     line: u64,
-    gossip: Gossip,
+    gossip: &Gossip,
 ) -> Result<Printed, Memory>
-    requires { IsGossipBelow (length nodes.old) gossip }
-    ensures printed { IfOk result (λ printed. printed ≡ gossip_printed (keys_at nodes.old (actor gossip)) (states_of nodes.old) labels.now line gossip) }
-    ensures nodes { OnOk result (states_of nodes.new ≡ nodes_after (keys_at nodes.old (actor gossip)) (states_of nodes.old) labels.now gossip) }
+    requires { IsGossipBelow (length nodes.old) gossip.now }
+    ensures printed { IfOk result (λ printed. printed ≡ gossip_printed (keys_at nodes.old (actor gossip.now)) (states_of nodes.old) labels.now line gossip.now) }
+    ensures nodes { OnOk result (states_of nodes.new ≡ nodes_after (keys_at nodes.old (actor gossip.now)) (states_of nodes.old) labels.now gossip.now) }
     ensures starts { starts_of nodes.new ≡ starts_of nodes.old }
 {
     match gossip {
-        Gossip::Create { member, time } => {
-            let answer = make(nodes, member as usize, None, time)?;
+        Gossip::Create {
+            member,
+            time,
+            payload,
+        } => {
+            let answer = make(nodes, *member as usize, None, *time, payload.as_slice())?;
             Ok(Printed::Create { line, answer })
         }
-        Gossip::Sync { taker, peer, time } => {
-            let report = sync(alloc, nodes, taker as usize, peer as usize, time)?;
+        Gossip::Sync {
+            taker,
+            peer,
+            time,
+            payload,
+        } => {
+            let (taker, peer) = (*taker as usize, *peer as usize);
+            let report = sync(alloc, nodes, taker, peer, *time, payload.as_slice())?;
             Ok(Printed::Sync { line, report })
         }
         Gossip::Pull { taker, peer } => {
-            let counts = pull(alloc, nodes, taker as usize, peer as usize)?;
+            let counts = pull(alloc, nodes, *taker as usize, *peer as usize)?;
             Ok(Printed::Pull {
                 line,
                 taken: counts.taken,
@@ -123,13 +135,14 @@ pub(crate) fn play_gossip(
             member,
             label,
             time,
+            payload,
         } => {
-            let other = Some(name_of_label(labels, label));
-            let answer = make(nodes, member as usize, other, time)?;
+            let other = Some(name_of_label(labels, *label));
+            let answer = make(nodes, *member as usize, other, *time, payload.as_slice())?;
             Ok(Printed::Join { line, answer })
         }
         Gossip::Give { member, label } => {
-            let answer = give(nodes, member as usize, bytes_at(labels, label))?;
+            let answer = give(nodes, *member as usize, bytes_at(labels, *label))?;
             Ok(Printed::Give { line, answer })
         }
     }

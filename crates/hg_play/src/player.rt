@@ -71,7 +71,8 @@ fn lacking(
     taker: &Node<MacTable>,
     node: &Node<MacTable>,
 ) -> Result<Vec<Bytes>, Memory>
-    ensures { IfOk result (λ v. v.items ≡ map spelling (lacking (graph_of taker.now) (graph_of node.now))) }
+    ensures value { IfOk result (λ v. v.items ≡ map spelling (lacking (graph_of taker.now) (graph_of node.now))) }
+    ensures few { IfOk result (λ v. length v.items ≤ row_limit) }
 {
     let mut missing = Vec::new(alloc);
     for place in 0..node.rows() {
@@ -80,13 +81,13 @@ fn lacking(
     Ok(missing)
 }
 
-/// The name of the last row that the node made.
-fn last_name(node: &Node<MacTable>) -> Option<Name>
-    ensures { result ≡ last_name node.now.start.own (graph_of node.now) }
+/// The bytes of the row with this name, if there is one.
+fn bytes_named(alloc: Global, node: &Node<MacTable>, name: &Name) -> Result<Bytes, Memory>
+    ensures { IfOk result (λ bytes. bytes ≡ bytes_named (graph_of node.now) name.now) }
 {
-    match node.last_own() {
-        Some(place) => Some(node.row(place).name),
-        None => None,
+    match node.place_of(name) {
+        Some(place) => copied(alloc, node.bytes(place)),
+        None => Ok(Items::new(alloc)),
     }
 }
 
@@ -94,8 +95,8 @@ fn last_name(node: &Node<MacTable>) -> Option<Name>
 fn last_bytes(alloc: Global, node: &Node<MacTable>) -> Result<Bytes, Memory>
     ensures { IfOk result (λ bytes. bytes ≡ unwrap_or (option_map (bytes_named (graph_of node.now)) (last_name node.now.start.own (graph_of node.now))) []) }
 {
-    match node.last_own() {
-        Some(place) => copied(alloc, node.bytes(place)),
+    match node.last_name() {
+        Some(name) => bytes_named(alloc, node, &name),
         None => Ok(Items::new(alloc)),
     }
 }
@@ -142,6 +143,7 @@ impl Player {
     }
 
     /// Puts the bytes of an event.
+    #[tactic(auto, using(crate::proofs::PlayerLaws::player_put), unfolding(hg_model::specs::Calls::put_answer))]
     pub(crate) fn put(&mut self, bytes: &[u8]) -> Result<PutAnswer, Memory>
         ensures answer { IfOk result (λ answer. answer ≡ verdict_by (keys_in self.old) (state_in self.old) bytes.now) }
         ensures after { OnOk result (self.new ≡ with_rows_of self.old (node_put (keys_in self.old) (state_in self.old) bytes.now)) }
@@ -172,7 +174,7 @@ impl Player {
         let rows = lacking(alloc, &taker.node, &self.node)?;
         Ok(Parcel {
             rows: Items::from_vec(rows),
-            last: last_name(&self.node),
+            last: self.node.last_name(),
         })
     }
 

@@ -1,5 +1,5 @@
 -- The first of what is left of a text, and the others
-use Rattle.std.proofs.Common.{◌≡◌, ◌∙◌, ◌+◌, ◌<◌, ◌++◌, ℕ, Bool, List, ◌∷◌, length, drop, get_or, sym, ap, add-one}
+use Rattle.std.proofs.Common.{◌≡◌, ◌∙◌, ◌+◌, ◌<◌, ◌++◌, ℕ, Bool, List, [], ◌∷◌, length, drop, get_or, sym, ap, add-one, append_assoc, arith, refl}
 use Rattle.std.proofs.Math.Seq.{drop-cons}
 use Rattle.hg_model.specs.Report.{balance_text, balances_text, order_line_text, order_text, printed_text, printed_texts}
 use Rattle.hg_model.specs.declared.outcome.OrderLine.{OrderLine}
@@ -31,3 +31,9 @@ pub texts_left : (names : List (List ℕ)) (texts : List Printed) (i : ℕ) (pri
 texts_left names texts i printed is lt =
     ap (printed_texts names) (first_left texts i printed lt)
     ∙ ap (λ p. printed_text names p ++ printed_texts names (drop (i + 1) texts)) (sym is)
+
+-- four pieces with a text, and what follows them
+pub four_then : (pieces : List Piece) (d : Piece) (text rest : List ℕ) → length pieces ≡ 4 → pieces_text pieces ≡ text
+    → piece_text (get_or pieces 0 d) ++ (piece_text (get_or pieces 1 d) ++ (piece_text (get_or pieces 2 d) ++ (piece_text (get_or pieces 3 d) ++ rest))) ≡ text ++ rest
+four_then (p ∷ q ∷ r ∷ s ∷ []) d text rest four is = rw (← is) (simp append_assoc)
+four_then _ d text rest four is = absurd (omega arith)

@@ -1,24 +1,42 @@
 ghost use Rattle.hg_io.specs.Telling.{Puts, desk};
-ghost use Rattle.std.specs.Prelude.{◌≡◌};
-ghost use Rattle.hg_model.specs.Report.{balance_text, balances_text, block_text, head_text, line_end, order_line_text, order_text};
+ghost use Rattle.std.specs.Prelude.{◌≡◌, ◌++◌, codes, length};
+ghost use Rattle.hg_model.specs.Report.{balance_text, balances_text, block_text, effect_text, head_text, line_end, order_line_text, order_text};
 ghost use Rattle.hg_report.specs.Pieces.{pieces_text};
 
 use crate::pieces::{Piece, name_of, write_pieces};
 use hg_io::{Failed, Page, Sink};
-use hg_model::{Block, Bytes, OrderLine};
+use hg_model::{Block, Bytes, Effect, OrderLine};
+
+/// What came of an event's payload, behind a blank.
+fn effect_pieces(effect: &Effect) -> [Piece<'_>; 4]
+    ensures text { pieces_text result ≡ codes " " ++ effect_text effect.now }
+    ensures four { length result ≡ 4 }
+{
+    let none = Piece::Bytes(b"");
+    match effect {
+        Effect::Empty => [Piece::Bytes(b" -"), none, none, none],
+        Effect::Unread => [Piece::Bytes(b" unread"), none, none, none],
+        Effect::Paid { done, of } => [
+            Piece::Bytes(b" paid "),
+            Piece::Number(u64::from(*done)),
+            Piece::Bytes(b" of "),
+            Piece::Number(u64::from(*of)),
+        ],
+    }
+}
 
 /// The end of a line of the order, with the event's name where it is asked for.
-fn line_end(named: bool, line: &OrderLine) -> [Piece<'_>; 3]
+fn line_end(named: bool, line: &OrderLine) -> [Piece<'_>; 7]
     ensures { pieces_text result ≡ line_end named line.now }
 {
+    let [what, done, between, of_all] = effect_pieces(&line.effect);
+    let end = Piece::Bytes(b"\n");
     if named {
-        [
-            Piece::Bytes(b" - "),
-            Piece::Name(&line.name),
-            Piece::Bytes(b"\n"),
-        ]
+        let name = Piece::Name(&line.name);
+        [what, done, between, of_all, Piece::Bytes(b" "), name, end]
     } else {
-        [Piece::Bytes(b" -\n"), Piece::Bytes(b""), Piece::Bytes(b"")]
+        let none = Piece::Bytes(b"");
+        [what, done, between, of_all, none, none, end]
     }
 }
 
@@ -31,9 +49,9 @@ fn write_order_line<'a, K: Sink>(
     number: u64,
     line: &'a OrderLine,
 ) -> Result<(), Failed>
-    ensures { Puts (desk (K.written sink.old) (K.faults sink.old) page.old) (desk (K.written sink.new) (K.faults sink.new) page.new) (order_line_text named names.entry.now number line.entry.now) result }
+    ensures { Puts (desk K.Sink sink.old page.old) (desk K.Sink sink.new page.new) (order_line_text named names.entry.now number line.entry.now) result }
 {
-    let [dash, name, end] = line_end(named, line);
+    let [what, done, between, of_all, blank, name, end] = line_end(named, line);
     write_pieces(
         page,
         sink,
@@ -47,7 +65,11 @@ fn write_order_line<'a, K: Sink>(
             Piece::Number(u64::from(line.received)),
             Piece::Bytes(b" time "),
             Piece::Number(line.time),
-            dash,
+            what,
+            done,
+            between,
+            of_all,
+            blank,
             name,
             end,
         ],
@@ -62,7 +84,7 @@ fn write_order<'a, K: Sink>(
     names: &'a [Bytes],
     lines: &'a [OrderLine],
 ) -> Result<(), Failed>
-    ensures { Puts (desk (K.written sink.old) (K.faults sink.old) page.old) (desk (K.written sink.new) (K.faults sink.new) page.new) (order_text named names.entry.now 1 lines.entry.now) result }
+    ensures { Puts (desk K.Sink sink.old page.old) (desk K.Sink sink.new page.new) (order_text named names.entry.now 1 lines.entry.now) result }
 {
     for (i, line) in lines.iter().enumerate() {
         write_order_line(page, sink, named, names, i as u64 + 1, line)?;
@@ -77,7 +99,7 @@ fn write_balance<K: Sink>(
     member: usize,
     balance: u64,
 ) -> Result<(), Failed>
-    ensures { Puts (desk (K.written sink.old) (K.faults sink.old) page.old) (desk (K.written sink.new) (K.faults sink.new) page.new) (balance_text names.now member balance) result }
+    ensures { Puts (desk K.Sink sink.old page.old) (desk K.Sink sink.new page.new) (balance_text names.now member balance) result }
 {
     write_pieces(
         page,
@@ -99,7 +121,7 @@ fn write_balances<K: Sink>(
     names: &[Bytes],
     balances: &[u64],
 ) -> Result<(), Failed>
-    ensures { Puts (desk (K.written sink.old) (K.faults sink.old) page.old) (desk (K.written sink.new) (K.faults sink.new) page.new) (balances_text names.now 0 balances.now) result }
+    ensures { Puts (desk K.Sink sink.old page.old) (desk K.Sink sink.new page.new) (balances_text names.now 0 balances.now) result }
 {
     for (i, balance) in balances.iter().enumerate() {
         write_balance(page, sink, names, i, *balance)?;
@@ -114,7 +136,7 @@ fn write_head<K: Sink>(
     names: &[Bytes],
     block: &Block,
 ) -> Result<(), Failed>
-    ensures { Puts (desk (K.written sink.old) (K.faults sink.old) page.old) (desk (K.written sink.new) (K.faults sink.new) page.new) (head_text names.now block.now) result }
+    ensures { Puts (desk K.Sink sink.old page.old) (desk K.Sink sink.new page.new) (head_text names.now block.now) result }
 {
     write_pieces(
         page,
@@ -145,7 +167,7 @@ pub(crate) fn write_block<'a, K: Sink>(
     names: &'a [Bytes],
     block: &'a Block,
 ) -> Result<(), Failed>
-    ensures { Puts (desk (K.written sink.old) (K.faults sink.old) page.old) (desk (K.written sink.new) (K.faults sink.new) page.new) (block_text named names.entry.now block.entry.now) result }
+    ensures { Puts (desk K.Sink sink.old page.old) (desk K.Sink sink.new page.new) (block_text named names.entry.now block.entry.now) result }
 {
     write_head(page, sink, names, block)?;
     write_order(page, sink, named, names, block.order.as_slice())?;

@@ -32,7 +32,7 @@ pub(crate) fn name_of(names: &[Bytes], member: usize) -> &[u8]
 }
 
 fn write_name<K: Sink>(page: &mut Page, sink: &mut K, name: &Name) -> Result<(), Failed>
-    ensures { Puts (desk (K.written sink.old) (K.faults sink.old) page.old) (desk (K.written sink.new) (K.faults sink.new) page.new) (encode_lower name.now) result }
+    ensures { Puts (desk K.Sink sink.old page.old) (desk K.Sink sink.new page.new) (encode_lower name.now) result }
 {
     let mut digits = [0; 96];
     let written = hex::encode_to_slice(name.as_slice(), &mut digits);
@@ -41,7 +41,7 @@ fn write_name<K: Sink>(page: &mut Page, sink: &mut K, name: &Name) -> Result<(),
 }
 
 fn write_piece<K: Sink>(page: &mut Page, sink: &mut K, piece: &Piece<'_>) -> Result<(), Failed>
-    ensures { Puts (desk (K.written sink.old) (K.faults sink.old) page.old) (desk (K.written sink.new) (K.faults sink.new) page.new) (piece_text piece.now) result }
+    ensures { Puts (desk K.Sink sink.old page.old) (desk K.Sink sink.new page.new) (piece_text piece.now) result }
 {
     match piece {
         Piece::Bytes(bytes) => page.put(sink, bytes),
@@ -58,7 +58,7 @@ pub(crate) fn write_pieces<K: Sink>(
     sink: &mut K,
     pieces: &[Piece<'_>],
 ) -> Result<(), Failed>
-    ensures { Puts (desk (K.written sink.old) (K.faults sink.old) page.old) (desk (K.written sink.new) (K.faults sink.new) page.new) (pieces_text pieces.now) result }
+    ensures { Puts (desk K.Sink sink.old page.old) (desk K.Sink sink.new page.new) (pieces_text pieces.now) result }
 {
     for piece in pieces {
         write_piece(page, sink, piece)?;
@@ -70,7 +70,7 @@ pub(crate) fn write_pieces<K: Sink>(
 /// `Failed` comes with the first fault of the sink, which has then taken a front of their text, and not all of it.
 #[tactic(auto, using(hg_io::proofs::Told::stopped_part, hg_io::proofs::Told::told_by_page))]
 pub fn tell_pieces<K: Sink>(sink: &mut K, pieces: &[Piece<'_>]) -> Result<(), Failed>
-    ensures { Tells (K.written sink.old) (K.written sink.new) (K.faults sink.old) (K.faults sink.new) (pieces_text pieces.now) result }
+    ensures { Tells K.Sink sink.old sink.new (pieces_text pieces.now) result }
 {
     let mut page = Page::new();
     write_pieces(&mut page, sink, pieces)?;

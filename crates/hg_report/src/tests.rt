@@ -1,14 +1,14 @@
 use super::*;
 use hg_io::{Failed, SinkMem};
 use hg_model::{
-    Block, Bytes, Items, MakeAnswer, MakeFault, OrderLine, Outcome, Printed, SyncMade, SyncReport,
+    Block, Bytes, Effect, Items, MakeAnswer, MakeFault, OrderLine, Outcome, Printed, SyncMade, SyncReport,
 };
 use std::alloc::Global;
 use std::test::Fail;
 
 // As the description of the report's lines has them.
 const TEXT: &str =
-    "1 create made 0\n2 create refused missing-other 070707070707070707070707070707070707070707070707070707070707070707070707070707070707070707070707\n3 sync taken 4 refused 1 made 5\n12 sync taken 0 refused 0 made none full 16384\nnode B events 20 forkers 1 round 4 closed 2 ordered 2\n1 A 0 round 2 time 18446744073709551615 -\n2 B 7 round 2 time 9 -\nbalance A 100\nbalance B 0\n";
+    "1 create made 0\n2 create refused missing-other 070707070707070707070707070707070707070707070707070707070707070707070707070707070707070707070707\n3 sync taken 4 refused 1 made 5\n12 sync taken 0 refused 0 made none full 16384\nnode B events 20 forkers 1 round 4 closed 2 ordered 3\n1 A 0 round 2 time 18446744073709551615 paid 1 of 12\n2 B 7 round 2 time 9 unread\n3 A 1 round 3 time 9 -\nbalance A 100\nbalance B 0\n";
 
 fn outcome(alloc: Global) -> Result<Outcome, Fail> {
     let mut names = Vec::new(alloc);
@@ -45,6 +45,7 @@ fn outcome(alloc: Global) -> Result<Outcome, Fail> {
             sequence: 0,
             received: 2,
             time: u64::MAX,
+            effect: Effect::Paid { done: 1, of: 12 },
             name: [1; 48],
         },
         OrderLine {
@@ -52,7 +53,16 @@ fn outcome(alloc: Global) -> Result<Outcome, Fail> {
             sequence: 7,
             received: 2,
             time: 9,
+            effect: Effect::Unread,
             name: [2; 48],
+        },
+        OrderLine {
+            creator: 0,
+            sequence: 1,
+            received: 3,
+            time: 9,
+            effect: Effect::Empty,
+            name: [3; 48],
         },
     ];
     printed.push(Printed::Block(Block {

@@ -16,7 +16,7 @@ fn write_answer<'a, K: Sink>(
     word: &'a [u8],
     phrase: Phrase<'a>,
 ) -> Result<(), Failed>
-    ensures { Puts (desk (K.written sink.old) (K.faults sink.old) page.old) (desk (K.written sink.new) (K.faults sink.new) page.new) (answer_line line word.entry.now (phrase_text phrase.entry)) result }
+    ensures { Puts (desk K.Sink sink.old page.old) (desk K.Sink sink.new page.new) (answer_line line word.entry.now (phrase_text phrase.entry)) result }
 {
     write_pieces(
         page,
@@ -41,7 +41,7 @@ fn write_sync<K: Sink>(
     line: u64,
     report: &SyncReport,
 ) -> Result<(), Failed>
-    ensures { Puts (desk (K.written sink.old) (K.faults sink.old) page.old) (desk (K.written sink.new) (K.faults sink.new) page.new) (sync_line line report.now) result }
+    ensures { Puts (desk K.Sink sink.old page.old) (desk K.Sink sink.new page.new) (sync_line line report.now) result }
 {
     let phrase = sync_made_phrase(&report.made);
     write_pieces(
@@ -70,7 +70,7 @@ fn write_pull<K: Sink>(
     taken: u64,
     refused: u64,
 ) -> Result<(), Failed>
-    ensures { Puts (desk (K.written sink.old) (K.faults sink.old) page.old) (desk (K.written sink.new) (K.faults sink.new) page.new) (pull_line line taken refused) result }
+    ensures { Puts (desk K.Sink sink.old page.old) (desk K.Sink sink.new page.new) (pull_line line taken refused) result }
 {
     write_pieces(
         page,
@@ -92,7 +92,7 @@ fn write_printed<K: Sink>(
     names: &[Bytes],
     printed: &Printed,
 ) -> Result<(), Failed>
-    ensures { Puts (desk (K.written sink.old) (K.faults sink.old) page.old) (desk (K.written sink.new) (K.faults sink.new) page.new) (printed_text names.now printed.now) result }
+    ensures { Puts (desk K.Sink sink.old page.old) (desk K.Sink sink.new page.new) (printed_text names.now printed.now) result }
 {
     match printed {
         Printed::Create { line, answer } => {
@@ -121,7 +121,7 @@ fn write_texts<K: Sink>(
     names: &[Bytes],
     texts: &[Printed],
 ) -> Result<(), Failed>
-    ensures { Puts (desk (K.written sink.old) (K.faults sink.old) page.old) (desk (K.written sink.new) (K.faults sink.new) page.new) (printed_texts names.now texts.now) result }
+    ensures { Puts (desk K.Sink sink.old page.old) (desk K.Sink sink.new page.new) (printed_texts names.now texts.now) result }
 {
     for printed in texts {
         write_printed(page, sink, names, printed)?;
@@ -133,7 +133,7 @@ fn write_texts<K: Sink>(
 /// `Failed` comes with the first fault of the sink, which has then taken a front of the text, and not all of it.
 #[tactic(auto, using(hg_io::proofs::Told::stopped_part))]
 pub fn text_of<K: Sink>(outcome: &Outcome, sink: &mut K) -> Result<(), Failed>
-    ensures { Tells (K.written sink.old) (K.written sink.new) (K.faults sink.old) (K.faults sink.new) (report_text outcome.now) result }
+    ensures { Tells K.Sink sink.old sink.new (report_text outcome.now) result }
 {
     let mut page = Page::new();
     write_texts(

@@ -1,14 +1,15 @@
 -- The first few words of a line are enough: with more of them the line is refused alike.
-use Rattle.std.proofs.Common.{◌≡◌, ℕ, List, [], ◌∷◌, take, Result, Ok, Err, refl}
+use Rattle.std.proofs.Common.{◌≡◌, ℕ, List, [], ◌∷◌, take, Option, Result, Ok, Err, refl}
 use Rattle.std.specs.Option.{ok_or}
 use Rattle.hg_model.specs.Members.{MemberList}
+use Rattle.hg_model.specs.Results.{◌>>=◌}
 use Rattle.hg_script.specs.declared.fault.Why.{Why}
 use Rattle.hg_script.specs.declared.fault.Why.TheVariants.{Word}
 use Rattle.hg_script.specs.declared.verb.Verb.{Verb}
 use Rattle.hg_script.specs.declared.verb.Verb.TheVariants as verb
 use Rattle.hg_script.specs.declared.words.TheConstants.{MOST_WORDS}
 use Rattle.hg_script.specs.Script.{line_in}
-use Rattle.hg_script.specs.Table.{◌>>=◌, Above, Found, found_by, line_by, alter, create, cut, forge, give, join, name, names, pull, raw, show, sync, one_word, two_words, three_words, four_words, five_words, verb_of}
+use Rattle.hg_script.specs.Table.{Above, Found, found_by, line_by, alter, create, cut, forge, give, join, name, names, pull, raw, show, sync, one_word, two_words, three_words, four_words, two_or_three, three_or_four, five_or_six, verb_of}
 
 one_enough : (line : List ℕ → Result Found Why) (words : List (List ℕ)) → one_word line (take 7 words) ≡ one_word line words
 one_enough line [] = refl
@@ -36,22 +37,38 @@ four_enough line (x ∷ y ∷ z ∷ []) = refl
 four_enough line (x ∷ y ∷ z ∷ u ∷ []) = refl
 four_enough line (x ∷ y ∷ z ∷ u ∷ v ∷ rest) = refl
 
-five_enough : (line : List ℕ → List ℕ → List ℕ → List ℕ → List ℕ → Result Found Why) (words : List (List ℕ)) → five_words line (take 7 words) ≡ five_words line words
-five_enough line [] = refl
-five_enough line (x ∷ []) = refl
-five_enough line (x ∷ y ∷ []) = refl
-five_enough line (x ∷ y ∷ z ∷ []) = refl
-five_enough line (x ∷ y ∷ z ∷ u ∷ []) = refl
-five_enough line (x ∷ y ∷ z ∷ u ∷ v ∷ []) = refl
-five_enough line (x ∷ y ∷ z ∷ u ∷ v ∷ w ∷ rest) = refl
+two_or_three_enough : (line : List ℕ → List ℕ → Option (List ℕ) → Result Found Why) (words : List (List ℕ)) → two_or_three line (take 7 words) ≡ two_or_three line words
+two_or_three_enough line [] = refl
+two_or_three_enough line (x ∷ []) = refl
+two_or_three_enough line (x ∷ y ∷ []) = refl
+two_or_three_enough line (x ∷ y ∷ z ∷ []) = refl
+two_or_three_enough line (x ∷ y ∷ z ∷ u ∷ rest) = refl
+
+three_or_four_enough : (line : List ℕ → List ℕ → List ℕ → Option (List ℕ) → Result Found Why) (words : List (List ℕ)) → three_or_four line (take 7 words) ≡ three_or_four line words
+three_or_four_enough line [] = refl
+three_or_four_enough line (x ∷ []) = refl
+three_or_four_enough line (x ∷ y ∷ []) = refl
+three_or_four_enough line (x ∷ y ∷ z ∷ []) = refl
+three_or_four_enough line (x ∷ y ∷ z ∷ u ∷ []) = refl
+three_or_four_enough line (x ∷ y ∷ z ∷ u ∷ v ∷ rest) = refl
+
+five_or_six_enough : (line : List ℕ → List ℕ → List ℕ → List ℕ → List ℕ → Option (List ℕ) → Result Found Why) (words : List (List ℕ)) → five_or_six line (take 7 words) ≡ five_or_six line words
+five_or_six_enough line [] = refl
+five_or_six_enough line (x ∷ []) = refl
+five_or_six_enough line (x ∷ y ∷ []) = refl
+five_or_six_enough line (x ∷ y ∷ z ∷ []) = refl
+five_or_six_enough line (x ∷ y ∷ z ∷ u ∷ []) = refl
+five_or_six_enough line (x ∷ y ∷ z ∷ u ∷ v ∷ []) = refl
+five_or_six_enough line (x ∷ y ∷ z ∷ u ∷ v ∷ w ∷ []) = refl
+five_or_six_enough line (x ∷ y ∷ z ∷ u ∷ v ∷ w ∷ t ∷ rest) = refl
 
 line_enough : (members : MemberList) (above : Above) (v : Verb) (words : List (List ℕ)) → line_by members above v (take 7 words) ≡ line_by members above v words
-line_enough members above verb.Create words = two_enough (create members above) words
-line_enough members above verb.Sync words = three_enough (sync members above) words
+line_enough members above verb.Create words = two_or_three_enough (create members above) words
+line_enough members above verb.Sync words = three_or_four_enough (sync members above) words
 line_enough members above verb.Pull words = two_enough (pull members) words
-line_enough members above verb.Join words = three_enough (join members above) words
+line_enough members above verb.Join words = three_or_four_enough (join members above) words
 line_enough members above verb.Name words = two_enough (name members above) words
-line_enough members above verb.Forge words = five_enough (forge members above) words
+line_enough members above verb.Forge words = five_or_six_enough (forge members above) words
 line_enough members above verb.Raw words = two_enough (raw above) words
 line_enough members above verb.Alter words = four_enough (alter above) words
 line_enough members above verb.Cut words = three_enough (cut above) words

@@ -5,3 +5,4 @@ pub mod Numbers
 pub mod OnLiterals
 pub mod SixBytes
 mod Worked
+pub mod PayloadLaws

@@ -4,7 +4,7 @@ use Rattle.std.proofs.lemmas.Bool.{cases_Bool, le-ltb}
 use Rattle.std.proofs.lemmas.List.{drop_more}
 use Rattle.hg_model.specs.Members.{is_digit}
 use Rattle.hg_script.specs.declared.fault.Why.TheVariants.{Number}
-use Rattle.hg_script.specs.Table.{below, value_after}
+use Rattle.hg_script.specs.Argument.{below, value_after}
 
 below_large : (n : ℕ) (rest : List ℕ) → 2 ^ 64 ≤ n → below (2 ^ 64) (value_after n rest) ≡ Err Number
 below_large n [] large = rw (le-ltb n (2 ^ 64) large)

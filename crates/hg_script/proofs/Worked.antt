@@ -1,6 +1,7 @@
 -- Worked scripts, computed: what is taken, and one for each why
-use Rattle.std.proofs.Common.{◌≡◌, ℕ, true, false, List, [], ◌∷◌, ◌++◌, codes, Result, Ok, Err, Some, None, refl}
+use Rattle.std.proofs.Common.{◌≡◌, ℕ, zero, suc, replicate, true, false, List, [], ◌∷◌, ◌++◌, codes, Result, Ok, Err, Some, None, refl}
 use Rattle.hg_model.specs.Members.{MemberList, listed}
+use Rattle.hg_model.specs.Pay.{pay_bytes}
 use Rattle.hg_script.specs.declared.fault.ScriptFault.{ScriptFault}
 use Rattle.hg_script.specs.declared.fault.Why.{Why}
 use Rattle.hg_script.specs.declared.fault.Why.TheVariants.{Utf8, Word, Arity, Member, NoNode, Number, Payload, Label, DoubleLabel, NotFirst, First}
@@ -41,7 +42,7 @@ unfolding script_on_literals
 no_bytes = refl
 
 three_lines : script (codes "create A 1\n" ++ 9 ∷ (codes "create  B 18446744073709551615 " ++ 13 ∷ 10 ∷ (codes "sync B" ++ 9 ∷ codes "A 00000000000000000007")))
-    ≡ Ok (does 1 (Create 0 1) ∷ does 2 (Create 1 18446744073709551615) ∷ does 3 (Sync 1 0 7) ∷ [])
+    ≡ Ok (does 1 (Create 0 1 []) ∷ does 2 (Create 1 18446744073709551615 []) ∷ does 3 (Sync 1 0 7 []) ∷ [])
 unfolding script_on_literals
 three_lines = refl
 
@@ -58,11 +59,11 @@ one_word : script (codes "create" ++ 11 ∷ codes "A 1\n") ≡ refused 1 Word
 unfolding script_on_literals
 one_word = refl
 
-no_words : script (codes "create A 1\n \n") ≡ Ok (does 1 (Create 0 1) ∷ [])
+no_words : script (codes "create A 1\n \n") ≡ Ok (does 1 (Create 0 1 []) ∷ [])
 unfolding script_on_literals
 no_words = refl
 
-comment : script (codes "# a comment\ncreate A 1\n") ≡ Ok (does 2 (Create 0 1) ∷ [])
+comment : script (codes "# a comment\ncreate A 1\n") ≡ Ok (does 2 (Create 0 1 []) ∷ [])
 unfolding script_on_literals
 comment = refl
 
@@ -116,9 +117,9 @@ unfolding script_on_literals
 not_created = refl
 
 every_line : script (codes "create A 1\ncreate B 2\nname a A\njoin B a 3\npull A B\nforge f N a a 9\nforge g A - - 0\nraw r 00fF\nalter s r 1 255\ncut A s 18446744073709551615\ngive A A\nshow A\nnames B\nsync A B 4")
-    ≡ Ok (does 1 (Create 0 1) ∷ does 2 (Create 1 2) ∷ makes 3 (Last 0) ∷ does 4 (Join 1 0 3) ∷ does 5 (Pull 0 1) ∷ makes 6 (Forged 2 (Some (0, 0)) 9)
-    ∷ makes 7 (Forged 0 None 0) ∷ makes 8 (Raw (0 ∷ 255 ∷ [])) ∷ makes 9 (Altered 3 1 255) ∷ makes 10 (Front 4 18446744073709551615)
-    ∷ does 11 (Give 0 5) ∷ line_at 12 (action.Show 0) ∷ line_at 13 (action.Names 1) ∷ does 14 (Sync 0 1 4) ∷ [])
+    ≡ Ok (does 1 (Create 0 1 []) ∷ does 2 (Create 1 2 []) ∷ makes 3 (Last 0) ∷ does 4 (Join 1 0 3 []) ∷ does 5 (Pull 0 1) ∷ makes 6 (Forged 2 (Some (0, 0)) 9 [])
+    ∷ makes 7 (Forged 0 None 0 []) ∷ makes 8 (Raw (0 ∷ 255 ∷ [])) ∷ makes 9 (Altered 3 1 255) ∷ makes 10 (Front 4 18446744073709551615)
+    ∷ does 11 (Give 0 5) ∷ line_at 12 (action.Show 0) ∷ line_at 13 (action.Names 1) ∷ does 14 (Sync 0 1 4 []) ∷ [])
 unfolding script_on_literals
 every_line = refl
 
@@ -209,7 +210,7 @@ pull_itself : script (codes "pull A A") ≡ refused 1 Member
 unfolding script_on_literals
 pull_itself = refl
 
-many_forge_words : script (codes "forge f A - - 1 1") ≡ refused 1 Arity
+many_forge_words : script (codes "forge f A - - 1 hex: 1") ≡ refused 1 Arity
 unfolding script_on_literals
 many_forge_words = refl
 
@@ -236,3 +237,102 @@ two_returns = refl
 dash_before_member : script (codes "forge - ? - - 1\n") ≡ refused 1 Label
 unfolding script_on_literals
 dash_before_member = refl
+
+-- a payload word, looked at last
+
+-- so large an amount below 256, in eight bytes
+abbrev eight_bytes : ℕ → List ℕ
+eight_bytes amount = 0 ∷ 0 ∷ 0 ∷ 0 ∷ 0 ∷ 0 ∷ 0 ∷ amount ∷ []
+
+payloads : script (codes "create A 1 pay:B=30,#7=80\ncreate B 2 hex:\nsync A B 3 hex:00fF\nname a A\njoin B a 4 pay:A=0\nforge f N a a 5 hex:7F")
+    ≡ Ok (does 1 (Create 0 1 (2 ∷ 0 ∷ 1 ∷ (eight_bytes 30 ++ 0 ∷ 7 ∷ eight_bytes 80))) ∷ does 2 (Create 1 2 []) ∷ does 3 (Sync 0 1 3 (0 ∷ 255 ∷ []))
+    ∷ makes 4 (Last 0) ∷ does 5 (Join 1 0 4 (1 ∷ 0 ∷ 0 ∷ eight_bytes 0)) ∷ makes 6 (Forged 2 (Some (0, 0)) 5 (127 ∷ [])) ∷ [])
+unfolding script_on_literals
+payloads = refl
+
+-- the greatest amount, and the greatest number of a receiver
+greatest_amount : script (codes "create A 1 pay:#65535=18446744073709551615") ≡ Ok (does 1 (Create 0 1 (1 ∷ replicate 10 255)) ∷ [])
+unfolding script_on_literals
+greatest_amount = refl
+
+large_amount : script (codes "create A 1 pay:A=18446744073709551616") ≡ refused 1 Number
+unfolding script_on_literals
+large_amount = refl
+
+large_id : script (codes "create A 1 pay:#65536=1") ≡ refused 1 Number
+unfolding script_on_literals
+large_id = refl
+
+-- so many items more
+abbrev items_more : ℕ → List ℕ
+items_more zero = []
+items_more (suc n) = codes ",B=1" ++ items_more n
+
+sixty_four_items : script (codes "create A 1 pay:B=1" ++ items_more 63) ≡ Ok (does 1 (Create 0 1 (pay_bytes (replicate 64 (record { receiver = 1; amount = 1 })))) ∷ [])
+unfolding script_on_literals
+sixty_four_items = refl
+
+sixty_five_items : script (codes "create A 1 pay:B=1" ++ items_more 64) ≡ refused 1 Payload
+unfolding script_on_literals
+sixty_five_items = refl
+
+no_items : script (codes "create A 1 pay:") ≡ refused 1 Payload
+unfolding script_on_literals
+no_items = refl
+
+no_last_item : script (codes "create A 1 pay:A=1,") ≡ refused 1 Payload
+unfolding script_on_literals
+no_last_item = refl
+
+two_equals : script (codes "create A 1 pay:A=1=1") ≡ refused 1 Payload
+unfolding script_on_literals
+two_equals = refl
+
+no_amount : script (codes "create A 1 pay:A=") ≡ refused 1 Number
+unfolding script_on_literals
+no_amount = refl
+
+no_id : script (codes "create A 1 pay:#=1") ≡ refused 1 Number
+unfolding script_on_literals
+no_id = refl
+
+digit_receiver : script (codes "create A 1 pay:9=1") ≡ refused 1 Member
+unfolding script_on_literals
+digit_receiver = refl
+
+no_receiver : script (codes "create A 1 pay:=1") ≡ refused 1 Member
+unfolding script_on_literals
+no_receiver = refl
+
+-- the form of all items is looked at before the first receiver, and a receiver before its amount
+form_before_receiver : script (codes "create A 1 pay:a=1,B") ≡ refused 1 Payload
+unfolding script_on_literals
+form_before_receiver = refl
+
+receiver_before_amount : script (codes "create A 1 pay:B=1,a=x") ≡ refused 1 Member
+unfolding script_on_literals
+receiver_before_amount = refl
+
+amount_before_receiver : script (codes "create A 1 pay:B=x,a=1") ≡ refused 1 Number
+unfolding script_on_literals
+amount_before_receiver = refl
+
+hex_odd : script (codes "create A 1 hex:000") ≡ refused 1 Payload
+unfolding script_on_literals
+hex_odd = refl
+
+no_form : script (codes "create A 1 00") ≡ refused 1 Payload
+unfolding script_on_literals
+no_form = refl
+
+time_before_payload : script (codes "create A x pay:") ≡ refused 1 Number
+unfolding script_on_literals
+time_before_payload = refl
+
+payload_before_first : script (codes "create A 1\ncreate A 2 pay:") ≡ refused 2 Payload
+unfolding script_on_literals
+payload_before_first = refl
+
+payload_before_later : script (codes "sync A B 1 hex:0") ≡ refused 1 Payload
+unfolding script_on_literals
+payload_before_later = refl

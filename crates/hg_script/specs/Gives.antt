@@ -3,12 +3,7 @@ use Rattle.std.specs.Prelude.{◌≡◌, Result, Ok, Err, ⊤}
 use Rattle.hg_script.specs.declared.stop.Stop.{Stop}
 use Rattle.hg_script.specs.declared.stop.Stop.TheVariants.{Memory, Fault}
 
--- the value that is read, as it is seen, or the same fault
-abbrev pub Reads : {X Y E : Type 0} → (X → Y) → Result X E → Result Y E → Type 0
-Reads view (Ok x) read = read ≡ Ok (view x)
-Reads view (Err fault) read = read ≡ Err fault
-
--- the same, unless memory runs out
+-- the value that is read, as it is seen, or the same fault, unless memory runs out
 abbrev pub Gives : {X Y E : Type 0} → (X → Y) → Result X (Stop E) → Result Y E → Type 0
 Gives view (Ok x) read = read ≡ Ok (view x)
 Gives view (Err Memory) read = ⊤

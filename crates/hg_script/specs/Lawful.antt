@@ -1,33 +1,40 @@
 -- What each line of a script that was read keeps to
-use Rattle.std.specs.Prelude.{◌≡◌, ◌≢◌, ◌<◌, ℕ, List, false, true, Option, None, Some, ⊤}
+use Rattle.std.specs.Prelude.{◌≡◌, ◌≢◌, ◌<◌, ◌≤◌, ℕ, List, length, false, true, Option, None, Some, ⊤}
 use Rattle.std.specs.List.{list_any}
 use Rattle.std.specs.Str.{bytes_eq}
 use Rattle.hg_model.specs.Members.{MemberList}
+use Rattle.hg_model.specs.Spelling.{payload_limit}
 use Rattle.hg_script.specs.declared.line.Gossip.{Gossip}
 use Rattle.hg_script.specs.declared.line.Gossip.TheVariants.{Create, Sync, Pull, Join, Give}
 use Rattle.hg_script.specs.declared.line.Source.{Source}
-use Rattle.hg_script.specs.declared.line.Source.TheVariants.{Last}
+use Rattle.hg_script.specs.declared.line.Source.TheVariants.{Last, Forged}
 use Rattle.hg_script.specs.declared.line.Action.{Action}
 use Rattle.hg_script.specs.declared.line.Action.TheVariants as action
 use Rattle.hg_script.specs.declared.line.Line.{Line}
-use Rattle.hg_script.specs.Table.{Above, Found, has_node}
+use Rattle.hg_script.specs.Argument.{has_node}
+use Rattle.hg_script.specs.Table.{Above, Found}
 
 -- the number is that of a member with a node
 abbrev pub HasNode : MemberList → ℕ → Type 0
 HasNode members m = has_node members m ≡ true
 
+-- the payload of an event can be so long
+abbrev pub Fits : List ℕ → Type 0
+Fits payload = length payload ≤ payload_limit
+
 abbrev pub IsGossip : MemberList → Gossip → Type 0
-IsGossip members (Create member time) = HasNode members member
-IsGossip members (Sync taker peer time) = HasNode members taker × HasNode members peer × (taker ≢ peer)
+IsGossip members (Create member time payload) = HasNode members member × Fits payload
+IsGossip members (Sync taker peer time payload) = HasNode members taker × HasNode members peer × (taker ≢ peer) × Fits payload
 IsGossip members (Pull taker peer) = HasNode members taker × HasNode members peer × (taker ≢ peer)
-IsGossip members (Join member label time) = HasNode members member
+IsGossip members (Join member label time payload) = HasNode members member × Fits payload
 IsGossip members (Give member label) = HasNode members member
 
 abbrev pub IsSource : MemberList → Source → Type 0
 IsSource members (Last member) = HasNode members member
+IsSource members (Forged creator parents time payload) = Fits payload
 IsSource members _ = ⊤
 
--- the members that the action names have nodes
+-- the members that the action names have nodes, and its payload fits
 abbrev pub IsLawful : MemberList → Action → Type 0
 IsLawful members (action.Gossip g) = IsGossip members g
 IsLawful members (action.Label s) = IsSource members s
@@ -39,7 +46,7 @@ IsLine members line = IsLawful members line.action
 
 -- a member that makes a first event has a number below 128
 abbrev pub IsLow : Action → Type 0
-IsLow (action.Gossip (Create member time)) = member < 128
+IsLow (action.Gossip (Create member time payload)) = member < 128
 IsLow _ = ⊤
 
 -- the label to be made, if there is one, has none of these names

@@ -1,3 +1,5 @@
+pub mod Argument
+pub mod Payload
 pub mod Table
 pub mod Script
 pub mod Lawful

@@ -4,11 +4,12 @@ use Rattle.std.specs.List.{slice_split}
 use Rattle.std.specs.Str.{is_utf8}
 use Rattle.std.specs.Str.Lines.{lines}
 use Rattle.hg_model.specs.Members.{MemberList}
+use Rattle.hg_model.specs.Results.{◌>>=◌}
 use Rattle.hg_script.specs.declared.fault.ScriptFault.{ScriptFault}
 use Rattle.hg_script.specs.declared.fault.Why.{Why}
 use Rattle.hg_script.specs.declared.fault.Why.TheVariants.{Utf8}
 use Rattle.hg_script.specs.declared.line.Line.{Line}
-use Rattle.hg_script.specs.Table.{◌>>=◌, Above, Found, found_by}
+use Rattle.hg_script.specs.Table.{Above, Found, found_by}
 
 abbrev pub is_line_feed : ℕ → Bool
 is_line_feed b = b == 10

@@ -1,14 +1,12 @@
 -- The table of lines: the word that begins each, how many words stand behind it, what they have to be, and what it does
-use Rattle.std.specs.Prelude.{ℕ, ◌+◌, ◌-◌, ◌*◌, ◌^◌, Bool, false, ◌&&◌, ◌||◌, ◌==◌, nat_le, nat_lt, if◌then◌else◌, List, [], ◌∷◌, length, position, slice_get, codes, Option, Some, None, Result, Ok, Err}
+use Rattle.std.specs.Prelude.{ℕ, Bool, false, ◌==◌, if◌then◌else◌, List, [], ◌∷◌, codes, Option, Some, None, Result, Ok, Err}
 use Rattle.std.specs.List.{list_any}
-use Rattle.std.specs.Option.{ok_or, option_map_or}
-use Rattle.std.specs.Result.{result_ok}
+use Rattle.std.specs.Option.{ok_or}
 use Rattle.std.specs.Str.{bytes_eq}
-use Rattle.hex.specs.Hex.{decode_of}
-use Rattle.hg_model.specs.declared.members.MemberEntry.{MemberEntry}
-use Rattle.hg_model.specs.Members.{MemberList, is_digit, is_member_name}
+use Rattle.hg_model.specs.Members.{MemberList}
+use Rattle.hg_model.specs.Results.{◌>>=◌}
 use Rattle.hg_script.specs.declared.fault.Why.{Why}
-use Rattle.hg_script.specs.declared.fault.Why.TheVariants.{Word, Arity, Member, NoNode, Number, Payload, Label, DoubleLabel, NotFirst, First}
+use Rattle.hg_script.specs.declared.fault.Why.TheVariants.{Word, Arity, NotFirst, First}
 use Rattle.hg_script.specs.declared.line.Gossip.{Gossip}
 use Rattle.hg_script.specs.declared.line.Gossip.TheVariants.{Create, Sync, Pull, Join, Give}
 use Rattle.hg_script.specs.declared.line.Source.TheVariants.{Last, Forged, Raw, Altered, Front}
@@ -17,12 +15,8 @@ use Rattle.hg_script.specs.declared.line.Action.TheVariants as action
 use Rattle.hg_script.specs.declared.line.Line.{Line}
 use Rattle.hg_script.specs.declared.verb.Verb.{Verb}
 use Rattle.hg_script.specs.declared.verb.Verb.TheVariants as verb
-
--- one check after the other, up to the first that fails
-infixl 10 ◌>>=◌
-abbrev pub ◌>>=◌ : {E A B : Type 0} → Result A E → (A → Result B E) → Result B E
-Ok x >>= next = next x
-Err e >>= next = Err e
+use Rattle.hg_script.specs.Argument.{byte_of, bytes_of, label_of, member_of, new_label, node_of, number_of, parents_of, peer_of}
+use Rattle.hg_script.specs.Payload.{payload_of}
 
 -- what stands above a line: lines, and the names of the labels that they made, in order
 pub record Above : Type 0 where
@@ -40,77 +34,10 @@ does a = record { action = a; label = None }
 abbrev pub makes : Action → List ℕ → Found
 makes a name = record { action = a; label = Some name }
 
--- what a word can have to be
-
--- what decimal digits spell, behind others that spell n; nothing where another byte stands among them
-abbrev pub value_after : ℕ → List ℕ → Option ℕ
-value_after n [] = Some n
-value_after n (b ∷ rest) = if is_digit b then value_after (n * 10 + (b - 48)) rest else None
-
-abbrev pub below : ℕ → Option ℕ → Result ℕ Why
-below limit None = Err Number
-below limit (Some n) = if nat_lt n limit then Ok n else Err Number
-
--- 1 to 20 decimal digits, whose value is below 2^64
-abbrev pub number_of : List ℕ → Result ℕ Why
-number_of word = if nat_le 1 (length word) && nat_le (length word) 20 then below (2 ^ 64) (value_after 0 word) else Err Number
-
--- the same, with a value below 256
-abbrev pub byte_of : List ℕ → Result ℕ Why
-byte_of word = number_of word >>= (λ n. below 256 (Some n))
-
--- the number of the member with this name
-abbrev pub member_of : MemberList → List ℕ → Result ℕ Why
-member_of members word = ok_or (position (λ (e : MemberEntry). bytes_eq e.name word) members.entries) Member
-
-abbrev pub has_node : MemberList → ℕ → Bool
-has_node members m = option_map_or (λ (e : MemberEntry). e.has_node) (slice_get members.entries m) false
-
-abbrev pub with_node : MemberList → ℕ → Result ℕ Why
-with_node members m = if has_node members m then Ok m else Err NoNode
-
-abbrev pub other_than : ℕ → ℕ → Result ℕ Why
-other_than x y = if y == x then Err Member else Ok y
-
--- a member with a node
-abbrev pub node_of : MemberList → List ℕ → Result ℕ Why
-node_of members word = member_of members word >>= with_node members
-
--- a member with a node, other than x
-abbrev pub peer_of : MemberList → ℕ → List ℕ → Result ℕ Why
-peer_of members x word = member_of members word >>= other_than x >>= with_node members
-
--- the number of a label that was made above
-abbrev pub label_of : List (List ℕ) → List ℕ → Result ℕ Why
-label_of labels word = ok_or (position (bytes_eq word) labels) Label
-
--- the name of a label to be made, which has the form of a member's name
-abbrev pub new_label : List (List ℕ) → List ℕ → Result (List ℕ) Why
-new_label labels word =
-    if is_member_name word then (if list_any (bytes_eq word) labels then Err DoubleLabel else Ok word) else Err Label
-
--- the word `-`
-abbrev pub is_dash : List ℕ → Bool
-is_dash word = bytes_eq word (codes "-")
-
--- two labels, or none for `- -`
-abbrev pub parents_of : List (List ℕ) → List ℕ → List ℕ → Result (Option (ℕ × ℕ)) Why
-parents_of labels s o =
-    if is_dash s && is_dash o then Ok None
-    else if is_dash s || is_dash o then Err Label
-    else label_of labels s >>= (λ own. label_of labels o >>= (λ other. Ok (Some (own, other))))
-
--- the bytes of 2 to 8,192 hexadecimal digits, of either case
-abbrev pub raw_form : List ℕ → Option (List ℕ)
-raw_form word = if nat_le 2 (length word) && nat_le (length word) 8192 then result_ok (decode_of word) else None
-
-abbrev pub bytes_of : List ℕ → Result (List ℕ) Why
-bytes_of word = ok_or (raw_form word) Payload
-
 -- the rules of a whole line, by the lines above it
 
 abbrev pub creates : ℕ → Action → Bool
-creates x (action.Gossip (Create member time)) = member == x
+creates x (action.Gossip (Create member time payload)) = member == x
 creates x _ = false
 
 abbrev pub is_created : List Line → ℕ → Bool
@@ -127,20 +54,22 @@ later lines x found = if is_created lines x then Ok found else Err First
 abbrev pub gossip : Gossip → Found
 gossip g = does (action.Gossip g)
 
--- create X T
-unfoldable pub create : MemberList → Above → List ℕ → List ℕ → Result Found Why
-create members above x t = do
+-- create X T P, of which P may be left out
+unfoldable pub create : MemberList → Above → List ℕ → List ℕ → Option (List ℕ) → Result Found Why
+create members above x t p = do
   member ← node_of members x
   time ← number_of t
-  first above.lines member (gossip (Create member time))
+  payload ← payload_of members p
+  first above.lines member (gossip (Create member time payload))
 
--- sync X Y T
-unfoldable pub sync : MemberList → Above → List ℕ → List ℕ → List ℕ → Result Found Why
-sync members above x y t = do
+-- sync X Y T P, of which P may be left out
+unfoldable pub sync : MemberList → Above → List ℕ → List ℕ → List ℕ → Option (List ℕ) → Result Found Why
+sync members above x y t p = do
   taker ← node_of members x
   peer ← peer_of members taker y
   time ← number_of t
-  later above.lines taker (gossip (Sync taker peer time))
+  payload ← payload_of members p
+  later above.lines taker (gossip (Sync taker peer time payload))
 
 -- pull X Y
 unfoldable pub pull : MemberList → List ℕ → List ℕ → Result Found Why
@@ -149,13 +78,14 @@ pull members x y = do
   peer ← peer_of members taker y
   Ok (gossip (Pull taker peer))
 
--- join X L T
-unfoldable pub join : MemberList → Above → List ℕ → List ℕ → List ℕ → Result Found Why
-join members above x l t = do
+-- join X L T P, of which P may be left out
+unfoldable pub join : MemberList → Above → List ℕ → List ℕ → List ℕ → Option (List ℕ) → Result Found Why
+join members above x l t p = do
   member ← node_of members x
   label ← label_of above.labels l
   time ← number_of t
-  later above.lines member (gossip (Join member label time))
+  payload ← payload_of members p
+  later above.lines member (gossip (Join member label time payload))
 
 -- name L X
 unfoldable pub name : MemberList → Above → List ℕ → List ℕ → Result Found Why
@@ -164,14 +94,15 @@ name members above l x = do
   member ← node_of members x
   Ok (makes (action.Label (Last member)) label)
 
--- forge L M S O T
-unfoldable pub forge : MemberList → Above → List ℕ → List ℕ → List ℕ → List ℕ → List ℕ → Result Found Why
-forge members above l m s o t = do
+-- forge L M S O T P, of which P may be left out
+unfoldable pub forge : MemberList → Above → List ℕ → List ℕ → List ℕ → List ℕ → List ℕ → Option (List ℕ) → Result Found Why
+forge members above l m s o t p = do
   label ← new_label above.labels l
   creator ← member_of members m
   parents ← parents_of above.labels s o
   time ← number_of t
-  Ok (makes (action.Label (Forged creator parents time)) label)
+  payload ← payload_of members p
+  Ok (makes (action.Label (Forged creator parents time payload)) label)
 
 -- raw L H
 unfoldable pub raw : Above → List ℕ → List ℕ → Result Found Why
@@ -230,9 +161,22 @@ abbrev pub four_words : (List ℕ → List ℕ → List ℕ → List ℕ → Res
 four_words line (x ∷ y ∷ z ∷ u ∷ []) = line x y z u
 four_words line _ = Err Arity
 
-abbrev pub five_words : (List ℕ → List ℕ → List ℕ → List ℕ → List ℕ → Result Found Why) → List (List ℕ) → Result Found Why
-five_words line (x ∷ y ∷ z ∷ u ∷ v ∷ []) = line x y z u v
-five_words line _ = Err Arity
+-- the same, and one word more that may be left out
+
+abbrev pub two_or_three : (List ℕ → List ℕ → Option (List ℕ) → Result Found Why) → List (List ℕ) → Result Found Why
+two_or_three line (x ∷ y ∷ []) = line x y None
+two_or_three line (x ∷ y ∷ z ∷ []) = line x y (Some z)
+two_or_three line _ = Err Arity
+
+abbrev pub three_or_four : (List ℕ → List ℕ → List ℕ → Option (List ℕ) → Result Found Why) → List (List ℕ) → Result Found Why
+three_or_four line (x ∷ y ∷ z ∷ []) = line x y z None
+three_or_four line (x ∷ y ∷ z ∷ u ∷ []) = line x y z (Some u)
+three_or_four line _ = Err Arity
+
+abbrev pub five_or_six : (List ℕ → List ℕ → List ℕ → List ℕ → List ℕ → Option (List ℕ) → Result Found Why) → List (List ℕ) → Result Found Why
+five_or_six line (x ∷ y ∷ z ∷ u ∷ v ∷ []) = line x y z u v None
+five_or_six line (x ∷ y ∷ z ∷ u ∷ v ∷ w ∷ []) = line x y z u v (Some w)
+five_or_six line _ = Err Arity
 
 -- the table: the word that begins each line, and what the line does, with these words behind it and those lines above
 
@@ -253,12 +197,12 @@ verb_of word =
     else None
 
 abbrev pub line_by : MemberList → Above → Verb → List (List ℕ) → Result Found Why
-line_by members above verb.Create arguments = two_words (create members above) arguments
-line_by members above verb.Sync arguments = three_words (sync members above) arguments
+line_by members above verb.Create arguments = two_or_three (create members above) arguments
+line_by members above verb.Sync arguments = three_or_four (sync members above) arguments
 line_by members above verb.Pull arguments = two_words (pull members) arguments
-line_by members above verb.Join arguments = three_words (join members above) arguments
+line_by members above verb.Join arguments = three_or_four (join members above) arguments
 line_by members above verb.Name arguments = two_words (name members above) arguments
-line_by members above verb.Forge arguments = five_words (forge members above) arguments
+line_by members above verb.Forge arguments = five_or_six (forge members above) arguments
 line_by members above verb.Raw arguments = two_words (raw above) arguments
 line_by members above verb.Alter arguments = four_words (alter above) arguments
 line_by members above verb.Cut arguments = three_words (cut above) arguments

@@ -1,11 +1,12 @@
-ghost use Rattle.std.specs.Prelude.{◌≡◌, ◌<◌, ◌+◌, ◌-◌, ◌*◌, ◌^◌, ◌≢◌, false, position, IfOk, IfSome, IsTrue, SomeIff};
+ghost use Rattle.std.specs.Prelude.{◌≡◌, ◌<◌, ◌≤◌, ◌+◌, ◌-◌, ◌*◌, ◌^◌, ◌≢◌, false, length, position, IfOk, IfSome, IsTrue, SomeIff};
 ghost use Rattle.std.specs.List.{list_any};
 ghost use Rattle.std.specs.Str.{bytes_eq};
 ghost use Rattle.hg_model.specs.declared.members.MemberEntry.{MemberEntry};
 ghost use Rattle.hg_model.specs.Members.{is_digit};
-ghost use Rattle.hg_script.specs.Gives.{Gives, Reads};
+ghost use Rattle.hg_model.specs.Results.{Reads};
+ghost use Rattle.hg_script.specs.Gives.{Gives};
 ghost use Rattle.hg_script.specs.Lawful.{HasNode};
-ghost use Rattle.hg_script.specs.Table as told;
+ghost use Rattle.hg_script.specs.Argument as told;
 
 use crate::above::Above;
 use crate::fault::Why;
@@ -171,10 +172,17 @@ pub fn parents_of(above: &Above<'_>, s: &[u8], o: &[u8]) -> Result<Option<(usize
     Ok(Some((own, other)))
 }
 
-fn decoded(alloc: Global, word: &[u8]) -> Result<Option<Bytes>, AllocError>
-    ensures { IfOk result (λ bytes. bytes ≡ told.raw_form word.now) }
+/// The bytes of so many hexadecimal digits, from the least to the most.
+pub fn digits_form(
+    alloc: Global,
+    least: usize,
+    most: usize,
+    word: &[u8],
+) -> Result<Option<Bytes>, AllocError>
+    ensures value { IfOk result (λ bytes. bytes ≡ told.digits_form least most word.now) }
+    ensures fits { IfOk result (λ bytes. IfSome bytes (λ b. 2 * length b ≤ most)) }
 {
-    if word.len() < 2 || word.len() > 8192 {
+    if word.len() < least || word.len() > most {
         return Ok(None);
     }
     match hex::decode(alloc, word) {
@@ -188,7 +196,7 @@ fn decoded(alloc: Global, word: &[u8]) -> Result<Option<Bytes>, AllocError>
 pub fn bytes_of(alloc: Global, word: &[u8]) -> Result<Bytes, Stop<Why>>
     ensures { Gives (λ bytes. bytes) result (told.bytes_of word.now) }
 {
-    match decoded(alloc, word)? {
+    match digits_form(alloc, 2, 8192, word)? {
         Some(bytes) => Ok(bytes),
         None => Err(Stop::Fault(Why::Payload)),
     }

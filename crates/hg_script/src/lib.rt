@@ -1,6 +1,6 @@
 //! The gossip script: its lines, read from bytes.
 //! The layer above uses `read_script`, which gives just the lines that the bytes are, or the first line that is refused.
-//! The table of lines stands in `specs/Table.antt`, and its Rust form in `table.rt`, with `argument.rt` for what a word can have to be.
+//! The table of lines stands in `specs/Table.antt`, and its Rust form in `table.rt`, with `argument.rt` and `payload.rt` for what a word can have to be.
 #![tactic(auto)]
 
 mod above;
@@ -8,6 +8,7 @@ mod argument;
 mod fault;
 mod found;
 mod line;
+mod payload;
 mod script;
 mod stop;
 mod table;

@@ -1,18 +1,20 @@
 use hg_model::{Bytes, Member};
 
-/// What a node does: it makes an event, or takes some.
-#[derive(Clone, Copy, Debug, PartialEq, Eq)]
+/// What a node does: it makes an event, or takes some. A payload has at most 1,024 bytes.
+#[derive(Debug, Drop)]
 pub enum Gossip {
     /// The member's node makes its first event, at this time.
     Create {
         member: Member,
         time: u64,
+        payload: Bytes,
     },
     /// The taker's node takes from the peer's the events that it lacks, then makes one at this time.
     Sync {
         taker: Member,
         peer: Member,
         time: u64,
+        payload: Bytes,
     },
     /// The taker's node takes from the peer's the events that it lacks.
     Pull {
@@ -24,6 +26,7 @@ pub enum Gossip {
         member: Member,
         label: usize,
         time: u64,
+        payload: Bytes,
     },
     /// The bytes of a label are put to the member's node.
     Give {
@@ -45,6 +48,7 @@ pub enum Source {
         creator: Member,
         parents: Option<(usize, usize)>,
         time: u64,
+        payload: Bytes,
     },
     /// These bytes.
     Raw {

@@ -1,4 +1,5 @@
 ghost use Rattle.std.specs.Prelude.{◌≡◌, map, IfOk};
+ghost use Rattle.std.specs.Option.{option_copied};
 ghost use Rattle.hg_model.specs.Members.{MemberList};
 ghost use Rattle.hg_script.specs.Gives.{Gives};
 ghost use Rattle.hg_script.specs.Lawful.{IsFound};
@@ -12,6 +13,7 @@ use crate::argument::{
 use crate::fault::Why;
 use crate::found::Found;
 use crate::line::{Action, Gossip, Source};
+use crate::payload::payload_of;
 use crate::stop::Stop;
 use crate::verb::Verb;
 use hg_model::Members;
@@ -30,36 +32,56 @@ fn makes<'a>(source: Source, label: &'a [u8]) -> Found<'a>
 }
 
 #[tactic(auto, unfolding(crate::specs::Table::create))]
-fn create<'a>(members: &Members, above: &Above<'_>, x: &[u8], t: &[u8]) -> Result<Found<'a>, Why>
-    ensures value { result ≡ told.create members.now above.now x.now t.now }
+fn create<'a>(
+    alloc: Global,
+    members: &Members,
+    above: &Above<'_>,
+    x: &[u8],
+    t: &[u8],
+    p: Option<&[u8]>,
+) -> Result<Found<'a>, Stop<Why>>
+    ensures value { Gives (λ found. found) result (told.create members.now above.now x.now t.now (option_copied p.entry)) }
     ensures lawful { IfOk result (IsFound members.now above.now) }
 {
     let member = node_of(members, x)?;
     let time = number_of(t)?;
+    let payload = payload_of(alloc, members, p)?;
     if above.is_created(member) {
-        return Err(Why::NotFirst);
+        return Err(Stop::Fault(Why::NotFirst));
     }
-    Ok(gossip(Gossip::Create { member, time }))
+    Ok(gossip(Gossip::Create {
+        member,
+        time,
+        payload,
+    }))
 }
 
 #[tactic(auto, unfolding(crate::specs::Table::sync))]
 fn sync<'a>(
+    alloc: Global,
     members: &Members,
     above: &Above<'_>,
     x: &[u8],
     y: &[u8],
     t: &[u8],
-) -> Result<Found<'a>, Why>
-    ensures value { result ≡ told.sync members.now above.now x.now y.now t.now }
+    p: Option<&[u8]>,
+) -> Result<Found<'a>, Stop<Why>>
+    ensures value { Gives (λ found. found) result (told.sync members.now above.now x.now y.now t.now (option_copied p.entry)) }
     ensures lawful { IfOk result (IsFound members.now above.now) }
 {
     let taker = node_of(members, x)?;
     let peer = peer_of(members, taker, y)?;
     let time = number_of(t)?;
+    let payload = payload_of(alloc, members, p)?;
     if !above.is_created(taker) {
-        return Err(Why::First);
+        return Err(Stop::Fault(Why::First));
     }
-    Ok(gossip(Gossip::Sync { taker, peer, time }))
+    Ok(gossip(Gossip::Sync {
+        taker,
+        peer,
+        time,
+        payload,
+    }))
 }
 
 #[tactic(auto, unfolding(crate::specs::Table::pull))]
@@ -74,25 +96,29 @@ fn pull<'a>(members: &Members, x: &[u8], y: &[u8]) -> Result<Found<'a>, Why>
 
 #[tactic(auto, unfolding(crate::specs::Table::join))]
 fn join<'a>(
+    alloc: Global,
     members: &Members,
     above: &Above<'_>,
     x: &[u8],
     l: &[u8],
     t: &[u8],
-) -> Result<Found<'a>, Why>
-    ensures value { result ≡ told.join members.now above.now x.now l.now t.now }
+    p: Option<&[u8]>,
+) -> Result<Found<'a>, Stop<Why>>
+    ensures value { Gives (λ found. found) result (told.join members.now above.now x.now l.now t.now (option_copied p.entry)) }
     ensures lawful { IfOk result (IsFound members.now above.now) }
 {
     let member = node_of(members, x)?;
     let label = label_of(above, l)?;
     let time = number_of(t)?;
+    let payload = payload_of(alloc, members, p)?;
     if !above.is_created(member) {
-        return Err(Why::First);
+        return Err(Stop::Fault(Why::First));
     }
     Ok(gossip(Gossip::Join {
         member,
         label,
         time,
+        payload,
     }))
 }
 
@@ -108,6 +134,7 @@ fn name<'a>(members: &Members, above: &Above<'_>, l: &'a [u8], x: &[u8]) -> Resu
 
 #[tactic(auto, unfolding(crate::specs::Table::forge))]
 fn forge<'a>(
+    alloc: Global,
     members: &Members,
     above: &Above<'_>,
     l: &'a [u8],
@@ -115,19 +142,22 @@ fn forge<'a>(
     s: &[u8],
     o: &[u8],
     t: &[u8],
-) -> Result<Found<'a>, Why>
-    ensures value { result ≡ told.forge members.now above.now l.now m.now s.now o.now t.now }
+    p: Option<&[u8]>,
+) -> Result<Found<'a>, Stop<Why>>
+    ensures value { Gives (λ found. found) result (told.forge members.now above.now l.now m.now s.now o.now t.now (option_copied p.entry)) }
     ensures lawful { IfOk result (IsFound members.now above.now) }
 {
     let label = new_label(above, l)?;
     let creator = member_of(members, m)?;
     let parents = parents_of(above, s, o)?;
     let time = number_of(t)?;
+    let payload = payload_of(alloc, members, p)?;
     Ok(makes(
         Source::Forged {
             creator,
             parents,
             time,
+            payload,
         },
         label,
     ))
@@ -217,55 +247,35 @@ fn line_by<'a>(
     ensures value { Gives (λ found. found) result (told.line_by members.now above.now verb (map (λ word. word.now) arguments.now)) }
     ensures lawful { IfOk result (IsFound members.now above.now) }
 {
-    match verb {
-        Verb::Create => match arguments {
-            [x, t] => Ok(create(members, above, x, t)?),
-            _ => Err(Stop::Fault(Why::Arity)),
-        },
-        Verb::Sync => match arguments {
-            [x, y, t] => Ok(sync(members, above, x, y, t)?),
-            _ => Err(Stop::Fault(Why::Arity)),
-        },
-        Verb::Pull => match arguments {
-            [x, y] => Ok(pull(members, x, y)?),
-            _ => Err(Stop::Fault(Why::Arity)),
-        },
-        Verb::Join => match arguments {
-            [x, l, t] => Ok(join(members, above, x, l, t)?),
-            _ => Err(Stop::Fault(Why::Arity)),
-        },
-        Verb::Name => match arguments {
-            [l, x] => Ok(name(members, above, l, x)?),
-            _ => Err(Stop::Fault(Why::Arity)),
-        },
-        Verb::Forge => match arguments {
-            [l, m, s, o, t] => Ok(forge(members, above, l, m, s, o, t)?),
-            _ => Err(Stop::Fault(Why::Arity)),
-        },
-        Verb::Raw => match arguments {
-            [l, h] => raw(alloc, above, l, h),
-            _ => Err(Stop::Fault(Why::Arity)),
-        },
-        Verb::Alter => match arguments {
-            [l, l2, place, b] => Ok(alter(above, l, l2, place, b)?),
-            _ => Err(Stop::Fault(Why::Arity)),
-        },
-        Verb::Cut => match arguments {
-            [l, l2, k] => Ok(cut(above, l, l2, k)?),
-            _ => Err(Stop::Fault(Why::Arity)),
-        },
-        Verb::Give => match arguments {
-            [x, l] => Ok(give(members, above, x, l)?),
-            _ => Err(Stop::Fault(Why::Arity)),
-        },
-        Verb::Show => match arguments {
-            [x] => Ok(show(members, x)?),
-            _ => Err(Stop::Fault(Why::Arity)),
-        },
-        Verb::Names => match arguments {
-            [x] => Ok(names(members, x)?),
-            _ => Err(Stop::Fault(Why::Arity)),
-        },
+    match (verb, arguments) {
+        (Verb::Create, [x, t]) => create(alloc, members, above, x, t, None),
+        (Verb::Create, [x, t, p]) => create(alloc, members, above, x, t, Some(p)),
+        (Verb::Create, _) => Err(Stop::Fault(Why::Arity)),
+        (Verb::Sync, [x, y, t]) => sync(alloc, members, above, x, y, t, None),
+        (Verb::Sync, [x, y, t, p]) => sync(alloc, members, above, x, y, t, Some(p)),
+        (Verb::Sync, _) => Err(Stop::Fault(Why::Arity)),
+        (Verb::Pull, [x, y]) => Ok(pull(members, x, y)?),
+        (Verb::Pull, _) => Err(Stop::Fault(Why::Arity)),
+        (Verb::Join, [x, l, t]) => join(alloc, members, above, x, l, t, None),
+        (Verb::Join, [x, l, t, p]) => join(alloc, members, above, x, l, t, Some(p)),
+        (Verb::Join, _) => Err(Stop::Fault(Why::Arity)),
+        (Verb::Name, [l, x]) => Ok(name(members, above, l, x)?),
+        (Verb::Name, _) => Err(Stop::Fault(Why::Arity)),
+        (Verb::Forge, [l, m, s, o, t]) => forge(alloc, members, above, l, m, s, o, t, None),
+        (Verb::Forge, [l, m, s, o, t, p]) => forge(alloc, members, above, l, m, s, o, t, Some(p)),
+        (Verb::Forge, _) => Err(Stop::Fault(Why::Arity)),
+        (Verb::Raw, [l, h]) => raw(alloc, above, l, h),
+        (Verb::Raw, _) => Err(Stop::Fault(Why::Arity)),
+        (Verb::Alter, [l, l2, place, b]) => Ok(alter(above, l, l2, place, b)?),
+        (Verb::Alter, _) => Err(Stop::Fault(Why::Arity)),
+        (Verb::Cut, [l, l2, k]) => Ok(cut(above, l, l2, k)?),
+        (Verb::Cut, _) => Err(Stop::Fault(Why::Arity)),
+        (Verb::Give, [x, l]) => Ok(give(members, above, x, l)?),
+        (Verb::Give, _) => Err(Stop::Fault(Why::Arity)),
+        (Verb::Show, [x]) => Ok(show(members, x)?),
+        (Verb::Show, _) => Err(Stop::Fault(Why::Arity)),
+        (Verb::Names, [x]) => Ok(names(members, x)?),
+        (Verb::Names, _) => Err(Stop::Fault(Why::Arity)),
     }
 }
 

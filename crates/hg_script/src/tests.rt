@@ -2,7 +2,7 @@ ghost use Rattle.std.specs.Prelude.{◌≡◌, true, IfOk};
 ghost use Rattle.hg_model.specs.Members.{IsEntry, is_member_name};
 
 use super::*;
-use hg_model::{Bytes, MemberEntry, Members, Memory};
+use hg_model::{Bytes, Member, MemberEntry, Members, Memory};
 use std::alloc::{AllocError, Global};
 use std::test::Fail;
 
@@ -37,10 +37,20 @@ fn fault_of(alloc: Global, members: &Members, bytes: &[u8]) -> Result<Option<Scr
     }
 }
 
-/// What a node does at a line, where one does.
-fn gossip_at(lines: &[Line], place: usize) -> Option<Gossip> {
+/// Of an event that a node makes at a line: the node, the time and the payload.
+fn event_at(lines: &[Line], place: usize) -> Option<(Member, u64, &[u8])> {
     match &lines.get(place)?.action {
-        Action::Gossip(gossip) => Some(*gossip),
+        Action::Gossip(Gossip::Create {
+            member,
+            time,
+            payload,
+        }) => Some((*member, *time, payload.as_slice())),
+        Action::Gossip(Gossip::Sync {
+            taker,
+            time,
+            payload,
+            ..
+        }) => Some((*taker, *time, payload.as_slice())),
         _ => None,
     }
 }
@@ -49,33 +59,22 @@ fn gossip_at(lines: &[Line], place: usize) -> Option<Gossip> {
 fn lines_are_read(rt: HostRuntime) -> Result<(), Fail> {
     let members = four_members(rt.alloc())?;
     let text =
-        b"create m2 2\ncreate m1 4\r\nsync\tm2  m1 4 \n\tsync m1 m2 18446744073709551615\nsync m1 m0 00000000000000000028";
+        b"create m2 2\ncreate m1 4\r\nsync\tm2  m1 4 \n\tsync m1 m2 18446744073709551615 hex:0aFF\nsync m1 m0 00000000000000000028";
     let Ok(lines) = read_script(rt.alloc(), text.as_slice(), &members)? else {
         return Err("refused".into());
     };
+    let lines = lines.as_slice();
     let want = [
-        Gossip::Create { member: 2, time: 2 },
-        Gossip::Create { member: 1, time: 4 },
-        Gossip::Sync {
-            taker: 2,
-            peer: 1,
-            time: 4,
-        },
-        Gossip::Sync {
-            taker: 1,
-            peer: 2,
-            time: u64::MAX,
-        },
-        Gossip::Sync {
-            taker: 1,
-            peer: 0,
-            time: 28,
-        },
+        (2, 2, [].as_slice()),
+        (1, 4, [].as_slice()),
+        (2, 4, [].as_slice()),
+        (1, u64::MAX, [10, 255].as_slice()),
+        (1, 28, [].as_slice()),
     ];
-    assert_eq!(rt; lines.as_slice().len(), want.len());
-    for (i, (line, gossip)) in lines.as_slice().iter().zip(&want).enumerate() {
-        assert_eq!(rt; line.number, i as u64 + 1);
-        assert_eq!(rt; gossip_at(lines.as_slice(), i), Some(*gossip));
+    assert_eq!(rt; lines.len(), want.len());
+    for (i, event) in want.iter().enumerate() {
+        assert_eq!(rt; lines[i].number, i as u64 + 1);
+        assert_eq!(rt; event_at(lines, i), Some(*event));
     }
     Ok(())
 }
@@ -95,21 +94,18 @@ fn labels_are_read(rt: HostRuntime) -> Result<(), Fail> {
         matches!(&lines[1].action, Action::Label(Source::Raw { bytes }) if bytes.as_slice() == [0, 255].as_slice())
     );
     assert_eq!(rt; lines[2].number, 5);
-    assert_eq!(rt;
-        gossip_at(lines, 2),
-        Some(Gossip::Give {
-            member: 0,
-            label: 0
-        })
+    assert!(rt;
+        matches!(
+            &lines[2].action,
+            Action::Gossip(Gossip::Give { member: 0, label: 0 })
+        )
     );
     assert!(rt; matches!(&lines[3].action, Action::Label(Source::Last { member: 1 })));
-    assert_eq!(rt;
-        gossip_at(lines, 4),
-        Some(Gossip::Join {
-            member: 1,
-            label: 1,
-            time: 7
-        })
+    assert!(rt;
+        matches!(
+            &lines[4].action,
+            Action::Gossip(Gossip::Join { member: 1, label: 1, time: 7, .. })
+        )
     );
     assert!(rt;
         matches!(
@@ -117,13 +113,16 @@ fn labels_are_read(rt: HostRuntime) -> Result<(), Fail> {
             Action::Label(Source::Forged {
                 creator: 3,
                 parents: Some((0, 1)),
-                time: 8
+                time: 8,
+                ..
             })
         )
     );
-    assert_eq!(rt;
-        gossip_at(lines, 6),
-        Some(Gossip::Pull { taker: 2, peer: 0 })
+    assert!(rt;
+        matches!(
+            &lines[6].action,
+            Action::Gossip(Gossip::Pull { taker: 2, peer: 0 })
+        )
     );
     assert!(rt;
         matches!(
@@ -141,12 +140,11 @@ fn labels_are_read(rt: HostRuntime) -> Result<(), Fail> {
             Action::Label(Source::Front { label: 3, len: 0 })
         )
     );
-    assert_eq!(rt;
-        gossip_at(lines, 9),
-        Some(Gossip::Give {
-            member: 2,
-            label: 4
-        })
+    assert!(rt;
+        matches!(
+            &lines[9].action,
+            Action::Gossip(Gossip::Give { member: 2, label: 4 })
+        )
     );
     assert!(rt;
         matches!(
@@ -154,7 +152,8 @@ fn labels_are_read(rt: HostRuntime) -> Result<(), Fail> {
             Action::Label(Source::Forged {
                 creator: 0,
                 parents: None,
-                time: 9
+                time: 9,
+                ..
             })
         )
     );
@@ -164,9 +163,9 @@ fn labels_are_read(rt: HostRuntime) -> Result<(), Fail> {
     Ok(())
 }
 
-/// A line `raw a` with so many digits.
-fn raw_line(alloc: Global, digits: usize) -> Result<Vec<u8>, AllocError> {
-    let mut line = Vec::from_slice(alloc, b"raw a ".as_slice())?;
+/// A line that begins so, with so many digits.
+fn digits_line(alloc: Global, front: &[u8], digits: usize) -> Result<Vec<u8>, AllocError> {
+    let mut line = Vec::from_slice(alloc, front)?;
     for _ in 0..digits {
         line.push(b'0')?;
     }
@@ -174,15 +173,16 @@ fn raw_line(alloc: Global, digits: usize) -> Result<Vec<u8>, AllocError> {
 }
 
 #[test]
-fn raw_bytes_have_a_limit(rt: HostRuntime) -> Result<(), Fail> {
+fn digits_have_a_limit(rt: HostRuntime) -> Result<(), Fail> {
     let members = four_members(rt.alloc())?;
-    for (digits, why) in [
-        (2, None),
-        (8191, Some(Why::Payload)),
-        (8192, None),
-        (8194, Some(Why::Payload)),
+    for (front, digits, why) in [
+        (b"raw a ".as_slice(), 8191, Some(Why::Payload)),
+        (b"raw a ".as_slice(), 8192, None),
+        (b"raw a ".as_slice(), 8194, Some(Why::Payload)),
+        (b"create m0 1 hex:".as_slice(), 2048, None),
+        (b"create m0 1 hex:".as_slice(), 2050, Some(Why::Payload)),
     ] {
-        let line = raw_line(rt.alloc(), digits)?;
+        let line = digits_line(rt.alloc(), front, digits)?;
         let fault = fault_of(rt.alloc(), &members, line.as_slice())?;
         assert_eq!(rt;
             fault,
@@ -247,6 +247,9 @@ fn whys_are_told(rt: HostRuntime) -> Result<(), Fail> {
         (b"raw a 00\nraw a ?\n".as_slice(), 2, Why::DoubleLabel),
         (b"raw a 00\nalter b a 0 256\n".as_slice(), 2, Why::Number),
         (b"raw a 00\njoin m1 a 1\n".as_slice(), 2, Why::First),
+        (b"create m1 1 pay:m1=1,\n".as_slice(), 1, Why::Payload),
+        (b"create m1 1 pay:m9=x\n".as_slice(), 1, Why::Member),
+        (b"create m1 1 pay:#70000=1\n".as_slice(), 1, Why::Number),
     ] {
         assert_eq!(rt;
             fault_of(rt.alloc(), &members, text)?,

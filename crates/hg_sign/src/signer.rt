@@ -18,3 +18,18 @@ pub trait Signer: Verifier {
     fn sign(&self, member: Member, body: &[u8]) -> Sig
         ensures { Self.accepts self.now member body.now result ≡ true };
 }
+
+// Keys that several nodes share.
+impl<V: Verifier> Verifier for &V {
+    ghost accepts = { λ keys. V.accepts keys.now };
+
+    fn check(&self, member: Member, body: &[u8], sig: &Sig) -> bool {
+        (**self).check(member, body, sig)
+    }
+}
+
+impl<V: Signer> Signer for &V {
+    fn sign(&self, member: Member, body: &[u8]) -> Sig {
+        (**self).sign(member, body)
+    }
+}

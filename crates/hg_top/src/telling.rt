@@ -49,14 +49,14 @@ fn why_text(why: Why) -> &'static [u8]
 
 /// Tells a text as it is.
 fn tell_text<E: Sink>(err: &mut E, text: &[u8]) -> Result<(), Failed>
-    ensures { Tells (E.written err.old) (E.written err.new) (E.faults err.old) (E.faults err.new) text.now result }
+    ensures { Tells E.Sink err.old err.new text.now result }
 {
     write_all(err, text)
 }
 
 /// Tells a fault of the member file.
 fn tell_member_fault<E: Sink>(err: &mut E, fault: MemberFault) -> Result<(), Failed>
-    ensures { Tells (E.written err.old) (E.written err.new) (E.faults err.old) (E.faults err.new) (members_line (Refusal.Fault fault)) result }
+    ensures { Tells E.Sink err.old err.new (members_line (Refusal.Fault fault)) result }
 {
     let (word, number) = member_fault_parts(fault);
     tell_pieces(
@@ -72,7 +72,7 @@ fn tell_member_fault<E: Sink>(err: &mut E, fault: MemberFault) -> Result<(), Fai
 
 /// Tells why a line of the script is refused.
 fn tell_script_fault<E: Sink>(err: &mut E, fault: ScriptFault) -> Result<(), Failed>
-    ensures { Tells (E.written err.old) (E.written err.new) (E.faults err.old) (E.faults err.new) (script_line (Refusal.Fault fault)) result }
+    ensures { Tells E.Sink err.old err.new (script_line (Refusal.Fault fault)) result }
 {
     let why = why_text(fault.why);
     tell_pieces(
@@ -89,7 +89,7 @@ fn tell_script_fault<E: Sink>(err: &mut E, fault: ScriptFault) -> Result<(), Fai
 
 /// Tells one line, or nothing where all went well.
 fn tell_status<E: Sink>(err: &mut E, status: Status) -> Result<(), Failed>
-    ensures { Tells (E.written err.old) (E.written err.new) (E.faults err.old) (E.faults err.new) (status_line status) result }
+    ensures { Tells E.Sink err.old err.new (status_line status) result }
 {
     match status {
         Status::Done => Ok(()),

@@ -1,10 +1,10 @@
 use Rattle.std.proofs.Common.{◌∙◌, ap₂}
 use Rattle.hg_model.specs.Order.{last_closed}
+use Rattle.hg_model.specs.Prefix.{Graph, links_of}
 use Rattle.hg_model.specs.Ledger.{closed_of}
-use Rattle.hg_model.specs.Shape.{Shape}
 use Rattle.hg_plain.proofs.plain.plain_state.Goals as goal
 
 pub returns-clause-closed : goal.returns-clause-closed
 unfolding closed_of
 returns-clause-closed c =
-    c.state_of.ensures.closed ∙ ap₂ (λ (shape : Shape) marks. last_closed shape.members shape.links marks) c.in_ok-graph.ensures.sight c.in_ok-graph.ensures.marks
+    c.state_of.ensures.closed ∙ ap₂ (λ (g : Graph) marks. last_closed g.members (links_of g) marks) c.in_ok-graph.ensures.graph c.in_ok-graph.ensures.marks

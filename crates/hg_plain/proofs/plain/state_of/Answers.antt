@@ -1,6 +1,6 @@
 use Rattle.std.proofs.Common.{◌∙◌, ap, List, Bool, false, length, get_or}
 use Rattle.hg_model.specs.Places.{greatest_below}
-use Rattle.hg_plain.proofs.JudgeLaws.{last_closed_is}
+use Rattle.hg_plain.proofs.ClosedLaws.{last_closed_is}
 use Rattle.hg_plain.proofs.plain.state_of.Goals as goal
 
 pub returns-clause-closed : goal.returns-clause-closed

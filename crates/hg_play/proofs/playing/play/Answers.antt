@@ -1,39 +1,22 @@
-use Rattle.std.proofs.Common.{◌≡◌, ◌∙◌, Bool, List, ℕ, ap, ap₂, length, subst, sym, arith}
+use Rattle.std.proofs.Common.{◌≡◌, ◌∙◌, Bool, List, ℕ, ap, ap₂, length}
 use Rattle.hg_model.specs.declared.outcome.Outcome.{Outcome}
 use Rattle.hg_model.specs.declared.outcome.Printed.{Printed}
 use Rattle.hg_model.specs.Gossip.{Keys, NodeState, keys_of}
-use Rattle.hg_play.specs.Node.{keys_by}
-use Rattle.hg_play.specs.Nodes.{AreNodes, new_nodes}
+use Rattle.hg_play.specs.Node.{Player, keys_by, starts_of, states_of}
+use Rattle.hg_play.specs.Nodes.{new_nodes}
 use Rattle.hg_play.specs.Play.{all_printed, play}
-use Rattle.hg_play.proofs.PlayLaws.{length-new_nodes, lines_below, new_nodes-are}
+use Rattle.hg_play.proofs.PlayLaws.{lines_below, starts_length}
 use Rattle.hg_play.proofs.playing.play.Goals as goal
 
 pub play_over-requires-clause-lines : goal.play_over-requires-clause-lines
 play_over-requires-clause-lines c =
-    let nodes : c.as_mut_slice.result.now ≡ new_nodes c.args.members.now = c.as_mut_slice.ensures.value ∙ c.in_ok-nodes.ensures.nodes in
     lines_below c.args.members.now (length c.as_mut_slice.result.now) c.args.lines.now
-    (ap (λ (ns : List NodeState). length ns) nodes ∙ length-new_nodes c.args.members.now) c.requires
-
-pub play_over-requires-clause-count : goal.play_over-requires-clause-count
-play_over-requires-clause-count c =
-    let nodes : c.as_mut_slice.result.now ≡ new_nodes c.args.members.now = c.as_mut_slice.ensures.value ∙ c.in_ok-nodes.ensures.nodes in
-    ap (λ (ns : List NodeState). length ns) nodes ∙ length-new_nodes c.args.members.now
-
-pub play_over-requires-clause-few : goal.play_over-requires-clause-few
-play_over-requires-clause-few c =
-    let few = c.in_ok-nodes.ensures.few in
-    let same = ap (λ (ns : List NodeState). length ns) c.as_mut_slice.ensures.value in
-    omega (arith, few, same)
-
-pub play_over-requires-clause-each : goal.play_over-requires-clause-each
-play_over-requires-clause-each c =
-    let nodes : c.as_mut_slice.result.now ≡ new_nodes c.args.members.now = c.as_mut_slice.ensures.value ∙ c.in_ok-nodes.ensures.nodes in
-    subst (λ (ns : List NodeState). AreNodes (length c.args.members.now.entries) ns) (sym nodes) (new_nodes-are c.args.members.now)
+    (starts_length c.args.members.now c.as_mut_slice.result.now (ap starts_of c.as_mut_slice.ensures.value ∙ c.in_ok-nodes.ensures.starts)) c.requires
 
 pub returns : goal.returns
 unfolding play
 returns c =
-    let nodes : c.as_mut_slice.result.now ≡ new_nodes c.args.members.now = c.as_mut_slice.ensures.value ∙ c.in_ok-nodes.ensures.nodes in
+    let nodes : states_of c.as_mut_slice.result.now ≡ new_nodes c.args.members.now = ap states_of c.as_mut_slice.ensures.value ∙ c.in_ok-nodes.ensures.nodes in
     let keys : keys_by c.in_ok-keys.keys ≡ keys_of c.args.members.now =
     ap₂ (λ (s : ℕ → List ℕ → List ℕ) (a : ℕ → List ℕ → List ℕ → Bool). let k : Keys = record { sign = s; accepts = a } in k) c.in_ok-keys.ensures.signs c.in_ok-keys.ensures.accepts in
     ap₂ (λ (ns : List (List ℕ)) (ps : List Printed). let o : Outcome = record { names = ns; printed = ps } in o) c.in_ok-names.ensures

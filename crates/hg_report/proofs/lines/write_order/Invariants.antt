@@ -6,5 +6,5 @@ use Rattle.hg_report.proofs.lines.write_order.Given as goal
 abbrev pub invariant-loop-i : goal.invariant-loop-i
 invariant-loop-i g l =
     let sink = g.K.Sink in
-    IsPutUpTo (desk (sink.written l.initial.sink) (sink.faults l.initial.sink) l.initial.page) (desk (sink.written l.sink) (sink.faults l.sink) l.page)
+    IsPutUpTo (desk sink l.initial.sink l.initial.page) (desk sink l.sink l.page)
     (order_text l.named l.names (l.i + 1) (drop l.i l.lines)) (order_text l.named l.names 1 l.lines)

@@ -6,5 +6,5 @@ use Rattle.hg_report.proofs.pieces.write_pieces.Given as goal
 abbrev pub invariant-loop-piece : goal.invariant-loop-piece
 invariant-loop-piece g l =
     let sink = g.K.Sink in
-    IsPutUpTo (desk (sink.written l.initial.sink) (sink.faults l.initial.sink) l.initial.page) (desk (sink.written l.sink) (sink.faults l.sink) l.page)
+    IsPutUpTo (desk sink l.initial.sink l.initial.page) (desk sink l.sink l.page)
     (pieces_text (drop l.piece-index l.pieces)) (pieces_text l.pieces)

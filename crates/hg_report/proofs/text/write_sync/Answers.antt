@@ -13,7 +13,7 @@ returns g c =
     let end : List ℕ = codes "\n" in
     let whole = sym (append_assoc (p.first.now ++ p.second.now) (piece_text p.detail) end ∙ append_assoc p.first.now p.second.now (piece_text p.detail ++ end))
     ∙ ap (λ (t : List ℕ). t ++ end) c.sync_made_phrase-phrase.ensures in
-    subst (λ (t : List ℕ). Puts (desk (sink.written c.args.sink.now) (sink.faults c.args.sink.now) c.args.page.now)
-    (desk (sink.written c.write_pieces.new.sink) (sink.faults c.write_pieces.new.sink) c.write_pieces.new.page)
+    subst (λ (t : List ℕ). Puts (desk sink c.args.sink.now c.args.page.now)
+    (desk sink c.write_pieces.new.sink c.write_pieces.new.page)
     (decimal c.args.line ++ (with_number (codes " sync taken") r.taken ++ (with_number (codes " refused") r.refused ++ (codes " made " ++ t)))) c.write_pieces.result)
     whole c.write_pieces.ensures

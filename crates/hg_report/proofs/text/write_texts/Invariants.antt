@@ -6,5 +6,5 @@ use Rattle.hg_report.proofs.text.write_texts.Given as goal
 abbrev pub invariant-loop-printed : goal.invariant-loop-printed
 invariant-loop-printed g l =
     let sink = g.K.Sink in
-    IsPutUpTo (desk (sink.written l.initial.sink) (sink.faults l.initial.sink) l.initial.page) (desk (sink.written l.sink) (sink.faults l.sink) l.page)
+    IsPutUpTo (desk sink l.initial.sink l.initial.page) (desk sink l.sink l.page)
     (printed_texts l.names (drop l.printed-index l.texts)) (printed_texts l.names l.texts)

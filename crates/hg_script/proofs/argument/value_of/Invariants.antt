@@ -1,5 +1,5 @@
 use Rattle.std.proofs.Common.{◌≡◌, ◌<◌, ◌^◌, drop}
-use Rattle.hg_script.specs.Table.{value_after}
+use Rattle.hg_script.specs.Argument.{value_after}
 use Rattle.hg_script.proofs.argument.value_of.Given as goal
 
 abbrev pub invariant-loop-digit : goal.invariant-loop-digit

@@ -1,28 +1,9 @@
-use Rattle.std.proofs.Common.{◌≡◌, ◌<◌, ◌+◌, ◌^◌, ℕ, List, ◌∷◌, [], get_or, refl, arith, ap}
-use Rattle.std.proofs.lemmas.List.Elements.{All-cons, All-nil}
-use Rattle.hg_model.specs.declared.members.MemberEntry.{MemberEntry}
-use Rattle.hg_model.specs.Members.{IsEntry, IsMemberList, listed}
+use Rattle.std.proofs.Common.{◌≡◌, ℕ, List, get_or, refl, arith, ap}
+use Rattle.hg_sign.proofs.TwoMembers.{two_members}
 use Rattle.hg_sign.proofs.tests.two_members.Goals as goal
-
-distinct : (e f : MemberEntry) → (e.name ≡ f.name → ⊥) → (i j : ℕ) (d : MemberEntry) → i < j → j < 2 → (get_or (e ∷ f ∷ []) i d).name ≡ (get_or (e ∷ f ∷ []) j d).name → ⊥
-distinct e f apart i j d before within same =
-    let first : i ≡ 0 = omega arith in
-    let second : j ≡ 1 = omega arith in
-    apart (rw (first, second) at same)
-
-lawful : (e f : MemberEntry) → IsEntry e → IsEntry f → (e.name ≡ f.name → ⊥) → e.balance + f.balance < 2 ^ 63 → IsMemberList (listed (e ∷ f ∷ []) 10)
-lawful e f is_entry is_other apart small = record {
-  some = omega arith;
-  few = omega arith;
-  coin_low = omega arith;
-  coin_high = omega arith;
-  entries = All-cons IsEntry e (f ∷ []) is_entry (All-cons IsEntry f [] is_other (All-nil IsEntry));
-  distinct = distinct e f apart;
-  sum = omega (arith, small);
-}
 
 pub new-requires : goal.new-requires
 new-requires c =
     rw (c.in_ok-push-2.ensures.items, c.in_ok-push.ensures.items, c.new-entries.ensures.items, c.in_ok-entry.ensures, c.in_ok-entry-2.ensures)
-    (lawful _ _ (record { name = refl; secret_some = omega arith; secret_fits = omega arith }) (record { name = refl; secret_some = omega arith; secret_fits = omega arith })
+    (two_members _ _ (record { name = refl; secret_some = omega arith; secret_fits = omega arith }) (record { name = refl; secret_some = omega arith; secret_fits = omega arith })
     (λ e. let heads : 65 ≡ 66 = ap (λ (t : List ℕ). get_or t 0 0) e in omega (arith, heads)) (omega arith))

@@ -8,6 +8,6 @@ returns g c =
     let sink = g.E.Sink in
     let end : List ℕ = codes "\n" in
     let parts = c.member_fault_parts.result in
-    subst (λ (t : List ℕ). Tells (sink.written c.args.err.now) (sink.written c.tell_pieces.new.sink) (sink.faults c.args.err.now) (sink.faults c.tell_pieces.new.sink)
+    subst (λ (t : List ℕ). Tells sink c.args.err.now c.tell_pieces.new.sink
     (codes "hashgraph: members: " ++ t) c.tell_pieces.result)
     (sym (append_assoc parts.0.now (piece_text parts.1) end) ∙ ap (λ (t : List ℕ). t ++ end) c.member_fault_parts.ensures) c.tell_pieces.ensures

@@ -6,5 +6,5 @@ use Rattle.hg_top.proofs.telling.tell_script_fault.Goals as goal
 pub returns : goal.returns
 returns g c =
     let sink = g.E.Sink in
-    subst (λ (t : List ℕ). Tells (sink.written c.args.err.now) (sink.written c.tell_pieces.new.sink) (sink.faults c.args.err.now) (sink.faults c.tell_pieces.new.sink)
+    subst (λ (t : List ℕ). Tells sink c.args.err.now c.tell_pieces.new.sink
     (codes "hashgraph: script line " ++ (decimal c.args.fault.line ++ (codes ": " ++ (t ++ codes "\n")))) c.tell_pieces.result) c.why_text-why.ensures c.tell_pieces.ensures

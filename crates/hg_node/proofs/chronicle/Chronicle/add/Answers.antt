@@ -1,4 +1,4 @@
-use Rattle.std.proofs.Common.{◌≡◌, ◌∙◌, ◌+◌, ◌*◌, ◌≤◌, ◌++◌, ◌∷◌, [], ℕ, cond, eqb, length, Option, Some, ap, subst, sym, arith}
+use Rattle.std.proofs.Common.{◌≡◌, ◌∙◌, ◌+◌, ◌*◌, ◌≤◌, ◌++◌, ◌∷◌, [], ℕ, cond, eqb, length, Some, ap, subst, sym, arith}
 use Rattle.std.specs.Vec.{vec_capacity}
 use Rattle.hg_model.specs.Graph.{HasDistinctNames}
 use Rattle.hg_node.specs.Recorded.{Recorded, recorded}

@@ -1,10 +1,9 @@
-use Rattle.std.proofs.Common.{◌∙◌, ap, List, ℕ, sym, subst, ◌≡◌}
+use Rattle.std.proofs.Common.{◌∙◌, ap, List, sym}
 use Rattle.hg_model.specs.declared.row.Row.{Row}
 use Rattle.hg_model.specs.Prefix.{Graph}
 use Rattle.hg_model.specs.Links.{links}
 use Rattle.hg_model.specs.Rounds.{last_round}
 use Rattle.hg_model.proofs.StandingLaws.{greatest_in-standings}
-use Rattle.hg_node.specs.Recorded.{shown}
 use Rattle.hg_node.proofs.node.Node.greatest.Goals as goal
 
 pub returns : goal.returns

@@ -1,4 +1,4 @@
-use Rattle.std.proofs.Common.{◌∙◌, ap, ap₂, map, List, [], ℕ}
+use Rattle.std.proofs.Common.{◌∙◌, ap, ap₂, map, [], ℕ}
 use Rattle.hg_model.specs.declared.members.MemberEntry.{MemberEntry}
 use Rattle.hg_model.specs.Prefix.{graph_of}
 use Rattle.hg_node.specs.Recorded.{recorded}

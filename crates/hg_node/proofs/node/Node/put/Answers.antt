@@ -1,4 +1,4 @@
-use Rattle.std.proofs.Common.{◌∙◌, sym, arith}
+use Rattle.std.proofs.Common.{arith}
 use Rattle.hg_event.specs.View.{row_of}
 use Rattle.hg_node.specs.Recorded.{shown}
 use Rattle.hg_node.proofs.PutLaws.{IsPut, put_faulty, put_refused, put_taken, put_ends}

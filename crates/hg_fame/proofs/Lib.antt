@@ -1,0 +1,4 @@
+pub mod PrefixReads
+pub mod FirstLaws
+pub mod DecisionLaws
+pub mod ShareLaws

@@ -1,0 +1,62 @@
+-- What a share finds, row by row
+use Rattle.std.proofs.Common.{◌≡◌, ℕ, ◌+◌, ◌<◌, ◌≤◌, ◌%◌, Bool, true, false, cond, ◌&&◌, ltb, eqb, List, [], ◌∷◌, ◌++◌, length, take, Option, Some, None, option_map, is_some, IsTrue, refl, sym, ap, ap₂, ◌∙◌, arith, lt-ltb}
+use Rattle.std.proofs.lemmas.Bool.{and_left, and_right, ne_eqb, eq-eqb}
+use Rattle.std.proofs.lemmas.List.{take-length}
+use Rattle.hg_model.specs.Places.{count_below, list_below}
+use Rattle.hg_model.specs.Rounds.{is_witness}
+use Rattle.hg_model.specs.Fame.{fame_of, is_yes}
+use Rattle.hg_model.specs.Order.{coin_at}
+use Rattle.hg_model.specs.Prefix.{Graph, links_of}
+use Rattle.hg_model.specs.Shares.{Share, Speaks, is_of_share, share_fame, found_in}
+use Rattle.hg_model.proofs.LinkLaws.{length-links}
+use Rattle.hg_model.proofs.PlacesLaws.{list_below_zero, list_below_passes, list_below_fails}
+
+-- the fame of x for a share of this graph
+abbrev pub fame_for : Graph → Share → ℕ → Option Bool
+fame_for g share x = share_fame g.members g.coin g.rows (links_of g) share x
+
+-- what the share finds among the rows below k
+abbrev pub found_below : Graph → Share → ℕ → List (ℕ × Bool)
+found_below g share k = list_below (λ x. (x, is_yes (fame_for g share x))) k (λ x. is_some (fame_for g share x))
+
+pub found_none : (g : Graph) (share : Share) → found_below g share 0 ≡ []
+found_none g share = list_below_zero (λ x. (x, is_yes (fame_for g share x))) (λ x. is_some (fame_for g share x))
+
+pub found_more : (g : Graph) (share : Share) (x : ℕ) (fame : Bool) → Some fame ≡ fame_for g share x → found_below g share (x + 1) ≡ found_below g share x ++ (x, fame) ∷ []
+found_more g share x fame is =
+    list_below_passes (λ x. (x, is_yes (fame_for g share x))) x (λ x. is_some (fame_for g share x)) (ap is_some (sym is))
+    ∙ ap (λ f. found_below g share x ++ (x, is_yes f) ∷ []) (sym is)
+
+pub found_same : (g : Graph) (share : Share) (x : ℕ) → None ≡ fame_for g share x → found_below g share (x + 1) ≡ found_below g share x
+found_same g share x is = list_below_fails (λ x. (x, is_yes (fame_for g share x))) x (λ x. is_some (fame_for g share x)) (ap is_some (sym is))
+
+-- a row that is no witness is of no share
+pub no_fame_other : (g : Graph) (share : Share) (x : ℕ) → is_witness g.members (links_of g) x ≡ false → None ≡ fame_for g share x
+unfolding share_fame
+no_fame_other g share x other =
+    let n = g.members in
+    let L = links_of g in
+    let none : is_of_share n L share x ≡ false = ? in
+    sym (ap (λ b. cond b (fame_of n g.coin L (coin_at g.rows) x) None) none)
+
+pub fame_of_share : (g : Graph) (share : Share) (x index : ℕ) → x < length g.rows → IsTrue (is_witness g.members (links_of g) x) → index ≡ count_below x (is_witness g.members (links_of g)) →
+    index % share.of ≡ share.k → fame_of g.members g.coin (links_of g) (coin_at g.rows) x ≡ fame_for g share x
+unfolding share_fame
+fame_of_share g share x index place witness is here =
+    let n = g.members in
+    let L = links_of g in
+    let of_share : is_of_share n L share x ≡ true = ? in
+    sym (ap (λ b. cond b (fame_of n g.coin L (coin_at g.rows) x) None) of_share)
+
+pub no_fame_of_others : (g : Graph) (share : Share) (x index : ℕ) → index ≡ count_below x (is_witness g.members (links_of g)) → (index % share.of ≡ share.k → ⊥) → None ≡ fame_for g share x
+unfolding share_fame
+no_fame_of_others g share x index is apart =
+    let n = g.members in
+    let L = links_of g in
+    let none : is_of_share n L share x ≡ false = ? in
+    sym (ap (λ b. cond b (fame_of n g.coin L (coin_at g.rows) x) None) none)
+
+-- all rows
+pub speaks_of : (g : Graph) (share : Share) (k : ℕ) (marks : List (ℕ × Bool)) → marks ≡ found_below g share k → k ≡ length g.rows → Speaks g.members g.coin g.rows (links_of g) k share marks
+unfolding found_in
+speaks_of g share k marks is all = ?

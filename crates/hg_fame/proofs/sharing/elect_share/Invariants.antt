@@ -1,0 +1,15 @@
+use Rattle.std.proofs.Common.{◌≡◌, is_some}
+use Rattle.hg_model.specs.Places.{count_below, list_below}
+use Rattle.hg_model.specs.Prefix.{links_of}
+use Rattle.hg_model.specs.Rounds.{is_witness}
+use Rattle.hg_model.specs.Fame.{is_yes}
+use Rattle.hg_model.specs.Shares.{share_fame}
+use Rattle.hg_fame.proofs.ShareLaws.{found_below}
+use Rattle.hg_fame.proofs.sharing.elect_share.Given as goal
+
+abbrev pub invariant-loop-x : goal.invariant-loop-x
+invariant-loop-x g l = record {
+  made : g.V.Votes.MadeFor l.votes (g.P.Prefix.graph l.p);
+  witnesses : l.witnesses ≡ count_below l.x (is_witness (g.P.Prefix.graph l.p).members (links_of (g.P.Prefix.graph l.p)));
+  marks : l.marks.items ≡ found_below (g.P.Prefix.graph l.p) l.share l.x;
+}

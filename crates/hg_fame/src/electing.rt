@@ -1,0 +1,49 @@
+ghost use Rattle.std.specs.Prelude.{◌≡◌, ◌<◌, IsTrue, length, option_map};
+ghost use Rattle.hg_model.specs.Fame.{fame_of};
+ghost use Rattle.hg_model.specs.Order.{coin_at};
+ghost use Rattle.hg_model.specs.Prefix.{links_of};
+ghost use Rattle.hg_model.specs.Rounds.{is_witness, round_of};
+ghost use Rattle.hg_fame.specs.Decisions.{decider_in, decision_by, first_decider};
+
+use hg_model::{Prefix, Votes};
+
+/// The decision of round `r`, whose votes are the last that are counted: that of its first decider by place.
+#[tactic(auto, using(crate::proofs::PrefixReads::prefix_reads))]
+fn decision_in<P: Prefix, V: Votes>(p: &P, votes: &V, r: u32) -> Option<(bool, usize)>
+    requires made { V.MadeFor votes.now (P.graph p.now) }
+    requires counted { V.counted votes.now ≡ r }
+    requires later { round_of (P.graph p.now).members (links_of (P.graph p.now)) (V.candidate votes.now) < r }
+    ensures { result ≡ option_map (decision_by (P.graph p.now) (V.candidate votes.now)) (decider_in (P.graph p.now) (V.candidate votes.now) r) }
+{
+    for y in p.witnesses(r) {
+        let ballot = votes.ballot(*y);
+        if ballot.decides {
+            return Some((ballot.vote, *y));
+        }
+    }
+    None
+}
+
+/// The fame of witness `x` and its first decider, by round and then by place; `None` where the prefix has none.
+/// Counts the votes of no later round than that of the decider.
+#[tactic(auto, using(crate::proofs::PrefixReads::prefix_reads))]
+pub fn elect<P: Prefix, V: Votes>(p: &P, votes: &mut V, x: usize) -> Option<(bool, usize)>
+    requires made { V.MadeFor votes.old (P.graph p.now) }
+    requires place { x < length (P.graph p.now).rows }
+    requires witness { IsTrue (is_witness (P.graph p.now).members (links_of (P.graph p.now)) x) }
+    ensures made { V.MadeFor votes.new (P.graph p.now) }
+    ensures fame { option_map (λ decision. decision.0) result ≡ fame_of (P.graph p.now).members (P.graph p.now).coin (links_of (P.graph p.now)) (coin_at (P.graph p.now).rows) x }
+    ensures decider { option_map (λ decision. decision.1) result ≡ first_decider (P.graph p.now) x }
+{
+    votes.open(p, x);
+    let mut round = p.round(x);
+    while round < p.greatest() {
+        round += 1;
+        votes.advance(p);
+        let decision = decision_in(p, votes, round);
+        if decision.is_some() {
+            return decision;
+        }
+    }
+    None
+}

@@ -1,0 +1,66 @@
+ghost use Rattle.std.specs.Prelude.{◌≡◌, ◌<◌, IsTrue, length, IfOk};
+ghost use Rattle.hg_model.specs.Places.{count_below};
+ghost use Rattle.hg_model.specs.Prefix.{links_of};
+ghost use Rattle.hg_model.specs.Rounds.{is_witness};
+ghost use Rattle.hg_model.specs.Shares.{Speaks, share_fame};
+
+use crate::electing::elect;
+use hg_model::{Found, Items, Memory, Prefix, Share, Votes};
+use std::alloc::Global;
+
+/// The fame of witness `x`, which has so many witnesses before it, if it is of the share and decided.
+#[tactic(auto, using(crate::proofs::PrefixReads::prefix_reads))]
+fn share_fame<P: Prefix, V: Votes>(
+    p: &P,
+    votes: &mut V,
+    share: Share,
+    index: u32,
+    x: usize,
+) -> Option<bool>
+    requires made { V.MadeFor votes.old (P.graph p.now) }
+    requires place { x < length (P.graph p.now).rows }
+    requires witness { IsTrue (is_witness (P.graph p.now).members (links_of (P.graph p.now)) x) }
+    requires index { index ≡ count_below x (is_witness (P.graph p.now).members (links_of (P.graph p.now))) }
+    ensures made { V.MadeFor votes.new (P.graph p.now) }
+    ensures fame { result ≡ share_fame (P.graph p.now).members (P.graph p.now).coin (P.graph p.now).rows (links_of (P.graph p.now)) share x }
+{
+    if index % share.of() != share.k() {
+        return None;
+    }
+    match elect(p, votes, x) {
+        None => None,
+        Some((fame, _)) => Some(fame),
+    }
+}
+
+/// What the share of the prefix's witnesses decides in it: each decided one of them by place, with its fame.
+/// It walks past all rows once, and elects the share's witnesses alone.
+#[tactic(auto, using(crate::proofs::PrefixReads::prefix_reads))]
+pub fn elect_share<P: Prefix, V: Votes>(
+    alloc: Global,
+    p: &P,
+    votes: &mut V,
+    share: Share,
+) -> Result<Found, Memory>
+    requires made { V.MadeFor votes.old (P.graph p.now) }
+    ensures made { V.MadeFor votes.new (P.graph p.now) }
+    ensures share { IfOk result (λ found. found.share ≡ share) }
+    ensures len { IfOk result (λ found. found.len ≡ length (P.graph p.now).rows) }
+    ensures speaks { IfOk result (λ found. Speaks (P.graph p.now).members (P.graph p.now).coin (P.graph p.now).rows (links_of (P.graph p.now)) found.len share found.marks) }
+{
+    let mut marks = Vec::new(alloc);
+    let mut witnesses = 0;
+    for x in 0..p.rows() {
+        if p.is_witness(x) {
+            if let Some(fame) = share_fame(p, votes, share, witnesses, x) {
+                marks.push((x, fame))?;
+            }
+            witnesses += 1;
+        }
+    }
+    Ok(Found {
+        len: p.rows(),
+        share,
+        marks: Items::from_vec(marks),
+    })
+}

@@ -1,0 +1,41 @@
+-- An event that is made under the one accepted signature
+use Rattle.std.proofs.Common.{◌≡◌, ℕ, List, [], length, Option, Some, None, sym, refl, ap, ◌∙◌}
+use Rattle.hg_model.specs.declared.answers.MakeAnswer.{MakeAnswer}
+use Rattle.hg_model.specs.declared.answers.MakeAnswer.TheVariants as answer
+use Rattle.hg_model.specs.declared.answers.MakeFault.{MakeFault}
+use Rattle.std.specs.Option.{option_or}
+use Rattle.hg_model.specs.Verdict.{made_row, made_or, collision_rule, room_rule}
+use Rattle.hg_model.specs.History.{Change, Accepts}
+use Rattle.hg_model.specs.Shown.{Shown, with_changes, graph_of}
+use Rattle.hg_model.specs.Calls.{IsMaking, make_answer, make_changes, make_body, make_draft, made_by}
+use Rattle.hg_node.specs.Laws.{AcceptOne, signature_made, MakingIsOne}
+
+module _ {K : Type 0} (v : Shown K) (other : Option (List ℕ)) (time : ℕ) (payload : List ℕ) where
+  -- a draft that is refused has one answer under all signatures, and adds nothing
+  refused_answer : (sig : List ℕ) (f : MakeFault) → make_draft v other payload ≡ Some f → make_answer v other time payload sig ≡ answer.Refused f
+  unfolding make_draft make_answer
+  refused_answer sig f refuses =
+      ap (λ (o : Option MakeFault). made_or (option_or o (option_or (collision_rule (graph_of v) (made_row v.start.own (graph_of v) other time payload sig)) (room_rule (graph_of v)))) (length (graph_of v))) refuses
+
+  refused_changes : (sig : List ℕ) (f : MakeFault) → make_draft v other payload ≡ Some f → make_changes v other time payload sig ≡ []
+  unfolding make_changes
+  refused_changes sig f refuses = ap (λ (a : MakeAnswer). made_by a (made_row v.start.own (graph_of v) other time payload sig)) (refused_answer sig f refuses)
+
+module _ {K : Type 0} (accepts : K → Accepts) (sign : ℕ → List ℕ → List ℕ) (old new : Shown K) (other : Option (List ℕ)) (time : ℕ) (payload : List ℕ) (answered : MakeAnswer)
+    (one : AcceptOne accepts old.start.keys sign) (making : IsMaking accepts old other time payload answered new) where
+  by_draft : (draft : Option MakeFault) → make_draft old other payload ≡ draft →
+      (answered ≡ make_answer old other time payload (signature_made sign old other time payload))
+      × (new ≡ with_changes old (make_changes old other time payload (signature_made sign old other time payload)))
+  by_draft None silent =
+      let sig_is = one old.start.own (make_body old other time payload) making.sig (making.signed silent) in (
+        making.answers ∙ ap (make_answer old other time payload) sig_is,
+        making.grown ∙ ap (λ (sig : List ℕ). with_changes old (make_changes old other time payload sig)) sig_is,
+      )
+  by_draft (Some f) refuses =
+      let sig = signature_made sign old other time payload in (
+        making.answers ∙ (refused_answer old other time payload making.sig f refuses ∙ sym (refused_answer old other time payload sig f refuses)),
+        making.grown ∙ ap (λ (cs : List Change). with_changes old cs) (refused_changes old other time payload making.sig f refuses ∙ sym (refused_changes old other time payload sig f refuses)),
+      )
+
+pub making_is_one : (K : Type 0) → MakingIsOne K
+making_is_one K accepts sign old new other time payload answered one making = by_draft accepts sign old new other time payload answered one making (make_draft old other payload) refl

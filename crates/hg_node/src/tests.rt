@@ -1,0 +1,105 @@
+ghost use Rattle.std.specs.Prelude.{◌≡◌, true, IfOk};
+
+use crate::Node;
+use hg_model::{
+    Bytes, Entry, Fault, MakeAnswer, MakeFault, MemberEntry, Members, Memory, Name, PutAnswer,
+};
+use hg_sign::MacTable;
+use std::alloc::Global;
+use std::process::Abort;
+use std::test::Fail;
+
+fn entry(alloc: Global, name: &[u8], secret: &[u8]) -> Result<MemberEntry, Memory>
+    ensures { IfOk result (λ e. e ≡ record { name = name.now; secret = secret.now; balance = 0; has_node = true }) }
+{
+    Ok(MemberEntry {
+        name: Bytes::from_vec(Vec::from_slice(alloc, name)?),
+        secret: Bytes::from_vec(Vec::from_slice(alloc, secret)?),
+        balance: 0,
+        has_node: true,
+    })
+}
+
+fn two_members(alloc: Global) -> Result<Members, Memory> {
+    let mut entries = Vec::new(alloc);
+    entries.push(entry(alloc, b"A", &[0x0b; 20])?)?;
+    entries.push(entry(alloc, b"B", b"Jefe")?)?;
+    Ok(Members::new(entries, 10))
+}
+
+/// The node of a member below 2.
+fn node_of<'a>(
+    rt: &impl Abort,
+    alloc: Global,
+    members: &Members,
+    keys: &'a MacTable,
+    own: u16,
+) -> Result<Node<&'a MacTable>, Memory> {
+    assert!(rt; u32::from(own) < members.count());
+    Node::new(alloc, members, own, keys)
+}
+
+fn bytes_of<'a>(rt: &impl Abort, node: &'a Node<&MacTable>, place: usize) -> &'a [u8] {
+    assert!(rt; place < node.rows());
+    node.bytes(place)
+}
+
+fn name_at(rt: &impl Abort, node: &Node<&MacTable>, place: usize) -> Name {
+    assert!(rt; place < node.rows());
+    node.row(place).name
+}
+
+#[test]
+fn plays_two_members(rt: HostRuntime) -> Result<(), Fail> {
+    let members = two_members(rt.alloc())?;
+    let keys = MacTable::new(rt.alloc(), &members)?;
+    let mut a = node_of(&rt, rt.alloc(), &members, &keys, 0)?;
+    let mut b = node_of(&rt, rt.alloc(), &members, &keys, 1)?;
+    assert_eq!(rt; a.make(None, 1, &[])?, MakeAnswer::Made(0));
+    assert_eq!(rt;
+        a.make(None, 1, &[])?,
+        MakeAnswer::Refused(MakeFault::HasFirst)
+    );
+    assert_eq!(rt; b.put(bytes_of(&rt, &a, 0))?, PutAnswer::Accepted(0));
+    assert_eq!(rt; b.put(bytes_of(&rt, &a, 0))?, PutAnswer::Known(0));
+    let first = name_at(&rt, &a, 0);
+    assert_eq!(rt;
+        b.make(Some(first), 2, &[])?,
+        MakeAnswer::Refused(MakeFault::NoFirst)
+    );
+    assert_eq!(rt; b.make(None, 2, &[])?, MakeAnswer::Made(1));
+    assert_eq!(rt; b.make(Some(first), 3, b"pay")?, MakeAnswer::Made(2));
+    let missing = name_at(&rt, &b, 1);
+    assert_eq!(rt;
+        a.put(bytes_of(&rt, &b, 2))?,
+        PutAnswer::Refused(Fault::MissingSelf(missing))
+    );
+    assert_eq!(rt; a.put(bytes_of(&rt, &b, 1))?, PutAnswer::Accepted(1));
+    assert_eq!(rt; a.put(bytes_of(&rt, &b, 2))?, PutAnswer::Accepted(2));
+    assert_eq!(rt;
+        a.make(Some(first), 4, &[])?,
+        MakeAnswer::Refused(MakeFault::OtherCreator(0))
+    );
+    assert_eq!(rt; b.last_own(), Some(2));
+    assert_eq!(rt; b.greatest(), 1);
+    assert!(rt; b.log() == [Entry::Took(0), Entry::Made(1), Entry::Made(2)].as_slice());
+    Ok(())
+}
+
+// The shortest event there is, by a creator who is no member of two.
+#[test]
+fn knows_no_third_member(rt: HostRuntime) -> Result<(), Fail> {
+    let members = two_members(rt.alloc())?;
+    let keys = MacTable::new(rt.alloc(), &members)?;
+    let mut a = node_of(&rt, rt.alloc(), &members, &keys, 0)?;
+    let mut bytes = [0; 81];
+    bytes[0] = 0x48;
+    bytes[1] = 0x47;
+    bytes[2] = 0x45;
+    bytes[3] = 0x31;
+    bytes[5] = 2;
+    bytes[14] = 1;
+    assert_eq!(rt; a.put(&bytes)?, PutAnswer::Refused(Fault::Member(2)));
+    assert_eq!(rt; a.rows(), 0);
+    Ok(())
+}

@@ -1,0 +1,2 @@
+pub mod Famous
+pub mod Round

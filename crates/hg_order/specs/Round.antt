@@ -1,0 +1,71 @@
+-- The order of what one round receives. SWIRLDS-TR-2016-01, section 4, procedure findOrder
+use Rattle.std.specs.Prelude.{ℕ, ◌≡◌, Bool, ◌==◌, List, length, map, replicate, Option, Some, None, slice_get}
+use Rattle.std.specs.declared.cmp.Ordering.{Ordering}
+use Rattle.std.specs.Ordering.{nat_cmp, ordering_then, is_lt}
+use Rattle.std.specs.Cmp.Lexicographic.{slice_cmp}
+use Rattle.hg_model.specs.declared.row.Row.{Row}
+use Rattle.hg_model.specs.declared.row.Placed.{Placed}
+use Rattle.hg_model.specs.Places.{list_below}
+use Rattle.hg_model.specs.Links.{Link}
+use Rattle.hg_model.specs.Fame.{Marks}
+use Rattle.hg_model.specs.Prefix.{Graph, links_of}
+use Rattle.hg_model.specs.Order.{consensus_time, median, order_key, is_received_in, ordered_in, sig_at, sort_by, xor_bytes}
+use Rattle.hg_order.specs.Famous.{times_of}
+
+-- x as round r places it
+abbrev pub placed_by : Graph → Marks → ℕ → ℕ → Placed
+placed_by g marks r x = record { place = x; received = r; time = consensus_time g.members g.rows (links_of g) marks r x }
+
+-- a comes before b: by what placed rows are ordered by, and where that is the same by the place
+abbrev pub is_placed_before : Graph → Marks → Placed → Placed → Bool
+is_placed_before g marks a b =
+    is_lt (ordering_then (slice_cmp nat_cmp (order_key g.members g.rows (links_of g) marks a) (order_key g.members g.rows (links_of g) marks b))
+    (nat_cmp a.place b.place))
+
+-- these rows as round r places them, in order
+abbrev pub placed_in : Graph → Marks → ℕ → List ℕ → List Placed
+placed_in g marks r places = sort_by (is_placed_before g marks) (map (placed_by g marks r) places)
+
+-- the places of all rows that round r receives
+abbrev pub received_places : Graph → Marks → ℕ → List ℕ
+received_places g marks r = list_below (λ x. x) (length (links_of g)) (is_received_in g.members (links_of g) marks (λ k. k == r))
+
+-- these rows in order
+abbrev pub received_order : Graph → Marks → ℕ → List Placed
+received_order g marks r = ordered_in g.members g.rows (links_of g) marks (λ k. k == r)
+
+-- how two signatures compare when both are XORed with a third, and where that is the same how the names do
+abbrev pub whitened_cmp : List ℕ → List ℕ → List ℕ → List ℕ → List ℕ → Ordering
+whitened_cmp white a a_name b b_name =
+    ordering_then (slice_cmp nat_cmp (xor_bytes a white) (xor_bytes b white)) (slice_cmp nat_cmp a_name b_name)
+
+-- x as a round places it whose unique famous witnesses are these
+abbrev pub placed_below : List Row → List Link → List ℕ → ℕ → ℕ → Placed
+placed_below G L famous r x = record { place = x; received = r; time = median (times_of G L x famous) }
+
+abbrev pub sig_or_zeros : Option Row → List ℕ
+sig_or_zeros None = replicate 64 0
+sig_or_zeros (Some row) = row.sig
+
+abbrev pub name_or_zeros : Option Row → List ℕ
+name_or_zeros None = replicate 48 0
+name_or_zeros (Some row) = row.name
+
+-- how the rows at two places compare by their whitened signatures and their names; zeros stand for what is not there
+unfoldable pub rows_cmp : List Row → List ℕ → ℕ → ℕ → Ordering
+rows_cmp G white x y =
+    whitened_cmp white (sig_or_zeros (slice_get G x)) (name_or_zeros (slice_get G x)) (sig_or_zeros (slice_get G y)) (name_or_zeros (slice_get G y))
+
+-- how placed rows compare where the whitening is the same: by round received, consensus timestamp, whitened signature,
+-- name and place
+abbrev pub placed_cmp : List Row → List ℕ → Placed → Placed → Ordering
+placed_cmp G white a b =
+    ordering_then (nat_cmp a.received b.received) (ordering_then (nat_cmp a.time b.time)
+    (ordering_then (rows_cmp G white a.place b.place) (nat_cmp a.place b.place)))
+
+abbrev pub placed_less : List Row → List ℕ → Placed → Placed → Bool
+placed_less G white a b = is_lt (placed_cmp G white a b)
+
+-- the row at x has a signature of 64 bytes
+abbrev pub IsWide : List Row → ℕ → Type 0
+IsWide G x = length (sig_at G x) ≡ 64

@@ -1,0 +1,19 @@
+//! The order of one round: its unique famous witnesses, what they receive, and how that is ordered.
+//! The layer above uses `order_round`, which gives what the definitions order in a round, and the calls that lead to it.
+//! No call takes memory. A round is ordered by one sort, and each received row walks down one line for each witness.
+#![tactic(auto)]
+
+mod famous;
+mod order;
+mod received;
+#[cfg(test)]
+mod tests;
+mod time;
+mod told;
+mod white;
+
+pub use famous::unique_famous;
+pub use order::order_round;
+pub use received::received_in;
+pub use time::time_of;
+pub use white::white_cmp;

@@ -1,0 +1,148 @@
+ghost use Rattle.std.specs.Prelude.{◌≡◌, ◌<◌, ℕ, All, length, map, replicate, slice_get};
+ghost use Rattle.std.specs.List.{AllByRecursion};
+ghost use Rattle.hg_model.specs.Fame.{Marks};
+ghost use Rattle.hg_model.specs.Prefix.{links_of};
+ghost use Rattle.hg_model.specs.Order.{sig_at, sort_by};
+ghost use Rattle.hg_order.specs.Famous.{famous_of, AreFamous, IsBelowAll};
+ghost use Rattle.hg_order.specs.Round.{placed_below, placed_in, received_places, received_order, rows_cmp, sig_or_zeros, name_or_zeros, placed_cmp, placed_less, IsWide};
+
+use crate::time::median_time;
+use crate::told::told;
+use crate::white::{no_signature, white_cmp, whitening};
+use hg_model::{Name, Placed, Prefix, Sig};
+use std::cmp::Ordering;
+
+/// The rows at the places `fresh`, as the round of these unique famous witnesses places them, in order: `out` is as
+/// long as `fresh`. Where `fresh` has just what the round receives, in the order of the places, this is the order of
+/// the round.
+pub fn order_round<P: Prefix>(p: &P, ufw: &[usize], fresh: &[usize], out: &mut [Placed])
+    requires famous { AreFamous (P.graph p.now) ufw.now }
+    requires some { 0 < length fresh.now → 0 < length ufw.now }
+    requires received { AllByRecursion (IsBelowAll (P.graph p.now) ufw.now) fresh.now }
+    requires same { length out.old ≡ length fresh.now }
+    ensures placed { (marks : Marks) (r : ℕ) → ufw.now ≡ famous_of (P.graph p.now) marks r → out.new ≡ placed_in (P.graph p.now) marks r fresh.now }
+    ensures whole { (marks : Marks) (r : ℕ) → ufw.now ≡ famous_of (P.graph p.now) marks r → fresh.now ≡ received_places (P.graph p.now) marks r → out.new ≡ received_order (P.graph p.now) marks r }
+{
+    told(p);
+    place_rows(p, ufw, round_of(p, ufw), fresh, out);
+    sort_placed(p, &whitening(p, ufw), out);
+}
+
+/// The round of these unique famous witnesses, or 0 if there is none.
+fn round_of<P: Prefix>(p: &P, ufw: &[usize]) -> u32
+    requires { AreFamous (P.graph p.now) ufw.now }
+    ensures { (marks : Marks) (r : ℕ) → ufw.now ≡ famous_of (P.graph p.now) marks r → 0 < length ufw.now → result ≡ r }
+{
+    told(p);
+    match ufw {
+        [] => 0,
+        [first, ..] => p.round(*first),
+    }
+}
+
+/// The rows at the places `fresh` as the round places them, in their order.
+fn place_rows<P: Prefix>(p: &P, ufw: &[usize], round: u32, fresh: &[usize], out: &mut [Placed])
+    requires famous { AreFamous (P.graph p.now) ufw.now }
+    requires received { AllByRecursion (IsBelowAll (P.graph p.now) ufw.now) fresh.now }
+    requires same { length out.old ≡ length fresh.now }
+    ensures placed { out.new ≡ map (placed_below (P.graph p.now).rows (links_of (P.graph p.now)) ufw.now round) fresh.now }
+    ensures wide { All (IsWide (P.graph p.now).rows) fresh.now }
+{
+    for (i, x) in fresh.iter().enumerate() {
+        out[i] = place_row(p, ufw, round, *x);
+    }
+}
+
+/// Row `x` as the round places it.
+fn place_row<P: Prefix>(p: &P, ufw: &[usize], round: u32, x: usize) -> Placed
+    requires famous { AreFamous (P.graph p.now) ufw.now }
+    requires received { IsBelowAll (P.graph p.now) ufw.now x }
+    ensures placed { result ≡ placed_below (P.graph p.now).rows (links_of (P.graph p.now)) ufw.now round x }
+    ensures wide { IsWide (P.graph p.now).rows x }
+{
+    is_wide(p, x);
+    Placed {
+        place: x,
+        received: round,
+        time: median_time(p, ufw, x),
+    }
+}
+
+/// A law: the signature of a row has 64 bytes.
+#[tactic(auto, using(crate::proofs::StepLaws::row_told))]
+fn is_wide<P: Prefix>(p: &P, x: usize)
+    requires { x < length (links_of (P.graph p.now)) }
+    ensures { IsWide (P.graph p.now).rows x }
+{
+    told(p);
+    is_long(&p.row(x).sig);
+}
+
+/// A law: a signature has 64 bytes.
+fn is_long(sig: &Sig)
+    ensures { length sig.now ≡ 64 }
+{}
+
+/// Sorts placed rows.
+fn sort_placed<P: Prefix>(p: &P, white: &Sig, placed: &mut [Placed])
+    ensures { placed.new ≡ sort_by (placed_less (P.graph p.now).rows white.now) placed.old }
+{
+    placed.sort_unstable_by(|a, b| placed_cmp(p, white, a, b));
+}
+
+fn placed_cmp<P: Prefix>(p: &P, white: &Sig, a: &Placed, b: &Placed) -> Ordering
+    ensures { result ≡ placed_cmp (P.graph p.now).rows white.now a.now b.now }
+{
+    a.received
+        .cmp(&b.received)
+        .then(a.time.cmp(&b.time))
+        .then(rows_cmp(p, white, a.place, b.place))
+        .then(a.place.cmp(&b.place))
+}
+
+/// How the rows at two places compare by their whitened signatures and their names.
+#[tactic(auto, unfolding(crate::specs::Round::rows_cmp))]
+fn rows_cmp<P: Prefix>(p: &P, white: &Sig, x: usize, y: usize) -> Ordering
+    ensures { result ≡ rows_cmp (P.graph p.now).rows white.now x y }
+{
+    white_cmp(
+        &sig_at(p, x),
+        &name_at(p, x),
+        &sig_at(p, y),
+        &name_at(p, y),
+        white,
+    )
+}
+
+/// The signature of the row at a place; zeros stand for what is not there.
+#[tactic(auto, using(crate::proofs::StepLaws::zeros_past))]
+fn sig_at<P: Prefix>(p: &P, x: usize) -> Sig
+    ensures { result ≡ sig_or_zeros (slice_get (P.graph p.now).rows x) }
+{
+    told(p);
+    if x < p.rows() {
+        p.row(x).sig
+    } else {
+        no_signature()
+    }
+}
+
+/// The name of the row at a place; zeros stand for what is not there.
+#[tactic(auto, using(crate::proofs::StepLaws::zeros_past))]
+fn name_at<P: Prefix>(p: &P, x: usize) -> Name
+    ensures { result ≡ name_or_zeros (slice_get (P.graph p.now).rows x) }
+{
+    told(p);
+    if x < p.rows() {
+        p.row(x).name
+    } else {
+        no_name()
+    }
+}
+
+/// 48 bytes 0.
+fn no_name() -> Name
+    ensures { result ≡ replicate 48 0 }
+{
+    [0; 48]
+}

@@ -1,0 +1,29 @@
+ghost use Rattle.std.specs.Prelude.{◌≡◌, ◌<◌, ℕ, true, All, length};
+ghost use Rattle.hg_model.specs.Prefix.{links_of};
+ghost use Rattle.hg_model.specs.Fame.{Marks, is_closed};
+ghost use Rattle.hg_model.specs.Order.{can_receive};
+ghost use Rattle.hg_order.specs.Famous.{famous_of, AreFamous, all_have};
+
+use crate::told::told;
+use hg_model::{Prefix, Sight};
+
+/// Whether all unique famous witnesses of a round have row `x` as ancestor: where the round is closed, whether it can
+/// receive the row.
+pub fn received_in<P: Prefix>(p: &P, ufw: &[usize], x: usize) -> bool
+    requires famous { AreFamous (P.graph p.now) ufw.now }
+    requires some { 0 < length ufw.now }
+    requires place { x < length (links_of (P.graph p.now)) }
+    ensures all { result ≡ all_have (links_of (P.graph p.now)) ufw.now x }
+    ensures receives { (marks : Marks) (r : ℕ) → ufw.now ≡ famous_of (P.graph p.now) marks r → is_closed (P.graph p.now).members (links_of (P.graph p.now)) marks r ≡ true → result ≡ can_receive (P.graph p.now).members (links_of (P.graph p.now)) marks x r }
+{
+    told(p);
+    have_all(p, ufw, x)
+}
+
+fn have_all<S: Sight>(sight: &S, places: &[usize], x: usize) -> bool
+    requires places { All (λ w. w < length (S.shape sight.now).links) places.now }
+    requires place { x < length (S.shape sight.now).links }
+    ensures { result ≡ all_have (S.shape sight.now).links places.now x }
+{
+    places.iter().all(|w| sight.ancestor(*w, x))
+}

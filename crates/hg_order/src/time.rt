@@ -1,0 +1,107 @@
+ghost use Rattle.std.specs.Prelude.{◌≡◌, ◌<◌, ◌≤◌, ◌-◌, ◌/◌, ℕ, true, All, length, slice_index};
+ghost use Rattle.std.specs.List.{AllByRecursion};
+ghost use Rattle.hg_model.specs.Prefix.{links_of};
+ghost use Rattle.hg_model.specs.Ancestry.{is_ancestor};
+ghost use Rattle.hg_model.specs.Fame.{Marks};
+ghost use Rattle.hg_model.specs.Graph.{IsShaped};
+ghost use Rattle.hg_model.specs.Order.{consensus_time, median, time_at};
+ghost use Rattle.hg_order.specs.Famous.{famous_of, AreFamous, all_have, first_holder, times_of, IsBelowAll};
+
+use crate::told::told;
+use hg_model::{Prefix, Sight};
+
+/// The consensus timestamp of row `x` by the unique famous witnesses of a round, all of which have it as ancestor.
+pub fn time_of<P: Prefix>(p: &P, ufw: &[usize], x: usize) -> u64
+    requires famous { AreFamous (P.graph p.now) ufw.now }
+    requires received { IsBelowAll (P.graph p.now) ufw.now x }
+    ensures { (marks : Marks) (r : ℕ) → ufw.now ≡ famous_of (P.graph p.now) marks r → result ≡ consensus_time (P.graph p.now).members (P.graph p.now).rows (links_of (P.graph p.now)) marks r x }
+{
+    told(p);
+    median_time(p, ufw, x)
+}
+
+/// The median of the times at which the lines of these witnesses first had row `x` as ancestor.
+pub fn median_time<P: Prefix>(p: &P, ufw: &[usize], x: usize) -> u64
+    requires famous { AreFamous (P.graph p.now) ufw.now }
+    requires received { IsBelowAll (P.graph p.now) ufw.now x }
+    ensures { result ≡ median (times_of (P.graph p.now).rows (links_of (P.graph p.now)) x ufw.now) }
+{
+    told(p);
+    median_in(p, ufw, x, &mut [0; 128])
+}
+
+/// The same, found in an array of at least as many times as there are witnesses.
+fn median_in<P: Prefix>(p: &P, ufw: &[usize], x: usize, times: &mut [u64]) -> u64
+    requires shaped { IsShaped (P.graph p.now).members (links_of (P.graph p.now)) }
+    requires places { All (λ w. w < length (links_of (P.graph p.now))) ufw.now }
+    requires have { IsBelowAll (P.graph p.now) ufw.now x }
+    requires room { length ufw.now ≤ length times.old }
+    ensures { result ≡ median (times_of (P.graph p.now).rows (links_of (P.graph p.now)) x ufw.now) }
+{
+    let times = &mut times[..ufw.len()];
+    fill_times(p, ufw, x, times);
+    median_of(times)
+}
+
+/// The times at which the lines of these rows first had row `x` as ancestor.
+fn fill_times<P: Prefix>(p: &P, places: &[usize], x: usize, times: &mut [u64])
+    requires shaped { IsShaped (P.graph p.now).members (links_of (P.graph p.now)) }
+    requires places { All (λ w. w < length (links_of (P.graph p.now))) places.now }
+    requires have { IsBelowAll (P.graph p.now) places.now x }
+    requires same { length times.old ≡ length places.now }
+    ensures { times.new ≡ times_of (P.graph p.now).rows (links_of (P.graph p.now)) x places.now }
+{
+    for (i, w) in places.iter().enumerate() {
+        times[i] = holder_time(p, *w, x);
+    }
+}
+
+/// The time at which the line of row `w` first had row `x` as ancestor.
+#[tactic(auto, using(crate::proofs::StepLaws::row_told))]
+fn holder_time<P: Prefix>(p: &P, w: usize, x: usize) -> u64
+    requires shaped { IsShaped (P.graph p.now).members (links_of (P.graph p.now)) }
+    requires line { w < length (links_of (P.graph p.now)) }
+    requires place { x < length (links_of (P.graph p.now)) }
+    requires has { is_ancestor (links_of (P.graph p.now)) w x ≡ true }
+    ensures { result ≡ time_at (P.graph p.now).rows (first_holder (links_of (P.graph p.now)) x w) }
+{
+    told(p);
+    p.row(first_holder(p, x, w)).time
+}
+
+/// The first of the line of row `w` that has row `x` as ancestor.
+fn first_holder<S: Sight>(sight: &S, x: usize, w: usize) -> usize
+    requires shaped { IsShaped (S.shape sight.now).members (S.shape sight.now).links }
+    requires place { x < length (S.shape sight.now).links }
+    requires line { w < length (S.shape sight.now).links }
+    requires has { is_ancestor (S.shape sight.now).links w x ≡ true }
+    ensures value { result ≡ first_holder (S.shape sight.now).links x w }
+    ensures within { result ≤ w }
+{
+    let mut z = w;
+    while let Some(before) = sight.self_parent(z) {
+        if !sight.ancestor(before, x) {
+            break;
+        }
+        z = before;
+    }
+    z
+}
+
+/// Of k times that at place (k - 1) / 2, or 0 if there is none.
+fn middle_of(times: &[u64]) -> u64
+    ensures { result ≡ slice_index times.now ((length times.now - 1) / 2) }
+{
+    match times.get(times.len().saturating_sub(1) / 2) {
+        None => 0,
+        Some(time) => *time,
+    }
+}
+
+/// Of k times in ascending order that at place (k - 1) / 2, or 0 if there is none.
+fn median_of(times: &mut [u64]) -> u64
+    ensures { result ≡ median times.old }
+{
+    times.sort_unstable();
+    middle_of(times)
+}

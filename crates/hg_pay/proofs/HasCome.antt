@@ -1,0 +1,9 @@
+-- Where a walk over a payload's transfers has come to
+use Rattle.std.proofs.Common.{◌≡◌, ℕ, List}
+use Rattle.hg_model.specs.Pay.{Paying}
+use Rattle.hg_pay.specs.Applied.{bits_of}
+
+-- the balances and the bits are those of p
+pub record HasCome (p : Paying) (balances : List ℕ) (bits : ℕ) : Type 0 where
+  pub left : balances ≡ p.balances
+  pub told : bits ≡ bits_of p.done

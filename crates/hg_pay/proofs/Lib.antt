@@ -1,0 +1,3 @@
+pub mod PayLaws
+pub mod BookLaws
+pub mod HasCome

@@ -1,0 +1,17 @@
+-- What applying a payload to the balances leaves and answers
+use Rattle.std.specs.Prelude.{ℕ, zero, ◌+◌, ◌*◌, ◌≡◌, Bool, cond, List, [], ◌∷◌, ◌++◌}
+use Rattle.hg_model.specs.declared.pay.Effect.{Effect}
+use Rattle.hg_model.specs.Pay.{Book, with_payload}
+
+-- the number whose bit i, counted from the lowest, is set just where entry i is true
+abbrev pub bits_of : List Bool → ℕ
+bits_of [] = 0
+bits_of (done ∷ rest) = cond done 1 0 + 2 * bits_of rest
+
+abbrev pub book_with : List ℕ → List Effect → Book
+book_with balances effects = record { balances = balances; effects = effects }
+
+-- whatever came of the events before, the payload leaves these balances, and this effect behind the others
+abbrev pub Leaves : List ℕ → ℕ → List ℕ → List ℕ → Effect → Type 0
+Leaves before payer payload after e =
+    (effects : List Effect) → with_payload (book_with before effects) payer payload ≡ book_with after (effects ++ e ∷ [])

@@ -1,0 +1,32 @@
+-- Laws of payloads and balances
+use Rattle.std.specs.Prelude.{ℕ, ◌≡◌, ◌<◌, ◌≤◌, ◌^◌, List, length, get_or, All, Some}
+use Rattle.std.specs.List.{sum}
+use Rattle.hg_model.specs.declared.row.Row.{Row}
+use Rattle.hg_model.specs.declared.row.Placed.{Placed}
+use Rattle.hg_model.specs.declared.pay.Transfer.{Transfer}
+use Rattle.hg_model.specs.Pay.{transfer_limit, pay_bytes, read_pay, book_of}
+
+-- the book of any order has as much as was there at the start
+abbrev pub SumIsKept : Type 0
+SumIsKept = (balances : List ℕ) (G : List Row) (order : List Placed) → sum (book_of balances G order).balances ≡ sum balances
+
+-- a transfer whose numbers fit their bytes
+pub record IsTransfer (t : Transfer) : Type 0 where
+  pub receiver : t.receiver < 2 ^ 16
+  pub amount : t.amount < 2 ^ 64
+
+-- transfers that a payload can hold
+pub record ArePayable (ts : List Transfer) : Type 0 where
+  pub few : length ts ≤ transfer_limit
+  pub each : All IsTransfer ts
+
+-- they are read from their payload
+abbrev pub PaysAreRead : Type 0
+PaysAreRead = (ts : List Transfer) → ArePayable ts → read_pay (pay_bytes ts) ≡ Some ts
+
+abbrev pub AreBytes : List ℕ → Type 0
+AreBytes bytes = (i : ℕ) → get_or bytes i 0 < 256
+
+-- what is read from bytes has no other payload
+abbrev pub PaysAreOne : Type 0
+PaysAreOne = (bytes : List ℕ) (ts : List Transfer) → AreBytes bytes → read_pay bytes ≡ Some ts → ArePayable ts × (bytes ≡ pay_bytes ts)

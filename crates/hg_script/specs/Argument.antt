@@ -1,0 +1,78 @@
+-- What a word of a line can have to be
+use Rattle.std.specs.Prelude.{ℕ, ◌+◌, ◌-◌, ◌*◌, ◌^◌, Bool, false, ◌&&◌, ◌||◌, ◌==◌, nat_le, nat_lt, if◌then◌else◌, List, [], ◌∷◌, length, position, slice_get, codes, Option, Some, None, Result, Ok, Err}
+use Rattle.std.specs.List.{list_any}
+use Rattle.std.specs.Option.{ok_or, option_map_or}
+use Rattle.std.specs.Result.{result_ok}
+use Rattle.std.specs.Str.{bytes_eq}
+use Rattle.hex.specs.Hex.{decode_of}
+use Rattle.hg_model.specs.declared.members.MemberEntry.{MemberEntry}
+use Rattle.hg_model.specs.Members.{MemberList, is_digit, is_member_name}
+use Rattle.hg_model.specs.Results.{◌>>=◌}
+use Rattle.hg_script.specs.declared.fault.Why.{Why}
+use Rattle.hg_script.specs.declared.fault.Why.TheVariants.{Member, NoNode, Number, Payload, Label, DoubleLabel}
+
+-- what decimal digits spell, behind others that spell n; nothing where another byte stands among them
+abbrev pub value_after : ℕ → List ℕ → Option ℕ
+value_after n [] = Some n
+value_after n (b ∷ rest) = if is_digit b then value_after (n * 10 + (b - 48)) rest else None
+
+abbrev pub below : ℕ → Option ℕ → Result ℕ Why
+below limit None = Err Number
+below limit (Some n) = if nat_lt n limit then Ok n else Err Number
+
+-- 1 to 20 decimal digits, whose value is below 2^64
+abbrev pub number_of : List ℕ → Result ℕ Why
+number_of word = if nat_le 1 (length word) && nat_le (length word) 20 then below (2 ^ 64) (value_after 0 word) else Err Number
+
+-- the same, with a value below 256
+abbrev pub byte_of : List ℕ → Result ℕ Why
+byte_of word = number_of word >>= (λ n. below 256 (Some n))
+
+-- the number of the member with this name
+abbrev pub member_of : MemberList → List ℕ → Result ℕ Why
+member_of members word = ok_or (position (λ (e : MemberEntry). bytes_eq e.name word) members.entries) Member
+
+abbrev pub has_node : MemberList → ℕ → Bool
+has_node members m = option_map_or (λ (e : MemberEntry). e.has_node) (slice_get members.entries m) false
+
+abbrev pub with_node : MemberList → ℕ → Result ℕ Why
+with_node members m = if has_node members m then Ok m else Err NoNode
+
+abbrev pub other_than : ℕ → ℕ → Result ℕ Why
+other_than x y = if y == x then Err Member else Ok y
+
+-- a member with a node
+abbrev pub node_of : MemberList → List ℕ → Result ℕ Why
+node_of members word = member_of members word >>= with_node members
+
+-- a member with a node, other than x
+abbrev pub peer_of : MemberList → ℕ → List ℕ → Result ℕ Why
+peer_of members x word = member_of members word >>= other_than x >>= with_node members
+
+-- the number of a label that was made above
+abbrev pub label_of : List (List ℕ) → List ℕ → Result ℕ Why
+label_of labels word = ok_or (position (bytes_eq word) labels) Label
+
+-- the name of a label to be made, which has the form of a member's name
+abbrev pub new_label : List (List ℕ) → List ℕ → Result (List ℕ) Why
+new_label labels word =
+    if is_member_name word then (if list_any (bytes_eq word) labels then Err DoubleLabel else Ok word) else Err Label
+
+-- the word `-`
+abbrev pub is_dash : List ℕ → Bool
+is_dash word = bytes_eq word (codes "-")
+
+-- two labels, or none for `- -`
+abbrev pub parents_of : List (List ℕ) → List ℕ → List ℕ → Result (Option (ℕ × ℕ)) Why
+parents_of labels s o =
+    if is_dash s && is_dash o then Ok None
+    else if is_dash s || is_dash o then Err Label
+    else label_of labels s >>= (λ own. label_of labels o >>= (λ other. Ok (Some (own, other))))
+
+-- the bytes of so many hexadecimal digits, of either case
+abbrev pub digits_form : ℕ → ℕ → List ℕ → Option (List ℕ)
+digits_form least most word = if nat_le least (length word) && nat_le (length word) most then result_ok (decode_of word) else None
+
+-- the bytes of 2 to 8,192 digits
+abbrev pub bytes_of : List ℕ → Result (List ℕ) Why
+bytes_of word = ok_or (digits_form 2 8192 word) Payload

@@ -1,0 +1,6 @@
+pub mod PrefixReads
+pub mod VoterLaws
+pub mod BallotLaws
+pub mod CountLaws
+pub mod LastLaws
+pub mod MadeLaws

@@ -1,0 +1,13 @@
+//! Votes on the fame of a witness, round by round: a ballot for each later witness, from those of its voters.
+//! The layer above uses `VoteTable` as the `Votes` of `hg_model`, and nothing else.
+//! Voters are found once, in `new`; a round then costs its witnesses times their voters, and no memory.
+#![tactic(auto)]
+
+mod ballots;
+mod table;
+mod tally;
+mod voters;
+mod weighing;
+
+pub use table::VoteTable;
+pub use weighing::{coin_bit, weigh};
