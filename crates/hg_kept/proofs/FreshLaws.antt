@@ -1,16 +1,16 @@
 -- What the next round receives of the rows that no closed round has received
-use Rattle.std.proofs.Common.{◌≡◌, ◌⊎◌, inl, inr, ℕ, suc, ◌+◌, ◌<◌, ◌≤◌, Bool, true, false, ◌&&◌, not, leb, eqb, List, [], ◌∷◌, ◌++◌, length, Option, Some, None, is_some, unwrap_or, sym, refl, ap, ap₂, ◌∙◌, subst, arith}
+use Rattle.std.proofs.Common.{◌≡◌, inl, inr, ℕ, suc, ◌+◌, ◌<◌, Bool, true, false, ◌&&◌, not, leb, eqb, List, length, Option, Some, None, is_some, unwrap_or, sym, refl, ap, ◌∙◌, subst, arith}
 use Rattle.std.specs.List.{list_all}
-use Rattle.std.proofs.lemmas.Bool.{cases_Bool, cases_lt, cases_eq, eq-eqb, ne_eqb, le-leb, lt-leb, both_ways, and_parts, false_from_ne_true, true≢false}
+use Rattle.std.proofs.lemmas.Bool.{cases_lt, cases_eq, eq-eqb, ne_eqb, le-leb, lt-leb, false_from_ne_true}
 use Rattle.hg_model.specs.Places.{some_below, list_below, IsEarlier}
 use Rattle.hg_model.specs.Links.{Link, parents}
 use Rattle.hg_model.specs.Ancestry.{is_ancestor}
 use Rattle.hg_model.specs.Fame.{Marks, is_closed, is_unique_famous}
-use Rattle.hg_model.specs.Order.{is_without, can_receive, round_received, received_or_zero, is_received_in, famous_places}
+use Rattle.hg_model.specs.Order.{is_without, can_receive, round_received, is_received_in, famous_places}
 use Rattle.hg_model.specs.Prefix.{Graph, links_of}
 use Rattle.hg_model.proofs.ListLaws.{list_all-list_below, none-list_below}
 use Rattle.hg_model.proofs.SearchLaws.{least_below_some}
-use Rattle.hg_prefix.proofs.FamousLaws.{Receives, receives_is, receives_from, received_is, closed_bounds}
+use Rattle.hg_prefix.proofs.FamousLaws.{receives_is, receives_from, received_is, closed_bounds}
 use Rattle.hg_kept.specs.Published.{is_pending}
 
 -- what a round that follows m makes of a row, by the round that receives it

@@ -1,15 +1,14 @@
 -- What closed rounds have received stays when rows come and when marks are published
-use Rattle.std.proofs.Common.{◌≡◌, ℕ, zero, suc, ◌+◌, ◌<◌, ◌≤◌, Bool, true, false, ◌&&◌, leb, eqb, List, [], ◌∷◌, ◌++◌, length, Option, Some, None, is_some, unwrap_or, sym, refl, ap, ap₂, ◌∙◌, subst, arith}
+use Rattle.std.proofs.Common.{◌≡◌, ℕ, zero, suc, ◌<◌, ◌≤◌, Bool, true, false, ◌&&◌, leb, eqb, List, ◌++◌, length, Option, Some, None, is_some, unwrap_or, sym, refl, ap₂, arith}
 use Rattle.std.proofs.lemmas.Bool.{leb-true, le-leb, eq-eqb, both_ways, false_from_ne_true, true≢false}
 use Rattle.hg_model.specs.declared.row.Row.{Row}
 use Rattle.hg_model.specs.declared.row.Placed.{Placed}
-use Rattle.hg_model.specs.Places.{IsEarlier}
-use Rattle.hg_model.specs.Links.{Link, links, parents}
+use Rattle.hg_model.specs.Links.{links}
 use Rattle.hg_model.specs.Graph.{IsGraph}
 use Rattle.hg_model.specs.Fame.{Marks, is_closed}
 use Rattle.hg_model.specs.Order.{is_received_in, round_received}
 use Rattle.hg_model.specs.Kept.{kept_up_to}
-use Rattle.hg_model.specs.Prefix.{Graph, graph_of}
+use Rattle.hg_model.specs.Prefix.{graph_of}
 use Rattle.hg_model.proofs.ReachLaws.{bool_iff}
 use Rattle.hg_prefix.specs.Standing.{IsMarkedPart}
 use Rattle.hg_prefix.specs.Orders.{IsPrefix}

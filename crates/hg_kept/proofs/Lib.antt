@@ -6,3 +6,4 @@ pub mod RowLaws
 pub mod PublishLaws
 pub mod ReceiveLaws
 pub mod TellLaws
+pub mod NothingLaws

@@ -1,9 +1,9 @@
 -- Rounds close one after the other: where those up to a round are closed, the next one is where its witnesses have marks
-use Rattle.std.proofs.Common.{◌≡◌, ◌⊎◌, inl, inr, ℕ, ◌+◌, ◌<◌, ◌≤◌, Bool, true, false, ◌&&◌, not, leb, eqb, List, length, Option, Some, None, is_some, is_none, sym, refl, ap, ap₂, ◌∙◌, subst, arith}
+use Rattle.std.proofs.Common.{◌≡◌, inl, inr, ℕ, ◌+◌, ◌<◌, ◌≤◌, Bool, true, false, ◌&&◌, not, leb, eqb, List, length, Option, Some, None, is_some, is_none, sym, refl, ap, ap₂, ◌∙◌, arith}
 use Rattle.std.specs.List.{list_all}
 use Rattle.std.proofs.lemmas.Bool.{cases_Bool, cases_lt, cases_eq, eq-eqb, ne_eqb, le-leb, lt-leb, both_ways}
-use Rattle.hg_model.specs.Places.{some_below, list_below, IsEarlier}
-use Rattle.hg_model.specs.Links.{Link, parents}
+use Rattle.hg_model.specs.Places.{list_below, IsEarlier}
+use Rattle.hg_model.specs.Links.{parents}
 use Rattle.hg_model.specs.Rounds.{round_of, is_witness}
 use Rattle.hg_model.specs.Standings.{standings_of, witnesses_in}
 use Rattle.hg_model.specs.Fame.{Marks, mark_at, is_closed, is_witness_in, is_unmarked}

@@ -1,18 +1,16 @@
 -- More marks leave what is ordered, and rounds that they close are ordered after it
-use Rattle.std.proofs.Common.{◌≡◌, inl, inr, ℕ, zero, suc, ◌+◌, ◌<◌, ◌≤◌, Bool, true, false, not, List, [], ◌∷◌, ◌++◌, length, take, Option, Some, None, is_some, sym, refl, ap, ap₂, ◌∙◌, subst, arith}
+use Rattle.std.proofs.Common.{◌≡◌, inl, inr, ℕ, zero, suc, ◌+◌, ◌<◌, ◌≤◌, Bool, true, false, not, List, [], length, take, Option, Some, is_some, sym, refl, ap, ◌∙◌, subst, arith}
 use Rattle.std.proofs.lemmas.Bool.{cases_eq}
 use Rattle.std.specs.Prelude.{All}
 use Rattle.std.specs.List.{AllByRecursion}
-use Rattle.std.proofs.lemmas.List.{append-nil, length-take-le}
+use Rattle.std.proofs.lemmas.List.{length-take-le}
 use Rattle.std.proofs.lemmas.List.Elements.{All-from_recursion}
 use Rattle.std.proofs.lemmas.List.FromFn.{length-map-range_with_len}
 use Rattle.hg_model.specs.declared.row.Row.{Row}
-use Rattle.hg_model.specs.declared.row.Placed.{Placed}
 use Rattle.hg_model.specs.Places.{list_below}
 use Rattle.hg_model.specs.Links.{Link, links}
 use Rattle.hg_model.specs.Fame.{Marks, mark_at, is_closed, is_yes}
-use Rattle.hg_model.specs.Order.{last_closed, ordered}
-use Rattle.hg_model.specs.Prefix.{Graph, graph_of, links_of}
+use Rattle.hg_model.specs.Prefix.{Graph, links_of}
 use Rattle.hg_model.specs.Shares.{Share, Speaks, share_fame, found_in}
 use Rattle.hg_model.specs.History.{State, with_marks, new_mark, news}
 use Rattle.hg_model.specs.History.Change.{Marked}
@@ -28,7 +26,7 @@ use Rattle.hg_history.proofs.AddLaws.{adds_marks}
 use Rattle.hg_history.proofs.MarkLaws.{fame_with_marks, closed_with_marks}
 use Rattle.hg_history.proofs.RoundLaws.{order_by_rounds}
 use Rattle.hg_history.proofs.StateLaws.{IsEven, marks_step, prefix_same}
-use Rattle.hg_kept.specs.Published.{Published, IsReached, KeepsUpTo, Keeps, ArePending, is_pending, state_by}
+use Rattle.hg_kept.specs.Published.{Published, IsReached, KeepsUpTo, Keeps, is_pending, state_by}
 use Rattle.hg_kept.proofs.LaterLaws.{order_stays, received_stays}
 use Rattle.hg_kept.proofs.NextLaws.{last_here, last_reached, closed_to_reached}
 

@@ -1,15 +1,15 @@
 -- What a closed round that comes next receives, and what waits on
-use Rattle.std.proofs.Common.{◌≡◌, inl, inr, ℕ, zero, suc, ◌+◌, ◌-◌, ◌<◌, ◌≤◌, Bool, true, false, cond, ◌&&◌, not, max, leb, eqb, List, [], ◌∷◌, ◌++◌, length, map, get_or, Option, Some, None, sym, refl, ap, ap₂, ◌∙◌, subst, arith, add-one, append_assoc, length-append}
+use Rattle.std.proofs.Common.{◌≡◌, inl, inr, ℕ, zero, suc, ◌+◌, ◌-◌, ◌<◌, ◌≤◌, Bool, true, false, cond, ◌&&◌, not, max, leb, eqb, List, [], ◌∷◌, ◌++◌, length, map, get_or, sym, refl, ap, ap₂, ◌∙◌, subst, arith, add-one, append_assoc, length-append}
 use Rattle.std.specs.Prelude.{All, filter}
 use Rattle.std.specs.List.{AllByRecursion, range_with_len, list_all}
-use Rattle.std.proofs.lemmas.Bool.{cases_Bool, cases_lt, cases_eq, and_parts, false_from_ne_true, both_ways, true≢false}
+use Rattle.std.proofs.lemmas.Bool.{cases_Bool, cases_eq, and_parts, false_from_ne_true}
 use Rattle.std.proofs.lemmas.List.{append-nil, length-map}
 use Rattle.std.proofs.lemmas.List.Elements.{All-from_recursion, All-append}
 use Rattle.std.proofs.lemmas.List.FromFn.{length-range_with_len, get_or-range_with_len}
 use Rattle.hg_model.specs.declared.row.Row.{Row}
 use Rattle.hg_model.specs.declared.row.Placed.{Placed}
 use Rattle.hg_model.specs.Places.{list_below}
-use Rattle.hg_model.specs.Links.{Link, links}
+use Rattle.hg_model.specs.Links.{Link}
 use Rattle.hg_model.specs.Ancestry.{is_ancestor}
 use Rattle.hg_model.specs.Fame.{Marks, is_closed, is_unique_famous}
 use Rattle.hg_model.specs.Order.{sort_by, insert_by, comes_before, keyed_at, is_received_in, ordered_in, can_receive, famous_places}
@@ -23,7 +23,8 @@ use Rattle.hg_history.proofs.RoundLaws.{up_to_is}
 use Rattle.hg_history.proofs.SplitLaws.{filter-list_below, list_below-longer}
 use Rattle.hg_order.specs.Famous.{famous_of, AreFamous, all_have, IsBelowAll}
 use Rattle.hg_order.specs.Round.{received_places, received_order}
-use Rattle.hg_kept.specs.Published.{Published, Waiting, KeepsUpTo, ArePending, is_pending, places_to, published_as, state_by}
+use Rattle.hg_kept.specs.Published.{KeepsUpTo, is_pending, state_by}
+use Rattle.hg_kept.specs.Waiting.{Waiting, places_to, published_as}
 use Rattle.hg_kept.proofs.FreshLaws.{pending_next, fresh_next, none_receive, all_receive}
 use Rattle.hg_kept.proofs.StepLaws.{range_next}
 

@@ -1,20 +1,19 @@
 -- A row that comes gets its first mark, and leaves all else as it is
-use Rattle.std.proofs.Common.{◌≡◌, inl, inr, ℕ, suc, ◌+◌, ◌-◌, ◌<◌, ◌≤◌, Bool, true, false, cond, ◌&&◌, not, leb, eqb, List, [], ◌∷◌, ◌++◌, length, map, get_or, take, Option, Some, None, slice_get, sym, refl, ap, ap₂, ◌∙◌, subst, arith, length-append}
-use Rattle.std.proofs.lemmas.Bool.{cases_Bool, cases_lt, eq-eqb, or_left, or_right, le-leb, leb-true, both_ways, false_from_ne_true}
+use Rattle.std.proofs.Common.{◌≡◌, inl, inr, ℕ, ◌+◌, ◌-◌, ◌<◌, ◌≤◌, Bool, true, false, cond, ◌&&◌, not, leb, eqb, List, [], ◌∷◌, ◌++◌, length, map, take, Option, Some, None, slice_get, sym, refl, ap, ap₂, ◌∙◌, subst, arith}
+use Rattle.std.proofs.lemmas.Bool.{cases_Bool, cases_lt, eq-eqb, or_left, or_right, le-leb, leb-true}
 use Rattle.std.proofs.lemmas.List.{length_push, get_or_push, take_at}
 use Rattle.std.proofs.lemmas.List.Folds.{position_or_len_push}
 use Rattle.hg_model.specs.declared.row.Row.{Row}
-use Rattle.hg_model.specs.declared.row.Placed.{Placed}
-use Rattle.hg_model.specs.Places.{has_place, list_below, IsEarlier}
+use Rattle.hg_model.specs.Places.{has_place}
 use Rattle.hg_model.specs.Links.{Link, parent_names, is_named, place_of, link_in, links, parents_in, parents}
 use Rattle.hg_model.specs.Graph.{IsShaped, IsGraph}
-use Rattle.hg_model.specs.Fits.{AreHeld, IsPresent}
+use Rattle.hg_model.specs.Fits.{AreHeld}
 use Rattle.hg_model.specs.Rounds.{round_of, is_witness}
-use Rattle.hg_model.specs.Fame.{Marks, mark_at, is_closed}
-use Rattle.hg_model.specs.Order.{is_received_in, ordered, last_closed}
-use Rattle.hg_model.specs.Prefix.{Graph, graph_of, links_of}
+use Rattle.hg_model.specs.Fame.{Marks, is_closed}
+use Rattle.hg_model.specs.Order.{ordered, last_closed}
+use Rattle.hg_model.specs.Prefix.{Graph, graph_of}
 use Rattle.hg_model.specs.History.{State, links_with, first_mark, with_row}
-use Rattle.hg_model.specs.Kept.{kept, kept_up_to}
+use Rattle.hg_model.specs.Kept.{kept_up_to}
 use Rattle.hg_model.proofs.LinkLaws.{length-links}
 use Rattle.hg_model.proofs.PlacesLaws.{list_below-same}
 use Rattle.hg_model.proofs.PushLaws.{nobody, links-push, link_at, all_present}
@@ -27,7 +26,7 @@ use Rattle.hg_prefix.proofs.GrowthLaws.{stands_in_itself, stands_in_longer}
 use Rattle.hg_history.proofs.MarkLaws.{fame_with_row, closed_with_row, closed_before_row}
 use Rattle.hg_history.proofs.RoundLaws.{order_by_rounds}
 use Rattle.hg_history.proofs.StateLaws.{IsEven}
-use Rattle.hg_kept.specs.Published.{Published, HasCome, Keeps, ArePending, TookRow, is_pending, mark_by, marks_with, state_by}
+use Rattle.hg_kept.specs.Published.{Published, HasCome, Keeps, TookRow, is_pending, mark_by, marks_with, state_by}
 use Rattle.hg_kept.proofs.LaterLaws.{order_stays, received_stays, none_of_later}
 
 -- the row's parents stand before it

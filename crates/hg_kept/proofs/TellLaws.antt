@@ -1,16 +1,14 @@
 -- What a prefix tells, as what its graph has
-use Rattle.std.proofs.Common.{◌≡◌, ◌∙◌, ℕ, ◌+◌, ◌-◌, ◌<◌, ◌≤◌, Bool, true, false, ◌&&◌, cond, not, leb, eqb, List, length, Option, Some, None, is_some, sym, refl, ap, ap₂, subst, arith}
+use Rattle.std.proofs.Common.{◌≡◌, ◌∙◌, ℕ, ◌+◌, ◌-◌, ◌<◌, Bool, ◌&&◌, not, leb, eqb, List, length, is_some, sym, ap, ap₂, subst, arith}
 use Rattle.std.specs.Prelude.{All}
 use Rattle.std.specs.List.{AllByRecursion, list_all}
 use Rattle.std.proofs.lemmas.List.Elements.{All-from_recursion}
-use Rattle.hg_model.specs.Places.{IsEarlier}
-use Rattle.hg_model.specs.Links.{Link, parents}
 use Rattle.hg_model.specs.Graph.{IsShaped}
 use Rattle.hg_model.specs.Rounds.{round_of, is_witness}
 use Rattle.hg_model.specs.Fame.{Marks, mark_at, is_closed, is_witness_in}
 use Rattle.hg_model.specs.Prefix.{Graph, links_of, TellsGraph}
 use Rattle.hg_model.specs.Shape.{Shape}
-use Rattle.hg_model.specs.Standings.{Standing, standings_of, round_at, witness_at, witnesses_in}
+use Rattle.hg_model.specs.Standings.{Standing, round_at, witness_at, witnesses_in}
 use Rattle.hg_model.proofs.LinkLaws.{length-links}
 use Rattle.hg_model.proofs.ListLaws.{all_list_below}
 use Rattle.hg_model.proofs.StandingLaws.{length-standings, round_at-standings, witness_at-standings, witnesses_in-standings}
@@ -38,10 +36,10 @@ module _ (shape : Shape) (S : List Standing) (g : Graph) (told : TellsGraph shap
       (all_list_below (λ w. w < length marks) (λ x. x) (length L) (is_witness_in n L r) (λ x inside passes. omega arith)))
 
   -- and tell whether it is closed, where it comes next
-  pub next_told : IsShaped shape.members shape.links → (marks : Marks) (m : ℕ) → IsReached g marks m → (witnesses : List ℕ) → witnesses ≡ witnesses_in S (m + 1) →
+  pub next_told : IsShaped g.members (links_of g) → (marks : Marks) (m : ℕ) → IsReached g marks m → (witnesses : List ℕ) → witnesses ≡ witnesses_in S (m + 1) →
       (not (eqb (length witnesses) 0) && list_all (λ w. is_some (mark_at marks w)) witnesses) ≡ is_closed g.members (links_of g) marks (m + 1)
   next_told shaped marks m reached witnesses are =
-      next_closed g marks (shaped_told shaped).earlier m reached witnesses (are ∙ ap (λ (T : List Standing). witnesses_in T (m + 1)) told.standing)
+      next_closed g marks shaped.earlier m reached witnesses (are ∙ ap (λ (T : List Standing). witnesses_in T (m + 1)) told.standing)
 
   -- and whether the last row is late
   pub late_told : 0 < length g.rows → (x closed : ℕ) → x ≡ length shape.links - 1 → (witness_at S x && leb (round_at S x) closed) ≡ is_last_late g closed

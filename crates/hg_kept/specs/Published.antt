@@ -1,11 +1,9 @@
 -- What a node has published of its graph: the marks of fame, the closed rounds, and the order that it keeps.
 -- SWIRLDS-TR-2016-01, section 4, procedures decideFame and findOrder
-use Rattle.std.specs.Prelude.{ℕ, suc, ◌≡◌, ◌≤◌, ◌<◌, ◌-◌, ◌⊎◌, Bool, true, false, cond, not, ◌&&◌, nat_le, List, [], ◌∷◌, ◌++◌, length, Option, Some, None}
-use Rattle.std.specs.List.{range_with_len}
+use Rattle.std.specs.Prelude.{ℕ, ◌≡◌, ◌≤◌, ◌<◌, ◌-◌, ◌⊎◌, Bool, true, false, cond, not, ◌&&◌, nat_le, List, [], ◌∷◌, ◌++◌, length, Option, Some, None}
 use Rattle.hg_model.specs.declared.row.Row.{Row}
 use Rattle.hg_model.specs.declared.row.Placed.{Placed}
 use Rattle.hg_model.specs.Places.{list_below}
-use Rattle.hg_model.specs.Links.{Link}
 use Rattle.hg_model.specs.Graph.{IsGraph}
 use Rattle.hg_model.specs.Rounds.{round_of, is_witness}
 use Rattle.hg_model.specs.Fame.{Marks, is_closed}
@@ -30,21 +28,6 @@ pub record Published : Type 0 where
 pub record Stock : Type 0 where
   pub published : Published
   pub room : ℕ
-
--- the rows that wait to be received, by place, those that the round at hand receives, and for how many rows there is memory
-pub record Waiting : Type 0 where
-  pub places : List ℕ
-  pub looked : ℕ
-  pub fresh : List ℕ
-  pub room : ℕ
-
--- the places that wait, and those from `looked` up to below `end`
-abbrev pub places_to : Waiting → ℕ → List ℕ
-places_to w «end» = w.places ++ range_with_len w.looked («end» - w.looked)
-
--- these marks and this order, of the rounds up to `closed`
-abbrev pub published_as : Marks → ℕ → List Placed → Waiting → Published
-published_as marks closed order w = record { marks = marks; closed = closed; order = order; pending = w.places; looked = w.looked }
 
 -- nothing, of no rows
 abbrev pub unpublished : Published

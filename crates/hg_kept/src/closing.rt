@@ -5,9 +5,11 @@ ghost use Rattle.hg_model.specs.Prefix.{links_of};
 ghost use Rattle.hg_prefix.specs.Orders.{IsPrefix};
 ghost use Rattle.hg_order.specs.Famous.{famous_of, AreFamous, IsBelowAll};
 ghost use Rattle.hg_order.specs.Round.{received_order, received_places};
-ghost use Rattle.hg_kept.specs.Published.{IsReached, Keeps, KeepsUpTo, published_as};
+ghost use Rattle.hg_kept.specs.Published.{IsReached, Keeps, KeepsUpTo};
+ghost use Rattle.hg_kept.specs.Waiting.{published_as};
 
 use crate::pending::Pending;
+use crate::told::told;
 use hg_model::{Placed, Prefix};
 use hg_order::{order_round, unique_famous};
 
@@ -26,8 +28,7 @@ fn is_next_closed<P: Prefix>(p: &P, marks: &[Option<bool>], closed: u32) -> bool
     requires short { closed + 1 < 2 ^ 32 }
     ensures { result ≡ is_closed (P.graph p.now).members (links_of (P.graph p.now)) marks.now (closed + 1) }
 {
-    p.coin();
-    p.rows();
+    told(p);
     let witnesses = p.witnesses(closed + 1);
     !witnesses.is_empty() && are_marked(marks, witnesses)
 }
@@ -69,7 +70,7 @@ fn find_famous<P: Prefix>(p: &P, marks: &[Option<bool>], r: u32, places: &mut [u
     ensures famous { take result places.new ≡ famous_of (P.graph p.now) marks.now r }
     ensures few { result ≤ 128 }
 {
-    p.coin();
+    told(p);
     unique_famous(p, marks, r, &mut places[..p.members() as usize])
 }
 
@@ -136,8 +137,7 @@ pub fn close_rounds<P: Prefix>(
     ensures pending_room { pending.new.room ≡ pending.old.room }
     ensures order_room { vec_capacity order.new ≡ vec_capacity order.old }
 {
-    p.coin();
-    p.rows();
+    told(p);
     let mut last = closed;
     'rounds: while is_next_closed(p, marks, last) {
         receive_round(p, marks, last, pending, order);

@@ -1,6 +1,6 @@
-ghost use Rattle.std.specs.Prelude.{◌≡◌, ◌<◌, ◌≤◌, ◌-◌, length, OnOk, vec_len, vec_capacity};
+ghost use Rattle.std.specs.Prelude.{◌≡◌, ◌<◌, ◌≤◌, ◌+◌, ◌-◌, ℕ, [], length, OnOk, vec_len, vec_capacity};
 ghost use Rattle.hg_model.specs.Fame.{mark_at};
-ghost use Rattle.hg_model.specs.Prefix.{links_of};
+ghost use Rattle.hg_model.specs.Prefix.{graph_of, links_of};
 ghost use Rattle.hg_model.specs.Shares.{Speaks};
 ghost use Rattle.hg_model.specs.History.{news, with_marks};
 ghost use Rattle.hg_prefix.specs.Orders.{IsPrefix};
@@ -9,6 +9,7 @@ ghost use Rattle.hg_kept.specs.Published.{HasCome, Keeps, TookRow, is_last_late,
 use crate::closing::close_rounds;
 use crate::marking::mark_found;
 use crate::pending::Pending;
+use crate::told::told;
 use hg_model::{Found, Memory, Placed, Prefix};
 use std::alloc::Global;
 use std::marker::Model;
@@ -25,7 +26,8 @@ pub struct Kept {
 
 impl Model for Kept {
     ghost use Rattle.std.specs.Prelude.{◌≤◌, ◌-◌, min, vec_capacity, vec_len};
-    ghost use Rattle.hg_kept.specs.Published.{Stock, published_as};
+    ghost use Rattle.hg_kept.specs.Published.{Stock};
+    ghost use Rattle.hg_kept.specs.Waiting.{published_as};
 
     ghost Value = { Stock };
 
@@ -37,7 +39,8 @@ impl Model for Kept {
 impl Kept {
     /// Nothing, of no rows. Takes no memory.
     pub fn new(alloc: Global) -> Kept
-        ensures { result.published ≡ unpublished }
+        ensures none { result.published ≡ unpublished }
+        ensures keeps { (n c : ℕ) → 0 < n → Keeps (graph_of n c []) result.published }
     {
         Kept {
             marks: Vec::new(alloc),
@@ -65,8 +68,9 @@ impl Kept {
         requires come { HasCome (P.graph p.now) self.old.published }
         ensures took { TookRow (P.graph p.now) self.old.published self.new.published }
         ensures keeps { Keeps (P.graph p.now) self.new.published }
+        ensures room { self.new.room + 1 ≡ self.old.room }
     {
-        p.coin();
+        told(p);
         let mark = first_mark(p, self.closed);
         self.marks.push_reserved(mark);
     }
@@ -82,8 +86,7 @@ impl Kept {
         ensures grows { IsPrefix self.old.published.order self.new.published.order }
         ensures room { self.new.room ≡ self.old.room }
     {
-        p.coin();
-        p.rows();
+        told(p);
         let count = mark_found(&mut self.marks, found.marks.as_slice());
         self.closed = close_rounds(
             p,
@@ -123,7 +126,7 @@ fn is_last_late<P: Prefix>(p: &P, closed: u32) -> bool
     requires some { 0 < length (P.graph p.now).rows }
     ensures { result ≡ is_last_late (P.graph p.now) closed }
 {
-    p.coin();
+    told(p);
     let x = p.rows() - 1;
     p.is_witness(x) && p.round(x) <= closed
 }
@@ -137,5 +140,19 @@ fn first_mark<P: Prefix>(p: &P, closed: u32) -> Option<bool>
         Some(false)
     } else {
         None
+    }
+}
+
+#[cfg(test)]
+mod tests {
+    use super::*;
+
+    #[test]
+    fn has_room_once_it_is_reserved(rt: HostRuntime) -> Result<(), Memory> {
+        let mut kept = Kept::new(rt.alloc());
+        kept.reserve()?;
+        kept.reserve()?;
+        assert!(rt; kept.closed() == 0 && kept.order().is_empty());
+        Ok(())
     }
 }

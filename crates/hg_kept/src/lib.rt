@@ -7,5 +7,6 @@ mod closing;
 mod kept;
 mod marking;
 mod pending;
+mod told;
 
 pub use kept::Kept;

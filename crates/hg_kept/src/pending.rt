@@ -2,8 +2,9 @@ ghost use Rattle.std.specs.Prelude.{◌≡◌, ◌<◌, ◌≤◌, ◌+◌, ◌-
 ghost use Rattle.std.specs.List.{range_with_len};
 ghost use Rattle.hg_model.specs.Prefix.{links_of};
 ghost use Rattle.hg_order.specs.Famous.{AreFamous, all_have};
-ghost use Rattle.hg_kept.specs.Published.{places_to};
+ghost use Rattle.hg_kept.specs.Waiting.{places_to};
 
+use crate::told::told;
 use hg_model::{Memory, Prefix};
 use hg_order::received_in;
 use std::alloc::Global;
@@ -21,7 +22,7 @@ pub struct Pending {
 
 impl Model for Pending {
     ghost use Rattle.std.specs.Prelude.{min, vec_capacity};
-    ghost use Rattle.hg_kept.specs.Published.{Waiting};
+    ghost use Rattle.hg_kept.specs.Waiting.{Waiting};
 
     ghost Value = { Waiting };
 
@@ -67,8 +68,7 @@ impl Pending {
         ensures places { self.new.places ≡ filter (λ x. not (all_have (links_of (P.graph p.now)) famous.now x)) (places_to self.old self.new.looked) }
         ensures room { self.new.room ≡ self.old.room }
     {
-        p.coin();
-        p.rows();
+        told(p);
         let end = self.looked.max(famous[0] + 1);
         list_to(&mut self.places, self.looked, end);
         self.looked = end;

@@ -1,4 +1,4 @@
-use Rattle.std.proofs.Common.{◌≡◌, ◌∙◌, ◌<◌, ◌≤◌, ◌+◌, ◌-◌, length, vec_capacity, ap, ap₂, sym, refl, subst, arith, List, ℕ}
+use Rattle.std.proofs.Common.{◌<◌, ◌≤◌, ◌+◌, ◌-◌, length, sym, refl, subst, arith, List, ℕ}
 use Rattle.hg_model.specs.declared.row.Placed.{Placed}
 use Rattle.hg_model.specs.Prefix.{links_of}
 use Rattle.hg_model.specs.Kept.{kept_up_to}
@@ -8,7 +8,6 @@ use Rattle.hg_prefix.proofs.FamousLaws.{closed_bounds}
 use Rattle.hg_kept.specs.Published.{state_by}
 use Rattle.hg_kept.proofs.NextLaws.{reached_low}
 use Rattle.hg_kept.proofs.PublishLaws.{keeps_all, order_grows}
-use Rattle.hg_kept.proofs.TellLaws.{rows_told}
 use Rattle.hg_kept.proofs.closing.close_rounds.Goals as goal
 
 one_less : (N k : ℕ) → k + 1 ≤ N → N - (k + 1) < N - k
@@ -27,19 +26,19 @@ pub is_next_closed-requires-clause-short : goal.is_next_closed-requires-clause-s
 is_next_closed-requires-clause-short g c =
     let graph = g.P.Prefix.graph c.args.p.now in
     let low = reached_low graph c.args.marks.now c.rounds.invariant.0.graph.shaped.earlier c.rounds.last c.rounds.invariant.0.reached in
-    omega (arith, length-links graph.rows, rows_told _ _ _ c.coin.ensures.told, c.rows.ensures.value, c.rows.ensures.short)
+    omega (arith, length-links graph.rows, c.told.ensures.short)
 
 pub receive_round-requires-clause-short : goal.receive_round-requires-clause-short
 receive_round-requires-clause-short g c =
     let graph = g.P.Prefix.graph c.args.p.now in
     let low = reached_low graph c.args.marks.now c.rounds.invariant.0.graph.shaped.earlier c.rounds.last c.rounds.invariant.0.reached in
-    omega (arith, length-links graph.rows, rows_told _ _ _ c.coin.ensures.told, c.rows.ensures.value, c.rows.ensures.short)
+    omega (arith, length-links graph.rows, c.told.ensures.short)
 
 pub overflow_add-last : goal.overflow_add-last
 overflow_add-last g c =
     let graph = g.P.Prefix.graph c.args.p.now in
     let low = reached_low graph c.args.marks.now c.rounds.invariant.0.graph.shaped.earlier c.rounds.last c.rounds.invariant.0.reached in
-    omega (arith, length-links graph.rows, rows_told _ _ _ c.coin.ensures.told, c.rows.ensures.value, c.rows.ensures.short)
+    omega (arith, length-links graph.rows, c.told.ensures.short)
 
 pub rounds-smaller : goal.rounds-smaller
 rounds-smaller g c =

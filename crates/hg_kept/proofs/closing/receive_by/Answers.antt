@@ -1,7 +1,6 @@
-use Rattle.std.proofs.Common.{◌≡◌, ◌∙◌, ◌<◌, ◌≤◌, ◌+◌, length, vec_capacity, vec_len, ap, sym, subst, arith, List, ℕ, inl, inr, eqb}
+use Rattle.std.proofs.Common.{◌∙◌, ◌+◌, length, ap, sym, subst, arith}
 use Rattle.std.specs.List.{AllByRecursion}
 use Rattle.std.proofs.lemmas.Bool.{eqb-true, eqb-false}
-use Rattle.hg_model.specs.Prefix.{links_of}
 use Rattle.hg_model.proofs.LinkLaws.{length-links}
 use Rattle.hg_order.specs.Famous.{IsBelowAll}
 use Rattle.hg_kept.proofs.ReceiveLaws.{places_inside, places_few, looked_inside, keeps_none, fresh_are, fresh_below, order_fits, keeps_next}

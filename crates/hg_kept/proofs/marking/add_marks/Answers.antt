@@ -1,4 +1,4 @@
-use Rattle.std.proofs.Common.{◌≡◌, ◌∙◌, ◌≤◌, ap, sym, arith, refl, rules, true, false, get_or, take, length, is_none}
+use Rattle.std.proofs.Common.{◌≡◌, ◌∙◌, ap, arith, refl, rules, true, false, get_or, is_none}
 use Rattle.std.proofs.lemmas.List.{take_all}
 use Rattle.hg_model.specs.Fame.{mark_at}
 use Rattle.hg_history.specs.Adding.{add_marks}

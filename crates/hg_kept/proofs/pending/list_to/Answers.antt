@@ -1,4 +1,4 @@
-use Rattle.std.proofs.Common.{◌≡◌, ◌∙◌, ◌++◌, ap, sym, arith, List, ℕ, append_assoc, ◌∷◌, []}
+use Rattle.std.proofs.Common.{◌∙◌, ◌++◌, ap, sym, arith, List, ℕ, append_assoc, ◌∷◌, []}
 use Rattle.hg_kept.proofs.StepLaws.{range_next}
 use Rattle.hg_kept.proofs.pending.list_to.Goals as goal
 

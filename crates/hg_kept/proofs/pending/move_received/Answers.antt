@@ -1,4 +1,4 @@
-use Rattle.std.proofs.Common.{◌≡◌, ◌∙◌, ◌<◌, ap, sym, subst, arith, refl, get_or, take, length}
+use Rattle.std.proofs.Common.{◌∙◌, ap, sym, arith, refl}
 use Rattle.std.proofs.lemmas.List.{take_all}
 use Rattle.std.specs.Prelude.{filter, not}
 use Rattle.hg_model.specs.Prefix.{links_of}

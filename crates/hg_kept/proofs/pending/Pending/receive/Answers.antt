@@ -1,18 +1,17 @@
-use Rattle.std.proofs.Common.{◌≡◌, ◌<◌, ◌≤◌, ◌+◌, ◌-◌, max, min, vec_capacity, vec_len, length, get_or, ap, sym, subst, arith, List, ℕ, length-append}
+use Rattle.std.proofs.Common.{◌<◌, ◌≤◌, ◌-◌, length, ap, sym, subst, arith, length-append}
 use Rattle.std.specs.Prelude.{All}
 use Rattle.std.specs.List.{range_with_len}
 use Rattle.std.proofs.lemmas.List.FromFn.{length-range_with_len}
 use Rattle.hg_model.specs.Prefix.{links_of}
 use Rattle.hg_model.proofs.LinkLaws.{length-links}
-use Rattle.hg_kept.specs.Published.{Waiting}
+use Rattle.hg_kept.specs.Waiting.{Waiting}
 use Rattle.hg_kept.proofs.ReceiveLaws.{famous_first, inside_to}
-use Rattle.hg_kept.proofs.TellLaws.{rows_told}
 use Rattle.hg_kept.proofs.pending.Pending.receive.Goals as goal
 
 pub overflow_add-famous : goal.overflow_add-famous
 overflow_add-famous g c =
     let graph = g.P.Prefix.graph c.args.p.now in
-    omega (arith, famous_first graph c.args.famous.now c.requires.famous c.requires.some, length-links graph.rows, rows_told _ _ _ c.coin.ensures.told, c.rows.ensures.value, c.rows.ensures.short)
+    omega (arith, famous_first graph c.args.famous.now c.requires.famous c.requires.some, length-links graph.rows, c.told.ensures.short)
 
 pub list_to-requires-clause-room : goal.list_to-requires-clause-room
 list_to-requires-clause-room g c =
