@@ -35,7 +35,7 @@ fn share_fame<P: Prefix, V: Votes>(
 
 /// What the share of the prefix's witnesses decides in it: each decided one of them by place, with its fame.
 /// It walks past all rows once, and elects the share's witnesses alone.
-#[tactic(auto, using(crate::proofs::PrefixReads::prefix_reads))]
+#[tactic(auto, using(crate::proofs::PrefixReads::prefix_reads, crate::proofs::ShareLaws::share_steps))]
 pub fn elect_share<P: Prefix, V: Votes>(
     alloc: Global,
     p: &P,
