@@ -1,4 +1,3 @@
-pub mod PrefixReads
 pub mod FirstLaws
 pub mod DecisionLaws
 pub mod ShareLaws

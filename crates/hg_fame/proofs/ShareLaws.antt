@@ -1,7 +1,7 @@
 -- What a share finds, row by row
-use Rattle.std.proofs.Common.{◌≡◌, ℕ, ◌+◌, ◌<◌, ◌≤◌, ◌%◌, Bool, true, false, cond, ◌&&◌, ltb, eqb, List, [], ◌∷◌, ◌++◌, length, take, Option, Some, None, option_map, is_some, IsTrue, refl, sym, ap, ap₂, ◌∙◌, arith, lt-ltb}
-use Rattle.std.proofs.lemmas.Bool.{and_left, and_right, ne_eqb, eq-eqb}
-use Rattle.std.proofs.lemmas.List.{take-length}
+use Rattle.std.proofs.Common.{◌≡◌, ℕ, ◌+◌, ◌<◌, ◌≤◌, ◌%◌, Bool, true, false, cond, ◌&&◌, ltb, eqb, List, [], ◌∷◌, ◌++◌, length, take, Option, Some, None, option_map, is_some, IsTrue, refl, sym, ap, ap₂, ◌∙◌, subst, arith, lt-ltb}
+use Rattle.std.proofs.Math.Seq.{take-length}
+use Rattle.std.proofs.lemmas.Bool.{and_from, and_left, and_right, ne_eqb, eq-eqb}
 use Rattle.hg_model.specs.Places.{count_below, list_below}
 use Rattle.hg_model.specs.Rounds.{is_witness}
 use Rattle.hg_model.specs.Fame.{fame_of, is_yes}
@@ -9,7 +9,7 @@ use Rattle.hg_model.specs.Order.{coin_at}
 use Rattle.hg_model.specs.Prefix.{Graph, links_of}
 use Rattle.hg_model.specs.Shares.{Share, Speaks, is_of_share, share_fame, found_in}
 use Rattle.hg_model.proofs.LinkLaws.{length-links}
-use Rattle.hg_model.proofs.PlacesLaws.{list_below_zero, list_below_passes, list_below_fails}
+use Rattle.hg_model.proofs.PlacesLaws.{count_below_zero, count_below_passes, count_below_fails, list_below_zero, list_below_passes, list_below_fails}
 
 -- the fame of x for a share of this graph
 abbrev pub fame_for : Graph → Share → ℕ → Option Bool
@@ -36,7 +36,7 @@ unfolding share_fame
 no_fame_other g share x other =
     let n = g.members in
     let L = links_of g in
-    let none : is_of_share n L share x ≡ false = ? in
+    let none : is_of_share n L share x ≡ false = and_left (ltb x (length L) && is_witness n L x) _ (and_right (ltb x (length L)) (is_witness n L x) other) in
     sym (ap (λ b. cond b (fame_of n g.coin L (coin_at g.rows) x) None) none)
 
 pub fame_of_share : (g : Graph) (share : Share) (x index : ℕ) → x < length g.rows → IsTrue (is_witness g.members (links_of g) x) → index ≡ count_below x (is_witness g.members (links_of g)) →
@@ -45,7 +45,9 @@ unfolding share_fame
 fame_of_share g share x index place witness is here =
     let n = g.members in
     let L = links_of g in
-    let of_share : is_of_share n L share x ≡ true = ? in
+    let of_share : is_of_share n L share x ≡ true =
+    and_from (ltb x (length L) && is_witness n L x) (eqb (count_below x (is_witness n L) % share.of) share.k) (and_from (ltb x (length L)) (is_witness n L x) (lt-ltb x (length L) (omega (arith, length-links g.rows))) witness)
+    (eq-eqb (count_below x (is_witness n L) % share.of) share.k (ap (λ i. i % share.of) (sym is) ∙ here)) in
     sym (ap (λ b. cond b (fame_of n g.coin L (coin_at g.rows) x) None) of_share)
 
 pub no_fame_of_others : (g : Graph) (share : Share) (x index : ℕ) → index ≡ count_below x (is_witness g.members (links_of g)) → (index % share.of ≡ share.k → ⊥) → None ≡ fame_for g share x
@@ -53,10 +55,20 @@ unfolding share_fame
 no_fame_of_others g share x index is apart =
     let n = g.members in
     let L = links_of g in
-    let none : is_of_share n L share x ≡ false = ? in
+    let none : is_of_share n L share x ≡ false =
+    and_right (ltb x (length L) && is_witness n L x) _ (ne_eqb (count_below x (is_witness n L) % share.of) share.k (λ same. apart (ap (λ i. i % share.of) is ∙ same))) in
     sym (ap (λ b. cond b (fame_of n g.coin L (coin_at g.rows) x) None) none)
 
 -- all rows
 pub speaks_of : (g : Graph) (share : Share) (k : ℕ) (marks : List (ℕ × Bool)) → marks ≡ found_below g share k → k ≡ length g.rows → Speaks g.members g.coin g.rows (links_of g) k share marks
 unfolding found_in
-speaks_of g share k marks is all = ?
+speaks_of g share k marks is all =
+    let rows_all : take k g.rows ≡ g.rows = ap (λ j. take j g.rows) all ∙ take-length g.rows in
+    let links_long : k ≡ length (links_of g) = all ∙ sym (length-links g.rows) in
+    let links_all : take k (links_of g) ≡ links_of g = ap (λ j. take j (links_of g)) links_long ∙ take-length (links_of g) in
+    record {
+      within = omega arith;
+      told = is ∙ (ap (found_below g share) links_long ∙ ap₂ (λ G L. found_in g.members g.coin G L share) (sym rows_all) (sym links_all));
+    }
+
+pub ruleset share_steps = (found_none, found_more, found_same, no_fame_other, count_below_zero, count_below_passes, count_below_fails)

@@ -8,7 +8,6 @@ ghost use Rattle.hg_fame.specs.Decisions.{decider_in, decision_by, first_decider
 use hg_model::{Prefix, Votes};
 
 /// The decision of round `r`, whose votes are the last that are counted: that of its first decider by place.
-#[tactic(auto, using(crate::proofs::PrefixReads::prefix_reads))]
 fn decision_in<P: Prefix, V: Votes>(p: &P, votes: &V, r: u32) -> Option<(bool, usize)>
     requires made { V.MadeFor votes.now (P.graph p.now) }
     requires counted { V.counted votes.now ≡ r }
@@ -26,7 +25,6 @@ fn decision_in<P: Prefix, V: Votes>(p: &P, votes: &V, r: u32) -> Option<(bool, u
 
 /// The fame of witness `x` and its first decider, by round and then by place; `None` where the prefix has none.
 /// Counts the votes of no later round than that of the decider.
-#[tactic(auto, using(crate::proofs::PrefixReads::prefix_reads))]
 pub fn elect<P: Prefix, V: Votes>(p: &P, votes: &mut V, x: usize) -> Option<(bool, usize)>
     requires made { V.MadeFor votes.old (P.graph p.now) }
     requires place { x < length (P.graph p.now).rows }

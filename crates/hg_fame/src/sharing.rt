@@ -9,7 +9,6 @@ use hg_model::{Found, Items, Memory, Prefix, Share, Votes};
 use std::alloc::Global;
 
 /// The fame of witness `x`, which has so many witnesses before it, if it is of the share and decided.
-#[tactic(auto, using(crate::proofs::PrefixReads::prefix_reads))]
 fn share_fame<P: Prefix, V: Votes>(
     p: &P,
     votes: &mut V,
@@ -35,7 +34,7 @@ fn share_fame<P: Prefix, V: Votes>(
 
 /// What the share of the prefix's witnesses decides in it: each decided one of them by place, with its fame.
 /// It walks past all rows once, and elects the share's witnesses alone.
-#[tactic(auto, using(crate::proofs::PrefixReads::prefix_reads))]
+#[tactic(auto, using(hg_model::proofs::StandingLaws::standings_told, hg_model::proofs::LinkLaws::link_lengths, crate::proofs::ShareLaws::share_steps))]
 pub fn elect_share<P: Prefix, V: Votes>(
     alloc: Global,
     p: &P,

@@ -12,11 +12,11 @@ use Rattle.hg_model.specs.Links.{Link}
 use Rattle.hg_model.specs.Rounds.{is_witness}
 use Rattle.hg_model.specs.Fame.{Marks, mark_at, fame_of, is_yes}
 use Rattle.hg_model.specs.Order.{coin_at}
-use Rattle.hg_model.specs.Shares.{Share, is_of_share, share_fame, early_fame, found_in}
+use Rattle.hg_model.specs.Shares.{Share, Speaks, is_of_share, share_fame, early_fame, found_in}
 use Rattle.hg_history.specs.Adding.{Adding, add_mark, add_marks}
-use Rattle.hg_model.specs.History.{news, new_mark, replay}
+use Rattle.hg_model.specs.History.{State, news, new_mark, with_marks, replay}
 use Rattle.hg_history.specs.Laws.{PublishingAddsMarks}
-use Rattle.hg_history.proofs.StateLaws.{even_after, mark_of_table}
+use Rattle.hg_history.proofs.StateLaws.{IsEven, even_after, mark_of_table}
 
 keeps_mark : (mark : Option Bool) → option_or mark None ≡ mark
 keeps_mark None = refl
@@ -91,24 +91,27 @@ found_below n c G L share x past =
     let two = and_parts (ltb x (length L)) (is_witness n L x) one.0 in
     true≢false (sym two.0 ∙ le-ltb x (length L) past)))
 
+module _ (n c : ℕ) (s : State) (even : IsEven s) where
+  pub adds_marks : (len : ℕ) (share : Share) (found : List (ℕ × Bool)) → Speaks n c s.rows s.links len share found →
+      ((add_marks s.marks found).marks ≡ (with_marks n c s len share).marks) × ((add_marks s.marks found).count ≡ news n c s len share)
+  unfolding add_marks found_in news
+  adds_marks len share found speaks =
+      let within = speaks.within in
+      let fame : ℕ → Option Bool = early_fame n c s.rows s.links len share in
+      let size : length (take len s.links) ≡ len = length-take-le len s.links (omega (arith, even.links)) in
+      let a : Adding = fold add_mark (record { marks = s.marks; count = 0 }) (pairs s.marks fame len) in
+      let is = added s.marks fame len (omega (arith, even.marks)) in
+      let told : found ≡ pairs s.marks fame len = speaks.told ∙ ap (pairs s.marks fame) size in
+      let sized = length-map-range_with_len (new_mark n c s len share) 0 (length s.rows) in (
+        ap (λ (xs : List (ℕ × Bool)). (fold add_mark (record { marks = s.marks; count = 0 }) xs).marks) told
+            ∙ ext_get_or None a.marks (table (new_mark n c s len share) (length s.rows)) (is.sized ∙ (even.marks ∙ sym sized)) (λ x inside.
+            (elim (cases_lt x len) [
+              | inl low ↦ is.low x low
+              | inr high ↦ (is.high x high ∙ (sym (keeps_mark (mark_at s.marks x)) ∙ ap (option_or (mark_at s.marks x)) (sym (found_below n c (take len s.rows) (take len s.links) share x (omega (arith, size))))))
+            ])
+            ∙ sym (mark_of_table (new_mark n c s len share) (length s.rows) x (omega (arith, is.sized, even.marks)))),
+        ap (λ (xs : List (ℕ × Bool)). (fold add_mark (record { marks = s.marks; count = 0 }) xs).count) told ∙ is.counted,
+      )
+
 pub publishing_adds : PublishingAddsMarks
-unfolding add_marks found_in news
-publishing_adds n c h len share found speaks =
-    let s = replay n c h in
-    let even = even_after n c h in
-    let within = speaks.within in
-    let fame : ℕ → Option Bool = early_fame n c s.rows s.links len share in
-    let size : length (take len s.links) ≡ len = length-take-le len s.links (omega (arith, even.links)) in
-    let a : Adding = fold add_mark (record { marks = s.marks; count = 0 }) (pairs s.marks fame len) in
-    let is = added s.marks fame len (omega (arith, even.marks)) in
-    let told : found ≡ pairs s.marks fame len = speaks.told ∙ ap (pairs s.marks fame) size in
-    let sized = length-map-range_with_len (new_mark n c s len share) 0 (length s.rows) in (
-      ap (λ (xs : List (ℕ × Bool)). (fold add_mark (record { marks = s.marks; count = 0 }) xs).marks) told
-          ∙ ext_get_or None a.marks (table (new_mark n c s len share) (length s.rows)) (is.sized ∙ (even.marks ∙ sym sized)) (λ x inside.
-          (elim (cases_lt x len) [
-            | inl low ↦ is.low x low
-            | inr high ↦ (is.high x high ∙ (sym (keeps_mark (mark_at s.marks x)) ∙ ap (option_or (mark_at s.marks x)) (sym (found_below n c (take len s.rows) (take len s.links) share x (omega (arith, size))))))
-          ])
-          ∙ sym (mark_of_table (new_mark n c s len share) (length s.rows) x (omega (arith, is.sized, even.marks)))),
-      ap (λ (xs : List (ℕ × Bool)). (fold add_mark (record { marks = s.marks; count = 0 }) xs).count) told ∙ is.counted,
-    )
+publishing_adds n c h len share found speaks = adds_marks n c (replay n c h) (even_after n c h) len share found speaks

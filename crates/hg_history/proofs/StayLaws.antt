@@ -71,10 +71,10 @@ module _ (n c : ℕ) (U : List Row) (u : IsGraph n U) (three : 2 < c) (G : List 
   in_G : (x : ℕ) → x < length (links G) → HasRowIn U U x G x
   in_G x inside = (inside, sym (in_U x inside).1)
 
-  received_there : (x : ℕ) → x < length (links G) → round_received n (links G) f x ≡ Some r → round_received n (links U) h x ≡ Some r
+  pub received_there : (x : ℕ) → x < length (links G) → round_received n (links G) f x ≡ Some r → round_received n (links U) h x ≡ Some r
   received_there x inside is = received_alike n c U u three G U f h g k r x x inside (in_U x inside) is closed_U
 
-  received_back : (x : ℕ) → x < length (links G) → round_received n (links U) h x ≡ Some r → round_received n (links G) f x ≡ Some r
+  pub received_back : (x : ℕ) → x < length (links G) → round_received n (links U) h x ≡ Some r → round_received n (links G) f x ≡ Some r
   received_back x inside is = received_alike n c U u three U G h f k g r x x (in_U x inside).0 (in_G x inside) is closed_G
 
   same_received : (x : ℕ) → x < length (links G) → is_received_in n (links U) h (λ i. eqb i r) x ≡ is_received_in n (links G) f (λ i. eqb i r) x
@@ -84,7 +84,7 @@ module _ (n c : ℕ) (U : List Row) (u : IsGraph n U) (three : 2 < c) (G : List 
       (λ is. got_from r (round_received n (links U) h x) (received_there x inside (got_is r (round_received n (links G) f x) is)))
 
   -- no later row is received in the round
-  none_later : (x : ℕ) → length (links G) ≤ x → x < length (links U) → is_received_in n (links U) h (λ i. eqb i r) x ≡ false
+  pub none_later : (x : ℕ) → length (links G) ≤ x → x < length (links U) → is_received_in n (links U) h (λ i. eqb i r) x ≡ false
   none_later x late inside =
       false_from_ne_true (got r (round_received n (links U) h x)) (λ is.
       let receives = (received_is n (links U) h x r (got_is r (round_received n (links U) h x) is)).receives in

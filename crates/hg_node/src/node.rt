@@ -89,6 +89,7 @@ impl<V: Signer> Node<V> {
             Err(answer) => Ok(answer),
         }
     }
+
     /// Makes an event of the node's member on its last one, with this other-parent, or its first one without parents.
     /// The time is any, in no unit of ours. To tell that the event is refused before it is signed takes no memory.
     pub fn make(

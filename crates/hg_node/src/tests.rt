@@ -49,39 +49,41 @@ fn name_at(rt: &impl Abort, node: &Node<&MacTable>, place: usize) -> Name {
     node.row(place).name
 }
 
+/// Puts a row of one node to the other.
+fn give(
+    rt: &impl Abort,
+    from: &Node<&MacTable>,
+    place: usize,
+    to: &mut Node<&MacTable>,
+) -> Result<PutAnswer, Memory> {
+    to.put(bytes_of(rt, from, place))
+}
+
+fn make(node: &mut Node<&MacTable>, other: Option<Name>) -> Result<MakeAnswer, Memory> {
+    node.make(other, 1, b"any")
+}
+
 #[test]
 fn plays_two_members(rt: HostRuntime) -> Result<(), Fail> {
     let members = two_members(rt.alloc())?;
     let keys = MacTable::new(rt.alloc(), &members)?;
     let mut a = node_of(&rt, rt.alloc(), &members, &keys, 0)?;
     let mut b = node_of(&rt, rt.alloc(), &members, &keys, 1)?;
-    assert_eq!(rt; a.make(None, 1, &[])?, MakeAnswer::Made(0));
-    assert_eq!(rt;
-        a.make(None, 1, &[])?,
-        MakeAnswer::Refused(MakeFault::HasFirst)
-    );
-    assert_eq!(rt; b.put(bytes_of(&rt, &a, 0))?, PutAnswer::Accepted(0));
-    assert_eq!(rt; b.put(bytes_of(&rt, &a, 0))?, PutAnswer::Known(0));
+    assert_eq!(rt; make(&mut a, None)?, MakeAnswer::Made(0));
+    assert_eq!(rt; give(&rt, &a, 0, &mut b)?, PutAnswer::Accepted(0));
+    assert_eq!(rt; give(&rt, &a, 0, &mut b)?, PutAnswer::Known(0));
     let first = name_at(&rt, &a, 0);
+    assert_eq!(rt; make(&mut b, None)?, MakeAnswer::Made(1));
+    assert_eq!(rt; make(&mut b, Some(first))?, MakeAnswer::Made(2));
+    let missing = Fault::MissingSelf(name_at(&rt, &b, 1));
+    assert_eq!(rt; give(&rt, &b, 2, &mut a)?, PutAnswer::Refused(missing));
+    assert_eq!(rt; give(&rt, &b, 1, &mut a)?, PutAnswer::Accepted(1));
+    assert_eq!(rt; give(&rt, &b, 2, &mut a)?, PutAnswer::Accepted(2));
     assert_eq!(rt;
-        b.make(Some(first), 2, &[])?,
-        MakeAnswer::Refused(MakeFault::NoFirst)
-    );
-    assert_eq!(rt; b.make(None, 2, &[])?, MakeAnswer::Made(1));
-    assert_eq!(rt; b.make(Some(first), 3, b"pay")?, MakeAnswer::Made(2));
-    let missing = name_at(&rt, &b, 1);
-    assert_eq!(rt;
-        a.put(bytes_of(&rt, &b, 2))?,
-        PutAnswer::Refused(Fault::MissingSelf(missing))
-    );
-    assert_eq!(rt; a.put(bytes_of(&rt, &b, 1))?, PutAnswer::Accepted(1));
-    assert_eq!(rt; a.put(bytes_of(&rt, &b, 2))?, PutAnswer::Accepted(2));
-    assert_eq!(rt;
-        a.make(Some(first), 4, &[])?,
+        make(&mut a, Some(first))?,
         MakeAnswer::Refused(MakeFault::OtherCreator(0))
     );
     assert_eq!(rt; b.last_own(), Some(2));
-    assert_eq!(rt; b.greatest(), 1);
     assert!(rt; b.log() == [Entry::Took(0), Entry::Made(1), Entry::Made(2)].as_slice());
     Ok(())
 }

@@ -1,4 +1,3 @@
-pub mod PrefixReads
 pub mod VoterLaws
 pub mod BallotLaws
 pub mod CountLaws

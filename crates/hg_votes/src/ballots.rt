@@ -23,7 +23,6 @@ pub fn no_ballots(alloc: Global, len: usize) -> Result<Vec<Ballot>, Memory>
 }
 
 /// The ballot of witness `y` on `x`, from the ballots of the rounds before it.
-#[tactic(auto, using(crate::proofs::PrefixReads::prefix_reads))]
 fn next_ballot<P: Prefix>(
     p: &P,
     voters: &[Items<usize>],
@@ -57,7 +56,6 @@ fn next_ballot<P: Prefix>(
 }
 
 /// Counts the votes on `x` of the witnesses of round `r`, where those of the rounds before are counted.
-#[tactic(auto, using(crate::proofs::PrefixReads::prefix_reads))]
 pub fn count_round<P: Prefix>(
     p: &P,
     voters: &[Items<usize>],

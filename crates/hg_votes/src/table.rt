@@ -29,7 +29,6 @@ impl Model for VoteTable {
 
 impl VoteTable {
     /// The table of a prefix, without a candidate.
-    #[tactic(auto, using(crate::proofs::PrefixReads::prefix_reads))]
     pub fn new<P: Prefix>(alloc: Global, p: &P) -> Result<VoteTable, Memory>
         ensures { IfOk result (λ table. IsMadeFor table (P.graph p.now)) }
     {
@@ -49,13 +48,11 @@ impl Votes for VoteTable {
 
     ghost counted = { λ table. table.counted };
 
-    #[tactic(auto, using(crate::proofs::PrefixReads::prefix_reads))]
     fn open<P: Prefix>(&mut self, p: &P, x: usize) {
         self.candidate = x;
         self.counted = p.round(x);
     }
 
-    #[tactic(auto, using(crate::proofs::PrefixReads::prefix_reads))]
     fn advance<P: Prefix>(&mut self, p: &P) {
         self.counted += 1;
         count_round(
@@ -67,7 +64,6 @@ impl Votes for VoteTable {
         );
     }
 
-    #[tactic(auto, using(crate::proofs::PrefixReads::prefix_reads))]
     fn fill<P: Prefix>(&mut self, p: &P, x: usize) {
         self.open(p, x);
         while self.counted < p.greatest() {

@@ -29,7 +29,6 @@ fn seen_among<S: Sight>(
 }
 
 /// The voters of row `y`: the witnesses of the round before its own that it strongly sees.
-#[tactic(auto, using(crate::proofs::PrefixReads::prefix_reads))]
 fn voters_of<P: Prefix>(alloc: Global, p: &P, y: usize) -> Result<Items<usize>, Memory>
     requires { y < length (P.graph p.now).rows }
     ensures { IfOk result (λ v. v ≡ voters_of (P.graph p.now) y) }
@@ -38,7 +37,6 @@ fn voters_of<P: Prefix>(alloc: Global, p: &P, y: usize) -> Result<Items<usize>, 
 }
 
 /// By place the voters of each witness, and none of other rows.
-#[tactic(auto, using(crate::proofs::PrefixReads::prefix_reads))]
 pub fn voters_by_place<P: Prefix>(alloc: Global, p: &P) -> Result<Vec<Items<usize>>, Memory>
     ensures { IfOk result (λ v. HoldsVoters (P.graph p.now) (length (P.graph p.now).rows) v.items) }
 {

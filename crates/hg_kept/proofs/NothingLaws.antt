@@ -1,0 +1,43 @@
+-- What is published of no rows
+use Rattle.std.proofs.Common.{◌≡◌, ℕ, zero, ◌<◌, Bool, true, false, cond, [], sym, refl, arith}
+use Rattle.std.proofs.lemmas.Bool.{true≢false}
+use Rattle.hg_model.specs.Links.{links}
+use Rattle.hg_model.specs.Places.{some_below, list_below, greatest_below}
+use Rattle.hg_model.specs.Forks.{has_fork, forkers}
+use Rattle.hg_model.specs.Fame.{is_closed}
+use Rattle.hg_model.specs.Order.{sort_by, ordered_in, last_closed}
+use Rattle.hg_model.specs.Prefix.{graph_of}
+use Rattle.hg_model.proofs.NameLaws.{distinct-none}
+use Rattle.hg_model.proofs.PlacesLaws.{weight_below_none, list_below_zero}
+use Rattle.hg_model.proofs.PushLaws.{shaped-none}
+use Rattle.hg_kept.specs.Published.{Keeps, is_pending, unpublished}
+
+no_forkers : (n : ℕ) → forkers n (links []) ≡ 0
+unfolding forkers has_fork some_below links
+no_forkers n = weight_below_none (λ _. 1) n (has_fork (links [])) (λ m inside forks. absurd (true≢false (sym forks)))
+
+none_closed : (n : ℕ) → 0 ≡ last_closed n (links []) []
+unfolding last_closed links greatest_below
+none_closed n = either (is_closed n [] [] 0)
+  where
+    either : (b : Bool) → zero ≡ cond b zero zero
+    either true = refl
+    either false = refl
+
+none_ordered : (n : ℕ) → [] ≡ ordered_in n [] (links []) [] (λ r. true)
+unfolding ordered_in sort_by list_below links
+none_ordered n = refl
+
+pub keeps_nothing : (n c : ℕ) → 0 < n → Keeps (graph_of n c []) unpublished
+keeps_nothing n c some = record {
+  graph = record { distinct = distinct-none; shaped = shaped-none n; few_forkers = omega (arith, no_forkers n) };
+  even = refl;
+  fame = record { fame = λ x v is. cc };
+  closed = none_closed n;
+  order = none_ordered n;
+  pending = record {
+    looked = omega arith;
+    below = sym (list_below_zero (λ x. x) (is_pending (graph_of n c []) [] 0));
+    above = λ x high inside. absurd (omega arith);
+  };
+}

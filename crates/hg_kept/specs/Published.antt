@@ -1,0 +1,97 @@
+-- What a node has published of its graph: the marks of fame, the closed rounds, and the order that it keeps.
+-- SWIRLDS-TR-2016-01, section 4, procedures decideFame and findOrder
+use Rattle.std.specs.Prelude.{ℕ, ◌≡◌, ◌≤◌, ◌<◌, ◌-◌, ◌⊎◌, Bool, true, false, cond, not, ◌&&◌, nat_le, List, [], ◌∷◌, ◌++◌, length, Option, Some, None}
+use Rattle.hg_model.specs.declared.row.Row.{Row}
+use Rattle.hg_model.specs.declared.row.Placed.{Placed}
+use Rattle.hg_model.specs.Places.{list_below}
+use Rattle.hg_model.specs.Graph.{IsGraph}
+use Rattle.hg_model.specs.Rounds.{round_of, is_witness}
+use Rattle.hg_model.specs.Fame.{Marks, is_closed}
+use Rattle.hg_model.specs.Order.{is_received_in, ordered, last_closed}
+use Rattle.hg_model.specs.Prefix.{Graph, graph_of, links_of}
+use Rattle.hg_model.specs.History.{State, with_row}
+use Rattle.hg_model.specs.Kept.{kept_up_to}
+use Rattle.hg_prefix.specs.Standing.{AreFame}
+
+pub record Published : Type 0 where
+  pub marks : Marks
+  -- the greatest closed round, or 0
+  pub closed : ℕ
+  -- what the closed rounds have received, in order
+  pub order : List Placed
+  -- the places below `looked` of the rows that they have not received
+  pub pending : List ℕ
+  -- they have received no row from here on
+  pub looked : ℕ
+
+-- what is published, and for how many more rows there is memory at least
+pub record Stock : Type 0 where
+  pub published : Published
+  pub room : ℕ
+
+-- nothing, of no rows
+abbrev pub unpublished : Published
+unpublished = record { marks = []; closed = 0; order = []; pending = []; looked = 0 }
+
+-- the state of a node with this graph and these marks
+abbrev pub state_by : Graph → Marks → State
+state_by g marks = record { rows = g.rows; links = links_of g; marks = marks }
+
+-- no round up to r has received row x
+abbrev pub is_pending : Graph → Marks → ℕ → ℕ → Bool
+is_pending g marks r x = not (is_received_in g.members (links_of g) marks (λ k. nat_le k r) x)
+
+-- the round is closed, or 0
+abbrev pub IsReached : Graph → Marks → ℕ → Type 0
+IsReached g marks r = (r ≡ 0) ⊎ (is_closed g.members (links_of g) marks r ≡ true)
+
+-- the places of the rows that no closed round has received
+pub record ArePending (g : Graph) (v : Published) : Type 0 where
+  pub looked : v.looked ≤ length g.rows
+  pub below : v.pending ≡ list_below (λ x. x) v.looked (is_pending g v.marks v.closed)
+  pub above : (x : ℕ) → v.looked ≤ x → x < length g.rows → is_pending g v.marks v.closed x ≡ true
+
+-- the marks are fame of the graph, and the order is that of the rounds up to `closed`; the marks may have closed more
+pub record KeepsUpTo (g : Graph) (v : Published) : Type 0 where
+  pub graph : IsGraph g.members g.rows
+  pub even : length v.marks ≡ length g.rows
+  pub fame : AreFame g.members g.coin g.rows v.marks
+  pub reached : IsReached g v.marks v.closed
+  pub order : v.order ≡ kept_up_to g.members (state_by g v.marks) v.closed
+  pub pending : ArePending g v
+
+-- the marks are fame of the graph, and the order is that of all rounds that they have closed
+pub record Keeps (g : Graph) (v : Published) : Type 0 where
+  pub graph : IsGraph g.members g.rows
+  pub even : length v.marks ≡ length g.rows
+  pub fame : AreFame g.members g.coin g.rows v.marks
+  pub closed : v.closed ≡ last_closed g.members (links_of g) v.marks
+  pub order : v.order ≡ ordered g.members g.rows (links_of g) v.marks
+  pub pending : ArePending g v
+
+-- the last row of the graph has just come, and this is published of the rows before it
+pub record HasCome (g : Graph) (v : Published) : Type 0 where
+  pub before : List Row
+  pub row : Row
+  pub rows : g.rows ≡ before ++ row ∷ []
+  pub graph : IsGraph g.members g.rows
+  pub keeps : Keeps (graph_of g.members g.coin before) v
+
+-- the marks once the row has come after these
+abbrev pub marks_with : Graph → List Row → Row → Marks → Marks
+marks_with g before row marks = (with_row g.members (state_by (graph_of g.members g.coin before) marks) row).marks
+
+-- the last row is a witness of a round up to `closed`
+abbrev pub is_last_late : Graph → ℕ → Bool
+is_last_late g closed =
+    let x = length g.rows - 1 in
+    is_witness g.members (links_of g) x && nat_le (round_of g.members (links_of g) x) closed
+
+-- the first mark of the last row, where the rounds up to `closed` are
+abbrev pub mark_by : Graph → ℕ → Option Bool
+mark_by g closed = cond (is_last_late g closed) (Some false) None
+
+-- the last row of the graph got its first mark, and all else stayed
+pub record TookRow (g : Graph) (old new : Published) : Type 0 where
+  pub marks : (before : List Row) (row : Row) → g.rows ≡ before ++ row ∷ [] → new.marks ≡ marks_with g before row old.marks
+  pub rest : new ≡ record old { marks = new.marks }

@@ -1,0 +1,158 @@
+ghost use Rattle.std.specs.Prelude.{◌≡◌, ◌<◌, ◌≤◌, ◌+◌, ◌-◌, ℕ, [], length, OnOk, vec_len, vec_capacity};
+ghost use Rattle.hg_model.specs.Fame.{mark_at};
+ghost use Rattle.hg_model.specs.Prefix.{graph_of, links_of};
+ghost use Rattle.hg_model.specs.Shares.{Speaks};
+ghost use Rattle.hg_model.specs.History.{news, with_marks};
+ghost use Rattle.hg_prefix.specs.Orders.{IsPrefix};
+ghost use Rattle.hg_kept.specs.Published.{HasCome, Keeps, TookRow, is_last_late, mark_by, state_by, unpublished};
+
+use crate::closing::close_rounds;
+use crate::marking::mark_found;
+use crate::pending::Pending;
+use crate::told::told;
+use hg_model::{Found, Memory, Placed, Prefix};
+use std::alloc::Global;
+use std::marker::Model;
+
+/// What is published of the rows of a graph, which come one by one.
+#[derive(Drop)]
+pub struct Kept {
+    /// Of each row.
+    marks: Vec<Option<bool>>,
+    closed: u32,
+    pending: Pending,
+    order: Vec<Placed>,
+}
+
+impl Model for Kept {
+    ghost use Rattle.std.specs.Prelude.{◌≤◌, ◌-◌, min, vec_capacity, vec_len};
+    ghost use Rattle.hg_kept.specs.Published.{Stock};
+    ghost use Rattle.hg_kept.specs.Waiting.{published_as};
+
+    ghost Value = { Stock };
+
+    ghost view = { λ s. record { published = published_as s.marks.items s.closed s.order.items s.pending; room = min (vec_capacity s.marks - vec_len s.marks) (min (s.pending.room - vec_len s.marks) (vec_capacity s.order - vec_len s.marks)) } };
+
+    ghost invariant = { λ s. (vec_len s.marks ≤ s.pending.room) × (vec_len s.marks ≤ vec_capacity s.order) };
+}
+
+impl Kept {
+    /// Nothing, of no rows. Takes no memory.
+    pub fn new(alloc: Global) -> Kept
+        ensures none { result.published ≡ unpublished }
+        ensures keeps { (n c : ℕ) → 0 < n → Keeps (graph_of n c []) result.published }
+    {
+        Kept {
+            marks: Vec::new(alloc),
+            closed: 0,
+            pending: Pending::new(alloc),
+            order: Vec::new(alloc),
+        }
+    }
+
+    /// Takes the memory of one more row, and of all that may come to be published of it.
+    pub fn reserve(&mut self) -> Result<(), Memory>
+        ensures room { OnOk result (1 ≤ self.new.room) }
+        ensures same { self.new.published ≡ self.old.published }
+    {
+        let rows = self.marks.len() + 1;
+        self.marks.reserve(1)?;
+        self.pending.reserve(rows)?;
+        self.order.reserve(rows.saturating_sub(self.order.len()))?;
+        Ok(())
+    }
+
+    /// The last row of the graph has come: if it is a witness of a closed round, it is not famous. Takes no memory.
+    pub fn add<P: Prefix>(&mut self, p: &P)
+        requires room { 1 ≤ self.old.room }
+        requires come { HasCome (P.graph p.now) self.old.published }
+        ensures took { TookRow (P.graph p.now) self.old.published self.new.published }
+        ensures keeps { Keeps (P.graph p.now) self.new.published }
+        ensures room { self.new.room + 1 ≡ self.old.room }
+    {
+        told(p);
+        let mark = first_mark(p, self.closed);
+        self.marks.push_reserved(mark);
+    }
+
+    /// Each found witness without a mark gets it, and each round that is closed then is ordered; tells how many were
+    /// marked. Takes no memory.
+    pub fn publish<P: Prefix>(&mut self, p: &P, found: &Found) -> u32
+        requires keeps { Keeps (P.graph p.now) self.old.published }
+        requires speaks { Speaks (P.graph p.now).members (P.graph p.now).coin (P.graph p.now).rows (links_of (P.graph p.now)) found.now.len found.now.share found.now.marks }
+        ensures count { result ≡ news (P.graph p.now).members (P.graph p.now).coin (state_by (P.graph p.now) self.old.published.marks) found.now.len found.now.share }
+        ensures marks { self.new.published.marks ≡ (with_marks (P.graph p.now).members (P.graph p.now).coin (state_by (P.graph p.now) self.old.published.marks) found.now.len found.now.share).marks }
+        ensures keeps { Keeps (P.graph p.now) self.new.published }
+        ensures grows { IsPrefix self.old.published.order self.new.published.order }
+        ensures room { self.new.room ≡ self.old.room }
+    {
+        told(p);
+        let count = mark_found(&mut self.marks, found.marks.as_slice());
+        self.closed = close_rounds(
+            p,
+            &self.marks,
+            self.closed,
+            &mut self.pending,
+            &mut self.order,
+        );
+        count
+    }
+
+    /// The mark of the row at a place below the number of rows: whether it is a famous witness, if that is published.
+    pub fn fame(&self, x: usize) -> Option<bool>
+        requires { x < length self.now.published.marks }
+        ensures { result ≡ mark_at self.now.published.marks x }
+    {
+        self.marks[x]
+    }
+
+    /// What the closed rounds have received, in order.
+    pub fn order(&self) -> &[Placed]
+        ensures { result.now ≡ self.now.published.order }
+    {
+        &self.order
+    }
+
+    /// The greatest closed round, or 0.
+    pub fn closed(&self) -> u32
+        ensures { result ≡ self.now.published.closed }
+    {
+        self.closed
+    }
+}
+
+/// Whether the last row of a graph is a witness of a round up to `closed`.
+fn is_last_late<P: Prefix>(p: &P, closed: u32) -> bool
+    requires some { 0 < length (P.graph p.now).rows }
+    ensures { result ≡ is_last_late (P.graph p.now) closed }
+{
+    told(p);
+    let x = p.rows() - 1;
+    p.is_witness(x) && p.round(x) <= closed
+}
+
+/// The first mark of the last row of a graph, where the rounds up to `closed` are.
+fn first_mark<P: Prefix>(p: &P, closed: u32) -> Option<bool>
+    requires some { 0 < length (P.graph p.now).rows }
+    ensures { result ≡ mark_by (P.graph p.now) closed }
+{
+    if is_last_late(p, closed) {
+        Some(false)
+    } else {
+        None
+    }
+}
+
+#[cfg(test)]
+mod tests {
+    use super::*;
+
+    #[test]
+    fn has_room_once_it_is_reserved(rt: HostRuntime) -> Result<(), Memory> {
+        let mut kept = Kept::new(rt.alloc());
+        kept.reserve()?;
+        kept.reserve()?;
+        assert!(rt; kept.closed() == 0 && kept.order().is_empty());
+        Ok(())
+    }
+}

@@ -1,0 +1,142 @@
+ghost use Rattle.std.specs.Prelude.{◌≡◌, ◌<◌, ◌≤◌, ◌+◌, ◌-◌, All, not, max, [], ◌++◌, length, take, filter, slice_index, OnOk, vec_len, vec_capacity};
+ghost use Rattle.std.specs.List.{range_with_len};
+ghost use Rattle.hg_model.specs.Prefix.{links_of};
+ghost use Rattle.hg_order.specs.Famous.{AreFamous, all_have};
+ghost use Rattle.hg_kept.specs.Waiting.{places_to};
+
+use crate::told::told;
+use hg_model::{Memory, Prefix};
+use hg_order::received_in;
+use std::alloc::Global;
+use std::marker::Model;
+
+/// The rows that no closed round has received, and those of them that the round at hand receives.
+#[derive(Drop)]
+pub struct Pending {
+    /// The places below `looked`, in order.
+    places: Vec<usize>,
+    /// Each row from here on waits.
+    looked: usize,
+    fresh: Vec<usize>,
+}
+
+impl Model for Pending {
+    ghost use Rattle.std.specs.Prelude.{min, vec_capacity};
+    ghost use Rattle.hg_kept.specs.Waiting.{Waiting};
+
+    ghost Value = { Waiting };
+
+    ghost view = { λ s. record { places = s.places.items; looked = s.looked; fresh = s.fresh.items; room = min (vec_capacity s.places) (vec_capacity s.fresh) } };
+}
+
+impl Pending {
+    /// No rows. Takes no memory.
+    pub fn new(alloc: Global) -> Pending
+        ensures places { result.places ≡ [] }
+        ensures looked { result.looked ≡ 0 }
+    {
+        Pending {
+            places: Vec::new(alloc),
+            looked: 0,
+            fresh: Vec::new(alloc),
+        }
+    }
+
+    /// Takes the memory for so many rows.
+    pub fn reserve(&mut self, rows: usize) -> Result<(), Memory>
+        ensures room { OnOk result (rows ≤ self.new.room) }
+        ensures more { self.old.room ≤ self.new.room }
+        ensures places { self.new.places ≡ self.old.places }
+        ensures looked { self.new.looked ≡ self.old.looked }
+    {
+        self.places.reserve(rows.saturating_sub(self.places.len()))?;
+        self.fresh.reserve(rows.saturating_sub(self.fresh.len()))?;
+        Ok(())
+    }
+
+    /// Parts the rows that the round of these unique famous witnesses receives from those that wait on. No row after
+    /// the first of the witnesses is received.
+    pub fn receive<P: Prefix>(&mut self, p: &P, famous: &[usize])
+        requires famous { AreFamous (P.graph p.now) famous.now }
+        requires some { 0 < length famous.now }
+        requires places { All (λ x. x < length (links_of (P.graph p.now))) self.old.places }
+        requires few { length self.old.places ≤ self.old.looked }
+        requires looked { self.old.looked ≤ length (links_of (P.graph p.now)) }
+        requires room { length (links_of (P.graph p.now)) ≤ self.old.room }
+        ensures looked { self.new.looked ≡ max self.old.looked (slice_index famous.now 0 + 1) }
+        ensures fresh { self.new.fresh ≡ filter (all_have (links_of (P.graph p.now)) famous.now) (places_to self.old self.new.looked) }
+        ensures places { self.new.places ≡ filter (λ x. not (all_have (links_of (P.graph p.now)) famous.now x)) (places_to self.old self.new.looked) }
+        ensures room { self.new.room ≡ self.old.room }
+    {
+        told(p);
+        let end = self.looked.max(famous[0] + 1);
+        list_to(&mut self.places, self.looked, end);
+        self.looked = end;
+        part(p, famous, &mut self.places, &mut self.fresh);
+    }
+
+    /// What the last round that received rows has received, by place, in order.
+    pub fn fresh(&self) -> &[usize]
+        ensures { result.now ≡ self.now.fresh }
+    {
+        &self.fresh
+    }
+}
+
+/// The places from `looked` up to below `end` too.
+fn list_to(places: &mut Vec<usize>, looked: usize, end: usize)
+    requires looked { looked ≤ end }
+    requires few { vec_len places.old ≤ looked }
+    requires room { end ≤ vec_capacity places.old }
+    ensures places { places.new.items ≡ places.old.items ++ range_with_len looked (end - looked) }
+    ensures room { vec_capacity places.new ≡ vec_capacity places.old }
+{
+    for x in looked..end {
+        places.push_reserved(x);
+    }
+}
+
+/// Moves to `fresh` the rows that these unique famous witnesses all have as ancestor.
+fn part<P: Prefix>(p: &P, famous: &[usize], places: &mut Vec<usize>, fresh: &mut Vec<usize>)
+    requires famous { AreFamous (P.graph p.now) famous.now }
+    requires some { 0 < length famous.now }
+    requires places { All (λ x. x < length (links_of (P.graph p.now))) places.old.items }
+    requires room { vec_len places.old ≤ vec_capacity fresh.old }
+    ensures fresh { fresh.new.items ≡ filter (all_have (links_of (P.graph p.now)) famous.now) places.old.items }
+    ensures places { places.new.items ≡ filter (λ x. not (all_have (links_of (P.graph p.now)) famous.now x)) places.old.items }
+    ensures places_room { vec_capacity places.new ≡ vec_capacity places.old }
+    ensures fresh_room { vec_capacity fresh.new ≡ vec_capacity fresh.old }
+{
+    fresh.clear();
+    let kept = move_received(p, famous, places, fresh);
+    places.truncate(kept);
+}
+
+/// Appends to `fresh` the rows that these all have as ancestor, and moves the others to the front; tells how many.
+fn move_received<P: Prefix>(
+    p: &P,
+    famous: &[usize],
+    places: &mut [usize],
+    fresh: &mut Vec<usize>,
+) -> usize
+    requires famous { AreFamous (P.graph p.now) famous.now }
+    requires some { 0 < length famous.now }
+    requires places { All (λ x. x < length (links_of (P.graph p.now))) places.old }
+    requires none { fresh.old.items ≡ [] }
+    requires room { length places.old ≤ vec_capacity fresh.old }
+    ensures fresh { fresh.new.items ≡ filter (all_have (links_of (P.graph p.now)) famous.now) places.old }
+    ensures others { take result places.new ≡ filter (λ x. not (all_have (links_of (P.graph p.now)) famous.now x)) places.old }
+    ensures room { vec_capacity fresh.new ≡ vec_capacity fresh.old }
+{
+    let mut kept = 0;
+    for i in 0..places.len() {
+        let x = places[i];
+        if received_in(p, famous, x) {
+            fresh.push_reserved(x);
+        } else {
+            places[kept] = x;
+            kept += 1;
+        }
+    }
+    kept
+}
