@@ -90,14 +90,15 @@ fn sort_placed<P: Prefix>(p: &P, white: &Sig, placed: &mut [Placed])
     placed.sort_unstable_by(|a, b| placed_cmp(p, white, a, b));
 }
 
+/// How placed rows compare; their signatures and names are read only where the times are the same.
+#[tactic(auto, using(hg_model::proofs::CompareLaws::then_assoc))]
 fn placed_cmp<P: Prefix>(p: &P, white: &Sig, a: &Placed, b: &Placed) -> Ordering
     ensures { result ≡ placed_cmp (P.graph p.now).rows white.now a.now b.now }
 {
-    a.received
-        .cmp(&b.received)
-        .then(a.time.cmp(&b.time))
-        .then(rows_cmp(p, white, a.place, b.place))
-        .then(a.place.cmp(&b.place))
+    match a.received.cmp(&b.received).then(a.time.cmp(&b.time)) {
+        Ordering::Equal => rows_cmp(p, white, a.place, b.place).then(a.place.cmp(&b.place)),
+        unequal => unequal,
+    }
 }
 
 /// How the rows at two places compare by their whitened signatures and their names.
