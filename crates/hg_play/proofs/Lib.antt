@@ -1,3 +1,5 @@
+pub mod EffectLaws
+mod SettledLaws
 mod SequenceLaws
 mod PlayerLaws
 mod PlayLaws

@@ -1,4 +1,6 @@
 pub mod Node
+pub mod Effects
+pub mod Settled
 pub mod Labels
 pub mod Nodes
 pub mod Play

@@ -21,7 +21,7 @@ pub(crate) fn block_at(
     ensures block { IfOk result (λ block. block ≡ block_of members.now member (node_at (states_of nodes.old) member).rows) }
     ensures same { nodes.new ≡ nodes.old }
 {
-    let block = nodes[member as usize].block(alloc, member)?;
+    let block = nodes[member as usize].block(alloc, members, member)?;
     Ok(block)
 }
 

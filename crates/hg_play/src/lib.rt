@@ -4,11 +4,13 @@
 #![tactic(auto)]
 
 mod blocks;
+mod effects;
 mod labels;
 mod lines;
 mod nodes;
 mod player;
 mod playing;
 mod printing;
+mod settled;
 
 pub use playing::play;

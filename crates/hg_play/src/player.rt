@@ -6,6 +6,7 @@ ghost use Rattle.hg_model.specs.Shown.{graph_of};
 ghost use Rattle.hg_play.specs.Labels.{bytes_named};
 ghost use Rattle.hg_play.specs.Node.{missing_row};
 
+use crate::settled::settled_block;
 use hg_model::{
     Block, Bytes, Items, MakeAnswer, Member, Members, Memory, Name, Parcel, PutAnswer, SyncMade,
     SyncReport,
@@ -118,7 +119,6 @@ impl Model for Player {
 
 impl Player {
     ghost use Rattle.hg_model.specs.Gossip.{verdict_by, node_put, making_by, node_made, made_after, node_after, parcel_for, report_with, node_with, taking};
-    ghost use Rattle.hg_model.specs.Members.{MemberList};
     ghost use Rattle.hg_model.specs.Ledger.{block_of};
     ghost use Rattle.hg_play.specs.Labels.{own_bytes};
     ghost use Rattle.hg_play.specs.Node.{keys_in, start_in, state_in, told, with_rows_of};
@@ -236,15 +236,18 @@ impl Player {
         })
     }
 
-    /// The block of the node, which is settled for it; `member` is the node's own.
-    pub(crate) fn block(&mut self, alloc: Global, member: Member) -> Result<Block, Memory>
-        ensures block { IfOk result (λ block. (members : MemberList) → self.old.start ≡ start_in members member → block ≡ block_of members member self.old.rows) }
+    /// The block of the node of the member, which is settled for it.
+    pub(crate) fn block(
+        &mut self,
+        alloc: Global,
+        members: &Members,
+        member: Member,
+    ) -> Result<Block, Memory>
+        requires { self.old.start ≡ start_in members.now member }
+        ensures block { IfOk result (λ block. block ≡ block_of members.now member self.old.rows) }
         ensures same { self.new ≡ self.old }
     {
-        unfinished(alloc, member)
+        self.node.settle()?;
+        settled_block(alloc, members, member, &self.node)
     }
-}
-
-fn unfinished(alloc: Global, member: Member) -> Result<Block, Memory> {
-    Err(Memory)
 }

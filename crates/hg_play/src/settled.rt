@@ -1,0 +1,39 @@
+ghost use Rattle.std.specs.Prelude.{◌≡◌, IfOk, length};
+ghost use Rattle.hg_model.specs.Ledger.{block_of};
+ghost use Rattle.hg_model.specs.Shown.{graph_of};
+ghost use Rattle.hg_play.specs.Node.{start_in};
+ghost use Rattle.hg_play.specs.Settled.{IsFinal};
+
+use crate::effects::effects_of;
+use crate::printing::order_lines;
+use hg_model::{Block, Items, Member, Members, Memory};
+use hg_node::Node;
+use hg_pay::Book;
+use hg_sign::MacTable;
+use std::alloc::Global;
+
+/// The block of a member's node, whose kept order is that of its graph.
+pub(crate) fn settled_block(
+    alloc: Global,
+    members: &Members,
+    member: Member,
+    node: &Node<MacTable>,
+) -> Result<Block, Memory>
+    requires start { node.now.start ≡ start_in members.now member }
+    requires last { IsFinal node.now }
+    ensures { IfOk result (λ block. block ≡ block_of members.now member (graph_of node.now)) }
+{
+    let graph = node.graph();
+    let mut book = Book::new(alloc, members)?;
+    let effects = effects_of(alloc, graph, &mut book, node.kept())?;
+    let order = order_lines(alloc, graph, node.kept(), effects.as_slice())?;
+    Ok(Block {
+        member,
+        events: node.rows() as u64,
+        forkers: node.forkers(),
+        greatest: node.greatest(),
+        closed: node.closed(),
+        order,
+        balances: Items::from_vec(Vec::from_slice(alloc, book.balances())?),
+    })
+}
