@@ -59,8 +59,8 @@ pub strong_by_first : (n : ℕ) (L : List Link) (x y z : ℕ) (has : ℕ → Boo
 strong_by_first n L x y z has s few hx le told strong =
     let all : ℕ → Bool = sees_through L x y in
     let more : count_below 128 has ≤ count_below 128 all = weight_below-le (λ _. 1) 128 has all (λ m h passes.
-        let found = some_below_found z (is_seer_by L x y m) (sym (told m) ∙ passes) in
-        sym (seers_all L x y m) ∙ some_below_from (x + 1) (is_seer_by L x y m) found.0 (omega (arith, found.1)) found.2) in
+    let found = some_below_found z (is_seer_by L x y m) (sym (told m) ∙ passes) in
+    sym (seers_all L x y m) ∙ some_below_from (x + 1) (is_seer_by L x y m) found.0 (omega (arith, found.1)) found.2) in
     sym (strong_by_members n L x y all s few hx (λ m. refl))
     ∙ lt-ltb (2 * n) (3 * count_below 128 all) (omega (arith, more, ltb-true (2 * n) (3 * count_below 128 has) strong))
 

@@ -89,7 +89,11 @@ fn name_of<'a>(earlier: &[MemberEntry], entry: &'a Value) -> Result<&'a str, Mem
 }
 
 /// The member that an entry tells, behind the earlier ones.
-pub fn checked_member(alloc: Global, earlier: &[MemberEntry], entry: &Value) -> Result<MemberEntry, Stop>
+pub fn checked_member(
+    alloc: Global,
+    earlier: &[MemberEntry],
+    entry: &Value,
+) -> Result<MemberEntry, Stop>
     ensures { Gives (λ m. m) result (told.checked_member earlier.now (view entry.now)) }
 {
     let place = earlier.len();

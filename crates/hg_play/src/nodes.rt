@@ -62,12 +62,7 @@ fn sync(
 }
 
 /// The taker's node takes from the peer's what it lacks.
-fn pull(
-    alloc: Global,
-    nodes: &mut [Player],
-    taker: usize,
-    peer: usize,
-) -> Result<Counts, Memory>
+fn pull(alloc: Global, nodes: &mut [Player], taker: usize, peer: usize) -> Result<Counts, Memory>
     requires taker { taker < length nodes.old }
     requires peer { peer < length nodes.old }
     ensures taken { IfOk result (λ counts. counts.taken ≡ (pulled (keys_at nodes.old taker) (node_at (states_of nodes.old) taker) (node_at (states_of nodes.old) peer)).taken) }

@@ -1,7 +1,8 @@
 use super::*;
 use hg_io::{Failed, SinkMem};
 use hg_model::{
-    Block, Bytes, Effect, Items, MakeAnswer, MakeFault, OrderLine, Outcome, Printed, SyncMade, SyncReport,
+    Block, Bytes, Effect, Items, MakeAnswer, MakeFault, OrderLine, Outcome, Printed, SyncMade,
+    SyncReport,
 };
 use std::alloc::Global;
 use std::test::Fail;

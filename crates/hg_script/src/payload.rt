@@ -197,11 +197,7 @@ fn payload_word(alloc: Global, members: &Members, word: &[u8]) -> Result<Bytes, 
 }
 
 /// The payload that the word tells, or an empty one without the word.
-pub fn payload_of(
-    alloc: Global,
-    members: &Members,
-    word: Option<&[u8]>,
-) -> Result<Bytes, Stop<Why>>
+pub fn payload_of(alloc: Global, members: &Members, word: Option<&[u8]>) -> Result<Bytes, Stop<Why>>
     ensures value { Gives (λ payload. payload) result (told.payload_of members.now (option_copied word.entry)) }
     ensures fits { IfOk result (λ payload. length payload ≤ payload_limit) }
 {

@@ -40,17 +40,21 @@ fn fault_of(alloc: Global, members: &Members, bytes: &[u8]) -> Result<Option<Scr
 /// Of an event that a node makes at a line: the node, the time and the payload.
 fn event_at(lines: &[Line], place: usize) -> Option<(Member, u64, &[u8])> {
     match &lines.get(place)?.action {
-        Action::Gossip(Gossip::Create {
-            member,
-            time,
-            payload,
-        }) => Some((*member, *time, payload.as_slice())),
-        Action::Gossip(Gossip::Sync {
-            taker,
-            time,
-            payload,
-            ..
-        }) => Some((*taker, *time, payload.as_slice())),
+        Action::Gossip(
+            Gossip::Create {
+                member,
+                time,
+                payload,
+            },
+        ) => Some((*member, *time, payload.as_slice())),
+        Action::Gossip(
+            Gossip::Sync {
+                taker,
+                time,
+                payload,
+                ..
+            },
+        ) => Some((*taker, *time, payload.as_slice())),
         _ => None,
     }
 }
@@ -97,14 +101,22 @@ fn labels_are_read(rt: HostRuntime) -> Result<(), Fail> {
     assert!(rt;
         matches!(
             &lines[2].action,
-            Action::Gossip(Gossip::Give { member: 0, label: 0 })
+            Action::Gossip(Gossip::Give {
+                member: 0,
+                label: 0
+            })
         )
     );
     assert!(rt; matches!(&lines[3].action, Action::Label(Source::Last { member: 1 })));
     assert!(rt;
         matches!(
             &lines[4].action,
-            Action::Gossip(Gossip::Join { member: 1, label: 1, time: 7, .. })
+            Action::Gossip(Gossip::Join {
+                member: 1,
+                label: 1,
+                time: 7,
+                ..
+            })
         )
     );
     assert!(rt;
@@ -143,7 +155,10 @@ fn labels_are_read(rt: HostRuntime) -> Result<(), Fail> {
     assert!(rt;
         matches!(
             &lines[9].action,
-            Action::Gossip(Gossip::Give { member: 2, label: 4 })
+            Action::Gossip(Gossip::Give {
+                member: 2,
+                label: 4
+            })
         )
     );
     assert!(rt;

@@ -23,5 +23,5 @@ returns-then-not-are_items-clause-value c =
 pub returns-clause-value : goal.returns-clause-value
 returns-clause-value c =
     let taken = pay_taken (λ part. part.now) c.args.members.now c.args.text.now c.deref.result.now (ap texts c.deref.ensures.value ∙ c.in_ok-parts.ensures)
-        (sym c.has_few_parts.ensures ∙ c.if-not-has_few_parts.false) (sym c.are_items.ensures ∙ c.if-not-are_items.false) in
+    (sym c.has_few_parts.ensures ∙ c.if-not-has_few_parts.false) (sym c.are_items.ensures ∙ c.if-not-are_items.false) in
     rw (← taken) (rw (c.deref-2.ensures.value, ← c.deref.ensures.value) at c.pay_in.ensures.value)
