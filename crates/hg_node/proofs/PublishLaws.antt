@@ -1,17 +1,19 @@
 -- What the publishing of fame leaves recorded
 use Rattle.std.proofs.Common.{◌≡◌, inl, inr, ℕ, ◌<◌, ◌≤◌, Bool, true, false, cond, eqb, List, [], ◌∷◌, ◌++◌, length, refl, sym, ap, ap₂, ◌∙◌, subst, arith}
-use Rattle.std.proofs.lemmas.Bool.{cases_Bool, eqb-eq}
+use Rattle.std.proofs.lemmas.Bool.{cases_Bool, eqb-true}
 use Rattle.std.proofs.lemmas.List.{append-nil}
 use Rattle.hg_model.specs.declared.row.Row.{Row}
 use Rattle.hg_model.specs.declared.entry.Entry.{Entry}
 use Rattle.hg_model.specs.declared.entry.Entry.TheVariants as entry
 use Rattle.hg_model.specs.Links.{Link, links}
 use Rattle.hg_model.specs.Fame.{Marks}
-use Rattle.hg_model.specs.Shares.{Share, Speaks}
+use Rattle.hg_model.specs.Shares.{Share, Speaks, whole}
 use Rattle.hg_model.specs.History.{Change, State, Accepts, news, with_marks}
 use Rattle.hg_model.specs.History.Change.{Marked}
 use Rattle.hg_model.specs.Shown.{Shown, with_changes, state_of, graph_of, IsNode}
-use Rattle.hg_model.specs.Calls.{publish_answer, publish_changes}
+use Rattle.hg_model.specs.Calls.{publish_answer, publish_changes, settle_changes}
+use Rattle.hg_history.specs.Laws.{IsSettled}
+use Rattle.hg_history.proofs.NodeLaws.{settles_all}
 use Rattle.hg_history.proofs.StateLaws.{IsEven, even_after}
 use Rattle.hg_history.proofs.CallLaws.{with_none, publishes_leave_a_node}
 use Rattle.hg_node.specs.Recorded.{Recorded, recorded, recorded_news, news_in, news_entries, state_in, shown, IsRecorded}
@@ -46,7 +48,7 @@ module _ {K : Type 0} (accepts : K → Accepts) (balances : List ℕ) (keys : K)
   unfolding logged
   none_published within none =
       sym (ap₂ logged (ap (λ (d : Bool). r.log ++ cond d [] (entry.Marked len share ∷ [])) none ∙ append-nil r.log)
-      (same_marks r.graph.members r.graph.coin (state_in r) even len share within (eqb-eq (news_in r len share) 0 none)))
+      (same_marks r.graph.members r.graph.coin (state_in r) even len share within (eqb-true (news_in r len share) 0 none)))
 
   some_published : eqb (news_in r len share) 0 ≡ false → recorded_by r (Marked len share) (entry.Marked len share) ≡ recorded_news r len share
   unfolding logged
@@ -69,9 +71,34 @@ module _ {K : Type 0} (accepts : K → Accepts) (balances : List ℕ) (keys : K)
         grown = sym (ap (with_changes (shown balances keys r)) changes ∙ shown_after accepts balances keys r (Marked len share) (entry.Marked len share) refl is);
       })
 
-  pub publishing : len ≤ length r.graph.rows → IsPublishing accepts (shown balances keys r) (shown balances keys (recorded_news r len share)) (recorded_news r len share) len share
-  publishing within = publishing_by (eqb (news_in r len share) 0) refl within
+  module _ (found : List (ℕ × Bool)) (speaks : Speaks r.graph.members r.graph.coin (state_of (shown balances keys r)).rows (state_of (shown balances keys r)).links len share found) where
+    pub speaks_in : Speaks r.graph.members r.graph.coin r.graph.rows (links r.graph.rows) len share found
+    speaks_in = subst (λ (s : State). Speaks r.graph.members r.graph.coin s.rows s.links len share found) (state_is accepts balances keys r is) speaks
 
-  pub speaks_in : (found : List (ℕ × Bool)) → Speaks r.graph.members r.graph.coin (state_of (shown balances keys r)).rows (state_of (shown balances keys r)).links len share found →
-      Speaks r.graph.members r.graph.coin r.graph.rows (links r.graph.rows) len share found
-  speaks_in found speaks = subst (λ (s : State). Speaks r.graph.members r.graph.coin s.rows s.links len share found) (state_is accepts balances keys r is) speaks
+    pub published : (s : Recorded) → s ≡ recorded_news r len share → IsPublishing accepts (shown balances keys r) (shown balances keys s) s len share
+    published s grown =
+        subst (λ (t : Recorded). IsPublishing accepts (shown balances keys r) (shown balances keys t) t len share) (sym grown)
+        (publishing_by (eqb (news_in r len share) 0) refl speaks_in.within)
+
+-- what a node becomes that settles
+pub record IsSettling {K : Type 0} (accepts : K → Accepts) (v w : Shown K) (s : Recorded) : Type 0 where
+  pub recorded : IsRecorded accepts w s
+  pub grown : w ≡ with_changes v (settle_changes v)
+  pub settled : IsSettled v w
+
+module _ {K : Type 0} (accepts : K → Accepts) (balances : List ℕ) (keys : K) (r : Recorded) (is : IsRecorded accepts (shown balances keys r) r) (s : Recorded) where
+  -- what was found is that of the whole graph
+  pub settling : (len : ℕ) (share : Share) → len ≡ length r.graph.rows → share ≡ whole → s ≡ recorded_news r len share → IsSettling accepts (shown balances keys r) (shown balances keys s) s
+  settling len share all one grown =
+      let v : Shown K = shown balances keys r in
+      let first : s ≡ recorded_news r (length r.graph.rows) whole = grown ∙ ap₂ (recorded_news r) all one in
+      let is_published : IsPublishing accepts v (shown balances keys s) s (length r.graph.rows) whole =
+      subst (λ (t : Recorded). IsPublishing accepts v (shown balances keys t) t (length r.graph.rows) whole) (sym first)
+      (publishing_by accepts balances keys r is (length r.graph.rows) whole (eqb (news_in r (length r.graph.rows) whole) 0) refl (omega arith)) in
+      let grown' : shown balances keys s ≡ with_changes v (settle_changes v) =
+      is_published.grown ∙ ap (λ (G : List Row). with_changes v (publish_changes v (length G) whole)) (sym is.rows) in
+      record {
+        recorded = is_published.recorded;
+        grown = grown';
+        settled = subst (IsSettled v) (sym grown') (settles_all K accepts v is.node);
+      }
