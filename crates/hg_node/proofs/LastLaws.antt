@@ -11,7 +11,7 @@ use Rattle.hg_model.proofs.NameLaws.{place_of_at, last_is_own}
 use Rattle.hg_model.proofs.PushLaws.{place_of-append}
 use Rattle.hg_prefix.proofs.StandingLaws.{name_at_place}
 use Rattle.hg_history.proofs.OwnLaws.{last}
-use Rattle.hg_node.specs.Recorded.{Recorded, recorded_with, last_place, KeepsLast}
+use Rattle.hg_node.specs.Recorded.{last_place}
 
 read_name : (G : List Row) (x : ℕ) (row : Row) → slice_get G x ≡ Some row → name_at G x ≡ row.name
 unfolding name_at
@@ -55,13 +55,3 @@ last_read m G place distinct is = by_name (last_name m G) refl
               let read : name_at G place ≡ row.name = read_name G place row at in
               ap (λ (x : List ℕ). Some x) (sym read ∙ (ap (name_at G) same ∙ named)) ∙ sym some,
         )
-
--- what is kept once a row and an entry have come
-pub kept_with : (r : Recorded) (row : Row) (told : Entry) (last_own later : Option ℕ) (capacity room : ℕ) → KeepsLast r last_own capacity → HasDistinctNames (r.graph.rows ++ row ∷ []) →
-    later ≡ cond (eqb row.creator r.own) (Some (length r.graph.rows)) last_own → 2 * (length r.graph.rows + 1) ≤ room → KeepsLast (recorded_with r row told) later room
-kept_with r row told last_own later capacity room keeps distinct is memory = record {
-  distinct = distinct;
-  last = is ∙ (ap (cond (eqb row.creator r.own) (Some (length r.graph.rows))) keeps.last ∙ sym (last_place-push r.own r.graph.rows row keeps.distinct distinct));
-  few_entries = (let few = keeps.few_entries in omega (arith, few, length_push r.log told, length_push r.graph.rows row));
-  memory = omega (arith, memory, length_push r.graph.rows row);
-}

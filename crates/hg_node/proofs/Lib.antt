@@ -5,3 +5,6 @@ pub mod ArrivalLaws
 pub mod PutLaws
 pub mod MakeLaws
 pub mod OneLaws
+pub mod KeepLaws
+pub mod NewsLaws
+pub mod PublishLaws

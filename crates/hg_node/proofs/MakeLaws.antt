@@ -107,14 +107,14 @@ module _ {K : Type 0} (accepts : K → Accepts) (balances : List ℕ) (keys : K)
         ap (λ (a : MakeAnswer). made_by a (made_row before.start.own (graph_of before) other time payload sig)) is_answer
         ∙ (ap (λ (G : List Row). Made (made_row r.own G other time payload sig) ∷ []) is.rows ∙ ap (λ (x : Row). Made x ∷ []) (sym is_row)) in
         let node = subst (λ (es : List Change). IsNode accepts (with_changes before es)) events (makes_leave_a_node K accepts before other time payload sig early sized (λ none. is_signed) is.node) in
-        let recorded = recorded_after accepts balances keys r row (Made row) (entry.Made (length r.graph.rows)) (λ s. refl) refl is node in
+        let recorded = recorded_after accepts balances keys r (Made row) (entry.Made (length r.graph.rows)) refl is node in
         record {
           making = record {
             sig = sig;
             sized = sized;
             signed = λ none. is_signed;
             answers = sym is_answer;
-            grown = sym (ap (with_changes before) events ∙ shown_after accepts balances keys r row (Made row) (entry.Made (length r.graph.rows)) (λ s. refl) refl is);
+            grown = sym (ap (with_changes before) events ∙ shown_after accepts balances keys r (Made row) (entry.Made (length r.graph.rows)) refl is);
           };
           recorded = recorded;
           graph = recorded_graph accepts balances keys (recorded_with r row (entry.Made (length r.graph.rows))) recorded;

@@ -83,11 +83,11 @@ module _ {K : Type 0} (accepts : K → Accepts) (balances : List ℕ) (keys : K)
         ap (λ (G : List Row). row_verdict (accepts keys) r.graph.members r.own G row) is.rows ∙ ap (λ (o : Option PutAnswer). unwrap_or o (Accepted (length r.graph.rows))) (sym silent) in
         let events : put_changes accepts (shown balances keys r) bytes ≡ Took row ∷ [] = ap (taken_from accepts (shown balances keys r)) read ∙ ap (λ (a : PutAnswer). taken_by a row) by_row in
         let node = subst (λ (es : List Change). IsNode accepts (with_changes (shown balances keys r) es)) events (puts_leave_a_node K accepts (shown balances keys r) bytes fit is.node) in
-        let recorded = recorded_after accepts balances keys r row (Took row) (entry.Took (length r.graph.rows)) (λ s. refl) refl is node in
+        let recorded = recorded_after accepts balances keys r (Took row) (entry.Took (length r.graph.rows)) refl is node in
         let rest = (option_or_none (arrival_rule (accepts keys) r.graph.members r.own r.graph.rows row) _ (sym silent)).1 in
         record {
           answer = answer;
-          grown = sym (ap (with_changes (shown balances keys r)) events ∙ shown_after accepts balances keys r row (Took row) (entry.Took (length r.graph.rows)) (λ s. refl) refl is);
+          grown = sym (ap (with_changes (shown balances keys r)) events ∙ shown_after accepts balances keys r (Took row) (entry.Took (length r.graph.rows)) refl is);
           recorded = recorded;
           graph = recorded_graph accepts balances keys (recorded_with r row (entry.Took (length r.graph.rows))) recorded;
           limit = has_room r.graph.members r.graph.rows row rest;

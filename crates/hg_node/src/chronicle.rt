@@ -5,32 +5,39 @@ ghost use Rattle.hg_model.specs.Graph.{IsGraph};
 ghost use Rattle.hg_model.specs.Shape.{link_of};
 ghost use Rattle.hg_model.specs.Spelling.{Spells};
 ghost use Rattle.hg_model.specs.Verdict.{last_name, row_limit};
-ghost use Rattle.hg_model.specs.Prefix.{graph_of};
-ghost use Rattle.hg_node.specs.Recorded.{last_place, recorded, recorded_with};
+ghost use Rattle.hg_model.specs.Prefix.{graph_of, links_of};
+ghost use Rattle.hg_model.specs.Shares.{Speaks};
+ghost use Rattle.hg_model.specs.Fame.{mark_at};
+ghost use Rattle.hg_model.specs.Order.{last_closed};
+ghost use Rattle.hg_model.specs.Kept.{kept};
+ghost use Rattle.hg_node.specs.Recorded.{last_place, news_in, recorded, recorded_news, recorded_with, state_in};
 
 use hg_graph::EventGraph;
-use hg_model::{Bytes, Entry, Member, Memory, Name, Prefix, Row};
+use hg_kept::Kept;
+use hg_model::{Bytes, Entry, Found, Member, Memory, Name, Placed, Prefix, Row};
 use std::alloc::Global;
 use std::marker::Model;
 
-/// The rows of a member's node, the log of how they came, and the place of the last one that the member made.
+/// The rows of a member's node, the log of how they came, what is published of them, and the place of the last one
+/// that the member made.
 #[derive(Drop)]
 pub struct Chronicle {
     own: Member,
     graph: EventGraph,
+    kept: Kept,
     last_own: Option<usize>,
     log: Vec<Entry>,
 }
 
 impl Model for Chronicle {
     ghost use Rattle.std.specs.Prelude.{vec_capacity};
-    ghost use Rattle.hg_node.specs.Recorded.{Recorded, KeepsLast, recorded};
+    ghost use Rattle.hg_node.specs.Recorded.{Recorded, KeepsRecord, recorded};
 
     ghost Value = { Recorded };
 
-    ghost view = { λ s. recorded s.own s.graph.graph s.log.items };
+    ghost view = { λ s. recorded s.own s.graph.graph s.log.items s.kept.published.marks };
 
-    ghost invariant = { λ s. KeepsLast (recorded s.own s.graph.graph s.log.items) s.last_own (vec_capacity s.log) };
+    ghost invariant = { λ s. KeepsRecord s.own s.graph.graph s.log.items s.kept.published s.last_own (vec_capacity s.log) };
 }
 
 impl Chronicle {
@@ -39,11 +46,12 @@ impl Chronicle {
         requires some { 0 < members }
         requires few { members ≤ 128 }
         requires coin { 2 < coin }
-        ensures { IfOk result (λ c. c ≡ recorded own (graph_of members coin []) []) }
+        ensures { IfOk result (λ c. c ≡ recorded own (graph_of members coin []) [] []) }
     {
         Ok(Chronicle {
             own,
             graph: EventGraph::new(alloc, members, coin)?,
+            kept: Kept::new(alloc),
             last_own: None,
             log: Vec::new(alloc),
         })
@@ -102,11 +110,51 @@ impl Chronicle {
     {
         let place = self.graph.len();
         self.graph.reserve()?;
+        self.kept.reserve()?;
         self.log.reserve(2 * (place + 1) - self.log.len())?;
         self.last_own = later_place(self.last_own, self.own, row.creator, place);
         self.graph.push(row, bytes, parents);
+        self.kept.add(&self.graph);
         self.log.push_reserved(entry);
         Ok(())
+    }
+
+    /// Marks what a share has found, with an entry if it is news; tells how many were marked. Takes no memory.
+    pub fn publish(&mut self, found: &Found) -> u32
+        requires { Speaks self.old.graph.members self.old.graph.coin self.old.graph.rows (links_of self.old.graph) found.now.len found.now.share found.now.marks }
+        ensures count { result ≡ news_in self.old found.now.len found.now.share }
+        ensures grown { self.new ≡ recorded_news self.old found.now.len found.now.share }
+    {
+        let count = self.kept.publish(&self.graph, found);
+        if count > 0 {
+            self.log.push_reserved(Entry::Marked {
+                len: found.len,
+                share: found.share,
+            });
+        }
+        count
+    }
+
+    /// The mark of the row at a place below the number of rows.
+    pub fn fame(&self, place: usize) -> Option<bool>
+        requires { place < length self.now.graph.rows }
+        ensures { result ≡ mark_at self.now.marks place }
+    {
+        self.kept.fame(place)
+    }
+
+    /// What the closed rounds have received, in order.
+    pub fn kept(&self) -> &[Placed]
+        ensures { result.now ≡ kept self.now.graph.members (state_in self.now) }
+    {
+        self.kept.order()
+    }
+
+    /// The greatest closed round, or 0.
+    pub fn closed(&self) -> u32
+        ensures { result ≡ last_closed self.now.graph.members (links_of self.now.graph) self.now.marks }
+    {
+        self.kept.closed()
     }
 }
 

@@ -12,20 +12,28 @@ ghost use Rattle.hg_model.specs.declared.entry.Entry.TheVariants.{Took};
 ghost use Rattle.hg_model.specs.Shape.{link_of};
 ghost use Rattle.hg_node.specs.Recorded.{recorded_with};
 ghost use Rattle.hg_model.specs.declared.answers.PutAnswer.TheVariants.{Accepted};
-ghost use Rattle.hg_model.specs.Shown.{graph_of, log, start_of, with_changes, IsNode};
-ghost use Rattle.hg_model.specs.Calls.{IsMaking, make_draft, put_answer, put_changes};
+ghost use Rattle.hg_model.specs.Fame.{mark_at};
+ghost use Rattle.hg_model.specs.Shares.{Speaks};
+ghost use Rattle.hg_model.specs.Shown.{graph_of, kept_of, last_closed_of, links_of, log, marks_of, start_of, with_changes, IsNode};
+ghost use Rattle.hg_model.specs.Calls.{IsMaking, make_draft, publish_answer, publish_changes, put_answer, put_changes, settle_changes};
+ghost use Rattle.hg_history.specs.Laws.{IsSettled};
 
 use crate::arrival::parents_of_arrival;
 use crate::chronicle::Chronicle;
 use crate::draft::{parents_of_draft, row_rule, signed_event};
+use hg_ancestry::BitSight;
 use hg_event::{EventView, decode};
+use hg_fame::elect_share;
+use hg_frozen::Frozen;
 use hg_graph::EventGraph;
 use hg_model::{
-    Entry, Fault, Items, MakeAnswer, Member, MemberEntry, Members, Memory, Name, Prefix, PutAnswer,
-    Rounds, Row,
+    Entry, Fault, Found, Items, MakeAnswer, Member, MemberEntry, Members, Memory, Name, Placed,
+    Prefix, PutAnswer, Rounds, Row, Share,
 };
 use hg_name::name_of;
+use hg_rounds::RoundTable;
 use hg_sign::Signer;
+use hg_votes::VoteTable;
 use std::alloc::Global;
 use std::marker::Model;
 
@@ -122,6 +130,58 @@ impl<V: Signer> Node<V> {
                 Ok(MakeAnswer::Made(place))
             }
         }
+    }
+
+    /// Publishes what a share has found in the node's first rows: each found witness without a mark gets it. Tells how
+    /// many were marked. Takes no memory.
+    pub fn publish(&mut self, found: &Found) -> u32
+        requires { Speaks self.old.start.members self.old.start.coin (graph_of self.old) (links_of self.old) found.now.len found.now.share found.now.marks }
+        ensures answer { result ≡ publish_answer self.old found.now.len found.now.share }
+        ensures grown { self.new ≡ with_changes self.old (publish_changes self.old found.now.len found.now.share) }
+    {
+        self.chronicle.publish(found)
+    }
+
+    /// Publishes all fame that the node's graph decides.
+    pub fn settle(&mut self) -> Result<(), Memory>
+        ensures ok { OnOk result (self.new ≡ with_changes self.old (settle_changes self.old)) }
+        ensures settled { OnOk result (IsSettled self.old self.new) }
+        ensures err { OnErr result (self.new ≡ self.old) }
+    {
+        let graph = self.chronicle.graph();
+        let mut votes = VoteTable::new(self.alloc, graph)?;
+        let found = elect_share(self.alloc, graph, &mut votes, Share::new(0, 1))?;
+        self.chronicle.publish(&found);
+        Ok(())
+    }
+
+    /// The node's graph as a value of its own, which speaks of its rows whatever comes then.
+    pub fn freeze(&self) -> Result<Frozen<BitSight, RoundTable>, Memory>
+        ensures { IfOk result (λ frozen. frozen ≡ prefix_of self.now.start.members self.now.start.coin (graph_of self.now)) }
+    {
+        self.chronicle.graph().freeze()
+    }
+
+    /// What the closed rounds have received, in order: an order that only grows.
+    pub fn kept(&self) -> &[Placed]
+        ensures { result.now ≡ kept_of self.now }
+    {
+        self.chronicle.kept()
+    }
+
+    /// The greatest closed round, or 0.
+    pub fn closed(&self) -> u32
+        ensures { result ≡ last_closed_of self.now }
+    {
+        self.chronicle.closed()
+    }
+
+    /// Whether the row at a place below the number of rows is a famous witness, if that is published.
+    pub fn fame(&self, place: usize) -> Option<bool>
+        requires { place < length (graph_of self.now) }
+        ensures { result ≡ mark_at (marks_of self.now) place }
+    {
+        self.chronicle.fame(place)
     }
 
     /// The node's own member.

@@ -1,0 +1,29 @@
+use Rattle.std.proofs.Common.{◌≤◌, ◌<◌, length, subst, sym, arith}
+use Rattle.std.specs.Vec.{vec_capacity}
+use Rattle.hg_model.specs.History.{news}
+use Rattle.hg_kept.specs.Published.{state_by}
+use Rattle.hg_node.specs.Recorded.{Recorded}
+use Rattle.hg_node.proofs.KeepLaws.{log_has_room, record_same, record_marked}
+use Rattle.hg_node.proofs.chronicle.Chronicle.publish.Goals as goal
+
+pub push_reserved-requires : goal.push_reserved-requires
+push_reserved-requires c =
+    let within = subst (λ (r : Recorded). c.args.found.now.len ≤ length r.graph.rows) (sym c.self.view_is) c.requires.within in
+    let room = log_has_room c.self.inside.own c.self.inside.graph.graph c.self.inside.log.items c.self.inside.kept.published c.self.inside.last_own (vec_capacity c.self.inside.log) c.self.invariant
+    c.args.found.now.len c.args.found.now.share within c.publish-count.new.self.published c.publish-count.ensures.marks c.publish-count.ensures.keeps
+    (omega (arith, c.if-count-gt0.true, c.publish-count.ensures.count)) in
+    omega (arith, room, c.self.inside.log.ok)
+
+pub invariant_of-self : goal.invariant_of-self
+invariant_of-self c =
+    let within = subst (λ (r : Recorded). c.args.found.now.len ≤ length r.graph.rows) (sym c.self.view_is) c.requires.within in
+    rw c.push_reserved.ensures.items
+    (record_marked c.self.inside.own c.self.inside.graph.graph c.self.inside.log.items c.self.inside.kept.published c.self.inside.last_own (vec_capacity c.self.inside.log) c.self.invariant
+    c.args.found.now.len c.args.found.now.share within c.publish-count.new.self.published c.publish-count.ensures.marks c.publish-count.ensures.keeps
+    _ (vec_capacity c.push_reserved.new.self) (omega (arith, c.if-count-gt0.true, c.publish-count.ensures.count)) (omega (arith, c.push_reserved.ensures.capacity)))
+
+pub invariant_of-self-else-count-gt0 : goal.invariant_of-self-else-count-gt0
+invariant_of-self-else-count-gt0 c =
+    let within = subst (λ (r : Recorded). c.args.found.now.len ≤ length r.graph.rows) (sym c.self.view_is) c.requires.within in
+    record_same c.self.inside.own c.self.inside.graph.graph c.self.inside.log.items c.self.inside.kept.published c.self.inside.last_own (vec_capacity c.self.inside.log) c.self.invariant
+    c.args.found.now.len c.args.found.now.share within c.publish-count.new.self.published c.publish-count.ensures.marks c.publish-count.ensures.keeps

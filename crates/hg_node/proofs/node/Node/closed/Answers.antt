@@ -1,0 +1,12 @@
+use Rattle.std.proofs.Common.{◌∙◌, ap, sym}
+use Rattle.hg_model.specs.History.{State}
+use Rattle.hg_model.specs.Order.{last_closed}
+use Rattle.hg_node.proofs.RecordLaws.{state_is}
+use Rattle.hg_node.proofs.node.Node.closed.Goals as goal
+
+pub returns : goal.returns
+returns g c =
+    rw (← c.self.view_is)
+    (c.closed.ensures
+    ∙ ap (λ (s : State). last_closed c.self.inside.chronicle.graph.members s.links s.marks)
+    (sym (state_is g.V.Verifier.accepts c.self.inside.balances.items c.self.inside.keys c.self.inside.chronicle c.self.invariant)))

@@ -1,0 +1,30 @@
+use Rattle.std.proofs.Common.{◌∙◌, ◌≤◌, length, subst, sym}
+use Rattle.hg_model.specs.Shares.{Speaks}
+use Rattle.hg_model.specs.Shown.{Shown, state_of}
+use Rattle.hg_node.specs.Recorded.{Recorded, recorded_news, shown}
+use Rattle.hg_node.proofs.PublishLaws.{IsPublishing, answer_is, published, speaks_in}
+use Rattle.hg_node.proofs.node.Node.publish.Given as given
+use Rattle.hg_node.proofs.node.Node.publish.Goals as goal
+
+pub publish-requires : goal.publish-requires
+publish-requires g c =
+    speaks_in g.V.Verifier.accepts c.self.inside.balances.items c.self.inside.keys c.self.inside.chronicle c.self.invariant c.args.found.now.len c.args.found.now.share c.args.found.now.marks
+    (rw c.self.view_is c.requires)
+
+-- what the chronicle has become
+publishes : (g : given.Over) (c : goal.After-publish g) → IsPublishing g.V.Verifier.accepts (shown c.self.inside.balances.items c.self.inside.keys c.self.inside.chronicle)
+    (shown c.self.inside.balances.items c.self.inside.keys c.publish.new.self) c.publish.new.self c.args.found.now.len c.args.found.now.share
+publishes g c =
+    published g.V.Verifier.accepts c.self.inside.balances.items c.self.inside.keys c.self.inside.chronicle c.self.invariant c.args.found.now.len c.args.found.now.share
+    c.args.found.now.marks (rw c.self.view_is c.requires) c.publish.new.self c.publish.ensures.grown
+
+pub invariant_of-self : goal.invariant_of-self
+invariant_of-self g c = (publishes g c).recorded
+
+pub returns-clause-answer : goal.returns-clause-answer
+returns-clause-answer g c =
+    rw (← c.self.view_is)
+    (c.publish.ensures.count ∙ answer_is g.V.Verifier.accepts c.self.inside.balances.items c.self.inside.keys c.self.inside.chronicle c.self.invariant c.args.found.now.len c.args.found.now.share)
+
+pub returns-clause-grown : goal.returns-clause-grown
+returns-clause-grown g c = rw (← c.self.view_is) (publishes g c).grown
