@@ -1,10 +1,8 @@
 -- What a chronicle keeps once a row has come, and once fame is published
-use Rattle.std.proofs.Common.{◌≡◌, ℕ, ◌+◌, ◌*◌, ◌<◌, ◌≤◌, Bool, cond, eqb, List, [], ◌∷◌, ◌++◌, length, Option, Some, None, is_some, sym, refl, ap, ◌∙◌, subst, arith}
+use Rattle.std.proofs.Common.{◌≡◌, ℕ, ◌+◌, ◌*◌, ◌<◌, ◌≤◌, cond, eqb, List, [], ◌∷◌, ◌++◌, length, Option, Some, None, is_some, sym, refl, ap, ◌∙◌, subst, arith}
 use Rattle.std.proofs.lemmas.List.{length_push}
 use Rattle.hg_model.specs.declared.row.Row.{Row}
 use Rattle.hg_model.specs.declared.entry.Entry.{Entry}
-use Rattle.hg_model.specs.declared.entry.Entry.TheVariants as entry
-use Rattle.hg_model.specs.Links.{links}
 use Rattle.hg_model.specs.Graph.{IsGraph}
 use Rattle.hg_model.specs.Fame.{Marks, mark_at}
 use Rattle.hg_model.specs.Prefix.{Graph, graph_of as prefix_of}
@@ -14,7 +12,7 @@ use Rattle.hg_model.proofs.LinkLaws.{length-links}
 use Rattle.hg_model.proofs.PlacesLaws.{count_below-le}
 use Rattle.hg_graph.specs.Held.{graph_with}
 use Rattle.hg_kept.specs.Published.{Published, HasCome, Keeps, state_by}
-use Rattle.hg_node.specs.Recorded.{KeepsRecord, last_place, marked, news_entries}
+use Rattle.hg_node.specs.Recorded.{KeepsRecord, marked}
 use Rattle.hg_node.proofs.LastLaws.{last_place-push}
 use Rattle.hg_node.proofs.NewsLaws.{marked_push, marked_news}
 

@@ -2,7 +2,7 @@
 use Rattle.std.proofs.Common.{◌≡◌, ℕ, ◌+◌, ◌<◌, ◌≤◌, Bool, true, false, cond, not, ◌&&◌, ltb, List, [], ◌∷◌, ◌++◌, length, take, Option, Some, None, is_some, sym, refl, ap, ◌∙◌, inl, inr, arith}
 use Rattle.std.specs.Prelude.{is_none}
 use Rattle.std.specs.Option.{option_or}
-use Rattle.std.proofs.lemmas.Bool.{and_parts, cases_lt, cases_Bool, false_from_ne_true, le-ltb, true≢false}
+use Rattle.std.proofs.lemmas.Bool.{and_parts, cases_lt, false_from_ne_true, le-ltb, true≢false}
 use Rattle.std.proofs.lemmas.List.{ext_get_or, length_push, get_or_append_left, length-take-le}
 use Rattle.std.proofs.lemmas.List.FromFn.{length-map-range_with_len}
 use Rattle.hg_model.specs.declared.row.Row.{Row}

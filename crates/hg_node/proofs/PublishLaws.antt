@@ -1,11 +1,11 @@
 -- What the publishing of fame leaves recorded
-use Rattle.std.proofs.Common.{◌≡◌, inl, inr, ℕ, ◌<◌, ◌≤◌, Bool, true, false, cond, eqb, List, [], ◌∷◌, ◌++◌, length, refl, sym, ap, ap₂, ◌∙◌, subst, arith}
-use Rattle.std.proofs.lemmas.Bool.{cases_Bool, eqb-true}
+use Rattle.std.proofs.Common.{◌≡◌, ℕ, ◌≤◌, Bool, true, false, cond, eqb, List, [], ◌∷◌, ◌++◌, length, refl, sym, ap, ap₂, ◌∙◌, subst, arith}
+use Rattle.std.proofs.lemmas.Bool.{eqb-true}
 use Rattle.std.proofs.lemmas.List.{append-nil}
 use Rattle.hg_model.specs.declared.row.Row.{Row}
 use Rattle.hg_model.specs.declared.entry.Entry.{Entry}
 use Rattle.hg_model.specs.declared.entry.Entry.TheVariants as entry
-use Rattle.hg_model.specs.Links.{Link, links}
+use Rattle.hg_model.specs.Links.{links}
 use Rattle.hg_model.specs.Fame.{Marks}
 use Rattle.hg_model.specs.Shares.{Share, Speaks, whole}
 use Rattle.hg_model.specs.History.{Change, State, Accepts, news, with_marks}
@@ -16,7 +16,7 @@ use Rattle.hg_history.specs.Laws.{IsSettled}
 use Rattle.hg_history.proofs.NodeLaws.{settles_all}
 use Rattle.hg_history.proofs.StateLaws.{IsEven, even_after}
 use Rattle.hg_history.proofs.CallLaws.{with_none, publishes_leave_a_node}
-use Rattle.hg_node.specs.Recorded.{Recorded, recorded, recorded_news, news_in, news_entries, state_in, shown, IsRecorded}
+use Rattle.hg_node.specs.Recorded.{Recorded, recorded, recorded_news, news_in, state_in, shown, IsRecorded}
 use Rattle.hg_node.proofs.NewsLaws.{same_marks}
 use Rattle.hg_node.proofs.RecordLaws.{state_is, recorded_by, shown_after, recorded_after}
 

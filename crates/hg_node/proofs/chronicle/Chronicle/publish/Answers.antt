@@ -1,7 +1,5 @@
-use Rattle.std.proofs.Common.{◌≤◌, ◌<◌, length, subst, sym, arith}
+use Rattle.std.proofs.Common.{◌≤◌, length, subst, sym, arith}
 use Rattle.std.specs.Vec.{vec_capacity}
-use Rattle.hg_model.specs.History.{news}
-use Rattle.hg_kept.specs.Published.{state_by}
 use Rattle.hg_node.specs.Recorded.{Recorded}
 use Rattle.hg_node.proofs.KeepLaws.{log_has_room, record_same, record_marked}
 use Rattle.hg_node.proofs.chronicle.Chronicle.publish.Goals as goal

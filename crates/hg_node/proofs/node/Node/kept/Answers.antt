@@ -1,5 +1,4 @@
 use Rattle.std.proofs.Common.{◌∙◌, ap, sym}
-use Rattle.hg_model.specs.History.{State}
 use Rattle.hg_model.specs.Kept.{kept}
 use Rattle.hg_node.proofs.RecordLaws.{state_is}
 use Rattle.hg_node.proofs.node.Node.kept.Goals as goal

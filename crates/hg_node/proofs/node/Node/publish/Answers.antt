@@ -1,7 +1,7 @@
-use Rattle.std.proofs.Common.{◌∙◌, ◌≤◌, length, subst, sym}
+use Rattle.std.proofs.Common.{◌∙◌, subst, sym}
 use Rattle.hg_model.specs.Shares.{Speaks}
-use Rattle.hg_model.specs.Shown.{Shown, state_of}
-use Rattle.hg_node.specs.Recorded.{Recorded, recorded_news, shown}
+use Rattle.hg_model.specs.Shown.{Shown, graph_of, links_of}
+use Rattle.hg_node.specs.Recorded.{shown}
 use Rattle.hg_node.proofs.PublishLaws.{IsPublishing, answer_is, published, speaks_in}
 use Rattle.hg_node.proofs.node.Node.publish.Given as given
 use Rattle.hg_node.proofs.node.Node.publish.Goals as goal
@@ -9,14 +9,16 @@ use Rattle.hg_node.proofs.node.Node.publish.Goals as goal
 pub publish-requires : goal.publish-requires
 publish-requires g c =
     speaks_in g.V.Verifier.accepts c.self.inside.balances.items c.self.inside.keys c.self.inside.chronicle c.self.invariant c.args.found.now.len c.args.found.now.share c.args.found.now.marks
-    (rw c.self.view_is c.requires)
+    (subst (λ (w : Shown g.row.V.Denot). Speaks w.start.members w.start.coin (graph_of w) (links_of w) c.args.found.now.len c.args.found.now.share c.args.found.now.marks)
+    (sym c.self.view_is) c.requires)
 
 -- what the chronicle has become
 publishes : (g : given.Over) (c : goal.After-publish g) → IsPublishing g.V.Verifier.accepts (shown c.self.inside.balances.items c.self.inside.keys c.self.inside.chronicle)
     (shown c.self.inside.balances.items c.self.inside.keys c.publish.new.self) c.publish.new.self c.args.found.now.len c.args.found.now.share
 publishes g c =
     published g.V.Verifier.accepts c.self.inside.balances.items c.self.inside.keys c.self.inside.chronicle c.self.invariant c.args.found.now.len c.args.found.now.share
-    c.args.found.now.marks (rw c.self.view_is c.requires) c.publish.new.self c.publish.ensures.grown
+    c.args.found.now.marks (subst (λ (w : Shown g.row.V.Denot). Speaks w.start.members w.start.coin (graph_of w) (links_of w) c.args.found.now.len c.args.found.now.share c.args.found.now.marks)
+    (sym c.self.view_is) c.requires) c.publish.new.self c.publish.ensures.grown
 
 pub invariant_of-self : goal.invariant_of-self
 invariant_of-self g c = (publishes g c).recorded
