@@ -1,8 +1,8 @@
 -- Nodes that play lines
-use Rattle.std.proofs.Common.{◌≡◌, cond, inl, inr, ℕ, suc, ◌+◌, ◌<◌, true, false, List, [], ◌∷◌, ◌++◌, length, get_or, fold, Option, Some, None, slice_get, slice_set, sym, refl, ap, ap₂, ◌∙◌, subst, add-one, append_assoc, zero-add, arith}
+use Rattle.std.proofs.Common.{◌≡◌, cond, inl, inr, ℕ, ◌+◌, ◌<◌, true, false, List, [], ◌∷◌, ◌++◌, length, get_or, Option, Some, slice_get, slice_set, sym, ap, ap₂, ◌∙◌, subst, add-one, append_assoc, zero-add, arith}
 use Rattle.std.specs.Prelude.{All}
 use Rattle.std.specs.Option.{option_map_or}
-use Rattle.std.proofs.lemmas.Bool.{true≢false, cases_lt, cases_eq}
+use Rattle.std.proofs.lemmas.Bool.{true≢false, cases_lt}
 use Rattle.std.proofs.lemmas.List.{length-map, get_or-map, map-set}
 use Rattle.std.proofs.Math.Seq.{map-set_same}
 use Rattle.std.proofs.lemmas.List.FromFn.{get_or-map-range_with_len, length-map-range_with_len}
@@ -25,7 +25,7 @@ use Rattle.hg_script.specs.Lawful.{IsGossip, IsSource, IsLawful, IsLine}
 use Rattle.hg_model.specs.Shown.{Start}
 use Rattle.hg_sign.specs.Table.{secrets_of}
 use Rattle.hg_play.specs.Node.{Player, keys_by, keys_in, start_in, starts, starts_of, state_in, states_of}
-use Rattle.hg_play.specs.Nodes.{node_at, no_player, player_at, keys_at, actor, new_nodes, IsGossipBelow}
+use Rattle.hg_play.specs.Nodes.{node_at, no_player, player_at, keys_at, actor, IsGossipBelow}
 use Rattle.hg_play.specs.Play.{IsBelow, has_node_at, block_at}
 
 -- players that are so many, and what they began with

@@ -1,5 +1,5 @@
 -- What a node's rows become when bytes are put to it, and when it makes an event
-use Rattle.std.proofs.Common.{◌≡◌, ℕ, suc, ◌+◌, ◌<◌, ◌≤◌, Bool, true, false, not, cond, List, [], ◌∷◌, ◌++◌, length, map, fold, drop, get_or, slice_get, Option, Some, None, option_map, Ok, Err, sym, refl, ap, ◌∙◌, add-one, append_assoc, arith}
+use Rattle.std.proofs.Common.{◌≡◌, ℕ, suc, ◌+◌, ◌<◌, ◌≤◌, Bool, true, false, not, cond, List, [], ◌∷◌, ◌++◌, length, map, fold, drop, get_or, slice_get, Option, Some, option_map, Ok, Err, sym, refl, ap, ◌∙◌, add-one, append_assoc, arith}
 use Rattle.std.specs.Prelude.{Result}
 use Rattle.hg_model.specs.declared.row.Row.{Row}
 use Rattle.hg_model.specs.declared.answers.ByteFault.{ByteFault}
@@ -7,13 +7,12 @@ use Rattle.hg_model.specs.declared.answers.PutAnswer.{PutAnswer}
 use Rattle.hg_model.specs.declared.answers.PutAnswer.TheVariants.{Accepted, Known, Refused}
 use Rattle.hg_model.specs.declared.answers.MakeAnswer.{MakeAnswer}
 use Rattle.hg_model.specs.declared.answers.MakeAnswer.TheVariants as answer
-use Rattle.hg_model.specs.declared.answers.MakeFault.{MakeFault}
 use Rattle.hg_model.specs.Reading.{read_event}
-use Rattle.hg_model.specs.Verdict.{row_verdict, with_answer, rows_with, rows_after, draft_rule, made_row, made_or, making, with_made}
+use Rattle.hg_model.specs.Verdict.{row_verdict, with_answer, rows_with, rows_after, made_row, making, with_made}
 use Rattle.hg_model.specs.History.{Change, Accepts, replay}
 use Rattle.hg_model.specs.History.Change.{Took, Made}
 use Rattle.hg_model.specs.Shown.{Shown, with_changes, graph_of}
-use Rattle.hg_model.specs.Calls.{taken_by, taken_from, put_changes, make_answer, made_by, make_changes, make_draft, IsMaking}
+use Rattle.hg_model.specs.Calls.{taken_by, taken_from, put_changes, make_answer, made_by, make_changes, IsMaking}
 use Rattle.std.proofs.lemmas.List.{length-map, length-append}
 use Rattle.std.proofs.lemmas.Option.{slice_get-get_or}
 use Rattle.std.proofs.Math.Seq.{drop-cons}

@@ -1,9 +1,9 @@
 -- How many self-ancestors a row has: one more than its self-parent
-use Rattle.std.proofs.Common.{◌≡◌, ℕ, zero, suc, ◌+◌, ◌<◌, ◌≤◌, Bool, true, false, cond, ◌||◌, List, [], ◌∷◌, length, Option, None, Some, eqb, sym, refl, ap, ◌∙◌, subst, inl, inr, add-one, zero-add, slice_index_or, get_or, slice_get, ap₂, arith}
+use Rattle.std.proofs.Common.{◌≡◌, ℕ, zero, suc, ◌+◌, ◌<◌, ◌≤◌, Bool, true, List, [], ◌∷◌, length, None, Some, sym, ap, ◌∙◌, subst, inl, inr, zero-add, slice_index_or, slice_get, ap₂, arith}
 use Rattle.std.proofs.lemmas.Bool.{cases_Bool, cases_lt, true≢false}
 use Rattle.std.proofs.lemmas.List.FromFn.{get_or-map-range_with_len, length-map-range_with_len}
-use Rattle.hg_model.specs.Places.{count_below, weight_below, has_place, IsEarlier, table}
-use Rattle.hg_model.specs.Links.{Link, parents, self_parent}
+use Rattle.hg_model.specs.Places.{count_below, has_place, IsEarlier, table}
+use Rattle.hg_model.specs.Links.{Link, self_parent}
 use Rattle.hg_model.specs.Ancestry.{is_self_ancestor}
 use Rattle.hg_model.specs.Graph.{IsShaped}
 use Rattle.hg_model.specs.Shape.{place_list}

@@ -1,5 +1,5 @@
 -- A member's node as a script plays it: what it began with, and its rows
-use Rattle.std.specs.Prelude.{ℕ, ◌≡◌, cond, List, [], ◌∷◌, length, map, slice_get, option_map, unwrap_or}
+use Rattle.std.specs.Prelude.{ℕ, cond, List, [], ◌∷◌, length, map}
 use Rattle.hg_model.specs.declared.row.Row.{Row}
 use Rattle.hg_model.specs.Members.{MemberList}
 use Rattle.hg_model.specs.Places.{table}

@@ -1,5 +1,5 @@
 -- A script played over the members' nodes, one line after the other, and what it prints
-use Rattle.std.specs.Prelude.{ℕ, ◌<◌, ◌≤◌, ⊤, cond, Bool, false, List, [], ◌∷◌, ◌++◌, fold, length, take, slice_get, option_map, unwrap_or}
+use Rattle.std.specs.Prelude.{ℕ, ◌<◌, ◌≤◌, ⊤, Bool, false, List, [], ◌∷◌, ◌++◌, fold, length, take, slice_get, option_map, unwrap_or}
 use Rattle.hg_model.specs.declared.members.MemberEntry.{MemberEntry}
 use Rattle.hg_model.specs.declared.outcome.Printed.{Printed}
 use Rattle.hg_model.specs.declared.outcome.Printed.TheVariants as printed

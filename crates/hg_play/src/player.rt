@@ -248,6 +248,7 @@ impl Player {
         ensures same { self.new ≡ self.old }
     {
         self.node.settle()?;
+        self.node.rows();
         settled_block(alloc, members, member, &self.node)
     }
 }

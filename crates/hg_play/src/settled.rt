@@ -23,17 +23,20 @@ pub(crate) fn settled_block(
     requires last { IsFinal node.now }
     ensures { IfOk result (λ block. block ≡ block_of members.now member (graph_of node.now)) }
 {
+    let events = node.rows() as u64;
     let graph = node.graph();
+    let order = node.kept();
     let mut book = Book::new(alloc, members)?;
-    let effects = effects_of(alloc, graph, &mut book, node.kept())?;
-    let order = order_lines(alloc, graph, node.kept(), effects.as_slice())?;
+    let effects = effects_of(alloc, graph, &mut book, order)?;
+    let lines = order_lines(alloc, graph, order, effects.as_slice())?;
+    let balances = Vec::from_slice(alloc, book.balances())?;
     Ok(Block {
         member,
-        events: node.rows() as u64,
+        events,
         forkers: node.forkers(),
         greatest: node.greatest(),
         closed: node.closed(),
-        order,
-        balances: Items::from_vec(Vec::from_slice(alloc, book.balances())?),
+        order: lines,
+        balances: Items::from_vec(balances),
     })
 }

@@ -1,5 +1,4 @@
 use Rattle.std.proofs.Common.{◌≡◌, ◌∙◌, ◌++◌, ◌∷◌, [], ℕ, List, ap, cond, length, refl, arith}
-use Rattle.hg_model.specs.declared.outcome.Printed.{Printed}
 use Rattle.hg_model.specs.Places.{list_below}
 use Rattle.hg_play.specs.Node.{Player, starts_of, states_of}
 use Rattle.hg_play.specs.Play.{block_at, has_node_at}

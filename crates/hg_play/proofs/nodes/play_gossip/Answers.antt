@@ -1,7 +1,7 @@
 use Rattle.std.proofs.Common.{◌∙◌, ℕ, List, None, ap, slice_set, sym}
 use Rattle.hg_model.specs.declared.answers.MakeAnswer.{MakeAnswer}
 use Rattle.hg_model.specs.declared.outcome.Printed.TheVariants as printed
-use Rattle.hg_model.specs.Gossip.{NodeState, making_by, node_made}
+use Rattle.hg_model.specs.Gossip.{making_by, node_made}
 use Rattle.hg_script.specs.declared.line.Gossip.{Gossip}
 use Rattle.hg_play.specs.Node.{states_of}
 use Rattle.hg_play.specs.Nodes.{actor, gossip_printed, keys_at, node_at, nodes_after}

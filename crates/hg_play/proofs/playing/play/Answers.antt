@@ -2,7 +2,7 @@ use Rattle.std.proofs.Common.{◌≡◌, ◌∙◌, Bool, List, ℕ, ap, ap₂, 
 use Rattle.hg_model.specs.declared.outcome.Outcome.{Outcome}
 use Rattle.hg_model.specs.declared.outcome.Printed.{Printed}
 use Rattle.hg_model.specs.Gossip.{Keys, NodeState, keys_of}
-use Rattle.hg_play.specs.Node.{Player, keys_by, starts_of, states_of}
+use Rattle.hg_play.specs.Node.{keys_by, starts_of, states_of}
 use Rattle.hg_play.specs.Nodes.{new_nodes}
 use Rattle.hg_play.specs.Play.{all_printed, play}
 use Rattle.hg_play.proofs.PlayLaws.{lines_below, starts_length}

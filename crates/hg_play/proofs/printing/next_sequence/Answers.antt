@@ -1,4 +1,4 @@
-use Rattle.std.proofs.Common.{◌∙◌, ap, arith, sym, subst, List, ℕ}
+use Rattle.std.proofs.Common.{arith}
 use Rattle.hg_play.proofs.SequenceLaws.{next_first, next_from}
 use Rattle.hg_play.proofs.printing.next_sequence.Goals as goal
 

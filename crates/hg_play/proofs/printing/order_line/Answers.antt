@@ -1,7 +1,6 @@
 use Rattle.std.proofs.Common.{◌≡◌, ◌∙◌, ap, arith, length, sym, zero-add, List}
 use Rattle.std.proofs.lemmas.List.FromFn.{get_or-map-range_with_len, length-map-range_with_len}
 use Rattle.hg_model.specs.Shape.{Shape}
-use Rattle.hg_model.specs.Links.{Link}
 use Rattle.hg_model.specs.Order.{sequence_of}
 use Rattle.hg_model.specs.Prefix.{links_of}
 use Rattle.hg_model.proofs.LinkLaws.{length-links}

@@ -1,4 +1,4 @@
-use Rattle.std.proofs.Common.{◌≡◌, ◌∙◌, ap, ap₂, length, sym, List, ℕ}
+use Rattle.std.proofs.Common.{◌∙◌, ap, length, List}
 use Rattle.hg_model.specs.Places.{table}
 use Rattle.hg_model.specs.Shape.{Shape}
 use Rattle.hg_model.specs.Links.{Link}
