@@ -180,7 +180,6 @@ mod tests {
     use crate::checked::{is_shaped, row_of};
     use crate::links::links_of;
     use hg_model::Member;
-    use hg_order::{order_round, received_in, time_of, unique_famous};
 
     type Event = (u8, Member, Option<(u8, u8)>, u64);
 
@@ -273,47 +272,6 @@ mod tests {
             placed(0, 2, u64::MAX),
         ];
         assert_eq!(rt; order.as_slice(), expected.as_slice());
-        Ok(())
-    }
-
-    // Rows 3 and 4 are the unique famous witnesses of round 2. Row 5 is an ancestor of neither.
-    #[test]
-    fn finds_what_a_round_receives(rt: HostRuntime) -> Result<(), Memory> {
-        let alloc = rt.alloc();
-        let rows = rows_of(alloc, &TWO_MEMBERS)?;
-        assert!(rt; rows.len() == 8 && is_shaped(&links_of(alloc, &rows)?, 2));
-        let graph = elect(alloc, &rows, 2, 10)?;
-        let mut places = vec![in alloc; 9; 2]?;
-        let count = unique_famous(&graph.prefix, &graph.marks, 2, &mut places);
-        let ufw = &places[..count];
-        assert!(rt; ufw.len() == 2);
-        assert_eq!(rt; ufw, [3, 4].as_slice());
-        assert!(rt; received_in(&graph.prefix, ufw, 3));
-        assert!(rt; !received_in(&graph.prefix, ufw, 4) && !received_in(&graph.prefix, ufw, 5));
-        assert_eq!(rt; time_of(&graph.prefix, ufw, 3), 4);
-        Ok(())
-    }
-
-    #[test]
-    fn orders_a_part_of_a_round(rt: HostRuntime) -> Result<(), Memory> {
-        let alloc = rt.alloc();
-        let rows = rows_of(alloc, &TWO_MEMBERS)?;
-        assert!(rt; rows.len() == 8 && is_shaped(&links_of(alloc, &rows)?, 2));
-        let graph = elect(alloc, &rows, 2, 10)?;
-        let mut places = vec![in alloc; 9; 2]?;
-        let count = unique_famous(&graph.prefix, &graph.marks, 2, &mut places);
-        let ufw = &places[..count];
-        assert!(rt;
-            ufw.len() == 2
-                && received_in(&graph.prefix, ufw, 2)
-                && received_in(&graph.prefix, ufw, 0)
-        );
-        let mut out = vec![in alloc; placed(9, 0, 0); 2]?;
-        order_round(&graph.prefix, ufw, &[2, 0], &mut out);
-        assert_eq!(rt;
-            out.as_slice(),
-            [placed(0, 2, 2), placed(2, 2, 3)].as_slice()
-        );
         Ok(())
     }
 
