@@ -6,8 +6,12 @@
 mod arrival;
 mod chronicle;
 mod draft;
+#[cfg(test)]
+mod full_node;
 mod laws;
 mod node;
+#[cfg(test)]
+mod publishing;
 #[cfg(test)]
 mod tests;
 

@@ -20,15 +20,15 @@ fn entry(alloc: Global, name: &[u8], secret: &[u8]) -> Result<MemberEntry, Memor
     })
 }
 
-fn two_members(alloc: Global) -> Result<Members, Memory> {
+pub(crate) fn two_members(alloc: Global) -> Result<Members, Memory> {
     let mut entries = Vec::new(alloc);
     entries.push(entry(alloc, b"A", &[0x0b; 20])?)?;
     entries.push(entry(alloc, b"B", b"Jefe")?)?;
     Ok(Members::new(entries, 10))
 }
 
-/// The node of a member below 2.
-fn node_of<'a>(
+/// The node of a member, of a number below the members' count.
+pub(crate) fn node_of<'a>(
     rt: &impl Abort,
     alloc: Global,
     members: &Members,
@@ -39,18 +39,18 @@ fn node_of<'a>(
     Node::new(alloc, members, own, keys)
 }
 
-fn bytes_of<'a>(rt: &impl Abort, node: &'a Node<&MacTable>, place: usize) -> &'a [u8] {
+pub(crate) fn bytes_of<'a>(rt: &impl Abort, node: &'a Node<&MacTable>, place: usize) -> &'a [u8] {
     assert!(rt; place < node.rows());
     node.bytes(place)
 }
 
-fn name_at(rt: &impl Abort, node: &Node<&MacTable>, place: usize) -> Name {
+pub(crate) fn name_at(rt: &impl Abort, node: &Node<&MacTable>, place: usize) -> Name {
     assert!(rt; place < node.rows());
     node.row(place).name
 }
 
 /// Puts a row of one node to the other.
-fn give(
+pub(crate) fn give(
     rt: &impl Abort,
     from: &Node<&MacTable>,
     place: usize,
