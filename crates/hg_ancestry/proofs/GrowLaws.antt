@@ -1,7 +1,7 @@
 -- What the bit rows and the masks hold when the graph grows, and of its first rows
 use Rattle.std.proofs.Common.{◌≡◌, ℕ, ◌+◌, ◌-◌, ◌<◌, ◌≤◌, ◌^◌, ◌||◌, eqb, Bool, List, [], ◌∷◌, ◌++◌, length, take, Option, sym, ap, ap₂, ◌∙◌, refl, inl, inr, arith}
 use Rattle.std.specs.List.{list_any}
-use Rattle.std.proofs.lemmas.Bool.{cases_lt, cases_eq, eq-eqb, ne_eqb}
+use Rattle.std.proofs.lemmas.Bool.{cases_lt}
 use Rattle.std.proofs.lemmas.List.{length_push, length-take-le, get_or_append_left, get_or_push, get_or-take}
 use Rattle.hg_model.specs.Places.{table}
 use Rattle.hg_model.specs.Links.{Link, links, parents}

@@ -7,8 +7,10 @@ ghost use Rattle.hg_ancestry.specs.Held.{HoldsSight};
 
 use crate::ancestry::has_ancestor;
 use crate::forks::is_forked;
-use crate::links::{PlacedLink, creator_of};
+use crate::links::PlacedLink;
+use crate::sight::BitSight;
 use hg_bits::{BitRow, mask_has, members_over, with_member};
+use hg_model::Sight;
 
 /// Whether row `x` sees row `y`.
 #[tactic(auto, unfolding(hg_model::specs::Seeing::sees))]
@@ -28,41 +30,21 @@ pub fn sees(
     has_ancestor(links, rows, x, y) && !is_forked(links, rows, masks, members, x, y)
 }
 
-/// Whether row `x` strongly sees row `y`.
-pub fn strongly_sees(
-    links: &[PlacedLink],
-    rows: &[BitRow],
-    masks: &[u128],
-    members: u32,
-    x: usize,
-    y: usize,
-) -> bool
-    requires known { HoldsSight members links.now rows.now masks.now }
-    requires left { x < length links.now }
-    requires right { y < length links.now }
-    ensures { result ≡ strongly_sees members links.now x y }
+/// Whether row `x` strongly sees row `y`. It looks no further than the first rows by more than two thirds of the members.
+pub fn strongly_sees(sight: &BitSight, x: usize, y: usize) -> bool
+    requires left { x < length sight.now.shape.links }
+    requires right { y < length sight.now.shape.links }
+    ensures { result ≡ strongly_sees sight.now.shape.members sight.now.shape.links x y }
 {
-    has_ancestor(links, rows, x, y) && has_seers_over(links, rows, masks, members, x, y)
-}
-
-/// Whether more than two thirds of the members have a row among the ancestors of row `x` that sees row `y`.
-/// It looks no further than the first rows by so many.
-fn has_seers_over(
-    links: &[PlacedLink],
-    rows: &[BitRow],
-    masks: &[u128],
-    members: u32,
-    x: usize,
-    y: usize,
-) -> bool
-    requires known { HoldsSight members links.now rows.now masks.now }
-    requires left { x < length links.now }
-    requires before { y ≤ x }
-    ensures { result ≡ strongly_sees members links.now x y }
-{
+    // That there are fewer than 2^32 - 1 rows.
+    sight.rows();
+    let members = sight.members();
+    if !sight.ancestor(x, y) {
+        return false;
+    }
     let mut mask = 0;
     for z in y..x + 1 {
-        let seers = with_seer(mask, links, rows, masks, members, x, y, z);
+        let seers = with_seer(mask, sight, x, y, z);
         if seers != mask && members_over(seers, members) {
             return true;
         }
@@ -72,47 +54,19 @@ fn has_seers_over(
 }
 
 /// The set with the creator of row `z`, if row `z` is an ancestor of row `x` and sees row `y`.
-fn with_seer(
-    mask: u128,
-    links: &[PlacedLink],
-    rows: &[BitRow],
-    masks: &[u128],
-    members: u32,
-    x: usize,
-    y: usize,
-    z: usize,
-) -> u128
-    requires known { HoldsSight members links.now rows.now masks.now }
-    requires left { x < length links.now }
-    requires right { y < length links.now }
-    requires place { z < length links.now }
-    ensures { (m : ℕ) → mask_has result m ≡ (mask_has mask m || (is_ancestor links.now x z && (creator links.now z == m && sees links.now z y))) }
+fn with_seer(mask: u128, sight: &BitSight, x: usize, y: usize, z: usize) -> u128
+    requires few { sight.now.shape.members ≤ 128 }
+    requires left { x < length sight.now.shape.links }
+    requires right { y < length sight.now.shape.links }
+    requires place { z < length sight.now.shape.links }
+    ensures { (m : ℕ) → mask_has result m ≡ (mask_has mask m || (is_ancestor sight.now.shape.links x z && (creator sight.now.shape.links z == m && sees sight.now.shape.links z y))) }
 {
-    let member = creator_of(links, members, z);
+    let member = sight.creator(z);
     if mask_has(mask, member) {
         return mask;
     }
-    if is_seer(links, rows, masks, members, x, y, z) {
+    if sight.ancestor(x, z) && sight.sees(z, y) {
         return with_member(mask, member);
     }
     mask
-}
-
-/// Whether row `z` is an ancestor of row `x` and sees row `y`.
-fn is_seer(
-    links: &[PlacedLink],
-    rows: &[BitRow],
-    masks: &[u128],
-    members: u32,
-    x: usize,
-    y: usize,
-    z: usize,
-) -> bool
-    requires known { HoldsSight members links.now rows.now masks.now }
-    requires left { x < length links.now }
-    requires right { y < length links.now }
-    requires place { z < length links.now }
-    ensures { result ≡ (is_ancestor links.now x z && sees links.now z y) }
-{
-    has_ancestor(links, rows, x, z) && sees(links, rows, masks, members, z, y)
 }

@@ -88,14 +88,7 @@ impl Sight for BitSight {
     }
 
     fn strongly_sees(&self, x: usize, y: usize) -> bool {
-        seeing::strongly_sees(
-            &self.links,
-            &self.ancestors,
-            &self.forked,
-            self.members,
-            x,
-            y,
-        )
+        seeing::strongly_sees(self, x, y)
     }
 }
 

@@ -3,7 +3,7 @@ ghost use Rattle.hg_model.specs.Places.{count_below};
 ghost use Rattle.hg_model.specs.Seeing.{is_supermajority};
 ghost use Rattle.hg_bits.specs.Masks.{mask_has};
 
-use hg_model::Member;
+use hg_model::{Member, is_supermajority};
 
 /// Whether the member is in the set.
 pub fn mask_has(mask: u128, member: Member) -> bool
@@ -42,7 +42,7 @@ pub fn members_over(mask: u128, n: u32) -> bool
     ensures ones { result ≡ is_supermajority n (count_ones mask) }
     ensures members { result ≡ is_supermajority n (count_below 128 (mask_has mask)) }
 {
-    2 * u64::from(n) < 3 * u64::from(mask.count_ones())
+    is_supermajority(n, mask.count_ones())
 }
 
 #[cfg(test)]

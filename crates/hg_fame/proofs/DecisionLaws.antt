@@ -1,22 +1,22 @@
 -- The first decider, found round by round
-use Rattle.std.proofs.Common.{◌≡◌, ℕ, ◌+◌, ◌-◌, ◌<◌, ◌≤◌, Bool, true, false, ◌&&◌, eqb, ltb, List, [], length, get_or, find, take, Option, Some, None, option_map, IsTrue, is_some, lt-ltb, refl, sym, ap, subst, ◌∙◌, inl, inr, arith, le-ltb}
+use Rattle.std.proofs.Common.{◌≡◌, ℕ, ◌+◌, ◌<◌, ◌≤◌, Bool, true, false, ◌&&◌, eqb, ltb, List, length, get_or, find, take, Option, Some, None, option_map, IsTrue, is_some, lt-ltb, refl, sym, ap, ◌∙◌, inl, inr, arith, le-ltb}
 use Rattle.std.proofs.lemmas.Bool.{cases_Bool, cases_lt, eq-eqb, and_left, and_right, false_from_ne_true, both_ways, true≢false}
 use Rattle.std.proofs.lemmas.List.{take_all}
 use Rattle.hg_model.specs.declared.ballot.Ballot.{Ballot}
-use Rattle.hg_model.specs.Places.{list_below, least_below}
+use Rattle.hg_model.specs.Places.{least_below}
 use Rattle.hg_model.specs.Links.{Link}
 use Rattle.hg_model.specs.Rounds.{round_of, is_witness, last_round}
-use Rattle.hg_model.specs.Votes.{weighed_decides, yes_votes, no_votes, rounds_above, vote_of, decides}
+use Rattle.hg_model.specs.Votes.{rounds_above, vote_of, decides}
 use Rattle.hg_model.specs.Fame.{is_decider, fame_of}
 use Rattle.hg_model.specs.Order.{coin_at}
 use Rattle.hg_model.specs.Standings.{Standing, standings_of, witnesses_in, greatest_in}
 use Rattle.hg_model.specs.Prefix.{Graph, IsCounted, ballot_of, links_of}
 use Rattle.hg_model.proofs.FameLaws.{fame_of_witness}
 use Rattle.hg_model.proofs.LinkLaws.{length-links}
+use Rattle.hg_model.proofs.PlacesLaws.{maximum_below_bounds}
+use Rattle.hg_model.proofs.PrefixLaws.{IsWitnessOf, witness_read}
 use Rattle.hg_model.proofs.SearchLaws.{least_below_none, least_below_some, least_below-same}
 use Rattle.hg_model.proofs.StandingLaws.{witnesses_in-standings, greatest_in-standings}
-use Rattle.hg_rounds.proofs.StandingLaws.{maximum_below_bounds}
-use Rattle.hg_votes.proofs.CountLaws.{IsWitnessOf, witness_read}
 use Rattle.hg_fame.specs.Decisions.{first_decider, decides_in, decision_by, decider_in, IsUndecided}
 use Rattle.hg_fame.proofs.FirstLaws.{find_here, find_none_more, find-list_below, in_key, first_by_key, some_not_none}
 

@@ -1,11 +1,11 @@
 -- The first that passes, of a list of places and by a key
-use Rattle.std.proofs.Common.{◌≡◌, ◌≢◌, ℕ, zero, suc, ◌+◌, ◌<◌, ◌≤◌, Bool, true, false, cond, ◌&&◌, leb, eqb, List, [], ◌∷◌, ◌++◌, length, take, get_or, find, Option, Some, None, IfSome, is_some, unwrap_or, refl, sym, ap, ap₂, subst, ◌∙◌, inl, inr, arith, le-leb}
+use Rattle.std.proofs.Common.{◌≡◌, ◌≢◌, ℕ, zero, suc, ◌+◌, ◌<◌, ◌≤◌, Bool, true, false, cond, ◌&&◌, leb, eqb, List, [], ◌∷◌, length, take, get_or, find, Option, Some, None, IfSome, is_some, unwrap_or, refl, sym, ap, subst, ◌∙◌, inl, inr, arith, le-leb}
 use Rattle.std.specs.Option.{option_or}
-use Rattle.std.proofs.lemmas.Bool.{cases_Bool, cases_eq, cases_lt, eq-eqb, ne_eqb, eqb-true, and_parts, and_right, lt-leb, true≢false}
+use Rattle.std.proofs.lemmas.Bool.{cases_Bool, cases_eq, eq-eqb, ne_eqb, eqb-true, and_parts, and_right, lt-leb, true≢false}
 use Rattle.std.proofs.lemmas.List.{take_more}
 use Rattle.std.proofs.lemmas.List.Folds.{find-append}
 use Rattle.hg_model.specs.Places.{list_below, lesser_of, least_below}
-use Rattle.hg_model.proofs.SearchLaws.{IsFoundBelow, least_below_found, least_below_some, least_below-same}
+use Rattle.hg_model.proofs.SearchLaws.{IsFoundBelow, least_below_found, least_below_some}
 
 pub some_not_none : {A : Type 0} {found : Option A} {a : A} → found ≡ Some a → found ≡ None → ⊥
 some_not_none some none = true≢false (ap is_some (sym some ∙ none))

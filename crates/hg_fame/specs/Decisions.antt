@@ -1,5 +1,5 @@
 -- Who decides the fame of a witness
-use Rattle.std.specs.Prelude.{ℕ, ◌≡◌, ◌<◌, ◌≤◌, Bool, false, ◌&&◌, List, length, Option, find, option_map}
+use Rattle.std.specs.Prelude.{ℕ, ◌≡◌, ◌<◌, ◌≤◌, Bool, false, length, Option, find}
 use Rattle.hg_model.specs.Places.{least_below}
 use Rattle.hg_model.specs.Rounds.{round_of}
 use Rattle.hg_model.specs.Votes.{vote_of, decides}

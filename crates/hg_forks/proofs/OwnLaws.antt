@@ -1,6 +1,6 @@
 -- Forks need of a graph no other-parents
-use Rattle.std.proofs.Common.{◌≡◌, ℕ, suc, ◌<◌, eqb, true, inl, inr, List, [], ◌∷◌, ◌++◌, length, Option, Some, None, option_map, slice_get, refl, sym, ap, ◌∙◌, subst, arith}
-use Rattle.std.proofs.lemmas.Bool.{true≢false, or_cases, eqb-true}
+use Rattle.std.proofs.Common.{◌≡◌, ℕ, suc, ◌<◌, true, List, [], ◌∷◌, ◌++◌, length, Option, Some, None, option_map, slice_get, refl, sym, ap, ◌∙◌, subst, arith}
+use Rattle.std.proofs.lemmas.Bool.{true≢false}
 use Rattle.std.proofs.lemmas.List.{map-append, length-map}
 use Rattle.std.proofs.lemmas.Option.{slice_get-map}
 use Rattle.hg_model.specs.Places.{has_place, some_below}
@@ -11,6 +11,7 @@ use Rattle.hg_model.specs.Shape.{FitsLink}
 use Rattle.hg_model.proofs.PlacesLaws.{some_below-same, weight_below-same}
 use Rattle.hg_model.proofs.ReachLaws.{reaches-same}
 use Rattle.hg_model.proofs.PushLaws.{first_of_places}
+use Rattle.hg_model.proofs.ShapeLaws.{none_there, one_there}
 use Rattle.hg_forks.specs.Own.{own_link, own_link_of, own_links, OwnLinksServe}
 
 pub length-own : (L : List Link) → length (own_links L) ≡ length L
@@ -82,12 +83,6 @@ own_links_serve n L = record {
   has_fork = has_fork-own L;
   forkers = forkers-own L n;
 }
-
-none_there : (p : ℕ) → has_place [] p ≡ true → ⊥
-none_there p h = true≢false (sym h)
-
-one_there : (a p : ℕ) → has_place (a ∷ []) p ≡ true → a ≡ p
-one_there a p h = elim (or_cases (eqb a p) (has_place [] p) h) [ inl same ↦ eqb-true a p same | inr none ↦ absurd (none_there p none) ]
 
 -- a row on no self-parent fits where its creator is a member
 pub fits_first : (n : ℕ) (L : List Link) (m : ℕ) → m < n → FitsLink n L (own_link_of m None)

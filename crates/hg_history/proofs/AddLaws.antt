@@ -83,7 +83,7 @@ module _ (marks : Marks) (fame : ℕ → Option Bool) where
       (next k (fold add_mark (record { marks = marks; count = 0 }) (pairs k)) (omega arith) (added k (omega arith)) (fame k) refl)
 
 -- past the first rows a share finds nothing
-found_below : (n c : ℕ) (G : List Row) (L : List Link) (share : Share) (x : ℕ) → length L ≤ x → share_fame n c G L share x ≡ None
+pub found_below : (n c : ℕ) (G : List Row) (L : List Link) (share : Share) (x : ℕ) → length L ≤ x → share_fame n c G L share x ≡ None
 unfolding share_fame
 found_below n c G L share x past =
     ap (λ (b : Bool). cond b (fame_of n c L (coin_at G) x) None) (false_from_ne_true (is_of_share n L share x) (λ h.

@@ -13,7 +13,7 @@ use Rattle.hg_model.proofs.ForkLaws.{has_fork_found, has_fork_from, is_fork_from
 use Rattle.hg_model.proofs.LinkLaws.{length-links, parents_below, parents-links}
 use Rattle.hg_model.proofs.LongerLaws.{IsLonger, slice_get-append, creator-longer, is_self_ancestor-longer}
 use Rattle.hg_model.proofs.PlacesLaws.{weight_below-le}
-use Rattle.hg_model.proofs.PushLaws.{nobody, link_in-append}
+use Rattle.hg_model.proofs.PushLaws.{all_from, nobody, link_in-append}
 use Rattle.hg_history.specs.Laws.{FirstRowsAreAGraph}
 use Rattle.hg_history.proofs.FrontLaws.{longer_than_front, shaped_front}
 
@@ -47,10 +47,6 @@ present_in_front n G more shaped x inside =
 same_links : (G more H : List Row) → AllByRecursion (IsPresent G) H → map (link_in (G ++ more)) H ≡ map (link_in G) H
 same_links G more [] all = refl
 same_links G more (row ∷ H) all = ap₂ (λ (l : Link) (ls : List Link). l ∷ ls) (link_in-append G more row all.0) (same_links G more H all.1)
-
-all_from : {A : Type 0} (P : A → Type 0) (d : A) (xs : List A) → ((k : ℕ) → k < length xs → P (get_or xs k d)) → AllByRecursion P xs
-all_from P d [] each = tt
-all_from P d (x ∷ xs) each = (each 0 (omega arith), all_from P d xs (λ k h. each (Rattle.std.proofs.Common.suc k) (omega arith)))
 
 -- the links of the first rows are the first links
 pub links_of_front : (n : ℕ) (G more : List Row) → IsShaped n (links (G ++ more)) → links G ≡ take (length G) (links (G ++ more))

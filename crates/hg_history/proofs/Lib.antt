@@ -14,7 +14,6 @@ pub mod NodeLaws
 pub mod LogLaws
 pub mod FirstLaws
 mod Worked
-pub mod SplitLaws
 pub mod RoundLaws
 pub mod StayLaws
 pub mod EventLaws

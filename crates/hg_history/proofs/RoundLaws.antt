@@ -11,9 +11,11 @@ use Rattle.hg_model.specs.Fame.{Marks}
 use Rattle.hg_model.specs.Order.{sort_by, comes_before, keyed_at, is_received_in, ordered_in, round_received, received_or_zero, last_closed}
 use Rattle.hg_model.specs.History.{State}
 use Rattle.hg_model.specs.Kept.{kept, kept_up_to}
+use Rattle.hg_model.proofs.ListLaws.{filter-list_below}
+use Rattle.hg_model.proofs.PlacesLaws.{list_below-same, list_below-longer}
+use Rattle.hg_model.proofs.SplitLaws.{sort_split}
 use Rattle.hg_prefix.proofs.ClosedLaws.{closed_last}
 use Rattle.hg_prefix.proofs.FamousLaws.{received_is}
-use Rattle.hg_history.proofs.SplitLaws.{sort_split, filter-list_below, list_below-same, list_below-longer}
 
 -- keys fall apart by their rounds
 

@@ -43,7 +43,7 @@ none_if_no_news mark None none no_news = refl
 none_if_no_news mark (Some v) none no_news = absurd (true≢false (sym (ap (λ (o : Option Bool). is_none o && true) none) ∙ no_news))
 
 -- where a count is 0 no place passes
-not_counted : (len x : ℕ) (test : ℕ → Bool) → count_below len test ≡ 0 → x < len → test x ≡ false
+pub not_counted : (len x : ℕ) (test : ℕ → Bool) → count_below len test ≡ 0 → x < len → test x ≡ false
 not_counted zero x test none low = absurd (omega arith)
 not_counted (suc len) x test none low =
     let whole : count_below (len + 1) test ≡ 0 = ap (λ (k : ℕ). count_below k test) (add-one len) ∙ none in

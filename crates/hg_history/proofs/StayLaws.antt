@@ -15,6 +15,7 @@ use Rattle.hg_model.specs.History.Change.{Took, Made, Marked}
 use Rattle.hg_model.proofs.LinkLaws.{length-links}
 use Rattle.hg_model.proofs.LongerLaws.{slice_get-append}
 use Rattle.hg_model.proofs.NameLaws.{place_of_at}
+use Rattle.hg_model.proofs.PlacesLaws.{list_below-same, list_below-longer}
 use Rattle.hg_model.proofs.PushLaws.{nobody}
 use Rattle.hg_prefix.specs.Standing.{place_in, IsMarkedPart}
 use Rattle.hg_prefix.specs.Orders.{IsPrefix}
@@ -29,7 +30,6 @@ use Rattle.hg_history.proofs.KeptLaws.{stands_as_first}
 use Rattle.hg_history.proofs.MarkLaws.{closed_before_row}
 use Rattle.hg_history.proofs.RoundLaws.{order_by_rounds}
 use Rattle.hg_history.proofs.SoundLaws.{IsSound, sound, moment, closed_later}
-use Rattle.hg_history.proofs.SplitLaws.{list_below-same, list_below-longer}
 
 -- the test that a row is received in just this round
 

@@ -1,5 +1,5 @@
 -- How what a share found becomes marks: one place after the other
-use Rattle.std.specs.Prelude.{ℕ, ◌+◌, Bool, cond, List, fold, Option, Some, is_none, slice_set}
+use Rattle.std.specs.Prelude.{ℕ, ◌+◌, Bool, cond, List, fold, Some, is_none, slice_set}
 use Rattle.std.specs.Option.{option_or}
 use Rattle.hg_model.specs.Fame.{Marks, mark_at}
 

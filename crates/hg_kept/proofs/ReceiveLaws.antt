@@ -17,10 +17,9 @@ use Rattle.hg_model.specs.Prefix.{Graph, links_of}
 use Rattle.hg_model.specs.Kept.{kept_up_to}
 use Rattle.hg_model.proofs.AncestryLaws.{is_ancestor-le}
 use Rattle.hg_model.proofs.LinkLaws.{length-links}
-use Rattle.hg_model.proofs.ListLaws.{map-list_below, all_list_below, length-list_below-le}
-use Rattle.hg_model.proofs.PlacesLaws.{list_below-same}
+use Rattle.hg_model.proofs.ListLaws.{map-list_below, all_list_below, filter-list_below, length-list_below-le}
+use Rattle.hg_model.proofs.PlacesLaws.{list_below-same, list_below-longer}
 use Rattle.hg_history.proofs.RoundLaws.{up_to_is}
-use Rattle.hg_history.proofs.SplitLaws.{filter-list_below, list_below-longer}
 use Rattle.hg_order.specs.Famous.{famous_of, AreFamous, all_have, IsBelowAll}
 use Rattle.hg_order.specs.Round.{received_places, received_order}
 use Rattle.hg_kept.specs.Published.{KeepsUpTo, is_pending, state_by}

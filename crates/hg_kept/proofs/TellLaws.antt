@@ -11,20 +11,12 @@ use Rattle.hg_model.specs.Shape.{Shape}
 use Rattle.hg_model.specs.Standings.{Standing, round_at, witness_at, witnesses_in}
 use Rattle.hg_model.proofs.LinkLaws.{length-links}
 use Rattle.hg_model.proofs.ListLaws.{all_list_below}
-use Rattle.hg_model.proofs.StandingLaws.{length-standings, round_at-standings, witness_at-standings, witnesses_in-standings}
+use Rattle.hg_model.proofs.PrefixLaws.{rows_told}
+use Rattle.hg_model.proofs.StandingLaws.{round_at-standings, witness_at-standings, witnesses_in-standings}
 use Rattle.hg_kept.specs.Published.{IsReached, is_last_late}
 use Rattle.hg_kept.proofs.NextLaws.{next_closed}
 
 module _ (shape : Shape) (S : List Standing) (g : Graph) (told : TellsGraph shape S g) where
-  pub shaped_told : IsShaped shape.members shape.links → IsShaped g.members (links_of g)
-  shaped_told shaped = subst (λ (s : Shape). IsShaped s.members s.links) told.shaped shaped
-
-  pub rows_told : length shape.links ≡ length g.rows
-  rows_told = ap (λ (s : Shape). length s.links) told.shaped ∙ length-links g.rows
-
-  pub standings_told : length S ≡ length g.rows
-  standings_told = ap length told.standing ∙ (length-standings g.members (links_of g) ∙ length-links g.rows)
-
   -- the witnesses of a round have places for their marks
   pub witnesses_inside : (r : ℕ) (witnesses : List ℕ) → witnesses ≡ witnesses_in S r → (marks : Marks) → length marks ≡ length g.rows → All (λ w. w < length marks) witnesses
   witnesses_inside r witnesses are marks even =
@@ -46,7 +38,7 @@ module _ (shape : Shape) (S : List Standing) (g : Graph) (told : TellsGraph shap
   late_told some x closed last =
       let n = g.members in
       let L = links_of g in
-      let rows = rows_told in
+      let rows = rows_told shape S g told in
       let at : x ≡ length g.rows - 1 = omega arith in
       let inside : x < length L = omega (arith, length-links g.rows) in
       ap (λ (T : List Standing). witness_at T x && leb (round_at T x) closed) told.standing

@@ -9,8 +9,7 @@ ghost use Rattle.hg_kept.specs.Published.{HasCome, Keeps, TookRow, is_last_late,
 use crate::closing::close_rounds;
 use crate::marking::mark_found;
 use crate::pending::Pending;
-use crate::told::told;
-use hg_model::{Found, Memory, Placed, Prefix};
+use hg_model::{Found, Memory, Placed, Prefix, tells_graph};
 use std::alloc::Global;
 use std::marker::Model;
 
@@ -70,7 +69,7 @@ impl Kept {
         ensures keeps { Keeps (P.graph p.now) self.new.published }
         ensures room { self.new.room + 1 ≡ self.old.room }
     {
-        told(p);
+        tells_graph(p);
         let mark = first_mark(p, self.closed);
         self.marks.push_reserved(mark);
     }
@@ -86,7 +85,7 @@ impl Kept {
         ensures grows { IsPrefix self.old.published.order self.new.published.order }
         ensures room { self.new.room ≡ self.old.room }
     {
-        told(p);
+        tells_graph(p);
         let count = mark_found(&mut self.marks, found.marks.as_slice());
         self.closed = close_rounds(
             p,
@@ -126,7 +125,7 @@ fn is_last_late<P: Prefix>(p: &P, closed: u32) -> bool
     requires some { 0 < length (P.graph p.now).rows }
     ensures { result ≡ is_last_late (P.graph p.now) closed }
 {
-    told(p);
+    tells_graph(p);
     let x = p.rows() - 1;
     p.is_witness(x) && p.round(x) <= closed
 }

@@ -7,6 +7,5 @@ mod closing;
 mod kept;
 mod marking;
 mod pending;
-mod told;
 
 pub use kept::Kept;

@@ -1,8 +1,11 @@
 pub mod LinkLaws
 pub mod PlacesLaws
+pub mod WeightLaws
 pub mod SortLaws
+pub mod SplitLaws
 pub mod CompareLaws
 pub mod ListLaws
+pub mod OrderLaws
 pub mod RowLaws
 pub mod VoteLaws
 pub mod SearchLaws
@@ -19,6 +22,7 @@ pub mod AgreeLaws
 pub mod LateLaws
 pub mod LongerLaws
 pub mod StandingLaws
+pub mod PrefixLaws
 pub mod ShapeLaws
 pub mod GraphLaws
 mod Worked

@@ -1,8 +1,9 @@
 -- The laws of lists of what stands at places
 use Rattle.std.proofs.Common.{◌≡◌, ℕ, zero, suc, ◌+◌, ◌<◌, ◌≤◌, length, Bool, true, false, cond, ◌&&◌, ◌||◌, not, eqb, List, [], ◌∷◌, ◌++◌, map, sum_by, count_by, sym, refl, ap, ap₂, ◌∙◌, inl, inr, arith, zero-add}
-use Rattle.std.specs.List.{AllByRecursion, list_any, list_all}
+use Rattle.std.specs.List.{AllByRecursion, list_any, list_all, filter}
 use Rattle.std.proofs.lemmas.Bool.{cases_Bool, not_from_false, ne_eqb, or_right}
 use Rattle.std.proofs.lemmas.List.{map-append, append-nil, length-append, length_push}
+use Rattle.std.proofs.lemmas.List.Elements.{filter-append}
 use Rattle.std.proofs.lemmas.List.Sums.{sum_by-append}
 use Rattle.hg_model.specs.Places.{weight_below, count_below, some_below, list_below}
 use Rattle.hg_model.proofs.SortLaws.{IsPairwise, IsPairwise-push}
@@ -15,6 +16,19 @@ map-list_below f value (suc n) test =
     ∙ ap₂ (λ xs ys. xs ++ ys) (map-list_below f value n test) (last (test n))
   where
     last : (b : Bool) → map f (cond b (value n ∷ []) []) ≡ cond b (f (value n) ∷ []) []
+    last true = refl
+    last false = refl
+
+-- those of a list of places whose values pass a second test
+pub filter-list_below : {A : Type 0} (test : A → Bool) (value : ℕ → A) (n : ℕ) (passes : ℕ → Bool) →
+    filter test (list_below value n passes) ≡ list_below value n (λ k. passes k && test (value k))
+unfolding list_below
+filter-list_below test value zero passes = refl
+filter-list_below {A} test value (suc n) passes =
+    filter-append test (list_below value n passes) (cond (passes n) (value n ∷ []) [])
+    ∙ ap₂ (λ (xs ys : List A). xs ++ ys) (filter-list_below test value n passes) (last (passes n))
+  where
+    last : (b : Bool) → filter test (cond b (value n ∷ []) []) ≡ cond (b && test (value n)) (value n ∷ []) []
     last true = refl
     last false = refl
 

@@ -1,8 +1,8 @@
 -- The laws of recursion, search, counts and lists over places
-use Rattle.std.proofs.Common.{◌≡◌, ℕ, zero, suc, ◌+◌, ◌<◌, ◌≤◌, Bool, true, false, cond, ◌||◌, ltb, max, [], ◌∷◌, ◌++◌, length, get_or, Some, None, sym, refl, ap, ◌∙◌, inl, inr, arith, add-one, add-zero, lt-ltb, le-ltb}
+use Rattle.std.proofs.Common.{◌≡◌, ℕ, zero, suc, ◌+◌, ◌<◌, ◌≤◌, Bool, true, false, cond, ◌||◌, ltb, max, List, [], ◌∷◌, ◌++◌, length, get_or, Some, None, sym, refl, ap, ap₂, ◌∙◌, inl, inr, arith, add-one, add-zero, lt-ltb, le-ltb}
 use Rattle.std.proofs.Math.Path.{fun_ext}
 use Rattle.std.proofs.lemmas.List.{length_push, get_or_append_left, get_or_push, get_or_past, append-nil}
-use Rattle.std.proofs.lemmas.Bool.{cases_lt, or_cases, or_left, or_right, true≢false, false_from_ne_true, cases_Bool}
+use Rattle.std.proofs.lemmas.Bool.{cases_lt, cases_eq, or_cases, or_left, or_right, true≢false, false_from_ne_true, cases_Bool}
 use Rattle.hg_model.specs.Places.{weight_below, count_below, some_below, list_below, lesser_of, least_below, greatest_below, maximum_below, values_below, by_place}
 
 -- recursion over places
@@ -224,6 +224,21 @@ list_below-same one two (suc n) test other same values =
 
 pub ruleset list_steps = (list_below_zero, list_below_passes, list_below_fails)
 
+-- where no later place passes, the list is that of the first places
+pub list_below-longer : {A : Type 0} (value : ℕ → A) (len : ℕ) (n : ℕ) (f : ℕ → Bool) → len ≤ n → ((k : ℕ) → len ≤ k → k < n → f k ≡ false) → list_below value n f ≡ list_below value len f
+unfolding list_below
+list_below-longer value zero zero f le none = refl
+list_below-longer value (suc len) zero f le none = absurd (omega arith)
+list_below-longer {A} value len (suc n) f le none = elim (cases_eq len (suc n)) [
+  | inl same ↦ ap (λ (k : ℕ). list_below value k f) (sym same)
+  | inr other ↦ (ap₂ (λ (xs ys : List A). xs ++ ys) (list_below-longer value len n f (omega arith) (λ k ge low. none k ge (omega arith)))
+      (ap (λ (b : Bool). cond b (value n ∷ []) []) (none n (omega arith) (omega arith)))
+      ∙ append-nil (list_below value len f))
+]
+
+pub list_below_none : {A : Type 0} (value : ℕ → A) (n : ℕ) (test : ℕ → Bool) → ((k : ℕ) → k < n → test k ≡ false) → list_below value n test ≡ []
+list_below_none value n test none = list_below-longer value 0 n test (omega arith) (λ k ge low. none k low) ∙ list_below_zero value test
+
 -- the steps of loops that look for the least and the greatest
 
 pub least_below_zero : (key : ℕ → ℕ) (test : ℕ → Bool) → least_below key 0 test ≡ None
@@ -269,5 +284,13 @@ maximum_below-same one two (suc n) same =
     let first = maximum_below-same one two n (λ k h. same k (omega arith)) in
     let last = same n (omega arith) in
     cc
+
+pub maximum_below_bounds : (value : ℕ → ℕ) (n k : ℕ) → k < n → value k ≤ maximum_below value n
+unfolding maximum_below
+maximum_below_bounds value zero k h = absurd (omega arith)
+maximum_below_bounds value (suc n) k h = elim (cases_lt k n) [
+  | inl before ↦ omega (arith, maximum_below_bounds value n k before)
+  | inr last ↦ (let same : value k ≡ value n = ap value (omega arith) in omega arith)
+]
 
 pub ruleset maximum_steps = (maximum_below_zero, maximum_below_next)

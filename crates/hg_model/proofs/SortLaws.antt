@@ -1,13 +1,13 @@
 -- Sorting: what a sort of std leaves is `sort_by`; ties that a second test breaks as the list stands; median
-use Rattle.std.proofs.Common.{◌≡◌, ℕ, suc, ◌-◌, ◌/◌, ◌<◌, ◌≤◌, Bool, true, false, cond, not, List, [], ◌∷◌, ◌++◌, length, map, get_or, sum_by, IsPermutation, IsSorted, IsSortedBy, nat_cmp, is_lt, is_eq, Ordering, ltb, eqb, sym, refl, ap, ◌∙◌, inl, inr, arith}
+use Rattle.std.proofs.Common.{◌≡◌, ℕ, suc, ◌-◌, ◌/◌, ◌<◌, ◌≤◌, Bool, true, false, cond, not, List, [], ◌∷◌, ◌++◌, length, map, get_or, sum_by, IsPermutation, IsSorted, IsSortedBy, nat_cmp, is_lt, is_eq, Ordering, ltb, eqb, sym, refl, ap, ap₂, ◌∙◌, inl, inr, arith}
 use Rattle.std.specs.List.{AllByRecursion}
 use Rattle.std.specs.Cmp.{IsStrictWeakOrder, IsTotalOrder}
 use Rattle.std.specs.Ordering.{ordering_reverse}
-use Rattle.std.proofs.lemmas.Bool.{cases_Bool, both_ways, not_from_false, not_from_true, false_from_ne_true, true_from_ne_false}
+use Rattle.std.proofs.lemmas.Bool.{cases_Bool, both_ways, not_from_false, not_from_true, false_from_ne_true, true_from_ne_false, ltb-false}
 use Rattle.std.proofs.Math.Path.{fun_ext}
 use Rattle.std.proofs.lemmas.Cmp.{nat_cmp_total, ranked}
 use Rattle.std.proofs.lemmas.List.Sums.{sum_by-cons}
-use Rattle.std.proofs.lemmas.List.Sorted.{sorted_far, sum_by-IsPermutation, length_permutation, ranks_by}
+use Rattle.std.proofs.lemmas.List.Sorted.{sorted_far, sum_by-IsPermutation, length_permutation, ranks_by, IsStrictWeakOrder-by_number}
 use Rattle.hg_model.specs.Order.{insert_by, sort_by, median}
 
 -- the relation holds of each element with each later one
@@ -159,6 +159,27 @@ sorted_numbers xs ys moved sorted =
 pub median_is : (xs ys : List ℕ) → IsPermutation xs ys → IsSorted nat_cmp ys → get_or ys ((length ys - 1) / 2) 0 ≡ median xs
 unfolding median
 median_is xs ys moved sorted = rw (length_permutation xs ys moved) (ap (λ zs. get_or zs ((length xs - 1) / 2) 0) (sorted_numbers xs ys moved sorted))
+
+-- lists with the same elements sort alike, and have the same median
+
+pub same_sorted : {A : Type 0} (less : A → A → Bool) → IsStrictWeakOrder less → ((a b : A) → less a b ≡ false → less b a ≡ false → a ≡ b) →
+    (xs ys : List A) → HasSameSums xs ys → sort_by less xs ≡ sort_by less ys
+same_sorted less order ties xs ys same =
+    one_ascending less order ties (sort_by less xs) (sort_by less ys) (sort_by-ascending less order xs) (sort_by-ascending less order ys)
+    (λ weight. sort_by-sums less xs weight ∙ (same weight ∙ sym (sort_by-sums less ys weight)))
+
+pub sum_of_ones : {A : Type 0} (xs : List A) → sum_by (λ _. 1) xs ≡ length xs
+sum_of_ones [] = refl
+sum_of_ones (x ∷ xs) = omega (arith, sum_by-cons (λ _. 1) x xs, sum_of_ones xs)
+
+same_length : {A : Type 0} (xs ys : List A) → HasSameSums xs ys → length xs ≡ length ys
+same_length xs ys same = sym (sum_of_ones xs) ∙ (same (λ _. 1) ∙ sum_of_ones ys)
+
+pub median-same : (xs ys : List ℕ) → HasSameSums xs ys → median xs ≡ median ys
+unfolding median
+median-same xs ys same =
+    let sorted = same_sorted ltb (IsStrictWeakOrder-by_number (λ x. x)) (λ a b le ge. omega (arith, ltb-false a b le, ltb-false b a ge)) xs ys same in
+    ap₂ (λ (zs : List ℕ) (k : ℕ). get_or zs ((k - 1) / 2) 0) sorted (same_length xs ys same)
 
 -- two tests that agree of each element against each earlier one sort alike
 

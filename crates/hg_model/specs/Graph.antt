@@ -1,9 +1,8 @@
 -- What every node's rows keep to. SWIRLDS-TR-2016-01, sections 3 and 5
 use Rattle.std.specs.Prelude.{ℕ, ◌*◌, ◌<◌, ◌≡◌, ◌≢◌, Bool, true, not, ◌&&◌, ◌==◌, nat_lt, List, length, Option, Some, None, slice_get, []}
 use Rattle.std.specs.List.{list_all}
-use Rattle.std.specs.Str.{bytes_eq}
 use Rattle.hg_model.specs.declared.row.Row.{Row}
-use Rattle.hg_model.specs.Places.{has_place, IsEarlier, some_below}
+use Rattle.hg_model.specs.Places.{has_place, IsEarlier}
 use Rattle.hg_model.specs.Links.{Link, links, parents, self_parent, other_parents, creator}
 use Rattle.hg_model.specs.Forks.{forkers}
 

@@ -13,7 +13,7 @@ use Rattle.hg_model.specs.Graph.{name_at}
 use Rattle.hg_model.specs.Rounds.{last_round}
 use Rattle.hg_model.specs.Fame.{fame_marks}
 use Rattle.hg_model.specs.Order.{coin_at, last_closed, order_of, sequence_of}
-use Rattle.hg_model.specs.Pay.{Book, book_of}
+use Rattle.hg_model.specs.Pay.{book_of}
 
 -- the greatest round that the graph's own fame closes, or 0
 unfoldable pub closed_of : ℕ → ℕ → List Row → ℕ

@@ -1,4 +1,5 @@
-ghost use Rattle.std.specs.Prelude.{◌≡◌, ◌<◌, Some, length, slice_get};
+ghost use Rattle.std.specs.Prelude.{◌≡◌, ◌<◌, ◌≤◌, ◌-◌, ◌^◌, Some, length, slice_get};
+ghost use Rattle.hg_model.specs.Graph.{IsShaped};
 ghost use Rattle.hg_model.specs.Prefix.{Graph, TellsGraph, links_of};
 ghost use Rattle.hg_model.specs.Shape.{shape_of};
 ghost use Rattle.hg_model.specs.Standings.{standings_of};
@@ -27,4 +28,20 @@ pub trait Prefix: Sight + Rounds {
 
     /// Its rounds are the graph's.
     ghost has_rounds: { (p : Self) → Self.standings p ≡ standings_of (graph p).members (links_of (graph p)) };
+}
+
+/// A law: what a prefix sees and its rounds are those of its rows, which make a shaped graph of at most 128 members and
+/// are fewer than 2^32 - 1.
+pub fn tells_graph<P: Prefix>(p: &P)
+    ensures told { TellsGraph (P.shape p.now) (P.standings p.now) (P.graph p.now) }
+    ensures shaped { IsShaped (P.graph p.now).members (links_of (P.graph p.now)) }
+    ensures few { (P.graph p.now).members ≤ 128 }
+    ensures long { length (links_of (P.graph p.now)) ≡ length (P.graph p.now).rows }
+    ensures links { length (P.shape p.now).links ≡ length (P.graph p.now).rows }
+    ensures standings { length (P.standings p.now) ≡ length (P.graph p.now).rows }
+    ensures short { length (P.graph p.now).rows < 2 ^ 32 - 1 }
+{
+    p.coin();
+    p.rows();
+    p.members();
 }

@@ -1,19 +1,17 @@
 -- What the news of a share leave: as many marks more, and the same marks where there are none
-use Rattle.std.proofs.Common.{◌≡◌, ℕ, ◌+◌, ◌<◌, ◌≤◌, Bool, true, false, cond, not, ◌&&◌, ltb, List, [], ◌∷◌, ◌++◌, length, take, Option, Some, None, is_some, sym, refl, ap, ◌∙◌, inl, inr, arith}
+use Rattle.std.proofs.Common.{◌≡◌, ℕ, ◌+◌, ◌<◌, ◌≤◌, Bool, true, false, not, ◌&&◌, [], ◌∷◌, ◌++◌, length, take, Option, Some, None, is_some, sym, refl, ap, ◌∙◌, inl, inr, arith}
 use Rattle.std.specs.Prelude.{is_none}
 use Rattle.std.specs.Option.{option_or}
-use Rattle.std.proofs.lemmas.Bool.{and_parts, cases_lt, false_from_ne_true, le-ltb, true≢false}
+use Rattle.std.proofs.lemmas.Bool.{cases_lt, true≢false}
 use Rattle.std.proofs.lemmas.List.{ext_get_or, length_push, get_or_append_left, length-take-le}
 use Rattle.std.proofs.lemmas.List.FromFn.{length-map-range_with_len}
-use Rattle.hg_model.specs.declared.row.Row.{Row}
-use Rattle.hg_model.specs.Links.{Link}
-use Rattle.hg_model.specs.Rounds.{is_witness}
-use Rattle.hg_model.specs.Fame.{Marks, mark_at, fame_of}
-use Rattle.hg_model.specs.Order.{coin_at}
-use Rattle.hg_model.specs.Shares.{Share, is_of_share, share_fame, early_fame}
+use Rattle.hg_model.specs.Fame.{Marks, mark_at}
+use Rattle.hg_model.specs.Shares.{Share, early_fame}
 use Rattle.hg_model.specs.History.{State, is_news, news, new_mark, with_marks}
-use Rattle.hg_model.proofs.PlacesLaws.{weight_below_grows, count_below_passes}
+use Rattle.hg_model.proofs.PlacesLaws.{weight_below_grows}
 use Rattle.hg_model.proofs.QuorumLaws.{weight_below_split}
+use Rattle.hg_history.proofs.AddLaws.{found_below}
+use Rattle.hg_history.proofs.SettleLaws.{not_counted}
 use Rattle.hg_history.proofs.StateLaws.{IsEven, mark_of_table}
 use Rattle.hg_node.specs.Recorded.{marked}
 
@@ -46,15 +44,6 @@ or_none a None e = keeps a
     keeps (Some v) = refl
 or_none a (Some v) e = cc
 
--- past the first rows a share finds nothing
-none_past : (n c : ℕ) (G : List Row) (L : List Link) (share : Share) (x : ℕ) → length L ≤ x → share_fame n c G L share x ≡ None
-unfolding share_fame
-none_past n c G L share x past =
-    ap (λ (b : Bool). cond b (fame_of n c L (coin_at G) x) None) (false_from_ne_true (is_of_share n L share x) (λ h.
-    let one = and_parts (ltb x (length L) && is_witness n L x) _ h in
-    let two = and_parts (ltb x (length L)) (is_witness n L x) one.0 in
-    true≢false (sym two.0 ∙ le-ltb x (length L) past)))
-
 module _ (n c : ℕ) (s : State) (even : IsEven s) (len : ℕ) (share : Share) (within : len ≤ length s.rows) where
   after : Marks
   after = (with_marks n c s len share).marks
@@ -83,20 +72,13 @@ module _ (n c : ℕ) (s : State) (even : IsEven s) (len : ℕ) (share : Share) (
       (λ x low is. ap (λ (o : Option Bool). is_some o && not (is_old x)) (mark_after x (omega arith)) ∙ news_some (mark_at s.marks x) (fame x) is) in
       omega (arith, split, old, fresh)
 
-  quiet : news n c s len share ≡ 0 → (x : ℕ) → x < len → is_news n c s len share x ≡ false
-  unfolding news
-  quiet none x low = false_from_ne_true (is_news n c s len share x) (λ is.
-      let more = count_below_passes x (is_news n c s len share) is in
-      let fewer = weight_below_grows (λ _. 1) (x + 1) len (is_news n c s len share) (is_news n c s len share) (omega arith) (λ k small h. h) in
-      omega (arith, more, fewer, none))
-
   -- no news leave the marks
   pub same_marks : news n c s len share ≡ 0 → (with_marks n c s len share).marks ≡ s.marks
-  unfolding after fame
+  unfolding news after fame
   same_marks none =
       ext_get_or None after s.marks (sized ∙ sym even.marks) (λ x inside.
       mark_after x (omega (arith, sized))
       ∙ elim (cases_lt x len) [
-        | inl low ↦ nothing_new (mark_at s.marks x) (fame x) (quiet none x low)
-        | inr past ↦ or_none (mark_at s.marks x) (fame x) (none_past n c (take len s.rows) (take len s.links) share x (omega (arith, length-take-le len s.links (omega (arith, even.links)))))
+        | inl low ↦ nothing_new (mark_at s.marks x) (fame x) (not_counted len x (is_news n c s len share) none low)
+        | inr past ↦ or_none (mark_at s.marks x) (fame x) (found_below n c (take len s.rows) (take len s.links) share x (omega (arith, length-take-le len s.links (omega (arith, even.links)))))
       ])

@@ -1,38 +1,27 @@
 -- The unique famous witnesses of one round: there is at most one by each member, and they are what is lone among the witnesses
-use Rattle.std.proofs.Common.{◌≡◌, ◌≢◌, ℕ, zero, suc, ◌<◌, ◌≤◌, Bool, true, false, cond, not, ◌&&◌, ◌||◌, eqb, List, [], ◌∷◌, ◌++◌, length, get_or, filter, count_by, fold, replicate, All, sym, refl, ap, ap₂, ◌∙◌, subst, inl, inr, arith}
+use Rattle.std.proofs.Common.{◌≡◌, ℕ, ◌<◌, ◌≤◌, Bool, true, false, not, ◌&&◌, eqb, List, length, get_or, filter, count_by, fold, replicate, All, sym, refl, ap, ◌∙◌, inl, inr, arith}
 use Rattle.std.specs.List.{AllByRecursion, list_any}
 use Rattle.std.proofs.lemmas.Bool.{cases_eq, and_parts, and_from, eqb-true, eq-eqb, ne_eqb, not-true, not_from_false, both_ways}
-use Rattle.std.proofs.lemmas.List.Elements.{All-same, All-from_recursion, filter-append}
+use Rattle.std.proofs.lemmas.List.Elements.{All-same, All-from_recursion}
 use Rattle.std.proofs.lemmas.List.Folds.{fold-map}
 use Rattle.std.proofs.lemmas.List.Sums.{length-filter}
 use Rattle.hg_model.specs.declared.row.Row.{Row}
-use Rattle.hg_model.specs.Places.{count_below, some_below, list_below}
-use Rattle.hg_model.specs.Links.{Link, links, creator}
+use Rattle.hg_model.specs.Places.{some_below, list_below}
+use Rattle.hg_model.specs.Links.{Link, creator}
 use Rattle.hg_model.specs.Ancestry.{is_ancestor}
 use Rattle.hg_model.specs.Graph.{IsShaped}
 use Rattle.hg_model.specs.Rounds.{round_of, is_witness}
 use Rattle.hg_model.specs.Fame.{Marks, mark_at, is_yes, is_witness_in, is_famous_in, is_rival, is_unique_famous, is_closed}
-use Rattle.hg_model.specs.Order.{famous_places, can_receive, is_without, sig_at, xor_bytes, whitening}
+use Rattle.hg_model.specs.Order.{famous_places, can_receive, sig_at, xor_bytes, whitening}
 use Rattle.hg_model.specs.Prefix.{Graph, TellsGraph, links_of}
 use Rattle.hg_model.specs.Shape.{Shape}
 use Rattle.hg_model.specs.Standings.{Standing, round_at, witnesses_in}
 use Rattle.hg_model.proofs.StandingLaws.{round_at-standings, witnesses_in-standings}
 use Rattle.hg_model.proofs.PlacesLaws.{list_below-same, some_below-same, some_below_from}
-use Rattle.hg_model.proofs.ListLaws.{sum_by-list_below, list_any-list_below, list_all-list_below, none-list_below, all_list_below, map-list_below}
+use Rattle.hg_model.proofs.ListLaws.{sum_by-list_below, list_any-list_below, list_all-list_below, none-list_below, all_list_below, map-list_below, filter-list_below}
+use Rattle.hg_model.proofs.SortLaws.{sum_of_ones}
 use Rattle.hg_order.specs.Famous.{famous_of, AreFamous, all_have, is_rival_to, is_lone, whitening_of}
-use Rattle.hg_order.proofs.ImageLaws.{count_below-apart, sum_of_ones}
-
-filter_one : {A : Type 0} (test : A → Bool) (x : A) (b : Bool) → filter test (cond b (x ∷ []) []) ≡ cond (b && test x) (x ∷ []) []
-filter_one test x false = refl
-filter_one test x true = refl
-
-pub filter-list_below : {A : Type 0} (test : A → Bool) (value : ℕ → A) (n : ℕ) (passes : ℕ → Bool) →
-    filter test (list_below value n passes) ≡ list_below value n (λ k. passes k && test (value k))
-unfolding list_below
-filter-list_below test value zero passes = refl
-filter-list_below {A} test value (suc n) passes =
-    filter-append test (list_below value n passes) (cond (passes n) (value n ∷ []) [])
-    ∙ ap₂ (λ (xs ys : List A). xs ++ ys) (filter-list_below test value n passes) (filter_one test (value n) (passes n))
+use Rattle.hg_order.proofs.ImageLaws.{count_below-apart}
 
 and_assoc : (a b c d : Bool) → (a && (b && c && d)) ≡ (a && b && c && d)
 and_assoc true b c d = refl

@@ -1,19 +1,18 @@
 -- The times of the first holders on the lines of the unique famous witnesses are those of the consensus timestamp
-use Rattle.std.proofs.Common.{◌≡◌, ℕ, ◌<◌, ◌≤◌, Bool, true, not, ◌&&◌, List, length, map, sum_by, sym, refl, ap, ◌∙◌, subst, inl, inr, arith}
-use Rattle.std.specs.List.{AllByRecursion, list_all}
-use Rattle.std.proofs.lemmas.Bool.{cases_Bool, and_parts, and_from, false_from_ne_true, not-true, not_from_false, both_ways}
+use Rattle.std.proofs.Common.{◌≡◌, ℕ, ◌<◌, ◌≤◌, Bool, true, not, ◌&&◌, List, length, sum_by, sym, ap, ◌∙◌, inl, inr, arith}
+use Rattle.std.proofs.lemmas.Bool.{cases_Bool, and_parts, and_from, not-true, not_from_false, both_ways}
 use Rattle.hg_model.specs.declared.row.Row.{Row}
-use Rattle.hg_model.specs.Places.{weight_below, some_below, list_below}
-use Rattle.hg_model.specs.Links.{Link, self_parent, creator}
+use Rattle.hg_model.specs.Places.{some_below, list_below}
+use Rattle.hg_model.specs.Links.{Link, creator}
 use Rattle.hg_model.specs.Ancestry.{is_ancestor, is_self_ancestor}
 use Rattle.hg_model.specs.Graph.{IsShaped}
 use Rattle.hg_model.specs.Fame.{Marks, is_unique_famous}
 use Rattle.hg_model.specs.Order.{time_at, median, famous_places, is_first_holder, is_below_famous, is_without, consensus_time}
 use Rattle.hg_model.proofs.PlacesLaws.{some_below_from, some_below_found}
 use Rattle.hg_model.proofs.ListLaws.{sum_by-list_below, map-list_below, list_all-list_below}
-use Rattle.hg_model.proofs.SortLaws.{HasSameSums}
+use Rattle.hg_model.proofs.SortLaws.{HasSameSums, median-same}
 use Rattle.hg_order.specs.Famous.{all_have, first_holder, times_of}
-use Rattle.hg_order.proofs.ImageLaws.{IsImage, weight_below-image, median-same}
+use Rattle.hg_order.proofs.ImageLaws.{IsImage, weight_below-image}
 use Rattle.hg_order.proofs.LineLaws.{IsFirstHolder, is_new_to_line, first_holder_is, first_holder_found, first_holder-le, creator_of_line}
 use Rattle.hg_order.proofs.FamousLaws.{one_by_creator}
 

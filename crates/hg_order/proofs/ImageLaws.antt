@@ -1,47 +1,9 @@
--- Weights of places and of what a function makes of them, and medians of lists with the same elements
-use Rattle.std.proofs.Common.{◌≡◌, ◌≢◌, ℕ, zero, suc, ◌+◌, ◌-◌, ◌/◌, ◌<◌, ◌≤◌, Bool, true, false, cond, ◌&&◌, not, eqb, ltb, List, [], ◌∷◌, length, get_or, sum_by, sym, refl, ap, ap₂, ◌∙◌, subst, inl, inr, arith}
-use Rattle.std.proofs.lemmas.Bool.{cases_Bool, cases_eq, and_parts, and_from, eqb-true, eq-eqb, ne_eqb, not-true, both_ways, ltb-false}
-use Rattle.std.proofs.lemmas.List.Sorted.{IsStrictWeakOrder-by_number}
-use Rattle.std.proofs.lemmas.List.Sums.{sum_by-cons}
+-- Weights of places and of what a function makes of them
+use Rattle.std.proofs.Common.{◌≡◌, ◌≢◌, ℕ, zero, suc, ◌<◌, ◌≤◌, Bool, true, cond, ◌&&◌, not, eqb, sym, refl, ap, ◌∙◌, subst, inl, inr, arith}
+use Rattle.std.proofs.lemmas.Bool.{cases_Bool, cases_eq, and_parts, and_from, eqb-true, eq-eqb, not-true, both_ways}
 use Rattle.hg_model.specs.Places.{weight_below, count_below, some_below}
-use Rattle.hg_model.specs.Order.{sort_by, median}
-use Rattle.hg_model.proofs.PlacesLaws.{weight_below-same, weight_below_none, count_below-le, some_below_from, some_below_found}
-use Rattle.hg_model.proofs.SortLaws.{HasSameSums, one_ascending, sort_by-sums, sort_by-ascending}
-
--- the place y is another than k, and passes
-abbrev passes_beside : (ℕ → Bool) → ℕ → ℕ → Bool
-passes_beside test k y = test y && not (eqb y k)
-
-beside_other : (test : ℕ → Bool) (k y : ℕ) → y ≢ k → passes_beside test k y ≡ test y
-beside_other test k y other = rw (ne_eqb y k other) (same (test y))
-  where
-    same : (b : Bool) → (b && true) ≡ b
-    same true = refl
-    same false = refl
-
-beside_itself : (test : ℕ → Bool) (k : ℕ) → passes_beside test k k ≡ false
-beside_itself test k = rw (eq-eqb k k refl) (none (test k))
-  where
-    none : (b : Bool) → (b && false) ≡ false
-    none true = refl
-    none false = refl
-
--- a place that passes weighs what is missing without it
-weight_below_beside : (weight : ℕ → ℕ) (n : ℕ) (test : ℕ → Bool) (k : ℕ) → k < n → test k ≡ true →
-    weight_below weight n test ≡ weight_below weight n (passes_beside test k) + weight k
-unfolding weight_below
-weight_below_beside weight zero test k h passes = absurd (omega arith)
-weight_below_beside weight (suc n) test k h passes = elim (cases_eq k n) [
-  | inl last ↦
-      (let before = weight_below-same weight n test (passes_beside test k) (λ y below. sym (beside_other test k y (λ same. absurd (omega arith)))) in
-      let here : cond (test n) (weight n) 0 ≡ weight k = rw (← last, passes) refl in
-      let gone : cond (passes_beside test k n) (weight n) 0 ≡ 0 = rw (← last, beside_itself test k) refl in
-      omega (arith, before, here, gone))
-  | inr other ↦
-      (let before = weight_below_beside weight n test k (omega arith) passes in
-      let here : cond (test n) (weight n) 0 ≡ cond (passes_beside test k n) (weight n) 0 = ap (λ b. cond b (weight n) 0) (sym (beside_other test k n (λ same. other (sym same)))) in
-      omega (arith, before, here))
-]
+use Rattle.hg_model.proofs.PlacesLaws.{weight_below_none, count_below-le, some_below_from, some_below_found}
+use Rattle.hg_model.proofs.WeightLaws.{passes_beside, beside_other, weight_below_beside}
 
 -- x stands below m and passes, and y is made of it
 abbrev pub IsMadeOf : (ℕ → ℕ) → (ℕ → Bool) → ℕ → ℕ → ℕ → Type 0
@@ -105,19 +67,3 @@ count_below-apart value m n test low apart =
           (found.0, (found.1, parts.0, eqb-true (value found.0) y parts.1));
     }) in
     omega (arith, same, count_below-le n image)
-
--- medians
-
-pub sum_of_ones : {A : Type 0} (xs : List A) → sum_by (λ _. 1) xs ≡ length xs
-sum_of_ones [] = refl
-sum_of_ones (x ∷ xs) = omega (arith, sum_by-cons (λ _. 1) x xs, sum_of_ones xs)
-
-pub median-same : (xs ys : List ℕ) → HasSameSums xs ys → median xs ≡ median ys
-unfolding median
-median-same xs ys same =
-    let order = IsStrictWeakOrder-by_number (λ x. x) in
-    let sorted = one_ascending ltb order (λ a b le ge. omega (arith, ltb-false a b le, ltb-false b a ge)) (sort_by ltb xs) (sort_by ltb ys)
-    (sort_by-ascending ltb order xs) (sort_by-ascending ltb order ys)
-    (λ weight. sort_by-sums ltb xs weight ∙ (same weight ∙ sym (sort_by-sums ltb ys weight))) in
-    let long : length xs ≡ length ys = sym (sum_of_ones xs) ∙ (same (λ _. 1) ∙ sum_of_ones ys) in
-    ap₂ (λ (zs : List ℕ) (k : ℕ). get_or zs ((k - 1) / 2) 0) sorted long

@@ -1,12 +1,12 @@
 -- What a round receives: the rows that all of its unique famous witnesses have as ancestor
-use Rattle.std.proofs.Common.{◌≡◌, ℕ, zero, suc, ◌<◌, ◌≤◌, Bool, true, false, not, ◌&&◌, eqb, List, [], ◌∷◌, length, Option, Some, None, IfSome, is_some, unwrap_or, sym, ap, ◌∙◌, subst, arith}
+use Rattle.std.proofs.Common.{◌≡◌, ℕ, zero, suc, ◌<◌, true, false, not, ◌&&◌, eqb, List, [], ◌∷◌, length, Option, Some, None, IfSome, is_some, unwrap_or, sym, ap, ◌∙◌, subst, arith}
 use Rattle.std.specs.List.{AllByRecursion}
 use Rattle.std.proofs.lemmas.Bool.{and_parts, and_left, and_right, eqb-true, eq-eqb, not-true, true≢false}
 use Rattle.hg_model.specs.Places.{some_below, list_below}
 use Rattle.hg_model.specs.Links.{Link}
 use Rattle.hg_model.specs.Ancestry.{is_ancestor}
 use Rattle.hg_model.specs.Fame.{Marks, is_closed, is_unique_famous}
-use Rattle.hg_model.specs.Order.{famous_places, is_without, can_receive, round_received, received_or_zero, is_received_in}
+use Rattle.hg_model.specs.Order.{famous_places, is_without, can_receive, round_received, is_received_in}
 use Rattle.hg_model.specs.Prefix.{Graph, links_of}
 use Rattle.hg_model.proofs.ListLaws.{none-list_below, list_all-list_below, all_list_below}
 use Rattle.hg_model.proofs.SearchLaws.{IsFoundBelow, least_below_found}

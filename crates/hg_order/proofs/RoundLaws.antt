@@ -1,7 +1,7 @@
 -- What a sort leaves of the rows that a round places is their order
-use Rattle.std.proofs.Common.{◌≡◌, ℕ, suc, ◌+◌, ◌<◌, ◌≤◌, Bool, true, ◌&&◌, eqb, List, [], ◌∷◌, ◌++◌, length, get_or, map, replicate, Option, Some, None, slice_get, is_some, is_lt, is_eq, unwrap_or, nat_cmp, Ordering, IsPermutation, IsSortedBy, All, refl, sym, ap, ap₂, ◌∙◌, subst, arith}
+use Rattle.std.proofs.Common.{◌≡◌, ℕ, suc, ◌<◌, Bool, true, eqb, List, [], ◌∷◌, ◌++◌, length, map, slice_get, is_some, is_lt, is_eq, nat_cmp, IsPermutation, IsSortedBy, All, refl, sym, ap, ap₂, ◌∙◌, arith}
 use Rattle.std.specs.List.{AllByRecursion}
-use Rattle.std.specs.Ordering.{ordering_then, ordering_reverse}
+use Rattle.std.specs.Ordering.{ordering_then}
 use Rattle.std.specs.Cmp.{IsTotalOrder, IsStrictWeakOrder}
 use Rattle.std.specs.Cmp.Lexicographic.{slice_cmp}
 use Rattle.std.proofs.lemmas.Bool.{and_parts, eqb-true}
@@ -12,18 +12,18 @@ use Rattle.std.proofs.lemmas.Option.{slice_get-get_or}
 use Rattle.hg_model.specs.declared.row.Row.{Row}
 use Rattle.hg_model.specs.declared.row.Placed.{Placed}
 use Rattle.hg_model.specs.Places.{list_below}
-use Rattle.hg_model.specs.Links.{Link, links, no_row}
+use Rattle.hg_model.specs.Links.{no_row}
 use Rattle.hg_model.specs.Graph.{IsShaped, name_at}
 use Rattle.hg_model.specs.Fame.{Marks}
 use Rattle.hg_model.specs.Prefix.{Graph, links_of}
-use Rattle.hg_model.specs.Order.{sort_by, sig_at, median, xor_bytes, whitening, famous_places, consensus_time, order_key, placed_at, keyed_at, comes_before, received_or_zero, round_received, is_received_in, ordered_in}
+use Rattle.hg_model.specs.Order.{sort_by, sig_at, median, xor_bytes, whitening, consensus_time, order_key, keyed_at, comes_before, received_or_zero, round_received, is_received_in, ordered_in}
 use Rattle.hg_model.proofs.ListLaws.{map-list_below, IsPairwise-list_below}
 use Rattle.hg_model.proofs.PlacesLaws.{list_below-same}
 use Rattle.hg_model.proofs.SortLaws.{IsPairwise, sort_by_cmp_is, sort_by-same, sort_by-map}
 use Rattle.hg_model.proofs.CompareLaws.{then_assoc, slice_cmp-append, is_lt-then, is_eq-then, nat_cmp-same}
 use Rattle.hg_model.proofs.LinkLaws.{length-links}
 use Rattle.hg_order.specs.Famous.{famous_of, IsBelowAll, times_of, whitening_of}
-use Rattle.hg_order.specs.Round.{placed_by, is_placed_before, placed_in, received_places, received_order, placed_below, whitened_cmp, sig_or_zeros, name_or_zeros, rows_cmp, placed_cmp, placed_less, IsWide}
+use Rattle.hg_order.specs.Round.{placed_by, is_placed_before, placed_in, received_places, received_order, placed_below, sig_or_zeros, name_or_zeros, rows_cmp, placed_cmp, placed_less, IsWide}
 use Rattle.hg_order.proofs.FamousLaws.{whitening_is}
 use Rattle.hg_order.proofs.HolderLaws.{median_is_consensus}
 

@@ -9,7 +9,6 @@ mod received;
 #[cfg(test)]
 mod tests;
 mod time;
-mod told;
 mod white;
 
 pub use famous::unique_famous;

@@ -7,9 +7,8 @@ ghost use Rattle.hg_order.specs.Famous.{famous_of, AreFamous, IsBelowAll};
 ghost use Rattle.hg_order.specs.Round.{placed_below, placed_in, received_places, received_order, rows_cmp, sig_or_zeros, name_or_zeros, placed_cmp, placed_less, IsWide};
 
 use crate::time::median_time;
-use crate::told::told;
 use crate::white::{no_signature, white_cmp, whitening};
-use hg_model::{Name, Placed, Prefix, Sig};
+use hg_model::{Name, Placed, Prefix, Sig, tells_graph};
 use std::cmp::Ordering;
 
 /// The rows at the places `fresh`, as the round of these unique famous witnesses places them, in order: `out` is as
@@ -23,7 +22,7 @@ pub fn order_round<P: Prefix>(p: &P, ufw: &[usize], fresh: &[usize], out: &mut [
     ensures placed { (marks : Marks) (r : ℕ) → ufw.now ≡ famous_of (P.graph p.now) marks r → out.new ≡ placed_in (P.graph p.now) marks r fresh.now }
     ensures whole { (marks : Marks) (r : ℕ) → ufw.now ≡ famous_of (P.graph p.now) marks r → fresh.now ≡ received_places (P.graph p.now) marks r → out.new ≡ received_order (P.graph p.now) marks r }
 {
-    told(p);
+    tells_graph(p);
     place_rows(p, ufw, round_of(p, ufw), fresh, out);
     sort_placed(p, &whitening(p, ufw), out);
 }
@@ -33,7 +32,7 @@ fn round_of<P: Prefix>(p: &P, ufw: &[usize]) -> u32
     requires { AreFamous (P.graph p.now) ufw.now }
     ensures { (marks : Marks) (r : ℕ) → ufw.now ≡ famous_of (P.graph p.now) marks r → 0 < length ufw.now → result ≡ r }
 {
-    told(p);
+    tells_graph(p);
     match ufw {
         [] => 0,
         [first, ..] => p.round(*first),
@@ -74,7 +73,7 @@ fn is_wide<P: Prefix>(p: &P, x: usize)
     requires { x < length (links_of (P.graph p.now)) }
     ensures { IsWide (P.graph p.now).rows x }
 {
-    told(p);
+    tells_graph(p);
     is_long(&p.row(x).sig);
 }
 
@@ -120,7 +119,7 @@ fn rows_cmp<P: Prefix>(p: &P, white: &Sig, x: usize, y: usize) -> Ordering
 fn sig_at<P: Prefix>(p: &P, x: usize) -> Sig
     ensures { result ≡ sig_or_zeros (slice_get (P.graph p.now).rows x) }
 {
-    told(p);
+    tells_graph(p);
     if x < p.rows() {
         p.row(x).sig
     } else {
@@ -133,7 +132,7 @@ fn sig_at<P: Prefix>(p: &P, x: usize) -> Sig
 fn name_at<P: Prefix>(p: &P, x: usize) -> Name
     ensures { result ≡ name_or_zeros (slice_get (P.graph p.now).rows x) }
 {
-    told(p);
+    tells_graph(p);
     if x < p.rows() {
         p.row(x).name
     } else {

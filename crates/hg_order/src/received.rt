@@ -4,8 +4,7 @@ ghost use Rattle.hg_model.specs.Fame.{Marks, is_closed};
 ghost use Rattle.hg_model.specs.Order.{can_receive};
 ghost use Rattle.hg_order.specs.Famous.{famous_of, AreFamous, all_have};
 
-use crate::told::told;
-use hg_model::{Prefix, Sight};
+use hg_model::{Prefix, Sight, tells_graph};
 
 /// Whether all unique famous witnesses of a round have row `x` as ancestor: where the round is closed, whether it can
 /// receive the row.
@@ -16,7 +15,7 @@ pub fn received_in<P: Prefix>(p: &P, ufw: &[usize], x: usize) -> bool
     ensures all { result ≡ all_have (links_of (P.graph p.now)) ufw.now x }
     ensures receives { (marks : Marks) (r : ℕ) → ufw.now ≡ famous_of (P.graph p.now) marks r → is_closed (P.graph p.now).members (links_of (P.graph p.now)) marks r ≡ true → result ≡ can_receive (P.graph p.now).members (links_of (P.graph p.now)) marks x r }
 {
-    told(p);
+    tells_graph(p);
     have_all(p, ufw, x)
 }
 

@@ -7,8 +7,7 @@ ghost use Rattle.hg_model.specs.Graph.{IsShaped};
 ghost use Rattle.hg_model.specs.Order.{consensus_time, median, time_at};
 ghost use Rattle.hg_order.specs.Famous.{famous_of, AreFamous, all_have, first_holder, times_of, IsBelowAll};
 
-use crate::told::told;
-use hg_model::{Prefix, Sight};
+use hg_model::{Prefix, Sight, tells_graph};
 
 /// The consensus timestamp of row `x` by the unique famous witnesses of a round, all of which have it as ancestor.
 pub fn time_of<P: Prefix>(p: &P, ufw: &[usize], x: usize) -> u64
@@ -16,7 +15,7 @@ pub fn time_of<P: Prefix>(p: &P, ufw: &[usize], x: usize) -> u64
     requires received { IsBelowAll (P.graph p.now) ufw.now x }
     ensures { (marks : Marks) (r : ℕ) → ufw.now ≡ famous_of (P.graph p.now) marks r → result ≡ consensus_time (P.graph p.now).members (P.graph p.now).rows (links_of (P.graph p.now)) marks r x }
 {
-    told(p);
+    tells_graph(p);
     median_time(p, ufw, x)
 }
 
@@ -26,7 +25,7 @@ pub fn median_time<P: Prefix>(p: &P, ufw: &[usize], x: usize) -> u64
     requires received { IsBelowAll (P.graph p.now) ufw.now x }
     ensures { result ≡ median (times_of (P.graph p.now).rows (links_of (P.graph p.now)) x ufw.now) }
 {
-    told(p);
+    tells_graph(p);
     median_in(p, ufw, x, &mut [0; 128])
 }
 
@@ -65,7 +64,7 @@ fn holder_time<P: Prefix>(p: &P, w: usize, x: usize) -> u64
     requires has { is_ancestor (links_of (P.graph p.now)) w x ≡ true }
     ensures { result ≡ time_at (P.graph p.now).rows (first_holder (links_of (P.graph p.now)) x w) }
 {
-    told(p);
+    tells_graph(p);
     p.row(first_holder(p, x, w)).time
 }
 

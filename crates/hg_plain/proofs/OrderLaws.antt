@@ -1,64 +1,19 @@
 -- The order is that of its rounds, one after the other
-use Rattle.std.proofs.Common.{◌≡◌, inl, inr, ℕ, zero, suc, ◌+◌, ◌<◌, ◌≤◌, Bool, true, false, cond, not, ◌&&◌, ltb, eqb, List, [], ◌∷◌, ◌++◌, length, get_or, map, All, Option, Some, None, IfSome, is_some, unwrap_or, sym, refl, ap, ap₂, ◌∙◌, arith, add-one}
+use Rattle.std.proofs.Common.{◌≡◌, inl, inr, ℕ, zero, suc, ◌+◌, Bool, true, false, cond, not, ◌&&◌, ltb, eqb, List, [], ◌∷◌, ◌++◌, length, get_or, map, Option, Some, None, IfSome, is_some, unwrap_or, refl, ap, ap₂, ◌∙◌, arith, add-one}
 use Rattle.std.specs.Prelude.{filter}
-use Rattle.std.specs.List.{AllByRecursion}
-use Rattle.std.proofs.lemmas.Bool.{cases_Bool, cases_lt, and_right, ltb-true, ltb-false, lt-ltb, le-ltb, eq-eqb, ne_eqb}
+use Rattle.std.proofs.lemmas.Bool.{cases_lt, and_right, ltb-true, ltb-false, lt-ltb, le-ltb, eq-eqb, ne_eqb}
 use Rattle.std.proofs.lemmas.List.{map-append}
-use Rattle.std.proofs.lemmas.List.Elements.{All-map, All-from_recursion}
 use Rattle.hg_model.specs.declared.row.Row.{Row}
 use Rattle.hg_model.specs.declared.row.Placed.{Placed}
 use Rattle.hg_model.specs.Places.{list_below}
 use Rattle.hg_model.specs.Links.{Link}
 use Rattle.hg_model.specs.Fame.{Marks}
-use Rattle.hg_model.specs.Order.{insert_by, sort_by, comes_before, keyed_at, is_received_in, ordered_in, ordered, round_received, received_or_zero, can_receive}
-use Rattle.hg_model.proofs.ListLaws.{all_list_below}
+use Rattle.hg_model.specs.Order.{sort_by, comes_before, keyed_at, is_received_in, ordered_in, ordered, round_received, received_or_zero, can_receive}
+use Rattle.hg_model.proofs.ListLaws.{filter-list_below}
 use Rattle.hg_model.proofs.PlacesLaws.{list_below-same}
 use Rattle.hg_model.proofs.SearchLaws.{IsFoundBelow, least_below_found}
-use Rattle.hg_model.proofs.SortLaws.{all_sorted}
-use Rattle.hg_order.proofs.FamousLaws.{filter-list_below}
+use Rattle.hg_model.proofs.SplitLaws.{sort_split}
 use Rattle.hg_plain.specs.Rounds.{ordered_before}
-
--- a sorted list falls apart at a test that the lesser elements pass
-
-module _ {A : Type 0} (less : A → A → Bool) (low : A → Bool) (order : (a b : A) → low a ≡ true → low b ≡ false → (less a b ≡ true) × (less b a ≡ false)) where
-  insert_low : (x : A) (xs ys : List A) → low x ≡ true → AllByRecursion (λ y. low y ≡ false) ys → insert_by less x (xs ++ ys) ≡ insert_by less x xs ++ ys
-  insert_low x [] [] is high = refl
-  insert_low x [] (y ∷ ys) is high = rw (order x y is high.0).1 refl
-  insert_low x (a ∷ xs) ys is high = elim (cases_Bool (less a x)) [
-    | inl before ↦ rw (before, insert_low x xs ys is high) refl
-    | inr after ↦ rw after refl
-  ]
-
-  insert_high : (x : A) (xs ys : List A) → low x ≡ false → AllByRecursion (λ y. low y ≡ true) xs → insert_by less x (xs ++ ys) ≡ xs ++ insert_by less x ys
-  insert_high x [] ys is all = refl
-  insert_high x (a ∷ xs) ys is all = rw ((order a x all.0 is).0, insert_high x xs ys is all.1) refl
-
-  all_kept : (test : A → Bool) (xs : List A) → AllByRecursion (λ x. test x ≡ true) (filter test xs)
-  all_kept test [] = tt
-  all_kept test (x ∷ xs) = elim (cases_Bool (test x)) [
-    | inl kept ↦ rw kept (kept, all_kept test xs)
-    | inr left ↦ rw left (all_kept test xs)
-  ]
-
-  all_high : (xs : List A) → AllByRecursion (λ x. low x ≡ false) (filter (λ x. not (low x)) xs)
-  all_high [] = tt
-  all_high (x ∷ xs) = elim (cases_Bool (low x)) [
-    | inl is ↦ rw is (all_high xs)
-    | inr is ↦ rw is (is, all_high xs)
-  ]
-
-  sort_split : (xs : List A) → sort_by less xs ≡ sort_by less (filter low xs) ++ sort_by less (filter (λ x. not (low x)) xs)
-  unfolding sort_by
-  sort_split [] = refl
-  sort_split (x ∷ xs) =
-      let lows = sort_by less (filter low xs) in
-      let highs = sort_by less (filter (λ y. not (low y)) xs) in
-      elim (cases_Bool (low x)) [
-        | inl is ↦ ap (insert_by less x) (sort_split xs)
-            ∙ (insert_low x lows highs is (all_sorted (λ y. low y ≡ false) less (filter (λ y. not (low y)) xs) (all_high xs)) ∙ rw is refl)
-        | inr is ↦ ap (insert_by less x) (sort_split xs)
-            ∙ (insert_high x lows highs is (all_sorted (λ y. low y ≡ true) less (filter low xs) (all_kept low xs)) ∙ rw is refl)
-      ]
 
 -- keys fall apart by their rounds
 
@@ -147,14 +102,5 @@ module _ (n : ℕ) (G : List Row) (L : List Link) (marks : Marks) where
       ap (λ xs. seconds (sort_by comes_before xs))
       (list_below-same (keyed_at n G L marks) (keyed_at n G L marks) (length L) (received (λ k. ltb k (suc (length L)))) (received (λ _. true))
       (λ x h. found_before (round_received n L marks x) x (least_below_found (λ r. r) (suc (length L)) (can_receive n L marks x))) (λ x h e. refl))
-
-  pub ordered_within : All (λ (p : Placed). p.place < length L) (ordered n G L marks)
-  unfolding ordered_in
-  ordered_within =
-      let P : List ℕ × Placed → Type 0 = λ keyed. keyed.1.place < length L in
-      let rows = list_below (keyed_at n G L marks) (length L) (received (λ _. true)) in
-      All-map (λ (p : Placed). p.place < length L) (λ (keyed : List ℕ × Placed). keyed.1) (sort_by comes_before rows)
-      (All-from_recursion P (sort_by comes_before rows) (all_sorted P comes_before rows
-      (all_list_below P (keyed_at n G L marks) (length L) (received (λ _. true)) (λ x h e. h))))
 
 pub ruleset order_steps = (before_none, before_more)

@@ -1,39 +1,26 @@
 -- The lists of witnesses, round by round, and the rows that a round received, told by the tables
-use Rattle.std.proofs.Common.{◌≡◌, ℕ, zero, suc, ◌<◌, ◌≤◌, Bool, true, false, ◌&&◌, eqb, List, [], ◌∷◌, length, get_or, Option, None, refl, sym, ap, ◌∙◌, inl, inr, arith}
-use Rattle.std.proofs.lemmas.Bool.{cases_lt, and_parts, and_right, eqb-true, ne_eqb}
+use Rattle.std.proofs.Common.{◌≡◌, ℕ, suc, ◌<◌, eqb, List, [], length, get_or, Option, None, refl, sym, ap, ◌∙◌, inl, inr, arith}
+use Rattle.std.proofs.lemmas.Bool.{cases_lt, and_right, ne_eqb}
 use Rattle.std.proofs.lemmas.List.{get_or_past}
-use Rattle.hg_model.specs.Places.{list_below, maximum_below}
+use Rattle.hg_model.specs.Places.{list_below}
 use Rattle.hg_model.specs.Links.{Link}
 use Rattle.hg_model.specs.Rounds.{round_of, is_witness, last_round}
 use Rattle.hg_model.specs.Fame.{Marks, is_witness_in}
 use Rattle.hg_model.specs.Order.{round_received}
 use Rattle.hg_model.specs.Prefix.{Graph, links_of}
 use Rattle.hg_model.specs.Standings.{standings_of, witnesses_in}
-use Rattle.hg_model.proofs.PlacesLaws.{list_below-same}
+use Rattle.hg_model.proofs.PlacesLaws.{list_below-same, list_below_none, maximum_below_bounds}
 use Rattle.hg_model.proofs.StandingLaws.{witnesses_in-standings}
 use Rattle.hg_order.specs.Round.{received_places}
 use Rattle.hg_plain.specs.Tables.{IsTableOf}
 use Rattle.hg_plain.specs.Held.{witnesses_of}
 use Rattle.hg_plain.specs.Rounds.{is_round}
 
-maximum_below_bounds : (value : ℕ → ℕ) (n k : ℕ) → k < n → value k ≤ maximum_below value n
-unfolding maximum_below
-maximum_below_bounds value zero k h = absurd (omega arith)
-maximum_below_bounds value (suc n) k h = elim (cases_lt k n) [
-  | inl before ↦ omega (arith, maximum_below_bounds value n k before)
-  | inr last ↦ (let same : value k ≡ value n = ap value (omega arith) in omega arith)
-]
-
-none_pass : (n : ℕ) (test : ℕ → Bool) → ((k : ℕ) → k < n → test k ≡ false) → list_below (λ w. w) n test ≡ []
-unfolding list_below
-none_pass zero test none = refl
-none_pass (suc n) test none = rw (none n (omega arith), none_pass n test (λ k h. none k (omega arith))) refl
-
 module _ (n : ℕ) (L : List Link) (r : ℕ) where
   -- no round above the greatest has witnesses
   none_above : last_round n L < r → witnesses_of n L r ≡ []
   unfolding witnesses_of last_round
-  none_above above = none_pass (length L) (is_witness_in n L r) (λ w h.
+  none_above above = list_below_none (λ w. w) (length L) (is_witness_in n L r) (λ w h.
       and_right (is_witness n L w) (eqb (round_of n L w) r) (ne_eqb (round_of n L w) r (λ e. absurd (omega (arith, e, maximum_below_bounds (round_of n L) (length L) w h)))))
 
   listed : witnesses_of n L r ≡ witnesses_in (standings_of n L) r

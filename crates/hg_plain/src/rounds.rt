@@ -1,14 +1,14 @@
 ghost use Rattle.std.specs.Prelude.{◌≡◌, ◌<◌, ◌≤◌, ◌-◌, ◌^◌, ◌&&◌, ◌==◌, length, slice_index, IfOk};
 ghost use Rattle.hg_model.specs.Places.{IsEarlier, count_below, maximum_below};
 ghost use Rattle.hg_model.specs.Links.{parents};
-ghost use Rattle.hg_model.specs.Seeing.{is_supermajority, strongly_sees};
+ghost use Rattle.hg_model.specs.Seeing.{strongly_sees};
 ghost use Rattle.hg_model.specs.Rounds.{parent_round, is_seen_witness, is_witness_by, round_of};
 ghost use Rattle.hg_plain.specs.Tables.{IsTableOf, TellsPairs};
 
 use crate::links::{PlainLink, parents_of, self_parent_of};
 use crate::seeing::Seeing;
 use crate::tables::cell;
-use hg_model::Memory;
+use hg_model::{Memory, is_supermajority};
 use std::alloc::Global;
 
 /// The rounds of all rows, from the table of what strongly sees what.
@@ -53,13 +53,6 @@ fn parent_round(links: &[PlainLink], rounds: &[u32], x: usize) -> u32
         None => 1,
         Some((own, other)) => rounds[own].max(rounds[other].max(1)),
     }
-}
-
-/// Whether the count is more than two thirds of the members.
-fn is_supermajority(members: u32, count: u32) -> bool
-    ensures { result ≡ is_supermajority members count }
-{
-    2 * u64::from(members) < 3 * u64::from(count)
 }
 
 /// How many witnesses of round `r` row `x` strongly sees.

@@ -8,7 +8,7 @@ use crate::ancestry::any_parent;
 use crate::links::creator_of;
 use crate::seeing::Seeing;
 use crate::tables::cell;
-use hg_model::Memory;
+use hg_model::{Memory, is_supermajority};
 use std::alloc::Global;
 
 /// For each row the rows that strongly see it.
@@ -46,7 +46,7 @@ fn is_strong(seeing: &Seeing, through: &[Vec<bool>], x: usize, y: usize) -> bool
     ensures { result ≡ strongly_sees seeing.now.members seeing.now.links x y }
 {
     let members = seeing.members();
-    2 * u64::from(members) < 3 * u64::from(count_through(through, members, x))
+    is_supermajority(members, count_through(through, members, x))
 }
 
 /// How many of the members' columns hold row `x`.

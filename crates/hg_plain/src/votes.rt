@@ -6,7 +6,7 @@ ghost use Rattle.hg_plain.specs.Tables.{IsTableOf};
 ghost use Rattle.hg_plain.specs.Elections.{voters_of, no_ballot, ballot_of, tally_of};
 
 use crate::sight::PlainSight;
-use hg_model::{Items, Memory, Row};
+use hg_model::{Items, Memory, Row, is_supermajority};
 use std::alloc::Global;
 
 /// The vote of a row on a witness, and whether it decides.
@@ -88,7 +88,7 @@ fn weigh(members: u32, period: u32, above: u32, tally: Tally, coin: bool) -> Bal
     ensures decides { result.decides ≡ weighed_decides members period above tally.yes tally.no }
 {
     let majority = tally.no <= tally.yes;
-    let is_strong = 2 * u64::from(members) < 3 * u64::from(tally.yes.max(tally.no));
+    let is_strong = is_supermajority(members, tally.yes.max(tally.no));
     let is_normal = 0 < above % period;
     Ballot {
         vote: if is_normal || is_strong {

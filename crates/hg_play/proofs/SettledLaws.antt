@@ -1,12 +1,10 @@
 -- The block of a node that is settled
-use Rattle.std.proofs.Common.{◌≡◌, ℕ, ◌<◌, true, List, length, All, ap, ap₂, sym, refl, subst, ◌∙◌}
-use Rattle.std.proofs.lemmas.List.Elements.{All-map, All-from_recursion}
+use Rattle.std.proofs.Common.{◌≡◌, ℕ, ◌<◌, List, length, All, ap, ap₂, sym, refl, subst, ◌∙◌}
 use Rattle.hg_model.specs.declared.row.Row.{Row}
 use Rattle.hg_model.specs.declared.row.Placed.{Placed}
-use Rattle.hg_model.specs.Places.{list_below}
-use Rattle.hg_model.specs.Links.{Link, links}
-use Rattle.hg_model.specs.Fame.{Marks, fame_marks}
-use Rattle.hg_model.specs.Order.{sort_by, comes_before, keyed_at, is_received_in, ordered_in, ordered, order_of, last_closed, coin_at}
+use Rattle.hg_model.specs.Links.{links}
+use Rattle.hg_model.specs.Fame.{fame_marks}
+use Rattle.hg_model.specs.Order.{order_of, last_closed, coin_at}
 use Rattle.hg_model.specs.declared.outcome.OrderLine.{OrderLine}
 use Rattle.hg_model.specs.declared.outcome.Block.{Block}
 use Rattle.hg_model.specs.Members.{MemberList, balances_of}
@@ -17,23 +15,11 @@ use Rattle.hg_model.specs.Ledger.{block_of, closed_of, order_lines}
 use Rattle.hg_play.specs.Node.{start_in}
 use Rattle.hg_model.specs.Shown.{Shown, Start, graph_of, links_of, marks_of, kept_of, last_closed_of, IsNode}
 use Rattle.hg_model.proofs.LinkLaws.{length-links}
-use Rattle.hg_model.proofs.ListLaws.{all_list_below}
-use Rattle.hg_model.proofs.SortLaws.{all_sorted}
+use Rattle.hg_model.proofs.OrderLaws.{ordered_within}
 use Rattle.hg_history.specs.Laws.{IsSettled}
 use Rattle.hg_history.proofs.SoundLaws.{sound}
 use Rattle.hg_model.specs.History.{Accepts}
 use Rattle.hg_play.specs.Settled.{IsFinal}
-
--- the rows of an order stand in the graph
-ordered_within : (n : ℕ) (G : List Row) (L : List Link) (marks : Marks) → All (λ (p : Placed). p.place < length L) (ordered n G L marks)
-unfolding ordered_in
-ordered_within n G L marks =
-    let P : List ℕ × Placed → Type 0 = λ keyed. keyed.1.place < length L in
-    let test = is_received_in n L marks (λ _. true) in
-    let rows = list_below (keyed_at n G L marks) (length L) test in
-    All-map (λ (p : Placed). p.place < length L) (λ (keyed : List ℕ × Placed). keyed.1) (sort_by comes_before rows)
-    (All-from_recursion P (sort_by comes_before rows) (all_sorted P comes_before rows
-    (all_list_below P (keyed_at n G L marks) (length L) test (λ x h e. h))))
 
 -- to settle a node leaves it with the order and the closed rounds of its graph
 pub settled_is_final : {K : Type 0} (accepts : K → Accepts) (old new : Shown K) → old.start ≡ new.start → IsNode accepts new → IsSettled old new → IsFinal new

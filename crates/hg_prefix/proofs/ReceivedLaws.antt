@@ -12,13 +12,14 @@ use Rattle.hg_model.specs.Order.{time_at, sig_at, round_received, received_or_ze
 use Rattle.hg_model.proofs.LinkLaws.{length-links}
 use Rattle.hg_model.proofs.PlacesLaws.{some_below_from, some_below_found}
 use Rattle.hg_model.proofs.SightLaws.{is_ancestor-from_self}
+use Rattle.hg_model.proofs.SortLaws.{median-same}
 use Rattle.hg_prefix.specs.Standing.{place_in, IsMarkedPart}
 use Rattle.hg_prefix.proofs.WeightLaws.{list_below-matched}
 use Rattle.hg_prefix.proofs.MovedLaws.{self_parent_test-moved}
 use Rattle.hg_prefix.proofs.StandingLaws.{name_there, time_there, sig_there}
 use Rattle.hg_prefix.proofs.FamousLaws.{Receives, receives_is, receives_from, received_is, received_from}
 use Rattle.hg_prefix.proofs.ClosedLaws.{closed_below, closed_last}
-use Rattle.hg_prefix.proofs.SumLaws.{median-same, xor_all-same}
+use Rattle.hg_prefix.proofs.SumLaws.{xor_all-same}
 use Rattle.hg_prefix.proofs.SharedLaws.{HasRowIn, moved_in, ancestor_in, ancestor_both, self_ancestor_both, ancestor_shared, unique_shared}
 
 module _ (n c : ℕ) (U : List Row) (u : IsGraph n U) (G : List Row) (f : Marks) (g : IsMarkedPart n c U G f) where

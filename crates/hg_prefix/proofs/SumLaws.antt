@@ -1,39 +1,17 @@
--- Lists with the same elements: what sorts, medians and folds give of them
-use Rattle.std.proofs.Common.{◌≡◌, ℕ, ◌-◌, ◌/◌, Bool, true, false, ltb, List, [], ◌∷◌, ◌++◌, length, get_or, fold, sum_by, bit_xor, nat_cmp, is_lt, is_eq, Ordering, sym, refl, ap, ap₂, ◌∙◌, inl, inr, arith}
+-- Lists with the same elements: what folds give of them
+use Rattle.std.proofs.Common.{◌≡◌, ℕ, Bool, true, false, List, [], ◌∷◌, ◌++◌, fold, bit_xor, nat_cmp, is_lt, is_eq, Ordering, sym, refl, ap, ap₂, ◌∙◌, inl, inr, arith}
 use Rattle.std.specs.Cmp.{IsStrictWeakOrder}
 use Rattle.std.specs.Cmp.Lexicographic.{slice_cmp}
 use Rattle.std.specs.Int.Bits.{xor_assoc}
 use Rattle.std.specs.List.{AllByRecursion}
 use Rattle.std.specs.Ordering.{ordering_reverse}
-use Rattle.std.proofs.lemmas.Bool.{cases_Bool, ltb-false}
+use Rattle.std.proofs.lemmas.Bool.{cases_Bool}
 use Rattle.std.proofs.lemmas.Cmp.{nat_list_cmp_total}
 use Rattle.std.proofs.lemmas.Nat.{xor_comm}
-use Rattle.std.proofs.lemmas.List.Sorted.{IsStrictWeakOrder-by_number, ranks_by}
-use Rattle.std.proofs.lemmas.List.Sums.{sum_by-cons}
-use Rattle.hg_model.specs.Order.{insert_by, sort_by, median, xor_bytes}
+use Rattle.std.proofs.lemmas.List.Sorted.{ranks_by}
+use Rattle.hg_model.specs.Order.{insert_by, sort_by, xor_bytes}
 use Rattle.hg_model.proofs.CompareLaws.{slice_cmp-same}
-use Rattle.hg_model.proofs.SortLaws.{IsAscending, HasSameSums, one_ascending, sort_by-sums, sort_by-ascending}
-
--- sorted alike
-
-pub same_sorted : {A : Type 0} (less : A → A → Bool) → IsStrictWeakOrder less → ((a b : A) → less a b ≡ false → less b a ≡ false → a ≡ b) →
-    (xs ys : List A) → HasSameSums xs ys → sort_by less xs ≡ sort_by less ys
-same_sorted less order ties xs ys same =
-    one_ascending less order ties (sort_by less xs) (sort_by less ys) (sort_by-ascending less order xs) (sort_by-ascending less order ys)
-    (λ weight. sort_by-sums less xs weight ∙ (same weight ∙ sym (sort_by-sums less ys weight)))
-
-sum_of_ones : {A : Type 0} (xs : List A) → sum_by (λ _. 1) xs ≡ length xs
-sum_of_ones [] = refl
-sum_of_ones (x ∷ xs) = omega (arith, sum_by-cons (λ _. 1) x xs, sum_of_ones xs)
-
-same_length : {A : Type 0} (xs ys : List A) → HasSameSums xs ys → length xs ≡ length ys
-same_length xs ys same = sym (sum_of_ones xs) ∙ (same (λ _. 1) ∙ sum_of_ones ys)
-
-pub median-same : (xs ys : List ℕ) → HasSameSums xs ys → median xs ≡ median ys
-unfolding median
-median-same xs ys same =
-    let sorted = same_sorted ltb (IsStrictWeakOrder-by_number (λ x. x)) (λ a b le ge. omega (arith, ltb-false a b le, ltb-false b a ge)) xs ys same in
-    ap₂ (λ (zs : List ℕ) (k : ℕ). get_or zs ((k - 1) / 2) 0) sorted (same_length xs ys same)
+use Rattle.hg_model.proofs.SortLaws.{IsAscending, HasSameSums, same_sorted}
 
 -- bytes in their order
 

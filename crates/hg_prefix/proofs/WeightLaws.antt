@@ -1,45 +1,10 @@
 -- Weights of places that a relation matches one to one, and lists of what stands at them
-use Rattle.std.proofs.Common.{◌≡◌, ◌≢◌, ℕ, zero, suc, ◌+◌, ◌<◌, ◌≤◌, Bool, true, false, cond, ◌&&◌, not, eqb, sym, refl, ap, ◌∙◌, inl, inr, arith}
-use Rattle.std.proofs.lemmas.Bool.{cases_Bool, cases_eq, eq-eqb, ne_eqb}
+use Rattle.std.proofs.Common.{◌≡◌, ◌≢◌, ℕ, zero, suc, ◌<◌, ◌≤◌, Bool, true, cond, sym, refl, ap, ◌∙◌, inl, inr, arith}
+use Rattle.std.proofs.lemmas.Bool.{cases_Bool}
 use Rattle.hg_model.specs.Places.{weight_below, list_below}
-use Rattle.hg_model.proofs.PlacesLaws.{weight_below-same}
 use Rattle.hg_model.proofs.SortLaws.{HasSameSums}
+use Rattle.hg_model.proofs.WeightLaws.{passes_beside, beside_other, weight_below_beside}
 use Rattle.hg_model.proofs.ListLaws.{sum_by-list_below}
-
--- the place y is another than k, and passes
-abbrev passes_beside : (ℕ → Bool) → ℕ → ℕ → Bool
-passes_beside test k y = test y && not (eqb y k)
-
-beside_other : (test : ℕ → Bool) (k y : ℕ) → y ≢ k → test y ≡ passes_beside test k y
-beside_other test k y other = rw (ne_eqb y k other) (same (test y))
-  where
-    same : (b : Bool) → b ≡ (b && true)
-    same true = refl
-    same false = refl
-
-beside_itself : (test : ℕ → Bool) (k : ℕ) → passes_beside test k k ≡ false
-beside_itself test k = rw (eq-eqb k k refl) (none (test k))
-  where
-    none : (b : Bool) → (b && false) ≡ false
-    none true = refl
-    none false = refl
-
--- a place that passes weighs what is missing without it
-weight_below_beside : (weight : ℕ → ℕ) (n : ℕ) (test : ℕ → Bool) (k : ℕ) → k < n → test k ≡ true →
-    weight_below weight n test ≡ weight_below weight n (passes_beside test k) + weight k
-unfolding weight_below
-weight_below_beside weight zero test k h passes = absurd (omega arith)
-weight_below_beside weight (suc n) test k h passes = elim (cases_eq k n) [
-  | inl last ↦
-      (let before = weight_below-same weight n test (passes_beside test k) (λ y below. beside_other test k y (λ same. absurd (omega arith))) in
-      let here : cond (test n) (weight n) 0 ≡ weight k = rw (← last, passes) refl in
-      let gone : cond (passes_beside test k n) (weight n) 0 ≡ 0 = rw (← last, beside_itself test k) refl in
-      omega (arith, before, here, gone))
-  | inr other ↦
-      (let before = weight_below_beside weight n test k (omega arith) passes in
-      let here : cond (test n) (weight n) 0 ≡ cond (passes_beside test k n) (weight n) 0 = ap (λ b. cond b (weight n) 0) (beside_other test k n (λ same. other (sym same))) in
-      omega (arith, before, here))
-]
 
 -- a place below n that passes, stands where it is to stand, and weighs as much or more
 abbrev pub HasMatch : (ℕ → ℕ) → (ℕ → Bool) → (ℕ → ℕ) → ℕ → ℕ → ℕ → Type 0
@@ -59,7 +24,7 @@ weight_below-matched one two at_one at_two (suc m) n test other apart match = el
       (λ x hx e.
       let y = match x (omega arith) e in
       let differ : y.0 ≢ last.0 = λ same. let is = apart x m (omega arith) (omega arith) (sym y.3 ∙ (ap at_two same ∙ last.3)) in absurd (omega arith) in
-      (y.0, y.1, sym (beside_other other last.0 y.0 differ) ∙ y.2, y.3, y.4)) in
+      (y.0, y.1, beside_other other last.0 y.0 differ ∙ y.2, y.3, y.4)) in
       let here : cond (test m) (one m) 0 ≡ one m = rw passes refl in
       omega (arith, rest, here, weight_below_beside two n other last.0 last.1 last.2, last.4))
   | inr fails ↦

@@ -9,7 +9,7 @@ use Rattle.hg_model.specs.Seeing.{is_supermajority, strongly_sees}
 use Rattle.hg_model.specs.Rounds.{parent_round, is_seen_witness, round_of, is_witness}
 use Rattle.hg_model.specs.Graph.{IsShaped}
 use Rattle.hg_model.specs.Standings.{Standing, standings_of, round_at, witnesses_in, greatest_in}
-use Rattle.hg_model.proofs.PlacesLaws.{list_below-same}
+use Rattle.hg_model.proofs.PlacesLaws.{list_below-same, maximum_below_bounds}
 use Rattle.hg_model.proofs.ListLaws.{count_by-list_below, length-list_below-le, all_list_below}
 use Rattle.hg_model.proofs.LinkLaws.{parents_below}
 use Rattle.hg_model.proofs.RoundLaws.{greatest_round-same, greatest_round_found, list_all-same, round_of-at, round_of_cases, round_of-pos, round_of-le}
@@ -17,7 +17,6 @@ use Rattle.hg_model.proofs.ShapeLaws.{shaped-take}
 use Rattle.hg_model.proofs.LongerLaws.{longer-take, round_of-longer, is_witness-longer}
 use Rattle.hg_model.proofs.StandingLaws.{length-standings, round_at-standings, witnesses_in-standings}
 use Rattle.hg_rounds.specs.Tabled.{standing}
-use Rattle.hg_rounds.proofs.StandingLaws.{maximum_below_bounds}
 use Rattle.hg_rounds.proofs.ByRowLaws.{standings_last}
 
 module _ (n : ℕ) (L : List Link) (shaped : IsShaped n L) (some : 0 < length L) (S : List Standing) (is : S ≡ standings_of n (take (length L - 1) L)) where

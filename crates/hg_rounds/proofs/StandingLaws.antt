@@ -1,12 +1,12 @@
 -- Lists of standings: what they tell of a row, and how one more changes them
-use Rattle.std.proofs.Common.{◌≡◌, inl, inr, ℕ, zero, suc, ◌+◌, ◌<◌, ◌≤◌, Bool, false, cond, ◌&&◌, eqb, max, List, [], ◌∷◌, ◌++◌, length, take, get_or, Some, slice_get, refl, sym, ap, ap₂, ◌∙◌, arith, add-one}
+use Rattle.std.proofs.Common.{◌≡◌, inl, inr, ℕ, suc, ◌+◌, ◌<◌, ◌≤◌, Bool, cond, ◌&&◌, eqb, max, List, [], ◌∷◌, ◌++◌, length, take, get_or, Some, slice_get, refl, sym, ap, ap₂, ◌∙◌, arith, add-one}
 use Rattle.std.proofs.lemmas.Bool.{cases_lt, and_parts, eqb-true, false_from_ne_true}
 use Rattle.std.proofs.lemmas.List.{length_push, get_or_append_left, get_or_push, take-append-le}
 use Rattle.std.proofs.Math.Seq.{take-append_seam}
 use Rattle.std.proofs.lemmas.Option.{slice_get-get_or, slice_get_read}
 use Rattle.hg_model.specs.Places.{list_below, maximum_below}
 use Rattle.hg_model.specs.Standings.{Standing, round_in, witness_in, round_at, witness_at, witnesses_in, greatest_in}
-use Rattle.hg_model.proofs.PlacesLaws.{list_below-same, maximum_below-same}
+use Rattle.hg_model.proofs.PlacesLaws.{list_below-same, list_below_none, maximum_below-same, maximum_below_bounds}
 use Rattle.hg_rounds.specs.Tabled.{IsByRow}
 
 -- a standing that is read in the list
@@ -20,21 +20,6 @@ unfolding witness_at
 witness_read S x s h is = sym (ap witness_in (slice_get_read S (length S) x s refl h is))
 
 pub ruleset standing_reads = (round_read, witness_read)
-
--- greatest values
-
-pub maximum_below_bounds : (value : ℕ → ℕ) (n k : ℕ) → k < n → value k ≤ maximum_below value n
-unfolding maximum_below
-maximum_below_bounds value zero k h = absurd (omega arith)
-maximum_below_bounds value (suc n) k h = elim (cases_lt k n) [
-  | inl before ↦ omega (arith, maximum_below_bounds value n k before)
-  | inr last ↦ (let same : value k ≡ value n = ap value (omega arith) in omega arith)
-]
-
-list_below_none : (value : ℕ → ℕ) (n : ℕ) (test : ℕ → Bool) → ((k : ℕ) → k < n → test k ≡ false) → list_below value n test ≡ []
-unfolding list_below
-list_below_none value zero test none = refl
-list_below_none value (suc n) test none = rw (none n (omega arith), list_below_none value n test (λ k h. none k (omega arith))) refl
 
 -- no round above the greatest has witnesses
 pub witnesses_in_above : (S : List Standing) (r : ℕ) → greatest_in S < r → witnesses_in S r ≡ []

@@ -8,7 +8,7 @@ ghost use Rattle.std.specs.List.{AllByRecursion, list_all};
 ghost use Rattle.hg_rounds.specs.Tabled.{before_last, last_parents, last_place, standing, standings_in};
 
 use crate::table::RoundTable;
-use hg_model::{Rounds, Sight};
+use hg_model::{Rounds, Sight, is_supermajority};
 
 /// The round of the sight's last row, and whether that row is a witness, from the table of the rows before it.
 /// It asks what the row strongly sees of the witnesses of one round alone. Takes no memory.
@@ -72,13 +72,6 @@ fn next_round(members: u32, round: u32, seen: u32) -> u32
     } else {
         round
     }
-}
-
-/// Whether the count is more than two thirds of the members.
-fn is_supermajority(members: u32, count: u32) -> bool
-    ensures { result ≡ is_supermajority members count }
-{
-    2 * u64::from(members) < 3 * u64::from(count)
 }
 
 /// Whether a row of this round has no self-parent, or one of an earlier round.

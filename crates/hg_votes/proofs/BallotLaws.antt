@@ -17,7 +17,7 @@ use Rattle.hg_model.proofs.VoteLaws.{vote_of-at}
 use Rattle.hg_model.proofs.WitnessLaws.{seen_witness_is}
 use Rattle.hg_votes.specs.declared.tally.Tally.{Tally}
 use Rattle.hg_votes.specs.Tallies.{voters_of, vote_at, tally_of}
-use Rattle.hg_votes.specs.Kept.{HoldsBallots}
+use Rattle.hg_votes.specs.Counting.{HoldsBallots}
 use Rattle.hg_votes.proofs.VoterLaws.{count_below-cut, voter_below}
 
 -- the coin of a row that was read

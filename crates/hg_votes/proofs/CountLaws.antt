@@ -1,8 +1,6 @@
 -- Counting the votes of one round more
-use Rattle.std.proofs.Common.{◌≡◌, ◌≢◌, ℕ, ◌+◌, ◌-◌, ◌<◌, ◌≤◌, Bool, true, false, ◌⊎◌, ◌&&◌, eqb, List, [], ◌∷◌, ◌++◌, length, take, get_or, slice_set, IsTrue, refl, sym, ap, subst, ◌∙◌, inl, inr, arith}
-use Rattle.std.specs.List.{AllByRecursion}
-use Rattle.std.proofs.lemmas.Bool.{cases_eq, cases_lt, eq-eqb, eqb-true, or_cases, or_left, or_right, and_parts, and_from, true≢false}
-use Rattle.std.proofs.lemmas.List.Elements.{All-from_recursion}
+use Rattle.std.proofs.Common.{◌≡◌, ◌≢◌, ℕ, ◌+◌, ◌-◌, ◌<◌, ◌≤◌, Bool, true, false, ◌⊎◌, ◌&&◌, eqb, List, [], ◌∷◌, ◌++◌, length, take, get_or, slice_set, refl, sym, ap, subst, ◌∙◌, inl, inr, arith}
+use Rattle.std.proofs.lemmas.Bool.{cases_eq, cases_lt, eq-eqb, eqb-true, or_cases, or_left, or_right, and_from, true≢false}
 use Rattle.std.proofs.lemmas.List.{take_more, length-set, get_or-set_same, get_or-set_other}
 use Rattle.hg_model.specs.declared.ballot.Ballot.{Ballot}
 use Rattle.hg_model.specs.Places.{has_place}
@@ -10,32 +8,14 @@ use Rattle.hg_model.specs.Rounds.{round_of, is_witness}
 use Rattle.hg_model.specs.Standings.{Standing, standings_of, witnesses_in}
 use Rattle.hg_model.specs.Prefix.{Graph, IsCounted, ballot_of, links_of}
 use Rattle.hg_model.proofs.PlacesLaws.{some_below_from}
-use Rattle.hg_model.proofs.ListLaws.{all_list_below, list_any-list_below}
+use Rattle.hg_model.proofs.ListLaws.{list_any-list_below}
 use Rattle.hg_model.proofs.LinkLaws.{length-links}
+use Rattle.hg_model.proofs.PrefixLaws.{IsWitnessOf}
 use Rattle.hg_model.proofs.StandingLaws.{witnesses_in-standings}
 use Rattle.hg_votes.specs.Tallies.{no_ballot}
-use Rattle.hg_votes.specs.Kept.{HoldsBallots}
+use Rattle.hg_votes.specs.Counting.{HoldsBallots}
 
--- y is a witness of round r
-pub record IsWitnessOf (g : Graph) (r y : ℕ) : Type 0 where
-  pub place : y < length g.rows
-  pub witness : IsTrue (is_witness g.members (links_of g) y)
-  pub round : round_of g.members (links_of g) y ≡ r
-
--- the list of a round's witnesses
-pub witnesses_are : (g : Graph) (r : ℕ) (S : List Standing) (ws : List ℕ) → S ≡ standings_of g.members (links_of g) → ws ≡ witnesses_in S r → AllByRecursion (IsWitnessOf g r) ws
-witnesses_are g r S ws told is =
-    let n = g.members in
-    let L = links_of g in
-    rw (is, told, witnesses_in-standings n L r)
-    (all_list_below (IsWitnessOf g r) (λ y. y) (length L) (λ y. is_witness n L y && eqb (round_of n L y) r) (λ y h passes.
-    let parts = and_parts (is_witness n L y) (eqb (round_of n L y) r) passes in
-    record { place = omega (arith, length-links g.rows); witness = parts.0; round = eqb-true (round_of n L y) r parts.1 }))
-
-pub witness_read : (g : Graph) (r : ℕ) (S : List Standing) (ws : List ℕ) (i : ℕ) → S ≡ standings_of g.members (links_of g) → ws ≡ witnesses_in S r → i < length ws → IsWitnessOf g r (get_or ws i 0)
-witness_read g r S ws i told is h = All-from_recursion (IsWitnessOf g r) ws (witnesses_are g r S ws told is) i 0 h
-
--- it has each of them
+-- the list of a round's witnesses has each of them
 pub witness_listed : (g : Graph) (r y : ℕ) (S : List Standing) (ws : List ℕ) → S ≡ standings_of g.members (links_of g) → ws ≡ witnesses_in S r → IsWitnessOf g r y → has_place ws y ≡ true
 witness_listed g r y S ws told is w =
     let n = g.members in

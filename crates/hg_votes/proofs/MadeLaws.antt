@@ -5,7 +5,7 @@ use Rattle.hg_model.specs.Graph.{IsShaped}
 use Rattle.hg_model.specs.Shape.{Shape, shape_of}
 use Rattle.hg_model.specs.Prefix.{Graph, links_of}
 use Rattle.hg_model.proofs.LinkLaws.{length-links}
-use Rattle.hg_votes.specs.Kept.{HoldsVoters, IsMadeFor}
+use Rattle.hg_votes.specs.Counting.{HoldsVoters, IsMadeFor}
 
 pub made_new : (g : Graph) (shape : Shape) (rows : ℕ) (voters : List (List ℕ)) (ballots : List Ballot) → shape ≡ shape_of g.members (links_of g) → rows ≡ length shape.links →
     rows < 2 ^ 32 - 1 → IsShaped shape.members shape.links → HoldsVoters g (length g.rows) voters → length ballots ≡ rows →

@@ -1,38 +1,25 @@
 -- Who the voters of a witness are
-use Rattle.std.proofs.Common.{◌≡◌, ℕ, zero, suc, ◌-◌, ◌<◌, ◌≤◌, Bool, true, false, cond, ◌&&◌, eqb, List, [], ◌∷◌, ◌++◌, length, get_or, IsTrue, refl, sym, ap, ap₂, ◌∙◌, inl, inr, arith}
+use Rattle.std.proofs.Common.{◌≡◌, ℕ, zero, suc, ◌-◌, ◌<◌, ◌≤◌, Bool, true, false, ◌&&◌, eqb, List, [], length, get_or, IsTrue, refl, sym, ap, ap₂, ◌∙◌, inl, inr, arith}
 use Rattle.std.specs.List.{AllByRecursion, filter}
 use Rattle.std.proofs.lemmas.Bool.{cases_lt}
 use Rattle.std.proofs.lemmas.List.{get_or_read_under}
-use Rattle.std.proofs.lemmas.List.Elements.{filter-append}
 use Rattle.hg_model.specs.Places.{weight_below, count_below, list_below, IsEarlier}
 use Rattle.hg_model.specs.Links.{Link, parents}
 use Rattle.hg_model.specs.Seeing.{strongly_sees}
 use Rattle.hg_model.specs.Rounds.{round_of, is_witness}
 use Rattle.hg_model.specs.Votes.{is_voter}
 use Rattle.hg_model.specs.Shape.{Shape, shape_of}
-use Rattle.hg_model.specs.Standings.{Standing, standings_of, round_at, witnesses_in}
+use Rattle.hg_model.specs.Standings.{Standing, standings_of, witnesses_in}
 use Rattle.hg_model.specs.Prefix.{Graph, links_of}
 use Rattle.hg_model.proofs.LinkLaws.{length-links}
-use Rattle.hg_model.proofs.ListLaws.{all_list_below}
-use Rattle.hg_model.proofs.StandingLaws.{round_at-standings, witnesses_in-standings}
+use Rattle.hg_model.proofs.ListLaws.{all_list_below, filter-list_below}
+use Rattle.hg_model.proofs.StandingLaws.{witnesses_in-standings}
 use Rattle.hg_model.proofs.AncestryLaws.{is_ancestor-le}
 use Rattle.hg_model.proofs.RoundLaws.{round_of-pos}
 use Rattle.hg_model.proofs.SightLaws.{strongly_sees-is_ancestor}
 use Rattle.hg_model.proofs.WitnessLaws.{seen_witness_is}
 use Rattle.hg_votes.specs.Tallies.{voters_of}
-use Rattle.hg_votes.specs.Kept.{HoldsVoters}
-
--- those of a list of places that pass a second test
-pub filter-list_below : (passes : ℕ → Bool) (n : ℕ) (test : ℕ → Bool) → filter passes (list_below (λ k. k) n test) ≡ list_below (λ k. k) n (λ k. test k && passes k)
-unfolding list_below
-filter-list_below passes zero test = refl
-filter-list_below passes (suc n) test =
-    filter-append passes (list_below (λ k. k) n test) (cond (test n) (n ∷ []) [])
-    ∙ ap₂ (λ xs ys. xs ++ ys) (filter-list_below passes n test) (last (test n))
-  where
-    last : (b : Bool) → filter passes (cond b (n ∷ []) []) ≡ cond (b && passes n) (n ∷ []) []
-    last true = refl
-    last false = refl
+use Rattle.hg_votes.specs.Counting.{HoldsVoters}
 
 -- where no later place passes
 pub count_below-cut : (n m : ℕ) (test : ℕ → Bool) → m ≤ n → ((k : ℕ) → m ≤ k → k < n → test k ≡ false) → count_below n test ≡ count_below m test
@@ -57,12 +44,8 @@ voters_found g y r shape S ws seen shaped told before is found =
     let L = links_of g in
     found
     ∙ (ap₂ (λ (s : Shape) xs. filter (strongly_sees s.members s.links y) xs) shaped (is ∙ (ap₂ witnesses_in told before ∙ witnesses_in-standings n L (round_of n L y - 1)))
-    ∙ (filter-list_below (strongly_sees n L y) (length L) (λ w. is_witness n L w && eqb (round_of n L w) (round_of n L y - 1))
+    ∙ (filter-list_below (strongly_sees n L y) (λ w. w) (length L) (λ w. is_witness n L w && eqb (round_of n L w) (round_of n L y - 1))
     ∙ ap (λ len. list_below (λ w. w) len (is_voter n L y)) (length-links g.rows)))
-
--- the round that a prefix tells
-pub round_read : (g : Graph) (S : List Standing) (x : ℕ) → S ≡ standings_of g.members (links_of g) → x < length g.rows → round_at S x ≡ round_of g.members (links_of g) x
-round_read g S x told h = ap (λ rounds. round_at rounds x) told ∙ round_at-standings g.members (links_of g) x (omega (arith, length-links g.rows))
 
 -- a voter stands below who it votes for
 pub voter_below : (n : ℕ) (L : List Link) → IsEarlier (parents L) → (y w : ℕ) → is_voter n L y w ≡ true → w < y

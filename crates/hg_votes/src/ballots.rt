@@ -1,7 +1,7 @@
 ghost use Rattle.std.specs.Prelude.{◌≡◌, ◌<◌, ◌-◌, ◌^◌, length, IfOk};
 ghost use Rattle.hg_model.specs.Prefix.{IsCounted, ballot_of, links_of};
 ghost use Rattle.hg_model.specs.Rounds.{round_of};
-ghost use Rattle.hg_votes.specs.Kept.{HoldsBallots, HoldsVoters, IsOpened};
+ghost use Rattle.hg_votes.specs.Counting.{HoldsBallots, HoldsVoters, IsOpened};
 
 use crate::tally::count_votes;
 use crate::weighing::weigh;

@@ -1,5 +1,5 @@
 ghost use Rattle.std.specs.Prelude.{IfOk};
-ghost use Rattle.hg_votes.specs.Kept.{IsMadeFor};
+ghost use Rattle.hg_votes.specs.Counting.{IsMadeFor};
 
 use crate::ballots::{count_round, no_ballots};
 use crate::voters::voters_by_place;
@@ -20,9 +20,9 @@ pub struct VoteTable {
 }
 
 impl Model for VoteTable {
-    ghost use Rattle.hg_votes.specs.Kept.{Kept};
+    ghost use Rattle.hg_votes.specs.Counting.{Counting};
 
-    ghost Value = { Kept };
+    ghost Value = { Counting };
 
     ghost view = { λ s. record { voters = s.voters.items; ballots = s.ballots.items; candidate = s.candidate; counted = s.counted } };
 }

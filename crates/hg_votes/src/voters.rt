@@ -3,7 +3,7 @@ ghost use Rattle.std.specs.List.{AllByRecursion, filter};
 ghost use Rattle.hg_model.specs.Prefix.{links_of};
 ghost use Rattle.hg_model.specs.Seeing.{strongly_sees};
 ghost use Rattle.hg_votes.specs.Tallies.{voters_of};
-ghost use Rattle.hg_votes.specs.Kept.{HoldsVoters};
+ghost use Rattle.hg_votes.specs.Counting.{HoldsVoters};
 
 use hg_model::{Items, Memory, Prefix, Sight};
 use std::alloc::Global;

@@ -2,7 +2,7 @@ ghost use Rattle.std.specs.Prelude.{◌≡◌, ◌<◌};
 ghost use Rattle.hg_model.specs.Order.{middle_bit};
 ghost use Rattle.hg_model.specs.Votes.{weighed_decides, weighed_vote};
 
-use hg_model::{Ballot, Sig};
+use hg_model::{Ballot, Sig, is_supermajority};
 
 /// The coin of a witness with this signature: the highest bit of byte 32.
 /// SWIRLDS-TR-2016-01 asks for a middle bit of the signature.
@@ -20,7 +20,7 @@ pub fn weigh(d: u32, c: u32, yes: u32, no: u32, n: u32, sig: &Sig) -> Ballot
     ensures { result ≡ record { vote = weighed_vote n c d yes no (middle_bit sig.now); decides = weighed_decides n c d yes no } }
 {
     let majority = no <= yes;
-    let is_strong = 2 * u64::from(n) < 3 * u64::from(yes.max(no));
+    let is_strong = is_supermajority(n, yes.max(no));
     let is_normal = d % c > 0;
     Ballot {
         vote: if is_normal || is_strong {

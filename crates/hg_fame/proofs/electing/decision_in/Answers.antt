@@ -1,8 +1,3 @@
-use Rattle.std.proofs.Common.{◌≡◌, ◌<◌, ℕ, arith, slice_index_or, sym, subst}
-use Rattle.hg_model.specs.Prefix.{Graph, IsCounted, links_of}
-use Rattle.hg_model.specs.Rounds.{round_of}
-use Rattle.hg_model.specs.Standings.{Standing, standings_of, witnesses_in}
-use Rattle.hg_votes.proofs.CountLaws.{IsWitnessOf, witness_read}
 use Rattle.hg_fame.proofs.DecisionLaws.{witness_counted, decides_here, passes_on, none_decides}
 use Rattle.hg_fame.proofs.electing.decision_in.Goals as goal
 

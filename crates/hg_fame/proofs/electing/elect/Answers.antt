@@ -1,9 +1,7 @@
-use Rattle.std.proofs.Common.{◌≡◌, ◌∙◌, ◌+◌, ◌<◌, ◌≤◌, Bool, ℕ, Option, option_map, is_some, arith, refl, sym, subst, ap}
-use Rattle.hg_model.specs.Prefix.{links_of}
-use Rattle.hg_model.specs.Rounds.{round_of}
-use Rattle.hg_votes.proofs.VoterLaws.{round_read}
+use Rattle.std.proofs.Common.{◌≡◌, ◌∙◌, ◌+◌, ℕ, option_map, arith, refl, sym, subst, ap}
+use Rattle.hg_model.proofs.PrefixLaws.{round_read}
 use Rattle.hg_fame.specs.Decisions.{IsUndecided, decision_by, decider_in}
-use Rattle.hg_fame.proofs.DecisionLaws.{Decided, decided_by, decided_not, undecided_at_first, undecided_after, greatest_read}
+use Rattle.hg_fame.proofs.DecisionLaws.{decided_by, decided_not, undecided_at_first, undecided_after, greatest_read}
 use Rattle.hg_fame.proofs.electing.elect.Goals as goal
 
 pub loop-round-init : goal.loop-round-init

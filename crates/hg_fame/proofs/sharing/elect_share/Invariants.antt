@@ -1,9 +1,7 @@
-use Rattle.std.proofs.Common.{◌≡◌, is_some}
-use Rattle.hg_model.specs.Places.{count_below, list_below}
+use Rattle.std.proofs.Common.{◌≡◌}
+use Rattle.hg_model.specs.Places.{count_below}
 use Rattle.hg_model.specs.Prefix.{links_of}
 use Rattle.hg_model.specs.Rounds.{is_witness}
-use Rattle.hg_model.specs.Fame.{is_yes}
-use Rattle.hg_model.specs.Shares.{share_fame}
 use Rattle.hg_fame.proofs.ShareLaws.{found_below}
 use Rattle.hg_fame.proofs.sharing.elect_share.Given as goal
 

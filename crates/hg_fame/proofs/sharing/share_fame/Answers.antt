@@ -1,4 +1,4 @@
-use Rattle.std.proofs.Common.{◌≡◌, ◌∙◌, ◌%◌, ℕ, Bool, option_map, ap, ap₂, sym}
+use Rattle.std.proofs.Common.{◌∙◌, ◌%◌, ℕ, Bool, option_map, ap, sym}
 use Rattle.hg_fame.proofs.ShareLaws.{fame_of_share, no_fame_of_others}
 use Rattle.hg_fame.proofs.sharing.share_fame.Goals as goal
 

@@ -6,16 +6,16 @@ use Rattle.hg_kept.proofs.closing.is_next_closed.Goals as goal
 
 pub are_marked-requires : goal.are_marked-requires
 are_marked-requires g c =
-    witnesses_inside _ _ _ c.told.ensures.told _ _ c.witnesses-witnesses.ensures _ c.requires.marked
+    witnesses_inside _ _ _ c.tells_graph.ensures.told _ _ c.witnesses-witnesses.ensures _ c.requires.marked
 
 pub returns-then-not-is_empty : goal.returns-then-not-is_empty
 returns-then-not-is_empty g c =
     c.are_marked.ensures
     ∙ (ap (λ (b : Bool). not b && list_all (λ w. is_some (mark_at c.args.marks.now w)) c.witnesses-witnesses.result.now) (sym c.if-not-is_empty.true ∙ c.is_empty.ensures)
-    ∙ next_told _ _ _ c.told.ensures.told c.told.ensures.shaped _ _ c.requires.reached _ c.witnesses-witnesses.ensures)
+    ∙ next_told _ _ _ c.tells_graph.ensures.told c.tells_graph.ensures.shaped _ _ c.requires.reached _ c.witnesses-witnesses.ensures)
 
 pub returns-else-not-is_empty : goal.returns-else-not-is_empty
 returns-else-not-is_empty g c =
     ap not c.if-not-is_empty.false
     ∙ (ap (λ (b : Bool). not b && list_all (λ w. is_some (mark_at c.args.marks.now w)) c.witnesses-witnesses.result.now) (sym c.if-not-is_empty.false ∙ c.is_empty.ensures)
-    ∙ next_told _ _ _ c.told.ensures.told c.told.ensures.shaped _ _ c.requires.reached _ c.witnesses-witnesses.ensures)
+    ∙ next_told _ _ _ c.tells_graph.ensures.told c.tells_graph.ensures.shaped _ _ c.requires.reached _ c.witnesses-witnesses.ensures)

@@ -1,9 +1,5 @@
-use Rattle.std.proofs.Common.{◌≡◌, ◌<◌, ◌≤◌, ◌∙◌, sym, refl, subst, arith, true, not, List, [], ◌∷◌, ℕ}
-use Rattle.std.specs.List.{list_all}
-use Rattle.hg_model.specs.Places.{has_place}
-use Rattle.hg_model.specs.Ancestry.{is_ancestor}
-use Rattle.hg_model.proofs.ReachLaws.{has_place_first}
-use Rattle.hg_model.proofs.AncestryLaws.{self_parent_earlier, is_self_ancestor_self, is_self_ancestor_by, is_self_ancestor-trans}
+use Rattle.std.proofs.Common.{sym, arith}
+use Rattle.hg_model.proofs.AncestryLaws.{is_self_ancestor_self}
 use Rattle.hg_order.proofs.LineLaws.{first_holder_is, self_parent_before, line_down, new_by_parent, new_without_parent}
 use Rattle.hg_order.proofs.time.first_holder.Goals as goal
 

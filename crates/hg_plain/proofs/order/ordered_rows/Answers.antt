@@ -2,8 +2,9 @@ use Rattle.std.proofs.Common.{◌≡◌, ◌<◌, ◌∙◌, ap, suc, length, ar
 use Rattle.std.proofs.lemmas.List.Elements.{All-same}
 use Rattle.hg_model.specs.declared.row.Placed.{Placed}
 use Rattle.hg_model.specs.Prefix.{links_of}
+use Rattle.hg_model.proofs.OrderLaws.{ordered_within}
 use Rattle.hg_plain.specs.Rounds.{ordered_before}
-use Rattle.hg_plain.proofs.OrderLaws.{before_all, ordered_within}
+use Rattle.hg_plain.proofs.OrderLaws.{before_all}
 use Rattle.hg_plain.proofs.order.ordered_rows.Goals as goal
 
 pub returns-clause-order : goal.returns-clause-order

@@ -1,4 +1,3 @@
-use Rattle.std.proofs.Common.{◌∙◌, sym, ap, length, List, ℕ}
 use Rattle.hg_order.proofs.ReceivedLaws.{received_below, received_some}
 use Rattle.hg_plain.proofs.order.place_fresh.Goals as goal
 

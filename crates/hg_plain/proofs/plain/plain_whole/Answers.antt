@@ -1,6 +1,6 @@
 use Rattle.std.proofs.Common.{◌∙◌, ap, ap₂, map, List}
 use Rattle.hg_model.specs.declared.row.Placed.{Placed}
-use Rattle.hg_model.specs.Links.{Link, links}
+use Rattle.hg_model.specs.Links.{Link}
 use Rattle.hg_model.specs.Order.{last_closed, ordered, order_of, sequence_of}
 use Rattle.hg_model.specs.Ledger.{closed_of}
 use Rattle.hg_model.specs.Prefix.{Graph, links_of}

@@ -1,4 +1,4 @@
-use Rattle.std.proofs.Common.{◌≡◌, ◌≤◌, ◌∙◌, sym, refl, true, false, ltb, length, arith, le-ltb}
+use Rattle.std.proofs.Common.{◌∙◌, sym, arith, le-ltb}
 use Rattle.hg_order.proofs.ReceivedLaws.{none_where_open, none_received}
 use Rattle.hg_plain.proofs.received.can_receive.Goals as goal
 

@@ -1,7 +1,8 @@
 use Rattle.std.proofs.Common.{◌-◌, ℕ, sym, subst, arith, refl, slice_index_or}
 use Rattle.std.proofs.lemmas.List.{take_all}
-use Rattle.hg_votes.specs.Kept.{HoldsBallots}
-use Rattle.hg_votes.proofs.CountLaws.{IsWitnessOf, HoldsRound, witness_read, round_more, round_done}
+use Rattle.hg_votes.specs.Counting.{HoldsBallots}
+use Rattle.hg_model.proofs.PrefixLaws.{IsWitnessOf, witness_read}
+use Rattle.hg_votes.proofs.CountLaws.{HoldsRound, round_more, round_done}
 use Rattle.hg_votes.proofs.ballots.count_round.Goals as goal
 
 pub next_ballot-requires-clause-counted : goal.next_ballot-requires-clause-counted

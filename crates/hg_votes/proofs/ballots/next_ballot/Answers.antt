@@ -3,7 +3,8 @@ use Rattle.hg_model.specs.Places.{IsEarlier}
 use Rattle.hg_model.specs.Links.{parents}
 use Rattle.hg_model.specs.Seeing.{sees}
 use Rattle.hg_model.specs.Shape.{Shape}
-use Rattle.hg_votes.proofs.VoterLaws.{round_read, voters_read}
+use Rattle.hg_model.proofs.PrefixLaws.{round_read}
+use Rattle.hg_votes.proofs.VoterLaws.{voters_read}
 use Rattle.hg_votes.proofs.BallotLaws.{coin_read, voters_there, few_voters, ballot_next, ballot_far}
 use Rattle.hg_votes.proofs.ballots.next_ballot.Goals as goal
 

@@ -1,4 +1,4 @@
-use Rattle.hg_votes.specs.Kept.{HoldsVoters}
+use Rattle.hg_votes.specs.Counting.{HoldsVoters}
 use Rattle.hg_votes.proofs.voters.voters_by_place.Given as goal
 
 abbrev pub invariant-loop-y : goal.invariant-loop-y

@@ -4,7 +4,8 @@ use Rattle.std.proofs.lemmas.Result.{IfOk-weaker}
 use Rattle.hg_model.specs.Seeing.{strongly_sees}
 use Rattle.hg_model.specs.Shape.{Shape}
 use Rattle.hg_votes.specs.Tallies.{voters_of}
-use Rattle.hg_votes.proofs.VoterLaws.{round_read, witnesses_there, voters_found}
+use Rattle.hg_model.proofs.PrefixLaws.{round_read}
+use Rattle.hg_votes.proofs.VoterLaws.{witnesses_there, voters_found}
 use Rattle.hg_votes.proofs.voters.voters_of.Goals as goal
 
 pub seen_among-requires-clause-places : goal.seen_among-requires-clause-places

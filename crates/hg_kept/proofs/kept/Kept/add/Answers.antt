@@ -10,10 +10,10 @@ returns-clause-took g c =
     let come = subst (λ (t : Stock). HasCome graph t.published) (sym c.self.view_is) c.requires.come in
     let new = published_as c.push_reserved.new.self.items c.self.inside.closed c.self.inside.order.items c.self.inside.pending in
     subst (λ (t : Stock). TookRow graph t.published new) c.self.view_is
-    (rw c.push_reserved.ensures.items (took graph c.told.ensures.told.coin _ come _ c.first_mark-mark.ensures))
+    (rw c.push_reserved.ensures.items (took graph c.tells_graph.ensures.told.coin _ come _ c.first_mark-mark.ensures))
 
 pub returns-clause-keeps : goal.returns-clause-keeps
 returns-clause-keeps g c =
     let graph = g.P.Prefix.graph c.args.p.now in
     let come = subst (λ (t : Stock). HasCome graph t.published) (sym c.self.view_is) c.requires.come in
-    rw c.push_reserved.ensures.items (row_keeps graph c.told.ensures.told.coin _ come _ c.first_mark-mark.ensures)
+    rw c.push_reserved.ensures.items (row_keeps graph c.tells_graph.ensures.told.coin _ come _ c.first_mark-mark.ensures)

@@ -8,32 +8,32 @@ pub mark_found-count-requires-clause-within : goal.mark_found-count-requires-cla
 mark_found-count-requires-clause-within g c =
     let graph = g.P.Prefix.graph c.args.p.now in
     let keeps = subst (λ (t : Stock). Keeps graph t.published) (sym c.self.view_is) c.requires.keeps in
-    rw c.as_slice.ensures (found_inside graph c.told.ensures.told.coin _ keeps _ _ _ c.requires.speaks)
+    rw c.as_slice.ensures (found_inside graph c.tells_graph.ensures.told.coin _ keeps _ _ _ c.requires.speaks)
 
 pub mark_found-count-requires-clause-few : goal.mark_found-count-requires-clause-few
 mark_found-count-requires-clause-few g c =
     let graph = g.P.Prefix.graph c.args.p.now in
     let keeps = subst (λ (t : Stock). Keeps graph t.published) (sym c.self.view_is) c.requires.keeps in
-    let few = found_few graph c.told.ensures.told.coin _ keeps _ _ _ c.requires.speaks in
+    let few = found_few graph c.tells_graph.ensures.told.coin _ keeps _ _ _ c.requires.speaks in
     let same = ap length c.as_slice.ensures in
-    omega (arith, c.told.ensures.short)
+    omega (arith, c.tells_graph.ensures.short)
 
 pub close_rounds-self-inside-requires-clause-keeps : goal.close_rounds-self-inside-requires-clause-keeps
 close_rounds-self-inside-requires-clause-keeps g c =
     let graph = g.P.Prefix.graph c.args.p.now in
     let keeps = subst (λ (t : Stock). Keeps graph t.published) (sym c.self.view_is) c.requires.keeps in
-    rw c.deref.ensures.value (keeps_published graph c.told.ensures.told.coin _ keeps _ _ _ c.requires.speaks _ _ (rw c.as_slice.ensures at c.mark_found-count.ensures.added))
+    rw c.deref.ensures.value (keeps_published graph c.tells_graph.ensures.told.coin _ keeps _ _ _ c.requires.speaks _ _ (rw c.as_slice.ensures at c.mark_found-count.ensures.added))
 
 pub returns-clause-count : goal.returns-clause-count
 returns-clause-count g c =
     let graph = g.P.Prefix.graph c.args.p.now in
     let keeps = subst (λ (t : Stock). Keeps graph t.published) (sym c.self.view_is) c.requires.keeps in
     subst (λ (t : Stock). c.mark_found-count.result ≡ news graph.members graph.coin (state_by graph t.published.marks) c.args.found.now.len c.args.found.now.share) c.self.view_is
-    (count_published graph c.told.ensures.told.coin _ keeps _ _ _ c.requires.speaks _ _ (rw c.as_slice.ensures at c.mark_found-count.ensures.added))
+    (count_published graph c.tells_graph.ensures.told.coin _ keeps _ _ _ c.requires.speaks _ _ (rw c.as_slice.ensures at c.mark_found-count.ensures.added))
 
 pub returns-clause-marks : goal.returns-clause-marks
 returns-clause-marks g c =
     let graph = g.P.Prefix.graph c.args.p.now in
     let keeps = subst (λ (t : Stock). Keeps graph t.published) (sym c.self.view_is) c.requires.keeps in
     subst (λ (t : Stock). c.mark_found-count.new.marks.items ≡ (with_marks graph.members graph.coin (state_by graph t.published.marks) c.args.found.now.len c.args.found.now.share).marks) c.self.view_is
-    (marks_published graph c.told.ensures.told.coin _ keeps _ _ _ c.requires.speaks _ _ (rw c.as_slice.ensures at c.mark_found-count.ensures.added))
+    (marks_published graph c.tells_graph.ensures.told.coin _ keeps _ _ _ c.requires.speaks _ _ (rw c.as_slice.ensures at c.mark_found-count.ensures.added))

@@ -1,5 +1,4 @@
-use Rattle.std.proofs.Common.{◌≡◌, ◌∙◌, ap, get_or, List, ℕ, []}
-use Rattle.hg_model.specs.Prefix.{links_of}
+use Rattle.std.proofs.Common.{◌∙◌, ap, get_or, List, ℕ, []}
 use Rattle.hg_plain.proofs.PrefixLaws.{witnesses_told}
 use Rattle.hg_plain.proofs.prefix.PlainPrefixRounds.witnesses.Goals as goal
 

@@ -1,7 +1,7 @@
 use Rattle.std.proofs.Common.{◌≡◌, ◌-◌, ◌<◌}
 use Rattle.hg_model.specs.Prefix.{links_of}
 use Rattle.hg_model.specs.Rounds.{last_round}
-use Rattle.hg_votes.specs.Kept.{IsMadeFor}
+use Rattle.hg_votes.specs.Counting.{IsMadeFor}
 use Rattle.hg_votes.proofs.table.VoteTableVotes.fill.Given as goal
 
 abbrev pub invariant-loop-self : goal.invariant-loop-self

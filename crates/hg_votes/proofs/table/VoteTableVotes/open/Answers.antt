@@ -1,7 +1,7 @@
 use Rattle.std.proofs.Common.{◌∙◌, arith}
 use Rattle.hg_model.specs.Prefix.{links_of}
 use Rattle.hg_model.proofs.RoundLaws.{round_of-pos}
-use Rattle.hg_votes.proofs.VoterLaws.{round_read}
+use Rattle.hg_model.proofs.PrefixLaws.{round_read}
 use Rattle.hg_votes.proofs.table.VoteTableVotes.open.Goals as goal
 
 pub returns-clause-opened : goal.returns-clause-opened

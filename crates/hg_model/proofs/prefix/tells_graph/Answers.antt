@@ -1,9 +1,13 @@
 use Rattle.std.proofs.Common.{arith}
-use Rattle.hg_kept.proofs.TellLaws.{rows_told, standings_told, shaped_told}
-use Rattle.hg_kept.proofs.told.told.Goals as goal
+use Rattle.hg_model.proofs.LinkLaws.{length-links}
+use Rattle.hg_model.proofs.PrefixLaws.{rows_told, standings_told, shaped_told}
+use Rattle.hg_model.proofs.prefix.tells_graph.Goals as goal
 
 pub returns-clause-shaped : goal.returns-clause-shaped
 returns-clause-shaped g c = shaped_told _ _ _ c.coin.ensures.told c.rows.ensures.shaped
+
+pub returns-clause-long : goal.returns-clause-long
+returns-clause-long g c = length-links _
 
 pub returns-clause-links : goal.returns-clause-links
 returns-clause-links g c = rows_told _ _ _ c.coin.ensures.told

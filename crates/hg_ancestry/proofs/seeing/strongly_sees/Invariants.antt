@@ -3,10 +3,10 @@ use Rattle.hg_model.specs.Places.{count_below, some_below}
 use Rattle.hg_model.specs.Seeing.{is_supermajority}
 use Rattle.hg_bits.specs.Masks.{mask_has}
 use Rattle.hg_ancestry.proofs.SeerLaws.{is_seer_by}
-use Rattle.hg_ancestry.proofs.seeing.has_seers_over.Given as goal
+use Rattle.hg_ancestry.proofs.seeing.strongly_sees.Given as goal
 
 abbrev pub invariant-loop-z : goal.invariant-loop-z
 invariant-loop-z l = record {
-  told : (m : ℕ) → mask_has l.mask m ≡ some_below l.z (is_seer_by l.links l.x l.y m);
+  told : (m : ℕ) → mask_has l.mask m ≡ some_below l.z (is_seer_by l.sight.shape.links l.x l.y m);
   few : is_supermajority l.members (count_below 128 (mask_has l.mask)) ≡ false;
 }

@@ -1,4 +1,4 @@
--- What a table of votes keeps, and when that is a graph's
+-- How far a table of votes has counted, and when that is a graph's
 use Rattle.std.specs.Prelude.{ℕ, ◌≡◌, ◌-◌, ◌<◌, ◌≤◌, ◌^◌, IsTrue, List, [], length, get_or}
 use Rattle.hg_model.specs.declared.ballot.Ballot.{Ballot}
 use Rattle.hg_model.specs.Rounds.{is_witness, round_of}
@@ -7,7 +7,7 @@ use Rattle.hg_model.specs.Prefix.{Graph, IsCounted, ballot_of, links_of}
 use Rattle.hg_votes.specs.Tallies.{voters_of, no_ballot}
 
 -- by place the voters of each witness and its ballot, the candidate, and the round up to which votes are counted
-pub record Kept : Type 0 where
+pub record Counting : Type 0 where
   pub voters : List (List ℕ)
   pub ballots : List Ballot
   pub candidate : ℕ
@@ -29,10 +29,10 @@ pub record IsOpened (g : Graph) (x last : ℕ) : Type 0 where
   pub witness : IsTrue (is_witness g.members (links_of g) x)
   pub round : round_of g.members (links_of g) x ≤ last
 
--- all that is kept is the graph's, which is shaped and has few enough rows to count them
-pub record IsMadeFor (kept : Kept) (g : Graph) : Type 0 where
+-- all of it is the graph's, which is shaped and has few enough rows to count them
+pub record IsMadeFor (counting : Counting) (g : Graph) : Type 0 where
   pub shaped : IsShaped g.members (links_of g)
   pub short : length g.rows < 2 ^ 32 - 1
-  pub voters : HoldsVoters g (length g.rows) kept.voters
-  pub ballots : HoldsBallots g kept.candidate kept.counted kept.ballots
-  pub opened : 0 < kept.counted → IsOpened g kept.candidate kept.counted
+  pub voters : HoldsVoters g (length g.rows) counting.voters
+  pub ballots : HoldsBallots g counting.candidate counting.counted counting.ballots
+  pub opened : 0 < counting.counted → IsOpened g counting.candidate counting.counted
