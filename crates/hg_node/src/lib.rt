@@ -10,6 +10,8 @@ mod laws;
 mod node;
 #[cfg(test)]
 mod tests;
+#[cfg(test)]
+mod tests_paying;
 
 pub use laws::making_is_one;
 pub use node::Node;
