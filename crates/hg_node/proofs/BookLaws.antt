@@ -1,5 +1,5 @@
 -- What a ledger keeps once a row has come, and once an order has grown
-use Rattle.std.proofs.Common.{◌≡◌, ℕ, ◌+◌, ◌<◌, ◌≤◌, List, [], ◌∷◌, ◌++◌, length, length-append, All, sym, refl, ap, ap₂, ◌∙◌, subst, arith}
+use Rattle.std.proofs.Common.{◌≡◌, ℕ, ◌+◌, ◌<◌, ◌≤◌, List, [], ◌∷◌, ◌++◌, length, length-append, All, sym, ap, ap₂, ◌∙◌, subst, arith}
 use Rattle.std.proofs.lemmas.List.{length_push}
 use Rattle.hg_model.specs.declared.row.Row.{Row}
 use Rattle.hg_model.specs.declared.row.Placed.{Placed}
@@ -34,7 +34,7 @@ module _ (g : Graph) (v : Published) (keeps : Keeps g v) where
       KeepsBook (g.rows ++ row ∷ []) later b
   book_with_row row later a b same book opening books memory = record {
     book = books ∙ (book.book ∙ (ap (λ (balances : List ℕ). book_of balances g.rows v.order) (sym opening)
-    ∙ (sym (rows_leave_the_book b.opening g.rows (row ∷ []) v.order kept_within) ∙ ap (book_of b.opening (g.rows ++ row ∷ [])) (sym same))));
+        ∙ (sym (rows_leave_the_book b.opening g.rows (row ∷ []) v.order kept_within) ∙ ap (book_of b.opening (g.rows ++ row ∷ [])) (sym same))));
     memory = omega (arith, memory, length_push g.rows row);
   }
 

@@ -1,4 +1,4 @@
-ghost use Rattle.std.specs.Prelude.{◌≡◌, IfOk, length};
+ghost use Rattle.std.specs.Prelude.{◌≡◌, IfOk};
 ghost use Rattle.hg_model.specs.Ledger.{block_of};
 ghost use Rattle.hg_model.specs.Shown.{graph_of};
 ghost use Rattle.hg_play.specs.Node.{start_in};

@@ -41,6 +41,8 @@ invariant_of-self-2 c =
     let paid : KeepsBook (g.rows ++ c.args.row ∷ []) c.add.new.self.published.order c.reserve-3.new.self =
     book_with_row g c.self.inside.kept.published c.self.invariant.0.keeps c.args.row c.add.new.self.published.order c.self.inside.ledger c.reserve-3.new.self same c.self.invariant.1
     (ap (λ (a : Account). a.opening) c.in_ok-reserve-3.ensures.same) (ap (λ (a : Account). a.book) c.in_ok-reserve-3.ensures.same) (omega (arith, c.in_ok-reserve-3.ensures.room, c.len-place.ensures.value)) in
-    rw (pushed, c.push_reserved.ensures.items, c.in_ok-reserve-4.ensures.items)
-    (record_with c.self.inside.own g c.self.inside.log.items c.self.inside.kept.published c.self.inside.last_own (vec_capacity c.self.inside.log) c.self.invariant.0
-    c.args.row c.args.entry c.add.new.self.published c.later_place-self-inside.result (vec_capacity c.push_reserved.new.self) graph marks keeps is memory, paid)
+    rw (pushed, c.push_reserved.ensures.items, c.in_ok-reserve-4.ensures.items) (
+      record_with c.self.inside.own g c.self.inside.log.items c.self.inside.kept.published c.self.inside.last_own (vec_capacity c.self.inside.log) c.self.invariant.0
+          c.args.row c.args.entry c.add.new.self.published c.later_place-self-inside.result (vec_capacity c.push_reserved.new.self) graph marks keeps is memory,
+      paid,
+    )

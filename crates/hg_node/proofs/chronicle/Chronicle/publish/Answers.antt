@@ -32,17 +32,19 @@ push_reserved-requires c =
 pub invariant_of-self : goal.invariant_of-self
 invariant_of-self c =
     let within = subst (λ (r : Recorded). c.args.found.now.len ≤ length r.graph.rows) (sym c.self.view_is) c.requires.within in
-    rw c.push_reserved.ensures.items
-    (record_marked c.self.inside.own c.self.inside.graph.graph c.self.inside.log.items c.self.inside.kept.published c.self.inside.last_own (vec_capacity c.self.inside.log) c.self.invariant.0
-    c.args.found.now.len c.args.found.now.share within c.publish-count.new.self.published c.publish-count.ensures.marks c.publish-count.ensures.keeps
-    _ (vec_capacity c.push_reserved.new.self) (omega (arith, c.if-count-gt0.true, c.publish-count.ensures.count)) (omega (arith, c.push_reserved.ensures.capacity)),
-    book_paid c.self.inside.graph.graph.rows c.self.inside.kept.published.order c.publish-count.new.self.published.order c.order.result.now c.self.inside.ledger c.pay.new.self
-    c.self.invariant.1 c.publish-count.ensures.grows c.order.ensures c.pay.ensures)
+    rw c.push_reserved.ensures.items (
+      record_marked c.self.inside.own c.self.inside.graph.graph c.self.inside.log.items c.self.inside.kept.published c.self.inside.last_own (vec_capacity c.self.inside.log) c.self.invariant.0
+          c.args.found.now.len c.args.found.now.share within c.publish-count.new.self.published c.publish-count.ensures.marks c.publish-count.ensures.keeps
+          _ (vec_capacity c.push_reserved.new.self) (omega (arith, c.if-count-gt0.true, c.publish-count.ensures.count)) (omega (arith, c.push_reserved.ensures.capacity)),
+      book_paid c.self.inside.graph.graph.rows c.self.inside.kept.published.order c.publish-count.new.self.published.order c.order.result.now c.self.inside.ledger c.pay.new.self
+          c.self.invariant.1 c.publish-count.ensures.grows c.order.ensures c.pay.ensures,
+    )
 
 pub invariant_of-self-else-count-gt0 : goal.invariant_of-self-else-count-gt0
 invariant_of-self-else-count-gt0 c =
-    let within = subst (λ (r : Recorded). c.args.found.now.len ≤ length r.graph.rows) (sym c.self.view_is) c.requires.within in
-    (record_same c.self.inside.own c.self.inside.graph.graph c.self.inside.log.items c.self.inside.kept.published c.self.inside.last_own (vec_capacity c.self.inside.log) c.self.invariant.0
-    c.args.found.now.len c.args.found.now.share within c.publish-count.new.self.published c.publish-count.ensures.marks c.publish-count.ensures.keeps,
-    book_paid c.self.inside.graph.graph.rows c.self.inside.kept.published.order c.publish-count.new.self.published.order c.order.result.now c.self.inside.ledger c.pay.new.self
-    c.self.invariant.1 c.publish-count.ensures.grows c.order.ensures c.pay.ensures)
+    let within = subst (λ (r : Recorded). c.args.found.now.len ≤ length r.graph.rows) (sym c.self.view_is) c.requires.within in (
+      record_same c.self.inside.own c.self.inside.graph.graph c.self.inside.log.items c.self.inside.kept.published c.self.inside.last_own (vec_capacity c.self.inside.log) c.self.invariant.0
+          c.args.found.now.len c.args.found.now.share within c.publish-count.new.self.published c.publish-count.ensures.marks c.publish-count.ensures.keeps,
+      book_paid c.self.inside.graph.graph.rows c.self.inside.kept.published.order c.publish-count.new.self.published.order c.order.result.now c.self.inside.ledger c.pay.new.self
+          c.self.invariant.1 c.publish-count.ensures.grows c.order.ensures c.pay.ensures,
+    )
