@@ -1,3 +1,5 @@
+pub mod OrderedLaws
+pub mod BookLaws
 pub mod PlaceLaws
 pub mod LastLaws
 pub mod RecordLaws

@@ -29,9 +29,9 @@ pub record MakesRow {K : Type 0} (accepts : K → Accepts) (v w : Shown K) (r : 
   pub graph : IsGraph r.graph.members (r.graph.rows ++ row ∷ [])
   pub limit : length r.graph.rows < row_limit
 
-module _ {K : Type 0} (accepts : K → Accepts) (balances : List ℕ) (keys : K) (r : Recorded) (other : Option (List ℕ)) (time : ℕ) (payload : List ℕ) (is : IsRecorded accepts (shown balances keys r) r) where
+module _ {K : Type 0} (accepts : K → Accepts) (keys : K) (r : Recorded) (other : Option (List ℕ)) (time : ℕ) (payload : List ℕ) (is : IsRecorded accepts (shown keys r) r) where
   abbrev before : Shown K
-  before = shown balances keys r
+  before = shown keys r
 
   draft_is : make_draft before other payload ≡ draft_rule r.own r.graph.rows other payload
   unfolding make_draft
@@ -99,7 +99,7 @@ module _ {K : Type 0} (accepts : K → Accepts) (balances : List ℕ) (keys : K)
 
     -- against which none does
     pub row_made : time < 2 ^ 64 → None ≡ option_or (collision_rule r.graph.rows row) (room_rule r.graph.rows) →
-        MakesRow accepts before (shown balances keys (recorded_with r row (entry.Made (length r.graph.rows)))) r row other time payload
+        MakesRow accepts before (shown keys (recorded_with r row (entry.Made (length r.graph.rows)))) r row other time payload
     unfolding make_changes
     row_made early rest =
         let is_answer = answer_of None rest in
@@ -107,16 +107,16 @@ module _ {K : Type 0} (accepts : K → Accepts) (balances : List ℕ) (keys : K)
         ap (λ (a : MakeAnswer). made_by a (made_row before.start.own (graph_of before) other time payload sig)) is_answer
         ∙ (ap (λ (G : List Row). Made (made_row r.own G other time payload sig) ∷ []) is.rows ∙ ap (λ (x : Row). Made x ∷ []) (sym is_row)) in
         let node = subst (λ (es : List Change). IsNode accepts (with_changes before es)) events (makes_leave_a_node K accepts before other time payload sig early sized (λ none. is_signed) is.node) in
-        let recorded = recorded_after accepts balances keys r (Made row) (entry.Made (length r.graph.rows)) refl is node in
+        let recorded = recorded_after accepts keys r (Made row) (entry.Made (length r.graph.rows)) refl is node in
         record {
           making = record {
             sig = sig;
             sized = sized;
             signed = λ none. is_signed;
             answers = sym is_answer;
-            grown = sym (ap (with_changes before) events ∙ shown_after accepts balances keys r (Made row) (entry.Made (length r.graph.rows)) refl is);
+            grown = sym (ap (with_changes before) events ∙ shown_after accepts keys r (Made row) (entry.Made (length r.graph.rows)) refl is);
           };
           recorded = recorded;
-          graph = recorded_graph accepts balances keys (recorded_with r row (entry.Made (length r.graph.rows))) recorded;
+          graph = recorded_graph accepts keys (recorded_with r row (entry.Made (length r.graph.rows))) recorded;
           limit = (admitted r.graph.rows row (sym rest)).room;
         }

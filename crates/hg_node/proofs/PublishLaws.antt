@@ -25,22 +25,22 @@ pub record IsPublishing {K : Type 0} (accepts : K → Accepts) (v w : Shown K) (
   pub recorded : IsRecorded accepts w s
   pub grown : w ≡ with_changes v (publish_changes v len share)
 
-module _ {K : Type 0} (accepts : K → Accepts) (balances : List ℕ) (keys : K) (r : Recorded) (is : IsRecorded accepts (shown balances keys r) r) (len : ℕ) (share : Share) where
+module _ {K : Type 0} (accepts : K → Accepts) (keys : K) (r : Recorded) (is : IsRecorded accepts (shown keys r) r) (len : ℕ) (share : Share) where
   v : Shown K
-  v = shown balances keys r
+  v = shown keys r
 
-  pub answer_is : news_in r len share ≡ publish_answer (shown balances keys r) len share
+  pub answer_is : news_in r len share ≡ publish_answer (shown keys r) len share
   unfolding publish_answer
-  answer_is = ap (λ (s : State). news r.graph.members r.graph.coin s len share) (sym (state_is accepts balances keys r is))
+  answer_is = ap (λ (s : State). news r.graph.members r.graph.coin s len share) (sym (state_is accepts keys r is))
 
   even : IsEven (state_in r)
-  even = subst IsEven (state_is accepts balances keys r is) (even_after r.graph.members r.graph.coin (shown balances keys r).history)
+  even = subst IsEven (state_is accepts keys r is) (even_after r.graph.members r.graph.coin (shown keys r).history)
 
   -- with a log and marks
   logged : List Entry → Marks → Recorded
-  logged log marks = recorded r.own r.graph log marks
+  logged log marks = recorded r.own r.balances r.graph log marks
 
-  changes_are : (b : Bool) → eqb (news_in r len share) 0 ≡ b → publish_changes (shown balances keys r) len share ≡ cond b [] (Marked len share ∷ [])
+  changes_are : (b : Bool) → eqb (news_in r len share) 0 ≡ b → publish_changes (shown keys r) len share ≡ cond b [] (Marked len share ∷ [])
   unfolding publish_changes
   changes_are b is_b = ap (λ (k : ℕ). cond (eqb k 0) [] (Marked len share ∷ [])) (sym answer_is) ∙ ap (λ (d : Bool). cond d [] (Marked len share ∷ [])) is_b
 
@@ -57,27 +57,27 @@ module _ {K : Type 0} (accepts : K → Accepts) (balances : List ℕ) (keys : K)
       (ap (λ (d : Bool). r.log ++ cond d [] (entry.Marked len share ∷ [])) some))
 
   publishing_by : (b : Bool) → eqb (news_in r len share) 0 ≡ b → len ≤ length r.graph.rows →
-      IsPublishing accepts (shown balances keys r) (shown balances keys (recorded_news r len share)) (recorded_news r len share) len share
+      IsPublishing accepts (shown keys r) (shown keys (recorded_news r len share)) (recorded_news r len share) len share
   publishing_by true none within =
-      subst (λ (s : Recorded). IsPublishing accepts (shown balances keys r) (shown balances keys s) s len share) (none_published within none)
-      (record { recorded = is; grown = sym (with_none (shown balances keys r) (publish_changes (shown balances keys r) len share) (changes_are true none)) })
+      subst (λ (s : Recorded). IsPublishing accepts (shown keys r) (shown keys s) s len share) (none_published within none)
+      (record { recorded = is; grown = sym (with_none (shown keys r) (publish_changes (shown keys r) len share) (changes_are true none)) })
   publishing_by false some within =
       let changes = changes_are false some in
-      let low : len ≤ length (graph_of (shown balances keys r)) = subst (λ (G : List Row). len ≤ length G) (sym is.rows) within in
-      let node = subst (λ (es : List Change). IsNode accepts (with_changes (shown balances keys r) es)) changes (publishes_leave_a_node K accepts (shown balances keys r) len share low is.node) in
-      subst (λ (s : Recorded). IsPublishing accepts (shown balances keys r) (shown balances keys s) s len share) (some_published some)
+      let low : len ≤ length (graph_of (shown keys r)) = subst (λ (G : List Row). len ≤ length G) (sym is.rows) within in
+      let node = subst (λ (es : List Change). IsNode accepts (with_changes (shown keys r) es)) changes (publishes_leave_a_node K accepts (shown keys r) len share low is.node) in
+      subst (λ (s : Recorded). IsPublishing accepts (shown keys r) (shown keys s) s len share) (some_published some)
       (record {
-        recorded = recorded_after accepts balances keys r (Marked len share) (entry.Marked len share) refl is node;
-        grown = sym (ap (with_changes (shown balances keys r)) changes ∙ shown_after accepts balances keys r (Marked len share) (entry.Marked len share) refl is);
+        recorded = recorded_after accepts keys r (Marked len share) (entry.Marked len share) refl is node;
+        grown = sym (ap (with_changes (shown keys r)) changes ∙ shown_after accepts keys r (Marked len share) (entry.Marked len share) refl is);
       })
 
-  module _ (found : List (ℕ × Bool)) (speaks : Speaks r.graph.members r.graph.coin (state_of (shown balances keys r)).rows (state_of (shown balances keys r)).links len share found) where
+  module _ (found : List (ℕ × Bool)) (speaks : Speaks r.graph.members r.graph.coin (state_of (shown keys r)).rows (state_of (shown keys r)).links len share found) where
     pub speaks_in : Speaks r.graph.members r.graph.coin r.graph.rows (links r.graph.rows) len share found
-    speaks_in = subst (λ (s : State). Speaks r.graph.members r.graph.coin s.rows s.links len share found) (state_is accepts balances keys r is) speaks
+    speaks_in = subst (λ (s : State). Speaks r.graph.members r.graph.coin s.rows s.links len share found) (state_is accepts keys r is) speaks
 
-    pub published : (s : Recorded) → s ≡ recorded_news r len share → IsPublishing accepts (shown balances keys r) (shown balances keys s) s len share
+    pub published : (s : Recorded) → s ≡ recorded_news r len share → IsPublishing accepts (shown keys r) (shown keys s) s len share
     published s grown =
-        subst (λ (t : Recorded). IsPublishing accepts (shown balances keys r) (shown balances keys t) t len share) (sym grown)
+        subst (λ (t : Recorded). IsPublishing accepts (shown keys r) (shown keys t) t len share) (sym grown)
         (publishing_by (eqb (news_in r len share) 0) refl speaks_in.within)
 
 -- what a node becomes that settles
@@ -86,16 +86,16 @@ pub record IsSettling {K : Type 0} (accepts : K → Accepts) (v w : Shown K) (s 
   pub grown : w ≡ with_changes v (settle_changes v)
   pub settled : IsSettled v w
 
-module _ {K : Type 0} (accepts : K → Accepts) (balances : List ℕ) (keys : K) (r : Recorded) (is : IsRecorded accepts (shown balances keys r) r) (s : Recorded) where
+module _ {K : Type 0} (accepts : K → Accepts) (keys : K) (r : Recorded) (is : IsRecorded accepts (shown keys r) r) (s : Recorded) where
   -- what was found is that of the whole graph
-  pub settling : (len : ℕ) (share : Share) → len ≡ length r.graph.rows → share ≡ whole → s ≡ recorded_news r len share → IsSettling accepts (shown balances keys r) (shown balances keys s) s
+  pub settling : (len : ℕ) (share : Share) → len ≡ length r.graph.rows → share ≡ whole → s ≡ recorded_news r len share → IsSettling accepts (shown keys r) (shown keys s) s
   settling len share all one grown =
-      let v : Shown K = shown balances keys r in
+      let v : Shown K = shown keys r in
       let first : s ≡ recorded_news r (length r.graph.rows) whole = grown ∙ ap₂ (recorded_news r) all one in
-      let is_published : IsPublishing accepts v (shown balances keys s) s (length r.graph.rows) whole =
-      subst (λ (t : Recorded). IsPublishing accepts v (shown balances keys t) t (length r.graph.rows) whole) (sym first)
-      (publishing_by accepts balances keys r is (length r.graph.rows) whole (eqb (news_in r (length r.graph.rows) whole) 0) refl (omega arith)) in
-      let grown' : shown balances keys s ≡ with_changes v (settle_changes v) =
+      let is_published : IsPublishing accepts v (shown keys s) s (length r.graph.rows) whole =
+      subst (λ (t : Recorded). IsPublishing accepts v (shown keys t) t (length r.graph.rows) whole) (sym first)
+      (publishing_by accepts keys r is (length r.graph.rows) whole (eqb (news_in r (length r.graph.rows) whole) 0) refl (omega arith)) in
+      let grown' : shown keys s ≡ with_changes v (settle_changes v) =
       is_published.grown ∙ ap (λ (G : List Row). with_changes v (publish_changes v (length G) whole)) (sym is.rows) in
       record {
         recorded = is_published.recorded;

@@ -39,10 +39,10 @@ pub record IsPut {K E : Type 0} (accepts : K → Accepts) (v w : Shown K) (s : R
   pub free : OnErr result (put_answer accepts v bytes ≡ Accepted (length (graph_of v)))
 
 -- the rows of what is recorded are a graph
-pub recorded_graph : {K : Type 0} (accepts : K → Accepts) (balances : List ℕ) (keys : K) (r : Recorded) → IsRecorded accepts (shown balances keys r) r → IsGraph r.graph.members r.graph.rows
-recorded_graph accepts balances keys r is =
+pub recorded_graph : {K : Type 0} (accepts : K → Accepts) (keys : K) (r : Recorded) → IsRecorded accepts (shown keys r) r → IsGraph r.graph.members r.graph.rows
+recorded_graph accepts keys r is =
     subst (λ (G : List Row). IsGraph r.graph.members G) is.rows
-    (sound (accepts keys) r.graph.members r.graph.coin r.own (shown balances keys r).history is.node.coin is.node.history).graph
+    (sound (accepts keys) r.graph.members r.graph.coin r.own (shown keys r).history is.node.coin is.node.history).graph
 
 -- bytes that are no event's
 pub put_faulty : {K : Type 0} (accepts : K → Accepts) (v : Shown K) (bytes : List ℕ) (e : ByteFault) → read_event bytes ≡ Err e →
@@ -53,59 +53,59 @@ put_faulty accepts v bytes e read = (
   sym (with_none v (put_changes accepts v bytes) (ap (taken_from accepts v) read)),
 )
 
-module _ {K : Type 0} (accepts : K → Accepts) (balances : List ℕ) (keys : K) (r : Recorded) (bytes : List ℕ) (is : IsRecorded accepts (shown balances keys r) r) where
+module _ {K : Type 0} (accepts : K → Accepts) (keys : K) (r : Recorded) (bytes : List ℕ) (is : IsRecorded accepts (shown keys r) r) where
   abbrev rules : Row → Option PutAnswer
   rules row = all_rules (accepts keys) r.graph.members r.own r.graph.rows row
 
   module _ (row : Row) (read : read_event bytes ≡ Ok row) where
-    answer_by : put_answer accepts (shown balances keys r) bytes ≡ unwrap_or (rules row) (Accepted (length r.graph.rows))
+    answer_by : put_answer accepts (shown keys r) bytes ≡ unwrap_or (rules row) (Accepted (length r.graph.rows))
     unfolding put_answer
     answer_by =
-        ap (verdict_of (accepts keys) r.graph.members r.own (graph_of (shown balances keys r))) read
+        ap (verdict_of (accepts keys) r.graph.members r.own (graph_of (shown keys r))) read
         ∙ ap (λ (G : List Row). row_verdict (accepts keys) r.graph.members r.own G row) is.rows
 
     -- against which a rule speaks
     pub put_refused : (a : PutAnswer) → Some a ≡ rules row →
-        (a ≡ put_answer accepts (shown balances keys r) bytes) × (shown balances keys r ≡ with_changes (shown balances keys r) (put_changes accepts (shown balances keys r) bytes))
+        (a ≡ put_answer accepts (shown keys r) bytes) × (shown keys r ≡ with_changes (shown keys r) (put_changes accepts (shown keys r) bytes))
     put_refused a speaks =
-        let answer : put_answer accepts (shown balances keys r) bytes ≡ a = answer_by ∙ ap (λ (o : Option PutAnswer). unwrap_or o (Accepted (length r.graph.rows))) (sym speaks) in (
+        let answer : put_answer accepts (shown keys r) bytes ≡ a = answer_by ∙ ap (λ (o : Option PutAnswer). unwrap_or o (Accepted (length r.graph.rows))) (sym speaks) in (
           sym answer,
-          sym (with_none (shown balances keys r) (put_changes accepts (shown balances keys r) bytes)
-              (other_puts_add_none K accepts (shown balances keys r) bytes (λ place accepted. rule_accepts_none (accepts keys) r.graph.members r.own r.graph.rows row a place (sym speaks) (sym answer ∙ accepted)))),
+          sym (with_none (shown keys r) (put_changes accepts (shown keys r) bytes)
+              (other_puts_add_none K accepts (shown keys r) bytes (λ place accepted. rule_accepts_none (accepts keys) r.graph.members r.own r.graph.rows row a place (sym speaks) (sym answer ∙ accepted)))),
         )
 
     -- against which none does
-    pub put_taken : AreBytes bytes → None ≡ rules row → IsTaking accepts (shown balances keys r) (shown balances keys (recorded_with r row (entry.Took (length r.graph.rows)))) r row bytes
+    pub put_taken : AreBytes bytes → None ≡ rules row → IsTaking accepts (shown keys r) (shown keys (recorded_with r row (entry.Took (length r.graph.rows)))) r row bytes
     unfolding put_changes
     put_taken fit silent =
-        let answer : put_answer accepts (shown balances keys r) bytes ≡ Accepted (length r.graph.rows) = answer_by ∙ ap (λ (o : Option PutAnswer). unwrap_or o (Accepted (length r.graph.rows))) (sym silent) in
-        let by_row : row_verdict (accepts keys) r.graph.members r.own (graph_of (shown balances keys r)) row ≡ Accepted (length r.graph.rows) =
+        let answer : put_answer accepts (shown keys r) bytes ≡ Accepted (length r.graph.rows) = answer_by ∙ ap (λ (o : Option PutAnswer). unwrap_or o (Accepted (length r.graph.rows))) (sym silent) in
+        let by_row : row_verdict (accepts keys) r.graph.members r.own (graph_of (shown keys r)) row ≡ Accepted (length r.graph.rows) =
         ap (λ (G : List Row). row_verdict (accepts keys) r.graph.members r.own G row) is.rows ∙ ap (λ (o : Option PutAnswer). unwrap_or o (Accepted (length r.graph.rows))) (sym silent) in
-        let events : put_changes accepts (shown balances keys r) bytes ≡ Took row ∷ [] = ap (taken_from accepts (shown balances keys r)) read ∙ ap (λ (a : PutAnswer). taken_by a row) by_row in
-        let node = subst (λ (es : List Change). IsNode accepts (with_changes (shown balances keys r) es)) events (puts_leave_a_node K accepts (shown balances keys r) bytes fit is.node) in
-        let recorded = recorded_after accepts balances keys r (Took row) (entry.Took (length r.graph.rows)) refl is node in
+        let events : put_changes accepts (shown keys r) bytes ≡ Took row ∷ [] = ap (taken_from accepts (shown keys r)) read ∙ ap (λ (a : PutAnswer). taken_by a row) by_row in
+        let node = subst (λ (es : List Change). IsNode accepts (with_changes (shown keys r) es)) events (puts_leave_a_node K accepts (shown keys r) bytes fit is.node) in
+        let recorded = recorded_after accepts keys r (Took row) (entry.Took (length r.graph.rows)) refl is node in
         let rest = (option_or_none (arrival_rule (accepts keys) r.graph.members r.own r.graph.rows row) _ (sym silent)).1 in
         record {
           answer = answer;
-          grown = sym (ap (with_changes (shown balances keys r)) events ∙ shown_after accepts balances keys r (Took row) (entry.Took (length r.graph.rows)) refl is);
+          grown = sym (ap (with_changes (shown keys r)) events ∙ shown_after accepts keys r (Took row) (entry.Took (length r.graph.rows)) refl is);
           recorded = recorded;
-          graph = recorded_graph accepts balances keys (recorded_with r row (entry.Took (length r.graph.rows))) recorded;
+          graph = recorded_graph accepts keys (recorded_with r row (entry.Took (length r.graph.rows))) recorded;
           limit = has_room r.graph.members r.graph.rows row rest;
         }
 
     -- and what is left, whether there was memory for the row or not
     pub put_ends : {E : Type 0} (result : Result PutAnswer E) (s : Recorded) → AreBytes bytes → None ≡ rules row →
-        IfOk result (λ a. a ≡ Accepted (length r.graph.rows)) → OnOk result (s ≡ recorded_with r row (entry.Took (length r.graph.rows))) → OnErr result (s ≡ r) → IsPut accepts (shown balances keys r) (shown balances keys s) s bytes result
+        IfOk result (λ a. a ≡ Accepted (length r.graph.rows)) → OnOk result (s ≡ recorded_with r row (entry.Took (length r.graph.rows))) → OnErr result (s ≡ r) → IsPut accepts (shown keys r) (shown keys s) s bytes result
     put_ends (Ok a) s fit silent answer ok err =
         let taking = put_taken fit silent in
         record {
-          recorded = subst (λ (t : Recorded). IsRecorded accepts (shown balances keys t) t) (sym ok) taking.recorded;
+          recorded = subst (λ (t : Recorded). IsRecorded accepts (shown keys t) t) (sym ok) taking.recorded;
           answer = answer ∙ sym taking.answer;
-          ok = ap (shown balances keys) ok ∙ taking.grown;
+          ok = ap (shown keys) ok ∙ taking.grown;
           free = tt;
         }
     put_ends (Err e) s fit silent answer ok err = record {
-      recorded = subst (λ (t : Recorded). IsRecorded accepts (shown balances keys t) t) (sym err) is;
+      recorded = subst (λ (t : Recorded). IsRecorded accepts (shown keys t) t) (sym err) is;
       answer = tt;
       ok = tt;
       free = (put_taken fit silent).answer ∙ ap (λ (G : List Row). Accepted (length G)) (sym is.rows);

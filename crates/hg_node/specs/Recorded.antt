@@ -1,6 +1,7 @@
 -- What a node keeps of its history: rows, the log of how they came, and the published marks
 use Rattle.std.specs.Prelude.{ℕ, ◌≡◌, ◌≤◌, ◌+◌, ◌*◌, ◌==◌, cond, List, [], ◌∷◌, ◌++◌, length, Option, option_map, is_some}
 use Rattle.hg_model.specs.declared.row.Row.{Row}
+use Rattle.hg_model.specs.declared.row.Placed.{Placed}
 use Rattle.hg_model.specs.declared.entry.Entry.{Entry}
 use Rattle.hg_model.specs.declared.entry.Entry.TheVariants as entry
 use Rattle.hg_model.specs.Places.{count_below}
@@ -8,29 +9,42 @@ use Rattle.hg_model.specs.Links.{place_of}
 use Rattle.hg_model.specs.Fame.{Marks, mark_at}
 use Rattle.hg_model.specs.Shares.{Share}
 use Rattle.hg_model.specs.Verdict.{last_name}
-use Rattle.hg_model.specs.Prefix.{Graph}
+use Rattle.hg_model.specs.Members.{MemberList, balances_of}
+use Rattle.hg_model.specs.Prefix.{Graph, graph_of as prefix_of}
+use Rattle.hg_model.specs.Pay.{Book, book_of}
+use Rattle.hg_model.specs.Kept.{kept}
 use Rattle.hg_graph.specs.Held.{graph_with}
 use Rattle.hg_model.specs.History.{State, Accepts, news, with_row, with_marks}
 use Rattle.hg_model.specs.Shown.{Shown, graph_of, marks_of, log, history_of, IsNode}
 use Rattle.hg_kept.specs.Published.{Published, Keeps, state_by}
+use Rattle.hg_pay.specs.Account.{Account}
 
--- whose node it is, its rows as a graph, the log, and the published marks
+-- whose node it is, the balances that it began with, its rows as a graph, the log, and the published marks
 pub record Recorded : Type 0 where
   pub own : ℕ
+  pub balances : List ℕ
   pub graph : Graph
   pub log : List Entry
   pub marks : Marks
 
-abbrev pub recorded : ℕ → Graph → List Entry → Marks → Recorded
-recorded own graph log marks = record { own = own; graph = graph; log = log; marks = marks }
+abbrev pub recorded : ℕ → List ℕ → Graph → List Entry → Marks → Recorded
+recorded own balances graph log marks = record { own = own; balances = balances; graph = graph; log = log; marks = marks }
+
+-- of the node of a member among these nothing yet
+abbrev pub nothing : MemberList → ℕ → Recorded
+nothing members own = recorded own (balances_of members) (prefix_of (length members.entries) members.coin []) [] []
 
 -- the state of the node
 abbrev pub state_in : Recorded → State
 state_in r = state_by r.graph r.marks
 
+-- the book of the order that it keeps
+abbrev pub book_in : Recorded → Book
+book_in r = book_of r.balances r.graph.rows (kept r.graph.members (state_in r))
+
 -- with one row more, which came as the entry says
 abbrev pub recorded_with : Recorded → Row → Entry → Recorded
-recorded_with r row entry = recorded r.own (graph_with r.graph row) (r.log ++ entry ∷ []) (with_row r.graph.members (state_in r) row).marks
+recorded_with r row entry = recorded r.own r.balances (graph_with r.graph row) (r.log ++ entry ∷ []) (with_row r.graph.members (state_in r) row).marks
 
 -- how many witnesses are marked when what the share finds in the first `len` rows is published
 abbrev pub news_in : Recorded → ℕ → Share → ℕ
@@ -43,7 +57,7 @@ news_entries count len share = cond (count == 0) [] (entry.Marked len share ∷ 
 -- with these marks more
 abbrev pub recorded_news : Recorded → ℕ → Share → Recorded
 recorded_news r len share =
-    recorded r.own r.graph (r.log ++ news_entries (news_in r len share) len share) (with_marks r.graph.members r.graph.coin (state_in r) len share).marks
+    recorded r.own r.balances r.graph (r.log ++ news_entries (news_in r len share) len share) (with_marks r.graph.members r.graph.coin (state_in r) len share).marks
 
 -- the place of the last row that the member made
 abbrev pub last_place : ℕ → List Row → Option ℕ
@@ -61,10 +75,15 @@ pub record KeepsRecord (own : ℕ) (graph : Graph) (log : List Entry) (v : Publi
   pub few_entries : length log ≤ length graph.rows + marked v.marks
   pub memory : 2 * length graph.rows ≤ capacity
 
--- the node that began with these balances and keys, and of which this is recorded
-abbrev pub shown : {K : Type 0} → List ℕ → K → Recorded → Shown K
-shown balances keys r = record {
-  start = record { own = r.own; members = r.graph.members; coin = r.graph.coin; balances = balances; keys = keys };
+-- the ledger's book is that of the order of these rows, and there is memory for an effect of each row
+pub record KeepsBook (G : List Row) (order : List Placed) (a : Account) : Type 0 where
+  pub book : a.book ≡ book_of a.opening G order
+  pub memory : length G ≤ a.room
+
+-- the node with these keys of which this is recorded
+abbrev pub shown : {K : Type 0} → K → Recorded → Shown K
+shown keys r = record {
+  start = record { own = r.own; members = r.graph.members; coin = r.graph.coin; balances = r.balances; keys = keys };
   history = history_of r.graph.rows r.log;
 }
 

@@ -1,57 +1,59 @@
-ghost use Rattle.std.specs.Prelude.{◌≡◌, ◌<◌, ◌≤◌, ◌++◌, ◌∷◌, ◌==◌, [], Some, cond, length, IfOk, OnOk, OnErr};
+ghost use Rattle.std.specs.Prelude.{◌≡◌, ◌<◌, ◌++◌, ◌∷◌, ◌==◌, [], All, Some, cond, length, IfOk, OnOk, OnErr};
 ghost use Rattle.hg_model.specs.declared.entry.Entry.{Entry};
+ghost use Rattle.hg_model.specs.declared.row.Placed.{Placed};
 ghost use Rattle.hg_model.specs.Links.{link_in};
 ghost use Rattle.hg_model.specs.Graph.{IsGraph};
 ghost use Rattle.hg_model.specs.Shape.{link_of};
 ghost use Rattle.hg_model.specs.Spelling.{Spells};
 ghost use Rattle.hg_model.specs.Verdict.{last_name, row_limit};
-ghost use Rattle.hg_model.specs.Prefix.{graph_of, links_of};
+ghost use Rattle.hg_model.specs.Prefix.{links_of};
 ghost use Rattle.hg_model.specs.Shares.{Speaks};
 ghost use Rattle.hg_model.specs.Fame.{mark_at};
 ghost use Rattle.hg_model.specs.Order.{last_closed};
 ghost use Rattle.hg_model.specs.Kept.{kept};
-ghost use Rattle.hg_node.specs.Recorded.{last_place, news_in, recorded, recorded_news, recorded_with, state_in};
+ghost use Rattle.hg_node.specs.Recorded.{book_in, last_place, news_in, nothing, recorded_news, recorded_with, state_in};
 
 use hg_graph::EventGraph;
 use hg_kept::Kept;
-use hg_model::{Bytes, Entry, Found, Member, Memory, Name, Placed, Prefix, Row};
+use hg_model::{Bytes, Effect, Entry, Found, Member, Members, Memory, Name, Placed, Prefix, Row};
+use hg_pay::{Book, Ledger};
 use std::alloc::Global;
 use std::marker::Model;
 
-/// The rows of a member's node, the log of how they came, what is published of them, and the place of the last one
-/// that the member made.
+/// The rows of a member's node, the log of how they came, what is published of them, the ledger of the order that they
+/// have got, and the place of the last one that the member made.
 #[derive(Drop)]
 pub struct Chronicle {
     own: Member,
     graph: EventGraph,
     kept: Kept,
+    /// It has paid the kept order.
+    ledger: Ledger,
     last_own: Option<usize>,
     log: Vec<Entry>,
 }
 
 impl Model for Chronicle {
     ghost use Rattle.std.specs.Prelude.{vec_capacity};
-    ghost use Rattle.hg_node.specs.Recorded.{Recorded, KeepsRecord, recorded};
+    ghost use Rattle.hg_node.specs.Recorded.{Recorded, KeepsBook, KeepsRecord, recorded};
 
     ghost Value = { Recorded };
 
-    ghost view = { λ s. recorded s.own s.graph.graph s.log.items s.kept.published.marks };
+    ghost view = { λ s. recorded s.own s.ledger.opening s.graph.graph s.log.items s.kept.published.marks };
 
-    ghost invariant = { λ s. KeepsRecord s.own s.graph.graph s.log.items s.kept.published s.last_own (vec_capacity s.log) };
+    ghost invariant = { λ s. KeepsRecord s.own s.graph.graph s.log.items s.kept.published s.last_own (vec_capacity s.log) × KeepsBook s.graph.graph.rows s.kept.published.order s.ledger };
 }
 
 impl Chronicle {
     /// No rows and no entries: what the member's node begins with.
-    pub fn new(alloc: Global, members: u32, coin: u32, own: Member) -> Result<Chronicle, Memory>
-        requires some { 0 < members }
-        requires few { members ≤ 128 }
-        requires coin { 2 < coin }
-        ensures { IfOk result (λ c. c ≡ recorded own (graph_of members coin []) [] []) }
+    pub fn new(alloc: Global, members: &Members, own: Member) -> Result<Chronicle, Memory>
+        ensures { IfOk result (λ c. c ≡ nothing members.now own) }
     {
         Ok(Chronicle {
             own,
-            graph: EventGraph::new(alloc, members, coin)?,
+            graph: EventGraph::new(alloc, members.count(), members.coin())?,
             kept: Kept::new(alloc),
+            ledger: Ledger::new(alloc, members)?,
             last_own: None,
             log: Vec::new(alloc),
         })
@@ -93,7 +95,7 @@ impl Chronicle {
     }
 
     /// One row more, with its bytes and its parents' places, and the entry that tells how it came.
-    /// There is memory then for two entries of the log for each row.
+    /// There is memory then for two entries of the log and an effect for each row.
     pub fn add(
         &mut self,
         row: Row,
@@ -111,6 +113,7 @@ impl Chronicle {
         let place = self.graph.len();
         self.graph.reserve()?;
         self.kept.reserve()?;
+        self.ledger.reserve(place + 1)?;
         self.log.reserve(2 * (place + 1) - self.log.len())?;
         self.last_own = later_place(self.last_own, self.own, row.creator, place);
         self.graph.push(row, bytes, parents);
@@ -119,13 +122,15 @@ impl Chronicle {
         Ok(())
     }
 
-    /// Marks what a share has found, with an entry if it is news; tells how many were marked. Takes no memory.
+    /// Marks what a share has found, with an entry if it is news, and pays what is ordered then; tells how many were
+    /// marked. Takes no memory.
     pub fn publish(&mut self, found: &Found) -> u32
         requires { Speaks self.old.graph.members self.old.graph.coin self.old.graph.rows (links_of self.old.graph) found.now.len found.now.share found.now.marks }
         ensures count { result ≡ news_in self.old found.now.len found.now.share }
         ensures grown { self.new ≡ recorded_news self.old found.now.len found.now.share }
     {
         let count = self.kept.publish(&self.graph, found);
+        self.ledger.pay(&self.graph, self.kept.order());
         if count > 0 {
             self.log.push_reserved(Entry::Marked {
                 len: found.len,
@@ -145,9 +150,24 @@ impl Chronicle {
 
     /// What the closed rounds have received, in order.
     pub fn kept(&self) -> &[Placed]
-        ensures { result.now ≡ kept self.now.graph.members (state_in self.now) }
+        ensures order { result.now ≡ kept self.now.graph.members (state_in self.now) }
+        ensures places { All (λ (x : Placed). x.place < length self.now.graph.rows) result.now }
     {
         self.kept.order()
+    }
+
+    /// What came of each event of the kept order.
+    pub fn effects(&self) -> &[Effect]
+        ensures { result.now ≡ (book_in self.now).effects }
+    {
+        self.ledger.effects()
+    }
+
+    /// What the members hold once the kept order is paid.
+    pub fn book(&self) -> &Book
+        ensures { result.now ≡ (book_in self.now).balances }
+    {
+        self.ledger.book()
     }
 
     /// The greatest closed round, or 0.

@@ -1,5 +1,5 @@
-ghost use Rattle.std.specs.Prelude.{◌≡◌, ◌<◌, ◌++◌, ◌∷◌, [], None, Some, length, map, option_map, slice_get, IfOk, OnErr, OnOk};
-ghost use Rattle.hg_model.specs.declared.members.MemberEntry.{MemberEntry};
+ghost use Rattle.std.specs.Prelude.{◌≡◌, ◌<◌, ◌++◌, ◌∷◌, [], All, None, Some, length, option_map, slice_get, IfOk, OnErr, OnOk};
+ghost use Rattle.hg_model.specs.declared.row.Placed.{Placed};
 ghost use Rattle.hg_event.specs.View.{row_of};
 ghost use Rattle.hg_model.specs.Forks.{forkers};
 ghost use Rattle.hg_model.specs.Prefix.{graph_of as prefix_of};
@@ -14,7 +14,7 @@ ghost use Rattle.hg_node.specs.Recorded.{recorded_with};
 ghost use Rattle.hg_model.specs.declared.answers.PutAnswer.TheVariants.{Accepted};
 ghost use Rattle.hg_model.specs.Fame.{mark_at};
 ghost use Rattle.hg_model.specs.Shares.{Speaks};
-ghost use Rattle.hg_model.specs.Shown.{graph_of, kept_of, last_closed_of, links_of, log, marks_of, start_of, with_changes, IsNode};
+ghost use Rattle.hg_model.specs.Shown.{book_kept, graph_of, kept_of, last_closed_of, links_of, log, marks_of, start_of, with_changes, IsNode};
 ghost use Rattle.hg_model.specs.Calls.{IsMaking, make_draft, publish_answer, publish_changes, put_answer, put_changes, settle_changes};
 ghost use Rattle.hg_history.specs.Laws.{IsSettled};
 
@@ -27,10 +27,11 @@ use hg_fame::elect_share;
 use hg_frozen::Frozen;
 use hg_graph::EventGraph;
 use hg_model::{
-    Entry, Fault, Found, Items, MakeAnswer, Member, MemberEntry, Members, Memory, Name, Placed,
-    Prefix, PutAnswer, Rounds, Row, Share,
+    Effect, Entry, Fault, Found, Items, MakeAnswer, Member, Members, Memory, Name, Placed, Prefix,
+    PutAnswer, Rounds, Row, Share,
 };
 use hg_name::name_of;
+use hg_pay::Book;
 use hg_rounds::RoundTable;
 use hg_sign::Signer;
 use hg_votes::VoteTable;
@@ -41,7 +42,6 @@ use std::marker::Model;
 #[derive(Drop)]
 pub struct Node<V: Signer> {
     alloc: Global,
-    balances: Vec<u64>,
     keys: V,
     chronicle: Chronicle,
 }
@@ -52,9 +52,9 @@ impl<V: Signer> Model for Node<V> {
 
     ghost Value = { Shown V };
 
-    ghost view = { λ s. shown s.balances.items s.keys s.chronicle };
+    ghost view = { λ s. shown s.keys s.chronicle };
 
-    ghost invariant = { λ s. IsRecorded V.accepts (shown s.balances.items s.keys s.chronicle) s.chronicle };
+    ghost invariant = { λ s. IsRecorded V.accepts (shown s.keys s.chronicle) s.chronicle };
 }
 
 impl<V: Signer> Node<V> {
@@ -70,11 +70,10 @@ impl<V: Signer> Node<V> {
         ensures start { IfOk result (λ node. node.start ≡ start_of members.now own keys) }
         ensures history { IfOk result (λ node. node.history ≡ []) }
     {
-        let chronicle = Chronicle::new(alloc, members.count(), members.coin(), own)?;
-        let balances = balances_of(alloc, members.entries())?;
+        members.entries();
+        let chronicle = Chronicle::new(alloc, members, own)?;
         Ok(Node {
             alloc,
-            balances,
             keys,
             chronicle,
         })
@@ -132,8 +131,8 @@ impl<V: Signer> Node<V> {
         }
     }
 
-    /// Publishes what a share has found in the node's first rows: each found witness without a mark gets it. Tells how
-    /// many were marked. Takes no memory.
+    /// Publishes what a share has found in the node's first rows: each found witness without a mark gets it, and what
+    /// is ordered then is paid. Tells how many were marked. Takes no memory.
     pub fn publish(&mut self, found: &Found) -> u32
         requires { Speaks self.old.start.members self.old.start.coin (graph_of self.old) (links_of self.old) found.now.len found.now.share found.now.marks }
         ensures answer { result ≡ publish_answer self.old found.now.len found.now.share }
@@ -164,9 +163,25 @@ impl<V: Signer> Node<V> {
 
     /// What the closed rounds have received, in order: an order that only grows.
     pub fn kept(&self) -> &[Placed]
-        ensures { result.now ≡ kept_of self.now }
+        ensures order { result.now ≡ kept_of self.now }
+        ensures places { All (λ (x : Placed). x.place < length (graph_of self.now)) result.now }
     {
         self.chronicle.kept()
+    }
+
+    /// What came of the payload of each event of the kept order.
+    pub fn effects(&self) -> &[Effect]
+        ensures effects { result.now ≡ (book_kept self.now).effects }
+        ensures each { length result.now ≡ length (kept_of self.now) }
+    {
+        self.chronicle.effects()
+    }
+
+    /// What the members hold once the kept order is paid, from what they began with.
+    pub fn book(&self) -> &Book
+        ensures { result.now ≡ (book_kept self.now).balances }
+    {
+        self.chronicle.book()
     }
 
     /// The greatest closed round, or 0.
@@ -311,15 +326,4 @@ fn row_with(alloc: Global, view: &EventView<'_>, name: Name) -> Result<Row, Memo
         sig: *view.sig,
         name,
     })
-}
-
-/// The members' balances.
-fn balances_of(alloc: Global, entries: &[MemberEntry]) -> Result<Vec<u64>, Memory>
-    ensures { IfOk result (λ balances. balances.items ≡ map (λ (e : MemberEntry). e.balance) entries.now) }
-{
-    let mut balances = Vec::with_capacity(alloc, entries.len())?;
-    for entry in entries {
-        balances.push(entry.balance)?;
-    }
-    Ok(balances)
 }

@@ -1,3 +1,4 @@
 pub mod PayLaws
 pub mod BookLaws
+pub mod OrderLaws
 pub mod HasCome

@@ -1,6 +1,6 @@
 ghost use Rattle.std.specs.Prelude.{◌≡◌, true, IfOk};
 
-use crate::{Book, read_pay};
+use crate::{Book, Ledger, read_pay};
 use hg_model::{Bytes, Effect, MemberEntry, Members, Memory};
 use std::alloc::Global;
 use std::test::Fail;
@@ -86,5 +86,15 @@ fn tells_which_transfers_were_done(rt: HostRuntime) -> Result<(), Fail> {
     }
     assert_eq!(rt; book.balance(1), 30);
     assert_eq!(rt; book.balance(2), 0);
+    Ok(())
+}
+
+#[test]
+fn begins_without_effects(rt: HostRuntime) -> Result<(), Fail> {
+    let mut ledger = Ledger::new(rt.alloc(), &two_members(rt.alloc())?)?;
+    ledger.reserve(4)?;
+    ledger.reserve(2)?;
+    assert!(rt; ledger.effects().is_empty());
+    assert_eq!(rt; ledger.book().balances(), [100, 0].as_slice());
     Ok(())
 }

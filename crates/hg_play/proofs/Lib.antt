@@ -1,4 +1,3 @@
-pub mod EffectLaws
 mod SettledLaws
 mod SequenceLaws
 mod PlayerLaws

@@ -1,5 +1,5 @@
 -- The block of a node that is settled
-use Rattle.std.proofs.Common.{◌≡◌, ℕ, ◌<◌, List, length, All, ap, ap₂, sym, refl, subst, ◌∙◌}
+use Rattle.std.proofs.Common.{◌≡◌, ℕ, List, length, ap, ap₂, sym, refl, ◌∙◌}
 use Rattle.hg_model.specs.declared.row.Row.{Row}
 use Rattle.hg_model.specs.declared.row.Placed.{Placed}
 use Rattle.hg_model.specs.Links.{links}
@@ -13,9 +13,7 @@ use Rattle.hg_model.specs.Rounds.{last_round}
 use Rattle.hg_model.specs.Pay.{Book, book_of}
 use Rattle.hg_model.specs.Ledger.{block_of, closed_of, order_lines}
 use Rattle.hg_play.specs.Node.{start_in}
-use Rattle.hg_model.specs.Shown.{Shown, Start, graph_of, links_of, marks_of, kept_of, last_closed_of, IsNode}
-use Rattle.hg_model.proofs.LinkLaws.{length-links}
-use Rattle.hg_model.proofs.OrderLaws.{ordered_within}
+use Rattle.hg_model.specs.Shown.{Shown, Start, graph_of, links_of, kept_of, book_kept, last_closed_of, IsNode}
 use Rattle.hg_history.specs.Laws.{IsSettled}
 use Rattle.hg_history.proofs.SoundLaws.{sound}
 use Rattle.hg_model.specs.History.{Accepts}
@@ -35,24 +33,18 @@ settled_is_final {K} accepts old new same node is =
           ∙ ap₂ (λ (s : Start K) (H : List Row). last_closed n (links G) (fame_marks s.members s.coin (links H) (coin_at H))) same (sym is.rows);
     }
 
--- the rows of a node's order stand in its graph
-pub kept_within : {K : Type 0} (accepts : K → Accepts) (v : Shown K) → IsNode accepts v → All (λ (p : Placed). p.place < length (graph_of v)) (kept_of v)
-kept_within accepts v node =
-    let linked : links_of v ≡ links (graph_of v) = (sound (accepts v.start.keys) v.start.members v.start.coin v.start.own v.history node.coin node.history).linked in
-    subst (λ (k : ℕ). All (λ (p : Placed). p.place < k) (kept_of v)) (ap length linked ∙ length-links (graph_of v))
-    (ordered_within v.start.members (graph_of v) (links_of v) (marks_of v))
-
 -- the block of a final node, part by part
-pub block_is : (members : MemberList) (x : ℕ) (v : Shown (List (List ℕ))) (b : Book) (lines : List OrderLine) (events forking greatest closed : ℕ) (balances : List ℕ) →
-    v.start ≡ start_in members x → IsFinal v → b ≡ book_of (balances_of members) (graph_of v) (kept_of v) → lines ≡ order_lines (graph_of v) (links (graph_of v)) (kept_of v) b.effects →
-    events ≡ length (graph_of v) → forking ≡ forkers v.start.members (links (graph_of v)) → greatest ≡ last_round v.start.members (links (graph_of v)) → closed ≡ last_closed_of v → balances ≡ b.balances →
+pub block_is : (members : MemberList) (x : ℕ) (v : Shown (List (List ℕ))) (lines : List OrderLine) (events forking greatest closed : ℕ) (balances : List ℕ) →
+    v.start ≡ start_in members x → IsFinal v → lines ≡ order_lines (graph_of v) (links (graph_of v)) (kept_of v) (book_kept v).effects →
+    events ≡ length (graph_of v) → forking ≡ forkers v.start.members (links (graph_of v)) → greatest ≡ last_round v.start.members (links (graph_of v)) → closed ≡ last_closed_of v → balances ≡ (book_kept v).balances →
     (let block : Block = record { member = x; events = events; forkers = forking; greatest = greatest; closed = closed; order = lines; balances = balances } in block) ≡ block_of members x (graph_of v)
 unfolding block_of
-block_is members x v b lines events forking greatest closed balances start final book lines_are events_are forking_is greatest_is closed_is balances_are =
+block_is members x v lines events forking greatest closed balances start final lines_are events_are forking_is greatest_is closed_is balances_are =
     let n = length members.entries in
     let G = graph_of v in
     let order : kept_of v ≡ order_of n members.coin G = final.order ∙ ap (λ (s : Start (List (List ℕ))). order_of s.members s.coin G) start in
-    let the_book : b ≡ book_of (balances_of members) G (order_of n members.coin G) = book ∙ ap (book_of (balances_of members) G) order in
+    let the_book : book_kept v ≡ book_of (balances_of members) G (order_of n members.coin G) =
+    ap (λ (s : Start (List (List ℕ))). book_of s.balances G (kept_of v)) start ∙ ap (book_of (balances_of members) G) order in
     let all_lines : lines ≡ order_lines G (links G) (order_of n members.coin G) (book_of (balances_of members) G (order_of n members.coin G)).effects =
     lines_are ∙ ap₂ (λ (os : List Placed) (c : Book). order_lines G (links G) os c.effects) order the_book in
     let all_forking : forking ≡ forkers n (links G) = forking_is ∙ ap (λ (s : Start (List (List ℕ))). forkers s.members (links G)) start in

@@ -1,5 +1,4 @@
 pub mod Node
-pub mod Effects
 pub mod Settled
 pub mod Labels
 pub mod Nodes

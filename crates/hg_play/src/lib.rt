@@ -4,7 +4,6 @@
 #![tactic(auto)]
 
 mod blocks;
-mod effects;
 mod labels;
 mod lines;
 mod nodes;

@@ -1,14 +1,12 @@
-ghost use Rattle.std.specs.Prelude.{◌≡◌, IfOk, length};
+ghost use Rattle.std.specs.Prelude.{◌≡◌, IfOk};
 ghost use Rattle.hg_model.specs.Ledger.{block_of};
 ghost use Rattle.hg_model.specs.Shown.{graph_of};
 ghost use Rattle.hg_play.specs.Node.{start_in};
 ghost use Rattle.hg_play.specs.Settled.{IsFinal};
 
-use crate::effects::effects_of;
 use crate::printing::order_lines;
 use hg_model::{Block, Items, Member, Members, Memory};
 use hg_node::Node;
-use hg_pay::Book;
 use hg_sign::MacTable;
 use std::alloc::Global;
 
@@ -24,12 +22,8 @@ pub(crate) fn settled_block(
     ensures { IfOk result (λ block. block ≡ block_of members.now member (graph_of node.now)) }
 {
     let events = node.rows() as u64;
-    let graph = node.graph();
-    let order = node.kept();
-    let mut book = Book::new(alloc, members)?;
-    let effects = effects_of(alloc, graph, &mut book, order)?;
-    let lines = order_lines(alloc, graph, order, effects.as_slice())?;
-    let balances = Vec::from_slice(alloc, book.balances())?;
+    let lines = order_lines(alloc, node.graph(), node.kept(), node.effects())?;
+    let balances = Vec::from_slice(alloc, node.book().balances())?;
     Ok(Block {
         member,
         events,

@@ -9,4 +9,4 @@ returns g c =
     rw (← c.self.view_is)
     (c.closed.ensures
     ∙ ap (λ (s : State). last_closed c.self.inside.chronicle.graph.members s.links s.marks)
-    (sym (state_is g.V.Verifier.accepts c.self.inside.balances.items c.self.inside.keys c.self.inside.chronicle c.self.invariant)))
+    (sym (state_is g.V.Verifier.accepts c.self.inside.keys c.self.inside.chronicle c.self.invariant)))

@@ -1,9 +1,15 @@
-use Rattle.std.proofs.Common.{◌∙◌, ap, sym}
+use Rattle.std.proofs.Common.{◌<◌, ◌∙◌, All, List, length, ap, subst, sym}
+use Rattle.hg_model.specs.declared.row.Placed.{Placed}
+use Rattle.hg_model.specs.declared.row.Row.{Row}
 use Rattle.hg_model.specs.Kept.{kept}
 use Rattle.hg_node.proofs.RecordLaws.{state_is}
 use Rattle.hg_node.proofs.node.Node.kept.Goals as goal
 
-pub returns : goal.returns
-returns g c =
+pub returns-clause-order : goal.returns-clause-order
+returns-clause-order g c =
     rw (← c.self.view_is)
-    (c.kept.ensures ∙ ap (kept c.self.inside.chronicle.graph.members) (sym (state_is g.V.Verifier.accepts c.self.inside.balances.items c.self.inside.keys c.self.inside.chronicle c.self.invariant)))
+    (c.kept.ensures.order ∙ ap (kept c.self.inside.chronicle.graph.members) (sym (state_is g.V.Verifier.accepts c.self.inside.keys c.self.inside.chronicle c.self.invariant)))
+
+pub returns-clause-places : goal.returns-clause-places
+returns-clause-places g c =
+    rw (← c.self.view_is) (subst (λ (G : List Row). All (λ (p : Placed). p.place < length G) c.kept.result.now) (sym c.self.invariant.rows) c.kept.ensures.places)

@@ -9,37 +9,37 @@ use Rattle.hg_node.proofs.node.Node.make.Goals as goal
 pub returns-in-Err-clause-ok : goal.returns-in-Err-clause-ok
 returns-in-Err-clause-ok g c =
     rw (← c.self.view_is)
-    (draft_refused g.V.Verifier.accepts c.self.inside.balances.items c.self.inside.keys c.self.inside.chronicle c.args.other c.args.time c.args.payload.now c.self.invariant c.in-Err.fault c.in-Err.ensures.fault)
+    (draft_refused g.V.Verifier.accepts c.self.inside.keys c.self.inside.chronicle c.args.other c.args.time c.args.payload.now c.self.invariant c.in-Err.fault c.in-Err.ensures.fault)
 
 pub returns-in_err-row-clause-free : goal.returns-in_err-row-clause-free
 returns-in_err-row-clause-free g c =
     rw (← c.self.view_is)
-    (draft_silent g.V.Verifier.accepts c.self.inside.balances.items c.self.inside.keys c.self.inside.chronicle c.args.other c.args.time c.args.payload.now c.self.invariant
+    (draft_silent g.V.Verifier.accepts c.self.inside.keys c.self.inside.chronicle c.args.other c.args.time c.args.payload.now c.self.invariant
     c.from_residual.result c.in-Ok.ensures.fault)
 
 pub add-requires-clause-graph : goal.add-requires-clause-graph
 add-requires-clause-graph g c =
-    (row_made g.V.Verifier.accepts c.self.inside.balances.items c.self.inside.keys c.self.inside.chronicle c.args.other c.args.time c.args.payload.now c.self.invariant
+    (row_made g.V.Verifier.accepts c.self.inside.keys c.self.inside.chronicle c.args.other c.args.time c.args.payload.now c.self.invariant
     c.in_ok-row.row.sig c.in_ok-row.ensures.sized c.in_ok-row.row c.in-Ok.ensures.fault c.in_ok-row.ensures.accepted c.in_ok-row.ensures.row (omega (arith, c.ranges.time.fits)) c.in-Ok-row_rule.ensures).graph
 
 pub returns-in_err-add-in-Ok-row_rule-clause-free : goal.returns-in_err-add-in-Ok-row_rule-clause-free
 returns-in_err-add-in-Ok-row_rule-clause-free g c =
     rw (← c.self.view_is)
-    (draft_silent g.V.Verifier.accepts c.self.inside.balances.items c.self.inside.keys c.self.inside.chronicle c.args.other c.args.time c.args.payload.now c.self.invariant
+    (draft_silent g.V.Verifier.accepts c.self.inside.keys c.self.inside.chronicle c.args.other c.args.time c.args.payload.now c.self.invariant
     c.from_residual-in_err-add-in-Ok-row_rule.result c.in-Ok.ensures.fault)
 
 pub returns-in-Err-row_rule-clause-ok : goal.returns-in-Err-row_rule-clause-ok
 returns-in-Err-row_rule-clause-ok g c =
     rw (← c.self.view_is)
-    (row_refused g.V.Verifier.accepts c.self.inside.balances.items c.self.inside.keys c.self.inside.chronicle c.args.other c.args.time c.args.payload.now c.self.invariant
+    (row_refused g.V.Verifier.accepts c.self.inside.keys c.self.inside.chronicle c.args.other c.args.time c.args.payload.now c.self.invariant
     c.in_ok-row.row.sig c.in_ok-row.ensures.sized c.in_ok-row.row c.in-Ok.ensures.fault c.in_ok-row.ensures.accepted c.in_ok-row.ensures.row c.in-Err-row_rule.fault c.in-Err-row_rule.ensures)
 
 -- the row is made
-makes : (g : given.Over) (c : goal.In_ok-add-in-Ok-row_rule g) → MakesRow g.V.Verifier.accepts (shown c.self.inside.balances.items c.self.inside.keys c.self.inside.chronicle)
-    (shown c.self.inside.balances.items c.self.inside.keys (recorded_with c.self.inside.chronicle c.in_ok-row.row (entry.Made (length c.self.inside.chronicle.graph.rows))))
+makes : (g : given.Over) (c : goal.In_ok-add-in-Ok-row_rule g) → MakesRow g.V.Verifier.accepts (shown c.self.inside.keys c.self.inside.chronicle)
+    (shown c.self.inside.keys (recorded_with c.self.inside.chronicle c.in_ok-row.row (entry.Made (length c.self.inside.chronicle.graph.rows))))
     c.self.inside.chronicle c.in_ok-row.row c.args.other c.args.time c.args.payload.now
 makes g c =
-    row_made g.V.Verifier.accepts c.self.inside.balances.items c.self.inside.keys c.self.inside.chronicle c.args.other c.args.time c.args.payload.now c.self.invariant
+    row_made g.V.Verifier.accepts c.self.inside.keys c.self.inside.chronicle c.args.other c.args.time c.args.payload.now c.self.invariant
     c.in_ok-row.row.sig c.in_ok-row.ensures.sized c.in_ok-row.row c.in-Ok.ensures.fault c.in_ok-row.ensures.accepted c.in_ok-row.ensures.row (omega (arith, c.ranges.time.fits)) c.in-Ok-row_rule.ensures
 
 place_is : (g : given.Over) (c : goal.In_ok-add-in-Ok-row_rule g) → c.len-place.result ≡ length c.self.inside.chronicle.graph.rows
@@ -50,7 +50,7 @@ recorded_is g c = c.in_ok-add-in-Ok-row_rule.ensures.ok ∙ ap (λ (k : ℕ). re
 
 pub invariant_of-self-in-Ok-row_rule : goal.invariant_of-self-in-Ok-row_rule
 invariant_of-self-in-Ok-row_rule g c =
-    subst (λ (r : Recorded). IsRecorded g.V.Verifier.accepts (shown c.self.inside.balances.items c.self.inside.keys r) r) (sym (recorded_is g c)) (makes g c).recorded
+    subst (λ (r : Recorded). IsRecorded g.V.Verifier.accepts (shown c.self.inside.keys r) r) (sym (recorded_is g c)) (makes g c).recorded
 
 pub returns-in_ok-add-in-Ok-row_rule-clause-ok : goal.returns-in_ok-add-in-Ok-row_rule-clause-ok
 returns-in_ok-add-in-Ok-row_rule-clause-ok g c = rw (← c.self.view_is, place_is g c, recorded_is g c) (makes g c).making

@@ -8,15 +8,15 @@ use Rattle.hg_node.proofs.node.Node.publish.Goals as goal
 
 pub publish-requires : goal.publish-requires
 publish-requires g c =
-    speaks_in g.V.Verifier.accepts c.self.inside.balances.items c.self.inside.keys c.self.inside.chronicle c.self.invariant c.args.found.now.len c.args.found.now.share c.args.found.now.marks
+    speaks_in g.V.Verifier.accepts c.self.inside.keys c.self.inside.chronicle c.self.invariant c.args.found.now.len c.args.found.now.share c.args.found.now.marks
     (subst (λ (w : Shown g.row.V.Denot). Speaks w.start.members w.start.coin (graph_of w) (links_of w) c.args.found.now.len c.args.found.now.share c.args.found.now.marks)
     (sym c.self.view_is) c.requires)
 
 -- what the chronicle has become
-publishes : (g : given.Over) (c : goal.After-publish g) → IsPublishing g.V.Verifier.accepts (shown c.self.inside.balances.items c.self.inside.keys c.self.inside.chronicle)
-    (shown c.self.inside.balances.items c.self.inside.keys c.publish.new.self) c.publish.new.self c.args.found.now.len c.args.found.now.share
+publishes : (g : given.Over) (c : goal.After-publish g) → IsPublishing g.V.Verifier.accepts (shown c.self.inside.keys c.self.inside.chronicle)
+    (shown c.self.inside.keys c.publish.new.self) c.publish.new.self c.args.found.now.len c.args.found.now.share
 publishes g c =
-    published g.V.Verifier.accepts c.self.inside.balances.items c.self.inside.keys c.self.inside.chronicle c.self.invariant c.args.found.now.len c.args.found.now.share
+    published g.V.Verifier.accepts c.self.inside.keys c.self.inside.chronicle c.self.invariant c.args.found.now.len c.args.found.now.share
     c.args.found.now.marks (subst (λ (w : Shown g.row.V.Denot). Speaks w.start.members w.start.coin (graph_of w) (links_of w) c.args.found.now.len c.args.found.now.share c.args.found.now.marks)
     (sym c.self.view_is) c.requires) c.publish.new.self c.publish.ensures.grown
 
@@ -26,7 +26,7 @@ invariant_of-self g c = (publishes g c).recorded
 pub returns-clause-answer : goal.returns-clause-answer
 returns-clause-answer g c =
     rw (← c.self.view_is)
-    (c.publish.ensures.count ∙ answer_is g.V.Verifier.accepts c.self.inside.balances.items c.self.inside.keys c.self.inside.chronicle c.self.invariant c.args.found.now.len c.args.found.now.share)
+    (c.publish.ensures.count ∙ answer_is g.V.Verifier.accepts c.self.inside.keys c.self.inside.chronicle c.self.invariant c.args.found.now.len c.args.found.now.share)
 
 pub returns-clause-grown : goal.returns-clause-grown
 returns-clause-grown g c = rw (← c.self.view_is) (publishes g c).grown

@@ -13,14 +13,14 @@ returns-in-Err-clause-ok g c = (put_faulty g.V.Verifier.accepts c.args.self.now 
 
 pub take-requires-clause-graph : goal.take-requires-clause-graph
 take-requires-clause-graph g c =
-    (put_taken g.V.Verifier.accepts c.self.inside.balances.items c.self.inside.keys c.self.inside.chronicle c.args.bytes.now c.self.invariant (row_of c.in-Ok.view) c.in-Ok.ensures.exact
+    (put_taken g.V.Verifier.accepts c.self.inside.keys c.self.inside.chronicle c.args.bytes.now c.self.invariant (row_of c.in-Ok.view) c.in-Ok.ensures.exact
     (λ i. omega (arith, c.type_inv.bytes i)) c.in-Ok-parents_of_arrival.ensures.answer).graph
 
 -- all that the taking left
-ends : (g : given.Over) (c : goal.After-take g) → IsPut g.V.Verifier.accepts (shown c.self.inside.balances.items c.self.inside.keys c.self.inside.chronicle)
-    (shown c.self.inside.balances.items c.self.inside.keys c.take.new.chronicle) c.take.new.chronicle c.args.bytes.now c.take.result
+ends : (g : given.Over) (c : goal.After-take g) → IsPut g.V.Verifier.accepts (shown c.self.inside.keys c.self.inside.chronicle)
+    (shown c.self.inside.keys c.take.new.chronicle) c.take.new.chronicle c.args.bytes.now c.take.result
 ends g c =
-    put_ends g.V.Verifier.accepts c.self.inside.balances.items c.self.inside.keys c.self.inside.chronicle c.args.bytes.now c.self.invariant (row_of c.in-Ok.view) c.in-Ok.ensures.exact
+    put_ends g.V.Verifier.accepts c.self.inside.keys c.self.inside.chronicle c.args.bytes.now c.self.invariant (row_of c.in-Ok.view) c.in-Ok.ensures.exact
     c.take.result c.take.new.chronicle (λ i. omega (arith, c.type_inv.bytes i)) c.in-Ok-parents_of_arrival.ensures.answer c.take.ensures.answer c.take.ensures.ok c.take.ensures.err
 
 pub invariant_of-self : goal.invariant_of-self
@@ -38,11 +38,11 @@ returns-in-Ok-parents_of_arrival-clause-free g c = rw (← c.self.view_is) (ends
 pub returns-in-Err-parents_of_arrival-clause-answer : goal.returns-in-Err-parents_of_arrival-clause-answer
 returns-in-Err-parents_of_arrival-clause-answer g c =
     rw (← c.self.view_is)
-    (put_refused g.V.Verifier.accepts c.self.inside.balances.items c.self.inside.keys c.self.inside.chronicle c.args.bytes.now c.self.invariant (row_of c.in-Ok.view) c.in-Ok.ensures.exact
+    (put_refused g.V.Verifier.accepts c.self.inside.keys c.self.inside.chronicle c.args.bytes.now c.self.invariant (row_of c.in-Ok.view) c.in-Ok.ensures.exact
     c.in-Err-parents_of_arrival.answer c.in-Err-parents_of_arrival.ensures.answer).0
 
 pub returns-in-Err-parents_of_arrival-clause-ok : goal.returns-in-Err-parents_of_arrival-clause-ok
 returns-in-Err-parents_of_arrival-clause-ok g c =
     rw (← c.self.view_is)
-    (put_refused g.V.Verifier.accepts c.self.inside.balances.items c.self.inside.keys c.self.inside.chronicle c.args.bytes.now c.self.invariant (row_of c.in-Ok.view) c.in-Ok.ensures.exact
+    (put_refused g.V.Verifier.accepts c.self.inside.keys c.self.inside.chronicle c.args.bytes.now c.self.invariant (row_of c.in-Ok.view) c.in-Ok.ensures.exact
     c.in-Err-parents_of_arrival.answer c.in-Err-parents_of_arrival.ensures.answer).1
