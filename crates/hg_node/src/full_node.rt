@@ -30,7 +30,10 @@ fn takes_no_row_more_where_it_is_full(rt: HostRuntime) -> Result<(), Fail> {
         a.make(Some(first), 4, b"")?,
         MakeAnswer::Refused(MakeFault::Full(16_384))
     );
-    assert_eq!(rt; give(&rt, &b, 2, &mut a)?, PutAnswer::Refused(Fault::Full(16_384)));
+    assert_eq!(rt;
+        give(&rt, &b, 2, &mut a)?,
+        PutAnswer::Refused(Fault::Full(16_384))
+    );
     assert_eq!(rt; give(&rt, &b, 0, &mut a)?, PutAnswer::Known(1));
     assert_eq!(rt; a.rows(), 16_384);
     Ok(())

@@ -13,11 +13,11 @@ mod full_node;
 mod laws;
 mod node;
 #[cfg(test)]
+mod paying;
+#[cfg(test)]
 mod publishing;
 #[cfg(test)]
 mod tests;
-#[cfg(test)]
-mod tests_paying;
 
 pub use laws::making_is_one;
 pub use node::Node;

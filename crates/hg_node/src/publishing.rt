@@ -2,13 +2,12 @@ ghost use Rattle.std.specs.Prelude.{◌≡◌, true, IfOk};
 ghost use Rattle.hg_model.specs.Members.{IsEntry, is_member_name};
 
 use crate::Node;
-use crate::tests::{give, node_of, two_members};
+use crate::tests::{give, node_of, sync, two_members};
 use hg_fame::elect_share;
 use hg_model::{Bytes, MemberEntry, Members, Memory, Placed, PutAnswer, Share};
 use hg_sign::MacTable;
 use hg_votes::VoteTable;
 use std::alloc::Global;
-use std::process::Abort;
 use std::test::Fail;
 
 fn entry(alloc: Global, name: &[u8], secret: u8) -> Result<MemberEntry, Memory>
@@ -32,20 +31,6 @@ fn four_members(alloc: Global) -> Result<Members, Memory> {
     entries.push(entry(alloc, b"C", 3)?)?;
     entries.push(entry(alloc, b"D", 4)?)?;
     Ok(Members::new(entries, 10))
-}
-
-/// The taker is put all rows of its peer, and makes an event on the peer's last one.
-fn sync(
-    rt: &impl Abort,
-    taker: &mut Node<&MacTable>,
-    peer: &Node<&MacTable>,
-    time: u64,
-) -> Result<(), Memory> {
-    for place in 0..peer.rows() {
-        give(rt, peer, place, taker)?;
-    }
-    taker.make(peer.last_name(), time, b"")?;
-    Ok(())
 }
 
 /// Publishes what the node's graph, frozen as it is, has found; tells how many were marked.
@@ -80,13 +65,13 @@ fn publishes_what_is_decided(rt: HostRuntime) -> Result<(), Fail> {
     a.make(None, 1, b"")?;
     b.make(None, 2, b"")?;
     for time in [3, 5] {
-        sync(&rt, &mut a, &b, time)?;
-        sync(&rt, &mut b, &a, time + 1)?;
+        sync(&mut a, &b, time, b"")?;
+        sync(&mut b, &a, time + 1, b"")?;
     }
     assert_eq!(rt; publish_all(alloc, &mut b)?, 2);
     assert!(rt; b.closed() == 1 && b.kept().is_empty());
-    sync(&rt, &mut a, &b, 7)?;
-    sync(&rt, &mut b, &a, 8)?;
+    sync(&mut a, &b, 7, b"")?;
+    sync(&mut b, &a, 8, b"")?;
     assert_eq!(rt; publish_all(alloc, &mut b)?, 2);
     assert_eq!(rt; b.closed(), 2);
     let order = [placed(1, 1), placed(0, 2), placed(2, 3), placed(3, 4)];
@@ -96,7 +81,6 @@ fn publishes_what_is_decided(rt: HostRuntime) -> Result<(), Fail> {
 
 /// Three members make their first events, and sync in a ring, four times each.
 fn play_ring(
-    rt: &impl Abort,
     a: &mut Node<&MacTable>,
     b: &mut Node<&MacTable>,
     c: &mut Node<&MacTable>,
@@ -105,9 +89,9 @@ fn play_ring(
     b.make(None, 52, b"")?;
     c.make(None, 65, b"")?;
     for (to_b, to_c, to_a) in [(55, 50, 60), (70, 80, 90), (100, 110, 120), (130, 140, 150)] {
-        sync(rt, b, a, to_b)?;
-        sync(rt, c, b, to_c)?;
-        sync(rt, a, c, to_a)?;
+        sync(b, a, to_b, b"")?;
+        sync(c, b, to_c, b"")?;
+        sync(a, c, to_a, b"")?;
     }
     Ok(())
 }
@@ -134,7 +118,7 @@ fn a_late_witness_changes_no_order(rt: HostRuntime) -> Result<(), Fail> {
     let mut b = node_of(&rt, alloc, &members, &keys, 1)?;
     let mut c = node_of(&rt, alloc, &members, &keys, 2)?;
     let mut d = node_of(&rt, alloc, &members, &keys, 3)?;
-    play_ring(&rt, &mut a, &mut b, &mut c)?;
+    play_ring(&mut a, &mut b, &mut c)?;
     assert_eq!(rt; a.rows(), 15);
     assert_eq!(rt; publish_all(alloc, &mut a)?, 6);
     assert_eq!(rt; a.kept(), ring_order().as_slice());

@@ -59,6 +59,20 @@ pub(crate) fn give(
     to.put(bytes_of(rt, from, place))
 }
 
+/// Puts all rows of the other node to this one, which then makes an event on the other's last.
+pub(crate) fn sync(
+    node: &mut Node<&MacTable>,
+    other: &Node<&MacTable>,
+    time: u64,
+    payload: &[u8],
+) -> Result<(), Memory> {
+    for place in 0..other.rows() {
+        node.put(other.bytes(place))?;
+    }
+    node.make(other.last_name(), time, payload)?;
+    Ok(())
+}
+
 fn make(node: &mut Node<&MacTable>, other: Option<Name>) -> Result<MakeAnswer, Memory> {
     node.make(other, 1, b"any")
 }

@@ -13,7 +13,7 @@ publish-requires c =
     let found = c.in_ok-found.found in
     let is = c.rows-rows.ensures.node in
     let of_share = subst (λ (s : Share). Speaks c.in_ok-frozen.frozen.members c.in_ok-frozen.frozen.coin c.in_ok-frozen.frozen.rows (links_of c.in_ok-frozen.frozen) found.len s found.marks)
-        (sym c.in_ok-found.ensures.share) c.in_ok-found.ensures.speaks in
+    (sym c.in_ok-found.ensures.share) c.in_ok-found.ensures.speaks in
     let of_rows = subst (λ (g : Graph). Speaks g.members g.coin g.rows (links_of g) found.len found.share found.marks) c.in_ok-frozen.ensures of_share in
     subst (λ (L : List Link). Speaks node.start.members node.start.coin (graph_of node) L found.len found.share found.marks)
     (sym (sound _ node.start.members node.start.coin node.start.own node.history is.coin is.history).linked) of_rows

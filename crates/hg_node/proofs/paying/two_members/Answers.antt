@@ -1,6 +1,6 @@
 use Rattle.std.proofs.Common.{◌≡◌, ℕ, List, get_or, refl, arith, ap}
 use Rattle.hg_sign.proofs.TwoMembers.{two_members}
-use Rattle.hg_node.proofs.tests_paying.two_members.Goals as goal
+use Rattle.hg_node.proofs.paying.two_members.Goals as goal
 
 pub new-requires : goal.new-requires
 new-requires c =

@@ -1,10 +1,9 @@
 ghost use Rattle.std.specs.Prelude.{◌≡◌, true, IfOk};
 
-use crate::Node;
+use crate::tests::{node_of, sync};
 use hg_model::{Bytes, Effect, MemberEntry, Members, Memory};
 use hg_sign::MacTable;
 use std::alloc::Global;
-use std::process::Abort;
 use std::test::Fail;
 
 fn entry(alloc: Global, name: &[u8], balance: u64) -> Result<MemberEntry, Memory>
@@ -23,32 +22,6 @@ fn two_members(alloc: Global) -> Result<Members, Memory> {
     entries.push(entry(alloc, b"A", 100)?)?;
     entries.push(entry(alloc, b"B", 0)?)?;
     Ok(Members::new(entries, 10))
-}
-
-/// The node of a member below 2.
-fn node_of<'a>(
-    rt: &impl Abort,
-    alloc: Global,
-    members: &Members,
-    keys: &'a MacTable,
-    own: u16,
-) -> Result<Node<&'a MacTable>, Memory> {
-    assert!(rt; u32::from(own) < members.count());
-    Node::new(alloc, members, own, keys)
-}
-
-/// Puts all rows of the other node to this one, which then makes an event on the other's last.
-fn sync(
-    node: &mut Node<&MacTable>,
-    other: &Node<&MacTable>,
-    time: u64,
-    payload: &[u8],
-) -> Result<(), Memory> {
-    for place in 0..other.rows() {
-        node.put(other.bytes(place))?;
-    }
-    node.make(other.last_name(), time, payload)?;
-    Ok(())
 }
 
 /// B=30 and B=80 by A; A=31 and A=0 by B; A=70 and 1 to the third member by A; and bytes that are no transfers.
