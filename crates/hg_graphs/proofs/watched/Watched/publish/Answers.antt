@@ -1,0 +1,9 @@
+use Rattle.hg_graphs.specs.Moments.{SpeaksOf}
+use Rattle.hg_graphs.proofs.MomentLaws.{speaks_later}
+use Rattle.hg_graphs.proofs.watched.Watched.publish.Goals as goal
+
+pub publish-marked-requires : goal.publish-marked-requires
+publish-marked-requires c = let here = c.index.ensures in let at = c.args.self.now.moments c.args.number c.index.result.now in ?
+
+pub invariant_of-self : goal.invariant_of-self
+invariant_of-self c = record { moments = speaks_later c.args.self.now.node c.publish-marked.new.self _ c.publish-marked.ensures.grown c.found_lasts.ensures.lasts c.args.self.now.held.items c.args.self.now.moments }

@@ -1,0 +1,33 @@
+ghost use Rattle.std.specs.Prelude.{◌≡◌, ℕ, Bool, Some, All, IsTrue, is_some, length};
+ghost use Rattle.hg_model.specs.Fame.{mark_at};
+ghost use Rattle.hg_model.specs.Places.{count_below};
+ghost use Rattle.hg_model.specs.Shown.{graph_of, marks_of};
+
+use hg_node::Node;
+use hg_sign::MacTable;
+
+/// How many rows of the node are marked.
+#[tactic(auto, using(hg_model::proofs::PlacesLaws::count_steps))]
+pub fn count_marked(node: &Node<&MacTable>) -> usize
+    ensures { result ≡ count_below (length (graph_of node.now)) (λ x. is_some (mark_at (marks_of node.now) x)) }
+{
+    let mut count = 0;
+    for place in 0..node.rows() {
+        if node.fame(place).is_some() {
+            count += 1;
+        }
+    }
+    count
+}
+
+/// Whether these places have these marks in the node.
+pub fn are_marked(node: &Node<&MacTable>, marks: &[(usize, bool)]) -> bool
+    ensures { IsTrue result → All (λ (found : ℕ × Bool). mark_at (marks_of node.now) found.0 ≡ Some found.1) marks.now }
+{
+    for (place, fame) in marks {
+        if *place >= node.rows() || node.fame(*place) != Some(*fame) {
+            return false;
+        }
+    }
+    true
+}
