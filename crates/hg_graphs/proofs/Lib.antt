@@ -1,2 +1,3 @@
 mod MadeLaws
 mod MomentLaws
+mod TakeLaws

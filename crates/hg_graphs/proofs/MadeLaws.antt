@@ -1,6 +1,6 @@
 -- The members of a made graph are members
-use Rattle.std.proofs.Common.{◌≡◌, ◌<◌, ◌≤◌, ◌+◌, ◌^◌, ℕ, zero, suc, true, List, [], ◌∷◌, get_or, length, sum_by, refl, sym, ap, ◌∙◌, subst, arith}
-use Rattle.std.proofs.lemmas.List.FromFn.{length-map-range_with_len, get_or-map-range_with_len, sum_by-map-range_with_len_more}
+use Rattle.std.proofs.Common.{◌≡◌, ◌<◌, ◌≤◌, ◌+◌, ◌^◌, ℕ, zero, suc, true, List, [], ◌∷◌, ◌++◌, get_or, length, sum_by, refl, sym, ap, ◌∙◌, subst, arith}
+use Rattle.std.proofs.lemmas.List.FromFn.{length-map-range_with_len, get_or-map-range_with_len, map-range_with_len_more, sum_by-map-range_with_len_more}
 use Rattle.hg_model.specs.declared.members.MemberEntry.{MemberEntry}
 use Rattle.hg_model.specs.Members.{IsEntry, IsMemberList, is_member_name, listed}
 use Rattle.hg_graphs.specs.Made.{made_entry, made_entries}
@@ -49,3 +49,6 @@ made_members n c some few low high = record {
   distinct = distinct n;
   sum = omega (arith, made_sum n);
 }
+
+pub made_more : (n : ℕ) → made_entries (n + 1) ≡ made_entries n ++ made_entry n ∷ []
+made_more n = map-range_with_len_more made_entry 0 n n refl

@@ -1,4 +1,4 @@
-ghost use Rattle.std.specs.Prelude.{◌≡◌, ◌<◌, ◌↔◌, ℕ, IsTrue, length, take};
+ghost use Rattle.std.specs.Prelude.{◌≡◌, ◌<◌, ◌↔◌, ℕ, IsTrue, length, slice_get};
 ghost use Rattle.hg_graphs.specs.Alike.{AreAlike, IsPairAlike, IsRowAlike};
 
 use hg_model::{Placed, Prefix, Rounds, Sight};
@@ -60,12 +60,30 @@ pub fn is_alike<P: Prefix, Q: Prefix>(a: &P, b: &Q) -> bool
     a.greatest() == b.greatest()
 }
 
+fn is_same(a: &Placed, b: &Placed) -> bool
+    ensures { IsTrue result ↔ (a.now ≡ b.now) }
+{
+    a.place == b.place && a.received == b.received && a.time == b.time
+}
+
+/// Whether both have the same at a place.
+fn is_same_at(a: &[Placed], b: &[Placed], x: usize) -> bool
+    ensures { IsTrue result → slice_get a.now x ≡ slice_get b.now x }
+{
+    match (a.get(x), b.get(x)) {
+        (Some(one), Some(other)) => is_same(one, other),
+        _ => false,
+    }
+}
+
 /// Whether the first begins the second.
 pub fn is_front(front: &[Placed], whole: &[Placed]) -> bool
-    ensures { IsTrue result ↔ (take (length front.now) whole.now ≡ front.now) }
+    ensures { IsTrue result → (x : ℕ) → x < length front.now → slice_get front.now x ≡ slice_get whole.now x }
 {
-    match whole.get(..front.len()) {
-        None => false,
-        Some(first) => first == front,
+    for x in 0..front.len() {
+        if !is_same_at(front, whole, x) {
+            return false;
+        }
     }
+    true
 }

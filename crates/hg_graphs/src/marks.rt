@@ -20,12 +20,19 @@ pub fn count_marked(node: &Node<&MacTable>) -> usize
     count
 }
 
+/// Whether the place has this mark in the node.
+fn is_marked(node: &Node<&MacTable>, place: usize, fame: bool) -> bool
+    ensures { IsTrue result → mark_at (marks_of node.now) place ≡ Some fame }
+{
+    place < node.rows() && node.fame(place) == Some(fame)
+}
+
 /// Whether these places have these marks in the node.
 pub fn are_marked(node: &Node<&MacTable>, marks: &[(usize, bool)]) -> bool
     ensures { IsTrue result → All (λ (found : ℕ × Bool). mark_at (marks_of node.now) found.0 ≡ Some found.1) marks.now }
 {
-    for (place, fame) in marks {
-        if *place >= node.rows() || node.fame(*place) != Some(*fame) {
+    for found in marks {
+        if !is_marked(node, found.0, found.1) {
             return false;
         }
     }

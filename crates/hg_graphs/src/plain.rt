@@ -3,7 +3,6 @@ ghost use Rattle.hg_model.specs.Order.{order_of};
 ghost use Rattle.hg_model.specs.Prefix.{graph_of as prefix_of};
 ghost use Rattle.hg_model.specs.Shown.{graph_of};
 
-use hg_history::rows_are_a_graph;
 use hg_model::{Memory, Prefix, Row, Sight};
 use hg_node::Node;
 use hg_plain::{PlainPrefix, PlainSight, PlainWhole, plain_whole};
@@ -16,21 +15,32 @@ pub fn rows_of(alloc: Global, node: &Node<&MacTable>) -> Result<Vec<Row>, Memory
 {
     let mut rows = Vec::new(alloc);
     for place in 0..node.rows() {
-        rows.push(node.row(place).clone()?)?;
+        let copy = copy_of(node.row(place))?;
+        rows.push(copy)?;
     }
     Ok(rows)
 }
 
+fn copy_of(row: &Row) -> Result<Row, Memory>
+    ensures { IfOk result (λ copy. copy ≡ row.now) }
+{
+    Ok(row.clone()?)
+}
+
 /// All that the plain program tells of the node's rows.
+#[tactic(auto, using(hg_model::proofs::LinkLaws::link_lengths))]
 pub fn whole_of(alloc: Global, node: &Node<&MacTable>) -> Result<PlainWhole, Memory>
     ensures { IfOk result (λ whole. whole.order ≡ order_of node.now.start.members node.now.start.coin (graph_of node.now)) }
 {
-    rows_are_a_graph();
     let rows = rows_of(alloc, node)?;
-    plain_whole(alloc, &rows, node.graph().members(), node.graph().coin())
+    let graph = node.graph();
+    // A graph has few rows.
+    graph.rows();
+    plain_whole(alloc, &rows, graph.members(), graph.coin())
 }
 
 /// The plain program's tables of the node's rows.
+#[tactic(auto, using(hg_model::proofs::LinkLaws::link_lengths))]
 pub fn tables_of<'b>(
     alloc: Global,
     node: &Node<&MacTable>,
@@ -39,7 +49,9 @@ pub fn tables_of<'b>(
     requires { rows.now ≡ graph_of node.now }
     ensures { IfOk result (λ tables. tables ≡ prefix_of node.now.start.members node.now.start.coin (graph_of node.now)) }
 {
-    rows_are_a_graph();
-    let sight = PlainSight::new(alloc, rows, node.graph().members())?;
-    PlainPrefix::new(alloc, rows, sight, node.graph().coin())
+    let graph = node.graph();
+    // A graph has few rows.
+    graph.rows();
+    let sight = PlainSight::new(alloc, rows, graph.members())?;
+    PlainPrefix::new(alloc, rows, sight, graph.coin())
 }
