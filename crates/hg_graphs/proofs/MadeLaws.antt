@@ -19,7 +19,7 @@ made_is : (k : ℕ) → k < 7 → IsEntry (made_entry k)
 made_is k few = record { name = made_name k few; secret_some = omega arith; secret_fits = omega arith }
 
 made_at : (n k : ℕ) (d : MemberEntry) → k < n → get_or (made_entries n) k d ≡ made_entry k
-made_at n k d lt = get_or-map-range_with_len made_entry 0 n k k d lt refl
+made_at n k d lt = get_or-map-range_with_len made_entry 0 n k k d lt (omega arith)
 
 made_length : (n : ℕ) → length (made_entries n) ≡ n
 made_length n = length-map-range_with_len made_entry 0 n
@@ -36,8 +36,8 @@ made_sum : (n : ℕ) → sum_by (λ (e : MemberEntry). e.balance) (made_entries 
 made_sum zero = refl
 made_sum (suc n) =
     let more : sum_by (λ (e : MemberEntry). e.balance) (made_entries (n + 1)) ≡ sum_by (λ (e : MemberEntry). e.balance) (made_entries n) + 0
-    = sum_by-map-range_with_len_more (λ (e : MemberEntry). e.balance) made_entry 0 n n refl in
-    omega (arith, more, made_sum n)
+    = sum_by-map-range_with_len_more (λ (e : MemberEntry). e.balance) made_entry 0 n n (omega arith) in
+    subst (λ (m : ℕ). sum_by (λ (e : MemberEntry). e.balance) (made_entries m) ≡ 0) (omega arith) (omega (arith, more, made_sum n))
 
 pub made_members : (n c : ℕ) → 4 ≤ n → n ≤ 7 → 3 ≤ c → c ≤ 6 → IsMemberList (listed (made_entries n) c)
 made_members n c some few low high = record {
@@ -51,4 +51,4 @@ made_members n c some few low high = record {
 }
 
 pub made_more : (n : ℕ) → made_entries (n + 1) ≡ made_entries n ++ made_entry n ∷ []
-made_more n = map-range_with_len_more made_entry 0 n n refl
+made_more n = map-range_with_len_more made_entry 0 n n (omega arith)
