@@ -37,7 +37,9 @@ made_sum zero = refl
 made_sum (suc n) =
     let more : sum_by (λ (e : MemberEntry). e.balance) (made_entries (n + 1)) ≡ sum_by (λ (e : MemberEntry). e.balance) (made_entries n) + 0
     = sum_by-map-range_with_len_more (λ (e : MemberEntry). e.balance) made_entry 0 n n (omega arith) in
-    subst (λ (m : ℕ). sum_by (λ (e : MemberEntry). e.balance) (made_entries m) ≡ 0) (omega arith) (omega (arith, more, made_sum n))
+    let none : sum_by (λ (e : MemberEntry). e.balance) (made_entries (n + 1)) ≡ 0 = omega (arith, more, made_sum n) in
+    let next : n + 1 ≡ suc n = omega arith in
+    subst (λ (m : ℕ). sum_by (λ (e : MemberEntry). e.balance) (made_entries m) ≡ 0) next none
 
 pub made_members : (n c : ℕ) → 4 ≤ n → n ≤ 7 → 3 ≤ c → c ≤ 6 → IsMemberList (listed (made_entries n) c)
 made_members n c some few low high = record {

@@ -5,7 +5,7 @@ use crate::marks::{are_marked, count_marked};
 use crate::plain::{rows_of, tables_of, whole_of};
 use crate::plan::{Plan, asks_for_fork, members_of, plan_of};
 use crate::watched::Watched;
-use hg_model::{Memory, PutAnswer, Share};
+use hg_model::{Members, Memory, PutAnswer, Share};
 use hg_sign::MacTable;
 use std::alloc::Global;
 
@@ -85,6 +85,33 @@ impl<'a> Game<'a> {
         self.publish(number, Share::new(k, of))
     }
 
+    /// One event more, and what is held and published then.
+    fn step(&mut self) -> Result<bool, Memory> {
+        let added = self.add_event()?;
+        self.hold_some()?;
+        Ok(self.publish_some()? && added)
+    }
+
+    /// All events.
+    fn play_events(&mut self) -> Result<bool, Memory> {
+        let mut alike = true;
+        for _ in 0..self.plan.events {
+            alike = self.step()? && alike;
+        }
+        Ok(alike)
+    }
+
+    /// Publishes all that is left, all at once or share by share, and compares with the plain program.
+    fn end(&mut self, number: u32) -> Result<bool, Memory> {
+        let mut alike = true;
+        if number % 2 == 0 {
+            self.watched.settle()?;
+        } else {
+            alike = self.publish_all(1 + number % 3)?;
+        }
+        Ok(self.is_plain()? && self.is_worth(number) && alike)
+    }
+
     /// Publishes all that the whole graph decides, share by share.
     fn publish_all(&mut self, of: u32) -> Result<bool, Memory> {
         self.watched.hold(0)?;
@@ -123,23 +150,26 @@ pub fn play(alloc: Global, number: u32) -> Result<bool, Memory> {
     let plan = plan_of(number, &mut dice);
     let members = members_of(alloc, &plan)?;
     let keys = MacTable::new(alloc, &members)?;
+    play_plan(alloc, number, dice, plan, &members, &keys)
+}
+
+/// Plays it by its plan, among these members.
+fn play_plan(
+    alloc: Global,
+    number: u32,
+    dice: Dice,
+    plan: Plan,
+    members: &Members,
+    keys: &MacTable,
+) -> Result<bool, Memory> {
+    let watched = Watched::new(alloc, members, keys)?;
     let mut game = Game {
         alloc,
         dice,
         plan,
-        keys: &keys,
-        watched: Watched::new(alloc, &members, &keys)?,
+        keys,
+        watched,
     };
-    let mut alike = true;
-    for _ in 0..plan.events {
-        alike = game.add_event()? && alike;
-        game.hold_some()?;
-        alike = game.publish_some()? && alike;
-    }
-    if number % 2 == 0 {
-        game.watched.settle()?;
-    } else {
-        alike = game.publish_all(1 + number % 3)? && alike;
-    }
-    Ok(game.is_plain()? && game.is_worth(number) && alike)
+    let alike = game.play_events()?;
+    Ok(game.end(number)? && alike)
 }
