@@ -1,4 +1,4 @@
-ghost use Rattle.std.specs.Prelude.{◌≡◌, ◌<◌, All, IfOk, IfSome, length};
+ghost use Rattle.std.specs.Prelude.{All, IfOk};
 ghost use Rattle.hg_model.specs.Prefix.{links_of as prefix_links};
 ghost use Rattle.hg_model.specs.Shares.{Speaks};
 ghost use Rattle.hg_graphs.specs.Moments.{SpeaksOf};
@@ -36,9 +36,13 @@ pub struct Watched<'a> {
 
 impl<'a> Watched<'a> {
     /// The node without rows.
-    pub fn new(alloc: Global, members: &Members, keys: &'a MacTable) -> Result<Watched<'a>, Memory>
-        requires { 0 < length members.now.entries }
-    {
+    pub fn new(
+        alloc: Global,
+        members: &Members,
+        keys: &'a MacTable,
+    ) -> Result<Watched<'a>, Memory> {
+        // There are members.
+        members.count();
         Ok(Watched {
             node: Node::new(alloc, members, 0, keys)?,
             held: Vec::new(alloc),
