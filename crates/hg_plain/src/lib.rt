@@ -23,3 +23,5 @@ mod votes;
 
 pub use forks::plain_forkers;
 pub use plain::{PlainState, PlainWhole, plain_order, plain_state, plain_whole};
+pub use prefix::PlainPrefix;
+pub use sight::PlainSight;

@@ -1,0 +1,3 @@
+mod MadeLaws
+mod MomentLaws
+mod TakeLaws

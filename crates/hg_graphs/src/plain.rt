@@ -1,0 +1,57 @@
+ghost use Rattle.std.specs.Prelude.{◌≡◌, IfOk};
+ghost use Rattle.hg_model.specs.Order.{order_of};
+ghost use Rattle.hg_model.specs.Prefix.{graph_of as prefix_of};
+ghost use Rattle.hg_model.specs.Shown.{graph_of};
+
+use hg_model::{Memory, Prefix, Row, Sight};
+use hg_node::Node;
+use hg_plain::{PlainPrefix, PlainSight, PlainWhole, plain_whole};
+use hg_sign::MacTable;
+use std::alloc::Global;
+
+/// A copy of the node's rows.
+pub fn rows_of(alloc: Global, node: &Node<&MacTable>) -> Result<Vec<Row>, Memory>
+    ensures { IfOk result (λ rows. rows.items ≡ graph_of node.now) }
+{
+    let mut rows = Vec::new(alloc);
+    for place in 0..node.rows() {
+        let copy = copy_of(node.row(place))?;
+        rows.push(copy)?;
+    }
+    Ok(rows)
+}
+
+fn copy_of(row: &Row) -> Result<Row, Memory>
+    ensures { IfOk result (λ copy. copy ≡ row.now) }
+{
+    Ok(row.clone()?)
+}
+
+/// All that the plain program tells of the node's rows.
+#[tactic(auto, using(hg_model::proofs::LinkLaws::link_lengths))]
+pub fn whole_of(alloc: Global, node: &Node<&MacTable>) -> Result<PlainWhole, Memory>
+    ensures { IfOk result (λ whole. whole.order ≡ order_of node.now.start.members node.now.start.coin (graph_of node.now)) }
+{
+    let rows = rows_of(alloc, node)?;
+    let graph = node.graph();
+    // A graph has few rows.
+    graph.rows();
+    plain_whole(alloc, &rows, graph.members(), graph.coin())
+}
+
+/// The plain program's tables of the node's rows.
+#[tactic(auto, using(hg_model::proofs::LinkLaws::link_lengths))]
+pub fn tables_of<'b>(
+    alloc: Global,
+    node: &Node<&MacTable>,
+    rows: &'b [Row],
+) -> Result<PlainPrefix<'b>, Memory>
+    requires { rows.now ≡ graph_of node.now }
+    ensures { IfOk result (λ tables. tables ≡ prefix_of node.now.start.members node.now.start.coin (graph_of node.now)) }
+{
+    let graph = node.graph();
+    // A graph has few rows.
+    graph.rows();
+    let sight = PlainSight::new(alloc, rows, graph.members())?;
+    PlainPrefix::new(alloc, rows, sight, graph.coin())
+}
