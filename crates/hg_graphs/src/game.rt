@@ -12,6 +12,9 @@ use std::alloc::Global;
 /// At most so many moments are held.
 const HELD: u32 = 6;
 
+/// At most so many events come behind those of the plan.
+const MORE: u32 = 200;
+
 /// A graph that is made.
 #[derive(Drop)]
 struct Game<'a> {
@@ -92,10 +95,22 @@ impl<'a> Game<'a> {
         Ok(self.publish_some()? && added)
     }
 
-    /// All events.
+    /// All events of the plan.
     fn play_events(&mut self) -> Result<bool, Memory> {
         let mut alike = true;
         for _ in 0..self.plan.events {
+            alike = self.step()? && alike;
+        }
+        Ok(alike)
+    }
+
+    /// More events, until some are ordered and there is a fork where the number asks for one.
+    fn play_more(&mut self, number: u32) -> Result<bool, Memory> {
+        let mut alike = true;
+        for _ in 0..MORE {
+            if self.is_worth(number) {
+                break;
+            }
             alike = self.step()? && alike;
         }
         Ok(alike)
@@ -170,6 +185,7 @@ fn play_plan(
         keys,
         watched,
     };
-    let alike = game.play_events()?;
+    let mut alike = game.play_events()?;
+    alike = game.play_more(number)? && alike;
     Ok(game.end(number)? && alike)
 }
