@@ -53,11 +53,6 @@ impl<'a> Watched<'a> {
         &self.node
     }
 
-    /// How many moments are held.
-    pub fn held(&self) -> usize {
-        self.held.len()
-    }
-
     pub fn put(&mut self, bytes: &[u8]) -> Result<PutAnswer, Memory> {
         found_lasts();
         self.node.put(bytes)
