@@ -6,6 +6,7 @@ ghost use Rattle.hg_model.specs.Shown.{graph_of};
 ghost use Rattle.hg_play.specs.Labels.{bytes_named};
 ghost use Rattle.hg_play.specs.Node.{missing_row};
 
+use crate::labels::copied;
 use crate::settled::settled_block;
 use hg_model::{
     Block, Bytes, Items, MakeAnswer, Member, Members, Memory, Name, Parcel, PutAnswer, SyncMade,
@@ -40,13 +41,6 @@ fn with_answer(counts: Counts, answer: &PutAnswer) -> Counts
             refused: counts.refused + 1,
         },
     }
-}
-
-/// A copy of the bytes.
-fn copied(alloc: Global, bytes: &[u8]) -> Result<Bytes, Memory>
-    ensures { IfOk result (λ copy. copy ≡ bytes.now) }
-{
-    Ok(Items::from_vec(Vec::from_slice(alloc, bytes)?))
 }
 
 /// The bytes of a row of the node behind those of the missing ones, unless the taker holds its name.
@@ -248,6 +242,7 @@ impl Player {
         ensures same { self.new ≡ self.old }
     {
         self.node.settle()?;
+        // That it is a node, whose marks are those of its graph.
         self.node.rows();
         settled_block(alloc, members, member, &self.node)
     }

@@ -8,7 +8,7 @@ ghost use Rattle.hg_model.specs.Order.{sequence_of};
 ghost use Rattle.hg_model.specs.Ledger.{order_line, order_lines};
 ghost use Rattle.hg_model.specs.Prefix.{links_of};
 
-use hg_model::{Effect, Items, Memory, OrderLine, Placed, Prefix, Sight};
+use hg_model::{Effect, Items, Memory, OrderLine, Placed, Prefix, Sight, tells_graph};
 use std::alloc::Global;
 
 /// How many self-ancestors the next row has, other than itself, where its self-parent is at this place.
@@ -18,6 +18,7 @@ fn next_sequence<S: Sight>(sight: &S, sequences: &[u64], x: usize) -> u64
     requires before { sequences.now ≡ table (sequence_of (S.shape sight.now).links) x }
     ensures { result ≡ sequence_of (S.shape sight.now).links x }
 {
+    // A shape's links lead back, and are few.
     sight.rows();
     match sight.self_parent(x) {
         None => 0,
@@ -43,8 +44,7 @@ fn order_line<P: Prefix>(p: &P, sequences: &[u64], placed: &Placed, effect: Effe
     requires sequences { sequences.now ≡ table (sequence_of (links_of (P.graph p.now))) (length (P.graph p.now).rows) }
     ensures { result ≡ order_line (P.graph p.now).rows (links_of (P.graph p.now)) placed.now effect }
 {
-    p.coin();
-    p.rows();
+    tells_graph(p);
     OrderLine {
         creator: p.creator(placed.place),
         sequence: sequences[placed.place],
@@ -66,7 +66,7 @@ pub fn order_lines<P: Prefix>(
     requires each { length effects.now ≡ length order.now }
     ensures { IfOk result (λ lines. lines ≡ order_lines (P.graph p.now).rows (links_of (P.graph p.now)) order.now effects.now) }
 {
-    p.coin();
+    tells_graph(p);
     let sequences = sequences(alloc, p)?;
     let mut lines = Vec::new(alloc);
     for (i, placed) in order.iter().enumerate() {

@@ -1,2 +1,4 @@
-pub mod Top
+pub mod Accepted
 pub mod Reading
+pub mod Top
+pub mod Telling

@@ -8,7 +8,7 @@ use Rattle.hg_script.specs.declared.line.Line.{Line}
 use Rattle.hg_top.specs.declared.status.File.TheVariants as file
 use Rattle.hg_top.specs.declared.status.Status.{Status}
 use Rattle.hg_top.specs.declared.status.Status.TheVariants.{Done, ReadFault, Members, Script, WriteFault, Memory}
-use Rattle.hg_top.specs.Top.{Has, accepted_members, accepted_lines}
+use Rattle.hg_top.specs.Accepted.{Has, accepted_members, accepted_lines}
 
 -- the file of this name tells the members
 pub record ReadsMembers (holds : Option Files) (name : List ℕ) (members : MemberList) : Type 0 where

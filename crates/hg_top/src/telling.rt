@@ -3,7 +3,7 @@ ghost use Rattle.hg_io.specs.Telling.{Tells};
 ghost use Rattle.hg_members.specs.Text.{member_fault_text};
 ghost use Rattle.hg_report.specs.Pieces.{piece_text};
 ghost use Rattle.hg_script.specs.Text.{why_text};
-ghost use Rattle.hg_top.specs.Top.{IsToldOn, members_line, script_line, status_line};
+ghost use Rattle.hg_top.specs.Telling.{IsToldOn, members_line, script_line, status_line};
 
 use crate::status::{File, Refusal, Status};
 use hg_io::{Failed, Sink, write_all};

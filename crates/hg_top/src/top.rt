@@ -5,7 +5,9 @@ ghost use Rattle.hg_play.specs.Play.{play};
 ghost use Rattle.hg_script.specs.Lawful.{IsLine};
 ghost use Rattle.hg_words.specs.Asked.{request_of};
 ghost use Rattle.hg_top.specs.Reading.{ReadsLines, ReadsMembers, StopsAtMembers, StopsAtScript, Writes};
-ghost use Rattle.hg_top.specs.Top.{Ends, EndsBy, IsComplete, IsRefused, IsToldOn, IsUsage, file_names, outside, status_line};
+ghost use Rattle.hg_top.specs.Accepted.{file_names};
+ghost use Rattle.hg_top.specs.Telling.{IsToldOn, status_line};
+ghost use Rattle.hg_top.specs.Top.{Ends, EndsBy, IsComplete, IsRefused, IsUsage, outside};
 
 use crate::status::{File, Refusal, Status};
 use crate::telling::tell;

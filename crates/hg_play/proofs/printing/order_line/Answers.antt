@@ -1,27 +1,10 @@
-use Rattle.std.proofs.Common.{◌≡◌, ◌∙◌, ap, arith, length, sym, zero-add, List}
+use Rattle.std.proofs.Common.{◌≡◌, ◌∙◌, ap, arith, length, zero-add}
 use Rattle.std.proofs.lemmas.List.FromFn.{get_or-map-range_with_len, length-map-range_with_len}
 use Rattle.hg_model.specs.Shape.{Shape}
 use Rattle.hg_model.specs.Order.{sequence_of}
 use Rattle.hg_model.specs.Prefix.{links_of}
-use Rattle.hg_model.proofs.LinkLaws.{length-links}
 use Rattle.hg_play.proofs.SequenceLaws.{line_is}
 use Rattle.hg_play.proofs.printing.order_line.Goals as goal
-
-pub creator-requires : goal.creator-requires
-creator-requires g c =
-    let place = c.requires.place in
-    let same = ap (λ (s : Shape). length s.links) c.coin.ensures.told.shaped in
-    let long = length-links (g.P.Prefix.graph c.args.p.now).rows in
-    omega (arith, place, same, long)
-
-pub offset_bounds-sequences-placed : goal.offset_bounds-sequences-placed
-offset_bounds-sequences-placed g c =
-    let place = c.requires.place in
-    let same = ap (λ (s : Shape). length s.links) c.coin.ensures.told.shaped in
-    let long = length-links (g.P.Prefix.graph c.args.p.now).rows in
-    let rows = c.rows.ensures.value in
-    let short = c.rows.ensures.short in
-    omega (arith, place, same, long, rows, short)
 
 pub bounds-sequences-placed : goal.bounds-sequences-placed
 bounds-sequences-placed g c =
@@ -33,7 +16,7 @@ pub returns : goal.returns
 returns g c =
     let rows = (g.P.Prefix.graph c.args.p.now).rows in
     let place = c.args.placed.now.place in
-    line_is rows (links_of (g.P.Prefix.graph c.args.p.now)) (g.P.Sight.shape c.args.p.now).links c.args.placed.now c.args.effect _ _ c.row.result.now (ap (λ (s : Shape). s.links) c.coin.ensures.told.shaped)
+    line_is rows (links_of (g.P.Prefix.graph c.args.p.now)) (g.P.Sight.shape c.args.p.now).links c.args.placed.now c.args.effect _ _ c.row.result.now (ap (λ (s : Shape). s.links) c.tells_graph.ensures.told.shaped)
     c.creator.ensures.value
     (ap (λ xs. Rattle.std.proofs.Common.slice_index_or xs place 0) c.requires.sequences ∙ get_or-map-range_with_len (sequence_of (links_of (g.P.Prefix.graph c.args.p.now))) 0 (length rows) place place 0 c.requires.place (zero-add place))
     c.row.ensures

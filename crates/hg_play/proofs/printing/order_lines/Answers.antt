@@ -3,11 +3,10 @@ use Rattle.hg_model.specs.Places.{table}
 use Rattle.hg_model.specs.Shape.{Shape}
 use Rattle.hg_model.specs.Links.{Link}
 use Rattle.hg_model.specs.Order.{sequence_of}
-use Rattle.hg_model.proofs.LinkLaws.{length-links}
 use Rattle.hg_play.proofs.printing.order_lines.Goals as goal
 
 pub order_line-requires-clause-sequences : goal.order_line-requires-clause-sequences
 order_line-requires-clause-sequences g c =
-    let same = ap (λ (s : Shape). s.links) c.coin.ensures.told.shaped in
+    let same = ap (λ (s : Shape). s.links) c.tells_graph.ensures.told.shaped in
     c.as_slice.ensures.value ∙ (c.in_ok-sequences.ensures
-    ∙ (ap (λ (L : List Link). table (sequence_of L) (length L)) same ∙ ap (table (sequence_of (Rattle.hg_model.specs.Prefix.links_of (g.P.Prefix.graph c.args.p.now)))) (length-links (g.P.Prefix.graph c.args.p.now).rows)))
+    ∙ (ap (λ (L : List Link). table (sequence_of L) (length L)) same ∙ ap (table (sequence_of (Rattle.hg_model.specs.Prefix.links_of (g.P.Prefix.graph c.args.p.now)))) c.tells_graph.ensures.long))

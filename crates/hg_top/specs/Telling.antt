@@ -1,0 +1,49 @@
+-- What a status is to the outside: a line on standard error, and an exit status
+use Rattle.std.specs.Prelude.{ℕ, ◌⊎◌, List, ◌++◌, Option, codes}
+use Rattle.std.specs.Fmt.{decimal}
+use Rattle.hg_io.specs.Bytes.{Appends, AppendsPart}
+use Rattle.hg_io.specs.Faults.{Rose}
+use Rattle.hg_members.specs.declared.fault.MemberFault.{MemberFault}
+use Rattle.hg_members.specs.Text.{member_fault_text}
+use Rattle.hg_script.specs.declared.fault.ScriptFault.{ScriptFault}
+use Rattle.hg_script.specs.Text.{why_text}
+use Rattle.hg_top.specs.declared.status.File.TheVariants as file
+use Rattle.hg_top.specs.declared.status.Refusal.{Refusal}
+use Rattle.hg_top.specs.declared.status.Refusal.TheVariants.{TooLong, Fault}
+use Rattle.hg_top.specs.declared.status.Status.{Status}
+use Rattle.hg_top.specs.declared.status.Status.TheVariants.{Done, ReadFault, Usage, Members, Script, WriteFault, Memory}
+
+-- the lines that tell what is wrong with a file
+abbrev pub members_line : Refusal MemberFault → List ℕ
+members_line TooLong = codes "hashgraph: members: too-long\n"
+members_line (Fault f) = codes "hashgraph: members: " ++ (member_fault_text f ++ codes "\n")
+
+abbrev pub script_line : Refusal ScriptFault → List ℕ
+script_line TooLong = codes "hashgraph: script: too-long\n"
+script_line (Fault f) = codes "hashgraph: script line " ++ (decimal f.line ++ (codes ": " ++ (why_text f.why ++ codes "\n")))
+
+-- the line that a status writes to standard error
+abbrev pub status_line : Status → List ℕ
+status_line Done = codes ""
+status_line (ReadFault file.Members) = codes "hashgraph: cannot read the member file\n"
+status_line (ReadFault file.Script) = codes "hashgraph: cannot read the script\n"
+status_line Usage = codes "hashgraph: usage: run --members FILE --script FILE [--workers K] or make --members N --lines L --seed S [--workers K]\n"
+status_line (Members refusal) = members_line refusal
+status_line (Script refusal) = script_line refusal
+status_line WriteFault = codes "hashgraph: cannot write\n"
+status_line Memory = codes "hashgraph: out of memory\n"
+
+-- the line was written whole, or a front of it, where the count of faults rose
+abbrev pub IsToldOn : Option (List ℕ) → Option (List ℕ) → ℕ → ℕ → List ℕ → Type 0
+IsToldOn written_before written_after faults_before faults_after line =
+    Appends written_before written_after line ⊎ (AppendsPart written_before written_after line × Rose faults_before faults_after)
+
+-- the exit status of the program
+abbrev pub status_code : Status → ℕ
+status_code Done = 0
+status_code (ReadFault f) = 1
+status_code Usage = 2
+status_code (Members refusal) = 3
+status_code (Script refusal) = 4
+status_code WriteFault = 5
+status_code Memory = 6
