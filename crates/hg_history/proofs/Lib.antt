@@ -16,5 +16,5 @@ pub mod FirstLaws
 mod Worked
 pub mod RoundLaws
 pub mod StayLaws
-pub mod EventLaws
+pub mod ChangeLaws
 pub mod AddLaws

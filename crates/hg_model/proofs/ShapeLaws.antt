@@ -1,20 +1,15 @@
 -- Which links fit, and the shape of the first rows
 use Rattle.std.proofs.Common.{◌≡◌, ◌≢◌, inl, inr, ℕ, ◌<◌, ◌≤◌, true, eqb, List, [], ◌∷◌, length, take, Some, None, refl, sym, subst, arith}
-use Rattle.std.proofs.lemmas.Bool.{cases_lt, eqb-true, or_cases, true≢false}
+use Rattle.std.proofs.lemmas.Bool.{cases_lt, eqb-true, or_cases}
 use Rattle.std.proofs.lemmas.List.{length-take-le}
 use Rattle.hg_model.specs.Places.{has_place}
 use Rattle.hg_model.specs.Links.{Link, first_place, later_places, parents, self_parent, other_parents, creator}
 use Rattle.hg_model.specs.Graph.{IsShaped}
 use Rattle.hg_model.specs.Shape.{FitsLink, link_of}
+use Rattle.hg_model.proofs.ReachLaws.{none_there, one_there}
 use Rattle.hg_model.proofs.LinkLaws.{parents_past}
 use Rattle.hg_model.proofs.LongerLaws.{longer-take, parents-longer, creator-longer}
 use Rattle.hg_model.proofs.PushLaws.{first_of_places, later_of_places}
-
-pub none_there : (p : ℕ) → has_place [] p ≡ true → ⊥
-none_there p h = true≢false (sym h)
-
-pub one_there : (a p : ℕ) → has_place (a ∷ []) p ≡ true → a ≡ p
-one_there a p h = elim (or_cases (eqb a p) (has_place [] p) h) [ inl same ↦ eqb-true a p same | inr none ↦ absurd (none_there p none) ]
 
 -- a row without parents fits where its creator is a member
 pub fits_alone : (n : ℕ) (L : List Link) (m : ℕ) → m < n → FitsLink n L (link_of m None)

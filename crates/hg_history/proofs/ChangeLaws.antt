@@ -1,4 +1,4 @@
--- Rows and the events by which they came
+-- Rows and the changes by which they came
 use Rattle.std.proofs.Common.{◌≡◌, ◌≢◌, ◌⊎◌, inl, inr, ℕ, zero, suc, List, [], ◌∷◌, ◌++◌, length, fold, Some, slice_get, sym, ap, ◌∙◌, subst, arith}
 use Rattle.std.proofs.lemmas.Bool.{cases_lt}
 use Rattle.std.proofs.lemmas.List.{length_push}
@@ -85,9 +85,9 @@ module _ (n c : ℕ) where
     | inr is ↦ (let same : Took row ≡ e = cc in subst (λ (d : Change). (x : ℕ) × (slice_get (fold (step n c) (step n c s d) h).rows x ≡ Some row)) same (came_here s row h))
   ]
 
-pub events_left : ChangesLeftRows
+pub changes_left : ChangesLeftRows
 unfolding replay
-events_left n c h row has = elim has [
+changes_left n c h row has = elim has [
   | inl i ↦ left_from n c empty h row i.0 (inl i.1)
   | inr i ↦ left_from n c empty h row i.0 (inr i.1)
 ]
