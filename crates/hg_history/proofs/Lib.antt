@@ -1,7 +1,6 @@
 pub mod StateLaws
 pub mod RuleLaws
 pub mod OwnLaws
-pub mod FrontLaws
 pub mod MarkLaws
 pub mod SoundLaws
 pub mod KeptLaws
