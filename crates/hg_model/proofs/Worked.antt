@@ -19,7 +19,7 @@ use Rattle.hg_model.specs.Seeing.{sees, sees_through, strongly_sees, sees_by, st
 use Rattle.hg_model.proofs.TestLaws.{graph_from_test, is_graph}
 use Rattle.hg_model.specs.Graph.{IsGraph, name_at}
 use Rattle.hg_model.specs.Rounds.{round_of, is_witness, is_seen_witness}
-use Rattle.hg_model.specs.Votes.{yes_votes, no_votes, vote_of, decides}
+use Rattle.hg_model.specs.Votes.{weighed_vote, weighed_decides, yes_votes, no_votes, vote_of, decides}
 use Rattle.hg_model.specs.Fame.{fame_of, fame_marks, is_closed, is_unique_famous, Marks}
 use Rattle.hg_model.specs.Order.{coin_at, sig_at, time_at, sort_by, median, can_receive, round_received, consensus_time, whitening, ordered_in, ordered, last_closed}
 use Rattle.hg_model.specs.Verdict.{row_verdict}
@@ -118,6 +118,15 @@ tied_vote : (yes_votes 4 (links tied_members) (vote_of 4 10 (links tied_members)
     × (vote_of 4 10 (links tied_members) (coin_at tied_members) 2 14 ≡ true)
 unfolding vote_of is_witness coin_at sig_at round_of strongly_sees sees_through sees has_fork_below is_fork is_ancestor is_self_ancestor weight_below some_below reaches by_place values_below parents self_parent creator links
 tied_vote = (refl, refl, refl)
+
+-- of four members, with coin period 3: in a coin round two votes against one leave it to the coin, and three against none
+-- do not; three decide in a normal round alone, and not in the round next to the candidate's
+coin_votes : (weighed_vote 4 3 3 2 1 true ≡ true) × (weighed_vote 4 3 3 2 1 false ≡ false) × (weighed_vote 4 3 2 2 1 false ≡ true)
+    × (weighed_vote 4 3 3 3 0 false ≡ true) × (weighed_vote 4 3 3 0 3 true ≡ false)
+coin_votes = (refl, refl, refl, refl, refl)
+
+coin_decisions : (weighed_decides 4 3 2 3 0 ≡ true) × (weighed_decides 4 3 3 3 0 ≡ false) × (weighed_decides 4 3 1 3 0 ≡ false) × (weighed_decides 4 3 2 2 1 ≡ false)
+coin_decisions = (refl, refl, refl, refl)
 
 -- four members, of whom the last makes two second events, at the places 3 and 7; the first member takes the one and
 -- the second the other, and the third syncs from both
