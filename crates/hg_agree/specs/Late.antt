@@ -11,7 +11,8 @@ use Rattle.hg_model.specs.Order.{coin_at}
 abbrev pub is_closed_in : ℕ → ℕ → List Row → ℕ → Bool
 is_closed_in n c G r = is_closed n (links G) (fame_marks n c (links G) (coin_at G)) r
 
--- where round r is closed in a graph, each witness of that round or an earlier one that a longer graph adds is decided not to be famous
+-- where round r is closed in a graph, each witness of that round or an earlier one that a longer graph adds is decided
+-- not to be famous
 abbrev pub LateWitnessIsNotFamous : Type 0
 LateWitnessIsNotFamous = (n c : ℕ) (G more : List Row) → IsGraph n G → IsGraph n (G ++ more) → 2 < c → (r x : ℕ) →
     IsTrue (is_closed_in n c G r) → length G ≤ x → x < length (G ++ more) →

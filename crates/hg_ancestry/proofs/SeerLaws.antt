@@ -12,7 +12,7 @@ use Rattle.hg_model.specs.Graph.{IsShaped}
 use Rattle.hg_bits.specs.Words.{IsFirst, NoneFrom}
 use Rattle.hg_bits.specs.Rows.{is_over}
 use Rattle.hg_ancestry.specs.Held.{is_apart}
-use Rattle.hg_model.proofs.PlacesLaws.{some_below_none, some_below_next, some_below_found, some_below_from, count_below_fails, weight_below-same, weight_below-le, weight_below_none}
+use Rattle.hg_model.proofs.PlacesLaws.{some_below_none, some_below_next, some_below_found, some_below_from, weight_below-same, weight_below-longer, weight_below-le, weight_below_none}
 use Rattle.hg_model.proofs.AncestryLaws.{is_ancestor-le}
 use Rattle.hg_model.proofs.SightLaws.{sees-is_ancestor, sees_through_found, strongly_sees-is_ancestor}
 
@@ -30,20 +30,12 @@ pub seers_all : (L : List Link) (x y m : ℕ) → some_below (x + 1) (is_seer_by
 unfolding sees_through
 seers_all L x y m = ap (λ k. some_below k (is_seer_by L x y m)) (add-one x)
 
--- members past the last count for nothing
-count_fewer : (n k : ℕ) (test : ℕ → Bool) → n ≤ k → ((m : ℕ) → n ≤ m → test m ≡ false) → count_below k test ≡ count_below n test
-count_fewer n zero test le none = (let same : n ≡ 0 = omega arith in rw same refl)
-count_fewer n (suc k) test le none = elim (cases_lt k n) [
-  | inl last ↦ (let same : n ≡ suc k = omega arith in rw same refl)
-  | inr more ↦ ap (λ j. count_below j test) (sym (add-one k)) ∙ (count_below_fails k test (none k more) ∙ count_fewer n k test more none)
-]
-
 pub strong_by_members : (n : ℕ) (L : List Link) (x y : ℕ) (has : ℕ → Bool) → IsShaped n L → n ≤ 128 → x < length L → ((m : ℕ) → has m ≡ sees_through L x y m) →
     is_supermajority n (count_below 128 has) ≡ strongly_sees n L x y
 unfolding strongly_sees
 strong_by_members n L x y has s few hx told =
     ap (is_supermajority n) (weight_below-same (λ _. 1) 128 has (sees_through L x y) (λ m h. told m)
-    ∙ count_fewer n 128 (sees_through L x y) few (λ m past. false_from_ne_true (sees_through L x y m) (λ h.
+    ∙ weight_below-longer (λ _. 1) n 128 (sees_through L x y) few (λ m past below. false_from_ne_true (sees_through L x y m) (λ h.
     let z = sees_through_found L s.earlier x y m h in
     let le : z.0 ≤ x = z.1 in
     absurd (omega (arith, s.members z.0 (omega arith), z.3)))))

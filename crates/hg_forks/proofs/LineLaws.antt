@@ -1,5 +1,5 @@
 -- A member whose rows stand in one line has no fork, and a row that stands on another than the last makes one
-use Rattle.std.proofs.Common.{◌≡◌, ◌≢◌, ◌⊎◌, inl, inr, ℕ, zero, suc, ◌+◌, ◌<◌, ◌≤◌, Bool, true, false, not, cond, eqb, List, [], ◌∷◌, ◌++◌, length, Option, Some, None, refl, sym, ap, ◌∙◌, subst, arith}
+use Rattle.std.proofs.Common.{◌≡◌, ◌≢◌, ◌⊎◌, inl, inr, ℕ, ◌+◌, ◌<◌, ◌≤◌, Bool, true, false, not, cond, eqb, List, [], ◌∷◌, ◌++◌, length, Option, Some, None, refl, sym, ap, ◌∙◌, subst, arith}
 use Rattle.std.specs.Int.{from_bool}
 use Rattle.std.proofs.lemmas.Bool.{cases_lt, cases_Bool, both_ways, false_from_ne_true, eqb-true, eq-eqb, true≢false}
 use Rattle.std.proofs.lemmas.List.{length_push, get_or_push}
@@ -12,7 +12,7 @@ use Rattle.hg_model.specs.Shape.{FitsLink, place_list}
 use Rattle.hg_model.proofs.ReachLaws.{has_place_first}
 use Rattle.hg_model.proofs.LinkLaws.{parents_read}
 use Rattle.hg_model.proofs.AncestryLaws.{is_self_ancestor_self, is_self_ancestor_by, is_self_ancestor_cases, is_self_ancestor-le}
-use Rattle.hg_model.proofs.ForkLaws.{Fork, fork_is, is_fork_from, has_fork_from, has_fork_found, self_parent_only}
+use Rattle.hg_model.proofs.ForkLaws.{Fork, fork_is, is_fork_from, has_fork_from, has_fork_found, one_line}
 use Rattle.hg_model.proofs.PushLaws.{creator_before, creator_last, shape-push}
 use Rattle.hg_model.proofs.LongerLaws.{longer-append, is_self_ancestor-longer}
 use Rattle.hg_forks.specs.declared.line.Line.{Line}
@@ -27,25 +27,7 @@ is_forked Empty = false
 is_forked (Ends last) = false
 is_forked (Forked a b) = true
 
-one_head : (p q : ℕ) → p ∷ [] ≡ q ∷ [] → p ≡ q
-one_head p q h = cc
-
 module _ (n : ℕ) (L : List Link) (s : IsShaped n L) where
-  -- of two self-ancestors of one row, one is a self-ancestor of the other
-  line_to : (k t a b : ℕ) → t < k → is_self_ancestor L t a ≡ true → is_self_ancestor L t b ≡ true →
-      (is_self_ancestor L a b ≡ true) ⊎ (is_self_ancestor L b a ≡ true)
-  line_to zero t a b h up_a up_b = absurd (omega arith)
-  line_to (suc k) t a b h up_a up_b = elim (is_self_ancestor_cases L s.earlier t a up_a) [
-    | inl same ↦ inl (subst (λ x. is_self_ancestor L x b ≡ true) same up_b)
-    | inr by_a ↦ elim (is_self_ancestor_cases L s.earlier t b up_b) [
-      | inl same ↦ inr (subst (λ x. is_self_ancestor L x a ≡ true) same up_a)
-      | inr by_b ↦
-          (let one : by_b.0 ≡ by_a.0 = one_head by_b.0 by_a.0 (sym (self_parent_only L t by_b.0 by_b.1) ∙ self_parent_only L t by_a.0 by_a.1) in
-          let before : by_a.0 < t = s.earlier.earlier t by_a.0 (Rattle.hg_model.proofs.AncestryLaws.self_parent_is_parent L t by_a.0 by_a.1) in
-          line_to k by_a.0 a b (omega arith) by_a.2 (subst (λ x. is_self_ancestor L x b ≡ true) one by_b.2))
-    ]
-  ]
-
   none_without_rows : (m : ℕ) → ((x : ℕ) → x < length L → creator L x ≢ m) → has_fork L m ≡ false
   none_without_rows m none = false_from_ne_true (has_fork L m) (λ h.
       let found = has_fork_found L m h in none found.0 found.2 found.4.first)
@@ -56,7 +38,7 @@ module _ (n : ℕ) (L : List Link) (s : IsShaped n L) where
       let a : ℕ = found.0 in
       let b : ℕ = found.1 in
       let fork : Fork L m a b = found.4 in
-      elim (line_to (suc last) last a b (omega arith) (l.above a found.2 fork.first) (l.above b found.3 fork.second)) [
+      elim (one_line L s.earlier last a b (l.above a found.2 fork.first) (l.above b found.3 fork.second)) [
         | inl above ↦ both_ways (is_self_ancestor L a b) fork.not_above above
         | inr below ↦ both_ways (is_self_ancestor L b a) fork.not_below below
       ])

@@ -9,9 +9,9 @@ use Rattle.hg_model.specs.Ancestry.{is_self_ancestor}
 use Rattle.hg_model.specs.Forks.{is_fork, has_fork, forkers}
 use Rattle.hg_model.specs.Shape.{FitsLink}
 use Rattle.hg_model.proofs.PlacesLaws.{some_below-same, weight_below-same}
-use Rattle.hg_model.proofs.ReachLaws.{reaches-same}
 use Rattle.hg_model.proofs.PushLaws.{first_of_places}
-use Rattle.hg_model.proofs.ShapeLaws.{none_there, one_there}
+use Rattle.hg_model.proofs.ReachLaws.{reaches-same, none_there, one_there}
+use Rattle.hg_model.proofs.ShapeLaws.{fits_alone}
 use Rattle.hg_forks.specs.Own.{own_link, own_link_of, own_links, OwnLinksServe}
 
 pub length-own : (L : List Link) → length (own_links L) ≡ length L
@@ -86,12 +86,7 @@ own_links_serve n L = record {
 
 -- a row on no self-parent fits where its creator is a member
 pub fits_first : (n : ℕ) (L : List Link) (m : ℕ) → m < n → FitsLink n L (own_link_of m None)
-fits_first n L m member = record {
-  member = member;
-  earlier = λ p h. absurd (none_there p h);
-  self_by_same = λ p h. absurd (none_there p h);
-  others_by_others = λ p h. absurd (none_there p h);
-}
+fits_first n L m member = fits_alone n L m member
 
 -- a row on a row by its creator fits
 pub fits_on_own : (n : ℕ) (L : List Link) (m own : ℕ) → m < n → own < length L → creator L own ≡ m → FitsLink n L (own_link_of m (Some own))

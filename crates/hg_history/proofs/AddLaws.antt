@@ -3,6 +3,7 @@ use Rattle.std.proofs.Common.{◌≡◌, inl, inr, ℕ, zero, suc, ◌+◌, ◌<
 use Rattle.std.specs.Prelude.{is_none, slice_set}
 use Rattle.std.specs.Option.{option_or}
 use Rattle.std.proofs.lemmas.Bool.{cases_lt, cases_eq, le-ltb, and_parts, false_from_ne_true, true≢false}
+use Rattle.std.proofs.Math.Bool.{and-false}
 use Rattle.std.proofs.lemmas.List.{length-set, get_or-set_same, get_or-set_other, length-take-le, ext_get_or}
 use Rattle.std.proofs.lemmas.List.FromFn.{length-map-range_with_len}
 use Rattle.std.proofs.lemmas.List.Sums.{fold-append}
@@ -21,9 +22,6 @@ use Rattle.hg_history.proofs.StateLaws.{IsEven, even_after, mark_of_table}
 keeps_mark : (mark : Option Bool) → option_or mark None ≡ mark
 keeps_mark None = refl
 keeps_mark (Some v) = refl
-
-yes_value : (o : Option Bool) (v : Bool) → o ≡ Some v → is_yes o ≡ v
-yes_value o v is = ap is_yes is
 
 module _ (marks : Marks) (fame : ℕ → Option Bool) where
   abbrev pairs : ℕ → List (ℕ × Bool)
@@ -52,11 +50,7 @@ module _ (marks : Marks) (fame : ℕ → Option Bool) where
   }
     where
       nothing : (b : Bool) (o : Option Bool) → o ≡ None → count_below k is_new ≡ count_below k is_new + cond (b && is_some o) 1 0
-      nothing b o e = (let none : cond (b && is_some o) 1 0 ≡ zero = ap (λ (p : Option Bool). cond (b && is_some p) 1 0) e ∙ never b in omega arith)
-        where
-          never : (c : Bool) → cond (c && false) 1 0 ≡ zero
-          never true = refl
-          never false = refl
+      nothing b o e = (let none : cond (b && is_some o) 1 0 ≡ zero = ap (λ (p : Option Bool). cond (b && is_some p) 1 0) e ∙ ap (λ (p : Bool). cond p 1 0) (and-false b) in omega arith)
   next k a inside is (Some v) some = record {
     sized = length-set a.marks k (option_or (mark_at a.marks k) (Some v)) ∙ is.sized;
     low = λ x below. elim (cases_eq x k) [

@@ -1,4 +1,4 @@
--- Each call of a node adds at most one event, and leaves a node
+-- Each call of a node adds at most one change, and leaves a node
 use Rattle.std.proofs.Common.{◌≡◌, inl, inr, ℕ, ◌<◌, Bool, cond, eqb, List, [], ◌∷◌, ◌++◌, length, Result, Ok, Err, sym, refl, ap, ◌∙◌, subst, arith}
 use Rattle.std.proofs.lemmas.Bool.{cases_Bool, eqb-false}
 use Rattle.std.proofs.lemmas.List.{append-nil}
@@ -21,7 +21,7 @@ use Rattle.hg_history.specs.Laws.{PutsAddOne, OtherPutsAddNone, PutsLeaveANode, 
 use Rattle.hg_history.proofs.RuleLaws.{accepted_place, made_place}
 use Rattle.hg_history.proofs.SoundLaws.{history_push}
 
--- no event, and one that may come
+-- no change, and one that may come
 
 pub with_none : {K : Type 0} (v : Shown K) (es : List Change) → es ≡ [] → with_changes v es ≡ v
 with_none {K} v es none = ap (λ (h : List Change). at h) (ap (λ (more : List Change). v.history ++ more) none ∙ append-nil v.history)

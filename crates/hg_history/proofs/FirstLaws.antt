@@ -11,11 +11,11 @@ use Rattle.hg_model.specs.Graph.{name_in, name_at, IsShaped, IsGraph}
 use Rattle.hg_model.specs.Fits.{AreHeld, IsPresent}
 use Rattle.hg_model.proofs.ForkLaws.{has_fork_found, has_fork_from, is_fork_from}
 use Rattle.hg_model.proofs.LinkLaws.{length-links, parents_below, parents-links}
-use Rattle.hg_model.proofs.LongerLaws.{IsLonger, slice_get-append, creator-longer, is_self_ancestor-longer}
+use Rattle.hg_model.proofs.LongerLaws.{IsLonger, longer-take, slice_get-append, creator-longer, is_self_ancestor-longer}
 use Rattle.hg_model.proofs.PlacesLaws.{weight_below-le}
+use Rattle.hg_model.proofs.ShapeLaws.{shaped-shorter}
 use Rattle.hg_model.proofs.PushLaws.{all_from, nobody, link_in-append}
 use Rattle.hg_history.specs.Laws.{FirstRowsAreAGraph}
-use Rattle.hg_history.proofs.FrontLaws.{longer_than_front, shaped_front}
 
 -- what is found among all rows before the end of the first ones is found there
 place_in_front : (G more : List Row) (name : List ℕ) → place_of (G ++ more) name < length G → place_of G name ≡ place_of (G ++ more) name
@@ -81,7 +81,7 @@ module _ (n : ℕ) (G more : List Row) (u : IsGraph n (G ++ more)) where
   longer : IsLonger (links G) (links (G ++ more))
   longer =
       subst (λ (L : List Link). IsLonger L (links (G ++ more))) (sym first_links)
-      (longer_than_front (length G) (links (G ++ more)) (omega (arith, length-links (G ++ more), Rattle.std.proofs.Common.length-append G more)))
+      (longer-take (links (G ++ more)) (length G) (omega (arith, length-links (G ++ more), Rattle.std.proofs.Common.length-append G more)))
 
   pub graph_front : IsGraph n G
   unfolding forkers name_at
@@ -91,7 +91,7 @@ module _ (n : ℕ) (G more : List Row) (u : IsGraph n (G ++ more)) where
           let e = Rattle.std.proofs.Common.length-append G more in
           u.distinct.one x y (omega arith) (omega arith) (ap name_in (slice_get-append G more nobody x hx) ∙ (same ∙ sym (ap name_in (slice_get-append G more nobody y hy))));
     };
-    shaped = shaped_front n (links G) (links (G ++ more)) longer u.shaped;
+    shaped = shaped-shorter n (links G) (links (G ++ more)) longer u.shaped;
     few_forkers = omega (arith, u.few_forkers, weight_below-le (λ _. 1) n (has_fork (links G)) (has_fork (links (G ++ more))) (λ m inside forks. fork_of_front n m (links G) (links (G ++ more)) longer forks));
   }
 

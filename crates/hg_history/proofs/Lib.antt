@@ -1,7 +1,6 @@
 pub mod StateLaws
 pub mod RuleLaws
 pub mod OwnLaws
-pub mod FrontLaws
 pub mod MarkLaws
 pub mod SoundLaws
 pub mod KeptLaws
@@ -16,5 +15,5 @@ pub mod FirstLaws
 mod Worked
 pub mod RoundLaws
 pub mod StayLaws
-pub mod EventLaws
+pub mod ChangeLaws
 pub mod AddLaws

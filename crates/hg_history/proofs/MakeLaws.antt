@@ -1,4 +1,4 @@
--- An event that a node makes is an event of its history
+-- An event that a node makes is a change of its history
 use Rattle.std.proofs.Common.{◌≡◌, ℕ, ◌^◌, ◌<◌, ◌≤◌, true, List, length, Option, Some, None, sym, refl, ap, ◌∙◌, subst, arith}
 use Rattle.std.specs.Prelude.{IfSome}
 use Rattle.hg_model.specs.declared.row.Row.{Row}

@@ -14,14 +14,14 @@ use Rattle.hg_model.specs.Shares.{Share, is_of_share, share_fame, early_fame}
 use Rattle.hg_model.specs.History.{State, links_with, is_late, first_mark, with_row, new_mark, with_marks}
 use Rattle.hg_model.proofs.LateLaws.{closed_mark}
 use Rattle.hg_model.proofs.LinkLaws.{length-links}
-use Rattle.hg_model.proofs.LongerLaws.{IsLonger, links-longer, coin_at-longer, round_of-longer, is_witness-longer}
+use Rattle.hg_model.proofs.LongerLaws.{IsLonger, longer-take, coin_at-take, links-longer, coin_at-longer, round_of-longer, is_witness-longer}
 use Rattle.hg_model.proofs.RoundLaws.{round_of-pos}
 use Rattle.hg_agree.proofs.LaterLaws.{fame_kept, late_is_not_famous}
 use Rattle.hg_prefix.specs.Standing.{AreFame}
 use Rattle.hg_prefix.proofs.FamousLaws.{witness_of_closed, closed_from}
 use Rattle.hg_prefix.proofs.ClosedLaws.{closed_below}
 use Rattle.hg_history.proofs.StateLaws.{IsEven, old_mark, mark_within, mark_of_table}
-use Rattle.hg_history.proofs.FrontLaws.{longer_than_front, front_coin, shaped_front}
+use Rattle.hg_model.proofs.ShapeLaws.{shaped-shorter}
 
 -- x is a witness of M, in a round that L has closed
 abbrev comes_late : ℕ → List Link → List Link → Marks → ℕ → Bool
@@ -161,10 +161,10 @@ module _ (n c : ℕ) (s : State) (g : IsGraph n s.rows) (linked : s.links ≡ li
       let le' : len ≤ length s.links = rw linked (omega (arith, length-links s.rows)) in
       let size = length-take-le len s.links le' in
       let size' = length-take-le len s.rows le in
-      let front : IsLonger L (links s.rows) = subst (IsLonger L) linked (longer_than_front len s.links le') in
+      let front : IsLonger L (links s.rows) = subst (IsLonger L) linked (longer-take s.links len le') in
       let found = share_fame_is (is_of_share n L share x) (fame_of n c L (coin_at (take len s.rows)) x) v is in
-      fame_kept n c L (links s.rows) (shaped_front n L (links s.rows) front g.shaped) g.shaped g.few_forkers front (coin_at (take len s.rows)) (coin_at s.rows)
-      (λ y inside. front_coin len s.rows y (omega arith)) x v found.1
+      fame_kept n c L (links s.rows) (shaped-shorter n L (links s.rows) front g.shaped) g.shaped g.few_forkers front (coin_at (take len s.rows)) (coin_at s.rows)
+      (λ y inside. coin_at-take s.rows len y (omega arith)) x v found.1
 
   pub fame_with_marks : AreFame n c s.rows s.marks → AreFame n c s.rows (with_marks n c s len share).marks
   fame_with_marks fame = record {

@@ -1,8 +1,7 @@
 -- The rows that a node makes are one chain, so a made row makes no fork
 use Rattle.std.proofs.Common.{◌≡◌, ◌≢◌, ◌⊎◌, inl, inr, ℕ, zero, suc, ◌<◌, ◌≤◌, Bool, true, cond, eqb, List, [], ◌∷◌, ◌++◌, length, fold, Option, Some, None, option_map, slice_get, sym, refl, ap, ◌∙◌, subst, arith}
 use Rattle.std.proofs.lemmas.Bool.{cases_Bool, cases_lt, cases_eq, both_ways, eq-eqb}
-use Rattle.std.proofs.lemmas.List.{length_push, get_or_push}
-use Rattle.std.proofs.lemmas.Option.{slice_get-get_or}
+use Rattle.std.proofs.lemmas.List.{length_push}
 use Rattle.hg_model.specs.declared.row.Row.{Row}
 use Rattle.hg_model.specs.Links.{links, creator}
 use Rattle.hg_model.specs.Forks.{has_fork, forkers}
@@ -11,21 +10,11 @@ use Rattle.hg_model.specs.Verdict.{later_name, last_name}
 use Rattle.hg_model.specs.Graph.{creator_at, creator_of_row}
 use Rattle.hg_model.proofs.ForkLaws.{has_fork_found, has_fork_from, is_fork_from}
 use Rattle.hg_model.proofs.LinkLaws.{length-links}
-use Rattle.hg_model.proofs.LongerLaws.{IsLonger, slice_get-append, links-longer, creator-longer, is_self_ancestor-longer}
+use Rattle.hg_model.proofs.LongerLaws.{IsLonger, links-longer, creator-longer, is_self_ancestor-longer}
 use Rattle.hg_model.proofs.PlacesLaws.{weight_below-le}
-use Rattle.hg_model.proofs.PushLaws.{nobody, row_creator-links}
+use Rattle.hg_model.proofs.PushLaws.{row_creator-links, slice_get-before, slice_get-last}
 use Rattle.hg_prefix.specs.Chains.{self_parent_name_in, self_parent_name, IsChain}
 use Rattle.hg_prefix.proofs.ChainLaws.{no_fork}
-
--- a row of a longer list
-
-pub before : (G : List Row) (row : Row) (x : ℕ) → x < length G → slice_get (G ++ row ∷ []) x ≡ slice_get G x
-before G row x inside = slice_get-append G (row ∷ []) nobody x inside
-
-pub last : (G : List Row) (row : Row) → slice_get (G ++ row ∷ []) (length G) ≡ Some row
-last G row =
-    slice_get-get_or (G ++ row ∷ []) (length G) nobody (omega (arith, length_push G row))
-    ∙ ap (λ (r : Row). Some r) (get_or_push G row nobody (length G) refl)
 
 -- the last name of a member is that of its last row
 
@@ -64,14 +53,14 @@ module _ (m : ℕ) (G : List Row) (row : Row) (chain : IsChain m G) (distinct : 
       (p : ℕ) × (x ≤ p) × (p < y) × (self_parent_name (G ++ row ∷ []) y ≡ Some (name_at (G ++ row ∷ []) p))
   unfolding name_at
   joined_before x y low inside by_x by_y =
-      let by_x' = sym (ap creator_of_row (before G row x (omega arith))) ∙ by_x in
-      let by_y' = sym (ap creator_of_row (before G row y inside)) ∙ by_y in
+      let by_x' = sym (ap creator_of_row (slice_get-before G row x (omega arith))) ∙ by_x in
+      let by_y' = sym (ap creator_of_row (slice_get-before G row y inside)) ∙ by_y in
       let p = chain.joined x y low inside by_x' by_y' in
       let p_low : p.0 < y = p.2 in (
         p.0,
         p.1,
         p.2,
-        ap self_parent_name_in (before G row y inside) ∙ (p.3 ∙ ap (λ (o : Option Row). Some (name_in o)) (sym (before G row p.0 (omega arith)))),
+        ap self_parent_name_in (slice_get-before G row y inside) ∙ (p.3 ∙ ap (λ (o : Option Row). Some (name_in o)) (sym (slice_get-before G row p.0 (omega arith)))),
       )
 
   -- a row by another leaves the chain
@@ -82,7 +71,7 @@ module _ (m : ℕ) (G : List Row) (row : Row) (chain : IsChain m G) (distinct : 
       | inl old ↦ joined_before x y low old by_x by_y
       | inr new ↦ (
           let at : y ≡ length G = omega (arith, length_push G row) in
-          absurd (by_other (sym (ap creator_of_row (ap (slice_get (G ++ row ∷ [])) at ∙ last G row)) ∙ by_y)))
+          absurd (by_other (sym (ap creator_of_row (ap (slice_get (G ++ row ∷ [])) at ∙ slice_get-last G row)) ∙ by_y)))
     ];
   }
 
@@ -96,13 +85,13 @@ module _ (m : ℕ) (G : List Row) (row : Row) (chain : IsChain m G) (distinct : 
       | inr new ↦ (
           let at : y ≡ length G = omega (arith, length_push G row) in
           let inside_x : x < length G = omega arith in
-          let p = last_from m G x inside_x (sym (ap creator_of_row (before G row x inside_x)) ∙ by_x) in
+          let p = last_from m G x inside_x (sym (ap creator_of_row (slice_get-before G row x inside_x)) ∙ by_x) in
           let p_low : p.0 < length G = p.2 in (
             p.0,
             p.1,
             omega arith,
-            ap self_parent_name_in (ap (slice_get (G ++ row ∷ [])) at ∙ last G row)
-                ∙ (after_last ∙ (p.3 ∙ ap (λ (o : Option Row). Some (name_in o)) (sym (before G row p.0 p_low)))),
+            ap self_parent_name_in (ap (slice_get (G ++ row ∷ [])) at ∙ slice_get-last G row)
+                ∙ (after_last ∙ (p.3 ∙ ap (λ (o : Option Row). Some (name_in o)) (sym (slice_get-before G row p.0 p_low)))),
           ))
     ];
   }
@@ -114,7 +103,7 @@ module _ (n : ℕ) (G : List Row) (row : Row) (shaped : IsShaped n (links G)) wh
   longer = links-longer n G (row ∷ []) shaped
 
   last_creator : creator (links (G ++ row ∷ [])) (length G) ≡ row.creator
-  last_creator = row_creator-links (G ++ row ∷ []) (length G) ∙ ap creator_of_row (last G row)
+  last_creator = row_creator-links (G ++ row ∷ []) (length G) ∙ ap creator_of_row (slice_get-last G row)
 
   within : (m x : ℕ) → m ≢ row.creator → x < length (links (G ++ row ∷ [])) → creator (links (G ++ row ∷ [])) x ≡ m → x < length (links G)
   within m x other inside by =

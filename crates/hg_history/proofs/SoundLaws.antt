@@ -159,7 +159,7 @@ pub rest : (accepts : Accepts) (n c own : ℕ) (a b : List Change) → IsHistory
 unfolding replay
 rest accepts n c own a b is = steps_rest accepts n c own empty a b is.steps
 
--- an event that may come
+-- a change that may come
 pub history_push : (accepts : Accepts) (n c own : ℕ) (h : List Change) (e : Change) → IsHistory accepts n c own h → IsStep accepts n c own (replay n c h) e → IsHistory accepts n c own (h ++ e ∷ [])
 unfolding replay
 history_push accepts n c own h e is may = record { member = is.member; steps = steps_push accepts n c own empty h e is.steps may }

@@ -40,9 +40,11 @@ IsRow (Took row) = Unit {0}
 IsRow (Made row) = Unit {0}
 IsRow (Marked len share) = ⊥
 
+-- after each history the rows are such a graph
 abbrev pub RowsAreAGraph : Type 0
 RowsAreAGraph = (accepts : Accepts) (n c own : ℕ) (h : List Change) → 2 < c → IsHistory accepts n c own h → IsNodeGraph accepts n own (replay n c h).rows
 
+-- and the links, made as the rows came, are those of the rows
 abbrev pub LinksAreThoseOfTheRows : Type 0
 LinksAreThoseOfTheRows = (accepts : Accepts) (n c own : ℕ) (h : List Change) → 2 < c → IsHistory accepts n c own h → (replay n c h).links ≡ links (replay n c h).rows
 
@@ -180,11 +182,12 @@ abbrev pub PutsLeaveANode : (K : Type 0) → Type 0
 PutsLeaveANode K = (accepts : K → Accepts) (v : Shown K) (bytes : List ℕ) → ((i : ℕ) → get_or bytes i 0 < 256) → IsNode accepts v →
     IsNode accepts (with_changes v (put_changes accepts v bytes))
 
--- so does an event that is made add one change
+-- an event that is made adds one change, its row, at the next place
 abbrev pub MakesAddOne : (K : Type 0) → Type 0
 MakesAddOne K = (v : Shown K) (other : Option (List ℕ)) (time : ℕ) (payload sig : List ℕ) (place : ℕ) → make_answer v other time payload sig ≡ made.Made place →
     (place ≡ length (graph_of v)) × (make_changes v other time payload sig ≡ Made (made_row v.start.own (graph_of v) other time payload sig) ∷ [])
 
+-- one that is refused adds none
 abbrev pub OtherMakesAddNone : (K : Type 0) → Type 0
 OtherMakesAddNone K = (v : Shown K) (other : Option (List ℕ)) (time : ℕ) (payload sig : List ℕ) → ((place : ℕ) → make_answer v other time payload sig ≡ made.Made place → ⊥) →
     make_changes v other time payload sig ≡ []

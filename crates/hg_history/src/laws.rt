@@ -67,14 +67,14 @@ pub fn log_tells_history()
     ensures { LogTellsHistory }
 {}
 
-/// A law of nodes with any keys: bytes that are accepted add one event, others none, and both leave a node.
+/// A law of nodes with any keys: bytes that are accepted add one change, others none, and both leave a node.
 pub fn puts_add_one<K>()
     ensures one { PutsAddOne K }
     ensures none { OtherPutsAddNone K }
     ensures node { PutsLeaveANode K }
 {}
 
-/// A law of nodes with any keys: to make an event adds one event, a refusal none, and both leave a node.
+/// A law of nodes with any keys: to make an event adds one change, a refusal none, and both leave a node.
 pub fn makes_add_one<K>()
     ensures one { MakesAddOne K }
     ensures none { OtherMakesAddNone K }

@@ -1,4 +1,4 @@
-//! Laws of histories: what the rows, links, marks and kept order of a node are after any events that may come.
+//! Laws of histories: what the rows, links, marks and kept order of a node are after any changes that may come.
 //! Each law is the contract of a function without a body; its statement stands in `specs/`.
 //! The layers above use that a kept order only grows, and that each mark is the fame of the graph: `order_grows`.
 #![tactic(auto)]

@@ -2,22 +2,23 @@
 use Rattle.std.proofs.Common.{◌≡◌, inl, inr, ℕ, zero, suc, ◌+◌, ◌-◌, ◌<◌, ◌≤◌, Bool, true, false, cond, ◌&&◌, not, max, leb, eqb, List, [], ◌∷◌, ◌++◌, length, map, get_or, sym, refl, ap, ap₂, ◌∙◌, subst, arith, add-one, append_assoc, length-append}
 use Rattle.std.specs.Prelude.{All, filter}
 use Rattle.std.specs.List.{AllByRecursion, range_with_len, list_all}
-use Rattle.std.proofs.lemmas.Bool.{cases_Bool, cases_eq, and_parts, false_from_ne_true}
-use Rattle.std.proofs.lemmas.List.{append-nil, length-map}
+use Rattle.std.proofs.lemmas.Bool.{cases_eq, and_parts, false_from_ne_true}
+use Rattle.std.proofs.Math.Bool.{and-true, and-false}
+use Rattle.std.proofs.lemmas.List.{append-nil}
 use Rattle.std.proofs.lemmas.List.Elements.{All-from_recursion, All-append}
 use Rattle.std.proofs.lemmas.List.FromFn.{length-range_with_len, get_or-range_with_len}
-use Rattle.hg_model.specs.declared.row.Row.{Row}
 use Rattle.hg_model.specs.declared.row.Placed.{Placed}
 use Rattle.hg_model.specs.Places.{list_below}
 use Rattle.hg_model.specs.Links.{Link}
 use Rattle.hg_model.specs.Ancestry.{is_ancestor}
 use Rattle.hg_model.specs.Fame.{Marks, is_closed, is_unique_famous}
-use Rattle.hg_model.specs.Order.{sort_by, insert_by, comes_before, keyed_at, is_received_in, ordered_in, can_receive, famous_places}
+use Rattle.hg_model.specs.Order.{sort_by, comes_before, keyed_at, is_received_in, ordered_in, can_receive, famous_places}
 use Rattle.hg_model.specs.Prefix.{Graph, links_of}
 use Rattle.hg_model.specs.Kept.{kept_up_to}
 use Rattle.hg_model.proofs.AncestryLaws.{is_ancestor-le}
 use Rattle.hg_model.proofs.LinkLaws.{length-links}
-use Rattle.hg_model.proofs.ListLaws.{map-list_below, all_list_below, filter-list_below, length-list_below-le}
+use Rattle.hg_model.proofs.OrderLaws.{length-ordered_in, length-ordered_in-le}
+use Rattle.hg_model.proofs.ListLaws.{all_list_below, filter-list_below, length-list_below-le}
 use Rattle.hg_model.proofs.PlacesLaws.{list_below-same, list_below-longer}
 use Rattle.hg_history.proofs.RoundLaws.{up_to_is}
 use Rattle.hg_order.specs.Famous.{famous_of, AreFamous, all_have, IsBelowAll}
@@ -63,34 +64,6 @@ famous_first g famous are some =
     (subst (AllByRecursion (λ x. x < length L)) (sym are.are) (all_list_below (λ x. x < length L) (λ x. x) (length L) (is_unique_famous g.members L are.marks are.round) (λ x inside passes. inside)))
     0 0 some
 
--- how many rows are ordered
-
-module _ {A : Type 0} (less : A → A → Bool) where
-  length-inserted : (x : A) (xs : List A) → length (insert_by less x xs) ≡ suc (length xs)
-  length-inserted x [] = refl
-  length-inserted x (y ∷ ys) = elim (cases_Bool (less y x)) [
-    | inl before ↦ (rw before (ap suc (length-inserted x ys)))
-    | inr after ↦ (rw after refl)
-  ]
-
-  length-sorted : (xs : List A) → length (sort_by less xs) ≡ length xs
-  unfolding sort_by
-  length-sorted [] = refl
-  length-sorted (x ∷ xs) = length-inserted x (sort_by less xs) ∙ ap suc (length-sorted xs)
-
-module _ (n : ℕ) (G : List Row) (L : List Link) (marks : Marks) (test : ℕ → Bool) where
-  length-ordered : length (ordered_in n G L marks test) ≡ length (list_below (λ x. x) (length L) (is_received_in n L marks test))
-  unfolding ordered_in
-  length-ordered =
-      let rows = list_below (keyed_at n G L marks) (length L) (is_received_in n L marks test) in
-      length-map (sort_by comes_before rows) (λ (keyed : List ℕ × Placed). keyed.1)
-      ∙ (length-sorted comes_before rows
-      ∙ (ap length (sym (map-list_below (keyed_at n G L marks) (λ x. x) (length L) (is_received_in n L marks test)))
-      ∙ length-map (list_below (λ x. x) (length L) (is_received_in n L marks test)) (keyed_at n G L marks)))
-
-  length-ordered-le : length (ordered_in n G L marks test) ≤ length L
-  length-ordered-le = (let e = length-ordered in omega (arith, length-list_below-le (λ x. x) (length L) (is_received_in n L marks test)))
-
 module _ (g : Graph) (marks : Marks) (closed : ℕ) (order : List Placed) (w : Waiting) (keeps : KeepsUpTo g (published_as marks closed order w)) where
   abbrev n : ℕ
   n = g.members
@@ -118,20 +91,12 @@ module _ (g : Graph) (marks : Marks) (closed : ℕ) (order : List Placed) (w : W
     none_received : length (famous_of g marks (closed + 1)) ≡ 0 → (x : ℕ) → is_received_in n L marks (λ k. eqb k (closed + 1)) x ≡ false
     none_received none x =
         fresh_next g marks keeps.graph.shaped.earlier closed x
-        ∙ (ap (λ (b : Bool). is_pending g marks closed x && b) (none_receive n L marks (closed + 1) none x) ∙ nothing (is_pending g marks closed x))
-      where
-        nothing : (b : Bool) → (b && false) ≡ false
-        nothing true = refl
-        nothing false = refl
+        ∙ (ap (λ (b : Bool). is_pending g marks closed x && b) (none_receive n L marks (closed + 1) none x) ∙ and-false (is_pending g marks closed x))
 
     waits_on : length (famous_of g marks (closed + 1)) ≡ 0 → (x : ℕ) → is_pending g marks (closed + 1) x ≡ is_pending g marks closed x
     waits_on none x =
         pending_next g marks keeps.graph.shaped.earlier closed x
-        ∙ (ap (λ (b : Bool). is_pending g marks closed x && not b) (none_receive n L marks (closed + 1) none x) ∙ all_of (is_pending g marks closed x))
-      where
-        all_of : (b : Bool) → (b && true) ≡ b
-        all_of true = refl
-        all_of false = refl
+        ∙ (ap (λ (b : Bool). is_pending g marks closed x && not b) (none_receive n L marks (closed + 1) none x) ∙ and-true (is_pending g marks closed x))
 
     order_next : (more : List Placed) → more ≡ received_order g marks (closed + 1) → order ++ more ≡ kept_up_to n (state_by g marks) (closed + 1)
     unfolding kept_up_to
@@ -196,11 +161,7 @@ module _ (g : Graph) (marks : Marks) (closed : ℕ) (order : List Placed) (w : W
 
         not_past : (x : ℕ) → w'.looked ≤ x → is_received_in n L marks (λ k. eqb k (closed + 1)) x ≡ false
         not_past x past =
-            fresh_test x ∙ (ap (λ (b : Bool). is_pending g marks closed x && b) (past_first x (omega arith)) ∙ nothing (is_pending g marks closed x))
-          where
-            nothing : (b : Bool) → (b && false) ≡ false
-            nothing true = refl
-            nothing false = refl
+            fresh_test x ∙ (ap (λ (b : Bool). is_pending g marks closed x && b) (past_first x (omega arith)) ∙ and-false (is_pending g marks closed x))
 
         pub fresh_are : w'.fresh ≡ received_places g marks (closed + 1)
         fresh_are =
@@ -227,9 +188,9 @@ module _ (g : Graph) (marks : Marks) (closed : ℕ) (order : List Placed) (w : W
             let upto : ℕ → Bool = λ k. leb k (closed + 1) in
             let more = order_next (received_order g marks (closed + 1)) refl ∙ sym (up_to_is n s keeps.graph.shaped.earlier (closed + 1)) in
             let sized = ap length more in
-            let counted = length-ordered n g.rows L marks (λ k. eqb k (closed + 1)) in
+            let counted = length-ordered_in n g.rows L marks (λ k. eqb k (closed + 1)) in
             let e = ap length fresh_are in
-            omega (arith, length-append order (received_order g marks (closed + 1)), length-ordered-le n g.rows L marks upto)
+            omega (arith, length-append order (received_order g marks (closed + 1)), length-ordered_in-le n g.rows L marks upto)
 
         pub keeps_next : (more : List Placed) → more ≡ order ++ received_order g marks (closed + 1) → KeepsUpTo g (published_as marks (closed + 1) more w')
         keeps_next more is = record {

@@ -1,8 +1,9 @@
 -- The laws of comparisons made of comparisons
-use Rattle.std.proofs.Common.{◌≡◌, ℕ, ◌≤◌, true, List, [], ◌∷◌, ◌++◌, length, nat_cmp, is_lt, is_eq, Ordering, refl, sym, ap, ◌∙◌, arith}
+use Rattle.std.proofs.Common.{◌≡◌, ℕ, ◌<◌, ◌≤◌, true, false, ltb, eqb, List, [], ◌∷◌, ◌++◌, length, get_or, nat_cmp, is_lt, is_eq, Ordering, refl, sym, ap, ◌∙◌, arith}
 use Rattle.std.specs.declared.cmp.Ordering.TheVariants.{Less, Equal, Greater}
 use Rattle.std.specs.Ordering.{ordering_then}
 use Rattle.std.specs.Cmp.Lexicographic.{slice_cmp}
+use Rattle.std.proofs.lemmas.Bool.{lt-ltb, le-ltb, ne_eqb}
 use Rattle.std.proofs.lemmas.Cmp.{ranked}
 use Rattle.std.proofs.lemmas.Slice.Eq.{bytes_eq-Decides}
 use Rattle.std.proofs.lemmas.Map.Text.{is_eq-slice_cmp}
@@ -21,6 +22,16 @@ slice_cmp-append (x ∷ xs) [] us vs same = absurd (omega arith)
 slice_cmp-append (x ∷ xs) (y ∷ ys) us vs same =
     ap (ordering_then (nat_cmp x y)) (slice_cmp-append xs ys us vs (omega arith))
     ∙ sym (then_assoc (nat_cmp x y) (slice_cmp nat_cmp xs ys) (slice_cmp nat_cmp us vs))
+
+-- the list with the lesser first number comes first
+pub lesser_first : (xs ys : List ℕ) → get_or xs 0 0 < get_or ys 0 0 → (is_lt (slice_cmp nat_cmp xs ys) ≡ true) × (is_lt (slice_cmp nat_cmp ys xs) ≡ false)
+lesser_first xs [] lower = absurd (omega arith)
+lesser_first [] (y ∷ ys) lower = (refl, refl)
+lesser_first (x ∷ xs) (y ∷ ys) lower =
+    let less : ltb x y ≡ true = lt-ltb x y lower in
+    let not_less : ltb y x ≡ false = le-ltb y x (omega arith) in
+    let differ : eqb y x ≡ false = ne_eqb y x (λ e. absurd (omega arith)) in
+    (rw less refl, rw (not_less, differ) refl)
 
 -- a last comparison that is not less does not make a comparison less
 pub is_lt-then : (o : Ordering) (a b : ℕ) → b ≤ a → is_lt (ordering_then o (nat_cmp a b)) ≡ is_lt o

@@ -1,12 +1,12 @@
 -- The laws of forks
 use Rattle.std.proofs.Common.{◌≡◌, ◌≢◌, ℕ, zero, suc, ◌+◌, ◌<◌, ◌≤◌, true, false, not, ◌&&◌, eqb, List, [], ◌∷◌, length, sym, refl, ap, ◌∙◌, subst, inl, inr, ◌⊎◌, arith}
-use Rattle.std.proofs.lemmas.Bool.{cases_Bool, cases_eq, and_parts, and_from, or_cases, eqb-true, eq-eqb, not-true, not_from_false, both_ways, false_from_ne_true, true≢false}
+use Rattle.std.proofs.lemmas.Bool.{cases_Bool, cases_eq, and_parts, and_from, eqb-true, eq-eqb, not-true, not_from_false, both_ways, false_from_ne_true}
 use Rattle.hg_model.specs.Places.{has_place, some_below, IsEarlier}
 use Rattle.hg_model.specs.Links.{Link, parents, self_parent, first_place, creator}
 use Rattle.hg_model.specs.Ancestry.{is_ancestor, is_self_ancestor, some_ancestor}
 use Rattle.hg_model.specs.Forks.{is_fork, has_fork_below, has_fork}
 use Rattle.hg_model.proofs.PlacesLaws.{some_below_from, some_below_found, some_below_none}
-use Rattle.hg_model.proofs.ReachLaws.{has_place_first}
+use Rattle.hg_model.proofs.ReachLaws.{has_place_first, none_there, one_there}
 use Rattle.hg_model.proofs.AncestryLaws.{self_parent_is_parent, is_self_ancestor_self, is_self_ancestor_by, is_self_ancestor_cases, is_self_ancestor-le}
 
 -- what a fork is
@@ -86,18 +86,35 @@ pub self_parent_cases : (L : List Link) (x : ℕ) → (self_parent L x ≡ []) �
 unfolding self_parent
 self_parent_cases L x = one_place (parents L x)
 
-single_has : (p q : ℕ) → has_place (p ∷ []) q ≡ true → p ≡ q
-single_has p q h = elim (or_cases (eqb p q) (has_place [] q) h) [
-  | inl same ↦ eqb-true p q same
-  | inr none ↦ absurd (true≢false (sym none))
-]
-
 pub self_parent_only : (L : List Link) (x p : ℕ) → has_place (self_parent L x) p ≡ true → self_parent L x ≡ p ∷ []
 self_parent_only L x p h = elim (self_parent_cases L x) [
-  | inl none ↦ absurd (true≢false (sym h ∙ ap (λ ps. has_place ps p) none))
-  | inr one ↦ (let same : one.0 ≡ p = single_has one.0 p (subst (λ ps. has_place ps p ≡ true) one.1 h) in
+  | inl none ↦ absurd (none_there p (subst (λ ps. has_place ps p ≡ true) none h))
+  | inr one ↦ (let same : one.0 ≡ p = one_there one.0 p (subst (λ ps. has_place ps p ≡ true) one.1 h) in
       one.1 ∙ ap (λ (q : ℕ). q ∷ []) same)
 ]
+
+pub self_parent_one : (L : List Link) (x p q : ℕ) → has_place (self_parent L x) p ≡ true → has_place (self_parent L x) q ≡ true → p ≡ q
+self_parent_one L x p q on_p on_q = one_there p q (subst (λ ps. has_place ps q ≡ true) (self_parent_only L x p on_p) on_q)
+
+module _ (L : List Link) (e : IsEarlier (parents L)) where
+  one_line_to : (k t a b : ℕ) → t < k → is_self_ancestor L t a ≡ true → is_self_ancestor L t b ≡ true →
+      (is_self_ancestor L a b ≡ true) ⊎ (is_self_ancestor L b a ≡ true)
+  one_line_to zero t a b h up_a up_b = absurd (omega arith)
+  one_line_to (suc k) t a b h up_a up_b = elim (is_self_ancestor_cases L e t a up_a) [
+    | inl same ↦ inl (subst (λ x. is_self_ancestor L x b ≡ true) same up_b)
+    | inr by_a ↦ elim (is_self_ancestor_cases L e t b up_b) [
+      | inl same ↦ inr (subst (λ x. is_self_ancestor L x a ≡ true) same up_a)
+      | inr by_b ↦
+          (let one = self_parent_one L t by_b.0 by_a.0 by_b.1 by_a.1 in
+          let before : by_a.0 < t = e.earlier t by_a.0 (self_parent_is_parent L t by_a.0 by_a.1) in
+          one_line_to k by_a.0 a b (omega arith) by_a.2 (subst (λ x. is_self_ancestor L x b ≡ true) one by_b.2))
+    ]
+  ]
+
+  -- of two self-ancestors of one row, one is a self-ancestor of the other
+  pub one_line : (t a b : ℕ) → is_self_ancestor L t a ≡ true → is_self_ancestor L t b ≡ true →
+      (is_self_ancestor L a b ≡ true) ⊎ (is_self_ancestor L b a ≡ true)
+  one_line t a b up_a up_b = one_line_to (suc t) t a b (omega arith) up_a up_b
 
 module _ (L : List Link) (e : IsEarlier (parents L)) (own : (x p : ℕ) → has_place (self_parent L x) p ≡ true → creator L p ≡ creator L x) where
   self_parent_before : (x p : ℕ) → has_place (self_parent L x) p ≡ true → p < x

@@ -65,9 +65,6 @@ pub self_parent-links : (G : List Row) (x : ℕ) (row : Row) → x < length G �
 unfolding self_parent
 self_parent-links G x row h is = ap first_place (parents-links G x row h is)
 
-same_bytes : (xs ys : List ℕ) → bytes_eq xs ys ≡ true → xs ≡ ys
-same_bytes xs ys h = (bytes_eq-Decides xs ys).0 h
-
 -- rows found by two names at one place have one name
 pub same_place-same_name : (G : List Row) (a b : List ℕ) → place_of G a < length G → place_of G a ≡ place_of G b → a ≡ b
 same_place-same_name G a b h same = elim (slice_get_cases G (place_of G a)).1 [
@@ -77,6 +74,6 @@ same_place-same_name G a b h same = elim (slice_get_cases G (place_of G a)).1 [
       let inside : place_of G b < length G = rw (← same) h in
       let read : get_or G (place_of G b) row ≡ row = rw (← same) here.3 in
       let by_b : bytes_eq row.name b ≡ true = subst (λ r. is_named b r ≡ true) read (passes_at_first (is_named b) G row inside) in
-      sym (same_bytes row.name a by_a) ∙ same_bytes row.name b by_b)
+      sym ((bytes_eq-Decides row.name a).0 by_a) ∙ (bytes_eq-Decides row.name b).0 by_b)
   | inr past ↦ absurd (omega (arith, past.0))
 ]

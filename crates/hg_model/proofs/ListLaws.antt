@@ -1,9 +1,11 @@
 -- The laws of lists of what stands at places
 use Rattle.std.proofs.Common.{◌≡◌, ℕ, zero, suc, ◌+◌, ◌<◌, ◌≤◌, length, Bool, true, false, cond, ◌&&◌, ◌||◌, not, eqb, List, [], ◌∷◌, ◌++◌, map, sum_by, count_by, sym, refl, ap, ap₂, ◌∙◌, inl, inr, arith, zero-add}
 use Rattle.std.specs.List.{AllByRecursion, list_any, list_all, filter}
+use Rattle.std.proofs.Math.Bool.{or-false}
 use Rattle.std.proofs.lemmas.Bool.{cases_Bool, not_from_false, ne_eqb, or_right}
 use Rattle.std.proofs.lemmas.List.{map-append, append-nil, length-append, length_push}
 use Rattle.std.proofs.lemmas.List.Elements.{filter-append}
+use Rattle.std.proofs.lemmas.List.Folds.{list_any-append}
 use Rattle.std.proofs.lemmas.List.Sums.{sum_by-append}
 use Rattle.hg_model.specs.Places.{weight_below, count_below, some_below, list_below}
 use Rattle.hg_model.proofs.SortLaws.{IsPairwise, IsPairwise-push}
@@ -86,17 +88,6 @@ all_list_below P value (suc n) test at = pushed (test n) refl (all_list_below P 
     pushed true e before = joined _ _ before (at n (omega arith) e, tt)
     pushed false e before = joined _ _ before tt
 
-or_false : (b : Bool) → (b || false) ≡ b
-or_false true = refl
-or_false false = refl
-
-list_any-append : {A : Type 0} (test : A → Bool) (xs ys : List A) → list_any test (xs ++ ys) ≡ (list_any test xs || list_any test ys)
-list_any-append test [] ys = refl
-list_any-append test (x ∷ xs) ys = elim (cases_Bool (test x)) [
-  | inl passes ↦ rw (passes) refl
-  | inr fails ↦ rw (fails, list_any-append test xs ys) refl
-]
-
 -- some element of a list of places passes where some place does
 pub list_any-list_below : (passes : ℕ → Bool) (n : ℕ) (test : ℕ → Bool) → list_any passes (list_below (λ k. k) n test) ≡ some_below n (λ k. test k && passes k)
 unfolding list_below some_below
@@ -106,7 +97,7 @@ list_any-list_below passes (suc n) test =
     ∙ ap₂ (λ a b. a || b) (list_any-list_below passes n test) (last (test n) (passes n))
   where
     last : (a b : Bool) → list_any passes (cond a (n ∷ []) []) ≡ (a && passes n)
-    last true b = or_false (passes n)
+    last true b = or-false (passes n)
     last false b = refl
 
 list_all-from_any : {A : Type 0} (test : A → Bool) (xs : List A) → list_all test xs ≡ not (list_any (λ x. not (test x)) xs)
@@ -142,5 +133,5 @@ none-list_below value (suc n) test = elim (cases_Bool (test n)) [
   | inl passes ↦ (let some : not (eqb (length (list_below value n test ++ value n ∷ [])) 0) ≡ true =
       not_from_false _ (ne_eqb _ _ (λ e. absurd (omega (arith, e, length_push (list_below value n test) (value n))))) in
       rw passes (some ∙ sym (or_right (some_below n test) true refl)))
-  | inr fails ↦ rw (fails, append-nil (list_below value n test)) (none-list_below value n test ∙ sym (or_false (some_below n test)))
+  | inr fails ↦ rw (fails, append-nil (list_below value n test)) (none-list_below value n test ∙ sym (or-false (some_below n test)))
 ]

@@ -55,6 +55,10 @@ pub coin_at-longer : (G more : List Row) (x : ℕ) → x < length G → coin_at 
 unfolding coin_at Rattle.hg_model.specs.Order.sig_at
 coin_at-longer G more x h = ap (λ row. middle_bit (sig_in row)) (slice_get-append G more nobody x h)
 
+pub coin_at-take : (G : List Row) (len x : ℕ) → x < length (take len G) → coin_at G x ≡ coin_at (take len G) x
+coin_at-take G len x h =
+    subst (λ (H : List Row). coin_at H x ≡ coin_at (take len G) x) (take-append-drop len G) (coin_at-longer (take len G) (drop len G) x h)
+
 module _ (L M : List Link) (longer : IsLonger L M) where
   pub parents-longer : (x : ℕ) → x < length L → parents M x ≡ parents L x
   unfolding parents

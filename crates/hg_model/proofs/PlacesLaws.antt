@@ -157,6 +157,16 @@ weight_below_grows weight n (suc m) one two le h = elim (cases_lt m n) [
   | inr fewer ↦ omega (arith, weight_below_grows weight n m one two (omega arith) h)
 ]
 
+-- where no later place passes, the weight is that of the first places
+pub weight_below-longer : (weight : ℕ → ℕ) (len n : ℕ) (test : ℕ → Bool) → len ≤ n → ((k : ℕ) → len ≤ k → k < n → test k ≡ false) →
+    weight_below weight n test ≡ weight_below weight len test
+unfolding weight_below
+weight_below-longer weight len zero test le none = (let same : len ≡ 0 = omega arith in rw same refl)
+weight_below-longer weight len (suc n) test le none = elim (cases_lt n len) [
+  | inl all ↦ (let same : len ≡ suc n = omega arith in rw same refl)
+  | inr later ↦ rw (none n later (omega arith)) (omega (arith, weight_below-longer weight len n test later (λ k from h. none k from (omega arith))))
+]
+
 pub weight_below-all : (weight : ℕ → ℕ) (n : ℕ) (test : ℕ → Bool) → weight_below weight n test ≤ weight_below weight n (λ _. true)
 weight_below-all weight n test = weight_below-le weight n test (λ _. true) (λ k l e. refl)
 

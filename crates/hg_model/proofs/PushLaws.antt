@@ -97,19 +97,20 @@ pub later_of_places : (ps : List ℕ) (p : ℕ) → has_place (later_places ps) 
 later_of_places [] p h = h
 later_of_places (q ∷ ps) p h = or_right (eqb q p) (has_place ps p) h
 
-pub nowhere : Link
-nowhere = record { creator = 0; parents = [] }
+-- what stands in a list with one element more
+
+pub slice_get-before : {A : Type 0} (xs : List A) (y : A) (x : ℕ) → x < length xs → slice_get (xs ++ y ∷ []) x ≡ slice_get xs x
+slice_get-before {A} xs y x inside =
+    slice_get-get_or (xs ++ y ∷ []) x y (omega (arith, length_push xs y))
+    ∙ (ap (λ (a : A). Some a) (get_or_append_left xs (y ∷ []) y x inside) ∙ sym (slice_get-get_or xs x y inside))
+
+pub slice_get-last : {A : Type 0} (xs : List A) (y : A) → slice_get (xs ++ y ∷ []) (length xs) ≡ Some y
+slice_get-last {A} xs y =
+    slice_get-get_or (xs ++ y ∷ []) (length xs) y (omega (arith, length_push xs y)) ∙ ap (λ (a : A). Some a) (get_or_push xs y y (length xs) refl)
 
 module _ (n : ℕ) (L : List Link) (link : Link) where
-  before_is : (x : ℕ) → x < length L → slice_get (L ++ link ∷ []) x ≡ slice_get L x
-  before_is x inside =
-      slice_get-get_or (L ++ link ∷ []) x nowhere (omega (arith, length_push L link))
-      ∙ (ap (λ (l : Link). Some l) (get_or_append_left L (link ∷ []) nowhere x inside) ∙ sym (slice_get-get_or L x nowhere inside))
-
   last_is : (x : ℕ) → x ≡ length L → slice_get (L ++ link ∷ []) x ≡ Some link
-  last_is x last =
-      slice_get-get_or (L ++ link ∷ []) x nowhere (omega (arith, length_push L link))
-      ∙ ap (λ (l : Link). Some l) (ap (λ (k : ℕ). get_or (L ++ link ∷ []) k nowhere) last ∙ get_or_push L link nowhere (length L) refl)
+  last_is x last = ap (slice_get (L ++ link ∷ [])) last ∙ slice_get-last L link
 
   after_is : (x : ℕ) → length L < x → slice_get (L ++ link ∷ []) x ≡ None
   after_is x after = slice_get_past (L ++ link ∷ []) x (omega (arith, length_push L link))
@@ -118,7 +119,7 @@ module _ (n : ℕ) (L : List Link) (link : Link) where
   parent_cases : (pick : List ℕ → List ℕ) → (pick [] ≡ []) → (x p : ℕ) → has_place (pick (parents_in (slice_get (L ++ link ∷ []) x))) p ≡ true →
       ((x < length L) × (has_place (pick (parents_in (slice_get L x))) p ≡ true)) ⊎ ((x ≡ length L) × (has_place (pick link.parents) p ≡ true))
   parent_cases pick none x p h = elim (cases_last (length L) x) [
-    | inl before ↦ inl (before, subst (λ (o : Option Link). has_place (pick (parents_in o)) p ≡ true) (before_is x before) h)
+    | inl before ↦ inl (before, subst (λ (o : Option Link). has_place (pick (parents_in o)) p ≡ true) (slice_get-before L link x before) h)
     | inr rest ↦ elim rest [
       | inl last ↦ inr (last, subst (λ (o : Option Link). has_place (pick (parents_in o)) p ≡ true) (last_is x last) h)
       | inr after ↦ (
@@ -130,7 +131,7 @@ module _ (n : ℕ) (L : List Link) (link : Link) where
 
   pub creator_before : (x : ℕ) → x < length L → creator (L ++ link ∷ []) x ≡ creator L x
   unfolding creator
-  creator_before x inside = ap creator_in (before_is x inside)
+  creator_before x inside = ap creator_in (slice_get-before L link x inside)
 
   pub creator_last : (x : ℕ) → x ≡ length L → creator (L ++ link ∷ []) x ≡ link.creator
   unfolding creator

@@ -1,6 +1,7 @@
 -- Weights of several sets: two quorums meet, and places of different members weigh no more than their members
 use Rattle.std.proofs.Common.{◌≡◌, ℕ, zero, suc, ◌+◌, ◌*◌, ◌<◌, ◌≤◌, Bool, true, false, cond, not, ◌&&◌, ◌||◌, eqb, sym, refl, ◌∙◌, inl, inr, arith}
 use Rattle.std.proofs.lemmas.Bool.{and_parts, cases_Bool, cases_eq, eq-eqb, eqb-true, ne_eqb, not-true}
+use Rattle.std.proofs.Math.Bool.{or-false}
 use Rattle.hg_model.specs.Places.{weight_below, some_below}
 use Rattle.hg_model.proofs.PlacesLaws.{some_below_found, weight_below-same, weight_below-le, weight_below_found, weight_below_none, weight_below-all}
 
@@ -61,10 +62,6 @@ weight_below_one weight (suc n) a h = elim (cases_eq a n) [
 abbrev pub members_with : (ℕ → ℕ) → ℕ → (ℕ → Bool) → ℕ → Bool
 members_with creator bound test m = some_below bound (λ x. test x && eqb (creator x) m)
 
-or_no : (b : Bool) → (b || false) ≡ b
-or_no true = refl
-or_no false = refl
-
 -- places of different members weigh no more than these members
 pub weight_below-members : (weight creator : ℕ → ℕ) (n bound : ℕ) (test : ℕ → Bool) →
     ((x : ℕ) → x < bound → test x ≡ true → creator x < n) →
@@ -94,6 +91,6 @@ weight_below-members weight creator n (suc bound) test fits apart =
           omega (arith, before, here, single, fresh, union, is))
       | inr fails ↦
           (let here : cond (test bound) (weight m) 0 ≡ 0 = rw fails refl in
-          let is : weight_below weight n old ≡ weight_below weight n all = weight_below-same weight n old all (λ k h. rw fails (sym (or_no (old k)))) in
+          let is : weight_below weight n old ≡ weight_below weight n all = weight_below-same weight n old all (λ k h. rw fails (sym (or-false (old k)))) in
           omega (arith, before, here, is))
     ]

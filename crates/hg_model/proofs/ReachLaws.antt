@@ -13,6 +13,12 @@ has_place_first p ps = or_left (eqb p p) (has_place ps p) (eq-eqb p p refl)
 pub has_place_later : (p q : ℕ) (ps : List ℕ) → has_place ps q ≡ true → has_place (p ∷ ps) q ≡ true
 has_place_later p q ps h = or_right (eqb p q) (has_place ps q) h
 
+pub none_there : (p : ℕ) → has_place [] p ≡ true → ⊥
+none_there p h = true≢false (sym h)
+
+pub one_there : (a p : ℕ) → has_place (a ∷ []) p ≡ true → a ≡ p
+one_there a p h = elim (or_cases (eqb a p) (has_place [] p) h) [ inl same ↦ eqb-true a p same | inr none ↦ absurd (none_there p none) ]
+
 pub list_any-same : (one two : ℕ → Bool) (ps : List ℕ) → ((p : ℕ) → has_place ps p ≡ true → one p ≡ two p) → list_any one ps ≡ list_any two ps
 list_any-same one two [] same = refl
 list_any-same one two (p ∷ ps) same =

@@ -3,7 +3,7 @@ use Rattle.std.proofs.Common.{◌≡◌, inl, inr, ℕ, ◌<◌, ◌≤◌, Bool
 use Rattle.std.specs.Prelude.{nat_le, nat_lt}
 use Rattle.std.specs.Option.{option_or}
 use Rattle.std.proofs.lemmas.Bool.Decides.{nat_tests}
-use Rattle.std.proofs.lemmas.Bool.{cases_Bool, eqb-true, eqb-false, ltb-true}
+use Rattle.std.proofs.lemmas.Bool.{cases_Bool, eqb-true, eqb-false, ltb-true, not-true, not-false}
 use Rattle.hg_model.specs.declared.row.Row.{Row}
 use Rattle.hg_model.specs.Links.{parent_names, place_of}
 use Rattle.hg_model.specs.Graph.{HasDistinctNames}
@@ -43,14 +43,6 @@ else_speaks s t x y none = elim (cases_Bool s) [
       ])
 ]
 
-not_false : (t : Bool) → not t ≡ false → t ≡ true
-not_false true h = refl
-not_false false h = sym h
-
-not_true : (t : Bool) → not t ≡ true → t ≡ false
-not_true true h = sym h
-not_true false h = refl
-
 pub below_from_test : (a b : ℕ) → nat_le a b ≡ false → b < a
 below_from_test a b fails = grind (arith, nat_tests)
 
@@ -67,9 +59,9 @@ parents_fit G m None missing creators = (tt, tt)
 parents_fit G m (Some names) missing creators =
     let held = two_tests (not (is_held G names.0)) (not (is_held G names.1)) _ _ missing in
     let by = two_tests (not (eqb (creator_at G (place_of G names.0)) m)) (eqb (creator_at G (place_of G names.1)) m) _ _ creators in (
-      (held_below G names.0 (not_false (is_held G names.0) held.0), (held_below G names.1 (not_false (is_held G names.1) held.1), tt)),
+      (held_below G names.0 (not-false (is_held G names.0) held.0), (held_below G names.1 (not-false (is_held G names.1) held.1), tt)),
       (
-        eqb-true (creator_at G (place_of G names.0)) m (not_false (eqb (creator_at G (place_of G names.0)) m) by.0),
+        eqb-true (creator_at G (place_of G names.0)) m (not-false (eqb (creator_at G (place_of G names.0)) m) by.0),
         (eqb-false (creator_at G (place_of G names.1)) m by.1, tt),
       ),
     )
@@ -93,7 +85,7 @@ arrives accepts n own G row none =
         present = record { held = parents.0 };
         parents_fit = parents.1;
       };
-      new_name = not_below (place_of G row.name) (length G) (not_true (nat_lt (place_of G row.name) (length G)) (else_speaks (not (nat_lt (place_of G row.name) (length G))) _ _ _ b.0));
+      new_name = not_below (place_of G row.name) (length G) (not-true (nat_lt (place_of G row.name) (length G)) (else_speaks (not (nat_lt (place_of G row.name) (length G))) _ _ _ b.0));
     }
 
 -- a graph that is not full has room for one more
@@ -110,7 +102,7 @@ made_parents G m None (Some other) distinct is first others = cc
 made_parents G m (Some last) (Some other) distinct is first others =
     let tests = two_tests (not (is_held G other)) (eqb (creator_at G (place_of G other)) m) _ _ others in
     let own = last_is_own m G last distinct is in (
-      (own.0, (held_below G other (not_false (is_held G other) tests.0), tt)),
+      (own.0, (held_below G other (not-false (is_held G other) tests.0), tt)),
       (own.1, (eqb-false (creator_at G (place_of G other)) m tests.1, tt)),
     )
 

@@ -1,20 +1,14 @@
--- Which links fit, and the shape of the first rows
+-- Which links fit, and the shape of the first links
 use Rattle.std.proofs.Common.{◌≡◌, ◌≢◌, inl, inr, ℕ, ◌<◌, ◌≤◌, true, eqb, List, [], ◌∷◌, length, take, Some, None, refl, sym, subst, arith}
-use Rattle.std.proofs.lemmas.Bool.{cases_lt, eqb-true, or_cases, true≢false}
-use Rattle.std.proofs.lemmas.List.{length-take-le}
+use Rattle.std.proofs.lemmas.Bool.{cases_lt, eqb-true, or_cases}
 use Rattle.hg_model.specs.Places.{has_place}
 use Rattle.hg_model.specs.Links.{Link, first_place, later_places, parents, self_parent, other_parents, creator}
 use Rattle.hg_model.specs.Graph.{IsShaped}
 use Rattle.hg_model.specs.Shape.{FitsLink, link_of}
+use Rattle.hg_model.proofs.ReachLaws.{none_there, one_there}
 use Rattle.hg_model.proofs.LinkLaws.{parents_past}
-use Rattle.hg_model.proofs.LongerLaws.{longer-take, parents-longer, creator-longer}
+use Rattle.hg_model.proofs.LongerLaws.{IsLonger, longer-take, parents-longer, creator-longer}
 use Rattle.hg_model.proofs.PushLaws.{first_of_places, later_of_places}
-
-pub none_there : (p : ℕ) → has_place [] p ≡ true → ⊥
-none_there p h = true≢false (sym h)
-
-pub one_there : (a p : ℕ) → has_place (a ∷ []) p ≡ true → a ≡ p
-one_there a p h = elim (or_cases (eqb a p) (has_place [] p) h) [ inl same ↦ eqb-true a p same | inr none ↦ absurd (none_there p none) ]
 
 -- a row without parents fits where its creator is a member
 pub fits_alone : (n : ℕ) (L : List Link) (m : ℕ) → m < n → FitsLink n L (link_of m None)
@@ -39,35 +33,32 @@ fits_on n L m own other member own_there other_there by_same by_other = record {
 
 pub ruleset fits_links = (fits_alone, fits_on)
 
-module _ (n : ℕ) (L : List Link) (len : ℕ) (le : len ≤ length L) (s : IsShaped n L) where
-  first_long : length (take len L) ≡ len
-  first_long = length-take-le len L le
-
-  -- who has parents stands among the first rows, and has these parents in the whole graph
-  parents_first : (pick : List ℕ → List ℕ) → (pick [] ≡ []) → (x p : ℕ) → has_place (pick (parents (take len L) x)) p ≡ true → (x < len) × (has_place (pick (parents L x)) p ≡ true)
-  parents_first pick none x p h = elim (cases_lt x len) [
-    | inl before ↦ (before, subst (λ ps. has_place (pick ps) p ≡ true) (sym (parents-longer (take len L) L (longer-take L len le) x (omega (arith, first_long)))) h)
-    | inr past ↦ (let gone = subst (λ ps. has_place (pick ps) p ≡ true) (parents_past (take len L) x (omega (arith, first_long))) h in
+module _ (n : ℕ) (L M : List Link) (longer : IsLonger L M) (s : IsShaped n M) where
+  -- who has parents in the shorter list stands there, and has these parents in the longer one
+  parents_kept : (pick : List ℕ → List ℕ) → (pick [] ≡ []) → (x p : ℕ) → has_place (pick (parents L x)) p ≡ true → (x < length L) × (has_place (pick (parents M x)) p ≡ true)
+  parents_kept pick none x p h = elim (cases_lt x (length L)) [
+    | inl inside ↦ (inside, subst (λ ps. has_place (pick ps) p ≡ true) (sym (parents-longer L M longer x inside)) h)
+    | inr past ↦ (let gone = subst (λ ps. has_place (pick ps) p ≡ true) (parents_past L x past) h in
         absurd (none_there p (subst (λ ps. has_place ps p ≡ true) none gone)))
   ]
 
-  creator_first : (x : ℕ) → x < len → creator (take len L) x ≡ creator L x
-  creator_first x h = sym (creator-longer (take len L) L (longer-take L len le) x (omega (arith, first_long)))
-
-  -- the first rows of a shaped graph are one
-  pub shaped-take : IsShaped n (take len L)
+  -- a list whose links are the first of a shaped one is shaped
+  pub shaped-shorter : IsShaped n L
   unfolding self_parent other_parents
-  shaped-take = record {
-    members = λ x inside. (let before : x < len = omega (arith, first_long) in rw (creator_first x before) (s.members x (omega arith)));
-    earlier = record { earlier = λ x p h. s.earlier.earlier x p (parents_first (λ ps. ps) refl x p h).1 };
+  shaped-shorter = record {
+    members = λ x inside. (let more = longer.more in rw (← creator-longer L M longer x inside) (s.members x (omega arith)));
+    earlier = record { earlier = λ x p h. s.earlier.earlier x p (parents_kept (λ ps. ps) refl x p h).1 };
     self_by_same = λ x p h.
-        let at = parents_first first_place refl x p h in
-        let low : p < x = s.earlier.earlier x p (first_of_places (parents L x) p at.1) in
-        let here : x < len = at.0 in
-        rw (creator_first x here, creator_first p (omega arith)) (s.self_by_same x p at.1);
+        let at = parents_kept first_place refl x p h in
+        let low : p < x = s.earlier.earlier x p (first_of_places (parents M x) p at.1) in
+        let here : x < length L = at.0 in
+        rw (← creator-longer L M longer x here, ← creator-longer L M longer p (omega arith)) (s.self_by_same x p at.1);
     others_by_others = λ x p h.
-        let at = parents_first later_places refl x p h in
-        let low : p < x = s.earlier.earlier x p (later_of_places (parents L x) p at.1) in
-        let here : x < len = at.0 in
-        rw (creator_first x here, creator_first p (omega arith)) (s.others_by_others x p at.1);
+        let at = parents_kept later_places refl x p h in
+        let low : p < x = s.earlier.earlier x p (later_of_places (parents M x) p at.1) in
+        let here : x < length L = at.0 in
+        rw (← creator-longer L M longer x here, ← creator-longer L M longer p (omega arith)) (s.others_by_others x p at.1);
   }
+
+pub shaped-take : (n : ℕ) (L : List Link) (len : ℕ) → len ≤ length L → IsShaped n L → IsShaped n (take len L)
+shaped-take n L len le s = shaped-shorter n (take len L) L (longer-take L len le) s

@@ -172,7 +172,7 @@ pub sum_of_ones : {A : Type 0} (xs : List A) → sum_by (λ _. 1) xs ≡ length 
 sum_of_ones [] = refl
 sum_of_ones (x ∷ xs) = omega (arith, sum_by-cons (λ _. 1) x xs, sum_of_ones xs)
 
-same_length : {A : Type 0} (xs ys : List A) → HasSameSums xs ys → length xs ≡ length ys
+pub same_length : {A : Type 0} (xs ys : List A) → HasSameSums xs ys → length xs ≡ length ys
 same_length xs ys same = sym (sum_of_ones xs) ∙ (same (λ _. 1) ∙ sum_of_ones ys)
 
 pub median-same : (xs ys : List ℕ) → HasSameSums xs ys → median xs ≡ median ys
@@ -205,19 +205,6 @@ IsPairwise-push related (x ∷ xs) y pairs all = (pushed xs pairs.0, IsPairwise-
     pushed : (zs : List _) → AllByRecursion (related x) zs → AllByRecursion (related x) (zs ++ y ∷ [])
     pushed [] h = (all.0, tt)
     pushed (z ∷ zs) h = (h.0, pushed zs h.1)
-
-all_weaker : {A : Type 0} (P Q R : A → Type 0) (xs : List A) → ((x : A) → P x → Q x → R x) → AllByRecursion P xs → AllByRecursion Q xs → AllByRecursion R xs
-all_weaker P Q R [] weaker all_p all_q = tt
-all_weaker P Q R (x ∷ xs) weaker all_p all_q = (weaker x all_p.0 all_q.0, all_weaker P Q R xs weaker all_p.1 all_q.1)
-
--- a relation that follows from another, of elements of one kind
-pub IsPairwise-weaker : {A : Type 0} (P : A → Type 0) (related other : A → A → Type 0) (xs : List A) → ((x y : A) → P x → P y → related x y → other x y) →
-    AllByRecursion P xs → IsPairwise related xs → IsPairwise other xs
-IsPairwise-weaker P related other [] weaker all pairs = tt
-IsPairwise-weaker P related other (x ∷ xs) weaker all pairs = (
-  all_weaker P (related x) (other x) xs (λ y of_y h. weaker x y all.0 of_y h) all.1 pairs.0,
-  IsPairwise-weaker P related other xs weaker all.1 pairs.1,
-)
 
 -- a sort of what `value` makes of the elements
 

@@ -1,7 +1,7 @@
 -- What the list of standings tells, and how it grows with the graph
-use Rattle.std.proofs.Common.{◌≡◌, ℕ, ◌+◌, ◌<◌, ◌≤◌, Bool, ◌&&◌, eqb, List, [], ◌∷◌, ◌++◌, length, take, get_or, Some, slice_get, sym, refl, ap, ap₂, ◌∙◌, inl, inr, arith, zero-add}
+use Rattle.std.proofs.Common.{◌≡◌, ℕ, ◌+◌, ◌<◌, ◌≤◌, Bool, ◌&&◌, eqb, List, [], ◌∷◌, ◌++◌, length, get_or, Some, slice_get, sym, refl, ap, ap₂, ◌∙◌, inl, inr, arith, zero-add}
 use Rattle.std.proofs.lemmas.Bool.{cases_lt}
-use Rattle.std.proofs.lemmas.List.{length_push, length-take-le, get_or_append_left, get_or_push, get_or-take, ext_get_or}
+use Rattle.std.proofs.lemmas.List.{length_push, get_or_append_left, get_or_push, ext_get_or}
 use Rattle.std.proofs.lemmas.List.FromFn.{get_or-map-range_with_len, length-map-range_with_len}
 use Rattle.std.proofs.lemmas.Option.{slice_get-get_or}
 use Rattle.hg_model.specs.Places.{list_below, maximum_below, IsEarlier}
@@ -9,7 +9,7 @@ use Rattle.hg_model.specs.Links.{Link, parents}
 use Rattle.hg_model.specs.Rounds.{round_of, is_witness, last_round}
 use Rattle.hg_model.specs.Standings.{Standing, standing_of, standings_of, round_in, witness_in, round_at, witness_at, witnesses_in, greatest_in}
 use Rattle.hg_model.proofs.PlacesLaws.{list_below-same, maximum_below-same}
-use Rattle.hg_model.proofs.LongerLaws.{IsLonger, longer-append, longer-take, round_of-longer, is_witness-longer}
+use Rattle.hg_model.proofs.LongerLaws.{IsLonger, longer-append, round_of-longer, is_witness-longer}
 
 nothing : Standing
 nothing = record { round = 0; witness = Rattle.std.proofs.Common.false }
@@ -59,21 +59,6 @@ standing-longer n L M longer e x h =
 standing_read : (n : ℕ) (L : List Link) (x : ℕ) → x < length L → get_or (standings_of n L) x nothing ≡ standing_of n L x
 unfolding standings_of
 standing_read n L x h = get_or-map-range_with_len (standing_of n L) 0 (length L) x x nothing h (zero-add x)
-
-pub standings-longer : (n : ℕ) (L M : List Link) → IsLonger L M → IsEarlier (parents L) → take (length L) (standings_of n M) ≡ standings_of n L
-standings-longer n L M longer e =
-    let more : length L ≤ length M = longer.more in
-    let len : length (take (length L) (standings_of n M)) ≡ length L = length-take-le (length L) (standings_of n M) (omega (arith, length-standings n M)) in
-    ext_get_or nothing (take (length L) (standings_of n M)) (standings_of n L) (len ∙ sym (length-standings n L)) (λ k h.
-    let below : k < length L = omega (arith, len) in
-    get_or-take (length L) (standings_of n M) k nothing below
-    ∙ (standing_read n M k (omega arith) ∙ (standing-longer n L M longer e k below ∙ sym (standing_read n L k below))))
-
--- the first rows
-pub standings-take : (n : ℕ) (L : List Link) (len : ℕ) → len ≤ length L → IsEarlier (parents (take len L)) → standings_of n (take len L) ≡ take len (standings_of n L)
-standings-take n L len le e =
-    sym (standings-longer n (take len L) L (longer-take L len le) e)
-    ∙ ap (λ (k : ℕ). take k (standings_of n L)) (length-take-le len L le)
 
 -- one row more
 pub standings-push : (n : ℕ) (L : List Link) (link : Link) → IsEarlier (parents L) →

@@ -1,6 +1,7 @@
 -- What a place that passes adds to a weight
 use Rattle.std.proofs.Common.{◌≡◌, ◌≢◌, ℕ, zero, suc, ◌+◌, ◌<◌, Bool, true, false, cond, ◌&&◌, not, eqb, sym, refl, ap, inl, inr, arith}
 use Rattle.std.proofs.lemmas.Bool.{cases_eq, eq-eqb, ne_eqb}
+use Rattle.std.proofs.Math.Bool.{and-true, and-false}
 use Rattle.hg_model.specs.Places.{weight_below}
 use Rattle.hg_model.proofs.PlacesLaws.{weight_below-same}
 
@@ -9,18 +10,10 @@ abbrev pub passes_beside : (ℕ → Bool) → ℕ → ℕ → Bool
 passes_beside test k y = test y && not (eqb y k)
 
 pub beside_other : (test : ℕ → Bool) (k y : ℕ) → y ≢ k → passes_beside test k y ≡ test y
-beside_other test k y other = rw (ne_eqb y k other) (same (test y))
-  where
-    same : (b : Bool) → (b && true) ≡ b
-    same true = refl
-    same false = refl
+beside_other test k y other = rw (ne_eqb y k other) (and-true (test y))
 
 pub beside_itself : (test : ℕ → Bool) (k : ℕ) → passes_beside test k k ≡ false
-beside_itself test k = rw (eq-eqb k k refl) (none (test k))
-  where
-    none : (b : Bool) → (b && false) ≡ false
-    none true = refl
-    none false = refl
+beside_itself test k = rw (eq-eqb k k refl) (and-false (test k))
 
 -- a place that passes weighs what is missing without it
 pub weight_below_beside : (weight : ℕ → ℕ) (n : ℕ) (test : ℕ → Bool) (k : ℕ) → k < n → test k ≡ true →

@@ -15,11 +15,11 @@ use Rattle.hg_model.specs.Places.{weight_below, some_below, list_below, least_be
 use Rattle.hg_model.specs.Links.{links, parents, self_parent, other_parents, creator}
 use Rattle.hg_model.specs.Ancestry.{is_ancestor, is_self_ancestor}
 use Rattle.hg_model.specs.Forks.{is_fork, has_fork_below, has_fork, forkers}
-use Rattle.hg_model.specs.Seeing.{sees, sees_through, strongly_sees}
+use Rattle.hg_model.specs.Seeing.{sees, sees_through, strongly_sees, sees_by, strongly_sees_in_report}
 use Rattle.hg_model.proofs.TestLaws.{graph_from_test, is_graph}
 use Rattle.hg_model.specs.Graph.{IsGraph, name_at}
 use Rattle.hg_model.specs.Rounds.{round_of, is_witness, is_seen_witness}
-use Rattle.hg_model.specs.Votes.{yes_votes, no_votes, vote_of, decides}
+use Rattle.hg_model.specs.Votes.{weighed_vote, weighed_decides, yes_votes, no_votes, vote_of, decides}
 use Rattle.hg_model.specs.Fame.{fame_of, fame_marks, is_closed, is_unique_famous, Marks}
 use Rattle.hg_model.specs.Order.{coin_at, sig_at, time_at, sort_by, median, can_receive, round_received, consensus_time, whitening, ordered_in, ordered, last_closed}
 use Rattle.hg_model.specs.Verdict.{row_verdict}
@@ -71,6 +71,19 @@ two_order : ordered 2 two_members (links two_members) two_marks ≡ placed 1 2 1
 unfolding ordered_in whitening consensus_time median sort_by round_received can_receive is_closed is_unique_famous least_below is_witness round_of strongly_sees sees_through sees has_fork_below is_fork is_ancestor is_self_ancestor weight_below some_below list_below reaches by_place values_below parents self_parent creator links time_at sig_at name_at
 two_order = refl
 
+-- the same with equal times of the two first events, whose signatures are 6 and 7: whitened by 4 and 5, those of the
+-- famous witnesses of round 2, they are 7 and 6, so the second comes first; by place, by name and by the bare signature
+-- the first would
+abbrev equal_times : List Row
+equal_times =
+    record { creator = 1; parents = None; time = 1; payload = []; sig = 6 ∷ []; name = 1 ∷ [] }
+    ∷ record { creator = 0; parents = None; time = 1; payload = []; sig = 7 ∷ []; name = 2 ∷ [] }
+    ∷ made 0 2 1 3 ∷ made 1 1 3 4 ∷ made 0 3 4 5 ∷ made 1 4 5 6 ∷ made 0 5 6 7 ∷ made 1 6 7 8 ∷ []
+
+whitened_order : ordered 2 equal_times (links equal_times) two_marks ≡ placed 1 2 1 ∷ placed 0 2 1 ∷ placed 2 2 3 ∷ placed 3 2 4 ∷ []
+unfolding ordered_in whitening consensus_time median sort_by round_received can_receive is_closed is_unique_famous least_below is_witness round_of strongly_sees sees_through sees has_fork_below is_fork is_ancestor is_self_ancestor weight_below some_below list_below reaches by_place values_below parents self_parent creator links time_at sig_at name_at
+whitened_order = refl
+
 two_closed : last_closed 2 (links two_members) two_marks ≡ 2
 unfolding last_closed greatest_below is_closed is_witness round_of strongly_sees sees_through sees has_fork_below is_fork is_ancestor is_self_ancestor weight_below some_below reaches by_place values_below parents self_parent creator links
 two_closed = refl
@@ -106,6 +119,15 @@ tied_vote : (yes_votes 4 (links tied_members) (vote_of 4 10 (links tied_members)
 unfolding vote_of is_witness coin_at sig_at round_of strongly_sees sees_through sees has_fork_below is_fork is_ancestor is_self_ancestor weight_below some_below reaches by_place values_below parents self_parent creator links
 tied_vote = (refl, refl, refl)
 
+-- of four members, with coin period 3: in a coin round two votes against one leave it to the coin, and three against none
+-- do not; three decide in a normal round alone, and not in the round next to the candidate's
+coin_votes : (weighed_vote 4 3 3 2 1 true ≡ true) × (weighed_vote 4 3 3 2 1 false ≡ false) × (weighed_vote 4 3 2 2 1 false ≡ true)
+    × (weighed_vote 4 3 3 3 0 false ≡ true) × (weighed_vote 4 3 3 0 3 true ≡ false)
+coin_votes = (refl, refl, refl, refl, refl)
+
+coin_decisions : (weighed_decides 4 3 2 3 0 ≡ true) × (weighed_decides 4 3 3 3 0 ≡ false) × (weighed_decides 4 3 1 3 0 ≡ false) × (weighed_decides 4 3 2 2 1 ≡ false)
+coin_decisions = (refl, refl, refl, refl)
+
 -- four members, of whom the last makes two second events, at the places 3 and 7; the first member takes the one and
 -- the second the other, and the third syncs from both
 abbrev pub forked_members : List Row
@@ -123,6 +145,11 @@ fork_seen = (refl, refl)
 fork_strongly_seen : list_below (λ y. y) 10 (is_seen_witness (round_of 4 (links forked_members)) 4 (links forked_members) 1 9) ≡ 1 ∷ 2 ∷ []
 unfolding list_below round_of strongly_sees sees_through sees has_fork_below is_fork is_ancestor is_self_ancestor weight_below some_below reaches by_place values_below parents self_parent creator links
 fork_strongly_seen = refl
+
+-- by the report's own wording it strongly sees just that at place 1
+fork_seen_in_report : list_below (λ y. y) 10 (strongly_sees_in_report 4 (links forked_members) 9) ≡ 1 ∷ []
+unfolding list_below strongly_sees_in_report sees_by sees has_fork_below is_fork is_ancestor is_self_ancestor weight_below some_below reaches by_place values_below parents self_parent creator links
+fork_seen_in_report = refl
 
 -- a second event on the third member's first would be a second fork, and two of four are not below a third
 second_forker : row_verdict (λ m body sig. true) 4 0 forked_members (made 2 3 1 12) ≡ Refused (fault.TooManyForkers 2)

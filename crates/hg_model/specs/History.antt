@@ -84,8 +84,8 @@ pub record IsTaken (accepts : Accepts) (n own : ℕ) (G : List Row) (row : Row) 
   pub spelled : Spells (spelling row) row
   pub accepted : row_verdict accepts n own G row ≡ Accepted (length G)
 
--- the row has the sizes and the name of an event, and is what the node makes for some arguments, under a signature that is accepted; its self-parent
--- is then the last row that the node made
+-- the row has the sizes and the name of an event, and is what the node makes for some arguments, under a signature that
+-- is accepted; its self-parent is then the last row that the node made
 pub record IsMade (accepts : Accepts) (own : ℕ) (G : List Row) (row : Row) : Type 0 where
   pub other : Option (List ℕ)
   pub time : ℕ

@@ -1,7 +1,7 @@
 -- Seeing and strongly seeing. SWIRLDS-TR-2016-01, section 5, the definitions of these words.
 -- A departure: x strongly sees y where more than two thirds of the members have an event among the ancestors of x that
--- sees y. The report asks
--- besides that x sees y and these events. Without forks the two are equal, and the report's always implies this one.
+-- sees y. The report asks besides that x sees y and these events. Without forks the two are equal, and the report's
+-- always implies this one.
 use Rattle.std.specs.Prelude.{ℕ, suc, ◌*◌, Bool, not, ◌&&◌, ◌==◌, nat_lt, List}
 use Rattle.hg_model.specs.Places.{count_below, some_below}
 use Rattle.hg_model.specs.Links.{Link, creator}

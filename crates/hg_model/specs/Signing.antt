@@ -13,11 +13,12 @@ padded_secret secret = secret ++ replicate (128 - length secret) 0
 abbrev pub masked : ℕ → List ℕ → List ℕ
 masked mask bytes = map (λ byte. bit_xor byte mask) bytes
 
+-- the mac of the message under a secret of at most 128 bytes
 unfoldable pub hmac_sha512 : List ℕ → List ℕ → List ℕ
 hmac_sha512 secret message =
     sha512 (masked 0x5c (padded_secret secret) ++ sha512 (masked 0x36 (padded_secret secret) ++ message))
 
--- the member's secret; that of no bytes for a number that is no member's
+-- the member's secret; no bytes for a number that is no member's
 abbrev pub secret_of : MemberList → ℕ → List ℕ
 secret_of members m = unwrap_or (option_map (λ (e : MemberEntry). e.secret) (slice_get members.entries m)) []
 

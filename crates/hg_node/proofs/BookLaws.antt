@@ -1,5 +1,5 @@
 -- What a ledger keeps once a row has come, and once an order has grown
-use Rattle.std.proofs.Common.{◌≡◌, ℕ, ◌+◌, ◌<◌, ◌≤◌, List, [], ◌∷◌, ◌++◌, length, length-append, All, sym, ap, ap₂, ◌∙◌, subst, arith}
+use Rattle.std.proofs.Common.{◌≡◌, ℕ, ◌+◌, ◌<◌, ◌≤◌, true, List, [], ◌∷◌, ◌++◌, length, length-append, All, sym, ap, ap₂, ◌∙◌, subst, arith}
 use Rattle.std.proofs.lemmas.List.{length_push}
 use Rattle.hg_model.specs.declared.row.Row.{Row}
 use Rattle.hg_model.specs.declared.row.Placed.{Placed}
@@ -7,13 +7,12 @@ use Rattle.hg_model.specs.Order.{ordered}
 use Rattle.hg_model.specs.Pay.{Book, opened, book_of}
 use Rattle.hg_model.specs.Prefix.{Graph, links_of}
 use Rattle.hg_model.proofs.LinkLaws.{length-links}
-use Rattle.hg_model.proofs.OrderLaws.{ordered_within}
+use Rattle.hg_model.proofs.OrderLaws.{ordered_within, length-ordered_in-le}
 use Rattle.hg_kept.specs.Published.{Published, Keeps}
 use Rattle.hg_prefix.specs.Orders.{IsPrefix}
 use Rattle.hg_pay.specs.Account.{Account, with_rest}
 use Rattle.hg_pay.proofs.OrderLaws.{many_effects, book_goes_on, rows_leave_the_book}
 use Rattle.hg_node.specs.Recorded.{KeepsBook}
-use Rattle.hg_node.proofs.OrderedLaws.{few_ordered}
 
 -- what is kept of a graph
 module _ (g : Graph) (v : Published) (keeps : Keeps g v) where
@@ -24,7 +23,7 @@ module _ (g : Graph) (v : Published) (keeps : Keeps g v) where
       (ordered_within g.members g.rows (links_of g) v.marks))
 
   few_kept : length v.order ≤ length g.rows
-  few_kept = omega (arith, ap length keeps.order, few_ordered g.members g.rows (links_of g) v.marks, length-links g.rows)
+  few_kept = omega (arith, ap length keeps.order, length-ordered_in-le g.members g.rows (links_of g) v.marks (λ _. true), length-links g.rows)
 
   -- there is memory for all of it
   pub fits : (before : List Placed) (a : Account) → KeepsBook g.rows before a → length v.order ≤ a.room

@@ -7,9 +7,8 @@ use Rattle.hg_model.specs.Links.{place_of}
 use Rattle.hg_model.specs.Graph.{name_in, name_at, HasDistinctNames}
 use Rattle.hg_model.specs.Verdict.{later_name, last_name}
 use Rattle.hg_model.proofs.NameLaws.{place_of_at, last_is_own}
-use Rattle.hg_model.proofs.PushLaws.{place_of-append}
+use Rattle.hg_model.proofs.PushLaws.{place_of-append, slice_get-last}
 use Rattle.hg_prefix.proofs.StandingLaws.{name_at_place}
-use Rattle.hg_history.proofs.OwnLaws.{last}
 use Rattle.hg_node.specs.Recorded.{last_place}
 
 read_name : (G : List Row) (x : ℕ) (row : Row) → slice_get G x ≡ Some row → name_at G x ≡ row.name
@@ -27,7 +26,7 @@ module _ (m : ℕ) (G : List Row) (row : Row) (distinct : HasDistinctNames G) (d
 
   new_place : place_of (G ++ row ∷ []) row.name ≡ length G
   unfolding name_at
-  new_place = place_of_at (G ++ row ∷ []) distinct' (length G) row.name (omega (arith, length_push G row)) (ap name_in (last G row))
+  new_place = place_of_at (G ++ row ∷ []) distinct' (length G) row.name (omega (arith, length_push G row)) (ap name_in (slice_get-last G row))
 
   by_test : (b : Bool) → eqb row.creator m ≡ b → last_place m (G ++ row ∷ []) ≡ cond b (Some (length G)) (last_place m G)
   by_test true is =

@@ -1,4 +1,3 @@
-pub mod OrderedLaws
 pub mod BookLaws
 pub mod PlaceLaws
 pub mod LastLaws

@@ -10,11 +10,8 @@ use Rattle.hg_model.proofs.SearchLaws.{least_below_none, least_number_first}
 use Rattle.hg_model.proofs.ReachLaws.{has_place_first}
 use Rattle.hg_model.proofs.AncestryLaws.{self_parent_earlier, is_ancestor-trans, is_self_ancestor_self, is_self_ancestor_by, is_self_ancestor_cases, is_self_ancestor-le, is_self_ancestor-trans}
 use Rattle.hg_model.proofs.SightLaws.{is_ancestor-from_self}
-use Rattle.hg_model.proofs.ForkLaws.{self_parent_cases, self_parent_only}
+use Rattle.hg_model.proofs.ForkLaws.{self_parent_cases, self_parent_only, one_line}
 use Rattle.hg_order.specs.Famous.{first_holder}
-
-one_head : (p q : ℕ) → p ∷ [] ≡ q ∷ [] → p ≡ q
-one_head p q h = cc
 
 -- x is no ancestor of the self-parent of z
 abbrev pub is_new_to_line : List Link → ℕ → ℕ → Bool
@@ -28,27 +25,17 @@ pub record IsFirstHolder (L : List Link) (x w z : ℕ) : Type 0 where
 
 module _ (L : List Link) (e : IsEarlier (parents L)) where
   -- of two rows on a line the later has the earlier on its own line
-  line_to : (k w z y : ℕ) → w < k → is_self_ancestor L w z ≡ true → is_self_ancestor L w y ≡ true → y ≤ z → is_self_ancestor L z y ≡ true
-  line_to zero w z y h on_z on_y le = absurd (omega arith)
-  line_to (suc k) w z y h on_z on_y le = elim (is_self_ancestor_cases L e w z on_z) [
-    | inl same ↦ subst (λ v. is_self_ancestor L v y ≡ true) same on_y
-    | inr by_z ↦ elim (is_self_ancestor_cases L e w y on_y) [
-      | inl same ↦
-          (let low : z ≤ w = is_self_ancestor-le L e w z on_z in
-          let one : y ≡ z = omega arith in
-          subst (λ v. is_self_ancestor L z v ≡ true) (sym one) (is_self_ancestor_self L e z))
-      | inr by_y ↦
-          (let one : by_y.0 ≡ by_z.0 = one_head by_y.0 by_z.0 (sym (self_parent_only L w by_y.0 by_y.1) ∙ self_parent_only L w by_z.0 by_z.1) in
-          let before : by_z.0 < w = (self_parent_earlier L e).earlier w by_z.0 by_z.1 in
-          line_to k by_z.0 z y (omega arith) by_z.2 (subst (λ v. is_self_ancestor L v y ≡ true) one by_y.2) le)
-    ]
+  above_on_line : (w z y : ℕ) → is_self_ancestor L w z ≡ true → is_self_ancestor L w y ≡ true → y < z → is_self_ancestor L z y ≡ true
+  above_on_line w z y on_z on_y before = elim (one_line L e w z y on_z on_y) [
+    | inl on ↦ on
+    | inr over ↦ (let le : z ≤ y = is_self_ancestor-le L e y z over in absurd (omega arith))
   ]
 
   -- what is new to a line has no earlier holder there
   none_before : (x w z : ℕ) → IsFirstHolder L x w z → (y : ℕ) → y < z → (is_self_ancestor L w y && is_ancestor L y x) ≡ true → ⊥
   none_before x w z holder y before passes =
       let parts = and_parts (is_self_ancestor L w y) (is_ancestor L y x) passes in
-      elim (is_self_ancestor_cases L e z y (line_to (suc w) w z y (omega arith) holder.on_line parts.0 (omega arith))) [
+      elim (is_self_ancestor_cases L e z y (above_on_line w z y holder.on_line parts.0 before)) [
         | inl same ↦ absurd (omega arith)
         | inr by ↦
             (let up : is_ancestor L by.0 x ≡ true = is_ancestor-trans L e by.0 y x (is_ancestor-from_self L e by.0 y by.2) parts.1 in

@@ -60,7 +60,7 @@ module _ (n : ℕ) (L : List Link) (shaped : IsShaped n L) where
       (λ is. is_self_ancestor_by L shaped.earlier x p k here is)
     where
       one : (a q : ℕ) → has_place (a ∷ []) q ≡ true → a ≡ q
-      one a q h = Rattle.hg_model.proofs.ShapeLaws.one_there a q h
+      one a q h = Rattle.hg_model.proofs.ReachLaws.one_there a q h
 
   on_parent : (x p : ℕ) → self_parent L x ≡ p ∷ [] → IsOn L x p
   unfolding sequence_of

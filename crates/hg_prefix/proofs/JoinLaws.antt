@@ -2,7 +2,7 @@
 use Rattle.std.proofs.Common.{◌≡◌, ◌≢◌, ◌⊎◌, inl, inr, ℕ, zero, suc, ◌<◌, ◌≤◌, true, cond, List, [], ◌∷◌, ◌++◌, length, map, get_or, Some, slice_get, sym, refl, ap, ◌∙◌, subst, arith, le-ltb, lt-ltb}
 use Rattle.std.specs.List.{AllByRecursion}
 use Rattle.std.proofs.lemmas.Bool.{cases_lt, cases_eq}
-use Rattle.std.proofs.lemmas.List.{length_push, get_or_push}
+use Rattle.std.proofs.lemmas.List.{length_push}
 use Rattle.std.proofs.lemmas.Option.{slice_get-get_or, get_or_from_slice_get}
 use Rattle.hg_model.specs.declared.row.Row.{Row}
 use Rattle.hg_model.specs.Places.{has_place}
@@ -12,9 +12,8 @@ use Rattle.hg_model.specs.Verdict.{is_held}
 use Rattle.hg_model.specs.Graph.{creator_at, creator_of_row}
 use Rattle.hg_model.specs.Fits.{AreHeld, ParentsFit, Fits}
 use Rattle.hg_model.proofs.LinkLaws.{length-links, parents-links}
-use Rattle.hg_model.proofs.LongerLaws.{slice_get-append}
 use Rattle.hg_model.proofs.NameLaws.{place_of_at, distinct-push}
-use Rattle.hg_model.proofs.PushLaws.{nobody, row_creator-links, shaped-push}
+use Rattle.hg_model.proofs.PushLaws.{nobody, row_creator-links, slice_get-before, slice_get-last, shaped-push}
 use Rattle.hg_model.proofs.ReachLaws.{has_place_first, has_place_later}
 use Rattle.hg_prefix.specs.Standing.{IsRowOf, StandsIn}
 use Rattle.hg_prefix.specs.Chains.{HaveEqualRows}
@@ -37,18 +36,11 @@ pub record IsJoined (n : ℕ) (G H : List Row) (k : ℕ) (U : List Row) : Type 0
   pub has_second : (y : ℕ) → y < k → IsRowOf H y U
   pub no_other : (u : ℕ) → u < length U → IsRowOf U u G ⊎ IsRowOf U u H
 
-row_before : (U : List Row) (row : Row) (u : ℕ) → u < length U → slice_get (U ++ row ∷ []) u ≡ slice_get U u
-row_before U row u inside = slice_get-append U (row ∷ []) nobody u inside
-
-row_last : (U : List Row) (row : Row) → slice_get (U ++ row ∷ []) (length U) ≡ Some row
-row_last U row =
-    slice_get-get_or (U ++ row ∷ []) (length U) nobody (omega (arith, length_push U row)) ∙ ap (λ (r : Row). Some r) (get_or_push U row nobody (length U) refl)
-
 -- a row stays a row of the longer list
 row_stays : (G : List Row) (x : ℕ) (U : List Row) (row : Row) → IsRowOf G x U → IsRowOf G x (U ++ row ∷ [])
 row_stays G x U row is =
     let inside : is.0 < length U = is.1 in
-    (is.0, omega (arith, length_push U row), row_before U row is.0 inside ∙ is.2)
+    (is.0, omega (arith, length_push U row), slice_get-before U row is.0 inside ∙ is.2)
 
 module _ (n : ℕ) (G H : List Row) (distinct_H : HasDistinctNames H) (shaped_H : IsShaped n (links H)) (equal : HaveEqualRows G H) where
   -- row k of H fits behind rows that have all earlier rows of H
@@ -159,17 +151,17 @@ module _ (n : ℕ) (G H : List Row) (distinct_H : HasDistinctNames H) (shaped_H 
       shaped = shaped-push n U row is.shaped fits;
       has_first = record { row_in = λ x h. row_stays G x U row (is.has_first.row_in x h) };
       has_second = λ y low. elim (cases_eq y k) [
-        | inl last ↦ subst (λ z. IsRowOf H z (U ++ row ∷ [])) (sym last) (length U, omega (arith, length_push U row), row_last U row ∙ sym at_k)
+        | inl last ↦ subst (λ z. IsRowOf H z (U ++ row ∷ [])) (sym last) (length U, omega (arith, length_push U row), slice_get-last U row ∙ sym at_k)
         | inr before ↦ row_stays H y U row (is.has_second y (omega arith))
       ];
       no_other = λ u below. elim (cases_lt u (length U)) [
         | inl before ↦ elim (is.no_other u before) [
-          | inl of_G ↦ inl (of_G.0, of_G.1, of_G.2 ∙ sym (row_before U row u before))
-          | inr of_H ↦ inr (of_H.0, of_H.1, of_H.2 ∙ sym (row_before U row u before))
+          | inl of_G ↦ inl (of_G.0, of_G.1, of_G.2 ∙ sym (slice_get-before U row u before))
+          | inr of_H ↦ inr (of_H.0, of_H.1, of_H.2 ∙ sym (slice_get-before U row u before))
         ]
         | inr ge ↦ (
             let last : u ≡ length U = omega (arith, length_push U row) in
-            inr (k, inside, at_k ∙ (sym (row_last U row) ∙ ap (slice_get (U ++ row ∷ [])) (sym last))))
+            inr (k, inside, at_k ∙ (sym (slice_get-last U row) ∙ ap (slice_get (U ++ row ∷ [])) (sym last))))
       ];
     }
 

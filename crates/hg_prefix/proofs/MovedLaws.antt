@@ -1,5 +1,6 @@
 -- Links that stand in a larger list at other places have there the same ancestry, sight, rounds and votes
 use Rattle.std.proofs.Common.{◌≡◌, ◌≢◌, ℕ, zero, suc, ◌+◌, ◌-◌, ◌*◌, ◌<◌, ◌≤◌, Bool, true, cond, ◌&&◌, not, ltb, eqb, max, List, [], ◌∷◌, length, map, sym, refl, ap, ◌∙◌, subst, inl, inr, arith}
+use Rattle.std.proofs.Math.Bool.{and-true}
 use Rattle.std.proofs.lemmas.Bool.{and_parts, and_from, or_cases, or_left, or_right, true≢false, eqb-true, eq-eqb}
 use Rattle.std.specs.List.{list_all}
 use Rattle.hg_model.specs.Places.{weight_below, count_below, has_place, reaches, IsEarlier}
@@ -87,10 +88,6 @@ module _ (near far : ℕ → List ℕ) (e : IsEarlier near) (f : IsEarlier far) 
       let le : z.0 ≤ x = z.1 in
       subst (λ k. reaches near x k ≡ true) (apart z.0 y (omega arith) hy z.2) z.3)
       (reaches_there_to (suc x) x y (omega arith) hx)
-
-and_always : (b : Bool) → b ≡ (b && true)
-and_always true = refl
-and_always Rattle.std.proofs.Common.false = refl
 
 module _ (n : ℕ) (L V : List Link) (l : IsEarlier (parents L)) (v : IsEarlier (parents V)) (place : ℕ → ℕ) (moved : IsMoved L V place) where
   pub self_parent_there : (x : ℕ) → x < length L → self_parent V (place x) ≡ map place (self_parent L x)
@@ -207,9 +204,9 @@ module _ (n : ℕ) (L V : List Link) (l : IsEarlier (parents L)) (v : IsEarlier 
       count_below (place x) (is_seen_witness far n V r (place x)) ≡ count_below x (is_seen_witness near n L r x)
   seen_count-moved far near r x inside same =
       let always : ℕ → Bool = λ _. true in
-      weight_below-same (λ _. 1) (place x) (is_seen_witness far n V r (place x)) (λ u. is_seen_witness far n V r (place x) u && true) (λ u low. and_always (is_seen_witness far n V r (place x) u))
+      weight_below-same (λ _. 1) (place x) (is_seen_witness far n V r (place x)) (λ u. is_seen_witness far n V r (place x) u && true) (λ u low. sym (and-true (is_seen_witness far n V r (place x) u)))
       ∙ (seen-moved (λ _. 1) far near r x always always inside same (λ p low. refl)
-      ∙ weight_below-same (λ _. 1) x (λ y. is_seen_witness near n L r x y && true) (is_seen_witness near n L r x) (λ y low. sym (and_always (is_seen_witness near n L r x y))))
+      ∙ weight_below-same (λ _. 1) x (λ y. is_seen_witness near n L r x y && true) (is_seen_witness near n L r x) (λ y low. and-true (is_seen_witness near n L r x y)))
 
   round_of-moved_to : (k x : ℕ) → x < k → x < length L → round_of n V (place x) ≡ round_of n L x
   round_of-moved_to zero x low inside = absurd (omega arith)

@@ -1,7 +1,8 @@
 -- Of the orders of two graphs that stand in one graph the one is a prefix of the other
-use Rattle.std.proofs.Common.{◌≡◌, ◌⊎◌, inl, inr, ℕ, ◌+◌, ◌-◌, ◌<◌, ◌≤◌, Bool, true, false, ◌&&◌, not, leb, ltb, eqb, List, [], ◌∷◌, ◌++◌, length, map, get_or, drop, Option, Some, is_some, unwrap_or, None, sym, refl, ap, ap₂, ◌∙◌, subst, arith}
+use Rattle.std.proofs.Common.{◌≡◌, ◌⊎◌, inl, inr, ℕ, ◌+◌, ◌-◌, ◌<◌, ◌≤◌, Bool, true, false, ◌&&◌, not, leb, List, [], ◌∷◌, ◌++◌, length, map, get_or, drop, Option, Some, is_some, unwrap_or, None, sym, refl, ap, ap₂, ◌∙◌, subst, arith}
 use Rattle.std.specs.List.{AllByRecursion}
-use Rattle.std.proofs.lemmas.Bool.{and_parts, and_from, cases_lt, le-ltb, le-leb, leb-true, leb-false, ne_eqb, not-true, true≢false}
+use Rattle.std.proofs.Math.Bool.{and-true}
+use Rattle.std.proofs.lemmas.Bool.{and_parts, and_from, cases_lt, le-leb, leb-true, leb-false, not-true, true≢false}
 use Rattle.std.proofs.lemmas.List.{map-append}
 use Rattle.std.proofs.lemmas.List.Prefix.{end_rest}
 use Rattle.std.proofs.lemmas.List.Sums.{sum_by-append}
@@ -16,6 +17,7 @@ use Rattle.hg_model.proofs.LinkLaws.{length-links}
 use Rattle.hg_model.proofs.ListLaws.{map-list_below, sum_by-list_below, all_list_below}
 use Rattle.hg_model.proofs.PlacesLaws.{weight_below-same}
 use Rattle.hg_model.proofs.QuorumLaws.{weight_below_split}
+use Rattle.hg_model.proofs.CompareLaws.{lesser_first}
 use Rattle.hg_model.proofs.SortLaws.{HasSameSums, one_ascending, all_sorted, sort_by-sums, sort_by-ascending, sort_by-map}
 use Rattle.hg_prefix.specs.Standing.{place_in, IsMarkedPart}
 use Rattle.hg_prefix.specs.Orders.{IsPrefix, marked_order_by_names, HasNameSizes}
@@ -86,20 +88,11 @@ abbrev IsAfter : ℕ → List ℕ → Type 0
 IsAfter m key = m < get_or key 0 0
 
 later_not_less : (m : ℕ) (a b : List ℕ) → IsUpTo m a → IsAfter m b → bytes_less b a ≡ false
-later_not_less m a [] low high = absurd (omega arith)
-later_not_less m [] (y ∷ ys) low high = refl
-later_not_less m (x ∷ xs) (y ∷ ys) low high =
-    let not_less : ltb y x ≡ false = le-ltb y x (omega arith) in
-    let differ : eqb y x ≡ false = ne_eqb y x (λ e. absurd (omega arith)) in
-    rw (not_less, differ) refl
+later_not_less m a b low high = (lesser_first a b (omega arith)).1
 
 some_is : (o : Option ℕ) → is_some o ≡ true → (r : ℕ) × (o ≡ Some r)
 some_is None e = absurd (true≢false (sym e))
 some_is (Some r) e = (r, refl)
-
-and_always : (b : Bool) → (b && true) ≡ b
-and_always true = refl
-and_always false = refl
 
 -- the places where rows are received fall apart at a test of their rounds
 received_split : {A : Type 0} (value : ℕ → A) (n : ℕ) (G : List Row) (marks : Marks) (test : ℕ → Bool) →
@@ -114,7 +107,7 @@ received_split value n G marks test weight =
     let two = is_received_in n (links G) marks (λ r. not (test r)) in
     let at = λ (x : ℕ). weight (value x) in
     sum_by-list_below weight value len all
-    ∙ (weight_below-same at len all some (λ x inside. and_always (some x))
+    ∙ (weight_below-same at len all some (λ x inside. and-true (some x))
     ∙ (weight_below_split at len some (λ x. test (received_or_zero n (links G) marks x))
     ∙ (ap₂ (λ (a b : ℕ). a + b) (sym (sum_by-list_below weight value len one)) (sym (sum_by-list_below weight value len two))
     ∙ sym (sum_by-append weight (list_below value len one) (list_below value len two)))))

@@ -1,6 +1,7 @@
 //! Laws of one graph: what forks cannot do to strongly seeing, and what two quorums share.
 //! They are told of the definitions of `hg_model`; no function here computes anything.
-//! The layers above use that of the two rows of a fork at most one is strongly seen.
+//! No crate stands on this one: its laws are what a reader may ask of the definitions, and the lemmas that prove them,
+//! in `hg_model`, serve the laws above.
 #![tactic(auto)]
 
 mod laws;

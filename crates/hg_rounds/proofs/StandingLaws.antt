@@ -1,12 +1,13 @@
 -- Lists of standings: what they tell of a row, and how one more changes them
-use Rattle.std.proofs.Common.{◌≡◌, inl, inr, ℕ, suc, ◌+◌, ◌<◌, ◌≤◌, Bool, cond, ◌&&◌, eqb, max, List, [], ◌∷◌, ◌++◌, length, take, get_or, Some, slice_get, refl, sym, ap, ap₂, ◌∙◌, arith, add-one}
+use Rattle.std.proofs.Common.{◌≡◌, inl, inr, ℕ, suc, ◌+◌, ◌<◌, ◌≤◌, Bool, cond, ◌&&◌, eqb, max, List, [], ◌∷◌, ◌++◌, length, take, get_or, refl, sym, ap, ap₂, ◌∙◌, arith, add-one}
 use Rattle.std.proofs.lemmas.Bool.{cases_lt, and_parts, eqb-true, false_from_ne_true}
-use Rattle.std.proofs.lemmas.List.{length_push, get_or_append_left, get_or_push, take-append-le}
+use Rattle.std.proofs.lemmas.List.{length_push, take-append-le}
 use Rattle.std.proofs.Math.Seq.{take-append_seam}
-use Rattle.std.proofs.lemmas.Option.{slice_get-get_or, slice_get_read}
+use Rattle.std.proofs.lemmas.Option.{slice_get_read}
 use Rattle.hg_model.specs.Places.{list_below, maximum_below}
 use Rattle.hg_model.specs.Standings.{Standing, round_in, witness_in, round_at, witness_at, witnesses_in, greatest_in}
 use Rattle.hg_model.proofs.PlacesLaws.{list_below-same, list_below_none, maximum_below-same, maximum_below_bounds}
+use Rattle.hg_model.proofs.PushLaws.{slice_get-before, slice_get-last}
 use Rattle.hg_rounds.specs.Tabled.{IsByRow}
 
 -- a standing that is read in the list
@@ -33,29 +34,21 @@ module _ (S : List Standing) (s : Standing) where
   abbrev pub T : List Standing
   T = S ++ s ∷ []
 
-  before_is : (x : ℕ) → x < length S → slice_get T x ≡ slice_get S x
-  before_is x h =
-      slice_get-get_or T x s (omega (arith, length_push S s))
-      ∙ (ap (λ a. Some a) (get_or_append_left S (s ∷ []) s x h) ∙ sym (slice_get-get_or S x s h))
-
-  last_is : slice_get T (length S) ≡ Some s
-  last_is = slice_get-get_or T (length S) s (omega (arith, length_push S s)) ∙ ap (λ a. Some a) (get_or_push S s s (length S) refl)
-
   pub round_at_before : (x : ℕ) → x < length S → round_at T x ≡ round_at S x
   unfolding round_at
-  round_at_before x h = ap round_in (before_is x h)
+  round_at_before x h = ap round_in (slice_get-before S s x h)
 
   pub round_at_last : round_at T (length S) ≡ s.round
   unfolding round_at
-  round_at_last = ap round_in last_is
+  round_at_last = ap round_in (slice_get-last S s)
 
   witness_at_before : (x : ℕ) → x < length S → witness_at T x ≡ witness_at S x
   unfolding witness_at
-  witness_at_before x h = ap witness_in (before_is x h)
+  witness_at_before x h = ap witness_in (slice_get-before S s x h)
 
   witness_at_last : witness_at T (length S) ≡ s.witness
   unfolding witness_at
-  witness_at_last = ap witness_in last_is
+  witness_at_last = ap witness_in (slice_get-last S s)
 
   long : length T ≡ suc (length S)
   long = length_push S s ∙ add-one (length S)

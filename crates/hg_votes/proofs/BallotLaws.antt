@@ -11,14 +11,14 @@ use Rattle.hg_model.specs.Rounds.{round_of, is_witness}
 use Rattle.hg_model.specs.Votes.{is_voter, weighed_vote, weighed_decides, yes_votes, no_votes, rounds_above, vote_of, decides}
 use Rattle.hg_model.specs.Order.{sig_in, middle_bit, coin_at}
 use Rattle.hg_model.specs.Prefix.{Graph, IsCounted, ballot_of, links_of}
-use Rattle.hg_model.proofs.PlacesLaws.{weight_below-same}
+use Rattle.hg_model.proofs.PlacesLaws.{weight_below-same, weight_below-longer}
 use Rattle.hg_model.proofs.ListLaws.{count_by-list_below, length-list_below-le, all_list_below}
 use Rattle.hg_model.proofs.VoteLaws.{vote_of-at}
 use Rattle.hg_model.proofs.WitnessLaws.{seen_witness_is}
 use Rattle.hg_votes.specs.declared.tally.Tally.{Tally}
 use Rattle.hg_votes.specs.Tallies.{voters_of, vote_at, tally_of}
 use Rattle.hg_votes.specs.Counting.{HoldsBallots}
-use Rattle.hg_votes.proofs.VoterLaws.{count_below-cut, voter_below}
+use Rattle.hg_votes.proofs.VoterLaws.{voter_below}
 
 -- the coin of a row that was read
 pub coin_read : (G : List Row) (y : ℕ) (row : Row) → slice_get G y ≡ Some row → middle_bit row.sig ≡ coin_at G y
@@ -82,7 +82,7 @@ module _ (g : Graph) (x y : ℕ) (counted : IsCounted g x (round_of g.members (l
           | inl voter ↦ rw (voter, voter_known w h voter) refl
           | inr other ↦ rw other refl
         ])
-        ∙ count_below-cut (length g.rows) y (λ w. is_voter n L y w && f (vote w)) (omega arith)
+        ∙ weight_below-longer (λ _. 1) y (length g.rows) (λ w. is_voter n L y w && f (vote w)) (omega arith)
         (λ w past h. and_left (is_voter n L y w) (f (vote w)) (false_from_ne_true (is_voter n L y w) (λ voter. absurd (let below = voter_below n L e y w voter in omega arith)))))
 
     -- more rounds above x

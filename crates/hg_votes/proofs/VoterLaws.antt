@@ -1,9 +1,9 @@
 -- Who the voters of a witness are
-use Rattle.std.proofs.Common.{◌≡◌, ℕ, zero, suc, ◌-◌, ◌<◌, ◌≤◌, Bool, true, false, ◌&&◌, eqb, List, [], length, get_or, IsTrue, refl, sym, ap, ap₂, ◌∙◌, inl, inr, arith}
+use Rattle.std.proofs.Common.{◌≡◌, ℕ, ◌-◌, ◌<◌, ◌≤◌, Bool, true, ◌&&◌, eqb, List, [], length, get_or, IsTrue, refl, sym, ap, ap₂, ◌∙◌, inl, inr, arith}
 use Rattle.std.specs.List.{AllByRecursion, filter}
 use Rattle.std.proofs.lemmas.Bool.{cases_lt}
 use Rattle.std.proofs.lemmas.List.{get_or_read_under}
-use Rattle.hg_model.specs.Places.{weight_below, count_below, list_below, IsEarlier}
+use Rattle.hg_model.specs.Places.{list_below, IsEarlier}
 use Rattle.hg_model.specs.Links.{Link, parents}
 use Rattle.hg_model.specs.Seeing.{strongly_sees}
 use Rattle.hg_model.specs.Rounds.{round_of, is_witness}
@@ -20,15 +20,6 @@ use Rattle.hg_model.proofs.SightLaws.{strongly_sees-is_ancestor}
 use Rattle.hg_model.proofs.WitnessLaws.{seen_witness_is}
 use Rattle.hg_votes.specs.Tallies.{voters_of}
 use Rattle.hg_votes.specs.Counting.{HoldsVoters}
-
--- where no later place passes
-pub count_below-cut : (n m : ℕ) (test : ℕ → Bool) → m ≤ n → ((k : ℕ) → m ≤ k → k < n → test k ≡ false) → count_below n test ≡ count_below m test
-unfolding weight_below
-count_below-cut zero m test le none = (let same : m ≡ 0 = omega arith in rw same refl)
-count_below-cut (suc n) m test le none = elim (cases_lt n m) [
-  | inl all ↦ (let same : m ≡ suc n = omega arith in rw same refl)
-  | inr later ↦ rw (none n later (omega arith)) (omega (arith, count_below-cut n m test later (λ k from h. none k from (omega arith))))
-]
 
 -- the witnesses of a round are places of the graph
 pub witnesses_there : (n : ℕ) (L : List Link) (r m : ℕ) (S : List Standing) (ws : List ℕ) → S ≡ standings_of n L → ws ≡ witnesses_in S r → length L ≡ m → AllByRecursion (λ w. w < m) ws

@@ -1,4 +1,4 @@
--- Rows and the events by which they came
+-- Rows and the changes by which they came
 use Rattle.std.proofs.Common.{◌≡◌, ◌≢◌, ◌⊎◌, inl, inr, ℕ, zero, suc, List, [], ◌∷◌, ◌++◌, length, fold, Some, slice_get, sym, ap, ◌∙◌, subst, arith}
 use Rattle.std.proofs.lemmas.Bool.{cases_lt}
 use Rattle.std.proofs.lemmas.List.{length_push}
@@ -7,13 +7,12 @@ use Rattle.hg_model.specs.declared.row.Row.{Row}
 use Rattle.hg_model.specs.History.{Change, State, Accepts, empty, with_row, with_marks, step, replay, AreSteps}
 use Rattle.hg_model.specs.History.Change.{Took, Made, Marked}
 use Rattle.hg_model.proofs.LongerLaws.{slice_get-append}
-use Rattle.hg_model.proofs.PushLaws.{nobody}
+use Rattle.hg_model.proofs.PushLaws.{nobody, slice_get-before, slice_get-last}
 use Rattle.hg_model.specs.Verdict.{verdict_of}
 use Rattle.hg_event.proofs.Spells.{Spells-read_event}
 use Rattle.hg_history.specs.Laws.{HasChange, RowsCameByChanges, ChangesLeftRows, VerdictsAreOfBytes}
 use Rattle.hg_history.proofs.StateLaws.{rows_from}
 use Rattle.hg_history.proofs.RuleLaws.{taken_is}
-use Rattle.hg_history.proofs.OwnLaws.{before, last}
 
 -- how a row came
 abbrev Came : ℕ → List Change → Row → Type 0
@@ -25,11 +24,11 @@ later own e h row came = (λ is. (let i = came.0 is in (suc i.0, i.1)), λ other
 -- the row at a place of a longer list was there, or is the last one
 split : (G : List Row) (more row : Row) (x : ℕ) → slice_get (G ++ more ∷ []) x ≡ Some row → (slice_get G x ≡ Some row) ⊎ (more ≡ row)
 split G more row x at = elim (cases_lt x (length G)) [
-  | inl old ↦ inl (sym (before G more x old) ∙ at)
+  | inl old ↦ inl (sym (slice_get-before G more x old) ∙ at)
   | inr new ↦ (
       let inside = slice_get_within (G ++ more ∷ []) x row at in
       let here : x ≡ length G = omega (arith, length_push G more) in
-      let both : Some more ≡ Some row = sym (last G more) ∙ (ap (slice_get (G ++ more ∷ [])) (sym here) ∙ at) in
+      let both : Some more ≡ Some row = sym (slice_get-last G more) ∙ (ap (slice_get (G ++ more ∷ [])) (sym here) ∙ at) in
       inr cc)
 ]
 
@@ -75,7 +74,7 @@ module _ (n c : ℕ) where
       ap (λ (G : List Row). slice_get G x) more.1 ∙ (slice_get-append s.rows more.0 nobody x (slice_get_within s.rows x row at) ∙ at)
 
   came_here : (s : State) (row : Row) (h : List Change) → (x : ℕ) × (slice_get (fold (step n c) (with_row n s row) h).rows x ≡ Some row)
-  came_here s row h = (length s.rows, stays (with_row n s row) h (length s.rows) row (last s.rows row))
+  came_here s row h = (length s.rows, stays (with_row n s row) h (length s.rows) row (slice_get-last s.rows row))
 
   left_from : (s : State) (h : List Change) (row : Row) (i : ℕ) → (slice_get h i ≡ Some (Made row)) ⊎ (slice_get h i ≡ Some (Took row)) → (x : ℕ) × (slice_get (fold (step n c) s h).rows x ≡ Some row)
   left_from s [] row i at = elim at [ inl none ↦ cc | inr none ↦ cc ]
@@ -85,9 +84,9 @@ module _ (n c : ℕ) where
     | inr is ↦ (let same : Took row ≡ e = cc in subst (λ (d : Change). (x : ℕ) × (slice_get (fold (step n c) (step n c s d) h).rows x ≡ Some row)) same (came_here s row h))
   ]
 
-pub events_left : ChangesLeftRows
+pub changes_left : ChangesLeftRows
 unfolding replay
-events_left n c h row has = elim has [
+changes_left n c h row has = elim has [
   | inl i ↦ left_from n c empty h row i.0 (inl i.1)
   | inr i ↦ left_from n c empty h row i.0 (inr i.1)
 ]
