@@ -4,7 +4,7 @@ ghost use Rattle.hg_model.specs.Rounds.{round_of};
 ghost use Rattle.hg_votes.specs.Counting.{HoldsBallots, HoldsVoters, IsOpened};
 
 use crate::tally::count_votes;
-use crate::weighing::{coin_bit, weigh};
+use crate::weighing::weigh;
 use hg_model::{Ballot, Items, Memory, Prefix};
 use std::alloc::Global;
 
@@ -45,7 +45,14 @@ fn next_ballot<P: Prefix>(
         };
     }
     let tally = count_votes(voters[y].as_slice(), ballots);
-    weigh(p.members(), p.coin(), above, tally, coin_bit(&p.row(y).sig))
+    weigh(
+        above,
+        p.coin(),
+        tally.yes,
+        tally.no,
+        p.members(),
+        &p.row(y).sig,
+    )
 }
 
 /// Counts the votes on `x` of the witnesses of round `r`, where those of the rounds before are counted.

@@ -1,6 +1,6 @@
 //! Votes on the fame of a witness, round by round: a ballot for each later witness, from those of its voters.
-//! The layer above uses `VoteTable` as the `Votes` of `hg_model`. The plain program uses how one ballot is found:
-//! `count_votes`, `weigh` and `coin_bit`.
+//! The layer above uses `VoteTable` as the `Votes` of `hg_model`. The plain program uses how one ballot is found,
+//! `count_votes` and `weigh`.
 //! Voters are found once, in `new`; a round then costs its witnesses times their voters, and no memory.
 #![tactic(auto, using(hg_model::proofs::StandingLaws::standings_told, hg_model::proofs::LinkLaws::link_lengths))]
 

@@ -2,7 +2,6 @@ ghost use Rattle.std.specs.Prelude.{◌≡◌, ◌<◌};
 ghost use Rattle.hg_model.specs.Order.{middle_bit};
 ghost use Rattle.hg_model.specs.Votes.{weighed_decides, weighed_vote};
 
-use crate::tally::Tally;
 use hg_model::{Ballot, Sig, is_supermajority};
 
 /// The coin of a witness with this signature: the highest bit of byte 32.
@@ -13,22 +12,23 @@ pub fn coin_bit(sig: &Sig) -> bool
     sig[32] >= 128
 }
 
-/// The ballot of a witness whose voters vote so, `above` rounds above the candidate and not one.
-/// The coin is thrown each `period` rounds, and is this witness's `coin`. SWIRLDS-TR-2016-01, procedure decideFame.
-pub fn weigh(members: u32, period: u32, above: u32, tally: Tally, coin: bool) -> Ballot
-    requires { 0 < period }
-    ensures { result ≡ record { vote = weighed_vote members period above tally.yes tally.no coin; decides = weighed_decides members period above tally.yes tally.no } }
+/// The ballot of a witness `d` rounds above the candidate, `d` not 1, of whose voters `yes` vote yes and `no` no.
+/// There are `n` members, the coin period is `c` rounds, and `sig` is the witness's signature.
+/// SWIRLDS-TR-2016-01, procedure decideFame.
+pub fn weigh(d: u32, c: u32, yes: u32, no: u32, n: u32, sig: &Sig) -> Ballot
+    requires { 0 < c }
+    ensures { result ≡ record { vote = weighed_vote n c d yes no (middle_bit sig.now); decides = weighed_decides n c d yes no } }
 {
-    let majority = tally.no <= tally.yes;
-    let is_strong = is_supermajority(members, tally.yes.max(tally.no));
-    let is_normal = above % period > 0;
+    let majority = no <= yes;
+    let is_strong = is_supermajority(n, yes.max(no));
+    let is_normal = d % c > 0;
     Ballot {
         vote: if is_normal || is_strong {
             majority
         } else {
-            coin
+            coin_bit(sig)
         },
-        decides: 1 < above && is_normal && is_strong,
+        decides: 1 < d && is_normal && is_strong,
     }
 }
 
@@ -36,29 +36,29 @@ pub fn weigh(members: u32, period: u32, above: u32, tally: Tally, coin: bool) ->
 mod tests {
     use super::*;
 
-    // Four members, and a coin round each third one above the candidate.
-    #[test]
-    fn weighs_the_votes_of_four_members(rt: HostRuntime) {
-        for (above, yes, no, coin, vote, decides) in [
-            (2, 3, 0, false, true, true),
-            (2, 2, 2, false, true, false),
-            (3, 1, 2, true, true, false),
-            (3, 1, 2, false, false, false),
-            (3, 0, 3, true, false, false),
-            (4, 0, 3, true, false, true),
-        ] {
-            let ballot = weigh(4, 3, above, Tally { yes, no }, coin);
-            assert!(rt;
-                ballot == Ballot { vote, decides },
-                "{above} rounds above, {yes} to {no}"
-            );
-        }
-    }
-
     fn sig_with(byte: u8) -> Sig {
         let mut sig = [0; 64];
         sig[32] = byte;
         sig
+    }
+
+    // Four members, and a coin round each third one above the candidate.
+    #[test]
+    fn weighs_the_votes_of_four_members(rt: HostRuntime) {
+        for (d, yes, no, byte, vote, decides) in [
+            (2, 3, 0, 0, true, true),
+            (2, 2, 2, 0, true, false),
+            (3, 1, 2, 0x80, true, false),
+            (3, 1, 2, 0x7f, false, false),
+            (3, 0, 3, 0x80, false, false),
+            (4, 0, 3, 0x80, false, true),
+        ] {
+            let ballot = weigh(d, 3, yes, no, 4, &sig_with(byte));
+            assert!(rt;
+                ballot == Ballot { vote, decides },
+                "{d} rounds above, {yes} to {no}"
+            );
+        }
     }
 
     #[test]

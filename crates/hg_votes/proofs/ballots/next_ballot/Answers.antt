@@ -35,4 +35,4 @@ returns g c =
     ballot_far graph c.args.x c.args.y c.requires.counted (subst (λ (s : Shape). IsEarlier (parents s.links)) shaped c.members.ensures.shaped.earlier)
     (λ one. c.if-above-eq1.false (above_is ∙ one)) c.args.ballots.now c.requires.before c.as_slice.result.now (c.round.result - c.round-2.result) c.members.result c.coin.result
     _ c.count_votes-tally.result c.weigh.result voters above_is (c.members.ensures.value ∙ ap (λ (s : Shape). s.members) shaped) c.coin.ensures.value
-    (c.coin_bit.ensures ∙ coin_read graph.rows c.args.y c.row.result.now c.row.ensures) c.count_votes-tally.ensures c.weigh.ensures
+    (coin_read graph.rows c.args.y c.row.result.now c.row.ensures) c.count_votes-tally.ensures c.weigh.ensures
