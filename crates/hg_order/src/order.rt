@@ -68,7 +68,7 @@ fn place_row<P: Prefix>(p: &P, ufw: &[usize], round: u32, x: usize) -> Placed
 }
 
 /// A law: the signature of a row has 64 bytes.
-#[tactic(auto, using(crate::proofs::StepLaws::row_told))]
+#[tactic(auto, using(crate::proofs::RowLaws::row_told))]
 fn is_wide<P: Prefix>(p: &P, x: usize)
     requires { x < length (links_of (P.graph p.now)) }
     ensures { IsWide (P.graph p.now).rows x }
@@ -118,7 +118,7 @@ struct TieBreak {
 }
 
 /// The signature and the name of the row at a place; zeros stand for what is not there.
-#[tactic(auto, using(crate::proofs::StepLaws::zeros_past))]
+#[tactic(auto, using(crate::proofs::RowLaws::zeros_past))]
 fn tie_break_at<P: Prefix>(p: &P, x: usize) -> TieBreak
     ensures sig { result.sig ≡ sig_or_zeros (slice_get (P.graph p.now).rows x) }
     ensures name { result.name ≡ name_or_zeros (slice_get (P.graph p.now).rows x) }
