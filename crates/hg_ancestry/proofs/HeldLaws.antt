@@ -1,19 +1,18 @@
 -- What is read in the rows of bits
-use Rattle.std.proofs.Common.{◌≡◌, ℕ, ◌+◌, ◌<◌, ◌≤◌, ◌||◌, ◌&&◌, not, eqb, true, false, List, [], ◌∷◌, Bool, length, get_or, replicate, Option, Some, None, sym, ap, ◌∙◌, inl, inr, arith}
-use Rattle.std.proofs.lemmas.Bool.{cases_lt, and_parts, and_from, eq-eqb, eqb-true, not-true, not_from_false, false_from_ne_true}
+use Rattle.std.proofs.Common.{◌≡◌, ℕ, ◌+◌, ◌<◌, ◌||◌, eqb, false, List, [], ◌∷◌, Bool, length, get_or, replicate, Option, Some, None, sym, ap, subst, ◌∙◌, inl, inr, arith}
+use Rattle.std.proofs.lemmas.Bool.{cases_lt, false_from_ne_true}
 use Rattle.std.proofs.lemmas.List.{get_or_read, get_or_past, get_or-replicate, length-replicate}
 use Rattle.std.proofs.Math.Bool.{or-false}
 use Rattle.hg_model.specs.Places.{table, IsEarlier}
-use Rattle.hg_model.specs.Links.{Link, parents, creator}
+use Rattle.hg_model.specs.Links.{Link, parents}
 use Rattle.hg_model.specs.Ancestry.{is_ancestor}
 use Rattle.std.specs.List.{AllByRecursion}
 use Rattle.hg_model.specs.Shape.{FitsLink, link_of, pair_list}
 use Rattle.hg_model.proofs.ReachLaws.{has_place_first, has_place_later}
-use Rattle.hg_model.proofs.PlacesLaws.{some_below_from, some_below_found}
 use Rattle.hg_model.proofs.AncestryLaws.{is_ancestor-le}
-use Rattle.hg_bits.specs.Rows.{is_in, is_over, with_place, union_of}
+use Rattle.hg_bits.specs.Rows.{is_in, with_place, union_of}
 use Rattle.hg_bits.proofs.RowLaws.{is_in-table, is_table, length-table}
-use Rattle.hg_ancestry.specs.Held.{row_at, HoldsAncestors, is_above, is_apart}
+use Rattle.hg_ancestry.specs.Held.{row_at, HoldsAncestors, is_above}
 
 pub row_read : (rows : List (List Bool)) (x : ℕ) (row : List Bool) → x < length rows → row ≡ get_or rows x row → row ≡ row_at rows x
 unfolding row_at
@@ -21,37 +20,18 @@ row_read rows x row h is = get_or_read rows x row h is []
 
 pub ruleset row_reads = (row_read)
 
+pub row_long : (L : List Link) (x : ℕ) (row : List Bool) → row ≡ table (is_ancestor L x) (x + 1) → length row ≡ x + 1
+row_long L x row is = ap length is ∙ length-table (is_ancestor L x) (x + 1)
+
+-- what the row of bits of x has, also past its end
+pub row_tells : (L : List Link) → IsEarlier (parents L) → (x y : ℕ) (row : List Bool) → row ≡ table (is_ancestor L x) (x + 1) → is_in row y ≡ is_ancestor L x y
+row_tells L e x y row is = elim (cases_lt y (x + 1)) [
+  | inl inside ↦ ap (λ row. is_in row y) is ∙ is_in-table (is_ancestor L x) (x + 1) y inside
+  | inr past ↦ get_or_past row y false (omega (arith, row_long L x row is))
+      ∙ sym (false_from_ne_true (is_ancestor L x y) (λ up. absurd (omega (arith, is_ancestor-le L e x y up))))
+]
+
 module _ (L : List Link) (e : IsEarlier (parents L)) (rows : List (List Bool)) (held : HoldsAncestors L rows) where
-  pub row_long : (x : ℕ) → x < length L → length (row_at rows x) ≡ x + 1
-  row_long x h = ap length (held.row x h) ∙ length-table (is_ancestor L x) (x + 1)
-
-  -- what the row of x has, also past its end
-  pub row_tells : (x y : ℕ) → x < length L → is_in (row_at rows x) y ≡ is_ancestor L x y
-  row_tells x y h = elim (cases_lt y (x + 1)) [
-    | inl inside ↦ ap (λ row. is_in row y) (held.row x h) ∙ is_in-table (is_ancestor L x) (x + 1) y inside
-    | inr past ↦ get_or_past (row_at rows x) y false (omega (arith, row_long x h))
-        ∙ sym (false_from_ne_true (is_ancestor L x y) (λ up. absurd (omega (arith, is_ancestor-le L e x y up))))
-  ]
-
-  -- a row by m that is above the one and not above the other
-  pub apart_found : (x z m : ℕ) → x < length L → z < length L → is_apart L (row_at rows x) (row_at rows z) m ≡ true →
-      (a : ℕ) × (is_ancestor L x a ≡ true) × (is_ancestor L z a ≡ false) × (creator L a ≡ m)
-  apart_found x z m hx hz h =
-      let found = some_below_found (length (row_at rows x)) (λ a. is_over (row_at rows x) (row_at rows z) a && eqb (creator L a) m) h in
-      let a : ℕ = found.0 in
-      let parts = and_parts (is_over (row_at rows x) (row_at rows z) a) (eqb (creator L a) m) found.2 in
-      let over = and_parts (is_in (row_at rows x) a) (not (is_in (row_at rows z) a)) parts.0 in
-      (a, sym (row_tells x a hx) ∙ over.0, sym (row_tells z a hz) ∙ not-true (is_in (row_at rows z) a) over.1, eqb-true (creator L a) m parts.1)
-
-  pub apart_from : (x z m a : ℕ) → x < length L → z < length L → is_ancestor L x a ≡ true → is_ancestor L z a ≡ false → creator L a ≡ m →
-      is_apart L (row_at rows x) (row_at rows z) m ≡ true
-  apart_from x z m a hx hz up none by_m =
-      let low : a ≤ x = is_ancestor-le L e x a up in
-      some_below_from (length (row_at rows x)) (λ a. is_over (row_at rows x) (row_at rows z) a && eqb (creator L a) m) a (omega (arith, row_long x hx))
-      (and_from (is_over (row_at rows x) (row_at rows z) a) (eqb (creator L a) m)
-      (and_from (is_in (row_at rows x) a) (not (is_in (row_at rows z) a)) (row_tells x a hx ∙ up) (not_from_false (is_in (row_at rows z) a) (row_tells z a hz ∙ none)))
-      (eq-eqb (creator L a) m by_m))
-
   -- the next row of bits: that of no place
 
   pub filled_none : (n : ℕ) → replicate n false ≡ table (is_above L None) n
@@ -60,7 +40,7 @@ module _ (L : List Link) (e : IsEarlier (parents L)) (rows : List (List Bool)) (
   joined_one : (row : List Bool) (x k : ℕ) → x < length L → k < length row → is_in (union_of row (row_at rows x)) k ≡ (is_in row k || is_ancestor L x k)
   unfolding union_of
   joined_one row x k hx hk =
-      is_in-table (λ k. is_in row k || is_in (row_at rows x) k) (length row) k hk ∙ ap (λ b. is_in row k || b) (row_tells x k hx)
+      is_in-table (λ k. is_in row k || is_in (row_at rows x) k) (length row) k hk ∙ ap (λ b. is_in row k || b) (row_tells L e x k (row_at rows x) (held.row x hx))
 
   pub joined_long : (row other : List Bool) → length (union_of row other) ≡ length row
   unfolding union_of
@@ -88,6 +68,12 @@ filled_last test row n i is =
     (λ k h. is_in-table (λ k. eqb k i || is_in row k) n k h ∙ ap (λ b. eqb k i || b) (ap (λ r. is_in r k) is ∙ is_in-table test n k h)))
 
 -- the parents of a link that fits are there
+pub parents_there : (n : ℕ) (L : List Link) (by own other : ℕ) (on : Option (ℕ × ℕ)) → on ≡ Some (own, other) → FitsLink n L (link_of by on) → (own < length L) × (other < length L)
+parents_there n L by own other on is fits = (
+  (subst (λ (on : Option (ℕ × ℕ)). FitsLink n L (link_of by on)) is fits).earlier own (has_place_first own (other ∷ [])),
+  (subst (λ (on : Option (ℕ × ℕ)). FitsLink n L (link_of by on)) is fits).earlier other (has_place_later own other (other ∷ []) (has_place_first other [])),
+)
+
 pub places_fit : (n : ℕ) (L : List Link) (by : ℕ) (on : Option (ℕ × ℕ)) → FitsLink n L (link_of by on) → AllByRecursion (λ p. p < length L) (pair_list on)
 places_fit n L by None fits = tt
 places_fit n L by (Some (own, other)) fits =

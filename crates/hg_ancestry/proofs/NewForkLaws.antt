@@ -1,6 +1,6 @@
 -- Which members have a fork among the ancestors of a new row
-use Rattle.std.proofs.Common.{◌≡◌, ℕ, ◌<◌, ◌≤◌, ◌||◌, ◌&&◌, eqb, true, false, Bool, List, [], ◌∷◌, ◌++◌, length, Some, None, sym, subst, ◌∙◌, refl, inl, inr, ◌⊎◌, arith}
-use Rattle.std.proofs.lemmas.Bool.{cases_Bool, both_ways, false_from_ne_true, or_cases, or_left, or_right, and_parts, and_from, eq-eqb, eqb-true, true≢false}
+use Rattle.std.proofs.Common.{◌≡◌, ℕ, ◌<◌, ◌≤◌, ◌||◌, ◌&&◌, not, eqb, true, false, Bool, List, [], ◌∷◌, ◌++◌, length, Some, None, sym, subst, ◌∙◌, refl, inl, inr, ◌⊎◌, arith}
+use Rattle.std.proofs.lemmas.Bool.{cases_Bool, both_ways, false_from_ne_true, or_cases, or_left, or_right, and_parts, and_from, eq-eqb, eqb-true, not-true, not_from_false, true≢false}
 use Rattle.hg_model.specs.Places.{has_place, IsEarlier}
 use Rattle.hg_model.specs.Links.{Link, parents, self_parent, first_place, creator}
 use Rattle.hg_model.specs.Ancestry.{is_ancestor, is_self_ancestor, some_ancestor}
@@ -9,12 +9,11 @@ use Rattle.hg_model.specs.Graph.{IsShaped}
 use Rattle.hg_model.specs.Shape.{FitsLink, link_of}
 use Rattle.hg_model.proofs.ReachLaws.{bool_iff, has_place_first, has_place_later}
 use Rattle.hg_model.proofs.AncestryLaws.{is_ancestor_self, is_ancestor_by, is_ancestor-le, is_ancestor_cases, is_ancestor-trans, is_self_ancestor_self, is_self_ancestor_by, is_self_ancestor_cases, is_self_ancestor-le}
-use Rattle.hg_model.proofs.SightLaws.{some_ancestor_found, is_ancestor-from_self, has_fork_below_grows, has_fork_below_from}
+use Rattle.hg_model.proofs.SightLaws.{some_ancestor_found, some_ancestor_with, is_ancestor-from_self, has_fork_below_grows, has_fork_below_from}
 use Rattle.hg_model.proofs.ForkLaws.{Fork, fork_is, is_fork_from}
 use Rattle.hg_model.proofs.PushLaws.{creator_last, shape-push}
 use Rattle.hg_model.proofs.LongerLaws.{IsLonger, longer-append, creator-longer, is_ancestor-longer, is_self_ancestor-longer, has_fork_below-longer}
-use Rattle.hg_ancestry.specs.Held.{row_at, HoldsAncestors, is_apart}
-use Rattle.hg_ancestry.proofs.HeldLaws.{apart_found, apart_from}
+use Rattle.hg_ancestry.specs.Held.{is_apart}
 use Rattle.hg_ancestry.proofs.GrowLaws.{parents_last}
 
 pub has_fork_below_found : (L : List Link) → IsEarlier (parents L) → (x m : ℕ) → has_fork_below L x m ≡ true →
@@ -24,6 +23,19 @@ has_fork_below_found L e x m h =
     let one = some_ancestor_found L e x (λ a. some_ancestor L x (is_fork L m a)) h in
     let two = some_ancestor_found L e x (is_fork L m one.0) one.3 in
     (one.0, two.0, one.2, two.2, fork_is L m one.0 two.0 two.3)
+
+-- a row by m that is above the one and not above the other
+apart_found : (L : List Link) → IsEarlier (parents L) → (x z m : ℕ) → is_apart L x z m ≡ true →
+    (a : ℕ) × (is_ancestor L x a ≡ true) × (is_ancestor L z a ≡ false) × (creator L a ≡ m)
+apart_found L e x z m h =
+    let a = some_ancestor_found L e x (λ a. not (is_ancestor L z a) && eqb (creator L a) m) h in
+    let parts = and_parts (not (is_ancestor L z a.0)) (eqb (creator L a.0) m) a.3 in
+    (a.0, a.2, not-true (is_ancestor L z a.0) parts.0, eqb-true (creator L a.0) m parts.1)
+
+apart_from : (L : List Link) → IsEarlier (parents L) → (x z m a : ℕ) → is_ancestor L x a ≡ true → is_ancestor L z a ≡ false → creator L a ≡ m → is_apart L x z m ≡ true
+apart_from L e x z m a up none by_m =
+    some_ancestor_with L e x a (λ a. not (is_ancestor L z a) && eqb (creator L a) m) up
+    (and_from (not (is_ancestor L z a)) (eqb (creator L a) m) (not_from_false (is_ancestor L z a) none) (eq-eqb (creator L a) m by_m))
 
 -- a row without parents has no fork above it
 pub no_fork_alone : (n : ℕ) (L : List Link) (m by : ℕ) → IsShaped n L → FitsLink n L (link_of by None) → has_fork_below (L ++ link_of by None ∷ []) (length L) m ≡ false
@@ -40,7 +52,7 @@ no_fork_alone n L m by s fits =
     let same : f.0 ≡ f.1 = sym (only f.0 f.2) ∙ only f.1 f.3 in
     absurd (both_ways (is_self_ancestor M f.0 f.1) f.4.not_above (subst (λ b. is_self_ancestor M f.0 b ≡ true) same (is_self_ancestor_self M e f.0))))
 
-module _ (n : ℕ) (L : List Link) (s : IsShaped n L) (rows : List (List Bool)) (held : HoldsAncestors L rows) (by own other : ℕ) (fits : FitsLink n L (link_of by (Some (own, other)))) (m : ℕ) where
+module _ (n : ℕ) (L : List Link) (s : IsShaped n L) (by own other : ℕ) (fits : FitsLink n L (link_of by (Some (own, other)))) (m : ℕ) where
   abbrev pub new_link : Link
   new_link = link_of by (Some (own, other))
 
@@ -77,7 +89,7 @@ module _ (n : ℕ) (L : List Link) (s : IsShaped n L) (rows : List (List Bool)) 
 
   -- the new row's member has a row above its self-parent alone, or is its creator, and has one above its other-parent alone
   abbrev pub forks_anew : Bool
-  forks_anew = (eqb m by || is_apart L (row_at rows own) (row_at rows other) m) && is_apart L (row_at rows other) (row_at rows own) m
+  forks_anew = (eqb m by || is_apart L own other m) && is_apart L other own m
 
   abbrev pub forks_here : Bool
   forks_here = (has_fork_below L own m || has_fork_below L other m) || forks_anew
@@ -118,11 +130,11 @@ module _ (n : ℕ) (L : List Link) (s : IsShaped n L) (rows : List (List Bool)) 
   known_other : has_fork_below L other m ≡ true → forks_here ≡ true
   known_other h = or_left (has_fork_below L own m || has_fork_below L other m) forks_anew (or_right (has_fork_below L own m) (has_fork_below L other m) h)
 
-  anew : (eqb m by || is_apart L (row_at rows own) (row_at rows other) m) ≡ true → (b : ℕ) → is_ancestor L other b ≡ true → is_ancestor L own b ≡ false → creator L b ≡ m → forks_here ≡ true
+  anew : (eqb m by || is_apart L own other m) ≡ true → (b : ℕ) → is_ancestor L other b ≡ true → is_ancestor L own b ≡ false → creator L b ≡ m → forks_here ≡ true
   anew here b up none by_m =
       or_right (has_fork_below L own m || has_fork_below L other m) forks_anew
-      (and_from (eqb m by || is_apart L (row_at rows own) (row_at rows other) m) (is_apart L (row_at rows other) (row_at rows own) m) here
-      (apart_from L before rows held other own m b other_below own_below up none by_m))
+      (and_from (eqb m by || is_apart L own other m) (is_apart L other own m) here
+      (apart_from L before other own m b up none by_m))
 
   fork_below_own : (a b : ℕ) → is_ancestor L own a ≡ true → is_ancestor L own b ≡ true → Fork L m a b → forks_here ≡ true
   fork_below_own a b ua ub f = known_own (has_fork_below_from L before own a b m ua ub (is_fork_from L m a b f))
@@ -151,7 +163,7 @@ module _ (n : ℕ) (L : List Link) (s : IsShaped n L) (rows : List (List Bool)) 
             }))
         | inr not_above ↦ elim up [
           | inl above ↦ absurd (both_ways (is_ancestor L own b) not_above above)
-          | inr above ↦ anew (or_left (eqb m by) (is_apart L (row_at rows own) (row_at rows other) m) (eq-eqb m by (sym made))) b above not_above by_m
+          | inr above ↦ anew (or_left (eqb m by) (is_apart L own other m) (eq-eqb m by (sym made))) b above not_above by_m
         ]
       ]
 
@@ -161,8 +173,8 @@ module _ (n : ℕ) (L : List Link) (s : IsShaped n L) (rows : List (List Bool)) 
     | inl both ↦ fork_below_own a b ua both f
     | inr b_apart ↦ elim (cases_Bool (is_ancestor L other a)) [
       | inl both ↦ fork_below_other a b both ub f
-      | inr a_apart ↦ anew (or_right (eqb m by) (is_apart L (row_at rows own) (row_at rows other) m)
-          (apart_from L before rows held own other m a own_below other_below ua a_apart f.first)) b ub b_apart f.second
+      | inr a_apart ↦ anew (or_right (eqb m by) (is_apart L own other m)
+          (apart_from L before own other m a ua a_apart f.first)) b ub b_apart f.second
     ]
   ]
 
@@ -252,11 +264,11 @@ module _ (n : ℕ) (L : List Link) (s : IsShaped n L) (rows : List (List Bool)) 
       | inr below ↦ has_fork_below_grows grown after (length L) other m (up_other other (is_ancestor_self L before other)) (has_fork_below-longer L grown longer other m other_below ∙ below)
     ]
     | inr new ↦
-        (let parts = and_parts (eqb m by || is_apart L (row_at rows own) (row_at rows other) m) (is_apart L (row_at rows other) (row_at rows own) m) new in
-        let b = apart_found L before rows held other own m other_below own_below parts.1 in
-        elim (or_cases (eqb m by) (is_apart L (row_at rows own) (row_at rows other) m) parts.0) [
+        (let parts = and_parts (eqb m by || is_apart L own other m) (is_apart L other own m) new in
+        let b = apart_found L before other own m parts.1 in
+        elim (or_cases (eqb m by) (is_apart L own other m) parts.0) [
           | inl made ↦ fork_with_new (sym (eqb-true m by made)) b.0 b.1 b.2 b.3
-          | inr apart ↦ (let a = apart_found L before rows held own other m own_below other_below apart in fork_across a.0 b.0 a.1 a.2 b.1 b.2 a.3 b.3)
+          | inr apart ↦ (let a = apart_found L before own other m apart in fork_across a.0 b.0 a.1 a.2 b.1 b.2 a.3 b.3)
         ])
   ]
 

@@ -1,7 +1,6 @@
 -- The members through whom a row sees another
-use Rattle.std.proofs.Common.{◌≡◌, ℕ, zero, suc, ◌+◌, ◌*◌, ◌<◌, lt-ltb, ◌≤◌, ◌||◌, ◌&&◌, eqb, true, false, Bool, List, length, sym, ap, ◌∙◌, refl, inl, inr, arith, add-one, ap₂}
+use Rattle.std.proofs.Common.{◌≡◌, ℕ, zero, suc, ◌+◌, ◌*◌, ◌<◌, lt-ltb, ◌≤◌, ◌&&◌, eqb, true, false, Bool, List, length, sym, ap, ◌∙◌, refl, inl, inr, arith, add-one}
 use Rattle.std.proofs.lemmas.Bool.{cases_lt, cases_eq, and_parts, false_from_ne_true, eq-eqb, ne_eqb, ltb-true, true≢false}
-use Rattle.std.proofs.Math.Bool.{or-false, or_comm}
 use Rattle.hg_bits.specs.Masks.{mask_has}
 use Rattle.hg_bits.proofs.MaskLaws.{mask_none}
 use Rattle.hg_model.specs.Places.{count_below, some_below, IsEarlier}
@@ -9,10 +8,7 @@ use Rattle.hg_model.specs.Links.{Link, parents, creator}
 use Rattle.hg_model.specs.Ancestry.{is_ancestor}
 use Rattle.hg_model.specs.Seeing.{sees, sees_through, strongly_sees, is_supermajority}
 use Rattle.hg_model.specs.Graph.{IsShaped}
-use Rattle.hg_bits.specs.Words.{IsFirst, NoneFrom}
-use Rattle.hg_bits.specs.Rows.{is_over}
-use Rattle.hg_ancestry.specs.Held.{is_apart}
-use Rattle.hg_model.proofs.PlacesLaws.{some_below_none, some_below_next, some_below_found, some_below_from, weight_below-same, weight_below-longer, weight_below-le, weight_below_none}
+use Rattle.hg_model.proofs.PlacesLaws.{some_below_none, some_below_found, some_below_from, weight_below-same, weight_below-longer, weight_below-le, weight_below_none}
 use Rattle.hg_model.proofs.AncestryLaws.{is_ancestor-le}
 use Rattle.hg_model.proofs.SightLaws.{sees-is_ancestor, sees_through_found, strongly_sees-is_ancestor}
 
@@ -65,28 +61,3 @@ eqb_turned a b = elim (cases_eq a b) [
   | inl same ↦ eq-eqb a b same ∙ sym (eq-eqb b a (sym same))
   | inr apart ↦ ne_eqb a b apart ∙ sym (ne_eqb b a (λ same. apart (sym same)))
 ]
-
--- a search that goes on from one place that passes to the next
-
-skipped : (test : ℕ → Bool) (from n : ℕ) → from ≤ n → NoneFrom test from n → some_below n test ≡ some_below from test
-skipped test from zero le none = (let same : from ≡ 0 = omega arith in rw same refl)
-skipped test from (suc n) le none = elim (cases_lt n from) [
-  | inl last ↦ (let same : from ≡ suc n = omega arith in rw same refl)
-  | inr more ↦ ap (λ k. some_below k test) (sym (add-one n)) ∙ (some_below_next n test
-      ∙ (ap (λ b. some_below n test || b) (none n more (omega arith)) ∙ (or-false (some_below n test) ∙ skipped test from n more (λ i h l. none i h (omega arith)))))
-]
-
-module _ (L : List Link) (row other : List Bool) (from : ℕ) (mask : ℕ → Bool) (told : (m : ℕ) → mask m ≡ some_below from (λ a. is_over row other a && eqb (creator L a) m)) where
-  apart_none : (a m : ℕ) → is_over row other a ≡ false → (is_over row other a && eqb (creator L a) m) ≡ false
-  apart_none a m h = ap (λ b. b && eqb (creator L a) m) h
-
-  pub apart_next : (a member : ℕ) (result : ℕ → Bool) → IsFirst (is_over row other) from a → member ≡ creator L a → ((m : ℕ) → result m ≡ (eqb m member || mask m)) →
-      (m : ℕ) → result m ≡ some_below (a + 1) (λ a. is_over row other a && eqb (creator L a) m)
-  apart_next a member result first by_member made m =
-      let test : ℕ → Bool = λ a. is_over row other a && eqb (creator L a) m in
-      let before : some_below a test ≡ mask m = skipped test from a first.low (λ i h l. apart_none i m (first.none_before i h l)) ∙ sym (told m) in
-      let here : test a ≡ eqb m member = ap (λ b. b && eqb (creator L a) m) first.passes ∙ (ap (λ c. eqb c m) (sym by_member) ∙ eqb_turned member m) in
-      made m ∙ (or_comm (eqb m member) (mask m) ∙ (ap₂ (λ (b c : Bool). b || c) (sym before) (sym here) ∙ sym (some_below_next a test)))
-
-  pub apart_all : from ≤ length row → NoneFrom (is_over row other) from (length row) → (m : ℕ) → mask m ≡ is_apart L row other m
-  apart_all le none m = told m ∙ sym (skipped (λ a. is_over row other a && eqb (creator L a) m) from (length row) le (λ i h l. apart_none i m (none i h l)))

@@ -1,14 +1,13 @@
 -- What the rows of bits and the masks of a graph hold
-use Rattle.std.specs.Prelude.{◌≡◌, ℕ, ◌+◌, ◌-◌, ◌<◌, ◌≤◌, ◌^◌, Bool, false, ◌&&◌, ◌==◌, List, [], length, get_or, replicate, Option, Some, None}
+use Rattle.std.specs.Prelude.{◌≡◌, ℕ, ◌+◌, ◌-◌, ◌<◌, ◌≤◌, ◌^◌, Bool, false, not, ◌&&◌, ◌==◌, List, [], length, get_or, replicate, Option, Some, None}
 use Rattle.std.specs.List.{list_any}
-use Rattle.hg_model.specs.Places.{some_below, table}
+use Rattle.hg_model.specs.Places.{table}
 use Rattle.hg_model.specs.Links.{Link, creator}
-use Rattle.hg_model.specs.Ancestry.{is_ancestor}
+use Rattle.hg_model.specs.Ancestry.{is_ancestor, some_ancestor}
 use Rattle.hg_model.specs.Forks.{has_fork_below}
 use Rattle.hg_model.specs.Graph.{IsShaped}
 use Rattle.hg_model.specs.Shape.{pair_list}
 use Rattle.hg_bits.specs.Masks.{mask_has}
-use Rattle.hg_bits.specs.Rows.{is_over}
 
 -- the row of bits of x
 unfoldable pub row_at : List (List Bool) → ℕ → List Bool
@@ -46,6 +45,6 @@ spare_room (Some row) = 1
 abbrev pub is_above : List Link → Option (ℕ × ℕ) → ℕ → Bool
 is_above L parents y = list_any (λ p. is_ancestor L p y) (pair_list parents)
 
--- member m has a row that is in the first row of bits and not in the other
-abbrev pub is_apart : List Link → List Bool → List Bool → ℕ → Bool
-is_apart L row other m = some_below (length row) (λ a. is_over row other a && creator L a == m)
+-- member m has a row that is an ancestor of x and none of z
+abbrev pub is_apart : List Link → ℕ → ℕ → ℕ → Bool
+is_apart L x z m = some_ancestor L x (λ a. not (is_ancestor L z a) && creator L a == m)

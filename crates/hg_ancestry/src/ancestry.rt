@@ -2,7 +2,6 @@ ghost use Rattle.std.specs.Prelude.{◌≡◌, ◌<◌, ◌≤◌, ◌+◌, ◌|
 ghost use Rattle.hg_model.specs.Places.{IsEarlier, table};
 ghost use Rattle.hg_model.specs.Links.{parents};
 ghost use Rattle.std.specs.List.{AllByRecursion};
-ghost use Rattle.hg_model.specs.Ancestry.{is_ancestor};
 ghost use Rattle.hg_model.specs.Shape.{pair_list};
 ghost use Rattle.hg_ancestry.specs.Held.{HoldsAncestors, is_above, row_at};
 
@@ -18,19 +17,6 @@ pub fn row_of(rows: &[BitRow], x: usize) -> &BitRow
     ensures { result.now ≡ row_at rows.now x }
 {
     &rows[x]
-}
-
-/// Whether row `y` is an ancestor of row `x`.
-pub fn has_ancestor(links: &[PlacedLink], rows: &[BitRow], x: usize, y: usize) -> bool
-    requires earlier { IsEarlier (parents links.now) }
-    requires known { HoldsAncestors links.now rows.now }
-    requires place { x < length links.now }
-    ensures { result ≡ is_ancestor links.now x y }
-{
-    if x < y {
-        return false;
-    }
-    row_of(rows, x).has(y)
 }
 
 /// Adds the ancestors of a row on these parents, and the row itself, which comes next.

@@ -1,86 +1,59 @@
-ghost use Rattle.std.specs.Prelude.{◌≡◌, ◌<◌, ◌≤◌, ◌+◌, ◌-◌, ◌^◌, ◌++◌, ◌∷◌, [], ◌||◌, ◌&&◌, ◌==◌, ℕ, length, take, IfOk};
-ghost use Rattle.std.specs.List.{AllByRecursion};
-ghost use Rattle.hg_model.specs.Links.{creator};
+ghost use Rattle.std.specs.Prelude.{◌≡◌, ◌<◌, ◌≤◌, ◌++◌, ◌∷◌, [], ◌||◌, ◌&&◌, ◌==◌, ℕ, length, take, IfOk};
 ghost use Rattle.hg_model.specs.Forks.{has_fork_below};
-ghost use Rattle.hg_model.specs.Graph.{IsShaped};
-ghost use Rattle.hg_model.specs.Shape.{FitsLink, link_of, pair_list};
+ghost use Rattle.hg_model.specs.Shape.{FitsLink, link_of};
 ghost use Rattle.hg_bits.specs.Masks.{mask_has};
-ghost use Rattle.hg_ancestry.specs.Held.{HoldsSight, is_apart};
+ghost use Rattle.hg_ancestry.specs.Held.{is_apart};
 
-use crate::ancestry::row_of;
-use crate::links::{PlacedLink, creator_of};
-use hg_bits::{BitRow, join_masks, mask_has, meet_masks, with_member};
-use hg_model::{Member, Memory};
+use crate::sight::BitSight;
+use hg_bits::{join_masks, meet_masks, with_member};
+use hg_model::{Member, Memory, Sight};
 use std::alloc::Global;
 
-/// Whether the creator of row `y` has a fork among the ancestors of row `x`.
-pub fn is_forked(
-    links: &[PlacedLink],
-    rows: &[BitRow],
-    masks: &[u128],
-    members: u32,
-    x: usize,
-    y: usize,
-) -> bool
-    requires known { HoldsSight members links.now rows.now masks.now }
-    requires row { x < length links.now }
-    requires place { y < length links.now }
-    ensures { result ≡ has_fork_below links.now x (creator links.now y) }
+/// The members with a fork among the ancestors of a row by this member on these parents, which comes next.
+pub fn forked_below_next(sight: &BitSight, on: Option<(usize, usize)>, by: Member) -> u128
+    requires { FitsLink sight.now.shape.members sight.now.shape.links (link_of by on) }
+    ensures { (m : ℕ) → mask_has result m ≡ has_fork_below (sight.now.shape.links ++ link_of by on ∷ []) (length sight.now.shape.links) m }
 {
-    mask_has(masks[x], creator_of(links, members, y))
-}
-
-/// The members with a fork among the ancestors of a row on these parents, which comes next.
-pub fn forks_above(
-    links: &[PlacedLink],
-    rows: &[BitRow],
-    masks: &[u128],
-    members: u32,
-    on: Option<(usize, usize)>,
-    by: Member,
-) -> u128
-    requires known { HoldsSight members links.now rows.now masks.now }
-    requires fits { FitsLink members links.now (link_of by on) }
-    requires places { AllByRecursion (λ p. p < length links.now) (pair_list on) }
-    ensures { (m : ℕ) → mask_has result m ≡ has_fork_below (links.now ++ link_of by on ∷ []) (length links.now) m }
-{
+    // That the graph is shaped.
+    sight.rows();
     match on {
         None => 0,
         Some((own, other)) => {
-            let known = join_masks(masks[own], masks[other]);
-            let anew = new_forks(links, members, row_of(rows, own), row_of(rows, other), by);
-            join_masks(known, anew)
+            let known = join_masks(sight.forked_below(own), sight.forked_below(other));
+            join_masks(known, new_forks(sight, own, other, by))
         }
     }
 }
 
 /// The members that have a row among the ancestors of the self-parent alone, or are the creator,
 /// and have another among the ancestors of the other-parent alone.
-fn new_forks(links: &[PlacedLink], members: u32, own: &BitRow, other: &BitRow, by: Member) -> u128
-    requires shaped { IsShaped members links.now }
-    requires few { members ≤ 128 }
-    requires short { length links.now < 2 ^ 32 - 1 }
-    requires member { by < 128 }
-    requires own { length own.now ≤ length links.now }
-    requires other { length other.now ≤ length links.now }
-    ensures { (m : ℕ) → mask_has result m ≡ ((m == by || is_apart links.now own.now other.now m) && is_apart links.now other.now own.now m) }
+fn new_forks(sight: &BitSight, own: usize, other: usize, by: Member) -> u128
+    requires member { by < sight.now.shape.members }
+    requires own { own < length sight.now.shape.links }
+    requires other { other < length sight.now.shape.links }
+    ensures { (m : ℕ) → mask_has result m ≡ ((m == by || is_apart sight.now.shape.links own other m) && is_apart sight.now.shape.links other own m) }
 {
-    let here = with_member(members_apart(links, members, own, other), by);
-    meet_masks(here, members_apart(links, members, other, own))
+    // That there are at most 128 members.
+    sight.members();
+    let here = with_member(members_apart(sight, own, other), by);
+    meet_masks(here, members_apart(sight, other, own))
 }
 
-/// The members with a row that is in the first row of bits and not in the other.
-fn members_apart(links: &[PlacedLink], members: u32, row: &BitRow, other: &BitRow) -> u128
-    requires shaped { IsShaped members links.now }
-    requires few { members ≤ 128 }
-    requires short { length links.now < 2 ^ 32 - 1 }
-    requires row { length row.now ≤ length links.now }
-    ensures { (m : ℕ) → mask_has result m ≡ is_apart links.now row.now other.now m }
+/// The members with a row among the ancestors of row `x` that is none of those of row `z`.
+fn members_apart(sight: &BitSight, x: usize, z: usize) -> u128
+    requires row { x < length sight.now.shape.links }
+    requires other { z < length sight.now.shape.links }
+    ensures { (m : ℕ) → mask_has result m ≡ is_apart sight.now.shape.links x z m }
 {
+    // That there are at most 128 members, and fewer than 2^32 - 1 rows.
+    sight.members();
+    sight.rows();
+    let row = sight.ancestors_of(x);
+    let other = sight.ancestors_of(z);
     let mut mask = 0;
     let mut from = 0;
     'places: while let Some(a) = row.first_over(other, from) {
-        mask = with_member(mask, creator_of(links, members, a));
+        mask = with_member(mask, sight.creator(a));
         from = a + 1;
     }
     mask

@@ -3,31 +3,21 @@ ghost use Rattle.hg_model.specs.Links.{creator};
 ghost use Rattle.hg_model.specs.Ancestry.{is_ancestor};
 ghost use Rattle.hg_model.specs.Seeing.{sees, strongly_sees};
 ghost use Rattle.hg_bits.specs.Masks.{mask_has};
-ghost use Rattle.hg_ancestry.specs.Held.{HoldsSight};
 
-use crate::ancestry::has_ancestor;
-use crate::forks::is_forked;
-use crate::links::PlacedLink;
 use crate::sight::BitSight;
-use hg_bits::{BitRow, mask_has, members_over, with_member};
+use hg_bits::{mask_has, members_over, with_member};
 use hg_model::Sight;
 
 /// Whether row `x` sees row `y`.
 #[tactic(auto, unfolding(hg_model::specs::Seeing::sees))]
-pub fn sees(
-    links: &[PlacedLink],
-    rows: &[BitRow],
-    masks: &[u128],
-    members: u32,
-    x: usize,
-    y: usize,
-) -> bool
-    requires known { HoldsSight members links.now rows.now masks.now }
-    requires left { x < length links.now }
-    requires right { y < length links.now }
-    ensures { result ≡ sees links.now x y }
+pub fn sees(sight: &BitSight, x: usize, y: usize) -> bool
+    requires left { x < length sight.now.shape.links }
+    requires right { y < length sight.now.shape.links }
+    ensures { result ≡ sees sight.now.shape.links x y }
 {
-    has_ancestor(links, rows, x, y) && !is_forked(links, rows, masks, members, x, y)
+    // That there are at most 128 members.
+    sight.members();
+    sight.ancestor(x, y) && !mask_has(sight.forked_below(x), sight.creator(y))
 }
 
 /// Whether row `x` strongly sees row `y`. It looks no further than the first rows by more than two thirds of the members.

@@ -1,8 +1,12 @@
-ghost use Rattle.std.specs.Prelude.{◌≡◌, ◌≤◌, [], IfOk};
+ghost use Rattle.std.specs.Prelude.{◌≡◌, ◌<◌, ◌≤◌, ◌+◌, ℕ, [], length, IfOk};
+ghost use Rattle.hg_model.specs.Places.{table};
+ghost use Rattle.hg_model.specs.Ancestry.{is_ancestor};
+ghost use Rattle.hg_model.specs.Forks.{has_fork_below};
 ghost use Rattle.hg_model.specs.Shape.{shape_of};
+ghost use Rattle.hg_bits.specs.Masks.{mask_has};
 
-use crate::ancestry::{copy_rows, fill, has_ancestor};
-use crate::forks::{copy_masks, forks_above};
+use crate::ancestry::{copy_rows, fill, row_of};
+use crate::forks::{copy_masks, forked_below_next};
 use crate::links::{PlacedLink, copy_links, creator_of, self_parent_of};
 use crate::seeing;
 use hg_bits::BitRow;
@@ -51,6 +55,22 @@ impl BitSight {
             spare: None,
         })
     }
+
+    /// The ancestors of row `x`, as a bit for each row up to it.
+    pub(crate) fn ancestors_of(&self, x: usize) -> &BitRow
+        requires { x < length self.now.shape.links }
+        ensures { result.now ≡ table (is_ancestor self.now.shape.links x) (x + 1) }
+    {
+        row_of(&self.ancestors, x)
+    }
+
+    /// The members with a fork among the ancestors of row `x`.
+    pub(crate) fn forked_below(&self, x: usize) -> u128
+        requires { x < length self.now.shape.links }
+        ensures { (m : ℕ) → mask_has result m ≡ has_fork_below self.now.shape.links x m }
+    {
+        self.forked[x]
+    }
 }
 
 impl Sight for BitSight {
@@ -73,18 +93,12 @@ impl Sight for BitSight {
     }
 
     fn ancestor(&self, x: usize, y: usize) -> bool {
-        has_ancestor(&self.links, &self.ancestors, x, y)
+        let row = row_of(&self.ancestors, x);
+        y <= x && row.has(y)
     }
 
     fn sees(&self, x: usize, y: usize) -> bool {
-        seeing::sees(
-            &self.links,
-            &self.ancestors,
-            &self.forked,
-            self.members,
-            x,
-            y,
-        )
+        seeing::sees(self, x, y)
     }
 
     fn strongly_sees(&self, x: usize, y: usize) -> bool {
@@ -107,14 +121,7 @@ impl Growing for BitSight {
     }
 
     fn extend(&mut self, parents: Option<(usize, usize)>, creator: Member) {
-        let forked = forks_above(
-            &self.links,
-            &self.ancestors,
-            &self.forked,
-            self.members,
-            parents,
-            creator,
-        );
+        let forked = forked_below_next(self, parents, creator);
         if let Some(mut row) = self.spare.take() {
             fill(&mut row, &self.links, &self.ancestors, parents);
             self.links.push_reserved(PlacedLink { creator, parents });

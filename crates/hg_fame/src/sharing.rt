@@ -26,10 +26,7 @@ fn share_fame<P: Prefix, V: Votes>(
     if index % share.of() != share.k() {
         return None;
     }
-    match elect(p, votes, x) {
-        None => None,
-        Some((fame, _)) => Some(fame),
-    }
+    elect(p, votes, x).map(|decision| decision.0)
 }
 
 /// What the share of the prefix's witnesses decides in it: each decided one of them by place, with its fame.

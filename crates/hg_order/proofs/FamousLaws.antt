@@ -2,6 +2,7 @@
 use Rattle.std.proofs.Common.{◌≡◌, ℕ, ◌<◌, ◌≤◌, Bool, true, false, not, ◌&&◌, eqb, List, length, get_or, filter, count_by, fold, replicate, All, sym, refl, ap, ◌∙◌, inl, inr, arith}
 use Rattle.std.specs.List.{AllByRecursion, list_any}
 use Rattle.std.proofs.lemmas.Bool.{cases_eq, and_parts, and_from, eqb-true, eq-eqb, ne_eqb, not-true, not_from_false, both_ways}
+use Rattle.std.proofs.Math.Bool.{and_assoc}
 use Rattle.std.proofs.lemmas.List.Elements.{All-same, All-from_recursion}
 use Rattle.std.proofs.lemmas.List.Folds.{fold-map}
 use Rattle.std.proofs.lemmas.List.Sums.{length-filter}
@@ -23,13 +24,9 @@ use Rattle.hg_model.proofs.SortLaws.{sum_of_ones}
 use Rattle.hg_order.specs.Famous.{famous_of, AreFamous, all_have, is_rival_to, is_lone, whitening_of}
 use Rattle.hg_order.proofs.ImageLaws.{count_below-apart}
 
-and_assoc : (a b c d : Bool) → (a && (b && c && d)) ≡ (a && b && c && d)
-and_assoc true b c d = refl
-and_assoc false b c d = refl
-
-and_assoc_two : (a b c : Bool) → (a && (b && c)) ≡ (a && b && c)
-and_assoc_two true b c = refl
-and_assoc_two false b c = refl
+and_assoc_three : (a b c d : Bool) → (a && (b && c && d)) ≡ (a && b && c && d)
+and_assoc_three true b c d = refl
+and_assoc_three false b c d = refl
 
 module _ (n : ℕ) (L : List Link) (marks : Marks) (r : ℕ) where
   witness_of : (y : ℕ) → is_unique_famous n L marks r y ≡ true → is_famous_in n L marks r y ≡ true
@@ -77,7 +74,7 @@ module _ (n : ℕ) (L : List Link) (marks : Marks) (r : ℕ) where
   rivals y =
       list_any-list_below (is_rival_to L marks y) (length L) (is_witness_in n L r)
       ∙ some_below-same (length L) (λ z. is_witness_in n L r z && is_rival_to L marks y z) (is_rival n L marks r y)
-      (λ z h. and_assoc (is_witness_in n L r z) (is_yes (mark_at marks z)) (eqb (creator L z) (creator L y)) (not (eqb z y)))
+      (λ z h. and_assoc_three (is_witness_in n L r z) (is_yes (mark_at marks z)) (eqb (creator L z) (creator L y)) (not (eqb z y)))
 
   pub lone_are_famous : filter (is_lone L marks (list_below (λ w. w) (length L) (is_witness_in n L r))) (list_below (λ w. w) (length L) (is_witness_in n L r)) ≡ famous_places n L marks r
   unfolding famous_places is_unique_famous
@@ -87,7 +84,7 @@ module _ (n : ℕ) (L : List Link) (marks : Marks) (r : ℕ) where
       ∙ list_below-same (λ w. w) (λ w. w) (length L) (λ y. is_witness_in n L r y && is_lone L marks witnesses y) (is_unique_famous n L marks r)
       (λ y h.
       ap (λ b. is_witness_in n L r y && (is_yes (mark_at marks y) && not b)) (rivals y)
-      ∙ and_assoc_two (is_witness_in n L r y) (is_yes (mark_at marks y)) (not (some_below (length L) (is_rival n L marks r y))))
+      ∙ sym (and_assoc (is_witness_in n L r y) (is_yes (mark_at marks y)) (not (some_below (length L) (is_rival n L marks r y)))))
       (λ y h passes. refl)
 
   -- what receives a row

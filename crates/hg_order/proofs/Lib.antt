@@ -3,5 +3,7 @@ pub mod LineLaws
 pub mod FamousLaws
 pub mod HolderLaws
 pub mod ReceivedLaws
-pub mod StepLaws
+pub mod RowLaws
+pub mod WhiteLaws
+pub mod KeepLaws
 pub mod RoundLaws

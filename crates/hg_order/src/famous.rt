@@ -20,7 +20,7 @@ pub fn unique_famous<P: Prefix>(p: &P, marks: &[Option<bool>], r: u32, out: &mut
 }
 
 /// Of these witnesses those that are famous, and whose creator has no other famous one among them.
-#[tactic(auto, using(crate::proofs::StepLaws::keep_steps))]
+#[tactic(auto, using(crate::proofs::KeepLaws::keep_steps))]
 fn keep_lone<S: Sight>(
     sight: &S,
     marks: &[Option<bool>],

@@ -68,7 +68,7 @@ fn place_row<P: Prefix>(p: &P, ufw: &[usize], round: u32, x: usize) -> Placed
 }
 
 /// A law: the signature of a row has 64 bytes.
-#[tactic(auto, using(crate::proofs::StepLaws::row_told))]
+#[tactic(auto, using(crate::proofs::RowLaws::row_told))]
 fn is_wide<P: Prefix>(p: &P, x: usize)
     requires { x < length (links_of (P.graph p.now)) }
     ensures { IsWide (P.graph p.now).rows x }
@@ -105,38 +105,36 @@ fn placed_cmp<P: Prefix>(p: &P, white: &Sig, a: &Placed, b: &Placed) -> Ordering
 fn rows_cmp<P: Prefix>(p: &P, white: &Sig, x: usize, y: usize) -> Ordering
     ensures { result ≡ rows_cmp (P.graph p.now).rows white.now x y }
 {
-    white_cmp(
-        &sig_at(p, x),
-        &name_at(p, x),
-        &sig_at(p, y),
-        &name_at(p, y),
-        white,
-    )
+    let a = tie_break_at(p, x);
+    let b = tie_break_at(p, y);
+    white_cmp(&a.sig, &a.name, &b.sig, &b.name, white)
 }
 
-/// The signature of the row at a place; zeros stand for what is not there.
-#[tactic(auto, using(crate::proofs::StepLaws::zeros_past))]
-fn sig_at<P: Prefix>(p: &P, x: usize) -> Sig
-    ensures { result ≡ sig_or_zeros (slice_get (P.graph p.now).rows x) }
+/// What tells rows apart whose consensus timestamps are the same.
+#[derive(Clone, Copy)]
+struct TieBreak {
+    sig: Sig,
+    name: Name,
+}
+
+/// The signature and the name of the row at a place; zeros stand for what is not there.
+#[tactic(auto, using(crate::proofs::RowLaws::zeros_past))]
+fn tie_break_at<P: Prefix>(p: &P, x: usize) -> TieBreak
+    ensures sig { result.sig ≡ sig_or_zeros (slice_get (P.graph p.now).rows x) }
+    ensures name { result.name ≡ name_or_zeros (slice_get (P.graph p.now).rows x) }
 {
     tells_graph(p);
     if x < p.rows() {
-        p.row(x).sig
+        let row = p.row(x);
+        TieBreak {
+            sig: row.sig,
+            name: row.name,
+        }
     } else {
-        no_signature()
-    }
-}
-
-/// The name of the row at a place; zeros stand for what is not there.
-#[tactic(auto, using(crate::proofs::StepLaws::zeros_past))]
-fn name_at<P: Prefix>(p: &P, x: usize) -> Name
-    ensures { result ≡ name_or_zeros (slice_get (P.graph p.now).rows x) }
-{
-    tells_graph(p);
-    if x < p.rows() {
-        p.row(x).name
-    } else {
-        no_name()
+        TieBreak {
+            sig: no_signature(),
+            name: no_name(),
+        }
     }
 }
 

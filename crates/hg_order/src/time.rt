@@ -56,7 +56,7 @@ fn fill_times<P: Prefix>(p: &P, places: &[usize], x: usize, times: &mut [u64])
 }
 
 /// The time at which the line of row `w` first had row `x` as ancestor.
-#[tactic(auto, using(crate::proofs::StepLaws::row_told))]
+#[tactic(auto, using(crate::proofs::RowLaws::row_told))]
 fn holder_time<P: Prefix>(p: &P, w: usize, x: usize) -> u64
     requires shaped { IsShaped (P.graph p.now).members (links_of (P.graph p.now)) }
     requires line { w < length (links_of (P.graph p.now)) }

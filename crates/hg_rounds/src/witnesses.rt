@@ -39,6 +39,7 @@ impl Witnesses {
         Ok(())
     }
 
+    /// One more place, for which there is memory.
     pub fn push(&mut self, place: usize)
         requires { 1 ≤ self.old.room }
         ensures { self.new.places ≡ self.old.places ++ place ∷ [] }
@@ -46,6 +47,7 @@ impl Witnesses {
         self.places.push_reserved(place);
     }
 
+    /// The places.
     pub fn as_slice(&self) -> &[usize]
         ensures { result.now ≡ self.now.places }
     {

@@ -1,5 +1,6 @@
 //! Votes on the fame of a witness, round by round: a ballot for each later witness, from those of its voters.
-//! The layer above uses `VoteTable` as the `Votes` of `hg_model`, and nothing else.
+//! The layer above uses `VoteTable` as the `Votes` of `hg_model`. The plain program uses how one ballot is found,
+//! `count_votes` and `weigh`.
 //! Voters are found once, in `new`; a round then costs its witnesses times their voters, and no memory.
 #![tactic(auto, using(hg_model::proofs::StandingLaws::standings_told, hg_model::proofs::LinkLaws::link_lengths))]
 
@@ -10,4 +11,5 @@ mod voters;
 mod weighing;
 
 pub use table::VoteTable;
+pub use tally::{Tally, count_votes};
 pub use weighing::{coin_bit, weigh};

@@ -12,11 +12,11 @@ pub fn coin_bit(sig: &Sig) -> bool
     sig[32] >= 128
 }
 
-/// The ballot of a witness `d` rounds above the candidate, `d > 1`, of whose voters `yes` vote yes and `no` no.
+/// The ballot of a witness `d` rounds above the candidate, `d` not 1, of whose voters `yes` vote yes and `no` no.
 /// There are `n` members, the coin period is `c` rounds, and `sig` is the witness's signature.
+/// SWIRLDS-TR-2016-01, procedure decideFame.
 pub fn weigh(d: u32, c: u32, yes: u32, no: u32, n: u32, sig: &Sig) -> Ballot
-    requires later { 1 < d }
-    requires period { 2 < c }
+    requires { 0 < c }
     ensures { result ≡ record { vote = weighed_vote n c d yes no (middle_bit sig.now); decides = weighed_decides n c d yes no } }
 {
     let majority = no <= yes;
@@ -28,7 +28,7 @@ pub fn weigh(d: u32, c: u32, yes: u32, no: u32, n: u32, sig: &Sig) -> Ballot
         } else {
             coin_bit(sig)
         },
-        decides: is_normal && is_strong,
+        decides: 1 < d && is_normal && is_strong,
     }
 }
 

@@ -12,18 +12,18 @@ pub union-requires : goal.union-requires
 union-requires c =
     let places = subst (λ (on : Option (ℕ × ℕ)). AllByRecursion (λ p. p < length c.args.links.now) (pair_list on)) c.in-Some.is c.requires.places in
     let inside : c.in-Some.own < length c.args.links.now = places.0 in
-    let long = row_long c.args.links.now c.requires.earlier c.args.rows.now c.requires.known c.in-Some.own inside in
+    let long = row_long c.args.links.now c.in-Some.own _ (c.row_of.ensures ∙ c.requires.known.row c.in-Some.own inside) in
     let empty = ap length c.requires.empty ∙ length-replicate (length c.args.links.now + 1) false in
-    omega (arith, ap length c.row_of.ensures, long, empty)
+    omega (arith, long, empty)
 
 pub union-requires-in-Some : goal.union-requires-in-Some
 union-requires-in-Some c =
     let places = subst (λ (on : Option (ℕ × ℕ)). AllByRecursion (λ p. p < length c.args.links.now) (pair_list on)) c.in-Some.is c.requires.places in
     let inside : c.in-Some.other < length c.args.links.now = places.1.0 in
-    let long = row_long c.args.links.now c.requires.earlier c.args.rows.now c.requires.known c.in-Some.other inside in
+    let long = row_long c.args.links.now c.in-Some.other _ (c.row_of-in-Some.ensures ∙ c.requires.known.row c.in-Some.other inside) in
     let empty = ap length c.requires.empty ∙ length-replicate (length c.args.links.now + 1) false in
     let first = ap length c.union.ensures ∙ joined_long c.args.links.now c.requires.earlier c.args.rows.now c.requires.known c.args.row.now c.row_of.result.now in
-    omega (arith, ap length c.row_of-in-Some.ensures, long, empty, first)
+    omega (arith, long, empty, first)
 
 pub returns-in-None : goal.returns-in-None
 returns-in-None c =

@@ -1,5 +1,5 @@
 use Rattle.std.proofs.Common.{◌∙◌, sym}
-use Rattle.hg_order.proofs.StepLaws.{keeps_more, keeps_same, keeps_room}
+use Rattle.hg_order.proofs.KeepLaws.{keeps_more, keeps_same, keeps_room}
 use Rattle.hg_order.proofs.famous.keep_lone.Goals as goal
 use Rattle.hg_order.proofs.famous.keep_lone.Goals.{then-is_lone, else-is_lone}
 

@@ -1,5 +1,5 @@
 use Rattle.hg_order.specs.Famous.{is_lone}
-use Rattle.hg_order.proofs.StepLaws.{Keeps}
+use Rattle.hg_order.proofs.KeepLaws.{Keeps}
 use Rattle.hg_order.proofs.famous.keep_lone.Given as goal
 
 abbrev pub invariant-loop-y : goal.invariant-loop-y

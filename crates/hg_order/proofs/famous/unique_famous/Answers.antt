@@ -1,4 +1,4 @@
-use Rattle.std.proofs.Common.{◌∙◌, ap, arith, count_by, filter, List, ℕ}
+use Rattle.std.proofs.Common.{ap, arith, count_by, List, ℕ}
 use Rattle.hg_order.specs.Famous.{is_lone}
 use Rattle.hg_order.proofs.FamousLaws.{witnesses_within, lone_is, lone_counted, lone_few}
 use Rattle.hg_order.proofs.famous.unique_famous.Goals as goal
@@ -14,18 +14,10 @@ keep_lone-requires-clause-fits g c =
     omega (arith, count, lone_few _ _ _ c.tells_graph.ensures.told c.tells_graph.ensures.shaped c.args.marks.now c.args.r)
 
 pub returns-clause-count : goal.returns-clause-count
-returns-clause-count g c =
-    let L = (g.P.Sight.shape c.args.p.now).links in
-    c.keep_lone.ensures.count
-    ∙ (ap (λ (ws : List ℕ). count_by (is_lone L c.args.marks.now ws) ws) c.witnesses.ensures
-    ∙ lone_counted _ _ _ c.tells_graph.ensures.told c.tells_graph.ensures.shaped c.args.marks.now c.args.r)
+returns-clause-count g c = rw (c.keep_lone.ensures.count, c.witnesses.ensures) (lone_counted _ _ _ c.tells_graph.ensures.told c.tells_graph.ensures.shaped c.args.marks.now c.args.r)
 
 pub returns-clause-front : goal.returns-clause-front
-returns-clause-front g c =
-    let L = (g.P.Sight.shape c.args.p.now).links in
-    c.keep_lone.ensures.front
-    ∙ (ap (λ (ws : List ℕ). filter (is_lone L c.args.marks.now ws) ws) c.witnesses.ensures
-    ∙ lone_is _ _ _ c.tells_graph.ensures.told c.tells_graph.ensures.shaped c.args.marks.now c.args.r)
+returns-clause-front g c = rw (c.keep_lone.ensures.front, c.witnesses.ensures) (lone_is _ _ _ c.tells_graph.ensures.told c.tells_graph.ensures.shaped c.args.marks.now c.args.r)
 
 pub returns-clause-famous : goal.returns-clause-famous
 returns-clause-famous g c = record { marks = c.args.marks.now; round = c.args.r; are = returns-clause-front g c }

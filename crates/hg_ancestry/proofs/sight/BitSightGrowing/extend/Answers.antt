@@ -10,16 +10,10 @@ use Rattle.hg_ancestry.proofs.HeldLaws.{places_fit}
 use Rattle.hg_ancestry.proofs.GrowLaws.{sight_grown}
 use Rattle.hg_ancestry.proofs.sight.BitSightGrowing.extend.Goals as goal
 
-pub forks_above-forked-requires-clause-places : goal.forks_above-forked-requires-clause-places
-forks_above-forked-requires-clause-places c =
-    let fits = subst (λ (g : Growth). FitsLink g.shape.members g.shape.links (link_of c.args.creator c.args.parents)) (sym c.self.view_is) c.requires.fits in
-    subst (λ (L : List Link). AllByRecursion (λ p. p < length L) (pair_list c.args.parents)) (sym c.deref.ensures.value)
-    (places_fit c.self.inside.members c.self.inside.links.items c.args.creator c.args.parents fits)
-
 pub fill-requires-clause-places : goal.fill-requires-clause-places
 fill-requires-clause-places c =
     let fits = subst (λ (g : Growth). FitsLink g.shape.members g.shape.links (link_of c.args.creator c.args.parents)) (sym c.self.view_is) c.requires.fits in
-    subst (λ (L : List Link). AllByRecursion (λ p. p < length L) (pair_list c.args.parents)) (sym c.deref-in-Some.ensures.value)
+    subst (λ (L : List Link). AllByRecursion (λ p. p < length L) (pair_list c.args.parents)) (sym c.deref.ensures.value)
     (places_fit c.self.inside.members c.self.inside.links.items c.args.creator c.args.parents fits)
 
 pub invariant_of-self : goal.invariant_of-self
@@ -28,13 +22,14 @@ invariant_of-self c =
     let fits = subst (λ (g : Growth). FitsLink g.shape.members g.shape.links (link_of c.args.creator c.args.parents)) (sym c.self.view_is) c.requires.fits in
     let short = subst (λ (g : Growth). length g.shape.links + 1 < 4294967295) (sym c.self.view_is) c.requires.short in
     let row_is : c.fill.new.row ≡ table (λ k. eqb k (length L) || is_above L c.args.parents k) (length L + 1) =
-    subst (λ (L : List Link). c.fill.new.row ≡ table (λ k. eqb k (length L) || is_above L c.args.parents k) (length L + 1)) c.deref-in-Some.ensures.value c.fill.ensures in
-    let mask_is : (m : ℕ) → mask_has c.forks_above-forked.result m ≡ has_fork_below (L ++ link_of c.args.creator c.args.parents ∷ []) (length L) m =
-    subst (λ (L : List Link). (m : ℕ) → mask_has c.forks_above-forked.result m ≡ has_fork_below (L ++ link_of c.args.creator c.args.parents ∷ []) (length L) m) c.deref.ensures.value c.forks_above-forked.ensures in
+    subst (λ (L : List Link). c.fill.new.row ≡ table (λ k. eqb k (length L) || is_above L c.args.parents k) (length L + 1)) c.deref.ensures.value c.fill.ensures in
+    let mask_is : (m : ℕ) → mask_has c.forked_below_next-forked.result m ≡ has_fork_below (L ++ link_of c.args.creator c.args.parents ∷ []) (length L) m =
+    subst (λ (g : Growth). (m : ℕ) → mask_has c.forked_below_next-forked.result m ≡ has_fork_below (g.shape.links ++ link_of c.args.creator c.args.parents ∷ []) (length g.shape.links) m)
+    (sym c.self.view_is) c.forked_below_next-forked.ensures in
     let none : spare_room c.take.new.self ≡ 0 = ap spare_room c.take.ensures.after in
     record {
       sight = rw (c.push_reserved.ensures.items, c.push_reserved-in-Some.ensures.items, c.push_reserved-in-Some-2.ensures.items)
-          (sight_grown c.self.inside.members L c.args.creator c.args.parents c.self.inside.ancestors.items c.self.inside.forked.items c.fill.new.row c.forks_above-forked.result
+          (sight_grown c.self.inside.members L c.args.creator c.args.parents c.self.inside.ancestors.items c.self.inside.forked.items c.fill.new.row c.forked_below_next-forked.result
           c.self.invariant.sight fits short row_is mask_is);
       spare = subst (IsSpare (vec_len c.push_reserved.new.self)) (sym c.take.ensures.after) tt;
       links_room = omega (arith, none);

@@ -1,51 +1,9 @@
--- The steps of the loops, and what a row that is read tells of its place
-use Rattle.std.proofs.Common.{◌≡◌, ℕ, suc, ◌+◌, ◌<◌, ◌≤◌, Bool, true, false, cond, List, [], ◌∷◌, ◌++◌, length, get_or, set, take, drop, filter, count_by, replicate, Some, slice_get, refl, sym, ap, ap₂, ◌∙◌, arith, add-one}
+-- A loop that keeps what passes a test
+use Rattle.std.proofs.Common.{◌≡◌, ℕ, suc, ◌+◌, ◌<◌, ◌≤◌, Bool, true, false, cond, List, [], ◌∷◌, ◌++◌, length, get_or, set, take, drop, filter, count_by, refl, sym, ap, ap₂, ◌∙◌, arith, add-one}
 use Rattle.std.proofs.lemmas.List.{take_more_set, drop-set-lt, length-set, append-nil, take-append-drop}
 use Rattle.std.proofs.Math.Seq.{drop-cons}
 use Rattle.std.proofs.lemmas.List.Elements.{filter_more}
-use Rattle.std.proofs.lemmas.List.Sums.{fold_more, sum_by-append, count_by_more_yes, count_by_more_no}
-use Rattle.std.proofs.lemmas.Option.{slice_get_past}
-use Rattle.hg_model.specs.declared.row.Row.{Row}
-use Rattle.hg_model.specs.Order.{sig_in, time_in, sig_at, time_at, xor_bytes}
-use Rattle.hg_order.specs.Famous.{whitening_of}
-use Rattle.hg_order.specs.Round.{sig_or_zeros, name_or_zeros}
-
--- a row that is read
-
-pub time_told : (G : List Row) (x : ℕ) (row : Row) → slice_get G x ≡ Some row → row.time ≡ time_at G x
-unfolding time_at
-time_told G x row is = sym (ap time_in is)
-
-pub sig_told : (G : List Row) (x : ℕ) (row : Row) → slice_get G x ≡ Some row → row.sig ≡ sig_at G x
-unfolding sig_at
-sig_told G x row is = sym (ap sig_in is)
-
-pub ruleset row_told = (time_told, sig_told)
-
--- zeros stand for what is not there
-
-pub sig_past : (G : List Row) (x : ℕ) → length G ≤ x → sig_or_zeros (slice_get G x) ≡ replicate 64 0
-sig_past G x h = rw (slice_get_past G x h) refl
-
-pub name_past : (G : List Row) (x : ℕ) → length G ≤ x → name_or_zeros (slice_get G x) ≡ replicate 48 0
-name_past G x h = rw (slice_get_past G x h) refl
-
-pub ruleset zeros_past = (sig_past, name_past)
-
--- the loop that XORs signatures
-
-pub whitening_none : (G : List Row) → whitening_of G [] ≡ replicate 64 0
-unfolding whitening_of
-whitening_none G = refl
-
-pub whitening_more : (G : List Row) (places : List ℕ) (i d : ℕ) → i < length places →
-    whitening_of G (take (i + 1) places) ≡ xor_bytes (whitening_of G (take i places)) (sig_at G (get_or places i d))
-unfolding whitening_of
-whitening_more G places i d h = fold_more (λ white w. xor_bytes white (sig_at G w)) (replicate 64 0) places i d h
-
-pub ruleset whitening_steps = (whitening_none, whitening_more)
-
--- the loop that keeps what passes a test
+use Rattle.std.proofs.lemmas.List.Sums.{sum_by-append, count_by_more_yes, count_by_more_no}
 
 -- of the first i items those that pass stand at the front of `out`, and behind them what was there
 pub record Keeps (test : ℕ → Bool) (items old out : List ℕ) (i count : ℕ) : Type 0 where
