@@ -1,18 +1,21 @@
 -- The steps of the loops that look for the first decision and that make the marks
 use Rattle.std.proofs.Common.{◌≡◌, ℕ, ◌+◌, ◌<◌, Bool, true, false, List, length, Option, Some, None, option_map, leb, sym, refl, ap, ◌∙◌, inl, inr}
 use Rattle.std.proofs.lemmas.Bool.{cases_Bool}
+use Rattle.hg_model.specs.declared.ballot.Ballot.{Ballot}
 use Rattle.hg_model.specs.Places.{lesser_of, least_below}
 use Rattle.hg_model.specs.Links.{Link}
 use Rattle.hg_model.specs.Rounds.{round_of, is_witness}
 use Rattle.hg_model.specs.Votes.{vote_of, decides}
 use Rattle.hg_model.specs.Fame.{fame_of}
+use Rattle.hg_model.specs.Order.{coin_at}
+use Rattle.hg_model.specs.Prefix.{Graph, ballot_of, links_of}
 use Rattle.hg_model.proofs.PlacesLaws.{least_below_zero, least_below_passes, least_below_fails}
 use Rattle.hg_model.proofs.SearchLaws.{least_below-same, option_map-least_below}
 use Rattle.hg_model.proofs.FameLaws.{fame_of_witness}
+use Rattle.hg_votes.specs.Tallies.{no_ballot, vote_at}
 use Rattle.hg_plain.specs.Tables.{IsTableOf}
-use Rattle.hg_plain.specs.declared.votes.Ballot.{Ballot}
 use Rattle.hg_plain.specs.declared.fame.Decision.{Decision}
-use Rattle.hg_plain.specs.Elections.{no_ballot, ballot_of, vote_at, decides_at, decision_at, earlier_of, decided_vote}
+use Rattle.hg_plain.specs.Elections.{decides_at, decision_at, earlier_of, decided_vote}
 
 first_of-decision_at : (n : ℕ) (L : List Link) (ballots : List Ballot) (earlier : Option ℕ) (y : ℕ) →
     earlier_of (option_map (decision_at n L ballots) earlier) (decision_at n L ballots y) ≡ decision_at n L ballots (lesser_of (round_of n L) earlier y)
@@ -42,11 +45,15 @@ twice_mapped g f None = refl
 twice_mapped g f (Some x) = refl
 
 -- the vote of the first decision is the fame
-pub fame_from_ballots : (n c : ℕ) (L : List Link) (coin : ℕ → Bool) (x : ℕ) (ballots : List Ballot) → x < length L → is_witness n L x ≡ true →
-    IsTableOf no_ballot (ballot_of n c L coin x) (length L) ballots →
-    decided_vote (option_map (decision_at n L ballots) (least_below (round_of n L) (length L) (decides_at ballots))) ≡ fame_of n c L coin x
-unfolding ballot_of
-fame_from_ballots n c L coin x ballots h witness told =
+pub fame_from_ballots : (g : Graph) (x : ℕ) (ballots : List Ballot) → x < length (links_of g) → is_witness g.members (links_of g) x ≡ true →
+    IsTableOf no_ballot (ballot_of g x) (length (links_of g)) ballots →
+    decided_vote (option_map (decision_at g.members (links_of g) ballots) (least_below (round_of g.members (links_of g)) (length (links_of g)) (decides_at ballots)))
+    ≡ fame_of g.members g.coin (links_of g) (coin_at g.rows) x
+fame_from_ballots g x ballots h witness told =
+    let n = g.members in
+    let c = g.coin in
+    let L = links_of g in
+    let coin = coin_at g.rows in
     let key = round_of n L in
     twice_mapped (λ (d : Decision). d.vote) (decision_at n L ballots) (least_below key (length L) (decides_at ballots))
     ∙ (ap (option_map (vote_at ballots)) (least_below-same key (length L) (decides_at ballots) (decides n c L coin x) (λ y k. ap (λ (b : Ballot). b.decides) (told.at y k)))

@@ -3,12 +3,14 @@ ghost use Rattle.hg_model.specs.Places.{least_below};
 ghost use Rattle.hg_model.specs.Rounds.{round_of};
 ghost use Rattle.hg_model.specs.Fame.{fame_of, fame_marks};
 ghost use Rattle.hg_model.specs.Order.{coin_at};
+ghost use Rattle.hg_model.specs.Prefix.{links_of};
 ghost use Rattle.hg_plain.specs.Tables.{IsTableOf};
 ghost use Rattle.hg_plain.specs.Elections.{voters_of, decides_at, decision_at, earlier_of, decided_vote};
 
+use crate::prefix::PlainPrefix;
 use crate::sight::PlainSight;
-use crate::votes::{Ballot, ballots, voters};
-use hg_model::{Items, Memory, Row};
+use crate::votes::{ballots, voters};
+use hg_model::{Ballot, Items, Memory};
 use std::alloc::Global;
 
 /// A decision: the round of the row that decides, and its vote.
@@ -57,44 +59,34 @@ fn decided_vote(decision: Option<Decision>) -> Option<bool>
 /// The fame of row `x`, if it is a witness and decided.
 fn fame(
     alloc: Global,
-    sight: &PlainSight,
-    rows: &[Row],
-    period: u32,
+    p: &PlainPrefix<'_>,
     voters: &[Items<usize>],
     x: usize,
 ) -> Result<Option<bool>, Memory>
-    requires same { length rows.now ≡ length sight.now.links }
-    requires short { length rows.now < 2 ^ 32 - 1 }
-    requires period { 0 < period }
-    requires candidate { x < length sight.now.links }
-    requires voters { IsTableOf [] (voters_of sight.now.members sight.now.links) (length sight.now.links) voters.now }
-    ensures { IfOk result (λ fame. fame ≡ fame_of sight.now.members period sight.now.links (coin_at rows.now) x) }
+    requires short { length (links_of p.now) < 2 ^ 32 - 1 }
+    requires candidate { x < length (links_of p.now) }
+    requires voters { IsTableOf [] (voters_of p.now.members (links_of p.now)) (length (links_of p.now)) voters.now }
+    ensures { IfOk result (λ fame. fame ≡ fame_of p.now.members p.now.coin (links_of p.now) (coin_at p.now.rows) x) }
 {
+    let sight = p.tables();
     if !sight.is_witness(x) {
         return Ok(None);
     }
-    let ballots = ballots(alloc, sight, rows, period, voters, x)?;
+    let ballots = ballots(alloc, p, voters, x)?;
     Ok(decided_vote(first_decision(sight, &ballots)))
 }
 
 /// The fame of all rows.
 #[tactic(auto, using(crate::proofs::TableLaws::tells_steps))]
-pub fn marks(
-    alloc: Global,
-    sight: &PlainSight,
-    rows: &[Row],
-    period: u32,
-) -> Result<Vec<Option<bool>>, Memory>
-    requires same { length rows.now ≡ length sight.now.links }
-    requires short { length rows.now < 2 ^ 32 - 1 }
-    requires period { 0 < period }
-    ensures marks { IfOk result (λ v. v.items ≡ fame_marks sight.now.members period sight.now.links (coin_at rows.now)) }
-    ensures len { IfOk result (λ v. length v.items ≡ length sight.now.links) }
+pub fn marks(alloc: Global, p: &PlainPrefix<'_>) -> Result<Vec<Option<bool>>, Memory>
+    requires short { length (links_of p.now) < 2 ^ 32 - 1 }
+    ensures marks { IfOk result (λ v. v.items ≡ fame_marks p.now.members p.now.coin (links_of p.now) (coin_at p.now.rows)) }
+    ensures len { IfOk result (λ v. length v.items ≡ length (links_of p.now)) }
 {
-    let voters = voters(alloc, sight)?;
+    let voters = voters(alloc, p.tables())?;
     let mut marks = Vec::new(alloc);
-    for x in 0..sight.len() {
-        marks.push(fame(alloc, sight, rows, period, &voters, x)?)?;
+    for x in 0..voters.len() {
+        marks.push(fame(alloc, p, &voters, x)?)?;
     }
     Ok(marks)
 }

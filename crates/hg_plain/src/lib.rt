@@ -1,5 +1,7 @@
 //! The report's procedures computed whole from a list of rows: the yardstick for every faster form.
-//! The layer above uses `plain_order`, `plain_state` and `plain_whole`, which are the definitions, and `plain_forkers`.
+//! The layer above uses `plain_order`, `plain_state`, `plain_whole` and `plain_forkers`, which are the definitions, and
+//! `PlainPrefix`, which gives a graph with its tables, `PlainSight`, to calls that take any `Prefix`.
+//! A ballot is counted and weighed as in the fast form, by `hg_votes`.
 //! Each relation is filled into a table once, so that time grows with the cube of the rows.
 #![tactic(auto)]
 

@@ -59,10 +59,11 @@ fn elect<'a>(alloc: Global, rows: &'a [Row], members: u32, coin: u32) -> Result<
     ensures closed { IfOk result (λ e. IsTableOf false (is_closed members (links rows.now) e.marks.items) (suc (length (links rows.now))) e.closed.items) }
 {
     let sight = PlainSight::new(alloc, rows, members)?;
-    let marks = marks(alloc, &sight, rows, coin)?;
-    let closed = closed_rounds(alloc, &sight, &marks)?;
+    let prefix = PlainPrefix::new(alloc, rows, sight, coin)?;
+    let marks = marks(alloc, &prefix)?;
+    let closed = closed_rounds(alloc, prefix.tables(), &marks)?;
     Ok(Elected {
-        prefix: PlainPrefix::new(alloc, rows, sight, coin)?,
+        prefix,
         marks,
         closed,
     })

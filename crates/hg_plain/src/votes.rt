@@ -1,27 +1,15 @@
-ghost use Rattle.std.specs.Prelude.{◌≡◌, ◌<◌, ◌≤◌, ◌-◌, ◌^◌, ℕ, [], length, IfOk};
-ghost use Rattle.std.specs.List.{AllByRecursion};
-ghost use Rattle.hg_model.specs.Votes.{is_voter, weighed_vote, weighed_decides};
-ghost use Rattle.hg_model.specs.Order.{coin_at};
+ghost use Rattle.std.specs.Prelude.{◌≡◌, ◌<◌, ◌-◌, ◌^◌, [], length, IfOk};
+ghost use Rattle.hg_model.specs.Prefix.{ballot_of, links_of};
+ghost use Rattle.hg_model.specs.Votes.{is_voter, rounds_above};
+ghost use Rattle.hg_votes.specs.Tallies.{no_ballot};
 ghost use Rattle.hg_plain.specs.Tables.{IsTableOf};
-ghost use Rattle.hg_plain.specs.Elections.{voters_of, no_ballot, ballot_of, tally_of};
+ghost use Rattle.hg_plain.specs.Elections.{voters_of};
 
+use crate::prefix::PlainPrefix;
 use crate::sight::PlainSight;
-use hg_model::{Items, Memory, Row, is_supermajority};
+use hg_model::{Ballot, Items, Memory, Prefix};
+use hg_votes::{coin_bit, count_votes, weigh};
 use std::alloc::Global;
-
-/// The vote of a row on a witness, and whether it decides.
-#[derive(Clone, Copy)]
-pub struct Ballot {
-    pub vote: bool,
-    pub decides: bool,
-}
-
-/// How many voters vote yes, and no.
-#[derive(Clone, Copy)]
-pub struct Tally {
-    pub yes: u32,
-    pub no: u32,
-}
 
 /// Whether row `w` is a voter of row `y`: a witness of the round before, which `y` strongly sees.
 #[tactic(auto, unfolding(hg_model::specs::Rounds::is_witness))]
@@ -62,72 +50,33 @@ pub fn voters(alloc: Global, sight: &PlainSight) -> Result<Vec<Items<usize>>, Me
     Ok(voters)
 }
 
-/// How many of the voters vote yes, and no.
-#[tactic(auto, unfolding(crate::specs::Elections::tally_of))]
-fn count_votes(voters: &[usize], ballots: &[Ballot]) -> Tally
-    requires known { AllByRecursion (λ w. w < length ballots.now) voters.now }
-    requires short { length voters.now < 2 ^ 32 }
-    ensures { result ≡ tally_of ballots.now voters.now }
+/// By how many rounds row `y` is above row `x`.
+fn rounds_above(sight: &PlainSight, x: usize, y: usize) -> u32
+    requires candidate { x < length sight.now.links }
+    requires row { y < length sight.now.links }
+    ensures { result ≡ rounds_above sight.now.members sight.now.links x y }
 {
-    let mut yes = 0;
-    let mut no = 0;
-    for w in voters {
-        if ballots[*w].vote {
-            yes += 1;
-        } else {
-            no += 1;
-        }
-    }
-    Tally { yes, no }
-}
-
-/// The ballot of a witness `above` rounds above the candidate, whose voters vote so.
-fn weigh(members: u32, period: u32, above: u32, tally: Tally, coin: bool) -> Ballot
-    requires { 0 < period }
-    ensures vote { result.vote ≡ weighed_vote members period above tally.yes tally.no coin }
-    ensures decides { result.decides ≡ weighed_decides members period above tally.yes tally.no }
-{
-    let majority = tally.no <= tally.yes;
-    let is_strong = is_supermajority(members, tally.yes.max(tally.no));
-    let is_normal = 0 < above % period;
-    Ballot {
-        vote: if is_normal || is_strong {
-            majority
-        } else {
-            coin
-        },
-        decides: 1 < above && is_normal && is_strong,
-    }
-}
-
-/// The coin of row `y`: the highest bit of byte 32 of its signature.
-fn has_coin(rows: &[Row], y: usize) -> bool
-    requires { y < length rows.now }
-    ensures { result ≡ coin_at rows.now y }
-{
-    rows[y].sig[32] >= 128
+    sight.round(y).saturating_sub(sight.round(x))
 }
 
 /// The ballot of row `y` on row `x`, from the ballots of the rows before `y`.
+#[tactic(auto, using(hg_model::proofs::LinkLaws::link_lengths))]
 fn next_ballot(
-    sight: &PlainSight,
-    rows: &[Row],
-    period: u32,
+    p: &PlainPrefix<'_>,
     voters: &[usize],
     ballots: &[Ballot],
     x: usize,
     y: usize,
 ) -> Ballot
-    requires same { length rows.now ≡ length sight.now.links }
-    requires short { length rows.now < 2 ^ 32 - 1 }
-    requires period { 0 < period }
-    requires candidate { x < length sight.now.links }
-    requires row { y < length sight.now.links }
-    requires voters { voters.now ≡ voters_of sight.now.members sight.now.links y }
-    requires known { IsTableOf no_ballot (ballot_of sight.now.members period sight.now.links (coin_at rows.now) x) y ballots.now }
-    ensures { result ≡ ballot_of sight.now.members period sight.now.links (coin_at rows.now) x y }
+    requires short { length (links_of p.now) < 2 ^ 32 - 1 }
+    requires candidate { x < length (links_of p.now) }
+    requires row { y < length (links_of p.now) }
+    requires voters { voters.now ≡ voters_of p.now.members (links_of p.now) y }
+    requires known { IsTableOf no_ballot (ballot_of p.now x) y ballots.now }
+    ensures { result ≡ ballot_of p.now x y }
 {
-    let above = sight.round(y).saturating_sub(sight.round(x));
+    let sight = p.tables();
+    let above = rounds_above(sight, x, y);
     if above == 1 {
         return Ballot {
             vote: sight.sees(y, x),
@@ -135,7 +84,8 @@ fn next_ballot(
         };
     }
     let tally = count_votes(voters, ballots);
-    let weighed = weigh(sight.members(), period, above, tally, has_coin(rows, y));
+    let coin = coin_bit(&p.row(y).sig);
+    let weighed = weigh(sight.members(), p.coin(), above, tally, coin);
     Ballot {
         vote: weighed.vote,
         decides: sight.is_witness(y) & weighed.decides,
@@ -146,22 +96,18 @@ fn next_ballot(
 #[tactic(auto, using(crate::proofs::TableLaws::tells_steps))]
 pub fn ballots(
     alloc: Global,
-    sight: &PlainSight,
-    rows: &[Row],
-    period: u32,
+    p: &PlainPrefix<'_>,
     voters: &[Items<usize>],
     x: usize,
 ) -> Result<Vec<Ballot>, Memory>
-    requires same { length rows.now ≡ length sight.now.links }
-    requires short { length rows.now < 2 ^ 32 - 1 }
-    requires period { 0 < period }
-    requires candidate { x < length sight.now.links }
-    requires voters { IsTableOf [] (voters_of sight.now.members sight.now.links) (length sight.now.links) voters.now }
-    ensures { IfOk result (λ v. IsTableOf no_ballot (ballot_of sight.now.members period sight.now.links (coin_at rows.now) x) (length sight.now.links) v.items) }
+    requires short { length (links_of p.now) < 2 ^ 32 - 1 }
+    requires candidate { x < length (links_of p.now) }
+    requires voters { IsTableOf [] (voters_of p.now.members (links_of p.now)) (length (links_of p.now)) voters.now }
+    ensures { IfOk result (λ v. IsTableOf no_ballot (ballot_of p.now x) (length (links_of p.now)) v.items) }
 {
     let mut ballots = Vec::new(alloc);
-    for y in 0..sight.len() {
-        let next = next_ballot(sight, rows, period, voters[y].as_slice(), &ballots, x, y);
+    for y in 0..voters.len() {
+        let next = next_ballot(p, voters[y].as_slice(), &ballots, x, y);
         ballots.push(next)?;
     }
     Ok(ballots)

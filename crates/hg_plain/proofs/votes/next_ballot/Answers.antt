@@ -1,11 +1,19 @@
-use Rattle.std.proofs.Common.{arith, ap₂, ◌-◌, ◌∙◌, ℕ}
+use Rattle.std.proofs.Common.{arith, ap, ◌∙◌}
+use Rattle.hg_model.specs.Rounds.{is_witness}
+use Rattle.hg_model.specs.Seeing.{sees}
+use Rattle.hg_model.specs.Shape.{Shape}
+use Rattle.hg_model.specs.Votes.{rounds_above}
+use Rattle.hg_votes.proofs.BallotLaws.{coin_read}
 use Rattle.hg_plain.proofs.BallotLaws.{voters_below, few_voters, ballot_next, ballot_far}
 use Rattle.hg_plain.proofs.votes.next_ballot.Goals as goal
 
 pub returns-then-above-eq1 : goal.returns-then-above-eq1
 returns-then-above-eq1 c =
-    ballot_next _ _ _ _ c.args.x c.args.y c.saturating_sub-above.result c.sees.result
-    (c.saturating_sub-above.ensures ∙ ap₂ (λ (a b : ℕ). a - b) c.round.ensures c.round-2.ensures) c.if-above-eq1.true c.sees.ensures
+    let x = c.args.x in
+    let y = c.args.y in
+    ballot_next c.args.p.now x y c.rounds_above-above.result c.sees.result
+    (c.rounds_above-above.ensures ∙ ap (λ (s : Shape). rounds_above s.members s.links x y) c.tables-sight.ensures) c.if-above-eq1.true
+    (c.sees.ensures ∙ ap (λ (s : Shape). sees s.links y x) c.tables-sight.ensures)
 
 pub count_votes-tally-requires-clause-known : goal.count_votes-tally-requires-clause-known
 count_votes-tally-requires-clause-known c = voters_below _ _ c.args.y _ _ c.requires.voters (let len = c.requires.known.len in omega arith)
@@ -15,7 +23,11 @@ count_votes-tally-requires-clause-short c = omega (arith, few_voters _ _ c.args.
 
 pub returns : goal.returns
 returns c =
-    ballot_far _ _ _ _ c.args.x c.args.y c.args.ballots.now c.args.voters.now c.saturating_sub-above.result c.members.result c.has_coin.result c.count_votes-tally.result
-    c.weigh-weighed.result c.is_witness.result c.requires.known c.requires.voters
-    (c.saturating_sub-above.ensures ∙ ap₂ (λ (a b : ℕ). a - b) c.round.ensures c.round-2.ensures) c.if-above-eq1.false c.members.ensures c.has_coin.ensures
-    c.count_votes-tally.ensures c.weigh-weighed.ensures.vote c.weigh-weighed.ensures.decides c.is_witness.ensures
+    let x = c.args.x in
+    let y = c.args.y in
+    let p = c.args.p.now in
+    ballot_far p x y c.args.ballots.now c.requires.known c.args.voters.now c.rounds_above-above.result c.members.result c.coin.result c.coin_bit-coin.result c.count_votes-tally.result
+    c.weigh-weighed.result c.is_witness.result c.requires.voters
+    (c.rounds_above-above.ensures ∙ ap (λ (s : Shape). rounds_above s.members s.links x y) c.tables-sight.ensures) c.if-above-eq1.false
+    (c.members.ensures ∙ ap (λ (s : Shape). s.members) c.tables-sight.ensures) c.coin.ensures.value (c.coin_bit-coin.ensures ∙ coin_read p.rows y c.row.result.now c.row.ensures)
+    c.count_votes-tally.ensures c.weigh-weighed.ensures (c.is_witness.ensures ∙ ap (λ (s : Shape). is_witness s.members s.links y) c.tables-sight.ensures)

@@ -1,9 +1,0 @@
-use Rattle.std.proofs.Common.{◌≡◌, not, take, count_by}
-use Rattle.hg_plain.specs.Elections.{vote_at}
-use Rattle.hg_plain.proofs.votes.count_votes.Given as goal
-
-abbrev pub invariant-loop-w : goal.invariant-loop-w
-invariant-loop-w l = record {
-  yes : l.yes ≡ count_by (vote_at l.ballots) (take l.w-index l.voters);
-  no : l.no ≡ count_by (λ w. not (vote_at l.ballots w)) (take l.w-index l.voters);
-}
