@@ -17,7 +17,8 @@ pub enum Why {
     NoNode,
     /// The word is not 1 to 20 decimal digits with a value in its range, at most 2^64 - 1.
     Number,
-    /// The word is not 2 to 8,192 hexadecimal digits, an even number.
+    /// The bytes of `raw` are not 2 to 8,192 hexadecimal digits, an even number; or a payload is neither `hex:` before
+    /// at most 2,048 of them nor `pay:` before 1 to 64 transfers, each with one `=`.
     Payload,
     /// No line above made the label, or a label to be made is not 1 to 16 ASCII letters, digits and `_`, the first a
     /// letter; or one of the two labels of parents alone is `-`.
