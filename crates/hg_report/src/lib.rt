@@ -3,12 +3,12 @@
 //! Every number is decimal, every line ends with one line feed.
 #![tactic(auto)]
 
-mod lines;
+mod block;
 mod phrases;
 mod pieces;
+mod printed;
 #[cfg(test)]
 mod tests;
-mod text;
 
 pub use pieces::{Piece, tell_pieces};
-pub use text::text_of;
+pub use printed::text_of;

@@ -61,14 +61,14 @@ fn make_fault_parts(fault: &MakeFault) -> (&[u8], Piece<'_>)
     }
 }
 
-/// A word, and what is told beside it.
-fn told<'a>(second: &'a [u8], detail: Piece<'a>) -> Phrase<'a>
-    ensures { phrase_text result ≡ second.entry.now ++ piece_text detail.entry }
+/// A text, and the two parts of what is told behind it.
+fn told<'a>(first: &'a [u8], parts: (&'a [u8], Piece<'a>)) -> Phrase<'a>
+    ensures { phrase_text result ≡ first.entry.now ++ parts.entry.0.now ++ piece_text parts.entry.1 }
 {
     Phrase {
-        first: b"",
-        second,
-        detail,
+        first,
+        second: parts.0,
+        detail: parts.1,
     }
 }
 
@@ -77,16 +77,9 @@ pub(crate) fn put_answer_phrase(answer: &PutAnswer) -> Phrase<'_>
     ensures { phrase_text result ≡ put_answer_text answer.now }
 {
     match answer {
-        PutAnswer::Accepted(place) => told(b"accepted ", Piece::Number(*place as u64)),
-        PutAnswer::Known(place) => told(b"known ", Piece::Number(*place as u64)),
-        PutAnswer::Refused(fault) => {
-            let (second, detail) = fault_parts(fault);
-            Phrase {
-                first: b"refused ",
-                second,
-                detail,
-            }
-        }
+        PutAnswer::Accepted(place) => told(b"", (b"accepted ", Piece::Number(*place as u64))),
+        PutAnswer::Known(place) => told(b"", (b"known ", Piece::Number(*place as u64))),
+        PutAnswer::Refused(fault) => told(b"refused ", fault_parts(fault)),
     }
 }
 
@@ -95,15 +88,8 @@ pub(crate) fn make_answer_phrase(answer: &MakeAnswer) -> Phrase<'_>
     ensures { phrase_text result ≡ make_answer_text answer.now }
 {
     match answer {
-        MakeAnswer::Made(place) => told(b"made ", Piece::Number(*place as u64)),
-        MakeAnswer::Refused(fault) => {
-            let (second, detail) = make_fault_parts(fault);
-            Phrase {
-                first: b"refused ",
-                second,
-                detail,
-            }
-        }
+        MakeAnswer::Made(place) => told(b"", (b"made ", Piece::Number(*place as u64))),
+        MakeAnswer::Refused(fault) => told(b"refused ", make_fault_parts(fault)),
     }
 }
 
@@ -112,15 +98,8 @@ pub(crate) fn sync_made_phrase(made: &SyncMade) -> Phrase<'_>
     ensures { phrase_text result ≡ sync_made_text made.now }
 {
     match made {
-        SyncMade::Row(place) => told(b"", Piece::Number(*place as u64)),
-        SyncMade::PeerBare => told(b"none peer-bare", Piece::Bytes(b"")),
-        SyncMade::Fault(fault) => {
-            let (second, detail) = make_fault_parts(fault);
-            Phrase {
-                first: b"none ",
-                second,
-                detail,
-            }
-        }
+        SyncMade::Row(place) => told(b"", (b"", Piece::Number(*place as u64))),
+        SyncMade::PeerBare => told(b"", (b"none peer-bare", Piece::Bytes(b""))),
+        SyncMade::Fault(fault) => told(b"none ", make_fault_parts(fault)),
     }
 }

@@ -56,6 +56,22 @@ fn create<'a>(
     }))
 }
 
+fn create_line<'a>(
+    alloc: Global,
+    members: &Members,
+    above: &Above<'_>,
+    arguments: &[&[u8]],
+) -> Result<Found<'a>, Stop<Why>>
+    ensures value { Gives (λ found. found) result (told.two_or_three (told.create members.now above.now) (map (λ word. word.now) arguments.now)) }
+    ensures lawful { IfOk result (IsFound members.now above.now) }
+{
+    match arguments {
+        [x, t] => create(alloc, members, above, x, t, None),
+        [x, t, p] => create(alloc, members, above, x, t, Some(p)),
+        _ => Err(Stop::Fault(Why::Arity)),
+    }
+}
+
 #[tactic(auto, unfolding(crate::specs::Table::sync))]
 fn sync<'a>(
     alloc: Global,
@@ -82,6 +98,22 @@ fn sync<'a>(
         time,
         payload,
     }))
+}
+
+fn sync_line<'a>(
+    alloc: Global,
+    members: &Members,
+    above: &Above<'_>,
+    arguments: &[&[u8]],
+) -> Result<Found<'a>, Stop<Why>>
+    ensures value { Gives (λ found. found) result (told.three_or_four (told.sync members.now above.now) (map (λ word. word.now) arguments.now)) }
+    ensures lawful { IfOk result (IsFound members.now above.now) }
+{
+    match arguments {
+        [x, y, t] => sync(alloc, members, above, x, y, t, None),
+        [x, y, t, p] => sync(alloc, members, above, x, y, t, Some(p)),
+        _ => Err(Stop::Fault(Why::Arity)),
+    }
 }
 
 #[tactic(auto, unfolding(crate::specs::Table::pull))]
@@ -120,6 +152,22 @@ fn join<'a>(
         time,
         payload,
     }))
+}
+
+fn join_line<'a>(
+    alloc: Global,
+    members: &Members,
+    above: &Above<'_>,
+    arguments: &[&[u8]],
+) -> Result<Found<'a>, Stop<Why>>
+    ensures value { Gives (λ found. found) result (told.three_or_four (told.join members.now above.now) (map (λ word. word.now) arguments.now)) }
+    ensures lawful { IfOk result (IsFound members.now above.now) }
+{
+    match arguments {
+        [x, l, t] => join(alloc, members, above, x, l, t, None),
+        [x, l, t, p] => join(alloc, members, above, x, l, t, Some(p)),
+        _ => Err(Stop::Fault(Why::Arity)),
+    }
 }
 
 #[tactic(auto, unfolding(crate::specs::Table::name))]
@@ -161,6 +209,22 @@ fn forge<'a>(
         },
         label,
     ))
+}
+
+fn forge_line<'a>(
+    alloc: Global,
+    members: &Members,
+    above: &Above<'_>,
+    arguments: &[&'a [u8]],
+) -> Result<Found<'a>, Stop<Why>>
+    ensures value { Gives (λ found. found) result (told.five_or_six (told.forge members.now above.now) (map (λ word. word.now) arguments.now)) }
+    ensures lawful { IfOk result (IsFound members.now above.now) }
+{
+    match arguments {
+        [l, m, s, o, t] => forge(alloc, members, above, l, m, s, o, t, None),
+        [l, m, s, o, t, p] => forge(alloc, members, above, l, m, s, o, t, Some(p)),
+        _ => Err(Stop::Fault(Why::Arity)),
+    }
 }
 
 #[tactic(auto, unfolding(crate::specs::Table::raw))]
@@ -248,22 +312,14 @@ fn line_by<'a>(
     ensures lawful { IfOk result (IsFound members.now above.now) }
 {
     match (verb, arguments) {
-        (Verb::Create, [x, t]) => create(alloc, members, above, x, t, None),
-        (Verb::Create, [x, t, p]) => create(alloc, members, above, x, t, Some(p)),
-        (Verb::Create, _) => Err(Stop::Fault(Why::Arity)),
-        (Verb::Sync, [x, y, t]) => sync(alloc, members, above, x, y, t, None),
-        (Verb::Sync, [x, y, t, p]) => sync(alloc, members, above, x, y, t, Some(p)),
-        (Verb::Sync, _) => Err(Stop::Fault(Why::Arity)),
+        (Verb::Create, _) => create_line(alloc, members, above, arguments),
+        (Verb::Sync, _) => sync_line(alloc, members, above, arguments),
         (Verb::Pull, [x, y]) => Ok(pull(members, x, y)?),
         (Verb::Pull, _) => Err(Stop::Fault(Why::Arity)),
-        (Verb::Join, [x, l, t]) => join(alloc, members, above, x, l, t, None),
-        (Verb::Join, [x, l, t, p]) => join(alloc, members, above, x, l, t, Some(p)),
-        (Verb::Join, _) => Err(Stop::Fault(Why::Arity)),
+        (Verb::Join, _) => join_line(alloc, members, above, arguments),
         (Verb::Name, [l, x]) => Ok(name(members, above, l, x)?),
         (Verb::Name, _) => Err(Stop::Fault(Why::Arity)),
-        (Verb::Forge, [l, m, s, o, t]) => forge(alloc, members, above, l, m, s, o, t, None),
-        (Verb::Forge, [l, m, s, o, t, p]) => forge(alloc, members, above, l, m, s, o, t, Some(p)),
-        (Verb::Forge, _) => Err(Stop::Fault(Why::Arity)),
+        (Verb::Forge, _) => forge_line(alloc, members, above, arguments),
         (Verb::Raw, [l, h]) => raw(alloc, above, l, h),
         (Verb::Raw, _) => Err(Stop::Fault(Why::Arity)),
         (Verb::Alter, [l, l2, place, b]) => Ok(alter(above, l, l2, place, b)?),

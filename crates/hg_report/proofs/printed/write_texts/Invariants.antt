@@ -1,7 +1,7 @@
 use Rattle.std.proofs.Common.{drop}
 use Rattle.hg_io.specs.Telling.{IsPutUpTo, desk}
 use Rattle.hg_model.specs.Report.{printed_texts}
-use Rattle.hg_report.proofs.text.write_texts.Given as goal
+use Rattle.hg_report.proofs.printed.write_texts.Given as goal
 
 abbrev pub invariant-loop-printed : goal.invariant-loop-printed
 invariant-loop-printed g l =

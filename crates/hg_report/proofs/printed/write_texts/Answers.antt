@@ -1,6 +1,6 @@
 use Rattle.hg_io.proofs.Told.{failed, more_put, stopped_within}
 use Rattle.hg_report.proofs.Steps.{texts_left}
-use Rattle.hg_report.proofs.text.write_texts.Goals as goal
+use Rattle.hg_report.proofs.printed.write_texts.Goals as goal
 
 pub loop-printed-preserved : goal.loop-printed-preserved
 loop-printed-preserved g c =

@@ -1,5 +1,5 @@
 use Rattle.hg_io.proofs.Told.{told_by_page}
-use Rattle.hg_report.proofs.text.text_of.Goals as goal
+use Rattle.hg_report.proofs.printed.text_of.Goals as goal
 
 pub returns : goal.returns
 returns g c =

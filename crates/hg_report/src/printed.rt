@@ -2,7 +2,7 @@ ghost use Rattle.hg_io.specs.Telling.{Puts, Tells, desk};
 ghost use Rattle.hg_model.specs.Report.{answer_line, printed_text, printed_texts, pull_line, report_text, sync_line};
 ghost use Rattle.hg_report.specs.Phrases.{phrase_text};
 
-use crate::lines::write_block;
+use crate::block::write_block;
 use crate::phrases::{Phrase, make_answer_phrase, put_answer_phrase, sync_made_phrase};
 use crate::pieces::{Piece, write_pieces};
 use hg_io::{Failed, Page, Sink};

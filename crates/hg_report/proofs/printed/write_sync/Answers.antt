@@ -3,7 +3,7 @@ use Rattle.std.specs.Fmt.{decimal}
 use Rattle.hg_io.specs.Telling.{Puts, desk}
 use Rattle.hg_model.specs.Report.{with_number}
 use Rattle.hg_report.specs.Pieces.{piece_text}
-use Rattle.hg_report.proofs.text.write_sync.Goals as goal
+use Rattle.hg_report.proofs.printed.write_sync.Goals as goal
 
 pub returns : goal.returns
 returns g c =
