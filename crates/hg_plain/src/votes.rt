@@ -8,7 +8,7 @@ ghost use Rattle.hg_plain.specs.Elections.{voters_of};
 use crate::prefix::PlainPrefix;
 use crate::sight::PlainSight;
 use hg_model::{Ballot, Items, Memory, Prefix};
-use hg_votes::{coin_bit, count_votes, weigh};
+use hg_votes::{count_votes, weigh};
 use std::alloc::Global;
 
 /// Whether row `w` is a voter of row `y`: a witness of the round before, which `y` strongly sees.
@@ -84,8 +84,14 @@ fn next_ballot(
         };
     }
     let tally = count_votes(voters, ballots);
-    let coin = coin_bit(&p.row(y).sig);
-    let weighed = weigh(sight.members(), p.coin(), above, tally, coin);
+    let weighed = weigh(
+        above,
+        p.coin(),
+        tally.yes,
+        tally.no,
+        sight.members(),
+        &p.row(y).sig,
+    );
     Ballot {
         vote: weighed.vote,
         decides: sight.is_witness(y) & weighed.decides,

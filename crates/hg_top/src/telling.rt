@@ -2,14 +2,13 @@ ghost use Rattle.std.specs.Prelude.{◌≡◌, ◌++◌};
 ghost use Rattle.hg_io.specs.Telling.{Tells};
 ghost use Rattle.hg_members.specs.Text.{member_fault_text};
 ghost use Rattle.hg_report.specs.Pieces.{piece_text};
-ghost use Rattle.hg_script.specs.Text.{why_text};
 ghost use Rattle.hg_top.specs.Telling.{IsToldOn, members_line, script_line, status_line};
 
 use crate::status::{File, Refusal, Status};
 use hg_io::{Failed, Sink, write_all};
 use hg_members::MemberFault;
 use hg_report::{Piece, tell_pieces};
-use hg_script::{ScriptFault, Why};
+use hg_script::ScriptFault;
 
 /// A fault of the member file: its word, and its number if it has one.
 fn member_fault_parts(fault: MemberFault) -> (&'static [u8], Piece<'static>)
@@ -25,25 +24,6 @@ fn member_fault_parts(fault: MemberFault) -> (&'static [u8], Piece<'static>)
         MemberFault::BadBalance(i) => (b"balance ", Piece::Number(i as u64)),
         MemberFault::BadNode(i) => (b"node ", Piece::Number(i as u64)),
         MemberFault::SumTooLarge => (b"sum", Piece::Bytes(b"")),
-    }
-}
-
-/// Why a line is refused.
-fn why_text(why: Why) -> &'static [u8]
-    ensures { result.now ≡ why_text why }
-{
-    match why {
-        Why::Utf8 => b"utf8",
-        Why::Word => b"word",
-        Why::Arity => b"arity",
-        Why::Member => b"member",
-        Why::NoNode => b"no-node",
-        Why::Number => b"number",
-        Why::Payload => b"payload",
-        Why::Label => b"label",
-        Why::DoubleLabel => b"double-label",
-        Why::NotFirst => b"not-first",
-        Why::First => b"first",
     }
 }
 
@@ -74,7 +54,7 @@ fn tell_member_fault<E: Sink>(err: &mut E, fault: MemberFault) -> Result<(), Fai
 fn tell_script_fault<E: Sink>(err: &mut E, fault: ScriptFault) -> Result<(), Failed>
     ensures { Tells E.Sink err.old err.new (script_line (Refusal.Fault fault)) result }
 {
-    let why = why_text(fault.why);
+    let why = fault.why.text();
     tell_pieces(
         err,
         &[

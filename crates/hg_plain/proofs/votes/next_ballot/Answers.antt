@@ -26,8 +26,8 @@ returns c =
     let x = c.args.x in
     let y = c.args.y in
     let p = c.args.p.now in
-    ballot_far p x y c.args.ballots.now c.requires.known c.args.voters.now c.rounds_above-above.result c.members.result c.coin.result c.coin_bit-coin.result c.count_votes-tally.result
+    ballot_far p x y c.args.ballots.now c.requires.known c.args.voters.now c.rounds_above-above.result c.members.result c.coin.result _ c.count_votes-tally.result
     c.weigh-weighed.result c.is_witness.result c.requires.voters
     (c.rounds_above-above.ensures ∙ ap (λ (s : Shape). rounds_above s.members s.links x y) c.tables-sight.ensures) c.if-above-eq1.false
-    (c.members.ensures ∙ ap (λ (s : Shape). s.members) c.tables-sight.ensures) c.coin.ensures.value (c.coin_bit-coin.ensures ∙ coin_read p.rows y c.row.result.now c.row.ensures)
+    (c.members.ensures ∙ ap (λ (s : Shape). s.members) c.tables-sight.ensures) c.coin.ensures.value (coin_read p.rows y c.row.result.now c.row.ensures)
     c.count_votes-tally.ensures c.weigh-weighed.ensures (c.is_witness.ensures ∙ ap (λ (s : Shape). is_witness s.members s.links y) c.tables-sight.ensures)

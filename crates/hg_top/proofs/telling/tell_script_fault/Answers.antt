@@ -7,4 +7,4 @@ pub returns : goal.returns
 returns g c =
     let sink = g.E.Sink in
     subst (λ (t : List ℕ). Tells sink c.args.err.now c.tell_pieces.new.sink
-    (codes "hashgraph: script line " ++ (decimal c.args.fault.line ++ (codes ": " ++ (t ++ codes "\n")))) c.tell_pieces.result) c.why_text-why.ensures c.tell_pieces.ensures
+    (codes "hashgraph: script line " ++ (decimal c.args.fault.line ++ (codes ": " ++ (t ++ codes "\n")))) c.tell_pieces.result) c.text-why.ensures c.tell_pieces.ensures
