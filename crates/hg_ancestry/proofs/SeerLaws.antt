@@ -1,6 +1,6 @@
 -- The members through whom a row sees another
-use Rattle.std.proofs.Common.{◌≡◌, ℕ, zero, suc, ◌+◌, ◌*◌, ◌<◌, lt-ltb, ◌≤◌, ◌&&◌, eqb, true, false, Bool, List, length, sym, ap, ◌∙◌, refl, inl, inr, arith, add-one}
-use Rattle.std.proofs.lemmas.Bool.{cases_lt, cases_eq, and_parts, false_from_ne_true, eq-eqb, ne_eqb, ltb-true, true≢false}
+use Rattle.std.proofs.Common.{◌≡◌, ℕ, ◌+◌, ◌*◌, ◌<◌, lt-ltb, ◌≤◌, ◌&&◌, eqb, true, false, Bool, List, length, sym, ap, ◌∙◌, refl, inl, inr, arith, add-one}
+use Rattle.std.proofs.lemmas.Bool.{cases_eq, and_parts, false_from_ne_true, eq-eqb, ne_eqb, ltb-true, true≢false}
 use Rattle.hg_bits.specs.Masks.{mask_has}
 use Rattle.hg_bits.proofs.MaskLaws.{mask_none}
 use Rattle.hg_model.specs.Places.{count_below, some_below, IsEarlier}

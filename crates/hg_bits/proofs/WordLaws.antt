@@ -5,6 +5,7 @@ use Rattle.std.specs.Int.{Width, bit_at, bit_not, trailing_zeros}
 use mir.Val.{bits}
 use Rattle.std.proofs.lemmas.Bool.{cases_eq, cases_lt, ne_eqb}
 use Rattle.std.proofs.lemmas.List.{get_or-set_same, get_or-set_other, get_or-replicate, get_or_past, length-replicate}
+use Rattle.std.proofs.Math.Bool.{or-false}
 use Rattle.std.proofs.lemmas.Nat.{shr-shr}
 use Rattle.std.proofs.lemmas.Nat.Bits.{bit_at_or, bit_at_and, bit_at_not, bit_at-zero, bit_at-lt, shr_and_one, bit_at_set_same, bit_at_set_other, bit_at_above, bit_at-trailing_zeros}
 use Rattle.hg_bits.specs.Words.{is_set, has_bit, is_bit_over, NoneFrom, Finds}
@@ -48,9 +49,6 @@ pub is_set-over : (a b i : ℕ) → b < 2 ^ 64 → i < 64 → is_set (bit_and a 
 is_set-over a b i hb hi =
     ap (λ n. eqb n 1) (bit_at_and a (bit_not w64 b) i ∙ ap (λ n. min (bit_at a i) n) (bit_at_not w64 b i hb hi))
     ∙ one_over (bit_at a i) (bit_at b i) (bit_at-lt a i) (bit_at-lt b i)
-
-pub is_set-past : (word k i : ℕ) → word < 2 ^ k → k ≤ i → is_set word i ≡ false
-is_set-past word k i h le = ap (λ n. eqb n 1) (bit_at_above word k i h le)
 
 pub is_set-zero : (i : ℕ) → is_set 0 i ≡ false
 is_set-zero i = ap (λ n. eqb n 1) (bit_at-zero i)
@@ -114,12 +112,8 @@ bits_joined old others new below past k =
           ∙ (is_set-or (get_or old (k / 64) 0) (get_or others (k / 64) 0) (k % 64)
           ∙ ap₂ (λ (a b : Bool). a || b) (sym (has_bit-at old k)) (sym (has_bit-at others k)))
       | inr outside ↦ ap (λ w. is_set w (k % 64)) (past (k / 64) outside)
-          ∙ (sym (has_bit-at old k) ∙ rw (has_bit-past others k outside) (sym (either_false (has_bit old k))))
+          ∙ (sym (has_bit-at old k) ∙ rw (has_bit-past others k outside) (sym (or-false (has_bit old k))))
     ])
-  where
-    either_false : (b : Bool) → (b || false) ≡ b
-    either_false true = refl
-    either_false false = refl
 
 -- the first bit of a word
 

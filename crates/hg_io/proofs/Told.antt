@@ -61,15 +61,6 @@ puts_nothing a = record {
   faults = omega arith;
 }
 
--- a piece that goes straight to the sink
-pub puts_straight : (a b : Desk) (piece : List ℕ) → a.held ≡ [] → b.held ≡ [] → Appends a.written b.written piece → a.faults ≤ b.faults → IsPut a b piece
-puts_straight a b piece none still written faults = record {
-  sent = piece;
-  split = rw (none, still) (sym (append-nil piece));
-  written = written;
-  faults = faults;
-}
-
 pub stops_straight : (a b : Desk) (piece : List ℕ) → a.held ≡ [] → AppendsPart a.written b.written piece → Rose a.faults b.faults → a.faults ≤ b.faults → IsStopped a b piece
 stops_straight a b piece none part rose faults = record {
   sent = take part.0 piece;

@@ -1,5 +1,5 @@
 -- What closed rounds have received stays when rows come and when marks are published
-use Rattle.std.proofs.Common.{◌≡◌, ℕ, zero, suc, ◌<◌, ◌≤◌, Bool, true, false, ◌&&◌, leb, eqb, List, ◌++◌, length, Option, Some, None, is_some, unwrap_or, sym, refl, ap₂, arith}
+use Rattle.std.proofs.Common.{◌≡◌, ℕ, zero, suc, ◌<◌, ◌≤◌, true, false, ◌&&◌, leb, eqb, List, ◌++◌, length, Option, Some, None, is_some, unwrap_or, sym, refl, ap₂, arith}
 use Rattle.std.proofs.lemmas.Bool.{leb-true, le-leb, eq-eqb, both_ways, false_from_ne_true, true≢false}
 use Rattle.hg_model.specs.declared.row.Row.{Row}
 use Rattle.hg_model.specs.declared.row.Placed.{Placed}
@@ -15,9 +15,6 @@ use Rattle.hg_prefix.specs.Orders.{IsPrefix}
 use Rattle.hg_prefix.proofs.FamousLaws.{received_is, closed_bounds}
 use Rattle.hg_history.proofs.StayLaws.{round_stays, received_there, received_back, none_later}
 use Rattle.hg_kept.specs.Published.{state_by}
-
-up_to : ℕ → Option ℕ → Bool
-up_to m o = is_some o && leb (unwrap_or o 0) m
 
 up_to_is : (m : ℕ) (o : Option ℕ) → (is_some o && leb (unwrap_or o 0) m) ≡ true → (a : ℕ) × (o ≡ Some a) × (a ≤ m)
 up_to_is m None h = absurd (true≢false (sym h))

@@ -5,13 +5,13 @@ use Rattle.hg_model.specs.declared.row.Row.{Row}
 use Rattle.hg_model.specs.declared.entry.Entry.{Entry}
 use Rattle.hg_model.specs.Graph.{IsGraph}
 use Rattle.hg_model.specs.Fame.{Marks, mark_at}
-use Rattle.hg_model.specs.Prefix.{Graph, graph_of as prefix_of}
+use Rattle.hg_model.specs.Prefix.{Graph}
 use Rattle.hg_model.specs.Shares.{Share}
 use Rattle.hg_model.specs.History.{news, with_row, with_marks, first_mark}
 use Rattle.hg_model.proofs.LinkLaws.{length-links}
 use Rattle.hg_model.proofs.PlacesLaws.{count_below-le}
 use Rattle.hg_graph.specs.Held.{graph_with}
-use Rattle.hg_kept.specs.Published.{Published, HasCome, Keeps, state_by}
+use Rattle.hg_kept.specs.Published.{Published, Keeps, state_by}
 use Rattle.hg_node.specs.Recorded.{KeepsRecord, marked}
 use Rattle.hg_node.proofs.LastLaws.{last_place-push}
 use Rattle.hg_node.proofs.NewsLaws.{marked_push, marked_news}
@@ -27,9 +27,6 @@ record_none own n coin v capacity keeps = record { keeps = keeps; last = refl; f
 module _ (own : ℕ) (g : Graph) (log : List Entry) (v : Published) (last_own : Option ℕ) (capacity : ℕ) (keeps : KeepsRecord own g log v last_own capacity) where
   pub few_in_log : length log ≤ 2 * length g.rows
   few_in_log = omega (arith, keeps.few_entries, few_marked g v keeps.keeps)
-
-  pub has_come : (row : Row) → IsGraph g.members (g.rows ++ row ∷ []) → HasCome (graph_with g row) v
-  has_come row graph = record { before = g.rows; row = row; rows = refl; graph = graph; keeps = keeps.keeps }
 
   -- with a row and an entry more
   pub record_with : (row : Row) (told : Entry) (w : Published) (later : Option ℕ) (room : ℕ) → IsGraph g.members (g.rows ++ row ∷ []) →

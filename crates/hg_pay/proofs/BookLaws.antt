@@ -1,11 +1,11 @@
 -- What transfers leave, one after the other
-use Rattle.std.proofs.Common.{◌≡◌, ℕ, zero, suc, ◌+◌, ◌-◌, ◌*◌, ◌^◌, ◌<◌, ◌≤◌, Bool, true, false, cond, eqb, leb, ltb, List, [], ◌∷◌, ◌++◌, length, get_or, take, drop, map, fold, set, Option, Some, None, refl, sym, ap, ap₂, subst, ◌∙◌, append_assoc, arith, inl, inr, count_by}
+use Rattle.std.proofs.Common.{◌≡◌, ℕ, ◌+◌, ◌-◌, ◌*◌, ◌^◌, ◌<◌, ◌≤◌, Bool, true, false, cond, List, [], ◌∷◌, ◌++◌, length, get_or, take, fold, set, Option, Some, None, refl, sym, ap, ap₂, subst, ◌∙◌, arith, inl, inr, count_by}
 use Rattle.std.specs.Prelude.{bit_or, bit_and, count_ones, slice_get, slice_set}
 use Rattle.std.specs.List.{sum}
 use Rattle.std.specs.Simd.Lanes.{mask_l}
-use Rattle.std.proofs.lemmas.Bool.{and_parts, cases_Bool, cases_lt, eq-eqb, eqb-true, le-leb, leb-true, ltb-true}
+use Rattle.std.proofs.lemmas.Bool.{and_parts, cases_Bool, cases_lt, leb-true, ltb-true}
 use Rattle.std.proofs.lemmas.List.{length-append, length-set, length-take-le, set_past, get_or_past}
-use Rattle.std.proofs.lemmas.List.Sums.{fold_more, get_or-le-sum_by, sum_by-set, sum_by-cons}
+use Rattle.std.proofs.lemmas.List.Sums.{fold_more, sum_by-set, sum_by-cons}
 use Rattle.std.proofs.Math.Nat.{pow-suc}
 use Rattle.std.proofs.lemmas.Nat.{ones_le_self, or_disjoint}
 use Rattle.std.proofs.lemmas.Nat.Bits.{and_pow, bit_at_above}
@@ -14,21 +14,12 @@ use Rattle.std.proofs.lemmas.Simd.{ones-mask_l_cons}
 use Rattle.hg_model.specs.declared.row.Row.{Row}
 use Rattle.hg_model.specs.declared.row.Placed.{Placed}
 use Rattle.hg_model.specs.declared.pay.Transfer.{Transfer}
-use Rattle.hg_model.specs.declared.pay.Effect.{Effect}
 use Rattle.hg_model.specs.declared.pay.Effect.TheVariants as effect
 use Rattle.hg_model.specs.Pay.{Book, Paying, can_pay, moved, pay_one, paid, read_pay, with_payload, with_placed, with_pay, book_of}
 use Rattle.hg_pay.specs.Applied.{Leaves, bits_of, book_with}
 use Rattle.hg_pay.proofs.HasCome.{HasCome}
 
 -- ---- the sum
-
--- one of the balances is no more than all of them
-pub held_within : (balances : List ℕ) (m : ℕ) → get_or balances m 0 ≤ sum balances
-held_within balances m =
-    elim (cases_lt m (length balances)) [
-      | inl there ↦ get_or-le-sum_by (λ x. x) balances m 0 there
-      | inr past ↦ rw (get_or_past balances m 0 past) (omega arith)
-    ]
 
 sum-set : (balances : List ℕ) (m b : ℕ) → m < length balances → sum (slice_set balances m b) + get_or balances m 0 ≡ sum balances + b
 sum-set balances m b there = sum_by-set (λ x. x) balances m b 0 there
@@ -60,10 +51,6 @@ length-moved balances payer t = length-set _ _ _ ∙ length-set balances payer _
 abbrev pub at_first : List ℕ → Paying
 at_first balances = record { balances = balances; done = [] }
 
-pub paid_none : (balances : List ℕ) (payer : ℕ) → paid balances payer [] ≡ at_first balances
-unfolding paid
-paid_none balances payer = refl
-
 pub paid_more : (balances : List ℕ) (payer : ℕ) (ts : List Transfer) (i : ℕ) (d : Transfer) → i < length ts → paid balances payer (take (i + 1) ts) ≡ pay_one payer (paid balances payer (take i ts)) (get_or ts i d)
 unfolding paid
 paid_more balances payer ts i d below = fold_more (pay_one payer) (at_first balances) ts i d below
@@ -92,10 +79,6 @@ stays_all payer p (t ∷ ts) =
 pub sum-paid : (balances : List ℕ) (payer : ℕ) (ts : List Transfer) → sum (paid balances payer ts).balances ≡ sum balances
 unfolding paid
 sum-paid balances payer ts = (stays_all payer (at_first balances) ts).sum
-
-pub length-paid : (balances : List ℕ) (payer : ℕ) (ts : List Transfer) → length (paid balances payer ts).balances ≡ length balances
-unfolding paid
-length-paid balances payer ts = (stays_all payer (at_first balances) ts).members
 
 pub length-done : (balances : List ℕ) (payer : ℕ) (ts : List Transfer) → length (paid balances payer ts).done ≡ length ts
 unfolding paid

@@ -1,9 +1,9 @@
 -- The book of an order, event by event
-use Rattle.std.proofs.Common.{◌≡◌, ℕ, None, ◌+◌, ◌<◌, List, [], ◌∷◌, ◌++◌, length, take, drop, fold, get_or, slice_get, All, Option, Some, refl, ap, sym, ◌∙◌, subst, arith}
+use Rattle.std.proofs.Common.{◌≡◌, ℕ, None, ◌+◌, ◌<◌, List, [], ◌∷◌, ◌++◌, length, drop, fold, get_or, slice_get, All, Option, Some, refl, ap, sym, ◌∙◌, subst, arith}
 use Rattle.std.proofs.Math.Seq.{drop-append_seam}
 use Rattle.std.proofs.lemmas.List.{length_push, get_or_append_left}
 use Rattle.std.proofs.lemmas.List.Elements.{All-head, All-tail}
-use Rattle.std.proofs.lemmas.List.Sums.{fold-append, fold_more}
+use Rattle.std.proofs.lemmas.List.Sums.{fold-append}
 use Rattle.std.proofs.lemmas.Option.{slice_get-get_or}
 use Rattle.hg_model.specs.declared.row.Row.{Row}
 use Rattle.hg_model.specs.declared.row.Placed.{Placed}
@@ -11,7 +11,7 @@ use Rattle.hg_model.specs.declared.pay.Effect.{Effect}
 use Rattle.hg_model.specs.declared.pay.Transfer.{Transfer}
 use Rattle.hg_model.specs.Links.{no_row}
 use Rattle.hg_model.specs.Pay.{Book, with_placed, with_payload, with_pay, opened, book_of, read_pay}
-use Rattle.hg_pay.specs.Applied.{Leaves, LeavesAt, book_with}
+use Rattle.hg_pay.specs.Applied.{Leaves, LeavesAt}
 use Rattle.hg_pay.specs.Account.{with_rest}
 
 -- the row that was read at a place
@@ -20,14 +20,6 @@ leaves_read G place row before after e inside at leaves =
     let some : Some row ≡ Some (get_or G place no_row) = sym at ∙ slice_get-get_or G place no_row inside in
     let same : row ≡ get_or G place no_row = cc in
     subst (λ (r : Row). Leaves before r.creator r.payload after e) same leaves
-
--- one event more
-pub book_more : (G : List Row) (book : Book) (order : List Placed) (k : ℕ) (d : Placed) (before after : List ℕ) (effects : List Effect) (e : Effect) → k < length order →
-    LeavesAt G before (get_or order k d).place after e → book_with before effects ≡ fold (with_placed G) book (take k order) →
-    book_with after (effects ++ e ∷ []) ≡ fold (with_placed G) book (take (k + 1) order)
-book_more G book order k d before after effects e inside leaves so_far =
-    sym (leaves effects) ∙ (ap (λ (b : Book). with_placed G b (get_or order k d)) so_far
-    ∙ sym (fold_more (with_placed G) book order k d inside))
 
 -- ---- an effect of each event
 
