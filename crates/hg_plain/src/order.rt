@@ -1,9 +1,8 @@
-ghost use Rattle.std.specs.Prelude.{◌≡◌, ◌<◌, ◌≤◌, ◌&&◌, ◌==◌, ◌++◌, ◌^◌, All, None, false, suc, length, get_or, is_some, unwrap_or, IfOk, OnOk};
+ghost use Rattle.std.specs.Prelude.{◌≡◌, ◌<◌, ◌≤◌, ◌&&◌, ◌==◌, ◌++◌, ◌^◌, None, false, suc, length, get_or, is_some, unwrap_or, IfOk, OnOk};
 ghost use Rattle.hg_model.specs.Fame.{is_closed};
 ghost use Rattle.hg_model.specs.Places.{list_below};
 ghost use Rattle.hg_model.specs.Order.{ordered, round_received};
 ghost use Rattle.hg_model.specs.Prefix.{links_of};
-ghost use Rattle.hg_model.specs.declared.row.Placed.{Placed};
 ghost use Rattle.hg_order.specs.Round.{received_order, received_places};
 ghost use Rattle.hg_plain.specs.Tables.{IsTableOf};
 ghost use Rattle.hg_plain.specs.Rounds.{is_round};
@@ -24,8 +23,7 @@ pub fn ordered_rows(
 ) -> Result<Vec<Placed>, Memory>
     requires closed { IsTableOf false (is_closed p.now.members (links_of p.now) marks.now) (suc (length (links_of p.now))) closed.now }
     requires short { length closed.now < 2 ^ 32 }
-    ensures order { IfOk result (λ v. v.items ≡ ordered p.now.members p.now.rows (links_of p.now) marks.now) }
-    ensures within { IfOk result (λ v. All (λ (q : Placed). q.place < length (links_of p.now)) v.items) }
+    ensures { IfOk result (λ v. v.items ≡ ordered p.now.members p.now.rows (links_of p.now) marks.now) }
 {
     let received = rounds_received(alloc, p, marks, closed)?;
     let mut order = Vec::new(alloc);

@@ -1,12 +1,11 @@
-ghost use Rattle.std.specs.Prelude.{◌≡◌, ◌<◌, ◌≤◌, ◌-◌, ◌^◌, suc, false, All, length, map, IfOk};
+ghost use Rattle.std.specs.Prelude.{◌≡◌, ◌<◌, ◌≤◌, ◌-◌, ◌^◌, suc, false, length, IfOk};
 ghost use Rattle.hg_model.specs.Links.{links};
 ghost use Rattle.hg_model.specs.Forks.{forkers};
 ghost use Rattle.hg_model.specs.Graph.{IsShaped};
 ghost use Rattle.hg_model.specs.Rounds.{last_round};
 ghost use Rattle.hg_model.specs.Fame.{fame_marks, is_closed};
-ghost use Rattle.hg_model.specs.Order.{coin_at, last_closed, order_of, sequence_of};
+ghost use Rattle.hg_model.specs.Order.{coin_at, last_closed, order_of};
 ghost use Rattle.hg_model.specs.Ledger.{closed_of};
-ghost use Rattle.hg_model.specs.declared.row.Placed.{Placed};
 ghost use Rattle.hg_model.specs.Prefix.{graph_of, links_of};
 ghost use Rattle.hg_plain.specs.Tables.{IsTableOf};
 
@@ -35,8 +34,6 @@ pub struct PlainWhole {
     pub state: PlainState,
     /// The rows that closed rounds receive, in order.
     pub order: Items<Placed>,
-    /// For each of these rows how many self-ancestors it has other than itself.
-    pub sequences: Items<u64>,
 }
 
 /// A graph with its fame: its tables, a mark for each row, and whether each round is closed.
@@ -121,33 +118,6 @@ pub fn plain_state(
     Ok(state_of(&graph))
 }
 
-/// How many self-ancestors row `x` has other than itself.
-#[tactic(auto, using(hg_model::proofs::PlacesLaws::count_steps), unfolding(hg_model::specs::Order::sequence_of))]
-fn sequence_of(sight: &PlainSight, x: usize) -> u64
-    requires { x < length sight.now.links }
-    ensures { result ≡ sequence_of sight.now.links x }
-{
-    let mut count = 0;
-    for y in 0..x {
-        if sight.is_self_ancestor(x, y) {
-            count += 1;
-        }
-    }
-    count
-}
-
-/// For each placed row how many self-ancestors it has other than itself.
-fn sequences(alloc: Global, sight: &PlainSight, order: &[Placed]) -> Result<Vec<u64>, Memory>
-    requires { All (λ (p : Placed). p.place < length sight.now.links) order.now }
-    ensures { IfOk result (λ v. v.items ≡ map (λ (p : Placed). sequence_of sight.now.links p.place) order.now) }
-{
-    let mut sequences = Vec::with_capacity(alloc, order.len())?;
-    for placed in order {
-        sequences.push(sequence_of(sight, placed.place))?;
-    }
-    Ok(sequences)
-}
-
 /// All that the procedures tell of a graph, from one set of tables.
 pub fn plain_whole(
     alloc: Global,
@@ -163,15 +133,12 @@ pub fn plain_whole(
     ensures greatest { IfOk result (λ whole. whole.state.greatest ≡ last_round members (links rows.now)) }
     ensures closed { IfOk result (λ whole. whole.state.closed ≡ closed_of members coin rows.now) }
     ensures order { IfOk result (λ whole. whole.order ≡ order_of members coin rows.now) }
-    ensures sequences { IfOk result (λ whole. whole.sequences ≡ map (λ (p : Placed). sequence_of (links rows.now) p.place) (order_of members coin rows.now)) }
 {
     let graph = elect(alloc, rows, members, coin)?;
     let order = ordered_rows(alloc, &graph.prefix, &graph.marks, &graph.closed)?;
-    let sequences = sequences(alloc, graph.prefix.tables(), &order)?;
     Ok(PlainWhole {
         state: state_of(&graph),
         order: Items::from_vec(order),
-        sequences: Items::from_vec(sequences),
     })
 }
 
@@ -293,10 +260,6 @@ mod tests {
             placed(6, 2, 80),
         ];
         assert_eq!(rt; whole.order.as_slice(), expected.as_slice());
-        assert_eq!(rt;
-            whole.sequences.as_slice(),
-            [0, 0, 1, 1, 0, 1, 2].as_slice()
-        );
         Ok(())
     }
 

@@ -37,7 +37,7 @@ impl Model for PlainSight {
 
 impl PlainSight {
     ghost use Rattle.hg_model.specs.Links.{creator, self_parent};
-    ghost use Rattle.hg_model.specs.Ancestry.{is_ancestor, is_self_ancestor};
+    ghost use Rattle.hg_model.specs.Ancestry.{is_ancestor};
     ghost use Rattle.hg_model.specs.Forks.{forkers};
     ghost use Rattle.hg_model.specs.Seeing.{sees, strongly_sees};
     ghost use Rattle.hg_model.specs.Rounds.{is_witness, last_round, round_of};
@@ -97,14 +97,6 @@ impl PlainSight {
         ensures { result ≡ is_ancestor self.now.links x y }
     {
         self.seeing.ancestry().is_ancestor(x, y)
-    }
-
-    pub fn is_self_ancestor(&self, x: usize, y: usize) -> bool
-        requires left { x < length self.now.links }
-        requires right { y < length self.now.links }
-        ensures { result ≡ is_self_ancestor self.now.links x y }
-    {
-        self.seeing.ancestry().is_self_ancestor(x, y)
     }
 
     pub fn sees(&self, x: usize, y: usize) -> bool

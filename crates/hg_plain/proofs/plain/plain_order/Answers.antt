@@ -12,4 +12,4 @@ returns c =
     ap₂ (λ (g : Graph) marks. ordered g.members g.rows (links_of g) marks) c.in_ok-graph.ensures.graph
     (c.deref.ensures.value ∙ c.in_ok-graph.ensures.marks) in
     IfOk-weaker c.ordered_rows.result (λ v. v.items ≡ ordered graph.members graph.rows (links_of graph) c.deref.result.now)
-    (λ v. v.items ≡ order_of c.args.members c.args.coin c.args.rows.now) (λ v is. is ∙ same) c.ordered_rows.ensures.order
+    (λ v. v.items ≡ order_of c.args.members c.args.coin c.args.rows.now) (λ v is. is ∙ same) c.ordered_rows.ensures

@@ -1,10 +1,7 @@
-use Rattle.std.proofs.Common.{◌∙◌, ap, ap₂, map, List}
-use Rattle.hg_model.specs.declared.row.Placed.{Placed}
-use Rattle.hg_model.specs.Links.{Link}
-use Rattle.hg_model.specs.Order.{last_closed, ordered, order_of, sequence_of}
+use Rattle.std.proofs.Common.{◌∙◌, ap₂}
+use Rattle.hg_model.specs.Order.{last_closed, ordered, order_of}
 use Rattle.hg_model.specs.Ledger.{closed_of}
 use Rattle.hg_model.specs.Prefix.{Graph, links_of}
-use Rattle.hg_model.specs.Shape.{Shape}
 use Rattle.hg_plain.proofs.plain.plain_whole.Goals as goal
 
 pub returns-clause-closed : goal.returns-clause-closed
@@ -16,15 +13,5 @@ pub returns-clause-order : goal.returns-clause-order
 unfolding order_of
 returns-clause-order c =
     c.from_vec.ensures
-    ∙ (c.in_ok-order.ensures.order
+    ∙ (c.in_ok-order.ensures
     ∙ ap₂ (λ (g : Graph) marks. ordered g.members g.rows (links_of g) marks) c.in_ok-graph.ensures.graph (c.deref.ensures.value ∙ c.in_ok-graph.ensures.marks))
-
-pub returns-clause-sequences : goal.returns-clause-sequences
-unfolding order_of
-returns-clause-sequences c =
-    let same = c.in_ok-order.ensures.order
-    ∙ ap₂ (λ (g : Graph) marks. ordered g.members g.rows (links_of g) marks) c.in_ok-graph.ensures.graph (c.deref.ensures.value ∙ c.in_ok-graph.ensures.marks) in
-    c.from_vec-2.ensures
-    ∙ (c.in_ok-sequences.ensures
-    ∙ ap₂ (λ (L : List Link) (order : List Placed). map (λ (p : Placed). sequence_of L p.place) order)
-    (ap (λ (s : Shape). s.links) c.tables.ensures ∙ ap links_of c.in_ok-graph.ensures.graph) (c.deref-3.ensures.value ∙ same))
