@@ -5,7 +5,7 @@ use Rattle.hg_model.specs.declared.row.Row.{Row}
 use Rattle.hg_model.specs.declared.entry.Entry.{Entry}
 use Rattle.hg_model.specs.Graph.{IsGraph}
 use Rattle.hg_model.specs.Fame.{Marks, mark_at}
-use Rattle.hg_model.specs.Prefix.{Graph}
+use Rattle.hg_model.specs.Prefix.{Graph, graph_of as prefix_of}
 use Rattle.hg_model.specs.Shares.{Share}
 use Rattle.hg_model.specs.History.{news, with_row, with_marks, first_mark}
 use Rattle.hg_model.proofs.LinkLaws.{length-links}
