@@ -1,5 +1,5 @@
 -- Texts that are told to a sink, straight or by a page that keeps their end back.
-use Rattle.std.specs.Prelude.{◌≡◌, ℕ, ◌<◌, ◌≤◌, List, ◌++◌, length, Option, Result, Ok, Err}
+use Rattle.std.specs.Prelude.{◌≡◌, ℕ, ◌+◌, ◌<◌, ◌≤◌, nat_le, if◌then◌else◌, List, [], ◌++◌, length, Option, Result, Ok, Err}
 use Rattle.hg_io.specs.Bytes.{Appends, AppendsPart}
 use Rattle.hg_io.specs.Faults.{Rose}
 use Rattle.hg_io.specs.declared.sink.Sink as sink
@@ -47,3 +47,15 @@ pub record IsPutUpTo (before now : Desk) (left text : List ℕ) : Type 0 where
   pub done : List ℕ
   pub put : IsPut before now done
   pub whole : done ++ left ≡ text
+
+-- how many bytes a page holds
+abbrev pub page_size : ℕ
+page_size = 4096
+
+-- what an empty page holds after a text: all of it, or nothing where it is longer than a page
+abbrev pub held_alone : List ℕ → List ℕ
+held_alone text = if nat_le (length text) page_size then text else []
+
+-- what a page holds after a text: both where there is room for them, or else the text as on an empty page
+abbrev pub held_after : List ℕ → List ℕ → List ℕ
+held_after held text = if nat_le (length held + length text) page_size then held ++ text else held_alone text

@@ -1,5 +1,5 @@
 ghost use Rattle.std.specs.Prelude.{◌≡◌, [], OnOk};
-ghost use Rattle.hg_io.specs.Telling.{Puts, Tells, desk};
+ghost use Rattle.hg_io.specs.Telling.{Puts, Tells, desk, held_after, held_alone};
 
 use crate::failed::Failed;
 use crate::sink::Sink;
@@ -38,7 +38,8 @@ fn send<K: Sink>(bytes: &mut ArrayVec<u8, PAGE>, sink: &mut K) -> Result<(), Fai
 #[tactic(auto, using(crate::proofs::Told::stops_straight))]
 fn begin<K: Sink>(bytes: &mut ArrayVec<u8, PAGE>, sink: &mut K, piece: &[u8]) -> Result<(), Failed>
     requires { bytes.old.items ≡ [] }
-    ensures { Puts (desk K.Sink sink.old bytes.old.items) (desk K.Sink sink.new bytes.new.items) piece.now result }
+    ensures held { OnOk result (bytes.new.items ≡ held_alone piece.now) }
+    ensures puts { Puts (desk K.Sink sink.old bytes.old.items) (desk K.Sink sink.new bytes.new.items) piece.now result }
 {
     if bytes.try_extend_from_slice(piece).is_ok() {
         return Ok(());
@@ -50,7 +51,8 @@ fn begin<K: Sink>(bytes: &mut ArrayVec<u8, PAGE>, sink: &mut K, piece: &[u8]) ->
 // Puts a piece behind the bytes of the page.
 #[tactic(auto, using(crate::proofs::Told::stops_sending, crate::proofs::Told::puts_after_sending, crate::proofs::Told::stops_after_sending))]
 fn put<K: Sink>(bytes: &mut ArrayVec<u8, PAGE>, sink: &mut K, piece: &[u8]) -> Result<(), Failed>
-    ensures { Puts (desk K.Sink sink.old bytes.old.items) (desk K.Sink sink.new bytes.new.items) piece.now result }
+    ensures held { OnOk result (bytes.new.items ≡ held_after bytes.old.items piece.now) }
+    ensures puts { Puts (desk K.Sink sink.old bytes.old.items) (desk K.Sink sink.new bytes.new.items) piece.now result }
 {
     if bytes.try_extend_from_slice(piece).is_ok() {
         return Ok(());
@@ -72,14 +74,16 @@ impl Page {
 
     /// Puts the bytes behind those of the page, which go to the sink first where there is no room for both.
     pub fn put<K: Sink>(&mut self, sink: &mut K, bytes: &[u8]) -> Result<(), Failed>
-        ensures { Puts (desk K.Sink sink.old self.old) (desk K.Sink sink.new self.new) bytes.now result }
+        ensures held { OnOk result (self.new ≡ held_after self.old bytes.now) }
+        ensures puts { Puts (desk K.Sink sink.old self.old) (desk K.Sink sink.new self.new) bytes.now result }
     {
         put(&mut self.bytes, sink, bytes)
     }
 
     /// Gives the sink all bytes of the page.
     pub fn send<K: Sink>(&mut self, sink: &mut K) -> Result<(), Failed>
-        ensures { Tells K.Sink sink.old sink.new self.old result }
+        ensures told { Tells K.Sink sink.old sink.new self.old result }
+        ensures empty { OnOk result (self.new ≡ []) }
     {
         send(&mut self.bytes, sink)
     }
