@@ -1,40 +1,41 @@
-use crate::tests::{give, name_at, node_of, two_members};
+use crate::tests::{equal, give, make, name_at, two_players};
 use crate::{Node, ROW_LIMIT};
 use hg_model::{Fault, MakeAnswer, MakeFault, Memory, Name, PutAnswer};
 use hg_sign::MacTable;
-use std::test::Fail;
+use std::process::Abort;
 
 /// Makes so many events more on the other's first one, or fewer where one is refused.
-fn make_rows(node: &mut Node<&MacTable>, other: Name, count: usize) -> Result<(), Memory> {
+fn make_rows(node: &mut Node<MacTable>, other: Name, count: usize) -> Result<(), Memory> {
     for _ in 0..count {
         node.make(Some(other), 1, b"")?;
     }
     Ok(())
 }
 
-#[test]
-fn takes_no_row_more_where_it_is_full(rt: HostRuntime) -> Result<(), Fail> {
-    let members = two_members(rt.alloc())?;
-    let keys = MacTable::new(rt.alloc(), &members)?;
-    let mut a = node_of(&rt, rt.alloc(), &members, &keys, 0)?;
-    let mut b = node_of(&rt, rt.alloc(), &members, &keys, 1)?;
-    a.make(None, 1, b"")?;
-    b.make(None, 2, b"")?;
-    give(&rt, &b, 0, &mut a)?;
-    give(&rt, &a, 0, &mut b)?;
-    b.make(Some(name_at(&rt, &a, 0)), 3, b"")?;
-    let first = name_at(&rt, &b, 0);
-    make_rows(&mut a, first, ROW_LIMIT - 2)?;
-    assert_eq!(rt; a.rows(), 16_384);
-    assert_eq!(rt;
-        a.make(Some(first), 4, b"")?,
-        MakeAnswer::Refused(MakeFault::Full(16_384))
-    );
-    assert_eq!(rt;
-        give(&rt, &b, 2, &mut a)?,
-        PutAnswer::Refused(Fault::Full(16_384))
-    );
-    assert_eq!(rt; give(&rt, &b, 0, &mut a)?, PutAnswer::Known(1));
-    assert_eq!(rt; a.rows(), 16_384);
+/// A's rows come to 16,384; B has an event that A does not.
+fn fill(rt: &impl Abort, a: &mut Node<MacTable>, b: &mut Node<MacTable>) -> Result<(), Memory> {
+    make(rt, a, None, 1, MakeAnswer::Made(0))?;
+    make(rt, b, None, 2, MakeAnswer::Made(0))?;
+    give(rt, b, 0, a, PutAnswer::Accepted(1))?;
+    give(rt, a, 0, b, PutAnswer::Accepted(1))?;
+    make(rt, b, Some(name_at(rt, a, 0)), 3, MakeAnswer::Made(2))?;
+    make_rows(a, name_at(rt, b, 0), ROW_LIMIT - 2)?;
+    equal(rt, a.rows(), 16_384);
     Ok(())
+}
+
+fn overfill(rt: &impl Abort, a: &mut Node<MacTable>, b: &Node<MacTable>) -> Result<(), Memory> {
+    let full = MakeAnswer::Refused(MakeFault::Full(16_384));
+    make(rt, a, Some(name_at(rt, b, 0)), 4, full)?;
+    give(rt, b, 2, a, PutAnswer::Refused(Fault::Full(16_384)))?;
+    give(rt, b, 0, a, PutAnswer::Known(1))?;
+    equal(rt, a.rows(), 16_384);
+    Ok(())
+}
+
+#[test]
+fn takes_no_row_more_where_it_is_full(rt: HostRuntime) -> Result<(), Memory> {
+    let (mut a, mut b) = two_players(&rt, rt.alloc())?;
+    fill(&rt, &mut a.node, &mut b.node)?;
+    overfill(&rt, &mut a.node, &b.node)
 }
