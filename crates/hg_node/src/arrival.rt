@@ -1,12 +1,11 @@
-ghost use Rattle.std.specs.Prelude.{ℕ, ◌≡◌, ◌<◌, List, [], ◌∷◌, ◌++◌, length, Option, map, option_map, IfOk};
-ghost use Rattle.std.specs.List.{AllByRecursion};
+ghost use Rattle.std.specs.Prelude.{◌≡◌, ◌<◌, length, Option, map, IfOk};
 ghost use Rattle.hg_model.specs.declared.row.Row.{Row};
 ghost use Rattle.std.specs.Result.{result_err};
 ghost use Rattle.hg_event.specs.View.{row_of};
-ghost use Rattle.hg_model.specs.Links.{link_in, links, parent_names, place_of};
+ghost use Rattle.hg_model.specs.Links.{link_in, parent_names, place_of};
 ghost use Rattle.hg_model.specs.Graph.{creator_at};
 ghost use Rattle.hg_model.specs.Forks.{forkers};
-ghost use Rattle.hg_model.specs.Shape.{FitsLink, link_of, pair_list};
+ghost use Rattle.hg_model.specs.Shape.{link_of, pair_list};
 ghost use Rattle.hg_model.specs.Spelling.{Spells};
 ghost use Rattle.hg_model.specs.Verdict.{arrival_rule, forkers_rule, full_rule, impostor_rule, member_rule, name_rule, signature_rule};
 ghost use Rattle.hg_node.specs.Arrival.{LinkComes, all_rules, parents_rule};

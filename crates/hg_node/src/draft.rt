@@ -1,8 +1,8 @@
-ghost use Rattle.std.specs.Prelude.{ℕ, ◌≡◌, ◌≤◌, ◌<◌, List, length, map, option_map, true, IfOk};
+ghost use Rattle.std.specs.Prelude.{◌≡◌, ◌≤◌, ◌<◌, length, map, option_map, true, IfOk};
 ghost use Rattle.std.specs.Option.{option_or};
 ghost use Rattle.std.specs.Result.{result_err};
 ghost use Rattle.hg_model.specs.Links.{parent_names, place_of};
-ghost use Rattle.hg_model.specs.Shape.{pair_list, place_list};
+ghost use Rattle.hg_model.specs.Shape.{pair_list};
 ghost use Rattle.hg_model.specs.Spelling.{Spells, body_bytes, payload_limit};
 ghost use Rattle.hg_model.specs.Verdict.{both_names, collision_rule, draft_rule, first_rule, last_name, other_rule, made_row, payload_rule, room_rule};
 

@@ -1,7 +1,7 @@
 ghost use Rattle.std.specs.Prelude.{◌≡◌, ◌++◌, ◌<◌, ◌≤◌, ◌^◌, [], ◌∷◌, cond, IfOk, OnOk, length};
 ghost use Rattle.hg_model.specs.declared.outcome.Printed.TheVariants as piece;
 ghost use Rattle.hg_model.specs.Ledger.{block_of};
-ghost use Rattle.hg_play.specs.Node.{start_in, starts, starts_of, states_of};
+ghost use Rattle.hg_play.specs.Node.{starts, starts_of, states_of};
 ghost use Rattle.hg_play.specs.Nodes.{node_at};
 ghost use Rattle.hg_play.specs.Play.{final_blocks, has_node_at};
 

@@ -1,6 +1,5 @@
 ghost use Rattle.std.specs.Prelude.{◌≡◌, ◌≤◌, IfOk, length, option_map, take};
 ghost use Rattle.hg_model.specs.Spelling.{payload_limit};
-ghost use Rattle.hg_sign.specs.Table.{signature_by};
 ghost use Rattle.hg_play.specs.Labels.{altered, bytes_at, forged, name_of_label, names_of_labels};
 ghost use Rattle.hg_play.specs.Node.{keys_by};
 

@@ -2,9 +2,7 @@ ghost use Rattle.std.specs.Prelude.{◌≡◌, ◌<◌, ◌≤◌, All, IfOk, On
 ghost use Rattle.hg_script.specs.declared.line.Action.{Action};
 ghost use Rattle.hg_script.specs.declared.line.Line.{Line};
 ghost use Rattle.hg_sign.specs.Table.{secrets_of};
-ghost use Rattle.hg_play.specs.Node.{keys_by, starts, starts_of, state_in, states_of};
-ghost use Rattle.hg_model.specs.Ledger.{block_of};
-ghost use Rattle.hg_play.specs.Nodes.{node_at};
+ghost use Rattle.hg_play.specs.Node.{keys_by, starts, starts_of, states_of};
 ghost use Rattle.hg_play.specs.Play.{IsBelow, after_line, after_lines, all_printed, source_bytes, world};
 
 use crate::blocks::{block_at, push_blocks};

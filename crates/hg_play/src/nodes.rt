@@ -1,7 +1,7 @@
 ghost use Rattle.std.specs.Prelude.{◌≡◌, ◌<◌, ◌≤◌, IfOk, None, OnOk, Some, length, slice_set};
 ghost use Rattle.hg_model.specs.Gossip.{making_by, node_made, node_put, node_synced, sync_report, verdict_by};
 ghost use Rattle.hg_play.specs.Labels.{bytes_at, name_of_label};
-ghost use Rattle.hg_play.specs.Node.{starts, starts_of, states_of, told};
+ghost use Rattle.hg_play.specs.Node.{starts, starts_of, states_of};
 ghost use Rattle.hg_play.specs.Nodes.{IsGossipBelow, actor, gossip_printed, keys_at, new_nodes, node_at, nodes_after, pulled};
 
 use crate::labels::{bytes_at, name_of_label};

@@ -1,4 +1,4 @@
-ghost use Rattle.std.specs.Prelude.{◌≡◌, ◌++◌, ◌+◌, ◌<◌, ◌≤◌, ◌-◌, ◌^◌, [], IfOk, OnErr, OnOk, length, map, slice_get, unwrap_or, option_map};
+ghost use Rattle.std.specs.Prelude.{◌≡◌, ◌++◌, ◌+◌, ◌<◌, ◌≤◌, ◌-◌, ◌^◌, [], IfOk, OnOk, Some, length, map, slice_get, unwrap_or, option_map};
 ghost use Rattle.hg_model.specs.Spelling.{spelling};
 ghost use Rattle.hg_model.specs.Verdict.{last_name, row_limit};
 ghost use Rattle.hg_model.specs.Gossip.{count_refused, count_taken, lacking};
@@ -52,7 +52,7 @@ fn push_unless_held(
     place: usize,
 ) -> Result<(), Memory>
     requires { place < length (graph_of node.now) }
-    ensures { OnOk result (option_map (λ row. missing.old.items ++ missing_row (graph_of taker.now) row) (slice_get (graph_of node.now) place) ≡ Rattle.std.specs.Prelude.Some missing.new.items) }
+    ensures { OnOk result (option_map (λ row. missing.old.items ++ missing_row (graph_of taker.now) row) (slice_get (graph_of node.now) place) ≡ Some missing.new.items) }
 {
     if taker.place_of(&node.row(place).name).is_none() {
         missing.push(copied(alloc, node.bytes(place))?)?;

@@ -1,9 +1,7 @@
-ghost use Rattle.std.specs.Prelude.{◌≡◌, ◌<◌, ◌≤◌, ◌+◌, ◌^◌, All, IfOk, length};
+ghost use Rattle.std.specs.Prelude.{◌≡◌, ◌<◌, ◌+◌, All, IfOk, length};
 ghost use Rattle.hg_model.specs.declared.row.Placed.{Placed};
 ghost use Rattle.hg_model.specs.Places.{table};
 ghost use Rattle.hg_model.specs.Links.{self_parent};
-ghost use Rattle.hg_model.specs.Graph.{IsShaped};
-ghost use Rattle.hg_model.specs.Shape.{place_list};
 ghost use Rattle.hg_model.specs.Order.{sequence_of};
 ghost use Rattle.hg_model.specs.Ledger.{order_line, order_lines};
 ghost use Rattle.hg_model.specs.Prefix.{links_of};

@@ -1,5 +1,4 @@
 ghost use Rattle.std.specs.Prelude.{◌≡◌, ◌≤◌, ℕ, List, All, IfOk, IfErr, map, string_bytes};
-ghost use Rattle.hg_io.specs.Bytes.{Appends, AppendsPart};
 ghost use Rattle.hg_model.specs.Report.{report_text};
 ghost use Rattle.hg_play.specs.Play.{play};
 ghost use Rattle.hg_script.specs.Lawful.{IsLine};
