@@ -66,7 +66,8 @@ pub(crate) fn write_pieces<K: Sink>(
     Ok(())
 }
 
-/// Writes the pieces, one after the other. It takes no memory, and gives the sink up to 4,096 bytes at a time.
+/// Writes the pieces, one after the other. It takes no memory; the sink gets pages of up to 4,096 bytes, and a piece that is
+/// longer than a page by itself.
 /// `Failed` comes with the first fault of the sink, which has then taken a front of their text, and not all of it.
 #[tactic(auto, using(hg_io::proofs::Told::stopped_part, hg_io::proofs::Told::told_by_page))]
 pub fn tell_pieces<K: Sink>(sink: &mut K, pieces: &[Piece<'_>]) -> Result<(), Failed>

@@ -129,7 +129,8 @@ fn write_texts<K: Sink>(
     Ok(())
 }
 
-/// Writes the text of all that a run prints. It takes no memory, and gives the sink up to 4,096 bytes at a time.
+/// Writes the text of all that a run prints. It takes no memory; the sink gets pages of up to 4,096 bytes, and a piece that
+/// is longer than a page by itself.
 /// `Failed` comes with the first fault of the sink, which has then taken a front of the text, and not all of it.
 #[tactic(auto, using(hg_io::proofs::Told::stopped_part))]
 pub fn text_of<K: Sink>(outcome: &Outcome, sink: &mut K) -> Result<(), Failed>
