@@ -109,7 +109,7 @@ pub(crate) fn begin(
     node.make(None, time, payload)
 }
 
-/// Has a node make an event of no payload, and it is to answer so.
+/// Has a node make an event, and it is to answer so.
 pub(crate) fn make(
     rt: &impl Abort,
     node: &mut Node<MacTable>,
@@ -117,7 +117,7 @@ pub(crate) fn make(
     time: u64,
     answer: MakeAnswer,
 ) -> Result<(), Memory> {
-    equal(rt, node.make(other, time, b"")?, answer);
+    equal(rt, node.make(other, time, b"any")?, answer);
     Ok(())
 }
 
