@@ -9,29 +9,29 @@ use Rattle.hg_model.specs.Graph.{IsGraph}
 use Rattle.hg_model.specs.Order.{coin_at}
 
 -- the vote of y on x
-abbrev pub vote_in : ℕ → ℕ → List Row → ℕ → ℕ → Bool
-vote_in n c G x y = vote_of n c (links G) (coin_at G) x y
+abbrev pub vote_by : ℕ → ℕ → List Row → ℕ → ℕ → Bool
+vote_by n c G x y = vote_of n c (links G) (coin_at G) x y
 
 -- y decides the fame of x
-abbrev pub decides_in : ℕ → ℕ → List Row → ℕ → ℕ → Bool
-decides_in n c G x y = decides n c (links G) (coin_at G) x y
+abbrev pub decides_by : ℕ → ℕ → List Row → ℕ → ℕ → Bool
+decides_by n c G x y = decides n c (links G) (coin_at G) x y
 
 -- where y decides, each witness z of its round or of a later one votes as y does
 abbrev pub DecisionsLast : Type 0
 DecisionsLast = (n c : ℕ) (G : List Row) → IsGraph n G → (x y z : ℕ) → y < length G → z < length G →
-    IsTrue (decides_in n c G x y) → IsTrue (is_witness n (links G) z) → round_of n (links G) y ≤ round_of n (links G) z →
-    vote_in n c G x z ≡ vote_in n c G x y
+    IsTrue (decides_by n c G x y) → IsTrue (is_witness n (links G) z) → round_of n (links G) y ≤ round_of n (links G) z →
+    vote_by n c G x z ≡ vote_by n c G x y
 
 -- two deciders of x decide alike
 abbrev pub DecidersAgree : Type 0
 DecidersAgree = (n c : ℕ) (G : List Row) → IsGraph n G → (x a b : ℕ) → a < length G → b < length G →
-    IsTrue (decides_in n c G x a) → IsTrue (decides_in n c G x b) → vote_in n c G x a ≡ vote_in n c G x b
+    IsTrue (decides_by n c G x a) → IsTrue (decides_by n c G x b) → vote_by n c G x a ≡ vote_by n c G x b
 
 -- so do one in a graph and one in a longer graph
 abbrev pub DecidersAgreeLater : Type 0
 DecidersAgreeLater = (n c : ℕ) (G more : List Row) → IsGraph n G → IsGraph n (G ++ more) → (x a b : ℕ) →
     x < length G → a < length G → b < length (G ++ more) →
-    IsTrue (decides_in n c G x a) → IsTrue (decides_in n c (G ++ more) x b) → vote_in n c G x a ≡ vote_in n c (G ++ more) x b
+    IsTrue (decides_by n c G x a) → IsTrue (decides_by n c (G ++ more) x b) → vote_by n c G x a ≡ vote_by n c (G ++ more) x b
 
 -- and the fame of x in a graph is its fame in each longer one
 abbrev pub FameIsKept : Type 0

@@ -22,7 +22,7 @@ skipped test from (suc n) le none = elim (cases_lt n from) [
       ∙ (ap (λ b. some_below n test || b) (none n more (omega arith)) ∙ (or-false (some_below n test) ∙ skipped test from n more (λ i h l. none i h (omega arith)))))
 ]
 
-module _ (L : List Link) (row other : List Bool) (from : ℕ) (mask : ℕ → Bool) (told : (m : ℕ) → mask m ≡ some_below from (λ a. is_over row other a && eqb (creator L a) m)) where
+module _ (L : List Link) (row other : List Bool) (from : ℕ) (mask : ℕ → Bool) (matches : (m : ℕ) → mask m ≡ some_below from (λ a. is_over row other a && eqb (creator L a) m)) where
   apart_none : (a m : ℕ) → is_over row other a ≡ false → (is_over row other a && eqb (creator L a) m) ≡ false
   apart_none a m h = ap (λ b. b && eqb (creator L a) m) h
 
@@ -30,7 +30,7 @@ module _ (L : List Link) (row other : List Bool) (from : ℕ) (mask : ℕ → Bo
       (m : ℕ) → result m ≡ some_below (a + 1) (λ a. is_over row other a && eqb (creator L a) m)
   apart_next a member result first by_member made m =
       let test : ℕ → Bool = λ a. is_over row other a && eqb (creator L a) m in
-      let before : some_below a test ≡ mask m = skipped test from a first.low (λ i h l. apart_none i m (first.none_before i h l)) ∙ sym (told m) in
+      let before : some_below a test ≡ mask m = skipped test from a first.low (λ i h l. apart_none i m (first.none_before i h l)) ∙ sym (matches m) in
       let here : test a ≡ eqb m member = ap (λ b. b && eqb (creator L a) m) first.passes ∙ (ap (λ c. eqb c m) (sym by_member) ∙ eqb_turned member m) in
       made m ∙ (or_comm (eqb m member) (mask m) ∙ (ap₂ (λ (b c : Bool). b || c) (sym before) (sym here) ∙ sym (some_below_next a test)))
 
@@ -38,7 +38,7 @@ module _ (L : List Link) (row other : List Bool) (from : ℕ) (mask : ℕ → Bo
       (m : ℕ) → mask m ≡ is_apart L x z m
   apart_all le none e x z row_is other_is m =
       let long : length row ≡ x + 1 = row_long L x row row_is in
-      told m ∙ sym (skipped (λ a. is_over row other a && eqb (creator L a) m) from (length row) le (λ i h l. apart_none i m (none i h l)))
+      matches m ∙ sym (skipped (λ a. is_over row other a && eqb (creator L a) m) from (length row) le (λ i h l. apart_none i m (none i h l)))
       ∙ (ap (λ k. some_below k (λ a. is_over row other a && eqb (creator L a) m)) (long ∙ add-one x)
       ∙ some_below-same (suc x) (λ a. is_over row other a && eqb (creator L a) m) (λ a. is_ancestor L x a && (not (is_ancestor L z a) && eqb (creator L a) m)) (λ a h.
       ap₂ (λ (up none : Bool). (up && not none) && eqb (creator L a) m) (row_tells L e x a row row_is) (row_tells L e z a other other_is)

@@ -187,8 +187,8 @@ module _ (n : ℕ) (L : List Link) (s : IsShaped n L) (by own other : ℕ) (fits
     | inr a_other ↦ elim ub [ inl b_own ↦ across b a b_own a_other (swapped L a b f) | inr b_other ↦ fork_below_other a b a_other b_other f ]
   ]
 
-  fork_told : has_fork_below grown (length L) m ≡ true → forks_here ≡ true
-  fork_told h =
+  fork_known : has_fork_below grown (length L) m ≡ true → forks_here ≡ true
+  fork_known h =
       let f = has_fork_below_found grown after (length L) m h in
       let a : ℕ = f.0 in
       let b : ℕ = f.1 in
@@ -274,4 +274,4 @@ module _ (n : ℕ) (L : List Link) (s : IsShaped n L) (by own other : ℕ) (fits
 
   -- who has a fork above the new row
   pub forks_are : forks_here ≡ has_fork_below grown (length L) m
-  forks_are = bool_iff forks_here (has_fork_below grown (length L) m) fork_is_there fork_told
+  forks_are = bool_iff forks_here (has_fork_below grown (length L) m) fork_is_there fork_known

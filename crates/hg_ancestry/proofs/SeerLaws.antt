@@ -29,8 +29,8 @@ seers_all L x y m = ap (λ k. some_below k (is_seer_by L x y m)) (add-one x)
 pub strong_by_members : (n : ℕ) (L : List Link) (x y : ℕ) (has : ℕ → Bool) → IsShaped n L → n ≤ 128 → x < length L → ((m : ℕ) → has m ≡ sees_through L x y m) →
     is_supermajority n (count_below 128 has) ≡ strongly_sees n L x y
 unfolding strongly_sees
-strong_by_members n L x y has s few hx told =
-    ap (is_supermajority n) (weight_below-same (λ _. 1) 128 has (sees_through L x y) (λ m h. told m)
+strong_by_members n L x y has s few hx matches =
+    ap (is_supermajority n) (weight_below-same (λ _. 1) 128 has (sees_through L x y) (λ m h. matches m)
     ∙ weight_below-longer (λ _. 1) n 128 (sees_through L x y) few (λ m past below. false_from_ne_true (sees_through L x y m) (λ h.
     let z = sees_through_found L s.earlier x y m h in
     let le : z.0 ≤ x = z.1 in
@@ -44,10 +44,10 @@ none_are_few n = false_from_ne_true (is_supermajority n (count_below 128 (mask_h
 -- more than two thirds already among the first rows
 pub strong_by_first : (n : ℕ) (L : List Link) (x y z : ℕ) (has : ℕ → Bool) → IsShaped n L → n ≤ 128 → x < length L → z ≤ x + 1 → ((m : ℕ) → has m ≡ some_below z (is_seer_by L x y m)) →
     is_supermajority n (count_below 128 has) ≡ true → strongly_sees n L x y ≡ true
-strong_by_first n L x y z has s few hx le told strong =
+strong_by_first n L x y z has s few hx le matches strong =
     let all : ℕ → Bool = sees_through L x y in
     let more : count_below 128 has ≤ count_below 128 all = weight_below-le (λ _. 1) 128 has all (λ m h passes.
-    let found = some_below_found z (is_seer_by L x y m) (sym (told m) ∙ passes) in
+    let found = some_below_found z (is_seer_by L x y m) (sym (matches m) ∙ passes) in
     sym (seers_all L x y m) ∙ some_below_from (x + 1) (is_seer_by L x y m) found.0 (omega (arith, found.1)) found.2) in
     sym (strong_by_members n L x y all s few hx (λ m. refl))
     ∙ lt-ltb (2 * n) (3 * count_below 128 all) (omega (arith, more, ltb-true (2 * n) (3 * count_below 128 has) strong))

@@ -29,11 +29,11 @@ pub struct BitSight {
 }
 
 impl Model for BitSight {
-    ghost use Rattle.hg_model.specs.Shape.{Growth, shape_of};
+    ghost use Rattle.hg_model.specs.Shape.{ShapeWithRoom, shape_of};
     ghost use Rattle.hg_ancestry.specs.Sight.{HoldsBitSight};
     ghost use Rattle.hg_ancestry.specs.Held.{spare_room};
 
-    ghost Value = { Growth };
+    ghost Value = { ShapeWithRoom };
 
     ghost view = { λ s. record { shape = shape_of s.members s.links.items; room = spare_room s.spare } };
 

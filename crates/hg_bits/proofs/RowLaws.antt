@@ -20,9 +20,9 @@ length-table test n = length-map-range_with_len test 0 n
 
 -- a list that has these truth values is their table
 pub is_table : (row : List Bool) (test : ℕ → Bool) (n : ℕ) → length row ≡ n → ((i : ℕ) → i < n → is_in row i ≡ test i) → row ≡ table test n
-is_table row test n len told =
+is_table row test n len matches =
     ext_get_or false row (table test n) (len ∙ sym (length-table test n))
-    (λ i h. let inside : i < n = omega (arith, len) in told i inside ∙ sym (is_in-table test n i inside))
+    (λ i h. let inside : i < n = omega (arith, len) in matches i inside ∙ sym (is_in-table test n i inside))
 
 pub table-same : (one two : ℕ → Bool) (n : ℕ) → ((i : ℕ) → i < n → one i ≡ two i) → table one n ≡ table two n
 table-same one two n same = is_table (table one n) two n (length-table one n) (λ i h. is_in-table one n i h ∙ same i h)

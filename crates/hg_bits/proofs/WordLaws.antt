@@ -150,7 +150,7 @@ first_bit_left word low h some fits =
 -- a search word by word
 
 module _ (words others : List ℕ) (from k low word : ℕ) (before : NoneFrom (is_bit_over words others) from (64 * k))
-    (told : (i : ℕ) → i < 64 → is_set word i ≡ is_bit_over words others (64 * k + i))
+    (matches : (i : ℕ) → i < 64 → is_set word i ≡ is_bit_over words others (64 * k + i))
     (first : k ≡ from / 64 → 64 * k + low ≡ from) (later : from / 64 < k → low ≡ 0) (begun : from / 64 ≤ k) where
   -- a place of the word from `from` on stands at its `low` or past it
   in_reach : (i : ℕ) → from ≤ 64 * k + i → low ≤ i
@@ -166,7 +166,7 @@ module _ (words others : List ℕ) (from k low word : ℕ) (before : NoneFrom (i
   ]
 
   not_before : (i : ℕ) → from ≤ i → (j : ℕ) → i ≡ 64 * k + j → j < 64 → is_set word j ≡ false → is_bit_over words others i ≡ false
-  not_before i le j at h none = ap (is_bit_over words others) at ∙ (sym (told j h) ∙ none)
+  not_before i le j at h none = ap (is_bit_over words others) at ∙ (sym (matches j h) ∙ none)
 
   pub none_in_word : Finds (is_set word) low 64 None → NoneFrom (is_bit_over words others) from (64 * (k + 1))
   none_in_word none i le h = elim (cases_lt i (64 * k)) [
@@ -181,7 +181,7 @@ module _ (words others : List ℕ) (from k low word : ℕ) (before : NoneFrom (i
         omega arith,
         record {
           low = reach_in i found.1.low;
-          passes = sym (told i within) ∙ found.1.passes;
+          passes = sym (matches i within) ∙ found.1.passes;
           none_before = λ j le h. elim (cases_lt j (64 * k)) [
             | inl earlier ↦ before j le earlier
             | inr here ↦ (let at : j ≡ 64 * k + (j - 64 * k) = omega arith in

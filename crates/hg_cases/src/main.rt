@@ -8,7 +8,7 @@ mod outcome;
 mod pack;
 mod playing;
 mod tally;
-mod telling;
+mod printing;
 mod trouble;
 
 use crate::case::{Case, read_case};
@@ -16,7 +16,7 @@ use crate::outcome::difference;
 use crate::pack::Pack;
 use crate::playing::play;
 use crate::tally::Tally;
-use crate::telling::tell;
+use crate::printing::print_difference;
 use crate::trouble::Trouble;
 use std::fs;
 use std::process::ExitCode;
@@ -46,7 +46,7 @@ fn play_next<R: AllocGlobal + Print>(
     let got = played.outcome();
     let part = difference(&wanted, &got);
     if let Some(part) = part {
-        tell(rt, name, part, &wanted, &got)?;
+        print_difference(rt, name, part, &wanted, &got)?;
     }
     Ok(tally.with(part))
 }

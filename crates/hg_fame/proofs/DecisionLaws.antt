@@ -119,9 +119,9 @@ module _ (g : Graph) (x : ℕ) (place : x < length g.rows) (witness : IsTrue (is
         decider = sym (first_decider_of ∙ none);
       }
 
-module _ (g : Graph) (x r : ℕ) (S : List Standing) (ws : List ℕ) (told : S ≡ standings_of g.members (links_of g)) (is : ws ≡ witnesses_in S r) where
+module _ (g : Graph) (x r : ℕ) (S : List Standing) (ws : List ℕ) (matches : S ≡ standings_of g.members (links_of g)) (is : ws ≡ witnesses_in S r) where
   decider_listed : find (decides_in g x) ws ≡ decider_in g x r
-  decider_listed = ap (find (decides_in g x)) (is ∙ ap (λ standings. witnesses_in standings r) told)
+  decider_listed = ap (find (decides_in g x)) (is ∙ ap (λ standings. witnesses_in standings r) matches)
 
   -- the ballot of a round's witness decides, where those before it do not
   pub decides_here : (i : ℕ) (ballot : Ballot) → i < length ws → find (decides_in g x) (take i ws) ≡ None → ballot ≡ ballot_of g x (get_or ws i 0) → ballot.decides ≡ true →
@@ -144,8 +144,8 @@ module _ (g : Graph) (x r : ℕ) (S : List Standing) (ws : List ℕ) (told : S �
 -- the votes of the last counted round's witnesses are counted
 pub witness_counted : (g : Graph) (x r : ℕ) (S : List Standing) (ws : List ℕ) → S ≡ standings_of g.members (links_of g) → ws ≡ witnesses_in S r →
     (counted : ℕ) → counted ≡ r → round_of g.members (links_of g) x < r → (i : ℕ) → i < length ws → IsCounted g x counted (get_or ws i 0)
-witness_counted g x r S ws told is counted counted_is later i h =
-    let w : IsWitnessOf g r (get_or ws i 0) = witness_read g r S ws i told is h in
+witness_counted g x r S ws matches is counted counted_is later i h =
+    let w : IsWitnessOf g r (get_or ws i 0) = witness_read g r S ws i matches is h in
     record { place = w.place; witness = w.witness; above = omega (arith, later, w.round); counted = omega (arith, counted_is, w.round) }
 
 -- an election goes on where the answer of a round is none
@@ -156,4 +156,4 @@ undecided_after g x round (Some y) answer found is none before = absurd (true≢
 
 -- the greatest round that a prefix tells
 pub greatest_read : (g : Graph) (S : List Standing) (greatest round : ℕ) → S ≡ standings_of g.members (links_of g) → greatest ≡ greatest_in S → greatest ≤ round → last_round g.members (links_of g) ≤ round
-greatest_read g S greatest round told is le = omega (arith, le, is ∙ (ap greatest_in told ∙ greatest_in-standings g.members (links_of g)))
+greatest_read g S greatest round matches is le = omega (arith, le, is ∙ (ap greatest_in matches ∙ greatest_in-standings g.members (links_of g)))

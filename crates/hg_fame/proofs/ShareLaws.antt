@@ -68,7 +68,7 @@ speaks_of g share k marks is all =
     let links_all : take k (links_of g) ≡ links_of g = ap (λ j. take j (links_of g)) links_long ∙ take-length (links_of g) in
     record {
       within = omega arith;
-      told = is ∙ (ap (found_below g share) links_long ∙ ap₂ (λ G L. found_in g.members g.coin G L share) (sym rows_all) (sym links_all));
+      matches = is ∙ (ap (found_below g share) links_long ∙ ap₂ (λ G L. found_in g.members g.coin G L share) (sym rows_all) (sym links_all));
     }
 
 pub ruleset share_steps = (found_none, found_more, found_same, no_fame_other, count_below_zero, count_below_passes, count_below_fails)

@@ -31,7 +31,7 @@ fn share_fame<P: Prefix, V: Votes>(
 
 /// What the share of the prefix's witnesses decides in it: each decided one of them by place, with its fame.
 /// It walks past all rows once, and elects the share's witnesses alone.
-#[tactic(auto, using(hg_model::proofs::StandingLaws::standings_told, hg_model::proofs::LinkLaws::link_lengths, crate::proofs::ShareLaws::share_steps))]
+#[tactic(auto, using(hg_model::proofs::StandingLaws::standings_known, hg_model::proofs::LinkLaws::link_lengths, crate::proofs::ShareLaws::share_steps))]
 pub fn elect_share<P: Prefix, V: Votes>(
     alloc: Global,
     p: &P,

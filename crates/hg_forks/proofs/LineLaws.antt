@@ -44,10 +44,10 @@ module _ (n : ℕ) (L : List Link) (s : IsShaped n L) where
       ])
 
   -- a line says whether its member has a fork
-  pub has_fork_told : (m : ℕ) (line : Line) → IsLineOf L m line → has_fork L m ≡ is_forked line
-  has_fork_told m Empty told = none_without_rows m told
-  has_fork_told m (Ends last) told = none_in_line m last told
-  has_fork_told m (Forked a b) told = (let order = told.order in let there = told.there in has_fork_from L m a b (omega arith) there told.fork)
+  pub has_fork_known : (m : ℕ) (line : Line) → IsLineOf L m line → has_fork L m ≡ is_forked line
+  has_fork_known m Empty matches = none_without_rows m matches
+  has_fork_known m (Ends last) matches = none_in_line m last matches
+  has_fork_known m (Forked a b) matches = (let order = matches.order in let there = matches.there in has_fork_from L m a b (omega arith) there matches.fork)
 
   module _ (k : ℕ) (self_parent_of : Option ℕ) (fits : FitsLink n L (own_link_of k self_parent_of)) where
     abbrev pub link : Link
@@ -103,19 +103,19 @@ module _ (n : ℕ) (L : List Link) (s : IsShaped n L) where
 
     -- the lines of the other members stay
     pub other_line : (m : ℕ) (line : Line) → m ≢ k → IsLineOf L m line → IsLineOf M m line
-    other_line m Empty other told = λ x h by_m. elim (row_cases x h) [
-      | inl before ↦ told x before (sym (creator_kept x before) ∙ by_m)
+    other_line m Empty other matches = λ x h by_m. elim (row_cases x h) [
+      | inl before ↦ matches x before (sym (creator_kept x before) ∙ by_m)
       | inr last ↦ other (sym by_m ∙ (ap (creator M) last ∙ creator_new))
     ]
-    other_line m (Ends last) other told = (let there = told.there in record {
+    other_line m (Ends last) other matches = (let there = matches.there in record {
       there = omega (arith, long);
-      by_m = creator_kept last there ∙ told.by_m;
+      by_m = creator_kept last there ∙ matches.by_m;
       above = λ x h by_m. elim (row_cases x h) [
-        | inl before ↦ kept last x there ∙ told.above x before (sym (creator_kept x before) ∙ by_m)
+        | inl before ↦ kept last x there ∙ matches.above x before (sym (creator_kept x before) ∙ by_m)
         | inr new ↦ absurd (other (sym by_m ∙ (ap (creator M) new ∙ creator_new)))
       ];
     })
-    other_line m (Forked a b) other told = fork_kept m a b told
+    other_line m (Forked a b) other matches = fork_kept m a b matches
 
     -- the new row is the last where all old ones of its member are self-ancestors of it
     new_last : ((x : ℕ) → x < length L → creator L x ≡ k → is_self_ancestor M (length L) x ≡ true) → IsLast M k (length L)
@@ -183,12 +183,12 @@ module _ (n : ℕ) (L : List Link) (s : IsShaped n L) where
 
     -- the line of the new row's member
     pub own_line : (line : Line) → IsLineOf L k line → IsLineOf M k (next_line line self_parent_of (length L))
-    own_line Empty told = new_last (λ x h by_k. absurd (told x h by_k))
-    own_line (Ends last) told = elim (cases_Bool (is_on self_parent_of last)) [
-      | inl on ↦ subst (λ b. IsLineOf M k (cond b (Ends (length L)) (Forked last (length L)))) (sym on) (on_last last on told)
-      | inr off ↦ subst (λ b. IsLineOf M k (cond b (Ends (length L)) (Forked last (length L)))) (sym off) (off_last last off told)
+    own_line Empty matches = new_last (λ x h by_k. absurd (matches x h by_k))
+    own_line (Ends last) matches = elim (cases_Bool (is_on self_parent_of last)) [
+      | inl on ↦ subst (λ b. IsLineOf M k (cond b (Ends (length L)) (Forked last (length L)))) (sym on) (on_last last on matches)
+      | inr off ↦ subst (λ b. IsLineOf M k (cond b (Ends (length L)) (Forked last (length L)))) (sym off) (off_last last off matches)
     ]
-    own_line (Forked a b) told = fork_kept k a b told
+    own_line (Forked a b) matches = fork_kept k a b matches
 
 -- a row makes a line forked where it makes the first fork
 pub is_forked_next : (line : Line) (self_parent_of : Option ℕ) (x : ℕ) →

@@ -13,9 +13,9 @@ use Rattle.hg_model.proofs.PushLaws.{shape-push}
 use Rattle.hg_forks.specs.declared.line.Line.{Line}
 use Rattle.hg_forks.specs.declared.line.Line.TheVariants.{Empty, Ends, Forked}
 use Rattle.hg_forks.specs.Own.{own_link_of}
-use Rattle.hg_forks.specs.Pairs.{TellsFork}
+use Rattle.hg_forks.specs.Pairs.{IsForkPair}
 use Rattle.hg_forks.specs.Lines.{fork_in, next_line, line_at, new_forkers, lengthened, IsLineOf, KeepsLines}
-use Rattle.hg_forks.proofs.LineLaws.{is_forked, has_fork_told, other_line, own_line, is_forked_next}
+use Rattle.hg_forks.proofs.LineLaws.{is_forked, has_fork_known, other_line, own_line, is_forked_next}
 
 -- two tests that agree but at m
 count-changed : (n m : ℕ) (one two : ℕ → Bool) → m < n → ((k : ℕ) → k < n → k ≢ m → one k ≡ two k) →
@@ -38,13 +38,13 @@ count-changed (suc n) m one two h same = elim (cases_eq m n) [
 
 module _ (L : List Link) (lines : List Line) (forking : ℕ) (keeps : KeepsLines L lines forking) where
   -- the fork that a line keeps
-  pub fork_told : (m : ℕ) → m < length lines → TellsFork L m (fork_in (line_at lines m))
-  fork_told m h = told (line_at lines m) (keeps.told m h)
+  pub fork_known : (m : ℕ) → m < length lines → IsForkPair L m (fork_in (line_at lines m))
+  fork_known m h = matches (line_at lines m) (keeps.matches m h)
     where
-      told : (line : Line) → IsLineOf L m line → TellsFork L m (fork_in line)
-      told Empty t = has_fork_told (length lines) L keeps.shaped m Empty t
-      told (Ends last) t = has_fork_told (length lines) L keeps.shaped m (Ends last) t
-      told (Forked a b) t = t
+      matches : (line : Line) → IsLineOf L m line → IsForkPair L m (fork_in line)
+      matches Empty t = has_fork_known (length lines) L keeps.shaped m Empty t
+      matches (Ends last) t = has_fork_known (length lines) L keeps.shaped m (Ends last) t
+      matches (Forked a b) t = t
 
   module _ (m : ℕ) (self_parent_of : Option ℕ) (fits : FitsLink (length lines) L (own_link_of m self_parent_of)) where
     abbrev pub M : List Link
@@ -63,10 +63,10 @@ module _ (L : List Link) (lines : List Line) (forking : ℕ) (keeps : KeepsLines
     shaped = shape-push (length lines) L (own_link_of m self_parent_of) keeps.shaped fits
 
     told_other : (k : ℕ) → k < length lines → k ≢ m → IsLineOf M k (line_at lines k)
-    told_other k h other = other_line (length lines) L keeps.shaped m self_parent_of fits k (line_at lines k) other (keeps.told k h)
+    told_other k h other = other_line (length lines) L keeps.shaped m self_parent_of fits k (line_at lines k) other (keeps.matches k h)
 
     told_own : IsLineOf M m next
-    told_own = own_line (length lines) L keeps.shaped m self_parent_of fits line (keeps.told m member)
+    told_own = own_line (length lines) L keeps.shaped m self_parent_of fits line (keeps.matches m member)
 
     -- how many members have a fork with the row
     pub forkers_next : forking + new_forkers lines m self_parent_of ≡ forkers (length lines) M
@@ -74,10 +74,10 @@ module _ (L : List Link) (lines : List Line) (forking : ℕ) (keeps : KeepsLines
     forkers_next =
         let n = length lines in
         let counts = count-changed n m (has_fork L) (has_fork M) member (λ k h other.
-        has_fork_told n L keeps.shaped k (line_at lines k) (keeps.told k h)
-        ∙ sym (has_fork_told n M shaped k (line_at lines k) (told_other k h other))) in
-        let old : from_bool (has_fork L m) ≡ from_bool (is_forked line) = ap from_bool (has_fork_told n L keeps.shaped m line (keeps.told m member)) in
-        let new : from_bool (has_fork M m) ≡ from_bool (is_forked next) = ap from_bool (has_fork_told n M shaped m next told_own) in
+        has_fork_known n L keeps.shaped k (line_at lines k) (keeps.matches k h)
+        ∙ sym (has_fork_known n M shaped k (line_at lines k) (told_other k h other))) in
+        let old : from_bool (has_fork L m) ≡ from_bool (is_forked line) = ap from_bool (has_fork_known n L keeps.shaped m line (keeps.matches m member)) in
+        let new : from_bool (has_fork M m) ≡ from_bool (is_forked next) = ap from_bool (has_fork_known n M shaped m next told_own) in
         let step = is_forked_next line self_parent_of (length L) in
         let count : forking ≡ count_below n (has_fork L) = keeps.count in
         omega (arith, counts, old, new, step, count)
@@ -93,7 +93,7 @@ module _ (L : List Link) (lines : List Line) (forking : ℕ) (keeps : KeepsLines
         record {
           few = rw same keeps.few;
           shaped = rw same shaped;
-          told = λ k h. elim (cases_eq k m) [
+          matches = λ k h. elim (cases_eq k m) [
             | inl own ↦ subst (λ j. IsLineOf M j (get_or (slice_set lines m next) j Empty)) (sym own)
                 (subst (λ l. IsLineOf M m l) (sym (get_or-set_same lines m next Empty member)) told_own)
             | inr other ↦ subst (λ l. IsLineOf M k l) (sym (get_or-set_other lines m k next Empty other)) (told_other k (omega (arith, same)) other)
@@ -119,6 +119,6 @@ keeps_none n few =
         self_by_same = λ x p h. absurd (true≢false (sym h));
         others_by_others = λ x p h. absurd (true≢false (sym h));
       };
-      told = λ m h. subst (IsLineOf [] m) (sym (get_or-replicate n m Empty Empty (omega (arith, len)))) (λ x inside. absurd (omega arith));
+      matches = λ m h. subst (IsLineOf [] m) (sym (get_or-replicate n m Empty Empty (omega (arith, len)))) (λ x inside. absurd (omega arith));
       count = sym (weight_below_none (λ _. 1) (length (replicate n Empty)) (has_fork []) (λ k h e. true≢false (sym e)));
     }

@@ -60,5 +60,5 @@ IsLineOf L m (Forked a b) = IsForkOf L m a b
 pub record KeepsLines (L : List Link) (lines : List Line) (forking : ℕ) : Type 0 where
   pub few : length lines < 2 ^ 32
   pub shaped : IsShaped (length lines) L
-  pub told : (m : ℕ) → m < length lines → IsLineOf L m (line_at lines m)
+  pub matches : (m : ℕ) → m < length lines → IsLineOf L m (line_at lines m)
   pub count : forking ≡ forkers (length lines) L

@@ -29,5 +29,5 @@ pub record OwnLinksServe (n : ℕ) (L : List Link) : Type 0 where
   pub has_fork : (m : ℕ) → has_fork (own_links L) m ≡ has_fork L m
   pub forkers : forkers n (own_links L) ≡ forkers n L
 
-abbrev pub OwnLinksTellForks : Type 0
-OwnLinksTellForks = (n : ℕ) (L : List Link) → OwnLinksServe n L
+abbrev pub OwnLinksHaveForks : Type 0
+OwnLinksHaveForks = (n : ℕ) (L : List Link) → OwnLinksServe n L

@@ -10,6 +10,6 @@ pub record IsForkOf (L : List Link) (m a b : ℕ) : Type 0 where
   pub there : b < length L
 
 -- a fork by m, and none exactly where m has none
-abbrev pub TellsFork : List Link → ℕ → Option (ℕ × ℕ) → Type 0
-TellsFork L m None = has_fork L m ≡ false
-TellsFork L m (Some pair) = IsForkOf L m pair.0 pair.1
+abbrev pub IsForkPair : List Link → ℕ → Option (ℕ × ℕ) → Type 0
+IsForkPair L m None = has_fork L m ≡ false
+IsForkPair L m (Some pair) = IsForkOf L m pair.0 pair.1

@@ -1,6 +1,6 @@
-ghost use Rattle.hg_forks.specs.Own.{OwnLinksTellForks};
+ghost use Rattle.hg_forks.specs.Own.{OwnLinksHaveForks};
 
 /// A law: a graph whose rows' other-parents are left out has the same forks.
-pub fn own_links_tell_forks()
-    ensures { OwnLinksTellForks }
+pub fn own_links_have_forks()
+    ensures { OwnLinksHaveForks }
 {}

@@ -10,5 +10,5 @@ mod line;
 mod own_row;
 mod watch;
 
-pub use laws::own_links_tell_forks;
+pub use laws::own_links_have_forks;
 pub use watch::Watch;

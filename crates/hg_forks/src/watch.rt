@@ -2,7 +2,7 @@ ghost use Rattle.std.specs.Prelude.{◌≡◌, ◌<◌, ◌≤◌, [], ◌∷◌
 ghost use Rattle.hg_model.specs.Forks.{forkers, has_fork};
 ghost use Rattle.hg_model.specs.Shape.{FitsLink, shape_of, with_link};
 ghost use Rattle.hg_forks.specs.Own.{own_link_of};
-ghost use Rattle.hg_forks.specs.Pairs.{TellsFork};
+ghost use Rattle.hg_forks.specs.Pairs.{IsForkPair};
 
 use crate::line::{Line, fork_in, line_at, new_forkers, next_line};
 use crate::own_row::OwnRow;
@@ -24,9 +24,9 @@ pub struct Watch {
 
 impl Model for Watch {
     ghost use Rattle.std.specs.Prelude.{◌-◌, length, vec_capacity, vec_len};
-    ghost use Rattle.hg_model.specs.Shape.{Growth, shape_of};
+    ghost use Rattle.hg_model.specs.Shape.{ShapeWithRoom, shape_of};
 
-    ghost Value = { Growth };
+    ghost Value = { ShapeWithRoom };
 
     ghost use Rattle.hg_forks.specs.Lines.{KeepsLines};
 
@@ -89,7 +89,7 @@ impl Watch {
     /// Two rows that are a fork by the member, the later one second; none exactly where it has no fork.
     pub fn pair_of(&self, m: Member) -> Option<(usize, usize)>
         requires { m < self.now.shape.members }
-        ensures { TellsFork self.now.shape.links m result }
+        ensures { IsForkPair self.now.shape.links m result }
     {
         fork_in(line_at(&self.lines, m))
     }

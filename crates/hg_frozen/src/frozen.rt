@@ -17,13 +17,13 @@ pub struct Frozen<S: Sight, R: Rounds> {
 }
 
 impl<S: Sight, R: Rounds> Model for Frozen<S, R> {
-    ghost use Rattle.hg_model.specs.Prefix.{Graph, TellsGraph, graph_of};
+    ghost use Rattle.hg_model.specs.Prefix.{Graph, IsOfGraph, graph_of};
 
     ghost Value = { Graph };
 
     ghost view = { λ s. graph_of (S.shape s.sight).members s.coin s.rows.items };
 
-    ghost invariant = { λ s. TellsGraph (S.shape s.sight) (R.standings s.rounds) (graph_of (S.shape s.sight).members s.coin s.rows.items) };
+    ghost invariant = { λ s. IsOfGraph (S.shape s.sight) (R.standings s.rounds) (graph_of (S.shape s.sight).members s.coin s.rows.items) };
 }
 
 impl<S: Sight, R: Rounds> Frozen<S, R> {

@@ -22,7 +22,7 @@ use Rattle.hg_model.proofs.LinkLaws.{length-links, parents_read}
 use Rattle.hg_forks.specs.Own.{own_link_of, own_links, own_shape}
 use Rattle.hg_forks.proofs.OwnLaws.{own_links_serve}
 use Rattle.hg_rounds.specs.Tabled.{last_parents}
-use Rattle.hg_graph.specs.Held.{Held, AreEvents, IsHeld, KeepsGraph, shape_in, graph_with}
+use Rattle.hg_graph.specs.GraphWithRoom.{GraphWithRoom, AreEvents, IsHeld, KeepsGraph, shape_in, graph_with}
 use Rattle.hg_graph.proofs.NextLaws.{links_next, fits_last, name_next}
 
 -- without rows
@@ -135,11 +135,11 @@ module _ (g : Graph) (row : Row) (bytes : List ℕ) (parents : Option (ℕ × �
   }
 
 -- the same of the graph of a value
-pub comes : {g : Graph} {room : ℕ} {v : Held} → record { graph = g; room = room } ≡ v → {sight watched : Shape} {standings : List Standing} → KeepsGraph g sight watched standings →
+pub comes : {g : Graph} {room : ℕ} {v : GraphWithRoom} → record { graph = g; room = room } ≡ v → {sight watched : Shape} {standings : List Standing} → KeepsGraph g sight watched standings →
     (row : Row) (bytes : List ℕ) (parents : Option (ℕ × ℕ)) → length v.graph.rows < row_limit → Spells bytes row → link_in v.graph.rows row ≡ link_of row.creator parents →
     IsGraph v.graph.members (v.graph.rows ++ row ∷ []) → Comes g row parents sight watched
 comes {g} {room} {v} view {sight} {watched} keeps row bytes parents limit spells is graph =
-    let same : v.graph ≡ g = ap (λ (v : Held). v.graph) (sym view) in
+    let same : v.graph ≡ g = ap (λ (v : GraphWithRoom). v.graph) (sym view) in
     subst (λ (s : Shape). Comes g row parents s watched) (sym keeps.seen)
     (comes_to g row bytes parents keeps.held (subst (λ (g : Graph). length g.rows < row_limit) same limit) spells
     (subst (λ (g : Graph). link_in g.rows row ≡ link_of row.creator parents) same is) (subst (λ (g : Graph). IsGraph g.members (g.rows ++ row ∷ [])) same graph) watched keeps.forked)

@@ -10,7 +10,7 @@ use Rattle.hg_model.specs.Prefix.{Graph, graph_of, links_of}
 use Rattle.hg_forks.specs.Own.{own_shape}
 
 -- a graph, and for how many more rows there is memory at least
-pub record Held : Type 0 where
+pub record GraphWithRoom : Type 0 where
   pub graph : Graph
   pub room : ℕ
 

@@ -1,3 +1,3 @@
-pub mod Stored
+pub mod RowsWithRoom
 pub mod Held
 pub mod Added

@@ -7,8 +7,8 @@ ghost use Rattle.hg_model.specs.Spelling.{Spells, spelling};
 ghost use Rattle.hg_model.specs.Verdict.{row_limit};
 ghost use Rattle.hg_model.specs.Prefix.{graph_of, links_of};
 ghost use Rattle.hg_model.specs.Standings.{standings_of};
-ghost use Rattle.hg_graph.specs.Stored.{found_place};
-ghost use Rattle.hg_graph.specs.Held.{IsHeld, graph_with, shape_in};
+ghost use Rattle.hg_graph.specs.RowsWithRoom.{found_place};
+ghost use Rattle.hg_graph.specs.GraphWithRoom.{IsHeld, graph_with, shape_in};
 
 use crate::store::RowStore;
 use hg_ancestry::BitSight;
@@ -33,10 +33,10 @@ pub struct EventGraph {
 impl Model for EventGraph {
     ghost use Rattle.std.specs.Prelude.{min};
     ghost use Rattle.hg_model.specs.Prefix.{graph_of};
-    ghost use Rattle.hg_graph.specs.Stored.{least_of};
-    ghost use Rattle.hg_graph.specs.Held.{Held, KeepsGraph};
+    ghost use Rattle.hg_graph.specs.RowsWithRoom.{least_of};
+    ghost use Rattle.hg_graph.specs.GraphWithRoom.{GraphWithRoom, KeepsGraph};
 
-    ghost Value = { Held };
+    ghost Value = { GraphWithRoom };
 
     ghost view = { λ s. record { graph = graph_of s.members s.coin s.store.rows; room = min s.store.room (least_of s.sight.room s.watch.room s.rounds.room) } };
 

@@ -4,7 +4,7 @@ ghost use Rattle.std.specs.Str.{bytes_eq};
 ghost use Rattle.indexmap.specs.IndexSet.{spare};
 ghost use Rattle.hg_model.specs.Links.{place_of};
 ghost use Rattle.hg_model.specs.Spelling.{spelling};
-ghost use Rattle.hg_graph.specs.Stored.{found_place};
+ghost use Rattle.hg_graph.specs.RowsWithRoom.{found_place};
 
 use hg_model::{Bytes, Memory, Name, Row};
 use indexmap::IndexSet;
@@ -23,9 +23,9 @@ pub struct RowStore {
 impl Model for RowStore {
     ghost use Rattle.std.specs.Prelude.{◌-◌, vec_capacity, vec_len};
     ghost use Rattle.indexmap.specs.IndexSet.{spare};
-    ghost use Rattle.hg_graph.specs.Stored.{IsStored, Stored, least_of};
+    ghost use Rattle.hg_graph.specs.RowsWithRoom.{IsStored, RowsWithRoom, least_of};
 
-    ghost Value = { Stored };
+    ghost Value = { RowsWithRoom };
 
     ghost view = { λ s. record { rows = s.rows.items; room = least_of (vec_capacity s.rows - vec_len s.rows) (vec_capacity s.bytes - vec_len s.bytes) (spare s.names) } };
 

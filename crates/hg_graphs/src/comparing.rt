@@ -17,7 +17,7 @@ fn is_pair_alike<S: Sight, T: Sight>(a: &S, b: &T, x: usize, y: usize) -> bool
 }
 
 /// Whether a row has the same place in both: its creator, its self-parent, its round, and whether it is a witness.
-#[tactic(auto, using(hg_model::proofs::StandingLaws::standings_told, hg_model::proofs::LinkLaws::link_lengths))]
+#[tactic(auto, using(hg_model::proofs::StandingLaws::standings_known, hg_model::proofs::LinkLaws::link_lengths))]
 fn is_row_alike<P: Prefix, Q: Prefix>(a: &P, b: &Q, x: usize) -> bool
     requires left { x < length (P.graph a.now).rows }
     requires right { x < length (Q.graph b.now).rows }
@@ -45,7 +45,7 @@ fn sees_alike<S: Sight, T: Sight>(a: &S, b: &T, x: usize) -> bool
 }
 
 /// Whether both tell the same of all rows, and of all pairs of rows.
-#[tactic(auto, using(hg_model::proofs::StandingLaws::standings_told, hg_model::proofs::LinkLaws::link_lengths))]
+#[tactic(auto, using(hg_model::proofs::StandingLaws::standings_known, hg_model::proofs::LinkLaws::link_lengths))]
 pub fn is_alike<P: Prefix, Q: Prefix>(a: &P, b: &Q) -> bool
     ensures { IsTrue result → AreAlike (P.shape a.now) (P.standings a.now) (Q.shape b.now) (Q.standings b.now) }
 {

@@ -1,7 +1,7 @@
 ghost use Rattle.std.specs.Prelude.{◌≡◌, ◌<◌, ℕ, Some, IfSome, IsTrue, is_some, length, slice_get};
 ghost use Rattle.hg_model.specs.Fame.{mark_at};
 ghost use Rattle.hg_model.specs.Places.{count_below};
-ghost use Rattle.hg_model.specs.Shown.{graph_of, marks_of};
+ghost use Rattle.hg_model.specs.NodeView.{node_rows, node_marks};
 
 use hg_node::Node;
 use hg_sign::MacTable;
@@ -9,7 +9,7 @@ use hg_sign::MacTable;
 /// How many rows of the node are marked.
 #[tactic(auto, using(hg_model::proofs::PlacesLaws::count_steps))]
 pub fn count_marked(node: &Node<&MacTable>) -> usize
-    ensures { result ≡ count_below (length (graph_of node.now)) (λ x. is_some (mark_at (marks_of node.now) x)) }
+    ensures { result ≡ count_below (length (node_rows node.now)) (λ x. is_some (mark_at (node_marks node.now) x)) }
 {
     let mut count = 0;
     for place in 0..node.rows() {
@@ -22,14 +22,14 @@ pub fn count_marked(node: &Node<&MacTable>) -> usize
 
 /// Whether the place has this mark in the node.
 fn is_marked(node: &Node<&MacTable>, place: usize, fame: bool) -> bool
-    ensures { IsTrue result → mark_at (marks_of node.now) place ≡ Some fame }
+    ensures { IsTrue result → mark_at (node_marks node.now) place ≡ Some fame }
 {
     place < node.rows() && node.fame(place) == Some(fame)
 }
 
 /// Whether the place that is found at `x` has its mark in the node.
 fn is_found_marked(node: &Node<&MacTable>, marks: &[(usize, bool)], x: usize) -> bool
-    ensures { IsTrue result → IfSome (slice_get marks.now x) (λ found. mark_at (marks_of node.now) found.0 ≡ Some found.1) }
+    ensures { IsTrue result → IfSome (slice_get marks.now x) (λ found. mark_at (node_marks node.now) found.0 ≡ Some found.1) }
 {
     match marks.get(x) {
         None => false,
@@ -39,7 +39,7 @@ fn is_found_marked(node: &Node<&MacTable>, marks: &[(usize, bool)], x: usize) ->
 
 /// Whether these places have these marks in the node.
 pub fn are_marked(node: &Node<&MacTable>, marks: &[(usize, bool)]) -> bool
-    ensures { IsTrue result → (x : ℕ) → x < length marks.now → IfSome (slice_get marks.now x) (λ found. mark_at (marks_of node.now) found.0 ≡ Some found.1) }
+    ensures { IsTrue result → (x : ℕ) → x < length marks.now → IfSome (slice_get marks.now x) (λ found. mark_at (node_marks node.now) found.0 ≡ Some found.1) }
 {
     for x in 0..marks.len() {
         if !is_found_marked(node, marks, x) {

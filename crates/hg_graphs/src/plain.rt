@@ -1,7 +1,7 @@
 ghost use Rattle.std.specs.Prelude.{◌≡◌, IfOk};
 ghost use Rattle.hg_model.specs.Order.{order_of};
-ghost use Rattle.hg_model.specs.Prefix.{graph_of as prefix_of};
-ghost use Rattle.hg_model.specs.Shown.{graph_of};
+ghost use Rattle.hg_model.specs.Prefix.{graph_of};
+ghost use Rattle.hg_model.specs.NodeView.{node_rows};
 
 use hg_model::{Memory, Prefix, Row, Sight};
 use hg_node::Node;
@@ -11,7 +11,7 @@ use std::alloc::Global;
 
 /// A copy of the node's rows.
 pub fn rows_of(alloc: Global, node: &Node<&MacTable>) -> Result<Vec<Row>, Memory>
-    ensures { IfOk result (λ rows. rows.items ≡ graph_of node.now) }
+    ensures { IfOk result (λ rows. rows.items ≡ node_rows node.now) }
 {
     let mut rows = Vec::new(alloc);
     for place in 0..node.rows() {
@@ -30,7 +30,7 @@ fn copy_of(row: &Row) -> Result<Row, Memory>
 /// All that the plain program tells of the node's rows.
 #[tactic(auto, using(hg_model::proofs::LinkLaws::link_lengths))]
 pub fn whole_of(alloc: Global, node: &Node<&MacTable>) -> Result<PlainWhole, Memory>
-    ensures { IfOk result (λ whole. whole.order ≡ order_of node.now.start.members node.now.start.coin (graph_of node.now)) }
+    ensures { IfOk result (λ whole. whole.order ≡ order_of node.now.start.members node.now.start.coin (node_rows node.now)) }
 {
     let rows = rows_of(alloc, node)?;
     let graph = node.graph();
@@ -46,8 +46,8 @@ pub fn tables_of<'b>(
     node: &Node<&MacTable>,
     rows: &'b [Row],
 ) -> Result<PlainPrefix<'b>, Memory>
-    requires { rows.now ≡ graph_of node.now }
-    ensures { IfOk result (λ tables. tables ≡ prefix_of node.now.start.members node.now.start.coin (graph_of node.now)) }
+    requires { rows.now ≡ node_rows node.now }
+    ensures { IfOk result (λ tables. tables ≡ graph_of node.now.start.members node.now.start.coin (node_rows node.now)) }
 {
     let graph = node.graph();
     // A graph has few rows.

@@ -95,16 +95,16 @@ module _ (n c : ℕ) (s : State) (even : IsEven s) where
       let size : length (take len s.links) ≡ len = length-take-le len s.links (omega (arith, even.links)) in
       let a : Adding = fold add_mark (record { marks = s.marks; count = 0 }) (pairs s.marks fame len) in
       let is = added s.marks fame len (omega (arith, even.marks)) in
-      let told : found ≡ pairs s.marks fame len = speaks.told ∙ ap (pairs s.marks fame) size in
+      let matches : found ≡ pairs s.marks fame len = speaks.matches ∙ ap (pairs s.marks fame) size in
       let sized = length-map-range_with_len (new_mark n c s len share) 0 (length s.rows) in (
-        ap (λ (xs : List (ℕ × Bool)). (fold add_mark (record { marks = s.marks; count = 0 }) xs).marks) told
+        ap (λ (xs : List (ℕ × Bool)). (fold add_mark (record { marks = s.marks; count = 0 }) xs).marks) matches
             ∙ ext_get_or None a.marks (table (new_mark n c s len share) (length s.rows)) (is.sized ∙ (even.marks ∙ sym sized)) (λ x inside.
             (elim (cases_lt x len) [
               | inl low ↦ is.low x low
               | inr high ↦ (is.high x high ∙ (sym (keeps_mark (mark_at s.marks x)) ∙ ap (option_or (mark_at s.marks x)) (sym (found_below n c (take len s.rows) (take len s.links) share x (omega (arith, size))))))
             ])
             ∙ sym (mark_of_table (new_mark n c s len share) (length s.rows) x (omega (arith, is.sized, even.marks)))),
-        ap (λ (xs : List (ℕ × Bool)). (fold add_mark (record { marks = s.marks; count = 0 }) xs).count) told ∙ is.counted,
+        ap (λ (xs : List (ℕ × Bool)). (fold add_mark (record { marks = s.marks; count = 0 }) xs).count) matches ∙ is.counted,
       )
 
 pub publishing_adds : PublishingAddsMarks

@@ -13,7 +13,7 @@ use Rattle.hg_model.specs.Spelling.{Spells}
 use Rattle.hg_model.specs.Verdict.{arrival_rule, forkers_rule, full_rule, row_verdict, made_row, making, made_or}
 use Rattle.hg_model.specs.History.{Change, Accepts, IsStep}
 use Rattle.hg_model.specs.History.Change.{Took, Marked}
-use Rattle.hg_model.specs.Shown.{Shown, with_changes, graph_of, state_of, IsNode}
+use Rattle.hg_model.specs.NodeView.{NodeView, with_changes, node_rows, node_state, IsNode}
 use Rattle.hg_model.specs.Calls.{put_answer, put_changes, taken_by, taken_from, make_answer, make_changes, made_by, publish_answer, publish_changes}
 use Rattle.hg_event.proofs.Reading.{AreBytes}
 use Rattle.hg_event.proofs.Spells.{read_event-Spells}
@@ -23,14 +23,14 @@ use Rattle.hg_history.proofs.SoundLaws.{history_push}
 
 -- no change, and one that may come
 
-pub with_none : {K : Type 0} (v : Shown K) (es : List Change) → es ≡ [] → with_changes v es ≡ v
+pub with_none : {K : Type 0} (v : NodeView K) (es : List Change) → es ≡ [] → with_changes v es ≡ v
 with_none {K} v es none = ap (λ (h : List Change). at h) (ap (λ (more : List Change). v.history ++ more) none ∙ append-nil v.history)
   where
-    at : List Change → Shown K
+    at : List Change → NodeView K
     at h = record { start = v.start; history = h }
 
-pub node_with : {K : Type 0} (accepts : K → Accepts) (v : Shown K) (e : Change) → IsNode accepts v →
-    IsStep (accepts v.start.keys) v.start.members v.start.coin v.start.own (state_of v) e → IsNode accepts (with_changes v (e ∷ []))
+pub node_with : {K : Type 0} (accepts : K → Accepts) (v : NodeView K) (e : Change) → IsNode accepts v →
+    IsStep (accepts v.start.keys) v.start.members v.start.coin v.start.own (node_state v) e → IsNode accepts (with_changes v (e ∷ []))
 node_with accepts v e node may = record {
   few_members = node.few_members;
   coin = node.coin;
@@ -38,9 +38,9 @@ node_with accepts v e node may = record {
   history = history_push (accepts v.start.keys) v.start.members v.start.coin v.start.own v.history e node.history may;
 }
 
-module _ (K : Type 0) (accepts : K → Accepts) (v : Shown K) (bytes : List ℕ) where
+module _ (K : Type 0) (accepts : K → Accepts) (v : NodeView K) (bytes : List ℕ) where
   abbrev here : Row → PutAnswer
-  here row = row_verdict (accepts v.start.keys) v.start.members v.start.own (graph_of v) row
+  here row = row_verdict (accepts v.start.keys) v.start.members v.start.own (node_rows v) row
 
   taken_accepted : (answer : PutAnswer) (row : Row) (place : ℕ) → answer ≡ Accepted place → taken_by answer row ≡ Took row ∷ []
   taken_accepted answer row place is = ap (λ (a : PutAnswer). taken_by a row) is
@@ -51,13 +51,13 @@ module _ (K : Type 0) (accepts : K → Accepts) (v : Shown K) (bytes : List ℕ)
   taken_other (Refused f) row other = refl
 
   one_of_read : (read : Result Row ByteFault) → read_event bytes ≡ read → (place : ℕ) → put_answer accepts v bytes ≡ Accepted place →
-      (place ≡ length (graph_of v)) × ((row : Row) × (read_event bytes ≡ Ok row) × (put_changes accepts v bytes ≡ Took row ∷ []))
+      (place ≡ length (node_rows v)) × ((row : Row) × (read_event bytes ≡ Ok row) × (put_changes accepts v bytes ≡ Took row ∷ []))
   unfolding put_answer put_changes
   one_of_read (Err e) is place accepted =
-      (let no_row : Refused _ ≡ Accepted place = sym (ap (λ (r : Result Row ByteFault). Rattle.hg_model.specs.Verdict.verdict_of (accepts v.start.keys) v.start.members v.start.own (graph_of v) r) is) ∙ accepted in cc)
+      (let no_row : Refused _ ≡ Accepted place = sym (ap (λ (r : Result Row ByteFault). Rattle.hg_model.specs.Verdict.verdict_of (accepts v.start.keys) v.start.members v.start.own (node_rows v) r) is) ∙ accepted in cc)
   one_of_read (Ok row) is place accepted =
-      let row_is : here row ≡ Accepted place = sym (ap (λ (r : Result Row ByteFault). Rattle.hg_model.specs.Verdict.verdict_of (accepts v.start.keys) v.start.members v.start.own (graph_of v) r) is) ∙ accepted in (
-        accepted_place (accepts v.start.keys) v.start.members v.start.own (graph_of v) row place row_is,
+      let row_is : here row ≡ Accepted place = sym (ap (λ (r : Result Row ByteFault). Rattle.hg_model.specs.Verdict.verdict_of (accepts v.start.keys) v.start.members v.start.own (node_rows v) r) is) ∙ accepted in (
+        accepted_place (accepts v.start.keys) v.start.members v.start.own (node_rows v) row place row_is,
         (row, is, ap (taken_from accepts v) is ∙ taken_accepted (here row) row place row_is),
       )
 
@@ -66,7 +66,7 @@ module _ (K : Type 0) (accepts : K → Accepts) (v : Shown K) (bytes : List ℕ)
   none_of_read (Err e) is other = ap (taken_from accepts v) is
   none_of_read (Ok row) is other =
       ap (taken_from accepts v) is
-      ∙ taken_other (here row) row (λ place row_is. other place (ap (λ (r : Result Row ByteFault). Rattle.hg_model.specs.Verdict.verdict_of (accepts v.start.keys) v.start.members v.start.own (graph_of v) r) is ∙ row_is))
+      ∙ taken_other (here row) row (λ place row_is. other place (ap (λ (r : Result Row ByteFault). Rattle.hg_model.specs.Verdict.verdict_of (accepts v.start.keys) v.start.members v.start.own (node_rows v) r) is ∙ row_is))
 
   module _ (fit : AreBytes bytes) (node : IsNode accepts v) where
     node_of_answer : (row : Row) → read_event bytes ≡ Ok row → (answer : PutAnswer) → here row ≡ answer → IsNode accepts (with_changes v (taken_by answer row))
@@ -74,7 +74,7 @@ module _ (K : Type 0) (accepts : K → Accepts) (v : Shown K) (bytes : List ℕ)
     node_of_answer row is (Refused f) row_is = subst (IsNode accepts) (sym (with_none v [] refl)) node
     node_of_answer row is (Accepted p) row_is =
         let spells = read_event-Spells bytes row fit is in
-        let place = accepted_place (accepts v.start.keys) v.start.members v.start.own (graph_of v) row p row_is in
+        let place = accepted_place (accepts v.start.keys) v.start.members v.start.own (node_rows v) row p row_is in
         node_with accepts v (Took row) node (record {
           spelled = subst (λ (bs : List ℕ). Spells bs row) spells.spelled spells;
           accepted = row_is ∙ ap (λ (k : ℕ). Accepted k) place;
@@ -103,13 +103,13 @@ made_other (answer.Refused f) row other = refl
 pub makes_add_one : (K : Type 0) → MakesAddOne K
 unfolding make_answer make_changes
 makes_add_one K v other time payload sig place is = (
-  made_place _ (length (graph_of v)) place is,
-  ap (λ (a : MakeAnswer). made_by a (made_row v.start.own (graph_of v) other time payload sig)) is,
+  made_place _ (length (node_rows v)) place is,
+  ap (λ (a : MakeAnswer). made_by a (made_row v.start.own (node_rows v) other time payload sig)) is,
 )
 
 pub other_makes_add_none : (K : Type 0) → OtherMakesAddNone K
 unfolding make_changes
-other_makes_add_none K v other time payload sig none = made_other (make_answer v other time payload sig) (made_row v.start.own (graph_of v) other time payload sig) none
+other_makes_add_none K v other time payload sig none = made_other (make_answer v other time payload sig) (made_row v.start.own (node_rows v) other time payload sig) none
 
 -- publishing
 

@@ -23,6 +23,6 @@ found_lasts n c a b len share marks speaks =
     let within = speaks.within in
     record {
       within = omega (arith, longer, length-append s.rows rows.0);
-      told = speaks.told ∙ ap₂ (λ (G : List Row) (L : List Link). found_in n c G L share)
+      matches = speaks.matches ∙ ap₂ (λ (G : List Row) (L : List Link). found_in n c G L share)
           (sym (same_first len s.rows t.rows rows within)) (sym (same_first len s.links t.links links (omega (arith, even.links))));
     }

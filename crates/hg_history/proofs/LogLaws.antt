@@ -4,9 +4,9 @@ use Rattle.std.proofs.lemmas.List.{length_push, get_or_append_left, get_or_push}
 use Rattle.hg_model.specs.declared.row.Row.{Row}
 use Rattle.hg_model.specs.History.{Change, State, empty, with_row, with_marks, step, replay}
 use Rattle.hg_model.specs.History.Change.{Took, Made, Marked}
-use Rattle.hg_model.specs.Shown.{log_from, history_of}
+use Rattle.hg_model.specs.NodeView.{log_from, history_of}
 use Rattle.hg_model.specs.Links.{no_row}
-use Rattle.hg_history.specs.Laws.{LogTellsHistory}
+use Rattle.hg_history.specs.Laws.{LogSpellsHistory}
 use Rattle.hg_history.proofs.StateLaws.{rows_from}
 
 module _ (n c : ℕ) where
@@ -30,6 +30,6 @@ module _ (n c : ℕ) where
       (ap (λ (place : ℕ). history_of (fold (step n c) (with_row n s row) h).rows (log_from place h)) (next_place s row) ∙ told_from (with_row n s row) h)
   told_from s (Marked len share ∷ h) = ap (λ (rest : List Change). Marked len share ∷ rest) (told_from (with_marks n c s len share) h)
 
-pub log_tells_history : LogTellsHistory
+pub log_spells_history : LogSpellsHistory
 unfolding replay
-log_tells_history n c h = told_from n c empty h
+log_spells_history n c h = told_from n c empty h

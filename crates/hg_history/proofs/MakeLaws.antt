@@ -10,7 +10,7 @@ use Rattle.hg_model.specs.Spelling.{body_of, spelling, Spells}
 use Rattle.hg_model.specs.Verdict.{last_name, both_names, made_row, making}
 use Rattle.hg_model.specs.History.{Change, Accepts, IsMade}
 use Rattle.hg_model.specs.History.Change.{Made}
-use Rattle.hg_model.specs.Shown.{Shown, with_changes, graph_of, IsNode}
+use Rattle.hg_model.specs.NodeView.{NodeView, with_changes, node_rows, IsNode}
 use Rattle.hg_model.specs.Calls.{make_answer, make_changes, make_body, make_draft, made_by}
 use Rattle.hg_model.proofs.RuleLaws.{Drafted, drafted}
 use Rattle.hg_prefix.specs.Orders.{HasNameSizes}
@@ -44,14 +44,14 @@ made_spells n own G other time payload sig small early sized sizes draft = recor
   named = refl;
 }
 
-module _ (K : Type 0) (accepts : K → Accepts) (v : Shown K) (other : Option (List ℕ)) (time : ℕ) (payload sig : List ℕ) (early : time < 2 ^ 64) (sized : length sig ≡ 64)
+module _ (K : Type 0) (accepts : K → Accepts) (v : NodeView K) (other : Option (List ℕ)) (time : ℕ) (payload sig : List ℕ) (early : time < 2 ^ 64) (sized : length sig ≡ 64)
     (signed : make_draft v other payload ≡ None → accepts v.start.keys v.start.own (make_body v other time payload) sig ≡ true) (node : IsNode accepts v) where
-  is_made : (place : ℕ) → making v.start.own (graph_of v) other time payload sig ≡ answer.Made place →
-      IsMade (accepts v.start.keys) v.start.own (graph_of v) (made_row v.start.own (graph_of v) other time payload sig)
+  is_made : (place : ℕ) → making v.start.own (node_rows v) other time payload sig ≡ answer.Made place →
+      IsMade (accepts v.start.keys) v.start.own (node_rows v) (made_row v.start.own (node_rows v) other time payload sig)
   unfolding make_body make_draft body_of
   is_made place is =
       let own = v.start.own in
-      let G : List Row = graph_of v in
+      let G : List Row = node_rows v in
       let s = sound (accepts v.start.keys) v.start.members v.start.coin own v.history node.coin node.history in
       let sizes = (node_graph (accepts v.start.keys) v.start.members v.start.coin own v.history node.coin node.history).sizes in
       let none = made_draft own G other time payload sig place is in
@@ -72,10 +72,10 @@ module _ (K : Type 0) (accepts : K → Accepts) (v : Shown K) (other : Option (L
   node_made : (a : MakeAnswer) → make_answer v other time payload sig ≡ a → IsNode accepts (with_changes v (make_changes v other time payload sig))
   unfolding make_answer make_changes
   node_made (answer.Refused f) is =
-      subst (IsNode accepts) (sym (with_none v (make_changes v other time payload sig) (ap (λ (a : MakeAnswer). made_by a (made_row v.start.own (graph_of v) other time payload sig)) is))) node
+      subst (IsNode accepts) (sym (with_none v (make_changes v other time payload sig) (ap (λ (a : MakeAnswer). made_by a (made_row v.start.own (node_rows v) other time payload sig)) is))) node
   node_made (answer.Made place) is =
-      subst (λ (es : List Change). IsNode accepts (with_changes v es)) (sym (ap (λ (a : MakeAnswer). made_by a (made_row v.start.own (graph_of v) other time payload sig)) is))
-      (node_with accepts v (Made (made_row v.start.own (graph_of v) other time payload sig)) node (is_made place is))
+      subst (λ (es : List Change). IsNode accepts (with_changes v es)) (sym (ap (λ (a : MakeAnswer). made_by a (made_row v.start.own (node_rows v) other time payload sig)) is))
+      (node_with accepts v (Made (made_row v.start.own (node_rows v) other time payload sig)) node (is_made place is))
 
 pub makes_leave_a_node : (K : Type 0) → MakesLeaveANode K
 makes_leave_a_node K accepts v other time payload sig early sized signed node = node_made K accepts v other time payload sig early sized signed node (make_answer v other time payload sig) refl

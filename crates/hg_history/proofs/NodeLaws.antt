@@ -10,7 +10,7 @@ use Rattle.hg_model.specs.Shares.{whole}
 use Rattle.hg_model.specs.History.{Change, State, Accepts, news, replay}
 use Rattle.hg_model.specs.Kept.{kept}
 use Rattle.hg_model.specs.History.Change.{Marked}
-use Rattle.hg_model.specs.Shown.{Shown, with_changes, graph_of, state_of, IsNode}
+use Rattle.hg_model.specs.NodeView.{NodeView, with_changes, node_rows, node_state, IsNode}
 use Rattle.hg_model.specs.Calls.{publish_answer, publish_changes, settle_changes}
 use Rattle.hg_history.specs.Laws.{IsSettled, SettlesAll}
 use Rattle.hg_history.proofs.StateLaws.{replay-push}
@@ -24,7 +24,7 @@ one_share n c s none = record {
   none = λ k low. (let first : k ≡ 0 = omega arith in ap (λ (i : ℕ). news n c s (length s.rows) (share i 1)) first ∙ none);
 }
 
-module _ (K : Type 0) (accepts : K → Accepts) (v : Shown K) (node : IsNode accepts v) where
+module _ (K : Type 0) (accepts : K → Accepts) (v : NodeView K) (node : IsNode accepts v) where
   n : ℕ
   n = v.start.members
 
@@ -33,28 +33,28 @@ module _ (K : Type 0) (accepts : K → Accepts) (v : Shown K) (node : IsNode acc
 
   -- the state after the settle, and that it has no news
   settled_state : Bool → State
-  settled_state b = replay v.start.members v.start.coin (v.history ++ cond b [] (Marked (length (graph_of v)) whole ∷ []))
+  settled_state b = replay v.start.members v.start.coin (v.history ++ cond b [] (Marked (length (node_rows v)) whole ∷ []))
 
-  rows_settled : (b : Bool) → (settled_state b).rows ≡ graph_of v
+  rows_settled : (b : Bool) → (settled_state b).rows ≡ node_rows v
   unfolding settled_state
   rows_settled true = ap (λ (h : List Change). (replay v.start.members v.start.coin h).rows) (append-nil v.history)
-  rows_settled false = ap (λ (s : State). s.rows) (replay-push v.start.members v.start.coin v.history (Marked (length (graph_of v)) whole))
+  rows_settled false = ap (λ (s : State). s.rows) (replay-push v.start.members v.start.coin v.history (Marked (length (node_rows v)) whole))
 
-  no_news : (b : Bool) → eqb (publish_answer v (length (graph_of v)) whole) 0 ≡ b → news v.start.members v.start.coin (settled_state b) (length (graph_of v)) whole ≡ 0
+  no_news : (b : Bool) → eqb (publish_answer v (length (node_rows v)) whole) 0 ≡ b → news v.start.members v.start.coin (settled_state b) (length (node_rows v)) whole ≡ 0
   unfolding settled_state publish_answer
   no_news true is =
-      ap (λ (h : List Change). news v.start.members v.start.coin (replay v.start.members v.start.coin h) (length (graph_of v)) whole) (append-nil v.history)
-      ∙ eqb-true (news v.start.members v.start.coin (state_of v) (length (graph_of v)) whole) 0 is
+      ap (λ (h : List Change). news v.start.members v.start.coin (replay v.start.members v.start.coin h) (length (node_rows v)) whole) (append-nil v.history)
+      ∙ eqb-true (news v.start.members v.start.coin (node_state v) (length (node_rows v)) whole) 0 is
   no_news false is =
-      ap (λ (s : State). news v.start.members v.start.coin s (length (graph_of v)) whole) (replay-push v.start.members v.start.coin v.history (Marked (length (graph_of v)) whole))
-      ∙ published v.start.members v.start.coin (state_of v) (length (graph_of v)) whole (omega arith)
+      ap (λ (s : State). news v.start.members v.start.coin s (length (node_rows v)) whole) (replay-push v.start.members v.start.coin v.history (Marked (length (node_rows v)) whole))
+      ∙ published v.start.members v.start.coin (node_state v) (length (node_rows v)) whole (omega arith)
 
-  settled : (b : Bool) → eqb (publish_answer v (length (graph_of v)) whole) 0 ≡ b → IsSettled v (with_changes v (settle_changes v))
+  settled : (b : Bool) → eqb (publish_answer v (length (node_rows v)) whole) 0 ≡ b → IsSettled v (with_changes v (settle_changes v))
   unfolding settled_state publish_changes order_of
   settled b is =
       let t = settled_state b in
-      let after = publishes_leave_a_node K accepts v (length (graph_of v)) whole (omega arith) node in
-      let same : state_of (with_changes v (settle_changes v)) ≡ t = ap (λ (d : Bool). replay v.start.members v.start.coin (v.history ++ cond d [] (Marked (length (graph_of v)) whole ∷ []))) is in
+      let after = publishes_leave_a_node K accepts v (length (node_rows v)) whole (omega arith) node in
+      let same : node_state (with_changes v (settle_changes v)) ≡ t = ap (λ (d : Bool). replay v.start.members v.start.coin (v.history ++ cond d [] (Marked (length (node_rows v)) whole ∷ []))) is in
       let s = subst (IsSound (accepts v.start.keys) v.start.members v.start.coin v.start.own) same
       (sound (accepts v.start.keys) v.start.members v.start.coin v.start.own (v.history ++ settle_changes v) node.coin after.history) in
       let rows = rows_settled b in
@@ -71,4 +71,4 @@ module _ (K : Type 0) (accepts : K → Accepts) (v : Shown K) (node : IsNode acc
       }
 
 pub settles_all : (K : Type 0) → SettlesAll K
-settles_all K accepts v node = settled K accepts v node (eqb (publish_answer v (length (graph_of v)) whole) 0) refl
+settles_all K accepts v node = settled K accepts v node (eqb (publish_answer v (length (node_rows v)) whole) 0) refl

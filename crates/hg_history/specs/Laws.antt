@@ -15,7 +15,7 @@ use Rattle.hg_history.specs.Adding.{add_marks}
 use Rattle.hg_model.specs.History.{Change, Accepts, with_marks, replay, news, IsHistory}
 use Rattle.hg_model.specs.Kept.{kept, kept_in, kept_up_to, kept_by_names}
 use Rattle.hg_model.specs.History.Change.{Took, Made, Marked}
-use Rattle.hg_model.specs.Shown.{Shown, with_changes, graph_of, marks_of, kept_of, log_from, history_of, IsNode}
+use Rattle.hg_model.specs.NodeView.{NodeView, with_changes, node_rows, node_marks, kept_of, log_from, history_of, IsNode}
 use Rattle.hg_model.specs.Calls.{put_answer, put_changes, make_answer, make_changes, make_body, make_draft, publish_changes, settle_changes}
 use Rattle.hg_prefix.specs.Standing.{AreFame}
 use Rattle.hg_prefix.specs.Orders.{IsPrefix, HasNameSizes}
@@ -142,8 +142,8 @@ PublishedIsNoNews = (n c : ℕ) (a b : List Change) (len : ℕ) (share : Share) 
     news n c (replay n c (a ++ Marked len share ∷ b)) len share ≡ 0
 
 -- the rows and the log tell the history
-abbrev pub LogTellsHistory : Type 0
-LogTellsHistory = (n c : ℕ) (h : List Change) → history_of (replay n c h).rows (log_from 0 h) ≡ h
+abbrev pub LogSpellsHistory : Type 0
+LogSpellsHistory = (n c : ℕ) (h : List Change) → history_of (replay n c h).rows (log_from 0 h) ≡ h
 
 -- the first rows of a graph are a graph, with the first links
 abbrev pub FirstRowsAreAGraph : Type 0
@@ -169,45 +169,45 @@ RowsLeaveTheOrder = (accepts : Accepts) (n c own : ℕ) (h : List Change) (e : C
 
 -- accepted bytes add one change, the row that they spell, at the next place
 abbrev pub PutsAddOne : (K : Type 0) → Type 0
-PutsAddOne K = (accepts : K → Accepts) (v : Shown K) (bytes : List ℕ) (place : ℕ) → put_answer accepts v bytes ≡ Accepted place →
-    (place ≡ length (graph_of v)) × ((row : Row) × (read_event bytes ≡ Ok row) × (put_changes accepts v bytes ≡ Took row ∷ []))
+PutsAddOne K = (accepts : K → Accepts) (v : NodeView K) (bytes : List ℕ) (place : ℕ) → put_answer accepts v bytes ≡ Accepted place →
+    (place ≡ length (node_rows v)) × ((row : Row) × (read_event bytes ≡ Ok row) × (put_changes accepts v bytes ≡ Took row ∷ []))
 
 -- bytes that are not accepted add none
 abbrev pub OtherPutsAddNone : (K : Type 0) → Type 0
-OtherPutsAddNone K = (accepts : K → Accepts) (v : Shown K) (bytes : List ℕ) → ((place : ℕ) → put_answer accepts v bytes ≡ Accepted place → ⊥) →
+OtherPutsAddNone K = (accepts : K → Accepts) (v : NodeView K) (bytes : List ℕ) → ((place : ℕ) → put_answer accepts v bytes ≡ Accepted place → ⊥) →
     put_changes accepts v bytes ≡ []
 
 -- and leave a node
 abbrev pub PutsLeaveANode : (K : Type 0) → Type 0
-PutsLeaveANode K = (accepts : K → Accepts) (v : Shown K) (bytes : List ℕ) → ((i : ℕ) → get_or bytes i 0 < 256) → IsNode accepts v →
+PutsLeaveANode K = (accepts : K → Accepts) (v : NodeView K) (bytes : List ℕ) → ((i : ℕ) → get_or bytes i 0 < 256) → IsNode accepts v →
     IsNode accepts (with_changes v (put_changes accepts v bytes))
 
 -- an event that is made adds one change, its row, at the next place
 abbrev pub MakesAddOne : (K : Type 0) → Type 0
-MakesAddOne K = (v : Shown K) (other : Option (List ℕ)) (time : ℕ) (payload sig : List ℕ) (place : ℕ) → make_answer v other time payload sig ≡ made.Made place →
-    (place ≡ length (graph_of v)) × (make_changes v other time payload sig ≡ Made (made_row v.start.own (graph_of v) other time payload sig) ∷ [])
+MakesAddOne K = (v : NodeView K) (other : Option (List ℕ)) (time : ℕ) (payload sig : List ℕ) (place : ℕ) → make_answer v other time payload sig ≡ made.Made place →
+    (place ≡ length (node_rows v)) × (make_changes v other time payload sig ≡ Made (made_row v.start.own (node_rows v) other time payload sig) ∷ [])
 
 -- one that is refused adds none
 abbrev pub OtherMakesAddNone : (K : Type 0) → Type 0
-OtherMakesAddNone K = (v : Shown K) (other : Option (List ℕ)) (time : ℕ) (payload sig : List ℕ) → ((place : ℕ) → make_answer v other time payload sig ≡ made.Made place → ⊥) →
+OtherMakesAddNone K = (v : NodeView K) (other : Option (List ℕ)) (time : ℕ) (payload sig : List ℕ) → ((place : ℕ) → make_answer v other time payload sig ≡ made.Made place → ⊥) →
     make_changes v other time payload sig ≡ []
 
 -- and leaves a node, where the signature is accepted; an event that is refused before is not signed
 abbrev pub MakesLeaveANode : (K : Type 0) → Type 0
-MakesLeaveANode K = (accepts : K → Accepts) (v : Shown K) (other : Option (List ℕ)) (time : ℕ) (payload sig : List ℕ) → time < 2 ^ 64 → length sig ≡ 64 →
+MakesLeaveANode K = (accepts : K → Accepts) (v : NodeView K) (other : Option (List ℕ)) (time : ℕ) (payload sig : List ℕ) → time < 2 ^ 64 → length sig ≡ 64 →
     (make_draft v other payload ≡ None → accepts v.start.keys v.start.own (make_body v other time payload) sig ≡ true) → IsNode accepts v →
     IsNode accepts (with_changes v (make_changes v other time payload sig))
 
 -- to publish leaves a node
 abbrev pub PublishesLeaveANode : (K : Type 0) → Type 0
-PublishesLeaveANode K = (accepts : K → Accepts) (v : Shown K) (len : ℕ) (share : Share) → len ≤ length (graph_of v) → IsNode accepts v →
+PublishesLeaveANode K = (accepts : K → Accepts) (v : NodeView K) (len : ℕ) (share : Share) → len ≤ length (node_rows v) → IsNode accepts v →
     IsNode accepts (with_changes v (publish_changes v len share))
 
 -- what a settled node is: its marks are the fame of its graph, and its kept order is the order
-pub record IsSettled {K : Type 0} (old new : Shown K) : Type 0 where
-  pub rows : graph_of new ≡ graph_of old
-  pub marks : marks_of new ≡ fame_marks old.start.members old.start.coin (links (graph_of old)) (coin_at (graph_of old))
-  pub kept : kept_of new ≡ order_of old.start.members old.start.coin (graph_of old)
+pub record IsSettled {K : Type 0} (old new : NodeView K) : Type 0 where
+  pub rows : node_rows new ≡ node_rows old
+  pub marks : node_marks new ≡ fame_marks old.start.members old.start.coin (links (node_rows old)) (coin_at (node_rows old))
+  pub kept : kept_of new ≡ order_of old.start.members old.start.coin (node_rows old)
 
 abbrev pub SettlesAll : (K : Type 0) → Type 0
-SettlesAll K = (accepts : K → Accepts) (v : Shown K) → IsNode accepts v → IsSettled v (with_changes v (settle_changes v))
+SettlesAll K = (accepts : K → Accepts) (v : NodeView K) → IsNode accepts v → IsSettled v (with_changes v (settle_changes v))

@@ -1,4 +1,4 @@
-ghost use Rattle.hg_history.specs.Laws.{ClosedStays, ChangesLeftRows, FirstRowsAreAGraph, FoundLasts, KeptIsOfTheGraph, LinksAreThoseOfTheRows, LinksGrow, ListsAreEven, LogTellsHistory, MakesAddOne, MakesLeaveANode, MarkingLeavesRows, MarksAreFame, MarksStay, MomentsAreHistories, NamedOrderGrows, OrderByRounds, KeptOrderGrows, OtherMakesAddNone, OtherPutsAddNone, PublishedIsNoNews, PublishesLeaveANode, PublishingAddsMarks, PutsAddOne, PutsLeaveANode, RoundsStay, RowsAreAGraph, RowsCameByChanges, RowsGrow, RowsLeaveTheOrder, SettlesAll, SharesAreAll, VerdictsAreOfBytes};
+ghost use Rattle.hg_history.specs.Laws.{ClosedStays, ChangesLeftRows, FirstRowsAreAGraph, FoundLasts, KeptIsOfTheGraph, LinksAreThoseOfTheRows, LinksGrow, ListsAreEven, LogSpellsHistory, MakesAddOne, MakesLeaveANode, MarkingLeavesRows, MarksAreFame, MarksStay, MomentsAreHistories, NamedOrderGrows, OrderByRounds, KeptOrderGrows, OtherMakesAddNone, OtherPutsAddNone, PublishedIsNoNews, PublishesLeaveANode, PublishingAddsMarks, PutsAddOne, PutsLeaveANode, RoundsStay, RowsAreAGraph, RowsCameByChanges, RowsGrow, RowsLeaveTheOrder, SettlesAll, SharesAreAll, VerdictsAreOfBytes};
 
 /// A law: after each history the rows are a graph of signed events, in which the node's own member has one chain,
 /// and their links are those that were made as the rows came. A moment of a history is a history.
@@ -63,8 +63,8 @@ pub fn shares_are_all()
 {}
 
 /// A law: the rows and the log tell the history.
-pub fn log_tells_history()
-    ensures { LogTellsHistory }
+pub fn log_spells_history()
+    ensures { LogSpellsHistory }
 {}
 
 /// A law of nodes with any keys: bytes that are accepted add one change, others none, and both leave a node.

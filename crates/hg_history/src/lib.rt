@@ -6,6 +6,6 @@
 mod laws;
 
 pub use laws::{
-    found_lasts, history_grows, log_tells_history, makes_add_one, marks_are_fame, order_by_rounds,
+    found_lasts, history_grows, log_spells_history, makes_add_one, marks_are_fame, order_by_rounds,
     order_grows, puts_add_one, rows_are_a_graph, rows_came_by_changes, settles_all, shares_are_all,
 };

@@ -3,8 +3,8 @@ use Rattle.std.proofs.Common.{◌≡◌, ℕ, ◌+◌, List, ◌++◌, Option, S
 use Rattle.std.proofs.lemmas.List.{take-append-drop, take-take, drop-take}
 use Rattle.hg_io.specs.Bytes.{Appends}
 
-pub option_map-append : (told : Option (List ℕ)) (x y : List ℕ)
-    → option_map (λ held. held ++ y) (option_map (λ held. held ++ x) told) ≡ option_map (λ held. held ++ (x ++ y)) told
+pub option_map-append : (matches : Option (List ℕ)) (x y : List ℕ)
+    → option_map (λ held. held ++ y) (option_map (λ held. held ++ x) matches) ≡ option_map (λ held. held ++ (x ++ y)) matches
 option_map-append None x y = refl
 option_map-append (Some held) x y = ap (λ (h : List ℕ). Some h) (append_assoc held x y)
 

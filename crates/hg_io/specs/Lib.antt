@@ -5,4 +5,4 @@ pub mod Files
 pub mod FilesOf
 pub mod ShelfState
 pub mod SinkState
-pub mod Telling
+pub mod Printing

@@ -1,5 +1,5 @@
 ghost use Rattle.std.specs.Prelude.{◌≡◌, [], OnOk};
-ghost use Rattle.hg_io.specs.Telling.{Puts, Tells, desk, held_after, held_alone};
+ghost use Rattle.hg_io.specs.Printing.{Puts, Prints, desk, held_after, held_alone};
 
 use crate::failed::Failed;
 use crate::sink::Sink;
@@ -26,7 +26,7 @@ impl Model for Page {
 
 // Gives the sink all bytes of the page.
 fn send<K: Sink>(bytes: &mut ArrayVec<u8, PAGE>, sink: &mut K) -> Result<(), Failed>
-    ensures told { Tells K.Sink sink.old sink.new bytes.old.items result }
+    ensures matches { Prints K.Sink sink.old sink.new bytes.old.items result }
     ensures empty { OnOk result (bytes.new.items ≡ []) }
 {
     write_all(sink, bytes.as_slice())?;
@@ -35,7 +35,7 @@ fn send<K: Sink>(bytes: &mut ArrayVec<u8, PAGE>, sink: &mut K) -> Result<(), Fai
 }
 
 // Puts a piece on an empty page, or where it is longer than a page gives it to the sink.
-#[tactic(auto, using(crate::proofs::Told::stops_straight))]
+#[tactic(auto, using(crate::proofs::PrintLaws::stops_straight))]
 fn begin<K: Sink>(bytes: &mut ArrayVec<u8, PAGE>, sink: &mut K, piece: &[u8]) -> Result<(), Failed>
     requires { bytes.old.items ≡ [] }
     ensures held { OnOk result (bytes.new.items ≡ held_alone piece.now) }
@@ -49,7 +49,7 @@ fn begin<K: Sink>(bytes: &mut ArrayVec<u8, PAGE>, sink: &mut K, piece: &[u8]) ->
 }
 
 // Puts a piece behind the bytes of the page.
-#[tactic(auto, using(crate::proofs::Told::stops_sending, crate::proofs::Told::puts_after_sending, crate::proofs::Told::stops_after_sending))]
+#[tactic(auto, using(crate::proofs::PrintLaws::stops_sending, crate::proofs::PrintLaws::puts_after_sending, crate::proofs::PrintLaws::stops_after_sending))]
 fn put<K: Sink>(bytes: &mut ArrayVec<u8, PAGE>, sink: &mut K, piece: &[u8]) -> Result<(), Failed>
     ensures held { OnOk result (bytes.new.items ≡ held_after bytes.old.items piece.now) }
     ensures puts { Puts (desk K.Sink sink.old bytes.old.items) (desk K.Sink sink.new bytes.new.items) piece.now result }
@@ -82,7 +82,7 @@ impl Page {
 
     /// Gives the sink all bytes of the page.
     pub fn send<K: Sink>(&mut self, sink: &mut K) -> Result<(), Failed>
-        ensures told { Tells K.Sink sink.old sink.new self.old result }
+        ensures matches { Prints K.Sink sink.old sink.new self.old result }
         ensures empty { OnOk result (self.new ≡ []) }
     {
         send(&mut self.bytes, sink)

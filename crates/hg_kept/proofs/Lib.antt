@@ -5,5 +5,5 @@ pub mod StepLaws
 pub mod RowLaws
 pub mod PublishLaws
 pub mod ReceiveLaws
-pub mod TellLaws
+pub mod GraphFacts
 pub mod NothingLaws

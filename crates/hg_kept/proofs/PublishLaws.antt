@@ -128,7 +128,7 @@ module _ (g : Graph) (three : 2 < g.coin) (v : Published) (keeps : Keeps g v) (l
       let within = speaks.within in
       let sized = length-take-le len (links_of g) (omega (arith, length-links g.rows)) in
       let even = keeps.even in
-      subst (AllByRecursion (λ (f : ℕ × Bool). f.0 < length v.marks)) (sym speaks.told)
+      subst (AllByRecursion (λ (f : ℕ × Bool). f.0 < length v.marks)) (sym speaks.matches)
       (all_list_below (λ (f : ℕ × Bool). f.0 < length v.marks) (λ x. (x, is_yes (share_fame n g.coin G L share x))) (length L) (λ x. is_some (share_fame n g.coin G L share x))
       (λ x inside passes. omega arith))
 
@@ -145,7 +145,7 @@ module _ (g : Graph) (three : 2 < g.coin) (v : Published) (keeps : Keeps g v) (l
       let sized : length L ≡ len = length-take-le len (links_of g) (omega (arith, length-links g.rows)) in
       let few : length (list_below (λ x. (x, is_yes (fame x))) (length L) (λ x. is_some (fame x))) ≤ length L =
       length-list_below-le (λ x. (x, is_yes (fame x))) (length L) (λ x. is_some (fame x)) in
-      no_more found (list_below (λ x. (x, is_yes (fame x))) (length L) (λ x. is_some (fame x))) (length L) len (length g.rows) speaks.told few sized within
+      no_more found (list_below (λ x. (x, is_yes (fame x))) (length L) (λ x. is_some (fame x))) (length L) len (length g.rows) speaks.matches few sized within
 
   module _ (marks : Marks) (count : ℕ) (added : record { marks = marks; count = count } ≡ add_marks v.marks found) where
     adds : ((add_marks v.marks found).marks ≡ (with_marks g.members g.coin (state_by g v.marks) len share).marks) × ((add_marks v.marks found).count ≡ news g.members g.coin (state_by g v.marks) len share)

@@ -25,7 +25,7 @@ pub record Published : Type 0 where
   pub looked : ℕ
 
 -- what is published, and for how many more rows there is memory at least
-pub record Stock : Type 0 where
+pub record PublishedWithRoom : Type 0 where
   pub published : Published
   pub room : ℕ
 

@@ -9,7 +9,7 @@ ghost use Rattle.hg_kept.specs.Published.{IsReached, Keeps, KeepsUpTo};
 ghost use Rattle.hg_kept.specs.Waiting.{published_as};
 
 use crate::pending::Pending;
-use hg_model::{Placed, Prefix, tells_graph};
+use hg_model::{Placed, Prefix, is_of_graph};
 use hg_order::{order_round, unique_famous};
 
 /// Whether all of these witnesses have a mark.
@@ -27,7 +27,7 @@ fn is_next_closed<P: Prefix>(p: &P, marks: &[Option<bool>], closed: u32) -> bool
     requires short { closed + 1 < 2 ^ 32 }
     ensures { result ≡ is_closed (P.graph p.now).members (links_of (P.graph p.now)) marks.now (closed + 1) }
 {
-    tells_graph(p);
+    is_of_graph(p);
     let witnesses = p.witnesses(closed + 1);
     !witnesses.is_empty() && are_marked(marks, witnesses)
 }
@@ -69,7 +69,7 @@ fn find_famous<P: Prefix>(p: &P, marks: &[Option<bool>], r: u32, places: &mut [u
     ensures famous { take result places.new ≡ famous_of (P.graph p.now) marks.now r }
     ensures few { result ≤ 128 }
 {
-    tells_graph(p);
+    is_of_graph(p);
     unique_famous(p, marks, r, &mut places[..p.members() as usize])
 }
 
@@ -136,7 +136,7 @@ pub fn close_rounds<P: Prefix>(
     ensures pending_room { pending.new.room ≡ pending.old.room }
     ensures order_room { vec_capacity order.new ≡ vec_capacity order.old }
 {
-    tells_graph(p);
+    is_of_graph(p);
     let mut last = closed;
     'rounds: while is_next_closed(p, marks, last) {
         receive_round(p, marks, last, pending, order);

@@ -9,7 +9,7 @@ ghost use Rattle.hg_kept.specs.Published.{HasCome, Keeps, TookRow, is_last_late,
 use crate::closing::close_rounds;
 use crate::marking::mark_found;
 use crate::pending::Pending;
-use hg_model::{Found, Memory, Placed, Prefix, tells_graph};
+use hg_model::{Found, Memory, Placed, Prefix, is_of_graph};
 use std::alloc::Global;
 use std::marker::Model;
 
@@ -25,10 +25,10 @@ pub struct Kept {
 
 impl Model for Kept {
     ghost use Rattle.std.specs.Prelude.{◌≤◌, ◌-◌, min, vec_capacity, vec_len};
-    ghost use Rattle.hg_kept.specs.Published.{Stock};
+    ghost use Rattle.hg_kept.specs.Published.{PublishedWithRoom};
     ghost use Rattle.hg_kept.specs.Waiting.{published_as};
 
-    ghost Value = { Stock };
+    ghost Value = { PublishedWithRoom };
 
     ghost view = { λ s. record { published = published_as s.marks.items s.closed s.order.items s.pending; room = min (vec_capacity s.marks - vec_len s.marks) (min (s.pending.room - vec_len s.marks) (vec_capacity s.order - vec_len s.marks)) } };
 
@@ -69,7 +69,7 @@ impl Kept {
         ensures keeps { Keeps (P.graph p.now) self.new.published }
         ensures room { self.new.room + 1 ≡ self.old.room }
     {
-        tells_graph(p);
+        is_of_graph(p);
         let mark = first_mark(p, self.closed);
         self.marks.push_reserved(mark);
     }
@@ -85,7 +85,7 @@ impl Kept {
         ensures grows { IsPrefix self.old.published.order self.new.published.order }
         ensures room { self.new.room ≡ self.old.room }
     {
-        tells_graph(p);
+        is_of_graph(p);
         let count = mark_found(&mut self.marks, found.marks.as_slice());
         self.closed = close_rounds(
             p,
@@ -125,7 +125,7 @@ fn is_last_late<P: Prefix>(p: &P, closed: u32) -> bool
     requires some { 0 < length (P.graph p.now).rows }
     ensures { result ≡ is_last_late (P.graph p.now) closed }
 {
-    tells_graph(p);
+    is_of_graph(p);
     let x = p.rows() - 1;
     p.is_witness(x) && p.round(x) <= closed
 }

@@ -4,7 +4,7 @@ ghost use Rattle.hg_model.specs.Prefix.{links_of};
 ghost use Rattle.hg_order.specs.Famous.{AreFamous, all_have};
 ghost use Rattle.hg_kept.specs.Waiting.{places_to};
 
-use hg_model::{Memory, Prefix, tells_graph};
+use hg_model::{Memory, Prefix, is_of_graph};
 use hg_order::received_in;
 use std::alloc::Global;
 use std::marker::Model;
@@ -67,7 +67,7 @@ impl Pending {
         ensures places { self.new.places ≡ filter (λ x. not (all_have (links_of (P.graph p.now)) famous.now x)) (places_to self.old self.new.looked) }
         ensures room { self.new.room ≡ self.old.room }
     {
-        tells_graph(p);
+        is_of_graph(p);
         let end = self.looked.max(famous[0] + 1);
         list_to(&mut self.places, self.looked, end);
         self.looked = end;

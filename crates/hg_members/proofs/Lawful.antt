@@ -103,7 +103,7 @@ member_of-ok earlier entry m h =
     let (name, named, with_name) = bind_ok (name_of earlier entry) _ m h in
     let (secret, read, with_secret) = bind_ok (ok_or (entry_secret entry) (BadSecret place)) _ m with_name in
     let (balance, given, with_balance) = bind_ok (ok_or (balance_of (get (codes "balance") entry)) (BadBalance place)) _ m with_secret in
-    let (has_node, told, with_node) = bind_ok (ok_or (node_flag (get (codes "node") entry)) (BadNode place)) _ m with_balance in
+    let (has_node, matches, with_node) = bind_ok (ok_or (node_flag (get (codes "node") entry)) (BadNode place)) _ m with_balance in
     let e : record { name = name; secret = secret; balance = balance; has_node = has_node } ≡ m = cc in
     let (form, new) = name_of-ok earlier entry name named in
     let (some, fits) = secret_in-some entry secret (ok_or-ok (entry_secret entry) (BadSecret place) secret read) in

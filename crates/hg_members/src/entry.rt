@@ -4,7 +4,7 @@ ghost use Rattle.toml.specs.Data.{get};
 ghost use Rattle.toml.specs.View.{view};
 ghost use Rattle.hg_model.specs.Results.{Reads};
 ghost use Rattle.hg_members.specs.Gives.{Gives};
-ghost use Rattle.hg_members.specs.MemberFile as told;
+ghost use Rattle.hg_members.specs.MemberFile as spec;
 
 use crate::fault::MemberFault;
 use crate::stop::Stop;
@@ -14,7 +14,7 @@ use std::alloc::{AllocError, Global};
 use toml::Value;
 
 fn entry_name(entry: &Value) -> Option<&str>
-    ensures { option_copied result ≡ told.entry_name (view entry.now) }
+    ensures { option_copied result ≡ spec.entry_name (view entry.now) }
 {
     let name = entry.get("name")?.as_str()?;
     if is_member_name(name.as_bytes()) {
@@ -25,7 +25,7 @@ fn entry_name(entry: &Value) -> Option<&str>
 }
 
 fn decoded(alloc: Global, text: &str) -> Result<Option<Bytes>, AllocError>
-    ensures { IfOk result (λ secret. secret ≡ told.secret_form text.now) }
+    ensures { IfOk result (λ secret. secret ≡ spec.secret_form text.now) }
 {
     if text.len() < 2 || text.len() > 256 {
         return Ok(None);
@@ -38,7 +38,7 @@ fn decoded(alloc: Global, text: &str) -> Result<Option<Bytes>, AllocError>
 }
 
 fn entry_secret(alloc: Global, entry: &Value) -> Result<Option<Bytes>, AllocError>
-    ensures { IfOk result (λ secret. secret ≡ told.entry_secret (view entry.now)) }
+    ensures { IfOk result (λ secret. secret ≡ spec.entry_secret (view entry.now)) }
 {
     let Some(value) = entry.get("secret") else {
         return Ok(None);
@@ -50,7 +50,7 @@ fn entry_secret(alloc: Global, entry: &Value) -> Result<Option<Bytes>, AllocErro
 }
 
 fn balance_in(entry: &Value) -> Option<u64>
-    ensures { result ≡ told.balance_of (get (codes "balance") (view entry.now)) }
+    ensures { result ≡ spec.balance_of (get (codes "balance") (view entry.now)) }
 {
     let Some(value) = entry.get("balance") else {
         return Some(0);
@@ -64,7 +64,7 @@ fn balance_in(entry: &Value) -> Option<u64>
 }
 
 fn node_in(entry: &Value) -> Option<bool>
-    ensures { result ≡ told.node_flag (get (codes "node") (view entry.now)) }
+    ensures { result ≡ spec.node_flag (get (codes "node") (view entry.now)) }
 {
     match entry.get("node") {
         Some(value) => value.as_bool(),
@@ -73,13 +73,13 @@ fn node_in(entry: &Value) -> Option<bool>
 }
 
 fn has_name(members: &[MemberEntry], name: &[u8]) -> bool
-    ensures { result ≡ told.has_name members.now name.now }
+    ensures { result ≡ spec.has_name members.now name.now }
 {
     members.iter().any(|member| member.name.as_slice() == name)
 }
 
 fn name_of<'a>(earlier: &[MemberEntry], entry: &'a Value) -> Result<&'a str, MemberFault>
-    ensures { Reads (λ name. name.now) result (told.name_of earlier.now (view entry.now)) }
+    ensures { Reads (λ name. name.now) result (spec.name_of earlier.now (view entry.now)) }
 {
     let name = entry_name(entry).ok_or(MemberFault::BadName(earlier.len()))?;
     if has_name(earlier, name.as_bytes()) {
@@ -94,7 +94,7 @@ pub fn checked_member(
     earlier: &[MemberEntry],
     entry: &Value,
 ) -> Result<MemberEntry, Stop>
-    ensures { Gives (λ m. m) result (told.checked_member earlier.now (view entry.now)) }
+    ensures { Gives (λ m. m) result (spec.checked_member earlier.now (view entry.now)) }
 {
     let place = earlier.len();
     let name = name_of(earlier, entry)?;

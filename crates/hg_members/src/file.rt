@@ -6,7 +6,7 @@ ghost use Rattle.hg_model.specs.declared.members.MemberEntry.{MemberEntry};
 ghost use Rattle.hg_model.specs.Members.{IsMemberList, listed};
 ghost use Rattle.hg_model.specs.Results.{Reads};
 ghost use Rattle.hg_members.specs.Gives.{Gives};
-ghost use Rattle.hg_members.specs.MemberFile as told;
+ghost use Rattle.hg_members.specs.MemberFile as spec;
 
 use crate::entry::checked_member;
 use crate::fault::MemberFault;
@@ -17,7 +17,7 @@ use toml::Value;
 use toml::value::Array;
 
 fn document_of(alloc: Global, bytes: &[u8]) -> Result<Value, Stop>
-    ensures { Gives view result (ok_or (told.document_of bytes.now) MemberFault.NotToml) }
+    ensures { Gives view result (ok_or (spec.document_of bytes.now) MemberFault.NotToml) }
 {
     match toml::table_from_slice(alloc, bytes) {
         Ok(table) => Ok(Value::Table(table)),
@@ -32,7 +32,7 @@ fn document_of(alloc: Global, bytes: &[u8]) -> Result<Value, Stop>
 }
 
 fn checked_coin(number: i64) -> Result<u32, MemberFault>
-    ensures { result ≡ told.coin_number number }
+    ensures { result ≡ spec.coin_number number }
 {
     if 3 <= number && number <= 100 {
         Ok(number as u32)
@@ -42,7 +42,7 @@ fn checked_coin(number: i64) -> Result<u32, MemberFault>
 }
 
 fn coin_in(document: &Value) -> Result<u32, MemberFault>
-    ensures { result ≡ told.coin_of (get (codes "coin") (view document.now)) }
+    ensures { result ≡ spec.coin_of (get (codes "coin") (view document.now)) }
 {
     match document.get("coin") {
         Some(value) => checked_coin(value.as_integer().unwrap_or(0)),
@@ -58,7 +58,7 @@ fn array_in(document: &Value) -> Option<&Array>
 
 #[tactic(auto, using(crate::proofs::Entries::count_of_items))]
 fn entries_in(document: &Value) -> Result<&Array, MemberFault>
-    ensures { Reads (λ array. array_view array.now) result (told.checked_count (told.entries_of (get (codes "member") (view document.now)))) }
+    ensures { Reads (λ array. array_view array.now) result (spec.checked_count (spec.entries_of (get (codes "member") (view document.now)))) }
 {
     let entries = array_in(document).ok_or(MemberFault::Count(0))?;
     let count = entries.len();
@@ -70,7 +70,7 @@ fn entries_in(document: &Value) -> Result<&Array, MemberFault>
 }
 
 fn members_from(alloc: Global, entries: &Array) -> Result<Vec<MemberEntry>, Stop>
-    ensures { Gives (λ members. members.items) result (told.members_after [] (array_view entries.now)) }
+    ensures { Gives (λ members. members.items) result (spec.members_after [] (array_view entries.now)) }
 {
     let mut members = Vec::new(alloc);
     for entry in entries {
@@ -90,7 +90,7 @@ fn total(members: &[MemberEntry]) -> u128
 fn summed(members: Vec<MemberEntry>, coin: u32) -> Result<Members, MemberFault>
     requires few { length members.items ≤ 128 }
     requires lawful { sum_by (λ (e : MemberEntry). e.balance) members.items < 2 ^ 63 → IsMemberList (listed members.items coin) }
-    ensures { Reads (λ m. m) result (told.summed coin members.items) }
+    ensures { Reads (λ m. m) result (spec.summed coin members.items) }
 {
     if total(members.as_slice()) < 1 << 63 {
         Ok(Members::new(members, coin))
@@ -100,7 +100,7 @@ fn summed(members: Vec<MemberEntry>, coin: u32) -> Result<Members, MemberFault>
 }
 
 fn members_in(alloc: Global, document: &Value) -> Result<Members, Stop>
-    ensures { Gives (λ members. members) result (told.members_in (view document.now)) }
+    ensures { Gives (λ members. members) result (spec.members_in (view document.now)) }
 {
     let coin = coin_in(document)?;
     let entries = entries_in(document)?;
@@ -111,7 +111,7 @@ fn members_in(alloc: Global, document: &Value) -> Result<Members, Stop>
 /// The members that the bytes of a member file tell, or the first fault.
 #[tactic(auto, unfolding(crate::specs::MemberFile::members_of))]
 pub fn read_members(alloc: Global, bytes: &[u8]) -> Result<Result<Members, MemberFault>, Memory>
-    ensures { IfOk result (λ answer. answer ≡ told.members_of bytes.now) }
+    ensures { IfOk result (λ answer. answer ≡ spec.members_of bytes.now) }
 {
     match document_of(alloc, bytes).and_then(|document| members_in(alloc, &document)) {
         Ok(members) => Ok(Ok(members)),

@@ -34,7 +34,7 @@ fn members_are_read(rt: HostRuntime) -> Result<(), Fail> {
 
 // What an implementation in another language answers to these files.
 #[test]
-fn faults_are_told(rt: HostRuntime) -> Result<(), Fail> {
+fn faults_are_known(rt: HostRuntime) -> Result<(), Fail> {
     for (text, want) in [
         (
             "coin = 10\ncoin = 10\n[[member]]\nname = \"A\"\nsecret = \"0b0b\"\n",

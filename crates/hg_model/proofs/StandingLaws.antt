@@ -48,7 +48,7 @@ greatest_in-standings n L =
     ap (λ len. maximum_below (round_at (standings_of n L)) len) (length-standings n L)
     ∙ maximum_below-same (round_at (standings_of n L)) (round_of n L) (length L) (round_at-standings n L)
 
-pub ruleset standings_told = (length-standings, round_at-standings, witness_at-standings, witnesses_in-standings, greatest_in-standings)
+pub ruleset standings_known = (length-standings, round_at-standings, witness_at-standings, witnesses_in-standings, greatest_in-standings)
 
 -- the rows of a longer graph keep their standings
 

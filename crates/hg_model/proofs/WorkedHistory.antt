@@ -15,7 +15,7 @@ use Rattle.hg_model.specs.Shares.{Share, whole, share_fame}
 use Rattle.hg_model.specs.History.{Change, replay, news}
 use Rattle.hg_model.specs.Kept.{kept}
 use Rattle.hg_model.specs.History.Change.{Took, Made, Marked}
-use Rattle.hg_model.specs.Shown.{log_from}
+use Rattle.hg_model.specs.NodeView.{log_from}
 use Rattle.hg_model.proofs.Worked.{first, made, placed, two_members, two_marks, three_members}
 
 -- what the second of two members did in six syncs in turn

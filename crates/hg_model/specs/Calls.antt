@@ -13,11 +13,11 @@ use Rattle.hg_model.specs.declared.answers.MakeFault.{MakeFault}
 use Rattle.hg_model.specs.Shares.{Share, whole}
 use Rattle.hg_model.specs.History.{Change, Accepts, news}
 use Rattle.hg_model.specs.History.Change.{Took, Made, Marked}
-use Rattle.hg_model.specs.Shown.{Shown, with_changes, state_of, graph_of}
+use Rattle.hg_model.specs.NodeView.{NodeView, with_changes, node_state, node_rows}
 
 -- what comes of bytes that are put to the node
-unfoldable pub put_answer : {K : Type 0} → (K → Accepts) → Shown K → List ℕ → PutAnswer
-put_answer accepts v bytes = verdict (accepts v.start.keys) v.start.members v.start.own (graph_of v) bytes
+unfoldable pub put_answer : {K : Type 0} → (K → Accepts) → NodeView K → List ℕ → PutAnswer
+put_answer accepts v bytes = verdict (accepts v.start.keys) v.start.members v.start.own (node_rows v) bytes
 
 abbrev pub taken_by : PutAnswer → Row → List Change
 taken_by (Accepted p) row = Took row ∷ []
@@ -25,38 +25,38 @@ taken_by (Known p) row = []
 taken_by (Refused f) row = []
 
 -- by what was read of the bytes
-abbrev pub taken_from : {K : Type 0} → (K → Accepts) → Shown K → Result Row ByteFault → List Change
+abbrev pub taken_from : {K : Type 0} → (K → Accepts) → NodeView K → Result Row ByteFault → List Change
 taken_from accepts v (Err e) = []
-taken_from accepts v (Ok row) = taken_by (row_verdict (accepts v.start.keys) v.start.members v.start.own (graph_of v) row) row
+taken_from accepts v (Ok row) = taken_by (row_verdict (accepts v.start.keys) v.start.members v.start.own (node_rows v) row) row
 
 -- the changes that they add: the row that they spell, where they are accepted
-unfoldable pub put_changes : {K : Type 0} → (K → Accepts) → Shown K → List ℕ → List Change
+unfoldable pub put_changes : {K : Type 0} → (K → Accepts) → NodeView K → List ℕ → List Change
 put_changes accepts v bytes = taken_from accepts v (read_event bytes)
 
 -- what comes of making an event under this signature
-unfoldable pub make_answer : {K : Type 0} → Shown K → Option (List ℕ) → ℕ → List ℕ → List ℕ → MakeAnswer
-make_answer v other time payload sig = making v.start.own (graph_of v) other time payload sig
+unfoldable pub make_answer : {K : Type 0} → NodeView K → Option (List ℕ) → ℕ → List ℕ → List ℕ → MakeAnswer
+make_answer v other time payload sig = making v.start.own (node_rows v) other time payload sig
 
 abbrev pub made_by : MakeAnswer → Row → List Change
 made_by (answer.Made p) row = Made row ∷ []
 made_by (answer.Refused f) row = []
 
 -- the changes that it adds: the row, where it is made
-unfoldable pub make_changes : {K : Type 0} → Shown K → Option (List ℕ) → ℕ → List ℕ → List ℕ → List Change
+unfoldable pub make_changes : {K : Type 0} → NodeView K → Option (List ℕ) → ℕ → List ℕ → List ℕ → List Change
 make_changes v other time payload sig =
-    made_by (make_answer v other time payload sig) (made_row v.start.own (graph_of v) other time payload sig)
+    made_by (make_answer v other time payload sig) (made_row v.start.own (node_rows v) other time payload sig)
 
 -- what the node signs for such an event
-unfoldable pub make_body : {K : Type 0} → Shown K → Option (List ℕ) → ℕ → List ℕ → List ℕ
-make_body v other time payload = body_bytes v.start.own (both_names (last_name v.start.own (graph_of v)) other) time payload
+unfoldable pub make_body : {K : Type 0} → NodeView K → Option (List ℕ) → ℕ → List ℕ → List ℕ
+make_body v other time payload = body_bytes v.start.own (both_names (last_name v.start.own (node_rows v)) other) time payload
 
 -- what is wrong with such an event before it is signed
-unfoldable pub make_draft : {K : Type 0} → Shown K → Option (List ℕ) → List ℕ → Option MakeFault
-make_draft v other payload = draft_rule v.start.own (graph_of v) other payload
+unfoldable pub make_draft : {K : Type 0} → NodeView K → Option (List ℕ) → List ℕ → Option MakeFault
+make_draft v other payload = draft_rule v.start.own (node_rows v) other payload
 
 -- the answer and the node after making an event, whichever accepted signature it got; an event that is refused before
 -- is not signed
-pub record IsMaking {K : Type 0} (accepts : K → Accepts) (old : Shown K) (other : Option (List ℕ)) (time : ℕ) (payload : List ℕ) (answer : MakeAnswer) (new : Shown K) : Type 0 where
+pub record IsMaking {K : Type 0} (accepts : K → Accepts) (old : NodeView K) (other : Option (List ℕ)) (time : ℕ) (payload : List ℕ) (answer : MakeAnswer) (new : NodeView K) : Type 0 where
   pub sig : List ℕ
   pub sized : length sig ≡ 64
   pub signed : make_draft old other payload ≡ None → accepts old.start.keys old.start.own (make_body old other time payload) sig ≡ true
@@ -64,13 +64,13 @@ pub record IsMaking {K : Type 0} (accepts : K → Accepts) (old : Shown K) (othe
   pub grown : new ≡ with_changes old (make_changes old other time payload sig)
 
 -- how many witnesses are marked by publishing what a share finds in the first `len` rows
-unfoldable pub publish_answer : {K : Type 0} → Shown K → ℕ → Share → ℕ
-publish_answer v len share = news v.start.members v.start.coin (state_of v) len share
+unfoldable pub publish_answer : {K : Type 0} → NodeView K → ℕ → Share → ℕ
+publish_answer v len share = news v.start.members v.start.coin (node_state v) len share
 
 -- the changes that it adds: one, where it marks some
-unfoldable pub publish_changes : {K : Type 0} → Shown K → ℕ → Share → List Change
+unfoldable pub publish_changes : {K : Type 0} → NodeView K → ℕ → Share → List Change
 publish_changes v len share = cond (publish_answer v len share == 0) [] (Marked len share ∷ [])
 
 -- to settle is to publish the fame of the whole graph
-abbrev pub settle_changes : {K : Type 0} → Shown K → List Change
-settle_changes v = publish_changes v (length (graph_of v)) whole
+abbrev pub settle_changes : {K : Type 0} → NodeView K → List Change
+settle_changes v = publish_changes v (length (node_rows v)) whole

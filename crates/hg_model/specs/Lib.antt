@@ -25,5 +25,5 @@ pub mod Fits
 pub mod Shares
 pub mod History
 pub mod Kept
-pub mod Shown
+pub mod NodeView
 pub mod Calls

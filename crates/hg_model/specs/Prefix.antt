@@ -22,7 +22,7 @@ abbrev pub links_of : Graph → List Link
 links_of g = links g.rows
 
 -- the shape and the standings are those of the graph, whose coin period is above 2
-pub record TellsGraph (shape : Shape) (standings : List Standing) (g : Graph) : Type 0 where
+pub record IsOfGraph (shape : Shape) (standings : List Standing) (g : Graph) : Type 0 where
   pub shaped : shape ≡ shape_of g.members (links_of g)
   pub standing : standings ≡ standings_of g.members (links_of g)
   pub coin : 2 < g.coin

@@ -42,6 +42,6 @@ pub record FitsLink (n : ℕ) (L : List Link) (link : Link) : Type 0 where
   pub others_by_others : (p : ℕ) → has_place (later_places link.parents) p ≡ true → creator L p ≢ link.creator
 
 -- a graph, and for how many more rows there is memory
-pub record Growth : Type 0 where
+pub record ShapeWithRoom : Type 0 where
   pub shape : Shape
   pub room : ℕ

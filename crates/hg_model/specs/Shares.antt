@@ -38,4 +38,4 @@ found_in n c G L share =
 -- these places with fame are what the share finds in the first `len` rows of a graph
 pub record Speaks (n c : ℕ) (G : List Row) (L : List Link) (len : ℕ) (share : Share) (found : List (ℕ × Bool)) : Type 0 where
   pub within : len ≤ length G
-  pub told : found ≡ found_in n c (take len G) (take len L) share
+  pub matches : found ≡ found_in n c (take len G) (take len L) share

@@ -31,7 +31,7 @@ pub use memory::Memory;
 pub use names::is_member_name;
 pub use outcome::{Block, OrderLine, Outcome, Printed};
 pub use pay::{Effect, Transfer};
-pub use prefix::{Prefix, tells_graph};
+pub use prefix::{Prefix, is_of_graph};
 pub use rounds::Rounds;
 pub use row::{Member, Name, Placed, Row, Sig};
 pub use seeing::is_supermajority;

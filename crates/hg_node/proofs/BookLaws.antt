@@ -12,7 +12,7 @@ use Rattle.hg_kept.specs.Published.{Published, Keeps}
 use Rattle.hg_prefix.specs.Orders.{IsPrefix}
 use Rattle.hg_pay.specs.Account.{Account, with_rest}
 use Rattle.hg_pay.proofs.OrderLaws.{many_effects, book_goes_on, rows_leave_the_book}
-use Rattle.hg_node.specs.Recorded.{KeepsBook}
+use Rattle.hg_node.specs.ChronicleView.{KeepsBook}
 
 -- what is kept of a graph
 module _ (g : Graph) (v : Published) (keeps : Keeps g v) where

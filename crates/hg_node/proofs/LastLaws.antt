@@ -9,7 +9,7 @@ use Rattle.hg_model.specs.Verdict.{later_name, last_name}
 use Rattle.hg_model.proofs.NameLaws.{place_of_at, last_is_own}
 use Rattle.hg_model.proofs.PushLaws.{place_of-append, slice_get-last}
 use Rattle.hg_prefix.proofs.StandingLaws.{name_at_place}
-use Rattle.hg_node.specs.Recorded.{last_place}
+use Rattle.hg_node.specs.ChronicleView.{last_own_place}
 
 read_name : (G : List Row) (x : ℕ) (row : Row) → slice_get G x ≡ Some row → name_at G x ≡ row.name
 unfolding name_at
@@ -28,17 +28,17 @@ module _ (m : ℕ) (G : List Row) (row : Row) (distinct : HasDistinctNames G) (d
   unfolding name_at
   new_place = place_of_at (G ++ row ∷ []) distinct' (length G) row.name (omega (arith, length_push G row)) (ap name_in (slice_get-last G row))
 
-  by_test : (b : Bool) → eqb row.creator m ≡ b → last_place m (G ++ row ∷ []) ≡ cond b (Some (length G)) (last_place m G)
+  by_test : (b : Bool) → eqb row.creator m ≡ b → last_own_place m (G ++ row ∷ []) ≡ cond b (Some (length G)) (last_own_place m G)
   by_test true is =
       ap (option_map (place_of (G ++ row ∷ []))) (last_name-push m G row ∙ ap (λ (b : Bool). cond b (Some row.name) (last_name m G)) is) ∙ ap (λ (p : ℕ). Some p) new_place
   by_test false is =
       ap (option_map (place_of (G ++ row ∷ []))) (last_name-push m G row ∙ ap (λ (b : Bool). cond b (Some row.name) (last_name m G)) is) ∙ old_stays (last_name m G) refl
 
-  pub last_place-push : last_place m (G ++ row ∷ []) ≡ cond (eqb row.creator m) (Some (length G)) (last_place m G)
-  last_place-push = by_test (eqb row.creator m) refl
+  pub last_own_place-push : last_own_place m (G ++ row ∷ []) ≡ cond (eqb row.creator m) (Some (length G)) (last_own_place m G)
+  last_own_place-push = by_test (eqb row.creator m) refl
 
 -- the row at that place has the last name
-pub last_read : (m : ℕ) (G : List Row) (place : ℕ) → HasDistinctNames G → Some place ≡ last_place m G → (place < length G) × ((row : Row) → slice_get G place ≡ Some row → Some row.name ≡ last_name m G)
+pub last_read : (m : ℕ) (G : List Row) (place : ℕ) → HasDistinctNames G → Some place ≡ last_own_place m G → (place < length G) × ((row : Row) → slice_get G place ≡ Some row → Some row.name ≡ last_name m G)
 last_read m G place distinct is = by_name (last_name m G) refl
   where
     by_name : (last : Option (List ℕ)) → last_name m G ≡ last → (place < length G) × ((row : Row) → slice_get G place ≡ Some row → Some row.name ≡ last_name m G)

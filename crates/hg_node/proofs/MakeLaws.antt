@@ -13,25 +13,25 @@ use Rattle.hg_model.specs.Spelling.{body_bytes}
 use Rattle.hg_model.specs.Verdict.{row_limit, last_name, both_names, made_row, draft_rule, collision_rule, room_rule, made_or, making}
 use Rattle.hg_model.specs.History.{Change, Accepts}
 use Rattle.hg_model.specs.History.Change.{Made}
-use Rattle.hg_model.specs.Shown.{Shown, with_changes, graph_of, IsNode}
+use Rattle.hg_model.specs.NodeView.{NodeView, with_changes, node_rows, IsNode}
 use Rattle.hg_model.specs.Calls.{IsMaking, make_answer, make_changes, make_body, make_draft, made_by}
 use Rattle.hg_model.proofs.RuleLaws.{admitted}
 use Rattle.hg_history.proofs.CallLaws.{with_none}
 use Rattle.hg_history.proofs.MakeLaws.{makes_leave_a_node}
-use Rattle.hg_node.specs.Recorded.{Recorded, recorded_with, shown, IsRecorded}
+use Rattle.hg_node.specs.ChronicleView.{ChronicleView, chronicle_with, node_view, IsRecorded}
 use Rattle.hg_node.proofs.RecordLaws.{shown_after, recorded_after}
 use Rattle.hg_node.proofs.PutLaws.{recorded_graph}
 
 -- what a node becomes that makes the row
-pub record MakesRow {K : Type 0} (accepts : K → Accepts) (v w : Shown K) (r : Recorded) (row : Row) (other : Option (List ℕ)) (time : ℕ) (payload : List ℕ) : Type 0 where
+pub record MakesRow {K : Type 0} (accepts : K → Accepts) (v w : NodeView K) (r : ChronicleView) (row : Row) (other : Option (List ℕ)) (time : ℕ) (payload : List ℕ) : Type 0 where
   pub making : IsMaking accepts v other time payload (answer.Made (length r.graph.rows)) w
-  pub recorded : IsRecorded accepts w (recorded_with r row (entry.Made (length r.graph.rows)))
+  pub recorded : IsRecorded accepts w (chronicle_with r row (entry.Made (length r.graph.rows)))
   pub graph : IsGraph r.graph.members (r.graph.rows ++ row ∷ [])
   pub limit : length r.graph.rows < row_limit
 
-module _ {K : Type 0} (accepts : K → Accepts) (keys : K) (r : Recorded) (other : Option (List ℕ)) (time : ℕ) (payload : List ℕ) (is : IsRecorded accepts (shown keys r) r) where
-  abbrev before : Shown K
-  before = shown keys r
+module _ {K : Type 0} (accepts : K → Accepts) (keys : K) (r : ChronicleView) (other : Option (List ℕ)) (time : ℕ) (payload : List ℕ) (is : IsRecorded accepts (node_view keys r) r) where
+  abbrev before : NodeView K
+  before = node_view keys r
 
   draft_is : make_draft before other payload ≡ draft_rule r.own r.graph.rows other payload
   unfolding make_draft
@@ -53,7 +53,7 @@ module _ {K : Type 0} (accepts : K → Accepts) (keys : K) (r : Recorded) (other
   unfolding make_changes
   refused sig f is_refused =
       with_none before (make_changes before other time payload sig)
-      (ap (λ (a : MakeAnswer). made_by a (made_row before.start.own (graph_of before) other time payload sig)) is_refused)
+      (ap (λ (a : MakeAnswer). made_by a (made_row before.start.own (node_rows before) other time payload sig)) is_refused)
 
   -- what stands for the signature of a draft that is refused
   no_sig : List ℕ
@@ -99,12 +99,12 @@ module _ {K : Type 0} (accepts : K → Accepts) (keys : K) (r : Recorded) (other
 
     -- against which none does
     pub row_made : time < 2 ^ 64 → None ≡ option_or (collision_rule r.graph.rows row) (room_rule r.graph.rows) →
-        MakesRow accepts before (shown keys (recorded_with r row (entry.Made (length r.graph.rows)))) r row other time payload
+        MakesRow accepts before (node_view keys (chronicle_with r row (entry.Made (length r.graph.rows)))) r row other time payload
     unfolding make_changes
     row_made early rest =
         let is_answer = answer_of None rest in
         let events : make_changes before other time payload sig ≡ Made row ∷ [] =
-        ap (λ (a : MakeAnswer). made_by a (made_row before.start.own (graph_of before) other time payload sig)) is_answer
+        ap (λ (a : MakeAnswer). made_by a (made_row before.start.own (node_rows before) other time payload sig)) is_answer
         ∙ (ap (λ (G : List Row). Made (made_row r.own G other time payload sig) ∷ []) is.rows ∙ ap (λ (x : Row). Made x ∷ []) (sym is_row)) in
         let node = subst (λ (es : List Change). IsNode accepts (with_changes before es)) events (makes_leave_a_node K accepts before other time payload sig early sized (λ none. is_signed) is.node) in
         let recorded = recorded_after accepts keys r (Made row) (entry.Made (length r.graph.rows)) refl is node in
@@ -117,6 +117,6 @@ module _ {K : Type 0} (accepts : K → Accepts) (keys : K) (r : Recorded) (other
             grown = sym (ap (with_changes before) events ∙ shown_after accepts keys r (Made row) (entry.Made (length r.graph.rows)) refl is);
           };
           recorded = recorded;
-          graph = recorded_graph accepts keys (recorded_with r row (entry.Made (length r.graph.rows))) recorded;
+          graph = recorded_graph accepts keys (chronicle_with r row (entry.Made (length r.graph.rows))) recorded;
           limit = (admitted r.graph.rows row (sym rest)).room;
         }

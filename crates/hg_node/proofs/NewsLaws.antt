@@ -13,7 +13,7 @@ use Rattle.hg_model.proofs.QuorumLaws.{weight_below_split}
 use Rattle.hg_history.proofs.AddLaws.{found_below}
 use Rattle.hg_history.proofs.SettleLaws.{not_counted}
 use Rattle.hg_history.proofs.StateLaws.{IsEven, mark_of_table}
-use Rattle.hg_node.specs.Recorded.{marked}
+use Rattle.hg_node.specs.ChronicleView.{marked}
 
 -- a row that comes takes no mark
 pub marked_push : (marks : Marks) (first : Option Bool) → marked marks ≤ marked (marks ++ first ∷ [])

@@ -6,22 +6,22 @@ use Rattle.hg_model.specs.declared.answers.MakeFault.{MakeFault}
 use Rattle.std.specs.Option.{option_or}
 use Rattle.hg_model.specs.Verdict.{made_row, made_or, collision_rule, room_rule}
 use Rattle.hg_model.specs.History.{Change, Accepts}
-use Rattle.hg_model.specs.Shown.{Shown, with_changes, graph_of}
+use Rattle.hg_model.specs.NodeView.{NodeView, with_changes, node_rows}
 use Rattle.hg_model.specs.Calls.{IsMaking, make_answer, make_changes, make_body, make_draft, made_by}
 use Rattle.hg_node.specs.Laws.{AcceptOne, signature_made, MakingIsOne}
 
-module _ {K : Type 0} (v : Shown K) (other : Option (List ℕ)) (time : ℕ) (payload : List ℕ) where
+module _ {K : Type 0} (v : NodeView K) (other : Option (List ℕ)) (time : ℕ) (payload : List ℕ) where
   -- a draft that is refused has one answer under all signatures, and adds nothing
   refused_answer : (sig : List ℕ) (f : MakeFault) → make_draft v other payload ≡ Some f → make_answer v other time payload sig ≡ answer.Refused f
   unfolding make_draft make_answer
   refused_answer sig f refuses =
-      ap (λ (o : Option MakeFault). made_or (option_or o (option_or (collision_rule (graph_of v) (made_row v.start.own (graph_of v) other time payload sig)) (room_rule (graph_of v)))) (length (graph_of v))) refuses
+      ap (λ (o : Option MakeFault). made_or (option_or o (option_or (collision_rule (node_rows v) (made_row v.start.own (node_rows v) other time payload sig)) (room_rule (node_rows v)))) (length (node_rows v))) refuses
 
   refused_changes : (sig : List ℕ) (f : MakeFault) → make_draft v other payload ≡ Some f → make_changes v other time payload sig ≡ []
   unfolding make_changes
-  refused_changes sig f refuses = ap (λ (a : MakeAnswer). made_by a (made_row v.start.own (graph_of v) other time payload sig)) (refused_answer sig f refuses)
+  refused_changes sig f refuses = ap (λ (a : MakeAnswer). made_by a (made_row v.start.own (node_rows v) other time payload sig)) (refused_answer sig f refuses)
 
-module _ {K : Type 0} (accepts : K → Accepts) (sign : ℕ → List ℕ → List ℕ) (old new : Shown K) (other : Option (List ℕ)) (time : ℕ) (payload : List ℕ) (answered : MakeAnswer)
+module _ {K : Type 0} (accepts : K → Accepts) (sign : ℕ → List ℕ → List ℕ) (old new : NodeView K) (other : Option (List ℕ)) (time : ℕ) (payload : List ℕ) (answered : MakeAnswer)
     (one : AcceptOne accepts old.start.keys sign) (making : IsMaking accepts old other time payload answered new) where
   by_draft : (draft : Option MakeFault) → make_draft old other payload ≡ draft →
       (answered ≡ make_answer old other time payload (signature_made sign old other time payload))

@@ -1,4 +1,4 @@
--- What the publishing of fame leaves recorded
+-- What the publishing of fame leaves chronicle_view
 use Rattle.std.proofs.Common.{◌≡◌, ℕ, ◌≤◌, Bool, true, false, cond, eqb, List, [], ◌∷◌, ◌++◌, length, refl, sym, ap, ap₂, ◌∙◌, subst, arith}
 use Rattle.std.proofs.lemmas.Bool.{eqb-true}
 use Rattle.std.proofs.lemmas.List.{append-nil}
@@ -10,95 +10,95 @@ use Rattle.hg_model.specs.Fame.{Marks}
 use Rattle.hg_model.specs.Shares.{Share, Speaks, whole}
 use Rattle.hg_model.specs.History.{Change, State, Accepts, news, with_marks}
 use Rattle.hg_model.specs.History.Change.{Marked}
-use Rattle.hg_model.specs.Shown.{Shown, with_changes, state_of, graph_of, IsNode}
+use Rattle.hg_model.specs.NodeView.{NodeView, with_changes, node_state, node_rows, IsNode}
 use Rattle.hg_model.specs.Calls.{publish_answer, publish_changes, settle_changes}
 use Rattle.hg_history.specs.Laws.{IsSettled}
 use Rattle.hg_history.proofs.NodeLaws.{settles_all}
 use Rattle.hg_history.proofs.StateLaws.{IsEven, even_after}
 use Rattle.hg_history.proofs.CallLaws.{with_none, publishes_leave_a_node}
-use Rattle.hg_node.specs.Recorded.{Recorded, recorded, recorded_news, news_in, state_in, shown, IsRecorded}
+use Rattle.hg_node.specs.ChronicleView.{ChronicleView, chronicle_view, chronicle_news, news_in, chronicle_state, node_view, IsRecorded}
 use Rattle.hg_node.proofs.NewsLaws.{same_marks}
 use Rattle.hg_node.proofs.RecordLaws.{state_is, recorded_by, shown_after, recorded_after}
 
 -- what a node becomes that publishes
-pub record IsPublishing {K : Type 0} (accepts : K → Accepts) (v w : Shown K) (s : Recorded) (len : ℕ) (share : Share) : Type 0 where
-  pub recorded : IsRecorded accepts w s
+pub record IsPublishing {K : Type 0} (accepts : K → Accepts) (v w : NodeView K) (s : ChronicleView) (len : ℕ) (share : Share) : Type 0 where
+  pub chronicle_view : IsRecorded accepts w s
   pub grown : w ≡ with_changes v (publish_changes v len share)
 
-module _ {K : Type 0} (accepts : K → Accepts) (keys : K) (r : Recorded) (is : IsRecorded accepts (shown keys r) r) (len : ℕ) (share : Share) where
-  v : Shown K
-  v = shown keys r
+module _ {K : Type 0} (accepts : K → Accepts) (keys : K) (r : ChronicleView) (is : IsRecorded accepts (node_view keys r) r) (len : ℕ) (share : Share) where
+  v : NodeView K
+  v = node_view keys r
 
-  pub answer_is : news_in r len share ≡ publish_answer (shown keys r) len share
+  pub answer_is : news_in r len share ≡ publish_answer (node_view keys r) len share
   unfolding publish_answer
   answer_is = ap (λ (s : State). news r.graph.members r.graph.coin s len share) (sym (state_is accepts keys r is))
 
-  even : IsEven (state_in r)
-  even = subst IsEven (state_is accepts keys r is) (even_after r.graph.members r.graph.coin (shown keys r).history)
+  even : IsEven (chronicle_state r)
+  even = subst IsEven (state_is accepts keys r is) (even_after r.graph.members r.graph.coin (node_view keys r).history)
 
   -- with a log and marks
-  logged : List Entry → Marks → Recorded
-  logged log marks = recorded r.own r.balances r.graph log marks
+  logged : List Entry → Marks → ChronicleView
+  logged log marks = chronicle_view r.own r.balances r.graph log marks
 
-  changes_are : (b : Bool) → eqb (news_in r len share) 0 ≡ b → publish_changes (shown keys r) len share ≡ cond b [] (Marked len share ∷ [])
+  changes_are : (b : Bool) → eqb (news_in r len share) 0 ≡ b → publish_changes (node_view keys r) len share ≡ cond b [] (Marked len share ∷ [])
   unfolding publish_changes
   changes_are b is_b = ap (λ (k : ℕ). cond (eqb k 0) [] (Marked len share ∷ [])) (sym answer_is) ∙ ap (λ (d : Bool). cond d [] (Marked len share ∷ [])) is_b
 
-  none_published : len ≤ length r.graph.rows → eqb (news_in r len share) 0 ≡ true → r ≡ recorded_news r len share
+  none_published : len ≤ length r.graph.rows → eqb (news_in r len share) 0 ≡ true → r ≡ chronicle_news r len share
   unfolding logged
   none_published within none =
       sym (ap₂ logged (ap (λ (d : Bool). r.log ++ cond d [] (entry.Marked len share ∷ [])) none ∙ append-nil r.log)
-      (same_marks r.graph.members r.graph.coin (state_in r) even len share within (eqb-true (news_in r len share) 0 none)))
+      (same_marks r.graph.members r.graph.coin (chronicle_state r) even len share within (eqb-true (news_in r len share) 0 none)))
 
-  some_published : eqb (news_in r len share) 0 ≡ false → recorded_by r (Marked len share) (entry.Marked len share) ≡ recorded_news r len share
+  some_published : eqb (news_in r len share) 0 ≡ false → recorded_by r (Marked len share) (entry.Marked len share) ≡ chronicle_news r len share
   unfolding logged
   some_published some =
-      sym (ap (λ (log : List Entry). logged log (with_marks r.graph.members r.graph.coin (state_in r) len share).marks)
+      sym (ap (λ (log : List Entry). logged log (with_marks r.graph.members r.graph.coin (chronicle_state r) len share).marks)
       (ap (λ (d : Bool). r.log ++ cond d [] (entry.Marked len share ∷ [])) some))
 
   publishing_by : (b : Bool) → eqb (news_in r len share) 0 ≡ b → len ≤ length r.graph.rows →
-      IsPublishing accepts (shown keys r) (shown keys (recorded_news r len share)) (recorded_news r len share) len share
+      IsPublishing accepts (node_view keys r) (node_view keys (chronicle_news r len share)) (chronicle_news r len share) len share
   publishing_by true none within =
-      subst (λ (s : Recorded). IsPublishing accepts (shown keys r) (shown keys s) s len share) (none_published within none)
-      (record { recorded = is; grown = sym (with_none (shown keys r) (publish_changes (shown keys r) len share) (changes_are true none)) })
+      subst (λ (s : ChronicleView). IsPublishing accepts (node_view keys r) (node_view keys s) s len share) (none_published within none)
+      (record { chronicle_view = is; grown = sym (with_none (node_view keys r) (publish_changes (node_view keys r) len share) (changes_are true none)) })
   publishing_by false some within =
       let changes = changes_are false some in
-      let low : len ≤ length (graph_of (shown keys r)) = subst (λ (G : List Row). len ≤ length G) (sym is.rows) within in
-      let node = subst (λ (es : List Change). IsNode accepts (with_changes (shown keys r) es)) changes (publishes_leave_a_node K accepts (shown keys r) len share low is.node) in
-      subst (λ (s : Recorded). IsPublishing accepts (shown keys r) (shown keys s) s len share) (some_published some)
+      let low : len ≤ length (node_rows (node_view keys r)) = subst (λ (G : List Row). len ≤ length G) (sym is.rows) within in
+      let node = subst (λ (es : List Change). IsNode accepts (with_changes (node_view keys r) es)) changes (publishes_leave_a_node K accepts (node_view keys r) len share low is.node) in
+      subst (λ (s : ChronicleView). IsPublishing accepts (node_view keys r) (node_view keys s) s len share) (some_published some)
       (record {
-        recorded = recorded_after accepts keys r (Marked len share) (entry.Marked len share) refl is node;
-        grown = sym (ap (with_changes (shown keys r)) changes ∙ shown_after accepts keys r (Marked len share) (entry.Marked len share) refl is);
+        chronicle_view = recorded_after accepts keys r (Marked len share) (entry.Marked len share) refl is node;
+        grown = sym (ap (with_changes (node_view keys r)) changes ∙ shown_after accepts keys r (Marked len share) (entry.Marked len share) refl is);
       })
 
-  module _ (found : List (ℕ × Bool)) (speaks : Speaks r.graph.members r.graph.coin (state_of (shown keys r)).rows (state_of (shown keys r)).links len share found) where
+  module _ (found : List (ℕ × Bool)) (speaks : Speaks r.graph.members r.graph.coin (node_state (node_view keys r)).rows (node_state (node_view keys r)).links len share found) where
     pub speaks_in : Speaks r.graph.members r.graph.coin r.graph.rows (links r.graph.rows) len share found
     speaks_in = subst (λ (s : State). Speaks r.graph.members r.graph.coin s.rows s.links len share found) (state_is accepts keys r is) speaks
 
-    pub published : (s : Recorded) → s ≡ recorded_news r len share → IsPublishing accepts (shown keys r) (shown keys s) s len share
+    pub published : (s : ChronicleView) → s ≡ chronicle_news r len share → IsPublishing accepts (node_view keys r) (node_view keys s) s len share
     published s grown =
-        subst (λ (t : Recorded). IsPublishing accepts (shown keys r) (shown keys t) t len share) (sym grown)
+        subst (λ (t : ChronicleView). IsPublishing accepts (node_view keys r) (node_view keys t) t len share) (sym grown)
         (publishing_by (eqb (news_in r len share) 0) refl speaks_in.within)
 
 -- what a node becomes that settles
-pub record IsSettling {K : Type 0} (accepts : K → Accepts) (v w : Shown K) (s : Recorded) : Type 0 where
-  pub recorded : IsRecorded accepts w s
+pub record IsSettling {K : Type 0} (accepts : K → Accepts) (v w : NodeView K) (s : ChronicleView) : Type 0 where
+  pub chronicle_view : IsRecorded accepts w s
   pub grown : w ≡ with_changes v (settle_changes v)
   pub settled : IsSettled v w
 
-module _ {K : Type 0} (accepts : K → Accepts) (keys : K) (r : Recorded) (is : IsRecorded accepts (shown keys r) r) (s : Recorded) where
+module _ {K : Type 0} (accepts : K → Accepts) (keys : K) (r : ChronicleView) (is : IsRecorded accepts (node_view keys r) r) (s : ChronicleView) where
   -- what was found is that of the whole graph
-  pub settling : (len : ℕ) (share : Share) → len ≡ length r.graph.rows → share ≡ whole → s ≡ recorded_news r len share → IsSettling accepts (shown keys r) (shown keys s) s
+  pub settling : (len : ℕ) (share : Share) → len ≡ length r.graph.rows → share ≡ whole → s ≡ chronicle_news r len share → IsSettling accepts (node_view keys r) (node_view keys s) s
   settling len share all one grown =
-      let v : Shown K = shown keys r in
-      let first : s ≡ recorded_news r (length r.graph.rows) whole = grown ∙ ap₂ (recorded_news r) all one in
-      let is_published : IsPublishing accepts v (shown keys s) s (length r.graph.rows) whole =
-      subst (λ (t : Recorded). IsPublishing accepts v (shown keys t) t (length r.graph.rows) whole) (sym first)
+      let v : NodeView K = node_view keys r in
+      let first : s ≡ chronicle_news r (length r.graph.rows) whole = grown ∙ ap₂ (chronicle_news r) all one in
+      let is_published : IsPublishing accepts v (node_view keys s) s (length r.graph.rows) whole =
+      subst (λ (t : ChronicleView). IsPublishing accepts v (node_view keys t) t (length r.graph.rows) whole) (sym first)
       (publishing_by accepts keys r is (length r.graph.rows) whole (eqb (news_in r (length r.graph.rows) whole) 0) refl (omega arith)) in
-      let grown' : shown keys s ≡ with_changes v (settle_changes v) =
+      let grown' : node_view keys s ≡ with_changes v (settle_changes v) =
       is_published.grown ∙ ap (λ (G : List Row). with_changes v (publish_changes v (length G) whole)) (sym is.rows) in
       record {
-        recorded = is_published.recorded;
+        chronicle_view = is_published.chronicle_view;
         grown = grown';
         settled = subst (IsSettled v) (sym grown') (settles_all K accepts v is.node);
       }

@@ -12,7 +12,7 @@ use Rattle.hg_model.specs.Reading.{read_event}
 use Rattle.hg_model.specs.Verdict.{row_limit, verdict_of, row_verdict, arrival_rule}
 use Rattle.hg_model.specs.History.{Change, Accepts}
 use Rattle.hg_model.specs.History.Change.{Took}
-use Rattle.hg_model.specs.Shown.{Shown, with_changes, graph_of, IsNode}
+use Rattle.hg_model.specs.NodeView.{NodeView, with_changes, node_rows, IsNode}
 use Rattle.hg_model.specs.Calls.{put_answer, put_changes, taken_by, taken_from}
 use Rattle.hg_model.proofs.RuleLaws.{option_or_none, has_room}
 use Rattle.hg_event.proofs.Reading.{AreBytes}
@@ -20,92 +20,92 @@ use Rattle.hg_history.proofs.RuleLaws.{rule_accepts_none}
 use Rattle.hg_history.proofs.CallLaws.{with_none, other_puts_add_none, puts_leave_a_node}
 use Rattle.hg_history.proofs.SoundLaws.{sound}
 use Rattle.hg_node.specs.Arrival.{all_rules}
-use Rattle.hg_node.specs.Recorded.{Recorded, recorded_with, shown, IsRecorded}
+use Rattle.hg_node.specs.ChronicleView.{ChronicleView, chronicle_with, node_view, IsRecorded}
 use Rattle.hg_node.proofs.RecordLaws.{shown_after, recorded_after}
 
 -- what a node becomes that takes the row
-pub record IsTaking {K : Type 0} (accepts : K → Accepts) (v w : Shown K) (r : Recorded) (row : Row) (bytes : List ℕ) : Type 0 where
+pub record IsTaking {K : Type 0} (accepts : K → Accepts) (v w : NodeView K) (r : ChronicleView) (row : Row) (bytes : List ℕ) : Type 0 where
   pub answer : put_answer accepts v bytes ≡ Accepted (length r.graph.rows)
   pub grown : w ≡ with_changes v (put_changes accepts v bytes)
-  pub recorded : IsRecorded accepts w (recorded_with r row (entry.Took (length r.graph.rows)))
+  pub recorded : IsRecorded accepts w (chronicle_with r row (entry.Took (length r.graph.rows)))
   pub graph : IsGraph r.graph.members (r.graph.rows ++ row ∷ [])
   pub limit : length r.graph.rows < row_limit
 
 -- what a put left recorded, and answered
-pub record IsPut {K E : Type 0} (accepts : K → Accepts) (v w : Shown K) (s : Recorded) (bytes : List ℕ) (result : Result PutAnswer E) : Type 0 where
+pub record IsPut {K E : Type 0} (accepts : K → Accepts) (v w : NodeView K) (s : ChronicleView) (bytes : List ℕ) (result : Result PutAnswer E) : Type 0 where
   pub recorded : IsRecorded accepts w s
   pub answer : IfOk result (λ a. a ≡ put_answer accepts v bytes)
   pub ok : OnOk result (w ≡ with_changes v (put_changes accepts v bytes))
-  pub free : OnErr result (put_answer accepts v bytes ≡ Accepted (length (graph_of v)))
+  pub free : OnErr result (put_answer accepts v bytes ≡ Accepted (length (node_rows v)))
 
 -- the rows of what is recorded are a graph
-pub recorded_graph : {K : Type 0} (accepts : K → Accepts) (keys : K) (r : Recorded) → IsRecorded accepts (shown keys r) r → IsGraph r.graph.members r.graph.rows
+pub recorded_graph : {K : Type 0} (accepts : K → Accepts) (keys : K) (r : ChronicleView) → IsRecorded accepts (node_view keys r) r → IsGraph r.graph.members r.graph.rows
 recorded_graph accepts keys r is =
     subst (λ (G : List Row). IsGraph r.graph.members G) is.rows
-    (sound (accepts keys) r.graph.members r.graph.coin r.own (shown keys r).history is.node.coin is.node.history).graph
+    (sound (accepts keys) r.graph.members r.graph.coin r.own (node_view keys r).history is.node.coin is.node.history).graph
 
 -- bytes that are no event's
-pub put_faulty : {K : Type 0} (accepts : K → Accepts) (v : Shown K) (bytes : List ℕ) (e : ByteFault) → read_event bytes ≡ Err e →
+pub put_faulty : {K : Type 0} (accepts : K → Accepts) (v : NodeView K) (bytes : List ℕ) (e : ByteFault) → read_event bytes ≡ Err e →
     (Refused (fault.Bytes e) ≡ put_answer accepts v bytes) × (v ≡ with_changes v (put_changes accepts v bytes))
 unfolding put_answer put_changes
 put_faulty accepts v bytes e read = (
-  sym (ap (verdict_of (accepts v.start.keys) v.start.members v.start.own (graph_of v)) read),
+  sym (ap (verdict_of (accepts v.start.keys) v.start.members v.start.own (node_rows v)) read),
   sym (with_none v (put_changes accepts v bytes) (ap (taken_from accepts v) read)),
 )
 
-module _ {K : Type 0} (accepts : K → Accepts) (keys : K) (r : Recorded) (bytes : List ℕ) (is : IsRecorded accepts (shown keys r) r) where
+module _ {K : Type 0} (accepts : K → Accepts) (keys : K) (r : ChronicleView) (bytes : List ℕ) (is : IsRecorded accepts (node_view keys r) r) where
   abbrev rules : Row → Option PutAnswer
   rules row = all_rules (accepts keys) r.graph.members r.own r.graph.rows row
 
   module _ (row : Row) (read : read_event bytes ≡ Ok row) where
-    answer_by : put_answer accepts (shown keys r) bytes ≡ unwrap_or (rules row) (Accepted (length r.graph.rows))
+    answer_by : put_answer accepts (node_view keys r) bytes ≡ unwrap_or (rules row) (Accepted (length r.graph.rows))
     unfolding put_answer
     answer_by =
-        ap (verdict_of (accepts keys) r.graph.members r.own (graph_of (shown keys r))) read
+        ap (verdict_of (accepts keys) r.graph.members r.own (node_rows (node_view keys r))) read
         ∙ ap (λ (G : List Row). row_verdict (accepts keys) r.graph.members r.own G row) is.rows
 
     -- against which a rule speaks
     pub put_refused : (a : PutAnswer) → Some a ≡ rules row →
-        (a ≡ put_answer accepts (shown keys r) bytes) × (shown keys r ≡ with_changes (shown keys r) (put_changes accepts (shown keys r) bytes))
+        (a ≡ put_answer accepts (node_view keys r) bytes) × (node_view keys r ≡ with_changes (node_view keys r) (put_changes accepts (node_view keys r) bytes))
     put_refused a speaks =
-        let answer : put_answer accepts (shown keys r) bytes ≡ a = answer_by ∙ ap (λ (o : Option PutAnswer). unwrap_or o (Accepted (length r.graph.rows))) (sym speaks) in (
+        let answer : put_answer accepts (node_view keys r) bytes ≡ a = answer_by ∙ ap (λ (o : Option PutAnswer). unwrap_or o (Accepted (length r.graph.rows))) (sym speaks) in (
           sym answer,
-          sym (with_none (shown keys r) (put_changes accepts (shown keys r) bytes)
-              (other_puts_add_none K accepts (shown keys r) bytes (λ place accepted. rule_accepts_none (accepts keys) r.graph.members r.own r.graph.rows row a place (sym speaks) (sym answer ∙ accepted)))),
+          sym (with_none (node_view keys r) (put_changes accepts (node_view keys r) bytes)
+              (other_puts_add_none K accepts (node_view keys r) bytes (λ place accepted. rule_accepts_none (accepts keys) r.graph.members r.own r.graph.rows row a place (sym speaks) (sym answer ∙ accepted)))),
         )
 
     -- against which none does
-    pub put_taken : AreBytes bytes → None ≡ rules row → IsTaking accepts (shown keys r) (shown keys (recorded_with r row (entry.Took (length r.graph.rows)))) r row bytes
+    pub put_taken : AreBytes bytes → None ≡ rules row → IsTaking accepts (node_view keys r) (node_view keys (chronicle_with r row (entry.Took (length r.graph.rows)))) r row bytes
     unfolding put_changes
     put_taken fit silent =
-        let answer : put_answer accepts (shown keys r) bytes ≡ Accepted (length r.graph.rows) = answer_by ∙ ap (λ (o : Option PutAnswer). unwrap_or o (Accepted (length r.graph.rows))) (sym silent) in
-        let by_row : row_verdict (accepts keys) r.graph.members r.own (graph_of (shown keys r)) row ≡ Accepted (length r.graph.rows) =
+        let answer : put_answer accepts (node_view keys r) bytes ≡ Accepted (length r.graph.rows) = answer_by ∙ ap (λ (o : Option PutAnswer). unwrap_or o (Accepted (length r.graph.rows))) (sym silent) in
+        let by_row : row_verdict (accepts keys) r.graph.members r.own (node_rows (node_view keys r)) row ≡ Accepted (length r.graph.rows) =
         ap (λ (G : List Row). row_verdict (accepts keys) r.graph.members r.own G row) is.rows ∙ ap (λ (o : Option PutAnswer). unwrap_or o (Accepted (length r.graph.rows))) (sym silent) in
-        let events : put_changes accepts (shown keys r) bytes ≡ Took row ∷ [] = ap (taken_from accepts (shown keys r)) read ∙ ap (λ (a : PutAnswer). taken_by a row) by_row in
-        let node = subst (λ (es : List Change). IsNode accepts (with_changes (shown keys r) es)) events (puts_leave_a_node K accepts (shown keys r) bytes fit is.node) in
+        let events : put_changes accepts (node_view keys r) bytes ≡ Took row ∷ [] = ap (taken_from accepts (node_view keys r)) read ∙ ap (λ (a : PutAnswer). taken_by a row) by_row in
+        let node = subst (λ (es : List Change). IsNode accepts (with_changes (node_view keys r) es)) events (puts_leave_a_node K accepts (node_view keys r) bytes fit is.node) in
         let recorded = recorded_after accepts keys r (Took row) (entry.Took (length r.graph.rows)) refl is node in
         let rest = (option_or_none (arrival_rule (accepts keys) r.graph.members r.own r.graph.rows row) _ (sym silent)).1 in
         record {
           answer = answer;
-          grown = sym (ap (with_changes (shown keys r)) events ∙ shown_after accepts keys r (Took row) (entry.Took (length r.graph.rows)) refl is);
+          grown = sym (ap (with_changes (node_view keys r)) events ∙ shown_after accepts keys r (Took row) (entry.Took (length r.graph.rows)) refl is);
           recorded = recorded;
-          graph = recorded_graph accepts keys (recorded_with r row (entry.Took (length r.graph.rows))) recorded;
+          graph = recorded_graph accepts keys (chronicle_with r row (entry.Took (length r.graph.rows))) recorded;
           limit = has_room r.graph.members r.graph.rows row rest;
         }
 
     -- and what is left, whether there was memory for the row or not
-    pub put_ends : {E : Type 0} (result : Result PutAnswer E) (s : Recorded) → AreBytes bytes → None ≡ rules row →
-        IfOk result (λ a. a ≡ Accepted (length r.graph.rows)) → OnOk result (s ≡ recorded_with r row (entry.Took (length r.graph.rows))) → OnErr result (s ≡ r) → IsPut accepts (shown keys r) (shown keys s) s bytes result
+    pub put_ends : {E : Type 0} (result : Result PutAnswer E) (s : ChronicleView) → AreBytes bytes → None ≡ rules row →
+        IfOk result (λ a. a ≡ Accepted (length r.graph.rows)) → OnOk result (s ≡ chronicle_with r row (entry.Took (length r.graph.rows))) → OnErr result (s ≡ r) → IsPut accepts (node_view keys r) (node_view keys s) s bytes result
     put_ends (Ok a) s fit silent answer ok err =
         let taking = put_taken fit silent in
         record {
-          recorded = subst (λ (t : Recorded). IsRecorded accepts (shown keys t) t) (sym ok) taking.recorded;
+          recorded = subst (λ (t : ChronicleView). IsRecorded accepts (node_view keys t) t) (sym ok) taking.recorded;
           answer = answer ∙ sym taking.answer;
-          ok = ap (shown keys) ok ∙ taking.grown;
+          ok = ap (node_view keys) ok ∙ taking.grown;
           free = tt;
         }
     put_ends (Err e) s fit silent answer ok err = record {
-      recorded = subst (λ (t : Recorded). IsRecorded accepts (shown keys t) t) (sym err) is;
+      recorded = subst (λ (t : ChronicleView). IsRecorded accepts (node_view keys t) t) (sym err) is;
       answer = tt;
       ok = tt;
       free = (put_taken fit silent).answer ∙ ap (λ (G : List Row). Accepted (length G)) (sym is.rows);

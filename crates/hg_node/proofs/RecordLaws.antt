@@ -1,11 +1,11 @@
--- A change of the history is recorded: one row and one entry more
+-- A change of the history is chronicle_view: one row and one entry more
 use Rattle.std.proofs.Common.{◌≡◌, ℕ, suc, ◌<◌, List, [], ◌∷◌, ◌++◌, length, fold, refl, sym, ap, ap₂, ◌∙◌, subst, arith}
 use Rattle.std.proofs.lemmas.List.{length_push}
 use Rattle.std.proofs.lemmas.List.{length-map}
 use Rattle.hg_model.specs.declared.members.MemberEntry.{MemberEntry}
 use Rattle.hg_model.specs.declared.row.Row.{Row}
 use Rattle.hg_model.specs.Members.{MemberList, IsMemberList}
-use Rattle.hg_model.specs.Prefix.{graph_of as prefix_of}
+use Rattle.hg_model.specs.Prefix.{graph_of}
 use Rattle.hg_model.specs.declared.entry.Entry.{Entry}
 use Rattle.hg_model.specs.declared.entry.Entry.TheVariants as entry
 use Rattle.hg_model.specs.History.{Change, State, Accepts, empty, step, replay, with_row, with_marks}
@@ -14,11 +14,11 @@ use Rattle.hg_model.specs.Links.{Link, links}
 use Rattle.hg_model.specs.Fame.{Marks}
 use Rattle.hg_model.specs.Kept.{kept}
 use Rattle.hg_model.specs.Pay.{book_of}
-use Rattle.hg_model.specs.Shown.{Shown, with_changes, state_of, graph_of, marks_of, book_kept, log_from, history_of, IsNode}
+use Rattle.hg_model.specs.NodeView.{NodeView, with_changes, node_state, node_rows, node_marks, book_kept, log_from, history_of, IsNode}
 use Rattle.hg_history.proofs.StateLaws.{replay-push}
 use Rattle.hg_history.proofs.SoundLaws.{sound}
-use Rattle.hg_history.proofs.LogLaws.{log_tells_history}
-use Rattle.hg_node.specs.Recorded.{Recorded, recorded, nothing, book_in, state_in, shown, IsRecorded}
+use Rattle.hg_history.proofs.LogLaws.{log_spells_history}
+use Rattle.hg_node.specs.ChronicleView.{ChronicleView, chronicle_view, no_chronicle, book_in, chronicle_state, node_view, IsRecorded}
 
 module _ (n c : ℕ) where
   next : (s : State) (row : Row) → suc (length s.rows) ≡ length (s.rows ++ row ∷ [])
@@ -44,38 +44,38 @@ module _ (n c : ℕ) where
 abbrev state_with : List Row → List Link → Marks → State
 state_with G L marks = record { rows = G; links = L; marks = marks }
 
--- what is recorded is the state of the node
-pub state_is : {K : Type 0} (accepts : K → Accepts) (keys : K) (r : Recorded) → IsRecorded accepts (shown keys r) r → state_of (shown keys r) ≡ state_in r
+-- what is chronicle_view is the state of the node
+pub state_is : {K : Type 0} (accepts : K → Accepts) (keys : K) (r : ChronicleView) → IsRecorded accepts (node_view keys r) r → node_state (node_view keys r) ≡ chronicle_state r
 state_is accepts keys r is =
-    let v = shown keys r in
+    let v = node_view keys r in
     let now = sound (accepts keys) r.graph.members r.graph.coin r.own v.history is.node.coin is.node.history in
-    ap (λ (L : List Link). state_with (graph_of v) L (marks_of v)) (now.linked ∙ ap links is.rows)
+    ap (λ (L : List Link). state_with (node_rows v) L (node_marks v)) (now.linked ∙ ap links is.rows)
     ∙ ap₂ (λ (G : List Row) (marks : Marks). state_with G (links r.graph.rows) marks) is.rows is.marks
 
 -- and its book is that of the node
-pub book_is : {K : Type 0} (accepts : K → Accepts) (keys : K) (r : Recorded) → IsRecorded accepts (shown keys r) r → book_kept (shown keys r) ≡ book_in r
+pub book_is : {K : Type 0} (accepts : K → Accepts) (keys : K) (r : ChronicleView) → IsRecorded accepts (node_view keys r) r → book_kept (node_view keys r) ≡ book_in r
 book_is accepts keys r is = ap (λ (s : State). book_of r.balances s.rows (kept r.graph.members s)) (state_is accepts keys r is)
 
--- what is recorded once a change has come, which an entry tells
-abbrev pub recorded_by : Recorded → Change → Entry → Recorded
-recorded_by r e told =
-    let s = step r.graph.members r.graph.coin (state_in r) e in
-    recorded r.own r.balances (prefix_of r.graph.members r.graph.coin s.rows) (r.log ++ told ∷ []) s.marks
+-- what is chronicle_view once a change has come, which an entry tells
+abbrev pub recorded_by : ChronicleView → Change → Entry → ChronicleView
+recorded_by r e matches =
+    let s = step r.graph.members r.graph.coin (chronicle_state r) e in
+    chronicle_view r.own r.balances (graph_of r.graph.members r.graph.coin s.rows) (r.log ++ matches ∷ []) s.marks
 
 -- records of a node, a change, and the entry that tells it
-module _ {K : Type 0} (accepts : K → Accepts) (keys : K) (r : Recorded) (e : Change) (told : Entry)
-    (tells : log_from (length r.graph.rows) (e ∷ []) ≡ told ∷ [])
-    (is : IsRecorded accepts (shown keys r) r) where
-  v : Shown K
-  v = shown keys r
+module _ {K : Type 0} (accepts : K → Accepts) (keys : K) (r : ChronicleView) (e : Change) (matches : Entry)
+    (tells : log_from (length r.graph.rows) (e ∷ []) ≡ matches ∷ [])
+    (is : IsRecorded accepts (node_view keys r) r) where
+  v : NodeView K
+  v = node_view keys r
 
-  state_after : replay r.graph.members r.graph.coin (v.history ++ e ∷ []) ≡ step r.graph.members r.graph.coin (state_in r) e
+  state_after : replay r.graph.members r.graph.coin (v.history ++ e ∷ []) ≡ step r.graph.members r.graph.coin (chronicle_state r) e
   unfolding v
   state_after =
       replay-push r.graph.members r.graph.coin v.history e
       ∙ ap (λ (s : State). step r.graph.members r.graph.coin s e) (state_is accepts keys r is)
 
-  log_after : log_from 0 (v.history ++ e ∷ []) ≡ r.log ++ told ∷ []
+  log_after : log_from 0 (v.history ++ e ∷ []) ≡ r.log ++ matches ∷ []
   unfolding v
   log_after =
       log-push r.graph.members r.graph.coin v.history (e ∷ [])
@@ -83,26 +83,26 @@ module _ {K : Type 0} (accepts : K → Accepts) (keys : K) (r : Recorded) (e : C
       ∙ ap (λ (xs : List Entry). r.log ++ xs) tells)
 
   -- then the records tell the node with that change
-  history_after : history_of (step r.graph.members r.graph.coin (state_in r) e).rows (r.log ++ told ∷ []) ≡ v.history ++ e ∷ []
+  history_after : history_of (step r.graph.members r.graph.coin (chronicle_state r) e).rows (r.log ++ matches ∷ []) ≡ v.history ++ e ∷ []
   unfolding v
   history_after =
-      sym (ap₂ history_of (ap (λ (s : State). s.rows) state_after) log_after) ∙ log_tells_history r.graph.members r.graph.coin (v.history ++ e ∷ [])
+      sym (ap₂ history_of (ap (λ (s : State). s.rows) state_after) log_after) ∙ log_spells_history r.graph.members r.graph.coin (v.history ++ e ∷ [])
 
-  pub shown_after : with_changes (shown keys r) (e ∷ []) ≡ shown keys (recorded_by r e told)
+  pub shown_after : with_changes (node_view keys r) (e ∷ []) ≡ node_view keys (recorded_by r e matches)
   unfolding v
   shown_after = ap (λ (h : List Change). at h) (sym history_after)
     where
-      at : List Change → Shown K
-      at h = record { start = (shown keys r).start; history = h }
+      at : List Change → NodeView K
+      at h = record { start = (node_view keys r).start; history = h }
 
-  pub recorded_after : IsNode accepts (with_changes (shown keys r) (e ∷ [])) → IsRecorded accepts (shown keys (recorded_by r e told)) (recorded_by r e told)
+  pub recorded_after : IsNode accepts (with_changes (node_view keys r) (e ∷ [])) → IsRecorded accepts (node_view keys (recorded_by r e matches)) (recorded_by r e matches)
   unfolding v
   recorded_after node =
-      subst (λ (w : Shown K). IsRecorded accepts w (recorded_by r e told)) shown_after
+      subst (λ (w : NodeView K). IsRecorded accepts w (recorded_by r e matches)) shown_after
       (record { node = node; rows = ap (λ (s : State). s.rows) state_after; log = log_after; marks = ap (λ (s : State). s.marks) state_after })
 
 begins : {K : Type 0} (accepts : K → Accepts) (members : MemberList) (own : ℕ) (keys : K) → IsMemberList members → own < length members.entries →
-    IsRecorded accepts (shown keys (nothing members own)) (nothing members own)
+    IsRecorded accepts (node_view keys (no_chronicle members own)) (no_chronicle members own)
 unfolding replay
 begins accepts members own keys lawful member = record {
   node = record {
@@ -116,6 +116,6 @@ begins accepts members own keys lawful member = record {
   marks = refl;
 }
 
-pub recorded_none : {K : Type 0} (accepts : K → Accepts) (members : MemberList) (own : ℕ) (keys : K) (r : Recorded) → IsMemberList members → own < length members.entries →
-    r ≡ nothing members own → IsRecorded accepts (shown keys r) r
+pub recorded_none : {K : Type 0} (accepts : K → Accepts) (members : MemberList) (own : ℕ) (keys : K) (r : ChronicleView) → IsMemberList members → own < length members.entries →
+    r ≡ no_chronicle members own → IsRecorded accepts (node_view keys r) r
 recorded_none accepts members own keys r lawful member is = rw is (begins accepts members own keys lawful member)

@@ -2,7 +2,7 @@
 use Rattle.std.specs.Prelude.{ℕ, ◌≡◌, true, List, Option}
 use Rattle.hg_model.specs.declared.answers.MakeAnswer.{MakeAnswer}
 use Rattle.hg_model.specs.History.{Accepts}
-use Rattle.hg_model.specs.Shown.{Shown, with_changes}
+use Rattle.hg_model.specs.NodeView.{NodeView, with_changes}
 use Rattle.hg_model.specs.Calls.{IsMaking, make_answer, make_changes, make_body}
 
 -- the node's keys accept just what is signed so
@@ -10,12 +10,12 @@ abbrev pub AcceptOne : {K : Type 0} → (K → Accepts) → K → (ℕ → List 
 AcceptOne accepts keys sign = (m : ℕ) (body sig : List ℕ) → accepts keys m body sig ≡ true → sig ≡ sign m body
 
 -- what the node signs then for such an event
-abbrev pub signature_made : {K : Type 0} → (ℕ → List ℕ → List ℕ) → Shown K → Option (List ℕ) → ℕ → List ℕ → List ℕ
+abbrev pub signature_made : {K : Type 0} → (ℕ → List ℕ → List ℕ) → NodeView K → Option (List ℕ) → ℕ → List ℕ → List ℕ
 signature_made sign v other time payload = sign v.start.own (make_body v other time payload)
 
 -- the answer and the node after it are those under that signature
 abbrev pub MakingIsOne : (K : Type 0) → Type 0
-MakingIsOne K = (accepts : K → Accepts) (sign : ℕ → List ℕ → List ℕ) (old new : Shown K) (other : Option (List ℕ)) (time : ℕ) (payload : List ℕ) (answer : MakeAnswer) →
+MakingIsOne K = (accepts : K → Accepts) (sign : ℕ → List ℕ → List ℕ) (old new : NodeView K) (other : Option (List ℕ)) (time : ℕ) (payload : List ℕ) (answer : MakeAnswer) →
     AcceptOne accepts old.start.keys sign → IsMaking accepts old other time payload answer new →
     (answer ≡ make_answer old other time payload (signature_made sign old other time payload))
     × (new ≡ with_changes old (make_changes old other time payload (signature_made sign old other time payload)))

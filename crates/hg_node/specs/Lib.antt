@@ -1,3 +1,3 @@
-pub mod Recorded
+pub mod ChronicleView
 pub mod Arrival
 pub mod Laws

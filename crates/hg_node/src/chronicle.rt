@@ -11,7 +11,7 @@ ghost use Rattle.hg_model.specs.Shares.{Speaks};
 ghost use Rattle.hg_model.specs.Fame.{mark_at};
 ghost use Rattle.hg_model.specs.Order.{last_closed};
 ghost use Rattle.hg_model.specs.Kept.{kept};
-ghost use Rattle.hg_node.specs.Recorded.{book_in, last_place, news_in, nothing, recorded_news, recorded_with, state_in};
+ghost use Rattle.hg_node.specs.ChronicleView.{book_in, last_own_place, news_in, no_chronicle, chronicle_news, chronicle_with, chronicle_state};
 
 use hg_graph::EventGraph;
 use hg_kept::Kept;
@@ -35,11 +35,11 @@ pub struct Chronicle {
 
 impl Model for Chronicle {
     ghost use Rattle.std.specs.Prelude.{vec_capacity};
-    ghost use Rattle.hg_node.specs.Recorded.{Recorded, KeepsBook, KeepsRecord, recorded};
+    ghost use Rattle.hg_node.specs.ChronicleView.{ChronicleView, KeepsBook, KeepsRecord, chronicle_view};
 
-    ghost Value = { Recorded };
+    ghost Value = { ChronicleView };
 
-    ghost view = { λ s. recorded s.own s.ledger.opening s.graph.graph s.log.items s.kept.published.marks };
+    ghost view = { λ s. chronicle_view s.own s.ledger.opening s.graph.graph s.log.items s.kept.published.marks };
 
     ghost invariant = { λ s. KeepsRecord s.own s.graph.graph s.log.items s.kept.published s.last_own (vec_capacity s.log) × KeepsBook s.graph.graph.rows s.kept.published.order s.ledger };
 }
@@ -47,7 +47,7 @@ impl Model for Chronicle {
 impl Chronicle {
     /// No rows and no entries: what the member's node begins with.
     pub fn new(alloc: Global, members: &Members, own: Member) -> Result<Chronicle, Memory>
-        ensures { IfOk result (λ c. c ≡ nothing members.now own) }
+        ensures { IfOk result (λ c. c ≡ no_chronicle members.now own) }
     {
         Ok(Chronicle {
             own,
@@ -73,7 +73,7 @@ impl Chronicle {
 
     /// The place of the last row that the member made.
     pub fn last_own(&self) -> Option<usize>
-        ensures { result ≡ last_place self.now.own self.now.graph.rows }
+        ensures { result ≡ last_own_place self.now.own self.now.graph.rows }
     {
         self.last_own
     }
@@ -107,7 +107,7 @@ impl Chronicle {
         requires spelled { Spells bytes row }
         requires link { link_in self.old.graph.rows row ≡ link_of row.creator parents }
         requires graph { IsGraph self.old.graph.members (self.old.graph.rows ++ row ∷ []) }
-        ensures ok { OnOk result (self.new ≡ recorded_with self.old row entry) }
+        ensures ok { OnOk result (self.new ≡ chronicle_with self.old row entry) }
         ensures err { OnErr result (self.new ≡ self.old) }
     {
         let place = self.graph.len();
@@ -127,7 +127,7 @@ impl Chronicle {
     pub fn publish(&mut self, found: &Found) -> u32
         requires { Speaks self.old.graph.members self.old.graph.coin self.old.graph.rows (links_of self.old.graph) found.now.len found.now.share found.now.marks }
         ensures count { result ≡ news_in self.old found.now.len found.now.share }
-        ensures grown { self.new ≡ recorded_news self.old found.now.len found.now.share }
+        ensures grown { self.new ≡ chronicle_news self.old found.now.len found.now.share }
     {
         let count = self.kept.publish(&self.graph, found);
         self.ledger.pay(&self.graph, self.kept.order());
@@ -150,7 +150,7 @@ impl Chronicle {
 
     /// What the closed rounds have received, in order.
     pub fn kept(&self) -> &[Placed]
-        ensures order { result.now ≡ kept self.now.graph.members (state_in self.now) }
+        ensures order { result.now ≡ kept self.now.graph.members (chronicle_state self.now) }
         ensures places { All (λ (x : Placed). x.place < length self.now.graph.rows) result.now }
     {
         self.kept.order()

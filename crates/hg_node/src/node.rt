@@ -2,7 +2,7 @@ ghost use Rattle.std.specs.Prelude.{◌≡◌, ◌<◌, ◌++◌, ◌∷◌, [],
 ghost use Rattle.hg_model.specs.declared.row.Placed.{Placed};
 ghost use Rattle.hg_event.specs.View.{row_of};
 ghost use Rattle.hg_model.specs.Forks.{forkers};
-ghost use Rattle.hg_model.specs.Prefix.{graph_of as prefix_of};
+ghost use Rattle.hg_model.specs.Prefix.{graph_of};
 ghost use Rattle.hg_model.specs.Rounds.{last_round};
 ghost use Rattle.hg_model.specs.Spelling.{Spells, spelling};
 ghost use Rattle.hg_model.specs.Links.{link_in};
@@ -10,11 +10,11 @@ ghost use Rattle.hg_model.specs.Graph.{IsGraph};
 ghost use Rattle.hg_model.specs.Verdict.{last_name, row_limit};
 ghost use Rattle.hg_model.specs.declared.entry.Entry.TheVariants.{Took};
 ghost use Rattle.hg_model.specs.Shape.{link_of};
-ghost use Rattle.hg_node.specs.Recorded.{recorded_with};
+ghost use Rattle.hg_node.specs.ChronicleView.{chronicle_with};
 ghost use Rattle.hg_model.specs.declared.answers.PutAnswer.TheVariants.{Accepted};
 ghost use Rattle.hg_model.specs.Fame.{mark_at};
 ghost use Rattle.hg_model.specs.Shares.{Speaks};
-ghost use Rattle.hg_model.specs.Shown.{book_kept, graph_of, kept_of, last_closed_of, links_of, log, marks_of, start_of, with_changes, IsNode};
+ghost use Rattle.hg_model.specs.NodeView.{book_kept, node_rows, kept_of, last_closed_of, node_links, log, node_marks, start_of, with_changes, IsNode};
 ghost use Rattle.hg_model.specs.Calls.{IsMaking, make_draft, publish_answer, publish_changes, put_answer, put_changes, settle_changes};
 ghost use Rattle.hg_history.specs.Laws.{IsSettled};
 
@@ -47,20 +47,20 @@ pub struct Node<V: Signer> {
 }
 
 impl<V: Signer> Model for Node<V> {
-    ghost use Rattle.hg_model.specs.Shown.{Shown};
-    ghost use Rattle.hg_node.specs.Recorded.{IsRecorded, shown};
+    ghost use Rattle.hg_model.specs.NodeView.{NodeView};
+    ghost use Rattle.hg_node.specs.ChronicleView.{IsRecorded, node_view};
 
-    ghost Value = { Shown V };
+    ghost Value = { NodeView V };
 
-    ghost view = { λ s. shown s.keys s.chronicle };
+    ghost view = { λ s. node_view s.keys s.chronicle };
 
-    ghost invariant = { λ s. IsRecorded V.accepts (shown s.keys s.chronicle) s.chronicle };
+    ghost invariant = { λ s. IsRecorded V.accepts (node_view s.keys s.chronicle) s.chronicle };
 }
 
 impl<V: Signer> Node<V> {
     ghost use Rattle.hg_model.specs.Links.{links};
-    ghost use Rattle.hg_graph.specs.Stored.{found_place};
-    ghost use Rattle.hg_node.specs.Recorded.{last_place};
+    ghost use Rattle.hg_graph.specs.RowsWithRoom.{found_place};
+    ghost use Rattle.hg_node.specs.ChronicleView.{last_own_place};
 
     /// The node of the member `own`, without rows.
     pub fn new(alloc: Global, members: &Members, own: Member, keys: V) -> Result<Node<V>, Memory>
@@ -84,7 +84,7 @@ impl<V: Signer> Node<V> {
         ensures answer { IfOk result (λ answer. answer ≡ put_answer V.accepts self.old bytes.now) }
         ensures ok { OnOk result (self.new ≡ with_changes self.old (put_changes V.accepts self.old bytes.now)) }
         ensures err { OnErr result (self.new ≡ self.old) }
-        ensures free { OnErr result (put_answer V.accepts self.old bytes.now ≡ Accepted (length (graph_of self.old))) }
+        ensures free { OnErr result (put_answer V.accepts self.old bytes.now ≡ Accepted (length (node_rows self.old))) }
     {
         let view = match decode(bytes) {
             Ok(view) => view,
@@ -132,9 +132,9 @@ impl<V: Signer> Node<V> {
     }
 
     /// Publishes what a share has found in the node's first rows: each found witness without a mark gets it, and what
-    /// is ordered then is paid. Tells how many were marked. Takes no memory.
+    /// is ordered then is paid. Prints how many were marked. Takes no memory.
     pub fn publish(&mut self, found: &Found) -> u32
-        requires { Speaks self.old.start.members self.old.start.coin (graph_of self.old) (links_of self.old) found.now.len found.now.share found.now.marks }
+        requires { Speaks self.old.start.members self.old.start.coin (node_rows self.old) (node_links self.old) found.now.len found.now.share found.now.marks }
         ensures answer { result ≡ publish_answer self.old found.now.len found.now.share }
         ensures grown { self.new ≡ with_changes self.old (publish_changes self.old found.now.len found.now.share) }
     {
@@ -156,7 +156,7 @@ impl<V: Signer> Node<V> {
 
     /// The node's graph as a value of its own, which speaks of its rows whatever comes then.
     pub fn freeze(&self) -> Result<Frozen<BitSight, RoundTable>, Memory>
-        ensures { IfOk result (λ frozen. frozen ≡ prefix_of self.now.start.members self.now.start.coin (graph_of self.now)) }
+        ensures { IfOk result (λ frozen. frozen ≡ graph_of self.now.start.members self.now.start.coin (node_rows self.now)) }
     {
         self.chronicle.graph().freeze()
     }
@@ -164,7 +164,7 @@ impl<V: Signer> Node<V> {
     /// What the closed rounds have received, in order: an order that only grows.
     pub fn kept(&self) -> &[Placed]
         ensures order { result.now ≡ kept_of self.now }
-        ensures places { All (λ (x : Placed). x.place < length (graph_of self.now)) result.now }
+        ensures places { All (λ (x : Placed). x.place < length (node_rows self.now)) result.now }
     {
         self.chronicle.kept()
     }
@@ -193,8 +193,8 @@ impl<V: Signer> Node<V> {
 
     /// Whether the row at a place below the number of rows is a famous witness, if that is published.
     pub fn fame(&self, place: usize) -> Option<bool>
-        requires { place < length (graph_of self.now) }
-        ensures { result ≡ mark_at (marks_of self.now) place }
+        requires { place < length (node_rows self.now) }
+        ensures { result ≡ mark_at (node_marks self.now) place }
     {
         self.chronicle.fame(place)
     }
@@ -208,14 +208,14 @@ impl<V: Signer> Node<V> {
 
     /// The node's graph.
     pub fn graph(&self) -> &EventGraph
-        ensures { result.now.graph ≡ prefix_of self.now.start.members self.now.start.coin (graph_of self.now) }
+        ensures { result.now.graph ≡ graph_of self.now.start.members self.now.start.coin (node_rows self.now) }
     {
         self.chronicle.graph()
     }
 
     /// How many rows there are.
     pub fn rows(&self) -> usize
-        ensures value { result ≡ length (graph_of self.now) }
+        ensures value { result ≡ length (node_rows self.now) }
         ensures node { IsNode V.accepts self.now }
     {
         self.chronicle.graph().len()
@@ -223,51 +223,51 @@ impl<V: Signer> Node<V> {
 
     /// The row at a place below the number of rows.
     pub fn row(&self, place: usize) -> &Row
-        requires { place < length (graph_of self.now) }
-        ensures { slice_get (graph_of self.now) place ≡ Some result.now }
+        requires { place < length (node_rows self.now) }
+        ensures { slice_get (node_rows self.now) place ≡ Some result.now }
     {
         self.chronicle.graph().row(place)
     }
 
     /// The bytes of the row at a place below the number of rows.
     pub fn bytes(&self, place: usize) -> &[u8]
-        requires { place < length (graph_of self.now) }
-        ensures { option_map spelling (slice_get (graph_of self.now) place) ≡ Some result.now }
+        requires { place < length (node_rows self.now) }
+        ensures { option_map spelling (slice_get (node_rows self.now) place) ≡ Some result.now }
     {
         self.chronicle.graph().bytes(place)
     }
 
     /// The place of the row with this name, if there is one.
     pub fn place_of(&self, name: &Name) -> Option<usize>
-        ensures { result ≡ found_place (graph_of self.now) name.now }
+        ensures { result ≡ found_place (node_rows self.now) name.now }
     {
         self.chronicle.graph().place_of(name)
     }
 
     /// The place of the last row that the node made, if it made any.
     pub fn last_own(&self) -> Option<usize>
-        ensures { result ≡ last_place self.now.start.own (graph_of self.now) }
+        ensures { result ≡ last_own_place self.now.start.own (node_rows self.now) }
     {
         self.chronicle.last_own()
     }
 
     /// The name of the last row that the node made, if it made any.
     pub fn last_name(&self) -> Option<Name>
-        ensures { result ≡ last_name self.now.start.own (graph_of self.now) }
+        ensures { result ≡ last_name self.now.start.own (node_rows self.now) }
     {
         self.chronicle.last_name()
     }
 
     /// How many members have a fork.
     pub fn forkers(&self) -> u32
-        ensures { result ≡ forkers self.now.start.members (links (graph_of self.now)) }
+        ensures { result ≡ forkers self.now.start.members (links (node_rows self.now)) }
     {
         self.chronicle.graph().forkers()
     }
 
     /// The greatest round, 0 without rows.
     pub fn greatest(&self) -> u32
-        ensures { result ≡ last_round self.now.start.members (links (graph_of self.now)) }
+        ensures { result ≡ last_round self.now.start.members (links (node_rows self.now)) }
     {
         self.chronicle.graph().greatest()
     }
@@ -302,7 +302,7 @@ fn take(
     requires link { link_in chronicle.old.graph.rows (row_of view.now) ≡ link_of (row_of view.now).creator parents }
     requires graph { IsGraph chronicle.old.graph.members (chronicle.old.graph.rows ++ row_of view.now ∷ []) }
     ensures answer { IfOk result (λ answer. answer ≡ Accepted (length chronicle.old.graph.rows)) }
-    ensures ok { OnOk result (chronicle.new ≡ recorded_with chronicle.old (row_of view.now) (Took (length chronicle.old.graph.rows))) }
+    ensures ok { OnOk result (chronicle.new ≡ chronicle_with chronicle.old (row_of view.now) (Took (length chronicle.old.graph.rows))) }
     ensures err { OnErr result (chronicle.new ≡ chronicle.old) }
 {
     let place = chronicle.graph().len();

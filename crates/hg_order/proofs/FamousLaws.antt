@@ -14,7 +14,7 @@ use Rattle.hg_model.specs.Graph.{IsShaped}
 use Rattle.hg_model.specs.Rounds.{round_of, is_witness}
 use Rattle.hg_model.specs.Fame.{Marks, mark_at, is_yes, is_witness_in, is_famous_in, is_rival, is_unique_famous, is_closed}
 use Rattle.hg_model.specs.Order.{famous_places, can_receive, sig_at, xor_bytes, whitening}
-use Rattle.hg_model.specs.Prefix.{Graph, TellsGraph, links_of}
+use Rattle.hg_model.specs.Prefix.{Graph, IsOfGraph, links_of}
 use Rattle.hg_model.specs.Shape.{Shape}
 use Rattle.hg_model.specs.Standings.{Standing, round_at, witnesses_in}
 use Rattle.hg_model.proofs.StandingLaws.{round_at-standings, witnesses_in-standings}
@@ -114,18 +114,18 @@ famous_at_most g places f s = rw f.are (famous_few g.members (links_of g) f.mark
 
 -- the loop over the witnesses of a round, which a table of standings lists
 
-module _ (shape : Shape) (standings : List Standing) (g : Graph) (told : TellsGraph shape standings g) (s : IsShaped g.members (links_of g)) (marks : Marks) (r : ℕ) where
+module _ (shape : Shape) (standings : List Standing) (g : Graph) (matches : IsOfGraph shape standings g) (s : IsShaped g.members (links_of g)) (marks : Marks) (r : ℕ) where
   witnesses_are : witnesses_in standings r ≡ list_below (λ w. w) (length (links_of g)) (is_witness_in g.members (links_of g) r)
-  witnesses_are = ap (λ ss. witnesses_in ss r) told.standing ∙ witnesses_in-standings g.members (links_of g) r
+  witnesses_are = ap (λ ss. witnesses_in ss r) matches.standing ∙ witnesses_in-standings g.members (links_of g) r
 
   pub witnesses_within : All (λ w. w < length shape.links) (witnesses_in standings r)
   witnesses_within =
       let listed = list_below (λ w. w) (length (links_of g)) (is_witness_in g.members (links_of g) r) in
-      rw told.shaped (All-same (λ w. w < length (links_of g)) (witnesses_in standings r) listed witnesses_are
+      rw matches.shaped (All-same (λ w. w < length (links_of g)) (witnesses_in standings r) listed witnesses_are
       (All-from_recursion (λ w. w < length (links_of g)) listed (all_list_below (λ w. w < length (links_of g)) (λ w. w) (length (links_of g)) (is_witness_in g.members (links_of g) r) (λ w h e. h))))
 
   pub lone_is : filter (is_lone shape.links marks (witnesses_in standings r)) (witnesses_in standings r) ≡ famous_of g marks r
-  lone_is = rw (told.shaped, witnesses_are) (lone_are_famous g.members (links_of g) marks r)
+  lone_is = rw (matches.shaped, witnesses_are) (lone_are_famous g.members (links_of g) marks r)
 
   pub lone_counted : count_by (is_lone shape.links marks (witnesses_in standings r)) (witnesses_in standings r) ≡ length (famous_of g marks r)
   lone_counted = sym (length-filter (is_lone shape.links marks (witnesses_in standings r)) (witnesses_in standings r)) ∙ ap (λ (xs : List ℕ). length xs) lone_is
@@ -137,9 +137,9 @@ module _ (shape : Shape) (standings : List Standing) (g : Graph) (told : TellsGr
 round_of_all : (n : ℕ) (L : List Link) (marks : Marks) (r : ℕ) → AllByRecursion (λ w. (w < length L) × (round_of n L w ≡ r)) (famous_places n L marks r)
 round_of_all n L marks r = famous_all n L marks r (λ w. (w < length L) × (round_of n L w ≡ r)) (λ w h e. (h, round_of_famous n L marks r w e))
 
-pub round_is : (shape : Shape) (standings : List Standing) (g : Graph) → TellsGraph shape standings g → (marks : Marks) (r i d : ℕ) (places : List ℕ) → places ≡ famous_of g marks r → i < length places →
+pub round_is : (shape : Shape) (standings : List Standing) (g : Graph) → IsOfGraph shape standings g → (marks : Marks) (r i d : ℕ) (places : List ℕ) → places ≡ famous_of g marks r → i < length places →
     round_at standings (get_or places i d) ≡ r
-round_is shape standings g told marks r i d places are h =
+round_is shape standings g matches marks r i d places are h =
     let P : ℕ → Type 0 = λ w. (w < length (links_of g)) × (round_of g.members (links_of g) w ≡ r) in
     let here = All-same P places (famous_of g marks r) are (All-from_recursion P (famous_of g marks r) (round_of_all g.members (links_of g) marks r)) i d h in
-    ap (λ ss. round_at ss (get_or places i d)) told.standing ∙ (round_at-standings g.members (links_of g) (get_or places i d) here.0 ∙ here.1)
+    ap (λ ss. round_at ss (get_or places i d)) matches.standing ∙ (round_at-standings g.members (links_of g) (get_or places i d) here.0 ∙ here.1)

@@ -5,15 +5,15 @@ use Rattle.hg_model.specs.declared.row.Row.{Row}
 use Rattle.hg_model.specs.Order.{sig_in, time_in, sig_at, time_at}
 use Rattle.hg_order.specs.Round.{sig_or_zeros, name_or_zeros}
 
-pub time_told : (G : List Row) (x : ℕ) (row : Row) → slice_get G x ≡ Some row → row.time ≡ time_at G x
+pub time_known : (G : List Row) (x : ℕ) (row : Row) → slice_get G x ≡ Some row → row.time ≡ time_at G x
 unfolding time_at
-time_told G x row is = sym (ap time_in is)
+time_known G x row is = sym (ap time_in is)
 
-pub sig_told : (G : List Row) (x : ℕ) (row : Row) → slice_get G x ≡ Some row → row.sig ≡ sig_at G x
+pub sig_known : (G : List Row) (x : ℕ) (row : Row) → slice_get G x ≡ Some row → row.sig ≡ sig_at G x
 unfolding sig_at
-sig_told G x row is = sym (ap sig_in is)
+sig_known G x row is = sym (ap sig_in is)
 
-pub ruleset row_told = (time_told, sig_told)
+pub ruleset row_known = (time_known, sig_known)
 
 -- zeros stand for what is not there
 

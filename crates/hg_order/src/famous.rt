@@ -3,7 +3,7 @@ ghost use Rattle.std.specs.List.{list_any};
 ghost use Rattle.hg_model.specs.Fame.{is_yes, mark_at};
 ghost use Rattle.hg_order.specs.Famous.{famous_of, AreFamous, is_lone, is_rival_to};
 
-use hg_model::{Prefix, Sight, tells_graph};
+use hg_model::{Prefix, Sight, is_of_graph};
 
 /// The unique famous witnesses of round `r` by the marks: their places, in order, to the front of `out`, which has
 /// room for one of each member. It answers how many there are.
@@ -15,7 +15,7 @@ pub fn unique_famous<P: Prefix>(p: &P, marks: &[Option<bool>], r: u32, out: &mut
     ensures famous { AreFamous (P.graph p.now) (take result out.new) }
     ensures fits { result ≤ (P.graph p.now).members }
 {
-    tells_graph(p);
+    is_of_graph(p);
     keep_lone(p, marks, p.witnesses(r), out)
 }
 

@@ -8,72 +8,72 @@ ghost use Rattle.hg_order.specs.Round.{placed_below, placed_in, received_places,
 
 use crate::time::median_time;
 use crate::white::{no_signature, white_cmp, whitening};
-use hg_model::{Name, Placed, Prefix, Sig, tells_graph};
+use hg_model::{Name, Placed, Prefix, Sig, is_of_graph};
 use std::cmp::Ordering;
 
 /// The rows at the places `fresh`, as the round of these unique famous witnesses places them, in order: `out` is as
 /// long as `fresh`. Where `fresh` has just what the round receives, in the order of the places, this is the order of
 /// the round.
-pub fn order_round<P: Prefix>(p: &P, ufw: &[usize], fresh: &[usize], out: &mut [Placed])
-    requires famous { AreFamous (P.graph p.now) ufw.now }
-    requires some { 0 < length fresh.now → 0 < length ufw.now }
-    requires received { AllByRecursion (IsBelowAll (P.graph p.now) ufw.now) fresh.now }
+pub fn order_round<P: Prefix>(p: &P, famous: &[usize], fresh: &[usize], out: &mut [Placed])
+    requires famous { AreFamous (P.graph p.now) famous.now }
+    requires some { 0 < length fresh.now → 0 < length famous.now }
+    requires received { AllByRecursion (IsBelowAll (P.graph p.now) famous.now) fresh.now }
     requires same { length out.old ≡ length fresh.now }
-    ensures placed { (marks : Marks) (r : ℕ) → ufw.now ≡ famous_of (P.graph p.now) marks r → out.new ≡ placed_in (P.graph p.now) marks r fresh.now }
-    ensures whole { (marks : Marks) (r : ℕ) → ufw.now ≡ famous_of (P.graph p.now) marks r → fresh.now ≡ received_places (P.graph p.now) marks r → out.new ≡ received_order (P.graph p.now) marks r }
+    ensures placed { (marks : Marks) (r : ℕ) → famous.now ≡ famous_of (P.graph p.now) marks r → out.new ≡ placed_in (P.graph p.now) marks r fresh.now }
+    ensures whole { (marks : Marks) (r : ℕ) → famous.now ≡ famous_of (P.graph p.now) marks r → fresh.now ≡ received_places (P.graph p.now) marks r → out.new ≡ received_order (P.graph p.now) marks r }
 {
-    tells_graph(p);
-    place_rows(p, ufw, round_of(p, ufw), fresh, out);
-    sort_placed(p, &whitening(p, ufw), out);
+    is_of_graph(p);
+    place_rows(p, famous, round_of(p, famous), fresh, out);
+    sort_placed(p, &whitening(p, famous), out);
 }
 
 /// The round of these unique famous witnesses, or 0 if there is none.
-fn round_of<P: Prefix>(p: &P, ufw: &[usize]) -> u32
-    requires { AreFamous (P.graph p.now) ufw.now }
-    ensures { (marks : Marks) (r : ℕ) → ufw.now ≡ famous_of (P.graph p.now) marks r → 0 < length ufw.now → result ≡ r }
+fn round_of<P: Prefix>(p: &P, famous: &[usize]) -> u32
+    requires { AreFamous (P.graph p.now) famous.now }
+    ensures { (marks : Marks) (r : ℕ) → famous.now ≡ famous_of (P.graph p.now) marks r → 0 < length famous.now → result ≡ r }
 {
-    tells_graph(p);
-    match ufw {
+    is_of_graph(p);
+    match famous {
         [] => 0,
         [first, ..] => p.round(*first),
     }
 }
 
 /// The rows at the places `fresh` as the round places them, in their order.
-fn place_rows<P: Prefix>(p: &P, ufw: &[usize], round: u32, fresh: &[usize], out: &mut [Placed])
-    requires famous { AreFamous (P.graph p.now) ufw.now }
-    requires received { AllByRecursion (IsBelowAll (P.graph p.now) ufw.now) fresh.now }
+fn place_rows<P: Prefix>(p: &P, famous: &[usize], round: u32, fresh: &[usize], out: &mut [Placed])
+    requires famous { AreFamous (P.graph p.now) famous.now }
+    requires received { AllByRecursion (IsBelowAll (P.graph p.now) famous.now) fresh.now }
     requires same { length out.old ≡ length fresh.now }
-    ensures placed { out.new ≡ map (placed_below (P.graph p.now).rows (links_of (P.graph p.now)) ufw.now round) fresh.now }
+    ensures placed { out.new ≡ map (placed_below (P.graph p.now).rows (links_of (P.graph p.now)) famous.now round) fresh.now }
     ensures wide { All (IsWide (P.graph p.now).rows) fresh.now }
 {
     for (i, x) in fresh.iter().enumerate() {
-        out[i] = place_row(p, ufw, round, *x);
+        out[i] = place_row(p, famous, round, *x);
     }
 }
 
 /// Row `x` as the round places it.
-fn place_row<P: Prefix>(p: &P, ufw: &[usize], round: u32, x: usize) -> Placed
-    requires famous { AreFamous (P.graph p.now) ufw.now }
-    requires received { IsBelowAll (P.graph p.now) ufw.now x }
-    ensures placed { result ≡ placed_below (P.graph p.now).rows (links_of (P.graph p.now)) ufw.now round x }
+fn place_row<P: Prefix>(p: &P, famous: &[usize], round: u32, x: usize) -> Placed
+    requires famous { AreFamous (P.graph p.now) famous.now }
+    requires received { IsBelowAll (P.graph p.now) famous.now x }
+    ensures placed { result ≡ placed_below (P.graph p.now).rows (links_of (P.graph p.now)) famous.now round x }
     ensures wide { IsWide (P.graph p.now).rows x }
 {
     is_wide(p, x);
     Placed {
         place: x,
         received: round,
-        time: median_time(p, ufw, x),
+        time: median_time(p, famous, x),
     }
 }
 
 /// A law: the signature of a row has 64 bytes.
-#[tactic(auto, using(crate::proofs::RowLaws::row_told))]
+#[tactic(auto, using(crate::proofs::RowLaws::row_known))]
 fn is_wide<P: Prefix>(p: &P, x: usize)
     requires { x < length (links_of (P.graph p.now)) }
     ensures { IsWide (P.graph p.now).rows x }
 {
-    tells_graph(p);
+    is_of_graph(p);
     is_long(&p.row(x).sig);
 }
 
@@ -123,7 +123,7 @@ fn tie_break_at<P: Prefix>(p: &P, x: usize) -> TieBreak
     ensures sig { result.sig ≡ sig_or_zeros (slice_get (P.graph p.now).rows x) }
     ensures name { result.name ≡ name_or_zeros (slice_get (P.graph p.now).rows x) }
 {
-    tells_graph(p);
+    is_of_graph(p);
     if x < p.rows() {
         let row = p.row(x);
         TieBreak {

@@ -4,19 +4,19 @@ ghost use Rattle.hg_model.specs.Fame.{Marks, is_closed};
 ghost use Rattle.hg_model.specs.Order.{can_receive};
 ghost use Rattle.hg_order.specs.Famous.{famous_of, AreFamous, all_have};
 
-use hg_model::{Prefix, Sight, tells_graph};
+use hg_model::{Prefix, Sight, is_of_graph};
 
 /// Whether all unique famous witnesses of a round have row `x` as ancestor: where the round is closed, whether it can
 /// receive the row.
-pub fn received_in<P: Prefix>(p: &P, ufw: &[usize], x: usize) -> bool
-    requires famous { AreFamous (P.graph p.now) ufw.now }
-    requires some { 0 < length ufw.now }
+pub fn received_in<P: Prefix>(p: &P, famous: &[usize], x: usize) -> bool
+    requires famous { AreFamous (P.graph p.now) famous.now }
+    requires some { 0 < length famous.now }
     requires place { x < length (links_of (P.graph p.now)) }
-    ensures all { result ≡ all_have (links_of (P.graph p.now)) ufw.now x }
-    ensures receives { (marks : Marks) (r : ℕ) → ufw.now ≡ famous_of (P.graph p.now) marks r → is_closed (P.graph p.now).members (links_of (P.graph p.now)) marks r ≡ true → result ≡ can_receive (P.graph p.now).members (links_of (P.graph p.now)) marks x r }
+    ensures all { result ≡ all_have (links_of (P.graph p.now)) famous.now x }
+    ensures receives { (marks : Marks) (r : ℕ) → famous.now ≡ famous_of (P.graph p.now) marks r → is_closed (P.graph p.now).members (links_of (P.graph p.now)) marks r ≡ true → result ≡ can_receive (P.graph p.now).members (links_of (P.graph p.now)) marks x r }
 {
-    tells_graph(p);
-    have_all(p, ufw, x)
+    is_of_graph(p);
+    have_all(p, famous, x)
 }
 
 fn have_all<S: Sight>(sight: &S, places: &[usize], x: usize) -> bool

@@ -7,38 +7,38 @@ ghost use Rattle.hg_model.specs.Graph.{IsShaped};
 ghost use Rattle.hg_model.specs.Order.{consensus_time, median, time_at};
 ghost use Rattle.hg_order.specs.Famous.{famous_of, AreFamous, all_have, first_holder, times_of, IsBelowAll};
 
-use hg_model::{Prefix, Sight, tells_graph};
+use hg_model::{Prefix, Sight, is_of_graph};
 
 /// The consensus timestamp of row `x` by the unique famous witnesses of a round, all of which have it as ancestor.
-pub fn time_of<P: Prefix>(p: &P, ufw: &[usize], x: usize) -> u64
-    requires famous { AreFamous (P.graph p.now) ufw.now }
-    requires received { IsBelowAll (P.graph p.now) ufw.now x }
-    ensures { (marks : Marks) (r : ℕ) → ufw.now ≡ famous_of (P.graph p.now) marks r → result ≡ consensus_time (P.graph p.now).members (P.graph p.now).rows (links_of (P.graph p.now)) marks r x }
+pub fn time_of<P: Prefix>(p: &P, famous: &[usize], x: usize) -> u64
+    requires famous { AreFamous (P.graph p.now) famous.now }
+    requires received { IsBelowAll (P.graph p.now) famous.now x }
+    ensures { (marks : Marks) (r : ℕ) → famous.now ≡ famous_of (P.graph p.now) marks r → result ≡ consensus_time (P.graph p.now).members (P.graph p.now).rows (links_of (P.graph p.now)) marks r x }
 {
-    tells_graph(p);
-    median_time(p, ufw, x)
+    is_of_graph(p);
+    median_time(p, famous, x)
 }
 
 /// The median of the times at which the lines of these witnesses first had row `x` as ancestor.
-pub fn median_time<P: Prefix>(p: &P, ufw: &[usize], x: usize) -> u64
-    requires famous { AreFamous (P.graph p.now) ufw.now }
-    requires received { IsBelowAll (P.graph p.now) ufw.now x }
-    ensures { result ≡ median (times_of (P.graph p.now).rows (links_of (P.graph p.now)) x ufw.now) }
+pub fn median_time<P: Prefix>(p: &P, famous: &[usize], x: usize) -> u64
+    requires famous { AreFamous (P.graph p.now) famous.now }
+    requires received { IsBelowAll (P.graph p.now) famous.now x }
+    ensures { result ≡ median (times_of (P.graph p.now).rows (links_of (P.graph p.now)) x famous.now) }
 {
-    tells_graph(p);
-    median_in(p, ufw, x, &mut [0; 128])
+    is_of_graph(p);
+    median_in(p, famous, x, &mut [0; 128])
 }
 
 /// The same, found in an array of at least as many times as there are witnesses.
-fn median_in<P: Prefix>(p: &P, ufw: &[usize], x: usize, times: &mut [u64]) -> u64
+fn median_in<P: Prefix>(p: &P, famous: &[usize], x: usize, times: &mut [u64]) -> u64
     requires shaped { IsShaped (P.graph p.now).members (links_of (P.graph p.now)) }
-    requires places { All (λ w. w < length (links_of (P.graph p.now))) ufw.now }
-    requires have { IsBelowAll (P.graph p.now) ufw.now x }
-    requires room { length ufw.now ≤ length times.old }
-    ensures { result ≡ median (times_of (P.graph p.now).rows (links_of (P.graph p.now)) x ufw.now) }
+    requires places { All (λ w. w < length (links_of (P.graph p.now))) famous.now }
+    requires have { IsBelowAll (P.graph p.now) famous.now x }
+    requires room { length famous.now ≤ length times.old }
+    ensures { result ≡ median (times_of (P.graph p.now).rows (links_of (P.graph p.now)) x famous.now) }
 {
-    let times = &mut times[..ufw.len()];
-    fill_times(p, ufw, x, times);
+    let times = &mut times[..famous.len()];
+    fill_times(p, famous, x, times);
     median_of(times)
 }
 
@@ -56,7 +56,7 @@ fn fill_times<P: Prefix>(p: &P, places: &[usize], x: usize, times: &mut [u64])
 }
 
 /// The time at which the line of row `w` first had row `x` as ancestor.
-#[tactic(auto, using(crate::proofs::RowLaws::row_told))]
+#[tactic(auto, using(crate::proofs::RowLaws::row_known))]
 fn holder_time<P: Prefix>(p: &P, w: usize, x: usize) -> u64
     requires shaped { IsShaped (P.graph p.now).members (links_of (P.graph p.now)) }
     requires line { w < length (links_of (P.graph p.now)) }
@@ -64,7 +64,7 @@ fn holder_time<P: Prefix>(p: &P, w: usize, x: usize) -> u64
     requires has { is_ancestor (links_of (P.graph p.now)) w x ≡ true }
     ensures { result ≡ time_at (P.graph p.now).rows (first_holder (links_of (P.graph p.now)) x w) }
 {
-    tells_graph(p);
+    is_of_graph(p);
     p.row(first_holder(p, x, w)).time
 }
 

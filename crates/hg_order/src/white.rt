@@ -41,7 +41,7 @@ pub fn no_signature() -> Sig
 }
 
 /// The signatures of these rows, XORed.
-#[tactic(auto, using(crate::proofs::RowLaws::row_told, crate::proofs::WhiteLaws::whitening_steps))]
+#[tactic(auto, using(crate::proofs::RowLaws::row_known, crate::proofs::WhiteLaws::whitening_steps))]
 pub fn whitening<P: Prefix>(p: &P, places: &[usize]) -> Sig
     requires { All (λ w. w < length (P.graph p.now).rows) places.now }
     ensures value { result ≡ whitening_of (P.graph p.now).rows places.now }

@@ -16,7 +16,7 @@ use Rattle.hg_model.specs.declared.row.Placed.{Placed}
 use Rattle.hg_model.specs.declared.pay.Transfer.{Transfer}
 use Rattle.hg_model.specs.declared.pay.Effect.TheVariants as effect
 use Rattle.hg_model.specs.Pay.{Book, Paying, can_pay, moved, pay_one, paid, read_pay, with_payload, with_placed, with_pay, book_of}
-use Rattle.hg_pay.specs.Applied.{Leaves, bits_of, book_with}
+use Rattle.hg_pay.specs.Applied.{Leaves, done_bits, book_with}
 use Rattle.hg_pay.proofs.HasCome.{HasCome}
 
 -- ---- the sum
@@ -86,30 +86,30 @@ length-done balances payer ts = omega (arith, (stays_all payer (at_first balance
 
 -- ---- the bits
 
-bits_below : (done : List Bool) → bits_of done < 2 ^ length done
+bits_below : (done : List Bool) → done_bits done < 2 ^ length done
 bits_below [] = omega arith
 bits_below (true ∷ done) = omega (arith, bits_below done, pow-suc 2 (length done))
 bits_below (false ∷ done) = omega (arith, bits_below done, pow-suc 2 (length done))
 
-bits_push_no : (done : List Bool) → bits_of (done ++ false ∷ []) ≡ bits_of done
+bits_push_no : (done : List Bool) → done_bits (done ++ false ∷ []) ≡ done_bits done
 bits_push_no [] = refl
 bits_push_no (b ∷ done) = ap (λ (n : ℕ). cond b 1 0 + 2 * n) (bits_push_no done)
 
-bits_push_yes : (done : List Bool) → bits_of (done ++ true ∷ []) ≡ bits_of done + 2 ^ length done
+bits_push_yes : (done : List Bool) → done_bits (done ++ true ∷ []) ≡ done_bits done + 2 ^ length done
 bits_push_yes [] = refl
 bits_push_yes (b ∷ done) = omega (arith, bits_push_yes done, pow-suc 2 (length done))
 
-pub bits_set : (done : List Bool) → bit_or (bits_of done) (2 ^ length done) ≡ bits_of (done ++ true ∷ [])
+pub bits_set : (done : List Bool) → bit_or (done_bits done) (2 ^ length done) ≡ done_bits (done ++ true ∷ [])
 bits_set done =
-    let apart : bit_and (bits_of done) (2 ^ length done) ≡ 0 =
-    and_pow (bits_of done) (length done) ∙ rw (bit_at_above (bits_of done) (length done) (length done) (bits_below done) (omega arith)) (omega arith) in
-    or_disjoint (bits_of done) (2 ^ length done) apart ∙ sym (bits_push_yes done)
+    let apart : bit_and (done_bits done) (2 ^ length done) ≡ 0 =
+    and_pow (done_bits done) (length done) ∙ rw (bit_at_above (done_bits done) (length done) (length done) (bits_below done) (omega arith)) (omega arith) in
+    or_disjoint (done_bits done) (2 ^ length done) apart ∙ sym (bits_push_yes done)
 
-bits-mask : (done : List Bool) → bits_of done ≡ mask_l done
+bits-mask : (done : List Bool) → done_bits done ≡ mask_l done
 bits-mask [] = refl
 bits-mask (b ∷ done) = ap (λ (n : ℕ). cond b 1 0 + 2 * n) (bits-mask done)
 
-pub ones_bits : (done : List Bool) → count_ones (bits_of done) ≡ count_by (λ d. d) done
+pub ones_bits : (done : List Bool) → count_ones (done_bits done) ≡ count_by (λ d. d) done
 ones_bits [] = omega (arith, ones_le_self 0)
 ones_bits (b ∷ done) =
     ap count_ones (bits-mask (b ∷ done)) ∙ ones-mask_l_cons b done ∙ ap (λ (n : ℕ). cond b 1 0 + n) (ap count_ones (sym (bits-mask done)) ∙ ones_bits done) ∙ sym (sum_by-cons (λ (d : Bool). cond d 1 0) b done)
@@ -118,7 +118,7 @@ ones_bits (b ∷ done) =
 
 pub none_so_far : (before : List ℕ) (payer : ℕ) → HasCome (paid before payer []) before 0
 unfolding paid
-none_so_far before payer = record { left = refl; told = refl }
+none_so_far before payer = record { left = refl; matches = refl }
 
 pub sum-so_far : (before : List ℕ) (payer : ℕ) (ts : List Transfer) (balances : List ℕ) (done : ℕ) → HasCome (paid before payer ts) balances done → sum balances ≡ sum before
 sum-so_far before payer ts balances done so_far = ap sum so_far.left ∙ sum-paid before payer ts
@@ -126,16 +126,16 @@ sum-so_far before payer ts balances done so_far = ap sum so_far.left ∙ sum-pai
 -- after one of them, done or not
 come_one : (payer : ℕ) (p : Paying) (t : Transfer) (balances after : List ℕ) (bits next i : ℕ) (is_done : Bool) → HasCome p balances bits → length p.done ≡ i → is_done ≡ can_pay balances payer t →
     after ≡ cond is_done (moved balances payer t) balances → next ≡ cond is_done (bit_or bits (2 ^ i)) bits → HasCome (pay_one payer p t) after next
-come_one payer p t balances after bits next i is_done come place done left told =
+come_one payer p t balances after bits next i is_done come place done left matches =
     let same : can_pay p.balances payer t ≡ is_done = ap (λ (b : List ℕ). can_pay b payer t) (sym come.left) ∙ sym done in
     elim (cases_Bool is_done) [
       | inl can ↦ record {
         left = left ∙ rw (same, can) (ap (λ (b : List ℕ). moved b payer t) come.left);
-        told = told ∙ rw (same, can) (ap₂ (λ (b j : ℕ). bit_or b (2 ^ j)) come.told (sym place) ∙ bits_set p.done);
+        matches = matches ∙ rw (same, can) (ap₂ (λ (b j : ℕ). bit_or b (2 ^ j)) come.matches (sym place) ∙ bits_set p.done);
       }
       | inr cannot ↦ record {
         left = left ∙ rw (same, cannot) come.left;
-        told = told ∙ rw (same, cannot) (come.told ∙ sym (bits_push_no p.done));
+        matches = matches ∙ rw (same, cannot) (come.matches ∙ sym (bits_push_no p.done));
       }
     ]
 
@@ -143,22 +143,22 @@ come_one payer p t balances after bits next i is_done come place done left told 
 pub one_more : (before : List ℕ) (payer : ℕ) (ts : List Transfer) (i : ℕ) (t : Transfer) (balances after : List ℕ) (bits next : ℕ) (is_done : Bool) →
     slice_get ts i ≡ Some t → HasCome (paid before payer (take i ts)) balances bits → is_done ≡ can_pay balances payer t →
     after ≡ cond is_done (moved balances payer t) balances → next ≡ cond is_done (bit_or bits (2 ^ i)) bits → HasCome (paid before payer (take (i + 1) ts)) after next
-one_more before payer ts i t balances after bits next is_done found so_far done left told =
+one_more before payer ts i t balances after bits next is_done found so_far done left matches =
     let p = paid before payer (take i ts) in
     let there : i < length ts = slice_get_within ts i t found in
     let more : paid before payer (take (i + 1) ts) ≡ pay_one payer p t = paid_more before payer ts i t there ∙ ap (pay_one payer p) (get_or_from_slice_get ts i t t found) in
     let place : length p.done ≡ i = length-done before payer (take i ts) ∙ length-take-le i ts (omega arith) in
-    subst (λ (q : Paying). HasCome q after next) (sym more) (come_one payer p t balances after bits next i is_done so_far place done left told)
+    subst (λ (q : Paying). HasCome q after next) (sym more) (come_one payer p t balances after bits next i is_done so_far place done left matches)
 
 -- ---- a payload
 
 pub leaves_paid : (balances : List ℕ) (payer : ℕ) (payload : List ℕ) (ts : List Transfer) (after : List ℕ) (done : ℕ) → read_pay payload ≡ Some ts →
-    after ≡ (paid balances payer ts).balances → done ≡ bits_of (paid balances payer ts).done → Leaves balances payer payload after (effect.Paid (count_ones done) (length ts))
+    after ≡ (paid balances payer ts).balances → done ≡ done_bits (paid balances payer ts).done → Leaves balances payer payload after (effect.Paid (count_ones done) (length ts))
 unfolding read_pay
-leaves_paid balances payer [] ts after done read left told effects = absurd cc
-leaves_paid balances payer (b ∷ payload) ts after done read left told effects =
+leaves_paid balances payer [] ts after done read left matches effects = absurd cc
+leaves_paid balances payer (b ∷ payload) ts after done read left matches effects =
     ap (with_pay (book_with balances effects) payer) read
-    ∙ ap₂ (λ (after : List ℕ) (count : ℕ). book_with after (effects ++ effect.Paid count (length ts) ∷ [])) (sym left) (sym (ap count_ones told ∙ ones_bits (paid balances payer ts).done))
+    ∙ ap₂ (λ (after : List ℕ) (count : ℕ). book_with after (effects ++ effect.Paid count (length ts) ∷ [])) (sym left) (sym (ap count_ones matches ∙ ones_bits (paid balances payer ts).done))
 
 -- ---- the order
 

@@ -1,9 +1,9 @@
 -- Where a walk over a payload's transfers has come to
 use Rattle.std.proofs.Common.{◌≡◌, ℕ, List}
 use Rattle.hg_model.specs.Pay.{Paying}
-use Rattle.hg_pay.specs.Applied.{bits_of}
+use Rattle.hg_pay.specs.Applied.{done_bits}
 
 -- the balances and the bits are those of p
 pub record HasCome (p : Paying) (balances : List ℕ) (bits : ℕ) : Type 0 where
   pub left : balances ≡ p.balances
-  pub told : bits ≡ bits_of p.done
+  pub matches : bits ≡ done_bits p.done

@@ -16,9 +16,9 @@ use Rattle.hg_pay.specs.Laws.{AreBytes, ArePayable, IsTransfer}
 front_of_chunk : (bytes : List ℕ) → transfer_in (take 10 bytes) ≡ transfer_in bytes
 front_of_chunk bytes = rw (take-take 2 10 bytes (omega arith), drop-take 2 8 bytes, take-take 8 8 (drop 2 bytes) (omega arith)) refl
 
-pub chunks_told : (count : ℕ) (bytes : List ℕ) → map transfer_in (first_chunks 10 count bytes) ≡ transfers_in count bytes
-chunks_told zero bytes = refl
-chunks_told (suc count) bytes = ap₂ (λ (t : Transfer) (ts : List Transfer). t ∷ ts) (front_of_chunk bytes) (chunks_told count (drop 10 bytes))
+pub chunks_known : (count : ℕ) (bytes : List ℕ) → map transfer_in (first_chunks 10 count bytes) ≡ transfers_in count bytes
+chunks_known zero bytes = refl
+chunks_known (suc count) bytes = ap₂ (λ (t : Transfer) (ts : List Transfer). t ∷ ts) (front_of_chunk bytes) (chunks_known count (drop 10 bytes))
 
 -- ---- what is spelled is read
 
@@ -123,5 +123,5 @@ unfolding read_pay
 pay_found count rest chunks are few many =
     let whole : eqb (length rest) (10 * count) ≡ true = eq-eqb _ _ many in
     let within : leb count transfer_limit ≡ true = le-leb _ _ few in
-    let told : length rest / 10 ≡ count = omega arith in
-    rw (within, whole, are, told) (ap Some (sym (chunks_told count rest)))
+    let matches : length rest / 10 ≡ count = omega arith in
+    rw (within, whole, are, matches) (ap Some (sym (chunks_known count rest)))

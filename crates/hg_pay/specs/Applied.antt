@@ -6,9 +6,9 @@ use Rattle.hg_model.specs.Links.{no_row}
 use Rattle.hg_model.specs.Pay.{Book, with_payload}
 
 -- the number whose bit i, counted from the lowest, is set just where entry i is true
-abbrev pub bits_of : List Bool → ℕ
-bits_of [] = 0
-bits_of (done ∷ rest) = cond done 1 0 + 2 * bits_of rest
+abbrev pub done_bits : List Bool → ℕ
+done_bits [] = 0
+done_bits (done ∷ rest) = cond done 1 0 + 2 * done_bits rest
 
 abbrev pub book_with : List ℕ → List Effect → Book
 book_with balances effects = record { balances = balances; effects = effects }

@@ -2,7 +2,7 @@ ghost use Rattle.std.specs.Prelude.{◌≡◌, ◌<◌, ◌^◌, get_or, length,
 ghost use Rattle.std.specs.List.{sum};
 ghost use Rattle.hg_model.specs.Members.{balances_of};
 ghost use Rattle.hg_model.specs.Pay.{paid};
-ghost use Rattle.hg_pay.specs.Applied.{bits_of, Leaves};
+ghost use Rattle.hg_pay.specs.Applied.{done_bits, Leaves};
 
 use crate::pay::{Pay, read_pay};
 use crate::paying::{balance_of, pay_all};
@@ -57,7 +57,7 @@ impl Book {
     /// Does the transfers one after the other, each whole or not at all; the creator pays. Bit `i` of the answer is set
     /// where transfer `i` was done. Takes no memory.
     pub fn apply(&mut self, creator: Member, pay: &Pay<'_>) -> u64
-        ensures done { result ≡ bits_of (paid self.old creator pay.now).done }
+        ensures done { result ≡ done_bits (paid self.old creator pay.now).done }
         ensures balances { self.new ≡ (paid self.old creator pay.now).balances }
         ensures members { length self.new ≡ length self.old }
     {

@@ -1,7 +1,7 @@
 ghost use Rattle.std.specs.Prelude.{◌≡◌, ◌<◌, ◌^◌, bit_or, cond, get_or, slice_set};
 ghost use Rattle.std.specs.List.{sum};
 ghost use Rattle.hg_model.specs.Pay.{can_pay, moved, paid};
-ghost use Rattle.hg_pay.specs.Applied.{bits_of};
+ghost use Rattle.hg_pay.specs.Applied.{done_bits};
 
 use crate::pay::Pay;
 use hg_model::{Member, Transfer};
@@ -58,7 +58,7 @@ fn with_bit(bits: u64, i: usize, is_set: bool) -> u64
 /// Does the transfers one after the other. Bit `i` of the answer tells whether transfer `i` was done.
 pub fn pay_all(balances: &mut [u64], payer: Member, pay: &Pay<'_>) -> u64
     requires { sum balances.old < 2 ^ 63 }
-    ensures done { result ≡ bits_of (paid balances.old payer pay.now).done }
+    ensures done { result ≡ done_bits (paid balances.old payer pay.now).done }
     ensures moved { balances.new ≡ (paid balances.old payer pay.now).balances }
     ensures kept { sum balances.new ≡ sum balances.old }
 {

@@ -15,35 +15,35 @@ use Rattle.hg_model.proofs.VoteLaws.{vote_of-at}
 use Rattle.hg_votes.specs.declared.tally.Tally.{Tally}
 use Rattle.hg_votes.specs.Tallies.{no_ballot, vote_at, tally_of}
 use Rattle.hg_plain.specs.Tables.{IsTableOf}
-use Rattle.hg_plain.specs.Elections.{voters_of}
+use Rattle.hg_plain.specs.Elections.{voter_places}
 
-pub voters_below : (n : ℕ) (L : List Link) (y m : ℕ) (voters : List ℕ) → voters ≡ voters_of n L y → y ≤ m → AllByRecursion (λ w. w < m) voters
-unfolding voters_of
+pub voters_below : (n : ℕ) (L : List Link) (y m : ℕ) (voters : List ℕ) → voters ≡ voter_places n L y → y ≤ m → AllByRecursion (λ w. w < m) voters
+unfolding voter_places
 voters_below n L y m voters is le = rw is (all_list_below (λ w. w < m) (λ w. w) y (is_voter n L y) (λ k h e. omega arith))
 
-pub few_voters : (n : ℕ) (L : List Link) (y : ℕ) (voters : List ℕ) → voters ≡ voters_of n L y → length voters ≤ y
-unfolding voters_of
+pub few_voters : (n : ℕ) (L : List Link) (y : ℕ) (voters : List ℕ) → voters ≡ voter_places n L y → length voters ≤ y
+unfolding voter_places
 few_voters n L y voters is = rw is (length-list_below-le (λ w. w) y (is_voter n L y))
 
-module _ (g : Graph) (x y : ℕ) (ballots : List Ballot) (told : IsTableOf no_ballot (ballot_of g x) y ballots) where
-  vote_at-told : (w : ℕ) → w < y → vote_at ballots w ≡ vote_of g.members g.coin (links_of g) (coin_at g.rows) x w
-  vote_at-told w h = ap (λ (b : Ballot). b.vote) (told.at w h)
+module _ (g : Graph) (x y : ℕ) (ballots : List Ballot) (matches : IsTableOf no_ballot (ballot_of g x) y ballots) where
+  vote_at-matches : (w : ℕ) → w < y → vote_at ballots w ≡ vote_of g.members g.coin (links_of g) (coin_at g.rows) x w
+  vote_at-matches w h = ap (λ (b : Ballot). b.vote) (matches.at w h)
 
-  counted_yes : (tally_of ballots (voters_of g.members (links_of g) y)).yes ≡ yes_votes g.members (links_of g) (vote_of g.members g.coin (links_of g) (coin_at g.rows) x) y
-  unfolding voters_of
+  counted_yes : (tally_of ballots (voter_places g.members (links_of g) y)).yes ≡ yes_votes g.members (links_of g) (vote_of g.members g.coin (links_of g) (coin_at g.rows) x) y
+  unfolding voter_places
   counted_yes =
       count_by-list_below (vote_at ballots) y (is_voter g.members (links_of g) y)
-      ∙ weight_below-same (λ _. 1) y _ _ (λ w h. rw (vote_at-told w h) refl)
+      ∙ weight_below-same (λ _. 1) y _ _ (λ w h. rw (vote_at-matches w h) refl)
 
-  counted_no : (tally_of ballots (voters_of g.members (links_of g) y)).no ≡ no_votes g.members (links_of g) (vote_of g.members g.coin (links_of g) (coin_at g.rows) x) y
-  unfolding voters_of
+  counted_no : (tally_of ballots (voter_places g.members (links_of g) y)).no ≡ no_votes g.members (links_of g) (vote_of g.members g.coin (links_of g) (coin_at g.rows) x) y
+  unfolding voter_places
   counted_no =
       count_by-list_below (λ w. not (vote_at ballots w)) y (is_voter g.members (links_of g) y)
-      ∙ weight_below-same (λ _. 1) y _ _ (λ w h. rw (vote_at-told w h) refl)
+      ∙ weight_below-same (λ _. 1) y _ _ (λ w h. rw (vote_at-matches w h) refl)
 
   -- any other number of rounds above x
   pub ballot_far : (voters : List ℕ) (above n c : ℕ) (bit : Bool) (tally : Tally) (weighed : Ballot) (witness : Bool) →
-      voters ≡ voters_of g.members (links_of g) y → above ≡ rounds_above g.members (links_of g) x y → above ≢ 1 → n ≡ g.members → c ≡ g.coin → bit ≡ coin_at g.rows y →
+      voters ≡ voter_places g.members (links_of g) y → above ≡ rounds_above g.members (links_of g) x y → above ≢ 1 → n ≡ g.members → c ≡ g.coin → bit ≡ coin_at g.rows y →
       tally ≡ tally_of ballots voters → weighed ≡ record { vote = weighed_vote n c above tally.yes tally.no bit; decides = weighed_decides n c above tally.yes tally.no } →
       witness ≡ is_witness g.members (links_of g) y → ◌≡◌ {A = Ballot} (record { vote = weighed.vote; decides = witness && weighed.decides }) (ballot_of g x y)
   unfolding decides

@@ -11,4 +11,4 @@ use Rattle.hg_plain.specs.Tables.{IsTableOf}
 pub last_closed_is : (n : ℕ) (L : List Link) (marks : Marks) (closed : List Bool) → IsTableOf false (is_closed n L marks) (suc (length L)) closed →
     greatest_below (length closed) (λ r. get_or closed r false) ≡ last_closed n L marks
 unfolding last_closed
-last_closed_is n L marks closed told = rw told.len (greatest_below-same (suc (length L)) _ (is_closed n L marks) told.at)
+last_closed_is n L marks closed matches = rw matches.len (greatest_below-same (suc (length L)) _ (is_closed n L marks) matches.at)

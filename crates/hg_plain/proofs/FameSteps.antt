@@ -49,15 +49,15 @@ pub fame_from_ballots : (g : Graph) (x : ℕ) (ballots : List Ballot) → x < le
     IsTableOf no_ballot (ballot_of g x) (length (links_of g)) ballots →
     decided_vote (option_map (decision_at g.members (links_of g) ballots) (least_below (round_of g.members (links_of g)) (length (links_of g)) (decides_at ballots)))
     ≡ fame_of g.members g.coin (links_of g) (coin_at g.rows) x
-fame_from_ballots g x ballots h witness told =
+fame_from_ballots g x ballots h witness matches =
     let n = g.members in
     let c = g.coin in
     let L = links_of g in
     let coin = coin_at g.rows in
     let key = round_of n L in
     twice_mapped (λ (d : Decision). d.vote) (decision_at n L ballots) (least_below key (length L) (decides_at ballots))
-    ∙ (ap (option_map (vote_at ballots)) (least_below-same key (length L) (decides_at ballots) (decides n c L coin x) (λ y k. ap (λ (b : Ballot). b.decides) (told.at y k)))
-    ∙ (option_map-least_below (vote_at ballots) (vote_of n c L coin x) key (length L) (decides n c L coin x) (λ y k e. ap (λ (b : Ballot). b.vote) (told.at y k))
+    ∙ (ap (option_map (vote_at ballots)) (least_below-same key (length L) (decides_at ballots) (decides n c L coin x) (λ y k. ap (λ (b : Ballot). b.decides) (matches.at y k)))
+    ∙ (option_map-least_below (vote_at ballots) (vote_of n c L coin x) key (length L) (decides n c L coin x) (λ y k e. ap (λ (b : Ballot). b.vote) (matches.at y k))
     ∙ sym (fame_of_witness n c L coin x h witness)))
 
 pub ruleset decision_steps = (first_decision_zero, first_decision_fails, first_decision_passes)

@@ -27,15 +27,15 @@ module _ (n : ℕ) (L : List Link) (r : ℕ) where
   unfolding witnesses_of
   listed = sym (witnesses_in-standings n L r)
 
-  pub witnesses_told : (lists : List (List ℕ)) → IsTableOf [] (witnesses_of n L) (suc (last_round n L)) lists → get_or lists r [] ≡ witnesses_in (standings_of n L) r
-  witnesses_told lists told = elim (cases_lt r (suc (last_round n L))) [
-    | inl below ↦ told.at r below ∙ listed
-    | inr above ↦ get_or_past lists r [] (omega (arith, told.len)) ∙ (sym (none_above (omega arith)) ∙ listed)
+  pub witnesses_known : (lists : List (List ℕ)) → IsTableOf [] (witnesses_of n L) (suc (last_round n L)) lists → get_or lists r [] ≡ witnesses_in (standings_of n L) r
+  witnesses_known lists matches = elim (cases_lt r (suc (last_round n L))) [
+    | inl below ↦ matches.at r below ∙ listed
+    | inr above ↦ get_or_past lists r [] (omega (arith, matches.len)) ∙ (sym (none_above (omega arith)) ∙ listed)
   ]
 
 -- the rows that a round received
-pub received_told : (g : Graph) (marks : Marks) (r : ℕ) (received : List (Option ℕ)) → IsTableOf None (round_received g.members (links_of g) marks) (length (links_of g)) received →
+pub received_known : (g : Graph) (marks : Marks) (r : ℕ) (received : List (Option ℕ)) → IsTableOf None (round_received g.members (links_of g) marks) (length (links_of g)) received →
     list_below (λ x. x) (length received) (λ x. is_round r (get_or received x None)) ≡ received_places g marks r
-received_told g marks r received told =
-    rw told.len (list_below-same (λ x. x) (λ x. x) (length (links_of g)) (λ x. is_round r (get_or received x None)) (λ x. is_round r (round_received g.members (links_of g) marks x))
-    (λ x h. ap (is_round r) (told.at x h)) (λ x h e. refl))
+received_known g marks r received matches =
+    rw matches.len (list_below-same (λ x. x) (λ x. x) (length (links_of g)) (λ x. is_round r (get_or received x None)) (λ x. is_round r (round_received g.members (links_of g) marks x))
+    (λ x h. ap (is_round r) (matches.at x h)) (λ x h e. refl))

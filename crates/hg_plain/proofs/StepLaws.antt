@@ -12,13 +12,13 @@ use Rattle.hg_model.proofs.RoundLaws.{is_witness_by-same, round_of-at, round_fro
 use Rattle.hg_model.proofs.PlacesLaws.{weight_below-same, maximum_below-same}
 use Rattle.hg_model.proofs.ReachLaws.{list_any-same}
 use Rattle.hg_model.proofs.AncestryLaws.{self_parent_earlier, is_ancestor-at, is_ancestor_self, is_self_ancestor-at, is_self_ancestor_self, some_ancestor-at}
-use Rattle.hg_plain.specs.Tables.{IsTableOf, cell_at, TellsPairs}
+use Rattle.hg_plain.specs.Tables.{IsTableOf, cell_at, IsTableOfPairs}
 use Rattle.hg_plain.proofs.TableLaws.{cell_read}
 
 -- what a column tells of earlier places
 pub told_of_earlier : (next : ℕ → List ℕ) (test : ℕ → Bool) (x : ℕ) (column : List Bool) → IsEarlier next → IsTableOf false test x column →
     list_any (λ p. get_or column p false) (next x) ≡ list_any test (next x)
-told_of_earlier next test x column e told = list_any-same (λ p. get_or column p false) test (next x) (λ p h. told.at p (e.earlier x p h))
+told_of_earlier next test x column e matches = list_any-same (λ p. get_or column p false) test (next x) (λ p h. matches.at p (e.earlier x p h))
 
 module _ (L : List Link) (e : IsEarlier (parents L)) (x y : ℕ) where
   pub ancestor_here : x ≡ y → eqb x y ≡ is_ancestor L x y
@@ -26,8 +26,8 @@ module _ (L : List Link) (e : IsEarlier (parents L)) (x y : ℕ) where
 
   pub ancestor_above : (column : List Bool) (above : Bool) → IsTableOf false (λ k. is_ancestor L k y) x column → x ≢ y →
       above ≡ list_any (λ p. get_or column p false) (parents L x) → above ≡ is_ancestor L x y
-  ancestor_above column above told apart is =
-      is ∙ (told_of_earlier (parents L) (λ k. is_ancestor L k y) x column e told
+  ancestor_above column above matches apart is =
+      is ∙ (told_of_earlier (parents L) (λ k. is_ancestor L k y) x column e matches
       ∙ sym (rw (is_ancestor-at L e x y, ne_eqb x y apart)))
 
   pub self_ancestor_here : x ≡ y → eqb x y ≡ is_self_ancestor L x y
@@ -35,8 +35,8 @@ module _ (L : List Link) (e : IsEarlier (parents L)) (x y : ℕ) where
 
   pub self_ancestor_above : (column : List Bool) (above : Bool) → IsTableOf false (λ k. is_self_ancestor L k y) x column → x ≢ y →
       above ≡ list_any (λ p. get_or column p false) (self_parent L x) → above ≡ is_self_ancestor L x y
-  self_ancestor_above column above told apart is =
-      is ∙ (told_of_earlier (self_parent L) (λ k. is_self_ancestor L k y) x column (self_parent_earlier L e) told
+  self_ancestor_above column above matches apart is =
+      is ∙ (told_of_earlier (self_parent L) (λ k. is_self_ancestor L k y) x column (self_parent_earlier L e) matches
       ∙ sym (rw (is_self_ancestor-at L e x y, ne_eqb x y apart)))
 
 -- members with an event that sees y
@@ -50,14 +50,14 @@ module _ (L : List Link) (e : IsEarlier (parents L)) (x y m : ℕ) (here : Bool)
 
   pub through_above : (column : List Bool) (above : Bool) → IsTableOf false (λ k. sees_through L k y m) x column → here ≡ false →
       above ≡ list_any (λ p. get_or column p false) (parents L x) → above ≡ sees_through L x y m
-  through_above column above told missed is =
-      is ∙ (told_of_earlier (parents L) (λ k. sees_through L k y m) x column e told ∙ sym (rw (through-at, missed)))
+  through_above column above matches missed is =
+      is ∙ (told_of_earlier (parents L) (λ k. sees_through L k y m) x column e matches ∙ sym (rw (through-at, missed)))
 
 -- how many members are found in their columns
-pub count_of_columns : (L : List Link) (n x y : ℕ) (through : List (Vec Bool)) → TellsPairs (λ x m. sees_through L x y m) (length L) n through → x < length L →
+pub count_of_columns : (L : List Link) (n x y : ℕ) (through : List (Vec Bool)) → IsTableOfPairs (λ x m. sees_through L x y m) (length L) n through → x < length L →
     count_below n (cell_at through x) ≡ count_below n (sees_through L x y)
-count_of_columns L n x y through told hx =
-    weight_below-same (λ _. 1) n (cell_at through x) (sees_through L x y) (λ m h. cell_read (λ x m. sees_through L x y m) (length L) n through x m told hx h)
+count_of_columns L n x y through matches hx =
+    weight_below-same (λ _. 1) n (cell_at through x) (sees_through L x y) (λ m h. cell_read (λ x m. sees_through L x y m) (length L) n through x m matches hx h)
 
 -- what is seen where the first test passes
 pub and_given : (a s v : Bool) → a ≡ true → v ≡ s → v ≡ (a && s)
@@ -67,18 +67,18 @@ and_given a s v passes is = is ∙ sym (ap (λ b. b && s) passes)
 pub round_next : (n : ℕ) (L : List Link) → IsEarlier (parents L) → (rounds : List ℕ) (x r count : ℕ) (many : Bool) → IsTableOf 0 (round_of n L) x rounds →
     r ≡ parent_round (λ p. get_or rounds p 0) (parents L x) → count ≡ count_below x (is_seen_witness (λ k. get_or rounds k 0) n L r x) →
     many ≡ is_supermajority n count → cond many (r + 1) r ≡ round_of n L x
-round_next n L e rounds x r count many told r_is count_is many_is =
+round_next n L e rounds x r count many matches r_is count_is many_is =
     sym (round_of-at n L e x
-    ∙ (round_from-same n L e (round_of n L) (λ k. get_or rounds k 0) x (λ p h. sym (told.at p h))
+    ∙ (round_from-same n L e (round_of n L) (λ k. get_or rounds k 0) x (λ p h. sym (matches.at p h))
     ∙ rw (← r_is, ← count_is, ← many_is) refl))
 
-pub last_round_told : (n : ℕ) (L : List Link) (rounds : List ℕ) → IsTableOf 0 (round_of n L) (length L) rounds →
+pub last_round_known : (n : ℕ) (L : List Link) (rounds : List ℕ) → IsTableOf 0 (round_of n L) (length L) rounds →
     maximum_below (λ x. get_or rounds x 0) (length rounds) ≡ last_round n L
 unfolding last_round
-last_round_told n L rounds told =
-    ap (λ k. maximum_below (λ x. get_or rounds x 0) k) told.len ∙ maximum_below-same (λ x. get_or rounds x 0) (round_of n L) (length L) (λ x h. told.at x h)
+last_round_known n L rounds matches =
+    ap (λ k. maximum_below (λ x. get_or rounds x 0) k) matches.len ∙ maximum_below-same (λ x. get_or rounds x 0) (round_of n L) (length L) (λ x h. matches.at x h)
 
-pub is_witness_told : (n : ℕ) (L : List Link) → IsEarlier (parents L) → (rounds : List ℕ) (x : ℕ) → IsTableOf 0 (round_of n L) (length L) rounds → x < length L →
+pub is_witness_known : (n : ℕ) (L : List Link) → IsEarlier (parents L) → (rounds : List ℕ) (x : ℕ) → IsTableOf 0 (round_of n L) (length L) rounds → x < length L →
     is_witness_by (λ p. get_or rounds p 0) L x ≡ is_witness n L x
 unfolding is_witness
-is_witness_told n L e rounds x told h = is_witness_by-same n L e (λ p. get_or rounds p 0) (round_of n L) x (λ p le. told.at p (omega arith))
+is_witness_known n L e rounds x matches h = is_witness_by-same n L e (λ p. get_or rounds p 0) (round_of n L) x (λ p le. matches.at p (omega arith))

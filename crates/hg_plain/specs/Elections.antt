@@ -9,8 +9,8 @@ use Rattle.hg_votes.specs.Tallies.{no_ballot, vote_at}
 use Rattle.hg_plain.specs.declared.fame.Decision.{Decision}
 
 -- the voters of row y, in order
-unfoldable pub voters_of : ℕ → List Link → ℕ → List ℕ
-voters_of n L y = list_below (λ w. w) y (is_voter n L y)
+unfoldable pub voter_places : ℕ → List Link → ℕ → List ℕ
+voter_places n L y = list_below (λ w. w) y (is_voter n L y)
 
 -- whether the ballot at a place decides
 abbrev pub decides_at : List Ballot → ℕ → Bool

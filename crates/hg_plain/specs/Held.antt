@@ -11,21 +11,21 @@ use Rattle.hg_model.specs.Graph.{IsShaped}
 use Rattle.hg_model.specs.Forks.{has_fork_below, forkers}
 use Rattle.hg_model.specs.Seeing.{strongly_sees}
 use Rattle.hg_model.specs.Rounds.{round_of, last_round}
-use Rattle.hg_plain.specs.Tables.{IsTableOf, TellsPairs}
+use Rattle.hg_plain.specs.Tables.{IsTableOf, IsTableOfPairs}
 
 pub record HoldsAncestry (L : List Link) (above self_above : List (Vec Bool)) : Type 0 where
-  pub ancestors : TellsPairs (is_ancestor L) (length L) (length L) above
-  pub self_ancestors : TellsPairs (is_self_ancestor L) (length L) (length L) self_above
+  pub ancestors : IsTableOfPairs (is_ancestor L) (length L) (length L) above
+  pub self_ancestors : IsTableOfPairs (is_self_ancestor L) (length L) (length L) self_above
 
 -- a shaped graph, and for each of its n members the rows with a fork of that member below them
 pub record HoldsForkTable (n : ℕ) (L : List Link) (below : List (Vec Bool)) : Type 0 where
   pub shaped : IsShaped n L
-  pub forked : TellsPairs (has_fork_below L) (length L) n below
+  pub forked : IsTableOfPairs (has_fork_below L) (length L) n below
 
 -- of a shaped graph of n members what strongly sees what, the rounds, how many members have a fork, and the greatest round
 pub record HoldsRounds (n : ℕ) (L : List Link) (strong : List (Vec Bool)) (rounds : List ℕ) (forking greatest : ℕ) : Type 0 where
   pub shaped : IsShaped n L
-  pub strongly_sees : TellsPairs (strongly_sees n L) (length L) (length L) strong
+  pub strongly_sees : IsTableOfPairs (strongly_sees n L) (length L) (length L) strong
   pub round_of : IsTableOf 0 (round_of n L) (length L) rounds
   pub forkers : forking ≡ forkers n L
   pub last_round : greatest ≡ last_round n L

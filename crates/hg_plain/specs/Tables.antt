@@ -20,6 +20,6 @@ unfoldable pub cell_at : List (Vec Bool) → ℕ → ℕ → Bool
 cell_at columns x y = get_or (column_at columns y) x false
 
 -- a column for each place y below n, which has at each place x below `rows` whether x stands in the relation to y
-pub record TellsPairs (related : ℕ → ℕ → Bool) (rows n : ℕ) (columns : List (Vec Bool)) : Type 0 where
+pub record IsTableOfPairs (related : ℕ → ℕ → Bool) (rows n : ℕ) (columns : List (Vec Bool)) : Type 0 where
   pub len : length columns ≡ n
   pub column : (y : ℕ) → y < n → IsTableOf false (λ x. related x y) rows (column_at columns y)

@@ -3,7 +3,7 @@ ghost use Rattle.std.specs.List.{list_any};
 ghost use Rattle.hg_model.specs.Places.{IsEarlier};
 ghost use Rattle.hg_model.specs.Links.{parents, self_parent};
 ghost use Rattle.hg_model.specs.Ancestry.{is_ancestor, is_self_ancestor};
-ghost use Rattle.hg_plain.specs.Tables.{IsTableOf, TellsPairs};
+ghost use Rattle.hg_plain.specs.Tables.{IsTableOf, IsTableOfPairs};
 
 use crate::links::{PlainLink, parents_of, self_parent_of};
 use crate::tables::cell;
@@ -140,7 +140,7 @@ fn self_ancestor_column(alloc: Global, links: &[PlainLink], y: usize) -> Result<
 
 fn ancestor_columns(alloc: Global, links: &[PlainLink]) -> Result<Vec<Vec<bool>>, Memory>
     requires { IsEarlier (parents links.now) }
-    ensures { IfOk result (λ v. TellsPairs (is_ancestor links.now) (length links.now) (length links.now) v.items) }
+    ensures { IfOk result (λ v. IsTableOfPairs (is_ancestor links.now) (length links.now) (length links.now) v.items) }
 {
     let mut columns = Vec::with_capacity(alloc, links.len())?;
     for y in 0..links.len() {
@@ -151,7 +151,7 @@ fn ancestor_columns(alloc: Global, links: &[PlainLink]) -> Result<Vec<Vec<bool>>
 
 fn self_ancestor_columns(alloc: Global, links: &[PlainLink]) -> Result<Vec<Vec<bool>>, Memory>
     requires { IsEarlier (parents links.now) }
-    ensures { IfOk result (λ v. TellsPairs (is_self_ancestor links.now) (length links.now) (length links.now) v.items) }
+    ensures { IfOk result (λ v. IsTableOfPairs (is_self_ancestor links.now) (length links.now) (length links.now) v.items) }
 {
     let mut columns = Vec::with_capacity(alloc, links.len())?;
     for y in 0..links.len() {

@@ -5,7 +5,7 @@ ghost use Rattle.hg_model.specs.Fame.{fame_of, fame_marks};
 ghost use Rattle.hg_model.specs.Order.{coin_at};
 ghost use Rattle.hg_model.specs.Prefix.{links_of};
 ghost use Rattle.hg_plain.specs.Tables.{IsTableOf};
-ghost use Rattle.hg_plain.specs.Elections.{voters_of, decides_at, decision_at, earlier_of, decided_vote};
+ghost use Rattle.hg_plain.specs.Elections.{voter_places, decides_at, decision_at, earlier_of, decided_vote};
 
 use crate::prefix::PlainPrefix;
 use crate::sight::PlainSight;
@@ -65,7 +65,7 @@ fn fame(
 ) -> Result<Option<bool>, Memory>
     requires short { length (links_of p.now) < 2 ^ 32 - 1 }
     requires candidate { x < length (links_of p.now) }
-    requires voters { IsTableOf [] (voters_of p.now.members (links_of p.now)) (length (links_of p.now)) voters.now }
+    requires voters { IsTableOf [] (voter_places p.now.members (links_of p.now)) (length (links_of p.now)) voters.now }
     ensures { IfOk result (λ fame. fame ≡ fame_of p.now.members p.now.coin (links_of p.now) (coin_at p.now.rows) x) }
 {
     let sight = p.tables();

@@ -147,12 +147,12 @@ impl<'a> Sight for PlainPrefix<'a> {
 impl<'a> Rounds for PlainPrefix<'a> {
     ghost standings = { λ g. standings_of g.members (links_of g) };
 
-    #[tactic(auto, using(hg_model::proofs::StandingLaws::standings_told))]
+    #[tactic(auto, using(hg_model::proofs::StandingLaws::standings_known))]
     fn round(&self, x: usize) -> u32 {
         self.sight.round(x)
     }
 
-    #[tactic(auto, using(hg_model::proofs::StandingLaws::standings_told))]
+    #[tactic(auto, using(hg_model::proofs::StandingLaws::standings_known))]
     fn is_witness(&self, x: usize) -> bool {
         self.sight.is_witness(x)
     }
@@ -161,7 +161,7 @@ impl<'a> Rounds for PlainPrefix<'a> {
         witnesses_at(&self.witnesses, r as usize)
     }
 
-    #[tactic(auto, using(hg_model::proofs::StandingLaws::standings_told))]
+    #[tactic(auto, using(hg_model::proofs::StandingLaws::standings_known))]
     fn greatest(&self) -> u32 {
         self.sight.greatest()
     }

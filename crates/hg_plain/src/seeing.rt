@@ -3,7 +3,7 @@ ghost use Rattle.hg_model.specs.Links.{creator, links};
 ghost use Rattle.hg_model.specs.Graph.{IsShaped};
 ghost use Rattle.hg_model.specs.Ancestry.{is_ancestor, some_ancestor};
 ghost use Rattle.hg_model.specs.Forks.{has_fork, has_fork_below, is_fork};
-ghost use Rattle.hg_plain.specs.Tables.{IsTableOf, TellsPairs};
+ghost use Rattle.hg_plain.specs.Tables.{IsTableOf, IsTableOfPairs};
 
 use crate::ancestry::Ancestry;
 use crate::forks::has_fork;
@@ -94,7 +94,7 @@ fn forked_columns(
 ) -> Result<Vec<Vec<bool>>, Memory>
     requires shaped { IsShaped members (links rows.now) }
     requires same { ancestry.now ≡ links rows.now }
-    ensures { IfOk result (λ v. TellsPairs (has_fork_below ancestry.now) (length ancestry.now) members v.items) }
+    ensures { IfOk result (λ v. IsTableOfPairs (has_fork_below ancestry.now) (length ancestry.now) members v.items) }
 {
     let mut columns = Vec::new(alloc);
     for member in 0..members {

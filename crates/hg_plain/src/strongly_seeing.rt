@@ -2,7 +2,7 @@ ghost use Rattle.std.specs.Prelude.{◌≡◌, ℕ, ◌<◌, ◌≤◌, ◌&&◌
 ghost use Rattle.hg_model.specs.Places.{count_below};
 ghost use Rattle.hg_model.specs.Links.{creator};
 ghost use Rattle.hg_model.specs.Seeing.{sees, sees_through, strongly_sees};
-ghost use Rattle.hg_plain.specs.Tables.{IsTableOf, TellsPairs, cell_at, column_at};
+ghost use Rattle.hg_plain.specs.Tables.{IsTableOf, IsTableOfPairs, cell_at, column_at};
 
 use crate::ancestry::any_parent;
 use crate::links::creator_of;
@@ -13,7 +13,7 @@ use std::alloc::Global;
 
 /// For each row the rows that strongly see it.
 pub fn strong_columns(alloc: Global, seeing: &Seeing) -> Result<Vec<Vec<bool>>, Memory>
-    ensures { IfOk result (λ v. TellsPairs (strongly_sees seeing.now.members seeing.now.links) (length seeing.now.links) (length seeing.now.links) v.items) }
+    ensures { IfOk result (λ v. IsTableOfPairs (strongly_sees seeing.now.members seeing.now.links) (length seeing.now.links) (length seeing.now.links) v.items) }
 {
     let len = seeing.ancestry().links().len();
     let mut columns = Vec::with_capacity(alloc, len)?;
@@ -42,7 +42,7 @@ fn strong_column(alloc: Global, seeing: &Seeing, y: usize) -> Result<Vec<bool>, 
 #[tactic(auto, unfolding(hg_model::specs::Seeing::strongly_sees))]
 fn is_strong(seeing: &Seeing, through: &[Vec<bool>], x: usize, y: usize) -> bool
     requires place { x < length seeing.now.links }
-    requires known { TellsPairs (λ x m. sees_through seeing.now.links x y m) (length seeing.now.links) seeing.now.members through.now }
+    requires known { IsTableOfPairs (λ x m. sees_through seeing.now.links x y m) (length seeing.now.links) seeing.now.members through.now }
     ensures { result ≡ strongly_sees seeing.now.members seeing.now.links x y }
 {
     let members = seeing.members();
@@ -68,7 +68,7 @@ fn count_through(through: &[Vec<bool>], members: u32, x: usize) -> u32
 /// For each member the rows that see row `y` through it.
 fn through_columns(alloc: Global, seeing: &Seeing, y: usize) -> Result<Vec<Vec<bool>>, Memory>
     requires { y < length seeing.now.links }
-    ensures { IfOk result (λ v. TellsPairs (λ x m. sees_through seeing.now.links x y m) (length seeing.now.links) seeing.now.members v.items) }
+    ensures { IfOk result (λ v. IsTableOfPairs (λ x m. sees_through seeing.now.links x y m) (length seeing.now.links) seeing.now.members v.items) }
 {
     let mut columns = Vec::new(alloc);
     for member in 0..seeing.members() {

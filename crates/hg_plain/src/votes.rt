@@ -3,7 +3,7 @@ ghost use Rattle.hg_model.specs.Prefix.{ballot_of, links_of};
 ghost use Rattle.hg_model.specs.Votes.{is_voter, rounds_above};
 ghost use Rattle.hg_votes.specs.Tallies.{no_ballot};
 ghost use Rattle.hg_plain.specs.Tables.{IsTableOf};
-ghost use Rattle.hg_plain.specs.Elections.{voters_of};
+ghost use Rattle.hg_plain.specs.Elections.{voter_places};
 
 use crate::prefix::PlainPrefix;
 use crate::sight::PlainSight;
@@ -24,10 +24,10 @@ fn is_voter(sight: &PlainSight, y: usize, w: usize) -> bool
 }
 
 /// The voters of row `y`, in order.
-#[tactic(auto, using(hg_model::proofs::PlacesLaws::list_steps), unfolding(crate::specs::Elections::voters_of))]
-fn voters_of(alloc: Global, sight: &PlainSight, y: usize) -> Result<Items<usize>, Memory>
+#[tactic(auto, using(hg_model::proofs::PlacesLaws::list_steps), unfolding(crate::specs::Elections::voter_places))]
+fn voter_places(alloc: Global, sight: &PlainSight, y: usize) -> Result<Items<usize>, Memory>
     requires { y < length sight.now.links }
-    ensures { IfOk result (λ v. v ≡ voters_of sight.now.members sight.now.links y) }
+    ensures { IfOk result (λ v. v ≡ voter_places sight.now.members sight.now.links y) }
 {
     let mut voters = Vec::new(alloc);
     for w in 0..y {
@@ -41,11 +41,11 @@ fn voters_of(alloc: Global, sight: &PlainSight, y: usize) -> Result<Items<usize>
 /// The voters of each row.
 #[tactic(auto, using(crate::proofs::TableLaws::tells_steps))]
 pub fn voters(alloc: Global, sight: &PlainSight) -> Result<Vec<Items<usize>>, Memory>
-    ensures { IfOk result (λ v. IsTableOf [] (voters_of sight.now.members sight.now.links) (length sight.now.links) v.items) }
+    ensures { IfOk result (λ v. IsTableOf [] (voter_places sight.now.members sight.now.links) (length sight.now.links) v.items) }
 {
     let mut voters = Vec::new(alloc);
     for y in 0..sight.len() {
-        voters.push(voters_of(alloc, sight, y)?)?;
+        voters.push(voter_places(alloc, sight, y)?)?;
     }
     Ok(voters)
 }
@@ -71,7 +71,7 @@ fn next_ballot(
     requires short { length (links_of p.now) < 2 ^ 32 - 1 }
     requires candidate { x < length (links_of p.now) }
     requires row { y < length (links_of p.now) }
-    requires voters { voters.now ≡ voters_of p.now.members (links_of p.now) y }
+    requires voters { voters.now ≡ voter_places p.now.members (links_of p.now) y }
     requires known { IsTableOf no_ballot (ballot_of p.now x) y ballots.now }
     ensures { result ≡ ballot_of p.now x y }
 {
@@ -108,7 +108,7 @@ pub fn ballots(
 ) -> Result<Vec<Ballot>, Memory>
     requires short { length (links_of p.now) < 2 ^ 32 - 1 }
     requires candidate { x < length (links_of p.now) }
-    requires voters { IsTableOf [] (voters_of p.now.members (links_of p.now)) (length (links_of p.now)) voters.now }
+    requires voters { IsTableOf [] (voter_places p.now.members (links_of p.now)) (length (links_of p.now)) voters.now }
     ensures { IfOk result (λ v. IsTableOf no_ballot (ballot_of p.now x) (length (links_of p.now)) v.items) }
 {
     let mut ballots = Vec::new(alloc);

@@ -11,7 +11,7 @@ use Rattle.hg_model.specs.Reading.{read_event}
 use Rattle.hg_model.specs.Verdict.{row_verdict, with_answer, rows_with, rows_after, made_row, making, with_made}
 use Rattle.hg_model.specs.History.{Change, Accepts, replay}
 use Rattle.hg_model.specs.History.Change.{Took, Made}
-use Rattle.hg_model.specs.Shown.{Shown, with_changes, graph_of}
+use Rattle.hg_model.specs.NodeView.{NodeView, with_changes, node_rows}
 use Rattle.hg_model.specs.Calls.{taken_by, taken_from, put_changes, make_answer, made_by, make_changes, IsMaking}
 use Rattle.std.proofs.lemmas.List.{length-map, length-append}
 use Rattle.std.proofs.lemmas.Option.{slice_get-get_or}
@@ -20,7 +20,7 @@ use Rattle.std.proofs.lemmas.Slice.Eq.{bytes_eq-Decides}
 use Rattle.hg_model.specs.Links.{no_row}
 use Rattle.hg_model.specs.Spelling.{spelling}
 use Rattle.hg_model.specs.Verdict.{is_held, row_limit}
-use Rattle.hg_model.specs.Shown.{IsNode}
+use Rattle.hg_model.specs.NodeView.{IsNode}
 use Rattle.hg_history.proofs.SoundLaws.{sound}
 use Rattle.hg_model.specs.Gossip.{lacking, making_by, node_made, node_put}
 use Rattle.hg_model.specs.Calls.{make_body}
@@ -31,53 +31,53 @@ use Rattle.hg_play.specs.Node.{Player, player, with_rows_of, keys_in, state_in, 
 use Rattle.hg_history.proofs.StateLaws.{replay-push}
 use Rattle.hg_history.proofs.CallLaws.{with_none}
 
-module _ {K : Type 0} (v : Shown K) where
-  none : graph_of (with_changes v []) ≡ graph_of v
-  none = ap (λ (w : Shown K). graph_of w) (with_none v [] refl)
+module _ {K : Type 0} (v : NodeView K) where
+  none : node_rows (with_changes v []) ≡ node_rows v
+  none = ap (λ (w : NodeView K). node_rows w) (with_none v [] refl)
 
-  took : (row : Row) → graph_of (with_changes v (Took row ∷ [])) ≡ graph_of v ++ row ∷ []
+  took : (row : Row) → node_rows (with_changes v (Took row ∷ [])) ≡ node_rows v ++ row ∷ []
   took row = ap (λ (s : Rattle.hg_model.specs.History.State). s.rows) (replay-push v.start.members v.start.coin v.history (Took row))
 
-  made : (row : Row) → graph_of (with_changes v (Made row ∷ [])) ≡ graph_of v ++ row ∷ []
+  made : (row : Row) → node_rows (with_changes v (Made row ∷ [])) ≡ node_rows v ++ row ∷ []
   made row = ap (λ (s : Rattle.hg_model.specs.History.State). s.rows) (replay-push v.start.members v.start.coin v.history (Made row))
 
-  taken : (answer : PutAnswer) (row : Row) → graph_of (with_changes v (taken_by answer row)) ≡ with_answer (graph_of v) row answer
+  taken : (answer : PutAnswer) (row : Row) → node_rows (with_changes v (taken_by answer row)) ≡ with_answer (node_rows v) row answer
   taken (Accepted p) row = took row
   taken (Known p) row = none
   taken (Refused f) row = none
 
-  taken_read : (accepts : K → Accepts) (read : Result Row ByteFault) → graph_of (with_changes v (taken_from accepts v read)) ≡ rows_with (accepts v.start.keys) v.start.members v.start.own (graph_of v) read
+  taken_read : (accepts : K → Accepts) (read : Result Row ByteFault) → node_rows (with_changes v (taken_from accepts v read)) ≡ rows_with (accepts v.start.keys) v.start.members v.start.own (node_rows v) read
   taken_read accepts (Err e) = none
-  taken_read accepts (Ok row) = taken (row_verdict (accepts v.start.keys) v.start.members v.start.own (graph_of v) row) row
+  taken_read accepts (Ok row) = taken (row_verdict (accepts v.start.keys) v.start.members v.start.own (node_rows v) row) row
 
   -- bytes were put
-  pub rows_put : (accepts : K → Accepts) (bytes : List ℕ) → graph_of (with_changes v (put_changes accepts v bytes)) ≡ rows_after (accepts v.start.keys) v.start.members v.start.own (graph_of v) bytes
+  pub rows_put : (accepts : K → Accepts) (bytes : List ℕ) → node_rows (with_changes v (put_changes accepts v bytes)) ≡ rows_after (accepts v.start.keys) v.start.members v.start.own (node_rows v) bytes
   unfolding put_changes
   rows_put accepts bytes = taken_read accepts (read_event bytes)
 
-  made_rows : (a : MakeAnswer) (row : Row) → graph_of (with_changes v (made_by a row)) ≡ with_made (graph_of v) row a
+  made_rows : (a : MakeAnswer) (row : Row) → node_rows (with_changes v (made_by a row)) ≡ with_made (node_rows v) row a
   made_rows (answer.Made p) row = made row
   made_rows (answer.Refused f) row = none
 
   -- an event was made, or refused
   pub rows_made : (other : Option (List ℕ)) (time : ℕ) (payload sig : List ℕ) →
-      graph_of (with_changes v (make_changes v other time payload sig)) ≡ with_made (graph_of v) (made_row v.start.own (graph_of v) other time payload sig) (making v.start.own (graph_of v) other time payload sig)
+      node_rows (with_changes v (make_changes v other time payload sig)) ≡ with_made (node_rows v) (made_row v.start.own (node_rows v) other time payload sig) (making v.start.own (node_rows v) other time payload sig)
   unfolding make_changes make_answer
-  rows_made other time payload sig = made_rows (making v.start.own (graph_of v) other time payload sig) (made_row v.start.own (graph_of v) other time payload sig)
+  rows_made other time payload sig = made_rows (making v.start.own (node_rows v) other time payload sig) (made_row v.start.own (node_rows v) other time payload sig)
 
 -- a player's node to which bytes were put
-pub player_put : (v : Shown (List (List ℕ))) (bytes : List ℕ) → player (with_changes v (put_changes accepts_by v bytes)) ≡ with_rows_of (player v) (node_put (keys_in (player v)) (state_in (player v)) bytes)
+pub player_put : (v : NodeView (List (List ℕ))) (bytes : List ℕ) → player (with_changes v (put_changes accepts_by v bytes)) ≡ with_rows_of (player v) (node_put (keys_in (player v)) (state_in (player v)) bytes)
 player_put v bytes = ap (λ (G : List Row). let p : Player = record { start = v.start; rows = G } in p) (rows_put v accepts_by bytes)
 
 -- the answer and the player's node where it made an event, or refused to
-pub record HasMade (v w : Shown (List (List ℕ))) (other : Option (List ℕ)) (time : ℕ) (payload : List ℕ) (a : MakeAnswer) : Type 0 where
+pub record HasMade (v w : NodeView (List (List ℕ))) (other : Option (List ℕ)) (time : ℕ) (payload : List ℕ) (a : MakeAnswer) : Type 0 where
   pub answer : a ≡ making_by (keys_in (player v)) (state_in (player v)) other time payload
   pub after : player w ≡ with_rows_of (player v) (node_made (keys_in (player v)) (state_in (player v)) other time payload)
 
 one_accepted : (secrets : List (List ℕ)) (m : ℕ) (body sig : List ℕ) → accepts_by secrets m body sig ≡ true → sig ≡ signature_by secrets m body
 one_accepted secrets m body sig is = (bytes_eq-Decides sig (signature_by secrets m body)).0 is
 
-pub player_made : (v w : Shown (List (List ℕ))) (other : Option (List ℕ)) (time : ℕ) (payload : List ℕ) (a : MakeAnswer) → IsMaking accepts_by v other time payload a w → HasMade v w other time payload a
+pub player_made : (v w : NodeView (List (List ℕ))) (other : Option (List ℕ)) (time : ℕ) (payload : List ℕ) (a : MakeAnswer) → IsMaking accepts_by v other time payload a w → HasMade v w other time payload a
 unfolding make_answer make_body
 player_made v w other time payload a is =
     let one = making_is_one (List (List ℕ)) accepts_by (signature_by v.start.keys) v w other time payload a (one_accepted v.start.keys) is in
@@ -124,9 +124,9 @@ unfolding replay
 no_rows n c h none = ap (λ (es : List Change). (fold (Rattle.hg_model.specs.History.step n c) Rattle.hg_model.specs.History.empty es).rows) none
 
 -- no more than a node has rows
-pub missing_few : (taker v : Shown (List (List ℕ))) → IsNode accepts_by v → (missing rest : List (List ℕ)) → missing ++ rest ≡ map spelling (lacking (graph_of taker) (graph_of v)) → length missing ≤ row_limit
+pub missing_few : (taker v : NodeView (List (List ℕ))) → IsNode accepts_by v → (missing rest : List (List ℕ)) → missing ++ rest ≡ map spelling (lacking (node_rows taker) (node_rows v)) → length missing ≤ row_limit
 missing_few taker v is missing rest whole =
-    let few : length (graph_of v) ≤ row_limit = (sound (accepts_by v.start.keys) v.start.members v.start.coin v.start.own v.history is.coin is.history).few in
-    let long = missing_length (graph_of taker) (graph_of v) in
-    let both : length missing + length rest ≡ length (map spelling (lacking (graph_of taker) (graph_of v))) = sym (length-append missing rest) ∙ ap length whole in
+    let few : length (node_rows v) ≤ row_limit = (sound (accepts_by v.start.keys) v.start.members v.start.coin v.start.own v.history is.coin is.history).few in
+    let long = missing_length (node_rows taker) (node_rows v) in
+    let both : length missing + length rest ≡ length (map spelling (lacking (node_rows taker) (node_rows v))) = sym (length-append missing rest) ∙ ap length whole in
     omega (arith, few, long, both)

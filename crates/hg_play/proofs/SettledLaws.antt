@@ -13,19 +13,19 @@ use Rattle.hg_model.specs.Rounds.{last_round}
 use Rattle.hg_model.specs.Pay.{Book, book_of}
 use Rattle.hg_model.specs.Ledger.{block_of, closed_of, order_lines}
 use Rattle.hg_play.specs.Node.{start_in}
-use Rattle.hg_model.specs.Shown.{Shown, Start, graph_of, links_of, kept_of, book_kept, last_closed_of, IsNode}
+use Rattle.hg_model.specs.NodeView.{NodeView, Start, node_rows, node_links, kept_of, book_kept, last_closed_of, IsNode}
 use Rattle.hg_history.specs.Laws.{IsSettled}
 use Rattle.hg_history.proofs.SoundLaws.{sound}
 use Rattle.hg_model.specs.History.{Accepts}
 use Rattle.hg_play.specs.Settled.{IsFinal}
 
 -- to settle a node leaves it with the order and the closed rounds of its graph
-pub settled_is_final : {K : Type 0} (accepts : K → Accepts) (old new : Shown K) → old.start ≡ new.start → IsNode accepts new → IsSettled old new → IsFinal new
+pub settled_is_final : {K : Type 0} (accepts : K → Accepts) (old new : NodeView K) → old.start ≡ new.start → IsNode accepts new → IsSettled old new → IsFinal new
 unfolding closed_of
 settled_is_final {K} accepts old new same node is =
     let n = new.start.members in
-    let G = graph_of new in
-    let linked : links_of new ≡ links G = (sound (accepts new.start.keys) n new.start.coin new.start.own new.history node.coin node.history).linked in
+    let G = node_rows new in
+    let linked : node_links new ≡ links G = (sound (accepts new.start.keys) n new.start.coin new.start.own new.history node.coin node.history).linked in
     record {
       order = is.kept ∙ ap₂ (λ (s : Start K) (H : List Row). order_of s.members s.coin H) same (sym is.rows);
       closed =
@@ -34,14 +34,14 @@ settled_is_final {K} accepts old new same node is =
     }
 
 -- the block of a final node, part by part
-pub block_is : (members : MemberList) (x : ℕ) (v : Shown (List (List ℕ))) (lines : List OrderLine) (events forking greatest closed : ℕ) (balances : List ℕ) →
-    v.start ≡ start_in members x → IsFinal v → lines ≡ order_lines (graph_of v) (links (graph_of v)) (kept_of v) (book_kept v).effects →
-    events ≡ length (graph_of v) → forking ≡ forkers v.start.members (links (graph_of v)) → greatest ≡ last_round v.start.members (links (graph_of v)) → closed ≡ last_closed_of v → balances ≡ (book_kept v).balances →
-    (let block : Block = record { member = x; events = events; forkers = forking; greatest = greatest; closed = closed; order = lines; balances = balances } in block) ≡ block_of members x (graph_of v)
+pub block_is : (members : MemberList) (x : ℕ) (v : NodeView (List (List ℕ))) (lines : List OrderLine) (events forking greatest closed : ℕ) (balances : List ℕ) →
+    v.start ≡ start_in members x → IsFinal v → lines ≡ order_lines (node_rows v) (links (node_rows v)) (kept_of v) (book_kept v).effects →
+    events ≡ length (node_rows v) → forking ≡ forkers v.start.members (links (node_rows v)) → greatest ≡ last_round v.start.members (links (node_rows v)) → closed ≡ last_closed_of v → balances ≡ (book_kept v).balances →
+    (let block : Block = record { member = x; events = events; forkers = forking; greatest = greatest; closed = closed; order = lines; balances = balances } in block) ≡ block_of members x (node_rows v)
 unfolding block_of
 block_is members x v lines events forking greatest closed balances start final lines_are events_are forking_is greatest_is closed_is balances_are =
     let n = length members.entries in
-    let G = graph_of v in
+    let G = node_rows v in
     let order : kept_of v ≡ order_of n members.coin G = final.order ∙ ap (λ (s : Start (List (List ℕ))). order_of s.members s.coin G) start in
     let the_book : book_kept v ≡ book_of (balances_of members) G (order_of n members.coin G) =
     ap (λ (s : Start (List (List ℕ))). book_of s.balances G (kept_of v)) start ∙ ap (book_of (balances_of members) G) order in

@@ -5,7 +5,7 @@ use Rattle.hg_model.specs.Members.{MemberList}
 use Rattle.hg_model.specs.Places.{table}
 use Rattle.hg_model.specs.Spelling.{spelling}
 use Rattle.hg_model.specs.Verdict.{is_held}
-use Rattle.hg_model.specs.Shown.{Shown, Start, start_of, graph_of}
+use Rattle.hg_model.specs.NodeView.{NodeView, Start, start_of, node_rows}
 use Rattle.hg_model.specs.Gossip.{Keys, NodeState, Taking}
 use Rattle.hg_sign.specs.Table.{secrets_of, signature_by, accepts_by}
 
@@ -18,8 +18,8 @@ pub record Player : Type 0 where
   pub start : Start (List (List ℕ))
   pub rows : List Row
 
-abbrev pub player : Shown (List (List ℕ)) → Player
-player v = record { start = v.start; rows = graph_of v }
+abbrev pub player : NodeView (List (List ℕ)) → Player
+player v = record { start = v.start; rows = node_rows v }
 
 -- the player with other rows
 abbrev pub with_rows_of : Player → NodeState → Player
@@ -53,5 +53,5 @@ abbrev pub missing_row : List Row → Row → List (List ℕ)
 missing_row held row = cond (is_held held row.name) [] (spelling row ∷ [])
 
 -- a node that takes events, from its parts
-abbrev pub told : NodeState → ℕ → ℕ → Taking
-told s taken refused = record { node = s; taken = taken; refused = refused }
+abbrev pub taking_of : NodeState → ℕ → ℕ → Taking
+taking_of s taken refused = record { node = s; taken = taken; refused = refused }

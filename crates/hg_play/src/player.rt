@@ -2,7 +2,7 @@ ghost use Rattle.std.specs.Prelude.{◌≡◌, ◌++◌, ◌+◌, ◌<◌, ◌�
 ghost use Rattle.hg_model.specs.Spelling.{spelling};
 ghost use Rattle.hg_model.specs.Verdict.{last_name, row_limit};
 ghost use Rattle.hg_model.specs.Gossip.{count_refused, count_taken, lacking};
-ghost use Rattle.hg_model.specs.Shown.{graph_of};
+ghost use Rattle.hg_model.specs.NodeView.{node_rows};
 ghost use Rattle.hg_play.specs.Labels.{bytes_named};
 ghost use Rattle.hg_play.specs.Node.{missing_row};
 
@@ -51,8 +51,8 @@ fn push_unless_held(
     node: &Node<MacTable>,
     place: usize,
 ) -> Result<(), Memory>
-    requires { place < length (graph_of node.now) }
-    ensures { OnOk result (option_map (λ row. missing.old.items ++ missing_row (graph_of taker.now) row) (slice_get (graph_of node.now) place) ≡ Some missing.new.items) }
+    requires { place < length (node_rows node.now) }
+    ensures { OnOk result (option_map (λ row. missing.old.items ++ missing_row (node_rows taker.now) row) (slice_get (node_rows node.now) place) ≡ Some missing.new.items) }
 {
     if taker.place_of(&node.row(place).name).is_none() {
         missing.push(copied(alloc, node.bytes(place))?)?;
@@ -66,7 +66,7 @@ fn lacking(
     taker: &Node<MacTable>,
     node: &Node<MacTable>,
 ) -> Result<Vec<Bytes>, Memory>
-    ensures value { IfOk result (λ v. v.items ≡ map spelling (lacking (graph_of taker.now) (graph_of node.now))) }
+    ensures value { IfOk result (λ v. v.items ≡ map spelling (lacking (node_rows taker.now) (node_rows node.now))) }
     ensures few { IfOk result (λ v. length v.items ≤ row_limit) }
 {
     let mut missing = Vec::new(alloc);
@@ -78,7 +78,7 @@ fn lacking(
 
 /// The bytes of the row with this name, if there is one.
 fn bytes_named(alloc: Global, node: &Node<MacTable>, name: &Name) -> Result<Bytes, Memory>
-    ensures { IfOk result (λ bytes. bytes ≡ bytes_named (graph_of node.now) name.now) }
+    ensures { IfOk result (λ bytes. bytes ≡ bytes_named (node_rows node.now) name.now) }
 {
     match node.place_of(name) {
         Some(place) => copied(alloc, node.bytes(place)),
@@ -88,7 +88,7 @@ fn bytes_named(alloc: Global, node: &Node<MacTable>, name: &Name) -> Result<Byte
 
 /// The bytes of the last row that the node made, or none.
 fn last_bytes(alloc: Global, node: &Node<MacTable>) -> Result<Bytes, Memory>
-    ensures { IfOk result (λ bytes. bytes ≡ unwrap_or (option_map (bytes_named (graph_of node.now)) (last_name node.now.start.own (graph_of node.now))) []) }
+    ensures { IfOk result (λ bytes. bytes ≡ unwrap_or (option_map (bytes_named (node_rows node.now)) (last_name node.now.start.own (node_rows node.now))) []) }
 {
     match node.last_name() {
         Some(name) => bytes_named(alloc, node, &name),
@@ -115,7 +115,7 @@ impl Player {
     ghost use Rattle.hg_model.specs.Gossip.{verdict_by, node_put, making_by, node_made, made_after, node_after, parcel_for, report_with, node_with, taking};
     ghost use Rattle.hg_model.specs.Ledger.{block_of};
     ghost use Rattle.hg_play.specs.Labels.{own_bytes};
-    ghost use Rattle.hg_play.specs.Node.{keys_in, start_in, state_in, told, with_rows_of};
+    ghost use Rattle.hg_play.specs.Node.{keys_in, start_in, state_in, taking_of, with_rows_of};
 
     /// The node of a member, without rows.
     pub(crate) fn new(alloc: Global, members: &Members, own: Member) -> Result<Player, Memory>
@@ -175,7 +175,7 @@ impl Player {
     /// Takes these events, one after the other.
     pub(crate) fn take(&mut self, events: &[Bytes]) -> Result<Counts, Memory>
         requires { length events.now ≤ row_limit }
-        ensures counts { IfOk result (λ counts. told (state_in self.new) counts.taken counts.refused ≡ taking (keys_in self.old) (state_in self.old) events.now) }
+        ensures counts { IfOk result (λ counts. taking_of (state_in self.new) counts.taken counts.refused ≡ taking (keys_in self.old) (state_in self.old) events.now) }
         ensures start { self.new.start ≡ self.old.start }
     {
         let mut counts = Counts {

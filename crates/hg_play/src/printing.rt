@@ -6,7 +6,7 @@ ghost use Rattle.hg_model.specs.Order.{sequence_of};
 ghost use Rattle.hg_model.specs.Ledger.{order_line, order_lines};
 ghost use Rattle.hg_model.specs.Prefix.{links_of};
 
-use hg_model::{Effect, Items, Memory, OrderLine, Placed, Prefix, Sight, tells_graph};
+use hg_model::{Effect, Items, Memory, OrderLine, Placed, Prefix, Sight, is_of_graph};
 use std::alloc::Global;
 
 /// How many self-ancestors the next row has, other than itself, where its self-parent is at this place.
@@ -42,7 +42,7 @@ fn order_line<P: Prefix>(p: &P, sequences: &[u64], placed: &Placed, effect: Effe
     requires sequences { sequences.now ≡ table (sequence_of (links_of (P.graph p.now))) (length (P.graph p.now).rows) }
     ensures { result ≡ order_line (P.graph p.now).rows (links_of (P.graph p.now)) placed.now effect }
 {
-    tells_graph(p);
+    is_of_graph(p);
     OrderLine {
         creator: p.creator(placed.place),
         sequence: sequences[placed.place],
@@ -64,7 +64,7 @@ pub fn order_lines<P: Prefix>(
     requires each { length effects.now ≡ length order.now }
     ensures { IfOk result (λ lines. lines ≡ order_lines (P.graph p.now).rows (links_of (P.graph p.now)) order.now effects.now) }
 {
-    tells_graph(p);
+    is_of_graph(p);
     let sequences = sequences(alloc, p)?;
     let mut lines = Vec::new(alloc);
     for (i, placed) in order.iter().enumerate() {

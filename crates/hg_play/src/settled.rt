@@ -1,6 +1,6 @@
 ghost use Rattle.std.specs.Prelude.{◌≡◌, IfOk};
 ghost use Rattle.hg_model.specs.Ledger.{block_of};
-ghost use Rattle.hg_model.specs.Shown.{graph_of};
+ghost use Rattle.hg_model.specs.NodeView.{node_rows};
 ghost use Rattle.hg_play.specs.Node.{start_in};
 ghost use Rattle.hg_play.specs.Settled.{IsFinal};
 
@@ -19,7 +19,7 @@ pub(crate) fn settled_block(
 ) -> Result<Block, Memory>
     requires start { node.now.start ≡ start_in members.now member }
     requires last { IsFinal node.now }
-    ensures { IfOk result (λ block. block ≡ block_of members.now member (graph_of node.now)) }
+    ensures { IfOk result (λ block. block ≡ block_of members.now member (node_rows node.now)) }
 {
     let events = node.rows() as u64;
     let lines = order_lines(alloc, node.graph(), node.kept(), node.effects())?;

@@ -50,9 +50,9 @@ name_of_key size received time white name sized =
 abbrev IsTold : ℕ → List Row → List ℕ × Placed → Type 0
 IsTold size G keyed = named_in G keyed.1 ≡ named_by size keyed.0
 
-all_told : (size : ℕ) (G : List Row) (xs : List (List ℕ × Placed)) → AllByRecursion (IsTold size G) xs → map (named_in G) (map (λ keyed. keyed.1) xs) ≡ map (named_by size) (map (λ keyed. keyed.0) xs)
-all_told size G [] told = refl
-all_told size G (keyed ∷ xs) told = ap₂ (λ (row : Ordered) (rows : List Ordered). row ∷ rows) told.0 (all_told size G xs told.1)
+all_known : (size : ℕ) (G : List Row) (xs : List (List ℕ × Placed)) → AllByRecursion (IsTold size G) xs → map (named_in G) (map (λ keyed. keyed.1) xs) ≡ map (named_by size) (map (λ keyed. keyed.0) xs)
+all_known size G [] matches = refl
+all_known size G (keyed ∷ xs) matches = ap₂ (λ (row : Ordered) (rows : List Ordered). row ∷ rows) matches.0 (all_known size G xs matches.1)
 
 always : ℕ → Bool
 always r = true
@@ -73,7 +73,7 @@ module _ (n size : ℕ) (G : List Row) (marks : Marks) (sizes : HasNameSizes siz
   unfolding ordered_in always
   names_by_keys =
       let rows = list_below (keyed_at n G (links G) marks) (length (links G)) (is_received_in n (links G) marks always) in
-      all_told size G (sort_by comes_before rows)
+      all_known size G (sort_by comes_before rows)
       (all_sorted (IsTold size G) comes_before rows (all_list_below (IsTold size G) (keyed_at n G (links G) marks) (length (links G)) (is_received_in n (links G) marks always) (λ x inside e. told_at x inside)))
       ∙ ap (map (named_by size))
       (sym (sort_by-map (λ (keyed : List ℕ × Placed). keyed.0) bytes_less rows)

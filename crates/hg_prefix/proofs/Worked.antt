@@ -81,14 +81,14 @@ worked_orders =
     own_chain_orders 2 10 1 early late (λ m. false) (omega arith) early_is_graph late_is_graph (equal_rows_of_part early late late_is_graph.distinct early_stands)
     (sizes 1 early refl) (sizes 1 late refl) (omega arith) (λ m low none. one_chain_of_part 2 m early late late_is_graph early_stands (no_fork_of m low))
 
-abbrev told : ℕ → ℕ → ℕ → Ordered
-told name received time = record { name = name ∷ []; received = received; time = time }
+abbrev matches : ℕ → ℕ → ℕ → Ordered
+matches name received time = record { name = name ∷ []; received = received; time = time }
 
-early_order : order_by_names 2 10 early ≡ told 1 2 1 ∷ told 2 2 2 ∷ told 3 2 3 ∷ told 4 2 4 ∷ []
+early_order : order_by_names 2 10 early ≡ matches 1 2 1 ∷ matches 2 2 2 ∷ matches 3 2 3 ∷ matches 4 2 4 ∷ []
 unfolding order_of fame_marks fame_of decides vote_of coin_at ordered_in whitening consensus_time median sort_by round_received can_receive is_closed is_unique_famous least_below is_witness round_of strongly_sees sees_through sees has_fork_below is_fork is_ancestor is_self_ancestor weight_below some_below list_below reaches by_place values_below parents self_parent creator links time_at sig_at name_at
 early_order = refl
 
-late_order : order_by_names 2 10 late ≡ told 1 2 1 ∷ told 2 2 2 ∷ told 3 2 3 ∷ told 4 2 4 ∷ told 5 3 5 ∷ told 6 3 6 ∷ []
+late_order : order_by_names 2 10 late ≡ matches 1 2 1 ∷ matches 2 2 2 ∷ matches 3 2 3 ∷ matches 4 2 4 ∷ matches 5 3 5 ∷ matches 6 3 6 ∷ []
 unfolding order_of fame_marks fame_of decides vote_of coin_at ordered_in whitening consensus_time median sort_by round_received can_receive is_closed is_unique_famous least_below is_witness round_of strongly_sees sees_through sees has_fork_below is_fork is_ancestor is_self_ancestor weight_below some_below list_below reaches by_place values_below parents self_parent creator links time_at sig_at name_at
 late_order = refl
 

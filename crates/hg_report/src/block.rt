@@ -1,4 +1,4 @@
-ghost use Rattle.hg_io.specs.Telling.{Puts, desk};
+ghost use Rattle.hg_io.specs.Printing.{Puts, desk};
 ghost use Rattle.std.specs.Prelude.{◌≡◌, ◌++◌, codes, length};
 ghost use Rattle.hg_model.specs.Report.{balance_text, balances_text, block_text, effect_text, head_text, line_end, order_line_text, order_text};
 ghost use Rattle.hg_report.specs.Pieces.{pieces_text};

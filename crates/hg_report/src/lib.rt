@@ -10,5 +10,5 @@ mod printed;
 #[cfg(test)]
 mod tests;
 
-pub use pieces::{Piece, tell_pieces};
+pub use pieces::{Piece, print_pieces};
 pub use printed::text_of;

@@ -62,7 +62,7 @@ fn make_fault_parts(fault: &MakeFault) -> (&[u8], Piece<'_>)
 }
 
 /// A text, and the two parts of what is told behind it.
-fn told<'a>(first: &'a [u8], parts: (&'a [u8], Piece<'a>)) -> Phrase<'a>
+fn phrase_of<'a>(first: &'a [u8], parts: (&'a [u8], Piece<'a>)) -> Phrase<'a>
     ensures { phrase_text result ≡ first.entry.now ++ parts.entry.0.now ++ piece_text parts.entry.1 }
 {
     Phrase {
@@ -77,9 +77,9 @@ pub(crate) fn put_answer_phrase(answer: &PutAnswer) -> Phrase<'_>
     ensures { phrase_text result ≡ put_answer_text answer.now }
 {
     match answer {
-        PutAnswer::Accepted(place) => told(b"", (b"accepted ", Piece::Number(*place as u64))),
-        PutAnswer::Known(place) => told(b"", (b"known ", Piece::Number(*place as u64))),
-        PutAnswer::Refused(fault) => told(b"refused ", fault_parts(fault)),
+        PutAnswer::Accepted(place) => phrase_of(b"", (b"accepted ", Piece::Number(*place as u64))),
+        PutAnswer::Known(place) => phrase_of(b"", (b"known ", Piece::Number(*place as u64))),
+        PutAnswer::Refused(fault) => phrase_of(b"refused ", fault_parts(fault)),
     }
 }
 
@@ -88,8 +88,8 @@ pub(crate) fn make_answer_phrase(answer: &MakeAnswer) -> Phrase<'_>
     ensures { phrase_text result ≡ make_answer_text answer.now }
 {
     match answer {
-        MakeAnswer::Made(place) => told(b"", (b"made ", Piece::Number(*place as u64))),
-        MakeAnswer::Refused(fault) => told(b"refused ", make_fault_parts(fault)),
+        MakeAnswer::Made(place) => phrase_of(b"", (b"made ", Piece::Number(*place as u64))),
+        MakeAnswer::Refused(fault) => phrase_of(b"refused ", make_fault_parts(fault)),
     }
 }
 
@@ -98,8 +98,8 @@ pub(crate) fn sync_made_phrase(made: &SyncMade) -> Phrase<'_>
     ensures { phrase_text result ≡ sync_made_text made.now }
 {
     match made {
-        SyncMade::Row(place) => told(b"", (b"", Piece::Number(*place as u64))),
-        SyncMade::PeerBare => told(b"", (b"none peer-bare", Piece::Bytes(b""))),
-        SyncMade::Fault(fault) => told(b"none ", make_fault_parts(fault)),
+        SyncMade::Row(place) => phrase_of(b"", (b"", Piece::Number(*place as u64))),
+        SyncMade::PeerBare => phrase_of(b"", (b"none peer-bare", Piece::Bytes(b""))),
+        SyncMade::Fault(fault) => phrase_of(b"none ", make_fault_parts(fault)),
     }
 }

@@ -1,6 +1,6 @@
 ghost use Rattle.std.specs.Prelude.{◌≡◌};
 ghost use Rattle.hex.specs.Hex.{encode_lower};
-ghost use Rattle.hg_io.specs.Telling.{Puts, Tells, desk};
+ghost use Rattle.hg_io.specs.Printing.{Puts, Prints, desk};
 ghost use Rattle.hg_model.specs.Report.{name_of_member};
 ghost use Rattle.hg_report.specs.Pieces.{piece_text, pieces_text};
 
@@ -52,7 +52,7 @@ fn write_piece<K: Sink>(page: &mut Page, sink: &mut K, piece: &Piece<'_>) -> Res
 }
 
 /// Puts the pieces one after the other.
-#[tactic(auto, using(hg_io::proofs::Told::none_put, hg_io::proofs::Told::more_put, hg_io::proofs::Told::all_put, hg_io::proofs::Told::stopped_within))]
+#[tactic(auto, using(hg_io::proofs::PrintLaws::none_put, hg_io::proofs::PrintLaws::more_put, hg_io::proofs::PrintLaws::all_put, hg_io::proofs::PrintLaws::stopped_within))]
 pub(crate) fn write_pieces<K: Sink>(
     page: &mut Page,
     sink: &mut K,
@@ -69,9 +69,9 @@ pub(crate) fn write_pieces<K: Sink>(
 /// Writes the pieces, one after the other. It takes no memory; the sink gets pages of up to 4,096 bytes, and a piece that is
 /// longer than a page by itself.
 /// `Failed` comes with the first fault of the sink, which has then taken a front of their text, and not all of it.
-#[tactic(auto, using(hg_io::proofs::Told::stopped_part, hg_io::proofs::Told::told_by_page))]
-pub fn tell_pieces<K: Sink>(sink: &mut K, pieces: &[Piece<'_>]) -> Result<(), Failed>
-    ensures { Tells K.Sink sink.old sink.new (pieces_text pieces.now) result }
+#[tactic(auto, using(hg_io::proofs::PrintLaws::stopped_part, hg_io::proofs::PrintLaws::printed_by_page))]
+pub fn print_pieces<K: Sink>(sink: &mut K, pieces: &[Piece<'_>]) -> Result<(), Failed>
+    ensures { Prints K.Sink sink.old sink.new (pieces_text pieces.now) result }
 {
     let mut page = Page::new();
     write_pieces(&mut page, sink, pieces)?;

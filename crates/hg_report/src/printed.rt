@@ -1,4 +1,4 @@
-ghost use Rattle.hg_io.specs.Telling.{Puts, Tells, desk};
+ghost use Rattle.hg_io.specs.Printing.{Puts, Prints, desk};
 ghost use Rattle.hg_model.specs.Report.{answer_line, printed_text, printed_texts, pull_line, report_text, sync_line};
 ghost use Rattle.hg_report.specs.Phrases.{phrase_text};
 
@@ -132,9 +132,9 @@ fn write_texts<K: Sink>(
 /// Writes the text of all that a run prints. It takes no memory; the sink gets pages of up to 4,096 bytes, and a piece that
 /// is longer than a page by itself.
 /// `Failed` comes with the first fault of the sink, which has then taken a front of the text, and not all of it.
-#[tactic(auto, using(hg_io::proofs::Told::stopped_part))]
+#[tactic(auto, using(hg_io::proofs::PrintLaws::stopped_part))]
 pub fn text_of<K: Sink>(outcome: &Outcome, sink: &mut K) -> Result<(), Failed>
-    ensures { Tells K.Sink sink.old sink.new (report_text outcome.now) result }
+    ensures { Prints K.Sink sink.old sink.new (report_text outcome.now) result }
 {
     let mut page = Page::new();
     write_texts(

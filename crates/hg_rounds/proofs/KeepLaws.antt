@@ -5,7 +5,7 @@ use Rattle.std.proofs.lemmas.List.{length_push, length-set, get_or_append_left, 
 use Rattle.hg_model.specs.Places.{list_below, maximum_below}
 use Rattle.hg_model.specs.Standings.{Standing, witnesses_in, greatest_in}
 use Rattle.hg_rounds.specs.Listed.{Listed}
-use Rattle.hg_rounds.specs.Tabled.{standing, nothing, list_at, room_by, KeepsLists}
+use Rattle.hg_rounds.specs.Tabled.{standing, no_list, list_at, room_by, KeepsLists}
 use Rattle.hg_rounds.proofs.StandingLaws.{witnesses_in_above, witnesses_in_push, greatest_in_push, by_row_push}
 
 none_of : (lists : List Listed) → length lists ≡ 2 → (list_at lists 0).places ≡ [] → (list_at lists 1).places ≡ [] → (r : ℕ) → r < length lists → (list_at lists r).places ≡ witnesses_in [] r
@@ -21,7 +21,7 @@ keeps_none zeroth one none_zeroth none_one = record {
   by_row = record { first = λ x h. absurd (omega arith); next = λ x h. absurd (omega arith) };
   greatest = refl;
   long = refl;
-  told = none_of (zeroth ∷ one ∷ []) refl none_zeroth none_one;
+  matches = none_of (zeroth ∷ one ∷ []) refl none_zeroth none_one;
   one = omega arith;
   spare = λ r h apart later. absurd (omega arith);
 }
@@ -48,14 +48,14 @@ module _ (S : List Standing) (lists : List Listed) (top full : ℕ) (keeps : Kee
     -- the lists once the new row is in its own, if it is a witness
     pub record Marked (marked : List Listed) (may_be_full : ℕ) : Type 0 where
       pub long : length marked ≡ length lists
-      pub told : (r : ℕ) → r < length lists → (list_at marked r).places ≡ witnesses_in T r
+      pub matches : (r : ℕ) → r < length lists → (list_at marked r).places ≡ witnesses_in T r
       pub one : may_be_full < length lists
       pub spare : (r : ℕ) → r < length lists → r ≢ may_be_full → 1 ≤ (list_at marked r).room
 
     pub marked_not : witness ≡ false → Marked lists full
     marked_not fails = record {
       long = refl;
-      told = λ r h. keeps.told r h
+      matches = λ r h. keeps.matches r h
           ∙ (sym (append-nil (witnesses_in S r))
           ∙ (ap (λ b. witnesses_in S r ++ cond (b && eqb round r) (length S ∷ []) []) (sym fails)
           ∙ sym (witnesses_in_push S (standing round witness) r)));
@@ -68,22 +68,22 @@ module _ (S : List Standing) (lists : List Listed) (top full : ℕ) (keeps : Kee
         let there : round < length lists = (let long = keeps.long in omega arith) in
         record {
           long = length-set lists round grown;
-          told = λ r h. elim (cases_eq r round) [
+          matches = λ r h. elim (cases_eq r round) [
             | inl here ↦ subst (λ k. (list_at (slice_set lists round grown) k).places ≡ witnesses_in T k) (sym here)
-                (ap (λ (l : Listed). l.places) (get_or-set_same lists round grown nothing there)
+                (ap (λ (l : Listed). l.places) (get_or-set_same lists round grown no_list there)
                 ∙ (is
-                ∙ (ap (λ xs. xs ++ length S ∷ []) (keeps.told round there)
+                ∙ (ap (λ xs. xs ++ length S ∷ []) (keeps.matches round there)
                 ∙ (ap (λ b. witnesses_in S round ++ cond b (length S ∷ []) []) (sym (ap (λ b. b && eqb round round) passes ∙ eq-eqb round round refl))
                 ∙ sym (witnesses_in_push S (standing round witness) round)))))
             | inr other ↦
-                ap (λ (l : Listed). l.places) (get_or-set_other lists round r grown nothing other)
-                ∙ (keeps.told r h
+                ap (λ (l : Listed). l.places) (get_or-set_other lists round r grown no_list other)
+                ∙ (keeps.matches r h
                 ∙ (sym (append-nil (witnesses_in S r))
                 ∙ (ap (λ b. witnesses_in S r ++ cond b (length S ∷ []) []) (sym (ap (λ b. b && eqb round r) passes ∙ ne_eqb round r (λ e. other (sym e))))
                 ∙ sym (witnesses_in_push S (standing round witness) r))))
           ];
           one = there;
-          spare = λ r h apart. subst (λ (l : Listed). 1 ≤ l.room) (sym (get_or-set_other lists round r grown nothing apart)) (all_roomy r h);
+          spare = λ r h apart. subst (λ (l : Listed). 1 ≤ l.room) (sym (get_or-set_other lists round r grown no_list apart)) (all_roomy r h);
         }
 
     module _ (marked : List Listed) (may_be_full : ℕ) (m : Marked marked may_be_full) where
@@ -99,7 +99,7 @@ module _ (S : List Standing) (lists : List Listed) (top full : ℕ) (keeps : Kee
         by_row = by_row;
         greatest = omega (arith, greatest_is);
         long = m.long ∙ keeps.long;
-        told = λ r h. m.told r (omega (arith, m.long));
+        matches = λ r h. m.matches r (omega (arith, m.long));
         one = omega (arith, m.long, m.one);
         spare = λ r h apart later. m.spare r (omega (arith, m.long)) apart;
       }
@@ -114,10 +114,10 @@ module _ (S : List Standing) (lists : List Listed) (top full : ℕ) (keeps : Kee
             by_row = by_row;
             greatest = sym top_is;
             long = omega arith;
-            told = λ r h. elim (cases_lt r (length lists)) [
-              | inl before ↦ ap (λ (l : Listed). l.places) (get_or_append_left marked (empty ∷ []) nothing r (omega (arith, m.long))) ∙ m.told r before
-              | inr past ↦ ap (λ (l : Listed). l.places) (get_or_push marked empty nothing r (omega (arith, m.long))) ∙ (none ∙ sym (witnesses_in_above T r (omega arith)))
+            matches = λ r h. elim (cases_lt r (length lists)) [
+              | inl before ↦ ap (λ (l : Listed). l.places) (get_or_append_left marked (empty ∷ []) no_list r (omega (arith, m.long))) ∙ m.matches r before
+              | inr past ↦ ap (λ (l : Listed). l.places) (get_or_push marked empty no_list r (omega (arith, m.long))) ∙ (none ∙ sym (witnesses_in_above T r (omega arith)))
             ];
             one = omega (arith, m.one);
-            spare = λ r h apart later. subst (λ (l : Listed). 1 ≤ l.room) (sym (get_or_append_left marked (empty ∷ []) nothing r (omega (arith, m.long)))) (m.spare r (omega arith) apart);
+            spare = λ r h apart later. subst (λ (l : Listed). 1 ≤ l.room) (sym (get_or_append_left marked (empty ∷ []) no_list r (omega (arith, m.long)))) (m.spare r (omega arith) apart);
           }

@@ -33,20 +33,20 @@ module _ (n : ℕ) (L : List Link) (shaped : IsShaped n L) (some : 0 < length L)
   pub table_long : length S ≡ last
   table_long = ap (λ (s : List Standing). length s) is ∙ (length-standings n (take last L) ∙ first_long)
 
-  pub round_told : (p : ℕ) → p < last → round_at S p ≡ round_of n L p
-  round_told p h =
+  pub round_known : (p : ℕ) → p < last → round_at S p ≡ round_of n L p
+  round_known p h =
       ap (λ s. round_at s p) is
       ∙ (round_at-standings n (take last L) p (omega (arith, first_long))
       ∙ sym (round_of-longer (take last L) L (longer-take L last (omega arith)) n p (omega (arith, first_long))))
 
-  pub parents_told : AllByRecursion (λ p. p < length S) (parents L last)
-  parents_told = subst (λ k. AllByRecursion (λ p. p < k) (parents L last)) (sym table_long) (parents_below L last shaped.earlier)
+  pub parents_known : AllByRecursion (λ p. p < length S) (parents L last)
+  parents_known = subst (λ k. AllByRecursion (λ p. p < k) (parents L last)) (sym table_long) (parents_below L last shaped.earlier)
 
-  pub greatest_told : parent_round (round_at S) (parents L last) ≡ parent_round (round_of n L) (parents L last)
-  greatest_told = greatest_round-same (round_at S) (round_of n L) (parents L last) (λ p h. round_told p (shaped.earlier.earlier last p h))
+  pub greatest_known : parent_round (round_at S) (parents L last) ≡ parent_round (round_of n L) (parents L last)
+  greatest_known = greatest_round-same (round_at S) (round_of n L) (parents L last) (λ p h. round_known p (shaped.earlier.earlier last p h))
 
-  witnesses_told : (r : ℕ) → witnesses_in S r ≡ list_below (λ x. x) last (λ x. is_witness n L x && eqb (round_of n L x) r)
-  witnesses_told r =
+  witnesses_known : (r : ℕ) → witnesses_in S r ≡ list_below (λ x. x) last (λ x. is_witness n L x && eqb (round_of n L x) r)
+  witnesses_known r =
       ap (λ s. witnesses_in s r) is
       ∙ (witnesses_in-standings n (take last L) r
       ∙ (ap (λ k. list_below (λ x. x) k (λ x. is_witness n (take last L) x && eqb (round_of n (take last L) x) r)) first_long
@@ -59,54 +59,54 @@ module _ (n : ℕ) (L : List Link) (shaped : IsShaped n L) (some : 0 < length L)
 
   -- all witnesses of the table stand before the last row
   pub witnesses_below : (r : ℕ) → AllByRecursion (λ y. y < last) (witnesses_in S r)
-  witnesses_below r = subst (AllByRecursion (λ y. y < last)) (sym (witnesses_told r))
+  witnesses_below r = subst (AllByRecursion (λ y. y < last)) (sym (witnesses_known r))
       (all_list_below (λ y. y < last) (λ x. x) last (λ x. is_witness n L x && eqb (round_of n L x) r) (λ k h t. h))
 
   pub witnesses_few : (r : ℕ) → length (witnesses_in S r) ≤ last
   witnesses_few r =
-      omega (arith, ap (λ (xs : List ℕ). length xs) (witnesses_told r), length-list_below-le (λ (x : ℕ). x) last (λ x. is_witness n L x && eqb (round_of n L x) r))
+      omega (arith, ap (λ (xs : List ℕ). length xs) (witnesses_known r), length-list_below-le (λ (x : ℕ). x) last (λ x. is_witness n L x && eqb (round_of n L x) r))
 
   -- how many of them the last row strongly sees
-  pub seen_told : (r : ℕ) → count_by (strongly_sees n L last) (witnesses_in S r) ≡ count_below last (is_seen_witness (round_of n L) n L r last)
+  pub seen_known : (r : ℕ) → count_by (strongly_sees n L last) (witnesses_in S r) ≡ count_below last (is_seen_witness (round_of n L) n L r last)
   unfolding is_witness
-  seen_told r = ap (count_by (strongly_sees n L last)) (witnesses_told r) ∙ count_by-list_below (strongly_sees n L last) last (λ x. is_witness n L x && eqb (round_of n L x) r)
+  seen_known r = ap (count_by (strongly_sees n L last)) (witnesses_known r) ∙ count_by-list_below (strongly_sees n L last) last (λ x. is_witness n L x && eqb (round_of n L x) r)
 
   -- the round of the last row
-  pub last_round_told : (r seen : ℕ) (many : Bool) → r ≡ parent_round (round_at S) (parents L last) → seen ≡ count_by (strongly_sees n L last) (witnesses_in S r) →
+  pub last_round_known : (r seen : ℕ) (many : Bool) → r ≡ parent_round (round_at S) (parents L last) → seen ≡ count_by (strongly_sees n L last) (witnesses_in S r) →
       many ≡ is_supermajority n seen → cond many (r + 1) r ≡ round_of n L last
-  last_round_told r seen many r_is seen_is many_is =
-      let r_told : r ≡ parent_round (round_of n L) (parents L last) = r_is ∙ greatest_told in
-      let seen_count : seen ≡ count_below last (is_seen_witness (round_of n L) n L r last) = seen_is ∙ seen_told r in
-      sym (round_of-at n L shaped.earlier last ∙ rw (← r_told, ← seen_count, ← many_is) refl)
+  last_round_known r seen many r_is seen_is many_is =
+      let r_known : r ≡ parent_round (round_of n L) (parents L last) = r_is ∙ greatest_known in
+      let seen_count : seen ≡ count_below last (is_seen_witness (round_of n L) n L r last) = seen_is ∙ seen_known r in
+      sym (round_of-at n L shaped.earlier last ∙ rw (← r_known, ← seen_count, ← many_is) refl)
 
   last_round_fits : round_of n L last ≤ last + 1
   last_round_fits = round_of-le n L shaped.earlier last
 
   pub greatest_fits : parent_round (round_at S) (parents L last) ≤ last + 1
-  greatest_fits = rw greatest_told (elim (round_of_cases n L shaped.earlier last) [
+  greatest_fits = rw greatest_known (elim (round_of_cases n L shaped.earlier last) [
     | inl up ↦ omega (arith, last_round_fits, up.1)
     | inr stay ↦ omega (arith, last_round_fits, stay.1)
   ])
 
   -- whether it is a witness
-  pub last_witness_told : (round : ℕ) → round ≡ round_of n L last →
+  pub last_witness_known : (round : ℕ) → round ≡ round_of n L last →
       list_all (λ p. ltb (round_at S p) round) (first_place (parents L last)) ≡ is_witness n L last
   unfolding is_witness self_parent
-  last_witness_told round is_round =
+  last_witness_known round is_round =
       list_all-same (λ p. ltb (round_at S p) round) (λ p. ltb (round_of n L p) (round_of n L last)) (first_place (parents L last)) (λ p h.
-      let told = round_told p (shaped.earlier.earlier last p (Rattle.hg_model.proofs.PushLaws.first_of_places (parents L last) p h)) in
+      let matches = round_known p (shaped.earlier.earlier last p (Rattle.hg_model.proofs.PushLaws.first_of_places (parents L last) p h)) in
       cc)
 
-  pub first_told : 1 ≤ round_of n L last
-  first_told = (let pos = round_of-pos n L shaped.earlier last in omega arith)
+  pub first_known : 1 ≤ round_of n L last
+  first_known = (let pos = round_of-pos n L shaped.earlier last in omega arith)
 
   known_round : (p : ℕ) → p < last → round_of n L p ≤ greatest_in S
   unfolding greatest_in
-  known_round p h = omega (arith, maximum_below_bounds (round_at S) (length S) p (omega (arith, table_long)), round_told p h)
+  known_round p h = omega (arith, maximum_below_bounds (round_at S) (length S) p (omega (arith, table_long)), round_known p h)
 
   -- the last row's round is at most one above the greatest
-  pub next_told : round_of n L last ≤ greatest_in S + 1
-  next_told = elim (cases_eq last 0) [
+  pub next_known : round_of n L last ≤ greatest_in S + 1
+  next_known = elim (cases_eq last 0) [
     | inl zeroth ↦ (let le = last_round_fits in omega arith)
     | inr later ↦
         (let known = known_round 0 (omega arith) in
@@ -123,6 +123,6 @@ module _ (n : ℕ) (L : List Link) (shaped : IsShaped n L) (some : 0 < length L)
       step_to (inr stay) = omega (arith, stay.1)
 
   -- with it the table has the standings of the whole graph
-  pub whole_told : (round : ℕ) (witness : Bool) → round ≡ round_of n L last → witness ≡ is_witness n L last → S ++ standing round witness ∷ [] ≡ standings_of n L
-  whole_told round witness is_round is_witness_told =
-      rw (is, is_round, is_witness_told) (sym (standings_last n L shaped last long))
+  pub whole_known : (round : ℕ) (witness : Bool) → round ≡ round_of n L last → witness ≡ is_witness n L last → S ++ standing round witness ∷ [] ≡ standings_of n L
+  whole_known round witness is_round is_witness_known =
+      rw (is, is_round, is_witness_known) (sym (standings_last n L shaped last long))

@@ -29,12 +29,12 @@ last_parents shape = parents shape.links (last_place shape)
 abbrev pub before_last : Shape → Shape
 before_last shape = first_links shape (last_place shape)
 
-abbrev pub nothing : Listed
-nothing = record { places = []; room = 0 }
+abbrev pub no_list : Listed
+no_list = record { places = []; room = 0 }
 
 -- the list of round r
 abbrev pub list_at : List Listed → ℕ → Listed
-list_at lists r = get_or lists r nothing
+list_at lists r = get_or lists r no_list
 
 -- each row's round is from 1 to one above the greatest before it
 pub record IsByRow (S : List Standing) : Type 0 where
@@ -47,7 +47,7 @@ pub record KeepsLists (S : List Standing) (lists : List Listed) (top full : ℕ)
   pub by_row : IsByRow S
   pub greatest : top ≡ greatest_in S
   pub long : length lists ≡ top + 2
-  pub told : (r : ℕ) → r < length lists → (list_at lists r).places ≡ witnesses_in S r
+  pub matches : (r : ℕ) → r < length lists → (list_at lists r).places ≡ witnesses_in S r
   pub one : full < length lists
   pub spare : (r : ℕ) → r < length lists → r ≢ full → r ≢ top + 1 → 1 ≤ (list_at lists r).room
 

@@ -6,7 +6,7 @@
 mod laws;
 mod place;
 mod table;
-mod told;
+mod row_round;
 mod witnesses;
 
 pub use laws::rounds_are_found_row_by_row;

@@ -2,7 +2,7 @@ ghost use Rattle.std.specs.Prelude.{◌≡◌, ◌<◌, ◌≤◌, ◌+◌, ◌-
 ghost use Rattle.hg_model.specs.Standings.{greatest_in, round_at, witness_at, witnesses_in};
 ghost use Rattle.hg_rounds.specs.Tabled.{standing};
 
-use crate::told::Told;
+use crate::row_round::RowRound;
 use crate::witnesses::Witnesses;
 use hg_model::{Memory, Rounds};
 use std::alloc::Global;
@@ -12,7 +12,7 @@ use std::marker::Model;
 #[derive(Drop)]
 pub struct RoundTable {
     alloc: Global,
-    rows: Vec<Told>,
+    rows: Vec<RowRound>,
     /// The witnesses of each round from 0 to the next one; those of round 0 and of the next one are none.
     lists: Vec<Witnesses>,
     greatest: u32,
@@ -76,7 +76,7 @@ impl RoundTable {
             self.greatest = round;
             self.lists.push_reserved(Witnesses::new(self.alloc));
         }
-        self.rows.push_reserved(Told { round, witness });
+        self.rows.push_reserved(RowRound { round, witness });
     }
 
     /// The table of the first `len` rows, as a value of its own.
@@ -87,8 +87,8 @@ impl RoundTable {
         let mut table = RoundTable::new(self.alloc)?;
         for x in 0..len {
             table.reserve()?;
-            let told = &self.rows[x];
-            table.add(told.round, told.witness);
+            let standing = &self.rows[x];
+            table.add(standing.round, standing.witness);
         }
         Ok(table)
     }
@@ -99,14 +99,14 @@ impl Rounds for RoundTable {
 
     #[tactic(auto, using(crate::proofs::StandingLaws::standing_reads))]
     fn round(&self, x: usize) -> u32 {
-        let told = &self.rows[x];
-        told.round
+        let standing = &self.rows[x];
+        standing.round
     }
 
     #[tactic(auto, using(crate::proofs::StandingLaws::standing_reads))]
     fn is_witness(&self, x: usize) -> bool {
-        let told = &self.rows[x];
-        told.witness
+        let standing = &self.rows[x];
+        standing.witness
     }
 
     #[tactic(auto, using(crate::proofs::StandingLaws::witnesses_in_above))]

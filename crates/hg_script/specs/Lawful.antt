@@ -19,19 +19,19 @@ abbrev pub HasNode : MemberList → ℕ → Type 0
 HasNode members m = has_node members m ≡ true
 
 -- the payload of an event can be so long
-abbrev pub Fits : List ℕ → Type 0
-Fits payload = length payload ≤ payload_limit
+abbrev pub IsShortPayload : List ℕ → Type 0
+IsShortPayload payload = length payload ≤ payload_limit
 
 abbrev pub IsGossip : MemberList → Gossip → Type 0
-IsGossip members (Create member time payload) = HasNode members member × Fits payload
-IsGossip members (Sync taker peer time payload) = HasNode members taker × HasNode members peer × (taker ≢ peer) × Fits payload
+IsGossip members (Create member time payload) = HasNode members member × IsShortPayload payload
+IsGossip members (Sync taker peer time payload) = HasNode members taker × HasNode members peer × (taker ≢ peer) × IsShortPayload payload
 IsGossip members (Pull taker peer) = HasNode members taker × HasNode members peer × (taker ≢ peer)
-IsGossip members (Join member label time payload) = HasNode members member × Fits payload
+IsGossip members (Join member label time payload) = HasNode members member × IsShortPayload payload
 IsGossip members (Give member label) = HasNode members member
 
 abbrev pub IsSource : MemberList → Source → Type 0
 IsSource members (Last member) = HasNode members member
-IsSource members (Forged creator parents time payload) = Fits payload
+IsSource members (Forged creator parents time payload) = IsShortPayload payload
 IsSource members _ = ⊤
 
 -- the members that the action names have nodes, and its payload fits

@@ -3,7 +3,7 @@ ghost use Rattle.std.specs.List.{list_any};
 ghost use Rattle.std.specs.Str.{bytes_eq};
 ghost use Rattle.hg_script.specs.Lawful.{IsLow, IsNew};
 ghost use Rattle.hg_script.specs.Script.{nothing_above, with_line};
-ghost use Rattle.hg_script.specs.Table as told;
+ghost use Rattle.hg_script.specs.Table as spec;
 
 use crate::found::Found;
 use crate::line::{Action, Gossip, Line};
@@ -23,9 +23,9 @@ pub struct Above<'a> {
 
 impl<'a> Model for Above<'a> {
     ghost use Rattle.std.specs.Prelude.{ℕ, map, ◌↔◌, IsBitSet, IsTrue};
-    ghost use Rattle.hg_script.specs.Table.{Above as Shown, is_created};
+    ghost use Rattle.hg_script.specs.Table.{Above as NodeView, is_created};
 
-    ghost Value = { Shown };
+    ghost Value = { NodeView };
 
     ghost view = { λ s. record { lines = s.lines.items; labels = map (λ name. name.now) s.labels.keys } };
 
@@ -58,7 +58,7 @@ fn add_label<'a>(labels: &mut IndexSet<&'a [u8]>, label: &'a [u8]) -> Result<(),
 /// These members, and the one whose node makes its first event, if one does.
 fn with_creator(created: u128, action: &Action) -> u128
     requires { IsLow action.now }
-    ensures { (x : ℕ) → IsBitSet result x ↔ IsBitSet created x ⊎ IsTrue (told.creates x action.now) }
+    ensures { (x : ℕ) → IsBitSet result x ↔ IsBitSet created x ⊎ IsTrue (spec.creates x action.now) }
 {
     match action {
         Action::Gossip(Gossip::Create { member, .. }) => created | 1 << *member,
@@ -81,7 +81,7 @@ impl<'a> Above<'a> {
     /// Whether a `create` line of the member is among the lines.
     pub fn is_created(&self, member: Member) -> bool
         requires { member < 128 }
-        ensures { result ≡ told.is_created self.now.lines member }
+        ensures { result ≡ spec.is_created self.now.lines member }
     {
         self.created & (1 << member) != 0
     }

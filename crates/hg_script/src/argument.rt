@@ -6,7 +6,7 @@ ghost use Rattle.hg_model.specs.Members.{is_digit};
 ghost use Rattle.hg_model.specs.Results.{Reads};
 ghost use Rattle.hg_script.specs.Gives.{Gives};
 ghost use Rattle.hg_script.specs.Lawful.{HasNode};
-ghost use Rattle.hg_script.specs.Argument as told;
+ghost use Rattle.hg_script.specs.Argument as spec;
 
 use crate::above::Above;
 use crate::fault::Why;
@@ -29,7 +29,7 @@ fn with_digit(value: u64, digit: u8) -> Option<u64>
 }
 
 fn value_of(word: &[u8]) -> Result<u64, Why>
-    ensures { result ≡ told.below (2 ^ 64) (told.value_after 0 word.now) }
+    ensures { result ≡ spec.below (2 ^ 64) (spec.value_after 0 word.now) }
 {
     let mut value: u64 = 0;
     for digit in word {
@@ -46,7 +46,7 @@ fn value_of(word: &[u8]) -> Result<u64, Why>
 
 /// A number of 64 bits.
 pub fn number_of(word: &[u8]) -> Result<u64, Why>
-    ensures { result ≡ told.number_of word.now }
+    ensures { result ≡ spec.number_of word.now }
 {
     if word.is_empty() || word.len() > 20 {
         return Err(Why::Number);
@@ -66,7 +66,7 @@ fn place_of(members: &Members, name: &[u8]) -> Option<usize>
 
 /// The member with this name.
 pub fn member_of(members: &Members, word: &[u8]) -> Result<Member, Why>
-    ensures value { result ≡ told.member_of members.now word.now }
+    ensures value { result ≡ spec.member_of members.now word.now }
     ensures listed { IfOk result (λ m. m < 128) }
 {
     match place_of(members, word) {
@@ -76,7 +76,7 @@ pub fn member_of(members: &Members, word: &[u8]) -> Result<Member, Why>
 }
 
 fn has_node(members: &Members, member: Member) -> bool
-    ensures { result ≡ told.has_node members.now member }
+    ensures { result ≡ spec.has_node members.now member }
 {
     match members.entries().get(member as usize) {
         Some(entry) => entry.has_node,
@@ -85,7 +85,7 @@ fn has_node(members: &Members, member: Member) -> bool
 }
 
 fn with_node(members: &Members, member: Member) -> Result<Member, Why>
-    ensures value { result ≡ told.with_node members.now member }
+    ensures value { result ≡ spec.with_node members.now member }
     ensures node { IfOk result (λ m. HasNode members.now m × (m ≡ member)) }
 {
     if has_node(members, member) {
@@ -97,7 +97,7 @@ fn with_node(members: &Members, member: Member) -> Result<Member, Why>
 
 /// The member with this name, who must have a node.
 pub fn node_of(members: &Members, word: &[u8]) -> Result<Member, Why>
-    ensures value { result ≡ told.node_of members.now word.now }
+    ensures value { result ≡ spec.node_of members.now word.now }
     ensures node { IfOk result (λ m. HasNode members.now m × (m < 128)) }
 {
     with_node(members, member_of(members, word)?)
@@ -105,7 +105,7 @@ pub fn node_of(members: &Members, word: &[u8]) -> Result<Member, Why>
 
 /// The member with this name, who must have a node and be another than the taker.
 pub fn peer_of(members: &Members, taker: Member, word: &[u8]) -> Result<Member, Why>
-    ensures value { result ≡ told.peer_of members.now taker word.now }
+    ensures value { result ≡ spec.peer_of members.now taker word.now }
     ensures node { IfOk result (λ m. HasNode members.now m × (m ≢ taker)) }
 {
     let peer = member_of(members, word)?;
@@ -117,7 +117,7 @@ pub fn peer_of(members: &Members, taker: Member, word: &[u8]) -> Result<Member, 
 
 /// A number below 256.
 pub fn byte_of(word: &[u8]) -> Result<u8, Why>
-    ensures { result ≡ told.byte_of word.now }
+    ensures { result ≡ spec.byte_of word.now }
 {
     let number = number_of(word)?;
     if number < 256 {
@@ -129,7 +129,7 @@ pub fn byte_of(word: &[u8]) -> Result<u8, Why>
 
 /// The number of a label that was made above.
 pub fn label_of(above: &Above<'_>, word: &[u8]) -> Result<usize, Why>
-    ensures { result ≡ told.label_of above.now.labels word.now }
+    ensures { result ≡ spec.label_of above.now.labels word.now }
 {
     match above.place_of(word) {
         Some(place) => Ok(place),
@@ -139,7 +139,7 @@ pub fn label_of(above: &Above<'_>, word: &[u8]) -> Result<usize, Why>
 
 /// The name of a label to be made.
 pub fn new_label<'a>(above: &Above<'_>, word: &'a [u8]) -> Result<&'a [u8], Why>
-    ensures value { Reads (λ label. label.now) result (told.new_label above.now.labels word.now) }
+    ensures value { Reads (λ label. label.now) result (spec.new_label above.now.labels word.now) }
     ensures new { IfOk result (λ label. list_any (bytes_eq label.now) above.now.labels ≡ false) }
 {
     if !is_member_name(word) {
@@ -152,14 +152,14 @@ pub fn new_label<'a>(above: &Above<'_>, word: &'a [u8]) -> Result<&'a [u8], Why>
 }
 
 fn is_dash(word: &[u8]) -> bool
-    ensures { result ≡ told.is_dash word.now }
+    ensures { result ≡ spec.is_dash word.now }
 {
     word == b"-".as_slice()
 }
 
 /// The numbers of two labels of parents, or none for `- -`.
 pub fn parents_of(above: &Above<'_>, s: &[u8], o: &[u8]) -> Result<Option<(usize, usize)>, Why>
-    ensures { result ≡ told.parents_of above.now.labels s.now o.now }
+    ensures { result ≡ spec.parents_of above.now.labels s.now o.now }
 {
     if is_dash(s) && is_dash(o) {
         return Ok(None);
@@ -179,7 +179,7 @@ pub fn digits_form(
     most: usize,
     word: &[u8],
 ) -> Result<Option<Bytes>, AllocError>
-    ensures value { IfOk result (λ bytes. bytes ≡ told.digits_form least most word.now) }
+    ensures value { IfOk result (λ bytes. bytes ≡ spec.digits_form least most word.now) }
     ensures fits { IfOk result (λ bytes. IfSome bytes (λ b. 2 * length b ≤ most)) }
 {
     if word.len() < least || word.len() > most {
@@ -194,7 +194,7 @@ pub fn digits_form(
 
 /// The bytes of 2 to 8,192 hexadecimal digits.
 pub fn bytes_of(alloc: Global, word: &[u8]) -> Result<Bytes, Stop<Why>>
-    ensures { Gives (λ bytes. bytes) result (told.bytes_of word.now) }
+    ensures { Gives (λ bytes. bytes) result (spec.bytes_of word.now) }
 {
     match digits_form(alloc, 2, 8192, word)? {
         Some(bytes) => Ok(bytes),

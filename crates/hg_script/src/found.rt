@@ -1,6 +1,6 @@
 ghost use Rattle.std.specs.Prelude.{◌≡◌};
 ghost use Rattle.std.specs.Option.{option_copied};
-ghost use Rattle.hg_script.specs.Table as told;
+ghost use Rattle.hg_script.specs.Table as spec;
 
 use crate::line::Action;
 use std::marker::Model;
@@ -24,7 +24,7 @@ impl<'a> Model for Found<'a> {
 impl<'a> Found<'a> {
     /// A line that makes no label.
     pub fn does(action: Action) -> Found<'a>
-        ensures { result ≡ told.does action }
+        ensures { result ≡ spec.does action }
     {
         Found {
             action,
@@ -34,7 +34,7 @@ impl<'a> Found<'a> {
 
     /// A line that makes the label of this name.
     pub fn makes(action: Action, label: &'a [u8]) -> Found<'a>
-        ensures { result ≡ told.makes action label.now }
+        ensures { result ≡ spec.makes action label.now }
     {
         Found {
             action,

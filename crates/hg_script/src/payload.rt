@@ -4,7 +4,7 @@ ghost use Rattle.std.specs.Option.{option_copied};
 ghost use Rattle.hg_model.specs.Pay.{pay_bytes, transfer_bytes, transfer_limit};
 ghost use Rattle.hg_model.specs.Spelling.{payload_limit};
 ghost use Rattle.hg_script.specs.Gives.{Gives};
-ghost use Rattle.hg_script.specs.Payload as told;
+ghost use Rattle.hg_script.specs.Payload as spec;
 
 use crate::argument::{digits_form, member_of, number_of};
 use crate::fault::Why;
@@ -16,60 +16,60 @@ use std::alloc::{AllocError, Global};
 const MOST_ITEMS: usize = 64;
 
 fn is_comma(byte: u8) -> bool
-    ensures { result ≡ told.is_comma byte }
+    ensures { result ≡ spec.is_comma byte }
 {
     byte == b','
 }
 
 fn is_equals(byte: u8) -> bool
-    ensures { result ≡ told.is_equals byte }
+    ensures { result ≡ spec.is_equals byte }
 {
     byte == b'='
 }
 
 fn is_item(part: &[u8]) -> bool
-    ensures { result ≡ told.is_item part.now }
+    ensures { result ≡ spec.is_item part.now }
 {
     part.iter().filter(|byte| is_equals(**byte)).count() == 1
 }
 
 fn are_items(parts: &[&[u8]]) -> bool
-    ensures { result ≡ list_all (λ part. told.is_item part.now) parts.now }
+    ensures { result ≡ list_all (λ part. spec.is_item part.now) parts.now }
 {
     parts.iter().all(|part| is_item(*part))
 }
 
 /// How many commas there are.
 fn commas_in(text: &[u8]) -> usize
-    ensures { result ≡ count_by told.is_comma text.now }
+    ensures { result ≡ count_by spec.is_comma text.now }
 {
     text.iter().filter(|byte| is_comma(**byte)).count()
 }
 
 /// Whether the text has at most 64 parts, which is looked at before any of them is kept.
 fn has_few_parts(text: &[u8]) -> bool
-    ensures { result ≡ nat_le (length (told.parts_of text.now)) transfer_limit }
+    ensures { result ≡ nat_le (length (spec.parts_of text.now)) transfer_limit }
 {
     commas_in(text) < MOST_ITEMS
 }
 
 /// The parts of a text between commas.
 fn parts_of<'a>(alloc: Global, text: &'a [u8]) -> Result<Vec<&'a [u8]>, AllocError>
-    ensures { IfOk result (λ parts. map (λ part. part.now) parts.items ≡ told.parts_of text.now) }
+    ensures { IfOk result (λ parts. map (λ part. part.now) parts.items ≡ spec.parts_of text.now) }
 {
     text.split(|byte| is_comma(*byte)).collect(alloc)
 }
 
 fn equals_in(part: &[u8]) -> Option<usize>
-    ensures { result ≡ position told.is_equals part.now }
+    ensures { result ≡ position spec.is_equals part.now }
 {
     part.iter().position(|byte| is_equals(*byte))
 }
 
 /// What stands before the first `=`, and behind it.
 fn sides_of(part: &[u8]) -> (&[u8], &[u8])
-    ensures before { result.0.now ≡ before_first told.is_equals part.now }
-    ensures after { result.1.now ≡ after_first told.is_equals part.now }
+    ensures before { result.0.now ≡ before_first spec.is_equals part.now }
+    ensures after { result.1.now ≡ after_first spec.is_equals part.now }
 {
     match equals_in(part) {
         Some(end) => (&part[..end], &part[end + 1..]),
@@ -79,7 +79,7 @@ fn sides_of(part: &[u8]) -> (&[u8], &[u8])
 
 /// A number below 65,536.
 fn id_of(word: &[u8]) -> Result<Member, Why>
-    ensures { result ≡ told.id_of word.now }
+    ensures { result ≡ spec.id_of word.now }
 {
     let number = number_of(word)?;
     if number < 65_536 {
@@ -90,7 +90,7 @@ fn id_of(word: &[u8]) -> Result<Member, Why>
 }
 
 fn receiver_of(members: &Members, word: &[u8]) -> Result<Member, Why>
-    ensures { result ≡ told.receiver_of members.now word.now }
+    ensures { result ≡ spec.receiver_of members.now word.now }
 {
     match word {
         [b'#', id @ ..] => id_of(id),
@@ -100,7 +100,7 @@ fn receiver_of(members: &Members, word: &[u8]) -> Result<Member, Why>
 
 #[tactic(auto, unfolding(crate::specs::Payload::transfer_of))]
 fn transfer_of(members: &Members, part: &[u8]) -> Result<Transfer, Why>
-    ensures { result ≡ told.transfer_of members.now part.now }
+    ensures { result ≡ spec.transfer_of members.now part.now }
 {
     let (receiver, amount) = sides_of(part);
     let receiver = receiver_of(members, receiver)?;
@@ -113,7 +113,7 @@ fn transfers_of(
     members: &Members,
     parts: &[&[u8]],
 ) -> Result<Vec<Transfer>, Stop<Why>>
-    ensures value { Gives (λ transfers. transfers.items) result (told.transfers_of members.now (map (λ part. part.now) parts.now)) }
+    ensures value { Gives (λ transfers. transfers.items) result (spec.transfers_of members.now (map (λ part. part.now) parts.now)) }
     ensures many { IfOk result (λ transfers. length transfers.items ≡ length parts.now) }
 {
     let mut transfers = Vec::with_capacity(alloc, parts.len())?;
@@ -150,7 +150,7 @@ fn pay_bytes(alloc: Global, transfers: &[Transfer]) -> Result<Vec<u8>, AllocErro
 /// The payload of the transfers of these items.
 fn pay_in(alloc: Global, members: &Members, parts: &[&[u8]]) -> Result<Bytes, Stop<Why>>
     requires { length parts.now ≤ transfer_limit }
-    ensures value { Gives (λ payload. payload) result (told.pay_in members.now (map (λ part. part.now) parts.now)) }
+    ensures value { Gives (λ payload. payload) result (spec.pay_in members.now (map (λ part. part.now) parts.now)) }
     ensures fits { IfOk result (λ payload. length payload ≤ payload_limit) }
 {
     let transfers = transfers_of(alloc, members, parts)?;
@@ -159,7 +159,7 @@ fn pay_in(alloc: Global, members: &Members, parts: &[&[u8]]) -> Result<Bytes, St
 
 /// The payload of the transfers behind `pay:`.
 fn pay_of(alloc: Global, members: &Members, text: &[u8]) -> Result<Bytes, Stop<Why>>
-    ensures value { Gives (λ payload. payload) result (told.pay_of members.now text.now) }
+    ensures value { Gives (λ payload. payload) result (spec.pay_of members.now text.now) }
     ensures fits { IfOk result (λ payload. length payload ≤ payload_limit) }
 {
     if !has_few_parts(text) {
@@ -174,7 +174,7 @@ fn pay_of(alloc: Global, members: &Members, text: &[u8]) -> Result<Bytes, Stop<W
 
 /// The bytes of at most 2,048 hexadecimal digits.
 fn hex_of(alloc: Global, digits: &[u8]) -> Result<Bytes, Stop<Why>>
-    ensures value { Gives (λ payload. payload) result (told.hex_of digits.now) }
+    ensures value { Gives (λ payload. payload) result (spec.hex_of digits.now) }
     ensures fits { IfOk result (λ payload. length payload ≤ payload_limit) }
 {
     match digits_form(alloc, 0, 2048, digits)? {
@@ -184,7 +184,7 @@ fn hex_of(alloc: Global, digits: &[u8]) -> Result<Bytes, Stop<Why>>
 }
 
 fn payload_word(alloc: Global, members: &Members, word: &[u8]) -> Result<Bytes, Stop<Why>>
-    ensures value { Gives (λ payload. payload) result (told.payload_word members.now word.now) }
+    ensures value { Gives (λ payload. payload) result (spec.payload_word members.now word.now) }
     ensures fits { IfOk result (λ payload. length payload ≤ payload_limit) }
 {
     if let Some(digits) = word.strip_prefix(b"hex:".as_slice()) {
@@ -198,7 +198,7 @@ fn payload_word(alloc: Global, members: &Members, word: &[u8]) -> Result<Bytes, 
 
 /// The payload that the word tells, or an empty one without the word.
 pub fn payload_of(alloc: Global, members: &Members, word: Option<&[u8]>) -> Result<Bytes, Stop<Why>>
-    ensures value { Gives (λ payload. payload) result (told.payload_of members.now (option_copied word.entry)) }
+    ensures value { Gives (λ payload. payload) result (spec.payload_of members.now (option_copied word.entry)) }
     ensures fits { IfOk result (λ payload. length payload ≤ payload_limit) }
 {
     match word {

@@ -3,7 +3,7 @@ ghost use Rattle.std.specs.Str.{is_utf8};
 ghost use Rattle.std.specs.Str.Lines.{lines};
 ghost use Rattle.hg_script.specs.Gives.{Gives};
 ghost use Rattle.hg_script.specs.Lawful.{IsFound, IsLine};
-ghost use Rattle.hg_script.specs.Script as told;
+ghost use Rattle.hg_script.specs.Script as spec;
 
 use crate::above::Above;
 use crate::fault::{ScriptFault, Why};
@@ -30,7 +30,7 @@ fn line_in<'a>(
     above: &Above<'_>,
     words: &[&'a [u8]],
 ) -> Result<Option<Found<'a>>, Stop<Why>>
-    ensures value { Gives (λ found. found) result (told.line_in members.now above.now (map (λ word. word.now) words.now)) }
+    ensures value { Gives (λ found. found) result (spec.line_in members.now above.now (map (λ word. word.now) words.now)) }
     ensures lawful { IfOk result (λ found. IfSome found (IsFound members.now above.now)) }
 {
     match words {
@@ -46,7 +46,7 @@ fn line_of<'a>(
     above: &Above<'_>,
     line: &'a [u8],
 ) -> Result<Option<Found<'a>>, Stop<Why>>
-    ensures value { Gives (λ found. found) result (told.line_of members.now above.now line.now) }
+    ensures value { Gives (λ found. found) result (spec.line_of members.now above.now line.now) }
     ensures lawful { IfOk result (λ found. IfSome found (IsFound members.now above.now)) }
 {
     if !is_text(line) {
@@ -64,7 +64,7 @@ fn push_line<'a>(
     number: u64,
     line: &'a [u8],
 ) -> Result<(), Stop<ScriptFault>>
-    ensures read { Gives (λ _. above.new) result (told.line_more members.now above.old number line.now) }
+    ensures read { Gives (λ _. above.new) result (spec.line_more members.now above.old number line.now) }
     ensures lawful { All (IsLine members.now) above.old.lines → OnOk result (All (IsLine members.now) above.new.lines) }
 {
     match line_of(alloc, members, above, line) {
@@ -81,7 +81,7 @@ fn all_lines<'a>(
     bytes: &'a [u8],
     members: &Members,
 ) -> Result<Above<'a>, Stop<ScriptFault>>
-    ensures read { Gives (λ above. above) result (told.lines_after members.now told.nothing_above 1 (lines bytes.now)) }
+    ensures read { Gives (λ above. above) result (spec.lines_after members.now spec.nothing_above 1 (lines bytes.now)) }
     ensures lawful { IfOk result (λ above. All (IsLine members.now) above.lines) }
 {
     let mut above = Above::new(alloc);
@@ -103,7 +103,7 @@ pub fn read_script(
     bytes: &[u8],
     members: &Members,
 ) -> Result<Result<Items<Line>, ScriptFault>, Memory>
-    ensures lines { IfOk result (λ answer. answer ≡ told.lines_of bytes.now members.now) }
+    ensures lines { IfOk result (λ answer. answer ≡ spec.lines_of bytes.now members.now) }
     ensures lawful { IfOk result (λ answer. IfOk answer (λ lines. All (IsLine members.now) lines)) }
 {
     match all_lines(alloc, bytes, members) {

@@ -3,7 +3,7 @@ ghost use Rattle.std.specs.Option.{option_copied};
 ghost use Rattle.hg_model.specs.Members.{MemberList};
 ghost use Rattle.hg_script.specs.Gives.{Gives};
 ghost use Rattle.hg_script.specs.Lawful.{IsFound};
-ghost use Rattle.hg_script.specs.Table as told;
+ghost use Rattle.hg_script.specs.Table as spec;
 ghost use Rattle.hg_script.specs.declared.line.Action.TheVariants.{Label};
 
 use crate::above::Above;
@@ -20,13 +20,13 @@ use hg_model::Members;
 use std::alloc::Global;
 
 fn gossip<'a>(gossip: Gossip) -> Found<'a>
-    ensures { result ≡ told.gossip gossip }
+    ensures { result ≡ spec.gossip gossip }
 {
     Found::does(Action::Gossip(gossip))
 }
 
 fn makes<'a>(source: Source, label: &'a [u8]) -> Found<'a>
-    ensures { result ≡ told.makes (Label source) label.now }
+    ensures { result ≡ spec.makes (Label source) label.now }
 {
     Found::makes(Action::Label(source), label)
 }
@@ -40,7 +40,7 @@ fn create<'a>(
     t: &[u8],
     p: Option<&[u8]>,
 ) -> Result<Found<'a>, Stop<Why>>
-    ensures value { Gives (λ found. found) result (told.create members.now above.now x.now t.now (option_copied p.entry)) }
+    ensures value { Gives (λ found. found) result (spec.create members.now above.now x.now t.now (option_copied p.entry)) }
     ensures lawful { IfOk result (IsFound members.now above.now) }
 {
     let member = node_of(members, x)?;
@@ -62,7 +62,7 @@ fn create_line<'a>(
     above: &Above<'_>,
     arguments: &[&[u8]],
 ) -> Result<Found<'a>, Stop<Why>>
-    ensures value { Gives (λ found. found) result (told.two_or_three (told.create members.now above.now) (map (λ word. word.now) arguments.now)) }
+    ensures value { Gives (λ found. found) result (spec.two_or_three (spec.create members.now above.now) (map (λ word. word.now) arguments.now)) }
     ensures lawful { IfOk result (IsFound members.now above.now) }
 {
     match arguments {
@@ -82,7 +82,7 @@ fn sync<'a>(
     t: &[u8],
     p: Option<&[u8]>,
 ) -> Result<Found<'a>, Stop<Why>>
-    ensures value { Gives (λ found. found) result (told.sync members.now above.now x.now y.now t.now (option_copied p.entry)) }
+    ensures value { Gives (λ found. found) result (spec.sync members.now above.now x.now y.now t.now (option_copied p.entry)) }
     ensures lawful { IfOk result (IsFound members.now above.now) }
 {
     let taker = node_of(members, x)?;
@@ -106,7 +106,7 @@ fn sync_line<'a>(
     above: &Above<'_>,
     arguments: &[&[u8]],
 ) -> Result<Found<'a>, Stop<Why>>
-    ensures value { Gives (λ found. found) result (told.three_or_four (told.sync members.now above.now) (map (λ word. word.now) arguments.now)) }
+    ensures value { Gives (λ found. found) result (spec.three_or_four (spec.sync members.now above.now) (map (λ word. word.now) arguments.now)) }
     ensures lawful { IfOk result (IsFound members.now above.now) }
 {
     match arguments {
@@ -118,8 +118,8 @@ fn sync_line<'a>(
 
 #[tactic(auto, unfolding(crate::specs::Table::pull))]
 fn pull<'a>(members: &Members, x: &[u8], y: &[u8]) -> Result<Found<'a>, Why>
-    ensures value { result ≡ told.pull members.now x.now y.now }
-    ensures lawful { (above : told.Above) → IfOk result (IsFound members.now above) }
+    ensures value { result ≡ spec.pull members.now x.now y.now }
+    ensures lawful { (above : spec.Above) → IfOk result (IsFound members.now above) }
 {
     let taker = node_of(members, x)?;
     let peer = peer_of(members, taker, y)?;
@@ -136,7 +136,7 @@ fn join<'a>(
     t: &[u8],
     p: Option<&[u8]>,
 ) -> Result<Found<'a>, Stop<Why>>
-    ensures value { Gives (λ found. found) result (told.join members.now above.now x.now l.now t.now (option_copied p.entry)) }
+    ensures value { Gives (λ found. found) result (spec.join members.now above.now x.now l.now t.now (option_copied p.entry)) }
     ensures lawful { IfOk result (IsFound members.now above.now) }
 {
     let member = node_of(members, x)?;
@@ -160,7 +160,7 @@ fn join_line<'a>(
     above: &Above<'_>,
     arguments: &[&[u8]],
 ) -> Result<Found<'a>, Stop<Why>>
-    ensures value { Gives (λ found. found) result (told.three_or_four (told.join members.now above.now) (map (λ word. word.now) arguments.now)) }
+    ensures value { Gives (λ found. found) result (spec.three_or_four (spec.join members.now above.now) (map (λ word. word.now) arguments.now)) }
     ensures lawful { IfOk result (IsFound members.now above.now) }
 {
     match arguments {
@@ -172,7 +172,7 @@ fn join_line<'a>(
 
 #[tactic(auto, unfolding(crate::specs::Table::name))]
 fn name<'a>(members: &Members, above: &Above<'_>, l: &'a [u8], x: &[u8]) -> Result<Found<'a>, Why>
-    ensures value { result ≡ told.name members.now above.now l.now x.now }
+    ensures value { result ≡ spec.name members.now above.now l.now x.now }
     ensures lawful { IfOk result (IsFound members.now above.now) }
 {
     let label = new_label(above, l)?;
@@ -192,7 +192,7 @@ fn forge<'a>(
     t: &[u8],
     p: Option<&[u8]>,
 ) -> Result<Found<'a>, Stop<Why>>
-    ensures value { Gives (λ found. found) result (told.forge members.now above.now l.now m.now s.now o.now t.now (option_copied p.entry)) }
+    ensures value { Gives (λ found. found) result (spec.forge members.now above.now l.now m.now s.now o.now t.now (option_copied p.entry)) }
     ensures lawful { IfOk result (IsFound members.now above.now) }
 {
     let label = new_label(above, l)?;
@@ -217,7 +217,7 @@ fn forge_line<'a>(
     above: &Above<'_>,
     arguments: &[&'a [u8]],
 ) -> Result<Found<'a>, Stop<Why>>
-    ensures value { Gives (λ found. found) result (told.five_or_six (told.forge members.now above.now) (map (λ word. word.now) arguments.now)) }
+    ensures value { Gives (λ found. found) result (spec.five_or_six (spec.forge members.now above.now) (map (λ word. word.now) arguments.now)) }
     ensures lawful { IfOk result (IsFound members.now above.now) }
 {
     match arguments {
@@ -229,7 +229,7 @@ fn forge_line<'a>(
 
 #[tactic(auto, unfolding(crate::specs::Table::raw))]
 fn raw<'a>(alloc: Global, above: &Above<'_>, l: &'a [u8], h: &[u8]) -> Result<Found<'a>, Stop<Why>>
-    ensures value { Gives (λ found. found) result (told.raw above.now l.now h.now) }
+    ensures value { Gives (λ found. found) result (spec.raw above.now l.now h.now) }
     ensures lawful { (members : MemberList) → IfOk result (IsFound members above.now) }
 {
     let label = new_label(above, l)?;
@@ -245,7 +245,7 @@ fn alter<'a>(
     place: &[u8],
     b: &[u8],
 ) -> Result<Found<'a>, Why>
-    ensures value { result ≡ told.alter above.now l.now l2.now place.now b.now }
+    ensures value { result ≡ spec.alter above.now l.now l2.now place.now b.now }
     ensures lawful { (members : MemberList) → IfOk result (IsFound members above.now) }
 {
     let label = new_label(above, l)?;
@@ -264,7 +264,7 @@ fn alter<'a>(
 
 #[tactic(auto, unfolding(crate::specs::Table::cut))]
 fn cut<'a>(above: &Above<'_>, l: &'a [u8], l2: &[u8], k: &[u8]) -> Result<Found<'a>, Why>
-    ensures value { result ≡ told.cut above.now l.now l2.now k.now }
+    ensures value { result ≡ spec.cut above.now l.now l2.now k.now }
     ensures lawful { (members : MemberList) → IfOk result (IsFound members above.now) }
 {
     let label = new_label(above, l)?;
@@ -275,7 +275,7 @@ fn cut<'a>(above: &Above<'_>, l: &'a [u8], l2: &[u8], k: &[u8]) -> Result<Found<
 
 #[tactic(auto, unfolding(crate::specs::Table::give))]
 fn give<'a>(members: &Members, above: &Above<'_>, x: &[u8], l: &[u8]) -> Result<Found<'a>, Why>
-    ensures value { result ≡ told.give members.now above.now x.now l.now }
+    ensures value { result ≡ spec.give members.now above.now x.now l.now }
     ensures lawful { IfOk result (IsFound members.now above.now) }
 {
     let member = node_of(members, x)?;
@@ -285,8 +285,8 @@ fn give<'a>(members: &Members, above: &Above<'_>, x: &[u8], l: &[u8]) -> Result<
 
 #[tactic(auto, unfolding(crate::specs::Table::show))]
 fn show<'a>(members: &Members, x: &[u8]) -> Result<Found<'a>, Why>
-    ensures value { result ≡ told.show members.now x.now }
-    ensures lawful { (above : told.Above) → IfOk result (IsFound members.now above) }
+    ensures value { result ≡ spec.show members.now x.now }
+    ensures lawful { (above : spec.Above) → IfOk result (IsFound members.now above) }
 {
     let member = node_of(members, x)?;
     Ok(Found::does(Action::Show { member }))
@@ -294,8 +294,8 @@ fn show<'a>(members: &Members, x: &[u8]) -> Result<Found<'a>, Why>
 
 #[tactic(auto, unfolding(crate::specs::Table::names))]
 fn names<'a>(members: &Members, x: &[u8]) -> Result<Found<'a>, Why>
-    ensures value { result ≡ told.names members.now x.now }
-    ensures lawful { (above : told.Above) → IfOk result (IsFound members.now above) }
+    ensures value { result ≡ spec.names members.now x.now }
+    ensures lawful { (above : spec.Above) → IfOk result (IsFound members.now above) }
 {
     let member = node_of(members, x)?;
     Ok(Found::does(Action::Names { member }))
@@ -308,7 +308,7 @@ fn line_by<'a>(
     verb: Verb,
     arguments: &[&'a [u8]],
 ) -> Result<Found<'a>, Stop<Why>>
-    ensures value { Gives (λ found. found) result (told.line_by members.now above.now verb (map (λ word. word.now) arguments.now)) }
+    ensures value { Gives (λ found. found) result (spec.line_by members.now above.now verb (map (λ word. word.now) arguments.now)) }
     ensures lawful { IfOk result (IsFound members.now above.now) }
 {
     match (verb, arguments) {
@@ -343,7 +343,7 @@ pub fn found_by<'a>(
     word: &[u8],
     arguments: &[&'a [u8]],
 ) -> Result<Found<'a>, Stop<Why>>
-    ensures value { Gives (λ found. found) result (told.found_by members.now above.now word.now (map (λ word. word.now) arguments.now)) }
+    ensures value { Gives (λ found. found) result (spec.found_by members.now above.now word.now (map (λ word. word.now) arguments.now)) }
     ensures lawful { IfOk result (IsFound members.now above.now) }
 {
     match Verb::of(word) {

@@ -96,8 +96,8 @@ fn lines_are_read(rt: HostRuntime) -> Result<(), Fail> {
     assert_eq!(rt; lines.as_slice().len(), LINES.len());
     for (line, (number, action)) in lines.as_slice().iter().zip(&LINES) {
         assert_eq!(rt; line.number, *number);
-        let told = format!(in rt.alloc(); "{:?}", line.action)?;
-        assert_eq!(rt; told.as_str(), *action);
+        let matches = format!(in rt.alloc(); "{:?}", line.action)?;
+        assert_eq!(rt; matches.as_str(), *action);
     }
     Ok(())
 }
@@ -171,7 +171,7 @@ const REFUSED: [(&[u8], u64, Why); 26] = [
 ];
 
 #[test]
-fn whys_are_told(rt: HostRuntime) -> Result<(), Fail> {
+fn whys_are_known(rt: HostRuntime) -> Result<(), Fail> {
     for (text, line, why) in &REFUSED {
         let fault = ScriptFault {
             line: *line,

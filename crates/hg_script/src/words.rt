@@ -1,6 +1,6 @@
 ghost use Rattle.std.specs.Prelude.{◌≡◌, ◌<◌, ◌∷◌, length, map, position, take, IfOk};
 ghost use Rattle.std.specs.Str.Lines.{lines, strip_carriage_return};
-ghost use Rattle.hg_script.specs.Script as told;
+ghost use Rattle.hg_script.specs.Script as spec;
 
 use std::alloc::{AllocError, Global};
 
@@ -8,14 +8,14 @@ use std::alloc::{AllocError, Global};
 pub const MOST_WORDS: usize = 8;
 
 fn is_blank(byte: u8) -> bool
-    ensures { result ≡ told.is_blank byte }
+    ensures { result ≡ spec.is_blank byte }
 {
     byte == b' ' || byte == b'\t'
 }
 
 /// The words of a line, or the first `MOST_WORDS` of more.
 pub fn words_of<'a>(alloc: Global, line: &'a [u8]) -> Result<Vec<&'a [u8]>, AllocError>
-    ensures { IfOk result (λ words. map (λ word. word.now) words.items ≡ take MOST_WORDS (told.words_of line.now)) }
+    ensures { IfOk result (λ words. map (λ word. word.now) words.items ≡ take MOST_WORDS (spec.words_of line.now)) }
 {
     line.split(|byte| is_blank(*byte))
         .filter(|part| !part.is_empty())
@@ -33,7 +33,7 @@ fn without_return(line: &[u8]) -> &[u8]
 }
 
 fn line_feed_in(rest: &[u8]) -> Option<usize>
-    ensures { result ≡ position told.is_line_feed rest.now }
+    ensures { result ≡ position spec.is_line_feed rest.now }
 {
     rest.iter().position(|byte| *byte == b'\n')
 }

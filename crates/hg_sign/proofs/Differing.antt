@@ -12,8 +12,8 @@ use Rattle.std.proofs.lemmas.Slice.Eq.{bytes_eq-Decides}
 use Rattle.std.proofs.lemmas.List.{same_from_push, take_all}
 
 -- the number is zero just where the lists are equal
-abbrev pub Tells : ℕ → List ℕ → List ℕ → Type 0
-Tells d xs ys = (d ≡ 0) ↔ (xs ≡ ys)
+abbrev pub AreDifferences : ℕ → List ℕ → List ℕ → Type 0
+AreDifferences d xs ys = (d ≡ 0) ↔ (xs ≡ ys)
 
 same_bit : (x y : ℕ) → x < 2 → y < 2 → (x + y) % 2 ≡ 0 → x ≡ y
 same_bit x y xl yl e = omega (arith, e)
@@ -22,8 +22,8 @@ same_from_xor : (x y : ℕ) → bit_xor x y ≡ 0 → x ≡ y
 same_from_xor x y e =
     same_from_bits x y (λ i. same_bit (bit_at x i) (bit_at y i) (bit_at-lt x i) (bit_at-lt y i) (sym (bit_at_xor x y i) ∙ ap (λ (n : ℕ). bit_at n i) e ∙ bit_at-zero i))
 
-Tells-push : (d x y : ℕ) (xs ys : List ℕ) → Tells d xs ys → Tells (bit_or d (bit_xor x y)) (xs ++ x ∷ []) (ys ++ y ∷ [])
-Tells-push d x y xs ys tells = (
+AreDifferences-push : (d x y : ℕ) (xs ys : List ℕ) → AreDifferences d xs ys → AreDifferences (bit_or d (bit_xor x y)) (xs ++ x ∷ []) (ys ++ y ∷ [])
+AreDifferences-push d x y xs ys tells = (
   λ e.
       let left : d ≡ 0 = omega (arith, e, le_or_l d (bit_xor x y)) in
       let right : bit_xor x y ≡ 0 = omega (arith, e, le_or_r d (bit_xor x y)) in
@@ -34,12 +34,12 @@ Tells-push d x y xs ys tells = (
 )
 
 -- one byte more of each
-pub Tells-more : (d i : ℕ) (xs ys : List ℕ) → i < length xs → i < length ys → Tells d (take i xs) (take i ys) → Tells (bit_or d (bit_xor (get_or xs i 0) (get_or ys i 0))) (take (i + 1) xs) (take (i + 1) ys)
-Tells-more d i xs ys in_xs in_ys tells =
-    rw (add-one i, take-suc xs i 0 in_xs, take-suc ys i 0 in_ys) (Tells-push d (get_or xs i 0) (get_or ys i 0) (take i xs) (take i ys) tells)
+pub AreDifferences-more : (d i : ℕ) (xs ys : List ℕ) → i < length xs → i < length ys → AreDifferences d (take i xs) (take i ys) → AreDifferences (bit_or d (bit_xor (get_or xs i 0) (get_or ys i 0))) (take (i + 1) xs) (take (i + 1) ys)
+AreDifferences-more d i xs ys in_xs in_ys tells =
+    rw (add-one i, take-suc xs i 0 in_xs, take-suc ys i 0 in_ys) (AreDifferences-push d (get_or xs i 0) (get_or ys i 0) (take i xs) (take i ys) tells)
 
 -- all bytes of both
-pub Tells-all : (d n : ℕ) (xs ys : List ℕ) → length xs ≤ n → length ys ≤ n → Tells d (take n xs) (take n ys) → eqb d 0 ≡ bytes_eq xs ys
-Tells-all d n xs ys in_xs in_ys tells =
-    let whole : Tells d xs ys = rw (take_all n xs in_xs, take_all n ys in_ys) at tells in
+pub AreDifferences-all : (d n : ℕ) (xs ys : List ℕ) → length xs ≤ n → length ys ≤ n → AreDifferences d (take n xs) (take n ys) → eqb d 0 ≡ bytes_eq xs ys
+AreDifferences-all d n xs ys in_xs in_ys tells =
+    let whole : AreDifferences d xs ys = rw (take_all n xs in_xs, take_all n ys in_ys) at tells in
     same_from_decides (eqb d 0) (bytes_eq xs ys) (λ e. whole.0 (eqb-true d 0 e), λ e. eq-eqb d 0 (whole.1 e)) (bytes_eq-Decides xs ys)

@@ -1,4 +1,4 @@
 pub mod Accepted
 pub mod Reading
 pub mod Top
-pub mod Telling
+pub mod Printing

@@ -4,7 +4,7 @@
 #![tactic(auto)]
 
 mod status;
-mod telling;
+mod printing;
 #[cfg(test)]
 mod tests;
 mod top;

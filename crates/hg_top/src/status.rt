@@ -1,5 +1,5 @@
 ghost use Rattle.std.specs.Prelude.{◌≡◌};
-ghost use Rattle.hg_top.specs.Telling.{status_code};
+ghost use Rattle.hg_top.specs.Printing.{status_code};
 
 use hg_members::MemberFault;
 use hg_script::ScriptFault;

@@ -5,11 +5,11 @@ ghost use Rattle.hg_script.specs.Lawful.{IsLine};
 ghost use Rattle.hg_words.specs.Asked.{request_of};
 ghost use Rattle.hg_top.specs.Reading.{ReadsLines, ReadsMembers, StopsAtMembers, StopsAtScript, Writes};
 ghost use Rattle.hg_top.specs.Accepted.{file_names};
-ghost use Rattle.hg_top.specs.Telling.{IsToldOn, status_line};
+ghost use Rattle.hg_top.specs.Printing.{IsPrintedOn, status_line};
 ghost use Rattle.hg_top.specs.Top.{Ends, EndsBy, IsComplete, IsRefused, IsUsage, outside};
 
 use crate::status::{File, Refusal, Status};
-use crate::telling::tell;
+use crate::printing::report_status;
 use hg_io::{Failed, FileAnswer, Shelf, Sink, read_file};
 use hg_members::read_members;
 use hg_model::{Items, Members, Memory, Outcome};
@@ -120,7 +120,7 @@ pub fn hashgraph<F: Shelf, K: Sink, E: Sink>(
     ensures usage { IsUsage (map string_bytes words.now) result }
     ensures refused { IsRefused (F.holds shelf.old) (map string_bytes words.now) (outside (F.faults shelf.old) (K.faults out.old) (K.written out.old)) (outside (F.faults shelf.new) (K.faults out.new) (K.written out.new)) result }
     ensures complete { IsComplete (F.holds shelf.old) (map string_bytes words.now) (outside (F.faults shelf.old) (K.faults out.old) (K.written out.old)) (outside (F.faults shelf.new) (K.faults out.new) (K.written out.new)) result }
-    ensures told { IsToldOn (E.written err.old) (E.written err.new) (E.faults err.old) (E.faults err.new) (status_line result) }
+    ensures matches { IsPrintedOn (E.written err.old) (E.written err.new) (E.faults err.old) (E.faults err.new) (status_line result) }
     ensures same { F.holds shelf.new ≡ F.holds shelf.old }
 {
     let status = match read_words(alloc, words) {
@@ -136,6 +136,6 @@ pub fn hashgraph<F: Shelf, K: Sink, E: Sink>(
         Ok(None) => Status::Usage,
         Err(Memory) => Status::Memory,
     };
-    tell(err, status);
+    report_status(err, status);
     status
 }

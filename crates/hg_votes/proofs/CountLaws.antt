@@ -17,13 +17,13 @@ use Rattle.hg_votes.specs.Counting.{HoldsBallots}
 
 -- the list of a round's witnesses has each of them
 pub witness_listed : (g : Graph) (r y : ℕ) (S : List Standing) (ws : List ℕ) → S ≡ standings_of g.members (links_of g) → ws ≡ witnesses_in S r → IsWitnessOf g r y → has_place ws y ≡ true
-witness_listed g r y S ws told is w =
+witness_listed g r y S ws matches is w =
     let n = g.members in
     let L = links_of g in
     let test : ℕ → Bool = λ y. is_witness n L y && eqb (round_of n L y) r in
     let place : y < length g.rows = w.place in
     let passes : test y ≡ true = and_from (is_witness n L y) (eqb (round_of n L y) r) w.witness (eq-eqb (round_of n L y) r w.round) in
-    rw (is, told, witnesses_in-standings n L r)
+    rw (is, matches, witnesses_in-standings n L r)
     (list_any-list_below (λ p. eqb p y) (length L) test
     ∙ some_below_from (length L) (λ p. test p && eqb p y) y (omega (arith, length-links g.rows)) (and_from (test y) (eqb y y) passes (eq-eqb y y refl)))
 
@@ -73,12 +73,12 @@ module _ (g : Graph) (x r : ℕ) (ws : List ℕ) (below : 0 < r) where
 
   -- all of the round
   pub round_done : (S : List Standing) (ballots : List Ballot) → S ≡ standings_of g.members (links_of g) → ws ≡ witnesses_in S r → HoldsRound g x r ws ballots → HoldsBallots g x r ballots
-  round_done S ballots told is held = record {
+  round_done S ballots matches is held = record {
     len = held.before.len;
     at = λ y known.
         let top : round_of g.members (links_of g) y ≤ r = known.counted in
         elim (cases_lt (round_of g.members (links_of g) y) r) [
           | inl low ↦ held.before.at y (record { place = known.place; witness = known.witness; above = known.above; counted = omega arith })
-          | inr high ↦ held.listed_at y known (witness_listed g r y S ws told is (record { place = known.place; witness = known.witness; round = omega arith }))
+          | inr high ↦ held.listed_at y known (witness_listed g r y S ws matches is (record { place = known.place; witness = known.witness; round = omega arith }))
         ];
   }

@@ -23,18 +23,18 @@ use Rattle.hg_votes.specs.Counting.{HoldsVoters}
 
 -- the witnesses of a round are places of the graph
 pub witnesses_there : (n : ℕ) (L : List Link) (r m : ℕ) (S : List Standing) (ws : List ℕ) → S ≡ standings_of n L → ws ≡ witnesses_in S r → length L ≡ m → AllByRecursion (λ w. w < m) ws
-witnesses_there n L r m S ws told is long =
-    rw (is, told, witnesses_in-standings n L r) (all_list_below (λ w. w < m) (λ w. w) (length L) (λ w. is_witness n L w && eqb (round_of n L w) r) (λ k h e. omega arith))
+witnesses_there n L r m S ws matches is long =
+    rw (is, matches, witnesses_in-standings n L r) (all_list_below (λ w. w < m) (λ w. w) (length L) (λ w. is_witness n L w && eqb (round_of n L w) r) (λ k h e. omega arith))
 
 -- those of the witnesses of the round before that are strongly seen
 pub voters_found : (g : Graph) (y r : ℕ) (shape : Shape) (S : List Standing) (ws seen : List ℕ) → shape ≡ shape_of g.members (links_of g) → S ≡ standings_of g.members (links_of g) →
     r ≡ round_of g.members (links_of g) y - 1 → ws ≡ witnesses_in S r → seen ≡ filter (strongly_sees shape.members shape.links y) ws → seen ≡ voters_of g y
 unfolding voters_of is_witness
-voters_found g y r shape S ws seen shaped told before is found =
+voters_found g y r shape S ws seen shaped matches before is found =
     let n = g.members in
     let L = links_of g in
     found
-    ∙ (ap₂ (λ (s : Shape) xs. filter (strongly_sees s.members s.links y) xs) shaped (is ∙ (ap₂ witnesses_in told before ∙ witnesses_in-standings n L (round_of n L y - 1)))
+    ∙ (ap₂ (λ (s : Shape) xs. filter (strongly_sees s.members s.links y) xs) shaped (is ∙ (ap₂ witnesses_in matches before ∙ witnesses_in-standings n L (round_of n L y - 1)))
     ∙ (filter-list_below (strongly_sees n L y) (λ w. w) (length L) (λ w. is_witness n L w && eqb (round_of n L w) (round_of n L y - 1))
     ∙ ap (λ len. list_below (λ w. w) len (is_voter n L y)) (length-links g.rows)))
 

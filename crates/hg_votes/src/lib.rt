@@ -2,7 +2,7 @@
 //! The layer above uses `VoteTable` as the `Votes` of `hg_model`. The plain program uses how one ballot is found,
 //! `count_votes` and `weigh`.
 //! Voters are found once, in `new`; a round then costs its witnesses times their voters, and no memory.
-#![tactic(auto, using(hg_model::proofs::StandingLaws::standings_told, hg_model::proofs::LinkLaws::link_lengths))]
+#![tactic(auto, using(hg_model::proofs::StandingLaws::standings_known, hg_model::proofs::LinkLaws::link_lengths))]
 
 mod ballots;
 mod table;

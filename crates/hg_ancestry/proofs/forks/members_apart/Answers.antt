@@ -11,7 +11,7 @@ use Rattle.hg_ancestry.proofs.forks.members_apart.Goals as goal
 pub places-init : goal.places-init
 places-init c = record {
   within = omega arith;
-  told = λ m. mask_none m ∙ sym (some_below_zero (λ a. is_over c.ancestors_of-row.result.now c.ancestors_of-other.result.now a && eqb (creator c.args.sight.now.shape.links a) m));
+  matches = λ m. mask_none m ∙ sym (some_below_zero (λ a. is_over c.ancestors_of-row.result.now c.ancestors_of-other.result.now a && eqb (creator c.args.sight.now.shape.links a) m));
 }
 
 pub creator-requires : goal.creator-requires
@@ -24,11 +24,11 @@ overflow_add-from c =
 pub places-preserved : goal.places-preserved
 places-preserved c = record {
   within = omega (arith, c.in-Some.ensures.0);
-  told = apart_next c.args.sight.now.shape.links c.ancestors_of-row.result.now c.ancestors_of-other.result.now c.places.from (mask_has c.places.mask) c.places.invariant.told c.in-Some.a c.creator.result
+  matches = apart_next c.args.sight.now.shape.links c.ancestors_of-row.result.now c.ancestors_of-other.result.now c.places.from (mask_has c.places.mask) c.places.invariant.matches c.in-Some.a c.creator.result
       (mask_has c.with_member-mask.result) c.in-Some.ensures.1 c.creator.ensures.value c.with_member-mask.ensures;
 }
 
 pub returns : goal.returns
 returns c =
-    apart_all c.args.sight.now.shape.links c.ancestors_of-row.result.now c.ancestors_of-other.result.now c.places.from (mask_has c.places.mask) c.places.invariant.told c.places.invariant.within c.in_default.ensures
+    apart_all c.args.sight.now.shape.links c.ancestors_of-row.result.now c.ancestors_of-other.result.now c.places.from (mask_has c.places.mask) c.places.invariant.matches c.places.invariant.within c.in_default.ensures
     c.rows.ensures.shaped.earlier c.args.x c.args.z c.ancestors_of-row.ensures c.ancestors_of-other.ensures

@@ -8,7 +8,7 @@ use Rattle.hg_ancestry.proofs.forks.members_apart.Given as goal
 abbrev pub invariant-places : goal.invariant-places
 invariant-places l = record {
   within : l.from ≤ length l.row;
-  told : (m : ℕ) → mask_has l.mask m ≡ some_below l.from (λ a. is_over l.row l.other a && eqb (creator l.sight.shape.links a) m);
+  matches : (m : ℕ) → mask_has l.mask m ≡ some_below l.from (λ a. is_over l.row l.other a && eqb (creator l.sight.shape.links a) m);
 }
 
 abbrev pub decreases-places : goal.decreases-places

@@ -16,15 +16,15 @@ returns-then-not-ancestor c =
 
 pub loop-z-init : goal.loop-z-init
 loop-z-init c = record {
-  told = λ m. mask_none m ∙ sym (no_seer_before c.args.sight.now.shape.links c.members-members.ensures.shaped.earlier c.args.x c.args.y m);
+  matches = λ m. mask_none m ∙ sym (no_seer_before c.args.sight.now.shape.links c.members-members.ensures.shaped.earlier c.args.x c.args.y m);
   few = none_are_few c.members-members.result;
 }
 
 pub loop-z-preserved : goal.loop-z-preserved
 loop-z-preserved c = record {
-  told = λ m.
+  matches = λ m.
       c.with_seer-seers.ensures m
-      ∙ (ap (λ b. b || is_seer_by c.args.sight.now.shape.links c.args.x c.args.y m c.loop-z.z) (c.loop-z.invariant.told m)
+      ∙ (ap (λ b. b || is_seer_by c.args.sight.now.shape.links c.args.x c.args.y m c.loop-z.z) (c.loop-z.invariant.matches m)
       ∙ sym (some_below_next c.loop-z.z (is_seer_by c.args.sight.now.shape.links c.args.x c.args.y m)));
   few = elim c.else-seers-mask.branch [
     | else-seers-mask-via-then-seers-mask+else-members_over w ↦ sym w.members_over.ensures.members ∙ w.if-members_over.false
@@ -41,7 +41,7 @@ returns-then-members_over c =
     sym (strong_by_first c.args.sight.now.shape.members L c.args.x c.args.y (c.loop-z.z + 1) (mask_has c.with_seer-seers.result)
     c.members-members.ensures.shaped (omega (arith, total, few)) c.requires.left (omega (arith, c.loop-z-test.true))
     (λ m. c.with_seer-seers.ensures m
-    ∙ (ap (λ b. b || is_seer_by L c.args.x c.args.y m c.loop-z.z) (c.loop-z.invariant.told m)
+    ∙ (ap (λ b. b || is_seer_by L c.args.x c.args.y m c.loop-z.z) (c.loop-z.invariant.matches m)
     ∙ sym (some_below_next c.loop-z.z (is_seer_by L c.args.x c.args.y m))))
     (ap (λ n. is_supermajority n (count_below 128 (mask_has c.with_seer-seers.result))) (sym total) ∙ (sym c.members_over.ensures.members ∙ c.if-members_over.true)))
 
@@ -55,4 +55,4 @@ returns c =
     sym c.loop-z.invariant.few
     ∙ (ap (λ n. is_supermajority n (count_below 128 (mask_has c.loop-z.mask))) total
     ∙ strong_by_members c.args.sight.now.shape.members L c.args.x c.args.y (mask_has c.loop-z.mask) c.members-members.ensures.shaped (omega (arith, total, few)) c.requires.left
-    (λ m. c.loop-z.invariant.told m ∙ (ap (λ k. some_below k (is_seer_by L c.args.x c.args.y m)) all ∙ seers_all L c.args.x c.args.y m)))
+    (λ m. c.loop-z.invariant.matches m ∙ (ap (λ k. some_below k (is_seer_by L c.args.x c.args.y m)) all ∙ seers_all L c.args.x c.args.y m)))

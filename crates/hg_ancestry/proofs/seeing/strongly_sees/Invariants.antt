@@ -7,6 +7,6 @@ use Rattle.hg_ancestry.proofs.seeing.strongly_sees.Given as goal
 
 abbrev pub invariant-loop-z : goal.invariant-loop-z
 invariant-loop-z l = record {
-  told : (m : ℕ) → mask_has l.mask m ≡ some_below l.z (is_seer_by l.sight.shape.links l.x l.y m);
+  matches : (m : ℕ) → mask_has l.mask m ≡ some_below l.z (is_seer_by l.sight.shape.links l.x l.y m);
   few : is_supermajority l.members (count_below 128 (mask_has l.mask)) ≡ false;
 }

@@ -9,19 +9,19 @@ ballot-ballot-requires g c =
 pub returns-then-ballot : goal.returns-then-ballot
 returns-then-ballot g c =
     let graph = g.P.Prefix.graph c.args.p.now in
-    let told = g.met.P.Prefix.has_rounds c.args.p.now in
+    let matches = g.met.P.Prefix.has_rounds c.args.p.now in
     let listed = c.witnesses-y-items.ensures in
-    let counted = witness_counted graph _ c.args.r _ _ told listed _ c.requires.counted c.requires.later c.loop-y.y-index c.loop-y-test.true in
-    decides_here graph _ c.args.r _ _ told listed c.loop-y.y-index c.ballot-ballot.result c.loop-y-test.true c.loop-y.invariant
+    let counted = witness_counted graph _ c.args.r _ _ matches listed _ c.requires.counted c.requires.later c.loop-y.y-index c.loop-y-test.true in
+    decides_here graph _ c.args.r _ _ matches listed c.loop-y.y-index c.ballot-ballot.result c.loop-y-test.true c.loop-y.invariant
     (c.ballot-ballot.ensures graph c.requires.made counted) c.if-ballot.true
 
 pub loop-y-preserved : goal.loop-y-preserved
 loop-y-preserved g c =
     let graph = g.P.Prefix.graph c.args.p.now in
-    let told = g.met.P.Prefix.has_rounds c.args.p.now in
+    let matches = g.met.P.Prefix.has_rounds c.args.p.now in
     let listed = c.witnesses-y-items.ensures in
-    let counted = witness_counted graph _ c.args.r _ _ told listed _ c.requires.counted c.requires.later c.loop-y.y-index c.loop-y-test.true in
-    passes_on graph _ c.args.r _ _ told listed c.loop-y.y-index c.ballot-ballot.result c.loop-y-test.true c.loop-y.invariant
+    let counted = witness_counted graph _ c.args.r _ _ matches listed _ c.requires.counted c.requires.later c.loop-y.y-index c.loop-y-test.true in
+    passes_on graph _ c.args.r _ _ matches listed c.loop-y.y-index c.ballot-ballot.result c.loop-y-test.true c.loop-y.invariant
     (c.ballot-ballot.ensures graph c.requires.made counted) c.if-ballot.false
 
 pub returns : goal.returns

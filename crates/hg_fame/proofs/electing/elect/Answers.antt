@@ -21,28 +21,28 @@ pub returns-then-is_some-clause-fame : goal.returns-then-is_some-clause-fame
 returns-then-is_some-clause-fame g c =
     let graph = g.P.Prefix.graph c.args.p.now in
     let candidate = c.advance.ensures.candidate ∙ c.loop-round.invariant.candidate in
-    let told = subst (λ (x : ℕ). c.decision_in-decision.result ≡ option_map (decision_by graph x) (decider_in graph x (c.loop-round.round + 1))) candidate c.decision_in-decision.ensures in
-    (decided_by graph c.args.x c.requires.place c.requires.witness c.loop-round.round _ c.decision_in-decision.result c.loop-round.invariant.undecided refl told (sym c.is_some.ensures ∙ c.if-is_some.true)).fame
+    let matches = subst (λ (x : ℕ). c.decision_in-decision.result ≡ option_map (decision_by graph x) (decider_in graph x (c.loop-round.round + 1))) candidate c.decision_in-decision.ensures in
+    (decided_by graph c.args.x c.requires.place c.requires.witness c.loop-round.round _ c.decision_in-decision.result c.loop-round.invariant.undecided refl matches (sym c.is_some.ensures ∙ c.if-is_some.true)).fame
 
 pub returns-then-is_some-clause-decider : goal.returns-then-is_some-clause-decider
 returns-then-is_some-clause-decider g c =
     let graph = g.P.Prefix.graph c.args.p.now in
     let candidate = c.advance.ensures.candidate ∙ c.loop-round.invariant.candidate in
-    let told = subst (λ (x : ℕ). c.decision_in-decision.result ≡ option_map (decision_by graph x) (decider_in graph x (c.loop-round.round + 1))) candidate c.decision_in-decision.ensures in
-    (decided_by graph c.args.x c.requires.place c.requires.witness c.loop-round.round _ c.decision_in-decision.result c.loop-round.invariant.undecided refl told (sym c.is_some.ensures ∙ c.if-is_some.true)).decider
+    let matches = subst (λ (x : ℕ). c.decision_in-decision.result ≡ option_map (decision_by graph x) (decider_in graph x (c.loop-round.round + 1))) candidate c.decision_in-decision.ensures in
+    (decided_by graph c.args.x c.requires.place c.requires.witness c.loop-round.round _ c.decision_in-decision.result c.loop-round.invariant.undecided refl matches (sym c.is_some.ensures ∙ c.if-is_some.true)).decider
 
 pub loop-round-preserved : goal.loop-round-preserved
 loop-round-preserved g c =
     let graph = g.P.Prefix.graph c.args.p.now in
     let candidate = c.advance.ensures.candidate ∙ c.loop-round.invariant.candidate in
-    let told = subst (λ (x : ℕ). c.decision_in-decision.result ≡ option_map (decision_by graph x) (decider_in graph x (c.loop-round.round + 1))) candidate c.decision_in-decision.ensures in
+    let matches = subst (λ (x : ℕ). c.decision_in-decision.result ≡ option_map (decision_by graph x) (decider_in graph x (c.loop-round.round + 1))) candidate c.decision_in-decision.ensures in
     record {
       made = c.advance.ensures.made;
       candidate = candidate;
       counted = c.advance.ensures.counted ∙ ap (λ (k : ℕ). k + 1) c.loop-round.invariant.counted;
       opened = omega arith;
       above = omega (arith, c.loop-round.invariant.above);
-      undecided = undecided_after graph c.args.x c.loop-round.round _ c.decision_in-decision.result refl told (sym c.is_some.ensures ∙ c.if-is_some.false) c.loop-round.invariant.undecided;
+      undecided = undecided_after graph c.args.x c.loop-round.round _ c.decision_in-decision.result refl matches (sym c.is_some.ensures ∙ c.if-is_some.false) c.loop-round.invariant.undecided;
     }
 
 pub returns-clause-fame : goal.returns-clause-fame

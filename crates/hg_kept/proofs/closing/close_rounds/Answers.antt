@@ -26,19 +26,19 @@ pub is_next_closed-requires-clause-short : goal.is_next_closed-requires-clause-s
 is_next_closed-requires-clause-short g c =
     let graph = g.P.Prefix.graph c.args.p.now in
     let low = reached_low graph c.args.marks.now c.rounds.invariant.0.graph.shaped.earlier c.rounds.last c.rounds.invariant.0.reached in
-    omega (arith, length-links graph.rows, c.tells_graph.ensures.short)
+    omega (arith, length-links graph.rows, c.is_of_graph.ensures.short)
 
 pub receive_round-requires-clause-short : goal.receive_round-requires-clause-short
 receive_round-requires-clause-short g c =
     let graph = g.P.Prefix.graph c.args.p.now in
     let low = reached_low graph c.args.marks.now c.rounds.invariant.0.graph.shaped.earlier c.rounds.last c.rounds.invariant.0.reached in
-    omega (arith, length-links graph.rows, c.tells_graph.ensures.short)
+    omega (arith, length-links graph.rows, c.is_of_graph.ensures.short)
 
 pub overflow_add-last : goal.overflow_add-last
 overflow_add-last g c =
     let graph = g.P.Prefix.graph c.args.p.now in
     let low = reached_low graph c.args.marks.now c.rounds.invariant.0.graph.shaped.earlier c.rounds.last c.rounds.invariant.0.reached in
-    omega (arith, length-links graph.rows, c.tells_graph.ensures.short)
+    omega (arith, length-links graph.rows, c.is_of_graph.ensures.short)
 
 pub rounds-smaller : goal.rounds-smaller
 rounds-smaller g c =

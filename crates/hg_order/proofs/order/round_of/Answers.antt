@@ -6,8 +6,8 @@ use Rattle.hg_order.proofs.order.round_of.Goals as goal
 
 pub round-requires : goal.round-requires
 round-requires g c =
-    let long = ap (λ (s : List Standing). length s) c.tells_graph.ensures.told.standing ∙ length-standings _ _ in
+    let long = ap (λ (s : List Standing). length s) c.is_of_graph.ensures.matches.standing ∙ length-standings _ _ in
     rw long (famous_within _ _ c.requires 0 0 (omega arith))
 
 pub returns-in-len1-up : goal.returns-in-len1-up
-returns-in-len1-up g c marks r are some = c.round.ensures ∙ round_is _ _ _ c.tells_graph.ensures.told marks r 0 0 c.args.ufw.now are some
+returns-in-len1-up g c marks r are some = c.round.ensures ∙ round_is _ _ _ c.is_of_graph.ensures.matches marks r 0 0 c.args.famous.now are some

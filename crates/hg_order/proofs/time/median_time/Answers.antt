@@ -7,5 +7,5 @@ median_in-requires-clause-places g c = famous_within _ _ c.requires.famous
 
 pub median_in-requires-clause-room : goal.median_in-requires-clause-room
 median_in-requires-clause-room g c =
-    let few = c.tells_graph.ensures.few in
-    omega (arith, famous_at_most _ _ c.requires.famous c.tells_graph.ensures.shaped)
+    let few = c.is_of_graph.ensures.few in
+    omega (arith, famous_at_most _ _ c.requires.famous c.is_of_graph.ensures.shaped)

@@ -1,7 +1,7 @@
 use Rattle.std.proofs.Common.{◌∙◌, ◌++◌, ◌∷◌, [], ℕ, List, ap, ap₂, arith, length, sym, zero-add}
 use Rattle.std.proofs.lemmas.List.{length-map, map_push}
 use Rattle.std.proofs.lemmas.List.FromFn.{length-map-range_with_len, map-range_with_len_more}
-use Rattle.hg_model.specs.Shown.{Start}
+use Rattle.hg_model.specs.NodeView.{Start}
 use Rattle.hg_model.specs.Gossip.{NodeState, new_node}
 use Rattle.hg_play.specs.Node.{Player, start_in, starts_of, state_in, states_of}
 use Rattle.hg_play.proofs.PlayLaws.{new_state}

@@ -16,7 +16,7 @@ pub returns : goal.returns
 returns g c =
     let rows = (g.P.Prefix.graph c.args.p.now).rows in
     let place = c.args.placed.now.place in
-    line_is rows (links_of (g.P.Prefix.graph c.args.p.now)) (g.P.Sight.shape c.args.p.now).links c.args.placed.now c.args.effect _ _ c.row.result.now (ap (λ (s : Shape). s.links) c.tells_graph.ensures.told.shaped)
+    line_is rows (links_of (g.P.Prefix.graph c.args.p.now)) (g.P.Sight.shape c.args.p.now).links c.args.placed.now c.args.effect _ _ c.row.result.now (ap (λ (s : Shape). s.links) c.is_of_graph.ensures.matches.shaped)
     c.creator.ensures.value
     (ap (λ xs. Rattle.std.proofs.Common.slice_index_or xs place 0) c.requires.sequences ∙ get_or-map-range_with_len (sequence_of (links_of (g.P.Prefix.graph c.args.p.now))) 0 (length rows) place place 0 c.requires.place (zero-add place))
     c.row.ensures

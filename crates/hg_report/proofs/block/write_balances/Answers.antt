@@ -1,4 +1,4 @@
-use Rattle.hg_io.proofs.Told.{failed, more_put, stopped_within}
+use Rattle.hg_io.proofs.PrintLaws.{failed, more_put, stopped_within}
 use Rattle.hg_report.proofs.Steps.{balances_left}
 use Rattle.hg_report.proofs.block.write_balances.Goals as goal
 

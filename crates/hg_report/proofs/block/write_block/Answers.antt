@@ -1,4 +1,4 @@
-use Rattle.hg_io.proofs.Told.{failed, puts_then, stops_before, stops_then}
+use Rattle.hg_io.proofs.PrintLaws.{failed, puts_then, stops_before, stops_then}
 use Rattle.hg_report.proofs.block.write_block.Goals as goal
 
 pub returns-in_err-write_head : goal.returns-in_err-write_head

@@ -1,5 +1,5 @@
 use Rattle.std.proofs.Common.{◌+◌}
-use Rattle.hg_io.proofs.Told.{failed, more_put, stopped_within}
+use Rattle.hg_io.proofs.PrintLaws.{failed, more_put, stopped_within}
 use Rattle.hg_report.proofs.Steps.{lines_left}
 use Rattle.hg_report.proofs.block.write_order.Goals as goal
 

@@ -1,5 +1,5 @@
 use Rattle.std.proofs.Common.{drop, ◌+◌}
-use Rattle.hg_io.specs.Telling.{IsPutUpTo, desk}
+use Rattle.hg_io.specs.Printing.{IsPutUpTo, desk}
 use Rattle.hg_model.specs.Report.{order_text}
 use Rattle.hg_report.proofs.block.write_order.Given as goal
 

@@ -1,5 +1,5 @@
 use Rattle.std.proofs.Common.{drop}
-use Rattle.hg_io.specs.Telling.{IsPutUpTo, desk}
+use Rattle.hg_io.specs.Printing.{IsPutUpTo, desk}
 use Rattle.hg_report.specs.Pieces.{pieces_text}
 use Rattle.hg_report.proofs.pieces.write_pieces.Given as goal
 

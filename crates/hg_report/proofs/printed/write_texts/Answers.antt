@@ -1,4 +1,4 @@
-use Rattle.hg_io.proofs.Told.{failed, more_put, stopped_within}
+use Rattle.hg_io.proofs.PrintLaws.{failed, more_put, stopped_within}
 use Rattle.hg_report.proofs.Steps.{texts_left}
 use Rattle.hg_report.proofs.printed.write_texts.Goals as goal
 

@@ -5,16 +5,16 @@ use Rattle.hg_model.specs.Rounds.{parent_round}
 use Rattle.hg_model.specs.Seeing.{is_supermajority, strongly_sees}
 use Rattle.hg_model.specs.Standings.{round_at}
 use Rattle.hg_rounds.specs.Tabled.{last_parents}
-use Rattle.hg_rounds.proofs.PlaceLaws.{parents_told, witnesses_below, witnesses_few, greatest_fits, last_round_told, last_witness_told, next_told, whole_told}
+use Rattle.hg_rounds.proofs.PlaceLaws.{parents_known, witnesses_below, witnesses_few, greatest_fits, last_round_known, last_witness_known, next_known, whole_known}
 use Rattle.hg_rounds.proofs.place.place_round.Goals as goal
 
 pub parent_round-greatest-requires : goal.parent_round-greatest-requires
 parent_round-greatest-requires g c =
-    rw c.requires.parents (parents_told _ _ c.rows-last.ensures.shaped c.requires.some _ c.requires.before)
+    rw c.requires.parents (parents_known _ _ c.rows-last.ensures.shaped c.requires.some _ c.requires.before)
 
 pub is_first-requires : goal.is_first-requires
 is_first-requires g c =
-    rw c.requires.parents (parents_told _ _ c.rows-last.ensures.shaped c.requires.some _ c.requires.before)
+    rw c.requires.parents (parents_known _ _ c.rows-last.ensures.shaped c.requires.some _ c.requires.before)
 
 pub count_seen-seen-requires-clause-places : goal.count_seen-seen-requires-clause-places
 count_seen-seen-requires-clause-places g c =
@@ -40,18 +40,18 @@ returns-clause-round g c =
     let r_is = c.parent_round-greatest.ensures ∙ ap (parent_round (round_at c.args.table.now.standings)) c.requires.parents in
     let seen_is = c.count_seen-seen.ensures ∙ ap₂ (λ (x : ℕ) (ws : List ℕ). count_by (strongly_sees shape.members shape.links x) ws) (ap (λ k. k - 1) c.rows-last.ensures.value) c.witnesses.ensures in
     let many_is = ap (λ k. is_supermajority k c.count_seen-seen.result) c.members.ensures.value in
-    c.next_round-round.ensures ∙ last_round_told _ _ c.rows-last.ensures.shaped c.requires.some _ c.requires.before _ _ _ r_is seen_is many_is
+    c.next_round-round.ensures ∙ last_round_known _ _ c.rows-last.ensures.shaped c.requires.some _ c.requires.before _ _ _ r_is seen_is many_is
 
 pub returns-clause-witness : goal.returns-clause-witness
 returns-clause-witness g c =
     c.is_first.ensures
     ∙ (ap (λ ps. list_all (λ p. ltb (round_at c.args.table.now.standings p) c.next_round-round.result) (first_place ps)) c.requires.parents
-    ∙ last_witness_told _ _ c.rows-last.ensures.shaped c.requires.some _ c.requires.before _ (returns-clause-round g c))
+    ∙ last_witness_known _ _ c.rows-last.ensures.shaped c.requires.some _ c.requires.before _ (returns-clause-round g c))
 
 pub returns-clause-next : goal.returns-clause-next
 returns-clause-next g c =
-    rw (returns-clause-round g c) (next_told _ _ c.rows-last.ensures.shaped c.requires.some _ c.requires.before)
+    rw (returns-clause-round g c) (next_known _ _ c.rows-last.ensures.shaped c.requires.some _ c.requires.before)
 
 pub returns-clause-whole : goal.returns-clause-whole
 returns-clause-whole g c =
-    whole_told _ _ c.rows-last.ensures.shaped c.requires.some _ c.requires.before _ _ (returns-clause-round g c) (returns-clause-witness g c)
+    whole_known _ _ c.rows-last.ensures.shaped c.requires.some _ c.requires.before _ _ (returns-clause-round g c) (returns-clause-witness g c)

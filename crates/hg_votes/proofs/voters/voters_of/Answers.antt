@@ -16,7 +16,7 @@ pub returns : goal.returns
 returns g c =
     let graph = g.P.Prefix.graph c.args.p.now in
     let shape = g.P.Sight.shape c.args.p.now in
-    let told = g.met.P.Prefix.has_rounds c.args.p.now in
+    let matches = g.met.P.Prefix.has_rounds c.args.p.now in
     IfOk-weaker c.seen_among.result (λ v. v ≡ filter (strongly_sees shape.members shape.links c.args.y) c.witnesses.result.now) (λ v. v ≡ voters_of graph c.args.y)
-    (λ seen found. voters_found graph c.args.y _ shape _ _ seen (g.met.P.Prefix.sees_graph c.args.p.now) told
-    (c.saturating_sub.ensures ∙ ap (λ (k : ℕ). k - 1) (c.round.ensures ∙ round_read (g.P.Prefix.graph c.args.p.now) _ _ told c.requires)) c.witnesses.ensures found) c.seen_among.ensures
+    (λ seen found. voters_found graph c.args.y _ shape _ _ seen (g.met.P.Prefix.sees_graph c.args.p.now) matches
+    (c.saturating_sub.ensures ∙ ap (λ (k : ℕ). k - 1) (c.round.ensures ∙ round_read (g.P.Prefix.graph c.args.p.now) _ _ matches c.requires)) c.witnesses.ensures found) c.seen_among.ensures

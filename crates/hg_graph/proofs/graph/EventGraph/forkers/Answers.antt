@@ -3,7 +3,7 @@ use Rattle.hg_model.specs.Forks.{forkers}
 use Rattle.hg_model.specs.Links.{links}
 use Rattle.hg_model.specs.Shape.{Shape}
 use Rattle.hg_forks.proofs.OwnLaws.{own_links_serve}
-use Rattle.hg_graph.specs.Held.{Held}
+use Rattle.hg_graph.specs.GraphWithRoom.{GraphWithRoom}
 use Rattle.hg_graph.proofs.graph.EventGraph.forkers.Goals as goal
 
 pub returns : goal.returns
@@ -11,4 +11,4 @@ returns c =
     c.forkers.ensures
     ∙ (ap (λ (s : Shape). forkers s.members s.links) c.self.invariant.forked
     ∙ ((own_links_serve c.self.inside.members (links c.self.inside.store.rows)).forkers
-    ∙ ap (λ (v : Held). forkers v.graph.members (links v.graph.rows)) c.self.view_is))
+    ∙ ap (λ (v : GraphWithRoom). forkers v.graph.members (links v.graph.rows)) c.self.view_is))

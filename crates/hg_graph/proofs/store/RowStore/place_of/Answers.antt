@@ -1,7 +1,7 @@
 use Rattle.std.proofs.Common.{◌∙◌, ap, sym}
 use Rattle.std.specs.List.{position}
 use Rattle.std.specs.Str.{bytes_eq}
-use Rattle.hg_graph.specs.Stored.{found_place, Stored}
+use Rattle.hg_graph.specs.RowsWithRoom.{found_place, RowsWithRoom}
 use Rattle.hg_graph.proofs.StoredLaws.{name_found}
 use Rattle.hg_graph.proofs.store.RowStore.place_of.Goals as goal
 
@@ -9,4 +9,4 @@ pub returns : goal.returns
 returns c =
     c.get_index_of.ensures.index
     ∙ (ap (position (bytes_eq c.args.name.now)) c.self.invariant.named
-    ∙ (name_found c.self.inside.rows.items c.args.name.now ∙ ap (λ (s : Stored). found_place s.rows c.args.name.now) c.self.view_is))
+    ∙ (name_found c.self.inside.rows.items c.args.name.now ∙ ap (λ (s : RowsWithRoom). found_place s.rows c.args.name.now) c.self.view_is))

@@ -11,7 +11,7 @@ use Rattle.hg_kept.proofs.pending.Pending.receive.Goals as goal
 pub overflow_add-famous : goal.overflow_add-famous
 overflow_add-famous g c =
     let graph = g.P.Prefix.graph c.args.p.now in
-    omega (arith, famous_first graph c.args.famous.now c.requires.famous c.requires.some, length-links graph.rows, c.tells_graph.ensures.short)
+    omega (arith, famous_first graph c.args.famous.now c.requires.famous c.requires.some, length-links graph.rows, c.is_of_graph.ensures.short)
 
 pub list_to-requires-clause-room : goal.list_to-requires-clause-room
 list_to-requires-clause-room g c =

@@ -6,7 +6,7 @@ use Rattle.hg_model.specs.Prefix.{Graph}
 use Rattle.hg_graph.specs.Held.{graph_with}
 use Rattle.hg_kept.specs.Published.{Published, Keeps, TookRow, state_by}
 use Rattle.hg_pay.specs.Account.{Account}
-use Rattle.hg_node.specs.Recorded.{Recorded, KeepsBook}
+use Rattle.hg_node.specs.ChronicleView.{ChronicleView, KeepsBook}
 use Rattle.hg_node.proofs.BookLaws.{book_with_row}
 use Rattle.hg_node.proofs.KeepLaws.{few_in_log, record_with}
 use Rattle.hg_node.proofs.chronicle.Chronicle.add.Goals as goal
@@ -24,7 +24,7 @@ push_reserved-requires c =
 pub invariant_of-self-2 : goal.invariant_of-self-2
 invariant_of-self-2 c =
     let g : Graph = c.self.inside.graph.graph in
-    let graph : IsGraph g.members (g.rows ++ c.args.row ∷ []) = subst (λ (s : Recorded). IsGraph s.graph.members (s.graph.rows ++ c.args.row ∷ [])) (sym c.self.view_is) c.requires.graph in
+    let graph : IsGraph g.members (g.rows ++ c.args.row ∷ []) = subst (λ (s : ChronicleView). IsGraph s.graph.members (s.graph.rows ++ c.args.row ∷ [])) (sym c.self.view_is) c.requires.graph in
     let is : c.later_place-self-inside.result ≡ cond (eqb c.args.row.creator c.self.inside.own) (Some (length g.rows)) c.self.inside.last_own =
     c.later_place-self-inside.ensures ∙ ap (λ (k : ℕ). cond (eqb c.args.row.creator c.self.inside.own) (Some k) c.self.inside.last_own) c.len-place.ensures.value in
     let few = few_in_log c.self.inside.own g c.self.inside.log.items c.self.inside.kept.published c.self.inside.last_own (vec_capacity c.self.inside.log) c.self.invariant.0 in

@@ -1,7 +1,7 @@
 use Rattle.std.proofs.Common.{◌<◌, ◌≤◌, All, List, length, ap, subst, sym, arith}
 use Rattle.std.specs.Vec.{vec_capacity}
 use Rattle.hg_model.specs.declared.row.Placed.{Placed}
-use Rattle.hg_node.specs.Recorded.{Recorded}
+use Rattle.hg_node.specs.ChronicleView.{ChronicleView}
 use Rattle.hg_node.proofs.BookLaws.{kept_within, fits, few_paid, book_paid}
 use Rattle.hg_node.proofs.KeepLaws.{log_has_room, record_same, record_marked}
 use Rattle.hg_node.proofs.chronicle.Chronicle.publish.Goals as goal
@@ -23,7 +23,7 @@ pay-requires-clause-places c =
 
 pub push_reserved-requires : goal.push_reserved-requires
 push_reserved-requires c =
-    let within = subst (λ (r : Recorded). c.args.found.now.len ≤ length r.graph.rows) (sym c.self.view_is) c.requires.within in
+    let within = subst (λ (r : ChronicleView). c.args.found.now.len ≤ length r.graph.rows) (sym c.self.view_is) c.requires.within in
     let room = log_has_room c.self.inside.own c.self.inside.graph.graph c.self.inside.log.items c.self.inside.kept.published c.self.inside.last_own (vec_capacity c.self.inside.log) c.self.invariant.0
     c.args.found.now.len c.args.found.now.share within c.publish-count.new.self.published c.publish-count.ensures.marks c.publish-count.ensures.keeps
     (omega (arith, c.if-count-gt0.true, c.publish-count.ensures.count)) in
@@ -31,7 +31,7 @@ push_reserved-requires c =
 
 pub invariant_of-self : goal.invariant_of-self
 invariant_of-self c =
-    let within = subst (λ (r : Recorded). c.args.found.now.len ≤ length r.graph.rows) (sym c.self.view_is) c.requires.within in
+    let within = subst (λ (r : ChronicleView). c.args.found.now.len ≤ length r.graph.rows) (sym c.self.view_is) c.requires.within in
     rw c.push_reserved.ensures.items (
       record_marked c.self.inside.own c.self.inside.graph.graph c.self.inside.log.items c.self.inside.kept.published c.self.inside.last_own (vec_capacity c.self.inside.log) c.self.invariant.0
           c.args.found.now.len c.args.found.now.share within c.publish-count.new.self.published c.publish-count.ensures.marks c.publish-count.ensures.keeps
@@ -42,7 +42,7 @@ invariant_of-self c =
 
 pub invariant_of-self-else-count-gt0 : goal.invariant_of-self-else-count-gt0
 invariant_of-self-else-count-gt0 c =
-    let within = subst (λ (r : Recorded). c.args.found.now.len ≤ length r.graph.rows) (sym c.self.view_is) c.requires.within in (
+    let within = subst (λ (r : ChronicleView). c.args.found.now.len ≤ length r.graph.rows) (sym c.self.view_is) c.requires.within in (
       record_same c.self.inside.own c.self.inside.graph.graph c.self.inside.log.items c.self.inside.kept.published c.self.inside.last_own (vec_capacity c.self.inside.log) c.self.invariant.0
           c.args.found.now.len c.args.found.now.share within c.publish-count.new.self.published c.publish-count.ensures.marks c.publish-count.ensures.keeps,
       book_paid c.self.inside.graph.graph.rows c.self.inside.kept.published.order c.publish-count.new.self.published.order c.order.result.now c.self.inside.ledger c.pay.new.self

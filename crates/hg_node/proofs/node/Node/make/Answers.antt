@@ -1,7 +1,7 @@
 use Rattle.std.proofs.Common.{◌≡◌, ◌∙◌, ℕ, length, ap, subst, sym, arith}
 use Rattle.hg_model.specs.declared.entry.Entry.TheVariants as entry
 use Rattle.hg_model.specs.Prefix.{Graph}
-use Rattle.hg_node.specs.Recorded.{Recorded, recorded_with, shown, IsRecorded}
+use Rattle.hg_node.specs.ChronicleView.{ChronicleView, chronicle_with, node_view, IsRecorded}
 use Rattle.hg_node.proofs.MakeLaws.{MakesRow, draft_silent, draft_refused, row_refused, row_made}
 use Rattle.hg_node.proofs.node.Node.make.Given as given
 use Rattle.hg_node.proofs.node.Node.make.Goals as goal
@@ -35,8 +35,8 @@ returns-in-Err-row_rule-clause-ok g c =
     c.in_ok-row.row.sig c.in_ok-row.ensures.sized c.in_ok-row.row c.in-Ok.ensures.fault c.in_ok-row.ensures.accepted c.in_ok-row.ensures.row c.in-Err-row_rule.fault c.in-Err-row_rule.ensures)
 
 -- the row is made
-makes : (g : given.Over) (c : goal.In_ok-add-in-Ok-row_rule g) → MakesRow g.V.Verifier.accepts (shown c.self.inside.keys c.self.inside.chronicle)
-    (shown c.self.inside.keys (recorded_with c.self.inside.chronicle c.in_ok-row.row (entry.Made (length c.self.inside.chronicle.graph.rows))))
+makes : (g : given.Over) (c : goal.In_ok-add-in-Ok-row_rule g) → MakesRow g.V.Verifier.accepts (node_view c.self.inside.keys c.self.inside.chronicle)
+    (node_view c.self.inside.keys (chronicle_with c.self.inside.chronicle c.in_ok-row.row (entry.Made (length c.self.inside.chronicle.graph.rows))))
     c.self.inside.chronicle c.in_ok-row.row c.args.other c.args.time c.args.payload.now
 makes g c =
     row_made g.V.Verifier.accepts c.self.inside.keys c.self.inside.chronicle c.args.other c.args.time c.args.payload.now c.self.invariant
@@ -45,12 +45,12 @@ makes g c =
 place_is : (g : given.Over) (c : goal.In_ok-add-in-Ok-row_rule g) → c.len-place.result ≡ length c.self.inside.chronicle.graph.rows
 place_is g c = c.len-place.ensures.value ∙ ap (λ (G : Graph). length G.rows) c.graph.ensures
 
-recorded_is : (g : given.Over) (c : goal.In_ok-add-in-Ok-row_rule g) → c.add.new.self ≡ recorded_with c.self.inside.chronicle c.in_ok-row.row (entry.Made (length c.self.inside.chronicle.graph.rows))
-recorded_is g c = c.in_ok-add-in-Ok-row_rule.ensures.ok ∙ ap (λ (k : ℕ). recorded_with c.self.inside.chronicle c.in_ok-row.row (entry.Made k)) (place_is g c)
+recorded_is : (g : given.Over) (c : goal.In_ok-add-in-Ok-row_rule g) → c.add.new.self ≡ chronicle_with c.self.inside.chronicle c.in_ok-row.row (entry.Made (length c.self.inside.chronicle.graph.rows))
+recorded_is g c = c.in_ok-add-in-Ok-row_rule.ensures.ok ∙ ap (λ (k : ℕ). chronicle_with c.self.inside.chronicle c.in_ok-row.row (entry.Made k)) (place_is g c)
 
 pub invariant_of-self-in-Ok-row_rule : goal.invariant_of-self-in-Ok-row_rule
 invariant_of-self-in-Ok-row_rule g c =
-    subst (λ (r : Recorded). IsRecorded g.V.Verifier.accepts (shown c.self.inside.keys r) r) (sym (recorded_is g c)) (makes g c).recorded
+    subst (λ (r : ChronicleView). IsRecorded g.V.Verifier.accepts (node_view c.self.inside.keys r) r) (sym (recorded_is g c)) (makes g c).recorded
 
 pub returns-in_ok-add-in-Ok-row_rule-clause-ok : goal.returns-in_ok-add-in-Ok-row_rule-clause-ok
 returns-in_ok-add-in-Ok-row_rule-clause-ok g c = rw (← c.self.view_is, place_is g c, recorded_is g c) (makes g c).making

@@ -1,7 +1,7 @@
 use Rattle.std.proofs.Common.{◌∙◌, subst, sym}
 use Rattle.hg_model.specs.Shares.{Speaks}
-use Rattle.hg_model.specs.Shown.{Shown, graph_of, links_of}
-use Rattle.hg_node.specs.Recorded.{shown}
+use Rattle.hg_model.specs.NodeView.{NodeView, node_rows, node_links}
+use Rattle.hg_node.specs.ChronicleView.{node_view}
 use Rattle.hg_node.proofs.PublishLaws.{IsPublishing, answer_is, published, speaks_in}
 use Rattle.hg_node.proofs.node.Node.publish.Given as given
 use Rattle.hg_node.proofs.node.Node.publish.Goals as goal
@@ -9,15 +9,15 @@ use Rattle.hg_node.proofs.node.Node.publish.Goals as goal
 pub publish-requires : goal.publish-requires
 publish-requires g c =
     speaks_in g.V.Verifier.accepts c.self.inside.keys c.self.inside.chronicle c.self.invariant c.args.found.now.len c.args.found.now.share c.args.found.now.marks
-    (subst (λ (w : Shown g.row.V.Denot). Speaks w.start.members w.start.coin (graph_of w) (links_of w) c.args.found.now.len c.args.found.now.share c.args.found.now.marks)
+    (subst (λ (w : NodeView g.row.V.Denot). Speaks w.start.members w.start.coin (node_rows w) (node_links w) c.args.found.now.len c.args.found.now.share c.args.found.now.marks)
     (sym c.self.view_is) c.requires)
 
 -- what the chronicle has become
-publishes : (g : given.Over) (c : goal.After-publish g) → IsPublishing g.V.Verifier.accepts (shown c.self.inside.keys c.self.inside.chronicle)
-    (shown c.self.inside.keys c.publish.new.self) c.publish.new.self c.args.found.now.len c.args.found.now.share
+publishes : (g : given.Over) (c : goal.After-publish g) → IsPublishing g.V.Verifier.accepts (node_view c.self.inside.keys c.self.inside.chronicle)
+    (node_view c.self.inside.keys c.publish.new.self) c.publish.new.self c.args.found.now.len c.args.found.now.share
 publishes g c =
     published g.V.Verifier.accepts c.self.inside.keys c.self.inside.chronicle c.self.invariant c.args.found.now.len c.args.found.now.share
-    c.args.found.now.marks (subst (λ (w : Shown g.row.V.Denot). Speaks w.start.members w.start.coin (graph_of w) (links_of w) c.args.found.now.len c.args.found.now.share c.args.found.now.marks)
+    c.args.found.now.marks (subst (λ (w : NodeView g.row.V.Denot). Speaks w.start.members w.start.coin (node_rows w) (node_links w) c.args.found.now.len c.args.found.now.share c.args.found.now.marks)
     (sym c.self.view_is) c.requires) c.publish.new.self c.publish.ensures.grown
 
 pub invariant_of-self : goal.invariant_of-self

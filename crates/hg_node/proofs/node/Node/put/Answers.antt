@@ -1,6 +1,6 @@
 use Rattle.std.proofs.Common.{arith}
 use Rattle.hg_event.specs.View.{row_of}
-use Rattle.hg_node.specs.Recorded.{shown}
+use Rattle.hg_node.specs.ChronicleView.{node_view}
 use Rattle.hg_node.proofs.PutLaws.{IsPut, put_faulty, put_refused, put_taken, put_ends}
 use Rattle.hg_node.proofs.node.Node.put.Given as given
 use Rattle.hg_node.proofs.node.Node.put.Goals as goal
@@ -17,8 +17,8 @@ take-requires-clause-graph g c =
     (λ i. omega (arith, c.type_inv.bytes i)) c.in-Ok-parents_of_arrival.ensures.answer).graph
 
 -- all that the taking left
-ends : (g : given.Over) (c : goal.After-take g) → IsPut g.V.Verifier.accepts (shown c.self.inside.keys c.self.inside.chronicle)
-    (shown c.self.inside.keys c.take.new.chronicle) c.take.new.chronicle c.args.bytes.now c.take.result
+ends : (g : given.Over) (c : goal.After-take g) → IsPut g.V.Verifier.accepts (node_view c.self.inside.keys c.self.inside.chronicle)
+    (node_view c.self.inside.keys c.take.new.chronicle) c.take.new.chronicle c.args.bytes.now c.take.result
 ends g c =
     put_ends g.V.Verifier.accepts c.self.inside.keys c.self.inside.chronicle c.args.bytes.now c.self.invariant (row_of c.in-Ok.view) c.in-Ok.ensures.exact
     c.take.result c.take.new.chronicle (λ i. omega (arith, c.type_inv.bytes i)) c.in-Ok-parents_of_arrival.ensures.answer c.take.ensures.answer c.take.ensures.ok c.take.ensures.err

@@ -1,13 +1,13 @@
 use Rattle.std.proofs.Common.{◌∙◌, ap, length}
 use Rattle.hg_model.specs.Prefix.{Graph}
-use Rattle.hg_node.specs.Recorded.{shown}
+use Rattle.hg_node.specs.ChronicleView.{node_view}
 use Rattle.hg_node.proofs.PublishLaws.{IsSettling, settling}
 use Rattle.hg_node.proofs.node.Node.settle.Given as given
 use Rattle.hg_node.proofs.node.Node.settle.Goals as goal
 
 -- what the chronicle has become
-settles : (g : given.Over) (c : goal.After-drop-votes-inside-3 g) → IsSettling g.V.Verifier.accepts (shown c.self.inside.keys c.self.inside.chronicle)
-    (shown c.self.inside.keys c.publish.new.self) c.publish.new.self
+settles : (g : given.Over) (c : goal.After-drop-votes-inside-3 g) → IsSettling g.V.Verifier.accepts (node_view c.self.inside.keys c.self.inside.chronicle)
+    (node_view c.self.inside.keys c.publish.new.self) c.publish.new.self
 settles g c =
     settling g.V.Verifier.accepts c.self.inside.keys c.self.inside.chronicle c.self.invariant c.publish.new.self
     c.in_ok-found.found.len c.in_ok-found.found.share (c.in_ok-found.ensures.len ∙ ap (λ (h : Graph). length h.rows) c.graph-graph.ensures)

@@ -1,5 +1,5 @@
 use Rattle.std.proofs.Common.{◌∙◌, ap, get_or, List, ℕ, []}
-use Rattle.hg_plain.proofs.PrefixLaws.{witnesses_told}
+use Rattle.hg_plain.proofs.PrefixLaws.{witnesses_known}
 use Rattle.hg_plain.proofs.prefix.PlainPrefixRounds.witnesses.Goals as goal
 
 pub returns : goal.returns
@@ -7,4 +7,4 @@ returns c =
     rw (← c.self.view_is)
     (c.witnesses_at.ensures
     ∙ (ap (λ (lists : List (List ℕ)). get_or lists c.args.r []) c.deref.ensures.value
-    ∙ witnesses_told _ _ c.args.r c.self.inside.witnesses.items c.self.invariant.witnesses_of))
+    ∙ witnesses_known _ _ c.args.r c.self.inside.witnesses.items c.self.invariant.witnesses_of))

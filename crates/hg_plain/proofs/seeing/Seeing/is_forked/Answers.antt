@@ -1,7 +1,7 @@
 use Rattle.std.proofs.Common.{◌≡◌, ◌<◌, ◌∙◌, ap, length}
 use Rattle.hg_model.specs.Links.{creator}
 use Rattle.hg_model.specs.Shape.{Shape}
-use Rattle.hg_plain.proofs.TableLaws.{cell_told}
+use Rattle.hg_plain.proofs.TableLaws.{cell_known}
 use Rattle.hg_plain.proofs.seeing.Seeing.is_forked.Goals as goal
 
 pub returns : goal.returns
@@ -12,4 +12,4 @@ returns c =
     let right : c.args.y < length L = rw shown c.requires.right in
     let member : c.from.result ≡ creator L c.args.y = c.from.ensures ∙ (c.creator_of-creator.ensures ∙ ap (λ links. creator links c.args.y) c.links.ensures) in
     let inside : c.from.result < c.self.inside.members = rw member (c.self.invariant.shaped.members c.args.y right) in
-    rw (← shown, ← member) (cell_told _ _ _ _ _ _ _ _ c.self.invariant.forked c.deref.ensures.value c.cell.ensures left inside)
+    rw (← shown, ← member) (cell_known _ _ _ _ _ _ _ _ c.self.invariant.forked c.deref.ensures.value c.cell.ensures left inside)

@@ -4,7 +4,7 @@ use Rattle.hg_model.specs.Graph.{IsShaped}
 use Rattle.hg_model.specs.Forks.{forkers}
 use Rattle.hg_model.proofs.LinkLaws.{length-links}
 use Rattle.hg_model.specs.Shape.{Shape}
-use Rattle.hg_plain.proofs.StepLaws.{last_round_told}
+use Rattle.hg_plain.proofs.StepLaws.{last_round_known}
 use Rattle.hg_plain.proofs.sight.PlainSight.new.Goals as goal
 
 pub rounds_of-requires-clause-short : goal.rounds_of-requires-clause-short
@@ -21,5 +21,5 @@ invariant_of-result c = record {
   forkers = c.plain_forkers.ensures ∙ ap (λ (s : Shape). forkers s.members s.links) (sym c.in_ok-seeing.ensures);
   last_round = c.greatest_of-greatest.ensures
       ∙ (ap (λ (rounds : List ℕ). maximum_below (λ x. slice_index rounds x) (length rounds)) c.deref-2.ensures.value
-      ∙ last_round_told c.in_ok-seeing.seeing.members c.in_ok-seeing.seeing.links c.in_ok-rounds.rounds.items c.in_ok-rounds.ensures);
+      ∙ last_round_known c.in_ok-seeing.seeing.members c.in_ok-seeing.seeing.links c.in_ok-rounds.rounds.items c.in_ok-rounds.ensures);
 }

@@ -2,7 +2,7 @@ use Rattle.std.proofs.Common.{◌≡◌, ◌∙◌, List, ℕ, ap, subst, sym}
 use Rattle.std.specs.Prelude.{IfOk}
 use Rattle.hg_model.specs.declared.row.Row.{Row}
 use Rattle.hg_model.specs.Ledger.{block_of}
-use Rattle.hg_model.specs.Shown.{Shown}
+use Rattle.hg_model.specs.NodeView.{NodeView}
 use Rattle.hg_sign.specs.Table.{accepts_by}
 use Rattle.hg_play.specs.Node.{Player}
 use Rattle.hg_play.proofs.SettledLaws.{settled_is_final}
@@ -10,7 +10,7 @@ use Rattle.hg_play.proofs.player.Player.block.Goals as goal
 
 pub settled_block-requires-clause-last : goal.settled_block-requires-clause-last
 settled_block-requires-clause-last c =
-    settled_is_final accepts_by c.self.inside.node c.settle.new.self (sym (ap (λ (v : Shown (List (List ℕ))). v.start) c.in_ok-settle.ensures.ok)) c.rows.ensures.node c.in_ok-settle.ensures.settled
+    settled_is_final accepts_by c.self.inside.node c.settle.new.self (sym (ap (λ (v : NodeView (List (List ℕ))). v.start) c.in_ok-settle.ensures.ok)) c.rows.ensures.node c.in_ok-settle.ensures.settled
 
 pub returns-clause-block : goal.returns-clause-block
 returns-clause-block c =

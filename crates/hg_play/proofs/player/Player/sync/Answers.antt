@@ -1,5 +1,5 @@
 use Rattle.std.proofs.Common.{◌∙◌, ℕ, List, ap, ap₂}
-use Rattle.hg_model.specs.Shown.{Start}
+use Rattle.hg_model.specs.NodeView.{Start}
 use Rattle.hg_model.specs.Gossip.{Keys, NodeState, Taking, node_after, taking}
 use Rattle.hg_play.specs.Node.{keys_by, keys_in, state_in}
 use Rattle.hg_play.proofs.player.Player.sync.Goals as goal

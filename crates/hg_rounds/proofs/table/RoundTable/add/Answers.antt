@@ -2,7 +2,7 @@ use Rattle.std.proofs.Common.{◌≡◌, ◌∙◌, ◌+◌, ◌≤◌, ◌<◌,
 use Rattle.std.proofs.lemmas.List.{get_or_read_under}
 use Rattle.hg_model.specs.Standings.{greatest_in}
 use Rattle.hg_rounds.specs.Listed.{Listed}
-use Rattle.hg_rounds.specs.Tabled.{Tabled, list_at, nothing}
+use Rattle.hg_rounds.specs.Tabled.{Tabled, list_at, no_list}
 use Rattle.hg_rounds.proofs.KeepLaws.{room_parts, marked_not, marked_set, keeps_stayed, keeps_opened}
 use Rattle.hg_rounds.proofs.table.RoundTable.add.Goals as goal
 use Rattle.hg_rounds.proofs.table.RoundTable.add.Goals.{then-round-self, else-round-self, then-witness, else-witness}
@@ -16,7 +16,7 @@ invariant_of-self c =
     elim c.if-witness.branch [
       | then-witness w ↦
           (let there : c.args.round < length lists = (let long = c.self.invariant.long in omega arith) in
-          let read = get_or_read_under lists c.args.round (length lists) w.index_mut.result.now nothing w.index_mut.ensures.value there refl in
+          let read = get_or_read_under lists c.args.round (length lists) w.index_mut.result.now no_list w.index_mut.ensures.value there refl in
           let grown : w.push.new.self.places ≡ (list_at lists c.args.round).places ++ length c.self.inside.rows.items ∷ [] =
           w.push.ensures ∙ ap₂ (λ (l : Listed) (k : ℕ). l.places ++ k ∷ []) read (search rules) in
           let marked = marked_set _ _ _ _ c.self.invariant roomy.0 roomy.1 _ _ c.requires.first next _ w.if-witness.true grown in

@@ -2,12 +2,12 @@ use std::marker::Model;
 
 /// A row's round, and whether the row is a witness.
 #[derive(Drop)]
-pub struct Told {
+pub struct RowRound {
     pub round: u32,
     pub witness: bool,
 }
 
-impl Model for Told {
+impl Model for RowRound {
     ghost use Rattle.hg_model.specs.Standings.{Standing};
 
     ghost Value = { Standing };

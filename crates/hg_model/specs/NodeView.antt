@@ -33,39 +33,39 @@ start_of members own keys = record {
 }
 
 -- a node: what it began with, and its history
-pub record Shown (K : Type 0) : Type 0 where
+pub record NodeView (K : Type 0) : Type 0 where
   pub start : Start K
   pub history : List Change
 
 -- the node with more changes
-abbrev pub with_changes : {K : Type 0} → Shown K → List Change → Shown K
+abbrev pub with_changes : {K : Type 0} → NodeView K → List Change → NodeView K
 with_changes v es = record { start = v.start; history = v.history ++ es }
 
 -- the state that the history leaves
-abbrev pub state_of : {K : Type 0} → Shown K → State
-state_of v = replay v.start.members v.start.coin v.history
+abbrev pub node_state : {K : Type 0} → NodeView K → State
+node_state v = replay v.start.members v.start.coin v.history
 
-abbrev pub graph_of : {K : Type 0} → Shown K → List Row
-graph_of v = (state_of v).rows
+abbrev pub node_rows : {K : Type 0} → NodeView K → List Row
+node_rows v = (node_state v).rows
 
-abbrev pub links_of : {K : Type 0} → Shown K → List Link
-links_of v = (state_of v).links
+abbrev pub node_links : {K : Type 0} → NodeView K → List Link
+node_links v = (node_state v).links
 
 -- the published marks
-abbrev pub marks_of : {K : Type 0} → Shown K → Marks
-marks_of v = (state_of v).marks
+abbrev pub node_marks : {K : Type 0} → NodeView K → Marks
+node_marks v = (node_state v).marks
 
 -- the greatest round that they close, or 0
-abbrev pub last_closed_of : {K : Type 0} → Shown K → ℕ
-last_closed_of v = last_closed v.start.members (links_of v) (marks_of v)
+abbrev pub last_closed_of : {K : Type 0} → NodeView K → ℕ
+last_closed_of v = last_closed v.start.members (node_links v) (node_marks v)
 
 -- the order by the published marks
-abbrev pub kept_of : {K : Type 0} → Shown K → List Placed
-kept_of v = kept v.start.members (state_of v)
+abbrev pub kept_of : {K : Type 0} → NodeView K → List Placed
+kept_of v = kept v.start.members (node_state v)
 
 -- the balances that it leaves, and what came of each of its rows
-abbrev pub book_kept : {K : Type 0} → Shown K → Book
-book_kept v = book_of v.start.balances (graph_of v) (kept_of v)
+abbrev pub book_kept : {K : Type 0} → NodeView K → Book
+book_kept v = book_of v.start.balances (node_rows v) (kept_of v)
 
 -- the log of a history from the row of this place on: the rows by their places
 abbrev pub log_from : ℕ → List Change → List Entry
@@ -74,7 +74,7 @@ log_from place (Took row ∷ h) = entry.Took place ∷ log_from (suc place) h
 log_from place (Made row ∷ h) = entry.Made place ∷ log_from (suc place) h
 log_from place (Marked len share ∷ h) = entry.Marked len share ∷ log_from place h
 
-abbrev pub log : {K : Type 0} → Shown K → List Entry
+abbrev pub log : {K : Type 0} → NodeView K → List Entry
 log v = log_from 0 v.history
 
 -- the change that an entry of a log tells of these rows
@@ -88,7 +88,7 @@ abbrev pub history_of : List Row → List Entry → List Change
 history_of G entries = map (change_of G) entries
 
 -- what every node is, where these signatures are accepted
-pub record IsNode {K : Type 0} (accepts : K → Accepts) (v : Shown K) : Type 0 where
+pub record IsNode {K : Type 0} (accepts : K → Accepts) (v : NodeView K) : Type 0 where
   pub few_members : v.start.members ≤ 128
   pub coin : 2 < v.start.coin
   pub balances : length v.start.balances ≡ v.start.members

@@ -4,11 +4,11 @@ use Rattle.hg_io.specs.Bytes.{Appends, AppendsPart}
 use Rattle.hg_io.specs.Faults.{Rose}
 use Rattle.hg_io.specs.declared.sink.Sink as sink
 
--- what came of telling a text to a sink K: it was written whole, or a front of it and not all, with a fault that was
+-- what came of printing a text to a sink K: it was written whole, or a front of it and not all, with a fault that was
 -- counted. No count falls.
-abbrev pub Tells : {S T E : Type 0} → sink.Ghosts S → S → S → List ℕ → Result T E → Type 0
-Tells K before after text (Ok x) = Appends (K.written before) (K.written after) text × (K.faults before ≤ K.faults after)
-Tells K before after text (Err e) =
+abbrev pub Prints : {S T E : Type 0} → sink.Ghosts S → S → S → List ℕ → Result T E → Type 0
+Prints K before after text (Ok x) = Appends (K.written before) (K.written after) text × (K.faults before ≤ K.faults after)
+Prints K before after text (Err e) =
     AppendsPart (K.written before) (K.written after) text × Rose (K.faults before) (K.faults after) × (K.faults before ≤ K.faults after)
 
 -- a sink and the page before it: what was written, how often it failed, and what the page holds

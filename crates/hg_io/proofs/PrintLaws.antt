@@ -4,7 +4,7 @@ use Rattle.std.proofs.Math.Seq.{take-append_seam}
 use Rattle.std.proofs.lemmas.List.{take-append-drop}
 use Rattle.hg_io.specs.Bytes.{Appends, AppendsPart}
 use Rattle.hg_io.specs.Faults.{Rose}
-use Rattle.hg_io.specs.Telling.{Desk, IsPut, IsPutUpTo, IsStopped, Puts, Tells, desk}
+use Rattle.hg_io.specs.Printing.{Desk, IsPut, IsPutUpTo, IsStopped, Puts, Prints, desk}
 use Rattle.hg_io.specs.declared.sink.Sink as sink
 use Rattle.hg_io.proofs.Appended.{option_map-append}
 
@@ -48,7 +48,7 @@ stops_before {a} {b} {s} t first = record {
   faults = first.faults;
 }
 
-append_nothing : (told : Option (List ℕ)) → Appends told told []
+append_nothing : (matches : Option (List ℕ)) → Appends matches matches []
 append_nothing None = refl
 append_nothing (Some held) = ap (λ (h : List ℕ). Some h) (sym (append-nil held))
 
@@ -120,16 +120,16 @@ part_of_stop a b text stop = (
 pub stopped_part : (a b : Desk) (text : List ℕ) → a.held ≡ [] → IsStopped a b text → AppendsPart a.written b.written text
 stopped_part a b text none stop = rw none at (part_of_stop a b text stop)
 
-pub told_by_page : {S T E : Type 0} (K : sink.Ghosts S) (first middle last : S) (none held text : List ℕ) (r : Result T E) → none ≡ []
-    → IsPut (desk K first none) (desk K middle held) text → Tells K middle last held r → Tells K first last text r
-told_by_page K first middle last none held text (Ok x) empty put told =
+pub printed_by_page : {S T E : Type 0} (K : sink.Ghosts S) (first middle last : S) (none held text : List ℕ) (r : Result T E) → none ≡ []
+    → IsPut (desk K first none) (desk K middle held) text → Prints K middle last held r → Prints K first last text r
+printed_by_page K first middle last none held text (Ok x) empty put matches =
     let whole : text ≡ put.sent ++ held = rw empty at put.split in
-    (rw whole (append_twice (K.written first) (K.written middle) (K.written last) put.sent held put.written told.0), omega (arith, put.faults, told.1))
-told_by_page K first middle last none held text (Err e) empty put told =
+    (rw whole (append_twice (K.written first) (K.written middle) (K.written last) put.sent held put.written matches.0), omega (arith, put.faults, matches.1))
+printed_by_page K first middle last none held text (Err e) empty put matches =
     let a = desk K first none in
     let b = desk K middle held in
     let c = desk K last [] in
-    let stop : IsStopped a c (text ++ []) = stops_then put (stops_sending b c [] told.0 told.1 told.2) in
+    let stop : IsStopped a c (text ++ []) = stops_then put (stops_sending b c [] matches.0 matches.1 matches.2) in
     (rw (append-nil text) at (stopped_part a c (text ++ []) empty stop), stop.rose, stop.faults)
 
 -- ---- a text piece by piece

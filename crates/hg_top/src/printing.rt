@@ -1,13 +1,13 @@
 ghost use Rattle.std.specs.Prelude.{◌≡◌, ◌++◌};
-ghost use Rattle.hg_io.specs.Telling.{Tells};
+ghost use Rattle.hg_io.specs.Printing.{Prints};
 ghost use Rattle.hg_members.specs.Text.{member_fault_text};
 ghost use Rattle.hg_report.specs.Pieces.{piece_text};
-ghost use Rattle.hg_top.specs.Telling.{IsToldOn, members_line, script_line, status_line};
+ghost use Rattle.hg_top.specs.Printing.{IsPrintedOn, members_line, script_line, status_line};
 
 use crate::status::{File, Refusal, Status};
 use hg_io::{Failed, Sink, write_all};
 use hg_members::MemberFault;
-use hg_report::{Piece, tell_pieces};
+use hg_report::{Piece, print_pieces};
 use hg_script::ScriptFault;
 
 /// A fault of the member file: its word, and its number if it has one.
@@ -27,19 +27,19 @@ fn member_fault_parts(fault: MemberFault) -> (&'static [u8], Piece<'static>)
     }
 }
 
-/// Tells a text as it is.
-fn tell_text<E: Sink>(err: &mut E, text: &[u8]) -> Result<(), Failed>
-    ensures { Tells E.Sink err.old err.new text.now result }
+/// Prints a text as it is.
+fn print_text<E: Sink>(err: &mut E, text: &[u8]) -> Result<(), Failed>
+    ensures { Prints E.Sink err.old err.new text.now result }
 {
     write_all(err, text)
 }
 
-/// Tells a fault of the member file.
-fn tell_member_fault<E: Sink>(err: &mut E, fault: MemberFault) -> Result<(), Failed>
-    ensures { Tells E.Sink err.old err.new (members_line (Refusal.Fault fault)) result }
+/// Prints a fault of the member file.
+fn print_member_fault<E: Sink>(err: &mut E, fault: MemberFault) -> Result<(), Failed>
+    ensures { Prints E.Sink err.old err.new (members_line (Refusal.Fault fault)) result }
 {
     let (word, number) = member_fault_parts(fault);
-    tell_pieces(
+    print_pieces(
         err,
         &[
             Piece::Bytes(b"hashgraph: members: "),
@@ -50,12 +50,12 @@ fn tell_member_fault<E: Sink>(err: &mut E, fault: MemberFault) -> Result<(), Fai
     )
 }
 
-/// Tells why a line of the script is refused.
-fn tell_script_fault<E: Sink>(err: &mut E, fault: ScriptFault) -> Result<(), Failed>
-    ensures { Tells E.Sink err.old err.new (script_line (Refusal.Fault fault)) result }
+/// Prints why a line of the script is refused.
+fn print_script_fault<E: Sink>(err: &mut E, fault: ScriptFault) -> Result<(), Failed>
+    ensures { Prints E.Sink err.old err.new (script_line (Refusal.Fault fault)) result }
 {
     let why = fault.why.text();
-    tell_pieces(
+    print_pieces(
         err,
         &[
             Piece::Bytes(b"hashgraph: script line "),
@@ -67,35 +67,35 @@ fn tell_script_fault<E: Sink>(err: &mut E, fault: ScriptFault) -> Result<(), Fai
     )
 }
 
-/// Tells one line, or nothing where all went well.
-fn tell_status<E: Sink>(err: &mut E, status: Status) -> Result<(), Failed>
-    ensures { Tells E.Sink err.old err.new (status_line status) result }
+/// Prints one line, or nothing where all went well.
+fn print_status<E: Sink>(err: &mut E, status: Status) -> Result<(), Failed>
+    ensures { Prints E.Sink err.old err.new (status_line status) result }
 {
     match status {
         Status::Done => Ok(()),
-        Status::ReadFault(File::Members) => tell_text(
+        Status::ReadFault(File::Members) => print_text(
             err,
             b"hashgraph: cannot read the member file\n",
         ),
-        Status::ReadFault(File::Script) => tell_text(err, b"hashgraph: cannot read the script\n"),
-        Status::Usage => tell_text(
+        Status::ReadFault(File::Script) => print_text(err, b"hashgraph: cannot read the script\n"),
+        Status::Usage => print_text(
             err,
             b"hashgraph: usage: run --members FILE --script FILE [--workers K] or make --members N --lines L --seed S [--workers K]\n",
         ),
-        Status::Members(Refusal::TooLong) => tell_text(err, b"hashgraph: members: too-long\n"),
-        Status::Members(Refusal::Fault(fault)) => tell_member_fault(err, fault),
-        Status::Script(Refusal::TooLong) => tell_text(err, b"hashgraph: script: too-long\n"),
-        Status::Script(Refusal::Fault(fault)) => tell_script_fault(err, fault),
-        Status::WriteFault => tell_text(err, b"hashgraph: cannot write\n"),
-        Status::Memory => tell_text(err, b"hashgraph: out of memory\n"),
+        Status::Members(Refusal::TooLong) => print_text(err, b"hashgraph: members: too-long\n"),
+        Status::Members(Refusal::Fault(fault)) => print_member_fault(err, fault),
+        Status::Script(Refusal::TooLong) => print_text(err, b"hashgraph: script: too-long\n"),
+        Status::Script(Refusal::Fault(fault)) => print_script_fault(err, fault),
+        Status::WriteFault => print_text(err, b"hashgraph: cannot write\n"),
+        Status::Memory => print_text(err, b"hashgraph: out of memory\n"),
     }
 }
 
-/// Tells what a run came to on standard error, whose faults change nothing.
-pub(crate) fn tell<E: Sink>(err: &mut E, status: Status)
-    ensures { IsToldOn (E.written err.old) (E.written err.new) (E.faults err.old) (E.faults err.new) (status_line status) }
+/// Prints what a run came to on standard error, whose faults change nothing.
+pub(crate) fn report_status<E: Sink>(err: &mut E, status: Status)
+    ensures { IsPrintedOn (E.written err.old) (E.written err.new) (E.faults err.old) (E.faults err.new) (status_line status) }
 {
-    match tell_status(err, status) {
+    match print_status(err, status) {
         Ok(()) => (),
         Err(Failed) => (),
     }

@@ -10,58 +10,58 @@ use Rattle.hg_model.specs.Fame.{Marks, mark_at}
 use Rattle.hg_model.specs.Shares.{Share}
 use Rattle.hg_model.specs.Verdict.{last_name}
 use Rattle.hg_model.specs.Members.{MemberList, balances_of}
-use Rattle.hg_model.specs.Prefix.{Graph, graph_of as prefix_of}
+use Rattle.hg_model.specs.Prefix.{Graph, graph_of}
 use Rattle.hg_model.specs.Pay.{Book, book_of}
 use Rattle.hg_model.specs.Kept.{kept}
 use Rattle.hg_graph.specs.Held.{graph_with}
 use Rattle.hg_model.specs.History.{State, Accepts, news, with_row, with_marks}
-use Rattle.hg_model.specs.Shown.{Shown, graph_of, marks_of, log, history_of, IsNode}
+use Rattle.hg_model.specs.NodeView.{NodeView, node_rows, node_marks, log, history_of, IsNode}
 use Rattle.hg_kept.specs.Published.{Published, Keeps, state_by}
 use Rattle.hg_pay.specs.Account.{Account}
 
 -- whose node it is, the balances that it began with, its rows as a graph, the log, and the published marks
-pub record Recorded : Type 0 where
+pub record ChronicleView : Type 0 where
   pub own : ℕ
   pub balances : List ℕ
   pub graph : Graph
   pub log : List Entry
   pub marks : Marks
 
-abbrev pub recorded : ℕ → List ℕ → Graph → List Entry → Marks → Recorded
-recorded own balances graph log marks = record { own = own; balances = balances; graph = graph; log = log; marks = marks }
+abbrev pub chronicle_view : ℕ → List ℕ → Graph → List Entry → Marks → ChronicleView
+chronicle_view own balances graph log marks = record { own = own; balances = balances; graph = graph; log = log; marks = marks }
 
--- of the node of a member among these nothing yet
-abbrev pub nothing : MemberList → ℕ → Recorded
-nothing members own = recorded own (balances_of members) (prefix_of (length members.entries) members.coin []) [] []
+-- of the node of a member among these no_chronicle yet
+abbrev pub no_chronicle : MemberList → ℕ → ChronicleView
+no_chronicle members own = chronicle_view own (balances_of members) (graph_of (length members.entries) members.coin []) [] []
 
 -- the state of the node
-abbrev pub state_in : Recorded → State
-state_in r = state_by r.graph r.marks
+abbrev pub chronicle_state : ChronicleView → State
+chronicle_state r = state_by r.graph r.marks
 
 -- the book of the order that it keeps
-abbrev pub book_in : Recorded → Book
-book_in r = book_of r.balances r.graph.rows (kept r.graph.members (state_in r))
+abbrev pub book_in : ChronicleView → Book
+book_in r = book_of r.balances r.graph.rows (kept r.graph.members (chronicle_state r))
 
 -- with one row more, which came as the entry says
-abbrev pub recorded_with : Recorded → Row → Entry → Recorded
-recorded_with r row entry = recorded r.own r.balances (graph_with r.graph row) (r.log ++ entry ∷ []) (with_row r.graph.members (state_in r) row).marks
+abbrev pub chronicle_with : ChronicleView → Row → Entry → ChronicleView
+chronicle_with r row entry = chronicle_view r.own r.balances (graph_with r.graph row) (r.log ++ entry ∷ []) (with_row r.graph.members (chronicle_state r) row).marks
 
 -- how many witnesses are marked when what the share finds in the first `len` rows is published
-abbrev pub news_in : Recorded → ℕ → Share → ℕ
-news_in r len share = news r.graph.members r.graph.coin (state_in r) len share
+abbrev pub news_in : ChronicleView → ℕ → Share → ℕ
+news_in r len share = news r.graph.members r.graph.coin (chronicle_state r) len share
 
 -- the entry that tells it, where some are
 abbrev pub news_entries : ℕ → ℕ → Share → List Entry
 news_entries count len share = cond (count == 0) [] (entry.Marked len share ∷ [])
 
 -- with these marks more
-abbrev pub recorded_news : Recorded → ℕ → Share → Recorded
-recorded_news r len share =
-    recorded r.own r.balances r.graph (r.log ++ news_entries (news_in r len share) len share) (with_marks r.graph.members r.graph.coin (state_in r) len share).marks
+abbrev pub chronicle_news : ChronicleView → ℕ → Share → ChronicleView
+chronicle_news r len share =
+    chronicle_view r.own r.balances r.graph (r.log ++ news_entries (news_in r len share) len share) (with_marks r.graph.members r.graph.coin (chronicle_state r) len share).marks
 
 -- the place of the last row that the member made
-abbrev pub last_place : ℕ → List Row → Option ℕ
-last_place own G = option_map (place_of G) (last_name own G)
+abbrev pub last_own_place : ℕ → List Row → Option ℕ
+last_own_place own G = option_map (place_of G) (last_name own G)
 
 -- how many rows have a mark
 unfoldable pub marked : Marks → ℕ
@@ -71,7 +71,7 @@ marked marks = count_below (length marks) (λ x. is_some (mark_at marks x))
 -- least the memory of two for each row
 pub record KeepsRecord (own : ℕ) (graph : Graph) (log : List Entry) (v : Published) (last_own : Option ℕ) (capacity : ℕ) : Type 0 where
   pub keeps : Keeps graph v
-  pub last : last_own ≡ last_place own graph.rows
+  pub last : last_own ≡ last_own_place own graph.rows
   pub few_entries : length log ≤ length graph.rows + marked v.marks
   pub memory : 2 * length graph.rows ≤ capacity
 
@@ -80,16 +80,16 @@ pub record KeepsBook (G : List Row) (order : List Placed) (a : Account) : Type 0
   pub book : a.book ≡ book_of a.opening G order
   pub memory : length G ≤ a.room
 
--- the node with these keys of which this is recorded
-abbrev pub shown : {K : Type 0} → K → Recorded → Shown K
-shown keys r = record {
+-- the node with these keys of which this is chronicle_view
+abbrev pub node_view : {K : Type 0} → K → ChronicleView → NodeView K
+node_view keys r = record {
   start = record { own = r.own; members = r.graph.members; coin = r.graph.coin; balances = r.balances; keys = keys };
   history = history_of r.graph.rows r.log;
 }
 
 -- the node's history has these rows, this log and these marks
-pub record IsRecorded {K : Type 0} (accepts : K → Accepts) (v : Shown K) (r : Recorded) : Type 0 where
+pub record IsRecorded {K : Type 0} (accepts : K → Accepts) (v : NodeView K) (r : ChronicleView) : Type 0 where
   pub node : IsNode accepts v
-  pub rows : graph_of v ≡ r.graph.rows
+  pub rows : node_rows v ≡ r.graph.rows
   pub log : log v ≡ r.log
-  pub marks : marks_of v ≡ r.marks
+  pub marks : node_marks v ≡ r.marks

@@ -6,7 +6,7 @@ use Rattle.hg_model.specs.Spelling.{spelling}
 use Rattle.hg_model.specs.Verdict.{is_held}
 
 -- rows, and for how many more there is memory at least
-pub record Stored : Type 0 where
+pub record RowsWithRoom : Type 0 where
   pub rows : List Row
   pub room : ℕ
 

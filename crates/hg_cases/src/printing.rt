@@ -1,8 +1,8 @@
 use crate::outcome::{Outcome, Part};
 use std::io;
 
-/// Tells the first line at which two texts part, numbered from 1.
-fn tell_line<R: AllocGlobal + Print>(
+/// Prints the first line at which two texts part, numbered from 1.
+fn print_line<R: AllocGlobal + Print>(
     rt: &R,
     name: &str,
     part: &str,
@@ -25,8 +25,8 @@ fn tell_line<R: AllocGlobal + Print>(
     }
 }
 
-/// Tells how a case differs in this part.
-pub fn tell<R: AllocGlobal + Print>(
+/// Prints how a case differs in this part.
+pub fn print_difference<R: AllocGlobal + Print>(
     rt: &R,
     name: &str,
     part: Part,
@@ -38,7 +38,7 @@ pub fn tell<R: AllocGlobal + Print>(
             let (wanted, got) = (wanted.status, got.status);
             println!(rt; "{name}: status: wanted {wanted}, got {got}")
         }
-        Part::Stdout => tell_line(rt, name, "stdout", wanted.stdout, got.stdout),
-        Part::Stderr => tell_line(rt, name, "stderr", wanted.stderr, got.stderr),
+        Part::Stdout => print_line(rt, name, "stdout", wanted.stdout, got.stdout),
+        Part::Stderr => print_line(rt, name, "stderr", wanted.stderr, got.stderr),
     }
 }

@@ -34,8 +34,8 @@ status_line WriteFault = codes "hashgraph: cannot write\n"
 status_line Memory = codes "hashgraph: out of memory\n"
 
 -- the line was written whole, or a front of it, where the count of faults rose
-abbrev pub IsToldOn : Option (List ℕ) → Option (List ℕ) → ℕ → ℕ → List ℕ → Type 0
-IsToldOn written_before written_after faults_before faults_after line =
+abbrev pub IsPrintedOn : Option (List ℕ) → Option (List ℕ) → ℕ → ℕ → List ℕ → Type 0
+IsPrintedOn written_before written_after faults_before faults_after line =
     Appends written_before written_after line ⊎ (AppendsPart written_before written_after line × Rose faults_before faults_after)
 
 -- the exit status of the program

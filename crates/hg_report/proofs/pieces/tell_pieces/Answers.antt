@@ -1,5 +1,0 @@
-use Rattle.hg_io.proofs.Told.{told_by_page}
-use Rattle.hg_report.proofs.pieces.tell_pieces.Goals as goal
-
-pub returns : goal.returns
-returns g c = told_by_page g.K.Sink _ _ _ _ _ _ _ c.new-page.ensures c.in_ok-write_pieces.ensures c.send.ensures.told

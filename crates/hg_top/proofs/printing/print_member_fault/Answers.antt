@@ -1,0 +1,13 @@
+use Rattle.std.proofs.Common.{◌∙◌, ◌++◌, List, ℕ, ap, append_assoc, codes, subst, sym}
+use Rattle.hg_io.specs.Printing.{Prints}
+use Rattle.hg_report.specs.Pieces.{piece_text}
+use Rattle.hg_top.proofs.printing.print_member_fault.Goals as goal
+
+pub returns : goal.returns
+returns g c =
+    let sink = g.E.Sink in
+    let end : List ℕ = codes "\n" in
+    let parts = c.member_fault_parts.result in
+    subst (λ (t : List ℕ). Prints sink c.args.err.now c.print_pieces.new.sink
+    (codes "hashgraph: members: " ++ t) c.print_pieces.result)
+    (sym (append_assoc parts.0.now (piece_text parts.1) end) ∙ ap (λ (t : List ℕ). t ++ end) c.member_fault_parts.ensures) c.print_pieces.ensures
