@@ -8,7 +8,7 @@ use Rattle.hg_model.specs.Ancestry.{is_ancestor}
 use Rattle.hg_model.specs.Forks.{forkers}
 use Rattle.hg_model.specs.Rounds.{round_of, is_witness}
 use Rattle.hg_model.specs.Votes.{vote_of, decides}
-use Rattle.hg_model.specs.Fame.{Marks, mark_at, fame_of, fame_marks, is_witness_in, is_unmarked, is_closed}
+use Rattle.hg_model.specs.Fame.{Marks, mark_at, fame_of, fame_marks, is_witness_of_round, is_unmarked, is_closed}
 use Rattle.hg_model.specs.Graph.{IsShaped}
 use Rattle.hg_model.proofs.AncestryLaws.{is_ancestor-le}
 use Rattle.hg_model.proofs.AgreeLaws.{deciders_agree}
@@ -83,6 +83,6 @@ module _ (n c : ℕ) (L M : List Link) (s : IsShaped n L) (t : IsShaped n M) (fe
       let v = decided_later r x closed hc hx of_x.0 (leb-true (round_of n M x) r of_x.1) in
       let mark : mark_at marks x ≡ Some v.0 = mark_of_fame n c M two x v.0 hx v.1 in
       both_ways (is_none (mark_at marks x)) (rw mark refl) un.1) in
-      and_from (some_below (length M) (is_witness_in n M r)) (not (some_below (length M) (is_unmarked n M marks r)))
-      (some_below_from (length M) (is_witness_in n M r) w.0 (omega arith) (and_from (is_witness n M w.0) (eqb (round_of n M w.0) r) witness (eq-eqb (round_of n M w.0) r here)))
+      and_from (some_below (length M) (is_witness_of_round n M r)) (not (some_below (length M) (is_unmarked n M marks r)))
+      (some_below_from (length M) (is_witness_of_round n M r) w.0 (omega arith) (and_from (is_witness n M w.0) (eqb (round_of n M w.0) r) witness (eq-eqb (round_of n M w.0) r here)))
       (not_from_false (some_below (length M) (is_unmarked n M marks r)) none)

@@ -8,18 +8,18 @@ use Rattle.hg_model.specs.Graph.{IsGraph}
 use Rattle.hg_model.specs.Order.{coin_at}
 
 -- round r is closed by the fame of the graph
-abbrev pub is_closed_in : ℕ → ℕ → List Row → ℕ → Bool
-is_closed_in n c G r = is_closed n (links G) (fame_marks n c (links G) (coin_at G)) r
+abbrev pub is_closed_by_fame : ℕ → ℕ → List Row → ℕ → Bool
+is_closed_by_fame n c G r = is_closed n (links G) (fame_marks n c (links G) (coin_at G)) r
 
 -- where round r is closed in a graph, each witness of that round or an earlier one that a longer graph adds is decided
 -- not to be famous
 abbrev pub LateWitnessIsNotFamous : Type 0
 LateWitnessIsNotFamous = (n c : ℕ) (G more : List Row) → IsGraph n G → IsGraph n (G ++ more) → 2 < c → (r x : ℕ) →
-    IsTrue (is_closed_in n c G r) → length G ≤ x → x < length (G ++ more) →
+    IsTrue (is_closed_by_fame n c G r) → length G ≤ x → x < length (G ++ more) →
     IsTrue (is_witness n (links (G ++ more)) x) → round_of n (links (G ++ more)) x ≤ r →
     fame_of n c (links (G ++ more)) (coin_at (G ++ more)) x ≡ Some false
 
 -- and so round r is closed in each longer graph
 abbrev pub ClosedRoundsStay : Type 0
 ClosedRoundsStay = (n c : ℕ) (G more : List Row) → IsGraph n G → IsGraph n (G ++ more) → 2 < c → (r : ℕ) →
-    IsTrue (is_closed_in n c G r) → IsTrue (is_closed_in n c (G ++ more) r)
+    IsTrue (is_closed_by_fame n c G r) → IsTrue (is_closed_by_fame n c (G ++ more) r)

@@ -5,7 +5,7 @@ use Rattle.std.specs.List.{AllByRecursion, list_all}
 use Rattle.std.proofs.lemmas.List.Elements.{All-from_recursion}
 use Rattle.hg_model.specs.Graph.{IsShaped}
 use Rattle.hg_model.specs.Rounds.{round_of, is_witness}
-use Rattle.hg_model.specs.Fame.{Marks, mark_at, is_closed, is_witness_in}
+use Rattle.hg_model.specs.Fame.{Marks, mark_at, is_closed, is_witness_of_round}
 use Rattle.hg_model.specs.Prefix.{Graph, links_of, IsOfGraph}
 use Rattle.hg_model.specs.Shape.{Shape}
 use Rattle.hg_model.specs.Standings.{Standing, round_at, witness_at, witnesses_in}
@@ -25,7 +25,7 @@ module _ (shape : Shape) (S : List Standing) (g : Graph) (matches : IsOfGraph sh
       let len = length-links g.rows in
       All-from_recursion (λ w. w < length marks) witnesses
       (subst (AllByRecursion (λ w. w < length marks)) (sym (are ∙ (ap (λ (T : List Standing). witnesses_in T r) matches.standing ∙ witnesses_in-standings n L r)))
-      (all_list_below (λ w. w < length marks) (λ x. x) (length L) (is_witness_in n L r) (λ x inside passes. omega arith)))
+      (all_list_below (λ w. w < length marks) (λ x. x) (length L) (is_witness_of_round n L r) (λ x inside passes. omega arith)))
 
   -- and tell whether it is closed, where it comes next
   pub next_known : IsShaped g.members (links_of g) → (marks : Marks) (m : ℕ) → IsReached g marks m → (witnesses : List ℕ) → witnesses ≡ witnesses_in S (m + 1) →

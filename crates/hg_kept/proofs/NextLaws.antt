@@ -6,7 +6,7 @@ use Rattle.hg_model.specs.Places.{list_below, IsEarlier}
 use Rattle.hg_model.specs.Links.{parents}
 use Rattle.hg_model.specs.Rounds.{round_of, is_witness}
 use Rattle.hg_model.specs.Standings.{standings_of, witnesses_in}
-use Rattle.hg_model.specs.Fame.{Marks, mark_at, is_closed, is_witness_in, is_unmarked}
+use Rattle.hg_model.specs.Fame.{Marks, mark_at, is_closed, is_witness_of_round, is_unmarked}
 use Rattle.hg_model.specs.Order.{last_closed}
 use Rattle.hg_model.specs.Prefix.{Graph, links_of}
 use Rattle.hg_model.proofs.LateLaws.{closed_mark}
@@ -33,7 +33,7 @@ module _ (g : Graph) (marks : Marks) (e : IsEarlier (parents (links_of g))) (m :
     | inr closed ↦ closed_mark g.members (links_of g) marks m closed y inside witness le
   ]
 
-  unmarked_next : (y : ℕ) → y < length (links_of g) → is_unmarked g.members (links_of g) marks (m + 1) y ≡ (is_witness_in g.members (links_of g) (m + 1) y && not (is_some (mark_at marks y)))
+  unmarked_next : (y : ℕ) → y < length (links_of g) → is_unmarked g.members (links_of g) marks (m + 1) y ≡ (is_witness_of_round g.members (links_of g) (m + 1) y && not (is_some (mark_at marks y)))
   unmarked_next y inside =
       let n = g.members in
       let L = links_of g in
@@ -66,11 +66,11 @@ module _ (g : Graph) (marks : Marks) (e : IsEarlier (parents (links_of g))) (m :
   next_closed witnesses are =
       let n = g.members in
       let L = links_of g in
-      let listed : witnesses ≡ list_below (λ x. x) (length L) (is_witness_in n L (m + 1)) = are ∙ witnesses_in-standings n L (m + 1) in
+      let listed : witnesses ≡ list_below (λ x. x) (length L) (is_witness_of_round n L (m + 1)) = are ∙ witnesses_in-standings n L (m + 1) in
       ap (λ (ws : List ℕ). not (eqb (length ws) 0) && list_all (λ w. is_some (mark_at marks w)) ws) listed
-      ∙ ap₂ (λ (a b : Bool). a && b) (none-list_below (λ x. x) (length L) (is_witness_in n L (m + 1)))
-      (list_all-list_below (λ w. is_some (mark_at marks w)) (length L) (is_witness_in n L (m + 1))
-      ∙ ap not (sym (some_below-same (length L) (is_unmarked n L marks (m + 1)) (λ y. is_witness_in n L (m + 1) y && not (is_some (mark_at marks y))) unmarked_next)))
+      ∙ ap₂ (λ (a b : Bool). a && b) (none-list_below (λ x. x) (length L) (is_witness_of_round n L (m + 1)))
+      (list_all-list_below (λ w. is_some (mark_at marks w)) (length L) (is_witness_of_round n L (m + 1))
+      ∙ ap not (sym (some_below-same (length L) (is_unmarked n L marks (m + 1)) (λ y. is_witness_of_round n L (m + 1) y && not (is_some (mark_at marks y))) unmarked_next)))
 
   -- a round after which the next one is not closed is the last
   pub last_here : is_closed g.members (links_of g) marks (m + 1) ≡ false → m ≡ last_closed g.members (links_of g) marks

@@ -11,7 +11,7 @@ use Rattle.hg_model.specs.Forks.{forkers}
 use Rattle.hg_model.specs.Seeing.{sees}
 use Rattle.hg_model.specs.Rounds.{is_seen_witness, round_of, is_witness}
 use Rattle.hg_model.specs.Votes.{weighed_decides, is_voter, yes_votes, no_votes, majority, is_strong, is_normal, rounds_above, vote_of, decides}
-use Rattle.hg_model.specs.Fame.{is_decider, fame_of, Marks, mark_at, fame_marks, is_witness_in, is_unmarked, is_closed}
+use Rattle.hg_model.specs.Fame.{is_decider, fame_of, Marks, mark_at, fame_marks, is_witness_of_round, is_unmarked, is_closed}
 use Rattle.hg_model.specs.Graph.{IsShaped}
 use Rattle.hg_model.proofs.PlacesLaws.{some_below_from, some_below_found, weight_below_none}
 use Rattle.hg_model.proofs.SearchLaws.{IsFoundBelow, least_below_found, least_below_some}
@@ -138,15 +138,15 @@ some_mark (Some v) h = (v, refl)
 
 module _ (n : ℕ) (L : List Link) (marks : Marks) (r : ℕ) (closed : is_closed n L marks r ≡ true) where
   -- a closed round has a witness
-  pub closed_witness : (w : ℕ) × (w < length L) × (is_witness_in n L r w ≡ true)
+  pub closed_witness : (w : ℕ) × (w < length L) × (is_witness_of_round n L r w ≡ true)
   unfolding is_closed
-  closed_witness = some_below_found (length L) (is_witness_in n L r) (and_parts (some_below (length L) (is_witness_in n L r)) (not (some_below (length L) (is_unmarked n L marks r))) closed).0
+  closed_witness = some_below_found (length L) (is_witness_of_round n L r) (and_parts (some_below (length L) (is_witness_of_round n L r)) (not (some_below (length L) (is_unmarked n L marks r))) closed).0
 
   -- and each witness of a round no later has a mark
   pub closed_mark : (w : ℕ) → w < length L → is_witness n L w ≡ true → round_of n L w ≤ r → (v : Bool) × (mark_at marks w ≡ Some v)
   unfolding is_closed
   closed_mark w hw ww le =
-      let none = not-true (some_below (length L) (is_unmarked n L marks r)) (and_parts (some_below (length L) (is_witness_in n L r)) (not (some_below (length L) (is_unmarked n L marks r))) closed).1 in
+      let none = not-true (some_below (length L) (is_unmarked n L marks r)) (and_parts (some_below (length L) (is_witness_of_round n L r)) (not (some_below (length L) (is_unmarked n L marks r))) closed).1 in
       some_mark (mark_at marks w) (false_from_ne_true (is_none (mark_at marks w)) (λ no_mark.
       both_ways (some_below (length L) (is_unmarked n L marks r)) none
       (some_below_from (length L) (is_unmarked n L marks r) w hw

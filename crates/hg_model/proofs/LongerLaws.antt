@@ -12,7 +12,7 @@ use Rattle.hg_model.specs.Seeing.{sees, sees_through, strongly_sees, is_supermaj
 use Rattle.hg_model.specs.Rounds.{parent_round, is_witness_by, is_seen_witness, round_from, round_of, is_witness}
 use Rattle.hg_model.specs.Votes.{is_voter, yes_votes, no_votes, vote_from, vote_of, decides}
 use Rattle.hg_model.specs.Graph.{IsShaped}
-use Rattle.hg_model.specs.Order.{sig_in, middle_bit, coin_at}
+use Rattle.hg_model.specs.Order.{row_sig, middle_bit, coin_at}
 use Rattle.hg_model.proofs.PlacesLaws.{by_place-same, some_below-same, weight_below-same}
 use Rattle.hg_model.proofs.ReachLaws.{reaches-same}
 use Rattle.hg_model.proofs.LinkLaws.{length-links}
@@ -53,7 +53,7 @@ links-longer n G more s =
 
 pub coin_at-longer : (G more : List Row) (x : ℕ) → x < length G → coin_at (G ++ more) x ≡ coin_at G x
 unfolding coin_at Rattle.hg_model.specs.Order.sig_at
-coin_at-longer G more x h = ap (λ row. middle_bit (sig_in row)) (slice_get-append G more nobody x h)
+coin_at-longer G more x h = ap (λ row. middle_bit (row_sig row)) (slice_get-append G more nobody x h)
 
 pub coin_at-take : (G : List Row) (len x : ℕ) → x < length (take len G) → coin_at G x ≡ coin_at (take len G) x
 coin_at-take G len x h =

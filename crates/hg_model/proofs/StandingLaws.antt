@@ -7,7 +7,7 @@ use Rattle.std.proofs.lemmas.Option.{slice_get-get_or}
 use Rattle.hg_model.specs.Places.{list_below, maximum_below, IsEarlier}
 use Rattle.hg_model.specs.Links.{Link, parents}
 use Rattle.hg_model.specs.Rounds.{round_of, is_witness, last_round}
-use Rattle.hg_model.specs.Standings.{Standing, standing_of, standings_of, round_in, witness_in, round_at, witness_at, witnesses_in, greatest_in}
+use Rattle.hg_model.specs.Standings.{Standing, standing_of, standings_of, standing_round, standing_witness, round_at, witness_at, witnesses_in, greatest_in}
 use Rattle.hg_model.proofs.PlacesLaws.{list_below-same, maximum_below-same}
 use Rattle.hg_model.proofs.LongerLaws.{IsLonger, longer-append, round_of-longer, is_witness-longer}
 
@@ -29,11 +29,11 @@ standing_at n L x h =
 
 pub round_at-standings : (n : ℕ) (L : List Link) (x : ℕ) → x < length L → round_at (standings_of n L) x ≡ round_of n L x
 unfolding round_at
-round_at-standings n L x h = ap round_in (standing_at n L x h)
+round_at-standings n L x h = ap standing_round (standing_at n L x h)
 
 pub witness_at-standings : (n : ℕ) (L : List Link) (x : ℕ) → x < length L → witness_at (standings_of n L) x ≡ is_witness n L x
 unfolding witness_at
-witness_at-standings n L x h = ap witness_in (standing_at n L x h)
+witness_at-standings n L x h = ap standing_witness (standing_at n L x h)
 
 pub witnesses_in-standings : (n : ℕ) (L : List Link) (r : ℕ) → witnesses_in (standings_of n L) r ≡ list_below (λ x. x) (length L) (λ x. is_witness n L x && eqb (round_of n L x) r)
 unfolding witnesses_in

@@ -27,8 +27,8 @@ unfoldable pub fame_marks : ℕ → ℕ → List Link → (ℕ → Bool) → Mar
 fame_marks n c L coin = table (fame_of n c L coin) (length L)
 
 -- y is a witness of round r
-abbrev pub is_witness_in : ℕ → List Link → ℕ → ℕ → Bool
-is_witness_in n L r y = is_witness n L y && round_of n L y == r
+abbrev pub is_witness_of_round : ℕ → List Link → ℕ → ℕ → Bool
+is_witness_of_round n L r y = is_witness n L y && round_of n L y == r
 
 -- y is a witness of a round at most r, and has no mark
 abbrev pub is_unmarked : ℕ → List Link → Marks → ℕ → ℕ → Bool
@@ -37,7 +37,7 @@ is_unmarked n L marks r y = is_witness n L y && nat_le (round_of n L y) r && is_
 -- round r has a witness, and every witness of a round at most r has a mark
 unfoldable pub is_closed : ℕ → List Link → Marks → ℕ → Bool
 is_closed n L marks r =
-    some_below (length L) (is_witness_in n L r) && not (some_below (length L) (is_unmarked n L marks r))
+    some_below (length L) (is_witness_of_round n L r) && not (some_below (length L) (is_unmarked n L marks r))
 
 -- the mark is there, and is TRUE
 abbrev pub is_yes : Option Bool → Bool
@@ -46,7 +46,7 @@ is_yes (Some v) = v
 
 -- y is a famous witness of round r
 abbrev pub is_famous_in : ℕ → List Link → Marks → ℕ → ℕ → Bool
-is_famous_in n L marks r y = is_witness_in n L r y && is_yes (mark_at marks y)
+is_famous_in n L marks r y = is_witness_of_round n L r y && is_yes (mark_at marks y)
 
 -- z is a famous witness of round r by the creator of y, and is not y
 abbrev pub is_rival : ℕ → List Link → Marks → ℕ → ℕ → ℕ → Bool

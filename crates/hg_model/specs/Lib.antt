@@ -25,5 +25,6 @@ pub mod Fits
 pub mod Shares
 pub mod History
 pub mod Kept
+pub mod GraphWords
 pub mod NodeView
 pub mod Calls

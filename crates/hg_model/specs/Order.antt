@@ -14,21 +14,21 @@ use Rattle.hg_model.specs.Ancestry.{is_ancestor, is_self_ancestor}
 use Rattle.hg_model.specs.Graph.{name_at}
 use Rattle.hg_model.specs.Fame.{Marks, is_closed, is_unique_famous, fame_marks}
 
-abbrev pub time_in : Option Row → ℕ
-time_in None = 0
-time_in (Some row) = row.time
+abbrev pub row_time : Option Row → ℕ
+row_time None = 0
+row_time (Some row) = row.time
 
-abbrev pub sig_in : Option Row → List ℕ
-sig_in None = []
-sig_in (Some row) = row.sig
+abbrev pub row_sig : Option Row → List ℕ
+row_sig None = []
+row_sig (Some row) = row.sig
 
 -- the time that the creator of row x claims
 unfoldable pub time_at : List Row → ℕ → ℕ
-time_at G x = time_in (slice_get G x)
+time_at G x = row_time (slice_get G x)
 
 -- the signature of row x
 unfoldable pub sig_at : List Row → ℕ → List ℕ
-sig_at G x = sig_in (slice_get G x)
+sig_at G x = row_sig (slice_get G x)
 
 -- the highest bit of byte 32, bytes counted from 0
 abbrev pub middle_bit : List ℕ → Bool

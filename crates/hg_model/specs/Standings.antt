@@ -18,21 +18,21 @@ standing_of n L x = record { round = round_of n L x; witness = is_witness n L x 
 unfoldable pub standings_of : ℕ → List Link → List Standing
 standings_of n L = table (standing_of n L) (length L)
 
-abbrev pub round_in : Option Standing → ℕ
-round_in None = 0
-round_in (Some standing) = standing.round
+abbrev pub standing_round : Option Standing → ℕ
+standing_round None = 0
+standing_round (Some standing) = standing.round
 
-abbrev pub witness_in : Option Standing → Bool
-witness_in None = false
-witness_in (Some standing) = standing.witness
+abbrev pub standing_witness : Option Standing → Bool
+standing_witness None = false
+standing_witness (Some standing) = standing.witness
 
 -- the round of x
 unfoldable pub round_at : List Standing → ℕ → ℕ
-round_at S x = round_in (slice_get S x)
+round_at S x = standing_round (slice_get S x)
 
 -- x is a witness
 unfoldable pub witness_at : List Standing → ℕ → Bool
-witness_at S x = witness_in (slice_get S x)
+witness_at S x = standing_witness (slice_get S x)
 
 -- the places of the witnesses of round r
 unfoldable pub witnesses_in : List Standing → ℕ → List ℕ

@@ -12,7 +12,7 @@ use Rattle.hg_model.specs.Links.{Link, creator}
 use Rattle.hg_model.specs.Ancestry.{is_ancestor}
 use Rattle.hg_model.specs.Graph.{IsShaped}
 use Rattle.hg_model.specs.Rounds.{round_of, is_witness}
-use Rattle.hg_model.specs.Fame.{Marks, mark_at, is_yes, is_witness_in, is_famous_in, is_rival, is_unique_famous, is_closed}
+use Rattle.hg_model.specs.Fame.{Marks, mark_at, is_yes, is_witness_of_round, is_famous_in, is_rival, is_unique_famous, is_closed}
 use Rattle.hg_model.specs.Order.{famous_places, can_receive, sig_at, xor_bytes, whitening}
 use Rattle.hg_model.specs.Prefix.{Graph, IsOfGraph, links_of}
 use Rattle.hg_model.specs.Shape.{Shape}
@@ -35,7 +35,7 @@ module _ (n : ℕ) (L : List Link) (marks : Marks) (r : ℕ) where
 
   pub round_of_famous : (y : ℕ) → is_unique_famous n L marks r y ≡ true → round_of n L y ≡ r
   round_of_famous y e =
-      let famous = and_parts (is_witness_in n L r y) (is_yes (mark_at marks y)) (witness_of y e) in
+      let famous = and_parts (is_witness_of_round n L r y) (is_yes (mark_at marks y)) (witness_of y e) in
       eqb-true (round_of n L y) r (and_parts (is_witness n L y) (eqb (round_of n L y) r) famous.0).1
 
   -- there is one by each creator
@@ -69,22 +69,22 @@ module _ (n : ℕ) (L : List Link) (marks : Marks) (r : ℕ) where
 
   -- among the witnesses of the round a lone famous one is a unique famous one
 
-  rivals : (y : ℕ) → list_any (is_rival_to L marks y) (list_below (λ w. w) (length L) (is_witness_in n L r))
+  rivals : (y : ℕ) → list_any (is_rival_to L marks y) (list_below (λ w. w) (length L) (is_witness_of_round n L r))
       ≡ some_below (length L) (is_rival n L marks r y)
   rivals y =
-      list_any-list_below (is_rival_to L marks y) (length L) (is_witness_in n L r)
-      ∙ some_below-same (length L) (λ z. is_witness_in n L r z && is_rival_to L marks y z) (is_rival n L marks r y)
-      (λ z h. and_assoc_three (is_witness_in n L r z) (is_yes (mark_at marks z)) (eqb (creator L z) (creator L y)) (not (eqb z y)))
+      list_any-list_below (is_rival_to L marks y) (length L) (is_witness_of_round n L r)
+      ∙ some_below-same (length L) (λ z. is_witness_of_round n L r z && is_rival_to L marks y z) (is_rival n L marks r y)
+      (λ z h. and_assoc_three (is_witness_of_round n L r z) (is_yes (mark_at marks z)) (eqb (creator L z) (creator L y)) (not (eqb z y)))
 
-  pub lone_are_famous : filter (is_lone L marks (list_below (λ w. w) (length L) (is_witness_in n L r))) (list_below (λ w. w) (length L) (is_witness_in n L r)) ≡ famous_places n L marks r
+  pub lone_are_famous : filter (is_lone L marks (list_below (λ w. w) (length L) (is_witness_of_round n L r))) (list_below (λ w. w) (length L) (is_witness_of_round n L r)) ≡ famous_places n L marks r
   unfolding famous_places is_unique_famous
   lone_are_famous =
-      let witnesses = list_below (λ w. w) (length L) (is_witness_in n L r) in
-      filter-list_below (is_lone L marks witnesses) (λ w. w) (length L) (is_witness_in n L r)
-      ∙ list_below-same (λ w. w) (λ w. w) (length L) (λ y. is_witness_in n L r y && is_lone L marks witnesses y) (is_unique_famous n L marks r)
+      let witnesses = list_below (λ w. w) (length L) (is_witness_of_round n L r) in
+      filter-list_below (is_lone L marks witnesses) (λ w. w) (length L) (is_witness_of_round n L r)
+      ∙ list_below-same (λ w. w) (λ w. w) (length L) (λ y. is_witness_of_round n L r y && is_lone L marks witnesses y) (is_unique_famous n L marks r)
       (λ y h.
-      ap (λ b. is_witness_in n L r y && (is_yes (mark_at marks y) && not b)) (rivals y)
-      ∙ sym (and_assoc (is_witness_in n L r y) (is_yes (mark_at marks y)) (not (some_below (length L) (is_rival n L marks r y)))))
+      ap (λ b. is_witness_of_round n L r y && (is_yes (mark_at marks y) && not b)) (rivals y)
+      ∙ sym (and_assoc (is_witness_of_round n L r y) (is_yes (mark_at marks y)) (not (some_below (length L) (is_rival n L marks r y)))))
       (λ y h passes. refl)
 
   -- what receives a row
@@ -115,14 +115,14 @@ famous_at_most g places f s = rw f.are (famous_few g.members (links_of g) f.mark
 -- the loop over the witnesses of a round, which a table of standings lists
 
 module _ (shape : Shape) (standings : List Standing) (g : Graph) (matches : IsOfGraph shape standings g) (s : IsShaped g.members (links_of g)) (marks : Marks) (r : ℕ) where
-  witnesses_are : witnesses_in standings r ≡ list_below (λ w. w) (length (links_of g)) (is_witness_in g.members (links_of g) r)
+  witnesses_are : witnesses_in standings r ≡ list_below (λ w. w) (length (links_of g)) (is_witness_of_round g.members (links_of g) r)
   witnesses_are = ap (λ ss. witnesses_in ss r) matches.standing ∙ witnesses_in-standings g.members (links_of g) r
 
   pub witnesses_within : All (λ w. w < length shape.links) (witnesses_in standings r)
   witnesses_within =
-      let listed = list_below (λ w. w) (length (links_of g)) (is_witness_in g.members (links_of g) r) in
+      let listed = list_below (λ w. w) (length (links_of g)) (is_witness_of_round g.members (links_of g) r) in
       rw matches.shaped (All-same (λ w. w < length (links_of g)) (witnesses_in standings r) listed witnesses_are
-      (All-from_recursion (λ w. w < length (links_of g)) listed (all_list_below (λ w. w < length (links_of g)) (λ w. w) (length (links_of g)) (is_witness_in g.members (links_of g) r) (λ w h e. h))))
+      (All-from_recursion (λ w. w < length (links_of g)) listed (all_list_below (λ w. w < length (links_of g)) (λ w. w) (length (links_of g)) (is_witness_of_round g.members (links_of g) r) (λ w h e. h))))
 
   pub lone_is : filter (is_lone shape.links marks (witnesses_in standings r)) (witnesses_in standings r) ≡ famous_of g marks r
   lone_is = rw (matches.shaped, witnesses_are) (lone_are_famous g.members (links_of g) marks r)

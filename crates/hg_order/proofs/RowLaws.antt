@@ -2,16 +2,16 @@
 use Rattle.std.proofs.Common.{◌≡◌, ℕ, ◌≤◌, List, length, replicate, Some, slice_get, refl, sym, ap}
 use Rattle.std.proofs.lemmas.Option.{slice_get_past}
 use Rattle.hg_model.specs.declared.row.Row.{Row}
-use Rattle.hg_model.specs.Order.{sig_in, time_in, sig_at, time_at}
+use Rattle.hg_model.specs.Order.{row_sig, row_time, sig_at, time_at}
 use Rattle.hg_order.specs.Round.{sig_or_zeros, name_or_zeros}
 
 pub time_known : (G : List Row) (x : ℕ) (row : Row) → slice_get G x ≡ Some row → row.time ≡ time_at G x
 unfolding time_at
-time_known G x row is = sym (ap time_in is)
+time_known G x row is = sym (ap row_time is)
 
 pub sig_known : (G : List Row) (x : ℕ) (row : Row) → slice_get G x ≡ Some row → row.sig ≡ sig_at G x
 unfolding sig_at
-sig_known G x row is = sym (ap sig_in is)
+sig_known G x row is = sym (ap row_sig is)
 
 pub ruleset row_known = (time_known, sig_known)
 

@@ -5,7 +5,7 @@ use Rattle.std.proofs.lemmas.List.{get_or_past}
 use Rattle.hg_model.specs.Places.{list_below}
 use Rattle.hg_model.specs.Links.{Link}
 use Rattle.hg_model.specs.Rounds.{round_of, is_witness, last_round}
-use Rattle.hg_model.specs.Fame.{Marks, is_witness_in}
+use Rattle.hg_model.specs.Fame.{Marks, is_witness_of_round}
 use Rattle.hg_model.specs.Order.{round_received}
 use Rattle.hg_model.specs.Prefix.{Graph, links_of}
 use Rattle.hg_model.specs.Standings.{standings_of, witnesses_in}
@@ -20,7 +20,7 @@ module _ (n : ℕ) (L : List Link) (r : ℕ) where
   -- no round above the greatest has witnesses
   none_above : last_round n L < r → witnesses_of n L r ≡ []
   unfolding witnesses_of last_round
-  none_above above = list_below_none (λ w. w) (length L) (is_witness_in n L r) (λ w h.
+  none_above above = list_below_none (λ w. w) (length L) (is_witness_of_round n L r) (λ w h.
       and_right (is_witness n L w) (eqb (round_of n L w) r) (ne_eqb (round_of n L w) r (λ e. absurd (omega (arith, e, maximum_below_bounds (round_of n L) (length L) w h)))))
 
   listed : witnesses_of n L r ≡ witnesses_in (standings_of n L) r

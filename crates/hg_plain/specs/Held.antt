@@ -5,7 +5,7 @@ use Rattle.hg_model.specs.declared.row.Row.{Row}
 use Rattle.hg_model.specs.Places.{list_below}
 use Rattle.hg_model.specs.Links.{Link, links}
 use Rattle.hg_model.specs.Shape.{Shape}
-use Rattle.hg_model.specs.Fame.{is_witness_in}
+use Rattle.hg_model.specs.Fame.{is_witness_of_round}
 use Rattle.hg_model.specs.Ancestry.{is_ancestor, is_self_ancestor}
 use Rattle.hg_model.specs.Graph.{IsShaped}
 use Rattle.hg_model.specs.Forks.{has_fork_below, forkers}
@@ -32,7 +32,7 @@ pub record HoldsRounds (n : ℕ) (L : List Link) (strong : List (Vec Bool)) (rou
 
 -- the witnesses of round r, in order
 unfoldable pub witnesses_of : ℕ → List Link → ℕ → List ℕ
-witnesses_of n L r = list_below (λ w. w) (length L) (is_witness_in n L r)
+witnesses_of n L r = list_below (λ w. w) (length L) (is_witness_of_round n L r)
 
 -- rows of few members with the tables of just them, a coin period, and the witnesses of each round up to the greatest
 pub record HoldsPrefix (G : List Row) (shape : Shape) (coin : ℕ) (witnesses : List (List ℕ)) : Type 0 where

@@ -1,6 +1,6 @@
 ghost use Rattle.std.specs.Prelude.{◌≡◌, ◌<◌, ◌+◌, ◌-◌, ◌^◌, false, suc, length, IfOk, slice_index_or};
 ghost use Rattle.hg_model.specs.Places.{some_below, greatest_below};
-ghost use Rattle.hg_model.specs.Fame.{is_witness_in, is_unmarked, is_closed};
+ghost use Rattle.hg_model.specs.Fame.{is_witness_of_round, is_unmarked, is_closed};
 ghost use Rattle.hg_plain.specs.Tables.{IsTableOf};
 
 use crate::sight::PlainSight;
@@ -8,9 +8,9 @@ use hg_model::Memory;
 use std::alloc::Global;
 
 /// Whether row `y` is a witness of round `r`.
-pub fn is_witness_in(sight: &PlainSight, r: u32, y: usize) -> bool
+pub fn is_witness_of_round(sight: &PlainSight, r: u32, y: usize) -> bool
     requires { y < length sight.now.links }
-    ensures { result ≡ is_witness_in sight.now.members sight.now.links r y }
+    ensures { result ≡ is_witness_of_round sight.now.members sight.now.links r y }
 {
     sight.is_witness(y) && sight.round(y) == r
 }
@@ -18,10 +18,10 @@ pub fn is_witness_in(sight: &PlainSight, r: u32, y: usize) -> bool
 /// Whether round `r` has a witness.
 #[tactic(auto, using(hg_model::proofs::PlacesLaws::some_steps))]
 fn has_witness(sight: &PlainSight, r: u32) -> bool
-    ensures { result ≡ some_below (length sight.now.links) (is_witness_in sight.now.members sight.now.links r) }
+    ensures { result ≡ some_below (length sight.now.links) (is_witness_of_round sight.now.members sight.now.links r) }
 {
     for y in 0..sight.len() {
-        if is_witness_in(sight, r, y) {
+        if is_witness_of_round(sight, r, y) {
             return true;
         }
     }

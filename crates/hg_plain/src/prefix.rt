@@ -1,7 +1,7 @@
 ghost use Rattle.std.specs.Prelude.{◌≡◌, ◌<◌, ◌≤◌, ◌-◌, ◌+◌, ◌^◌, [], Some, suc, length, slice_get, slice_index_or, IfOk, refl};
 ghost use Rattle.hg_model.specs.Links.{links};
 ghost use Rattle.hg_model.specs.Graph.{IsShaped};
-ghost use Rattle.hg_model.specs.Fame.{is_witness_in};
+ghost use Rattle.hg_model.specs.Fame.{is_witness_of_round};
 ghost use Rattle.hg_model.specs.Places.{list_below};
 ghost use Rattle.hg_model.specs.Prefix.{graph_of, links_of};
 ghost use Rattle.hg_model.specs.Rounds.{last_round};
@@ -10,7 +10,7 @@ ghost use Rattle.hg_model.specs.Standings.{standings_of};
 ghost use Rattle.hg_plain.specs.Tables.{IsTableOf};
 ghost use Rattle.hg_plain.specs.Held.{witnesses_of};
 
-use crate::closed::is_witness_in;
+use crate::closed::is_witness_of_round;
 use crate::sight::PlainSight;
 use hg_model::{Items, Member, Memory, Prefix, Rounds, Row, Sight};
 use std::alloc::Global;
@@ -88,7 +88,7 @@ fn witnesses_of(alloc: Global, sight: &PlainSight, r: u32) -> Result<Items<usize
 {
     let mut witnesses = Vec::new(alloc);
     for y in 0..sight.len() {
-        if is_witness_in(sight, r, y) {
+        if is_witness_of_round(sight, r, y) {
             witnesses.push(y)?;
         }
     }

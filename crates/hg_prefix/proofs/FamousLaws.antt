@@ -5,7 +5,7 @@ use Rattle.hg_model.specs.Places.{some_below, IsEarlier}
 use Rattle.hg_model.specs.Links.{Link, parents, creator}
 use Rattle.hg_model.specs.Ancestry.{is_ancestor}
 use Rattle.hg_model.specs.Rounds.{round_of, is_witness}
-use Rattle.hg_model.specs.Fame.{Marks, mark_at, is_witness_in, is_unmarked, is_closed, is_yes, is_famous_in, is_rival, is_unique_famous}
+use Rattle.hg_model.specs.Fame.{Marks, mark_at, is_witness_of_round, is_unmarked, is_closed, is_yes, is_famous_in, is_rival, is_unique_famous}
 use Rattle.hg_model.specs.Order.{is_without, can_receive, round_received}
 use Rattle.hg_model.proofs.PlacesLaws.{some_below_from, some_below_found, some_below_none}
 use Rattle.hg_model.proofs.LateLaws.{closed_witness}
@@ -32,10 +32,10 @@ module _ (n : ℕ) (L : List Link) (marks : Marks) where
   pub closed_from : (r w : ℕ) → IsWitnessIn r w → ((y : ℕ) → y < length L → is_witness n L y ≡ true → round_of n L y ≤ r → (v : Bool) × (mark_at marks y ≡ Some v)) → is_closed n L marks r ≡ true
   unfolding is_closed
   closed_from r w witness marked =
-      let some = some_below (length L) (is_witness_in n L r) in
+      let some = some_below (length L) (is_witness_of_round n L r) in
       let unmarked = some_below (length L) (is_unmarked n L marks r) in
       and_from some (not unmarked)
-      (some_below_from (length L) (is_witness_in n L r) w witness.inside
+      (some_below_from (length L) (is_witness_of_round n L r) w witness.inside
       (and_from (is_witness n L w) (eqb (round_of n L w) r) witness.witness (eq-eqb (round_of n L w) r witness.in_round)))
       (not_from_false unmarked (some_below_none (length L) (is_unmarked n L marks r) (λ y inside e.
       let parts = and_parts (is_witness n L y && leb (round_of n L y) r) (is_none (mark_at marks y)) e in
@@ -60,13 +60,13 @@ module _ (n : ℕ) (L : List Link) (marks : Marks) where
 
   pub famous_is : (r y : ℕ) → is_famous_in n L marks r y ≡ true → IsFamous r y
   famous_is r y h =
-      let parts = and_parts (is_witness_in n L r y) (is_yes (mark_at marks y)) h in
+      let parts = and_parts (is_witness_of_round n L r y) (is_yes (mark_at marks y)) h in
       let inner = and_parts (is_witness n L y) (eqb (round_of n L y) r) parts.0 in
       record { witness = inner.0; in_round = eqb-true (round_of n L y) r inner.1; marked = famous_mark (mark_at marks y) parts.1 }
 
   pub famous_from : (r y : ℕ) → IsFamous r y → is_famous_in n L marks r y ≡ true
   famous_from r y f =
-      and_from (is_witness_in n L r y) (is_yes (mark_at marks y))
+      and_from (is_witness_of_round n L r y) (is_yes (mark_at marks y))
       (and_from (is_witness n L y) (eqb (round_of n L y) r) f.witness (eq-eqb (round_of n L y) r f.in_round)) (ap is_yes f.marked)
 
   pub record IsUniqueFamous (r y : ℕ) : Type 0 where

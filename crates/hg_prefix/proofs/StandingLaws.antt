@@ -5,7 +5,7 @@ use Rattle.std.proofs.lemmas.List.Sums.{passes_at_first}
 use Rattle.hg_model.specs.declared.row.Row.{Row}
 use Rattle.hg_model.specs.Links.{parent_names, is_named, place_of, links, parents}
 use Rattle.hg_model.specs.Graph.{name_in, name_at, HasDistinctNames, IsShaped}
-use Rattle.hg_model.specs.Order.{sig_in, sig_at, time_in, time_at, middle_bit, coin_at}
+use Rattle.hg_model.specs.Order.{row_sig, sig_at, row_time, time_at, middle_bit, coin_at}
 use Rattle.hg_model.specs.Graph.{creator_of_row}
 use Rattle.hg_model.specs.Fits.{AreHeld}
 use Rattle.hg_model.proofs.LinkLaws.{length-links, parents-links}
@@ -44,11 +44,11 @@ module _ (G U : List Row) (distinct_G : HasDistinctNames G) (distinct_U : HasDis
 
   pub time_there : (x : ℕ) → x < length G → time_at U (place_in U G x) ≡ time_at G x
   unfolding time_at
-  time_there x inside = ap time_in (row_there x inside)
+  time_there x inside = ap row_time (row_there x inside)
 
   pub sig_there : (x : ℕ) → x < length G → sig_at U (place_in U G x) ≡ sig_at G x
   unfolding sig_at
-  sig_there x inside = ap sig_in (row_there x inside)
+  sig_there x inside = ap row_sig (row_there x inside)
 
   pub coin_there : (x : ℕ) → x < length G → coin_at U (place_in U G x) ≡ coin_at G x
   unfolding coin_at

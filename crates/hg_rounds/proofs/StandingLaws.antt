@@ -5,7 +5,7 @@ use Rattle.std.proofs.lemmas.List.{length_push, take-append-le}
 use Rattle.std.proofs.Math.Seq.{take-append_seam}
 use Rattle.std.proofs.lemmas.Option.{slice_get_read}
 use Rattle.hg_model.specs.Places.{list_below, maximum_below}
-use Rattle.hg_model.specs.Standings.{Standing, round_in, witness_in, round_at, witness_at, witnesses_in, greatest_in}
+use Rattle.hg_model.specs.Standings.{Standing, standing_round, standing_witness, round_at, witness_at, witnesses_in, greatest_in}
 use Rattle.hg_model.proofs.PlacesLaws.{list_below-same, list_below_none, maximum_below-same, maximum_below_bounds}
 use Rattle.hg_model.proofs.PushLaws.{slice_get-before, slice_get-last}
 use Rattle.hg_rounds.specs.Tabled.{IsByRow}
@@ -14,11 +14,11 @@ use Rattle.hg_rounds.specs.Tabled.{IsByRow}
 
 pub round_read : (S : List Standing) (x : ℕ) (s : Standing) → x < length S → s ≡ get_or S x s → s.round ≡ round_at S x
 unfolding round_at
-round_read S x s h is = sym (ap round_in (slice_get_read S (length S) x s refl h is))
+round_read S x s h is = sym (ap standing_round (slice_get_read S (length S) x s refl h is))
 
 pub witness_read : (S : List Standing) (x : ℕ) (s : Standing) → x < length S → s ≡ get_or S x s → s.witness ≡ witness_at S x
 unfolding witness_at
-witness_read S x s h is = sym (ap witness_in (slice_get_read S (length S) x s refl h is))
+witness_read S x s h is = sym (ap standing_witness (slice_get_read S (length S) x s refl h is))
 
 pub ruleset standing_reads = (round_read, witness_read)
 
@@ -36,19 +36,19 @@ module _ (S : List Standing) (s : Standing) where
 
   pub round_at_before : (x : ℕ) → x < length S → round_at T x ≡ round_at S x
   unfolding round_at
-  round_at_before x h = ap round_in (slice_get-before S s x h)
+  round_at_before x h = ap standing_round (slice_get-before S s x h)
 
   pub round_at_last : round_at T (length S) ≡ s.round
   unfolding round_at
-  round_at_last = ap round_in (slice_get-last S s)
+  round_at_last = ap standing_round (slice_get-last S s)
 
   witness_at_before : (x : ℕ) → x < length S → witness_at T x ≡ witness_at S x
   unfolding witness_at
-  witness_at_before x h = ap witness_in (slice_get-before S s x h)
+  witness_at_before x h = ap standing_witness (slice_get-before S s x h)
 
   witness_at_last : witness_at T (length S) ≡ s.witness
   unfolding witness_at
-  witness_at_last = ap witness_in (slice_get-last S s)
+  witness_at_last = ap standing_witness (slice_get-last S s)
 
   long : length T ≡ suc (length S)
   long = length_push S s ∙ add-one (length S)

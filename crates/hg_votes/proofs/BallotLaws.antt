@@ -9,7 +9,7 @@ use Rattle.hg_model.specs.Links.{parents}
 use Rattle.hg_model.specs.Seeing.{sees}
 use Rattle.hg_model.specs.Rounds.{round_of, is_witness}
 use Rattle.hg_model.specs.Votes.{is_voter, weighed_vote, weighed_decides, yes_votes, no_votes, rounds_above, vote_of, decides}
-use Rattle.hg_model.specs.Order.{sig_in, middle_bit, coin_at}
+use Rattle.hg_model.specs.Order.{row_sig, middle_bit, coin_at}
 use Rattle.hg_model.specs.Prefix.{Graph, IsCounted, ballot_of, links_of}
 use Rattle.hg_model.proofs.PlacesLaws.{weight_below-same, weight_below-longer}
 use Rattle.hg_model.proofs.ListLaws.{count_by-list_below, length-list_below-le, all_list_below}
@@ -23,7 +23,7 @@ use Rattle.hg_votes.proofs.VoterLaws.{voter_below}
 -- the coin of a row that was read
 pub coin_read : (G : List Row) (y : ℕ) (row : Row) → slice_get G y ≡ Some row → middle_bit row.sig ≡ coin_at G y
 unfolding coin_at Rattle.hg_model.specs.Order.sig_at
-coin_read G y row is = sym (ap (λ found. middle_bit (sig_in found)) is)
+coin_read G y row is = sym (ap (λ found. middle_bit (row_sig found)) is)
 
 pub voters_there : (g : Graph) (y m : ℕ) (voters : List ℕ) → voters ≡ voters_of g y → length g.rows ≡ m → AllByRecursion (λ w. w < m) voters
 unfolding voters_of
