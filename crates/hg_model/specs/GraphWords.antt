@@ -1,6 +1,6 @@
 -- The words in which clauses speak of a graph, of a shape, and of what a node keeps of them. Each is a definition of the
 -- files above, said of the record in one word
-use Rattle.std.specs.Prelude.{ℕ, Bool, List, Option}
+use Rattle.std.specs.Prelude.{ℕ, Bool, ◌==◌, List, Option}
 use Rattle.hg_model.specs.declared.row.Placed.{Placed}
 use Rattle.hg_model.specs.declared.share.Found.{Found}
 use Rattle.hg_model.specs.Seeing.{sees, strongly_sees}
@@ -28,14 +28,15 @@ strongly_sees_in shape x y = strongly_sees shape.members shape.links x y
 abbrev pub IsShapedIn : Shape → Type 0
 IsShapedIn shape = IsShaped shape.members shape.links
 
+-- each row's standing
+abbrev pub standings_in : Shape → List Standing
+standings_in shape = standings_of shape.members shape.links
+
 -- Of a graph
 
--- its shape, and the standings of its rows
+-- its shape
 abbrev pub shape_in : Graph → Shape
 shape_in g = shape_of g.members (links_of g)
-
-abbrev pub standings_in : Graph → List Standing
-standings_in g = standings_of g.members (links_of g)
 
 -- its rows make a graph
 abbrev pub IsLawfulGraph : Graph → Type 0
@@ -114,6 +115,10 @@ ordered_by g marks = ordered g.members g.rows (links_of g) marks
 
 abbrev pub ordered_by_rounds : Graph → Marks → (ℕ → Bool) → List Placed
 ordered_by_rounds g marks test = ordered_in g.members g.rows (links_of g) marks test
+
+-- the rows that just round r received, in order
+abbrev pub received_order : Graph → Marks → ℕ → List Placed
+received_order g marks r = ordered_by_rounds g marks (λ k. k == r)
 
 -- the state of a node with this graph and these marks, how many marks come new where it publishes what was found, and the
 -- marks then
