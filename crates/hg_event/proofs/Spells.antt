@@ -10,9 +10,10 @@ use Rattle.hg_model.specs.declared.answers.ByteFault.TheVariants.{Trailing}
 use Rattle.hg_model.specs.Spelling.{Spells, body_bytes, body_of, magic, parent_bytes, payload_bytes, spelling}
 use Rattle.hg_model.specs.Verdict.{signed_row}
 use Rattle.hg_model.specs.Reading.{after_magic, bytes_field, number_field, parents_field, payload_field, read_event}
+use Rattle.hg_model.specs.Results.{Reads}
 use Rattle.std.specs.Prelude.{IfOk}
 use Rattle.hg_event.specs.declared.view.EventView.{EventView}
-use Rattle.hg_event.specs.View.{Gives, row_of}
+use Rattle.hg_event.specs.View.{row_of}
 use Rattle.hg_event.proofs.Reading.{AreBytes, bytes_again, bytes_took, done, eight_bytes, magic_again, magic_took, number_again, number_took, parents_again, parents_took, payload_again, payload_took, same_done, then_took, two_bytes, was_true, went_on}
 
 -- the brackets of a spelling
@@ -98,6 +99,6 @@ fields_read bytes rest creator parents time payload sig fit a b c d e f ended =
     (read ∙ ap done (Spells-signed_row bytes row spells), Spells-body_of bytes row spells)
 
 -- a reader's view shows what its bytes spell
-pub IfOk-Spells : (bytes : List ℕ) (r : Result EventView ByteFault) → AreBytes bytes → Gives row_of r (read_event bytes) → IfOk r (λ view. Spells bytes (row_of view))
+pub IfOk-Spells : (bytes : List ℕ) (r : Result EventView ByteFault) → AreBytes bytes → Reads row_of r (read_event bytes) → IfOk r (λ view. Spells bytes (row_of view))
 IfOk-Spells bytes (Ok view) fit gives = read_event-Spells bytes (row_of view) fit gives
 IfOk-Spells bytes (Err fault) fit gives = tt

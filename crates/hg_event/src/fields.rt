@@ -1,7 +1,7 @@
 ghost use Rattle.std.specs.Prelude.{◌≡◌, option_map};
 ghost use Rattle.std.specs.Int.{w16, w64};
 ghost use Rattle.hg_model.specs.Reading.{after_magic, bytes_field, number_field, parents_field, payload_field};
-ghost use Rattle.hg_event.specs.View.{Gives};
+ghost use Rattle.hg_model.specs.Results.{Reads};
 
 use hg_model::{ByteFault, Name};
 
@@ -14,7 +14,7 @@ pub const PAYLOAD_LIMIT: usize = 1024;
 /// The bytes behind the magic.
 #[tactic(auto, unfolding(hg_model::specs::Reading::after_magic))]
 pub(crate) fn behind_magic(bytes: &[u8], size: usize) -> Result<&[u8], ByteFault>
-    ensures { Gives (λ rest. rest.now) result (after_magic size bytes.now) }
+    ensures { Reads (λ rest. rest.now) result (after_magic size bytes.now) }
 {
     if bytes.starts_with(MAGIC.as_slice()) {
         Ok(&bytes[MAGIC.len()..])
@@ -31,7 +31,7 @@ pub(crate) fn array_of<const N: usize>(
     bytes: &[u8],
     size: usize,
 ) -> Result<(&[u8; N], &[u8]), ByteFault>
-    ensures { Gives (λ field. (field.0.now, field.1.now)) result (bytes_field size N bytes.now) }
+    ensures { Reads (λ field. (field.0.now, field.1.now)) result (bytes_field size N bytes.now) }
 {
     match bytes.split_first_chunk::<N>() {
         Some(parts) => Ok(parts),
@@ -42,7 +42,7 @@ pub(crate) fn array_of<const N: usize>(
 /// The number in the first two bytes, and the other bytes.
 #[tactic(auto, unfolding(hg_model::specs::Reading::number_field))]
 pub(crate) fn u16_of(bytes: &[u8], size: usize) -> Result<(u16, &[u8]), ByteFault>
-    ensures { Gives (λ field. (field.0, field.1.now)) result (number_field size w16 bytes.now) }
+    ensures { Reads (λ field. (field.0, field.1.now)) result (number_field size w16 bytes.now) }
 {
     let (digits, rest) = array_of::<2>(bytes, size)?;
     Ok((u16::from_be_bytes(*digits), rest))
@@ -51,7 +51,7 @@ pub(crate) fn u16_of(bytes: &[u8], size: usize) -> Result<(u16, &[u8]), ByteFaul
 /// The number in the first eight bytes, and the other bytes.
 #[tactic(auto, unfolding(hg_model::specs::Reading::number_field))]
 pub(crate) fn u64_of(bytes: &[u8], size: usize) -> Result<(u64, &[u8]), ByteFault>
-    ensures { Gives (λ field. (field.0, field.1.now)) result (number_field size w64 bytes.now) }
+    ensures { Reads (λ field. (field.0, field.1.now)) result (number_field size w64 bytes.now) }
 {
     let (digits, rest) = array_of::<8>(bytes, size)?;
     Ok((u64::from_be_bytes(*digits), rest))
@@ -63,7 +63,7 @@ pub(crate) fn parents_of(
     bytes: &[u8],
     size: usize,
 ) -> Result<(Option<(&Name, &Name)>, &[u8]), ByteFault>
-    ensures { Gives (λ field. (option_map (λ names. (names.0.now, names.1.now)) field.0, field.1.now)) result (parents_field size bytes.now) }
+    ensures { Reads (λ field. (option_map (λ names. (names.0.now, names.1.now)) field.0, field.1.now)) result (parents_field size bytes.now) }
 {
     match bytes {
         [] => Err(ByteFault::Short(size)),
@@ -80,7 +80,7 @@ pub(crate) fn parents_of(
 /// The payload by its length, and the bytes behind it.
 #[tactic(auto, unfolding(hg_model::specs::Reading::payload_field, hg_model::specs::Reading::bytes_field))]
 pub(crate) fn payload_of(bytes: &[u8], size: usize) -> Result<(&[u8], &[u8]), ByteFault>
-    ensures { Gives (λ field. (field.0.now, field.1.now)) result (payload_field size bytes.now) }
+    ensures { Reads (λ field. (field.0.now, field.1.now)) result (payload_field size bytes.now) }
 {
     let (len, rest) = u16_of(bytes, size)?;
     let count = len as usize;

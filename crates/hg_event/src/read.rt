@@ -2,7 +2,8 @@ ghost use Rattle.std.specs.Prelude.{◌≡◌, IfOk, Ok};
 ghost use Rattle.hg_model.specs.declared.row.Row.{Row};
 ghost use Rattle.hg_model.specs.Spelling.{Spells, body_of};
 ghost use Rattle.hg_model.specs.Reading.{read_event};
-ghost use Rattle.hg_event.specs.View.{Gives, row_of};
+ghost use Rattle.hg_model.specs.Results.{Reads};
+ghost use Rattle.hg_event.specs.View.{row_of};
 
 use crate::fields::{array_of, behind_magic, parents_of, payload_of, u16_of, u64_of};
 use crate::view::EventView;
@@ -14,9 +15,9 @@ pub fn decode(bytes: &[u8]) -> Result<EventView<'_>, ByteFault>
     // What is read is spelled so.
     ensures found { IfOk result (λ view. Spells bytes.now (row_of view)) }
     // What is spelled so is read.
-    ensures only { (row : Row) → Spells bytes.now row → Gives row_of result (Ok row) }
+    ensures only { (row : Row) → Spells bytes.now row → Reads row_of result (Ok row) }
     // Which row or fault it is.
-    ensures exact { Gives row_of result (read_event bytes.now) }
+    ensures exact { Reads row_of result (read_event bytes.now) }
 {
     event_of(bytes)
 }
@@ -24,7 +25,7 @@ pub fn decode(bytes: &[u8]) -> Result<EventView<'_>, ByteFault>
 // The same, with the one clause from which the others follow.
 #[tactic(auto, unfolding(hg_model::specs::Reading::read_event))]
 fn event_of(bytes: &[u8]) -> Result<EventView<'_>, ByteFault>
-    ensures { Gives row_of result (read_event bytes.now) }
+    ensures { Reads row_of result (read_event bytes.now) }
 {
     let size = bytes.len();
     let rest = behind_magic(bytes, size)?;

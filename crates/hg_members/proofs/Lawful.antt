@@ -12,11 +12,11 @@ use Rattle.std.specs.Result.{result_ok}
 use Rattle.hex.proofs.HexLemmas.{decode_of-ok}
 use Rattle.toml.specs.Data.{Data, Items, no_items, item, as_integer, get}
 use Rattle.hg_model.specs.declared.members.MemberEntry.{MemberEntry}
-use Rattle.hg_model.specs.Members.{IsEntry, IsMemberList, is_member_name, listed}
+use Rattle.hg_model.specs.Members.{IsEntry, IsMemberList, is_member_name, listed, has_name}
 use Rattle.hg_model.specs.Results.{◌>>=◌}
 use Rattle.hg_members.specs.declared.fault.MemberFault.{MemberFault}
 use Rattle.hg_members.specs.declared.fault.MemberFault.TheVariants.{BadCoin, Count, BadName, DoubleName, BadSecret, BadBalance, BadNode}
-use Rattle.hg_members.specs.MemberFile.{coin_number, coin_of, count_of, checked_count, name_form, entry_name, name_of, secret_form, entry_secret, balance_of, node_flag, text_at, has_name, checked_member, members_after}
+use Rattle.hg_members.specs.MemberFile.{coin_number, coin_of, count_of, checked_count, name_form, entry_name, name_of, secret_form, entry_secret, balance_of, node_flag, text_at, checked_member, members_after}
 
 -- what the first check gave, where both pass
 bind_ok : {A B : Type 0} (r : Result A MemberFault) (next : A → Result B MemberFault) (y : B) → (r >>= next) ≡ Ok y → (x : A) × (r ≡ Ok x) × (next x ≡ Ok y)

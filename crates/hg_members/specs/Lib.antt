@@ -1,3 +1,2 @@
 pub mod MemberFile
-pub mod Gives
 pub mod Text

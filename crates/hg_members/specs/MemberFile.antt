@@ -1,15 +1,14 @@
 -- What a member file tells: the members, or the first fault in the order of the checks.
 -- Keys that are not named here are passed over.
 use Rattle.std.specs.Prelude.{ℕ, suc, ℤ, pos, negsuc, ◌^◌, Bool, true, ◌&&◌, nat_le, nat_lt, if◌then◌else◌, List, [], ◌∷◌, ◌++◌, length, sum_by, codes, Option, Some, None, option_and_then, option_map, unwrap_or, Result, Ok, Err}
-use Rattle.std.specs.List.{list_any}
 use Rattle.std.specs.Option.{ok_or}
 use Rattle.std.specs.Result.{result_ok}
-use Rattle.std.specs.Str.{bytes_eq, is_utf8}
+use Rattle.std.specs.Str.{is_utf8}
 use Rattle.hex.specs.Hex.{decode_of}
 use Rattle.toml.specs.Data.{Data, Items, no_items, item, table, get, as_array, as_bool, as_integer, as_str}
 use Rattle.toml.specs.Parse.{parse_document}
 use Rattle.hg_model.specs.declared.members.MemberEntry.{MemberEntry}
-use Rattle.hg_model.specs.Members.{MemberList, listed, is_member_name}
+use Rattle.hg_model.specs.Members.{MemberList, listed, is_member_name, has_name}
 use Rattle.hg_model.specs.Results.{◌>>=◌}
 use Rattle.hg_members.specs.declared.fault.MemberFault.{MemberFault}
 use Rattle.hg_members.specs.declared.fault.MemberFault.TheVariants.{NotToml, BadCoin, Count, BadName, DoubleName, BadSecret, BadBalance, BadNode, SumTooLarge}
@@ -73,10 +72,6 @@ balance_of (Some value) = option_and_then balance_number (as_integer value)
 abbrev pub node_flag : Option Data → Option Bool
 node_flag None = Some true
 node_flag (Some value) = as_bool value
-
--- some member has the name
-abbrev pub has_name : List MemberEntry → List ℕ → Bool
-has_name members name = list_any (λ (e : MemberEntry). bytes_eq e.name name) members
 
 -- a name that no earlier member has
 abbrev pub name_of : List MemberEntry → Data → Result (List ℕ) MemberFault

@@ -2,14 +2,12 @@ ghost use Rattle.std.specs.Prelude.{◌≡◌, codes, IfOk};
 ghost use Rattle.std.specs.Option.{option_copied};
 ghost use Rattle.toml.specs.Data.{get};
 ghost use Rattle.toml.specs.View.{view};
-ghost use Rattle.hg_model.specs.Results.{Reads};
-ghost use Rattle.hg_members.specs.Gives.{Gives};
+ghost use Rattle.hg_model.specs.Results.{Reads, Gives};
 ghost use Rattle.hg_members.specs.MemberFile as spec;
 
 use crate::fault::MemberFault;
-use crate::stop::Stop;
 use hex::FromHexError;
-use hg_model::{Bytes, MemberEntry, is_member_name};
+use hg_model::{Bytes, MemberEntry, Stop, is_member_name, has_name};
 use std::alloc::{AllocError, Global};
 use toml::Value;
 
@@ -72,12 +70,6 @@ fn node_in(entry: &Value) -> Option<bool>
     }
 }
 
-fn has_name(members: &[MemberEntry], name: &[u8]) -> bool
-    ensures { result ≡ spec.has_name members.now name.now }
-{
-    members.iter().any(|member| member.name.as_slice() == name)
-}
-
 fn name_of<'a>(earlier: &[MemberEntry], entry: &'a Value) -> Result<&'a str, MemberFault>
     ensures { Reads (λ name. name.now) result (spec.name_of earlier.now (view entry.now)) }
 {
@@ -93,7 +85,7 @@ pub fn checked_member(
     alloc: Global,
     earlier: &[MemberEntry],
     entry: &Value,
-) -> Result<MemberEntry, Stop>
+) -> Result<MemberEntry, Stop<MemberFault>>
     ensures { Gives (λ m. m) result (spec.checked_member earlier.now (view entry.now)) }
 {
     let place = earlier.len();

@@ -1,3 +1,7 @@
+ghost use Rattle.std.specs.Prelude.{◌≡◌};
+
+use hg_model::Stop;
+
 /// What is wrong with a member file: the first of these that holds. Those that name a member, by its
 /// number from 0, are looked for in the first member, then in the second, and so on; the sum comes last.
 #[derive(Clone, Copy, Debug, PartialEq, Eq)]
@@ -20,4 +24,14 @@ pub enum MemberFault {
     BadNode(usize),
     /// The balances add up to 2^63 or more.
     SumTooLarge,
+}
+
+impl From<MemberFault> for Stop<MemberFault> {
+    ghost use Rattle.hg_model.specs.declared.stop.Stop.TheVariants.{Fault};
+
+    ghost from_gives = { λ fault stop. stop ≡ Fault fault };
+
+    fn from(fault: MemberFault) -> Stop<MemberFault> {
+        Stop::Fault(fault)
+    }
 }

@@ -4,19 +4,17 @@ ghost use Rattle.toml.specs.Data.{as_array, get};
 ghost use Rattle.toml.specs.View.{array_view, view};
 ghost use Rattle.hg_model.specs.declared.members.MemberEntry.{MemberEntry};
 ghost use Rattle.hg_model.specs.Members.{IsMemberList, listed};
-ghost use Rattle.hg_model.specs.Results.{Reads};
-ghost use Rattle.hg_members.specs.Gives.{Gives};
+ghost use Rattle.hg_model.specs.Results.{Reads, Gives};
 ghost use Rattle.hg_members.specs.MemberFile as spec;
 
 use crate::entry::checked_member;
 use crate::fault::MemberFault;
-use crate::stop::Stop;
-use hg_model::{MemberEntry, Members, Memory};
+use hg_model::{MemberEntry, Members, Memory, Stop};
 use std::alloc::Global;
 use toml::Value;
 use toml::value::Array;
 
-fn document_of(alloc: Global, bytes: &[u8]) -> Result<Value, Stop>
+fn document_of(alloc: Global, bytes: &[u8]) -> Result<Value, Stop<MemberFault>>
     ensures { Gives view result (ok_or (spec.document_of bytes.now) MemberFault.NotToml) }
 {
     match toml::table_from_slice(alloc, bytes) {
@@ -69,7 +67,7 @@ fn entries_in(document: &Value) -> Result<&Array, MemberFault>
     }
 }
 
-fn members_from(alloc: Global, entries: &Array) -> Result<Vec<MemberEntry>, Stop>
+fn members_from(alloc: Global, entries: &Array) -> Result<Vec<MemberEntry>, Stop<MemberFault>>
     ensures { Gives (λ members. members.items) result (spec.members_after [] (array_view entries.now)) }
 {
     let mut members = Vec::new(alloc);
@@ -99,7 +97,7 @@ fn summed(members: Vec<MemberEntry>, coin: u32) -> Result<Members, MemberFault>
     }
 }
 
-fn members_in(alloc: Global, document: &Value) -> Result<Members, Stop>
+fn members_in(alloc: Global, document: &Value) -> Result<Members, Stop<MemberFault>>
     ensures { Gives (λ members. members) result (spec.members_in (view document.now)) }
 {
     let coin = coin_in(document)?;

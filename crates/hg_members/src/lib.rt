@@ -6,7 +6,6 @@
 mod entry;
 mod fault;
 mod file;
-mod stop;
 #[cfg(test)]
 mod tests;
 

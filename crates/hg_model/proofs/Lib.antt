@@ -5,6 +5,7 @@ pub mod SortLaws
 pub mod SplitLaws
 pub mod CompareLaws
 pub mod ListLaws
+pub mod MemberLaws
 pub mod OrderLaws
 pub mod RowLaws
 pub mod VoteLaws

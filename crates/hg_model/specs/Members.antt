@@ -1,6 +1,8 @@
 -- The members: who they are, and what every list of them keeps to.
-use Rattle.std.specs.Prelude.{ℕ, ◌≡◌, ◌<◌, ◌≤◌, ◌^◌, Bool, true, false, ◌&&◌, ◌||◌, ◌==◌, nat_le, List, [], ◌∷◌, length, map, sum_by, AllPairs, All}
-use Rattle.std.specs.List.{list_all}
+use Rattle.std.specs.Prelude.{ℕ, ◌≡◌, ◌<◌, ◌≤◌, ◌^◌, Bool, true, false, not, ◌&&◌, ◌||◌, ◌==◌, nat_le, nat_lt, List, [], ◌∷◌, length, map, position, slice_get, sum_by, AllPairs, All, Option}
+use Rattle.std.specs.List.{list_all, list_any}
+use Rattle.std.specs.Option.{option_map_or}
+use Rattle.std.specs.Str.{bytes_eq}
 use Rattle.hg_model.specs.declared.members.MemberEntry.{MemberEntry}
 
 -- members in their order, and the coin period
@@ -51,3 +53,30 @@ pub record IsMemberList (m : MemberList) : Type 0 where
   pub entries : All IsEntry m.entries
   pub distinct : AllPairs (λ (a : MemberEntry) (b : MemberEntry). a.name ≡ b.name → ⊥) m.entries
   pub sum : sum_by (λ (e : MemberEntry). e.balance) m.entries < 2 ^ 63
+
+-- the number of the member with this name, if there is one
+abbrev pub member_named : MemberList → List ℕ → Option ℕ
+member_named members name = position (λ (e : MemberEntry). bytes_eq e.name name) members.entries
+
+-- the program runs a node for the member; false for a number that is no member's
+abbrev pub has_node : MemberList → ℕ → Bool
+has_node members m = option_map_or (λ (e : MemberEntry). e.has_node) (slice_get members.entries m) false
+
+-- the same rules as a test: of one member, of a name among members, of names that differ, and of a whole list
+abbrev pub is_entry : MemberEntry → Bool
+is_entry e = is_member_name e.name && nat_le 1 (length e.secret) && nat_le (length e.secret) 128
+
+abbrev pub has_name : List MemberEntry → List ℕ → Bool
+has_name entries name = list_any (λ (e : MemberEntry). bytes_eq e.name name) entries
+
+abbrev pub are_named_apart : List MemberEntry → Bool
+are_named_apart [] = true
+are_named_apart (e ∷ entries) = not (has_name entries e.name) && are_named_apart entries
+
+abbrev pub are_in_range : List MemberEntry → ℕ → Bool
+are_in_range entries coin = nat_le 2 (length entries) && nat_le (length entries) 128 && nat_le 3 coin && nat_le coin 100
+
+abbrev pub is_member_list : List MemberEntry → ℕ → Bool
+is_member_list entries coin =
+    are_in_range entries coin && list_all is_entry entries && are_named_apart entries
+    && nat_lt (sum_by (λ (e : MemberEntry). e.balance) entries) (2 ^ 63)

@@ -1,9 +1,13 @@
-ghost use Rattle.std.specs.Prelude.{◌≡◌, length};
+ghost use Rattle.std.specs.Prelude.{◌≡◌, ◌<◌, length, position, IfErr, IfOk, IfSome, IsOk, ◌↔◌};
+ghost use Rattle.std.specs.Str.{bytes_eq};
+ghost use Rattle.hg_model.specs.declared.members.MemberEntry.{MemberEntry};
 
 use crate::items::Bytes;
+use crate::lawful::is_member_list;
+use crate::row::Member;
 use std::marker::Model;
 
-/// A member as the member file tells it.
+/// A member as the member file has it.
 #[derive(Debug, Drop)]
 pub struct MemberEntry {
     /// 1 to 16 ASCII letters, digits and `_`, the first a letter.
@@ -33,8 +37,15 @@ impl Model for Members {
     ghost invariant = { λ s. IsMemberList (record { entries = s.entries.items; coin = s.coin }) };
 }
 
+fn place_in(entries: &[MemberEntry], name: &[u8]) -> Option<usize>
+    ensures value { result ≡ position (λ (e : MemberEntry). bytes_eq e.name name.now) entries.now }
+    ensures inside { IfSome result (λ place. place < length entries.now) }
+{
+    entries.iter().position(|entry| entry.name.as_slice() == name)
+}
+
 impl Members {
-    ghost use Rattle.hg_model.specs.Members.{MemberList, IsMemberList, listed};
+    ghost use Rattle.hg_model.specs.Members.{MemberList, IsMemberList, has_node, listed, member_named};
 
     /// The members, of whom there are 2 to 128, and the coin period, 3 to 100 rounds.
     pub fn new(entries: Vec<MemberEntry>, coin: u32) -> Members
@@ -42,6 +53,21 @@ impl Members {
         ensures { result ≡ listed entries.items coin }
     {
         Members { entries, coin }
+    }
+
+    /// The members, where these are lawful: 2 to 128 of them, each with a name of 1 to 16 ASCII letters, digits and `_`,
+    /// the first a letter, no name twice, a secret of 1 to 128 bytes, all balances together below 2^63; and a coin period
+    /// of 3 to 100 rounds. Else the entries come back.
+    pub fn try_new(entries: Vec<MemberEntry>, coin: u32) -> Result<Members, Vec<MemberEntry>>
+        ensures made { IfOk result (λ members. members ≡ listed entries.items coin) }
+        ensures back { IfErr result (λ again. again.items ≡ entries.items) }
+        ensures exact { IsOk result ↔ IsMemberList (listed entries.items coin) }
+    {
+        if is_member_list(entries.as_slice(), coin) {
+            Ok(Members::new(entries, coin))
+        } else {
+            Err(entries)
+        }
     }
 
     /// The members in their order.
@@ -66,5 +92,26 @@ impl Members {
         ensures lawful { IsMemberList self.now }
     {
         self.coin
+    }
+
+    /// The number of the member with this name, if there is one.
+    pub fn place_of(&self, name: &[u8]) -> Option<Member>
+        ensures value { result ≡ member_named self.now name.now }
+        ensures few { IfSome result (λ m. m < 128) }
+    {
+        match place_in(self.entries.as_slice(), name) {
+            Some(place) => Some(place as Member),
+            None => None,
+        }
+    }
+
+    /// Whether the program runs a node for the member; false for a number that is no member's.
+    pub fn has_node(&self, member: Member) -> bool
+        ensures { result ≡ has_node self.now member }
+    {
+        match self.entries.get(member as usize) {
+            Some(entry) => entry.has_node,
+            None => false,
+        }
     }
 }

@@ -10,7 +10,7 @@ use Rattle.std.proofs.lemmas.Option.{slice_get-get_or, slice_get_past}
 use Rattle.hg_model.specs.declared.row.Row.{Row}
 use Rattle.hg_model.specs.declared.members.MemberEntry.{MemberEntry}
 use Rattle.hg_model.specs.declared.outcome.Printed.{Printed}
-use Rattle.hg_model.specs.Members.{MemberList}
+use Rattle.hg_model.specs.Members.{MemberList, has_node}
 use Rattle.hg_model.specs.Places.{list_below}
 use Rattle.hg_model.specs.declared.gossip.Parcel.{Parcel}
 use Rattle.hg_model.specs.Gossip.{NodeState, new_node, parcel_for}
@@ -26,7 +26,7 @@ use Rattle.hg_model.specs.NodeView.{Start}
 use Rattle.hg_sign.specs.Table.{secrets_of}
 use Rattle.hg_play.specs.Node.{Player, keys_by, keys_in, start_in, starts, starts_of, state_in, states_of}
 use Rattle.hg_play.specs.Nodes.{node_at, no_player, player_at, keys_at, actor, IsGossipBelow}
-use Rattle.hg_play.specs.Play.{IsBelow, has_node_at, block_at}
+use Rattle.hg_play.specs.Play.{IsBelow, block_at}
 
 -- players that are so many, and what they began with
 pub starts_length : (members : MemberList) (players : List Player) → starts_of players ≡ starts members → length players ≡ length members.entries
@@ -139,17 +139,17 @@ lines_below members N lines long lawful = λ k d low. subst (λ (n : ℕ). IsBel
 
 -- one block more
 pub block_more : (members : MemberList) (nodes : List NodeState) (before now : List Printed) (m : ℕ) (printed : List Printed) →
-    before ≡ now ++ list_below (block_at members nodes) m (has_node_at members.entries) →
-    printed ≡ before ++ cond (has_node_at members.entries m) (block_at members nodes m ∷ []) [] →
-    printed ≡ now ++ list_below (block_at members nodes) (m + 1) (has_node_at members.entries)
+    before ≡ now ++ list_below (block_at members nodes) m (has_node members) →
+    printed ≡ before ++ cond (has_node members m) (block_at members nodes m ∷ []) [] →
+    printed ≡ now ++ list_below (block_at members nodes) (m + 1) (has_node members)
 unfolding list_below
 block_more members nodes before now m printed before_is printed_is =
     let f = block_at members nodes in
-    let test = has_node_at members.entries in
+    let test = has_node members in
     rw add-one
     (printed_is ∙ (ap (λ (b : List Printed). b ++ cond (test m) (f m ∷ []) []) before_is
     ∙ append_assoc now (list_below f m test) (cond (test m) (f m ∷ []) [])))
 
-pub no_blocks : (members : MemberList) (nodes : List NodeState) (now : List Printed) → now ≡ now ++ list_below (block_at members nodes) 0 (has_node_at members.entries)
+pub no_blocks : (members : MemberList) (nodes : List NodeState) (now : List Printed) → now ≡ now ++ list_below (block_at members nodes) 0 (has_node members)
 unfolding list_below
 no_blocks members nodes now = sym (Rattle.std.proofs.lemmas.List.append-nil now)

@@ -1,10 +1,9 @@
 -- A script played over the members' nodes, one line after the other, and what it prints
-use Rattle.std.specs.Prelude.{ℕ, ◌<◌, ◌≤◌, ⊤, Bool, false, List, [], ◌∷◌, ◌++◌, fold, length, take, slice_get, option_map, unwrap_or}
-use Rattle.hg_model.specs.declared.members.MemberEntry.{MemberEntry}
+use Rattle.std.specs.Prelude.{ℕ, ◌<◌, ◌≤◌, ⊤, List, [], ◌∷◌, ◌++◌, fold, length, take, option_map}
 use Rattle.hg_model.specs.declared.outcome.Printed.{Printed}
 use Rattle.hg_model.specs.declared.outcome.Printed.TheVariants as printed
 use Rattle.hg_model.specs.declared.outcome.Outcome.{Outcome}
-use Rattle.hg_model.specs.Members.{MemberList}
+use Rattle.hg_model.specs.Members.{MemberList, has_node}
 use Rattle.hg_model.specs.Places.{list_below}
 use Rattle.hg_model.specs.Gossip.{Keys, NodeState, keys_of}
 use Rattle.hg_model.specs.Members.{names_of}
@@ -66,13 +65,9 @@ IsBelow n (Label _) = ⊤
 IsBelow n (Show m) = m < n
 IsBelow n (Names m) = m < n
 
--- the member has a node
-abbrev pub has_node_at : List MemberEntry → ℕ → Bool
-has_node_at entries m = unwrap_or (option_map (λ (e : MemberEntry). e.has_node) (slice_get entries m)) false
-
 -- the blocks of all nodes, in the order of the members
 abbrev pub final_blocks : MemberList → List NodeState → List Printed
-final_blocks members nodes = list_below (block_at members nodes) (length members.entries) (has_node_at members.entries)
+final_blocks members nodes = list_below (block_at members nodes) (length members.entries) (has_node members)
 
 -- what the lines print over these nodes, and at last the block of each node
 abbrev pub all_printed : MemberList → Keys → List NodeState → List Line → List Printed

@@ -1,9 +1,10 @@
 ghost use Rattle.std.specs.Prelude.{◌≡◌, ◌++◌, ◌<◌, ◌≤◌, ◌^◌, [], ◌∷◌, cond, IfOk, OnOk, length};
 ghost use Rattle.hg_model.specs.declared.outcome.Printed.TheVariants as piece;
 ghost use Rattle.hg_model.specs.Ledger.{block_of};
+ghost use Rattle.hg_model.specs.Members.{has_node};
 ghost use Rattle.hg_play.specs.Node.{starts, starts_of, states_of};
 ghost use Rattle.hg_play.specs.Nodes.{node_at};
-ghost use Rattle.hg_play.specs.Play.{final_blocks, has_node_at};
+ghost use Rattle.hg_play.specs.Play.{final_blocks};
 
 use crate::player::Player;
 use hg_model::{Block, Member, Members, Memory, Printed};
@@ -25,16 +26,6 @@ pub(crate) fn block_at(
     Ok(block)
 }
 
-/// Whether the program runs a node for the member.
-fn has_node(members: &Members, member: usize) -> bool
-    ensures { result ≡ has_node_at members.now.entries member }
-{
-    match members.entries().get(member) {
-        Some(entry) => entry.has_node,
-        None => false,
-    }
-}
-
 /// The block of a node behind what was printed, if the member has one.
 fn push_block(
     alloc: Global,
@@ -46,10 +37,10 @@ fn push_block(
     requires below { member < length nodes.old }
     requires few { member < 2 ^ 16 }
     requires starts { starts_of nodes.old ≡ starts members.now }
-    ensures printed { OnOk result (printed.new.items ≡ printed.old.items ++ cond (has_node_at members.now.entries member) (piece.Block (block_of members.now member (node_at (states_of nodes.old) member).rows) ∷ []) []) }
+    ensures printed { OnOk result (printed.new.items ≡ printed.old.items ++ cond (has_node members.now member) (piece.Block (block_of members.now member (node_at (states_of nodes.old) member).rows) ∷ []) []) }
     ensures same { nodes.new ≡ nodes.old }
 {
-    if has_node(members, member) {
+    if members.has_node(member as Member) {
         let block = block_at(alloc, members, nodes, member as Member)?;
         printed.push(Printed::Block(block))?;
     }

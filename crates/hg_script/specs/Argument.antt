@@ -1,12 +1,11 @@
 -- What a word of a line can have to be
-use Rattle.std.specs.Prelude.{ℕ, ◌+◌, ◌-◌, ◌*◌, ◌^◌, Bool, false, ◌&&◌, ◌||◌, ◌==◌, nat_le, nat_lt, if◌then◌else◌, List, [], ◌∷◌, length, position, slice_get, codes, Option, Some, None, Result, Ok, Err}
+use Rattle.std.specs.Prelude.{ℕ, ◌+◌, ◌-◌, ◌*◌, ◌^◌, Bool, ◌&&◌, ◌||◌, ◌==◌, nat_le, nat_lt, if◌then◌else◌, List, [], ◌∷◌, length, position, codes, Option, Some, None, Result, Ok, Err}
 use Rattle.std.specs.List.{list_any}
-use Rattle.std.specs.Option.{ok_or, option_map_or}
+use Rattle.std.specs.Option.{ok_or}
 use Rattle.std.specs.Result.{result_ok}
 use Rattle.std.specs.Str.{bytes_eq}
 use Rattle.hex.specs.Hex.{decode_of}
-use Rattle.hg_model.specs.declared.members.MemberEntry.{MemberEntry}
-use Rattle.hg_model.specs.Members.{MemberList, is_digit, is_member_name}
+use Rattle.hg_model.specs.Members.{MemberList, is_digit, is_member_name, has_node, member_named}
 use Rattle.hg_model.specs.Results.{◌>>=◌}
 use Rattle.hg_script.specs.declared.fault.Why.{Why}
 use Rattle.hg_script.specs.declared.fault.Why.TheVariants.{Member, NoNode, Number, Payload, Label, DoubleLabel}
@@ -30,10 +29,7 @@ byte_of word = number_of word >>= (λ n. below 256 (Some n))
 
 -- the number of the member with this name
 abbrev pub member_of : MemberList → List ℕ → Result ℕ Why
-member_of members word = ok_or (position (λ (e : MemberEntry). bytes_eq e.name word) members.entries) Member
-
-abbrev pub has_node : MemberList → ℕ → Bool
-has_node members m = option_map_or (λ (e : MemberEntry). e.has_node) (slice_get members.entries m) false
+member_of members word = ok_or (member_named members word) Member
 
 abbrev pub with_node : MemberList → ℕ → Result ℕ Why
 with_node members m = if has_node members m then Ok m else Err NoNode

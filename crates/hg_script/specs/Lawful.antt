@@ -2,7 +2,7 @@
 use Rattle.std.specs.Prelude.{◌≡◌, ◌≢◌, ◌<◌, ◌≤◌, ℕ, List, length, false, true, Option, None, Some, ⊤}
 use Rattle.std.specs.List.{list_any}
 use Rattle.std.specs.Str.{bytes_eq}
-use Rattle.hg_model.specs.Members.{MemberList}
+use Rattle.hg_model.specs.Members.{MemberList, has_node}
 use Rattle.hg_model.specs.Spelling.{payload_limit}
 use Rattle.hg_script.specs.declared.line.Gossip.{Gossip}
 use Rattle.hg_script.specs.declared.line.Gossip.TheVariants.{Create, Sync, Pull, Join, Give}
@@ -11,7 +11,6 @@ use Rattle.hg_script.specs.declared.line.Source.TheVariants.{Last, Forged}
 use Rattle.hg_script.specs.declared.line.Action.{Action}
 use Rattle.hg_script.specs.declared.line.Action.TheVariants as action
 use Rattle.hg_script.specs.declared.line.Line.{Line}
-use Rattle.hg_script.specs.Argument.{has_node}
 use Rattle.hg_script.specs.Table.{Above, Found}
 
 -- the number is that of a member with a node

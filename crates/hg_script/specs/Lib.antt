@@ -3,5 +3,4 @@ pub mod Payload
 pub mod Table
 pub mod Script
 pub mod Lawful
-pub mod Gives
 pub mod Text

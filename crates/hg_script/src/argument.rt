@@ -1,18 +1,15 @@
-ghost use Rattle.std.specs.Prelude.{◌≡◌, ◌<◌, ◌≤◌, ◌+◌, ◌-◌, ◌*◌, ◌^◌, ◌≢◌, false, length, position, IfOk, IfSome, IsTrue, SomeIff};
+ghost use Rattle.std.specs.Prelude.{◌≡◌, ◌<◌, ◌≤◌, ◌+◌, ◌-◌, ◌*◌, ◌^◌, ◌≢◌, false, length, IfOk, IfSome, IsTrue, SomeIff};
 ghost use Rattle.std.specs.List.{list_any};
 ghost use Rattle.std.specs.Str.{bytes_eq};
-ghost use Rattle.hg_model.specs.declared.members.MemberEntry.{MemberEntry};
 ghost use Rattle.hg_model.specs.Members.{is_digit};
-ghost use Rattle.hg_model.specs.Results.{Reads};
-ghost use Rattle.hg_script.specs.Gives.{Gives};
+ghost use Rattle.hg_model.specs.Results.{Reads, Gives};
 ghost use Rattle.hg_script.specs.Lawful.{HasNode};
 ghost use Rattle.hg_script.specs.Argument as spec;
 
 use crate::above::Above;
 use crate::fault::Why;
-use crate::stop::Stop;
 use hex::FromHexError;
-use hg_model::{Bytes, Member, Members, is_member_name};
+use hg_model::{Bytes, Member, Members, Stop, is_member_name};
 use std::alloc::{AllocError, Global};
 
 fn is_digit(byte: u8) -> bool
@@ -54,41 +51,19 @@ pub fn number_of(word: &[u8]) -> Result<u64, Why>
     value_of(word)
 }
 
-fn place_of(members: &Members, name: &[u8]) -> Option<usize>
-    ensures value { result ≡ position (λ (e : MemberEntry). bytes_eq e.name name.now) members.now.entries }
-    ensures listed { IfSome result (λ place. place < 128) }
-{
-    members
-        .entries()
-        .iter()
-        .position(|entry| entry.name.as_slice() == name)
-}
-
 /// The member with this name.
 pub fn member_of(members: &Members, word: &[u8]) -> Result<Member, Why>
     ensures value { result ≡ spec.member_of members.now word.now }
     ensures listed { IfOk result (λ m. m < 128) }
 {
-    match place_of(members, word) {
-        Some(place) => Ok(place as Member),
-        None => Err(Why::Member),
-    }
-}
-
-fn has_node(members: &Members, member: Member) -> bool
-    ensures { result ≡ spec.has_node members.now member }
-{
-    match members.entries().get(member as usize) {
-        Some(entry) => entry.has_node,
-        None => false,
-    }
+    members.place_of(word).ok_or(Why::Member)
 }
 
 fn with_node(members: &Members, member: Member) -> Result<Member, Why>
     ensures value { result ≡ spec.with_node members.now member }
     ensures node { IfOk result (λ m. HasNode members.now m × (m ≡ member)) }
 {
-    if has_node(members, member) {
+    if members.has_node(member) {
         Ok(member)
     } else {
         Err(Why::NoNode)

@@ -1,6 +1,8 @@
 ghost use Rattle.std.specs.Prelude.{◌≡◌};
 ghost use Rattle.hg_script.specs.Text.{why_text};
 
+use hg_model::Stop;
+
 /// Why a line is refused: the first that holds. `Utf8`, `Word` and `Arity` come first, then the arguments from left to
 /// right, each by what its kind asks for in this order, and last `NotFirst` and `First`.
 #[derive(Clone, Copy, Debug, PartialEq, Eq)]
@@ -57,4 +59,14 @@ impl Why {
 pub struct ScriptFault {
     pub line: u64,
     pub why: Why,
+}
+
+impl From<Why> for Stop<Why> {
+    ghost use Rattle.hg_model.specs.declared.stop.Stop.TheVariants.{Fault};
+
+    ghost from_gives = { λ why stop. stop ≡ Fault why };
+
+    fn from(why: Why) -> Stop<Why> {
+        Stop::Fault(why)
+    }
 }

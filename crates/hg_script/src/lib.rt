@@ -10,7 +10,6 @@ mod found;
 mod line;
 mod payload;
 mod script;
-mod stop;
 mod table;
 #[cfg(test)]
 mod tests;

@@ -3,13 +3,12 @@ ghost use Rattle.std.specs.List.{after_first, before_first, list_all};
 ghost use Rattle.std.specs.Option.{option_copied};
 ghost use Rattle.hg_model.specs.Pay.{pay_bytes, transfer_bytes, transfer_limit};
 ghost use Rattle.hg_model.specs.Spelling.{payload_limit};
-ghost use Rattle.hg_script.specs.Gives.{Gives};
+ghost use Rattle.hg_model.specs.Results.{Gives};
 ghost use Rattle.hg_script.specs.Payload as spec;
 
 use crate::argument::{digits_form, member_of, number_of};
 use crate::fault::Why;
-use crate::stop::Stop;
-use hg_model::{Bytes, Member, Members, Transfer};
+use hg_model::{Bytes, Member, Members, Stop, Transfer};
 use std::alloc::{AllocError, Global};
 
 /// The greatest number of transfers in one payload.

@@ -1,18 +1,17 @@
 ghost use Rattle.std.specs.Prelude.{◌≡◌, All, map, IfOk, IfSome, OnOk};
 ghost use Rattle.std.specs.Str.{is_utf8};
 ghost use Rattle.std.specs.Str.Lines.{lines};
-ghost use Rattle.hg_script.specs.Gives.{Gives};
 ghost use Rattle.hg_script.specs.Lawful.{IsFound, IsLine};
+ghost use Rattle.hg_model.specs.Results.{Gives};
 ghost use Rattle.hg_script.specs.Script as spec;
 
 use crate::above::Above;
 use crate::fault::{ScriptFault, Why};
 use crate::found::Found;
 use crate::line::Line;
-use crate::stop::Stop;
 use crate::table::found_by;
 use crate::words::{first_line, words_of};
-use hg_model::{Items, Members, Memory};
+use hg_model::{Items, Members, Memory, Stop};
 use std::alloc::Global;
 
 fn is_text(line: &[u8]) -> bool

@@ -1,7 +1,7 @@
 ghost use Rattle.std.specs.Prelude.{◌≡◌, map, IfOk};
 ghost use Rattle.std.specs.Option.{option_copied};
 ghost use Rattle.hg_model.specs.Members.{MemberList};
-ghost use Rattle.hg_script.specs.Gives.{Gives};
+ghost use Rattle.hg_model.specs.Results.{Gives};
 ghost use Rattle.hg_script.specs.Lawful.{IsFound};
 ghost use Rattle.hg_script.specs.Table as spec;
 ghost use Rattle.hg_script.specs.declared.line.Action.TheVariants.{Label};
@@ -14,9 +14,8 @@ use crate::fault::Why;
 use crate::found::Found;
 use crate::line::{Action, Gossip, Source};
 use crate::payload::payload_of;
-use crate::stop::Stop;
 use crate::verb::Verb;
-use hg_model::Members;
+use hg_model::{Members, Stop};
 use std::alloc::Global;
 
 fn gossip<'a>(gossip: Gossip) -> Found<'a>

@@ -1,6 +1,7 @@
 use Rattle.std.proofs.Common.{subst, arith}
-use Rattle.hg_event.specs.View.{Gives, row_of}
+use Rattle.hg_event.specs.View.{row_of}
 use Rattle.hg_event.proofs.Spells.{Spells-read_event, IfOk-Spells}
+use Rattle.hg_model.specs.Results.{Reads}
 use Rattle.hg_event.proofs.read.decode.Goals as goal
 
 pub returns-clause-found : goal.returns-clause-found
@@ -8,4 +9,4 @@ returns-clause-found c = IfOk-Spells c.args.bytes.now c.event_of.result (λ i. o
 
 pub returns-clause-only : goal.returns-clause-only
 returns-clause-only c = λ row spells.
-    subst (λ read. Gives row_of c.event_of.result read) (Spells-read_event c.args.bytes.now row spells) c.event_of.ensures
+    subst (λ read. Reads row_of c.event_of.result read) (Spells-read_event c.args.bytes.now row spells) c.event_of.ensures
