@@ -3,9 +3,10 @@ use Rattle.std.proofs.Common.{◌≡◌, ℕ, ◌*◌, ◌<◌, ◌≤◌, Bool,
 use Rattle.std.specs.Prelude.{is_none}
 use Rattle.std.proofs.lemmas.Bool.{and_parts, and_from, both_ways, cases_lt, eqb-true, eq-eqb, leb-true, false_from_ne_true, not_from_false}
 use Rattle.hg_model.specs.Places.{some_below}
+use Rattle.hg_model.specs.Stakes.{Stakes, total}
 use Rattle.hg_model.specs.Links.{Link}
 use Rattle.hg_model.specs.Ancestry.{is_ancestor}
-use Rattle.hg_model.specs.Forks.{forkers}
+use Rattle.hg_model.specs.Forks.{forking}
 use Rattle.hg_model.specs.Rounds.{round_of, is_witness}
 use Rattle.hg_model.specs.Votes.{vote_of, decides}
 use Rattle.hg_model.specs.Fame.{Marks, mark_at, fame_of, fame_marks, is_witness_of_round, is_unmarked, is_closed}
@@ -16,7 +17,7 @@ use Rattle.hg_model.proofs.LateLaws.{decider_of_fame, fame_of_decider, late_fame
 use Rattle.hg_model.proofs.PlacesLaws.{some_below_from, some_below_none}
 use Rattle.hg_model.proofs.LongerLaws.{IsLonger, round_of-longer, is_witness-longer, vote_of-longer, decides-longer}
 
-module _ (n c : ℕ) (L M : List Link) (s : IsShaped n L) (t : IsShaped n M) (few : 3 * forkers n M < n) (longer : IsLonger L M) (one two : ℕ → Bool) (same_coin : (y : ℕ) → y < length L → two y ≡ one y) where
+module _ (n : Stakes) (c : ℕ) (L M : List Link) (s : IsShaped n L) (t : IsShaped n M) (few : 3 * forking n M < total n) (longer : IsLonger L M) (one two : ℕ → Bool) (same_coin : (y : ℕ) → y < length L → two y ≡ one y) where
   -- two deciders decide alike, one in the shorter graph and one in the longer
   pub deciders_agree-later : (x a b : ℕ) → x < length L → a < length L → b < length M → decides n c L one x a ≡ true → decides n c M two x b ≡ true →
       vote_of n c L one x a ≡ vote_of n c M two x b

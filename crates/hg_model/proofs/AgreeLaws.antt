@@ -1,14 +1,15 @@
 -- The laws of votes: a quorum is not outvoted, unanimity lasts, and all deciders agree
 use Rattle.std.proofs.Common.{◌≡◌, ℕ, zero, suc, ◌+◌, ◌-◌, ◌*◌, ◌%◌, ◌<◌, ◌≤◌, Bool, true, false, cond, ◌||◌, ◌&&◌, not, ltb, leb, eqb, max, List, length, sym, refl, ap, ◌∙◌, subst, inl, inr, arith, zero-add}
 use Rattle.std.proofs.lemmas.Bool.{and_parts, cases_lt, eq-eqb, eqb-true, ne_eqb, ltb-true, lt-ltb, le-leb, lt-leb, leb-true, leb-false, not-true, not_from_true, both_ways}
-use Rattle.hg_model.specs.Places.{count_below, IsEarlier}
+use Rattle.hg_model.specs.Places.{IsEarlier}
+use Rattle.hg_model.specs.Stakes.{Stakes, member_count, stake_of, stake_where, total}
 use Rattle.hg_model.specs.Links.{Link, parents, creator}
-use Rattle.hg_model.specs.Forks.{forkers}
+use Rattle.hg_model.specs.Forks.{forking}
 use Rattle.hg_model.specs.Seeing.{sees}
-use Rattle.hg_model.specs.Rounds.{is_seen_witness, round_of, is_witness}
+use Rattle.hg_model.specs.Rounds.{is_seen_witness, round_of, is_witness, stake_at, weight_of}
 use Rattle.hg_model.specs.Votes.{weighed_vote, weighed_decides, is_voter, yes_votes, no_votes, majority, is_strong, is_normal, rounds_above, vote_of, decides}
 use Rattle.hg_model.specs.Graph.{IsShaped}
-use Rattle.hg_model.proofs.PlacesLaws.{some_below_found, weight_below_none, weight_below-all, count_below-all}
+use Rattle.hg_model.proofs.PlacesLaws.{some_below_found, weight_below_none, weight_below-all, total-all}
 use Rattle.hg_model.proofs.QuorumLaws.{weight_below_both, weight_below_split, members_with}
 use Rattle.hg_model.proofs.VoteLaws.{vote_of-at}
 use Rattle.hg_model.proofs.WitnessLaws.{SeenWitness, seen_witness_is, round_quorum, one_witness_seen, seen_witnesses-le}
@@ -60,30 +61,30 @@ strong_is n false ayes nays most strong =
     let many : 2 * n < 3 * max ayes nays = ltb-true (2 * n) (3 * max ayes nays) strong in
     omega arith
 
--- the counts of those who say v, and of those who deny it
+-- the weights of those who say v, and of those who deny it
 
-count_says : (n : ℕ) (L : List Link) (vote : ℕ → Bool) (y : ℕ) (v : Bool) →
-    count_below y (λ w. is_voter n L y w && says v (vote w)) ≡ cond v (yes_votes n L vote y) (no_votes n L vote y)
-count_says n L vote y true = refl
-count_says n L vote y false = refl
+weight_says : (n : Stakes) (L : List Link) (vote : ℕ → Bool) (y : ℕ) (v : Bool) →
+    weight_of n L y (λ w. is_voter n L y w && says v (vote w)) ≡ cond v (yes_votes n L vote y) (no_votes n L vote y)
+weight_says n L vote y true = refl
+weight_says n L vote y false = refl
 
-count_denies : (n : ℕ) (L : List Link) (vote : ℕ → Bool) (y : ℕ) (v : Bool) →
-    count_below y (λ w. is_voter n L y w && denies v (vote w)) ≡ cond v (no_votes n L vote y) (yes_votes n L vote y)
-count_denies n L vote y true = refl
-count_denies n L vote y false = refl
+weight_denies : (n : Stakes) (L : List Link) (vote : ℕ → Bool) (y : ℕ) (v : Bool) →
+    weight_of n L y (λ w. is_voter n L y w && denies v (vote w)) ≡ cond v (no_votes n L vote y) (yes_votes n L vote y)
+weight_denies n L vote y true = refl
+weight_denies n L vote y false = refl
 
--- the votes of more than two thirds of the members are heard
-pub voters_many : (n : ℕ) (L : List Link) (e : IsEarlier (parents L)) (vote : ℕ → Bool) (y r : ℕ) → 0 < r → round_of n L y ≡ r + 1 →
-    2 * n < 3 * (yes_votes n L vote y + no_votes n L vote y)
+-- the votes of more than two thirds of the stake are heard
+pub voters_many : (n : Stakes) (L : List Link) (e : IsEarlier (parents L)) (vote : ℕ → Bool) (y r : ℕ) → 0 < r → round_of n L y ≡ r + 1 →
+    2 * total n < 3 * (yes_votes n L vote y + no_votes n L vote y)
 voters_many n L e vote y r pos is =
     let before : round_of n L y - 1 ≡ r = omega arith in
-    let split = weight_below_split (λ _. 1) y (is_voter n L y) vote in
-    let seen : ℕ → ℕ = λ k. count_below y (is_seen_witness (round_of n L) n L k y) in
-    let many : 2 * n < 3 * seen r = ltb-true (2 * n) (3 * seen r) (round_quorum n L e y r pos is) in
-    let heard : 2 * n < 3 * count_below y (is_voter n L y) = subst (λ k. 2 * n < 3 * seen k) (sym before) many in
+    let split = weight_below_split (stake_at n L) y (is_voter n L y) vote in
+    let seen : ℕ → ℕ = λ k. weight_of n L y (is_seen_witness (round_of n L) n L k y) in
+    let many : 2 * total n < 3 * seen r = ltb-true (2 * total n) (3 * seen r) (round_quorum n L e y r pos is) in
+    let heard : 2 * total n < 3 * weight_of n L y (is_voter n L y) = subst (λ k. 2 * total n < 3 * seen k) (sym before) many in
     omega (arith, split, heard)
 
-module _ (n : ℕ) (L : List Link) (c : ℕ) (coin : ℕ → Bool) (x : ℕ) where
+module _ (n : Stakes) (L : List Link) (c : ℕ) (coin : ℕ → Bool) (x : ℕ) where
   -- the vote of a row one round above x
   pub vote_of_next : (y : ℕ) → round_of n L y ≡ round_of n L x + 1 → vote_of n c L coin x y ≡ sees L y x
   vote_of_next y is =
@@ -91,17 +92,17 @@ module _ (n : ℕ) (L : List Link) (c : ℕ) (coin : ℕ → Bool) (x : ℕ) whe
       let nays = no_votes n L (vote_of n c L coin x) y in
       let d = rounds_above n L x y in
       let one : eqb d 1 ≡ true = eq-eqb d 1 (omega arith) in
-      vote_of-at n c L coin x y ∙ ap (λ b. cond b (sees L y x) (weighed_vote n c d ayes nays (coin y))) one
+      vote_of-at n c L coin x y ∙ ap (λ b. cond b (sees L y x) (weighed_vote (total n) c d ayes nays (coin y))) one
 
   -- the vote of a row further above x
   pub vote_of_weighed : (y : ℕ) → round_of n L x + 2 ≤ round_of n L y →
-      vote_of n c L coin x y ≡ weighed_vote n c (rounds_above n L x y) (yes_votes n L (vote_of n c L coin x) y) (no_votes n L (vote_of n c L coin x) y) (coin y)
+      vote_of n c L coin x y ≡ weighed_vote (total n) c (rounds_above n L x y) (yes_votes n L (vote_of n c L coin x) y) (no_votes n L (vote_of n c L coin x) y) (coin y)
   vote_of_weighed y far =
       let ayes = yes_votes n L (vote_of n c L coin x) y in
       let nays = no_votes n L (vote_of n c L coin x) y in
       let d = rounds_above n L x y in
       let more : eqb d 1 ≡ false = ne_eqb d 1 (λ is. absurd (omega arith)) in
-      vote_of-at n c L coin x y ∙ ap (λ b. cond b (sees L y x) (weighed_vote n c d ayes nays (coin y))) more
+      vote_of-at n c L coin x y ∙ ap (λ b. cond b (sees L y x) (weighed_vote (total n) c d ayes nays (coin y))) more
 
   -- and in a normal round
   pub vote_of_normal : (y : ℕ) → round_of n L x + 2 ≤ round_of n L y → is_normal c (rounds_above n L x y) ≡ true →
@@ -109,7 +110,7 @@ module _ (n : ℕ) (L : List Link) (c : ℕ) (coin : ℕ → Bool) (x : ℕ) whe
   vote_of_normal y far normal =
       let ayes = yes_votes n L (vote_of n c L coin x) y in
       let nays = no_votes n L (vote_of n c L coin x) y in
-      vote_of_weighed y far ∙ ap (λ b. cond b (majority ayes nays) (cond (is_strong n ayes nays) (majority ayes nays) (coin y))) normal
+      vote_of_weighed y far ∙ ap (λ b. cond b (majority ayes nays) (cond (is_strong (total n) ayes nays) (majority ayes nays) (coin y))) normal
 
   -- every witness of round r votes v on x
   pub record AllVote (r : ℕ) (v : Bool) : Type 0 where
@@ -120,7 +121,7 @@ module _ (n : ℕ) (L : List Link) (c : ℕ) (coin : ℕ → Bool) (x : ℕ) whe
     pub is_witness : is_witness n L y ≡ true
     pub far : round_of n L x + 2 ≤ round_of n L y
     pub normal : is_normal c (rounds_above n L x y) ≡ true
-    pub strong : is_strong n (yes_votes n L (vote_of n c L coin x) y) (no_votes n L (vote_of n c L coin x) y) ≡ true
+    pub strong : is_strong (total n) (yes_votes n L (vote_of n c L coin x) y) (no_votes n L (vote_of n c L coin x) y) ≡ true
 
   pub decider_is : (y : ℕ) → decides n c L coin x y ≡ true → Decider y
   unfolding decides
@@ -128,8 +129,8 @@ module _ (n : ℕ) (L : List Link) (c : ℕ) (coin : ℕ → Bool) (x : ℕ) whe
       let ayes = yes_votes n L (vote_of n c L coin x) y in
       let nays = no_votes n L (vote_of n c L coin x) y in
       let d = rounds_above n L x y in
-      let one = and_parts (is_witness n L y) (weighed_decides n c d ayes nays) h in
-      let two = and_parts (ltb 1 d && is_normal c d) (is_strong n ayes nays) one.1 in
+      let one = and_parts (is_witness n L y) (weighed_decides (total n) c d ayes nays) h in
+      let two = and_parts (ltb 1 d && is_normal c d) (is_strong (total n) ayes nays) one.1 in
       let three = and_parts (ltb 1 d) (is_normal c d) two.0 in
       let above : 1 < d = ltb-true 1 d three.0 in
       record { is_witness = one.0; far = omega arith; normal = three.1; strong = two.1 }
@@ -140,8 +141,8 @@ module _ (n : ℕ) (L : List Link) (c : ℕ) (coin : ℕ → Bool) (x : ℕ) whe
         cond v (no_votes n L (vote_of n c L coin x) y) (yes_votes n L (vote_of n c L coin x) y) ≡ 0
     none_denies v r y hy is all =
         let vote = vote_of n c L coin x in
-        sym (count_denies n L vote y v)
-        ∙ weight_below_none (λ _. 1) y (λ w. is_voter n L y w && denies v (vote w)) (λ w hw t.
+        sym (weight_denies n L vote y v)
+        ∙ weight_below_none (stake_at n L) y (λ w. is_voter n L y w && denies v (vote w)) (λ w hw t.
         let parts = and_parts (is_voter n L y w) (denies v (vote w)) t in
         let seen = seen_witness_is n L (round_of n L y - 1) y w parts.0 in
         let here : round_of n L w ≡ r = omega (arith, seen.in_round, is) in
@@ -152,7 +153,7 @@ module _ (n : ℕ) (L : List Link) (c : ℕ) (coin : ℕ → Bool) (x : ℕ) whe
       votes = λ y hy wy is.
           let vote = vote_of n c L coin x in
           vote_of_weighed y (omega arith)
-          ∙ unanimous_vote n c (rounds_above n L x y) v (yes_votes n L vote y) (no_votes n L vote y) (coin y) (voters_many n L e vote y r (omega arith) is) (none_denies v r y hy is all);
+          ∙ unanimous_vote (total n) c (rounds_above n L x y) v (yes_votes n L vote y) (no_votes n L vote y) (coin y) (voters_many n L e vote y r (omega arith) is) (none_denies v r y hy is all);
     }
 
     -- where every witness of a round above x votes v, so does every witness of each later round, in coin rounds too
@@ -163,12 +164,12 @@ module _ (n : ℕ) (L : List Link) (c : ℕ) (coin : ℕ → Bool) (x : ℕ) whe
         let same : k + r + 1 ≡ suc k + r = omega arith in
         subst (λ t. AllVote t v) same later
 
-module _ (n : ℕ) (L : List Link) (s : IsShaped n L) (few : 3 * forkers n L < n) where
-  -- against a quorum of witnesses of round r outside a set the voters in that set are less than a third of the members
+module _ (n : Stakes) (L : List Link) (s : IsShaped n L) (few : 3 * forking n L < total n) where
+  -- against a quorum of witnesses of round r outside a set the voters in that set weigh less than a third of the stake
   pub outvoted : (r x bound y : ℕ) (quorum other : ℕ → Bool) → x < length L → bound ≤ length L → y < length L →
       ((w : ℕ) → w < bound → quorum w ≡ true → SeenWitness n L r x w) → ((w : ℕ) → w < bound → quorum w ≡ true → other w ≡ false) →
-      2 * n < 3 * count_below bound quorum →
-      3 * count_below y (λ w. is_seen_witness (round_of n L) n L r y w && other w) < n
+      2 * total n < 3 * weight_of n L bound quorum →
+      3 * weight_of n L y (λ w. is_seen_witness (round_of n L) n L r y w && other w) < total n
   outvoted r x bound y quorum other hx hbound hy seen out many =
       let by = creator L in
       let voters : ℕ → Bool = λ w. is_seen_witness (round_of n L) n L r y w && other w in
@@ -177,7 +178,7 @@ module _ (n : ℕ) (L : List Link) (s : IsShaped n L) (few : 3 * forkers n L < n
       let heard = λ (w : ℕ) (h : w < y) (t : voters w ≡ true). seen_witness_is n L r y w (and_parts (is_seen_witness (round_of n L) n L r y w) (other w) t).0 in
       let le_ours = seen_witnesses-le n L s few r x bound quorum hx hbound seen in
       let le_theirs = seen_witnesses-le n L s few r y y voters hy (omega arith) heard in
-      let apart : count_below n (λ m. ours m && theirs m) ≡ 0 = weight_below_none (λ _. 1) n (λ m. ours m && theirs m) (λ m hm t.
+      let apart : stake_where n (λ m. ours m && theirs m) ≡ 0 = weight_below_none (stake_of n) (member_count n) (λ m. ours m && theirs m) (λ m hm t.
       let parts = and_parts (ours m) (theirs m) t in
       let a = some_below_found bound (λ w. quorum w && eqb (by w) m) parts.0 in
       let b = some_below_found y (λ w. voters w && eqb (by w) m) parts.1 in
@@ -186,25 +187,25 @@ module _ (n : ℕ) (L : List Link) (s : IsShaped n L) (few : 3 * forkers n L < n
       let one : a.0 ≡ b.0 = one_witness_seen n L s few r x y a.0 b.0 hx hy (seen a.0 a.1 in_a.0) (heard b.0 b.1 in_b.0) (eqb-true (by a.0) m in_a.1 ∙ sym (eqb-true (by b.0) m in_b.1)) in
       let inside = (and_parts (is_seen_witness (round_of n L) n L r y b.0) (other b.0) in_b.0).1 in
       both_ways (other a.0) (out a.0 a.1 in_a.0) (subst (λ k. other k ≡ true) (sym one) inside)) in
-      let sum = weight_below_both (λ _. 1) n ours theirs in
-      let fits = weight_below-all (λ _. 1) n (λ m. ours m || theirs m) in
-      let all = count_below-all n in
+      let sum = weight_below_both (stake_of n) (member_count n) ours theirs in
+      let fits = weight_below-all (stake_of n) (member_count n) (λ m. ours m || theirs m) in
+      let all = total-all n in
       omega (arith, le_ours, le_theirs, apart, sum, fits, all, many)
 
   module _ (c : ℕ) (coin : ℕ → Bool) (x : ℕ) where
     -- where a quorum of witnesses says v, so does the majority of the voters of each row of the next round
     pub swayed : (v : Bool) (r z bound y : ℕ) (quorum : ℕ → Bool) → 0 < r → z < length L → bound ≤ length L → y < length L → round_of n L y ≡ r + 1 →
         ((w : ℕ) → w < bound → quorum w ≡ true → SeenWitness n L r z w) → ((w : ℕ) → w < bound → quorum w ≡ true → vote_of n c L coin x w ≡ v) →
-        2 * n < 3 * count_below bound quorum →
+        2 * total n < 3 * weight_of n L bound quorum →
         majority (yes_votes n L (vote_of n c L coin x) y) (no_votes n L (vote_of n c L coin x) y) ≡ v
     swayed v r z bound y quorum pos hz hbound hy is seen votes many =
         let vote = vote_of n c L coin x in
         let before : r ≡ round_of n L y - 1 = omega arith in
-        let deniers : ℕ → ℕ = λ k. count_below y (λ w. is_seen_witness (round_of n L) n L k y w && denies v (vote w)) in
-        let low : 3 * deniers r < n = outvoted r z bound y quorum (λ w. denies v (vote w)) hz hbound hy seen (λ w h t. denies_not v (vote w) (votes w h t)) many in
-        let deny : 3 * cond v (no_votes n L vote y) (yes_votes n L vote y) < n =
-        subst (λ k. 3 * k < n) (count_denies n L vote y v) (subst (λ k. 3 * deniers k < n) before low) in
-        majority_is n v (yes_votes n L vote y) (no_votes n L vote y) (voters_many n L s.earlier vote y r pos is) deny
+        let deniers : ℕ → ℕ = λ k. weight_of n L y (λ w. is_seen_witness (round_of n L) n L k y w && denies v (vote w)) in
+        let low : 3 * deniers r < total n = outvoted r z bound y quorum (λ w. denies v (vote w)) hz hbound hy seen (λ w h t. denies_not v (vote w) (votes w h t)) many in
+        let deny : 3 * cond v (no_votes n L vote y) (yes_votes n L vote y) < total n =
+        subst (λ k. 3 * k < total n) (weight_denies n L vote y v) (subst (λ k. 3 * deniers k < total n) before low) in
+        majority_is (total n) v (yes_votes n L vote y) (no_votes n L vote y) (voters_many n L s.earlier vote y r pos is) deny
 
     -- where y decides, every witness of its round votes as y does
     pub decided_round : (y : ℕ) → y < length L → decides n c L coin x y ≡ true → AllVote n L c coin x (round_of n L y) (vote_of n c L coin x y)
@@ -216,7 +217,7 @@ module _ (n : ℕ) (L : List Link) (s : IsShaped n L) (few : 3 * forkers n L < n
         let v = vote y in
         let most = sym (vote_of_normal n L c coin x y far d.normal) in
         let quorum : ℕ → Bool = λ w. is_voter n L y w && says v (vote w) in
-        let many : 2 * n < 3 * count_below y quorum = rw (count_says n L vote y v) (strong_is n v (yes_votes n L vote y) (no_votes n L vote y) most d.strong) in
+        let many : 2 * total n < 3 * weight_of n L y quorum = rw (weight_says n L vote y v) (strong_is (total n) v (yes_votes n L vote y) (no_votes n L vote y) most d.strong) in
         record {
           votes = λ w hw ww is.
               vote_of_normal n L c coin x w (omega arith) (rw is d.normal)

@@ -3,6 +3,7 @@ use Rattle.std.proofs.Common.{◌≡◌, ℕ, ◌<◌, ◌≤◌, Bool, true, fa
 use Rattle.std.specs.List.{list_all}
 use Rattle.std.proofs.lemmas.Bool.{cases_lt, or_cases, and_parts, eqb-true, eq-eqb, ltb-true, true≢false, both_ways, not-true}
 use Rattle.hg_model.specs.Places.{has_place}
+use Rattle.hg_model.specs.Stakes.{Stakes, member_count}
 use Rattle.hg_model.specs.Links.{Link, later_places, parents, self_parent, other_parents, creator}
 use Rattle.hg_model.specs.Graph.{IsShaped, is_shaped_at}
 use Rattle.hg_model.proofs.LinkLaws.{parents_past, self_parent_past}
@@ -21,15 +22,15 @@ unfolding other_parents
 other_parents_past L x h = ap later_places (parents_past L x h)
 
 -- what the test of one event tells
-record Shaped (n : ℕ) (L : List Link) (x : ℕ) : Type 0 where
-  member : ltb (creator L x) n ≡ true
+record Shaped (n : Stakes) (L : List Link) (x : ℕ) : Type 0 where
+  member : ltb (creator L x) (member_count n) ≡ true
   earlier : list_all (λ p. ltb p x) (parents L x) ≡ true
   self_by_same : list_all (λ p. eqb (creator L p) (creator L x)) (self_parent L x) ≡ true
   others_by_others : list_all (λ p. not (eqb (creator L p) (creator L x))) (other_parents L x) ≡ true
 
-shaped_is : (n : ℕ) (L : List Link) (x : ℕ) → is_shaped_at n L x ≡ true → Shaped n L x
+shaped_is : (n : Stakes) (L : List Link) (x : ℕ) → is_shaped_at n L x ≡ true → Shaped n L x
 shaped_is n L x h =
-    let member = ltb (creator L x) n in
+    let member = ltb (creator L x) (member_count n) in
     let earlier = list_all (λ p. ltb p x) (parents L x) in
     let own = list_all (λ p. eqb (creator L p) (creator L x)) (self_parent L x) in
     let one = and_parts (member && earlier && own) (list_all (λ p. not (eqb (creator L p) (creator L x))) (other_parents L x)) h in
@@ -37,7 +38,7 @@ shaped_is n L x h =
     let three = and_parts member earlier two.0 in
     record { member = three.0; earlier = three.1; self_by_same = two.1; others_by_others = one.1 }
 
-module _ (n : ℕ) (L : List Link) (passes : (x : ℕ) → x < length L → is_shaped_at n L x ≡ true) where
+module _ (n : Stakes) (L : List Link) (passes : (x : ℕ) → x < length L → is_shaped_at n L x ≡ true) where
   pub shaped_from_tests : IsShaped n L
   shaped_from_tests = record {
     members = λ x h. ltb-true (creator L x) n (shaped_is n L x (passes x h)).member;
@@ -73,12 +74,12 @@ two_parents true true true false e = refl
 two_parents true true true true false = refl
 two_parents true true true true true = refl
 
-pub is_shaped_at-first : (n : ℕ) (L : List Link) (x : ℕ) → parents L x ≡ [] → is_shaped_at n L x ≡ ltb (creator L x) n
+pub is_shaped_at-first : (n : Stakes) (L : List Link) (x : ℕ) → parents L x ≡ [] → is_shaped_at n L x ≡ ltb (creator L x) (member_count n)
 unfolding self_parent other_parents
-is_shaped_at-first n L x none = rw none (no_parents (ltb (creator L x) n))
+is_shaped_at-first n L x none = rw none (no_parents (ltb (creator L x) (member_count n)))
 
-pub is_shaped_at-made : (n : ℕ) (L : List Link) (x own other : ℕ) → parents L x ≡ own ∷ other ∷ [] →
-    is_shaped_at n L x ≡ (ltb (creator L x) n && (ltb own x && ltb other x && eqb (creator L own) (creator L x) && not (eqb (creator L other) (creator L x))))
+pub is_shaped_at-made : (n : Stakes) (L : List Link) (x own other : ℕ) → parents L x ≡ own ∷ other ∷ [] →
+    is_shaped_at n L x ≡ (ltb (creator L x) (member_count n) && (ltb own x && ltb other x && eqb (creator L own) (creator L x) && not (eqb (creator L other) (creator L x))))
 unfolding self_parent other_parents
 is_shaped_at-made n L x own other on =
-    rw on (two_parents (ltb (creator L x) n) (ltb own x) (ltb other x) (eqb (creator L own) (creator L x)) (not (eqb (creator L other) (creator L x))))
+    rw on (two_parents (ltb (creator L x) (member_count n)) (ltb own x) (ltb other x) (eqb (creator L own) (creator L x)) (not (eqb (creator L other) (creator L x))))

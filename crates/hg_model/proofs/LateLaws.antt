@@ -4,12 +4,13 @@ use Rattle.std.specs.Prelude.{is_none}
 use Rattle.std.proofs.lemmas.List.{get_or_past}
 use Rattle.std.proofs.lemmas.List.FromFn.{get_or-map-range_with_len, length-map-range_with_len}
 use Rattle.std.proofs.lemmas.Bool.{cases_lt, and_parts, and_from, false_from_ne_true, both_ways, eqb-true, ltb-true, lt-ltb, le-leb, lt-leb, not-true}
-use Rattle.hg_model.specs.Places.{count_below, least_below, some_below, table}
+use Rattle.hg_model.specs.Places.{least_below, some_below, table}
+use Rattle.hg_model.specs.Stakes.{Stakes, total}
 use Rattle.hg_model.specs.Links.{Link}
 use Rattle.hg_model.specs.Ancestry.{is_ancestor}
-use Rattle.hg_model.specs.Forks.{forkers}
+use Rattle.hg_model.specs.Forks.{forking}
 use Rattle.hg_model.specs.Seeing.{sees}
-use Rattle.hg_model.specs.Rounds.{is_seen_witness, round_of, is_witness}
+use Rattle.hg_model.specs.Rounds.{is_seen_witness, round_of, is_witness, stake_at, weight_of}
 use Rattle.hg_model.specs.Votes.{weighed_decides, is_voter, yes_votes, no_votes, majority, is_strong, is_normal, rounds_above, vote_of, decides}
 use Rattle.hg_model.specs.Fame.{is_decider, fame_of, Marks, mark_at, fame_marks, is_witness_of_round, is_unmarked, is_closed}
 use Rattle.hg_model.specs.Graph.{IsShaped}
@@ -22,7 +23,7 @@ use Rattle.hg_model.proofs.WitnessLaws.{seen_witness_is, round_quorum, witness_b
 use Rattle.hg_model.proofs.AgreeLaws.{AllVote, decider_is, vote_of_next, vote_of_normal, voters_many, unanimity_lasts, swayed, deciders_agree}
 
 -- fame is the vote of some decider
-module _ (n c : ℕ) (L : List Link) (coin : ℕ → Bool) (x : ℕ) where
+module _ (n : Stakes) (c : ℕ) (L : List Link) (coin : ℕ → Bool) (x : ℕ) where
   -- y decides the fame of the witness x, as v
   pub record IsDecision (v : Bool) (y : ℕ) : Type 0 where
     pub of_row : x < length L
@@ -44,7 +45,7 @@ module _ (n c : ℕ) (L : List Link) (coin : ℕ → Bool) (x : ℕ) where
   decider_of_fame v is =
       decision_of v (least_below (round_of n L) (length L) (is_decider n c L coin x)) (least_below_found (round_of n L) (length L) (is_decider n c L coin x)) is
 
-module _ (n : ℕ) (L : List Link) (s : IsShaped n L) (few : 3 * forkers n L < n) (c : ℕ) (coin : ℕ → Bool) (x : ℕ) where
+module _ (n : Stakes) (L : List Link) (s : IsShaped n L) (few : 3 * forking n L < total n) (c : ℕ) (coin : ℕ → Bool) (x : ℕ) where
   -- and any decider's vote is the fame
   pub fame_of_decider : (v : Bool) (y : ℕ) → IsDecision n c L coin x v y → fame_of n c L coin x ≡ Some v
   fame_of_decider v y d =
@@ -76,7 +77,7 @@ module _ (n : ℕ) (L : List Link) (s : IsShaped n L) (few : 3 * forkers n L < n
       let z = witness_below n L s.earlier y (r + 1) (omega arith) (omega arith) in
       let low : z.0 ≤ y = is_ancestor-le L s.earlier y z.0 z.1 in
       let voters : ℕ → Bool = is_seen_witness (round_of n L) n L r z.0 in
-      let many : 2 * n < 3 * count_below z.0 voters = ltb-true (2 * n) (3 * count_below z.0 voters) (round_quorum n L s.earlier z.0 r (omega arith) z.3) in
+      let many : 2 * total n < 3 * weight_of n L z.0 voters = ltb-true (2 * total n) (3 * weight_of n L z.0 voters) (round_quorum n L s.earlier z.0 r (omega arith) z.3) in
       record {
         votes = λ w hw ww is.
             vote_of_normal n L c coin x w (omega arith) (two_is_normal hc w is)
@@ -107,16 +108,16 @@ module _ (n : ℕ) (L : List Link) (s : IsShaped n L) (few : 3 * forkers n L < n
       let nays = no_votes n L vote y in
       let d = rounds_above n L x y in
       let normal = two_is_normal hc y is in
-      let none : ayes ≡ 0 = weight_below_none (λ _. 1) y (λ w. is_voter n L y w && vote w) (λ w hw t.
+      let none : ayes ≡ 0 = weight_below_none (stake_at n L) y (λ w. is_voter n L y w && vote w) (λ w hw t.
       let parts = and_parts (is_voter n L y w) (vote w) t in
       let seen = seen_witness_is n L (round_of n L y - 1) y w parts.0 in
       let up = strongly_sees-is_ancestor L s.earlier n y w seen.seen in
       both_ways (vote w) (apart_below y w apart up (omega (arith, seen.in_round, is))) parts.1) in
       let many = voters_many n L s.earlier vote y (round_of n L x + 1) (omega arith) (omega arith) in
       let far : ltb 1 d ≡ true = lt-ltb 1 d (omega arith) in
-      let strong : is_strong n ayes nays ≡ true = lt-ltb (2 * n) (3 * max ayes nays) (omega arith) in
+      let strong : is_strong (total n) ayes nays ≡ true = lt-ltb (2 * total n) (3 * max ayes nays) (omega arith) in
       let nay : majority ayes nays ≡ false = lt-leb nays ayes (omega arith) in (
-        and_from (is_witness n L y) (weighed_decides n c d ayes nays) wy (and_from (ltb 1 d && is_normal c d) (is_strong n ayes nays) (and_from (ltb 1 d) (is_normal c d) far normal) strong),
+        and_from (is_witness n L y) (weighed_decides (total n) c d ayes nays) wy (and_from (ltb 1 d && is_normal c d) (is_strong (total n) ayes nays) (and_from (ltb 1 d) (is_normal c d) far normal) strong),
         vote_of_normal n L c coin x y (omega arith) normal ∙ nay,
       )
 
@@ -136,7 +137,7 @@ some_mark : (mark : Option Bool) → is_none mark ≡ false → (v : Bool) × (m
 some_mark None h = cc
 some_mark (Some v) h = (v, refl)
 
-module _ (n : ℕ) (L : List Link) (marks : Marks) (r : ℕ) (closed : is_closed n L marks r ≡ true) where
+module _ (n : Stakes) (L : List Link) (marks : Marks) (r : ℕ) (closed : is_closed n L marks r ≡ true) where
   -- a closed round has a witness
   pub closed_witness : (w : ℕ) × (w < length L) × (is_witness_of_round n L r w ≡ true)
   unfolding is_closed
@@ -154,11 +155,11 @@ module _ (n : ℕ) (L : List Link) (marks : Marks) (r : ℕ) (closed : is_closed
 
 -- the marks of a graph's fame are its fame
 
-pub mark_of_fame : (n c : ℕ) (L : List Link) (coin : ℕ → Bool) (x : ℕ) (v : Bool) → x < length L → fame_of n c L coin x ≡ Some v → mark_at (fame_marks n c L coin) x ≡ Some v
+pub mark_of_fame : (n : Stakes) (c : ℕ) (L : List Link) (coin : ℕ → Bool) (x : ℕ) (v : Bool) → x < length L → fame_of n c L coin x ≡ Some v → mark_at (fame_marks n c L coin) x ≡ Some v
 unfolding fame_marks
 mark_of_fame n c L coin x v inside is = get_or-map-range_with_len (fame_of n c L coin) 0 (length L) x x None inside (omega arith) ∙ is
 
-pub fame_of_mark : (n c : ℕ) (L : List Link) (coin : ℕ → Bool) (x : ℕ) (v : Bool) → mark_at (fame_marks n c L coin) x ≡ Some v → fame_of n c L coin x ≡ Some v
+pub fame_of_mark : (n : Stakes) (c : ℕ) (L : List Link) (coin : ℕ → Bool) (x : ℕ) (v : Bool) → mark_at (fame_marks n c L coin) x ≡ Some v → fame_of n c L coin x ≡ Some v
 unfolding fame_marks
 fame_of_mark n c L coin x v is =
     let fame = fame_of n c L coin in
@@ -168,7 +169,7 @@ fame_of_mark n c L coin x v is =
     ]
 
 -- where round r is closed by marks that are fame, some witness stands two rounds above it
-pub closed_has_above : (n c : ℕ) (L : List Link) (coin : ℕ → Bool) (marks : Marks) (r : ℕ) →
+pub closed_has_above : (n : Stakes) (c : ℕ) (L : List Link) (coin : ℕ → Bool) (marks : Marks) (r : ℕ) →
     ((x : ℕ) (v : Bool) → mark_at marks x ≡ Some v → fame_of n c L coin x ≡ Some v) → is_closed n L marks r ≡ true →
     (y : ℕ) × (y < length L) × (is_witness n L y ≡ true) × (r + 2 ≤ round_of n L y)
 closed_has_above n c L coin marks r marked closed =

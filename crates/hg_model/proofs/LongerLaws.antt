@@ -5,15 +5,16 @@ use Rattle.std.proofs.lemmas.Option.{slice_get-get_or}
 use Rattle.std.specs.List.{list_all}
 use Rattle.hg_model.specs.declared.row.Row.{Row}
 use Rattle.hg_model.specs.Places.{IsEarlier}
+use Rattle.hg_model.specs.Stakes.{Stakes, member_count, stake_of, total}
 use Rattle.hg_model.specs.Links.{Link, links, parents_in, creator_in, first_place, parents, self_parent, creator}
 use Rattle.hg_model.specs.Ancestry.{is_ancestor, is_self_ancestor, some_ancestor}
 use Rattle.hg_model.specs.Forks.{is_fork, has_fork_below}
 use Rattle.hg_model.specs.Seeing.{sees, sees_through, strongly_sees, is_supermajority}
-use Rattle.hg_model.specs.Rounds.{parent_round, is_witness_by, is_seen_witness, round_from, round_of, is_witness}
+use Rattle.hg_model.specs.Rounds.{parent_round, is_witness_by, is_seen_witness, round_from, round_of, is_witness, stake_at, weight_of}
 use Rattle.hg_model.specs.Votes.{is_voter, yes_votes, no_votes, vote_from, vote_of, decides}
 use Rattle.hg_model.specs.Graph.{IsShaped}
 use Rattle.hg_model.specs.Order.{row_sig, middle_bit, coin_at}
-use Rattle.hg_model.proofs.PlacesLaws.{by_place-same, some_below-same, weight_below-same}
+use Rattle.hg_model.proofs.PlacesLaws.{by_place-same, some_below-same, weight_below-same, weight_below-equal}
 use Rattle.hg_model.proofs.ReachLaws.{reaches-same}
 use Rattle.hg_model.proofs.LinkLaws.{length-links}
 use Rattle.hg_model.proofs.PushLaws.{nobody, link_at, link_in-append, present_at}
@@ -39,7 +40,7 @@ pub longer-take : (L : List Link) (len : ℕ) → len ≤ length L → IsLonger 
 longer-take L len le = subst (λ M. IsLonger (take len L) M) (take-append-drop len L) (longer-append (take len L) (drop len L))
 
 -- rows that come later leave the links of a shaped graph as they are
-pub links-longer : (n : ℕ) (G more : List Row) → IsShaped n (links G) → IsLonger (links G) (links (G ++ more))
+pub links-longer : (n : Stakes) (G more : List Row) → IsShaped n (links G) → IsLonger (links G) (links (G ++ more))
 links-longer n G more s =
     let both = length-append G more in
     record {
@@ -105,18 +106,24 @@ module _ (L M : List Link) (longer : IsLonger L M) where
       some_ancestor-longer x (λ z. eqb (creator M z) m && sees M z y) (λ z. eqb (creator L z) m && sees L z y) hx
       (λ z hz. rw (creator-longer z hz, sees-longer z y hz hy) refl)
 
-  pub strongly_sees-longer : (n x y : ℕ) → x < length L → y < length L → strongly_sees n M x y ≡ strongly_sees n L x y
+  pub strongly_sees-longer : (n : Stakes) (x y : ℕ) → x < length L → y < length L → strongly_sees n M x y ≡ strongly_sees n L x y
   unfolding strongly_sees
   strongly_sees-longer n x y hx hy =
-      ap (is_supermajority n) (weight_below-same (λ _. 1) n (sees_through M x y) (sees_through L x y) (λ m hm. sees_through-longer x y m hx hy))
+      ap (is_supermajority (total n)) (weight_below-same (stake_of n) (member_count n) (sees_through M x y) (sees_through L x y) (λ m hm. sees_through-longer x y m hx hy))
 
-  module _ (n : ℕ) where
+  module _ (n : Stakes) where
+    -- events weigh what they weighed
+    pub weight_of-longer : (x : ℕ) (one two : ℕ → Bool) → x ≤ length L → ((y : ℕ) → y < x → one y ≡ two y) → weight_of n M x one ≡ weight_of n L x two
+    weight_of-longer x one two le same =
+        weight_below-same (stake_at n M) x one two same
+        ∙ weight_below-equal (stake_at n M) (stake_at n L) x two (λ y hy. ap (stake_of n) (creator-longer y (omega arith)))
+
     round_from-longer : (round : ℕ → ℕ) (x : ℕ) → x < length L → round_from n M round x ≡ round_from n L round x
     round_from-longer round x h =
         let r = parent_round round (parents L x) in
         rw (parents-longer x h)
-        (ap (λ count. cond (is_supermajority n count) (r + 1) r)
-        (weight_below-same (λ _. 1) x (is_seen_witness round n M r x) (is_seen_witness round n L r x)
+        (ap (λ count. cond (is_supermajority (total n) count) (r + 1) r)
+        (weight_of-longer x (is_seen_witness round n M r x) (is_seen_witness round n L r x) (omega arith)
         (λ y hy. rw (self_parent-longer y (omega arith), strongly_sees-longer n x y h (omega arith)) refl)))
 
     pub round_of-longer : (x : ℕ) → x < length L → round_of n M x ≡ round_of n L x
@@ -137,12 +144,12 @@ module _ (L M : List Link) (longer : IsLonger L M) where
 
       yes_votes-longer : (vote other : ℕ → Bool) (y : ℕ) → y < length L → ((w : ℕ) → w < y → vote w ≡ other w) → yes_votes n M vote y ≡ yes_votes n L other y
       yes_votes-longer vote other y hy same =
-          weight_below-same (λ _. 1) y (λ w. is_voter n M y w && vote w) (λ w. is_voter n L y w && other w)
+          weight_of-longer y (λ w. is_voter n M y w && vote w) (λ w. is_voter n L y w && other w) (omega arith)
           (λ w hw. ap₂ (λ a b. a && b) (is_voter-longer y w hy hw) (same w hw))
 
       no_votes-longer : (vote other : ℕ → Bool) (y : ℕ) → y < length L → ((w : ℕ) → w < y → vote w ≡ other w) → no_votes n M vote y ≡ no_votes n L other y
       no_votes-longer vote other y hy same =
-          weight_below-same (λ _. 1) y (λ w. is_voter n M y w && not (vote w)) (λ w. is_voter n L y w && not (other w))
+          weight_of-longer y (λ w. is_voter n M y w && not (vote w)) (λ w. is_voter n L y w && not (other w)) (omega arith)
           (λ w hw. ap₂ (λ a b. a && not b) (is_voter-longer y w hy hw) (same w hw))
 
       module _ (c : ℕ) (one two : ℕ → Bool) (same_coin : (y : ℕ) → y < length L → two y ≡ one y) (x : ℕ) (hx : x < length L) where

@@ -7,6 +7,7 @@ use Rattle.std.proofs.lemmas.List.Elements.{All-map, All-from_recursion}
 use Rattle.hg_model.specs.declared.row.Row.{Row}
 use Rattle.hg_model.specs.declared.row.Placed.{Placed}
 use Rattle.hg_model.specs.Places.{list_below}
+use Rattle.hg_model.specs.Stakes.{Stakes}
 use Rattle.hg_model.specs.Links.{Link}
 use Rattle.hg_model.specs.Fame.{Marks}
 use Rattle.hg_model.specs.Order.{sort_by, comes_before, keyed_at, is_received_in, ordered_in, ordered, round_received, received_or_zero}
@@ -17,7 +18,7 @@ use Rattle.hg_model.proofs.SplitLaws.{sort_split}
 use Rattle.hg_model.proofs.CompareLaws.{lesser_first}
 
 -- the rows of an order stand in the graph
-pub ordered_within : (n : ℕ) (G : List Row) (L : List Link) (marks : Marks) → All (λ (p : Placed). p.place < length L) (ordered n G L marks)
+pub ordered_within : (n : Stakes) (G : List Row) (L : List Link) (marks : Marks) → All (λ (p : Placed). p.place < length L) (ordered n G L marks)
 unfolding ordered_in
 ordered_within n G L marks =
     let P : List ℕ × Placed → Type 0 = λ keyed. keyed.1.place < length L in
@@ -27,7 +28,7 @@ ordered_within n G L marks =
     (All-from_recursion P (sort_by comes_before rows) (all_sorted P comes_before rows
     (all_list_below P (keyed_at n G L marks) (length L) test (λ x h e. h))))
 
-module _ (n : ℕ) (G : List Row) (L : List Link) (marks : Marks) where
+module _ (n : Stakes) (G : List Row) (L : List Link) (marks : Marks) where
   abbrev in_rounds : (ℕ → Bool) → List Placed
   in_rounds test = ordered_in n G L marks test
 

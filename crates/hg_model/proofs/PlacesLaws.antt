@@ -4,6 +4,7 @@ use Rattle.std.proofs.Math.Path.{fun_ext}
 use Rattle.std.proofs.lemmas.List.{length_push, get_or_append_left, get_or_push, get_or_past, append-nil}
 use Rattle.std.proofs.lemmas.Bool.{cases_lt, cases_eq, or_cases, or_left, or_right, true≢false, false_from_ne_true, cases_Bool}
 use Rattle.hg_model.specs.Places.{weight_below, count_below, some_below, list_below, lesser_of, least_below, greatest_below, maximum_below, values_below, by_place}
+use Rattle.hg_model.specs.Stakes.{Stakes, member_count, stake_where, total}
 
 -- recursion over places
 
@@ -123,6 +124,12 @@ weight_step-le : (a b : Bool) (v : ℕ) → (a ≡ true → b ≡ true) → cond
 weight_step-le a b v h = grind arith
 
 -- a weaker test weighs no less
+pub weight_below-equal : (one two : ℕ → ℕ) (n : ℕ) (test : ℕ → Bool) → ((k : ℕ) → k < n → one k ≡ two k) → weight_below one n test ≡ weight_below two n test
+unfolding weight_below
+weight_below-equal one two zero test same = refl
+weight_below-equal one two (suc n) test same =
+    ap₂ (λ a b. a + b) (weight_below-equal one two n test (λ k h. same k (omega arith))) (ap (λ w. cond (test n) w 0) (same n (omega arith)))
+
 pub weight_below-le : (weight : ℕ → ℕ) (n : ℕ) (one two : ℕ → Bool) → ((k : ℕ) → k < n → one k ≡ true → two k ≡ true) →
     weight_below weight n one ≤ weight_below weight n two
 unfolding weight_below
@@ -174,6 +181,15 @@ pub count_below-all : (n : ℕ) → count_below n (λ _. true) ≡ n
 unfolding weight_below
 count_below-all zero = refl
 count_below-all (suc n) = omega (arith, count_below-all n)
+
+-- the stake of all members, as a weight; each weighs 1, so it is how many they are
+
+pub total-all : (n : Stakes) → total n ≡ stake_where n (λ _. true)
+unfolding total
+total-all n = refl
+
+pub total-count : (n : Stakes) → total n ≡ member_count n
+total-count n = total-all n ∙ count_below-all n
 
 -- the steps of a loop that counts or weighs
 

@@ -8,6 +8,7 @@ use Rattle.std.proofs.lemmas.Option.{slice_get-get_or, slice_get-map, slice_get_
 use Rattle.hg_model.specs.declared.row.Row.{Row}
 use Rattle.hg_model.proofs.LinkLaws.{length-links}
 use Rattle.hg_model.specs.Places.{has_place}
+use Rattle.hg_model.specs.Stakes.{Stakes}
 use Rattle.hg_model.specs.Links.{Link, parent_names, is_named, place_of, link_in, links, parents_in, creator_in, first_place, later_places, parents, self_parent, other_parents, creator}
 use Rattle.hg_model.specs.Graph.{IsShaped}
 use Rattle.hg_model.specs.Shape.{FitsLink}
@@ -67,7 +68,7 @@ held_from G (name ∷ names) below = (
 )
 
 -- the rows of a shaped graph have their parents among them
-pub present_at : (n : ℕ) (G : List Row) → IsShaped n (links G) → (x : ℕ) → x < length G → IsPresent G (get_or G x nobody)
+pub present_at : (n : Stakes) (G : List Row) → IsShaped n (links G) → (x : ℕ) → x < length G → IsPresent G (get_or G x nobody)
 unfolding parents
 present_at n G shaped x inside = record {
   held = held_from G (parent_names (get_or G x nobody).parents) (λ p h.
@@ -79,7 +80,7 @@ pub all_from : {A : Type 0} (P : A → Type 0) (d : A) (xs : List A) → ((k : �
 all_from P d [] each = tt
 all_from P d (x ∷ xs) each = (each 0 (omega arith), all_from P d xs (λ k h. each (Rattle.std.proofs.Common.suc k) (omega arith)))
 
-pub all_present : (n : ℕ) (G : List Row) → IsShaped n (links G) → AllByRecursion (IsPresent G) G
+pub all_present : (n : Stakes) (G : List Row) → IsShaped n (links G) → AllByRecursion (IsPresent G) G
 all_present n G shaped = all_from (IsPresent G) nobody G (present_at n G shaped)
 
 -- a place is before the last, the last, or after it
@@ -108,7 +109,7 @@ pub slice_get-last : {A : Type 0} (xs : List A) (y : A) → slice_get (xs ++ y �
 slice_get-last {A} xs y =
     slice_get-get_or (xs ++ y ∷ []) (length xs) y (omega (arith, length_push xs y)) ∙ ap (λ (a : A). Some a) (get_or_push xs y y (length xs) refl)
 
-module _ (n : ℕ) (L : List Link) (link : Link) where
+module _ (n : Stakes) (L : List Link) (link : Link) where
   last_is : (x : ℕ) → x ≡ length L → slice_get (L ++ link ∷ []) x ≡ Some link
   last_is x last = ap (slice_get (L ++ link ∷ [])) last ∙ slice_get-last L link
 
@@ -197,7 +198,7 @@ other_creator G m [] p fit h = absurd (true≢false (sym h))
 other_creator G m (own ∷ others) p fit h = others_creator G m others p fit.1 h
 
 -- a row that fits keeps the shape
-pub shaped-push : (n : ℕ) (G : List Row) (row : Row) → IsShaped n (links G) → Fits n G row → IsShaped n (links (G ++ row ∷ []))
+pub shaped-push : (n : Stakes) (G : List Row) (row : Row) → IsShaped n (links G) → Fits n G row → IsShaped n (links (G ++ row ∷ []))
 shaped-push n G row shaped fits =
     let names = parent_names row.parents in
     let len = length-links G in
@@ -209,7 +210,7 @@ shaped-push n G row shaped fits =
       others_by_others = λ p h. rw (row_creator-links G p) (other_creator G row.creator names p fits.parents_fit h);
     }))
 
-pub shaped-none : (n : ℕ) → IsShaped n (links [])
+pub shaped-none : (n : Stakes) → IsShaped n (links [])
 unfolding links creator parents self_parent other_parents
 shaped-none n = record {
   members = λ x inside. absurd (omega arith);

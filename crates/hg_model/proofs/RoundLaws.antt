@@ -2,11 +2,12 @@
 use Rattle.std.proofs.Common.{◌≡◌, ℕ, zero, suc, ◌+◌, ◌*◌, ◌<◌, ◌≤◌, Bool, true, false, cond, eqb, ltb, List, [], ◌∷◌, sym, refl, ap, ◌∙◌, inl, inr, ◌⊎◌, arith}
 use Rattle.std.proofs.lemmas.Bool.{cases_lt, cases_eq, or_cases, true≢false, cases_Bool, eqb-true, ltb-true}
 use Rattle.std.specs.List.{list_all}
-use Rattle.hg_model.specs.Places.{by_place, has_place, count_below, IsEarlier}
+use Rattle.hg_model.specs.Places.{by_place, has_place, IsEarlier}
+use Rattle.hg_model.specs.Stakes.{Stakes, total}
 use Rattle.hg_model.specs.Links.{Link, parents, self_parent}
 use Rattle.hg_model.specs.Seeing.{is_supermajority}
-use Rattle.hg_model.specs.Rounds.{parent_round, is_witness_by, is_seen_witness, round_from, round_of}
-use Rattle.hg_model.proofs.PlacesLaws.{only_below, only_below-at, by_place-at, weight_below-same, count_below-le}
+use Rattle.hg_model.specs.Rounds.{parent_round, is_witness_by, is_seen_witness, round_from, round_of, stake_at, weight_of}
+use Rattle.hg_model.proofs.PlacesLaws.{only_below, only_below-at, by_place-at, weight_below-same, weight_below_none}
 use Rattle.hg_model.proofs.ReachLaws.{has_place_first, has_place_later}
 use Rattle.hg_model.proofs.AncestryLaws.{self_parent_earlier}
 
@@ -47,7 +48,7 @@ list_all-same one two (p ∷ ps) same =
     let rest = list_all-same one two ps (λ q h. same q (has_place_later p q ps h)) in
     cc
 
-module _ (n : ℕ) (L : List Link) (e : IsEarlier (parents L)) where
+module _ (n : Stakes) (L : List Link) (e : IsEarlier (parents L)) where
   pub is_witness_by-same : (one two : ℕ → ℕ) (x : ℕ) → ((p : ℕ) → p ≤ x → one p ≡ two p) → is_witness_by one L x ≡ is_witness_by two L x
   is_witness_by-same one two x same = list_all-same (λ p. ltb (one p) (one x)) (λ p. ltb (two p) (two x)) (self_parent L x) (λ p h.
       let low : p < x = (self_parent_earlier L e).earlier x p h in
@@ -62,8 +63,8 @@ module _ (n : ℕ) (L : List Link) (e : IsEarlier (parents L)) where
   pub round_from-same : (one two : ℕ → ℕ) (x : ℕ) → ((p : ℕ) → p < x → one p ≡ two p) → round_from n L one x ≡ round_from n L two x
   round_from-same one two x same =
       rw (greatest_round-same one two (parents L x) (λ p h. same p (e.earlier x p h)))
-      (ap (λ count. cond (is_supermajority n count) (parent_round two (parents L x) + 1) (parent_round two (parents L x)))
-      (weight_below-same (λ _. 1) x (is_seen_witness one n L (parent_round two (parents L x)) x) (is_seen_witness two n L (parent_round two (parents L x)) x)
+      (ap (λ count. cond (is_supermajority (total n) count) (parent_round two (parents L x) + 1) (parent_round two (parents L x)))
+      (weight_below-same (stake_at n L) x (is_seen_witness one n L (parent_round two (parents L x)) x) (is_seen_witness two n L (parent_round two (parents L x)) x)
       (λ y hy. is_seen_witness-same one two (parent_round two (parents L x)) x y (λ p hp. same p (omega arith)))))
 
   -- the equation of rounds
@@ -75,11 +76,11 @@ module _ (n : ℕ) (L : List Link) (e : IsEarlier (parents L)) where
 
   -- the round is the greatest of the parents', or one more
   pub round_of_cases : (x : ℕ) → let r = parent_round (round_of n L) (parents L x) in
-      ((is_supermajority n (count_below x (is_seen_witness (round_of n L) n L r x)) ≡ true) × (round_of n L x ≡ r + 1))
-      ⊎ ((is_supermajority n (count_below x (is_seen_witness (round_of n L) n L r x)) ≡ false) × (round_of n L x ≡ r))
+      ((is_supermajority (total n) (weight_of n L x (is_seen_witness (round_of n L) n L r x)) ≡ true) × (round_of n L x ≡ r + 1))
+      ⊎ ((is_supermajority (total n) (weight_of n L x (is_seen_witness (round_of n L) n L r x)) ≡ false) × (round_of n L x ≡ r))
   round_of_cases x =
       let r = parent_round (round_of n L) (parents L x) in
-      elim (cases_Bool (is_supermajority n (count_below x (is_seen_witness (round_of n L) n L r x)))) [
+      elim (cases_Bool (is_supermajority (total n) (weight_of n L x (is_seen_witness (round_of n L) n L r x)))) [
         | inl up ↦ inl (up, round_of-at x ∙ ap (λ b. cond b (r + 1) r) up)
         | inr stay ↦ inr (stay, round_of-at x ∙ ap (λ b. cond b (r + 1) r) stay)
       ]
@@ -99,9 +100,9 @@ module _ (n : ℕ) (L : List Link) (e : IsEarlier (parents L)) where
   round_of-le_to (suc k) x h = elim (greatest_round_found (round_of n L) (parents L x)) [
     | inl one ↦ elim (cases_eq x 0) [
       | inl first ↦ elim (round_of_cases x) [
-        | inl up ↦ absurd (let count = count_below x (is_seen_witness (round_of n L) n L (parent_round (round_of n L) (parents L x)) x) in
-            let many : 2 * n < 3 * count = ltb-true (2 * n) (3 * count) up.0 in
-            let few : count ≤ x = count_below-le x (is_seen_witness (round_of n L) n L (parent_round (round_of n L) (parents L x)) x) in
+        | inl up ↦ absurd (let count = weight_of n L x (is_seen_witness (round_of n L) n L (parent_round (round_of n L) (parents L x)) x) in
+            let many : 2 * total n < 3 * count = ltb-true (2 * total n) (3 * count) up.0 in
+            let none : count ≡ 0 = weight_below_none (stake_at n L) x (is_seen_witness (round_of n L) n L (parent_round (round_of n L) (parents L x)) x) (λ w hw t. absurd (omega arith)) in
             omega arith)
         | inr stay ↦ omega (arith, stay.1, one)
       ]

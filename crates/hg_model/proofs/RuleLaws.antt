@@ -5,6 +5,7 @@ use Rattle.std.specs.Option.{option_or}
 use Rattle.std.proofs.lemmas.Bool.Decides.{nat_tests}
 use Rattle.std.proofs.lemmas.Bool.{cases_Bool, eqb-true, eqb-false, ltb-true, not-true, not-false}
 use Rattle.hg_model.specs.declared.row.Row.{Row}
+use Rattle.hg_model.specs.Stakes.{Stakes}
 use Rattle.hg_model.specs.Links.{parent_names, place_of}
 use Rattle.hg_model.specs.Graph.{HasDistinctNames}
 use Rattle.hg_model.specs.Fits.{AreHeld, ParentsFit, Fits}
@@ -66,12 +67,12 @@ parents_fit G m (Some names) missing creators =
       ),
     )
 
-pub record Arrives (n : ℕ) (G : List Row) (row : Row) : Type 0 where
+pub record Arrives (n : Stakes) (G : List Row) (row : Row) : Type 0 where
   pub fits : Fits n G row
   pub new_name : length G ≤ place_of G row.name
 
 -- a row that no rule refuses on its arrival fits, and its name is new
-pub arrives : (accepts : ℕ → List ℕ → List ℕ → Bool) (n own : ℕ) (G : List Row) (row : Row) → arrival_rule accepts n own G row ≡ None → Arrives n G row
+pub arrives : (accepts : ℕ → List ℕ → List ℕ → Bool) (n : Stakes) (own : ℕ) (G : List Row) (row : Row) → arrival_rule accepts n own G row ≡ None → Arrives n G row
 arrives accepts n own G row none =
     let a = option_or_none (member_rule n row) _ none in
     let b = option_or_none (name_rule G row) _ a.1 in
@@ -89,7 +90,7 @@ arrives accepts n own G row none =
     }
 
 -- a graph that is not full has room for one more
-pub has_room : (n : ℕ) (G : List Row) (row : Row) → option_or (forkers_rule n G row) (full_rule G) ≡ None → length G < row_limit
+pub has_room : (n : Stakes) (G : List Row) (row : Row) → option_or (forkers_rule n G row) (full_rule G) ≡ None → length G < row_limit
 has_room n G row none =
     below_from_test row_limit (length G) (one_test (nat_le row_limit (length G)) _ (option_or_none (forkers_rule n G row) (full_rule G) none).1)
 
@@ -107,12 +108,12 @@ made_parents G m (Some last) (Some other) distinct is first others =
     )
 
 -- what holds of a draft against which no rule speaks
-pub record Drafted (n own : ℕ) (G : List Row) (other : Option (List ℕ)) (payload : List ℕ) : Type 0 where
+pub record Drafted (n : Stakes) (own : ℕ) (G : List Row) (other : Option (List ℕ)) (payload : List ℕ) : Type 0 where
   pub short : length payload ≤ payload_limit
   pub held : AreHeld G (parent_names (both_names (last_name own G) other))
   pub parents_fit : ParentsFit G own (parent_names (both_names (last_name own G) other))
 
-pub drafted : (n own : ℕ) (G : List Row) (other : Option (List ℕ)) (payload : List ℕ) → HasDistinctNames G → draft_rule own G other payload ≡ None → Drafted n own G other payload
+pub drafted : (n : Stakes) (own : ℕ) (G : List Row) (other : Option (List ℕ)) (payload : List ℕ) → HasDistinctNames G → draft_rule own G other payload ≡ None → Drafted n own G other payload
 drafted n own G other payload distinct none =
     let a = option_or_none (first_rule (last_name own G) other) _ none in
     let b = option_or_none (other_rule own G other) (payload_rule payload) a.1 in

@@ -2,6 +2,7 @@
 use Rattle.std.proofs.Common.{◌≡◌, ◌≢◌, inl, inr, ℕ, ◌<◌, ◌≤◌, true, eqb, List, [], ◌∷◌, length, take, Some, None, refl, sym, subst, arith}
 use Rattle.std.proofs.lemmas.Bool.{cases_lt, eqb-true, or_cases}
 use Rattle.hg_model.specs.Places.{has_place}
+use Rattle.hg_model.specs.Stakes.{Stakes, member_count}
 use Rattle.hg_model.specs.Links.{Link, first_place, later_places, parents, self_parent, other_parents, creator}
 use Rattle.hg_model.specs.Graph.{IsShaped}
 use Rattle.hg_model.specs.Shape.{FitsLink, link_of}
@@ -11,7 +12,7 @@ use Rattle.hg_model.proofs.LongerLaws.{IsLonger, longer-take, parents-longer, cr
 use Rattle.hg_model.proofs.PushLaws.{first_of_places, later_of_places}
 
 -- a row without parents fits where its creator is a member
-pub fits_alone : (n : ℕ) (L : List Link) (m : ℕ) → m < n → FitsLink n L (link_of m None)
+pub fits_alone : (n : Stakes) (L : List Link) (m : ℕ) → m < member_count n → FitsLink n L (link_of m None)
 fits_alone n L m member = record {
   member = member;
   earlier = λ p h. absurd (none_there p h);
@@ -20,7 +21,7 @@ fits_alone n L m member = record {
 }
 
 -- a row with parents fits where they are there, the first by its creator and the second by another
-pub fits_on : (n : ℕ) (L : List Link) (m own other : ℕ) → m < n → own < length L → other < length L → creator L own ≡ m → creator L other ≢ m → FitsLink n L (link_of m (Some (own, other)))
+pub fits_on : (n : Stakes) (L : List Link) (m own other : ℕ) → m < member_count n → own < length L → other < length L → creator L own ≡ m → creator L other ≢ m → FitsLink n L (link_of m (Some (own, other)))
 fits_on n L m own other member own_there other_there by_same by_other = record {
   member = member;
   earlier = λ p h. elim (or_cases (eqb own p) (has_place (other ∷ []) p) h) [
@@ -33,7 +34,7 @@ fits_on n L m own other member own_there other_there by_same by_other = record {
 
 pub ruleset fits_links = (fits_alone, fits_on)
 
-module _ (n : ℕ) (L M : List Link) (longer : IsLonger L M) (s : IsShaped n M) where
+module _ (n : Stakes) (L M : List Link) (longer : IsLonger L M) (s : IsShaped n M) where
   -- who has parents in the shorter list stands there, and has these parents in the longer one
   parents_kept : (pick : List ℕ → List ℕ) → (pick [] ≡ []) → (x p : ℕ) → has_place (pick (parents L x)) p ≡ true → (x < length L) × (has_place (pick (parents M x)) p ≡ true)
   parents_kept pick none x p h = elim (cases_lt x (length L)) [
@@ -60,5 +61,5 @@ module _ (n : ℕ) (L M : List Link) (longer : IsLonger L M) (s : IsShaped n M) 
         rw (← creator-longer L M longer x here, ← creator-longer L M longer p (omega arith)) (s.others_by_others x p at.1);
   }
 
-pub shaped-take : (n : ℕ) (L : List Link) (len : ℕ) → len ≤ length L → IsShaped n L → IsShaped n (take len L)
+pub shaped-take : (n : Stakes) (L : List Link) (len : ℕ) → len ≤ length L → IsShaped n L → IsShaped n (take len L)
 shaped-take n L len le s = shaped-shorter n (take len L) L (longer-take L len le) s

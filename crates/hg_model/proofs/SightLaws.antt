@@ -1,13 +1,14 @@
 -- The laws of seeing and strongly seeing
 use Rattle.std.proofs.Common.{◌≡◌, ℕ, zero, suc, ◌*◌, ◌<◌, ◌≤◌, Bool, true, false, not, ◌&&◌, eqb, List, length, inl, inr, ◌⊎◌, arith}
 use Rattle.std.proofs.lemmas.Bool.{and_parts, and_from, cases_Bool, eqb-true, ltb-true, lt-ltb, not-true, both_ways}
-use Rattle.hg_model.specs.Places.{count_below, IsEarlier}
+use Rattle.hg_model.specs.Places.{IsEarlier}
+use Rattle.hg_model.specs.Stakes.{Stakes, member_count, stake_of, stake_where, total}
 use Rattle.hg_model.specs.Links.{Link, parents, creator}
 use Rattle.hg_model.specs.Ancestry.{is_ancestor, is_self_ancestor, some_ancestor}
-use Rattle.hg_model.specs.Forks.{is_fork, has_fork_below, has_fork, forkers}
+use Rattle.hg_model.specs.Forks.{is_fork, has_fork_below, has_fork, forking}
 use Rattle.hg_model.specs.Seeing.{sees, sees_through, strongly_sees}
 use Rattle.hg_model.specs.Graph.{IsShaped}
-use Rattle.hg_model.proofs.PlacesLaws.{some_below_found, weight_below-le, weight_below_found, count_below-all}
+use Rattle.hg_model.proofs.PlacesLaws.{some_below_found, weight_below-le, weight_below_found, total-all}
 use Rattle.hg_model.proofs.QuorumLaws.{quorums_meet}
 use Rattle.hg_model.proofs.AncestryLaws.{self_parent_is_parent, self_parent_earlier, some_ancestor_from, is_ancestor_self, is_ancestor_by, is_ancestor-le, is_ancestor-trans, is_self_ancestor_cases}
 use Rattle.hg_model.proofs.ForkLaws.{Fork, fork_is, is_fork_from, has_fork_from}
@@ -78,21 +79,21 @@ module _ (L : List Link) (e : IsEarlier (parents L)) where
       some_ancestor_grows x z test test up (λ v t. t) h
 
   -- what an ancestor of x strongly sees, x strongly sees
-  pub strongly_sees_grows : (n x p y : ℕ) → is_ancestor L x p ≡ true → strongly_sees n L p y ≡ true → strongly_sees n L x y ≡ true
+  pub strongly_sees_grows : (n : Stakes) (x p y : ℕ) → is_ancestor L x p ≡ true → strongly_sees n L p y ≡ true → strongly_sees n L x y ≡ true
   unfolding strongly_sees
   strongly_sees_grows n x p y up s =
-      let above = count_below n (sees_through L x y) in
-      let below = count_below n (sees_through L p y) in
-      let many : 2 * n < 3 * below = ltb-true (2 * n) (3 * below) s in
-      let more : below ≤ above = weight_below-le (λ _. 1) n (sees_through L p y) (sees_through L x y) (λ m h t. sees_through_grows x p y m up t) in
-      lt-ltb (2 * n) (3 * above) (omega arith)
+      let above = stake_where n (sees_through L x y) in
+      let below = stake_where n (sees_through L p y) in
+      let many : 2 * total n < 3 * below = ltb-true (2 * total n) (3 * below) s in
+      let more : below ≤ above = weight_below-le (stake_of n) (member_count n) (sees_through L p y) (sees_through L x y) (λ m h t. sees_through_grows x p y m up t) in
+      lt-ltb (2 * total n) (3 * above) (omega arith)
 
-  pub strongly_sees-is_ancestor : (n x y : ℕ) → strongly_sees n L x y ≡ true → is_ancestor L x y ≡ true
+  pub strongly_sees-is_ancestor : (n : Stakes) (x y : ℕ) → strongly_sees n L x y ≡ true → is_ancestor L x y ≡ true
   unfolding strongly_sees
   strongly_sees-is_ancestor n x y s =
-      let count = count_below n (sees_through L x y) in
-      let many : 2 * n < 3 * count = ltb-true (2 * n) (3 * count) s in
-      let m = weight_below_found (λ _. 1) n (sees_through L x y) (omega arith) in
+      let count = stake_where n (sees_through L x y) in
+      let many : 2 * total n < 3 * count = ltb-true (2 * total n) (3 * count) s in
+      let m = weight_below_found (stake_of n) (member_count n) (sees_through L x y) (omega arith) in
       let z = sees_through_found x y m.0 m.2 in
       is_ancestor-trans L e x z.0 y z.2 (sees-is_ancestor z.0 y z.4)
 
@@ -108,26 +109,26 @@ in_line L m a b ha hb by_a by_b none = elim (cases_Bool (is_self_ancestor L a b)
   ]
 ]
 
-module _ (n : ℕ) (L : List Link) (s : IsShaped n L) where
+module _ (n : Stakes) (L : List Link) (s : IsShaped n L) where
   -- no row above both sides of a fork sees a row by the one who made it
   no_sight_past_fork : (m a b z y : ℕ) → is_fork L m a b ≡ true → is_ancestor L z a ≡ true → is_ancestor L z b ≡ true → creator L y ≡ m → sees L z y ≡ true → ⊥
   no_sight_past_fork m a b z y f up_a up_b by_y seen =
       both_ways (has_fork_below L z (creator L y)) (sees-no_fork L s.earlier z y seen) (rw by_y (has_fork_below_from L s.earlier z a b m up_a up_b f))
 
-  module _ (few : 3 * forkers n L < n) where
-    few_forks : 3 * count_below n (has_fork L) < n
-    unfolding forkers
+  module _ (few : 3 * forking n L < total n) where
+    few_forks : 3 * stake_where n (has_fork L) < total n
+    unfolding forking
     few_forks = few
 
     -- rows that are a fork are not both strongly seen, even by different rows
     pub fork_seen_once : (m a b x y : ℕ) → x < length L → y < length L → is_fork L m a b ≡ true → strongly_sees n L x a ≡ true → strongly_sees n L y b ≡ true → ⊥
     unfolding strongly_sees
     fork_seen_once m a b x y hx hy f sees_a sees_b =
-        let all = count_below-all n in
+        let all = total-all n in
         let low = few_forks in
-        let many_a : 2 * n < 3 * count_below n (sees_through L x a) = ltb-true (2 * n) (3 * count_below n (sees_through L x a)) sees_a in
-        let many_b : 2 * n < 3 * count_below n (sees_through L y b) = ltb-true (2 * n) (3 * count_below n (sees_through L y b)) sees_b in
-        let h = quorums_meet (λ _. 1) n (sees_through L x a) (sees_through L y b) (has_fork L) (omega (arith, many_a, all)) (omega (arith, many_b, all)) (omega (arith, low, all)) in
+        let many_a : 2 * total n < 3 * stake_where n (sees_through L x a) = ltb-true (2 * total n) (3 * stake_where n (sees_through L x a)) sees_a in
+        let many_b : 2 * total n < 3 * stake_where n (sees_through L y b) = ltb-true (2 * total n) (3 * stake_where n (sees_through L y b)) sees_b in
+        let h = quorums_meet (stake_of n) (member_count n) (sees_through L x a) (sees_through L y b) (has_fork L) (omega (arith, many_a, all)) (omega (arith, many_b, all)) (omega (arith, low, all)) in
         let v = sees_through_found L s.earlier x a h.0 h.2 in
         let w = sees_through_found L s.earlier y b h.0 h.3 in
         let to_a : is_ancestor L v.0 a ≡ true = sees-is_ancestor L s.earlier v.0 a v.4 in

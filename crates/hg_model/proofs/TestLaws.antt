@@ -5,8 +5,9 @@ use Rattle.std.specs.Str.{bytes_eq}
 use Rattle.std.proofs.lemmas.Bool.{and_parts, cases_Bool, cases_lt, ltb-true, not-true, not_from_false, true≢false}
 use Rattle.hg_model.specs.declared.row.Row.{Row}
 use Rattle.hg_model.specs.Places.{some_below}
+use Rattle.hg_model.specs.Stakes.{Stakes, total}
 use Rattle.hg_model.specs.Links.{Link, links}
-use Rattle.hg_model.specs.Forks.{forkers}
+use Rattle.hg_model.specs.Forks.{forking}
 use Rattle.hg_model.specs.Graph.{name_at, IsGraph, is_shaped_at}
 use Rattle.hg_model.proofs.PlacesLaws.{some_below_from}
 use Rattle.hg_model.proofs.LinkLaws.{length-links}
@@ -17,11 +18,11 @@ abbrev pub is_named_before : List Row → ℕ → Bool
 is_named_before G x = some_below x (λ y. bytes_eq (name_at G y) (name_at G x))
 
 -- the rows are a graph, as a test of rows that are written out
-unfoldable pub is_graph : ℕ → List Row → Bool
+unfoldable pub is_graph : Stakes → List Row → Bool
 is_graph n G =
     let L = links G in
     not (some_below (length G) (λ x. not (is_shaped_at n L x))) && not (some_below (length G) (is_named_before G))
-    && nat_lt (3 * forkers n L) n
+    && nat_lt (3 * forking n L) (total n)
 
 passes_all : (n : ℕ) (test : ℕ → Bool) → not (some_below n (λ x. not (test x))) ≡ true → (x : ℕ) → x < n → test x ≡ true
 passes_all n test none x inside = elim (cases_Bool (test x)) [
@@ -37,13 +38,13 @@ not_named_before G none x y low inside same =
     let found = some_below_from (length G) (is_named_before G) y inside named in
     true≢false (sym found ∙ not-true (some_below (length G) (is_named_before G)) none)
 
-pub graph_from_test : (n : ℕ) (G : List Row) → is_graph n G ≡ true → IsGraph n G
+pub graph_from_test : (n : Stakes) (G : List Row) → is_graph n G ≡ true → IsGraph n G
 unfolding is_graph
 graph_from_test n G passes =
     let L : List Link = links G in
     let shape = not (some_below (length G) (λ x. not (is_shaped_at n L x))) in
     let names = not (some_below (length G) (is_named_before G)) in
-    let one = and_parts (shape && names) (nat_lt (3 * forkers n L) n) passes in
+    let one = and_parts (shape && names) (nat_lt (3 * forking n L) (total n)) passes in
     let two = and_parts shape names one.0 in
     record {
       distinct = record {
@@ -56,5 +57,5 @@ graph_from_test n G passes =
         ];
       };
       shaped = shaped_from_tests n L (λ x inside. passes_all (length G) (is_shaped_at n L) two.0 x (rw (← length-links G) inside));
-      few_forkers = ltb-true (3 * forkers n L) n one.1;
+      few_forkers = ltb-true (3 * forking n L) (total n) one.1;
     }

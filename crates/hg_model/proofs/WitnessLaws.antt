@@ -1,12 +1,13 @@
 -- The laws of witnesses: rounds grow with ancestry, and each stands on a quorum of witnesses of the round before
 use Rattle.std.proofs.Common.{◌≡◌, ◌≢◌, ℕ, zero, suc, ◌+◌, ◌-◌, ◌*◌, ◌<◌, ◌≤◌, Bool, true, ◌&&◌, ltb, eqb, List, [], length, sym, refl, ◌∙◌, inl, inr, ◌⊎◌, arith}
 use Rattle.std.proofs.lemmas.Bool.{and_parts, and_from, cases_eq, cases_lt, eq-eqb, eqb-true, ltb-true, lt-ltb, false_from_ne_true}
-use Rattle.hg_model.specs.Places.{count_below, has_place, IsEarlier}
+use Rattle.hg_model.specs.Places.{has_place, IsEarlier}
+use Rattle.hg_model.specs.Stakes.{Stakes, member_count, stake_of, stake_where, total}
 use Rattle.hg_model.specs.Links.{Link, parents, self_parent, creator}
 use Rattle.hg_model.specs.Ancestry.{is_ancestor, is_self_ancestor}
-use Rattle.hg_model.specs.Forks.{forkers}
+use Rattle.hg_model.specs.Forks.{forking}
 use Rattle.hg_model.specs.Seeing.{strongly_sees, is_supermajority}
-use Rattle.hg_model.specs.Rounds.{parent_round, is_witness_by, is_seen_witness, round_of, is_witness}
+use Rattle.hg_model.specs.Rounds.{parent_round, is_witness_by, is_seen_witness, round_of, is_witness, stake_at, weight_of}
 use Rattle.hg_model.specs.Graph.{IsShaped}
 use Rattle.hg_model.proofs.PlacesLaws.{weight_below_found, weight_below_grows}
 use Rattle.hg_model.proofs.QuorumLaws.{members_with, weight_below-members}
@@ -18,12 +19,12 @@ use Rattle.hg_model.proofs.RoundLaws.{greatest_round_found, round_of_cases, roun
 use Rattle.hg_model.proofs.SightLaws.{is_ancestor-from_self, strongly_sees_grows, strongly_sees-is_ancestor, fork_seen_once}
 
 -- w is a witness of round r that x strongly sees
-pub record SeenWitness (n : ℕ) (L : List Link) (r x w : ℕ) : Type 0 where
+pub record SeenWitness (n : Stakes) (L : List Link) (r x w : ℕ) : Type 0 where
   pub is_witness : is_witness n L w ≡ true
   pub in_round : round_of n L w ≡ r
   pub seen : strongly_sees n L x w ≡ true
 
-pub seen_witness_is : (n : ℕ) (L : List Link) (r x w : ℕ) → is_seen_witness (round_of n L) n L r x w ≡ true → SeenWitness n L r x w
+pub seen_witness_is : (n : Stakes) (L : List Link) (r x w : ℕ) → is_seen_witness (round_of n L) n L r x w ≡ true → SeenWitness n L r x w
 unfolding is_witness
 seen_witness_is n L r x w h =
     let witness = is_witness_by (round_of n L) L w in
@@ -32,14 +33,14 @@ seen_witness_is n L r x w h =
     let two = and_parts witness here one.0 in
     record { is_witness = two.0; in_round = eqb-true (round_of n L w) r two.1; seen = one.1 }
 
-pub is_seen_witness_from : (n : ℕ) (L : List Link) (r x w : ℕ) → SeenWitness n L r x w → is_seen_witness (round_of n L) n L r x w ≡ true
+pub is_seen_witness_from : (n : Stakes) (L : List Link) (r x w : ℕ) → SeenWitness n L r x w → is_seen_witness (round_of n L) n L r x w ≡ true
 unfolding is_witness
 is_seen_witness_from n L r x w s =
     let witness = is_witness_by (round_of n L) L w in
     let here = eqb (round_of n L w) r in
     and_from (witness && here) (strongly_sees n L x w) (and_from witness here s.is_witness (eq-eqb (round_of n L w) r s.in_round)) s.seen
 
-module _ (n : ℕ) (L : List Link) (e : IsEarlier (parents L)) where
+module _ (n : Stakes) (L : List Link) (e : IsEarlier (parents L)) where
   grows_to : (k x y : ℕ) → x < k → is_ancestor L x y ≡ true → round_of n L y ≤ round_of n L x
   grows_to zero x y h up = absurd (omega arith)
   grows_to (suc k) x y h up = elim (is_ancestor_cases L e x y up) [
@@ -72,7 +73,7 @@ module _ (n : ℕ) (L : List Link) (e : IsEarlier (parents L)) where
     not_below = false_from_ne_true (is_self_ancestor L b a) (λ s. absurd (omega (arith, same, witness_above b a (λ k. apart (sym k)) s wb)));
   }
 
-  quorum_to : (k x r : ℕ) → x < k → 0 < r → round_of n L x ≡ r + 1 → is_supermajority n (count_below x (is_seen_witness (round_of n L) n L r x)) ≡ true
+  quorum_to : (k x r : ℕ) → x < k → 0 < r → round_of n L x ≡ r + 1 → is_supermajority (total n) (weight_of n L x (is_seen_witness (round_of n L) n L r x)) ≡ true
   quorum_to zero x r h pos is = absurd (omega arith)
   quorum_to (suc k) x r h pos is = elim (round_of_cases n L e x) [
     | inl up ↦ (let same : parent_round (round_of n L) (parents L x) ≡ r = omega (arith, up.1) in rw same at up.0)
@@ -82,26 +83,26 @@ module _ (n : ℕ) (L : List Link) (e : IsEarlier (parents L)) where
           (let p : ℕ = found.0 in
           let before : p < x = e.earlier x p found.1 in
           let up = is_ancestor_by L e x p p found.1 (is_ancestor_self L e p) in
-          let below = count_below p (is_seen_witness (round_of n L) n L r p) in
-          let above = count_below x (is_seen_witness (round_of n L) n L r x) in
-          let many : 2 * n < 3 * below = ltb-true (2 * n) (3 * below) (quorum_to k p r (omega arith) pos (omega (arith, stay.1, found.2))) in
-          let more : below ≤ above = weight_below_grows (λ _. 1) p x (is_seen_witness (round_of n L) n L r p) (is_seen_witness (round_of n L) n L r x) (omega arith) (λ w hw t.
+          let below = weight_of n L p (is_seen_witness (round_of n L) n L r p) in
+          let above = weight_of n L x (is_seen_witness (round_of n L) n L r x) in
+          let many : 2 * total n < 3 * below = ltb-true (2 * total n) (3 * below) (quorum_to k p r (omega arith) pos (omega (arith, stay.1, found.2))) in
+          let more : below ≤ above = weight_below_grows (stake_at n L) p x (is_seen_witness (round_of n L) n L r p) (is_seen_witness (round_of n L) n L r x) (omega arith) (λ w hw t.
           let s = seen_witness_is n L r p w t in
           is_seen_witness_from n L r x w (record { is_witness = s.is_witness; in_round = s.in_round; seen = strongly_sees_grows L e n x p w up s.seen })) in
-          lt-ltb (2 * n) (3 * above) (omega arith))
+          lt-ltb (2 * total n) (3 * above) (omega arith))
     ]
   ]
 
-  -- a row of round r + 1 strongly sees witnesses of round r that number more than two thirds of the members
-  pub round_quorum : (x r : ℕ) → 0 < r → round_of n L x ≡ r + 1 → is_supermajority n (count_below x (is_seen_witness (round_of n L) n L r x)) ≡ true
+  -- a row of round r + 1 strongly sees witnesses of round r that weigh more than two thirds of the stake
+  pub round_quorum : (x r : ℕ) → 0 < r → round_of n L x ≡ r + 1 → is_supermajority (total n) (weight_of n L x (is_seen_witness (round_of n L) n L r x)) ≡ true
   round_quorum x r pos is = quorum_to (suc x) x r (omega arith) pos is
 
   -- one of them
   pub seen_witness_below : (x r : ℕ) → 0 < r → round_of n L x ≡ r + 1 → (w : ℕ) × (w < x) × SeenWitness n L r x w
   seen_witness_below x r pos is =
-      let count = count_below x (is_seen_witness (round_of n L) n L r x) in
-      let many : 2 * n < 3 * count = ltb-true (2 * n) (3 * count) (round_quorum x r pos is) in
-      let w = weight_below_found (λ _. 1) x (is_seen_witness (round_of n L) n L r x) (omega arith) in
+      let weight = weight_of n L x (is_seen_witness (round_of n L) n L r x) in
+      let many : 2 * total n < 3 * weight = ltb-true (2 * total n) (3 * weight) (round_quorum x r pos is) in
+      let w = weight_below_found (stake_at n L) x (is_seen_witness (round_of n L) n L r x) (omega arith) in
       (w.0, w.1, seen_witness_is n L r x w.0 w.2)
 
   -- a row is a witness, or its self-parent is in its round
@@ -141,7 +142,7 @@ module _ (n : ℕ) (L : List Link) (e : IsEarlier (parents L)) where
   pub witness_below : (x r : ℕ) → 0 < r → r ≤ round_of n L x → (z : ℕ) × (is_ancestor L x z ≡ true) × (is_witness n L z ≡ true) × (round_of n L z ≡ r)
   witness_below x r pos le = below_to (suc x) x r (omega arith) pos le
 
-module _ (n : ℕ) (L : List Link) (s : IsShaped n L) (few : 3 * forkers n L < n) where
+module _ (n : Stakes) (L : List Link) (s : IsShaped n L) (few : 3 * forking n L < total n) where
   -- of one member's witnesses of one round at most one is strongly seen, by whatever rows
   pub one_witness_seen : (r x y a b : ℕ) → x < length L → y < length L → SeenWitness n L r x a → SeenWitness n L r y b → creator L a ≡ creator L b → a ≡ b
   one_witness_seen r x y a b hx hy seen_a seen_b same = elim (cases_eq a b) [
@@ -151,9 +152,9 @@ module _ (n : ℕ) (L : List Link) (s : IsShaped n L) (few : 3 * forkers n L < n
         absurd (fork_seen_once n L s few (creator L b) a b x y hx hy (is_fork_from L (creator L b) a b fork) seen_a.seen seen_b.seen))
   ]
 
-  -- so witnesses of round r that x strongly sees are no more than their members
+  -- so witnesses of round r that x strongly sees weigh no more than their members
   pub seen_witnesses-le : (r x bound : ℕ) (test : ℕ → Bool) → x < length L → bound ≤ length L → ((w : ℕ) → w < bound → test w ≡ true → SeenWitness n L r x w) →
-      count_below bound test ≤ count_below n (members_with (creator L) bound test)
+      weight_of n L bound test ≤ stake_where n (members_with (creator L) bound test)
   seen_witnesses-le r x bound test hx hbound seen =
-      weight_below-members (λ _. 1) (creator L) n bound test (λ w h t. s.members w (omega arith))
+      weight_below-members (stake_of n) (creator L) (member_count n) bound test (λ w h t. s.members w (omega arith))
       (λ a b ha hb ta tb same. one_witness_seen r x x a b hx hx (seen a ha ta) (seen b hb tb) same)

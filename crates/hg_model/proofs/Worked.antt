@@ -12,9 +12,10 @@ use Rattle.hg_model.specs.declared.outcome.Printed.TheVariants as printed
 use Rattle.hg_model.specs.declared.pay.Transfer.{Transfer}
 use Rattle.hg_model.specs.declared.pay.Effect.TheVariants as effect
 use Rattle.hg_model.specs.Places.{weight_below, some_below, list_below, least_below, greatest_below, values_below, by_place, reaches, table}
+use Rattle.hg_model.specs.Stakes.{Stakes, total}
 use Rattle.hg_model.specs.Links.{links, parents, self_parent, other_parents, creator}
 use Rattle.hg_model.specs.Ancestry.{is_ancestor, is_self_ancestor}
-use Rattle.hg_model.specs.Forks.{is_fork, has_fork_below, has_fork, forkers}
+use Rattle.hg_model.specs.Forks.{is_fork, has_fork_below, has_fork, forkers, forking}
 use Rattle.hg_model.specs.Seeing.{sees, sees_through, strongly_sees, sees_by, strongly_sees_in_report}
 use Rattle.hg_model.proofs.TestLaws.{graph_from_test, is_graph}
 use Rattle.hg_model.specs.Graph.{IsGraph, name_at}
@@ -25,6 +26,10 @@ use Rattle.hg_model.specs.Order.{coin_at, sig_at, time_at, sort_by, median, can_
 use Rattle.hg_model.specs.Verdict.{row_verdict}
 use Rattle.hg_model.specs.Pay.{pay_bytes, read_pay, paid, book_of}
 use Rattle.hg_model.specs.Report.{printed_texts}
+
+-- the stakes of so many members
+abbrev pub members : ℕ → Stakes
+members k = k
 
 -- an event with no parents, and one with parents of these names; a name is one byte here, and so is a signature
 abbrev pub first : ℕ → ℕ → Row
@@ -43,20 +48,20 @@ two_parents : table (parents (links two_members)) 8 ≡ [] ∷ [] ∷ (1 ∷ 0 �
 unfolding parents links
 two_parents = refl
 
-two_graph : is_graph 2 two_members ≡ true
-unfolding is_graph forkers has_fork is_fork is_self_ancestor name_at weight_below some_below reaches by_place values_below parents self_parent other_parents creator links
+two_graph : is_graph (members 2) two_members ≡ true
+unfolding is_graph forking total has_fork is_fork is_self_ancestor name_at weight_below some_below reaches by_place values_below parents self_parent other_parents creator links
 two_graph = refl
 
-two_is_graph : IsGraph 2 two_members
-two_is_graph = graph_from_test 2 two_members two_graph
+two_is_graph : IsGraph (members 2) two_members
+two_is_graph = graph_from_test (members 2) two_members two_graph
 
 -- the second member's second event and the first member's third are the witnesses of round 2
-two_rounds : table (round_of 2 (links two_members)) 8 ≡ 1 ∷ 1 ∷ 1 ∷ 2 ∷ 2 ∷ 3 ∷ 3 ∷ 4 ∷ []
-unfolding round_of strongly_sees sees_through sees has_fork_below is_fork is_ancestor is_self_ancestor weight_below some_below reaches by_place values_below parents self_parent creator links
+two_rounds : table (round_of (members 2) (links two_members)) 8 ≡ 1 ∷ 1 ∷ 1 ∷ 2 ∷ 2 ∷ 3 ∷ 3 ∷ 4 ∷ []
+unfolding round_of strongly_sees sees_through sees has_fork_below is_fork is_ancestor is_self_ancestor total weight_below some_below reaches by_place values_below parents self_parent creator links
 two_rounds = refl
 
-two_fame : fame_marks 2 10 (links two_members) (coin_at two_members) ≡ Some true ∷ Some true ∷ None ∷ Some true ∷ Some true ∷ None ∷ None ∷ None ∷ []
-unfolding fame_marks fame_of least_below decides vote_of is_witness coin_at sig_at round_of strongly_sees sees_through sees has_fork_below is_fork is_ancestor is_self_ancestor weight_below some_below reaches by_place values_below parents self_parent creator links
+two_fame : fame_marks (members 2) 10 (links two_members) (coin_at two_members) ≡ Some true ∷ Some true ∷ None ∷ Some true ∷ Some true ∷ None ∷ None ∷ None ∷ []
+unfolding fame_marks fame_of least_below decides vote_of is_witness coin_at sig_at round_of strongly_sees sees_through sees has_fork_below is_fork is_ancestor is_self_ancestor total weight_below some_below reaches by_place values_below parents self_parent creator links
 two_fame = refl
 
 -- those marks, written out
@@ -67,8 +72,8 @@ abbrev pub placed : ℕ → ℕ → ℕ → Placed
 placed place received time = record { place = place; received = received; time = time }
 
 -- all of round 2, by their times: the medians of 1 and 4, 2 and 3, 3 and 4, 4 and 5
-two_order : ordered 2 two_members (links two_members) two_marks ≡ placed 1 2 1 ∷ placed 0 2 2 ∷ placed 2 2 3 ∷ placed 3 2 4 ∷ []
-unfolding ordered_in whitening consensus_time median sort_by round_received can_receive is_closed is_unique_famous least_below is_witness round_of strongly_sees sees_through sees has_fork_below is_fork is_ancestor is_self_ancestor weight_below some_below list_below reaches by_place values_below parents self_parent creator links time_at sig_at name_at
+two_order : ordered (members 2) two_members (links two_members) two_marks ≡ placed 1 2 1 ∷ placed 0 2 2 ∷ placed 2 2 3 ∷ placed 3 2 4 ∷ []
+unfolding ordered_in whitening consensus_time median sort_by round_received can_receive is_closed is_unique_famous least_below is_witness round_of strongly_sees sees_through sees has_fork_below is_fork is_ancestor is_self_ancestor total weight_below some_below list_below reaches by_place values_below parents self_parent creator links time_at sig_at name_at
 two_order = refl
 
 -- the same with equal times of the two first events, whose signatures are 6 and 7: whitened by 4 and 5, those of the
@@ -80,12 +85,12 @@ equal_times =
     ∷ record { creator = 0; parents = None; time = 1; payload = []; sig = 7 ∷ []; name = 2 ∷ [] }
     ∷ made 0 2 1 3 ∷ made 1 1 3 4 ∷ made 0 3 4 5 ∷ made 1 4 5 6 ∷ made 0 5 6 7 ∷ made 1 6 7 8 ∷ []
 
-whitened_order : ordered 2 equal_times (links equal_times) two_marks ≡ placed 1 2 1 ∷ placed 0 2 1 ∷ placed 2 2 3 ∷ placed 3 2 4 ∷ []
-unfolding ordered_in whitening consensus_time median sort_by round_received can_receive is_closed is_unique_famous least_below is_witness round_of strongly_sees sees_through sees has_fork_below is_fork is_ancestor is_self_ancestor weight_below some_below list_below reaches by_place values_below parents self_parent creator links time_at sig_at name_at
+whitened_order : ordered (members 2) equal_times (links equal_times) two_marks ≡ placed 1 2 1 ∷ placed 0 2 1 ∷ placed 2 2 3 ∷ placed 3 2 4 ∷ []
+unfolding ordered_in whitening consensus_time median sort_by round_received can_receive is_closed is_unique_famous least_below is_witness round_of strongly_sees sees_through sees has_fork_below is_fork is_ancestor is_self_ancestor total weight_below some_below list_below reaches by_place values_below parents self_parent creator links time_at sig_at name_at
 whitened_order = refl
 
-two_closed : last_closed 2 (links two_members) two_marks ≡ 2
-unfolding last_closed greatest_below is_closed is_witness round_of strongly_sees sees_through sees has_fork_below is_fork is_ancestor is_self_ancestor weight_below some_below reaches by_place values_below parents self_parent creator links
+two_closed : last_closed (members 2) (links two_members) two_marks ≡ 2
+unfolding last_closed greatest_below is_closed is_witness round_of strongly_sees sees_through sees has_fork_below is_fork is_ancestor is_self_ancestor total weight_below some_below reaches by_place values_below parents self_parent creator links
 two_closed = refl
 
 -- three members who sync in a ring; the third's second event claims an earlier time than its first
@@ -95,13 +100,13 @@ three_members =
     ∷ made 0 60 80 90 ∷ made 1 70 90 100 ∷ made 2 80 100 110 ∷ made 0 90 110 120 ∷ made 1 100 120 130 ∷ made 2 110 130 140
     ∷ made 0 120 140 150 ∷ []
 
-three_rounds : table (round_of 3 (links three_members)) 15 ≡ 1 ∷ 1 ∷ 1 ∷ 1 ∷ 1 ∷ 1 ∷ 2 ∷ 2 ∷ 2 ∷ 2 ∷ 3 ∷ 3 ∷ 3 ∷ 3 ∷ 4 ∷ []
-unfolding round_of strongly_sees sees_through sees has_fork_below is_fork is_ancestor is_self_ancestor weight_below some_below reaches by_place values_below parents self_parent creator links
+three_rounds : table (round_of (members 3) (links three_members)) 15 ≡ 1 ∷ 1 ∷ 1 ∷ 1 ∷ 1 ∷ 1 ∷ 2 ∷ 2 ∷ 2 ∷ 2 ∷ 3 ∷ 3 ∷ 3 ∷ 3 ∷ 4 ∷ []
+unfolding round_of strongly_sees sees_through sees has_fork_below is_fork is_ancestor is_self_ancestor total weight_below some_below reaches by_place values_below parents self_parent creator links
 three_rounds = refl
 
 -- a fourth member's first event, which comes when the others have voted, is not famous
-late_fame : fame_of 4 10 (links (take 11 three_members ++ first 3 160 ∷ [])) (coin_at (take 11 three_members ++ first 3 160 ∷ [])) 11 ≡ Some false
-unfolding fame_of least_below decides vote_of is_witness coin_at sig_at round_of strongly_sees sees_through sees has_fork_below is_fork is_ancestor is_self_ancestor weight_below some_below reaches by_place values_below parents self_parent creator links
+late_fame : fame_of (members 4) 10 (links (take 11 three_members ++ first 3 160 ∷ [])) (coin_at (take 11 three_members ++ first 3 160 ∷ [])) 11 ≡ Some false
+unfolding fame_of least_below decides vote_of is_witness coin_at sig_at round_of strongly_sees sees_through sees has_fork_below is_fork is_ancestor is_self_ancestor total weight_below some_below reaches by_place values_below parents self_parent creator links
 late_fame = refl
 
 -- four members; the last event, of round 3, strongly sees four witnesses of round 2, of which two see the event at
@@ -113,10 +118,10 @@ tied_members =
     ∷ made 0 6 9 12 ∷ made 2 11 12 13 ∷ made 2 13 10 14 ∷ made 1 9 14 15 ∷ []
 
 -- and a tie is a vote for fame
-tied_vote : (yes_votes 4 (links tied_members) (vote_of 4 10 (links tied_members) (coin_at tied_members) 2) 14 ≡ 2)
-    × (no_votes 4 (links tied_members) (vote_of 4 10 (links tied_members) (coin_at tied_members) 2) 14 ≡ 2)
-    × (vote_of 4 10 (links tied_members) (coin_at tied_members) 2 14 ≡ true)
-unfolding vote_of is_witness coin_at sig_at round_of strongly_sees sees_through sees has_fork_below is_fork is_ancestor is_self_ancestor weight_below some_below reaches by_place values_below parents self_parent creator links
+tied_vote : (yes_votes (members 4) (links tied_members) (vote_of (members 4) 10 (links tied_members) (coin_at tied_members) 2) 14 ≡ 2)
+    × (no_votes (members 4) (links tied_members) (vote_of (members 4) 10 (links tied_members) (coin_at tied_members) 2) 14 ≡ 2)
+    × (vote_of (members 4) 10 (links tied_members) (coin_at tied_members) 2 14 ≡ true)
+unfolding vote_of is_witness coin_at sig_at round_of strongly_sees sees_through sees has_fork_below is_fork is_ancestor is_self_ancestor total weight_below some_below reaches by_place values_below parents self_parent creator links
 tied_vote = (refl, refl, refl)
 
 -- of four members, with coin period 3: in a coin round two votes against one leave it to the coin, and three against none
@@ -136,24 +141,24 @@ forked_members =
     ∷ made 2 9 8 10 ∷ []
 
 -- one member has a fork; the last event has all events as ancestors, and sees none by that member
-fork_seen : (forkers 4 (links forked_members) ≡ 1)
+fork_seen : (forkers (members 4) (links forked_members) ≡ 1)
     × (list_below (λ y. y) 10 (sees (links forked_members) 9) ≡ 0 ∷ 1 ∷ 4 ∷ 5 ∷ 6 ∷ 8 ∷ 9 ∷ [])
 unfolding list_below forkers has_fork sees has_fork_below is_fork is_ancestor is_self_ancestor weight_below some_below reaches by_place values_below parents self_parent creator links
 fork_seen = (refl, refl)
 
 -- yet it strongly sees that member's first event, at place 2, and of the other witnesses of round 1 just that at place 1
-fork_strongly_seen : list_below (λ y. y) 10 (is_seen_witness (round_of 4 (links forked_members)) 4 (links forked_members) 1 9) ≡ 1 ∷ 2 ∷ []
-unfolding list_below round_of strongly_sees sees_through sees has_fork_below is_fork is_ancestor is_self_ancestor weight_below some_below reaches by_place values_below parents self_parent creator links
+fork_strongly_seen : list_below (λ y. y) 10 (is_seen_witness (round_of (members 4) (links forked_members)) (members 4) (links forked_members) 1 9) ≡ 1 ∷ 2 ∷ []
+unfolding list_below round_of strongly_sees sees_through sees has_fork_below is_fork is_ancestor is_self_ancestor total weight_below some_below reaches by_place values_below parents self_parent creator links
 fork_strongly_seen = refl
 
 -- by the report's own wording it strongly sees just that at place 1
-fork_seen_in_report : list_below (λ y. y) 10 (strongly_sees_in_report 4 (links forked_members) 9) ≡ 1 ∷ []
-unfolding list_below strongly_sees_in_report sees_by sees has_fork_below is_fork is_ancestor is_self_ancestor weight_below some_below reaches by_place values_below parents self_parent creator links
+fork_seen_in_report : list_below (λ y. y) 10 (strongly_sees_in_report (members 4) (links forked_members) 9) ≡ 1 ∷ []
+unfolding list_below strongly_sees_in_report sees_by sees has_fork_below is_fork is_ancestor is_self_ancestor total weight_below some_below reaches by_place values_below parents self_parent creator links
 fork_seen_in_report = refl
 
 -- a second event on the third member's first would be a second fork, and two of four are not below a third
-second_forker : row_verdict (λ m body sig. true) 4 0 forked_members (made 2 3 1 12) ≡ Refused (fault.TooManyForkers 2)
-unfolding forkers has_fork is_fork is_self_ancestor weight_below some_below reaches by_place values_below self_parent parents creator links
+second_forker : row_verdict (λ m body sig. true) (members 4) 0 forked_members (made 2 3 1 12) ≡ Refused (fault.TooManyForkers 2)
+unfolding forking total has_fork is_fork is_self_ancestor weight_below some_below reaches by_place values_below self_parent parents creator links
 second_forker = refl
 
 -- a first event, a sync with a peer without events, a node's block

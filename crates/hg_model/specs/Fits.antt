@@ -2,6 +2,7 @@
 use Rattle.std.specs.Prelude.{ℕ, ◌≡◌, ◌≢◌, ◌<◌, List, [], ◌∷◌, length}
 use Rattle.std.specs.List.{AllByRecursion}
 use Rattle.hg_model.specs.declared.row.Row.{Row}
+use Rattle.hg_model.specs.Stakes.{Stakes, member_count}
 use Rattle.hg_model.specs.Links.{parent_names, place_of}
 use Rattle.hg_model.specs.Graph.{creator_at}
 
@@ -21,7 +22,7 @@ ParentsFit G m (own ∷ others) =
 
 -- what a row must meet to come after the rows of a shaped graph: its creator is a member, its parents are held, the
 -- first of them by its own creator, the later ones by others
-pub record Fits (n : ℕ) (G : List Row) (row : Row) : Type 0 where
-  pub member : row.creator < n
+pub record Fits (n : Stakes) (G : List Row) (row : Row) : Type 0 where
+  pub member : row.creator < member_count n
   pub present : IsPresent G row
   pub parents_fit : ParentsFit G row.creator (parent_names row.parents)

@@ -1,6 +1,7 @@
 -- Forks. SWIRLDS-TR-2016-01, section 5, the definition of a fork
 use Rattle.std.specs.Prelude.{ℕ, Bool, not, ◌&&◌, ◌==◌, List, length}
 use Rattle.hg_model.specs.Places.{count_below, some_below}
+use Rattle.hg_model.specs.Stakes.{Stakes, member_count, stake_where}
 use Rattle.hg_model.specs.Links.{Link, creator}
 use Rattle.hg_model.specs.Ancestry.{is_self_ancestor, some_ancestor}
 
@@ -16,6 +17,10 @@ has_fork_below L x m = some_ancestor L x (λ a. some_ancestor L x (λ b. is_fork
 unfoldable pub has_fork : List Link → ℕ → Bool
 has_fork L m = some_below (length L) (λ a. some_below (length L) (λ b. is_fork L m a b))
 
--- how many of the n members have a fork
-unfoldable pub forkers : ℕ → List Link → ℕ
-forkers n L = count_below n (has_fork L)
+-- how many members have a fork
+unfoldable pub forkers : Stakes → List Link → ℕ
+forkers n L = count_below (member_count n) (has_fork L)
+
+-- the stake of the members that have a fork
+unfoldable pub forking : Stakes → List Link → ℕ
+forking n L = stake_where n (has_fork L)

@@ -9,6 +9,7 @@ use Rattle.hg_model.specs.declared.answers.SyncMade.{SyncMade}
 use Rattle.hg_model.specs.declared.answers.SyncMade.TheVariants as sync_made
 use Rattle.hg_model.specs.declared.answers.SyncReport.{SyncReport}
 use Rattle.hg_model.specs.declared.gossip.Parcel.{Parcel}
+use Rattle.hg_model.specs.Stakes.{Stakes}
 use Rattle.hg_model.specs.Members.{MemberList}
 use Rattle.hg_model.specs.Signing.{signature_of, accepts_signature}
 use Rattle.hg_model.specs.Spelling.{body_bytes, spelling}
@@ -23,9 +24,9 @@ pub record Keys : Type 0 where
 abbrev pub keys_of : MemberList → Keys
 keys_of members = record { sign = signature_of members; accepts = accepts_signature members }
 
--- a node: how many members there are, which of them is its own, and its rows
+-- a node: the members' stakes, which member is its own, and its rows
 pub record NodeState : Type 0 where
-  pub members : ℕ
+  pub members : Stakes
   pub own : ℕ
   pub rows : List Row
 
@@ -33,7 +34,7 @@ pub record NodeState : Type 0 where
 abbrev pub with_rows : NodeState → List Row → NodeState
 with_rows s rows = record { members = s.members; own = s.own; rows = rows }
 
-abbrev pub new_node : ℕ → ℕ → NodeState
+abbrev pub new_node : Stakes → ℕ → NodeState
 new_node members own = record { members = members; own = own; rows = [] }
 
 -- the signature of the event that the node makes

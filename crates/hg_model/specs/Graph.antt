@@ -3,12 +3,13 @@ use Rattle.std.specs.Prelude.{ℕ, ◌*◌, ◌<◌, ◌≡◌, ◌≢◌, Bool,
 use Rattle.std.specs.List.{list_all}
 use Rattle.hg_model.specs.declared.row.Row.{Row}
 use Rattle.hg_model.specs.Places.{has_place, IsEarlier}
+use Rattle.hg_model.specs.Stakes.{Stakes, member_count, total}
 use Rattle.hg_model.specs.Links.{Link, links, parents, self_parent, other_parents, creator}
-use Rattle.hg_model.specs.Forks.{forkers}
+use Rattle.hg_model.specs.Forks.{forking}
 
--- events by n members, each after its parents, with a self-parent by its own creator and other-parents by others
-pub record IsShaped (n : ℕ) (L : List Link) : Type 0 where
-  pub members : (x : ℕ) → x < length L → creator L x < n
+-- events by members, each after its parents, with a self-parent by its own creator and other-parents by others
+pub record IsShaped (n : Stakes) (L : List Link) : Type 0 where
+  pub members : (x : ℕ) → x < length L → creator L x < member_count n
   pub earlier : IsEarlier (parents L)
   pub self_by_same : (x p : ℕ) → has_place (self_parent L x) p ≡ true → creator L p ≡ creator L x
   pub others_by_others : (x p : ℕ) → has_place (other_parents L x) p ≡ true → creator L p ≢ creator L x
@@ -33,15 +34,15 @@ creator_at G x = creator_of_row (slice_get G x)
 pub record HasDistinctNames (G : List Row) : Type 0 where
   pub one : (x y : ℕ) → x < length G → y < length G → name_at G x ≡ name_at G y → x ≡ y
 
--- a graph of n members, of whom fewer than a third have a fork
-pub record IsGraph (n : ℕ) (G : List Row) : Type 0 where
+-- a graph whose members with a fork have less than a third of the stake
+pub record IsGraph (n : Stakes) (G : List Row) : Type 0 where
   pub distinct : HasDistinctNames G
   pub shaped : IsShaped n (links G)
-  pub few_forkers : 3 * forkers n (links G) < n
+  pub few_forkers : 3 * forking n (links G) < total n
 
 -- x is so placed, as a test
-abbrev pub is_shaped_at : ℕ → List Link → ℕ → Bool
+abbrev pub is_shaped_at : Stakes → List Link → ℕ → Bool
 is_shaped_at n L x =
-    nat_lt (creator L x) n && list_all (λ p. nat_lt p x) (parents L x)
+    nat_lt (creator L x) (member_count n) && list_all (λ p. nat_lt p x) (parents L x)
     && list_all (λ p. creator L p == creator L x) (self_parent L x)
     && list_all (λ p. not (creator L p == creator L x)) (other_parents L x)

@@ -6,7 +6,8 @@ use Rattle.hg_model.specs.declared.outcome.Block.{Block}
 use Rattle.hg_model.specs.declared.row.Row.{Row}
 use Rattle.hg_model.specs.declared.row.Placed.{Placed}
 use Rattle.hg_model.specs.declared.pay.Effect.{Effect}
-use Rattle.hg_model.specs.Members.{MemberList, balances_of}
+use Rattle.hg_model.specs.Stakes.{Stakes}
+use Rattle.hg_model.specs.Members.{MemberList, balances_of, stakes_of}
 use Rattle.hg_model.specs.Links.{Link, links, creator}
 use Rattle.hg_model.specs.Forks.{forkers}
 use Rattle.hg_model.specs.Graph.{name_at}
@@ -16,7 +17,7 @@ use Rattle.hg_model.specs.Order.{coin_at, last_closed, order_of, sequence_of}
 use Rattle.hg_model.specs.Pay.{book_of}
 
 -- the greatest round that the graph's own fame closes, or 0
-unfoldable pub closed_of : ℕ → ℕ → List Row → ℕ
+unfoldable pub closed_of : Stakes → ℕ → List Row → ℕ
 closed_of n c G = let L = links G in last_closed n L (fame_marks n c L (coin_at G))
 
 -- a row of the order as it is printed
@@ -37,7 +38,7 @@ order_lines G L order effects = map (λ (x : Placed × Effect). order_line G L x
 -- the block of the node of member x with the rows G
 unfoldable pub block_of : MemberList → ℕ → List Row → Block
 block_of members x G =
-    let n = length members.entries in
+    let n = stakes_of members in
     let order = order_of n members.coin G in
     let book = book_of (balances_of members) G order in
     record {

@@ -1,5 +1,6 @@
 pub mod Members
 pub mod Places
+pub mod Stakes
 pub mod Links
 pub mod Ancestry
 pub mod Forks

@@ -3,6 +3,7 @@ use Rattle.std.specs.Prelude.{ℕ, ◌≡◌, ◌<◌, ◌≤◌, ◌^◌, Bool,
 use Rattle.std.specs.List.{list_all, list_any}
 use Rattle.std.specs.Option.{option_map_or}
 use Rattle.std.specs.Str.{bytes_eq}
+use Rattle.hg_model.specs.Stakes.{Stakes}
 use Rattle.hg_model.specs.declared.members.MemberEntry.{MemberEntry}
 
 -- members in their order, and the coin period
@@ -16,6 +17,10 @@ listed entries coin = record { entries = entries; coin = coin }
 -- the members' balances, and their names, in their order
 abbrev pub balances_of : MemberList → List ℕ
 balances_of members = map (λ (e : MemberEntry). e.balance) members.entries
+
+-- their stakes: each weighs 1, so how many they are
+abbrev pub stakes_of : MemberList → Stakes
+stakes_of members = length members.entries
 
 abbrev pub names_of : MemberList → List (List ℕ)
 names_of members = map (λ (e : MemberEntry). e.name) members.entries

@@ -4,20 +4,21 @@ use Rattle.hg_model.specs.declared.row.Row.{Row}
 use Rattle.hg_model.specs.declared.row.Placed.{Placed}
 use Rattle.hg_model.specs.declared.entry.Entry.{Entry}
 use Rattle.hg_model.specs.declared.entry.Entry.TheVariants as entry
+use Rattle.hg_model.specs.Stakes.{Stakes, member_count}
 use Rattle.hg_model.specs.Links.{Link, no_row}
 use Rattle.hg_model.specs.Fame.{Marks}
 use Rattle.hg_model.specs.Order.{last_closed}
-use Rattle.hg_model.specs.Members.{MemberList, balances_of}
+use Rattle.hg_model.specs.Members.{MemberList, balances_of, stakes_of}
 use Rattle.hg_model.specs.Kept.{kept}
 use Rattle.hg_model.specs.Pay.{Book, book_of}
 use Rattle.hg_model.specs.History.{Change, State, Accepts, replay, IsHistory}
 use Rattle.hg_model.specs.History.Change.{Took, Made, Marked}
 
--- what a node begins with and never changes: its own member, how many members there are, the coin period, the
--- starting balances, and what it signs with and checks signatures by
+-- what a node begins with and never changes: its own member, the members' stakes, the coin period, the starting
+-- balances, and what it signs with and checks signatures by
 pub record Start (K : Type 0) : Type 0 where
   pub own : ℕ
-  pub members : ℕ
+  pub members : Stakes
   pub coin : ℕ
   pub balances : List ℕ
   pub keys : K
@@ -26,7 +27,7 @@ pub record Start (K : Type 0) : Type 0 where
 abbrev pub start_of : {K : Type 0} → MemberList → ℕ → K → Start K
 start_of members own keys = record {
   own = own;
-  members = length members.entries;
+  members = stakes_of members;
   coin = members.coin;
   balances = balances_of members;
   keys = keys;
@@ -89,7 +90,7 @@ history_of G entries = map (change_of G) entries
 
 -- what every node is, where these signatures are accepted
 pub record IsNode {K : Type 0} (accepts : K → Accepts) (v : NodeView K) : Type 0 where
-  pub few_members : v.start.members ≤ 128
+  pub few_members : member_count v.start.members ≤ 128
   pub coin : 2 < v.start.coin
-  pub balances : length v.start.balances ≡ v.start.members
+  pub balances : length v.start.balances ≡ member_count v.start.members
   pub history : IsHistory (accepts v.start.keys) v.start.members v.start.coin v.start.own v.history

@@ -2,6 +2,7 @@
 use Rattle.std.specs.Prelude.{ℕ, ◌≡◌, ◌<◌, ◌≤◌, List, length, IsTrue}
 use Rattle.hg_model.specs.declared.row.Row.{Row}
 use Rattle.hg_model.specs.declared.ballot.Ballot.{Ballot}
+use Rattle.hg_model.specs.Stakes.{Stakes}
 use Rattle.hg_model.specs.Links.{Link, links}
 use Rattle.hg_model.specs.Shape.{Shape, shape_of}
 use Rattle.hg_model.specs.Rounds.{round_of, is_witness}
@@ -9,13 +10,13 @@ use Rattle.hg_model.specs.Standings.{Standing, standings_of}
 use Rattle.hg_model.specs.Votes.{vote_of, decides}
 use Rattle.hg_model.specs.Order.{coin_at}
 
--- rows, by how many members, and with which coin period
+-- rows, the stakes of the members that they are by, and the coin period
 pub record Graph : Type 0 where
-  pub members : ℕ
+  pub members : Stakes
   pub coin : ℕ
   pub rows : List Row
 
-abbrev pub graph_of : ℕ → ℕ → List Row → Graph
+abbrev pub graph_of : Stakes → ℕ → List Row → Graph
 graph_of members coin rows = record { members = members; coin = coin; rows = rows }
 
 abbrev pub links_of : Graph → List Link

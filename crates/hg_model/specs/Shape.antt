@@ -1,14 +1,15 @@
 -- The shape of a graph, and of it with a row more or with fewer rows
 use Rattle.std.specs.Prelude.{ℕ, ◌<◌, ◌≡◌, ◌≢◌, true, List, [], ◌∷◌, ◌++◌, length, take, Option, Some, None}
 use Rattle.hg_model.specs.Places.{has_place}
+use Rattle.hg_model.specs.Stakes.{Stakes, member_count}
 use Rattle.hg_model.specs.Links.{Link, first_place, later_places, creator}
 
--- how many members there are, and the links of the rows
+-- the members' stakes, and the links of the rows
 pub record Shape : Type 0 where
-  pub members : ℕ
+  pub members : Stakes
   pub links : List Link
 
-abbrev pub shape_of : ℕ → List Link → Shape
+abbrev pub shape_of : Stakes → List Link → Shape
 shape_of members links = record { members = members; links = links }
 
 -- a place, if there is one, as a list
@@ -35,8 +36,8 @@ first_links shape len = shape_of shape.members (take len shape.links)
 
 -- what a link must meet to come after these: its creator is a member, its parents are there, the self-parent is by its
 -- creator, and other-parents are by others
-pub record FitsLink (n : ℕ) (L : List Link) (link : Link) : Type 0 where
-  pub member : link.creator < n
+pub record FitsLink (n : Stakes) (L : List Link) (link : Link) : Type 0 where
+  pub member : link.creator < member_count n
   pub earlier : (p : ℕ) → has_place link.parents p ≡ true → p < length L
   pub self_by_same : (p : ℕ) → has_place (first_place link.parents) p ≡ true → creator L p ≡ link.creator
   pub others_by_others : (p : ℕ) → has_place (later_places link.parents) p ≡ true → creator L p ≢ link.creator

@@ -2,6 +2,7 @@
 -- SWIRLDS-TR-2016-01, section 4, procedure divideRounds
 use Rattle.std.specs.Prelude.{ℕ, Bool, false, ◌&&◌, ◌==◌, List, length, Option, Some, None, slice_get}
 use Rattle.hg_model.specs.Places.{list_below, maximum_below, table}
+use Rattle.hg_model.specs.Stakes.{Stakes}
 use Rattle.hg_model.specs.Links.{Link}
 use Rattle.hg_model.specs.Rounds.{round_of, is_witness}
 
@@ -11,11 +12,11 @@ pub record Standing : Type 0 where
   pub witness : Bool
 
 -- the standing of x
-abbrev pub standing_of : ℕ → List Link → ℕ → Standing
+abbrev pub standing_of : Stakes → List Link → ℕ → Standing
 standing_of n L x = record { round = round_of n L x; witness = is_witness n L x }
 
 -- the standings of all events of a graph of n members
-unfoldable pub standings_of : ℕ → List Link → List Standing
+unfoldable pub standings_of : Stakes → List Link → List Standing
 standings_of n L = table (standing_of n L) (length L)
 
 abbrev pub standing_round : Option Standing → ℕ

@@ -1,6 +1,6 @@
 -- What comes of an event that is put to a node, and of one that a node makes: in each list the first rule that holds.
--- Departures from SWIRLDS-TR-2016-01: an event that would make the forking members a third of all or more is refused, and
--- so is one by the node's own member that the node did not make.
+-- Departures from SWIRLDS-TR-2016-01: an event that would give the forking members a third of the stake or more is refused,
+-- and so is one by the node's own member that the node did not make.
 use Rattle.std.specs.Prelude.{ℕ, ◌*◌, Bool, cond, not, ◌==◌, nat_lt, nat_le, List, [], ◌∷◌, ◌++◌, length, fold, Option, Some, None, option_map, unwrap_or, slice_get, Result, Ok, Err, if◌then◌else◌}
 use Rattle.std.specs.Option.{option_or}
 use Rattle.std.specs.Str.{bytes_eq}
@@ -14,9 +14,10 @@ use Rattle.hg_model.specs.declared.answers.PutAnswer.{PutAnswer}
 use Rattle.hg_model.specs.declared.answers.PutAnswer.TheVariants.{Accepted, Known, Refused}
 use Rattle.hg_model.specs.declared.answers.MakeAnswer.{MakeAnswer}
 use Rattle.hg_model.specs.declared.answers.MakeAnswer.TheVariants as make_answer
+use Rattle.hg_model.specs.Stakes.{Stakes, member_count, total}
 use Rattle.hg_model.specs.Links.{links, place_of}
 use Rattle.hg_model.specs.Graph.{creator_at}
-use Rattle.hg_model.specs.Forks.{forkers}
+use Rattle.hg_model.specs.Forks.{forking}
 use Rattle.hg_model.specs.Spelling.{body_of, body_bytes, spelling, payload_limit}
 use Rattle.hg_model.specs.Reading.{read_event}
 
@@ -34,8 +35,8 @@ is_held G name = nat_lt (place_of G name) (length G)
 
 -- the rules of putting: each gives its answer where it holds
 
-abbrev pub member_rule : ℕ → Row → Option PutAnswer
-member_rule n row = if nat_le n row.creator then Some (Refused (fault.Member row.creator)) else None
+abbrev pub member_rule : Stakes → Row → Option PutAnswer
+member_rule n row = if nat_le (member_count n) row.creator then Some (Refused (fault.Member row.creator)) else None
 
 abbrev pub name_rule : List Row → Row → Option PutAnswer
 name_rule G row =
@@ -61,28 +62,28 @@ creator_rule G m (Some names) =
     if not (creator_at G (place_of G names.0) == m) then Some (Refused (fault.SelfCreator (place_of G names.0)))
     else if creator_at G (place_of G names.1) == m then Some (Refused (fault.OtherCreator (place_of G names.1))) else None
 
--- how many members have a fork with the row
-abbrev pub forkers_with : ℕ → List Row → Row → ℕ
-forkers_with n G row = forkers n (links (G ++ row ∷ []))
+-- the stake of the members that have a fork with the row
+abbrev pub forking_with : Stakes → List Row → Row → ℕ
+forking_with n G row = forking n (links (G ++ row ∷ []))
 
--- the answer where k forking members of n are a third or more
+-- the answer where k of all, the stake of the forking members, is a third or more
 abbrev pub forkers_answer : ℕ → ℕ → Option PutAnswer
-forkers_answer n k = if nat_le n (3 * k) then Some (Refused (fault.TooManyForkers k)) else None
+forkers_answer all k = if nat_le all (3 * k) then Some (Refused (fault.TooManyForkers k)) else None
 
-abbrev pub forkers_rule : ℕ → List Row → Row → Option PutAnswer
-forkers_rule n G row = forkers_answer n (forkers_with n G row)
+abbrev pub forkers_rule : Stakes → List Row → Row → Option PutAnswer
+forkers_rule n G row = forkers_answer (total n) (forking_with n G row)
 
 abbrev pub full_rule : List Row → Option PutAnswer
 full_rule G = if nat_le row_limit (length G) then Some (Refused (fault.Full row_limit)) else None
 
 -- what the rules before the count of forks answer, if one does
-abbrev pub arrival_rule : (ℕ → List ℕ → List ℕ → Bool) → ℕ → ℕ → List Row → Row → Option PutAnswer
+abbrev pub arrival_rule : (ℕ → List ℕ → List ℕ → Bool) → Stakes → ℕ → List Row → Row → Option PutAnswer
 arrival_rule accepts n own G row =
     option_or (member_rule n row) (option_or (name_rule G row) (option_or (signature_rule accepts row)
     (option_or (impostor_rule own row) (option_or (missing_rule G row.parents) (creator_rule G row.creator row.parents)))))
 
--- what comes of a row that is put to the node of the member `own` with the rows G, among n members
-abbrev pub row_verdict : (ℕ → List ℕ → List ℕ → Bool) → ℕ → ℕ → List Row → Row → PutAnswer
+-- what comes of a row that is put to the node of the member `own` with the rows G, among these members
+abbrev pub row_verdict : (ℕ → List ℕ → List ℕ → Bool) → Stakes → ℕ → List Row → Row → PutAnswer
 row_verdict accepts n own G row =
     unwrap_or (option_or (arrival_rule accepts n own G row) (option_or (forkers_rule n G row) (full_rule G))) (Accepted (length G))
 
@@ -93,20 +94,20 @@ with_answer G row (Known p) = G
 with_answer G row (Refused f) = G
 
 -- what comes of bytes by what was read of them: a fault of the bytes comes before all others
-abbrev pub verdict_of : (ℕ → List ℕ → List ℕ → Bool) → ℕ → ℕ → List Row → Result Row ByteFault → PutAnswer
+abbrev pub verdict_of : (ℕ → List ℕ → List ℕ → Bool) → Stakes → ℕ → List Row → Result Row ByteFault → PutAnswer
 verdict_of accepts n own G (Err e) = Refused (fault.Bytes e)
 verdict_of accepts n own G (Ok row) = row_verdict accepts n own G row
 
-abbrev pub rows_with : (ℕ → List ℕ → List ℕ → Bool) → ℕ → ℕ → List Row → Result Row ByteFault → List Row
+abbrev pub rows_with : (ℕ → List ℕ → List ℕ → Bool) → Stakes → ℕ → List Row → Result Row ByteFault → List Row
 rows_with accepts n own G (Err e) = G
 rows_with accepts n own G (Ok row) = with_answer G row (row_verdict accepts n own G row)
 
 -- what comes of bytes that are put to the node
-abbrev pub verdict : (ℕ → List ℕ → List ℕ → Bool) → ℕ → ℕ → List Row → List ℕ → PutAnswer
+abbrev pub verdict : (ℕ → List ℕ → List ℕ → Bool) → Stakes → ℕ → List Row → List ℕ → PutAnswer
 verdict accepts n own G bytes = verdict_of accepts n own G (read_event bytes)
 
 -- the rows after them
-abbrev pub rows_after : (ℕ → List ℕ → List ℕ → Bool) → ℕ → ℕ → List Row → List ℕ → List Row
+abbrev pub rows_after : (ℕ → List ℕ → List ℕ → Bool) → Stakes → ℕ → List Row → List ℕ → List Row
 rows_after accepts n own G bytes = rows_with accepts n own G (read_event bytes)
 
 -- the rules of making

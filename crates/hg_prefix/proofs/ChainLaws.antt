@@ -4,6 +4,7 @@ use Rattle.std.proofs.lemmas.Bool.{cases_eq, cases_lt, both_ways, false_from_ne_
 use Rattle.std.proofs.lemmas.Option.{slice_get-get_or, get_or_from_slice_get}
 use Rattle.hg_model.specs.declared.row.Row.{Row}
 use Rattle.hg_model.specs.Places.{has_place}
+use Rattle.hg_model.specs.Stakes.{Stakes}
 use Rattle.hg_model.specs.Links.{parent_names, place_of, links, first_place, self_parent}
 use Rattle.hg_model.specs.Ancestry.{is_self_ancestor}
 use Rattle.hg_model.specs.Forks.{has_fork}
@@ -32,7 +33,7 @@ self_parent_named U u name inside is =
     self_parent-links U u row inside (sym (get_or_from_slice_get U u row row at))
     ∙ first_name (place_of U) row.parents name (sym (ap self_parent_name_in at) ∙ is)
 
-module _ (n m : ℕ) (U line : List Row) (distinct : HasDistinctNames U) (shaped : IsShaped n (links U)) (chain : IsChain m line) (of_line : (u : ℕ) → u < length U → creator_at U u ≡ m → IsRowOf U u line) where
+module _ (n : Stakes) (m : ℕ) (U line : List Row) (distinct : HasDistinctNames U) (shaped : IsShaped n (links U)) (chain : IsChain m line) (of_line : (u : ℕ) → u < length U → creator_at U u ≡ m → IsRowOf U u line) where
   -- of two rows by m the one that is later in the chain has the other as self-ancestor
   above : (k u v x y : ℕ) → u < k → u < length U → v < length U → y < length line → slice_get line y ≡ slice_get U u → slice_get line x ≡ slice_get U v →
       creator_at U u ≡ m → creator_at U v ≡ m → x ≤ y → is_self_ancestor (links U) u v ≡ true

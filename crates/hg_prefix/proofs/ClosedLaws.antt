@@ -1,6 +1,7 @@
 -- The closed rounds of a graph are all those up to the last
 use Rattle.std.proofs.Common.{◌≡◌, ℕ, suc, ◌<◌, ◌≤◌, true, List, length, arith}
 use Rattle.hg_model.specs.Places.{IsEarlier}
+use Rattle.hg_model.specs.Stakes.{Stakes}
 use Rattle.hg_model.specs.Links.{Link, parents}
 use Rattle.hg_model.specs.Fame.{Marks, is_closed}
 use Rattle.hg_model.specs.Order.{last_closed}
@@ -10,7 +11,7 @@ use Rattle.hg_model.proofs.WitnessLaws.{witness_below}
 use Rattle.hg_prefix.proofs.LeastLaws.{greatest_below_bounds, greatest_below_true}
 use Rattle.hg_prefix.proofs.FamousLaws.{witness_of_closed, closed_from, closed_bounds}
 
-module _ (n : ℕ) (L : List Link) (e : IsEarlier (parents L)) (marks : Marks) where
+module _ (n : Stakes) (L : List Link) (e : IsEarlier (parents L)) (marks : Marks) where
   -- each round below a closed one is closed
   pub closed_below : (r s : ℕ) → is_closed n L marks r ≡ true → 0 < s → s ≤ r → is_closed n L marks s ≡ true
   closed_below r s closed pos le =

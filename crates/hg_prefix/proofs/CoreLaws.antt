@@ -2,8 +2,9 @@
 use Rattle.std.proofs.Common.{◌≡◌, inl, inr, ℕ, false, List, length, ap, ◌∙◌, arith}
 use Rattle.std.proofs.lemmas.Bool.{cases_Bool, both_ways}
 use Rattle.hg_model.specs.declared.row.Row.{Row}
+use Rattle.hg_model.specs.Stakes.{Stakes, member_count, stake_of}
 use Rattle.hg_model.specs.Links.{links}
-use Rattle.hg_model.specs.Forks.{has_fork, forkers}
+use Rattle.hg_model.specs.Forks.{has_fork, forking}
 use Rattle.hg_model.specs.Fame.{fame_marks}
 use Rattle.hg_model.specs.Order.{coin_at}
 use Rattle.hg_model.specs.Graph.{creator_of_row}
@@ -16,7 +17,7 @@ use Rattle.hg_prefix.proofs.OrderLaws.{one_order}
 use Rattle.hg_prefix.proofs.OwnLaws.{own_fame, own_order}
 
 -- a member with one chain has no fork in the graph of both
-chain_no_fork : (n m : ℕ) (G H U : List Row) → IsJoined n G H (length H) U → HasOneChain m G H → has_fork (links U) m ≡ false
+chain_no_fork : (n : Stakes) (m : ℕ) (G H U : List Row) → IsJoined n G H (length H) U → HasOneChain m G H → has_fork (links U) m ≡ false
 chain_no_fork n m G H U is one =
     no_fork n m U one.line is.distinct is.shaped one.chain (λ u inside by. elim (is.no_other u inside) [
       | inl of_G ↦ (let z = one.has_first of_G.0 of_G.1 (ap creator_of_row of_G.2 ∙ by) in (z.0, z.1, z.2 ∙ of_G.2))
@@ -24,16 +25,16 @@ chain_no_fork n m G H U is one =
     ])
 
 pub stand_in_one : ChainsStandInOne
-unfolding forkers
+unfolding forking
 stand_in_one n G H faulty g h equal few others =
     let U : List Row = joined G H (length H) in
     let is = joined_whole n G H g.distinct g.shaped h.distinct h.shaped equal in
-    let forking = weight_below-le (λ _. 1) n (has_fork (links U)) faulty (λ m inside forks. elim (cases_Bool (faulty m)) [
+    let fewer = weight_below-le (stake_of n) (member_count n) (has_fork (links U)) faulty (λ m inside forks. elim (cases_Bool (faulty m)) [
       | inl among ↦ among
       | inr not_among ↦ absurd (both_ways (has_fork (links U) m) (chain_no_fork n m G H U is (others m inside not_among)) forks)
     ]) in (
       U,
-      record { distinct = is.distinct; shaped = is.shaped; few_forkers = omega (arith, forking, few) },
+      record { distinct = is.distinct; shaped = is.shaped; few_forkers = omega (arith, fewer, few) },
       is.has_first,
       record { row_in = λ y inside. is.has_second y inside },
     )

@@ -2,6 +2,7 @@
 use Rattle.std.proofs.Common.{◌≡◌, ℕ, suc, ◌<◌, ◌≤◌, Bool, true, ◌&&◌, not, leb, eqb, List, length, Option, Some, None, is_none, sym, ap, ◌∙◌, inl, inr, arith}
 use Rattle.std.proofs.lemmas.Bool.{cases_eq, and_parts, and_from, eq-eqb, eqb-true, ne_eqb, leb-true, true≢false, false_from_ne_true, both_ways, not-true, not-false, not_from_false}
 use Rattle.hg_model.specs.Places.{some_below, IsEarlier}
+use Rattle.hg_model.specs.Stakes.{Stakes}
 use Rattle.hg_model.specs.Links.{Link, parents, creator}
 use Rattle.hg_model.specs.Ancestry.{is_ancestor}
 use Rattle.hg_model.specs.Rounds.{round_of, is_witness}
@@ -16,7 +17,7 @@ famous_mark : (mark : Option Bool) → is_yes mark ≡ true → mark ≡ Some tr
 famous_mark None says = absurd (true≢false (sym says))
 famous_mark (Some v) says = ap (λ (b : Bool). Some b) says
 
-module _ (n : ℕ) (L : List Link) (marks : Marks) where
+module _ (n : Stakes) (L : List Link) (marks : Marks) where
   pub record IsWitnessIn (r w : ℕ) : Type 0 where
     pub inside : w < length L
     pub witness : is_witness n L w ≡ true

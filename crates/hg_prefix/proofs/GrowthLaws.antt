@@ -2,6 +2,7 @@
 use Rattle.std.proofs.Common.{◌≡◌, ℕ, ◌<◌, ◌≤◌, Bool, true, false, List, ◌++◌, length, Some, sym, refl, ap, ◌∙◌, inl, inr, arith, length-append}
 use Rattle.std.proofs.lemmas.Bool.{cases_Bool, cases_lt}
 use Rattle.hg_model.specs.declared.row.Row.{Row}
+use Rattle.hg_model.specs.Stakes.{Stakes}
 use Rattle.hg_model.specs.Links.{links}
 use Rattle.hg_model.specs.Ancestry.{is_ancestor}
 use Rattle.hg_model.specs.Graph.{name_in, name_at, IsGraph}
@@ -20,7 +21,7 @@ use Rattle.hg_prefix.proofs.SharedLaws.{moved_in, ancestor_back, round_in, witne
 use Rattle.hg_prefix.proofs.OrderLaws.{order_prefix}
 use Rattle.hg_prefix.proofs.OwnLaws.{own_part, own_order}
 
-module _ (n c : ℕ) (U : List Row) (u : IsGraph n U) (three : 2 < c) (G : List Row) (f : Marks) (g : IsMarkedPart n c U G f) where
+module _ (n : Stakes) (c : ℕ) (U : List Row) (u : IsGraph n U) (three : 2 < c) (G : List Row) (f : Marks) (g : IsMarkedPart n c U G f) where
   -- each witness of the whole, of a round that the part has closed, is decided
   decided : (r x : ℕ) → is_closed n (links G) f r ≡ true → x < length (links U) → is_witness n (links U) x ≡ true → round_of n (links U) x ≤ r →
       (v : Bool) × (fame_of n c (links U) (coin_at U) x ≡ Some v)

@@ -6,6 +6,7 @@ use Rattle.std.proofs.lemmas.List.{length_push}
 use Rattle.std.proofs.lemmas.Option.{slice_get-get_or, get_or_from_slice_get}
 use Rattle.hg_model.specs.declared.row.Row.{Row}
 use Rattle.hg_model.specs.Places.{has_place}
+use Rattle.hg_model.specs.Stakes.{Stakes}
 use Rattle.hg_model.specs.Links.{parent_names, place_of, links, first_place, later_places, creator, parents, self_parent, other_parents}
 use Rattle.hg_model.specs.Graph.{name_in, name_at, HasDistinctNames, IsShaped}
 use Rattle.hg_model.specs.Verdict.{is_held}
@@ -29,7 +30,7 @@ joined G H zero = G
 joined G H (suc k) = row_added (joined G H k) (get_or H k nobody)
 
 -- what the first k rows of H make of G
-pub record IsJoined (n : ℕ) (G H : List Row) (k : ℕ) (U : List Row) : Type 0 where
+pub record IsJoined (n : Stakes) (G H : List Row) (k : ℕ) (U : List Row) : Type 0 where
   pub distinct : HasDistinctNames U
   pub shaped : IsShaped n (links U)
   pub has_first : StandsIn G U
@@ -42,7 +43,7 @@ row_stays G x U row is =
     let inside : is.0 < length U = is.1 in
     (is.0, omega (arith, length_push U row), slice_get-before U row is.0 inside ∙ is.2)
 
-module _ (n : ℕ) (G H : List Row) (distinct_H : HasDistinctNames H) (shaped_H : IsShaped n (links H)) (equal : HaveEqualRows G H) where
+module _ (n : Stakes) (G H : List Row) (distinct_H : HasDistinctNames H) (shaped_H : IsShaped n (links H)) (equal : HaveEqualRows G H) where
   -- row k of H fits behind rows that have all earlier rows of H
   module _ (k : ℕ) (inside : k < length H) (U : List Row) (is : IsJoined n G H k U) where
     row : Row
@@ -178,7 +179,7 @@ module _ (n : ℕ) (G H : List Row) (distinct_H : HasDistinctNames H) (shaped_H 
       ]
 
 -- the whole of both
-pub joined_whole : (n : ℕ) (G H : List Row) → HasDistinctNames G → IsShaped n (links G) → HasDistinctNames H → IsShaped n (links H) → HaveEqualRows G H →
+pub joined_whole : (n : Stakes) (G H : List Row) → HasDistinctNames G → IsShaped n (links G) → HasDistinctNames H → IsShaped n (links H) → HaveEqualRows G H →
     IsJoined n G H (length H) (joined G H (length H))
 joined_whole n G H distinct_G shaped_G distinct_H shaped_H equal =
     joined_is n G H distinct_H shaped_H equal

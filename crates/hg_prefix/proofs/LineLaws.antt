@@ -4,6 +4,7 @@ use Rattle.std.proofs.lemmas.Bool.{or_cases, eqb-true, true≢false}
 use Rattle.std.proofs.lemmas.Option.{slice_get-get_or, get_or_from_slice_get}
 use Rattle.hg_model.specs.declared.row.Row.{Row}
 use Rattle.hg_model.specs.Places.{has_place}
+use Rattle.hg_model.specs.Stakes.{Stakes}
 use Rattle.hg_model.specs.Links.{parent_names, place_of, links, first_place, self_parent}
 use Rattle.hg_model.specs.Forks.{has_fork}
 use Rattle.hg_model.specs.Graph.{name_in, name_at, HasDistinctNames, IsShaped, IsGraph}
@@ -32,7 +33,7 @@ name_of_self_parent G x p inside inside_p has =
     let name_is : name_at G p ≡ found.0 = ap (name_at G) (sym found.2) ∙ name_at_place G found.0 (rw found.2 inside_p) in
     ap self_parent_name_in at ∙ (found.1 ∙ ap (λ (name : List ℕ). Some name) (sym name_is))
 
-pub chain_of_no_fork : (n m : ℕ) (G : List Row) → HasDistinctNames G → IsShaped n (links G) → has_fork (links G) m ≡ false → IsChain m G
+pub chain_of_no_fork : (n : Stakes) (m : ℕ) (G : List Row) → HasDistinctNames G → IsShaped n (links G) → has_fork (links G) m ≡ false → IsChain m G
 chain_of_no_fork n m G distinct shaped none = record {
   distinct = distinct;
   joined = λ x y low inside by_x by_y.
@@ -60,7 +61,7 @@ equal_rows_of_part G H distinct stands = record {
       sym u.2 ∙ ap (slice_get H) (distinct.one u.0 y u.1 inside_y (ap name_in u.2 ∙ same));
 }
 
-pub one_chain_of_part : (n m : ℕ) (G H : List Row) → IsGraph n H → StandsIn G H → has_fork (links H) m ≡ false → HasOneChain m G H
+pub one_chain_of_part : (n : Stakes) (m : ℕ) (G H : List Row) → IsGraph n H → StandsIn G H → has_fork (links H) m ≡ false → HasOneChain m G H
 one_chain_of_part n m G H h stands none = record {
   line = H;
   chain = chain_of_no_fork n m H h.distinct h.shaped none;

@@ -3,12 +3,13 @@ use Rattle.std.proofs.Common.{◌≡◌, ◌≢◌, ℕ, zero, suc, ◌+◌, ◌
 use Rattle.std.proofs.Math.Bool.{and-true}
 use Rattle.std.proofs.lemmas.Bool.{and_parts, and_from, or_cases, or_left, or_right, true≢false, eqb-true, eq-eqb}
 use Rattle.std.specs.List.{list_all}
-use Rattle.hg_model.specs.Places.{weight_below, count_below, has_place, reaches, IsEarlier}
+use Rattle.hg_model.specs.Places.{weight_below, has_place, reaches, IsEarlier}
+use Rattle.hg_model.specs.Stakes.{Stakes, member_count, stake_of, total}
 use Rattle.hg_model.specs.Links.{Link, parents, self_parent, first_place, creator}
 use Rattle.hg_model.specs.Ancestry.{is_ancestor, is_self_ancestor, some_ancestor}
 use Rattle.hg_model.specs.Forks.{is_fork, has_fork_below}
 use Rattle.hg_model.specs.Seeing.{sees, sees_through, strongly_sees, is_supermajority}
-use Rattle.hg_model.specs.Rounds.{parent_round, is_witness_by, is_seen_witness, round_of, is_witness}
+use Rattle.hg_model.specs.Rounds.{parent_round, is_witness_by, is_seen_witness, round_of, is_witness, stake_at, weight_of}
 use Rattle.hg_model.specs.Votes.{is_voter, vote_of, decides}
 use Rattle.hg_model.proofs.PlacesLaws.{some_below_from, some_below_found, weight_below-same}
 use Rattle.hg_model.proofs.ReachLaws.{bool_iff, reaches_self, reaches_by, reaches_cases}
@@ -89,7 +90,7 @@ module _ (near far : ℕ → List ℕ) (e : IsEarlier near) (f : IsEarlier far) 
       subst (λ k. reaches near x k ≡ true) (apart z.0 y (omega arith) hy z.2) z.3)
       (reaches_there_to (suc x) x y (omega arith) hx)
 
-module _ (n : ℕ) (L V : List Link) (l : IsEarlier (parents L)) (v : IsEarlier (parents V)) (place : ℕ → ℕ) (moved : IsMoved L V place) where
+module _ (n : Stakes) (L V : List Link) (l : IsEarlier (parents L)) (v : IsEarlier (parents V)) (place : ℕ → ℕ) (moved : IsMoved L V place) where
   pub self_parent_there : (x : ℕ) → x < length L → self_parent V (place x) ≡ map place (self_parent L x)
   unfolding self_parent
   self_parent_there x inside = ap first_place (moved.parents_there x inside) ∙ first_place-map place (parents L x)
@@ -146,7 +147,7 @@ module _ (n : ℕ) (L V : List Link) (l : IsEarlier (parents L)) (v : IsEarlier 
   pub strongly_sees-moved : (x y : ℕ) → x < length L → y < length L → strongly_sees n V (place x) (place y) ≡ strongly_sees n L x y
   unfolding strongly_sees
   strongly_sees-moved x y hx hy =
-      ap (is_supermajority n) (weight_below-same (λ _. 1) n (sees_through V (place x) (place y)) (sees_through L x y) (λ m hm. sees_through-moved x y m hx hy))
+      ap (is_supermajority (total n)) (weight_below-same (stake_of n) (member_count n) (sees_through V (place x) (place y)) (sees_through L x y) (λ m hm. sees_through-moved x y m hx hy))
 
   greatest_round-moved : (far near : ℕ → ℕ) (x : ℕ) → x < length L → ((p : ℕ) → p < x → far (place p) ≡ near p) →
       parent_round far (parents V (place x)) ≡ parent_round near (parents L x)
@@ -200,22 +201,22 @@ module _ (n : ℕ) (L V : List Link) (l : IsEarlier (parents L)) (v : IsEarlier 
       (place y, omega arith, at y low ∙ e, refl, omega arith)) in
       omega arith
 
-  seen_count-moved : (far near : ℕ → ℕ) (r x : ℕ) → x < length L → ((p : ℕ) → p < x → far (place p) ≡ near p) →
-      count_below (place x) (is_seen_witness far n V r (place x)) ≡ count_below x (is_seen_witness near n L r x)
-  seen_count-moved far near r x inside same =
+  seen_weight-moved : (far near : ℕ → ℕ) (r x : ℕ) → x < length L → ((p : ℕ) → p < x → far (place p) ≡ near p) →
+      weight_of n V (place x) (is_seen_witness far n V r (place x)) ≡ weight_of n L x (is_seen_witness near n L r x)
+  seen_weight-moved far near r x inside same =
       let always : ℕ → Bool = λ _. true in
-      weight_below-same (λ _. 1) (place x) (is_seen_witness far n V r (place x)) (λ u. is_seen_witness far n V r (place x) u && true) (λ u low. sym (and-true (is_seen_witness far n V r (place x) u)))
-      ∙ (seen-moved (λ _. 1) far near r x always always inside same (λ p low. refl)
-      ∙ weight_below-same (λ _. 1) x (λ y. is_seen_witness near n L r x y && true) (is_seen_witness near n L r x) (λ y low. and-true (is_seen_witness near n L r x y)))
+      weight_below-same (stake_at n V) (place x) (is_seen_witness far n V r (place x)) (λ u. is_seen_witness far n V r (place x) u && true) (λ u low. sym (and-true (is_seen_witness far n V r (place x) u)))
+      ∙ (seen-moved (stake_of n) far near r x always always inside same (λ p low. refl)
+      ∙ weight_below-same (stake_at n L) x (λ y. is_seen_witness near n L r x y && true) (is_seen_witness near n L r x) (λ y low. and-true (is_seen_witness near n L r x y)))
 
   round_of-moved_to : (k x : ℕ) → x < k → x < length L → round_of n V (place x) ≡ round_of n L x
   round_of-moved_to zero x low inside = absurd (omega arith)
   round_of-moved_to (suc k) x low inside =
       let before = λ (p : ℕ) (h : p < x). round_of-moved_to k p (omega arith) (omega arith) in
       let r = parent_round (round_of n L) (parents L x) in
-      let count = count_below x (is_seen_witness (round_of n L) n L r x) in
+      let weight = weight_of n L x (is_seen_witness (round_of n L) n L r x) in
       round_of-at n V v (place x)
-      ∙ (rw (greatest_round-moved (round_of n V) (round_of n L) x inside before, seen_count-moved (round_of n V) (round_of n L) r x inside before) refl
+      ∙ (rw (greatest_round-moved (round_of n V) (round_of n L) x inside before, seen_weight-moved (round_of n V) (round_of n L) r x inside before) refl
       ∙ sym (round_of-at n L l x))
 
   pub round_of-moved : (x : ℕ) → x < length L → round_of n V (place x) ≡ round_of n L x
@@ -225,11 +226,11 @@ module _ (n : ℕ) (L V : List Link) (l : IsEarlier (parents L)) (v : IsEarlier 
   unfolding is_witness
   is_witness-moved x inside = is_witness_by-moved (round_of n V) (round_of n L) x inside (λ p le. round_of-moved p (omega arith))
 
-  -- a count of voters that pass a test
+  -- the weight of the voters that pass a test
   voters-moved : (x : ℕ) (far_test near_test : ℕ → Bool) → x < length L → ((p : ℕ) → p < x → far_test (place p) ≡ near_test p) →
-      count_below (place x) (λ u. is_voter n V (place x) u && far_test u) ≡ count_below x (λ y. is_voter n L x y && near_test y)
+      weight_of n V (place x) (λ u. is_voter n V (place x) u && far_test u) ≡ weight_of n L x (λ y. is_voter n L x y && near_test y)
   voters-moved x far_test near_test inside same =
-      rw (round_of-moved x inside) (seen-moved (λ _. 1) (round_of n V) (round_of n L) (round_of n L x - 1) x far_test near_test inside (λ p low. round_of-moved p (omega arith)) same)
+      rw (round_of-moved x inside) (seen-moved (stake_of n) (round_of n V) (round_of n L) (round_of n L x - 1) x far_test near_test inside (λ p low. round_of-moved p (omega arith)) same)
 
   module _ (c : ℕ) (far_coin near_coin : ℕ → Bool) (coins : (x : ℕ) → x < length L → far_coin (place x) ≡ near_coin x) where
     vote_of-moved_to : (x k y : ℕ) → x < length L → y < k → y < length L → vote_of n c V far_coin (place x) (place y) ≡ vote_of n c L near_coin x y

@@ -9,6 +9,7 @@ use Rattle.std.proofs.lemmas.List.Sums.{sum_by-append}
 use Rattle.hg_model.specs.declared.row.Row.{Row}
 use Rattle.hg_model.specs.declared.row.Placed.{Placed}
 use Rattle.hg_model.specs.Places.{list_below}
+use Rattle.hg_model.specs.Stakes.{Stakes}
 use Rattle.hg_model.specs.Links.{links}
 use Rattle.hg_model.specs.Graph.{name_at, IsGraph}
 use Rattle.hg_model.specs.Fame.{Marks, is_closed}
@@ -30,11 +31,11 @@ use Rattle.hg_prefix.proofs.ReceivedLaws.{received_row, received_alike, key_alik
 
 -- keys of the order
 
-abbrev pub key_at : ℕ → List Row → Marks → ℕ → List ℕ
+abbrev pub key_at : Stakes → List Row → Marks → ℕ → List ℕ
 key_at n G marks x = order_key n G (links G) marks (placed_at n G (links G) marks x)
 
 -- the keys of the rows received in rounds that pass the test, in order
-abbrev pub keys_in : ℕ → List Row → Marks → (ℕ → Bool) → List (List ℕ)
+abbrev pub keys_in : Stakes → List Row → Marks → (ℕ → Bool) → List (List ℕ)
 keys_in n G marks test = sort_by bytes_less (list_below (key_at n G marks) (length (links G)) (is_received_in n (links G) marks test))
 
 -- what a key tells of its row
@@ -57,7 +58,7 @@ all_known size G (keyed ∷ xs) matches = ap₂ (λ (row : Ordered) (rows : List
 always : ℕ → Bool
 always r = true
 
-module _ (n size : ℕ) (G : List Row) (marks : Marks) (sizes : HasNameSizes size G) where
+module _ (n : Stakes) (size : ℕ) (G : List Row) (marks : Marks) (sizes : HasNameSizes size G) where
   told_at : (x : ℕ) → x < length (links G) → IsTold size G (keyed_at n G (links G) marks x)
   told_at x inside =
       let sized = sizes.sized x (rw (← length-links G) inside) in
@@ -95,7 +96,7 @@ some_is None e = absurd (true≢false (sym e))
 some_is (Some r) e = (r, refl)
 
 -- the places where rows are received fall apart at a test of their rounds
-received_split : {A : Type 0} (value : ℕ → A) (n : ℕ) (G : List Row) (marks : Marks) (test : ℕ → Bool) →
+received_split : {A : Type 0} (value : ℕ → A) (n : Stakes) (G : List Row) (marks : Marks) (test : ℕ → Bool) →
     HasSameSums (list_below value (length (links G)) (is_received_in n (links G) marks always))
     (list_below value (length (links G)) (is_received_in n (links G) marks test) ++ list_below value (length (links G)) (is_received_in n (links G) marks (λ r. not (test r))))
 unfolding always
@@ -112,7 +113,7 @@ received_split value n G marks test weight =
     ∙ (ap₂ (λ (a b : ℕ). a + b) (sym (sum_by-list_below weight value len one)) (sym (sum_by-list_below weight value len two))
     ∙ sym (sum_by-append weight (list_below value len one) (list_below value len two)))))
 
-module _ (n c : ℕ) (U : List Row) (u : IsGraph n U) (three : 2 < c) (G H : List Row) (f h : Marks) (g : IsMarkedPart n c U G f) (k : IsMarkedPart n c U H h)
+module _ (n : Stakes) (c : ℕ) (U : List Row) (u : IsGraph n U) (three : 2 < c) (G H : List Row) (f h : Marks) (g : IsMarkedPart n c U G f) (k : IsMarkedPart n c U H h)
     (fewer : last_closed n (links G) f ≤ last_closed n (links H) h) where
   last : ℕ
   last = last_closed n (links G) f
@@ -221,7 +222,7 @@ module _ (n c : ℕ) (U : List Row) (u : IsGraph n U) (three : 2 < c) (G H : Lis
   )
 
 -- of the two orders one is a prefix of the other
-pub one_order : (n c size : ℕ) (U : List Row) (u : IsGraph n U) (three : 2 < c) (G H : List Row) (f h : Marks) → IsMarkedPart n c U G f → IsMarkedPart n c U H h →
+pub one_order : (n : Stakes) (c size : ℕ) (U : List Row) (u : IsGraph n U) (three : 2 < c) (G H : List Row) (f h : Marks) → IsMarkedPart n c U G f → IsMarkedPart n c U H h →
     HasNameSizes size G → HasNameSizes size H → IsPrefix (marked_order_by_names n G f) (marked_order_by_names n H h) ⊎ IsPrefix (marked_order_by_names n H h) (marked_order_by_names n G f)
 one_order n c size U u three G H f h g k sizes_G sizes_H = elim (cases_lt (last_closed n (links H) h) (last_closed n (links G) f)) [
   | inl more ↦ inr (order_prefix n c U u three H G h f k g (omega arith) size sizes_H sizes_G)

@@ -1,6 +1,7 @@
 -- A graph with its own fame as marks
 use Rattle.std.proofs.Common.{◌≡◌, ℕ, List, refl}
 use Rattle.hg_model.specs.declared.row.Row.{Row}
+use Rattle.hg_model.specs.Stakes.{Stakes}
 use Rattle.hg_model.specs.Links.{links}
 use Rattle.hg_model.specs.Graph.{IsGraph}
 use Rattle.hg_model.specs.Fame.{fame_marks}
@@ -11,13 +12,13 @@ use Rattle.hg_prefix.specs.Orders.{marked_order_by_names}
 use Rattle.hg_prefix.specs.Laws.{OwnOrdersArePrefixes}
 use Rattle.hg_prefix.proofs.OrderLaws.{one_order}
 
-pub own_fame : (n c : ℕ) (G : List Row) → AreFame n c G (fame_marks n c (links G) (coin_at G))
+pub own_fame : (n : Stakes) (c : ℕ) (G : List Row) → AreFame n c G (fame_marks n c (links G) (coin_at G))
 own_fame n c G = record { fame = fame_of_mark n c (links G) (coin_at G) }
 
-pub own_part : (n c : ℕ) (U G : List Row) → IsGraph n G → StandsIn G U → IsMarkedPart n c U G (fame_marks n c (links G) (coin_at G))
+pub own_part : (n : Stakes) (c : ℕ) (U G : List Row) → IsGraph n G → StandsIn G U → IsMarkedPart n c U G (fame_marks n c (links G) (coin_at G))
 own_part n c U G g stands = record { graph = g; stands = stands; fame = own_fame n c G }
 
-pub own_order : (n c : ℕ) (G : List Row) → order_by_names n c G ≡ marked_order_by_names n G (fame_marks n c (links G) (coin_at G))
+pub own_order : (n : Stakes) (c : ℕ) (G : List Row) → order_by_names n c G ≡ marked_order_by_names n G (fame_marks n c (links G) (coin_at G))
 unfolding order_of
 own_order n c G = refl
 

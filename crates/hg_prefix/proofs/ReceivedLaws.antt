@@ -4,6 +4,7 @@ use Rattle.std.proofs.lemmas.Bool.{and_parts, and_from}
 use Rattle.std.specs.List.{list_all}
 use Rattle.hg_model.specs.declared.row.Row.{Row}
 use Rattle.hg_model.specs.Places.{list_below}
+use Rattle.hg_model.specs.Stakes.{Stakes}
 use Rattle.hg_model.specs.Links.{links, self_parent}
 use Rattle.hg_model.specs.Ancestry.{is_ancestor, is_self_ancestor}
 use Rattle.hg_model.specs.Graph.{name_at, IsGraph}
@@ -22,7 +23,7 @@ use Rattle.hg_prefix.proofs.ClosedLaws.{closed_below, closed_last}
 use Rattle.hg_prefix.proofs.SumLaws.{xor_all-same}
 use Rattle.hg_prefix.proofs.SharedLaws.{HasRowIn, moved_in, ancestor_in, ancestor_both, self_ancestor_both, ancestor_shared, unique_shared}
 
-module _ (n c : ℕ) (U : List Row) (u : IsGraph n U) (G : List Row) (f : Marks) (g : IsMarkedPart n c U G f) where
+module _ (n : Stakes) (c : ℕ) (U : List Row) (u : IsGraph n U) (G : List Row) (f : Marks) (g : IsMarkedPart n c U G f) where
   inside_rows : (x : ℕ) → x < length (links G) → x < length G
   inside_rows x inside = rw (← length-links G) inside
 
@@ -43,7 +44,7 @@ module _ (n c : ℕ) (U : List Row) (u : IsGraph n U) (G : List Row) (f : Marks)
       (λ q. not (is_ancestor (links U) q (place_in U G x))) (λ p. not (is_ancestor (links G) p x)) z hz
       (λ p low. ap not (ancestor_in n c U u G f g p x (omega arith) hx))
 
-module _ (n c : ℕ) (U : List Row) (u : IsGraph n U) (three : 2 < c) (G H : List Row) (f h : Marks) (g : IsMarkedPart n c U G f) (k : IsMarkedPart n c U H h) where
+module _ (n : Stakes) (c : ℕ) (U : List Row) (u : IsGraph n U) (three : 2 < c) (G H : List Row) (f h : Marks) (g : IsMarkedPart n c U G f) (k : IsMarkedPart n c U H h) where
   receives_shared : (r x y : ℕ) → x < length (links G) → HasRowIn U G x H y → Receives n (links G) f x r → is_closed n (links H) h r ≡ true → Receives n (links H) h y r
   receives_shared r x y inside at_x receives closed =
       let w = receives.some in
@@ -92,7 +93,7 @@ module _ (n c : ℕ) (U : List Row) (u : IsGraph n U) (three : 2 < c) (G H : Lis
 pub turned : (U G H : List Row) (x y : ℕ) → x < length (links G) → HasRowIn U G x H y → HasRowIn U H y G x
 turned U G H x y inside at_x = (inside, sym at_x.1)
 
-module _ (n c : ℕ) (U : List Row) (u : IsGraph n U) (three : 2 < c) (G H : List Row) (f h : Marks) (g : IsMarkedPart n c U G f) (k : IsMarkedPart n c U H h) where
+module _ (n : Stakes) (c : ℕ) (U : List Row) (u : IsGraph n U) (three : 2 < c) (G H : List Row) (f h : Marks) (g : IsMarkedPart n c U G f) (k : IsMarkedPart n c U H h) where
   pub received_alike : (r x y : ℕ) → x < length (links G) → HasRowIn U G x H y → round_received n (links G) f x ≡ Some r → is_closed n (links H) h r ≡ true → round_received n (links H) h y ≡ Some r
   received_alike r x y inside at_x is closed =
       let in_G = received_is n (links G) f x r is in

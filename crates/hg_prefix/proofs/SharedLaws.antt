@@ -2,6 +2,7 @@
 use Rattle.std.proofs.Common.{◌≡◌, ℕ, ◌+◌, ◌<◌, ◌≤◌, Bool, true, List, length, Some, sym, ap, ap₂, ◌∙◌, subst, inl, inr, arith}
 use Rattle.std.proofs.lemmas.Bool.{cases_Bool, true≢false}
 use Rattle.hg_model.specs.declared.row.Row.{Row}
+use Rattle.hg_model.specs.Stakes.{Stakes}
 use Rattle.hg_model.specs.Links.{links, creator}
 use Rattle.hg_model.specs.Ancestry.{is_ancestor, is_self_ancestor}
 use Rattle.hg_model.specs.Graph.{name_at, IsGraph}
@@ -17,7 +18,7 @@ use Rattle.hg_prefix.proofs.StandingLaws.{links_moved, name_there, coin_there}
 use Rattle.hg_prefix.proofs.FamousLaws.{witness_of_closed, IsFamous, unique_is, unique_from}
 
 -- one graph that stands in U
-module _ (n c : ℕ) (U : List Row) (u : IsGraph n U) (G : List Row) (f : Marks) (part : IsMarkedPart n c U G f) where
+module _ (n : Stakes) (c : ℕ) (U : List Row) (u : IsGraph n U) (G : List Row) (f : Marks) (part : IsMarkedPart n c U G f) where
   pub moved_in : IsMoved (links G) (links U) (place_in U G)
   moved_in = links_moved G U part.graph.distinct u.distinct part.stands n part.graph.shaped
 
@@ -60,7 +61,7 @@ module _ (n c : ℕ) (U : List Row) (u : IsGraph n U) (G : List Row) (f : Marks)
 abbrev pub HasRowIn : List Row → List Row → ℕ → List Row → ℕ → Type 0
 HasRowIn U G x H y = (y < length (links H)) × (place_in U H y ≡ place_in U G x)
 
-module _ (n c : ℕ) (U : List Row) (u : IsGraph n U) (three : 2 < c) (G H : List Row) (f h : Marks) (g : IsMarkedPart n c U G f) (k : IsMarkedPart n c U H h) where
+module _ (n : Stakes) (c : ℕ) (U : List Row) (u : IsGraph n U) (three : 2 < c) (G H : List Row) (f h : Marks) (g : IsMarkedPart n c U G f) (k : IsMarkedPart n c U H h) where
   pub ancestor_both : (x y x' y' : ℕ) → x < length (links G) → y < length (links G) → HasRowIn U G x H x' → HasRowIn U G y H y' → is_ancestor (links H) x' y' ≡ is_ancestor (links G) x y
   ancestor_both x y x' y' hx hy at_x at_y =
       sym (ancestor_in n c U u H h k x' y' at_x.0 at_y.0) ∙ (ap₂ (is_ancestor (links U)) at_x.1 at_y.1 ∙ ancestor_in n c U u G f g x y hx hy)
@@ -113,7 +114,7 @@ module _ (n c : ℕ) (U : List Row) (u : IsGraph n U) (three : 2 < c) (G H : Lis
       ]
 
 -- a unique famous witness of a round that both have closed
-pub unique_shared : (n c : ℕ) (U : List Row) (u : IsGraph n U) (three : 2 < c) (G H : List Row) (f h : Marks) (g : IsMarkedPart n c U G f) (k : IsMarkedPart n c U H h)
+pub unique_shared : (n : Stakes) (c : ℕ) (U : List Row) (u : IsGraph n U) (three : 2 < c) (G H : List Row) (f h : Marks) (g : IsMarkedPart n c U G f) (k : IsMarkedPart n c U H h)
     (r x : ℕ) → x < length (links G) → is_closed n (links G) f r ≡ true → is_closed n (links H) h r ≡ true → is_unique_famous n (links G) f r x ≡ true →
     (y : ℕ) × HasRowIn U G x H y × (is_unique_famous n (links H) h r y ≡ true)
 unique_shared n c U u three G H f h g k r x inside closed_G closed_H unique =
@@ -132,7 +133,7 @@ unique_shared n c U u three G H f h g k r x inside closed_G closed_H unique =
       }),
     )
 
-pub same_famous : (n c : ℕ) (U : List Row) (u : IsGraph n U) (three : 2 < c) (G H : List Row) (f h : Marks) (g : IsMarkedPart n c U G f) (k : IsMarkedPart n c U H h)
+pub same_famous : (n : Stakes) (c : ℕ) (U : List Row) (u : IsGraph n U) (three : 2 < c) (G H : List Row) (f h : Marks) (g : IsMarkedPart n c U G f) (k : IsMarkedPart n c U H h)
     (r : ℕ) → is_closed n (links G) f r ≡ true → is_closed n (links H) h r ≡ true → (name : List ℕ) → HasUniqueFamous n G f r name → HasUniqueFamous n H h r name
 same_famous n c U u three G H f h g k r closed_G closed_H name unique =
     let x : ℕ = unique.0 in

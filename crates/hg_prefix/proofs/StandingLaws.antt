@@ -3,6 +3,7 @@ use Rattle.std.proofs.Common.{◌≡◌, ℕ, ◌<◌, List, [], ◌∷◌, leng
 use Rattle.std.proofs.lemmas.Option.{slice_get-get_or, get_or_from_slice_get}
 use Rattle.std.proofs.lemmas.List.Sums.{passes_at_first}
 use Rattle.hg_model.specs.declared.row.Row.{Row}
+use Rattle.hg_model.specs.Stakes.{Stakes}
 use Rattle.hg_model.specs.Links.{parent_names, is_named, place_of, links, parents}
 use Rattle.hg_model.specs.Graph.{name_in, name_at, HasDistinctNames, IsShaped}
 use Rattle.hg_model.specs.Order.{row_sig, sig_at, row_time, time_at, middle_bit, coin_at}
@@ -62,7 +63,7 @@ module _ (G U : List Row) (distinct_G : HasDistinctNames G) (distinct_U : HasDis
   names_there (name ∷ names) held =
       ap₂ (λ (p : ℕ) (ps : List ℕ). p ∷ ps) (ap (place_of U) (sym (name_at_place G name held.0))) (names_there names held.1)
 
-  module _ (n : ℕ) (shaped : IsShaped n (links G)) where
+  module _ (n : Stakes) (shaped : IsShaped n (links G)) where
     parents_there : (x : ℕ) → x < length G → parents (links U) (place_in U G x) ≡ map (place_in U G) (parents (links G) x)
     parents_there x inside =
         let row : Row = get_or G x nobody in

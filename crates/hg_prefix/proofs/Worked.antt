@@ -5,9 +5,10 @@ use Rattle.std.specs.List.{list_all}
 use Rattle.std.proofs.lemmas.Bool.{and_parts, eqb-true}
 use Rattle.hg_model.specs.declared.row.Row.{Row}
 use Rattle.hg_model.specs.Places.{weight_below, some_below, list_below, least_below, values_below, by_place, reaches}
+use Rattle.hg_model.specs.Stakes.{Stakes, total}
 use Rattle.hg_model.specs.Links.{links, parents, self_parent, other_parents, creator}
 use Rattle.hg_model.specs.Ancestry.{is_ancestor, is_self_ancestor}
-use Rattle.hg_model.specs.Forks.{is_fork, has_fork_below, has_fork, forkers}
+use Rattle.hg_model.specs.Forks.{is_fork, has_fork_below, has_fork, forking}
 use Rattle.hg_model.specs.Seeing.{sees, sees_through, strongly_sees}
 use Rattle.hg_model.specs.Graph.{IsGraph, name_at}
 use Rattle.hg_model.proofs.TestLaws.{is_graph}
@@ -22,6 +23,10 @@ use Rattle.hg_prefix.specs.Standing.{StandsIn, IsRowOf}
 use Rattle.hg_prefix.specs.Orders.{IsPrefix, HasNameSizes}
 use Rattle.hg_prefix.proofs.LineLaws.{equal_rows_of_part, one_chain_of_part}
 use Rattle.hg_prefix.proofs.CoreLaws.{own_chain_orders}
+
+-- the stakes of so many members
+abbrev members : ℕ → Stakes
+members k = k
 
 -- an event with no parents, and one with parents of these names; names and signatures are of one byte, the time
 abbrev first : ℕ → ℕ → Row
@@ -43,13 +48,13 @@ early = first 0 1 ∷ first 1 2 ∷ common
 abbrev late : List Row
 late = first 1 2 ∷ first 0 1 ∷ (common ++ more)
 
-early_is_graph : IsGraph 2 early
-unfolding is_graph forkers has_fork is_fork is_self_ancestor name_at weight_below some_below reaches by_place values_below parents self_parent other_parents creator links
-early_is_graph = graph_from_test 2 early refl
+early_is_graph : IsGraph (members 2) early
+unfolding is_graph forking total has_fork is_fork is_self_ancestor name_at weight_below some_below reaches by_place values_below parents self_parent other_parents creator links
+early_is_graph = graph_from_test (members 2) early refl
 
-late_is_graph : IsGraph 2 late
-unfolding is_graph forkers has_fork is_fork is_self_ancestor name_at weight_below some_below reaches by_place values_below parents self_parent other_parents creator links
-late_is_graph = graph_from_test 2 late refl
+late_is_graph : IsGraph (members 2) late
+unfolding is_graph forking total has_fork is_fork is_self_ancestor name_at weight_below some_below reaches by_place values_below parents self_parent other_parents creator links
+late_is_graph = graph_from_test (members 2) late refl
 
 early_stands : StandsIn early late
 early_stands = record { row_in = row_in }
@@ -75,21 +80,21 @@ sizes : (size : ℕ) (G : List Row) → list_all (λ row. eqb (length row.name) 
 sizes size G all = record { sized = λ x inside. sized_at size G all x inside }
 
 -- the core law holds of them
-worked_orders : IsPrefix (order_by_names 2 10 early) (order_by_names 2 10 late) ⊎ IsPrefix (order_by_names 2 10 late) (order_by_names 2 10 early)
-unfolding weight_below
+worked_orders : IsPrefix (order_by_names (members 2) 10 early) (order_by_names (members 2) 10 late) ⊎ IsPrefix (order_by_names (members 2) 10 late) (order_by_names (members 2) 10 early)
+unfolding total weight_below
 worked_orders =
-    own_chain_orders 2 10 1 early late (λ m. false) (omega arith) early_is_graph late_is_graph (equal_rows_of_part early late late_is_graph.distinct early_stands)
-    (sizes 1 early refl) (sizes 1 late refl) (omega arith) (λ m low none. one_chain_of_part 2 m early late late_is_graph early_stands (no_fork_of m low))
+    own_chain_orders (members 2) 10 1 early late (λ m. false) (omega arith) early_is_graph late_is_graph (equal_rows_of_part early late late_is_graph.distinct early_stands)
+    (sizes 1 early refl) (sizes 1 late refl) (omega arith) (λ m low none. one_chain_of_part (members 2) m early late late_is_graph early_stands (no_fork_of m low))
 
 abbrev matches : ℕ → ℕ → ℕ → Ordered
 matches name received time = record { name = name ∷ []; received = received; time = time }
 
-early_order : order_by_names 2 10 early ≡ matches 1 2 1 ∷ matches 2 2 2 ∷ matches 3 2 3 ∷ matches 4 2 4 ∷ []
-unfolding order_of fame_marks fame_of decides vote_of coin_at ordered_in whitening consensus_time median sort_by round_received can_receive is_closed is_unique_famous least_below is_witness round_of strongly_sees sees_through sees has_fork_below is_fork is_ancestor is_self_ancestor weight_below some_below list_below reaches by_place values_below parents self_parent creator links time_at sig_at name_at
+early_order : order_by_names (members 2) 10 early ≡ matches 1 2 1 ∷ matches 2 2 2 ∷ matches 3 2 3 ∷ matches 4 2 4 ∷ []
+unfolding order_of fame_marks fame_of decides vote_of coin_at ordered_in whitening consensus_time median sort_by round_received can_receive is_closed is_unique_famous least_below is_witness round_of strongly_sees sees_through sees has_fork_below is_fork is_ancestor is_self_ancestor total weight_below some_below list_below reaches by_place values_below parents self_parent creator links time_at sig_at name_at
 early_order = refl
 
-late_order : order_by_names 2 10 late ≡ matches 1 2 1 ∷ matches 2 2 2 ∷ matches 3 2 3 ∷ matches 4 2 4 ∷ matches 5 3 5 ∷ matches 6 3 6 ∷ []
-unfolding order_of fame_marks fame_of decides vote_of coin_at ordered_in whitening consensus_time median sort_by round_received can_receive is_closed is_unique_famous least_below is_witness round_of strongly_sees sees_through sees has_fork_below is_fork is_ancestor is_self_ancestor weight_below some_below list_below reaches by_place values_below parents self_parent creator links time_at sig_at name_at
+late_order : order_by_names (members 2) 10 late ≡ matches 1 2 1 ∷ matches 2 2 2 ∷ matches 3 2 3 ∷ matches 4 2 4 ∷ matches 5 3 5 ∷ matches 6 3 6 ∷ []
+unfolding order_of fame_marks fame_of decides vote_of coin_at ordered_in whitening consensus_time median sort_by round_received can_receive is_closed is_unique_famous least_below is_witness round_of strongly_sees sees_through sees has_fork_below is_fork is_ancestor is_self_ancestor total weight_below some_below list_below reaches by_place values_below parents self_parent creator links time_at sig_at name_at
 late_order = refl
 
 -- why names have one size: without it a byte of a signature can stand for one of a name. Of these two first events the one
@@ -108,10 +113,10 @@ made_on own other m time =
 abbrev above_both : List Row
 above_both = made_on (7 ∷ 9 ∷ []) (9 ∷ []) 0 3 ∷ made_on (9 ∷ []) (3 ∷ []) 1 4 ∷ made 0 3 4 5 ∷ made 1 4 5 6 ∷ made 0 5 6 7 ∷ made 1 6 7 8 ∷ []
 
-longer_first : map (λ (row : Ordered). row.name) (order_by_names 2 10 (longer_name ∷ shorter_name ∷ above_both)) ≡ (7 ∷ 9 ∷ []) ∷ (9 ∷ []) ∷ (3 ∷ []) ∷ (4 ∷ []) ∷ []
-unfolding order_of fame_marks fame_of decides vote_of coin_at ordered_in whitening consensus_time median sort_by round_received can_receive is_closed is_unique_famous least_below is_witness round_of strongly_sees sees_through sees has_fork_below is_fork is_ancestor is_self_ancestor weight_below some_below list_below reaches by_place values_below parents self_parent creator links time_at sig_at name_at
+longer_first : map (λ (row : Ordered). row.name) (order_by_names (members 2) 10 (longer_name ∷ shorter_name ∷ above_both)) ≡ (7 ∷ 9 ∷ []) ∷ (9 ∷ []) ∷ (3 ∷ []) ∷ (4 ∷ []) ∷ []
+unfolding order_of fame_marks fame_of decides vote_of coin_at ordered_in whitening consensus_time median sort_by round_received can_receive is_closed is_unique_famous least_below is_witness round_of strongly_sees sees_through sees has_fork_below is_fork is_ancestor is_self_ancestor total weight_below some_below list_below reaches by_place values_below parents self_parent creator links time_at sig_at name_at
 longer_first = refl
 
-shorter_first : map (λ (row : Ordered). row.name) (order_by_names 2 10 (shorter_name ∷ longer_name ∷ above_both)) ≡ (9 ∷ []) ∷ (7 ∷ 9 ∷ []) ∷ (3 ∷ []) ∷ (4 ∷ []) ∷ []
-unfolding order_of fame_marks fame_of decides vote_of coin_at ordered_in whitening consensus_time median sort_by round_received can_receive is_closed is_unique_famous least_below is_witness round_of strongly_sees sees_through sees has_fork_below is_fork is_ancestor is_self_ancestor weight_below some_below list_below reaches by_place values_below parents self_parent creator links time_at sig_at name_at
+shorter_first : map (λ (row : Ordered). row.name) (order_by_names (members 2) 10 (shorter_name ∷ longer_name ∷ above_both)) ≡ (9 ∷ []) ∷ (7 ∷ 9 ∷ []) ∷ (3 ∷ []) ∷ (4 ∷ []) ∷ []
+unfolding order_of fame_marks fame_of decides vote_of coin_at ordered_in whitening consensus_time median sort_by round_received can_receive is_closed is_unique_famous least_below is_witness round_of strongly_sees sees_through sees has_fork_below is_fork is_ancestor is_self_ancestor total weight_below some_below list_below reaches by_place values_below parents self_parent creator links time_at sig_at name_at
 shorter_first = refl

@@ -1,6 +1,7 @@
 -- Graphs whose rows are rows of a larger graph, and graphs with marks
 use Rattle.std.specs.Prelude.{ℕ, ◌≡◌, ◌<◌, ◌≤◌, Bool, true, List, length, Some, slice_get, IsTrue}
 use Rattle.hg_model.specs.declared.row.Row.{Row}
+use Rattle.hg_model.specs.Stakes.{Stakes}
 use Rattle.hg_model.specs.Links.{links, place_of}
 use Rattle.hg_model.specs.Ancestry.{is_ancestor, is_self_ancestor}
 use Rattle.hg_model.specs.Seeing.{sees, strongly_sees}
@@ -23,7 +24,7 @@ abbrev pub place_in : List Row → List Row → ℕ → ℕ
 place_in U G x = place_of U (name_at G x)
 
 -- row x of G has in U what it has in G
-pub record HasTheSame (n c : ℕ) (G U : List Row) (x : ℕ) : Type 0 where
+pub record HasTheSame (n : Stakes) (c : ℕ) (G U : List Row) (x : ℕ) : Type 0 where
   pub row : slice_get U (place_in U G x) ≡ slice_get G x
   pub ancestors : (y : ℕ) → y < length G → is_ancestor (links U) (place_in U G x) (place_in U G y) ≡ is_ancestor (links G) x y
   pub self_ancestors : (y : ℕ) → y < length G → is_self_ancestor (links U) (place_in U G x) (place_in U G y) ≡ is_self_ancestor (links G) x y
@@ -36,15 +37,15 @@ pub record HasTheSame (n c : ℕ) (G U : List Row) (x : ℕ) : Type 0 where
   pub decisions : (y : ℕ) → y < length G → decides n c (links U) (coin_at U) (place_in U G y) (place_in U G x) ≡ decides n c (links G) (coin_at G) y x
 
 -- each mark is the fame of the graph
-pub record AreFame (n c : ℕ) (G : List Row) (marks : Marks) : Type 0 where
+pub record AreFame (n : Stakes) (c : ℕ) (G : List Row) (marks : Marks) : Type 0 where
   pub fame : (x : ℕ) (v : Bool) → mark_at marks x ≡ Some v → fame_of n c (links G) (coin_at G) x ≡ Some v
 
 -- a graph with marks that are its fame, whose rows are rows of U
-pub record IsMarkedPart (n c : ℕ) (U G : List Row) (marks : Marks) : Type 0 where
+pub record IsMarkedPart (n : Stakes) (c : ℕ) (U G : List Row) (marks : Marks) : Type 0 where
   pub graph : IsGraph n G
   pub stands : StandsIn G U
   pub fame : AreFame n c G marks
 
 -- the graph has a unique famous witness of round r with this name
-abbrev pub HasUniqueFamous : ℕ → List Row → Marks → ℕ → List ℕ → Type 0
+abbrev pub HasUniqueFamous : Stakes → List Row → Marks → ℕ → List ℕ → Type 0
 HasUniqueFamous n G marks r name = (w : ℕ) × (w < length G) × (name_at G w ≡ name) × IsTrue (is_unique_famous n (links G) marks r w)

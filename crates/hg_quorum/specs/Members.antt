@@ -1,7 +1,8 @@
 -- Two quorums have a member in common. SWIRLDS-TR-2016-01, section 5, the ground of its first lemma
 use Rattle.std.specs.Prelude.{ℕ, ◌*◌, ◌<◌, Bool, true, not, List, IsTrue}
 use Rattle.hg_model.specs.declared.row.Row.{Row}
-use Rattle.hg_model.specs.Places.{weight_below, count_below}
+use Rattle.hg_model.specs.Places.{weight_below}
+use Rattle.hg_model.specs.Stakes.{Stakes, member_count, stake_where, total}
 use Rattle.hg_model.specs.Links.{links}
 use Rattle.hg_model.specs.Forks.{has_fork}
 use Rattle.hg_model.specs.Seeing.{is_supermajority}
@@ -19,8 +20,8 @@ QuorumsMeet = (weight : ℕ → ℕ) (n : ℕ) (one two few : ℕ → Bool) →
     3 * weight_below weight n few < weight_below weight n (λ _. true) →
     HasSharedMember n one two few
 
--- in a graph two sets of more than two thirds of the members share one that has no fork
+-- in a graph two sets of members with more than two thirds of the stake each share one that has no fork
 abbrev pub QuorumsShareAMember : Type 0
-QuorumsShareAMember = (n : ℕ) (G : List Row) → IsGraph n G → (one two : ℕ → Bool) →
-    IsTrue (is_supermajority n (count_below n one)) → IsTrue (is_supermajority n (count_below n two)) →
-    HasSharedMember n one two (has_fork (links G))
+QuorumsShareAMember = (n : Stakes) (G : List Row) → IsGraph n G → (one two : ℕ → Bool) →
+    IsTrue (is_supermajority (total n) (stake_where n one)) → IsTrue (is_supermajority (total n) (stake_where n two)) →
+    HasSharedMember (member_count n) one two (has_fork (links G))

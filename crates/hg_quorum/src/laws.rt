@@ -7,7 +7,7 @@ pub fn fork_is_seen_once()
     ensures once { ForksAreSeenOnce }
 {}
 
-/// A law: two sets of members, each more than two thirds, share a member that does not fork.
+/// A law: two sets of members, each with more than two thirds of the stake, share a member that does not fork.
 pub fn quorums_share_an_honest_member()
     ensures weighed { QuorumsMeet }
     ensures honest { QuorumsShareAMember }

@@ -1,9 +1,9 @@
 use Rattle.std.proofs.Common.{◌*◌, true}
 use Rattle.std.proofs.lemmas.Bool.{ltb-true, not_from_false}
 use Rattle.hg_model.specs.Places.{weight_below}
+use Rattle.hg_model.specs.Stakes.{stake_of, member_count, total}
 use Rattle.hg_model.specs.Links.{links}
-use Rattle.hg_model.specs.Forks.{has_fork, forkers}
-use Rattle.hg_model.proofs.PlacesLaws.{count_below-all}
+use Rattle.hg_model.specs.Forks.{has_fork, forking}
 use Rattle.hg_model.proofs.QuorumLaws.{quorums_meet}
 use Rattle.hg_quorum.specs.Members.{QuorumsMeet}
 use Rattle.hg_quorum.proofs.laws.quorums_share_an_honest_member.Goals as goal
@@ -20,4 +20,4 @@ returns-clause-weighed c = weighed
 pub returns-clause-honest : goal.returns-clause-honest
 returns-clause-honest c = λ n G g one two many_one many_two.
     let low = g.few_forkers in
-    weighed (λ _. 1) n one two (has_fork (links G)) (rw count_below-all many_one) (rw count_below-all many_two) (rw count_below-all (unfold forkers in low))
+    weighed (stake_of n) (member_count n) one two (has_fork (links G)) (unfold total in many_one) (unfold total in many_two) (unfold forking total in low)
