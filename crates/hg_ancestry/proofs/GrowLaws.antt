@@ -1,5 +1,5 @@
 -- What the bit rows and the masks hold when the graph grows, and of its first rows
-use Rattle.std.proofs.Common.{◌≡◌, ℕ, ◌+◌, ◌-◌, ◌<◌, ◌≤◌, ◌^◌, ◌||◌, eqb, Bool, List, [], ◌∷◌, ◌++◌, length, take, Option, sym, ap, ap₂, ◌∙◌, refl, inl, inr, arith}
+use Rattle.std.proofs.Common.{◌≡◌, ℕ, ◌+◌, ◌-◌, ◌<◌, ◌≤◌, ◌^◌, ◌||◌, eqb, Bool, List, [], ◌∷◌, ◌++◌, length, take, sym, ap, ap₂, ◌∙◌, refl, inl, inr, arith}
 use Rattle.std.specs.List.{list_any}
 use Rattle.std.proofs.lemmas.Bool.{cases_lt}
 use Rattle.std.proofs.lemmas.List.{length_push, length-take-le, get_or_append_left, get_or_push, get_or-take}
@@ -107,7 +107,7 @@ sight_take n L rows masks len le held =
     }
 
 -- its link's parents as they were given
-pub sight_grown : (n : ℕ) (L : List Link) (by : ℕ) (on : Option (ℕ × ℕ)) (rows : List (List Bool)) (masks : List ℕ) (row : List Bool) (mask : ℕ) →
+pub sight_grown : (n : ℕ) (L : List Link) (by : ℕ) (on : List ℕ) (rows : List (List Bool)) (masks : List ℕ) (row : List Bool) (mask : ℕ) →
     HoldsSight n L rows masks → FitsLink n L (link_of by on) → length L + 1 < 2 ^ 32 - 1 → row ≡ table (λ k. eqb k (length L) || is_above L on k) (length L + 1) →
     ((m : ℕ) → mask_has mask m ≡ has_fork_below (L ++ link_of by on ∷ []) (length L) m) → HoldsSight n (L ++ link_of by on ∷ []) (rows ++ row ∷ []) (masks ++ mask ∷ [])
 sight_grown n L by on rows masks row mask held fits short row_is mask_is = sight_more n L (link_of by on) held.shaped fits rows masks row mask held short row_is mask_is

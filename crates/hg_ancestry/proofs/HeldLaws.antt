@@ -1,5 +1,5 @@
 -- What is read in the rows of bits
-use Rattle.std.proofs.Common.{◌≡◌, ℕ, ◌+◌, ◌<◌, ◌||◌, eqb, false, List, [], ◌∷◌, Bool, length, get_or, replicate, Option, Some, None, sym, ap, subst, ◌∙◌, inl, inr, arith}
+use Rattle.std.proofs.Common.{◌≡◌, ℕ, ◌+◌, ◌<◌, ◌||◌, eqb, false, List, [], ◌∷◌, Bool, length, get_or, replicate, sym, ap, subst, ◌∙◌, inl, inr, arith}
 use Rattle.std.proofs.lemmas.Bool.{cases_lt, false_from_ne_true}
 use Rattle.std.proofs.lemmas.List.{get_or_read, get_or_past, get_or-replicate, length-replicate}
 use Rattle.std.proofs.Math.Bool.{or-false}
@@ -7,8 +7,9 @@ use Rattle.hg_model.specs.Places.{table, IsEarlier}
 use Rattle.hg_model.specs.Links.{Link, parents}
 use Rattle.hg_model.specs.Ancestry.{is_ancestor}
 use Rattle.std.specs.List.{AllByRecursion}
-use Rattle.hg_model.specs.Shape.{FitsLink, link_of, pair_list}
+use Rattle.hg_model.specs.Shape.{FitsLink, link_of}
 use Rattle.hg_model.proofs.ReachLaws.{has_place_first, has_place_later}
+use Rattle.hg_model.proofs.LinkLaws.{places_below}
 use Rattle.hg_model.proofs.AncestryLaws.{is_ancestor-le}
 use Rattle.hg_bits.specs.Rows.{is_in, with_place, union_of}
 use Rattle.hg_bits.proofs.RowLaws.{is_in-table, is_table, length-table}
@@ -34,8 +35,8 @@ row_tells L e x y row is = elim (cases_lt y (x + 1)) [
 module _ (L : List Link) (e : IsEarlier (parents L)) (rows : List (List Bool)) (held : HoldsAncestors L rows) where
   -- the next row of bits: that of no place
 
-  pub filled_none : (n : ℕ) → replicate n false ≡ table (is_above L None) n
-  filled_none n = is_table (replicate n false) (is_above L None) n (length-replicate n false) (λ i h. get_or-replicate n i false false h)
+  pub filled_none : (n : ℕ) → replicate n false ≡ table (is_above L []) n
+  filled_none n = is_table (replicate n false) (is_above L []) n (length-replicate n false) (λ i h. get_or-replicate n i false false h)
 
   joined_one : (row : List Bool) (x k : ℕ) → x < length L → k < length row → is_in (union_of row (row_at rows x)) k ≡ (is_in row k || is_ancestor L x k)
   unfolding union_of
@@ -48,13 +49,13 @@ module _ (L : List Link) (e : IsEarlier (parents L)) (rows : List (List Bool)) (
 
   -- that of two parents' ancestors
   pub filled_on : (n own other : ℕ) → own < length L → other < length L →
-      union_of (union_of (replicate n false) (row_at rows own)) (row_at rows other) ≡ table (is_above L (Some (own, other))) n
+      union_of (union_of (replicate n false) (row_at rows own)) (row_at rows other) ≡ table (is_above L (own ∷ other ∷ [])) n
   filled_on n own other hown hother =
       let empty : List Bool = replicate n false in
       let first = union_of empty (row_at rows own) in
       let long : length empty ≡ n = length-replicate n false in
       let first_long = joined_long empty (row_at rows own) in
-      is_table (union_of first (row_at rows other)) (is_above L (Some (own, other))) n (joined_long first (row_at rows other) ∙ (first_long ∙ long))
+      is_table (union_of first (row_at rows other)) (is_above L (own ∷ other ∷ [])) n (joined_long first (row_at rows other) ∙ (first_long ∙ long))
       (λ k h. joined_one first other k hother (omega (arith, first_long, long))
       ∙ (ap (λ b. b || is_ancestor L other k) (joined_one empty own k hown (omega (arith, long)) ∙ ap (λ b. b || is_ancestor L own k) (get_or-replicate n k false false h))
       ∙ ap (λ b. is_ancestor L own k || b) (sym (or-false (is_ancestor L other k)))))
@@ -68,13 +69,11 @@ filled_last test row n i is =
     (λ k h. is_in-table (λ k. eqb k i || is_in row k) n k h ∙ ap (λ b. eqb k i || b) (ap (λ r. is_in r k) is ∙ is_in-table test n k h)))
 
 -- the parents of a link that fits are there
-pub parents_there : (n : ℕ) (L : List Link) (by own other : ℕ) (on : Option (ℕ × ℕ)) → on ≡ Some (own, other) → FitsLink n L (link_of by on) → (own < length L) × (other < length L)
+pub parents_there : (n : ℕ) (L : List Link) (by own other : ℕ) (on : List ℕ) → on ≡ own ∷ other ∷ [] → FitsLink n L (link_of by on) → (own < length L) × (other < length L)
 parents_there n L by own other on is fits = (
-  (subst (λ (on : Option (ℕ × ℕ)). FitsLink n L (link_of by on)) is fits).earlier own (has_place_first own (other ∷ [])),
-  (subst (λ (on : Option (ℕ × ℕ)). FitsLink n L (link_of by on)) is fits).earlier other (has_place_later own other (other ∷ []) (has_place_first other [])),
+  (subst (λ (on : List ℕ). FitsLink n L (link_of by on)) is fits).earlier own (has_place_first own (other ∷ [])),
+  (subst (λ (on : List ℕ). FitsLink n L (link_of by on)) is fits).earlier other (has_place_later own other (other ∷ []) (has_place_first other [])),
 )
 
-pub places_fit : (n : ℕ) (L : List Link) (by : ℕ) (on : Option (ℕ × ℕ)) → FitsLink n L (link_of by on) → AllByRecursion (λ p. p < length L) (pair_list on)
-places_fit n L by None fits = tt
-places_fit n L by (Some (own, other)) fits =
-    (fits.earlier own (has_place_first own (other ∷ [])), (fits.earlier other (has_place_later own other (other ∷ []) (has_place_first other [])), tt))
+pub places_fit : (n : ℕ) (L : List Link) (by : ℕ) (on : List ℕ) → FitsLink n L (link_of by on) → AllByRecursion (λ p. p < length L) on
+places_fit n L by on fits = places_below (length L) on fits.earlier

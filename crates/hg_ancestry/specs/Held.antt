@@ -6,7 +6,6 @@ use Rattle.hg_model.specs.Links.{Link, creator}
 use Rattle.hg_model.specs.Ancestry.{is_ancestor, some_ancestor}
 use Rattle.hg_model.specs.Forks.{has_fork_below}
 use Rattle.hg_model.specs.Graph.{IsShaped}
-use Rattle.hg_model.specs.Shape.{pair_list}
 use Rattle.hg_bits.specs.Masks.{mask_has}
 
 -- the row of bits of x
@@ -42,8 +41,8 @@ spare_room None = 0
 spare_room (Some row) = 1
 
 -- the ancestors of a row on these parents among the rows before it
-abbrev pub is_above : List Link → Option (ℕ × ℕ) → ℕ → Bool
-is_above L parents y = list_any (λ p. is_ancestor L p y) (pair_list parents)
+abbrev pub is_above : List Link → List ℕ → ℕ → Bool
+is_above L parents y = list_any (λ p. is_ancestor L p y) parents
 
 -- member m has a row that is an ancestor of x and none of z
 abbrev pub is_apart : List Link → ℕ → ℕ → ℕ → Bool

@@ -2,12 +2,11 @@ ghost use Rattle.std.specs.Prelude.{◌≡◌, ◌<◌, ◌≤◌, ◌+◌, ◌|
 ghost use Rattle.hg_model.specs.Places.{IsEarlier, table};
 ghost use Rattle.hg_model.specs.Links.{parents};
 ghost use Rattle.std.specs.List.{AllByRecursion};
-ghost use Rattle.hg_model.specs.Shape.{pair_list};
 ghost use Rattle.hg_ancestry.specs.Held.{HoldsAncestors, is_above, row_at};
 
 use crate::links::PlacedLink;
 use hg_bits::BitRow;
-use hg_model::Memory;
+use hg_model::{Memory, Parents};
 use std::alloc::Global;
 
 /// The ancestors of row `x`.
@@ -20,10 +19,10 @@ pub fn row_of(rows: &[BitRow], x: usize) -> &BitRow
 }
 
 /// Adds the ancestors of a row on these parents, and the row itself, which comes next.
-pub fn fill(row: &mut BitRow, links: &[PlacedLink], rows: &[BitRow], on: Option<(usize, usize)>)
+pub fn fill(row: &mut BitRow, links: &[PlacedLink], rows: &[BitRow], on: Parents)
     requires earlier { IsEarlier (parents links.now) }
     requires known { HoldsAncestors links.now rows.now }
-    requires places { AllByRecursion (λ p. p < length links.now) (pair_list on) }
+    requires places { AllByRecursion (λ p. p < length links.now) on }
     requires empty { row.old ≡ replicate (length links.now + 1) false }
     ensures { row.new ≡ table (λ k. k == length links.now || is_above links.now on k) (length links.now + 1) }
 {
@@ -32,14 +31,14 @@ pub fn fill(row: &mut BitRow, links: &[PlacedLink], rows: &[BitRow], on: Option<
 }
 
 /// Adds the ancestors of these parents to an empty row.
-fn add_parents(row: &mut BitRow, links: &[PlacedLink], rows: &[BitRow], on: Option<(usize, usize)>)
+fn add_parents(row: &mut BitRow, links: &[PlacedLink], rows: &[BitRow], on: Parents)
     requires earlier { IsEarlier (parents links.now) }
     requires known { HoldsAncestors links.now rows.now }
-    requires places { AllByRecursion (λ p. p < length links.now) (pair_list on) }
+    requires places { AllByRecursion (λ p. p < length links.now) on }
     requires empty { row.old ≡ replicate (length links.now + 1) false }
     ensures { row.new ≡ table (is_above links.now on) (length links.now + 1) }
 {
-    match on {
+    match on.pair() {
         None => {}
         Some((own, other)) => {
             row.union(row_of(rows, own));

@@ -2,17 +2,17 @@ ghost use Rattle.std.specs.Prelude.{IsTrue};
 ghost use Rattle.hg_model.specs.Shape.{FitsLink, link_of};
 
 use crate::sight::BitSight;
-use hg_model::{Member, Sight};
+use hg_model::{Member, Parents, Sight};
 
 // Whether a row by the member on these parents may come next.
 #[tactic(auto, using(hg_model::proofs::ShapeLaws::fits_links))]
-pub fn fits(sight: &BitSight, parents: Option<(usize, usize)>, creator: Member) -> bool
+pub fn fits(sight: &BitSight, parents: Parents, creator: Member) -> bool
     ensures { IsTrue result → FitsLink sight.now.shape.members sight.now.shape.links (link_of creator parents) }
 {
     if u32::from(creator) >= sight.members() {
         return false;
     }
-    match parents {
+    match parents.pair() {
         None => true,
         Some((own, other)) => {
             own < sight.rows()

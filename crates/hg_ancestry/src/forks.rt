@@ -6,17 +6,17 @@ ghost use Rattle.hg_ancestry.specs.Held.{is_apart};
 
 use crate::sight::BitSight;
 use hg_bits::{join_masks, meet_masks, with_member};
-use hg_model::{Member, Memory, Sight};
+use hg_model::{Member, Memory, Parents, Sight};
 use std::alloc::Global;
 
 /// The members with a fork among the ancestors of a row by this member on these parents, which comes next.
-pub fn forked_below_next(sight: &BitSight, on: Option<(usize, usize)>, by: Member) -> u128
+pub fn forked_below_next(sight: &BitSight, on: Parents, by: Member) -> u128
     requires { FitsLink sight.now.shape.members sight.now.shape.links (link_of by on) }
     ensures { (m : ℕ) → mask_has result m ≡ has_fork_below (sight.now.shape.links ++ link_of by on ∷ []) (length sight.now.shape.links) m }
 {
     // That the graph is shaped.
     sight.rows();
-    match on {
+    match on.pair() {
         None => 0,
         Some((own, other)) => {
             let known = join_masks(sight.forked_below(own), sight.forked_below(other));

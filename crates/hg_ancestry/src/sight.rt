@@ -10,7 +10,7 @@ use crate::forks::{copy_masks, forked_below_next};
 use crate::links::{PlacedLink, copy_links, creator_of, self_parent_of};
 use crate::seeing;
 use hg_bits::BitRow;
-use hg_model::{Growing, Member, Memory, Sight};
+use hg_model::{Growing, Member, Memory, Parents, Sight};
 use std::alloc::Global;
 use std::marker::Model;
 
@@ -120,7 +120,7 @@ impl Growing for BitSight {
         Ok(())
     }
 
-    fn extend(&mut self, parents: Option<(usize, usize)>, creator: Member) {
+    fn extend(&mut self, parents: Parents, creator: Member) {
         let forked = forked_below_next(self, parents, creator);
         if let Some(mut row) = self.spare.take() {
             fill(&mut row, &self.links, &self.ancestors, parents);
@@ -147,17 +147,25 @@ mod tests {
     use super::*;
     use crate::checked::fits;
 
+    fn on(pair: Option<(usize, usize)>) -> Parents {
+        match pair {
+            None => Parents::none(),
+            Some((own, other)) => Parents::of(own, other),
+        }
+    }
+
     // Adds the rows one by one, and answers whether each of them fitted.
     fn add_all(
         sight: &mut BitSight,
         rows: &[(Member, Option<(usize, usize)>)],
     ) -> Result<bool, Memory> {
         for (creator, parents) in rows {
+            let parents = on(*parents);
             sight.reserve()?;
-            if sight.rows() > 1000 || !fits(sight, *parents, *creator) {
+            if sight.rows() > 1000 || !fits(sight, parents, *creator) {
                 return Ok(false);
             }
-            sight.extend(*parents, *creator);
+            sight.extend(parents, *creator);
         }
         Ok(true)
     }
@@ -220,7 +228,7 @@ mod tests {
         assert!(rt; sight.sees(2, 0) && sight.strongly_sees(2, 0) && !sight.strongly_sees(2, 1));
         assert!(rt; sight.strongly_sees(3, 0) && sight.strongly_sees(3, 1));
         assert!(rt; sight.strongly_sees(4, 2) && sight.strongly_sees(4, 3));
-        assert!(rt; !fits(&sight, Some((3, 2)), 0) && !fits(&sight, None, 2));
+        assert!(rt; !fits(&sight, Parents::of(3, 2), 0) && !fits(&sight, Parents::none(), 2));
         Ok(())
     }
 }

@@ -7,6 +7,7 @@ use Rattle.std.proofs.lemmas.Bool.{cases_lt, ltb-false, le-ltb}
 use Rattle.std.proofs.lemmas.List.{take_at, drop_at, take-append-drop, length-append, length-take, get_or-drop, get_or-take, get_or_past}
 use Rattle.std.proofs.lemmas.Nat.{be_bytes_2, be_bytes_8, from_be_bytes-to_be_bytes_2, from_be_bytes-to_be_bytes_8}
 use Rattle.std.proofs.lemmas.Slice.Eq.{bytes_eq-Decides}
+use Rattle.hg_model.specs.Links.{ParentNames}
 use Rattle.hg_model.specs.declared.answers.ByteFault.{ByteFault}
 use Rattle.hg_model.specs.declared.answers.ByteFault.TheVariants.{Short, BadMagic, BadLength}
 use Rattle.hg_model.specs.Spelling.{magic, parent_bytes, payload_bytes, payload_limit}
@@ -134,14 +135,14 @@ magic_again size left = refl
 
 -- ---- the parents
 
-abbrev pub AreNames : Option (List ℕ × List ℕ) → Type 0
+abbrev pub AreNames : ParentNames → Type 0
 AreNames parents = IfSome parents (λ names. (length names.0 ≡ 48) × (length names.1 ≡ 48))
 
-pub parents_took : (size : ℕ) (bytes : List ℕ) (x : Option (List ℕ × List ℕ) × List ℕ) → AreBytes bytes → parents_field size bytes ≡ Ok x → Took bytes (parent_bytes x.0) x.1 × AreNames x.0
+pub parents_took : (size : ℕ) (bytes : List ℕ) (x : ParentNames × List ℕ) → AreBytes bytes → parents_field size bytes ≡ Ok x → Took bytes (parent_bytes x.0) x.1 × AreNames x.0
 unfolding parents_field
 parents_took size [] x fit e = absurd cc
 parents_took size (zero ∷ bytes) x fit e =
-    subst (λ (x : Option (List ℕ × List ℕ) × List ℕ). Took (0 ∷ bytes) (parent_bytes x.0) x.1 × AreNames x.0) (same_done (None, bytes) x e)
+    subst (λ (x : ParentNames × List ℕ). Took (0 ∷ bytes) (parent_bytes x.0) x.1 × AreNames x.0) (same_done (None, bytes) x e)
     (record { whole = refl; left_fit = λ i. fit (suc i) }, tt)
 parents_took size (suc zero ∷ bytes) x fit e =
     let a = went_on (bytes_field size 48 bytes) (λ self_parent. bytes_field size 48 self_parent.1 >>= λ other_parent. Ok (Some (self_parent.0, other_parent.0), other_parent.1)) x e in
@@ -149,11 +150,11 @@ parents_took size (suc zero ∷ bytes) x fit e =
     let t = bytes_took size 48 bytes a.0 (λ i. fit (suc i)) a.1 in
     let u = bytes_took size 48 a.0.1 b.0 t.0.left_fit b.1 in
     let both : bytes ≡ (a.0.0 ++ b.0.0) ++ b.0.1 = then_took t.0 u.0.whole ∙ sym (append_assoc a.0.0 b.0.0 b.0.1) in
-    subst (λ (x : Option (List ℕ × List ℕ) × List ℕ). Took (1 ∷ bytes) (parent_bytes x.0) x.1 × AreNames x.0) (same_done (Some (a.0.0, b.0.0), b.0.1) x b.2)
+    subst (λ (x : ParentNames × List ℕ). Took (1 ∷ bytes) (parent_bytes x.0) x.1 × AreNames x.0) (same_done (Some (a.0.0, b.0.0), b.0.1) x b.2)
     (record { whole = ap (λ (t : List ℕ). 1 ∷ t) both; left_fit = u.0.left_fit }, (t.1, u.1))
 parents_took size (suc (suc kind) ∷ bytes) x fit e = absurd cc
 
-pub parents_again : (size : ℕ) (parents : Option (List ℕ × List ℕ)) (left : List ℕ) → AreNames parents → parents_field size (parent_bytes parents ++ left) ≡ Ok (parents, left)
+pub parents_again : (size : ℕ) (parents : ParentNames) (left : List ℕ) → AreNames parents → parents_field size (parent_bytes parents ++ left) ≡ Ok (parents, left)
 unfolding parents_field
 parents_again size None left are = refl
 parents_again size (Some names) left are =

@@ -5,6 +5,7 @@ use Rattle.std.proofs.lemmas.Bool.{eqb-true}
 use Rattle.std.proofs.lemmas.List.{append-nil, nil_from_length, take_at, length-append}
 use Rattle.sha2.specs.Sha512.{sha384}
 use Rattle.hg_model.specs.declared.row.Row.{Row}
+use Rattle.hg_model.specs.Links.{ParentNames}
 use Rattle.hg_model.specs.declared.answers.ByteFault.{ByteFault}
 use Rattle.hg_model.specs.declared.answers.ByteFault.TheVariants.{Trailing}
 use Rattle.hg_model.specs.Spelling.{Spells, body_bytes, body_of, magic, parent_bytes, payload_bytes, spelling}
@@ -86,7 +87,7 @@ unfolding spelling body_of
 Spells-signed_row bytes row spells = ap (λ (name : List ℕ). record row { name = name }) (spells.named ∙ ap sha384 spells.spelled)
 
 -- the fields, one read after the other, and what is signed of them
-pub fields_read : (bytes rest : List ℕ) (creator : ℕ × List ℕ) (parents : Option (List ℕ × List ℕ) × List ℕ) (time : ℕ × List ℕ) (payload sig : List ℕ × List ℕ)
+pub fields_read : (bytes rest : List ℕ) (creator : ℕ × List ℕ) (parents : ParentNames × List ℕ) (time : ℕ × List ℕ) (payload sig : List ℕ × List ℕ)
     → AreBytes bytes → after_magic (length bytes) bytes ≡ Ok rest → number_field (length bytes) w16 rest ≡ Ok creator → parents_field (length bytes) creator.1 ≡ Ok parents
     → number_field (length bytes) w64 parents.1 ≡ Ok time → payload_field (length bytes) time.1 ≡ Ok payload → bytes_field (length bytes) 64 payload.1 ≡ Ok sig
     → eqb (length sig.1) 0 ≡ true

@@ -102,14 +102,14 @@ made_other (answer.Refused f) row other = refl
 
 pub makes_add_one : (K : Type 0) → MakesAddOne K
 unfolding make_answer make_changes
-makes_add_one K v other time payload sig place is = (
+makes_add_one K v others time payload sig place is = (
   made_place _ (length (node_rows v)) place is,
-  ap (λ (a : MakeAnswer). made_by a (made_row v.start.own (node_rows v) other time payload sig)) is,
+  ap (λ (a : MakeAnswer). made_by a (made_row v.start.own (node_rows v) others time payload sig)) is,
 )
 
 pub other_makes_add_none : (K : Type 0) → OtherMakesAddNone K
 unfolding make_changes
-other_makes_add_none K v other time payload sig none = made_other (make_answer v other time payload sig) (made_row v.start.own (node_rows v) other time payload sig) none
+other_makes_add_none K v others time payload sig none = made_other (make_answer v others time payload sig) (made_row v.start.own (node_rows v) others time payload sig) none
 
 -- publishing
 

@@ -4,10 +4,10 @@ use Rattle.std.specs.Prelude.{IfSome}
 use Rattle.hg_model.specs.declared.row.Row.{Row}
 use Rattle.hg_model.specs.declared.answers.MakeAnswer.{MakeAnswer}
 use Rattle.hg_model.specs.declared.answers.MakeAnswer.TheVariants as answer
-use Rattle.hg_model.specs.Links.{parent_names, place_of}
+use Rattle.hg_model.specs.Links.{ParentNames, parent_names, place_of}
 use Rattle.hg_model.specs.Fits.{AreHeld}
 use Rattle.hg_model.specs.Spelling.{body_of, spelling, Spells}
-use Rattle.hg_model.specs.Verdict.{last_name, both_names, made_row, making}
+use Rattle.hg_model.specs.Verdict.{last_name, parents_on, made_row, making}
 use Rattle.hg_model.specs.History.{Change, Accepts, IsMade}
 use Rattle.hg_model.specs.History.Change.{Made}
 use Rattle.hg_model.specs.NodeView.{NodeView, with_changes, node_rows, IsNode}
@@ -24,18 +24,18 @@ use Rattle.hg_history.proofs.CallLaws.{with_none, node_with}
 held_size : (G : List Row) (name : List ℕ) → HasNameSizes 48 G → place_of G name < length G → length name ≡ 48
 held_size G name sizes held = ap length (sym (name_at_place G name held)) ∙ sizes.sized (place_of G name) held
 
-parent_sizes : (G : List Row) (parents : Option (List ℕ × List ℕ)) → HasNameSizes 48 G → AreHeld G (parent_names parents) →
+parent_sizes : (G : List Row) (parents : ParentNames) → HasNameSizes 48 G → AreHeld G (parent_names parents) →
     IfSome parents (λ names. (length names.0 ≡ 48) × (length names.1 ≡ 48))
 parent_sizes G None sizes held = tt
 parent_sizes G (Some names) sizes held = (held_size G names.0 sizes held.0, held_size G names.1 sizes held.1.0)
 
-made_spells : (n own : ℕ) (G : List Row) (other : Option (List ℕ)) (time : ℕ) (payload sig : List ℕ) → own < 2 ^ 16 → time < 2 ^ 64 → length sig ≡ 64 → HasNameSizes 48 G →
-    Drafted n own G other payload → Spells (spelling (made_row own G other time payload sig)) (made_row own G other time payload sig)
+made_spells : (n own : ℕ) (G : List Row) (others : List (List ℕ)) (time : ℕ) (payload sig : List ℕ) → own < 2 ^ 16 → time < 2 ^ 64 → length sig ≡ 64 → HasNameSizes 48 G →
+    Drafted n own G others payload → Spells (spelling (made_row own G others time payload sig)) (made_row own G others time payload sig)
 unfolding spelling body_of
-made_spells n own G other time payload sig small early sized sizes draft = record {
+made_spells n own G others time payload sig small early sized sizes draft = record {
   sized = record {
     creator = small;
-    parents = parent_sizes G (both_names (last_name own G) other) sizes draft.held;
+    parents = parent_sizes G (parents_on (last_name own G) others) sizes draft.held;
     time = early;
     payload = draft.short;
     sig = sized;
@@ -44,38 +44,38 @@ made_spells n own G other time payload sig small early sized sizes draft = recor
   named = refl;
 }
 
-module _ (K : Type 0) (accepts : K → Accepts) (v : NodeView K) (other : Option (List ℕ)) (time : ℕ) (payload sig : List ℕ) (early : time < 2 ^ 64) (sized : length sig ≡ 64)
-    (signed : make_draft v other payload ≡ None → accepts v.start.keys v.start.own (make_body v other time payload) sig ≡ true) (node : IsNode accepts v) where
-  is_made : (place : ℕ) → making v.start.own (node_rows v) other time payload sig ≡ answer.Made place →
-      IsMade (accepts v.start.keys) v.start.own (node_rows v) (made_row v.start.own (node_rows v) other time payload sig)
+module _ (K : Type 0) (accepts : K → Accepts) (v : NodeView K) (others : List (List ℕ)) (time : ℕ) (payload sig : List ℕ) (early : time < 2 ^ 64) (sized : length sig ≡ 64)
+    (signed : make_draft v others payload ≡ None → accepts v.start.keys v.start.own (make_body v others time payload) sig ≡ true) (node : IsNode accepts v) where
+  is_made : (place : ℕ) → making v.start.own (node_rows v) others time payload sig ≡ answer.Made place →
+      IsMade (accepts v.start.keys) v.start.own (node_rows v) (made_row v.start.own (node_rows v) others time payload sig)
   unfolding make_body make_draft body_of
   is_made place is =
       let own = v.start.own in
       let G : List Row = node_rows v in
       let s = sound (accepts v.start.keys) v.start.members v.start.coin own v.history node.coin node.history in
       let sizes = (node_graph (accepts v.start.keys) v.start.members v.start.coin own v.history node.coin node.history).sizes in
-      let none = made_draft own G other time payload sig place is in
-      let draft = drafted v.start.members own G other payload s.graph.distinct none in
+      let none = made_draft own G others time payload sig place is in
+      let draft = drafted v.start.members own G others payload s.graph.distinct none in
       let low : own < v.start.members = node.history.member in
       let few : v.start.members ≤ 128 = node.few_members in
       record {
-        other = other;
+        others = others;
         time = time;
         payload = payload;
         sig = sig;
         fields = refl;
-        spelled = made_spells v.start.members own G other time payload sig (omega arith) early sized sizes draft;
+        spelled = made_spells v.start.members own G others time payload sig (omega arith) early sized sizes draft;
         signed = signed none;
         made = is ∙ ap (λ (k : ℕ). answer.Made k) (made_place _ (length G) place is);
       }
 
-  node_made : (a : MakeAnswer) → make_answer v other time payload sig ≡ a → IsNode accepts (with_changes v (make_changes v other time payload sig))
+  node_made : (a : MakeAnswer) → make_answer v others time payload sig ≡ a → IsNode accepts (with_changes v (make_changes v others time payload sig))
   unfolding make_answer make_changes
   node_made (answer.Refused f) is =
-      subst (IsNode accepts) (sym (with_none v (make_changes v other time payload sig) (ap (λ (a : MakeAnswer). made_by a (made_row v.start.own (node_rows v) other time payload sig)) is))) node
+      subst (IsNode accepts) (sym (with_none v (make_changes v others time payload sig) (ap (λ (a : MakeAnswer). made_by a (made_row v.start.own (node_rows v) others time payload sig)) is))) node
   node_made (answer.Made place) is =
-      subst (λ (es : List Change). IsNode accepts (with_changes v es)) (sym (ap (λ (a : MakeAnswer). made_by a (made_row v.start.own (node_rows v) other time payload sig)) is))
-      (node_with accepts v (Made (made_row v.start.own (node_rows v) other time payload sig)) node (is_made place is))
+      subst (λ (es : List Change). IsNode accepts (with_changes v es)) (sym (ap (λ (a : MakeAnswer). made_by a (made_row v.start.own (node_rows v) others time payload sig)) is))
+      (node_with accepts v (Made (made_row v.start.own (node_rows v) others time payload sig)) node (is_made place is))
 
 pub makes_leave_a_node : (K : Type 0) → MakesLeaveANode K
-makes_leave_a_node K accepts v other time payload sig early sized signed node = node_made K accepts v other time payload sig early sized signed node (make_answer v other time payload sig) refl
+makes_leave_a_node K accepts v others time payload sig early sized signed node = node_made K accepts v others time payload sig early sized signed node (make_answer v others time payload sig) refl

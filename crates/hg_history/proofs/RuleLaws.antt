@@ -9,12 +9,12 @@ use Rattle.hg_model.specs.declared.answers.PutAnswer.TheVariants.{Accepted, Know
 use Rattle.hg_model.specs.declared.answers.MakeAnswer.TheVariants as answer
 use Rattle.hg_model.specs.declared.answers.MakeFault.{MakeFault}
 use Rattle.hg_model.specs.declared.answers.Fault.TheVariants as fault
-use Rattle.hg_model.specs.Links.{links, place_of}
+use Rattle.hg_model.specs.Links.{ParentNames, links, place_of}
 use Rattle.hg_model.specs.Forks.{forkers}
 use Rattle.hg_model.specs.Graph.{HasDistinctNames}
 use Rattle.hg_model.specs.Fits.{Fits}
 use Rattle.hg_model.specs.Spelling.{body_of}
-use Rattle.hg_model.specs.Verdict.{row_limit, has_bytes, is_held, member_rule, name_rule, signature_rule, impostor_rule, missing_rule, creator_rule, arrival_rule, forkers_with, forkers_rule, full_rule, row_verdict, last_name, both_names, made_row, first_rule, other_rule, payload_rule, draft_rule, collision_rule, room_rule, made_or, making}
+use Rattle.hg_model.specs.Verdict.{row_limit, has_bytes, is_held, first_missing, first_by, member_rule, name_rule, signature_rule, impostor_rule, missing_rule, creator_rule, arrival_rule, forkers_with, forkers_rule, full_rule, row_verdict, last_name, parents_on, made_row, first_rule, other_rule, payload_rule, draft_rule, collision_rule, room_rule, made_or, making}
 use Rattle.hg_model.specs.Graph.{creator_at}
 use Rattle.hg_model.specs.History.{Accepts, IsTaken, IsMade}
 use Rattle.hg_model.proofs.RuleLaws.{option_or_none, one_test, below_from_test, arrives, has_room, drafted, admitted}
@@ -37,9 +37,13 @@ none_of_other : (t : Bool) (x : PutAnswer) → is_accepted x ≡ false → Accep
 none_of_other true x not_x = tt
 none_of_other false x not_x = not_x
 
-none_of_two : (s t : Bool) (x y : PutAnswer) → is_accepted x ≡ false → is_accepted y ≡ false → AcceptsNone (cond s (Some x) (cond t (Some y) None))
-none_of_two true t x y not_x not_y = not_x
-none_of_two false t x y not_x not_y = none_of_one t y not_y
+none_then : (t : Bool) (x : PutAnswer) (o : Option PutAnswer) → is_accepted x ≡ false → AcceptsNone o → AcceptsNone (cond t (Some x) o)
+none_then true x o not_x not_o = not_x
+none_then false x o not_x not_o = not_o
+
+none_mapped : {A : Type 0} (f : A → PutAnswer) → ((a : A) → is_accepted (f a) ≡ false) → (o : Option A) → AcceptsNone (option_map f o)
+none_mapped f none None = tt
+none_mapped f none (Some a) = none a
 
 none_of_rest : (s t : Bool) (x y : PutAnswer) → is_accepted x ≡ false → is_accepted y ≡ false → AcceptsNone (cond s None (cond t (Some x) (Some y)))
 none_of_rest true t x y not_x not_y = tt
@@ -50,18 +54,19 @@ none_of_both : (a b : Option PutAnswer) → AcceptsNone a → AcceptsNone b → 
 none_of_both None b not_a not_b = not_b
 none_of_both (Some x) b not_a not_b = not_a
 
-none_of_missing : (G : List Row) (parents : Option (List ℕ × List ℕ)) → AcceptsNone (missing_rule G parents)
+none_of_missing : (G : List Row) (parents : ParentNames) → AcceptsNone (missing_rule G parents)
 unfolding is_accepted
 none_of_missing G None = tt
 none_of_missing G (Some names) =
-    none_of_two (not (is_held G names.0)) (not (is_held G names.1)) (Refused (fault.MissingSelf names.0)) (Refused (fault.MissingOther names.1)) refl refl
+    none_then (not (is_held G names.0)) (Refused (fault.MissingSelf names.0)) _ refl
+    (none_mapped (λ (name : List ℕ). Refused (fault.MissingOther name)) (λ name. refl) (first_missing G (names.1 ∷ [])))
 
-none_of_creators : (G : List Row) (m : ℕ) (parents : Option (List ℕ × List ℕ)) → AcceptsNone (creator_rule G m parents)
+none_of_creators : (G : List Row) (m : ℕ) (parents : ParentNames) → AcceptsNone (creator_rule G m parents)
 unfolding is_accepted
 none_of_creators G m None = tt
 none_of_creators G m (Some names) =
-    none_of_two (not (eqb (creator_at G (place_of G names.0)) m)) (eqb (creator_at G (place_of G names.1)) m)
-    (Refused (fault.SelfCreator (place_of G names.0))) (Refused (fault.OtherCreator (place_of G names.1))) refl refl
+    none_then (not (eqb (creator_at G (place_of G names.0)) m)) (Refused (fault.SelfCreator (place_of G names.0))) _ refl
+    (none_mapped (λ (place : ℕ). Refused (fault.OtherCreator place)) (λ place. refl) (first_by G m (names.1 ∷ [])))
 
 none_of_rules : (accepts : Accepts) (n own : ℕ) (G : List Row) (row : Row) → AcceptsNone (option_or (arrival_rule accepts n own G row) (option_or (forkers_rule n G row) (full_rule G)))
 unfolding is_accepted
@@ -143,39 +148,39 @@ none_of_made None p q is = refl
 none_of_made (Some f) p q is = cc
 
 -- no rule speaks against the draft of an event that is made
-pub made_draft : (own : ℕ) (G : List Row) (other : Option (List ℕ)) (time : ℕ) (payload sig : List ℕ) (place : ℕ) → making own G other time payload sig ≡ answer.Made place →
-    draft_rule own G other payload ≡ None
-made_draft own G other time payload sig place is =
-    let row = made_row own G other time payload sig in
+pub made_draft : (own : ℕ) (G : List Row) (others : List (List ℕ)) (time : ℕ) (payload sig : List ℕ) (place : ℕ) → making own G others time payload sig ≡ answer.Made place →
+    draft_rule own G others payload ≡ None
+made_draft own G others time payload sig place is =
+    let row = made_row own G others time payload sig in
     let rules = option_or (collision_rule G row) (room_rule G) in
-    (option_or_none (draft_rule own G other payload) rules (none_of_made (option_or (draft_rule own G other payload) rules) (length G) place is)).0
+    (option_or_none (draft_rule own G others payload) rules (none_of_made (option_or (draft_rule own G others payload) rules) (length G) place is)).0
 
 pub made_place : (o : Option MakeFault) (p q : ℕ) → made_or o p ≡ answer.Made q → q ≡ p
 made_place None p q is = cc
 made_place (Some f) p q is = cc
 
 -- the self-parent of a made row is the member's last row
-own_parent : (last other : Option (List ℕ)) → first_rule last other ≡ None → option_map (λ names. names.0) (both_names last other) ≡ last
-own_parent None None none = refl
-own_parent (Some a) None none = cc
-own_parent None (Some b) none = cc
-own_parent (Some a) (Some b) none = refl
+own_parent : (last : Option (List ℕ)) (others : List (List ℕ)) → first_rule last others ≡ None → option_map (λ names. names.0) (parents_on last others) ≡ last
+own_parent None [] none = refl
+own_parent (Some a) [] none = cc
+own_parent None (b ∷ others) none = cc
+own_parent (Some a) (b ∷ others) none = refl
 
 pub record MadeIs (accepts : Accepts) (n own : ℕ) (G : List Row) (row : Row) : Type 0 where
   pub comes : Comes accepts n G row
   pub by_own : row.creator ≡ own
   pub after_last : option_map (λ names. names.0) row.parents ≡ last_name own G
 
-made_fields : (accepts : Accepts) (n own : ℕ) (G : List Row) (other : Option (List ℕ)) (time : ℕ) (payload sig : List ℕ) → own < n → HasDistinctNames G →
-    accepts own (body_of (made_row own G other time payload sig)) sig ≡ true → making own G other time payload sig ≡ answer.Made (length G) →
-    MadeIs accepts n own G (made_row own G other time payload sig)
-made_fields accepts n own G other time payload sig member distinct signed made =
-    let row = made_row own G other time payload sig in
-    let none = none_of_made (option_or (draft_rule own G other payload) (option_or (collision_rule G row) (room_rule G))) (length G) (length G) made in
-    let two = option_or_none (draft_rule own G other payload) (option_or (collision_rule G row) (room_rule G)) none in
-    let draft = drafted n own G other payload distinct two.0 in
+made_fields : (accepts : Accepts) (n own : ℕ) (G : List Row) (others : List (List ℕ)) (time : ℕ) (payload sig : List ℕ) → own < n → HasDistinctNames G →
+    accepts own (body_of (made_row own G others time payload sig)) sig ≡ true → making own G others time payload sig ≡ answer.Made (length G) →
+    MadeIs accepts n own G (made_row own G others time payload sig)
+made_fields accepts n own G others time payload sig member distinct signed made =
+    let row = made_row own G others time payload sig in
+    let none = none_of_made (option_or (draft_rule own G others payload) (option_or (collision_rule G row) (room_rule G))) (length G) (length G) made in
+    let two = option_or_none (draft_rule own G others payload) (option_or (collision_rule G row) (room_rule G)) none in
+    let draft = drafted n own G others payload distinct two.0 in
     let new = admitted G row two.1 in
-    let first = option_or_none (first_rule (last_name own G) other) (option_or (other_rule own G other) (payload_rule payload)) two.0 in
+    let first = option_or_none (first_rule (last_name own G) others) (option_or (other_rule own G others) (payload_rule payload)) two.0 in
     record {
       comes = record {
         fits = record { member = member; present = record { held = draft.held }; parents_fit = draft.parents_fit };
@@ -184,11 +189,11 @@ made_fields accepts n own G other time payload sig member distinct signed made =
         room = new.room;
       };
       by_own = refl;
-      after_last = own_parent (last_name own G) other first.0;
+      after_last = own_parent (last_name own G) others first.0;
     }
 
 pub made_is : (accepts : Accepts) (n own : ℕ) (G : List Row) (row : Row) → own < n → HasDistinctNames G → IsMade accepts own G row → MadeIs accepts n own G row
 made_is accepts n own G row member distinct made =
     subst (MadeIs accepts n own G) (sym made.fields)
-    (made_fields accepts n own G made.other made.time made.payload made.sig member distinct
+    (made_fields accepts n own G made.others made.time made.payload made.sig member distinct
     (subst (λ (r : Row). accepts own (body_of r) made.sig ≡ true) made.fields made.signed) made.made)

@@ -8,7 +8,7 @@ use Rattle.sha2.specs.Sha512.{sha384, first_words, schedule, rounds, compress, h
 use Rattle.hg_model.specs.declared.row.Row.{Row}
 use Rattle.hg_model.specs.declared.answers.MakeAnswer.TheVariants as answer
 use Rattle.hg_model.specs.Places.{weight_below, some_below, least_below, values_below, by_place, reaches}
-use Rattle.hg_model.specs.Links.{links, parents, self_parent, creator}
+use Rattle.hg_model.specs.Links.{ParentNames, links, parents, self_parent, creator}
 use Rattle.hg_model.specs.Ancestry.{is_ancestor, is_self_ancestor}
 use Rattle.hg_model.specs.Forks.{is_fork, has_fork_below, has_fork, forkers}
 use Rattle.hg_model.specs.Seeing.{sees, sees_through, strongly_sees}
@@ -27,14 +27,14 @@ abbrev name : ℕ → ℕ → ℕ → ℕ → ℕ → ℕ → List ℕ
 name a b c d e f = to_be_bytes w64 a ++ (to_be_bytes w64 b ++ (to_be_bytes w64 c ++ (to_be_bytes w64 d ++ (to_be_bytes w64 e ++ to_be_bytes w64 f))))
 
 -- an event without payload, whose signature repeats its time
-abbrev row : ℕ → Option (List ℕ × List ℕ) → ℕ → List ℕ → Row
+abbrev row : ℕ → ParentNames → ℕ → List ℕ → Row
 row m parents time name = record { creator = m; parents = parents; time = time; payload = []; sig = replicate 64 time; name = name }
 
 -- each signature is accepted
 abbrev all : Accepts
 all m body sig = true
 
-event : (m : ℕ) (parents : Option (List ℕ × List ℕ)) (time : ℕ) (name : List ℕ) → m < 2 ^ 16 → IfSome parents (λ names. (length names.0 ≡ 48) × (length names.1 ≡ 48)) → time < 2 ^ 64 →
+event : (m : ℕ) (parents : ParentNames) (time : ℕ) (name : List ℕ) → m < 2 ^ 16 → IfSome parents (λ names. (length names.0 ≡ 48) × (length names.1 ≡ 48)) → time < 2 ^ 64 →
     sha384 (spelling (row m parents time name)) ≡ name → Spells (spelling (row m parents time name)) (row m parents time name)
 event m parents time name small sizes early named = record {
   sized = record { creator = small; parents = sizes; time = early; payload = omega arith; sig = length-replicate 64 time };
@@ -148,14 +148,14 @@ named7 = refl
 event7 : Spells (spelling row7) row7
 event7 = event 1 (Some (name5, name6)) 8 name7 (omega arith) (refl, refl) (omega arith) named7
 
-making0 : making 1 ([]) None 2 [] (replicate 64 2) ≡ answer.Made 0
+making0 : making 1 ([]) [] 2 [] (replicate 64 2) ≡ answer.Made 0
 unfolding first_words schedule rounds compress hash_after digest_bytes sha384
 making0 = refl
 
 made0 : IsMade all 1 ([]) row0
 unfolding body_of spelling
 made0 = record {
-  other = None;
+  others = [];
   time = 2;
   payload = [];
   sig = replicate 64 2;
@@ -173,14 +173,14 @@ taken2 : IsTaken all 2 1 (row0 ∷ row1 ∷ []) row2
 unfolding forkers has_fork is_fork is_self_ancestor weight_below some_below reaches by_place values_below self_parent parents creator links
 taken2 = record { spelled = event2; accepted = refl }
 
-making3 : making 1 (row0 ∷ row1 ∷ row2 ∷ []) (Some name2) 4 [] (replicate 64 4) ≡ answer.Made 3
+making3 : making 1 (row0 ∷ row1 ∷ row2 ∷ []) (name2 ∷ []) 4 [] (replicate 64 4) ≡ answer.Made 3
 unfolding first_words schedule rounds compress hash_after digest_bytes sha384
 making3 = refl
 
 made3 : IsMade all 1 (row0 ∷ row1 ∷ row2 ∷ []) row3
 unfolding body_of spelling
 made3 = record {
-  other = (Some name2);
+  others = name2 ∷ [];
   time = 4;
   payload = [];
   sig = replicate 64 4;
@@ -194,14 +194,14 @@ taken4 : IsTaken all 2 1 (row0 ∷ row1 ∷ row2 ∷ row3 ∷ []) row4
 unfolding forkers has_fork is_fork is_self_ancestor weight_below some_below reaches by_place values_below self_parent parents creator links
 taken4 = record { spelled = event4; accepted = refl }
 
-making5 : making 1 (row0 ∷ row1 ∷ row2 ∷ row3 ∷ row4 ∷ []) (Some name4) 6 [] (replicate 64 6) ≡ answer.Made 5
+making5 : making 1 (row0 ∷ row1 ∷ row2 ∷ row3 ∷ row4 ∷ []) (name4 ∷ []) 6 [] (replicate 64 6) ≡ answer.Made 5
 unfolding first_words schedule rounds compress hash_after digest_bytes sha384
 making5 = refl
 
 made5 : IsMade all 1 (row0 ∷ row1 ∷ row2 ∷ row3 ∷ row4 ∷ []) row5
 unfolding body_of spelling
 made5 = record {
-  other = (Some name4);
+  others = name4 ∷ [];
   time = 6;
   payload = [];
   sig = replicate 64 6;
@@ -215,14 +215,14 @@ taken6 : IsTaken all 2 1 (row0 ∷ row1 ∷ row2 ∷ row3 ∷ row4 ∷ row5 ∷ 
 unfolding forkers has_fork is_fork is_self_ancestor weight_below some_below reaches by_place values_below self_parent parents creator links
 taken6 = record { spelled = event6; accepted = refl }
 
-making7 : making 1 (row0 ∷ row1 ∷ row2 ∷ row3 ∷ row4 ∷ row5 ∷ row6 ∷ []) (Some name6) 8 [] (replicate 64 8) ≡ answer.Made 7
+making7 : making 1 (row0 ∷ row1 ∷ row2 ∷ row3 ∷ row4 ∷ row5 ∷ row6 ∷ []) (name6 ∷ []) 8 [] (replicate 64 8) ≡ answer.Made 7
 unfolding first_words schedule rounds compress hash_after digest_bytes sha384
 making7 = refl
 
 made7 : IsMade all 1 (row0 ∷ row1 ∷ row2 ∷ row3 ∷ row4 ∷ row5 ∷ row6 ∷ []) row7
 unfolding body_of spelling
 made7 = record {
-  other = (Some name6);
+  others = name6 ∷ [];
   time = 8;
   payload = [];
   sig = replicate 64 8;

@@ -184,19 +184,19 @@ PutsLeaveANode K = (accepts : K → Accepts) (v : NodeView K) (bytes : List ℕ)
 
 -- an event that is made adds one change, its row, at the next place
 abbrev pub MakesAddOne : (K : Type 0) → Type 0
-MakesAddOne K = (v : NodeView K) (other : Option (List ℕ)) (time : ℕ) (payload sig : List ℕ) (place : ℕ) → make_answer v other time payload sig ≡ made.Made place →
-    (place ≡ length (node_rows v)) × (make_changes v other time payload sig ≡ Made (made_row v.start.own (node_rows v) other time payload sig) ∷ [])
+MakesAddOne K = (v : NodeView K) (others : List (List ℕ)) (time : ℕ) (payload sig : List ℕ) (place : ℕ) → make_answer v others time payload sig ≡ made.Made place →
+    (place ≡ length (node_rows v)) × (make_changes v others time payload sig ≡ Made (made_row v.start.own (node_rows v) others time payload sig) ∷ [])
 
 -- one that is refused adds none
 abbrev pub OtherMakesAddNone : (K : Type 0) → Type 0
-OtherMakesAddNone K = (v : NodeView K) (other : Option (List ℕ)) (time : ℕ) (payload sig : List ℕ) → ((place : ℕ) → make_answer v other time payload sig ≡ made.Made place → ⊥) →
-    make_changes v other time payload sig ≡ []
+OtherMakesAddNone K = (v : NodeView K) (others : List (List ℕ)) (time : ℕ) (payload sig : List ℕ) → ((place : ℕ) → make_answer v others time payload sig ≡ made.Made place → ⊥) →
+    make_changes v others time payload sig ≡ []
 
 -- and leaves a node, where the signature is accepted; an event that is refused before is not signed
 abbrev pub MakesLeaveANode : (K : Type 0) → Type 0
-MakesLeaveANode K = (accepts : K → Accepts) (v : NodeView K) (other : Option (List ℕ)) (time : ℕ) (payload sig : List ℕ) → time < 2 ^ 64 → length sig ≡ 64 →
-    (make_draft v other payload ≡ None → accepts v.start.keys v.start.own (make_body v other time payload) sig ≡ true) → IsNode accepts v →
-    IsNode accepts (with_changes v (make_changes v other time payload sig))
+MakesLeaveANode K = (accepts : K → Accepts) (v : NodeView K) (others : List (List ℕ)) (time : ℕ) (payload sig : List ℕ) → time < 2 ^ 64 → length sig ≡ 64 →
+    (make_draft v others payload ≡ None → accepts v.start.keys v.start.own (make_body v others time payload) sig ≡ true) → IsNode accepts v →
+    IsNode accepts (with_changes v (make_changes v others time payload sig))
 
 -- to publish leaves a node
 abbrev pub PublishesLeaveANode : (K : Type 0) → Type 0

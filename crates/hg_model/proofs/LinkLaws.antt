@@ -35,7 +35,7 @@ self_parent_past L x h = ap first_place (parents_past L x h)
 
 -- parents stand earlier
 
-places_below : (n : ℕ) (ps : List ℕ) → ((p : ℕ) → has_place ps p ≡ true → p < n) → AllByRecursion (λ p. p < n) ps
+pub places_below : (n : ℕ) (ps : List ℕ) → ((p : ℕ) → has_place ps p ≡ true → p < n) → AllByRecursion (λ p. p < n) ps
 places_below n [] h = tt
 places_below n (p ∷ ps) h =
     (h p (or_left (eqb p p) (has_place ps p) (eq-eqb p p refl)), places_below n ps (λ q e. h q (or_right (eqb p q) (has_place ps q) e)))

@@ -1,16 +1,21 @@
 -- What holds of a row against which no rule speaks
-use Rattle.std.proofs.Common.{◌≡◌, inl, inr, ℕ, ◌<◌, ◌≤◌, Bool, true, false, cond, not, eqb, List, length, Option, Some, None, sym, refl, ap, ◌∙◌, arith}
-use Rattle.std.specs.Prelude.{nat_le, nat_lt}
+use Rattle.std.proofs.Common.{◌≡◌, inl, inr, ℕ, ◌<◌, ◌≤◌, Bool, true, false, cond, not, eqb, List, [], ◌∷◌, length, Option, Some, None, sym, refl, ap, ◌∙◌, arith}
+use Rattle.std.specs.Prelude.{◌≢◌, nat_le, nat_lt, option_map}
+use Rattle.std.specs.List.{AllByRecursion}
 use Rattle.std.specs.Option.{option_or}
 use Rattle.std.proofs.lemmas.Bool.Decides.{nat_tests}
 use Rattle.std.proofs.lemmas.Bool.{cases_Bool, eqb-true, eqb-false, ltb-true, not-true, not-false}
 use Rattle.hg_model.specs.declared.row.Row.{Row}
+<<<<<<< HEAD
 use Rattle.hg_model.specs.Stakes.{Stakes}
 use Rattle.hg_model.specs.Links.{parent_names, place_of}
+=======
+use Rattle.hg_model.specs.Links.{ParentNames, parent_names, place_of}
+>>>>>>> 8fd36a6 (hg_history: making over a list of others;hg_rounds, hg_event, hg_prefix: parents' places and names by their words;hg_ancestry: a row's parents are Parents;Parents: rules over a list of others, link_of over places; the type Parents;)
 use Rattle.hg_model.specs.Graph.{HasDistinctNames}
 use Rattle.hg_model.specs.Fits.{AreHeld, ParentsFit, Fits}
 use Rattle.hg_model.specs.Spelling.{payload_limit}
-use Rattle.hg_model.specs.Verdict.{row_limit, is_held, member_rule, name_rule, signature_rule, impostor_rule, missing_rule, creator_rule, arrival_rule, forkers_rule, full_rule, last_name, both_names, first_rule, other_rule, payload_rule, draft_rule, collision_rule, room_rule}
+use Rattle.hg_model.specs.Verdict.{row_limit, is_held, first_missing, first_by, member_rule, name_rule, signature_rule, impostor_rule, missing_rule, creator_rule, arrival_rule, forkers_rule, full_rule, last_name, parents_on, first_rule, other_rule, payload_rule, draft_rule, collision_rule, room_rule}
 use Rattle.hg_model.specs.Graph.{creator_at}
 use Rattle.hg_model.proofs.NameLaws.{last_is_own}
 
@@ -25,12 +30,17 @@ one_test t x none = elim (cases_Bool t) [
   | inr fails ↦ fails
 ]
 
--- a rule with two tests
-pub two_tests : {A : Type 0} (s t : Bool) (x y : A) → cond s (Some x) (cond t (Some y) None) ≡ None → (s ≡ false) × (t ≡ false)
-two_tests s t x y none = elim (cases_Bool s) [
-  | inl holds ↦ (let some : Some x ≡ None = sym (ap (λ (b : Bool). cond b (Some x) (cond t (Some y) None)) holds) ∙ none in cc)
-  | inr fails ↦ (fails, one_test t y (sym (ap (λ (b : Bool). cond b (Some x) (cond t (Some y) None)) fails) ∙ none))
+-- a rule with a test, and then another rule
+pub test_then : {A : Type 0} (t : Bool) (x : A) (o : Option A) → cond t (Some x) o ≡ None → (t ≡ false) × (o ≡ None)
+test_then t x o none = elim (cases_Bool t) [
+  | inl holds ↦ (let some : Some x ≡ None = sym (ap (λ (b : Bool). cond b (Some x) o) holds) ∙ none in cc)
+  | inr fails ↦ (fails, sym (ap (λ (b : Bool). cond b (Some x) o) fails) ∙ none)
 ]
+
+-- what is None once it is mapped was None
+pub mapped_none : {A B : Type 0} (f : A → B) (o : Option A) → option_map f o ≡ None → o ≡ None
+mapped_none f None none = refl
+mapped_none f (Some x) none = cc
 
 -- a rule that always speaks unless its test holds
 pub else_speaks : {A : Type 0} (s t : Bool) (x y : A) → cond s None (cond t (Some x) (Some y)) ≡ None → s ≡ true
@@ -53,17 +63,31 @@ not_below a b fails = grind (arith, nat_tests)
 held_below : (G : List Row) (name : List ℕ) → is_held G name ≡ true → place_of G name < length G
 held_below G name held = ltb-true (place_of G name) (length G) held
 
+-- where none of these names is missing, all are held
+none_missing : (G : List Row) (names : List (List ℕ)) → first_missing G names ≡ None → AreHeld G names
+none_missing G [] none = tt
+none_missing G (name ∷ names) none =
+    let both = test_then (not (is_held G name)) name _ none in
+    (held_below G name (not-false (is_held G name) both.0), none_missing G names both.1)
+
+-- where none of the rows with these names is by the member, all are by others
+none_by : (G : List Row) (m : ℕ) (names : List (List ℕ)) → first_by G m names ≡ None → AllByRecursion (λ name. creator_at G (place_of G name) ≢ m) names
+none_by G m [] none = tt
+none_by G m (name ∷ names) none =
+    let both = test_then (eqb (creator_at G (place_of G name)) m) (place_of G name) _ none in
+    (eqb-false (creator_at G (place_of G name)) m both.0, none_by G m names both.1)
+
 -- the parents of a row against which neither rule speaks
-parents_fit : (G : List Row) (m : ℕ) (parents : Option (List ℕ × List ℕ)) → missing_rule G parents ≡ None → creator_rule G m parents ≡ None →
+parents_fit : (G : List Row) (m : ℕ) (parents : ParentNames) → missing_rule G parents ≡ None → creator_rule G m parents ≡ None →
     AreHeld G (parent_names parents) × ParentsFit G m (parent_names parents)
 parents_fit G m None missing creators = (tt, tt)
 parents_fit G m (Some names) missing creators =
-    let held = two_tests (not (is_held G names.0)) (not (is_held G names.1)) _ _ missing in
-    let by = two_tests (not (eqb (creator_at G (place_of G names.0)) m)) (eqb (creator_at G (place_of G names.1)) m) _ _ creators in (
-      (held_below G names.0 (not-false (is_held G names.0) held.0), (held_below G names.1 (not-false (is_held G names.1) held.1), tt)),
+    let held = test_then (not (is_held G names.0)) _ _ missing in
+    let by = test_then (not (eqb (creator_at G (place_of G names.0)) m)) _ _ creators in (
+      (held_below G names.0 (not-false (is_held G names.0) held.0), none_missing G (names.1 ∷ []) (mapped_none _ _ held.1)),
       (
         eqb-true (creator_at G (place_of G names.0)) m (not-false (eqb (creator_at G (place_of G names.0)) m) by.0),
-        (eqb-false (creator_at G (place_of G names.1)) m by.1, tt),
+        none_by G m (names.1 ∷ []) (mapped_none _ _ by.1),
       ),
     )
 
@@ -95,29 +119,40 @@ has_room n G row none =
     below_from_test row_limit (length G) (one_test (nat_le row_limit (length G)) _ (option_or_none (forkers_rule n G row) (full_rule G) none).1)
 
 -- the parents of an event that may be made
-made_parents : (G : List Row) (m : ℕ) (last other : Option (List ℕ)) → HasDistinctNames G → last_name m G ≡ last → first_rule last other ≡ None → other_rule m G other ≡ None →
-    AreHeld G (parent_names (both_names last other)) × ParentsFit G m (parent_names (both_names last other))
-made_parents G m None None distinct is first others = (tt, tt)
-made_parents G m (Some last) None distinct is first others = cc
-made_parents G m None (Some other) distinct is first others = cc
-made_parents G m (Some last) (Some other) distinct is first others =
-    let tests = two_tests (not (is_held G other)) (eqb (creator_at G (place_of G other)) m) _ _ others in
-    let own = last_is_own m G last distinct is in (
-      (own.0, (held_below G other (not-false (is_held G other) tests.0), tt)),
-      (own.1, (eqb-false (creator_at G (place_of G other)) m tests.1, tt)),
-    )
+made_parents : (G : List Row) (m : ℕ) (last : Option (List ℕ)) (others : List (List ℕ)) → HasDistinctNames G → last_name m G ≡ last → first_rule last others ≡ None → other_rule m G others ≡ None →
+    AreHeld G (parent_names (parents_on last others)) × ParentsFit G m (parent_names (parents_on last others))
+made_parents G m None [] distinct is first silent = (tt, tt)
+made_parents G m (Some last) [] distinct is first silent = cc
+made_parents G m None (other ∷ others) distinct is first silent = cc
+made_parents G m (Some last) (other ∷ others) distinct is first silent =
+    let none = option_or_none _ _ silent in
+    let held = none_missing G (other ∷ others) (mapped_none _ _ none.0) in
+    let by = none_by G m (other ∷ others) (mapped_none _ _ none.1) in
+    let own = last_is_own m G last distinct is in ((own.0, (held.0, tt)), (own.1, (by.0, tt)))
 
 -- what holds of a draft against which no rule speaks
+<<<<<<< HEAD
 pub record Drafted (n : Stakes) (own : ℕ) (G : List Row) (other : Option (List ℕ)) (payload : List ℕ) : Type 0 where
+=======
+pub record Drafted (n own : ℕ) (G : List Row) (others : List (List ℕ)) (payload : List ℕ) : Type 0 where
+>>>>>>> 8fd36a6 (hg_history: making over a list of others;hg_rounds, hg_event, hg_prefix: parents' places and names by their words;hg_ancestry: a row's parents are Parents;Parents: rules over a list of others, link_of over places; the type Parents;)
   pub short : length payload ≤ payload_limit
-  pub held : AreHeld G (parent_names (both_names (last_name own G) other))
-  pub parents_fit : ParentsFit G own (parent_names (both_names (last_name own G) other))
+  pub held : AreHeld G (parent_names (parents_on (last_name own G) others))
+  pub parents_fit : ParentsFit G own (parent_names (parents_on (last_name own G) others))
 
+<<<<<<< HEAD
 pub drafted : (n : Stakes) (own : ℕ) (G : List Row) (other : Option (List ℕ)) (payload : List ℕ) → HasDistinctNames G → draft_rule own G other payload ≡ None → Drafted n own G other payload
 drafted n own G other payload distinct none =
     let a = option_or_none (first_rule (last_name own G) other) _ none in
     let b = option_or_none (other_rule own G other) (payload_rule payload) a.1 in
     let parents = made_parents G own (last_name own G) other distinct refl a.0 b.0 in
+=======
+pub drafted : (n own : ℕ) (G : List Row) (others : List (List ℕ)) (payload : List ℕ) → HasDistinctNames G → draft_rule own G others payload ≡ None → Drafted n own G others payload
+drafted n own G others payload distinct none =
+    let a = option_or_none (first_rule (last_name own G) others) _ none in
+    let b = option_or_none (other_rule own G others) (payload_rule payload) a.1 in
+    let parents = made_parents G own (last_name own G) others distinct refl a.0 b.0 in
+>>>>>>> 8fd36a6 (hg_history: making over a list of others;hg_rounds, hg_event, hg_prefix: parents' places and names by their words;hg_ancestry: a row's parents are Parents;Parents: rules over a list of others, link_of over places; the type Parents;)
     record {
       short = not_below payload_limit (length payload) (one_test (nat_lt payload_limit (length payload)) _ b.1);
       held = parents.0;

@@ -8,7 +8,7 @@ use Rattle.hg_model.specs.declared.answers.MakeAnswer.{MakeAnswer}
 use Rattle.hg_model.specs.declared.answers.MakeAnswer.TheVariants as answer
 use Rattle.hg_model.specs.Reading.{read_event}
 use Rattle.hg_model.specs.Spelling.{body_bytes}
-use Rattle.hg_model.specs.Verdict.{verdict, row_verdict, last_name, both_names, draft_rule, made_row, making}
+use Rattle.hg_model.specs.Verdict.{verdict, row_verdict, last_name, parents_on, draft_rule, made_row, making}
 use Rattle.hg_model.specs.declared.answers.MakeFault.{MakeFault}
 use Rattle.hg_model.specs.Shares.{Share, whole}
 use Rattle.hg_model.specs.History.{Change, Accepts, news}
@@ -34,34 +34,34 @@ unfoldable pub put_changes : {K : Type 0} → (K → Accepts) → NodeView K →
 put_changes accepts v bytes = taken_from accepts v (read_event bytes)
 
 -- what comes of making an event under this signature
-unfoldable pub make_answer : {K : Type 0} → NodeView K → Option (List ℕ) → ℕ → List ℕ → List ℕ → MakeAnswer
-make_answer v other time payload sig = making v.start.own (node_rows v) other time payload sig
+unfoldable pub make_answer : {K : Type 0} → NodeView K → List (List ℕ) → ℕ → List ℕ → List ℕ → MakeAnswer
+make_answer v others time payload sig = making v.start.own (node_rows v) others time payload sig
 
 abbrev pub made_by : MakeAnswer → Row → List Change
 made_by (answer.Made p) row = Made row ∷ []
 made_by (answer.Refused f) row = []
 
 -- the changes that it adds: the row, where it is made
-unfoldable pub make_changes : {K : Type 0} → NodeView K → Option (List ℕ) → ℕ → List ℕ → List ℕ → List Change
-make_changes v other time payload sig =
-    made_by (make_answer v other time payload sig) (made_row v.start.own (node_rows v) other time payload sig)
+unfoldable pub make_changes : {K : Type 0} → NodeView K → List (List ℕ) → ℕ → List ℕ → List ℕ → List Change
+make_changes v others time payload sig =
+    made_by (make_answer v others time payload sig) (made_row v.start.own (node_rows v) others time payload sig)
 
 -- what the node signs for such an event
-unfoldable pub make_body : {K : Type 0} → NodeView K → Option (List ℕ) → ℕ → List ℕ → List ℕ
-make_body v other time payload = body_bytes v.start.own (both_names (last_name v.start.own (node_rows v)) other) time payload
+unfoldable pub make_body : {K : Type 0} → NodeView K → List (List ℕ) → ℕ → List ℕ → List ℕ
+make_body v others time payload = body_bytes v.start.own (parents_on (last_name v.start.own (node_rows v)) others) time payload
 
 -- what is wrong with such an event before it is signed
-unfoldable pub make_draft : {K : Type 0} → NodeView K → Option (List ℕ) → List ℕ → Option MakeFault
-make_draft v other payload = draft_rule v.start.own (node_rows v) other payload
+unfoldable pub make_draft : {K : Type 0} → NodeView K → List (List ℕ) → List ℕ → Option MakeFault
+make_draft v others payload = draft_rule v.start.own (node_rows v) others payload
 
 -- the answer and the node after making an event, whichever accepted signature it got; an event that is refused before
 -- is not signed
-pub record IsMaking {K : Type 0} (accepts : K → Accepts) (old : NodeView K) (other : Option (List ℕ)) (time : ℕ) (payload : List ℕ) (answer : MakeAnswer) (new : NodeView K) : Type 0 where
+pub record IsMaking {K : Type 0} (accepts : K → Accepts) (old : NodeView K) (others : List (List ℕ)) (time : ℕ) (payload : List ℕ) (answer : MakeAnswer) (new : NodeView K) : Type 0 where
   pub sig : List ℕ
   pub sized : length sig ≡ 64
-  pub signed : make_draft old other payload ≡ None → accepts old.start.keys old.start.own (make_body old other time payload) sig ≡ true
-  pub answers : answer ≡ make_answer old other time payload sig
-  pub grown : new ≡ with_changes old (make_changes old other time payload sig)
+  pub signed : make_draft old others payload ≡ None → accepts old.start.keys old.start.own (make_body old others time payload) sig ≡ true
+  pub answers : answer ≡ make_answer old others time payload sig
+  pub grown : new ≡ with_changes old (make_changes old others time payload sig)
 
 -- how many witnesses are marked by publishing what a share finds in the first `len` rows
 unfoldable pub publish_answer : {K : Type 0} → NodeView K → ℕ → Share → ℕ

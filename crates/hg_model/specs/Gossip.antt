@@ -1,5 +1,5 @@
 -- Gossip: a node takes from a peer the rows that it lacks, and makes an event. SWIRLDS-TR-2016-01, section 3
-use Rattle.std.specs.Prelude.{ℕ, ◌+◌, Bool, not, List, [], filter, fold, map, Option, Some, None}
+use Rattle.std.specs.Prelude.{ℕ, ◌+◌, Bool, not, List, [], ◌∷◌, filter, fold, map, Option, Some, None}
 use Rattle.hg_model.specs.declared.row.Row.{Row}
 use Rattle.hg_model.specs.declared.answers.PutAnswer.{PutAnswer}
 use Rattle.hg_model.specs.declared.answers.PutAnswer.TheVariants.{Accepted, Known, Refused}
@@ -13,7 +13,7 @@ use Rattle.hg_model.specs.Stakes.{Stakes}
 use Rattle.hg_model.specs.Members.{MemberList}
 use Rattle.hg_model.specs.Signing.{signature_of, accepts_signature}
 use Rattle.hg_model.specs.Spelling.{body_bytes, spelling}
-use Rattle.hg_model.specs.Verdict.{verdict, rows_after, is_held, last_name, both_names, making, made_row, with_made}
+use Rattle.hg_model.specs.Verdict.{verdict, rows_after, is_held, last_name, parents_on, making, made_row, with_made}
 
 -- how events are signed, and which signatures are accepted: by a member, of the signed bytes
 pub record Keys : Type 0 where
@@ -38,19 +38,19 @@ abbrev pub new_node : Stakes → ℕ → NodeState
 new_node members own = record { members = members; own = own; rows = [] }
 
 -- the signature of the event that the node makes
-abbrev pub signature_for : Keys → NodeState → Option (List ℕ) → ℕ → List ℕ → List ℕ
-signature_for keys s other time payload =
-    keys.sign s.own (body_bytes s.own (both_names (last_name s.own s.rows) other) time payload)
+abbrev pub signature_for : Keys → NodeState → List (List ℕ) → ℕ → List ℕ → List ℕ
+signature_for keys s others time payload =
+    keys.sign s.own (body_bytes s.own (parents_on (last_name s.own s.rows) others) time payload)
 
 -- what comes of the event that the node makes
-abbrev pub making_by : Keys → NodeState → Option (List ℕ) → ℕ → List ℕ → MakeAnswer
-making_by keys s other time payload = making s.own s.rows other time payload (signature_for keys s other time payload)
+abbrev pub making_by : Keys → NodeState → List (List ℕ) → ℕ → List ℕ → MakeAnswer
+making_by keys s others time payload = making s.own s.rows others time payload (signature_for keys s others time payload)
 
 -- the node after it
-abbrev pub node_made : Keys → NodeState → Option (List ℕ) → ℕ → List ℕ → NodeState
-node_made keys s other time payload =
-    with_rows s (with_made s.rows (made_row s.own s.rows other time payload (signature_for keys s other time payload))
-    (making_by keys s other time payload))
+abbrev pub node_made : Keys → NodeState → List (List ℕ) → ℕ → List ℕ → NodeState
+node_made keys s others time payload =
+    with_rows s (with_made s.rows (made_row s.own s.rows others time payload (signature_for keys s others time payload))
+    (making_by keys s others time payload))
 
 -- what comes of bytes that are put to the node
 abbrev pub verdict_by : Keys → NodeState → List ℕ → PutAnswer
@@ -104,11 +104,11 @@ made_in_sync (make_answer.Refused f) = sync_made.Fault f
 -- what comes of the event at the end of a sync, whose other-parent is the peer's last own row
 abbrev pub made_after : Keys → NodeState → Option (List ℕ) → ℕ → List ℕ → SyncMade
 made_after keys s None time payload = sync_made.PeerBare
-made_after keys s (Some other) time payload = made_in_sync (making_by keys s (Some other) time payload)
+made_after keys s (Some other) time payload = made_in_sync (making_by keys s (other ∷ []) time payload)
 
 abbrev pub node_after : Keys → NodeState → Option (List ℕ) → ℕ → List ℕ → NodeState
 node_after keys s None time payload = s
-node_after keys s (Some other) time payload = node_made keys s (Some other) time payload
+node_after keys s (Some other) time payload = node_made keys s (other ∷ []) time payload
 
 -- a sync with what a peer hands over
 abbrev pub report_with : Keys → NodeState → Parcel → ℕ → List ℕ → SyncReport

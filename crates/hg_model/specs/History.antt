@@ -88,14 +88,14 @@ pub record IsTaken (accepts : Accepts) (n : Stakes) (own : ℕ) (G : List Row) (
 -- the row has the sizes and the name of an event, and is what the node makes for some arguments, under a signature that
 -- is accepted; its self-parent is then the last row that the node made
 pub record IsMade (accepts : Accepts) (own : ℕ) (G : List Row) (row : Row) : Type 0 where
-  pub other : Option (List ℕ)
+  pub others : List (List ℕ)
   pub time : ℕ
   pub payload : List ℕ
   pub sig : List ℕ
-  pub fields : row ≡ made_row own G other time payload sig
+  pub fields : row ≡ made_row own G others time payload sig
   pub spelled : Spells (spelling row) row
   pub signed : accepts own (body_of row) sig ≡ true
-  pub made : making own G other time payload sig ≡ make_answer.Made (length G)
+  pub made : making own G others time payload sig ≡ make_answer.Made (length G)
 
 -- there are so many rows, and they decide some witness of the share that has no mark
 pub record MarksSome (n : Stakes) (c : ℕ) (s : State) (len : ℕ) (share : Share) : Type 0 where

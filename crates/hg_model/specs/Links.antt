@@ -10,8 +10,12 @@ pub record Link : Type 0 where
   pub creator : ℕ
   pub parents : List ℕ
 
--- the names of a row's parents, the self-parent's first
-abbrev pub parent_names : Option (List ℕ × List ℕ) → List (List ℕ)
+-- the names of a row's self-parent and other-parent, if it has parents
+abbrev pub ParentNames : Type 0
+ParentNames = Option (List ℕ × List ℕ)
+
+-- these names, the self-parent's first
+abbrev pub parent_names : ParentNames → List (List ℕ)
 parent_names None = []
 parent_names (Some names) = names.0 ∷ names.1 ∷ []
 

@@ -1,12 +1,13 @@
 -- Reading the bytes of an event from left to right: the row that they spell, or the first fault that is met.
 -- Each field is read from the front of the bytes that are left; `size` is the length of all of them.
-use Rattle.std.specs.Prelude.{ℕ, zero, suc, nat_eq, nat_lt, ◌==◌, List, [], ◌∷◌, length, take, drop, Option, Some, None, Result, Ok, Err, if◌then◌else◌}
+use Rattle.std.specs.Prelude.{ℕ, zero, suc, nat_eq, nat_lt, ◌==◌, List, [], ◌∷◌, length, take, drop, Some, None, Result, Ok, Err, if◌then◌else◌}
 use Rattle.std.specs.List.{starts_with}
 use Rattle.std.specs.Int.{Width, w16, w64, byte_len, from_be_bytes}
 use Rattle.sha2.specs.Sha512.{sha384}
 use Rattle.hg_model.specs.declared.row.Row.{Row}
 use Rattle.hg_model.specs.declared.answers.ByteFault.{ByteFault}
 use Rattle.hg_model.specs.declared.answers.ByteFault.TheVariants.{Short, BadMagic, BadKind, BadLength, Trailing}
+use Rattle.hg_model.specs.Links.{ParentNames}
 use Rattle.hg_model.specs.Spelling.{magic, payload_limit}
 use Rattle.hg_model.specs.Results.{◌>>=◌}
 
@@ -31,7 +32,7 @@ after_magic size bytes =
     else if starts_with nat_eq magic bytes then Err (Short size) else Err BadMagic
 
 -- the kind, and the parents' names that it says
-unfoldable pub parents_field : ℕ → List ℕ → Field (Option (List ℕ × List ℕ))
+unfoldable pub parents_field : ℕ → List ℕ → Field (ParentNames)
 parents_field size [] = Err (Short size)
 parents_field size (zero ∷ rest) = Ok (None, rest)
 parents_field size (suc zero ∷ rest) = do

@@ -1,5 +1,5 @@
 -- The shape of a graph, and of it with a row more or with fewer rows
-use Rattle.std.specs.Prelude.{ℕ, ◌<◌, ◌≡◌, ◌≢◌, true, List, [], ◌∷◌, ◌++◌, length, take, Option, Some, None}
+use Rattle.std.specs.Prelude.{ℕ, ◌<◌, ◌≡◌, ◌≢◌, refl, true, List, [], ◌∷◌, ◌++◌, length, take, Option, Some, None}
 use Rattle.hg_model.specs.Places.{has_place}
 use Rattle.hg_model.specs.Stakes.{Stakes, member_count}
 use Rattle.hg_model.specs.Links.{Link, first_place, later_places, creator}
@@ -22,9 +22,20 @@ abbrev pub pair_list : Option (ℕ × ℕ) → List ℕ
 pair_list None = []
 pair_list (Some ps) = ps.0 ∷ ps.1 ∷ []
 
--- the link of a row by this member with these parents, if it has any, the self-parent first
-abbrev pub link_of : ℕ → Option (ℕ × ℕ) → Link
-link_of member parents = record { creator = member; parents = pair_list parents }
+-- the first two of these places, if there are two
+abbrev pub list_pair : List ℕ → Option (ℕ × ℕ)
+list_pair [] = None
+list_pair (p ∷ []) = None
+list_pair (p ∷ q ∷ ps) = Some (p, q)
+
+-- the pair again
+abbrev pub pair_again : (ps : Option (ℕ × ℕ)) → list_pair (pair_list ps) ≡ ps
+pair_again None = refl
+pair_again (Some ps) = refl
+
+-- the link of a row by this member on parents at these places, the self-parent's first
+abbrev pub link_of : ℕ → List ℕ → Link
+link_of member places = record { creator = member; parents = places }
 
 -- the graph with one row more
 abbrev pub with_link : Shape → Link → Shape

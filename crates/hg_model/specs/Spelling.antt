@@ -1,15 +1,16 @@
 -- The one spelling of an event in bytes, what of it is signed, and its name. All numbers are big-endian.
 -- Names are SHA-384 (FIPS 180-4) of the whole spelling, so that one name has one signature, and one coin.
-use Rattle.std.specs.Prelude.{ℕ, ◌≡◌, ◌<◌, ◌≤◌, ◌^◌, List, [], ◌∷◌, ◌++◌, length, Option, Some, None, IfSome, codes}
+use Rattle.std.specs.Prelude.{ℕ, ◌≡◌, ◌<◌, ◌≤◌, ◌^◌, List, [], ◌∷◌, ◌++◌, length, Some, None, IfSome, codes}
 use Rattle.std.specs.Int.{w16, w64, to_be_bytes}
 use Rattle.sha2.specs.Sha512.{sha384}
 use Rattle.hg_model.specs.declared.row.Row.{Row}
+use Rattle.hg_model.specs.Links.{ParentNames}
 
 abbrev pub magic : List ℕ
 magic = codes "HGE1"
 
 -- the kind of the event, and the names of its parents, if it has any
-abbrev pub parent_bytes : Option (List ℕ × List ℕ) → List ℕ
+abbrev pub parent_bytes : ParentNames → List ℕ
 parent_bytes None = 0 ∷ []
 parent_bytes (Some names) = 1 ∷ (names.0 ++ names.1)
 
@@ -18,7 +19,7 @@ abbrev pub payload_bytes : List ℕ → List ℕ
 payload_bytes payload = to_be_bytes w16 (length payload) ++ payload
 
 -- the fields in their order, without the signature
-abbrev pub body_bytes : ℕ → Option (List ℕ × List ℕ) → ℕ → List ℕ → List ℕ
+abbrev pub body_bytes : ℕ → ParentNames → ℕ → List ℕ → List ℕ
 body_bytes creator parents time payload =
     magic ++ (to_be_bytes w16 creator ++ (parent_bytes parents ++ (to_be_bytes w64 time ++ payload_bytes payload)))
 

@@ -14,8 +14,12 @@ use Rattle.hg_model.specs.declared.answers.PutAnswer.{PutAnswer}
 use Rattle.hg_model.specs.declared.answers.PutAnswer.TheVariants.{Accepted, Known, Refused}
 use Rattle.hg_model.specs.declared.answers.MakeAnswer.{MakeAnswer}
 use Rattle.hg_model.specs.declared.answers.MakeAnswer.TheVariants as make_answer
+<<<<<<< HEAD
 use Rattle.hg_model.specs.Stakes.{Stakes, member_count, total}
 use Rattle.hg_model.specs.Links.{links, place_of}
+=======
+use Rattle.hg_model.specs.Links.{ParentNames, links, place_of}
+>>>>>>> 8fd36a6 (hg_history: making over a list of others;hg_rounds, hg_event, hg_prefix: parents' places and names by their words;hg_ancestry: a row's parents are Parents;Parents: rules over a list of others, link_of over places; the type Parents;)
 use Rattle.hg_model.specs.Graph.{creator_at}
 use Rattle.hg_model.specs.Forks.{forking}
 use Rattle.hg_model.specs.Spelling.{body_of, body_bytes, spelling, payload_limit}
@@ -32,6 +36,16 @@ has_bytes G p bytes = bytes_eq (unwrap_or (option_map spelling (slice_get G p)) 
 -- some row has the name
 abbrev pub is_held : List Row → List ℕ → Bool
 is_held G name = nat_lt (place_of G name) (length G)
+
+-- the first of these names that no row has
+abbrev pub first_missing : List Row → List (List ℕ) → Option (List ℕ)
+first_missing G [] = None
+first_missing G (name ∷ names) = if not (is_held G name) then Some name else first_missing G names
+
+-- the place of the first of the rows with these names that is by member m
+abbrev pub first_by : List Row → ℕ → List (List ℕ) → Option ℕ
+first_by G m [] = None
+first_by G m (name ∷ names) = if creator_at G (place_of G name) == m then Some (place_of G name) else first_by G m names
 
 -- the rules of putting: each gives its answer where it holds
 
@@ -50,17 +64,17 @@ signature_rule accepts row = if accepts row.creator (body_of row) row.sig then N
 abbrev pub impostor_rule : ℕ → Row → Option PutAnswer
 impostor_rule own row = if row.creator == own then Some (Refused fault.Impostor) else None
 
-abbrev pub missing_rule : List Row → Option (List ℕ × List ℕ) → Option PutAnswer
+abbrev pub missing_rule : List Row → ParentNames → Option PutAnswer
 missing_rule G None = None
 missing_rule G (Some names) =
     if not (is_held G names.0) then Some (Refused (fault.MissingSelf names.0))
-    else if not (is_held G names.1) then Some (Refused (fault.MissingOther names.1)) else None
+    else option_map (λ name. Refused (fault.MissingOther name)) (first_missing G (names.1 ∷ []))
 
-abbrev pub creator_rule : List Row → ℕ → Option (List ℕ × List ℕ) → Option PutAnswer
+abbrev pub creator_rule : List Row → ℕ → ParentNames → Option PutAnswer
 creator_rule G m None = None
 creator_rule G m (Some names) =
     if not (creator_at G (place_of G names.0) == m) then Some (Refused (fault.SelfCreator (place_of G names.0)))
-    else if creator_at G (place_of G names.1) == m then Some (Refused (fault.OtherCreator (place_of G names.1))) else None
+    else option_map (λ place. Refused (fault.OtherCreator place)) (first_by G m (names.1 ∷ []))
 
 -- the stake of the members that have a fork with the row
 abbrev pub forking_with : Stakes → List Row → Row → ℕ
@@ -120,14 +134,14 @@ later_name m last row = cond (row.creator == m) (Some row.name) last
 abbrev pub last_name : ℕ → List Row → Option (List ℕ)
 last_name m G = fold (later_name m) None G
 
--- both parents' names, or none
-abbrev pub both_names : Option (List ℕ) → Option (List ℕ) → Option (List ℕ × List ℕ)
-both_names last None = None
-both_names None (Some other) = None
-both_names (Some last) (Some other) = Some (last, other)
+-- the parents' names of an event on the member's last row and these others, of which it has the first
+abbrev pub parents_on : Option (List ℕ) → List (List ℕ) → ParentNames
+parents_on last [] = None
+parents_on None (other ∷ others) = None
+parents_on (Some last) (other ∷ others) = Some (last, other)
 
 -- the event with these fields
-abbrev pub signed_row : ℕ → Option (List ℕ × List ℕ) → ℕ → List ℕ → List ℕ → Row
+abbrev pub signed_row : ℕ → ParentNames → ℕ → List ℕ → List ℕ → Row
 signed_row own parents time payload sig = record {
   creator = own;
   parents = parents;
@@ -137,17 +151,16 @@ signed_row own parents time payload sig = record {
   name = sha384 (body_bytes own parents time payload ++ sig);
 }
 
-abbrev pub first_rule : Option (List ℕ) → Option (List ℕ) → Option MakeFault
-first_rule None None = None
-first_rule (Some last) None = Some make_fault.HasFirst
-first_rule None (Some other) = Some make_fault.NoFirst
-first_rule (Some last) (Some other) = None
+abbrev pub first_rule : Option (List ℕ) → List (List ℕ) → Option MakeFault
+first_rule None [] = None
+first_rule (Some last) [] = Some make_fault.HasFirst
+first_rule None (other ∷ others) = Some make_fault.NoFirst
+first_rule (Some last) (other ∷ others) = None
 
-abbrev pub other_rule : ℕ → List Row → Option (List ℕ) → Option MakeFault
-other_rule own G None = None
-other_rule own G (Some other) =
-    if not (is_held G other) then Some (make_fault.MissingOther other)
-    else if creator_at G (place_of G other) == own then Some (make_fault.OtherCreator (place_of G other)) else None
+abbrev pub other_rule : ℕ → List Row → List (List ℕ) → Option MakeFault
+other_rule own G others =
+    option_or (option_map (λ name. make_fault.MissingOther name) (first_missing G others))
+    (option_map (λ place. make_fault.OtherCreator place) (first_by G own others))
 
 abbrev pub payload_rule : List ℕ → Option MakeFault
 payload_rule payload = if nat_lt payload_limit (length payload) then Some (make_fault.PayloadLong (length payload)) else None
@@ -159,23 +172,23 @@ abbrev pub room_rule : List Row → Option MakeFault
 room_rule G = if nat_le row_limit (length G) then Some (make_fault.Full row_limit) else None
 
 -- what is wrong before the event is signed
-abbrev pub draft_rule : ℕ → List Row → Option (List ℕ) → List ℕ → Option MakeFault
-draft_rule own G other payload =
-    option_or (first_rule (last_name own G) other) (option_or (other_rule own G other) (payload_rule payload))
+abbrev pub draft_rule : ℕ → List Row → List (List ℕ) → List ℕ → Option MakeFault
+draft_rule own G others payload =
+    option_or (first_rule (last_name own G) others) (option_or (other_rule own G others) (payload_rule payload))
 
 -- the row that the node of the member `own` makes under this signature
-abbrev pub made_row : ℕ → List Row → Option (List ℕ) → ℕ → List ℕ → List ℕ → Row
-made_row own G other time payload sig = signed_row own (both_names (last_name own G) other) time payload sig
+abbrev pub made_row : ℕ → List Row → List (List ℕ) → ℕ → List ℕ → List ℕ → Row
+made_row own G others time payload sig = signed_row own (parents_on (last_name own G) others) time payload sig
 
 abbrev pub made_or : Option MakeFault → ℕ → MakeAnswer
 made_or None place = make_answer.Made place
 made_or (Some fault) place = make_answer.Refused fault
 
 -- what comes of making it
-abbrev pub making : ℕ → List Row → Option (List ℕ) → ℕ → List ℕ → List ℕ → MakeAnswer
-making own G other time payload sig =
-    made_or (option_or (draft_rule own G other payload)
-    (option_or (collision_rule G (made_row own G other time payload sig)) (room_rule G))) (length G)
+abbrev pub making : ℕ → List Row → List (List ℕ) → ℕ → List ℕ → List ℕ → MakeAnswer
+making own G others time payload sig =
+    made_or (option_or (draft_rule own G others payload)
+    (option_or (collision_rule G (made_row own G others time payload sig)) (room_rule G))) (length G)
 
 -- the rows after it
 abbrev pub with_made : List Row → Row → MakeAnswer → List Row

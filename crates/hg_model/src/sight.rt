@@ -6,6 +6,7 @@ ghost use Rattle.hg_model.specs.Graph.{IsShaped};
 ghost use Rattle.hg_model.specs.Shape.{Shape, FitsLink, first_links, link_of, place_list, with_link};
 
 use crate::memory::Memory;
+use crate::parents::Parents;
 use crate::row::Member;
 
 /// What the rows of a graph see of each other. A place is below the number of rows.
@@ -65,9 +66,8 @@ pub trait Growing: Sight {
         ensures room { OnOk result (1 ≤ room self.new) }
         ensures same { Self.shape self.new ≡ Self.shape self.old };
 
-    /// One more row, by the member, with parents or without: places, the self-parent's first.
-    /// Takes no memory; `reserve` comes before it.
-    fn extend(&mut self, parents: Option<(usize, usize)>, creator: Member)
+    /// One more row, by the member, on parents at these places. /// Takes no memory; `reserve` comes before it.
+    fn extend(&mut self, parents: Parents, creator: Member)
         requires room { 1 ≤ room self.old }
         requires fits { FitsLink (Self.shape self.old).members (Self.shape self.old).links (link_of creator parents) }
         requires short { length (Self.shape self.old).links + 1 < 2 ^ 32 - 1 }

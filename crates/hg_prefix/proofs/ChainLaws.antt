@@ -4,8 +4,12 @@ use Rattle.std.proofs.lemmas.Bool.{cases_eq, cases_lt, both_ways, false_from_ne_
 use Rattle.std.proofs.lemmas.Option.{slice_get-get_or, get_or_from_slice_get}
 use Rattle.hg_model.specs.declared.row.Row.{Row}
 use Rattle.hg_model.specs.Places.{has_place}
+<<<<<<< HEAD
 use Rattle.hg_model.specs.Stakes.{Stakes}
 use Rattle.hg_model.specs.Links.{parent_names, place_of, links, first_place, self_parent}
+=======
+use Rattle.hg_model.specs.Links.{ParentNames, parent_names, place_of, links, first_place, self_parent}
+>>>>>>> 8fd36a6 (hg_history: making over a list of others;hg_rounds, hg_event, hg_prefix: parents' places and names by their words;hg_ancestry: a row's parents are Parents;Parents: rules over a list of others, link_of over places; the type Parents;)
 use Rattle.hg_model.specs.Ancestry.{is_self_ancestor}
 use Rattle.hg_model.specs.Forks.{has_fork}
 use Rattle.hg_model.specs.Graph.{name_in, name_at, HasDistinctNames, IsShaped}
@@ -19,7 +23,7 @@ use Rattle.hg_prefix.specs.Standing.{IsRowOf}
 use Rattle.hg_prefix.specs.Chains.{self_parent_name_in, self_parent_name, IsChain}
 use Rattle.hg_prefix.proofs.StandingLaws.{name_at_place}
 
-first_name : (place : List ℕ → ℕ) (names : Option (List ℕ × List ℕ)) (name : List ℕ) → option_map (λ both. both.0) names ≡ Some name → first_place (map place (parent_names names)) ≡ place name ∷ []
+first_name : (place : List ℕ → ℕ) (names : ParentNames) (name : List ℕ) → option_map (λ both. both.0) names ≡ Some name → first_place (map place (parent_names names)) ≡ place name ∷ []
 first_name place None name is = cc
 first_name place (Some both) name is =
     let same : both.0 ≡ name = cc in

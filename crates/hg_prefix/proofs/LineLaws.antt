@@ -4,8 +4,12 @@ use Rattle.std.proofs.lemmas.Bool.{or_cases, eqb-true, true≢false}
 use Rattle.std.proofs.lemmas.Option.{slice_get-get_or, get_or_from_slice_get}
 use Rattle.hg_model.specs.declared.row.Row.{Row}
 use Rattle.hg_model.specs.Places.{has_place}
+<<<<<<< HEAD
 use Rattle.hg_model.specs.Stakes.{Stakes}
 use Rattle.hg_model.specs.Links.{parent_names, place_of, links, first_place, self_parent}
+=======
+use Rattle.hg_model.specs.Links.{ParentNames, parent_names, place_of, links, first_place, self_parent}
+>>>>>>> 8fd36a6 (hg_history: making over a list of others;hg_rounds, hg_event, hg_prefix: parents' places and names by their words;hg_ancestry: a row's parents are Parents;Parents: rules over a list of others, link_of over places; the type Parents;)
 use Rattle.hg_model.specs.Forks.{has_fork}
 use Rattle.hg_model.specs.Graph.{name_in, name_at, HasDistinctNames, IsShaped, IsGraph}
 use Rattle.hg_model.proofs.AncestryLaws.{self_parent_earlier, is_self_ancestor_cases, is_self_ancestor-le}
@@ -16,7 +20,7 @@ use Rattle.hg_prefix.specs.Standing.{StandsIn}
 use Rattle.hg_prefix.specs.Chains.{HaveEqualRows, self_parent_name_in, self_parent_name, IsChain, HasOneChain}
 use Rattle.hg_prefix.proofs.StandingLaws.{name_at_place}
 
-named_first : (place : List ℕ → ℕ) (names : Option (List ℕ × List ℕ)) (p : ℕ) → has_place (first_place (map place (parent_names names))) p ≡ true →
+named_first : (place : List ℕ → ℕ) (names : ParentNames) (p : ℕ) → has_place (first_place (map place (parent_names names))) p ≡ true →
     (name : List ℕ) × (option_map (λ both. both.0) names ≡ Some name) × (place name ≡ p)
 named_first place None p has = absurd (true≢false (sym has))
 named_first place (Some both) p has = elim (or_cases (Rattle.std.proofs.Common.eqb (place both.0) p) false has) [

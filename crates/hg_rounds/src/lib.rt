@@ -5,8 +5,8 @@
 
 mod laws;
 mod place;
-mod table;
 mod row_round;
+mod table;
 mod witnesses;
 
 pub use laws::rounds_are_found_row_by_row;

@@ -2,23 +2,18 @@ ghost use Rattle.std.specs.Prelude.{◌≡◌, ◌<◌, ◌≤◌, ◌+◌, ◌-
 ghost use Rattle.hg_model.specs.Links.{first_place};
 ghost use Rattle.hg_model.specs.Rounds.{parent_round, is_witness, round_of};
 ghost use Rattle.hg_model.specs.Seeing.{is_supermajority, strongly_sees};
-ghost use Rattle.hg_model.specs.Shape.{pair_list};
 ghost use Rattle.hg_model.specs.Standings.{greatest_in, round_at};
 ghost use Rattle.std.specs.List.{AllByRecursion, list_all};
 ghost use Rattle.hg_rounds.specs.Tabled.{before_last, last_parents, last_place, standing, standings_in};
 
 use crate::table::RoundTable;
-use hg_model::{Rounds, Sight, is_supermajority};
+use hg_model::{Parents, Rounds, Sight, is_supermajority};
 
 /// The round of the sight's last row, and whether that row is a witness, from the table of the rows before it.
 /// It asks what the row strongly sees of the witnesses of one round alone. Takes no memory.
-pub fn place_round<S: Sight>(
-    sight: &S,
-    table: &RoundTable,
-    parents: Option<(usize, usize)>,
-) -> (u32, bool)
+pub fn place_round<S: Sight>(sight: &S, table: &RoundTable, parents: Parents) -> (u32, bool)
     requires some { 0 < length (S.shape sight.now).links }
-    requires parents { pair_list parents ≡ last_parents (S.shape sight.now) }
+    requires parents { parents ≡ last_parents (S.shape sight.now) }
     requires before { table.now.standings ≡ standings_in (before_last (S.shape sight.now)) }
     ensures round { result.0 ≡ round_of (S.shape sight.now).members (S.shape sight.now).links (last_place (S.shape sight.now)) }
     ensures witness { result.1 ≡ is_witness (S.shape sight.now).members (S.shape sight.now).links (last_place (S.shape sight.now)) }
@@ -35,11 +30,11 @@ pub fn place_round<S: Sight>(
 }
 
 /// The greatest of the parents' rounds, or 1.
-fn parent_round(table: &RoundTable, parents: Option<(usize, usize)>) -> u32
-    requires { AllByRecursion (λ p. p < length table.now.standings) (pair_list parents) }
-    ensures { result ≡ parent_round (round_at table.now.standings) (pair_list parents) }
+fn parent_round(table: &RoundTable, parents: Parents) -> u32
+    requires { AllByRecursion (λ p. p < length table.now.standings) parents }
+    ensures { result ≡ parent_round (round_at table.now.standings) parents }
 {
-    match parents {
+    match parents.pair() {
         None => 1,
         Some((own, other)) => table.round(own).max(table.round(other).max(1)),
     }
@@ -75,12 +70,12 @@ fn next_round(members: u32, round: u32, seen: u32) -> u32
 }
 
 /// Whether a row of this round has no self-parent, or one of an earlier round.
-fn is_first(table: &RoundTable, parents: Option<(usize, usize)>, round: u32) -> bool
-    requires { AllByRecursion (λ p. p < length table.now.standings) (pair_list parents) }
-    ensures { result ≡ list_all (λ p. nat_lt (round_at table.now.standings p) round) (first_place (pair_list parents)) }
+fn is_first(table: &RoundTable, parents: Parents, round: u32) -> bool
+    requires { AllByRecursion (λ p. p < length table.now.standings) parents }
+    ensures { result ≡ list_all (λ p. nat_lt (round_at table.now.standings p) round) (first_place parents) }
 {
-    match parents {
+    match parents.self_parent() {
         None => true,
-        Some((own, _)) => table.round(own) < round,
+        Some(own) => table.round(own) < round,
     }
 }

@@ -1,4 +1,4 @@
-use Rattle.std.proofs.Common.{◌≡◌, ◌<◌, ◌+◌, ◌∙◌, ℕ, sym, ap, ap₂, subst, Bool, false, List, Option, length, arith}
+use Rattle.std.proofs.Common.{◌≡◌, ◌<◌, ◌+◌, ◌∙◌, ℕ, sym, ap, ap₂, subst, Bool, false, List, length, arith}
 use Rattle.std.specs.List.{AllByRecursion}
 use Rattle.std.proofs.lemmas.List.{length-replicate}
 use Rattle.hg_model.specs.Places.{table}
@@ -10,7 +10,7 @@ use Rattle.hg_ancestry.proofs.ancestry.add_parents.Goals as goal
 
 pub union-requires : goal.union-requires
 union-requires c =
-    let places = subst (λ (on : Option (ℕ × ℕ)). AllByRecursion (λ p. p < length c.args.links.now) (pair_list on)) c.in-Some.is c.requires.places in
+    let places = subst (λ (on : List ℕ). AllByRecursion (λ p. p < length c.args.links.now) on) (sym c.pair.ensures ∙ ap pair_list c.in-Some.is) c.requires.places in
     let inside : c.in-Some.own < length c.args.links.now = places.0 in
     let long = row_long c.args.links.now c.in-Some.own _ (c.row_of.ensures ∙ c.requires.known.row c.in-Some.own inside) in
     let empty = ap length c.requires.empty ∙ length-replicate (length c.args.links.now + 1) false in
@@ -18,7 +18,7 @@ union-requires c =
 
 pub union-requires-in-Some : goal.union-requires-in-Some
 union-requires-in-Some c =
-    let places = subst (λ (on : Option (ℕ × ℕ)). AllByRecursion (λ p. p < length c.args.links.now) (pair_list on)) c.in-Some.is c.requires.places in
+    let places = subst (λ (on : List ℕ). AllByRecursion (λ p. p < length c.args.links.now) on) (sym c.pair.ensures ∙ ap pair_list c.in-Some.is) c.requires.places in
     let inside : c.in-Some.other < length c.args.links.now = places.1.0 in
     let long = row_long c.args.links.now c.in-Some.other _ (c.row_of-in-Some.ensures ∙ c.requires.known.row c.in-Some.other inside) in
     let empty = ap length c.requires.empty ∙ length-replicate (length c.args.links.now + 1) false in
@@ -27,13 +27,13 @@ union-requires-in-Some c =
 
 pub returns-in-None : goal.returns-in-None
 returns-in-None c =
-    subst (λ (on : Option (ℕ × ℕ)). c.args.row.now ≡ table (is_above c.args.links.now on) (length c.args.links.now + 1)) (sym c.in-None.is)
+    subst (λ (on : List ℕ). c.args.row.now ≡ table (is_above c.args.links.now on) (length c.args.links.now + 1)) (sym (ap pair_list c.in-None.is) ∙ c.pair.ensures)
     (c.requires.empty ∙ filled_none c.args.links.now c.requires.earlier c.args.rows.now c.requires.known (length c.args.links.now + 1))
 
 pub returns-in-Some : goal.returns-in-Some
 returns-in-Some c =
     let L = c.args.links.now in
-    let places = subst (λ (on : Option (ℕ × ℕ)). AllByRecursion (λ p. p < length L) (pair_list on)) c.in-Some.is c.requires.places in
-    subst (λ (on : Option (ℕ × ℕ)). c.union-in-Some.new.self ≡ table (is_above L on) (length L + 1)) (sym c.in-Some.is)
+    let places = subst (λ (on : List ℕ). AllByRecursion (λ p. p < length L) on) (sym c.pair.ensures ∙ ap pair_list c.in-Some.is) c.requires.places in
+    subst (λ (on : List ℕ). c.union-in-Some.new.self ≡ table (is_above L on) (length L + 1)) (sym (ap pair_list c.in-Some.is) ∙ c.pair.ensures)
     (c.union-in-Some.ensures ∙ (ap₂ (λ (a b : List Bool). union_of a b) (c.union.ensures ∙ ap₂ (λ (a b : List Bool). union_of a b) c.requires.empty c.row_of.ensures) c.row_of-in-Some.ensures
     ∙ filled_on L c.requires.earlier c.args.rows.now c.requires.known (length L + 1) c.in-Some.own c.in-Some.other places.0 places.1.0))

@@ -3,7 +3,7 @@ use Rattle.std.specs.List.{AllByRecursion}
 use Rattle.hg_model.specs.Places.{table}
 use Rattle.hg_model.specs.Links.{Link}
 use Rattle.hg_model.specs.Forks.{has_fork_below}
-use Rattle.hg_model.specs.Shape.{ShapeWithRoom, FitsLink, link_of, pair_list}
+use Rattle.hg_model.specs.Shape.{ShapeWithRoom, FitsLink, link_of}
 use Rattle.hg_bits.specs.Masks.{mask_has}
 use Rattle.hg_ancestry.specs.Held.{IsSpare, is_above, spare_room}
 use Rattle.hg_ancestry.proofs.HeldLaws.{places_fit}
@@ -13,7 +13,7 @@ use Rattle.hg_ancestry.proofs.sight.BitSightGrowing.extend.Goals as goal
 pub fill-requires-clause-places : goal.fill-requires-clause-places
 fill-requires-clause-places c =
     let fits = subst (λ (g : ShapeWithRoom). FitsLink g.shape.members g.shape.links (link_of c.args.creator c.args.parents)) (sym c.self.view_is) c.requires.fits in
-    subst (λ (L : List Link). AllByRecursion (λ p. p < length L) (pair_list c.args.parents)) (sym c.deref.ensures.value)
+    subst (λ (L : List Link). AllByRecursion (λ p. p < length L) c.args.parents) (sym c.deref.ensures.value)
     (places_fit c.self.inside.members c.self.inside.links.items c.args.creator c.args.parents fits)
 
 pub invariant_of-self : goal.invariant_of-self
