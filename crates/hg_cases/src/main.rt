@@ -7,16 +7,16 @@ mod case;
 mod outcome;
 mod pack;
 mod playing;
-mod tally;
 mod printing;
+mod tally;
 mod trouble;
 
 use crate::case::{Case, read_case};
 use crate::outcome::difference;
 use crate::pack::Pack;
 use crate::playing::play;
-use crate::tally::Tally;
 use crate::printing::print_difference;
+use crate::tally::Tally;
 use crate::trouble::Trouble;
 use std::fs;
 use std::process::ExitCode;

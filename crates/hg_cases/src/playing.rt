@@ -1,7 +1,8 @@
 use crate::outcome::Outcome;
 use hg_io::{ShelfMem, SinkMem};
+use hg_model::Memory;
 use hg_top::{Status, hashgraph};
-use std::alloc::{AllocError, Global};
+use std::alloc::Global;
 
 /// More bytes than any case writes.
 const ROOM: usize = 1_048_576;
@@ -29,7 +30,7 @@ pub fn play(
     alloc: Global,
     words: &[String],
     files: Vec<(String, Vec<u8>)>,
-) -> Result<Played, AllocError> {
+) -> Result<Played, Memory> {
     let mut shelf = ShelfMem::new(alloc, files, Vec::new(alloc))?;
     let mut out = SinkMem::new(alloc, ROOM, ROOM, Vec::new(alloc))?;
     let mut err = SinkMem::new(alloc, ROOM, ROOM, Vec::new(alloc))?;

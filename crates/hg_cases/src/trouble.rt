@@ -1,3 +1,4 @@
+use hg_model::Memory;
 use std::alloc::{AllocError, AllocFailed};
 use std::io;
 
@@ -24,6 +25,12 @@ impl Trouble {
 
 impl From<AllocError> for Trouble {
     fn from(_error: AllocError) -> Trouble {
+        Trouble::Memory
+    }
+}
+
+impl From<Memory> for Trouble {
+    fn from(_error: Memory) -> Trouble {
         Trouble::Memory
     }
 }

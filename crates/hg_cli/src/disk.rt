@@ -11,6 +11,7 @@ pub struct Disk<'a, R: Files> {
     files: &'a R,
     file: Option<R::File>,
     faults: u64,
+    starts: u64,
 }
 
 impl<'a, R: Files> Disk<'a, R> {
@@ -19,6 +20,7 @@ impl<'a, R: Files> Disk<'a, R> {
             files,
             file: None,
             faults: 0,
+            starts: 0,
         }
     }
 }
@@ -34,7 +36,10 @@ impl<R: Files> Shelf for Disk<'_, R> {
 
     ghost faults = { λ s _. s.faults };
 
+    ghost starts = { λ s. s.starts };
+
     fn start(&mut self, name: &str) -> Result<(), Failed> {
+        self.starts = self.starts.saturating_add(1);
         match fs::open(self.files, name) {
             Ok(file) => {
                 self.file = Some(file);

@@ -5,28 +5,40 @@
 
 mod disk;
 mod stream;
+#[cfg(test)]
+mod tests;
 
 use crate::disk::Disk;
 use crate::stream::Stream;
-use hg_top::{Status, hashgraph};
-use std::io::Write;
+use hg_top::{NoWords, hashgraph, without_words};
+use std::env;
+use std::io::{ErrorKind, Write};
 use std::process::ExitCode;
 use std::rt::Env;
-use std::{env, io};
 
 /// The words of the command line, the program's name first.
-fn words_of<R: Env + AllocGlobal>(rt: &R) -> io::Result<Vec<String>> {
-    let words = env::args(rt)?.collect(rt.alloc())?;
-    Ok(words)
+fn words_of<R: Env + AllocGlobal>(rt: &R) -> Result<Vec<String>, NoWords> {
+    match env::args(rt) {
+        Ok(words) => match words.collect(rt.alloc()) {
+            Ok(words) => Ok(words),
+            Err(_) => Err(NoWords::Memory),
+        },
+        Err(error) => match error.kind() {
+            ErrorKind::InvalidData => Err(NoWords::NotText),
+            _ => Err(NoWords::Memory),
+        },
+    }
 }
 
 fn main(rt: HostRuntime) -> ExitCode {
     let mut err = Stream::new(rt.stderr());
-    let Ok(words) = words_of(&rt) else {
-        return ExitCode::from(Status::Memory.code());
+    let status = match words_of(&rt) {
+        Ok(words) => {
+            let mut disk = Disk::new(&rt);
+            let mut out = Stream::new(rt.stdout());
+            hashgraph(rt.alloc(), words.as_slice(), &mut disk, &mut out, &mut err)
+        }
+        Err(why) => without_words(why, &mut err),
     };
-    let mut disk = Disk::new(&rt);
-    let mut out = Stream::new(rt.stdout());
-    let status = hashgraph(rt.alloc(), words.as_slice(), &mut disk, &mut out, &mut err);
     ExitCode::from(status.code())
 }

@@ -34,6 +34,7 @@ stops_then {a} {b} {c} {s} {t} first second = record {
   written = append_twice a.written b.written c.written first.sent second.sent first.written second.written;
   rose = omega (arith, first.faults, second.rose);
   faults = omega (arith, first.faults, second.faults);
+  empty = second.empty;
 }
 
 -- what stopped a text stops a longer one
@@ -46,6 +47,7 @@ stops_before {a} {b} {s} t first = record {
   written = first.written;
   rose = first.rose;
   faults = first.faults;
+  empty = first.empty;
 }
 
 append_nothing : (matches : Option (List ℕ)) → Appends matches matches []
@@ -61,8 +63,8 @@ puts_nothing a = record {
   faults = omega arith;
 }
 
-pub stops_straight : (a b : Desk) (piece : List ℕ) → a.held ≡ [] → AppendsPart a.written b.written piece → Rose a.faults b.faults → a.faults ≤ b.faults → IsStopped a b piece
-stops_straight a b piece none part rose faults = record {
+pub stops_straight : (a b : Desk) (piece : List ℕ) → a.held ≡ [] → AppendsPart a.written b.written piece → Rose a.faults b.faults → a.faults ≤ b.faults → b.held ≡ [] → IsStopped a b piece
+stops_straight a b piece none part rose faults empty = record {
   sent = take part.0 piece;
   unsent = drop part.0 piece;
   some = rw (length-drop part.0 piece) (omega (arith, part.1));
@@ -70,11 +72,12 @@ stops_straight a b piece none part rose faults = record {
   written = part.2;
   rose = rose;
   faults = faults;
+  empty = empty;
 }
 
 -- a front that was written of what was held stops any text
-pub stops_sending : (a b : Desk) (text : List ℕ) → AppendsPart a.written b.written a.held → Rose a.faults b.faults → a.faults ≤ b.faults → IsStopped a b text
-stops_sending a b text part rose faults = record {
+pub stops_sending : (a b : Desk) (text : List ℕ) → AppendsPart a.written b.written a.held → Rose a.faults b.faults → a.faults ≤ b.faults → b.held ≡ [] → IsStopped a b text
+stops_sending a b text part rose faults empty = record {
   sent = take part.0 a.held;
   unsent = drop part.0 a.held ++ text;
   some = rw (length-append (drop part.0 a.held) text, length-drop part.0 a.held) (omega (arith, part.1));
@@ -82,6 +85,7 @@ stops_sending a b text part rose faults = record {
   written = part.2;
   rose = rose;
   faults = faults;
+  empty = empty;
 }
 
 -- a page that was sent, and then a text
@@ -105,6 +109,7 @@ stops_after_sending a b c text written faults empty second = record {
   written = append_twice a.written b.written c.written a.held second.sent written second.written;
   rose = omega (arith, faults, second.rose);
   faults = omega (arith, faults, second.faults);
+  empty = second.empty;
 }
 
 -- what stopped a text is a front of it, behind what was held
@@ -129,7 +134,7 @@ printed_by_page K first middle last none held text (Err e) empty put matches =
     let a = desk K first none in
     let b = desk K middle held in
     let c = desk K last [] in
-    let stop : IsStopped a c (text ++ []) = stops_then put (stops_sending b c [] matches.0 matches.1 matches.2) in
+    let stop : IsStopped a c (text ++ []) = stops_then put (stops_sending b c [] matches.0 matches.1 matches.2 refl) in
     (rw (append-nil text) at (stopped_part a c (text ++ []) empty stop), stop.rose, stop.faults)
 
 -- ---- a text piece by piece

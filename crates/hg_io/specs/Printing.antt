@@ -27,7 +27,8 @@ pub record IsPut (before after : Desk) (text : List ℕ) : Type 0 where
   pub written : Appends before.written after.written sent
   pub faults : before.faults ≤ after.faults
 
--- a fault came before all of what was held and of the text was written: some first bytes of them are, and not these
+-- a fault came before all of what was held and of the text was written: some first bytes of them are, and not these,
+-- which the page does not hold either
 pub record IsStopped (before after : Desk) (text : List ℕ) : Type 0 where
   pub sent : List ℕ
   pub unsent : List ℕ
@@ -36,11 +37,16 @@ pub record IsStopped (before after : Desk) (text : List ℕ) : Type 0 where
   pub written : Appends before.written after.written sent
   pub rose : Rose before.faults after.faults
   pub faults : before.faults ≤ after.faults
+  pub empty : after.held ≡ []
 
 -- what came of putting a text
 abbrev pub Puts : {T E : Type 0} → Desk → Desk → List ℕ → Result T E → Type 0
 Puts before after text (Ok x) = IsPut before after text
 Puts before after text (Err e) = IsStopped before after text
+
+-- the same of a sink K and the page before it, which holds these bytes before and these after
+abbrev pub PutsOn : {S T E : Type 0} → sink.Ghosts S → S → S → List ℕ → List ℕ → List ℕ → Result T E → Type 0
+PutsOn K before after held_before held_after text r = Puts (desk K before held_before) (desk K after held_after) text r
 
 -- a front of a text was put, and this is left of it
 pub record IsPutUpTo (before now : Desk) (left text : List ℕ) : Type 0 where

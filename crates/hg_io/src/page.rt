@@ -1,5 +1,5 @@
 ghost use Rattle.std.specs.Prelude.{◌≡◌, [], OnOk};
-ghost use Rattle.hg_io.specs.Printing.{Puts, Prints, desk, held_after, held_alone};
+ghost use Rattle.hg_io.specs.Printing.{Prints, PutsOn, held_after, held_alone};
 
 use crate::failed::Failed;
 use crate::sink::Sink;
@@ -24,14 +24,14 @@ impl Model for Page {
     ghost view = { λ p. p.bytes.items };
 }
 
-// Gives the sink all bytes of the page.
+// Gives the sink all bytes of the page, which holds none then, whatever came of it.
 fn send<K: Sink>(bytes: &mut ArrayVec<u8, PAGE>, sink: &mut K) -> Result<(), Failed>
     ensures matches { Prints K.Sink sink.old sink.new bytes.old.items result }
-    ensures empty { OnOk result (bytes.new.items ≡ []) }
+    ensures empty { bytes.new.items ≡ [] }
 {
-    write_all(sink, bytes.as_slice())?;
+    let sent = write_all(sink, bytes.as_slice());
     bytes.clear();
-    Ok(())
+    sent
 }
 
 // Puts a piece on an empty page, or where it is longer than a page gives it to the sink.
@@ -39,7 +39,7 @@ fn send<K: Sink>(bytes: &mut ArrayVec<u8, PAGE>, sink: &mut K) -> Result<(), Fai
 fn begin<K: Sink>(bytes: &mut ArrayVec<u8, PAGE>, sink: &mut K, piece: &[u8]) -> Result<(), Failed>
     requires { bytes.old.items ≡ [] }
     ensures held { OnOk result (bytes.new.items ≡ held_alone piece.now) }
-    ensures puts { Puts (desk K.Sink sink.old bytes.old.items) (desk K.Sink sink.new bytes.new.items) piece.now result }
+    ensures puts { PutsOn K.Sink sink.old sink.new bytes.old.items bytes.new.items piece.now result }
 {
     if bytes.try_extend_from_slice(piece).is_ok() {
         return Ok(());
@@ -52,7 +52,7 @@ fn begin<K: Sink>(bytes: &mut ArrayVec<u8, PAGE>, sink: &mut K, piece: &[u8]) ->
 #[tactic(auto, using(crate::proofs::PrintLaws::stops_sending, crate::proofs::PrintLaws::puts_after_sending, crate::proofs::PrintLaws::stops_after_sending))]
 fn put<K: Sink>(bytes: &mut ArrayVec<u8, PAGE>, sink: &mut K, piece: &[u8]) -> Result<(), Failed>
     ensures held { OnOk result (bytes.new.items ≡ held_after bytes.old.items piece.now) }
-    ensures puts { Puts (desk K.Sink sink.old bytes.old.items) (desk K.Sink sink.new bytes.new.items) piece.now result }
+    ensures puts { PutsOn K.Sink sink.old sink.new bytes.old.items bytes.new.items piece.now result }
 {
     if bytes.try_extend_from_slice(piece).is_ok() {
         return Ok(());
@@ -72,18 +72,20 @@ impl Page {
         }
     }
 
-    /// Puts the bytes behind those of the page, which go to the sink first where there is no room for both.
+    /// Puts the bytes behind those of the page, which go to the sink first where there is no room for both. At `Failed`
+    /// a front of all of them was written, and the page holds none.
     pub fn put<K: Sink>(&mut self, sink: &mut K, bytes: &[u8]) -> Result<(), Failed>
         ensures held { OnOk result (self.new ≡ held_after self.old bytes.now) }
-        ensures puts { Puts (desk K.Sink sink.old self.old) (desk K.Sink sink.new self.new) bytes.now result }
+        ensures puts { PutsOn K.Sink sink.old sink.new self.old self.new bytes.now result }
     {
         put(&mut self.bytes, sink, bytes)
     }
 
-    /// Gives the sink all bytes of the page.
+    /// Gives the sink all bytes of the page, which holds none then. At `Failed` a front of them was written, and the
+    /// others are lost: no byte is ever written twice.
     pub fn send<K: Sink>(&mut self, sink: &mut K) -> Result<(), Failed>
         ensures matches { Prints K.Sink sink.old sink.new self.old result }
-        ensures empty { OnOk result (self.new ≡ []) }
+        ensures empty { self.new ≡ [] }
     {
         send(&mut self.bytes, sink)
     }

@@ -1,16 +1,17 @@
 ghost use Rattle.std.specs.Prelude.{◌≡◌, ◌≤◌, ℕ, List, Ok, IfOk};
 ghost use Rattle.hg_io.specs.Answers.{Answers, AnswersLeft};
-ghost use Rattle.hg_io.specs.Faults.{Rose};
+ghost use Rattle.hg_io.specs.Faults.{Rose, raised};
 
 use crate::failed::Failed;
 use crate::shelf::Shelf;
-use std::alloc::{AllocError, Global};
+use hg_model::{Bytes, Memory};
+use std::alloc::Global;
 
 /// What reading a file gave.
 #[derive(Debug, Drop)]
 pub enum FileAnswer {
     /// All bytes of the file, which are no more than the limit.
-    Bytes(Vec<u8>),
+    Bytes(Bytes),
     /// The shelf failed at the file's name, and counted it.
     Failed,
     /// The file has more bytes than this limit.
@@ -27,11 +28,12 @@ pub fn read_file<F: Shelf>(
     shelf: &mut F,
     name: &str,
     limit: usize,
-) -> Result<FileAnswer, AllocError>
+) -> Result<FileAnswer, Memory>
     ensures answers { IfOk result (Answers (F.holds shelf.old) name.now limit) }
     ensures cause { result ≡ Ok FileAnswer.Failed → Rose (F.faults shelf.old name.now) (F.faults shelf.new name.now) }
     ensures same { F.holds shelf.new ≡ F.holds shelf.old }
     ensures counts { (other : List ℕ) → F.faults shelf.old other ≤ F.faults shelf.new other }
+    ensures begun { F.starts shelf.new ≡ raised (F.starts shelf.old) }
 {
     match shelf.start(name) {
         Ok(()) => read_left(alloc, shelf, name, limit),
@@ -45,12 +47,13 @@ fn read_left<F: Shelf>(
     shelf: &mut F,
     name: &str,
     limit: usize,
-) -> Result<FileAnswer, AllocError>
+) -> Result<FileAnswer, Memory>
     requires { F.At shelf.old name.now }
     ensures answers { IfOk result (AnswersLeft (F.left shelf.old) limit) }
     ensures cause { result ≡ Ok FileAnswer.Failed → Rose (F.faults shelf.old name.now) (F.faults shelf.new name.now) }
     ensures same { F.holds shelf.new ≡ F.holds shelf.old }
     ensures counts { (other : List ℕ) → F.faults shelf.old other ≤ F.faults shelf.new other }
+    ensures begun { F.starts shelf.new ≡ F.starts shelf.old }
 {
     let mut bytes = Vec::new(alloc);
     let mut piece = [0; PIECE];
@@ -59,7 +62,7 @@ fn read_left<F: Shelf>(
             return Ok(FileAnswer::Failed);
         };
         if count == 0 {
-            return Ok(FileAnswer::Bytes(bytes));
+            return Ok(FileAnswer::Bytes(Bytes::from_vec(bytes)));
         }
         if count > limit - bytes.len() {
             return Ok(FileAnswer::TooLong(limit));

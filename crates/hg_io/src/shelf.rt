@@ -1,6 +1,6 @@
 ghost use Rattle.std.specs.Prelude.{◌≡◌, ◌<◌, ◌≤◌, ℕ, [], List, Option, length, take, IfOk, IfSome, IsSome, OnOk, OnErr};
 ghost use Rattle.hg_io.specs.Bytes.{TakesOff};
-ghost use Rattle.hg_io.specs.Faults.{Rose};
+ghost use Rattle.hg_io.specs.Faults.{Rose, raised};
 ghost use Rattle.hg_io.specs.Files.{Files, content_of};
 
 use crate::failed::Failed;
@@ -19,6 +19,9 @@ pub trait Shelf {
     /// How often it failed so far at this name.
     ghost faults: { Self → List ℕ → ℕ };
 
+    /// How often a file was started so far, counted up to the last value of 64 bits.
+    ghost starts: { Self → ℕ };
+
     /// Starts the file of this name from its first byte, whatever was started before. A name that is not there is a
     /// fault of that name.
     fn start(&mut self, name: &str) -> Result<(), Failed>
@@ -27,7 +30,8 @@ pub trait Shelf {
         ensures started { OnOk result (At self.new name.now) }
         ensures same { holds self.new ≡ holds self.old }
         ensures cause { OnErr result (Rose (faults self.old name.now) (faults self.new name.now)) }
-        ensures counts { (other : List ℕ) → faults self.old other ≤ faults self.new other };
+        ensures counts { (other : List ℕ) → faults self.old other ≤ faults self.new other }
+        ensures begun { starts self.new ≡ raised (starts self.old) };
 
     /// Puts the next bytes of the started file to the front of the buffer and answers how many they are: none only
     /// at the file's end. At `Failed` the same bytes are still to come.
@@ -41,5 +45,6 @@ pub trait Shelf {
         ensures started { At self.new name.now }
         ensures same { holds self.new ≡ holds self.old }
         ensures cause { OnErr result (Rose (faults self.old name.now) (faults self.new name.now)) }
-        ensures counts { (other : List ℕ) → faults self.old other ≤ faults self.new other };
+        ensures counts { (other : List ℕ) → faults self.old other ≤ faults self.new other }
+        ensures begun { starts self.new ≡ starts self.old };
 }

@@ -1,13 +1,14 @@
 ghost use Rattle.std.specs.Prelude.{◌≡◌, ◌↔◌, ◌<◌, ◌≤◌, ◌⊎◌, ◌++◌, ◌+◌, ◌-◌, [], ℕ, List, Contains, None, Some, IfOk, IsErr, IsTrue, OnErr, OnOk, drop, length, min, position, slice_index, slice_set, string_bytes, take, unwrap_or};
 ghost use Rattle.std.specs.Str.{bytes_eq};
-ghost use Rattle.hg_io.specs.Faults.{Rose};
+ghost use Rattle.hg_io.specs.Faults.{Rose, raised};
 ghost use Rattle.hg_io.specs.Files.{content_of, file_place};
 ghost use Rattle.hg_io.specs.FilesOf.{files_of};
-ghost use Rattle.hg_io.specs.ShelfState.{IsAt, after_fault, after_read, after_start, called, faults_at, new_shelf, started_bytes};
+ghost use Rattle.hg_io.specs.ShelfState.{IsAt, RefusesStart, after_fault, after_read, after_start, begun, bytes_of, called, faults_at, new_shelf, started_bytes};
 
 use crate::failed::Failed;
 use crate::shelf::Shelf;
-use std::alloc::{AllocError, Global};
+use hg_model::Memory;
+use std::alloc::Global;
 use std::marker::Model;
 
 /// A shelf in memory, which fails at the calls that it was made to fail at, and at a start of a name that it does not
@@ -19,6 +20,7 @@ pub struct ShelfMem {
     at: usize,
     fails: Vec<u64>,
     calls: u64,
+    starts: u64,
     faults: Vec<u64>,
 }
 
@@ -36,6 +38,7 @@ impl Model for ShelfMem {
       left = drop s.at (started_bytes (files_of s.files.items) s.started);
       fails = s.fails.items;
       calls = s.calls;
+      starts = s.starts;
       faults = s.faults.items;
     } };
 
@@ -51,10 +54,11 @@ impl ShelfMem {
         alloc: Global,
         files: Vec<(String, Vec<u8>)>,
         fails: Vec<u64>,
-    ) -> Result<ShelfMem, AllocError>
+    ) -> Result<ShelfMem, Memory>
         ensures made { IfOk result (λ s. s ≡ new_shelf (files_of files.items) fails.items) }
         ensures holds { IfOk result (λ s. ⟦<ShelfMem as Shelf>⟧.holds s ≡ Some (files_of files.items)) }
         ensures faults { IfOk result (λ s. (name : List ℕ) → ⟦<ShelfMem as Shelf>⟧.faults s name ≡ 0) }
+        ensures starts { IfOk result (λ s. ⟦<ShelfMem as Shelf>⟧.starts s ≡ 0) }
     {
         let faults = vec![in alloc; 0; files.len() + 1]?;
         Ok(ShelfMem {
@@ -63,6 +67,7 @@ impl ShelfMem {
             at: 0,
             fails,
             calls: 0,
+            starts: 0,
             faults,
         })
     }
@@ -75,6 +80,15 @@ impl ShelfMem {
         let call = self.calls;
         self.calls = call.saturating_add(1);
         self.fails.contains(&call)
+    }
+
+    // Counts a call that is a start, and says whether it is to fail.
+    fn next_start_fails(&mut self) -> bool
+        ensures fails { IsTrue result ↔ (Contains self.old.fails self.old.calls) }
+        ensures after { self.new ≡ begun self.old }
+    {
+        self.starts = self.starts.saturating_add(1);
+        self.next_fails()
     }
 
     // Counts a fault at the place of a name.
@@ -133,7 +147,7 @@ fn file_place(files: &[(String, Vec<u8>)], name: &str) -> usize
     ensures place { result ≡ file_place (files_of files.now) name.now }
     ensures within { result ≤ length files.now }
     ensures none { (length files.now ≤ result) ↔ (content_of (files_of files.now) name.now ≡ None) }
-    ensures content { unwrap_or (content_of (files_of files.now) name.now) [] ≡ started_bytes (files_of files.now) (Some result) }
+    ensures content { bytes_of (files_of files.now) name.now ≡ started_bytes (files_of files.now) (Some result) }
 {
     found_place(files, name).unwrap_or(files.len())
 }
@@ -158,16 +172,19 @@ impl Shelf for ShelfMem {
 
     ghost faults = { faults_at };
 
+    ghost starts = { λ s. s.starts };
+
     fn start(&mut self, name: &str) -> Result<(), Failed>
-        ensures fails { IsErr result ↔ (Contains self.old.fails self.old.calls ⊎ (content_of self.old.files name.now ≡ None)) }
+        ensures fails { IsErr result ↔ RefusesStart self.old name.now }
         ensures after { self.new ≡ after_start self.old name.now result }
         // With these, all that the trait ensures.
         ensures started { OnOk result (IsAt self.new name.now) }
         ensures cause { OnErr result (Rose (faults_at self.old name.now) (faults_at self.new name.now)) }
         ensures counts { (other : List ℕ) → faults_at self.old other ≤ faults_at self.new other }
+        ensures begun { self.new.starts ≡ raised self.old.starts }
     {
         let place = file_place(self.files.as_slice(), name);
-        if self.next_fails() || place == self.files.len() {
+        if self.next_start_fails() || place == self.files.len() {
             self.count_fault(place);
             return Err(Failed);
         }
@@ -185,6 +202,7 @@ impl Shelf for ShelfMem {
         // With these, all that the trait ensures.
         ensures cause { OnErr result (Rose (faults_at self.old name.now) (faults_at self.new name.now)) }
         ensures counts { (other : List ℕ) → faults_at self.old other ≤ faults_at self.new other }
+        ensures begun { self.new.starts ≡ self.old.starts }
     {
         let place = file_place(self.files.as_slice(), name);
         if self.next_fails() {

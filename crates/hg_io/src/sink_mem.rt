@@ -3,7 +3,8 @@ ghost use Rattle.hg_io.specs.SinkState.{Refuses, after_write, new_sink, taken_co
 
 use crate::failed::Failed;
 use crate::sink::Sink;
-use std::alloc::{AllocError, Global};
+use hg_model::Memory;
+use std::alloc::Global;
 use std::marker::Model;
 
 /// A sink in memory, which fails at the calls that it was made to fail at, and where its room is used up.
@@ -38,12 +39,7 @@ impl Model for SinkMem {
 impl SinkMem {
     /// A sink that takes `room` bytes in all and at most `most` of them in a call. The calls with these numbers fail,
     /// counted from 0. The room is reserved here, and no call takes memory.
-    pub fn new(
-        alloc: Global,
-        room: usize,
-        most: usize,
-        fails: Vec<u64>,
-    ) -> Result<SinkMem, AllocError>
+    pub fn new(alloc: Global, room: usize, most: usize, fails: Vec<u64>) -> Result<SinkMem, Memory>
         requires { 1 ≤ most }
         ensures { IfOk result (λ s. s ≡ new_sink room most fails.items) }
     {

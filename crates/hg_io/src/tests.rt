@@ -1,12 +1,13 @@
 // The forms in memory, the two calls over them, and faults in mid-stream.
 use super::*;
-use std::alloc::{AllocError, Global};
+use hg_model::Memory;
+use std::alloc::Global;
 use std::test::Fail;
 
 // As many bytes as two whole pieces of a read and some more.
 const LONG: usize = 20_000;
 
-fn shelf(alloc: Global, fails: Vec<u64>) -> Result<ShelfMem, AllocError> {
+fn shelf(alloc: Global, fails: Vec<u64>) -> Result<ShelfMem, Memory> {
     let mut files = Vec::new(alloc);
     let short = Vec::from_slice(alloc, b"two members")?;
     files.push((String::from_str(alloc, "members")?, short))?;
@@ -149,5 +150,18 @@ fn a_page_goes_out_in_order(rt: HostRuntime) -> Result<(), Fail> {
             "{call}"
         );
     }
+    Ok(())
+}
+
+// What a page held at a fault is not written by a later call.
+#[test]
+fn a_page_is_empty_after_a_fault(rt: HostRuntime) -> Result<(), Fail> {
+    let alloc = rt.alloc();
+    let mut page = Page::new();
+    let mut sink = SinkMem::new(alloc, 100, 4, vec![in alloc; 1]?)?;
+    assert_eq!(rt; page.put(&mut sink, b"node A events 0"), Ok(()));
+    assert_eq!(rt; page.send(&mut sink), Err(Failed));
+    assert_eq!(rt; page.send(&mut sink), Ok(()));
+    assert_eq!(rt; sink.bytes(), b"node".as_slice());
     Ok(())
 }

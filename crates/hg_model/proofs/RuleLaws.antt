@@ -6,12 +6,8 @@ use Rattle.std.specs.Option.{option_or}
 use Rattle.std.proofs.lemmas.Bool.Decides.{nat_tests}
 use Rattle.std.proofs.lemmas.Bool.{cases_Bool, eqb-true, eqb-false, ltb-true, not-true, not-false}
 use Rattle.hg_model.specs.declared.row.Row.{Row}
-<<<<<<< HEAD
 use Rattle.hg_model.specs.Stakes.{Stakes}
-use Rattle.hg_model.specs.Links.{parent_names, place_of}
-=======
-use Rattle.hg_model.specs.Links.{ParentNames, parent_names, place_of}
->>>>>>> 8fd36a6 (hg_history: making over a list of others;hg_rounds, hg_event, hg_prefix: parents' places and names by their words;hg_ancestry: a row's parents are Parents;Parents: rules over a list of others, link_of over places; the type Parents;)
+use Rattle.hg_model.specs.Links.{parent_names, place_of, ParentNames}
 use Rattle.hg_model.specs.Graph.{HasDistinctNames}
 use Rattle.hg_model.specs.Fits.{AreHeld, ParentsFit, Fits}
 use Rattle.hg_model.specs.Spelling.{payload_limit}
@@ -131,28 +127,16 @@ made_parents G m (Some last) (other ∷ others) distinct is first silent =
     let own = last_is_own m G last distinct is in ((own.0, (held.0, tt)), (own.1, (by.0, tt)))
 
 -- what holds of a draft against which no rule speaks
-<<<<<<< HEAD
-pub record Drafted (n : Stakes) (own : ℕ) (G : List Row) (other : Option (List ℕ)) (payload : List ℕ) : Type 0 where
-=======
-pub record Drafted (n own : ℕ) (G : List Row) (others : List (List ℕ)) (payload : List ℕ) : Type 0 where
->>>>>>> 8fd36a6 (hg_history: making over a list of others;hg_rounds, hg_event, hg_prefix: parents' places and names by their words;hg_ancestry: a row's parents are Parents;Parents: rules over a list of others, link_of over places; the type Parents;)
+pub record Drafted (n : Stakes) (own : ℕ) (G : List Row) (others : List (List ℕ)) (payload : List ℕ) : Type 0 where
   pub short : length payload ≤ payload_limit
   pub held : AreHeld G (parent_names (parents_on (last_name own G) others))
   pub parents_fit : ParentsFit G own (parent_names (parents_on (last_name own G) others))
 
-<<<<<<< HEAD
-pub drafted : (n : Stakes) (own : ℕ) (G : List Row) (other : Option (List ℕ)) (payload : List ℕ) → HasDistinctNames G → draft_rule own G other payload ≡ None → Drafted n own G other payload
-drafted n own G other payload distinct none =
-    let a = option_or_none (first_rule (last_name own G) other) _ none in
-    let b = option_or_none (other_rule own G other) (payload_rule payload) a.1 in
-    let parents = made_parents G own (last_name own G) other distinct refl a.0 b.0 in
-=======
-pub drafted : (n own : ℕ) (G : List Row) (others : List (List ℕ)) (payload : List ℕ) → HasDistinctNames G → draft_rule own G others payload ≡ None → Drafted n own G others payload
+pub drafted : (n : Stakes) (own : ℕ) (G : List Row) (others : List (List ℕ)) (payload : List ℕ) → HasDistinctNames G → draft_rule own G others payload ≡ None → Drafted n own G others payload
 drafted n own G others payload distinct none =
     let a = option_or_none (first_rule (last_name own G) others) _ none in
     let b = option_or_none (other_rule own G others) (payload_rule payload) a.1 in
     let parents = made_parents G own (last_name own G) others distinct refl a.0 b.0 in
->>>>>>> 8fd36a6 (hg_history: making over a list of others;hg_rounds, hg_event, hg_prefix: parents' places and names by their words;hg_ancestry: a row's parents are Parents;Parents: rules over a list of others, link_of over places; the type Parents;)
     record {
       short = not_below payload_limit (length payload) (one_test (nat_lt payload_limit (length payload)) _ b.1);
       held = parents.0;

@@ -12,11 +12,7 @@ use Rattle.hg_model.proofs.LongerLaws.{IsLonger, longer-take, parents-longer, cr
 use Rattle.hg_model.proofs.PushLaws.{first_of_places, later_of_places}
 
 -- a row without parents fits where its creator is a member
-<<<<<<< HEAD
-pub fits_alone : (n : Stakes) (L : List Link) (m : ℕ) → m < member_count n → FitsLink n L (link_of m None)
-=======
-pub fits_alone : (n : ℕ) (L : List Link) (m : ℕ) → m < n → FitsLink n L (link_of m [])
->>>>>>> 8fd36a6 (hg_history: making over a list of others;hg_rounds, hg_event, hg_prefix: parents' places and names by their words;hg_ancestry: a row's parents are Parents;Parents: rules over a list of others, link_of over places; the type Parents;)
+pub fits_alone : (n : Stakes) (L : List Link) (m : ℕ) → m < member_count n → FitsLink n L (link_of m [])
 fits_alone n L m member = record {
   member = member;
   earlier = λ p h. absurd (none_there p h);
@@ -25,11 +21,7 @@ fits_alone n L m member = record {
 }
 
 -- a row with parents fits where they are there, the first by its creator and the second by another
-<<<<<<< HEAD
-pub fits_on : (n : Stakes) (L : List Link) (m own other : ℕ) → m < member_count n → own < length L → other < length L → creator L own ≡ m → creator L other ≢ m → FitsLink n L (link_of m (Some (own, other)))
-=======
-pub fits_on : (n : ℕ) (L : List Link) (m own other : ℕ) → m < n → own < length L → other < length L → creator L own ≡ m → creator L other ≢ m → FitsLink n L (link_of m (own ∷ other ∷ []))
->>>>>>> 8fd36a6 (hg_history: making over a list of others;hg_rounds, hg_event, hg_prefix: parents' places and names by their words;hg_ancestry: a row's parents are Parents;Parents: rules over a list of others, link_of over places; the type Parents;)
+pub fits_on : (n : Stakes) (L : List Link) (m own other : ℕ) → m < member_count n → own < length L → other < length L → creator L own ≡ m → creator L other ≢ m → FitsLink n L (link_of m (own ∷ other ∷ []))
 fits_on n L m own other member own_there other_there by_same by_other = record {
   member = member;
   earlier = λ p h. elim (or_cases (eqb own p) (has_place (other ∷ []) p) h) [

@@ -14,12 +14,8 @@ use Rattle.hg_model.specs.declared.answers.PutAnswer.{PutAnswer}
 use Rattle.hg_model.specs.declared.answers.PutAnswer.TheVariants.{Accepted, Known, Refused}
 use Rattle.hg_model.specs.declared.answers.MakeAnswer.{MakeAnswer}
 use Rattle.hg_model.specs.declared.answers.MakeAnswer.TheVariants as make_answer
-<<<<<<< HEAD
 use Rattle.hg_model.specs.Stakes.{Stakes, member_count, total}
-use Rattle.hg_model.specs.Links.{links, place_of}
-=======
-use Rattle.hg_model.specs.Links.{ParentNames, links, place_of}
->>>>>>> 8fd36a6 (hg_history: making over a list of others;hg_rounds, hg_event, hg_prefix: parents' places and names by their words;hg_ancestry: a row's parents are Parents;Parents: rules over a list of others, link_of over places; the type Parents;)
+use Rattle.hg_model.specs.Links.{links, place_of, ParentNames}
 use Rattle.hg_model.specs.Graph.{creator_at}
 use Rattle.hg_model.specs.Forks.{forking}
 use Rattle.hg_model.specs.Spelling.{body_of, body_bytes, spelling, payload_limit}

@@ -4,7 +4,7 @@ use Rattle.std.specs.Prelude.{All, ◌==◌, ◌&&◌}
 use Rattle.std.specs.Int.{w16, w64, from_be_bytes, to_be_bytes}
 use Rattle.std.specs.Simd.{first_chunks}
 use Rattle.std.proofs.lemmas.Bool.{and_parts, cases_lt, eq-eqb, eqb-true, le-leb, leb-true}
-use Rattle.std.proofs.lemmas.List.{take-append-drop, take-take, drop-take, drop-drop, length-take, length-take-le, length-drop, nil_from_length, get_or_past, length-append, get_or-drop, get_or-take}
+use Rattle.std.proofs.lemmas.List.{take-append-drop, take-take, drop-take, drop-drop, length-take, length-take-le, length-drop, nil_from_length, get_or_past, length-append, get_or-drop, get_or-take, append-nil, take_all, take_more}
 use Rattle.std.proofs.lemmas.List.Elements.{All-cons}
 use Rattle.std.proofs.lemmas.Nat.{be_bytes_2, be_bytes_8, from_be_bytes-to_be_bytes_2, from_be_bytes-to_be_bytes_8}
 use Rattle.hg_model.specs.declared.pay.Transfer.{Transfer}
@@ -125,3 +125,16 @@ pay_found count rest chunks are few many =
     let within : leb count transfer_limit ≡ true = le-leb _ _ few in
     let matches : length rest / 10 ≡ count = omega arith in
     rw (within, whole, are, matches) (ap Some (sym (chunks_known count rest)))
+
+-- ---- what the code writes
+
+transfers_bytes_push : (ts : List Transfer) (t : Transfer) → transfers_bytes (ts ++ t ∷ []) ≡ transfers_bytes ts ++ transfer_bytes t
+transfers_bytes_push [] t = append-nil (transfer_bytes t)
+transfers_bytes_push (u ∷ ts) t = ap (λ more. transfer_bytes u ++ more) (transfers_bytes_push ts t)
+
+pub transfers_bytes_more : (ts : List Transfer) (i : ℕ) (d : Transfer) → i < length ts → transfers_bytes (take (i + 1) ts) ≡ transfers_bytes (take i ts) ++ transfer_bytes (get_or ts i d)
+transfers_bytes_more ts i d there = ap transfers_bytes (take_more ts i d there) ∙ transfers_bytes_push (take i ts) (get_or ts i d)
+
+-- all of them, and how long that is
+pub written_long : (ts : List Transfer) (i : ℕ) (bytes : List ℕ) → length ts ≤ i → bytes ≡ length ts ∷ transfers_bytes (take i ts) → length bytes ≡ 10 * length ts + 1
+written_long ts i bytes past is = rw (is, take_all i ts past) (omega (arith, length-transfers_bytes ts))

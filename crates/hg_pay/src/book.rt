@@ -55,19 +55,22 @@ impl Book {
     }
 
     /// Does the transfers one after the other, each whole or not at all; the creator pays. Bit `i` of the answer is set
-    /// where transfer `i` was done. Takes no memory.
+    /// where transfer `i` was done. The sum of the balances stays. Takes no memory.
     pub fn apply(&mut self, creator: Member, pay: &Pay<'_>) -> u64
         ensures done { result ≡ done_bits (paid self.old creator pay.now).done }
         ensures balances { self.new ≡ (paid self.old creator pay.now).balances }
         ensures members { length self.new ≡ length self.old }
+        ensures kept { sum self.new ≡ sum self.old }
     {
         pay_all(&mut self.balances, creator, pay)
     }
 
-    /// Does the transfers of a payload, whatever its bytes are, and tells what came of it. Takes no memory.
+    /// Does the transfers of a payload, whatever its bytes are, and tells what came of it. The sum of the balances stays.
+    /// Takes no memory.
     pub fn apply_payload(&mut self, creator: Member, payload: &[u8]) -> Effect
         ensures book { Leaves self.old creator payload.now self.new result }
         ensures members { length self.new ≡ length self.old }
+        ensures kept { sum self.new ≡ sum self.old }
     {
         if payload.is_empty() {
             return Effect::Empty;

@@ -1,8 +1,9 @@
-ghost use Rattle.std.specs.Prelude.{◌≡◌, ◌<◌, ◌≤◌, ◌∷◌, length, slice_get, Some};
-ghost use Rattle.hg_model.specs.Pay.{read_pay, transfer_in, transfer_limit};
+ghost use Rattle.std.specs.Prelude.{◌≡◌, ◌<◌, ◌≤◌, ◌+◌, ◌*◌, ◌∷◌, ◌++◌, length, slice_get, IfOk, OnOk, Some};
+ghost use Rattle.hg_model.specs.Pay.{pay_bytes, read_pay, transfer_bytes, transfer_in, transfer_limit};
 
 use byteorder::{BigEndian, ByteOrder};
-use hg_model::Transfer;
+use hg_model::{Bytes, Memory, Transfer};
+use std::alloc::Global;
 use std::marker::Model;
 
 /// The greatest number of transfers in one payload.
@@ -78,4 +79,29 @@ impl<'a> Pay<'a> {
         let chunks = self.chunks;
         transfer_in(&chunks[i])
     }
+}
+
+/// Writes a transfer at the end.
+fn write_transfer(bytes: &mut Vec<u8>, transfer: &Transfer) -> Result<(), Memory>
+    ensures { OnOk result (bytes.new.items ≡ bytes.old.items ++ transfer_bytes transfer.now) }
+{
+    bytes.extend_from_slice(&transfer.receiver.to_be_bytes())?;
+    bytes.extend_from_slice(&transfer.amount.to_be_bytes())?;
+    Ok(())
+}
+
+/// The bytes of the payload of these transfers, at most 64, which `read_pay` reads as them. The only error is want of
+/// memory.
+#[tactic(auto, unfolding(hg_model::specs::Pay::pay_bytes), using(crate::proofs::PayLaws::transfers_bytes_more))]
+pub fn write_pay(alloc: Global, transfers: &[Transfer]) -> Result<Bytes, Memory>
+    requires { length transfers.now ≤ transfer_limit }
+    ensures spelled { IfOk result (λ payload. payload ≡ pay_bytes transfers.now) }
+    ensures long { IfOk result (λ payload. length payload ≡ 10 * length transfers.now + 1) }
+{
+    let mut bytes = Vec::with_capacity(alloc, 1 + 10 * transfers.len())?;
+    bytes.push(transfers.len() as u8)?;
+    for transfer in transfers {
+        write_transfer(&mut bytes, transfer)?;
+    }
+    Ok(Bytes::from_vec(bytes))
 }

@@ -1,7 +1,7 @@
 ghost use Rattle.std.specs.Prelude.{◌≡◌, true, IfOk};
 
-use crate::{Book, Ledger, read_pay};
-use hg_model::{Bytes, Effect, MemberEntry, Members, Memory};
+use crate::{Book, Ledger, read_pay, write_pay};
+use hg_model::{Bytes, Effect, MemberEntry, Members, Memory, Transfer};
 use std::alloc::Global;
 use std::test::Fail;
 
@@ -86,6 +86,24 @@ fn tells_which_transfers_were_done(rt: HostRuntime) -> Result<(), Fail> {
     }
     assert_eq!(rt; book.balance(1), 30);
     assert_eq!(rt; book.balance(2), 0);
+    Ok(())
+}
+
+#[test]
+fn writes_what_is_read(rt: HostRuntime) -> Result<(), Fail> {
+    let transfers = [
+        Transfer {
+            receiver: 1,
+            amount: 30,
+        },
+        Transfer {
+            receiver: 1,
+            amount: 80,
+        },
+    ];
+    let payload = write_pay(rt.alloc(), &transfers)?;
+    assert_eq!(rt; payload.as_slice(), CASES[0].payload);
+    assert_eq!(rt; write_pay(rt.alloc(), &[])?.as_slice(), b"\x00".as_slice());
     Ok(())
 }
 

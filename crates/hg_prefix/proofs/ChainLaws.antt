@@ -4,12 +4,8 @@ use Rattle.std.proofs.lemmas.Bool.{cases_eq, cases_lt, both_ways, false_from_ne_
 use Rattle.std.proofs.lemmas.Option.{slice_get-get_or, get_or_from_slice_get}
 use Rattle.hg_model.specs.declared.row.Row.{Row}
 use Rattle.hg_model.specs.Places.{has_place}
-<<<<<<< HEAD
 use Rattle.hg_model.specs.Stakes.{Stakes}
-use Rattle.hg_model.specs.Links.{parent_names, place_of, links, first_place, self_parent}
-=======
-use Rattle.hg_model.specs.Links.{ParentNames, parent_names, place_of, links, first_place, self_parent}
->>>>>>> 8fd36a6 (hg_history: making over a list of others;hg_rounds, hg_event, hg_prefix: parents' places and names by their words;hg_ancestry: a row's parents are Parents;Parents: rules over a list of others, link_of over places; the type Parents;)
+use Rattle.hg_model.specs.Links.{parent_names, place_of, links, first_place, self_parent, ParentNames}
 use Rattle.hg_model.specs.Ancestry.{is_self_ancestor}
 use Rattle.hg_model.specs.Forks.{has_fork}
 use Rattle.hg_model.specs.Graph.{name_in, name_at, HasDistinctNames, IsShaped}

@@ -1,2 +1,3 @@
 pub mod Phrases
 pub mod Pieces
+pub mod Writes

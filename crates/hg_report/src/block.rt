@@ -1,7 +1,8 @@
-ghost use Rattle.hg_io.specs.Printing.{Puts, desk};
+ghost use Rattle.hg_io.specs.Printing.{PutsOn};
 ghost use Rattle.std.specs.Prelude.{◌≡◌, ◌++◌, codes, length};
-ghost use Rattle.hg_model.specs.Report.{balance_text, balances_text, block_text, effect_text, head_text, line_end, order_line_text, order_text};
+ghost use Rattle.hg_model.specs.Report.{balance_text, balances_text, effect_text, head_text, line_end};
 ghost use Rattle.hg_report.specs.Pieces.{pieces_text};
+ghost use Rattle.hg_report.specs.Writes.{PutsBlock, PutsOrder, PutsLine};
 
 use crate::pieces::{Piece, name_of, write_pieces};
 use hg_io::{Failed, Page, Sink};
@@ -49,7 +50,7 @@ fn write_order_line<'a, K: Sink>(
     number: u64,
     line: &'a OrderLine,
 ) -> Result<(), Failed>
-    ensures { Puts (desk K.Sink sink.old page.old) (desk K.Sink sink.new page.new) (order_line_text named names.entry.now number line.entry.now) result }
+    ensures { PutsLine K.Sink sink.old sink.new page.old page.new named names.entry.now number line.entry.now result }
 {
     let [what, done, between, of_all, blank, name, end] = line_end(named, line);
     write_pieces(
@@ -84,7 +85,7 @@ fn write_order<'a, K: Sink>(
     names: &'a [Bytes],
     lines: &'a [OrderLine],
 ) -> Result<(), Failed>
-    ensures { Puts (desk K.Sink sink.old page.old) (desk K.Sink sink.new page.new) (order_text named names.entry.now 1 lines.entry.now) result }
+    ensures { PutsOrder K.Sink sink.old sink.new page.old page.new named names.entry.now lines.entry.now result }
 {
     for (i, line) in lines.iter().enumerate() {
         write_order_line(page, sink, named, names, i as u64 + 1, line)?;
@@ -99,7 +100,7 @@ fn write_balance<K: Sink>(
     member: usize,
     balance: u64,
 ) -> Result<(), Failed>
-    ensures { Puts (desk K.Sink sink.old page.old) (desk K.Sink sink.new page.new) (balance_text names.now member balance) result }
+    ensures { PutsOn K.Sink sink.old sink.new page.old page.new (balance_text names.now member balance) result }
 {
     write_pieces(
         page,
@@ -121,7 +122,7 @@ fn write_balances<K: Sink>(
     names: &[Bytes],
     balances: &[u64],
 ) -> Result<(), Failed>
-    ensures { Puts (desk K.Sink sink.old page.old) (desk K.Sink sink.new page.new) (balances_text names.now 0 balances.now) result }
+    ensures { PutsOn K.Sink sink.old sink.new page.old page.new (balances_text names.now 0 balances.now) result }
 {
     for (i, balance) in balances.iter().enumerate() {
         write_balance(page, sink, names, i, *balance)?;
@@ -136,7 +137,7 @@ fn write_head<K: Sink>(
     names: &[Bytes],
     block: &Block,
 ) -> Result<(), Failed>
-    ensures { Puts (desk K.Sink sink.old page.old) (desk K.Sink sink.new page.new) (head_text names.now block.now) result }
+    ensures { PutsOn K.Sink sink.old sink.new page.old page.new (head_text names.now block.now) result }
 {
     write_pieces(
         page,
@@ -167,7 +168,7 @@ pub(crate) fn write_block<'a, K: Sink>(
     names: &'a [Bytes],
     block: &'a Block,
 ) -> Result<(), Failed>
-    ensures { Puts (desk K.Sink sink.old page.old) (desk K.Sink sink.new page.new) (block_text named names.entry.now block.entry.now) result }
+    ensures { PutsBlock K.Sink sink.old sink.new page.old page.new named names.entry.now block.entry.now result }
 {
     write_head(page, sink, names, block)?;
     write_order(page, sink, named, names, block.order.as_slice())?;

@@ -1,11 +1,11 @@
 ghost use Rattle.std.specs.Prelude.{◌≡◌};
-ghost use Rattle.hex.specs.Hex.{encode_lower};
-ghost use Rattle.hg_io.specs.Printing.{Puts, Prints, desk};
+ghost use Rattle.hg_io.specs.Printing.{Prints, PutsOn};
 ghost use Rattle.hg_model.specs.Report.{name_of_member};
 ghost use Rattle.hg_report.specs.Pieces.{piece_text, pieces_text};
 
 use hg_io::{Failed, Page, Sink};
 use hg_model::{Bytes, Name};
+use hg_name::name_hex;
 use itoa::Buffer;
 
 /// A piece of a line.
@@ -31,23 +31,14 @@ pub(crate) fn name_of(names: &[Bytes], member: usize) -> &[u8]
     }
 }
 
-fn write_name<K: Sink>(page: &mut Page, sink: &mut K, name: &Name) -> Result<(), Failed>
-    ensures { Puts (desk K.Sink sink.old page.old) (desk K.Sink sink.new page.new) (encode_lower name.now) result }
-{
-    let mut digits = [0; 96];
-    let written = hex::encode_to_slice(name.as_slice(), &mut digits);
-    written.unwrap();
-    page.put(sink, digits.as_slice())
-}
-
 fn write_piece<K: Sink>(page: &mut Page, sink: &mut K, piece: &Piece<'_>) -> Result<(), Failed>
-    ensures { Puts (desk K.Sink sink.old page.old) (desk K.Sink sink.new page.new) (piece_text piece.now) result }
+    ensures { PutsOn K.Sink sink.old sink.new page.old page.new (piece_text piece.now) result }
 {
     match piece {
         Piece::Bytes(bytes) => page.put(sink, bytes),
         Piece::Number(number) => page.put(sink, Buffer::new().format(*number).as_bytes()),
         Piece::Signed(number) => page.put(sink, Buffer::new().format(*number).as_bytes()),
-        Piece::Name(name) => write_name(page, sink, name),
+        Piece::Name(name) => page.put(sink, name_hex(name).as_slice()),
     }
 }
 
@@ -58,7 +49,7 @@ pub(crate) fn write_pieces<K: Sink>(
     sink: &mut K,
     pieces: &[Piece<'_>],
 ) -> Result<(), Failed>
-    ensures { Puts (desk K.Sink sink.old page.old) (desk K.Sink sink.new page.new) (pieces_text pieces.now) result }
+    ensures { PutsOn K.Sink sink.old sink.new page.old page.new (pieces_text pieces.now) result }
 {
     for piece in pieces {
         write_piece(page, sink, piece)?;

@@ -1,6 +1,6 @@
-ghost use Rattle.hg_io.specs.Printing.{Puts, Prints, desk};
-ghost use Rattle.hg_model.specs.Report.{answer_line, printed_text, printed_texts, pull_line, report_text, sync_line};
-ghost use Rattle.hg_report.specs.Phrases.{phrase_text};
+ghost use Rattle.hg_io.specs.Printing.{Prints, PutsOn};
+ghost use Rattle.hg_model.specs.Report.{printed_text, printed_texts, pull_line, report_text, sync_line};
+ghost use Rattle.hg_report.specs.Writes.{PutsAnswer};
 
 use crate::block::write_block;
 use crate::phrases::{Phrase, make_answer_phrase, put_answer_phrase, sync_made_phrase};
@@ -16,7 +16,7 @@ fn write_answer<'a, K: Sink>(
     word: &'a [u8],
     phrase: Phrase<'a>,
 ) -> Result<(), Failed>
-    ensures { Puts (desk K.Sink sink.old page.old) (desk K.Sink sink.new page.new) (answer_line line word.entry.now (phrase_text phrase.entry)) result }
+    ensures { PutsAnswer K.Sink sink.old sink.new page.old page.new line word.entry.now phrase.entry result }
 {
     write_pieces(
         page,
@@ -41,7 +41,7 @@ fn write_sync<K: Sink>(
     line: u64,
     report: &SyncReport,
 ) -> Result<(), Failed>
-    ensures { Puts (desk K.Sink sink.old page.old) (desk K.Sink sink.new page.new) (sync_line line report.now) result }
+    ensures { PutsOn K.Sink sink.old sink.new page.old page.new (sync_line line report.now) result }
 {
     let phrase = sync_made_phrase(&report.made);
     write_pieces(
@@ -70,7 +70,7 @@ fn write_pull<K: Sink>(
     taken: u64,
     refused: u64,
 ) -> Result<(), Failed>
-    ensures { Puts (desk K.Sink sink.old page.old) (desk K.Sink sink.new page.new) (pull_line line taken refused) result }
+    ensures { PutsOn K.Sink sink.old sink.new page.old page.new (pull_line line taken refused) result }
 {
     write_pieces(
         page,
@@ -92,7 +92,7 @@ fn write_printed<K: Sink>(
     names: &[Bytes],
     printed: &Printed,
 ) -> Result<(), Failed>
-    ensures { Puts (desk K.Sink sink.old page.old) (desk K.Sink sink.new page.new) (printed_text names.now printed.now) result }
+    ensures { PutsOn K.Sink sink.old sink.new page.old page.new (printed_text names.now printed.now) result }
 {
     match printed {
         Printed::Create { line, answer } => {
@@ -121,7 +121,7 @@ fn write_texts<K: Sink>(
     names: &[Bytes],
     texts: &[Printed],
 ) -> Result<(), Failed>
-    ensures { Puts (desk K.Sink sink.old page.old) (desk K.Sink sink.new page.new) (printed_texts names.now texts.now) result }
+    ensures { PutsOn K.Sink sink.old sink.new page.old page.new (printed_texts names.now texts.now) result }
 {
     for printed in texts {
         write_printed(page, sink, names, printed)?;

@@ -1,4 +1,4 @@
--- What a walk over the items of a `pay:` word reads, and what it writes
+-- What a walk over the items of a `pay:` word reads
 use Rattle.std.proofs.Common.{◌≡◌, ℕ, ◌+◌, ◌*◌, ◌<◌, ◌≤◌, Bool, true, false, leb, ltb, List, [], ◌∷◌, ◌++◌, length, get_or, take, drop, map, Option, Some, None, Result, Ok, Err, refl, sym, ap, ap₂, ◌∙◌, append_assoc, add-one, arith, count_by, inl, inr}
 use Rattle.std.specs.Int.{w16, w64, to_be_bytes}
 use Rattle.std.proofs.Math.Bool.{and-false}
@@ -11,7 +11,7 @@ use Rattle.std.proofs.lemmas.List.Folds.{list_all-map}
 use Rattle.std.proofs.lemmas.List.Splits.{length-slice_split}
 use Rattle.hg_model.specs.declared.pay.Transfer.{Transfer}
 use Rattle.hg_model.specs.Members.{MemberList}
-use Rattle.hg_model.specs.Pay.{pay_bytes, transfer_bytes, transfer_limit, transfers_bytes}
+use Rattle.hg_model.specs.Pay.{transfer_limit}
 use Rattle.hg_model.specs.Results.{◌>>=◌}
 use Rattle.hg_script.specs.declared.fault.Why.{Why}
 use Rattle.hg_script.specs.declared.fault.Why.TheVariants.{Payload}
@@ -58,23 +58,6 @@ module _ {N : Type 0} (bytes : N → List ℕ) (members : MemberList) where
   pub all_read : (parts : List N) (i : ℕ) (done : List Transfer) → length parts ≤ i → transfers_of members (map bytes parts) ≡ and_then done (transfers_left parts i) → transfers_of members (map bytes parts) ≡ Ok done
   all_read parts i done past whole =
       whole ∙ ap (λ ps. and_then done (transfers_of members (map bytes ps))) (drop_all i parts past) ∙ ap Ok (append-nil done)
-
--- ---- what is written
-
-transfers_bytes_push : (ts : List Transfer) (t : Transfer) → transfers_bytes (ts ++ t ∷ []) ≡ transfers_bytes ts ++ transfer_bytes t
-transfers_bytes_push [] t = append-nil (transfer_bytes t)
-transfers_bytes_push (u ∷ ts) t = ap (λ more. transfer_bytes u ++ more) (transfers_bytes_push ts t)
-
-pub transfers_bytes_more : (ts : List Transfer) (i : ℕ) (d : Transfer) → i < length ts → transfers_bytes (take (i + 1) ts) ≡ transfers_bytes (take i ts) ++ transfer_bytes (get_or ts i d)
-transfers_bytes_more ts i d there = ap transfers_bytes (take_more ts i d there) ∙ transfers_bytes_push (take i ts) (get_or ts i d)
-
-length-transfers_bytes : (ts : List Transfer) → length (transfers_bytes ts) ≡ 10 * length ts
-length-transfers_bytes [] = refl
-length-transfers_bytes (t ∷ ts) = omega (arith, length-transfers_bytes ts)
-
-pub length-pay_bytes : (ts : List Transfer) → length (pay_bytes ts) ≡ 10 * length ts + 1
-unfolding pay_bytes
-length-pay_bytes ts = omega (arith, length-transfers_bytes ts)
 
 -- ---- the form
 

@@ -1,14 +1,15 @@
-ghost use Rattle.std.specs.Prelude.{◌≡◌, ◌≤◌, ◌++◌, count_by, length, map, nat_le, position, IfOk, OnOk};
+ghost use Rattle.std.specs.Prelude.{◌≡◌, ◌≤◌, count_by, length, map, nat_le, position, IfOk};
 ghost use Rattle.std.specs.List.{after_first, before_first, list_all};
 ghost use Rattle.std.specs.Option.{option_copied};
-ghost use Rattle.hg_model.specs.Pay.{pay_bytes, transfer_bytes, transfer_limit};
+ghost use Rattle.hg_model.specs.Pay.{transfer_limit};
 ghost use Rattle.hg_model.specs.Spelling.{payload_limit};
 ghost use Rattle.hg_model.specs.Results.{Gives};
 ghost use Rattle.hg_script.specs.Payload as spec;
 
 use crate::argument::{digits_form, member_of, number_of};
 use crate::fault::Why;
-use hg_model::{Bytes, Member, Members, Stop, Transfer};
+use hg_model::{Bytes, Member, Members, Memory, Stop, Transfer};
+use hg_pay::write_pay;
 use std::alloc::{AllocError, Global};
 
 /// The greatest number of transfers in one payload.
@@ -123,29 +124,6 @@ fn transfers_of(
     Ok(transfers)
 }
 
-/// Writes a transfer at the end.
-fn write_transfer(bytes: &mut Vec<u8>, transfer: &Transfer) -> Result<(), AllocError>
-    ensures { OnOk result (bytes.new.items ≡ bytes.old.items ++ transfer_bytes transfer.now) }
-{
-    bytes.extend_from_slice(&transfer.receiver.to_be_bytes())?;
-    bytes.extend_from_slice(&transfer.amount.to_be_bytes())?;
-    Ok(())
-}
-
-/// The payload of these transfers.
-#[tactic(auto, unfolding(hg_model::specs::Pay::pay_bytes), using(crate::proofs::PayloadLaws::transfers_bytes_more))]
-fn pay_bytes(alloc: Global, transfers: &[Transfer]) -> Result<Vec<u8>, AllocError>
-    requires { length transfers.now ≤ transfer_limit }
-    ensures { IfOk result (λ bytes. bytes.items ≡ pay_bytes transfers.now) }
-{
-    let mut bytes = Vec::with_capacity(alloc, 1 + 10 * transfers.len())?;
-    bytes.push(transfers.len() as u8)?;
-    for transfer in transfers {
-        write_transfer(&mut bytes, transfer)?;
-    }
-    Ok(bytes)
-}
-
 /// The payload of the transfers of these items.
 fn pay_in(alloc: Global, members: &Members, parts: &[&[u8]]) -> Result<Bytes, Stop<Why>>
     requires { length parts.now ≤ transfer_limit }
@@ -153,7 +131,10 @@ fn pay_in(alloc: Global, members: &Members, parts: &[&[u8]]) -> Result<Bytes, St
     ensures fits { IfOk result (λ payload. length payload ≤ payload_limit) }
 {
     let transfers = transfers_of(alloc, members, parts)?;
-    Ok(Bytes::from_vec(pay_bytes(alloc, &transfers)?))
+    match write_pay(alloc, &transfers) {
+        Ok(payload) => Ok(payload),
+        Err(Memory) => Err(Stop::Memory),
+    }
 }
 
 /// The payload of the transfers behind `pay:`.

@@ -9,7 +9,7 @@ use Rattle.hg_members.specs.MemberFile.{members_of}
 use Rattle.hg_script.specs.declared.fault.ScriptFault.{ScriptFault}
 use Rattle.hg_script.specs.declared.line.Line.{Line}
 use Rattle.hg_script.specs.Script.{lines_of}
-use Rattle.hg_words.specs.Asked.{Run}
+use Rattle.hg_command.specs.Asked.{Run}
 use Rattle.hg_play.specs.Play.{play}
 use Rattle.hg_top.specs.declared.status.Refusal.{Refusal}
 use Rattle.hg_top.specs.declared.status.Refusal.TheVariants.{TooLong, Fault}

@@ -3,11 +3,15 @@ use Rattle.std.specs.Prelude.{ℕ, ◌⊎◌, List, ◌++◌, Option, codes}
 use Rattle.std.specs.Fmt.{decimal}
 use Rattle.hg_io.specs.Bytes.{Appends, AppendsPart}
 use Rattle.hg_io.specs.Faults.{Rose}
+use Rattle.hg_io.specs.declared.sink.Sink as sink
 use Rattle.hg_members.specs.declared.fault.MemberFault.{MemberFault}
 use Rattle.hg_members.specs.Text.{member_fault_text}
 use Rattle.hg_script.specs.declared.fault.ScriptFault.{ScriptFault}
 use Rattle.hg_script.specs.Text.{why_text}
 use Rattle.hg_top.specs.declared.status.File.TheVariants as file
+use Rattle.hg_top.specs.declared.status.NoWords.{NoWords}
+use Rattle.hg_top.specs.declared.status.NoWords.TheVariants as no_words
+use Rattle.hg_top.specs.declared.status.NoWords.TheVariants.{NotText}
 use Rattle.hg_top.specs.declared.status.Refusal.{Refusal}
 use Rattle.hg_top.specs.declared.status.Refusal.TheVariants.{TooLong, Fault}
 use Rattle.hg_top.specs.declared.status.Status.{Status}
@@ -33,10 +37,16 @@ status_line (Script refusal) = script_line refusal
 status_line WriteFault = codes "hashgraph: cannot write\n"
 status_line Memory = codes "hashgraph: out of memory\n"
 
--- the line was written whole, or a front of it, where the count of faults rose
-abbrev pub IsPrintedOn : Option (List ℕ) → Option (List ℕ) → ℕ → ℕ → List ℕ → Type 0
-IsPrintedOn written_before written_after faults_before faults_after line =
-    Appends written_before written_after line ⊎ (AppendsPart written_before written_after line × Rose faults_before faults_after)
+-- the line was written whole to a sink E, or a front of it, where the count of faults rose
+abbrev pub IsPrintedOn : {S : Type 0} → sink.Ghosts S → S → S → List ℕ → Type 0
+IsPrintedOn E before after line =
+    Appends (E.written before) (E.written after) line
+    ⊎ (AppendsPart (E.written before) (E.written after) line × Rose (E.faults before) (E.faults after))
+
+-- what a call comes to whose words could not be read
+abbrev pub status_without : NoWords → Status
+status_without NotText = Usage
+status_without no_words.Memory = Memory
 
 -- the exit status of the program
 abbrev pub status_code : Status → ℕ

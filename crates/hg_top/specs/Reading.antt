@@ -3,6 +3,8 @@ use Rattle.std.specs.Prelude.{ℕ, ◌≡◌, List, Option, Some, Ok, Err, IfSom
 use Rattle.hg_io.specs.Bytes.{Appends, AppendsPart}
 use Rattle.hg_io.specs.Faults.{Rose}
 use Rattle.hg_io.specs.Files.{Files, content_of}
+use Rattle.hg_io.specs.declared.shelf.Shelf as shelf
+use Rattle.hg_io.specs.declared.sink.Sink as sink
 use Rattle.hg_model.specs.Members.{MemberList}
 use Rattle.hg_script.specs.declared.line.Line.{Line}
 use Rattle.hg_top.specs.declared.status.File.TheVariants as file
@@ -21,22 +23,25 @@ pub record ReadsLines (holds : Option Files) (name : List ℕ) (members : Member
   pub has : Has holds name bytes
   pub is : accepted_lines members bytes ≡ Ok lines
 
--- why no members were read
-abbrev pub StopsAtMembers : Option Files → List ℕ → ℕ → ℕ → Status → Type 0
-StopsAtMembers holds name before after (ReadFault file.Members) = Rose before after
-StopsAtMembers holds name before after (Members refusal) = IfSome holds (λ files. IsSomeAnd (content_of files name) (λ bytes. accepted_members bytes ≡ Err refusal))
-StopsAtMembers holds name before after Memory = ⊤
-StopsAtMembers holds name before after _ = ⊥
+-- why a shelf F, before and after, gave no members
+abbrev pub StopsAtMembers : {S : Type 0} → shelf.Ghosts S → S → S → List ℕ → Status → Type 0
+StopsAtMembers F before after name (ReadFault file.Members) = Rose (F.faults before name) (F.faults after name)
+StopsAtMembers F before after name (Members refusal) =
+    IfSome (F.holds before) (λ files. IsSomeAnd (content_of files name) (λ bytes. accepted_members bytes ≡ Err refusal))
+StopsAtMembers F before after name Memory = ⊤
+StopsAtMembers F before after name _ = ⊥
 
--- why no lines were read
-abbrev pub StopsAtScript : Option Files → List ℕ → MemberList → ℕ → ℕ → Status → Type 0
-StopsAtScript holds name members before after (ReadFault file.Script) = Rose before after
-StopsAtScript holds name members before after (Script refusal) = IfSome holds (λ files. IsSomeAnd (content_of files name) (λ bytes. accepted_lines members bytes ≡ Err refusal))
-StopsAtScript holds name members before after Memory = ⊤
-StopsAtScript holds name members before after _ = ⊥
+-- why it gave no lines
+abbrev pub StopsAtScript : {S : Type 0} → shelf.Ghosts S → S → S → List ℕ → MemberList → Status → Type 0
+StopsAtScript F before after name members (ReadFault file.Script) = Rose (F.faults before name) (F.faults after name)
+StopsAtScript F before after name members (Script refusal) =
+    IfSome (F.holds before) (λ files. IsSomeAnd (content_of files name) (λ bytes. accepted_lines members bytes ≡ Err refusal))
+StopsAtScript F before after name members Memory = ⊤
+StopsAtScript F before after name members _ = ⊥
 
--- what came of writing the report
-abbrev pub Writes : Option (List ℕ) → Option (List ℕ) → ℕ → ℕ → List ℕ → Status → Type 0
-Writes before after faults_before faults_after text Done = Appends before after text
-Writes before after faults_before faults_after text WriteFault = AppendsPart before after text × Rose faults_before faults_after
-Writes before after faults_before faults_after text _ = ⊥
+-- what came of writing the report to a sink K
+abbrev pub Writes : {S : Type 0} → sink.Ghosts S → S → S → List ℕ → Status → Type 0
+Writes K before after text Done = Appends (K.written before) (K.written after) text
+Writes K before after text WriteFault =
+    AppendsPart (K.written before) (K.written after) text × Rose (K.faults before) (K.faults after)
+Writes K before after text _ = ⊥

@@ -1,69 +1,110 @@
 -- What a run of the program comes to: the report, or the cause of its status
-use Rattle.std.specs.Prelude.{ℕ, ◌≡◌, ◌⊎◌, List, Option, Some, None}
+use Rattle.std.specs.Prelude.{ℕ, ◌≡◌, ◌⊎◌, List, Option, Some, None, String}
+use Rattle.std.specs.Global.{Global}
 use Rattle.hg_io.specs.Bytes.{Appends, AppendsPart}
-use Rattle.hg_io.specs.Faults.{Rose}
+use Rattle.hg_io.specs.Faults.{Rose, raised}
 use Rattle.hg_io.specs.Files.{Files, content_of}
+use Rattle.hg_io.specs.declared.shelf.Shelf as shelf
+use Rattle.hg_io.specs.declared.sink.Sink as sink
 use Rattle.hg_members.specs.declared.fault.MemberFault.{MemberFault}
 use Rattle.hg_script.specs.declared.fault.ScriptFault.{ScriptFault}
-use Rattle.hg_words.specs.Asked.{Asked, Run, run, request_of}
+use Rattle.hg_command.specs.Asked.{Asked, Run, run, request_of, texts}
 use Rattle.hg_top.specs.declared.status.File.TheVariants as file
 use Rattle.hg_top.specs.declared.status.Refusal.{Refusal}
 use Rattle.hg_top.specs.declared.status.Status.{Status}
 use Rattle.hg_top.specs.declared.status.Status.TheVariants.{Done, ReadFault, Usage, Members, Script, WriteFault, Memory}
-use Rattle.hg_top.specs.Accepted.{FileNames, file_names_of, report_of, IsReport, HasBadMembers, HasGoodMembers, HasBadScript}
+use Rattle.hg_top.specs.Accepted.{FileNames, file_names, file_names_of, report_of, IsReport, HasBadMembers, HasGoodMembers, HasBadScript}
 
--- what the outside counts and tells: the shelf's faults by name, and the faults and the bytes of standard output
+-- what the words of a command line ask for, where they are accepted
+abbrev pub asks : List (String Global) → Option Asked
+asks words = request_of (texts words)
+
+-- what the outside counts and tells: the shelf's starts of files and its faults by name, and the faults and the bytes of
+-- standard output
 pub record Outside : Type 0 where
+  pub starts : ℕ
   pub read_faults : List ℕ → ℕ
   pub write_faults : ℕ
   pub written : Option (List ℕ)
 
-abbrev pub outside : (List ℕ → ℕ) → ℕ → Option (List ℕ) → Outside
-outside read_faults write_faults written = record { read_faults = read_faults; write_faults = write_faults; written = written }
+abbrev pub outside : {S T : Type 0} → shelf.Ghosts S → sink.Ghosts T → S → T → Outside
+outside F K s out = record {
+  starts = F.starts s;
+  read_faults = F.faults s;
+  write_faults = K.faults out;
+  written = K.written out;
+}
+
+-- the course of a call: the files of the shelf, where it tells them, and the outside before and after
+pub record Course : Type 0 where
+  pub holds : Option Files
+  pub before : Outside
+  pub after : Outside
+
+-- that of a call with a shelf F and standard output K, each before and after
+abbrev pub course : {S T : Type 0} → shelf.Ghosts S → sink.Ghosts T → S → S → T → T → Course
+course F K s t out written = record { holds = F.holds s; before = outside F K s out; after = outside F K t written }
+
+-- nothing was written to standard output
+abbrev pub WritesNothing : Course → Type 0
+WritesNothing c = c.after.written ≡ c.before.written
+
+-- the shelf failed at a name, or standard output did
+abbrev pub HasReadFault : Course → List ℕ → Type 0
+HasReadFault c name = Rose (c.before.read_faults name) (c.after.read_faults name)
+
+abbrev pub HasWriteFault : Course → Type 0
+HasWriteFault c = Rose c.before.write_faults c.after.write_faults
 
 -- what an accepted request came to
-abbrev pub Ends : Option Files → FileNames → Outside → Outside → Status → Type 0
-Ends holds names before after Done =
-    (text : List ℕ) × IsReport holds names text × Appends before.written after.written text
-Ends holds names before after (ReadFault file.Members) =
-    Rose (before.read_faults names.members) (after.read_faults names.members) × (after.written ≡ before.written)
-Ends holds names before after (ReadFault file.Script) =
-    Rose (before.read_faults names.script) (after.read_faults names.script) × HasGoodMembers holds names × (after.written ≡ before.written)
-Ends holds names before after Usage = ⊥
-Ends holds names before after (Members refusal) = HasBadMembers holds names refusal × (after.written ≡ before.written)
-Ends holds names before after (Script refusal) = HasBadScript holds names refusal × (after.written ≡ before.written)
-Ends holds names before after WriteFault =
-    Rose before.write_faults after.write_faults
-    × ((text : List ℕ) × IsReport holds names text × AppendsPart before.written after.written text)
-Ends holds names before after Memory = after.written ≡ before.written
+abbrev pub Ends : FileNames → Course → Status → Type 0
+Ends names c Done = (text : List ℕ) × IsReport c.holds names text × Appends c.before.written c.after.written text
+Ends names c (ReadFault file.Members) = HasReadFault c names.members × WritesNothing c
+Ends names c (ReadFault file.Script) = HasReadFault c names.script × HasGoodMembers c.holds names × WritesNothing c
+Ends names c Usage = ⊥
+Ends names c (Members refusal) = HasBadMembers c.holds names refusal × WritesNothing c
+Ends names c (Script refusal) = HasBadScript c.holds names refusal × WritesNothing c
+Ends names c WriteFault =
+    HasWriteFault c × ((text : List ℕ) × IsReport c.holds names text × AppendsPart c.before.written c.after.written text)
+Ends names c Memory = WritesNothing c
+
+-- the same of a run over the files of these names
+abbrev pub EndsOn : List ℕ → List ℕ → Course → Status → Type 0
+EndsOn members script c status = Ends (file_names members script) c status
 
 -- what words come to: a request that is accepted, or just the status of a faulty command line, or want of memory
-abbrev pub EndsBy : Option Files → Option Asked → Outside → Outside → Status → Type 0
-EndsBy holds None before after status = ((status ≡ Usage) ⊎ (status ≡ Memory)) × (after.written ≡ before.written)
-EndsBy holds (Some (run request)) before after status = Ends holds (file_names_of request) before after status
+abbrev pub EndsBy : Option Asked → Course → Status → Type 0
+EndsBy None c status = ((status ≡ Usage) ⊎ (status ≡ Memory)) × WritesNothing c
+EndsBy (Some (run request)) c status = Ends (file_names_of request) c status
+
+-- how many files were started: the member file alone where that ends the work, else the script behind it, and each once
+abbrev pub Starts : Course → Status → Type 0
+Starts c Usage = c.after.starts ≡ c.before.starts
+Starts c (ReadFault file.Members) = c.after.starts ≡ raised c.before.starts
+Starts c (Members refusal) = c.after.starts ≡ raised c.before.starts
+Starts c Memory =
+    (c.after.starts ≡ c.before.starts) ⊎ ((c.after.starts ≡ raised c.before.starts) ⊎ (c.after.starts ≡ raised (raised c.before.starts)))
+Starts c _ = c.after.starts ≡ raised (raised c.before.starts)
 
 -- The status of a faulty command line comes for faulty words alone, and they get no other, or want of memory
-pub record IsUsage (words : List (List ℕ)) (status : Status) : Type 0 where
-  pub only : status ≡ Usage → request_of words ≡ None
-  pub always : request_of words ≡ None → (status ≡ Usage) ⊎ (status ≡ Memory)
+pub record IsUsage (asked : Option Asked) (status : Status) : Type 0 where
+  pub only : status ≡ Usage → asked ≡ None
+  pub always : asked ≡ None → (status ≡ Usage) ⊎ (status ≡ Memory)
 
 -- Accepted words and files, and no fault of the two files or of standard output, give the whole report, or want of memory
-abbrev pub IsComplete : Option Files → List (List ℕ) → Outside → Outside → Status → Type 0
-IsComplete holds words before after status =
+abbrev pub IsComplete : Option Asked → Course → Status → Type 0
+IsComplete asked c status =
     (request : Run) (files : Files) (member_bytes script_bytes text : List ℕ) →
-    request_of words ≡ Some (run request) → holds ≡ Some files →
+    asked ≡ Some (run request) → c.holds ≡ Some files →
     content_of files request.members ≡ Some member_bytes → content_of files request.script ≡ Some script_bytes →
     report_of member_bytes script_bytes ≡ Some text →
-    (Rose (before.read_faults request.members) (after.read_faults request.members) → ⊥) →
-    (Rose (before.read_faults request.script) (after.read_faults request.script) → ⊥) →
-    (Rose before.write_faults after.write_faults → ⊥) →
-    ((status ≡ Done) × Appends before.written after.written text) ⊎ (status ≡ Memory)
+    (HasReadFault c request.members → ⊥) → (HasReadFault c request.script → ⊥) → (HasWriteFault c → ⊥) →
+    ((status ≡ Done) × Appends c.before.written c.after.written text) ⊎ (status ≡ Memory)
 
 -- A refused file gives just its status, but for a fault of reading before it, or want of memory
-abbrev pub IsRefused : Option Files → List (List ℕ) → Outside → Outside → Status → Type 0
-IsRefused holds words before after status =
-    (request : Run) (files : Files) → request_of words ≡ Some (run request) → holds ≡ Some files →
-    (Rose (before.read_faults request.members) (after.read_faults request.members) → ⊥) →
-    ((refusal : Refusal MemberFault) → HasBadMembers holds (file_names_of request) refusal → (status ≡ Members refusal) ⊎ (status ≡ Memory))
-    × ((refusal : Refusal ScriptFault) → HasBadScript holds (file_names_of request) refusal →
-    (Rose (before.read_faults request.script) (after.read_faults request.script) → ⊥) → (status ≡ Script refusal) ⊎ (status ≡ Memory))
+abbrev pub IsRefused : Option Asked → Course → Status → Type 0
+IsRefused asked c status =
+    (request : Run) (files : Files) → asked ≡ Some (run request) → c.holds ≡ Some files → (HasReadFault c request.members → ⊥) →
+    ((refusal : Refusal MemberFault) → HasBadMembers c.holds (file_names_of request) refusal → (status ≡ Members refusal) ⊎ (status ≡ Memory))
+    × ((refusal : Refusal ScriptFault) → HasBadScript c.holds (file_names_of request) refusal →
+    (HasReadFault c request.script → ⊥) → (status ≡ Script refusal) ⊎ (status ≡ Memory))

@@ -3,11 +3,12 @@
 //! What the script does is `hg_play`'s, and what is written is told by `report_text` and `status_line`.
 #![tactic(auto)]
 
-mod status;
 mod printing;
+mod status;
 #[cfg(test)]
 mod tests;
 mod top;
 
-pub use status::{File, Refusal, Status};
+pub use printing::without_words;
+pub use status::{File, NoWords, Refusal, Status};
 pub use top::hashgraph;

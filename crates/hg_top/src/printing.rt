@@ -2,9 +2,9 @@ ghost use Rattle.std.specs.Prelude.{◌≡◌, ◌++◌};
 ghost use Rattle.hg_io.specs.Printing.{Prints};
 ghost use Rattle.hg_members.specs.Text.{member_fault_text};
 ghost use Rattle.hg_report.specs.Pieces.{piece_text};
-ghost use Rattle.hg_top.specs.Printing.{IsPrintedOn, members_line, script_line, status_line};
+ghost use Rattle.hg_top.specs.Printing.{IsPrintedOn, members_line, script_line, status_line, status_without};
 
-use crate::status::{File, Refusal, Status};
+use crate::status::{File, NoWords, Refusal, Status};
 use hg_io::{Failed, Sink, write_all};
 use hg_members::MemberFault;
 use hg_report::{Piece, print_pieces};
@@ -93,10 +93,24 @@ fn print_status<E: Sink>(err: &mut E, status: Status) -> Result<(), Failed>
 
 /// Prints what a run came to on standard error, whose faults change nothing.
 pub(crate) fn report_status<E: Sink>(err: &mut E, status: Status)
-    ensures { IsPrintedOn (E.written err.old) (E.written err.new) (E.faults err.old) (E.faults err.new) (status_line status) }
+    ensures { IsPrintedOn E.Sink err.old err.new (status_line status) }
 {
     match print_status(err, status) {
         Ok(()) => (),
         Err(Failed) => (),
     }
+}
+
+/// What the program comes to where its words could not be read: what is wrong goes to `err`, in one line, and nothing
+/// else is done.
+pub fn without_words<E: Sink>(why: NoWords, err: &mut E) -> Status
+    ensures status { result ≡ status_without why }
+    ensures matches { IsPrintedOn E.Sink err.old err.new (status_line result) }
+{
+    let status = match why {
+        NoWords::NotText => Status::Usage,
+        NoWords::Memory => Status::Memory,
+    };
+    report_status(err, status);
+    status
 }

@@ -20,6 +20,15 @@ pub enum Refusal<F> {
     Fault(F),
 }
 
+/// Why the words of a command line could not be read.
+#[derive(Clone, Copy, Debug, PartialEq, Eq)]
+pub enum NoWords {
+    /// One of them is not UTF-8.
+    NotText,
+    /// Memory ran out.
+    Memory,
+}
+
 /// What a call of the program came to.
 #[derive(Clone, Copy, Debug, PartialEq, Eq)]
 pub enum Status {

@@ -1,4 +1,5 @@
-use crate::status::{File, Refusal, Status};
+use crate::printing::without_words;
+use crate::status::{File, NoWords, Refusal, Status};
 use crate::top::hashgraph;
 use hg_io::{ShelfMem, SinkMem};
 use hg_members::MemberFault;
@@ -182,6 +183,31 @@ fn faulty_words(rt: HostRuntime) -> Result<(), Fail> {
         ample(alloc)?,
     )?;
     expect(&rt, &ran, Status::Usage, "", usage);
+    Ok(())
+}
+
+#[test]
+fn words_that_could_not_be_read(rt: HostRuntime) -> Result<(), Fail> {
+    let alloc = rt.alloc();
+    for (why, status, code, line) in [
+        (
+            NoWords::NotText,
+            Status::Usage,
+            2,
+            "hashgraph: usage: run --members FILE --script FILE [--workers K] or make --members N --lines L --seed S [--workers K]\n",
+        ),
+        (
+            NoWords::Memory,
+            Status::Memory,
+            6,
+            "hashgraph: out of memory\n",
+        ),
+    ] {
+        let mut err = ample(alloc)?;
+        assert!(&rt; without_words(why, &mut err) == status);
+        assert_eq!(rt; status.code(), code);
+        assert!(&rt; err.bytes() == line.as_bytes());
+    }
     Ok(())
 }
 

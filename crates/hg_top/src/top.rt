@@ -1,22 +1,21 @@
-ghost use Rattle.std.specs.Prelude.{◌≡◌, ◌≤◌, ℕ, List, All, IfOk, IfErr, map, string_bytes};
+ghost use Rattle.std.specs.Prelude.{◌≡◌, ◌≤◌, ℕ, List, All, IfOk, IfErr, None};
+ghost use Rattle.hg_io.specs.Faults.{raised};
 ghost use Rattle.hg_model.specs.Report.{report_text};
 ghost use Rattle.hg_play.specs.Play.{play};
 ghost use Rattle.hg_script.specs.Lawful.{IsLine};
-ghost use Rattle.hg_words.specs.Asked.{request_of};
 ghost use Rattle.hg_top.specs.Reading.{ReadsLines, ReadsMembers, StopsAtMembers, StopsAtScript, Writes};
-ghost use Rattle.hg_top.specs.Accepted.{file_names};
 ghost use Rattle.hg_top.specs.Printing.{IsPrintedOn, status_line};
-ghost use Rattle.hg_top.specs.Top.{Ends, EndsBy, IsComplete, IsRefused, IsUsage, outside};
+ghost use Rattle.hg_top.specs.Top.{EndsBy, EndsOn, IsComplete, IsRefused, IsUsage, Starts, asks, course};
 
-use crate::status::{File, Refusal, Status};
 use crate::printing::report_status;
+use crate::status::{File, Refusal, Status};
+use hg_command::{Request, read_words};
 use hg_io::{Failed, FileAnswer, Shelf, Sink, read_file};
 use hg_members::read_members;
 use hg_model::{Items, Members, Memory, Outcome};
 use hg_play::play;
 use hg_report::text_of;
 use hg_script::{Line, read_script};
-use hg_words::{Request, read_words};
 use std::alloc::Global;
 
 /// The greatest number of bytes of a member file.
@@ -28,9 +27,10 @@ const SCRIPT_LIMIT: usize = 16_777_216;
 /// The members that the file of this name tells.
 fn members_from<F: Shelf>(alloc: Global, shelf: &mut F, name: &str) -> Result<Members, Status>
     ensures ok { IfOk result (ReadsMembers (F.holds shelf.old) name.now) }
-    ensures err { IfErr result (StopsAtMembers (F.holds shelf.old) name.now (F.faults shelf.old name.now) (F.faults shelf.new name.now)) }
+    ensures err { IfErr result (StopsAtMembers F.Shelf shelf.old shelf.new name.now) }
     ensures same { F.holds shelf.new ≡ F.holds shelf.old }
     ensures counts { (other : List ℕ) → F.faults shelf.old other ≤ F.faults shelf.new other }
+    ensures begun { F.starts shelf.new ≡ raised (F.starts shelf.old) }
 {
     match read_file(alloc, shelf, name, MEMBER_LIMIT) {
         Err(_) => Err(Status::Memory),
@@ -53,9 +53,10 @@ fn lines_from<F: Shelf>(
 ) -> Result<Items<Line>, Status>
     ensures ok { IfOk result (ReadsLines (F.holds shelf.old) name.now members.now) }
     ensures lawful { IfOk result (λ lines. All (IsLine members.now) lines) }
-    ensures err { IfErr result (StopsAtScript (F.holds shelf.old) name.now members.now (F.faults shelf.old name.now) (F.faults shelf.new name.now)) }
+    ensures err { IfErr result (StopsAtScript F.Shelf shelf.old shelf.new name.now members.now) }
     ensures same { F.holds shelf.new ≡ F.holds shelf.old }
     ensures counts { (other : List ℕ) → F.faults shelf.old other ≤ F.faults shelf.new other }
+    ensures begun { F.starts shelf.new ≡ raised (F.starts shelf.old) }
 {
     match read_file(alloc, shelf, name, SCRIPT_LIMIT) {
         Err(_) => Err(Status::Memory),
@@ -71,7 +72,7 @@ fn lines_from<F: Shelf>(
 
 /// Writes the report.
 fn write_report<K: Sink>(out: &mut K, outcome: &Outcome) -> Status
-    ensures { Writes (K.written out.old) (K.written out.new) (K.faults out.old) (K.faults out.new) (report_text outcome.now) result }
+    ensures { Writes K.Sink out.old out.new (report_text outcome.now) result }
 {
     match text_of(outcome, out) {
         Ok(()) => Status::Done,
@@ -82,23 +83,24 @@ fn write_report<K: Sink>(out: &mut K, outcome: &Outcome) -> Status
 /// What the run of a script comes to, with the names of the two files.
 fn run<F: Shelf, K: Sink>(
     alloc: Global,
-    members_name: &str,
-    script_name: &str,
+    members: &str,
+    script: &str,
     shelf: &mut F,
     out: &mut K,
 ) -> Status
-    ensures ends { Ends (F.holds shelf.old) (file_names members_name.now script_name.now) (outside (F.faults shelf.old) (K.faults out.old) (K.written out.old)) (outside (F.faults shelf.new) (K.faults out.new) (K.written out.new)) result }
+    ensures ends { EndsOn members.now script.now (course F.Shelf K.Sink shelf.old shelf.new out.old out.new) result }
+    ensures begun { Starts (course F.Shelf K.Sink shelf.old shelf.new out.old out.new) result }
     ensures same { F.holds shelf.new ≡ F.holds shelf.old }
 {
-    let members = match members_from(alloc, shelf, members_name) {
-        Ok(members) => members,
+    let list = match members_from(alloc, shelf, members) {
+        Ok(list) => list,
         Err(status) => return status,
     };
-    let lines = match lines_from(alloc, shelf, script_name, &members) {
+    let lines = match lines_from(alloc, shelf, script, &list) {
         Ok(lines) => lines,
         Err(status) => return status,
     };
-    match play(alloc, &members, lines.as_slice()) {
+    match play(alloc, &list, lines.as_slice()) {
         Ok(outcome) => write_report(out, &outcome),
         Err(Memory) => Status::Memory,
     }
@@ -116,11 +118,14 @@ pub fn hashgraph<F: Shelf, K: Sink, E: Sink>(
     err: &mut E,
 ) -> Status
     // The report at `Done`, and the cause of each other status.
-    ensures ends { EndsBy (F.holds shelf.old) (request_of (map string_bytes words.now)) (outside (F.faults shelf.old) (K.faults out.old) (K.written out.old)) (outside (F.faults shelf.new) (K.faults out.new) (K.written out.new)) result }
-    ensures usage { IsUsage (map string_bytes words.now) result }
-    ensures refused { IsRefused (F.holds shelf.old) (map string_bytes words.now) (outside (F.faults shelf.old) (K.faults out.old) (K.written out.old)) (outside (F.faults shelf.new) (K.faults out.new) (K.written out.new)) result }
-    ensures complete { IsComplete (F.holds shelf.old) (map string_bytes words.now) (outside (F.faults shelf.old) (K.faults out.old) (K.written out.old)) (outside (F.faults shelf.new) (K.faults out.new) (K.written out.new)) result }
-    ensures matches { IsPrintedOn (E.written err.old) (E.written err.new) (E.faults err.old) (E.faults err.new) (status_line result) }
+    ensures ends { EndsBy (asks words.now) (course F.Shelf K.Sink shelf.old shelf.new out.old out.new) result }
+    ensures usage { IsUsage (asks words.now) result }
+    ensures refused { IsRefused (asks words.now) (course F.Shelf K.Sink shelf.old shelf.new out.old out.new) result }
+    ensures complete { IsComplete (asks words.now) (course F.Shelf K.Sink shelf.old shelf.new out.old out.new) result }
+    // No file is started for faulty words, and no script where the member file ends the work.
+    ensures unread { asks words.now ≡ None → shelf.new ≡ shelf.old }
+    ensures begun { Starts (course F.Shelf K.Sink shelf.old shelf.new out.old out.new) result }
+    ensures matches { IsPrintedOn E.Sink err.old err.new (status_line result) }
     ensures same { F.holds shelf.new ≡ F.holds shelf.old }
 {
     let status = match read_words(alloc, words) {

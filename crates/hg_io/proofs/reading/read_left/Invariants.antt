@@ -11,6 +11,7 @@ invariant-pieces g l =
       started : shelf.At l.shelf l.name;
       same : shelf.holds l.shelf ≡ shelf.holds l.fn.shelf;
       counts : (other : List ℕ) → shelf.faults l.fn.shelf other ≤ shelf.faults l.shelf other;
+      begun : shelf.starts l.shelf ≡ shelf.starts l.fn.shelf;
     }
 
 abbrev pub decreases-pieces : goal.decreases-pieces

@@ -1,7 +1,7 @@
 use Rattle.std.proofs.Common.{ap, ◌∙◌, Bor}
 use Rattle.clap.specs.Words.{Text, found_of}
-use Rattle.hg_words.proofs.Readings.{text_found}
-use Rattle.hg_words.proofs.request.text_at.Goals as goal
+use Rattle.hg_command.proofs.Readings.{text_found}
+use Rattle.hg_command.proofs.request.text_at.Goals as goal
 
 pub returns : goal.returns
 returns c =

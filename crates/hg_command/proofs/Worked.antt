@@ -2,7 +2,7 @@
 use Rattle.std.proofs.Common.{◌≡◌, List, [], ◌∷◌, ◌++◌, Option, Some, None, codes, refl}
 use Rattle.clap.proofs.OnLiterals.{clap_on_literals}
 use Rattle.clap.specs.Words.{Text}
-use Rattle.hg_words.specs.Asked.{Asked, request_of, run}
+use Rattle.hg_command.specs.Asked.{Asked, request_of, run}
 
 -- the program's name and the command
 abbrev play : List Text

@@ -1,12 +1,13 @@
 -- What the words of a command line ask for
-use Rattle.std.specs.Prelude.{ℕ, ◌-◌, ◌^◌, ◌≤◌, List, [], ◌∷◌, Option, Some, None, option_map, option_and_then, unwrap_or, if◌then◌else◌, codes, false}
+use Rattle.std.specs.Prelude.{ℕ, String, map, string_bytes, ◌-◌, ◌^◌, ◌≤◌, List, [], ◌∷◌, Option, Some, None, option_map, option_and_then, unwrap_or, if◌then◌else◌, codes, false}
+use Rattle.std.specs.Global.{Global}
 use Rattle.std.specs.Str.Parse.{digits_value, without_leading_plus}
 use Rattle.clap.specs.Words.{Kinds, Row, Text, fault_of, first_of, one_of, subcommand_of}
 use Rattle.clap.specs.ValueTests.{accepts}
 use Rattle.clap.specs.declared.builder.ValueParser.TheVariants.{Unsigned}
-use Rattle.hg_words.specs.Line.{command, most_workers}
-use Rattle.hg_words.specs.declared.request.Request.{Request}
-use Rattle.hg_words.specs.declared.request.Request.TheVariants as request
+use Rattle.hg_command.specs.Line.{command, most_workers}
+use Rattle.hg_command.specs.declared.request.Request.{Request}
+use Rattle.hg_command.specs.declared.request.Request.TheVariants as request
 
 -- a run over two files, with so many workers
 pub record Run : Type 0 where
@@ -51,6 +52,10 @@ asked_in found = run (run_in found.1)
 abbrev pub unless_faulty : Kinds → Option Asked → Option Asked
 unless_faulty [] found = found
 unless_faulty (kind ∷ kinds) found = None
+
+-- the words as texts
+abbrev pub texts : List (String Global) → List Text
+texts words = map string_bytes words
 
 -- What the words ask for, the program's name first, where clap's definition finds no fault in them
 abbrev pub request_of : List Text → Option Asked

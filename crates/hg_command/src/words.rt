@@ -1,7 +1,7 @@
-ghost use Rattle.std.specs.Prelude.{◌≡◌, [], map, option_map, string_bytes, true, IfErr, IfOk, IfSome, IsSome, ◌↔◌};
+ghost use Rattle.std.specs.Prelude.{◌≡◌, [], option_map, true, IfErr, IfOk, IfSome, IsSome, ◌↔◌};
 ghost use Rattle.clap.specs.Words.{fault_of, has_subcommand, subcommand_of, subcommand_rows_of};
-ghost use Rattle.hg_words.specs.Asked.{KeepsRanges, asked, request_of};
-ghost use Rattle.hg_words.specs.Line.{command};
+ghost use Rattle.hg_command.specs.Asked.{KeepsRanges, asked, request_of, texts};
+ghost use Rattle.hg_command.specs.Line.{command};
 
 use crate::line::command;
 use crate::request::{Request, request_at};
@@ -12,8 +12,8 @@ use std::alloc::Global;
 
 /// What clap makes of the words, if it finds no fault in them.
 fn matches_of<'a>(alloc: Global, words: &'a [String]) -> Result<Option<ArgMatches<'a>>, Memory>
-    ensures accepted { IfOk result (λ r. IsSome r ↔ (fault_of command (map string_bytes words.now) ≡ [])) }
-    ensures rows { IfOk result (λ r. IfSome r (λ m. subcommand_rows_of m ≡ subcommand_of command (map string_bytes words.now))) }
+    ensures accepted { IfOk result (λ r. IsSome r ↔ (fault_of command (texts words.now) ≡ [])) }
+    ensures rows { IfOk result (λ r. IfSome r (λ m. subcommand_rows_of m ≡ subcommand_of command (texts words.now))) }
     ensures met { IfOk result (λ r. IfSome r (λ m. has_subcommand m ≡ true)) }
 {
     match command(alloc)?.try_get_matches_from(words) {
@@ -29,7 +29,7 @@ fn matches_of<'a>(alloc: Global, words: &'a [String]) -> Result<Option<ArgMatche
 /// The only error is want of memory.
 #[tactic(auto, using(crate::proofs::Limits::in_range))]
 pub fn read_words<'a>(alloc: Global, words: &'a [String]) -> Result<Option<Request<'a>>, Memory>
-    ensures request { IfOk result (λ r. option_map asked r ≡ request_of (map string_bytes words.now)) }
+    ensures request { IfOk result (λ r. option_map asked r ≡ request_of (texts words.now)) }
     ensures ranges { IfOk result (λ r. IfSome r (λ q. KeepsRanges (asked q))) }
 {
     match matches_of(alloc, words)? {

@@ -1,7 +1,7 @@
 ghost use Rattle.std.specs.Prelude.{◌≡◌, false, IfOk};
 ghost use Rattle.clap.specs.Words.{app_of, rule_of};
 ghost use Rattle.clap.specs.declared.builder.Command.TheViews.{out-Command};
-ghost use Rattle.hg_words.specs.Line as line;
+ghost use Rattle.hg_command.specs.Line as line;
 
 use clap::builder::ValueParser;
 use clap::{Arg, Command};

@@ -1,7 +1,7 @@
 use Rattle.std.proofs.Common.{ℕ, Option, ap, ◌∙◌, unwrap_or}
 use Rattle.clap.specs.Words.{found_of}
-use Rattle.hg_words.proofs.Readings.{number_found}
-use Rattle.hg_words.proofs.request.number_at.Goals as goal
+use Rattle.hg_command.proofs.Readings.{number_found}
+use Rattle.hg_command.proofs.request.number_at.Goals as goal
 
 pub returns : goal.returns
 returns c =

@@ -18,10 +18,10 @@ use Rattle.clap.specs.declared.builder.ValueParser.TheVariants.{Signed, Unsigned
 use Rattle.clap.specs.declared.builder.value_parser.Reading.TheVariants.{WithoutMinus}
 use Rattle.clap.proofs.CallerReads.{signed_reads}
 use Rattle.clap.proofs.ValueTestLemmas.{accepts-Accepts, Accepts-accepts}
-use Rattle.hg_words.specs.Asked.{Asked, KeepsRanges, asked_in, number_in, text_number}
-use Rattle.hg_words.specs.Line.{command, most_workers}
-use Rattle.hg_words.proofs.Passing.{both_none}
-use Rattle.hg_words.proofs.Passing as passing
+use Rattle.hg_command.specs.Asked.{Asked, KeepsRanges, asked_in, number_in, text_number}
+use Rattle.hg_command.specs.Line.{command, most_workers}
+use Rattle.hg_command.proofs.Passing.{both_none}
+use Rattle.hg_command.proofs.Passing as passing
 
 -- ---- rows in which what `--workers` was given passed its parser
 

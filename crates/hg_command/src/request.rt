@@ -1,6 +1,6 @@
 ghost use Rattle.std.specs.Prelude.{◌≡◌, Some, option_map, true, codes};
 ghost use Rattle.clap.specs.Words.{found_of, has_subcommand, rows_of, subcommand_rows_of};
-ghost use Rattle.hg_words.specs.Asked.{asked, asked_in, number_in, run, run_in, text_in};
+ghost use Rattle.hg_command.specs.Asked.{asked, asked_in, number_in, run, run_in, text_in};
 
 use clap::ArgMatches;
 
