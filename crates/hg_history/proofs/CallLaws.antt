@@ -11,10 +11,11 @@ use Rattle.hg_model.specs.declared.answers.MakeAnswer.TheVariants as answer
 use Rattle.hg_model.specs.Reading.{read_event}
 use Rattle.hg_model.specs.Spelling.{Spells}
 use Rattle.hg_model.specs.Verdict.{arrival_rule, forkers_rule, full_rule, row_verdict, made_row, making, made_or}
-use Rattle.hg_model.specs.History.{Change, Accepts, IsStep}
+use Rattle.hg_model.specs.History.{Change, IsStep}
 use Rattle.hg_model.specs.History.Change.{Took, Marked}
 use Rattle.hg_model.specs.NodeView.{NodeView, with_changes, node_rows, node_state, IsNode}
 use Rattle.hg_model.specs.Calls.{put_answer, put_changes, taken_by, taken_from, make_answer, make_changes, made_by, publish_answer, publish_changes}
+use Rattle.hg_model.specs.Signing.{Accepts}
 use Rattle.hg_event.proofs.Reading.{AreBytes}
 use Rattle.hg_event.proofs.Spells.{read_event-Spells}
 use Rattle.hg_history.specs.Laws.{PutsAddOne, OtherPutsAddNone, PutsLeaveANode, MakesAddOne, OtherMakesAddNone, PublishesLeaveANode}

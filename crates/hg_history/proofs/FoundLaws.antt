@@ -5,7 +5,7 @@ use Rattle.hg_model.specs.declared.row.Row.{Row}
 use Rattle.hg_model.specs.Links.{Link}
 use Rattle.hg_model.specs.Shares.{Share, Speaks, found_in}
 use Rattle.hg_model.specs.History.{Change, replay}
-use Rattle.hg_prefix.specs.Orders.{IsPrefix}
+use Rattle.hg_model.specs.Orders.{IsPrefix}
 use Rattle.hg_history.proofs.StateLaws.{even_after, rows_grow, links_grow}
 
 pub same_first : {A : Type 0} (len : ℕ) (xs ys : List A) → IsPrefix xs ys → len ≤ length xs → take len ys ≡ take len xs

@@ -11,8 +11,10 @@ use Rattle.hg_model.specs.Links.{Link, links, place_of}
 use Rattle.hg_model.specs.Graph.{name_in, name_at, HasDistinctNames}
 use Rattle.hg_model.specs.Fame.{Marks, fame_marks, is_closed}
 use Rattle.hg_model.specs.Order.{sort_by, comes_before, keyed_at, is_received_in, ordered_in, ordered, Ordered, named_in, last_closed, coin_at, order_of}
-use Rattle.hg_model.specs.History.{Change, Accepts, replay, IsHistory}
+use Rattle.hg_model.specs.History.{Change, replay, IsHistory}
 use Rattle.hg_model.specs.Kept.{kept, kept_by_names}
+use Rattle.hg_model.specs.Signing.{Accepts}
+use Rattle.hg_model.specs.Orders.{IsPrefix, marked_order_by_names}
 use Rattle.hg_model.proofs.LinkLaws.{length-links}
 use Rattle.hg_model.proofs.ListLaws.{all_list_below}
 use Rattle.hg_model.proofs.LongerLaws.{slice_get-append}
@@ -20,7 +22,6 @@ use Rattle.hg_model.proofs.NameLaws.{place_of_at}
 use Rattle.hg_model.proofs.PushLaws.{nobody}
 use Rattle.hg_model.proofs.SortLaws.{all_sorted}
 use Rattle.hg_prefix.specs.Standing.{StandsIn, IsMarkedPart}
-use Rattle.hg_prefix.specs.Orders.{IsPrefix, marked_order_by_names}
 use Rattle.hg_prefix.proofs.ClosedLaws.{closed_last, closed_up_to}
 use Rattle.hg_prefix.proofs.GrowthLaws.{no_fewer_closed, stands_in_itself, stands_in_longer}
 use Rattle.hg_prefix.proofs.OrderLaws.{order_prefix}

@@ -12,12 +12,12 @@ use Rattle.hg_model.specs.Fame.{Marks, mark_at, fame_of, is_closed}
 use Rattle.hg_model.specs.Order.{coin_at}
 use Rattle.hg_model.specs.Shares.{Share, is_of_share, share_fame, early_fame}
 use Rattle.hg_model.specs.History.{State, links_with, is_late, first_mark, with_row, new_mark, with_marks}
+use Rattle.hg_model.specs.Orders.{AreFame}
 use Rattle.hg_model.proofs.LateLaws.{closed_mark}
 use Rattle.hg_model.proofs.LinkLaws.{length-links}
 use Rattle.hg_model.proofs.LongerLaws.{IsLonger, longer-take, coin_at-take, links-longer, coin_at-longer, round_of-longer, is_witness-longer}
 use Rattle.hg_model.proofs.RoundLaws.{round_of-pos}
 use Rattle.hg_agree.proofs.LaterLaws.{fame_kept, late_is_not_famous}
-use Rattle.hg_prefix.specs.Standing.{AreFame}
 use Rattle.hg_prefix.proofs.FamousLaws.{witness_of_closed, closed_from}
 use Rattle.hg_prefix.proofs.ClosedLaws.{closed_below}
 use Rattle.hg_history.proofs.StateLaws.{IsEven, old_mark, mark_within, mark_of_table}

@@ -8,12 +8,12 @@ use Rattle.hg_model.specs.Forks.{has_fork, forkers}
 use Rattle.hg_model.specs.Graph.{name_in, name_at, HasDistinctNames, IsShaped}
 use Rattle.hg_model.specs.Verdict.{later_name, last_name}
 use Rattle.hg_model.specs.Graph.{creator_at, creator_of_row}
+use Rattle.hg_model.specs.Chains.{self_parent_name_in, self_parent_name, IsChain}
 use Rattle.hg_model.proofs.ForkLaws.{has_fork_found, has_fork_from, is_fork_from}
 use Rattle.hg_model.proofs.LinkLaws.{length-links}
 use Rattle.hg_model.proofs.LongerLaws.{IsLonger, links-longer, creator-longer, is_self_ancestor-longer}
 use Rattle.hg_model.proofs.PlacesLaws.{weight_below-le}
 use Rattle.hg_model.proofs.PushLaws.{row_creator-links, slice_get-before, slice_get-last}
-use Rattle.hg_prefix.specs.Chains.{self_parent_name_in, self_parent_name, IsChain}
 use Rattle.hg_prefix.proofs.ChainLaws.{no_fork}
 
 -- the last name of a member is that of its last row

@@ -16,7 +16,8 @@ use Rattle.hg_model.specs.Fits.{Fits}
 use Rattle.hg_model.specs.Spelling.{body_of}
 use Rattle.hg_model.specs.Verdict.{row_limit, has_bytes, is_held, first_missing, first_by, member_rule, name_rule, signature_rule, impostor_rule, missing_rule, creator_rule, arrival_rule, forkers_with, forkers_rule, full_rule, row_verdict, last_name, parents_on, made_row, first_rule, other_rule, payload_rule, draft_rule, collision_rule, room_rule, made_or, making}
 use Rattle.hg_model.specs.Graph.{creator_at}
-use Rattle.hg_model.specs.History.{Accepts, IsTaken, IsMade}
+use Rattle.hg_model.specs.History.{IsTaken, IsMade}
+use Rattle.hg_model.specs.Signing.{Accepts}
 use Rattle.hg_model.proofs.RuleLaws.{option_or_none, one_test, below_from_test, arrives, has_room, drafted, admitted}
 
 -- no rule of putting accepts

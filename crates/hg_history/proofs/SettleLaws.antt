@@ -14,10 +14,10 @@ use Rattle.hg_model.specs.Fame.{mark_at, fame_of, fame_marks}
 use Rattle.hg_model.specs.Order.{coin_at}
 use Rattle.hg_model.specs.Shares.{Share, is_of_share, share_fame, early_fame}
 use Rattle.hg_model.specs.History.{State, is_news, news, new_mark, with_marks}
+use Rattle.hg_model.specs.Orders.{AreFame}
 use Rattle.hg_model.proofs.FameLaws.{fame_of_other}
 use Rattle.hg_model.proofs.LinkLaws.{length-links}
 use Rattle.hg_model.proofs.PlacesLaws.{weight_below_none, count_below_passes, count_below_fails}
-use Rattle.hg_prefix.specs.Standing.{AreFame}
 use Rattle.hg_history.proofs.StateLaws.{IsEven, mark_of_table}
 
 abbrev pub share : ℕ → ℕ → Share

@@ -12,7 +12,7 @@ use Rattle.hg_model.specs.Order.{coin_at}
 use Rattle.hg_model.specs.Shares.{share_fame, early_fame}
 use Rattle.hg_model.specs.History.{Change, State, is_news, news, new_mark, with_marks, step, replay}
 use Rattle.hg_model.specs.History.Change.{Marked}
-use Rattle.hg_prefix.specs.Standing.{AreFame}
+use Rattle.hg_model.specs.Orders.{AreFame}
 use Rattle.hg_history.specs.Laws.{shares_published, SharesAreAll, PublishedIsNoNews}
 use Rattle.hg_history.proofs.StateLaws.{IsEven, even_step, even_after, rows_grow, links_grow, marks_stay, mark_of_table, replay-append, replay-push}
 use Rattle.hg_history.proofs.FoundLaws.{same_first}

@@ -12,13 +12,14 @@ use Rattle.hg_model.specs.Forks.{has_fork, forkers}
 use Rattle.hg_model.specs.Graph.{name_in, name_at, IsGraph}
 use Rattle.hg_model.specs.Fame.{is_closed}
 use Rattle.hg_model.specs.Verdict.{row_limit}
-use Rattle.hg_model.specs.History.{Change, State, Accepts, empty, links_with, with_row, with_marks, step, replay, IsStep, AreSteps, IsHistory, IsTaken, IsMade}
+use Rattle.hg_model.specs.History.{Change, State, empty, links_with, with_row, with_marks, step, replay, IsStep, AreSteps, IsHistory, IsTaken, IsMade}
 use Rattle.hg_model.specs.History.Change.{Took, Made, Marked}
+use Rattle.hg_model.specs.Signing.{Accepts}
+use Rattle.hg_model.specs.Orders.{AreFame}
+use Rattle.hg_model.specs.Chains.{IsChain}
 use Rattle.hg_model.proofs.PlacesLaws.{weight_below_none}
 use Rattle.hg_model.proofs.PushLaws.{nobody, links-push, all_present, shaped-push, shaped-none}
 use Rattle.hg_model.proofs.NameLaws.{distinct-none, distinct-push}
-use Rattle.hg_prefix.specs.Standing.{AreFame}
-use Rattle.hg_prefix.specs.Chains.{IsChain}
 use Rattle.hg_history.specs.Laws.{IsEvent, IsNodeGraph}
 use Rattle.hg_history.proofs.StateLaws.{IsEven, even_row, even_step, marks_step, replay-append}
 use Rattle.hg_history.proofs.RuleLaws.{Comes, taken_is, made_is}

@@ -12,7 +12,7 @@ use Rattle.hg_model.specs.Fame.{Marks, mark_at}
 use Rattle.hg_model.specs.Shares.{early_fame}
 use Rattle.hg_model.specs.History.{Change, State, empty, first_mark, with_row, new_mark, step, replay}
 use Rattle.hg_model.specs.History.Change.{Took, Made, Marked}
-use Rattle.hg_prefix.specs.Orders.{IsPrefix}
+use Rattle.hg_model.specs.Orders.{IsPrefix}
 
 pub prefix_same : {A : Type 0} (xs ys : List A) → xs ≡ ys → IsPrefix xs ys
 prefix_same xs ys e = ([], sym e ∙ sym (append-nil xs))

@@ -19,8 +19,9 @@ use Rattle.hg_model.specs.Order.{coin_at, sig_at}
 use Rattle.hg_model.specs.Spelling.{body_of, spelling, Spells}
 use Rattle.hg_model.specs.Verdict.{making}
 use Rattle.hg_model.specs.Shares.{whole, share_fame}
-use Rattle.hg_model.specs.History.{Change, Accepts, replay, news, IsTaken, IsMade, MarksSome, IsHistory}
+use Rattle.hg_model.specs.History.{Change, replay, news, IsTaken, IsMade, MarksSome, IsHistory}
 use Rattle.hg_model.specs.History.Change.{Took, Made, Marked}
+use Rattle.hg_model.specs.Signing.{Accepts}
 
 -- a name of 48 bytes, as six words
 abbrev name : ℕ → ℕ → ℕ → ℕ → ℕ → ℕ → List ℕ

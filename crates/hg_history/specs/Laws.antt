@@ -1,5 +1,5 @@
 -- What holds of every history, and of every node, as public functions state it. No law here asks anything of the other members
-use Rattle.std.specs.Prelude.{ℕ, zero, suc, ◌≡◌, ◌≢◌, ◌<◌, ◌≤◌, ◌^◌, ◌⊎◌, Bool, true, List, [], ◌∷◌, ◌++◌, length, take, get_or, Option, Some, None, Ok, slice_get, IsTrue}
+use Rattle.std.specs.Prelude.{ℕ, zero, suc, ◌≡◌, ◌≢◌, ◌<◌, ◌≤◌, ◌^◌, ◌⊎◌, Bool, true, List, [], ◌∷◌, ◌++◌, length, take, get_or, Some, None, Ok, slice_get, IsTrue}
 use Rattle.hg_model.specs.declared.row.Row.{Row}
 use Rattle.hg_model.specs.declared.answers.PutAnswer.TheVariants.{Accepted}
 use Rattle.hg_model.specs.declared.answers.MakeAnswer.TheVariants as made
@@ -12,14 +12,14 @@ use Rattle.hg_model.specs.Reading.{read_event}
 use Rattle.hg_model.specs.Verdict.{row_limit, verdict, row_verdict, made_row}
 use Rattle.hg_model.specs.Shares.{Share, Speaks}
 use Rattle.hg_history.specs.Adding.{add_marks}
-use Rattle.hg_model.specs.History.{Change, Accepts, with_marks, replay, news, IsHistory}
+use Rattle.hg_model.specs.History.{Change, with_marks, replay, news, IsHistory}
 use Rattle.hg_model.specs.Kept.{kept, kept_in, kept_up_to, kept_by_names}
 use Rattle.hg_model.specs.History.Change.{Took, Made, Marked}
-use Rattle.hg_model.specs.NodeView.{NodeView, with_changes, node_rows, node_marks, kept_of, log_from, history_of, IsNode}
-use Rattle.hg_model.specs.Calls.{put_answer, put_changes, make_answer, make_changes, make_body, make_draft, publish_changes, settle_changes}
-use Rattle.hg_prefix.specs.Standing.{AreFame}
-use Rattle.hg_prefix.specs.Orders.{IsPrefix, HasNameSizes}
-use Rattle.hg_prefix.specs.Chains.{IsChain}
+use Rattle.hg_model.specs.NodeView.{NodeView, with_changes, node_rows, log_from, history_of, IsNode}
+use Rattle.hg_model.specs.Calls.{put_answer, put_changes, make_answer, make_changes, make_body, make_draft, publish_changes, settle_changes, IsSettled}
+use Rattle.hg_model.specs.Signing.{Accepts}
+use Rattle.hg_model.specs.Orders.{IsPrefix, HasNameSizes, AreFame}
+use Rattle.hg_model.specs.Chains.{IsChain}
 
 -- the row has the sizes and the name of an event, and its signature is accepted
 pub record IsEvent (accepts : Accepts) (row : Row) : Type 0 where
@@ -202,12 +202,6 @@ MakesLeaveANode K = (accepts : K → Accepts) (v : NodeView K) (others : List (L
 abbrev pub PublishesLeaveANode : (K : Type 0) → Type 0
 PublishesLeaveANode K = (accepts : K → Accepts) (v : NodeView K) (len : ℕ) (share : Share) → len ≤ length (node_rows v) → IsNode accepts v →
     IsNode accepts (with_changes v (publish_changes v len share))
-
--- what a settled node is: its marks are the fame of its graph, and its kept order is the order
-pub record IsSettled {K : Type 0} (old new : NodeView K) : Type 0 where
-  pub rows : node_rows new ≡ node_rows old
-  pub marks : node_marks new ≡ fame_marks old.start.members old.start.coin (links (node_rows old)) (coin_at (node_rows old))
-  pub kept : kept_of new ≡ order_of old.start.members old.start.coin (node_rows old)
 
 abbrev pub SettlesAll : (K : Type 0) → Type 0
 SettlesAll K = (accepts : K → Accepts) (v : NodeView K) → IsNode accepts v → IsSettled v (with_changes v (settle_changes v))

@@ -9,9 +9,9 @@ use Rattle.hg_model.specs.Fame.{Marks, is_closed}
 use Rattle.hg_model.specs.Order.{is_received_in, round_received}
 use Rattle.hg_model.specs.Kept.{kept_up_to}
 use Rattle.hg_model.specs.Prefix.{graph_of}
+use Rattle.hg_model.specs.Orders.{IsPrefix}
 use Rattle.hg_model.proofs.ReachLaws.{bool_iff}
 use Rattle.hg_prefix.specs.Standing.{IsMarkedPart}
-use Rattle.hg_prefix.specs.Orders.{IsPrefix}
 use Rattle.hg_prefix.proofs.FamousLaws.{received_is, closed_bounds}
 use Rattle.hg_history.proofs.StayLaws.{round_stays, received_there, received_back, none_later}
 use Rattle.hg_kept.specs.Published.{state_by}

@@ -15,11 +15,11 @@ use Rattle.hg_model.specs.Shares.{Share, Speaks, share_fame, found_in}
 use Rattle.hg_model.specs.History.{State, with_marks, new_mark, news}
 use Rattle.hg_model.specs.History.Change.{Marked}
 use Rattle.hg_model.specs.Kept.{kept_up_to, kept_in}
+use Rattle.hg_model.specs.Orders.{IsPrefix, AreFame}
 use Rattle.hg_model.proofs.LinkLaws.{length-links}
 use Rattle.hg_model.proofs.PlacesLaws.{list_below-same}
 use Rattle.hg_model.proofs.ListLaws.{all_list_below, length-list_below-le}
-use Rattle.hg_prefix.specs.Standing.{AreFame, IsMarkedPart}
-use Rattle.hg_prefix.specs.Orders.{IsPrefix}
+use Rattle.hg_prefix.specs.Standing.{IsMarkedPart}
 use Rattle.hg_prefix.proofs.GrowthLaws.{stands_in_itself}
 use Rattle.hg_history.specs.Adding.{Adding, add_marks}
 use Rattle.hg_history.proofs.AddLaws.{adds_marks}

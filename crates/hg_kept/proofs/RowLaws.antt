@@ -14,13 +14,13 @@ use Rattle.hg_model.specs.Order.{ordered, last_closed}
 use Rattle.hg_model.specs.Prefix.{Graph, graph_of}
 use Rattle.hg_model.specs.History.{State, links_with, first_mark, with_row}
 use Rattle.hg_model.specs.Kept.{kept_up_to}
+use Rattle.hg_model.specs.Orders.{IsPrefix, AreFame}
 use Rattle.hg_model.proofs.LinkLaws.{length-links}
 use Rattle.hg_model.proofs.PlacesLaws.{list_below-same}
 use Rattle.hg_model.proofs.PushLaws.{nobody, links-push, link_at, all_present}
 use Rattle.hg_model.proofs.ReachLaws.{bool_iff}
 use Rattle.hg_model.proofs.RoundLaws.{round_of-pos}
-use Rattle.hg_prefix.specs.Standing.{AreFame, IsMarkedPart}
-use Rattle.hg_prefix.specs.Orders.{IsPrefix}
+use Rattle.hg_prefix.specs.Standing.{IsMarkedPart}
 use Rattle.hg_prefix.proofs.ClosedLaws.{closed_last, closed_up_to}
 use Rattle.hg_prefix.proofs.GrowthLaws.{stands_in_itself, stands_in_longer}
 use Rattle.hg_history.proofs.MarkLaws.{fame_with_row, closed_with_row, closed_before_row}

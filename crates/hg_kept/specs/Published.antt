@@ -11,7 +11,7 @@ use Rattle.hg_model.specs.Order.{is_received_in, ordered, last_closed}
 use Rattle.hg_model.specs.Prefix.{Graph, graph_of, links_of}
 use Rattle.hg_model.specs.History.{State, with_row}
 use Rattle.hg_model.specs.Kept.{kept_up_to}
-use Rattle.hg_prefix.specs.Standing.{AreFame}
+use Rattle.hg_model.specs.Orders.{AreFame}
 
 pub record Published : Type 0 where
   pub marks : Marks

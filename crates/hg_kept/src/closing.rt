@@ -2,7 +2,7 @@ ghost use Rattle.std.specs.Prelude.{◌≡◌, ◌<◌, ◌≤◌, ◌+◌, ◌^
 ghost use Rattle.std.specs.List.{AllByRecursion, list_all};
 ghost use Rattle.hg_model.specs.Fame.{Marks, is_closed, mark_at};
 ghost use Rattle.hg_model.specs.Prefix.{links_of};
-ghost use Rattle.hg_prefix.specs.Orders.{IsPrefix};
+ghost use Rattle.hg_model.specs.Orders.{IsPrefix};
 ghost use Rattle.hg_order.specs.Famous.{famous_of, AreFamous, IsBelowAll};
 ghost use Rattle.hg_order.specs.Round.{received_order, received_places};
 ghost use Rattle.hg_kept.specs.Published.{IsReached, Keeps, KeepsUpTo};

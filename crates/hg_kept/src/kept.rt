@@ -3,7 +3,7 @@ ghost use Rattle.hg_model.specs.Fame.{mark_at};
 ghost use Rattle.hg_model.specs.Prefix.{graph_of, links_of};
 ghost use Rattle.hg_model.specs.Shares.{Speaks};
 ghost use Rattle.hg_model.specs.History.{news, with_marks};
-ghost use Rattle.hg_prefix.specs.Orders.{IsPrefix};
+ghost use Rattle.hg_model.specs.Orders.{IsPrefix};
 ghost use Rattle.hg_kept.specs.Published.{HasCome, Keeps, TookRow, is_last_late, mark_by, state_by, unpublished};
 
 use crate::closing::close_rounds;

@@ -11,9 +11,13 @@ use Rattle.hg_model.specs.Spelling.{body_bytes}
 use Rattle.hg_model.specs.Verdict.{verdict, row_verdict, last_name, parents_on, draft_rule, made_row, making}
 use Rattle.hg_model.specs.declared.answers.MakeFault.{MakeFault}
 use Rattle.hg_model.specs.Shares.{Share, whole}
-use Rattle.hg_model.specs.History.{Change, Accepts, news}
+use Rattle.hg_model.specs.History.{Change, news}
 use Rattle.hg_model.specs.History.Change.{Took, Made, Marked}
-use Rattle.hg_model.specs.NodeView.{NodeView, with_changes, node_state, node_rows}
+use Rattle.hg_model.specs.NodeView.{NodeView, with_changes, node_state, node_rows, node_marks, kept_of}
+use Rattle.hg_model.specs.Signing.{Accepts}
+use Rattle.hg_model.specs.Links.{links}
+use Rattle.hg_model.specs.Fame.{fame_marks}
+use Rattle.hg_model.specs.Order.{coin_at, order_of}
 
 -- what comes of bytes that are put to the node
 unfoldable pub put_answer : {K : Type 0} → (K → Accepts) → NodeView K → List ℕ → PutAnswer
@@ -74,3 +78,9 @@ publish_changes v len share = cond (publish_answer v len share == 0) [] (Marked 
 -- to settle is to publish the fame of the whole graph
 abbrev pub settle_changes : {K : Type 0} → NodeView K → List Change
 settle_changes v = publish_changes v (length (node_rows v)) whole
+
+-- what a settled node is: its marks are the fame of its graph, and its kept order is the order
+pub record IsSettled {K : Type 0} (old new : NodeView K) : Type 0 where
+  pub rows : node_rows new ≡ node_rows old
+  pub marks : node_marks new ≡ fame_marks old.start.members old.start.coin (links (node_rows old)) (coin_at (node_rows old))
+  pub kept : kept_of new ≡ order_of old.start.members old.start.coin (node_rows old)

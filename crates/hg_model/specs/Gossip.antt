@@ -1,5 +1,5 @@
 -- Gossip: a node takes from a peer the rows that it lacks, and makes an event. SWIRLDS-TR-2016-01, section 3
-use Rattle.std.specs.Prelude.{ℕ, ◌+◌, Bool, not, List, [], ◌∷◌, filter, fold, map, Option, Some, None}
+use Rattle.std.specs.Prelude.{ℕ, ◌+◌, not, List, [], ◌∷◌, filter, fold, map, Option, Some, None}
 use Rattle.hg_model.specs.declared.row.Row.{Row}
 use Rattle.hg_model.specs.declared.answers.PutAnswer.{PutAnswer}
 use Rattle.hg_model.specs.declared.answers.PutAnswer.TheVariants.{Accepted, Known, Refused}
@@ -11,14 +11,14 @@ use Rattle.hg_model.specs.declared.answers.SyncReport.{SyncReport}
 use Rattle.hg_model.specs.declared.gossip.Parcel.{Parcel}
 use Rattle.hg_model.specs.Stakes.{Stakes}
 use Rattle.hg_model.specs.Members.{MemberList}
-use Rattle.hg_model.specs.Signing.{signature_of, accepts_signature}
+use Rattle.hg_model.specs.Signing.{signature_of, accepts_signature, Accepts}
 use Rattle.hg_model.specs.Spelling.{body_bytes, spelling}
 use Rattle.hg_model.specs.Verdict.{verdict, rows_after, is_held, last_name, parents_on, making, made_row, with_made}
 
 -- how events are signed, and which signatures are accepted: by a member, of the signed bytes
 pub record Keys : Type 0 where
   pub sign : ℕ → List ℕ → List ℕ
-  pub accepts : ℕ → List ℕ → List ℕ → Bool
+  pub accepts : Accepts
 
 -- the program's own keys, by the members' secrets
 abbrev pub keys_of : MemberList → Keys

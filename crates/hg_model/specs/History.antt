@@ -15,6 +15,7 @@ use Rattle.hg_model.specs.Fame.{Marks, mark_at, is_closed}
 use Rattle.hg_model.specs.Spelling.{body_of, spelling, Spells}
 use Rattle.hg_model.specs.Verdict.{row_verdict, made_row, making}
 use Rattle.hg_model.specs.Shares.{Share, early_fame}
+use Rattle.hg_model.specs.Signing.{Accepts}
 
 -- a row was taken, or made, or the witnesses of a share were marked with the fame that the first so many rows decide
 pub data Change : Type 0 where
@@ -75,10 +76,6 @@ step n c s (Marked len share) = with_marks n c s len share
 -- the state after these changes
 unfoldable pub replay : Stakes → ℕ → List Change → State
 replay n c h = fold (step n c) empty h
-
--- which signatures are accepted: by a member, of the signed bytes
-abbrev pub Accepts : Type 0
-Accepts = ℕ → List ℕ → List ℕ → Bool
 
 -- the row has the sizes and the name of an event, and the node of the member `own` with the rows G accepts it
 pub record IsTaken (accepts : Accepts) (n : Stakes) (own : ℕ) (G : List Row) (row : Row) : Type 0 where

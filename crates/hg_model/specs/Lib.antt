@@ -12,6 +12,8 @@ pub mod Standings
 pub mod Votes
 pub mod Fame
 pub mod Order
+pub mod Orders
+pub mod Chains
 pub mod Prefix
 pub mod Pay
 pub mod Spelling

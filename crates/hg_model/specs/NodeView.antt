@@ -11,8 +11,9 @@ use Rattle.hg_model.specs.Order.{last_closed}
 use Rattle.hg_model.specs.Members.{MemberList, balances_of, stakes_of}
 use Rattle.hg_model.specs.Kept.{kept}
 use Rattle.hg_model.specs.Pay.{Book, book_of}
-use Rattle.hg_model.specs.History.{Change, State, Accepts, replay, IsHistory}
+use Rattle.hg_model.specs.History.{Change, State, replay, IsHistory}
 use Rattle.hg_model.specs.History.Change.{Took, Made, Marked}
+use Rattle.hg_model.specs.Signing.{Accepts}
 
 -- what a node begins with and never changes: its own member, the members' stakes, the coin period, the starting
 -- balances, and what it signs with and checks signatures by

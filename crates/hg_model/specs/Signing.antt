@@ -1,5 +1,5 @@
 -- The program's own signatures: HMAC (RFC 2104) with SHA-512 (FIPS 180-4) under the members' secrets
-use Rattle.std.specs.Prelude.{ℕ, ◌-◌, Bool, List, [], ◌++◌, length, map, replicate, slice_get, option_map, unwrap_or, bit_xor}
+use Rattle.std.specs.Prelude.{ℕ, ◌≡◌, true, ◌-◌, Bool, List, [], ◌++◌, length, map, replicate, slice_get, option_map, unwrap_or, bit_xor}
 use Rattle.std.specs.Str.{bytes_eq}
 use Rattle.sha2.specs.Sha512.{sha512}
 use Rattle.hg_model.specs.declared.members.MemberEntry.{MemberEntry}
@@ -29,3 +29,23 @@ signature_of members m body = hmac_sha512 (secret_of members m) body
 -- just that signature is accepted
 abbrev pub accepts_signature : MemberList → ℕ → List ℕ → List ℕ → Bool
 accepts_signature members m body sig = bytes_eq sig (signature_of members m body)
+
+-- which signatures are accepted: by a member, of the signed bytes
+abbrev pub Accepts : Type 0
+Accepts = ℕ → List ℕ → List ℕ → Bool
+
+-- the members' secrets, in the order of the members
+abbrev pub secrets_of : MemberList → List (List ℕ)
+secrets_of members = map (λ (e : MemberEntry). e.secret) members.entries
+
+-- the signature of the bytes by the secret at this place, or by that of no bytes past the last
+abbrev pub signature_by : List (List ℕ) → ℕ → List ℕ → List ℕ
+signature_by secrets m body = hmac_sha512 (unwrap_or (slice_get secrets m) []) body
+
+-- just that signature is accepted
+abbrev pub accepts_by : List (List ℕ) → ℕ → List ℕ → List ℕ → Bool
+accepts_by secrets m body sig = bytes_eq sig (signature_by secrets m body)
+
+-- the node's keys accept just what is signed so
+abbrev pub AcceptOne : {K : Type 0} → (K → Accepts) → K → (ℕ → List ℕ → List ℕ) → Type 0
+AcceptOne accepts keys sign = (m : ℕ) (body sig : List ℕ) → accepts keys m body sig ≡ true → sig ≡ sign m body

@@ -20,6 +20,7 @@ use Rattle.hg_model.specs.Graph.{creator_at}
 use Rattle.hg_model.specs.Forks.{forking}
 use Rattle.hg_model.specs.Spelling.{body_of, body_bytes, spelling, payload_limit}
 use Rattle.hg_model.specs.Reading.{read_event}
+use Rattle.hg_model.specs.Signing.{Accepts}
 
 -- the greatest number of rows of a node
 abbrev pub row_limit : ℕ
@@ -54,7 +55,7 @@ name_rule G row =
     if not (nat_lt p (length G)) then None
     else if has_bytes G p (spelling row) then Some (Known p) else Some (Refused (fault.Collision p))
 
-abbrev pub signature_rule : (ℕ → List ℕ → List ℕ → Bool) → Row → Option PutAnswer
+abbrev pub signature_rule : Accepts → Row → Option PutAnswer
 signature_rule accepts row = if accepts row.creator (body_of row) row.sig then None else Some (Refused fault.Signature)
 
 abbrev pub impostor_rule : ℕ → Row → Option PutAnswer
@@ -87,13 +88,13 @@ abbrev pub full_rule : List Row → Option PutAnswer
 full_rule G = if nat_le row_limit (length G) then Some (Refused (fault.Full row_limit)) else None
 
 -- what the rules before the count of forks answer, if one does
-abbrev pub arrival_rule : (ℕ → List ℕ → List ℕ → Bool) → Stakes → ℕ → List Row → Row → Option PutAnswer
+abbrev pub arrival_rule : Accepts → Stakes → ℕ → List Row → Row → Option PutAnswer
 arrival_rule accepts n own G row =
     option_or (member_rule n row) (option_or (name_rule G row) (option_or (signature_rule accepts row)
     (option_or (impostor_rule own row) (option_or (missing_rule G row.parents) (creator_rule G row.creator row.parents)))))
 
 -- what comes of a row that is put to the node of the member `own` with the rows G, among these members
-abbrev pub row_verdict : (ℕ → List ℕ → List ℕ → Bool) → Stakes → ℕ → List Row → Row → PutAnswer
+abbrev pub row_verdict : Accepts → Stakes → ℕ → List Row → Row → PutAnswer
 row_verdict accepts n own G row =
     unwrap_or (option_or (arrival_rule accepts n own G row) (option_or (forkers_rule n G row) (full_rule G))) (Accepted (length G))
 
@@ -104,20 +105,20 @@ with_answer G row (Known p) = G
 with_answer G row (Refused f) = G
 
 -- what comes of bytes by what was read of them: a fault of the bytes comes before all others
-abbrev pub verdict_of : (ℕ → List ℕ → List ℕ → Bool) → Stakes → ℕ → List Row → Result Row ByteFault → PutAnswer
+abbrev pub verdict_of : Accepts → Stakes → ℕ → List Row → Result Row ByteFault → PutAnswer
 verdict_of accepts n own G (Err e) = Refused (fault.Bytes e)
 verdict_of accepts n own G (Ok row) = row_verdict accepts n own G row
 
-abbrev pub rows_with : (ℕ → List ℕ → List ℕ → Bool) → Stakes → ℕ → List Row → Result Row ByteFault → List Row
+abbrev pub rows_with : Accepts → Stakes → ℕ → List Row → Result Row ByteFault → List Row
 rows_with accepts n own G (Err e) = G
 rows_with accepts n own G (Ok row) = with_answer G row (row_verdict accepts n own G row)
 
 -- what comes of bytes that are put to the node
-abbrev pub verdict : (ℕ → List ℕ → List ℕ → Bool) → Stakes → ℕ → List Row → List ℕ → PutAnswer
+abbrev pub verdict : Accepts → Stakes → ℕ → List Row → List ℕ → PutAnswer
 verdict accepts n own G bytes = verdict_of accepts n own G (read_event bytes)
 
 -- the rows after them
-abbrev pub rows_after : (ℕ → List ℕ → List ℕ → Bool) → Stakes → ℕ → List Row → List ℕ → List Row
+abbrev pub rows_after : Accepts → Stakes → ℕ → List Row → List ℕ → List Row
 rows_after accepts n own G bytes = rows_with accepts n own G (read_event bytes)
 
 -- the rules of making

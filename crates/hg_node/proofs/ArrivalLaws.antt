@@ -6,7 +6,7 @@ use Rattle.hg_model.specs.Forks.{forkers}
 use Rattle.hg_model.specs.Graph.{IsShaped}
 use Rattle.hg_model.specs.Shape.{FitsLink, link_of, pair_list}
 use Rattle.hg_model.specs.Verdict.{arrival_rule}
-use Rattle.hg_model.specs.History.{Accepts}
+use Rattle.hg_model.specs.Signing.{Accepts}
 use Rattle.hg_model.proofs.RuleLaws.{arrives}
 use Rattle.hg_graph.proofs.NextLaws.{adds_link}
 use Rattle.hg_node.specs.Arrival.{LinkComes}

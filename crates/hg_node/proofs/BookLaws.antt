@@ -6,10 +6,10 @@ use Rattle.hg_model.specs.declared.row.Placed.{Placed}
 use Rattle.hg_model.specs.Order.{ordered}
 use Rattle.hg_model.specs.Pay.{Book, opened, book_of}
 use Rattle.hg_model.specs.Prefix.{Graph, links_of}
+use Rattle.hg_model.specs.Orders.{IsPrefix}
 use Rattle.hg_model.proofs.LinkLaws.{length-links}
 use Rattle.hg_model.proofs.OrderLaws.{ordered_within, length-ordered_in-le}
 use Rattle.hg_kept.specs.Published.{Published, Keeps}
-use Rattle.hg_prefix.specs.Orders.{IsPrefix}
 use Rattle.hg_pay.specs.Account.{Account, with_rest}
 use Rattle.hg_pay.proofs.OrderLaws.{many_effects, book_goes_on, rows_leave_the_book}
 use Rattle.hg_node.specs.ChronicleView.{KeepsBook}

@@ -11,10 +11,11 @@ use Rattle.hg_model.specs.declared.answers.MakeFault.{MakeFault}
 use Rattle.hg_model.specs.Graph.{IsGraph}
 use Rattle.hg_model.specs.Spelling.{body_bytes}
 use Rattle.hg_model.specs.Verdict.{row_limit, last_name, both_names, made_row, draft_rule, collision_rule, room_rule, made_or, making}
-use Rattle.hg_model.specs.History.{Change, Accepts}
+use Rattle.hg_model.specs.History.{Change}
 use Rattle.hg_model.specs.History.Change.{Made}
 use Rattle.hg_model.specs.NodeView.{NodeView, with_changes, node_rows, IsNode}
 use Rattle.hg_model.specs.Calls.{IsMaking, make_answer, make_changes, make_body, make_draft, made_by}
+use Rattle.hg_model.specs.Signing.{Accepts}
 use Rattle.hg_model.proofs.RuleLaws.{admitted}
 use Rattle.hg_history.proofs.CallLaws.{with_none}
 use Rattle.hg_history.proofs.MakeLaws.{makes_leave_a_node}

@@ -5,10 +5,11 @@ use Rattle.hg_model.specs.declared.answers.MakeAnswer.TheVariants as answer
 use Rattle.hg_model.specs.declared.answers.MakeFault.{MakeFault}
 use Rattle.std.specs.Option.{option_or}
 use Rattle.hg_model.specs.Verdict.{made_row, made_or, collision_rule, room_rule}
-use Rattle.hg_model.specs.History.{Change, Accepts}
+use Rattle.hg_model.specs.History.{Change}
 use Rattle.hg_model.specs.NodeView.{NodeView, with_changes, node_rows}
 use Rattle.hg_model.specs.Calls.{IsMaking, make_answer, make_changes, make_body, make_draft, made_by}
-use Rattle.hg_node.specs.Laws.{AcceptOne, signature_made, MakingIsOne}
+use Rattle.hg_model.specs.Signing.{Accepts, AcceptOne}
+use Rattle.hg_node.specs.Laws.{signature_made, MakingIsOne}
 
 module _ {K : Type 0} (v : NodeView K) (other : Option (List ℕ)) (time : ℕ) (payload : List ℕ) where
   -- a draft that is refused has one answer under all signatures, and adds nothing

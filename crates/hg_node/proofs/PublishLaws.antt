@@ -8,11 +8,11 @@ use Rattle.hg_model.specs.declared.entry.Entry.TheVariants as entry
 use Rattle.hg_model.specs.Links.{links}
 use Rattle.hg_model.specs.Fame.{Marks}
 use Rattle.hg_model.specs.Shares.{Share, Speaks, whole}
-use Rattle.hg_model.specs.History.{Change, State, Accepts, news, with_marks}
+use Rattle.hg_model.specs.History.{Change, State, news, with_marks}
 use Rattle.hg_model.specs.History.Change.{Marked}
 use Rattle.hg_model.specs.NodeView.{NodeView, with_changes, node_state, node_rows, IsNode}
-use Rattle.hg_model.specs.Calls.{publish_answer, publish_changes, settle_changes}
-use Rattle.hg_history.specs.Laws.{IsSettled}
+use Rattle.hg_model.specs.Calls.{publish_answer, publish_changes, settle_changes, IsSettled}
+use Rattle.hg_model.specs.Signing.{Accepts}
 use Rattle.hg_history.proofs.NodeLaws.{settles_all}
 use Rattle.hg_history.proofs.StateLaws.{IsEven, even_after}
 use Rattle.hg_history.proofs.CallLaws.{with_none, publishes_leave_a_node}

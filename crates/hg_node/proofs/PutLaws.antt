@@ -10,10 +10,11 @@ use Rattle.hg_model.specs.declared.answers.PutAnswer.TheVariants.{Accepted, Refu
 use Rattle.hg_model.specs.Graph.{IsGraph}
 use Rattle.hg_model.specs.Reading.{read_event}
 use Rattle.hg_model.specs.Verdict.{row_limit, verdict_of, row_verdict, arrival_rule}
-use Rattle.hg_model.specs.History.{Change, Accepts}
+use Rattle.hg_model.specs.History.{Change}
 use Rattle.hg_model.specs.History.Change.{Took}
 use Rattle.hg_model.specs.NodeView.{NodeView, with_changes, node_rows, IsNode}
 use Rattle.hg_model.specs.Calls.{put_answer, put_changes, taken_by, taken_from}
+use Rattle.hg_model.specs.Signing.{Accepts}
 use Rattle.hg_model.proofs.RuleLaws.{option_or_none, has_room}
 use Rattle.hg_event.proofs.Reading.{AreBytes}
 use Rattle.hg_history.proofs.RuleLaws.{rule_accepts_none}

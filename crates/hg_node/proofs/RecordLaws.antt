@@ -8,13 +8,14 @@ use Rattle.hg_model.specs.Members.{MemberList, IsMemberList}
 use Rattle.hg_model.specs.Prefix.{graph_of}
 use Rattle.hg_model.specs.declared.entry.Entry.{Entry}
 use Rattle.hg_model.specs.declared.entry.Entry.TheVariants as entry
-use Rattle.hg_model.specs.History.{Change, State, Accepts, empty, step, replay, with_row, with_marks}
+use Rattle.hg_model.specs.History.{Change, State, empty, step, replay, with_row, with_marks}
 use Rattle.hg_model.specs.History.Change.{Took, Made, Marked}
 use Rattle.hg_model.specs.Links.{Link, links}
 use Rattle.hg_model.specs.Fame.{Marks}
 use Rattle.hg_model.specs.Kept.{kept}
 use Rattle.hg_model.specs.Pay.{book_of}
 use Rattle.hg_model.specs.NodeView.{NodeView, with_changes, node_state, node_rows, node_marks, book_kept, log_from, history_of, IsNode}
+use Rattle.hg_model.specs.Signing.{Accepts}
 use Rattle.hg_history.proofs.StateLaws.{replay-push}
 use Rattle.hg_history.proofs.SoundLaws.{sound}
 use Rattle.hg_history.proofs.LogLaws.{log_spells_history}

@@ -7,7 +7,7 @@ use Rattle.hg_model.specs.Forks.{forkers}
 use Rattle.hg_model.specs.Shape.{FitsLink, link_of}
 use Rattle.hg_model.specs.declared.answers.PutAnswer.{PutAnswer}
 use Rattle.hg_model.specs.Verdict.{missing_rule, creator_rule, arrival_rule, forkers_with, forkers_rule, full_rule}
-use Rattle.hg_model.specs.History.{Accepts}
+use Rattle.hg_model.specs.Signing.{Accepts}
 
 -- the answer of the first rule that speaks
 abbrev pub all_rules : Accepts → ℕ → ℕ → List Row → Row → Option PutAnswer

@@ -14,8 +14,9 @@ use Rattle.hg_model.specs.Prefix.{Graph, graph_of}
 use Rattle.hg_model.specs.Pay.{Book, book_of}
 use Rattle.hg_model.specs.Kept.{kept}
 use Rattle.hg_graph.specs.Held.{graph_with}
-use Rattle.hg_model.specs.History.{State, Accepts, news, with_row, with_marks}
+use Rattle.hg_model.specs.History.{State, news, with_row, with_marks}
 use Rattle.hg_model.specs.NodeView.{NodeView, node_rows, node_marks, log, history_of, IsNode}
+use Rattle.hg_model.specs.Signing.{Accepts}
 use Rattle.hg_kept.specs.Published.{Published, Keeps, state_by}
 use Rattle.hg_pay.specs.Account.{Account}
 

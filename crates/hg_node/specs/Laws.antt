@@ -1,13 +1,9 @@
 -- What to make an event comes to, where each body has one accepted signature
-use Rattle.std.specs.Prelude.{ℕ, ◌≡◌, true, List, Option}
+use Rattle.std.specs.Prelude.{ℕ, ◌≡◌, List, Option}
 use Rattle.hg_model.specs.declared.answers.MakeAnswer.{MakeAnswer}
-use Rattle.hg_model.specs.History.{Accepts}
 use Rattle.hg_model.specs.NodeView.{NodeView, with_changes}
 use Rattle.hg_model.specs.Calls.{IsMaking, make_answer, make_changes, make_body}
-
--- the node's keys accept just what is signed so
-abbrev pub AcceptOne : {K : Type 0} → (K → Accepts) → K → (ℕ → List ℕ → List ℕ) → Type 0
-AcceptOne accepts keys sign = (m : ℕ) (body sig : List ℕ) → accepts keys m body sig ≡ true → sig ≡ sign m body
+use Rattle.hg_model.specs.Signing.{Accepts, AcceptOne}
 
 -- what the node signs then for such an event
 abbrev pub signature_made : {K : Type 0} → (ℕ → List ℕ → List ℕ) → NodeView K → Option (List ℕ) → ℕ → List ℕ → List ℕ

@@ -15,8 +15,7 @@ ghost use Rattle.hg_model.specs.declared.answers.PutAnswer.TheVariants.{Accepted
 ghost use Rattle.hg_model.specs.Fame.{mark_at};
 ghost use Rattle.hg_model.specs.Shares.{Speaks};
 ghost use Rattle.hg_model.specs.NodeView.{book_kept, node_rows, kept_of, last_closed_of, node_links, log, node_marks, start_of, with_changes, IsNode};
-ghost use Rattle.hg_model.specs.Calls.{IsMaking, make_draft, publish_answer, publish_changes, put_answer, put_changes, settle_changes};
-ghost use Rattle.hg_history.specs.Laws.{IsSettled};
+ghost use Rattle.hg_model.specs.Calls.{IsMaking, make_draft, publish_answer, publish_changes, put_answer, put_changes, settle_changes, IsSettled};
 
 use crate::arrival::parents_of_arrival;
 use crate::chronicle::Chronicle;

@@ -23,7 +23,7 @@ use Rattle.hg_script.specs.declared.line.Action.{Action}
 use Rattle.hg_script.specs.declared.line.Action.TheVariants as action
 use Rattle.hg_script.specs.Lawful.{IsGossip, IsSource, IsLawful, IsLine}
 use Rattle.hg_model.specs.NodeView.{Start}
-use Rattle.hg_sign.specs.Table.{secrets_of}
+use Rattle.hg_model.specs.Signing.{secrets_of}
 use Rattle.hg_play.specs.Node.{Player, keys_by, keys_in, start_in, starts, starts_of, state_in, states_of}
 use Rattle.hg_play.specs.Nodes.{node_at, no_player, player_at, keys_at, actor, IsGossipBelow}
 use Rattle.hg_play.specs.Play.{IsBelow, block_at}

@@ -9,7 +9,7 @@ use Rattle.hg_model.specs.declared.answers.MakeAnswer.{MakeAnswer}
 use Rattle.hg_model.specs.declared.answers.MakeAnswer.TheVariants as answer
 use Rattle.hg_model.specs.Reading.{read_event}
 use Rattle.hg_model.specs.Verdict.{row_verdict, with_answer, rows_with, rows_after, made_row, making, with_made}
-use Rattle.hg_model.specs.History.{Change, Accepts, replay}
+use Rattle.hg_model.specs.History.{Change, replay}
 use Rattle.hg_model.specs.History.Change.{Took, Made}
 use Rattle.hg_model.specs.NodeView.{NodeView, with_changes, node_rows}
 use Rattle.hg_model.specs.Calls.{taken_by, taken_from, put_changes, make_answer, made_by, make_changes, IsMaking}
@@ -24,7 +24,7 @@ use Rattle.hg_model.specs.NodeView.{IsNode}
 use Rattle.hg_history.proofs.SoundLaws.{sound}
 use Rattle.hg_model.specs.Gossip.{lacking, making_by, node_made, node_put}
 use Rattle.hg_model.specs.Calls.{make_body}
-use Rattle.hg_sign.specs.Table.{signature_by, accepts_by}
+use Rattle.hg_model.specs.Signing.{Accepts, signature_by, accepts_by}
 use Rattle.hg_node.specs.Laws.{signature_made}
 use Rattle.hg_node.proofs.OneLaws.{making_is_one}
 use Rattle.hg_play.specs.Node.{Player, player, with_rows_of, keys_in, state_in, missing_row}

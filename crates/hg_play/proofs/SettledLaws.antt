@@ -14,9 +14,9 @@ use Rattle.hg_model.specs.Pay.{Book, book_of}
 use Rattle.hg_model.specs.Ledger.{block_of, closed_of, order_lines}
 use Rattle.hg_play.specs.Node.{start_in}
 use Rattle.hg_model.specs.NodeView.{NodeView, Start, node_rows, node_links, kept_of, book_kept, last_closed_of, IsNode}
-use Rattle.hg_history.specs.Laws.{IsSettled}
+use Rattle.hg_model.specs.Signing.{Accepts}
+use Rattle.hg_model.specs.Calls.{IsSettled}
 use Rattle.hg_history.proofs.SoundLaws.{sound}
-use Rattle.hg_model.specs.History.{Accepts}
 use Rattle.hg_play.specs.Settled.{IsFinal}
 
 -- to settle a node leaves it with the order and the closed rounds of its graph

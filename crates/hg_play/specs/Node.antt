@@ -7,7 +7,7 @@ use Rattle.hg_model.specs.Spelling.{spelling}
 use Rattle.hg_model.specs.Verdict.{is_held}
 use Rattle.hg_model.specs.NodeView.{NodeView, Start, start_of, node_rows}
 use Rattle.hg_model.specs.Gossip.{Keys, NodeState, Taking}
-use Rattle.hg_sign.specs.Table.{secrets_of, signature_by, accepts_by}
+use Rattle.hg_model.specs.Signing.{secrets_of, signature_by, accepts_by}
 
 -- the keys of a table of secrets
 abbrev pub keys_by : List (List ℕ) → Keys

@@ -1,9 +1,9 @@
 ghost use Rattle.std.specs.Prelude.{◌≡◌, ◌<◌, ◌≤◌, All, IfOk, OnOk, length};
 ghost use Rattle.hg_script.specs.declared.line.Action.{Action};
 ghost use Rattle.hg_script.specs.declared.line.Line.{Line};
-ghost use Rattle.hg_sign.specs.Table.{secrets_of};
 ghost use Rattle.hg_play.specs.Node.{keys_by, starts, starts_of, states_of};
 ghost use Rattle.hg_play.specs.Play.{IsBelow, after_line, after_lines, all_printed, source_bytes, world};
+ghost use Rattle.hg_model.specs.Signing.{secrets_of};
 
 use crate::blocks::{block_at, push_blocks};
 use crate::labels::{altered, bytes_at, copied, forged, front, names_of_labels};

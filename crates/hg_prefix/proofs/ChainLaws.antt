@@ -10,13 +10,13 @@ use Rattle.hg_model.specs.Ancestry.{is_self_ancestor}
 use Rattle.hg_model.specs.Forks.{has_fork}
 use Rattle.hg_model.specs.Graph.{name_in, name_at, HasDistinctNames, IsShaped}
 use Rattle.hg_model.specs.Graph.{creator_at, creator_of_row}
+use Rattle.hg_model.specs.Chains.{self_parent_name_in, self_parent_name, IsChain}
 use Rattle.hg_model.proofs.AncestryLaws.{self_parent_earlier, is_self_ancestor_self, is_self_ancestor_by}
 use Rattle.hg_model.proofs.ForkLaws.{has_fork_found}
 use Rattle.hg_model.proofs.LinkLaws.{length-links, self_parent-links}
 use Rattle.hg_model.proofs.PushLaws.{nobody, row_creator-links}
 use Rattle.hg_model.proofs.ReachLaws.{has_place_first}
 use Rattle.hg_prefix.specs.Standing.{IsRowOf}
-use Rattle.hg_prefix.specs.Chains.{self_parent_name_in, self_parent_name, IsChain}
 use Rattle.hg_prefix.proofs.StandingLaws.{name_at_place}
 
 first_name : (place : List ℕ → ℕ) (names : ParentNames) (name : List ℕ) → option_map (λ both. both.0) names ≡ Some name → first_place (map place (parent_names names)) ≡ place name ∷ []

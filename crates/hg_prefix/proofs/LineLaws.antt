@@ -8,12 +8,13 @@ use Rattle.hg_model.specs.Stakes.{Stakes}
 use Rattle.hg_model.specs.Links.{parent_names, place_of, links, first_place, self_parent, ParentNames}
 use Rattle.hg_model.specs.Forks.{has_fork}
 use Rattle.hg_model.specs.Graph.{name_in, name_at, HasDistinctNames, IsShaped, IsGraph}
+use Rattle.hg_model.specs.Chains.{self_parent_name_in, self_parent_name, IsChain}
 use Rattle.hg_model.proofs.AncestryLaws.{self_parent_earlier, is_self_ancestor_cases, is_self_ancestor-le}
 use Rattle.hg_model.proofs.LinkLaws.{length-links, self_parent-links}
 use Rattle.hg_model.proofs.PushLaws.{nobody, row_creator-links}
 use Rattle.hg_model.proofs.SightLaws.{in_line}
 use Rattle.hg_prefix.specs.Standing.{StandsIn}
-use Rattle.hg_prefix.specs.Chains.{HaveEqualRows, self_parent_name_in, self_parent_name, IsChain, HasOneChain}
+use Rattle.hg_prefix.specs.Chains.{HaveEqualRows, HasOneChain}
 use Rattle.hg_prefix.proofs.StandingLaws.{name_at_place}
 
 named_first : (place : List ℕ → ℕ) (names : ParentNames) (p : ℕ) → has_place (first_place (map place (parent_names names))) p ≡ true →

@@ -14,6 +14,7 @@ use Rattle.hg_model.specs.Links.{links}
 use Rattle.hg_model.specs.Graph.{name_at, IsGraph}
 use Rattle.hg_model.specs.Fame.{Marks, is_closed}
 use Rattle.hg_model.specs.Order.{sig_at, xor_bytes, whitening, sort_by, comes_before, keyed_at, placed_at, order_key, round_received, received_or_zero, is_received_in, ordered_in, last_closed, Ordered, named_in}
+use Rattle.hg_model.specs.Orders.{IsPrefix, marked_order_by_names, HasNameSizes}
 use Rattle.hg_model.proofs.LinkLaws.{length-links}
 use Rattle.hg_model.proofs.ListLaws.{map-list_below, sum_by-list_below, all_list_below}
 use Rattle.hg_model.proofs.PlacesLaws.{weight_below-same}
@@ -21,7 +22,6 @@ use Rattle.hg_model.proofs.QuorumLaws.{weight_below_split}
 use Rattle.hg_model.proofs.CompareLaws.{lesser_first}
 use Rattle.hg_model.proofs.SortLaws.{HasSameSums, one_ascending, all_sorted, sort_by-sums, sort_by-ascending, sort_by-map}
 use Rattle.hg_prefix.specs.Standing.{place_in, IsMarkedPart}
-use Rattle.hg_prefix.specs.Orders.{IsPrefix, marked_order_by_names, HasNameSizes}
 use Rattle.hg_prefix.proofs.WeightLaws.{list_below-matched}
 use Rattle.hg_prefix.proofs.SumLaws.{bytes_less, bytes_order, bytes_tie, ascending_joined}
 use Rattle.hg_prefix.proofs.FamousLaws.{received_is}

@@ -16,11 +16,11 @@ use Rattle.hg_model.specs.Rounds.{round_of, is_witness}
 use Rattle.hg_model.specs.Votes.{vote_of, decides}
 use Rattle.hg_model.specs.Fame.{fame_of, fame_marks, is_closed, is_unique_famous}
 use Rattle.hg_model.specs.Order.{coin_at, sig_at, time_at, sort_by, median, can_receive, round_received, consensus_time, whitening, ordered_in, order_of, order_by_names, Ordered}
+use Rattle.hg_model.specs.Orders.{IsPrefix, HasNameSizes}
 use Rattle.hg_model.proofs.TestLaws.{graph_from_test}
 use Rattle.hg_model.proofs.LongerLaws.{slice_get-append}
 use Rattle.hg_model.proofs.PushLaws.{nobody}
 use Rattle.hg_prefix.specs.Standing.{StandsIn, IsRowOf}
-use Rattle.hg_prefix.specs.Orders.{IsPrefix, HasNameSizes}
 use Rattle.hg_prefix.proofs.LineLaws.{equal_rows_of_part, one_chain_of_part}
 use Rattle.hg_prefix.proofs.CoreLaws.{own_chain_orders}
 

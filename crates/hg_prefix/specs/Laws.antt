@@ -6,8 +6,8 @@ use Rattle.hg_model.specs.Links.{links}
 use Rattle.hg_model.specs.Fame.{Marks, is_closed}
 use Rattle.hg_model.specs.Graph.{IsGraph}
 use Rattle.hg_model.specs.Order.{last_closed, order_by_names}
-use Rattle.hg_prefix.specs.Orders.{IsPrefix, marked_order_by_names, HasNameSizes}
-use Rattle.hg_prefix.specs.Standing.{StandsIn, HasTheSame, AreFame, IsMarkedPart, HasUniqueFamous}
+use Rattle.hg_model.specs.Orders.{IsPrefix, marked_order_by_names, HasNameSizes, AreFame}
+use Rattle.hg_prefix.specs.Standing.{StandsIn, HasTheSame, IsMarkedPart, HasUniqueFamous}
 use Rattle.hg_prefix.specs.Chains.{HaveEqualRows, HasOneChain}
 
 -- each row has in a larger graph the ancestors, seeing, strongly seeing, round and votes of its own graph

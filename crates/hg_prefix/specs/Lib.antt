@@ -1,4 +1,3 @@
 pub mod Standing
-pub mod Orders
 pub mod Chains
 pub mod Laws

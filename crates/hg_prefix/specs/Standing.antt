@@ -1,5 +1,5 @@
 -- Graphs whose rows are rows of a larger graph, and graphs with marks
-use Rattle.std.specs.Prelude.{ℕ, ◌≡◌, ◌<◌, ◌≤◌, Bool, true, List, length, Some, slice_get, IsTrue}
+use Rattle.std.specs.Prelude.{ℕ, ◌≡◌, ◌<◌, ◌≤◌, true, List, length, slice_get, IsTrue}
 use Rattle.hg_model.specs.declared.row.Row.{Row}
 use Rattle.hg_model.specs.Stakes.{Stakes}
 use Rattle.hg_model.specs.Links.{links, place_of}
@@ -8,8 +8,9 @@ use Rattle.hg_model.specs.Seeing.{sees, strongly_sees}
 use Rattle.hg_model.specs.Graph.{name_at, IsGraph}
 use Rattle.hg_model.specs.Rounds.{round_of, is_witness}
 use Rattle.hg_model.specs.Votes.{vote_of, decides}
-use Rattle.hg_model.specs.Fame.{Marks, mark_at, fame_of, is_unique_famous}
+use Rattle.hg_model.specs.Fame.{Marks, is_unique_famous}
 use Rattle.hg_model.specs.Order.{coin_at}
+use Rattle.hg_model.specs.Orders.{AreFame}
 
 -- row x of G is a row of U
 abbrev pub IsRowOf : List Row → ℕ → List Row → Type 0
@@ -35,10 +36,6 @@ pub record HasTheSame (n : Stakes) (c : ℕ) (G U : List Row) (x : ℕ) : Type 0
   pub witness : is_witness n (links U) (place_in U G x) ≡ is_witness n (links G) x
   pub votes : (y : ℕ) → y < length G → vote_of n c (links U) (coin_at U) (place_in U G y) (place_in U G x) ≡ vote_of n c (links G) (coin_at G) y x
   pub decisions : (y : ℕ) → y < length G → decides n c (links U) (coin_at U) (place_in U G y) (place_in U G x) ≡ decides n c (links G) (coin_at G) y x
-
--- each mark is the fame of the graph
-pub record AreFame (n : Stakes) (c : ℕ) (G : List Row) (marks : Marks) : Type 0 where
-  pub fame : (x : ℕ) (v : Bool) → mark_at marks x ≡ Some v → fame_of n c (links G) (coin_at G) x ≡ Some v
 
 -- a graph with marks that are its fame, whose rows are rows of U
 pub record IsMarkedPart (n : Stakes) (c : ℕ) (U G : List Row) (marks : Marks) : Type 0 where

@@ -6,8 +6,7 @@ use Rattle.std.specs.Str.{bytes_eq}
 use Rattle.std.proofs.lemmas.Option.{slice_get-map}
 use Rattle.hg_model.specs.declared.members.MemberEntry.{MemberEntry}
 use Rattle.hg_model.specs.Members.{MemberList}
-use Rattle.hg_model.specs.Signing.{accepts_signature, hmac_sha512, signature_of}
-use Rattle.hg_sign.specs.Table.{accepts_by, secrets_of, signature_by}
+use Rattle.hg_model.specs.Signing.{accepts_signature, hmac_sha512, signature_of, secrets_of, signature_by, accepts_by}
 
 pub signs_alike : (secrets : List (List ℕ)) (members : MemberList) → secrets ≡ secrets_of members → signature_by secrets ≡ signature_of members
 unfolding signature_of

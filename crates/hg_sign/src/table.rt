@@ -2,8 +2,7 @@ ghost use Rattle.std.specs.Prelude.{◌≡◌, true, All, IfOk, map, slice_get, 
 ghost use Rattle.std.specs.Str.{bytes_eq};
 ghost use Rattle.hg_model.specs.declared.members.MemberEntry.{MemberEntry};
 ghost use Rattle.hg_model.specs.Members.{IsEntry};
-ghost use Rattle.hg_model.specs.Signing.{accepts_signature, signature_of};
-ghost use Rattle.hg_sign.specs.Table.{accepts_by, secrets_of, signature_by};
+ghost use Rattle.hg_model.specs.Signing.{accepts_signature, signature_of, secrets_of, signature_by, accepts_by};
 
 use crate::key::Key;
 use crate::signer::{Signer, Verifier};

@@ -2,8 +2,8 @@ use Rattle.std.proofs.Common.{◌<◌, ◌≤◌, ◌+◌, ◌-◌, length, sym,
 use Rattle.hg_model.specs.declared.row.Placed.{Placed}
 use Rattle.hg_model.specs.Prefix.{links_of}
 use Rattle.hg_model.specs.Kept.{kept_up_to}
+use Rattle.hg_model.specs.Orders.{IsPrefix}
 use Rattle.hg_model.proofs.LinkLaws.{length-links}
-use Rattle.hg_prefix.specs.Orders.{IsPrefix}
 use Rattle.hg_prefix.proofs.FamousLaws.{closed_bounds}
 use Rattle.hg_kept.specs.Published.{state_by}
 use Rattle.hg_kept.proofs.NextLaws.{reached_low}

@@ -3,7 +3,7 @@ use Rattle.std.specs.Prelude.{IfOk}
 use Rattle.hg_model.specs.declared.row.Row.{Row}
 use Rattle.hg_model.specs.Ledger.{block_of}
 use Rattle.hg_model.specs.NodeView.{NodeView}
-use Rattle.hg_sign.specs.Table.{accepts_by}
+use Rattle.hg_model.specs.Signing.{accepts_by}
 use Rattle.hg_play.specs.Node.{Player}
 use Rattle.hg_play.proofs.SettledLaws.{settled_is_final}
 use Rattle.hg_play.proofs.player.Player.block.Goals as goal

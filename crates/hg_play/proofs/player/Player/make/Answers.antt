@@ -4,7 +4,7 @@ use Rattle.hg_model.specs.declared.answers.MakeAnswer.{MakeAnswer}
 use Rattle.hg_model.specs.Calls.{IsMaking}
 use Rattle.hg_model.specs.NodeView.{NodeView}
 use Rattle.hg_model.specs.Gossip.{making_by, node_made}
-use Rattle.hg_sign.specs.Table.{accepts_by}
+use Rattle.hg_model.specs.Signing.{accepts_by}
 use Rattle.hg_play.specs.Node.{Player, player, with_rows_of, keys_in, state_in}
 use Rattle.hg_play.proofs.PlayerLaws.{player_made}
 use Rattle.hg_play.proofs.player.Player.make.Goals as goal
