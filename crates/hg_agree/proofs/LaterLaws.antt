@@ -12,8 +12,8 @@ use Rattle.hg_model.specs.Votes.{vote_of, decides}
 use Rattle.hg_model.specs.Fame.{Marks, mark_at, fame_of, fame_marks, is_witness_of_round, is_unmarked, is_closed}
 use Rattle.hg_model.specs.Graph.{IsShaped}
 use Rattle.hg_model.proofs.AncestryLaws.{is_ancestor-le}
-use Rattle.hg_model.proofs.AgreeLaws.{deciders_agree}
-use Rattle.hg_model.proofs.LateLaws.{decider_of_fame, fame_of_decider, late_fame, fame_of_mark, mark_of_fame, closed_witness, closed_mark, closed_has_above}
+use Rattle.hg_agree.proofs.AgreeLaws.{deciders_agree}
+use Rattle.hg_agree.proofs.LateLaws.{decider_of_fame, fame_of_decider, late_fame, fame_of_mark, mark_of_fame, closed_witness, closed_mark, closed_has_above}
 use Rattle.hg_model.proofs.PlacesLaws.{some_below_from, some_below_none}
 use Rattle.hg_model.proofs.LongerLaws.{IsLonger, round_of-longer, is_witness-longer, vote_of-longer, decides-longer}
 

@@ -6,7 +6,8 @@ use Rattle.hg_model.specs.Links.{Link}
 use Rattle.hg_model.specs.Forks.{forking}
 use Rattle.hg_model.specs.Rounds.{round_of, weight_of}
 use Rattle.hg_model.specs.Graph.{IsShaped}
-use Rattle.hg_model.proofs.WitnessLaws.{seen_witness_is, round_quorum, one_witness_seen, seen_witnesses-le}
+use Rattle.hg_model.proofs.SeenLaws.{seen_witness_is}
+use Rattle.hg_agree.proofs.WitnessLaws.{round_quorum, one_witness_seen, seen_witnesses-le}
 use Rattle.hg_agree.specs.Quorum.{is_seen_in, has_seen_witness, SeesQuorum}
 
 -- each row of round r + 1 has its quorum in round r

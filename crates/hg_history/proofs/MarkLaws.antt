@@ -13,7 +13,7 @@ use Rattle.hg_model.specs.Order.{coin_at}
 use Rattle.hg_model.specs.Shares.{Share, is_of_share, share_fame, early_fame}
 use Rattle.hg_model.specs.History.{State, links_with, is_late, first_mark, with_row, new_mark, with_marks}
 use Rattle.hg_model.specs.Orders.{AreFame}
-use Rattle.hg_model.proofs.LateLaws.{closed_mark}
+use Rattle.hg_agree.proofs.LateLaws.{closed_mark}
 use Rattle.hg_model.proofs.LinkLaws.{length-links}
 use Rattle.hg_model.proofs.LongerLaws.{IsLonger, longer-take, coin_at-take, links-longer, coin_at-longer, round_of-longer, is_witness-longer}
 use Rattle.hg_model.proofs.RoundLaws.{round_of-pos}

@@ -9,7 +9,7 @@ use Rattle.hg_model.specs.Standings.{standings_of, witnesses_in}
 use Rattle.hg_model.specs.Fame.{Marks, mark_at, is_closed, is_witness_of_round, is_unmarked}
 use Rattle.hg_model.specs.Order.{last_closed}
 use Rattle.hg_model.specs.Prefix.{Graph, links_of}
-use Rattle.hg_model.proofs.LateLaws.{closed_mark}
+use Rattle.hg_agree.proofs.LateLaws.{closed_mark}
 use Rattle.hg_model.proofs.ListLaws.{list_all-list_below, none-list_below}
 use Rattle.hg_model.proofs.PlacesLaws.{some_below-same}
 use Rattle.hg_model.proofs.RoundLaws.{round_of-pos}

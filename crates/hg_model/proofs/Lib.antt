@@ -16,11 +16,8 @@ pub mod ReachLaws
 pub mod AncestryLaws
 pub mod ForkLaws
 pub mod RoundLaws
-pub mod QuorumLaws
 pub mod SightLaws
-pub mod WitnessLaws
-pub mod AgreeLaws
-pub mod LateLaws
+pub mod SeenLaws
 pub mod LongerLaws
 pub mod StandingLaws
 pub mod PrefixLaws

@@ -8,8 +8,8 @@ use Rattle.std.proofs.lemmas.List.FromFn.{length-map-range_with_len}
 use Rattle.hg_model.specs.Fame.{Marks, mark_at}
 use Rattle.hg_model.specs.Shares.{Share, early_fame}
 use Rattle.hg_model.specs.History.{State, is_news, news, new_mark, with_marks}
+use Rattle.hg_model.proofs.WeightLaws.{weight_below_split}
 use Rattle.hg_model.proofs.PlacesLaws.{weight_below_grows}
-use Rattle.hg_model.proofs.QuorumLaws.{weight_below_split}
 use Rattle.hg_history.proofs.AddLaws.{found_below}
 use Rattle.hg_history.proofs.SettleLaws.{not_counted}
 use Rattle.hg_history.proofs.StateLaws.{IsEven, mark_of_table}

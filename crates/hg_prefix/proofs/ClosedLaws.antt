@@ -6,8 +6,8 @@ use Rattle.hg_model.specs.Links.{Link, parents}
 use Rattle.hg_model.specs.Fame.{Marks, is_closed}
 use Rattle.hg_model.specs.Order.{last_closed}
 use Rattle.hg_model.proofs.AncestryLaws.{is_ancestor-le}
-use Rattle.hg_model.proofs.LateLaws.{closed_mark}
-use Rattle.hg_model.proofs.WitnessLaws.{witness_below}
+use Rattle.hg_agree.proofs.LateLaws.{closed_mark}
+use Rattle.hg_agree.proofs.WitnessLaws.{witness_below}
 use Rattle.hg_prefix.proofs.LeastLaws.{greatest_below_bounds, greatest_below_true}
 use Rattle.hg_prefix.proofs.FamousLaws.{witness_of_closed, closed_from, closed_bounds}
 

@@ -9,7 +9,7 @@ use Rattle.hg_model.specs.Rounds.{round_of, is_witness}
 use Rattle.hg_model.specs.Fame.{Marks, mark_at, is_witness_of_round, is_unmarked, is_closed, is_yes, is_famous_in, is_rival, is_unique_famous}
 use Rattle.hg_model.specs.Order.{is_without, can_receive, round_received}
 use Rattle.hg_model.proofs.PlacesLaws.{some_below_from, some_below_found, some_below_none}
-use Rattle.hg_model.proofs.LateLaws.{closed_witness}
+use Rattle.hg_agree.proofs.LateLaws.{closed_witness}
 use Rattle.hg_model.proofs.RoundLaws.{round_of-pos, round_of-le}
 use Rattle.hg_prefix.proofs.LeastLaws.{least_below_is, least_number_is, least_number_from}
 

@@ -10,7 +10,7 @@ use Rattle.hg_model.specs.Rounds.{round_of, is_witness}
 use Rattle.hg_model.specs.Fame.{Marks, fame_of, fame_marks, is_closed}
 use Rattle.hg_model.specs.Order.{coin_at, last_closed}
 use Rattle.hg_model.specs.Orders.{HasNameSizes}
-use Rattle.hg_model.proofs.LateLaws.{fame_of_decider, late_fame, closed_mark, closed_has_above, mark_of_fame}
+use Rattle.hg_agree.proofs.LateLaws.{fame_of_decider, late_fame, closed_mark, closed_has_above, mark_of_fame}
 use Rattle.hg_model.proofs.LongerLaws.{slice_get-append}
 use Rattle.hg_model.proofs.PushLaws.{nobody}
 use Rattle.hg_prefix.specs.Standing.{StandsIn, place_in, IsMarkedPart}

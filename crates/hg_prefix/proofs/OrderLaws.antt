@@ -15,10 +15,10 @@ use Rattle.hg_model.specs.Graph.{name_at, IsGraph}
 use Rattle.hg_model.specs.Fame.{Marks, is_closed}
 use Rattle.hg_model.specs.Order.{sig_at, xor_bytes, whitening, sort_by, comes_before, keyed_at, placed_at, order_key, round_received, received_or_zero, is_received_in, ordered_in, last_closed, Ordered, named_in}
 use Rattle.hg_model.specs.Orders.{IsPrefix, marked_order_by_names, HasNameSizes}
+use Rattle.hg_model.proofs.WeightLaws.{weight_below_split}
 use Rattle.hg_model.proofs.LinkLaws.{length-links}
 use Rattle.hg_model.proofs.ListLaws.{map-list_below, sum_by-list_below, all_list_below}
 use Rattle.hg_model.proofs.PlacesLaws.{weight_below-same}
-use Rattle.hg_model.proofs.QuorumLaws.{weight_below_split}
 use Rattle.hg_model.proofs.CompareLaws.{lesser_first}
 use Rattle.hg_model.proofs.SortLaws.{HasSameSums, one_ascending, all_sorted, sort_by-sums, sort_by-ascending, sort_by-map}
 use Rattle.hg_prefix.specs.Standing.{place_in, IsMarkedPart}

@@ -7,7 +7,7 @@ use Rattle.hg_model.specs.Graph.{IsGraph}
 use Rattle.hg_model.specs.Fame.{fame_marks}
 use Rattle.hg_model.specs.Order.{coin_at, order_of, order_by_names}
 use Rattle.hg_model.specs.Orders.{marked_order_by_names, AreFame}
-use Rattle.hg_model.proofs.LateLaws.{fame_of_mark}
+use Rattle.hg_agree.proofs.LateLaws.{fame_of_mark}
 use Rattle.hg_prefix.specs.Standing.{StandsIn, IsMarkedPart}
 use Rattle.hg_prefix.specs.Laws.{OwnOrdersArePrefixes}
 use Rattle.hg_prefix.proofs.OrderLaws.{one_order}

@@ -9,8 +9,8 @@ use Rattle.hg_model.specs.Graph.{name_at, IsGraph}
 use Rattle.hg_model.specs.Rounds.{round_of, is_witness}
 use Rattle.hg_model.specs.Fame.{Marks, mark_at, is_closed, is_unique_famous}
 use Rattle.hg_model.specs.Order.{coin_at}
-use Rattle.hg_model.proofs.AgreeLaws.{decider_is, deciders_agree}
-use Rattle.hg_model.proofs.LateLaws.{IsDecision, decider_of_fame, late_witness, closed_mark}
+use Rattle.hg_agree.proofs.AgreeLaws.{decider_is, deciders_agree}
+use Rattle.hg_agree.proofs.LateLaws.{IsDecision, decider_of_fame, late_witness, closed_mark}
 use Rattle.hg_model.proofs.LinkLaws.{length-links}
 use Rattle.hg_prefix.specs.Standing.{place_in, IsMarkedPart, HasUniqueFamous}
 use Rattle.hg_prefix.proofs.MovedLaws.{IsMoved, is_ancestor-moved, is_ancestor_back, is_self_ancestor-moved, round_of-moved, is_witness-moved, vote_of-moved, decides-moved}

@@ -1,1 +1,3 @@
 pub mod ReportLaws
+pub mod QuorumLaws
+pub mod ForkSightLaws

@@ -11,10 +11,10 @@ use Rattle.hg_model.specs.Rounds.{round_of, is_witness}
 use Rattle.hg_model.specs.Votes.{is_voter, weighed_vote, weighed_decides, yes_votes, no_votes, rounds_above, vote_of, decides}
 use Rattle.hg_model.specs.Order.{row_sig, middle_bit, coin_at}
 use Rattle.hg_model.specs.Prefix.{Graph, IsCounted, ballot_of, links_of}
+use Rattle.hg_model.proofs.SeenLaws.{seen_witness_is}
 use Rattle.hg_model.proofs.PlacesLaws.{weight_below-same, weight_below-longer}
 use Rattle.hg_model.proofs.ListLaws.{count_by-list_below, length-list_below-le, all_list_below}
 use Rattle.hg_model.proofs.VoteLaws.{vote_of-at}
-use Rattle.hg_model.proofs.WitnessLaws.{seen_witness_is}
 use Rattle.hg_votes.specs.declared.tally.Tally.{Tally}
 use Rattle.hg_votes.specs.Tallies.{voters_of, vote_at, tally_of}
 use Rattle.hg_votes.specs.Counting.{HoldsBallots}

@@ -11,13 +11,13 @@ use Rattle.hg_model.specs.Votes.{is_voter}
 use Rattle.hg_model.specs.Shape.{Shape, shape_of}
 use Rattle.hg_model.specs.Standings.{Standing, standings_of, witnesses_in}
 use Rattle.hg_model.specs.Prefix.{Graph, links_of}
+use Rattle.hg_model.proofs.SeenLaws.{seen_witness_is}
 use Rattle.hg_model.proofs.LinkLaws.{length-links}
 use Rattle.hg_model.proofs.ListLaws.{all_list_below, filter-list_below}
 use Rattle.hg_model.proofs.StandingLaws.{witnesses_in-standings}
 use Rattle.hg_model.proofs.AncestryLaws.{is_ancestor-le}
 use Rattle.hg_model.proofs.RoundLaws.{round_of-pos}
 use Rattle.hg_model.proofs.SightLaws.{strongly_sees-is_ancestor}
-use Rattle.hg_model.proofs.WitnessLaws.{seen_witness_is}
 use Rattle.hg_votes.specs.Tallies.{voters_of}
 use Rattle.hg_votes.specs.Counting.{HoldsVoters}
 

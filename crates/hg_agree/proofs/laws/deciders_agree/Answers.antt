@@ -2,7 +2,7 @@ use Rattle.std.proofs.Common.{◌++◌}
 use Rattle.hg_model.specs.Links.{links}
 use Rattle.hg_model.specs.Order.{coin_at}
 use Rattle.hg_model.proofs.LinkLaws.{length-links}
-use Rattle.hg_model.proofs.AgreeLaws as agree
+use Rattle.hg_agree.proofs.AgreeLaws as agree
 use Rattle.hg_model.proofs.LongerLaws.{links-longer, coin_at-longer}
 use Rattle.hg_agree.proofs.LaterLaws.{deciders_agree-later, fame_kept}
 use Rattle.hg_agree.proofs.laws.deciders_agree.Goals as goal

@@ -1,7 +1,7 @@
 use Rattle.hg_model.specs.Links.{links}
 use Rattle.hg_model.specs.Order.{coin_at}
 use Rattle.hg_model.proofs.LinkLaws.{length-links}
-use Rattle.hg_model.proofs.AgreeLaws.{decision_lasts}
+use Rattle.hg_agree.proofs.AgreeLaws.{decision_lasts}
 use Rattle.hg_agree.proofs.laws.decisions_last.Goals as goal
 
 pub returns : goal.returns

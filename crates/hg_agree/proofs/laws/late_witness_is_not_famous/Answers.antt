@@ -3,7 +3,7 @@ use Rattle.hg_model.specs.Links.{links}
 use Rattle.hg_model.specs.Fame.{fame_marks}
 use Rattle.hg_model.specs.Order.{coin_at}
 use Rattle.hg_model.proofs.LinkLaws.{length-links}
-use Rattle.hg_model.proofs.LateLaws.{fame_of_mark}
+use Rattle.hg_agree.proofs.LateLaws.{fame_of_mark}
 use Rattle.hg_model.proofs.LongerLaws.{links-longer, coin_at-longer}
 use Rattle.hg_agree.proofs.LaterLaws.{late_is_not_famous, closed_stays}
 use Rattle.hg_agree.proofs.laws.late_witness_is_not_famous.Goals as goal

@@ -1,6 +1,6 @@
 use Rattle.hg_model.specs.Links.{links}
+use Rattle.hg_quorum.proofs.ForkSightLaws.{fork_seen_once}
 use Rattle.hg_model.proofs.LinkLaws.{length-links}
-use Rattle.hg_model.proofs.SightLaws.{fork_seen_once}
 use Rattle.hg_quorum.proofs.laws.fork_is_seen_once.Goals as goal
 
 pub returns : goal.returns

@@ -4,7 +4,7 @@ use Rattle.hg_model.specs.Places.{weight_below}
 use Rattle.hg_model.specs.Stakes.{stake_of, member_count, total}
 use Rattle.hg_model.specs.Links.{links}
 use Rattle.hg_model.specs.Forks.{has_fork, forking}
-use Rattle.hg_model.proofs.QuorumLaws.{quorums_meet}
+use Rattle.hg_quorum.proofs.QuorumLaws.{quorums_meet}
 use Rattle.hg_quorum.specs.Members.{QuorumsMeet}
 use Rattle.hg_quorum.proofs.laws.quorums_share_an_honest_member.Goals as goal
 

@@ -1,44 +1,24 @@
 -- The laws of witnesses: rounds grow with ancestry, and each stands on a quorum of witnesses of the round before
-use Rattle.std.proofs.Common.{◌≡◌, ◌≢◌, ℕ, zero, suc, ◌+◌, ◌-◌, ◌*◌, ◌<◌, ◌≤◌, Bool, true, ◌&&◌, ltb, eqb, List, [], length, sym, refl, ◌∙◌, inl, inr, ◌⊎◌, arith}
-use Rattle.std.proofs.lemmas.Bool.{and_parts, and_from, cases_eq, cases_lt, eq-eqb, eqb-true, ltb-true, lt-ltb, false_from_ne_true}
+use Rattle.std.proofs.Common.{◌≡◌, ◌≢◌, ℕ, zero, suc, ◌+◌, ◌-◌, ◌*◌, ◌<◌, ◌≤◌, Bool, true, ltb, List, [], length, sym, refl, ◌∙◌, inl, inr, ◌⊎◌, arith}
+use Rattle.std.proofs.lemmas.Bool.{and_from, cases_eq, cases_lt, ltb-true, lt-ltb, false_from_ne_true}
 use Rattle.hg_model.specs.Places.{has_place, IsEarlier}
 use Rattle.hg_model.specs.Stakes.{Stakes, member_count, stake_of, stake_where, total}
 use Rattle.hg_model.specs.Links.{Link, parents, self_parent, creator}
 use Rattle.hg_model.specs.Ancestry.{is_ancestor, is_self_ancestor}
 use Rattle.hg_model.specs.Forks.{forking}
 use Rattle.hg_model.specs.Seeing.{strongly_sees, is_supermajority}
-use Rattle.hg_model.specs.Rounds.{parent_round, is_witness_by, is_seen_witness, round_of, is_witness, stake_at, weight_of}
+use Rattle.hg_model.specs.Rounds.{parent_round, is_seen_witness, round_of, is_witness, stake_at, weight_of}
 use Rattle.hg_model.specs.Graph.{IsShaped}
+use Rattle.hg_quorum.proofs.ForkSightLaws.{fork_seen_once}
+use Rattle.hg_model.proofs.SeenLaws.{SeenWitness, seen_witness_is, is_seen_witness_from}
 use Rattle.hg_model.proofs.PlacesLaws.{weight_below_found, weight_below_grows}
-use Rattle.hg_model.proofs.QuorumLaws.{members_with, weight_below-members}
+use Rattle.hg_quorum.proofs.QuorumLaws.{members_with, weight_below-members}
 use Rattle.hg_model.proofs.ReachLaws.{has_place_first}
 use Rattle.hg_model.proofs.AncestryLaws.{self_parent_is_parent, is_ancestor_self, is_ancestor_by, is_ancestor-trans, is_ancestor_cases, is_self_ancestor_cases}
 use Rattle.hg_model.proofs.GraphLaws.{list_all_at}
 use Rattle.hg_model.proofs.ForkLaws.{Fork, is_fork_from, self_parent_cases}
 use Rattle.hg_model.proofs.RoundLaws.{greatest_round_found, round_of_cases, round_of-parent-le}
-use Rattle.hg_model.proofs.SightLaws.{is_ancestor-from_self, strongly_sees_grows, strongly_sees-is_ancestor, fork_seen_once}
-
--- w is a witness of round r that x strongly sees
-pub record SeenWitness (n : Stakes) (L : List Link) (r x w : ℕ) : Type 0 where
-  pub is_witness : is_witness n L w ≡ true
-  pub in_round : round_of n L w ≡ r
-  pub seen : strongly_sees n L x w ≡ true
-
-pub seen_witness_is : (n : Stakes) (L : List Link) (r x w : ℕ) → is_seen_witness (round_of n L) n L r x w ≡ true → SeenWitness n L r x w
-unfolding is_witness
-seen_witness_is n L r x w h =
-    let witness = is_witness_by (round_of n L) L w in
-    let here = eqb (round_of n L w) r in
-    let one = and_parts (witness && here) (strongly_sees n L x w) h in
-    let two = and_parts witness here one.0 in
-    record { is_witness = two.0; in_round = eqb-true (round_of n L w) r two.1; seen = one.1 }
-
-pub is_seen_witness_from : (n : Stakes) (L : List Link) (r x w : ℕ) → SeenWitness n L r x w → is_seen_witness (round_of n L) n L r x w ≡ true
-unfolding is_witness
-is_seen_witness_from n L r x w s =
-    let witness = is_witness_by (round_of n L) L w in
-    let here = eqb (round_of n L w) r in
-    and_from (witness && here) (strongly_sees n L x w) (and_from witness here s.is_witness (eq-eqb (round_of n L w) r s.in_round)) s.seen
+use Rattle.hg_model.proofs.SightLaws.{is_ancestor-from_self, strongly_sees_grows, strongly_sees-is_ancestor}
 
 module _ (n : Stakes) (L : List Link) (e : IsEarlier (parents L)) where
   grows_to : (k x y : ℕ) → x < k → is_ancestor L x y ≡ true → round_of n L y ≤ round_of n L x

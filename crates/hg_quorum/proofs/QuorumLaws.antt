@@ -1,29 +1,10 @@
 -- Weights of several sets: two quorums meet, and places of different members weigh no more than their members
-use Rattle.std.proofs.Common.{◌≡◌, ℕ, zero, suc, ◌+◌, ◌*◌, ◌<◌, ◌≤◌, Bool, true, false, cond, not, ◌&&◌, ◌||◌, eqb, sym, refl, ◌∙◌, inl, inr, arith}
+use Rattle.std.proofs.Common.{◌≡◌, ℕ, zero, suc, ◌*◌, ◌<◌, ◌≤◌, Bool, true, false, cond, not, ◌&&◌, ◌||◌, eqb, sym, refl, ◌∙◌, inl, inr, arith}
 use Rattle.std.proofs.lemmas.Bool.{and_parts, cases_Bool, cases_eq, eq-eqb, eqb-true, ne_eqb, not-true}
 use Rattle.std.proofs.Math.Bool.{or-false}
 use Rattle.hg_model.specs.Places.{weight_below, some_below}
+use Rattle.hg_model.proofs.WeightLaws.{weight_below_both, weight_below_split}
 use Rattle.hg_model.proofs.PlacesLaws.{some_below_found, weight_below-same, weight_below-le, weight_below_found, weight_below_none, weight_below-all}
-
-union_step : (a b : Bool) (v : ℕ) → cond a v 0 + cond b v 0 ≡ cond (a || b) v 0 + cond (a && b) v 0
-union_step a b v = grind arith
-
--- inclusion and exclusion
-pub weight_below_both : (weight : ℕ → ℕ) (n : ℕ) (one two : ℕ → Bool) →
-    weight_below weight n one + weight_below weight n two ≡ weight_below weight n (λ k. one k || two k) + weight_below weight n (λ k. one k && two k)
-unfolding weight_below
-weight_below_both weight zero one two = refl
-weight_below_both weight (suc n) one two = omega (arith, weight_below_both weight n one two, union_step (one n) (two n) (weight n))
-
-split_step : (a b : Bool) (v : ℕ) → cond a v 0 ≡ cond (a && b) v 0 + cond (a && not b) v 0
-split_step a b v = grind arith
-
--- those of a set that are in another, and those that are not
-pub weight_below_split : (weight : ℕ → ℕ) (n : ℕ) (test other : ℕ → Bool) →
-    weight_below weight n test ≡ weight_below weight n (λ k. test k && other k) + weight_below weight n (λ k. test k && not (other k))
-unfolding weight_below
-weight_below_split weight zero test other = refl
-weight_below_split weight (suc n) test other = omega (arith, weight_below_split weight n test other, split_step (test n) (other n) (weight n))
 
 -- two sets of more than two thirds of the weight share a place outside any set of less than a third of it
 pub quorums_meet : (weight : ℕ → ℕ) (n : ℕ) (one two few : ℕ → Bool) →

@@ -14,13 +14,14 @@ use Rattle.hg_model.specs.Rounds.{is_seen_witness, round_of, is_witness, stake_a
 use Rattle.hg_model.specs.Votes.{weighed_decides, is_voter, yes_votes, no_votes, majority, is_strong, is_normal, rounds_above, vote_of, decides}
 use Rattle.hg_model.specs.Fame.{is_decider, fame_of, Marks, mark_at, fame_marks, is_witness_of_round, is_unmarked, is_closed}
 use Rattle.hg_model.specs.Graph.{IsShaped}
+use Rattle.hg_model.proofs.SeenLaws.{seen_witness_is}
 use Rattle.hg_model.proofs.PlacesLaws.{some_below_from, some_below_found, weight_below_none}
 use Rattle.hg_model.proofs.SearchLaws.{IsFoundBelow, least_below_found, least_below_some}
 use Rattle.hg_model.proofs.AncestryLaws.{is_ancestor-le, is_ancestor-trans}
 use Rattle.hg_model.proofs.FameLaws.{fame_of_witness}
 use Rattle.hg_model.proofs.SightLaws.{sees-is_ancestor, strongly_sees-is_ancestor}
-use Rattle.hg_model.proofs.WitnessLaws.{seen_witness_is, round_quorum, witness_below}
-use Rattle.hg_model.proofs.AgreeLaws.{AllVote, decider_is, vote_of_next, vote_of_normal, voters_many, unanimity_lasts, swayed, deciders_agree}
+use Rattle.hg_agree.proofs.WitnessLaws.{round_quorum, witness_below}
+use Rattle.hg_agree.proofs.AgreeLaws.{AllVote, decider_is, vote_of_next, vote_of_normal, voters_many, unanimity_lasts, swayed, deciders_agree}
 
 -- fame is the vote of some decider
 module _ (n : Stakes) (c : ℕ) (L : List Link) (coin : ℕ → Bool) (x : ℕ) where

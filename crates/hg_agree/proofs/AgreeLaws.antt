@@ -9,10 +9,12 @@ use Rattle.hg_model.specs.Seeing.{sees}
 use Rattle.hg_model.specs.Rounds.{is_seen_witness, round_of, is_witness, stake_at, weight_of}
 use Rattle.hg_model.specs.Votes.{weighed_vote, weighed_decides, is_voter, yes_votes, no_votes, majority, is_strong, is_normal, rounds_above, vote_of, decides}
 use Rattle.hg_model.specs.Graph.{IsShaped}
+use Rattle.hg_model.proofs.SeenLaws.{SeenWitness, seen_witness_is}
+use Rattle.hg_model.proofs.WeightLaws.{weight_below_both, weight_below_split}
 use Rattle.hg_model.proofs.PlacesLaws.{some_below_found, weight_below_none, weight_below-all, total-all}
-use Rattle.hg_model.proofs.QuorumLaws.{weight_below_both, weight_below_split, members_with}
+use Rattle.hg_quorum.proofs.QuorumLaws.{members_with}
 use Rattle.hg_model.proofs.VoteLaws.{vote_of-at}
-use Rattle.hg_model.proofs.WitnessLaws.{SeenWitness, seen_witness_is, round_quorum, one_witness_seen, seen_witnesses-le}
+use Rattle.hg_agree.proofs.WitnessLaws.{round_quorum, one_witness_seen, seen_witnesses-le}
 
 -- the vote is v, and the vote is not v
 
