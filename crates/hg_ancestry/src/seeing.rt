@@ -2,6 +2,7 @@ ghost use Rattle.std.specs.Prelude.{◌≡◌, ◌<◌, ◌≤◌, ◌||◌, ◌
 ghost use Rattle.hg_model.specs.Links.{creator};
 ghost use Rattle.hg_model.specs.Ancestry.{is_ancestor};
 ghost use Rattle.hg_model.specs.Seeing.{sees, strongly_sees};
+ghost use Rattle.hg_model.specs.GraphWords.{strongly_sees_in, sees_in};
 ghost use Rattle.hg_bits.specs.Masks.{mask_has};
 
 use crate::sight::BitSight;
@@ -13,7 +14,7 @@ use hg_model::Sight;
 pub fn sees(sight: &BitSight, x: usize, y: usize) -> bool
     requires left { x < length sight.now.shape.links }
     requires right { y < length sight.now.shape.links }
-    ensures { result ≡ sees sight.now.shape.links x y }
+    ensures { result ≡ sees_in sight.now.shape x y }
 {
     // That there are at most 128 members.
     sight.members();
@@ -24,7 +25,7 @@ pub fn sees(sight: &BitSight, x: usize, y: usize) -> bool
 pub fn strongly_sees(sight: &BitSight, x: usize, y: usize) -> bool
     requires left { x < length sight.now.shape.links }
     requires right { y < length sight.now.shape.links }
-    ensures { result ≡ strongly_sees sight.now.shape.members sight.now.shape.links x y }
+    ensures { result ≡ strongly_sees_in sight.now.shape x y }
 {
     // That there are fewer than 2^32 - 1 rows.
     sight.rows();
@@ -49,7 +50,7 @@ fn with_seer(mask: u128, sight: &BitSight, x: usize, y: usize, z: usize) -> u128
     requires left { x < length sight.now.shape.links }
     requires right { y < length sight.now.shape.links }
     requires place { z < length sight.now.shape.links }
-    ensures { (m : ℕ) → mask_has result m ≡ (mask_has mask m || (is_ancestor sight.now.shape.links x z && (creator sight.now.shape.links z == m && sees sight.now.shape.links z y))) }
+    ensures { (m : ℕ) → mask_has result m ≡ (mask_has mask m || (is_ancestor sight.now.shape.links x z && (creator sight.now.shape.links z == m && sees_in sight.now.shape z y))) }
 {
     let member = sight.creator(z);
     if mask_has(mask, member) {

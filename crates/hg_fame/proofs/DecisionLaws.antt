@@ -11,13 +11,14 @@ use Rattle.hg_model.specs.Fame.{is_decider, fame_of}
 use Rattle.hg_model.specs.Order.{coin_at}
 use Rattle.hg_model.specs.Standings.{Standing, standings_of, witnesses_in, greatest_in}
 use Rattle.hg_model.specs.Prefix.{Graph, IsCounted, ballot_of, links_of}
+use Rattle.hg_model.specs.GraphWords.{decides_in}
 use Rattle.hg_model.proofs.FameLaws.{fame_of_witness}
 use Rattle.hg_model.proofs.LinkLaws.{length-links}
 use Rattle.hg_model.proofs.PlacesLaws.{maximum_below_bounds}
 use Rattle.hg_model.proofs.PrefixLaws.{IsWitnessOf, witness_read}
 use Rattle.hg_model.proofs.SearchLaws.{least_below_none, least_below_some, least_below-same}
 use Rattle.hg_model.proofs.StandingLaws.{witnesses_in-standings, greatest_in-standings}
-use Rattle.hg_fame.specs.Decisions.{first_decider, decides_in, decision_by, decider_in, IsUndecided}
+use Rattle.hg_fame.specs.Decisions.{first_decider, decision_by, decider_in, IsUndecided}
 use Rattle.hg_fame.proofs.FirstLaws.{find_here, find_none_more, find-list_below, in_key, first_by_key, some_not_none}
 
 last_round-bounds : (n : ℕ) (L : List Link) (y : ℕ) → y < length L → round_of n L y ≤ last_round n L

@@ -1,30 +1,26 @@
 -- Who decides the fame of a witness
 use Rattle.std.specs.Prelude.{ℕ, ◌≡◌, ◌<◌, ◌≤◌, Bool, false, length, Option, find}
 use Rattle.hg_model.specs.Places.{least_below}
-use Rattle.hg_model.specs.Rounds.{round_of}
-use Rattle.hg_model.specs.Votes.{vote_of, decides}
+use Rattle.hg_model.specs.Votes.{decides}
 use Rattle.hg_model.specs.Fame.{is_decider}
 use Rattle.hg_model.specs.Order.{coin_at}
-use Rattle.hg_model.specs.Standings.{standings_of, witnesses_in}
+use Rattle.hg_model.specs.Standings.{witnesses_in}
 use Rattle.hg_model.specs.Prefix.{Graph, links_of}
+use Rattle.hg_model.specs.GraphWords.{vote_in, decides_in, round_in, standings_in, shape_in}
 
 -- the first decider of x, by round and then by place
 abbrev pub first_decider : Graph → ℕ → Option ℕ
 first_decider g x =
-    least_below (round_of g.members (links_of g)) (length (links_of g)) (is_decider g.members g.coin (links_of g) (coin_at g.rows) x)
-
--- y decides the fame of x
-abbrev pub decides_in : Graph → ℕ → ℕ → Bool
-decides_in g x y = decides g.members g.coin (links_of g) (coin_at g.rows) x y
+    least_below (round_in g) (length (links_of g)) (is_decider g.members g.coin (links_of g) (coin_at g.rows) x)
 
 -- the vote of y on x, and y
 abbrev pub decision_by : Graph → ℕ → ℕ → Bool × ℕ
-decision_by g x y = (vote_of g.members g.coin (links_of g) (coin_at g.rows) x y, y)
+decision_by g x y = (vote_in g x y, y)
 
 -- of the witnesses of round r the first by place that decides the fame of x
 abbrev pub decider_in : Graph → ℕ → ℕ → Option ℕ
-decider_in g x r = find (decides_in g x) (witnesses_in (standings_of g.members (links_of g)) r)
+decider_in g x r = find (decides_in g x) (witnesses_in (standings_in (shape_in g)) r)
 
 -- no row of a round up to this one decides the fame of x
 pub record IsUndecided (g : Graph) (x last : ℕ) : Type 0 where
-  pub none : (y : ℕ) → y < length g.rows → round_of g.members (links_of g) y ≤ last → decides_in g x y ≡ false
+  pub none : (y : ℕ) → y < length g.rows → round_in g y ≤ last → decides_in g x y ≡ false

@@ -1,8 +1,5 @@
 ghost use Rattle.std.specs.Prelude.{◌≡◌, ◌<◌, IsTrue, length, option_map};
-ghost use Rattle.hg_model.specs.Fame.{fame_of};
-ghost use Rattle.hg_model.specs.Order.{coin_at};
-ghost use Rattle.hg_model.specs.Prefix.{links_of};
-ghost use Rattle.hg_model.specs.Rounds.{is_witness, round_of};
+ghost use Rattle.hg_model.specs.GraphWords.{fame_in, round_in, is_witness_in};
 ghost use Rattle.hg_fame.specs.Decisions.{decider_in, decision_by, first_decider};
 
 use hg_model::{Prefix, Votes};
@@ -11,7 +8,7 @@ use hg_model::{Prefix, Votes};
 fn decision_in<P: Prefix, V: Votes>(p: &P, votes: &V, r: u32) -> Option<(bool, usize)>
     requires made { V.MadeFor votes.now (P.graph p.now) }
     requires counted { V.counted votes.now ≡ r }
-    requires later { round_of (P.graph p.now).members (links_of (P.graph p.now)) (V.candidate votes.now) < r }
+    requires later { round_in (P.graph p.now) (V.candidate votes.now) < r }
     ensures { result ≡ option_map (decision_by (P.graph p.now) (V.candidate votes.now)) (decider_in (P.graph p.now) (V.candidate votes.now) r) }
 {
     for y in p.witnesses(r) {
@@ -28,9 +25,9 @@ fn decision_in<P: Prefix, V: Votes>(p: &P, votes: &V, r: u32) -> Option<(bool, u
 pub fn elect<P: Prefix, V: Votes>(p: &P, votes: &mut V, x: usize) -> Option<(bool, usize)>
     requires made { V.MadeFor votes.old (P.graph p.now) }
     requires place { x < length (P.graph p.now).rows }
-    requires witness { IsTrue (is_witness (P.graph p.now).members (links_of (P.graph p.now)) x) }
+    requires witness { IsTrue (is_witness_in (P.graph p.now) x) }
     ensures made { V.MadeFor votes.new (P.graph p.now) }
-    ensures fame { option_map (λ decision. decision.0) result ≡ fame_of (P.graph p.now).members (P.graph p.now).coin (links_of (P.graph p.now)) (coin_at (P.graph p.now).rows) x }
+    ensures fame { option_map (λ decision. decision.0) result ≡ fame_in (P.graph p.now) x }
     ensures decider { option_map (λ decision. decision.1) result ≡ first_decider (P.graph p.now) x }
 {
     votes.open(p, x);

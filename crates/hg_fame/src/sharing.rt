@@ -3,6 +3,7 @@ ghost use Rattle.hg_model.specs.Places.{count_below};
 ghost use Rattle.hg_model.specs.Prefix.{links_of};
 ghost use Rattle.hg_model.specs.Rounds.{is_witness};
 ghost use Rattle.hg_model.specs.Shares.{Speaks, share_fame};
+ghost use Rattle.hg_model.specs.GraphWords.{is_witness_in, share_fame_in};
 
 use crate::electing::elect;
 use hg_model::{Found, Items, Memory, Prefix, Share, Votes};
@@ -18,10 +19,10 @@ fn share_fame<P: Prefix, V: Votes>(
 ) -> Option<bool>
     requires made { V.MadeFor votes.old (P.graph p.now) }
     requires place { x < length (P.graph p.now).rows }
-    requires witness { IsTrue (is_witness (P.graph p.now).members (links_of (P.graph p.now)) x) }
-    requires index { index ≡ count_below x (is_witness (P.graph p.now).members (links_of (P.graph p.now))) }
+    requires witness { IsTrue (is_witness_in (P.graph p.now) x) }
+    requires index { index ≡ count_below x (is_witness_in (P.graph p.now)) }
     ensures made { V.MadeFor votes.new (P.graph p.now) }
-    ensures fame { result ≡ share_fame (P.graph p.now).members (P.graph p.now).coin (P.graph p.now).rows (links_of (P.graph p.now)) share x }
+    ensures fame { result ≡ share_fame_in (P.graph p.now) share x }
 {
     if index % share.of() != share.k() {
         return None;

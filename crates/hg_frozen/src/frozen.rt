@@ -1,8 +1,9 @@
 ghost use Rattle.std.specs.Prelude.{◌≡◌, ◌<◌, length, refl};
 ghost use Rattle.hg_model.specs.Links.{links};
-ghost use Rattle.hg_model.specs.Prefix.{graph_of, links_of};
+ghost use Rattle.hg_model.specs.Prefix.{graph_of};
 ghost use Rattle.hg_model.specs.Shape.{shape_of};
 ghost use Rattle.hg_model.specs.Standings.{standings_of};
+ghost use Rattle.hg_model.specs.GraphWords.{standings_in, shape_in};
 
 use hg_model::{Member, Prefix, Rounds, Row, Sight};
 use std::marker::Model;
@@ -51,7 +52,7 @@ impl<S: Sight, R: Rounds> Frozen<S, R> {
 }
 
 impl<S: Sight, R: Rounds> Sight for Frozen<S, R> {
-    ghost shape = { λ g. shape_of g.members (links_of g) };
+    ghost shape = { λ g. shape_in g };
 
     fn rows(&self) -> usize {
         self.sight.rows()
@@ -83,7 +84,7 @@ impl<S: Sight, R: Rounds> Sight for Frozen<S, R> {
 }
 
 impl<S: Sight, R: Rounds> Rounds for Frozen<S, R> {
-    ghost standings = { λ g. standings_of g.members (links_of g) };
+    ghost standings = { λ g. standings_in (shape_in g) };
 
     fn round(&self, x: usize) -> u32 {
         self.rounds.round(x)

@@ -1,12 +1,12 @@
 -- A node's graph as callers see it, and what every such graph keeps to
 use Rattle.std.specs.Prelude.{ℕ, ◌≡◌, ◌<◌, ◌≤◌, List, [], ◌∷◌, ◌++◌, length, Some, slice_get}
 use Rattle.hg_model.specs.declared.row.Row.{Row}
-use Rattle.hg_model.specs.Graph.{IsGraph}
-use Rattle.hg_model.specs.Shape.{Shape, shape_of}
-use Rattle.hg_model.specs.Standings.{Standing, standings_of}
+use Rattle.hg_model.specs.Shape.{Shape}
+use Rattle.hg_model.specs.Standings.{Standing}
 use Rattle.hg_model.specs.Spelling.{Spells, spelling}
 use Rattle.hg_model.specs.Verdict.{row_limit}
-use Rattle.hg_model.specs.Prefix.{Graph, graph_of, links_of}
+use Rattle.hg_model.specs.Prefix.{Graph, graph_of}
+use Rattle.hg_model.specs.GraphWords.{IsLawfulGraph, standings_in, shape_in}
 use Rattle.hg_forks.specs.Own.{own_shape}
 
 -- a graph, and for how many more rows there is memory at least
@@ -18,9 +18,6 @@ pub record GraphWithRoom : Type 0 where
 abbrev pub graph_with : Graph → Row → Graph
 graph_with g row = graph_of g.members g.coin (g.rows ++ row ∷ [])
 
-abbrev pub shape_in : Graph → Shape
-shape_in g = shape_of g.members (links_of g)
-
 -- each row has the sizes and the name of an event
 abbrev pub AreEvents : List Row → Type 0
 AreEvents G = (x : ℕ) (row : Row) → slice_get G x ≡ Some row → Spells (spelling row) row
@@ -30,7 +27,7 @@ pub record IsHeld (g : Graph) : Type 0 where
   pub some_members : 0 < g.members
   pub few_members : g.members ≤ 128
   pub coin : 2 < g.coin
-  pub graph : IsGraph g.members g.rows
+  pub graph : IsLawfulGraph g
   pub events : AreEvents g.rows
   pub few : length g.rows ≤ row_limit
 
@@ -39,4 +36,4 @@ pub record KeepsGraph (g : Graph) (sight watched : Shape) (standings : List Stan
   pub held : IsHeld g
   pub seen : sight ≡ shape_in g
   pub forked : watched ≡ own_shape (shape_in g)
-  pub placed : standings ≡ standings_of g.members (links_of g)
+  pub placed : standings ≡ standings_in (shape_in g)

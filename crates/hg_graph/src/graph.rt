@@ -5,8 +5,8 @@ ghost use Rattle.hg_model.specs.Graph.{IsGraph};
 ghost use Rattle.hg_model.specs.Shape.{FitsLink, link_of, pair_list, place_list};
 ghost use Rattle.hg_model.specs.Spelling.{Spells, spelling};
 ghost use Rattle.hg_model.specs.Verdict.{row_limit};
-ghost use Rattle.hg_model.specs.Prefix.{graph_of, links_of};
-ghost use Rattle.hg_model.specs.Standings.{standings_of};
+ghost use Rattle.hg_model.specs.Prefix.{graph_of};
+ghost use Rattle.hg_model.specs.GraphWords.{standings_in};
 ghost use Rattle.hg_graph.specs.RowsWithRoom.{found_place};
 ghost use Rattle.hg_graph.specs.GraphWithRoom.{IsHeld, graph_with, shape_in};
 
@@ -184,7 +184,7 @@ impl Sight for EventGraph {
 }
 
 impl Rounds for EventGraph {
-    ghost standings = { λ g. standings_of g.graph.members (links_of g.graph) };
+    ghost standings = { λ g. standings_in (shape_in g.graph) };
 
     fn round(&self, x: usize) -> u32 {
         self.rounds.round(x)

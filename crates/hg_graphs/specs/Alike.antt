@@ -2,15 +2,15 @@
 use Rattle.std.specs.Prelude.{ℕ, ◌≡◌, ◌<◌, List, length}
 use Rattle.hg_model.specs.Links.{creator, self_parent}
 use Rattle.hg_model.specs.Ancestry.{is_ancestor}
-use Rattle.hg_model.specs.Seeing.{sees, strongly_sees}
 use Rattle.hg_model.specs.Shape.{Shape}
 use Rattle.hg_model.specs.Standings.{Standing, round_at, witness_at, greatest_in}
+use Rattle.hg_model.specs.GraphWords.{strongly_sees_in, sees_in}
 
 -- rows x and y see each other alike in both
 pub record IsPairAlike (a b : Shape) (x y : ℕ) : Type 0 where
   pub ancestor : is_ancestor a.links x y ≡ is_ancestor b.links x y
-  pub seen : sees a.links x y ≡ sees b.links x y
-  pub strong : strongly_sees a.members a.links x y ≡ strongly_sees b.members b.links x y
+  pub seen : sees_in a x y ≡ sees_in b x y
+  pub strong : strongly_sees_in a x y ≡ strongly_sees_in b x y
 
 -- row x has the same creator, self-parent and round in both, and is a witness in both or in neither
 pub record IsRowAlike (a : Shape) (a_standings : List Standing) (b : Shape) (b_standings : List Standing) (x : ℕ) : Type 0 where

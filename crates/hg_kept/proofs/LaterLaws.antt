@@ -10,11 +10,11 @@ use Rattle.hg_model.specs.Order.{is_received_in, round_received}
 use Rattle.hg_model.specs.Kept.{kept_up_to}
 use Rattle.hg_model.specs.Prefix.{graph_of}
 use Rattle.hg_model.specs.Orders.{IsPrefix}
+use Rattle.hg_model.specs.GraphWords.{state_by}
 use Rattle.hg_model.proofs.ReachLaws.{bool_iff}
 use Rattle.hg_prefix.specs.Standing.{IsMarkedPart}
 use Rattle.hg_prefix.proofs.FamousLaws.{received_is, closed_bounds}
 use Rattle.hg_history.proofs.StayLaws.{round_stays, received_there, received_back, none_later}
-use Rattle.hg_kept.specs.Published.{state_by}
 
 up_to_is : (m : ℕ) (o : Option ℕ) → (is_some o && leb (unwrap_or o 0) m) ≡ true → (a : ℕ) × (o ≡ Some a) × (a ≤ m)
 up_to_is m None h = absurd (true≢false (sym h))

@@ -16,6 +16,7 @@ use Rattle.hg_model.specs.History.{State, with_marks, new_mark, news}
 use Rattle.hg_model.specs.History.Change.{Marked}
 use Rattle.hg_model.specs.Kept.{kept_up_to, kept_in}
 use Rattle.hg_model.specs.Orders.{IsPrefix, AreFame}
+use Rattle.hg_model.specs.GraphWords.{state_by}
 use Rattle.hg_model.proofs.LinkLaws.{length-links}
 use Rattle.hg_model.proofs.PlacesLaws.{list_below-same}
 use Rattle.hg_model.proofs.ListLaws.{all_list_below, length-list_below-le}
@@ -26,7 +27,7 @@ use Rattle.hg_history.proofs.AddLaws.{adds_marks}
 use Rattle.hg_history.proofs.MarkLaws.{fame_with_marks, closed_with_marks}
 use Rattle.hg_history.proofs.RoundLaws.{order_by_rounds}
 use Rattle.hg_history.proofs.StateLaws.{IsEven, marks_step, prefix_same}
-use Rattle.hg_kept.specs.Published.{Published, IsReached, KeepsUpTo, Keeps, is_pending, state_by}
+use Rattle.hg_kept.specs.Published.{Published, IsReached, KeepsUpTo, Keeps, is_pending}
 use Rattle.hg_kept.proofs.LaterLaws.{order_stays, received_stays}
 use Rattle.hg_kept.proofs.NextLaws.{last_here, last_reached, closed_to_reached}
 

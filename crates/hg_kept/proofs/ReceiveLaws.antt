@@ -15,15 +15,16 @@ use Rattle.hg_model.specs.Fame.{Marks, is_closed, is_unique_famous}
 use Rattle.hg_model.specs.Order.{sort_by, comes_before, keyed_at, is_received_in, ordered_in, can_receive, famous_places}
 use Rattle.hg_model.specs.Prefix.{Graph, links_of}
 use Rattle.hg_model.specs.Kept.{kept_up_to}
+use Rattle.hg_model.specs.GraphWords.{famous_of, received_order, state_by}
 use Rattle.hg_model.proofs.AncestryLaws.{is_ancestor-le}
 use Rattle.hg_model.proofs.LinkLaws.{length-links}
 use Rattle.hg_model.proofs.OrderLaws.{length-ordered_in, length-ordered_in-le}
 use Rattle.hg_model.proofs.ListLaws.{all_list_below, filter-list_below, length-list_below-le}
 use Rattle.hg_model.proofs.PlacesLaws.{list_below-same, list_below-longer}
 use Rattle.hg_history.proofs.RoundLaws.{up_to_is}
-use Rattle.hg_order.specs.Famous.{famous_of, AreFamous, all_have, IsBelowAll}
-use Rattle.hg_order.specs.Round.{received_places, received_order}
-use Rattle.hg_kept.specs.Published.{KeepsUpTo, is_pending, state_by}
+use Rattle.hg_order.specs.Famous.{AreFamous, all_have, IsBelowAll}
+use Rattle.hg_order.specs.Round.{received_places}
+use Rattle.hg_kept.specs.Published.{KeepsUpTo, is_pending}
 use Rattle.hg_kept.specs.Waiting.{Waiting, places_to, published_as}
 use Rattle.hg_kept.proofs.FreshLaws.{pending_next, fresh_next, none_receive, all_receive}
 use Rattle.hg_kept.proofs.StepLaws.{range_next}

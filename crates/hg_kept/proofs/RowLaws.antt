@@ -15,6 +15,7 @@ use Rattle.hg_model.specs.Prefix.{Graph, graph_of}
 use Rattle.hg_model.specs.History.{State, links_with, first_mark, with_row}
 use Rattle.hg_model.specs.Kept.{kept_up_to}
 use Rattle.hg_model.specs.Orders.{IsPrefix, AreFame}
+use Rattle.hg_model.specs.GraphWords.{state_by}
 use Rattle.hg_model.proofs.LinkLaws.{length-links}
 use Rattle.hg_model.proofs.PlacesLaws.{list_below-same}
 use Rattle.hg_model.proofs.PushLaws.{nobody, links-push, link_at, all_present}
@@ -26,7 +27,7 @@ use Rattle.hg_prefix.proofs.GrowthLaws.{stands_in_itself, stands_in_longer}
 use Rattle.hg_history.proofs.MarkLaws.{fame_with_row, closed_with_row, closed_before_row}
 use Rattle.hg_history.proofs.RoundLaws.{order_by_rounds}
 use Rattle.hg_history.proofs.StateLaws.{IsEven}
-use Rattle.hg_kept.specs.Published.{Published, HasCome, Keeps, TookRow, is_pending, mark_by, marks_with, state_by}
+use Rattle.hg_kept.specs.Published.{Published, HasCome, Keeps, TookRow, is_pending, mark_by, marks_with}
 use Rattle.hg_kept.proofs.LaterLaws.{order_stays, received_stays, none_of_later}
 
 -- the row's parents stand before it

@@ -4,14 +4,12 @@ use Rattle.std.specs.Prelude.{ℕ, ◌≡◌, ◌≤◌, ◌<◌, ◌-◌, ◌�
 use Rattle.hg_model.specs.declared.row.Row.{Row}
 use Rattle.hg_model.specs.declared.row.Placed.{Placed}
 use Rattle.hg_model.specs.Places.{list_below}
-use Rattle.hg_model.specs.Graph.{IsGraph}
-use Rattle.hg_model.specs.Rounds.{round_of, is_witness}
-use Rattle.hg_model.specs.Fame.{Marks, is_closed}
-use Rattle.hg_model.specs.Order.{is_received_in, ordered, last_closed}
-use Rattle.hg_model.specs.Prefix.{Graph, graph_of, links_of}
-use Rattle.hg_model.specs.History.{State, with_row}
+use Rattle.hg_model.specs.Fame.{Marks}
+use Rattle.hg_model.specs.Prefix.{Graph, graph_of}
+use Rattle.hg_model.specs.History.{with_row}
 use Rattle.hg_model.specs.Kept.{kept_up_to}
 use Rattle.hg_model.specs.Orders.{AreFame}
+use Rattle.hg_model.specs.GraphWords.{round_in, is_witness_in, is_closed_in, last_closed_in, is_received_by, ordered_by, IsLawfulGraph, state_by}
 
 pub record Published : Type 0 where
   pub marks : Marks
@@ -33,17 +31,13 @@ pub record PublishedWithRoom : Type 0 where
 abbrev pub unpublished : Published
 unpublished = record { marks = []; closed = 0; order = []; pending = []; looked = 0 }
 
--- the state of a node with this graph and these marks
-abbrev pub state_by : Graph → Marks → State
-state_by g marks = record { rows = g.rows; links = links_of g; marks = marks }
-
 -- no round up to r has received row x
 abbrev pub is_pending : Graph → Marks → ℕ → ℕ → Bool
-is_pending g marks r x = not (is_received_in g.members (links_of g) marks (λ k. nat_le k r) x)
+is_pending g marks r x = not (is_received_by g marks (λ k. nat_le k r) x)
 
 -- the round is closed, or 0
 abbrev pub IsReached : Graph → Marks → ℕ → Type 0
-IsReached g marks r = (r ≡ 0) ⊎ (is_closed g.members (links_of g) marks r ≡ true)
+IsReached g marks r = (r ≡ 0) ⊎ (is_closed_in g marks r ≡ true)
 
 -- the places of the rows that no closed round has received
 pub record ArePending (g : Graph) (v : Published) : Type 0 where
@@ -53,7 +47,7 @@ pub record ArePending (g : Graph) (v : Published) : Type 0 where
 
 -- the marks are fame of the graph, and the order is that of the rounds up to `closed`; the marks may have closed more
 pub record KeepsUpTo (g : Graph) (v : Published) : Type 0 where
-  pub graph : IsGraph g.members g.rows
+  pub graph : IsLawfulGraph g
   pub even : length v.marks ≡ length g.rows
   pub fame : AreFame g.members g.coin g.rows v.marks
   pub reached : IsReached g v.marks v.closed
@@ -62,11 +56,11 @@ pub record KeepsUpTo (g : Graph) (v : Published) : Type 0 where
 
 -- the marks are fame of the graph, and the order is that of all rounds that they have closed
 pub record Keeps (g : Graph) (v : Published) : Type 0 where
-  pub graph : IsGraph g.members g.rows
+  pub graph : IsLawfulGraph g
   pub even : length v.marks ≡ length g.rows
   pub fame : AreFame g.members g.coin g.rows v.marks
-  pub closed : v.closed ≡ last_closed g.members (links_of g) v.marks
-  pub order : v.order ≡ ordered g.members g.rows (links_of g) v.marks
+  pub closed : v.closed ≡ last_closed_in g v.marks
+  pub order : v.order ≡ ordered_by g v.marks
   pub pending : ArePending g v
 
 -- the last row of the graph has just come, and this is published of the rows before it
@@ -74,7 +68,7 @@ pub record HasCome (g : Graph) (v : Published) : Type 0 where
   pub before : List Row
   pub row : Row
   pub rows : g.rows ≡ before ++ row ∷ []
-  pub graph : IsGraph g.members g.rows
+  pub graph : IsLawfulGraph g
   pub keeps : Keeps (graph_of g.members g.coin before) v
 
 -- the marks once the row has come after these
@@ -85,7 +79,7 @@ marks_with g before row marks = (with_row g.members (state_by (graph_of g.member
 abbrev pub is_last_late : Graph → ℕ → Bool
 is_last_late g closed =
     let x = length g.rows - 1 in
-    is_witness g.members (links_of g) x && nat_le (round_of g.members (links_of g) x) closed
+    is_witness_in g x && nat_le (round_in g x) closed
 
 -- the first mark of the last row, where the rounds up to `closed` are
 abbrev pub mark_by : Graph → ℕ → Option Bool

@@ -1,10 +1,10 @@
 ghost use Rattle.std.specs.Prelude.{◌≡◌, ◌<◌, ◌≤◌, ◌+◌, ◌^◌, ℕ, true, All, ◌++◌, length, is_some, take, vec_len, vec_capacity};
 ghost use Rattle.std.specs.List.{AllByRecursion, list_all};
-ghost use Rattle.hg_model.specs.Fame.{Marks, is_closed, mark_at};
-ghost use Rattle.hg_model.specs.Prefix.{links_of};
+ghost use Rattle.hg_model.specs.Fame.{Marks, mark_at};
 ghost use Rattle.hg_model.specs.Orders.{IsPrefix};
-ghost use Rattle.hg_order.specs.Famous.{famous_of, AreFamous, IsBelowAll};
-ghost use Rattle.hg_order.specs.Round.{received_order, received_places};
+ghost use Rattle.hg_model.specs.GraphWords.{famous_of, received_order, is_closed_in};
+ghost use Rattle.hg_order.specs.Famous.{AreFamous, IsBelowAll};
+ghost use Rattle.hg_order.specs.Round.{received_places};
 ghost use Rattle.hg_kept.specs.Published.{IsReached, Keeps, KeepsUpTo};
 ghost use Rattle.hg_kept.specs.Waiting.{published_as};
 
@@ -25,7 +25,7 @@ fn is_next_closed<P: Prefix>(p: &P, marks: &[Option<bool>], closed: u32) -> bool
     requires marked { length marks.now ≡ length (P.graph p.now).rows }
     requires reached { IsReached (P.graph p.now) marks.now closed }
     requires short { closed + 1 < 2 ^ 32 }
-    ensures { result ≡ is_closed (P.graph p.now).members (links_of (P.graph p.now)) marks.now (closed + 1) }
+    ensures { result ≡ is_closed_in (P.graph p.now) marks.now (closed + 1) }
 {
     is_of_graph(p);
     let witnesses = p.witnesses(closed + 1);
@@ -83,7 +83,7 @@ fn receive_by<P: Prefix>(
     order: &mut Vec<Placed>,
 )
     requires keeps { KeepsUpTo (P.graph p.now) (published_as marks.now closed order.old.items pending.old) }
-    requires next { is_closed (P.graph p.now).members (links_of (P.graph p.now)) marks.now (closed + 1) ≡ true }
+    requires next { is_closed_in (P.graph p.now) marks.now (closed + 1) ≡ true }
     requires famous { famous.now ≡ famous_of (P.graph p.now) marks.now (closed + 1) }
     requires pending_room { length (P.graph p.now).rows ≤ pending.old.room }
     requires order_room { length (P.graph p.now).rows ≤ vec_capacity order.old }
@@ -107,7 +107,7 @@ fn receive_round<P: Prefix>(
     order: &mut Vec<Placed>,
 )
     requires keeps { KeepsUpTo (P.graph p.now) (published_as marks.now closed order.old.items pending.old) }
-    requires next { is_closed (P.graph p.now).members (links_of (P.graph p.now)) marks.now (closed + 1) ≡ true }
+    requires next { is_closed_in (P.graph p.now) marks.now (closed + 1) ≡ true }
     requires short { closed + 1 < 2 ^ 32 }
     requires pending_room { length (P.graph p.now).rows ≤ pending.old.room }
     requires order_room { length (P.graph p.now).rows ≤ vec_capacity order.old }

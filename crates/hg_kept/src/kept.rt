@@ -1,10 +1,9 @@
 ghost use Rattle.std.specs.Prelude.{◌≡◌, ◌<◌, ◌≤◌, ◌+◌, ◌-◌, ℕ, [], length, OnOk, vec_len, vec_capacity};
 ghost use Rattle.hg_model.specs.Fame.{mark_at};
-ghost use Rattle.hg_model.specs.Prefix.{graph_of, links_of};
-ghost use Rattle.hg_model.specs.Shares.{Speaks};
-ghost use Rattle.hg_model.specs.History.{news, with_marks};
+ghost use Rattle.hg_model.specs.Prefix.{graph_of};
 ghost use Rattle.hg_model.specs.Orders.{IsPrefix};
-ghost use Rattle.hg_kept.specs.Published.{HasCome, Keeps, TookRow, is_last_late, mark_by, state_by, unpublished};
+ghost use Rattle.hg_model.specs.GraphWords.{news_by, marks_by, SpeaksOf};
+ghost use Rattle.hg_kept.specs.Published.{HasCome, Keeps, TookRow, is_last_late, mark_by, unpublished};
 
 use crate::closing::close_rounds;
 use crate::marking::mark_found;
@@ -78,9 +77,9 @@ impl Kept {
     /// marked. Takes no memory.
     pub fn publish<P: Prefix>(&mut self, p: &P, found: &Found) -> u32
         requires keeps { Keeps (P.graph p.now) self.old.published }
-        requires speaks { Speaks (P.graph p.now).members (P.graph p.now).coin (P.graph p.now).rows (links_of (P.graph p.now)) found.now.len found.now.share found.now.marks }
-        ensures count { result ≡ news (P.graph p.now).members (P.graph p.now).coin (state_by (P.graph p.now) self.old.published.marks) found.now.len found.now.share }
-        ensures marks { self.new.published.marks ≡ (with_marks (P.graph p.now).members (P.graph p.now).coin (state_by (P.graph p.now) self.old.published.marks) found.now.len found.now.share).marks }
+        requires speaks { SpeaksOf (P.graph p.now) found.now }
+        ensures count { result ≡ news_by (P.graph p.now) self.old.published.marks found.now.len found.now.share }
+        ensures marks { self.new.published.marks ≡ marks_by (P.graph p.now) self.old.published.marks found.now.len found.now.share }
         ensures keeps { Keeps (P.graph p.now) self.new.published }
         ensures grows { IsPrefix self.old.published.order self.new.published.order }
         ensures room { self.new.room ≡ self.old.room }

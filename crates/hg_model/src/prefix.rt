@@ -1,8 +1,6 @@
 ghost use Rattle.std.specs.Prelude.{◌≡◌, ◌<◌, ◌≤◌, ◌-◌, ◌^◌, Some, length, slice_get};
-ghost use Rattle.hg_model.specs.Graph.{IsShaped};
 ghost use Rattle.hg_model.specs.Prefix.{Graph, IsOfGraph, links_of};
-ghost use Rattle.hg_model.specs.Shape.{shape_of};
-ghost use Rattle.hg_model.specs.Standings.{standings_of};
+ghost use Rattle.hg_model.specs.GraphWords.{standings_in, shape_in, IsShapedIn};
 
 use crate::rounds::Rounds;
 use crate::row::Row;
@@ -24,17 +22,17 @@ pub trait Prefix: Sight + Rounds {
         ensures matches { IsOfGraph (Self.shape self.now) (Self.standings self.now) (graph self.now) };
 
     /// It sees what the graph's rows see of each other.
-    ghost sees_graph: { (p : Self) → Self.shape p ≡ shape_of (graph p).members (links_of (graph p)) };
+    ghost sees_graph: { (p : Self) → Self.shape p ≡ shape_in (graph p) };
 
     /// Its rounds are the graph's.
-    ghost has_rounds: { (p : Self) → Self.standings p ≡ standings_of (graph p).members (links_of (graph p)) };
+    ghost has_rounds: { (p : Self) → Self.standings p ≡ standings_in (shape_in (graph p)) };
 }
 
 /// A law: what a prefix sees and its rounds are those of its rows, which make a shaped graph of at most 128 members and
 /// are fewer than 2^32 - 1.
 pub fn is_of_graph<P: Prefix>(p: &P)
     ensures matches { IsOfGraph (P.shape p.now) (P.standings p.now) (P.graph p.now) }
-    ensures shaped { IsShaped (P.graph p.now).members (links_of (P.graph p.now)) }
+    ensures shaped { IsShapedIn (shape_in (P.graph p.now)) }
     ensures few { (P.graph p.now).members ≤ 128 }
     ensures long { length (links_of (P.graph p.now)) ≡ length (P.graph p.now).rows }
     ensures links { length (P.shape p.now).links ≡ length (P.graph p.now).rows }

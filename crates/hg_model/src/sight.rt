@@ -2,8 +2,8 @@ ghost use Rattle.std.specs.Prelude.{◌≡◌, ℕ, ◌<◌, ◌≤◌, ◌+◌,
 ghost use Rattle.hg_model.specs.Links.{creator, self_parent};
 ghost use Rattle.hg_model.specs.Ancestry.{is_ancestor};
 ghost use Rattle.hg_model.specs.Seeing.{sees, strongly_sees};
-ghost use Rattle.hg_model.specs.Graph.{IsShaped};
 ghost use Rattle.hg_model.specs.Shape.{Shape, FitsLink, first_links, link_of, place_list, with_link};
+ghost use Rattle.hg_model.specs.GraphWords.{strongly_sees_in, IsShapedIn, sees_in};
 
 use crate::memory::Memory;
 use crate::parents::Parents;
@@ -18,13 +18,13 @@ pub trait Sight {
     fn rows(&self) -> usize
         ensures value { result ≡ length (shape self.now).links }
         ensures short { result < 2 ^ 32 - 1 }
-        ensures shaped { IsShaped (shape self.now).members (shape self.now).links };
+        ensures shaped { IsShapedIn (shape self.now) };
 
     /// How many members there are, at most 128.
     fn members(&self) -> u32
         ensures value { result ≡ (shape self.now).members }
         ensures few { result ≤ 128 }
-        ensures shaped { IsShaped (shape self.now).members (shape self.now).links };
+        ensures shaped { IsShapedIn (shape self.now) };
 
     /// Who made row `x`.
     fn creator(&self, x: usize) -> Member
@@ -47,13 +47,13 @@ pub trait Sight {
     fn sees(&self, x: usize, y: usize) -> bool
         requires left { x < length (shape self.now).links }
         requires right { y < length (shape self.now).links }
-        ensures { result ≡ sees (shape self.now).links x y };
+        ensures { result ≡ sees_in (shape self.now) x y };
 
     /// Whether row `x` strongly sees row `y`.
     fn strongly_sees(&self, x: usize, y: usize) -> bool
         requires left { x < length (shape self.now).links }
         requires right { y < length (shape self.now).links }
-        ensures { result ≡ strongly_sees (shape self.now).members (shape self.now).links x y };
+        ensures { result ≡ strongly_sees_in (shape self.now) x y };
 }
 
 /// A graph that takes rows one by one.

@@ -1,6 +1,6 @@
 ghost use Rattle.std.specs.Prelude.{◌≡◌, ℕ, ◌<◌, ◌≤◌, ◌+◌, IsTrue, length};
-ghost use Rattle.hg_model.specs.Rounds.{is_witness, last_round, round_of};
-ghost use Rattle.hg_model.specs.Prefix.{Graph, IsCounted, ballot_of, links_of};
+ghost use Rattle.hg_model.specs.Prefix.{Graph, IsCounted, ballot_of};
+ghost use Rattle.hg_model.specs.GraphWords.{round_in, is_witness_in, last_round_in};
 
 use crate::ballot::Ballot;
 use crate::prefix::Prefix;
@@ -20,17 +20,17 @@ pub trait Votes {
     fn open<P: Prefix>(&mut self, p: &P, x: usize)
         requires made { MadeFor self.old (P.graph p.now) }
         requires place { x < length (P.graph p.now).rows }
-        requires witness { IsTrue (is_witness (P.graph p.now).members (links_of (P.graph p.now)) x) }
+        requires witness { IsTrue (is_witness_in (P.graph p.now) x) }
         ensures made { MadeFor self.new (P.graph p.now) }
         ensures candidate { candidate self.new ≡ x }
-        ensures counted { counted self.new ≡ round_of (P.graph p.now).members (links_of (P.graph p.now)) x }
+        ensures counted { counted self.new ≡ round_in (P.graph p.now) x }
         ensures opened { 0 < counted self.new };
 
     /// The votes of the witnesses of one round more are counted.
     fn advance<P: Prefix>(&mut self, p: &P)
         requires made { MadeFor self.old (P.graph p.now) }
         requires opened { 0 < counted self.old }
-        requires more { counted self.old < last_round (P.graph p.now).members (links_of (P.graph p.now)) }
+        requires more { counted self.old < last_round_in (P.graph p.now) }
         ensures made { MadeFor self.new (P.graph p.now) }
         ensures candidate { candidate self.new ≡ candidate self.old }
         ensures counted { counted self.new ≡ counted self.old + 1 };
@@ -39,10 +39,10 @@ pub trait Votes {
     fn fill<P: Prefix>(&mut self, p: &P, x: usize)
         requires made { MadeFor self.old (P.graph p.now) }
         requires place { x < length (P.graph p.now).rows }
-        requires witness { IsTrue (is_witness (P.graph p.now).members (links_of (P.graph p.now)) x) }
+        requires witness { IsTrue (is_witness_in (P.graph p.now) x) }
         ensures made { MadeFor self.new (P.graph p.now) }
         ensures candidate { candidate self.new ≡ x }
-        ensures counted { last_round (P.graph p.now).members (links_of (P.graph p.now)) ≤ counted self.new };
+        ensures counted { last_round_in (P.graph p.now) ≤ counted self.new };
 
     /// The vote of witness `y`, of a counted round above the candidate's, and whether it decides.
     fn ballot(&self, y: usize) -> Ballot

@@ -8,10 +8,11 @@ use Rattle.hg_model.specs.Fame.{Marks, mark_at}
 use Rattle.hg_model.specs.Prefix.{Graph, graph_of}
 use Rattle.hg_model.specs.Shares.{Share}
 use Rattle.hg_model.specs.History.{news, with_row, with_marks, first_mark}
+use Rattle.hg_model.specs.GraphWords.{state_by}
 use Rattle.hg_model.proofs.LinkLaws.{length-links}
 use Rattle.hg_model.proofs.PlacesLaws.{count_below-le}
 use Rattle.hg_graph.specs.Held.{graph_with}
-use Rattle.hg_kept.specs.Published.{Published, Keeps, state_by}
+use Rattle.hg_kept.specs.Published.{Published, Keeps}
 use Rattle.hg_node.specs.ChronicleView.{KeepsRecord, marked}
 use Rattle.hg_node.proofs.LastLaws.{last_place-push}
 use Rattle.hg_node.proofs.NewsLaws.{marked_push, marked_news}

@@ -17,7 +17,8 @@ use Rattle.hg_graph.specs.Held.{graph_with}
 use Rattle.hg_model.specs.History.{State, news, with_row, with_marks}
 use Rattle.hg_model.specs.NodeView.{NodeView, node_rows, node_marks, log, history_of, IsNode}
 use Rattle.hg_model.specs.Signing.{Accepts}
-use Rattle.hg_kept.specs.Published.{Published, Keeps, state_by}
+use Rattle.hg_model.specs.GraphWords.{state_by}
+use Rattle.hg_kept.specs.Published.{Published, Keeps}
 use Rattle.hg_pay.specs.Account.{Account}
 
 -- whose node it is, the balances that it began with, its rows as a graph, the log, and the published marks

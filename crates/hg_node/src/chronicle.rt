@@ -6,11 +6,9 @@ ghost use Rattle.hg_model.specs.Graph.{IsGraph};
 ghost use Rattle.hg_model.specs.Shape.{link_of};
 ghost use Rattle.hg_model.specs.Spelling.{Spells};
 ghost use Rattle.hg_model.specs.Verdict.{last_name, row_limit};
-ghost use Rattle.hg_model.specs.Prefix.{links_of};
-ghost use Rattle.hg_model.specs.Shares.{Speaks};
 ghost use Rattle.hg_model.specs.Fame.{mark_at};
-ghost use Rattle.hg_model.specs.Order.{last_closed};
 ghost use Rattle.hg_model.specs.Kept.{kept};
+ghost use Rattle.hg_model.specs.GraphWords.{last_closed_in, SpeaksOf};
 ghost use Rattle.hg_node.specs.ChronicleView.{book_in, last_own_place, news_in, no_chronicle, chronicle_news, chronicle_with, chronicle_state};
 
 use hg_graph::EventGraph;
@@ -125,7 +123,7 @@ impl Chronicle {
     /// Marks what a share has found, with an entry if it is news, and pays what is ordered then; tells how many were
     /// marked. Takes no memory.
     pub fn publish(&mut self, found: &Found) -> u32
-        requires { Speaks self.old.graph.members self.old.graph.coin self.old.graph.rows (links_of self.old.graph) found.now.len found.now.share found.now.marks }
+        requires { SpeaksOf self.old.graph found.now }
         ensures count { result ≡ news_in self.old found.now.len found.now.share }
         ensures grown { self.new ≡ chronicle_news self.old found.now.len found.now.share }
     {
@@ -172,7 +170,7 @@ impl Chronicle {
 
     /// The greatest closed round, or 0.
     pub fn closed(&self) -> u32
-        ensures { result ≡ last_closed self.now.graph.members (links_of self.now.graph) self.now.marks }
+        ensures { result ≡ last_closed_in self.now.graph self.now.marks }
     {
         self.kept.closed()
     }

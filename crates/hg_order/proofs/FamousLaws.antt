@@ -17,11 +17,12 @@ use Rattle.hg_model.specs.Order.{famous_places, can_receive, sig_at, xor_bytes, 
 use Rattle.hg_model.specs.Prefix.{Graph, IsOfGraph, links_of}
 use Rattle.hg_model.specs.Shape.{Shape}
 use Rattle.hg_model.specs.Standings.{Standing, round_at, witnesses_in}
+use Rattle.hg_model.specs.GraphWords.{famous_of}
 use Rattle.hg_model.proofs.StandingLaws.{round_at-standings, witnesses_in-standings}
 use Rattle.hg_model.proofs.PlacesLaws.{list_below-same, some_below-same, some_below_from}
 use Rattle.hg_model.proofs.ListLaws.{sum_by-list_below, list_any-list_below, list_all-list_below, none-list_below, all_list_below, map-list_below, filter-list_below}
 use Rattle.hg_model.proofs.SortLaws.{sum_of_ones}
-use Rattle.hg_order.specs.Famous.{famous_of, AreFamous, all_have, is_rival_to, is_lone, whitening_of}
+use Rattle.hg_order.specs.Famous.{AreFamous, all_have, is_rival_to, is_lone, whitening_of}
 use Rattle.hg_order.proofs.ImageLaws.{count_below-apart}
 
 and_assoc_three : (a b c d : Bool) → (a && (b && c && d)) ≡ (a && b && c && d)

@@ -8,9 +8,10 @@ use Rattle.hg_model.specs.Ancestry.{is_ancestor}
 use Rattle.hg_model.specs.Fame.{Marks, is_closed, is_unique_famous}
 use Rattle.hg_model.specs.Order.{famous_places, is_without, can_receive, round_received, is_received_in}
 use Rattle.hg_model.specs.Prefix.{Graph, links_of}
+use Rattle.hg_model.specs.GraphWords.{famous_of}
 use Rattle.hg_model.proofs.ListLaws.{none-list_below, list_all-list_below, all_list_below}
 use Rattle.hg_model.proofs.SearchLaws.{IsFoundBelow, least_below_found}
-use Rattle.hg_order.specs.Famous.{famous_of, all_have, IsBelowAll}
+use Rattle.hg_order.specs.Famous.{all_have, IsBelowAll}
 use Rattle.hg_order.specs.Round.{received_places}
 
 pos_from : (k : ℕ) → eqb k 0 ≡ false → 0 < k

@@ -17,13 +17,14 @@ use Rattle.hg_model.specs.Graph.{IsShaped, name_at}
 use Rattle.hg_model.specs.Fame.{Marks}
 use Rattle.hg_model.specs.Prefix.{Graph, links_of}
 use Rattle.hg_model.specs.Order.{sort_by, sig_at, median, xor_bytes, whitening, consensus_time, order_key, keyed_at, comes_before, received_or_zero, round_received, is_received_in, ordered_in}
+use Rattle.hg_model.specs.GraphWords.{famous_of, received_order}
 use Rattle.hg_model.proofs.ListLaws.{map-list_below, IsPairwise-list_below}
 use Rattle.hg_model.proofs.PlacesLaws.{list_below-same}
 use Rattle.hg_model.proofs.SortLaws.{IsPairwise, sort_by_cmp_is, sort_by-same, sort_by-map}
 use Rattle.hg_model.proofs.CompareLaws.{then_assoc, slice_cmp-append, is_lt-then, is_eq-then, nat_cmp-same}
 use Rattle.hg_model.proofs.LinkLaws.{length-links}
-use Rattle.hg_order.specs.Famous.{famous_of, IsBelowAll, times_of, whitening_of}
-use Rattle.hg_order.specs.Round.{placed_by, is_placed_before, placed_in, received_places, received_order, placed_below, sig_or_zeros, name_or_zeros, rows_cmp, placed_cmp, placed_less, IsWide}
+use Rattle.hg_order.specs.Famous.{IsBelowAll, times_of, whitening_of}
+use Rattle.hg_order.specs.Round.{placed_by, is_placed_before, placed_in, received_places, placed_below, sig_or_zeros, name_or_zeros, rows_cmp, placed_cmp, placed_less, IsWide}
 use Rattle.hg_order.proofs.FamousLaws.{whitening_is}
 use Rattle.hg_order.proofs.HolderLaws.{median_is_consensus}
 

@@ -7,11 +7,8 @@ use Rattle.hg_model.specs.Links.{Link, creator}
 use Rattle.hg_model.specs.Ancestry.{is_ancestor, is_self_ancestor}
 use Rattle.hg_model.specs.Fame.{Marks, mark_at, is_yes}
 use Rattle.hg_model.specs.Prefix.{Graph, links_of}
-use Rattle.hg_model.specs.Order.{famous_places, sig_at, time_at, xor_bytes}
-
--- the unique famous witnesses of round r by these marks, in the order of their places
-abbrev pub famous_of : Graph → Marks → ℕ → List ℕ
-famous_of g marks r = famous_places g.members (links_of g) marks r
+use Rattle.hg_model.specs.Order.{sig_at, time_at, xor_bytes}
+use Rattle.hg_model.specs.GraphWords.{famous_of}
 
 -- these places are the unique famous witnesses of some round by some marks, in the order of their places
 pub record AreFamous (g : Graph) (places : List ℕ) : Type 0 where

@@ -9,12 +9,13 @@ use Rattle.hg_model.specs.Places.{list_below}
 use Rattle.hg_model.specs.Links.{Link}
 use Rattle.hg_model.specs.Fame.{Marks}
 use Rattle.hg_model.specs.Prefix.{Graph, links_of}
-use Rattle.hg_model.specs.Order.{consensus_time, median, order_key, is_received_in, ordered_in, sig_at, sort_by, xor_bytes}
+use Rattle.hg_model.specs.Order.{median, order_key, sig_at, sort_by, xor_bytes}
+use Rattle.hg_model.specs.GraphWords.{is_received_by, consensus_time_in}
 use Rattle.hg_order.specs.Famous.{times_of}
 
 -- x as round r places it
 abbrev pub placed_by : Graph → Marks → ℕ → ℕ → Placed
-placed_by g marks r x = record { place = x; received = r; time = consensus_time g.members g.rows (links_of g) marks r x }
+placed_by g marks r x = record { place = x; received = r; time = consensus_time_in g marks r x }
 
 -- a comes before b: by what placed rows are ordered by, and where that is the same by the place
 abbrev pub is_placed_before : Graph → Marks → Placed → Placed → Bool
@@ -28,11 +29,7 @@ placed_in g marks r places = sort_by (is_placed_before g marks) (map (placed_by 
 
 -- the places of all rows that round r receives
 abbrev pub received_places : Graph → Marks → ℕ → List ℕ
-received_places g marks r = list_below (λ x. x) (length (links_of g)) (is_received_in g.members (links_of g) marks (λ k. k == r))
-
--- these rows in order
-abbrev pub received_order : Graph → Marks → ℕ → List Placed
-received_order g marks r = ordered_in g.members g.rows (links_of g) marks (λ k. k == r)
+received_places g marks r = list_below (λ x. x) (length (links_of g)) (is_received_by g marks (λ k. k == r))
 
 -- how two signatures compare when both are XORed with a third, and where that is the same how the names do
 abbrev pub whitened_cmp : List ℕ → List ℕ → List ℕ → List ℕ → List ℕ → Ordering

@@ -1,7 +1,8 @@
 ghost use Rattle.std.specs.Prelude.{◌≡◌, ◌<◌, ◌≤◌, All, length, take, drop, filter, count_by};
 ghost use Rattle.std.specs.List.{list_any};
 ghost use Rattle.hg_model.specs.Fame.{is_yes, mark_at};
-ghost use Rattle.hg_order.specs.Famous.{famous_of, AreFamous, is_lone, is_rival_to};
+ghost use Rattle.hg_model.specs.GraphWords.{famous_of};
+ghost use Rattle.hg_order.specs.Famous.{AreFamous, is_lone, is_rival_to};
 
 use hg_model::{Prefix, Sight, is_of_graph};
 

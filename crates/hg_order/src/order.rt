@@ -2,9 +2,10 @@ ghost use Rattle.std.specs.Prelude.{◌≡◌, ◌<◌, ℕ, All, length, map, r
 ghost use Rattle.std.specs.List.{AllByRecursion};
 ghost use Rattle.hg_model.specs.Fame.{Marks};
 ghost use Rattle.hg_model.specs.Prefix.{links_of};
-ghost use Rattle.hg_model.specs.Order.{sig_at, sort_by};
-ghost use Rattle.hg_order.specs.Famous.{famous_of, AreFamous, IsBelowAll};
-ghost use Rattle.hg_order.specs.Round.{placed_below, placed_in, received_places, received_order, rows_cmp, sig_or_zeros, name_or_zeros, placed_cmp, placed_less, IsWide};
+ghost use Rattle.hg_model.specs.Order.{sort_by};
+ghost use Rattle.hg_model.specs.GraphWords.{famous_of, received_order};
+ghost use Rattle.hg_order.specs.Famous.{AreFamous, IsBelowAll};
+ghost use Rattle.hg_order.specs.Round.{placed_below, placed_in, received_places, rows_cmp, sig_or_zeros, name_or_zeros, placed_cmp, placed_less, IsWide};
 
 use crate::time::median_time;
 use crate::white::{no_signature, white_cmp, whitening};

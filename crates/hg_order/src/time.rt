@@ -1,11 +1,10 @@
 ghost use Rattle.std.specs.Prelude.{◌≡◌, ◌<◌, ◌≤◌, ◌-◌, ◌/◌, ℕ, true, All, length, slice_index};
-ghost use Rattle.std.specs.List.{AllByRecursion};
 ghost use Rattle.hg_model.specs.Prefix.{links_of};
 ghost use Rattle.hg_model.specs.Ancestry.{is_ancestor};
 ghost use Rattle.hg_model.specs.Fame.{Marks};
-ghost use Rattle.hg_model.specs.Graph.{IsShaped};
-ghost use Rattle.hg_model.specs.Order.{consensus_time, median, time_at};
-ghost use Rattle.hg_order.specs.Famous.{famous_of, AreFamous, all_have, first_holder, times_of, IsBelowAll};
+ghost use Rattle.hg_model.specs.Order.{median, time_at};
+ghost use Rattle.hg_model.specs.GraphWords.{famous_of, consensus_time_in, shape_in, IsShapedIn};
+ghost use Rattle.hg_order.specs.Famous.{AreFamous, first_holder, times_of, IsBelowAll};
 
 use hg_model::{Prefix, Sight, is_of_graph};
 
@@ -13,7 +12,7 @@ use hg_model::{Prefix, Sight, is_of_graph};
 pub fn time_of<P: Prefix>(p: &P, famous: &[usize], x: usize) -> u64
     requires famous { AreFamous (P.graph p.now) famous.now }
     requires received { IsBelowAll (P.graph p.now) famous.now x }
-    ensures { (marks : Marks) (r : ℕ) → famous.now ≡ famous_of (P.graph p.now) marks r → result ≡ consensus_time (P.graph p.now).members (P.graph p.now).rows (links_of (P.graph p.now)) marks r x }
+    ensures { (marks : Marks) (r : ℕ) → famous.now ≡ famous_of (P.graph p.now) marks r → result ≡ consensus_time_in (P.graph p.now) marks r x }
 {
     is_of_graph(p);
     median_time(p, famous, x)
@@ -31,7 +30,7 @@ pub fn median_time<P: Prefix>(p: &P, famous: &[usize], x: usize) -> u64
 
 /// The same, found in an array of at least as many times as there are witnesses.
 fn median_in<P: Prefix>(p: &P, famous: &[usize], x: usize, times: &mut [u64]) -> u64
-    requires shaped { IsShaped (P.graph p.now).members (links_of (P.graph p.now)) }
+    requires shaped { IsShapedIn (shape_in (P.graph p.now)) }
     requires places { All (λ w. w < length (links_of (P.graph p.now))) famous.now }
     requires have { IsBelowAll (P.graph p.now) famous.now x }
     requires room { length famous.now ≤ length times.old }
@@ -44,7 +43,7 @@ fn median_in<P: Prefix>(p: &P, famous: &[usize], x: usize, times: &mut [u64]) ->
 
 /// The times at which the lines of these rows first had row `x` as ancestor.
 fn fill_times<P: Prefix>(p: &P, places: &[usize], x: usize, times: &mut [u64])
-    requires shaped { IsShaped (P.graph p.now).members (links_of (P.graph p.now)) }
+    requires shaped { IsShapedIn (shape_in (P.graph p.now)) }
     requires places { All (λ w. w < length (links_of (P.graph p.now))) places.now }
     requires have { IsBelowAll (P.graph p.now) places.now x }
     requires same { length times.old ≡ length places.now }
@@ -58,7 +57,7 @@ fn fill_times<P: Prefix>(p: &P, places: &[usize], x: usize, times: &mut [u64])
 /// The time at which the line of row `w` first had row `x` as ancestor.
 #[tactic(auto, using(crate::proofs::RowLaws::row_known))]
 fn holder_time<P: Prefix>(p: &P, w: usize, x: usize) -> u64
-    requires shaped { IsShaped (P.graph p.now).members (links_of (P.graph p.now)) }
+    requires shaped { IsShapedIn (shape_in (P.graph p.now)) }
     requires line { w < length (links_of (P.graph p.now)) }
     requires place { x < length (links_of (P.graph p.now)) }
     requires has { is_ancestor (links_of (P.graph p.now)) w x ≡ true }
@@ -70,7 +69,7 @@ fn holder_time<P: Prefix>(p: &P, w: usize, x: usize) -> u64
 
 /// The first of the line of row `w` that has row `x` as ancestor.
 fn first_holder<S: Sight>(sight: &S, x: usize, w: usize) -> usize
-    requires shaped { IsShaped (S.shape sight.now).members (S.shape sight.now).links }
+    requires shaped { IsShapedIn (S.shape sight.now) }
     requires place { x < length (S.shape sight.now).links }
     requires line { w < length (S.shape sight.now).links }
     requires has { is_ancestor (S.shape sight.now).links w x ≡ true }

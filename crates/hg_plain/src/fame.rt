@@ -1,9 +1,8 @@
 ghost use Rattle.std.specs.Prelude.{◌≡◌, ◌<◌, ◌-◌, ◌^◌, [], length, IfOk, option_map};
 ghost use Rattle.hg_model.specs.Places.{least_below};
 ghost use Rattle.hg_model.specs.Rounds.{round_of};
-ghost use Rattle.hg_model.specs.Fame.{fame_of, fame_marks};
-ghost use Rattle.hg_model.specs.Order.{coin_at};
 ghost use Rattle.hg_model.specs.Prefix.{links_of};
+ghost use Rattle.hg_model.specs.GraphWords.{fame_in, fame_marks_in};
 ghost use Rattle.hg_plain.specs.Tables.{IsTableOf};
 ghost use Rattle.hg_plain.specs.Elections.{voter_places, decides_at, decision_at, earlier_of, decided_vote};
 
@@ -66,7 +65,7 @@ fn fame(
     requires short { length (links_of p.now) < 2 ^ 32 - 1 }
     requires candidate { x < length (links_of p.now) }
     requires voters { IsTableOf [] (voter_places p.now.members (links_of p.now)) (length (links_of p.now)) voters.now }
-    ensures { IfOk result (λ fame. fame ≡ fame_of p.now.members p.now.coin (links_of p.now) (coin_at p.now.rows) x) }
+    ensures { IfOk result (λ fame. fame ≡ fame_in p.now x) }
 {
     let sight = p.tables();
     if !sight.is_witness(x) {
@@ -80,7 +79,7 @@ fn fame(
 #[tactic(auto, using(crate::proofs::TableLaws::tells_steps))]
 pub fn marks(alloc: Global, p: &PlainPrefix<'_>) -> Result<Vec<Option<bool>>, Memory>
     requires short { length (links_of p.now) < 2 ^ 32 - 1 }
-    ensures marks { IfOk result (λ v. v.items ≡ fame_marks p.now.members p.now.coin (links_of p.now) (coin_at p.now.rows)) }
+    ensures marks { IfOk result (λ v. v.items ≡ fame_marks_in p.now) }
     ensures len { IfOk result (λ v. length v.items ≡ length (links_of p.now)) }
 {
     let voters = voters(alloc, p.tables())?;

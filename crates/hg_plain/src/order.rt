@@ -1,9 +1,8 @@
-ghost use Rattle.std.specs.Prelude.{◌≡◌, ◌<◌, ◌≤◌, ◌&&◌, ◌==◌, ◌++◌, ◌^◌, None, false, suc, length, get_or, is_some, unwrap_or, IfOk, OnOk};
-ghost use Rattle.hg_model.specs.Fame.{is_closed};
+ghost use Rattle.std.specs.Prelude.{◌≡◌, ◌<◌, ◌≤◌, ◌==◌, ◌++◌, ◌^◌, None, false, suc, length, get_or, IfOk, OnOk};
 ghost use Rattle.hg_model.specs.Places.{list_below};
-ghost use Rattle.hg_model.specs.Order.{ordered, round_received};
 ghost use Rattle.hg_model.specs.Prefix.{links_of};
-ghost use Rattle.hg_order.specs.Round.{received_order, received_places};
+ghost use Rattle.hg_model.specs.GraphWords.{received_order, is_closed_in, received_in, ordered_by};
+ghost use Rattle.hg_order.specs.Round.{received_places};
 ghost use Rattle.hg_plain.specs.Tables.{IsTableOf};
 ghost use Rattle.hg_plain.specs.Rounds.{is_round};
 
@@ -21,9 +20,9 @@ pub fn ordered_rows(
     marks: &[Option<bool>],
     closed: &[bool],
 ) -> Result<Vec<Placed>, Memory>
-    requires closed { IsTableOf false (is_closed p.now.members (links_of p.now) marks.now) (suc (length (links_of p.now))) closed.now }
+    requires closed { IsTableOf false (is_closed_in p.now marks.now) (suc (length (links_of p.now))) closed.now }
     requires short { length closed.now < 2 ^ 32 }
-    ensures { IfOk result (λ v. v.items ≡ ordered p.now.members p.now.rows (links_of p.now) marks.now) }
+    ensures { IfOk result (λ v. v.items ≡ ordered_by p.now marks.now) }
 {
     let received = rounds_received(alloc, p, marks, closed)?;
     let mut order = Vec::new(alloc);
@@ -42,7 +41,7 @@ fn push_round(
     r: u32,
     order: &mut Vec<Placed>,
 ) -> Result<(), Memory>
-    requires received { IsTableOf None (round_received p.now.members (links_of p.now) marks.now) (length (links_of p.now)) received.now }
+    requires received { IsTableOf None (received_in p.now marks.now) (length (links_of p.now)) received.now }
     ensures { OnOk result (order.new.items ≡ order.old.items ++ received_order p.now marks.now r) }
 {
     let fresh = received_places(alloc, received, r)?;

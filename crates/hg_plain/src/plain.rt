@@ -7,6 +7,7 @@ ghost use Rattle.hg_model.specs.Fame.{fame_marks, is_closed};
 ghost use Rattle.hg_model.specs.Order.{coin_at, last_closed, order_of};
 ghost use Rattle.hg_model.specs.Ledger.{closed_of};
 ghost use Rattle.hg_model.specs.Prefix.{graph_of, links_of};
+ghost use Rattle.hg_model.specs.GraphWords.{last_round_in, is_closed_in, last_closed_in};
 ghost use Rattle.hg_plain.specs.Tables.{IsTableOf};
 
 use crate::closed::{closed_rounds, last_closed};
@@ -87,10 +88,10 @@ pub fn plain_order(
 /// What the procedures tell besides the order.
 fn state_of(graph: &Elected<'_>) -> PlainState
     requires short { length graph.now.closed.items < 2 ^ 32 }
-    requires closed { IsTableOf false (is_closed graph.now.prefix.members (links_of graph.now.prefix) graph.now.marks.items) (suc (length (links_of graph.now.prefix))) graph.now.closed.items }
+    requires closed { IsTableOf false (is_closed_in graph.now.prefix graph.now.marks.items) (suc (length (links_of graph.now.prefix))) graph.now.closed.items }
     ensures forkers { result.forkers ≡ forkers graph.now.prefix.members (links_of graph.now.prefix) }
-    ensures greatest { result.greatest ≡ last_round graph.now.prefix.members (links_of graph.now.prefix) }
-    ensures closed { result.closed ≡ last_closed graph.now.prefix.members (links_of graph.now.prefix) graph.now.marks.items }
+    ensures greatest { result.greatest ≡ last_round_in graph.now.prefix }
+    ensures closed { result.closed ≡ last_closed_in graph.now.prefix graph.now.marks.items }
 {
     PlainState {
         forkers: graph.prefix.tables().forkers(),

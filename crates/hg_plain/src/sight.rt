@@ -2,6 +2,7 @@ ghost use Rattle.std.specs.Prelude.{◌≡◌, ◌<◌, ◌-◌, ◌^◌, length
 ghost use Rattle.hg_model.specs.Links.{links};
 ghost use Rattle.hg_model.specs.Graph.{IsShaped};
 ghost use Rattle.hg_model.specs.Shape.{shape_of};
+ghost use Rattle.hg_model.specs.GraphWords.{strongly_sees_in, sees_in};
 
 use crate::forks::plain_forkers;
 use crate::links::{creator_of, self_parent_of};
@@ -102,7 +103,7 @@ impl PlainSight {
     pub fn sees(&self, x: usize, y: usize) -> bool
         requires left { x < length self.now.links }
         requires right { y < length self.now.links }
-        ensures { result ≡ sees self.now.links x y }
+        ensures { result ≡ sees_in self.now x y }
     {
         self.seeing.sees(x, y)
     }
@@ -110,7 +111,7 @@ impl PlainSight {
     pub fn strongly_sees(&self, x: usize, y: usize) -> bool
         requires left { x < length self.now.links }
         requires right { y < length self.now.links }
-        ensures { result ≡ strongly_sees self.now.members self.now.links x y }
+        ensures { result ≡ strongly_sees_in self.now x y }
     {
         cell(&self.strong, x, y)
     }

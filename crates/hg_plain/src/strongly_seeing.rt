@@ -2,6 +2,7 @@ ghost use Rattle.std.specs.Prelude.{◌≡◌, ℕ, ◌<◌, ◌≤◌, ◌&&◌
 ghost use Rattle.hg_model.specs.Places.{count_below};
 ghost use Rattle.hg_model.specs.Links.{creator};
 ghost use Rattle.hg_model.specs.Seeing.{sees, sees_through, strongly_sees};
+ghost use Rattle.hg_model.specs.GraphWords.{strongly_sees_in, sees_in};
 ghost use Rattle.hg_plain.specs.Tables.{IsTableOf, IsTableOfPairs, cell_at, column_at};
 
 use crate::ancestry::any_parent;
@@ -13,7 +14,7 @@ use std::alloc::Global;
 
 /// For each row the rows that strongly see it.
 pub fn strong_columns(alloc: Global, seeing: &Seeing) -> Result<Vec<Vec<bool>>, Memory>
-    ensures { IfOk result (λ v. IsTableOfPairs (strongly_sees seeing.now.members seeing.now.links) (length seeing.now.links) (length seeing.now.links) v.items) }
+    ensures { IfOk result (λ v. IsTableOfPairs (strongly_sees_in seeing.now) (length seeing.now.links) (length seeing.now.links) v.items) }
 {
     let len = seeing.ancestry().links().len();
     let mut columns = Vec::with_capacity(alloc, len)?;
@@ -27,7 +28,7 @@ pub fn strong_columns(alloc: Global, seeing: &Seeing) -> Result<Vec<Vec<bool>>, 
 #[tactic(auto, using(crate::proofs::TableLaws::tells_steps))]
 fn strong_column(alloc: Global, seeing: &Seeing, y: usize) -> Result<Vec<bool>, Memory>
     requires { y < length seeing.now.links }
-    ensures { IfOk result (λ v. IsTableOf false (λ x. strongly_sees seeing.now.members seeing.now.links x y) (length seeing.now.links) v.items) }
+    ensures { IfOk result (λ v. IsTableOf false (λ x. strongly_sees_in seeing.now x y) (length seeing.now.links) v.items) }
 {
     let through = through_columns(alloc, seeing, y)?;
     let len = seeing.ancestry().links().len();
@@ -43,7 +44,7 @@ fn strong_column(alloc: Global, seeing: &Seeing, y: usize) -> Result<Vec<bool>, 
 fn is_strong(seeing: &Seeing, through: &[Vec<bool>], x: usize, y: usize) -> bool
     requires place { x < length seeing.now.links }
     requires known { IsTableOfPairs (λ x m. sees_through seeing.now.links x y m) (length seeing.now.links) seeing.now.members through.now }
-    ensures { result ≡ strongly_sees seeing.now.members seeing.now.links x y }
+    ensures { result ≡ strongly_sees_in seeing.now x y }
 {
     let members = seeing.members();
     is_supermajority(members, count_through(through, members, x))
@@ -112,7 +113,7 @@ fn next_through(seeing: &Seeing, column: &[bool], x: usize, y: usize, member: u3
 fn is_seen_by(seeing: &Seeing, x: usize, y: usize, member: u32) -> bool
     requires place { x < length seeing.now.links }
     requires seen { y < length seeing.now.links }
-    ensures { result ≡ (creator seeing.now.links x == member && sees seeing.now.links x y) }
+    ensures { result ≡ (creator seeing.now.links x == member && sees_in seeing.now x y) }
 {
     u32::from(creator_of(seeing.ancestry().links(), x)) == member && seeing.sees(x, y)
 }

@@ -2,7 +2,7 @@
 use Rattle.std.specs.Prelude.{ℕ, ◌≡◌, ◌≢◌, ◌<◌, ◌≤◌, ◌+◌, ◌-◌, Bool, List, [], length, take, min, get_or}
 use Rattle.hg_model.specs.Links.{parents}
 use Rattle.hg_model.specs.Shape.{Shape, first_links}
-use Rattle.hg_model.specs.Standings.{Standing, standings_of, round_at, witnesses_in, greatest_in}
+use Rattle.hg_model.specs.Standings.{Standing, round_at, witnesses_in, greatest_in}
 use Rattle.hg_rounds.specs.Listed.{Listed}
 
 -- the standings of the rows, and for how many more there is memory at least
@@ -12,10 +12,6 @@ pub record Tabled : Type 0 where
 
 abbrev pub standing : ℕ → Bool → Standing
 standing round witness = record { round = round; witness = witness }
-
--- the standings of the graph's rows
-abbrev pub standings_in : Shape → List Standing
-standings_in shape = standings_of shape.members shape.links
 
 -- the place of the graph's last row
 abbrev pub last_place : Shape → ℕ

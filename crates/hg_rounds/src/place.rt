@@ -3,8 +3,9 @@ ghost use Rattle.hg_model.specs.Links.{first_place};
 ghost use Rattle.hg_model.specs.Rounds.{parent_round, is_witness, round_of};
 ghost use Rattle.hg_model.specs.Seeing.{is_supermajority, strongly_sees};
 ghost use Rattle.hg_model.specs.Standings.{greatest_in, round_at};
+ghost use Rattle.hg_model.specs.GraphWords.{standings_in, strongly_sees_in};
 ghost use Rattle.std.specs.List.{AllByRecursion, list_all};
-ghost use Rattle.hg_rounds.specs.Tabled.{before_last, last_parents, last_place, standing, standings_in};
+ghost use Rattle.hg_rounds.specs.Tabled.{before_last, last_parents, last_place, standing};
 
 use crate::table::RoundTable;
 use hg_model::{Parents, Rounds, Sight, is_supermajority};
@@ -46,7 +47,7 @@ fn count_seen<S: Sight>(sight: &S, rows: &[usize], x: usize) -> u32
     requires places { AllByRecursion (λ y. y < x) rows.now }
     requires few { length rows.now ≤ x }
     requires short { x < 2 ^ 32 - 1 }
-    ensures { result ≡ count_by (strongly_sees (S.shape sight.now).members (S.shape sight.now).links x) rows.now }
+    ensures { result ≡ count_by (strongly_sees_in (S.shape sight.now) x) rows.now }
 {
     let mut count = 0;
     for y in rows {

@@ -2,13 +2,13 @@
 use Rattle.std.specs.Prelude.{ℕ, Bool, false, not, List, length, get_or, count_by}
 use Rattle.hg_model.specs.declared.ballot.Ballot.{Ballot}
 use Rattle.hg_model.specs.Places.{list_below}
-use Rattle.hg_model.specs.Votes.{is_voter}
-use Rattle.hg_model.specs.Prefix.{Graph, links_of}
+use Rattle.hg_model.specs.Prefix.{Graph}
+use Rattle.hg_model.specs.GraphWords.{is_voter_in}
 use Rattle.hg_votes.specs.declared.tally.Tally.{Tally}
 
 -- the voters of witness y, by place
 unfoldable pub voters_of : Graph → ℕ → List ℕ
-voters_of g y = list_below (λ w. w) (length g.rows) (is_voter g.members (links_of g) y)
+voters_of g y = list_below (λ w. w) (length g.rows) (is_voter_in g y)
 
 -- the ballot where none is kept
 abbrev pub no_ballot : Ballot

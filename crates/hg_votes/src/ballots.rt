@@ -1,6 +1,6 @@
 ghost use Rattle.std.specs.Prelude.{◌≡◌, ◌<◌, ◌-◌, ◌^◌, length, IfOk};
-ghost use Rattle.hg_model.specs.Prefix.{IsCounted, ballot_of, links_of};
-ghost use Rattle.hg_model.specs.Rounds.{round_of};
+ghost use Rattle.hg_model.specs.Prefix.{IsCounted, ballot_of};
+ghost use Rattle.hg_model.specs.GraphWords.{round_in};
 ghost use Rattle.hg_votes.specs.Counting.{HoldsBallots, HoldsVoters, IsOpened};
 
 use crate::tally::count_votes;
@@ -30,11 +30,11 @@ fn next_ballot<P: Prefix>(
     x: usize,
     y: usize,
 ) -> Ballot
-    requires counted { IsCounted (P.graph p.now) x (round_of (P.graph p.now).members (links_of (P.graph p.now)) y) y }
+    requires counted { IsCounted (P.graph p.now) x (round_in (P.graph p.now) y) y }
     requires candidate { x < length (P.graph p.now).rows }
     requires short { length (P.graph p.now).rows < 2 ^ 32 - 1 }
     requires voters { HoldsVoters (P.graph p.now) (length (P.graph p.now).rows) voters.now }
-    requires before { HoldsBallots (P.graph p.now) x (round_of (P.graph p.now).members (links_of (P.graph p.now)) y - 1) ballots.now }
+    requires before { HoldsBallots (P.graph p.now) x (round_in (P.graph p.now) y - 1) ballots.now }
     ensures { result ≡ ballot_of (P.graph p.now) x y }
 {
     let above = p.round(y) - p.round(x);

@@ -1,7 +1,7 @@
 ghost use Rattle.std.specs.Prelude.{◌≡◌, ◌<◌, ◌-◌, length, IfOk};
 ghost use Rattle.std.specs.List.{AllByRecursion, filter};
-ghost use Rattle.hg_model.specs.Prefix.{links_of};
 ghost use Rattle.hg_model.specs.Seeing.{strongly_sees};
+ghost use Rattle.hg_model.specs.GraphWords.{strongly_sees_in};
 ghost use Rattle.hg_votes.specs.Tallies.{voters_of};
 ghost use Rattle.hg_votes.specs.Counting.{HoldsVoters};
 
@@ -17,7 +17,7 @@ fn seen_among<S: Sight>(
 ) -> Result<Items<usize>, Memory>
     requires place { y < length (S.shape sight.now).links }
     requires places { AllByRecursion (λ w. w < length (S.shape sight.now).links) rows.now }
-    ensures { IfOk result (λ seen. seen ≡ filter (strongly_sees (S.shape sight.now).members (S.shape sight.now).links y) rows.now) }
+    ensures { IfOk result (λ seen. seen ≡ filter (strongly_sees_in (S.shape sight.now) y) rows.now) }
 {
     let mut seen = Vec::new(alloc);
     for w in rows {

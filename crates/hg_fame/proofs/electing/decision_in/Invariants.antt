@@ -1,5 +1,5 @@
 use Rattle.std.proofs.Common.{◌≡◌, None, find, take}
-use Rattle.hg_fame.specs.Decisions.{decides_in}
+use Rattle.hg_model.specs.GraphWords.{decides_in}
 use Rattle.hg_fame.proofs.electing.decision_in.Given as goal
 
 abbrev pub invariant-loop-y : goal.invariant-loop-y

@@ -3,9 +3,9 @@ use Rattle.hg_model.specs.declared.row.Placed.{Placed}
 use Rattle.hg_model.specs.Prefix.{links_of}
 use Rattle.hg_model.specs.Kept.{kept_up_to}
 use Rattle.hg_model.specs.Orders.{IsPrefix}
+use Rattle.hg_model.specs.GraphWords.{state_by}
 use Rattle.hg_model.proofs.LinkLaws.{length-links}
 use Rattle.hg_prefix.proofs.FamousLaws.{closed_bounds}
-use Rattle.hg_kept.specs.Published.{state_by}
 use Rattle.hg_kept.proofs.NextLaws.{reached_low}
 use Rattle.hg_kept.proofs.PublishLaws.{keeps_all, order_grows}
 use Rattle.hg_kept.proofs.closing.close_rounds.Goals as goal

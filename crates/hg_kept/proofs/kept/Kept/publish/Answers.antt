@@ -1,6 +1,7 @@
 use Rattle.std.proofs.Common.{◌≡◌, length, ap, sym, subst, arith}
 use Rattle.hg_model.specs.History.{news, with_marks}
-use Rattle.hg_kept.specs.Published.{PublishedWithRoom, Keeps, state_by}
+use Rattle.hg_model.specs.GraphWords.{state_by}
+use Rattle.hg_kept.specs.Published.{PublishedWithRoom, Keeps}
 use Rattle.hg_kept.proofs.PublishLaws.{found_inside, found_few, marks_published, count_published, keeps_published}
 use Rattle.hg_kept.proofs.kept.Kept.publish.Goals as goal
 

@@ -3,8 +3,9 @@ use Rattle.std.specs.Vec.{vec_capacity}
 use Rattle.hg_model.specs.Graph.{IsGraph}
 use Rattle.hg_model.specs.History.{with_row}
 use Rattle.hg_model.specs.Prefix.{Graph}
+use Rattle.hg_model.specs.GraphWords.{state_by}
 use Rattle.hg_graph.specs.Held.{graph_with}
-use Rattle.hg_kept.specs.Published.{Published, Keeps, TookRow, state_by}
+use Rattle.hg_kept.specs.Published.{Published, Keeps, TookRow}
 use Rattle.hg_pay.specs.Account.{Account}
 use Rattle.hg_node.specs.ChronicleView.{ChronicleView, KeepsBook}
 use Rattle.hg_node.proofs.BookLaws.{book_with_row}
