@@ -2,8 +2,8 @@ ghost use Rattle.hg_agree.specs.Agreement.{DecidersAgree, DecidersAgreeLater, De
 ghost use Rattle.hg_agree.specs.Late.{ClosedRoundsStay, LateWitnessIsNotFamous};
 ghost use Rattle.hg_agree.specs.Quorum.{RoundsCarryAQuorum};
 
-/// A law: each row of round r + 1 strongly sees witnesses of round r by more than two thirds of the
-/// members, one by each.
+/// A law: each row of round r + 1 strongly sees witnesses of round r by members of more than two thirds
+/// of the stake, one by each.
 pub fn rounds_carry_a_quorum()
     ensures quorum { RoundsCarryAQuorum }
 {}

@@ -9,6 +9,7 @@ use Rattle.std.proofs.lemmas.List.FromFn.{length-map-range_with_len}
 use Rattle.std.proofs.lemmas.List.Sums.{fold-append}
 use Rattle.hg_model.specs.declared.row.Row.{Row}
 use Rattle.hg_model.specs.Places.{list_below, count_below, weight_below, table}
+use Rattle.hg_model.specs.Stakes.{Stakes}
 use Rattle.hg_model.specs.Links.{Link}
 use Rattle.hg_model.specs.Rounds.{is_witness}
 use Rattle.hg_model.specs.Fame.{Marks, mark_at, fame_of, is_yes}
@@ -77,7 +78,7 @@ module _ (marks : Marks) (fame : ℕ → Option Bool) where
       (next k (fold add_mark (record { marks = marks; count = 0 }) (pairs k)) (omega arith) (added k (omega arith)) (fame k) refl)
 
 -- past the first rows a share finds nothing
-pub found_below : (n c : ℕ) (G : List Row) (L : List Link) (share : Share) (x : ℕ) → length L ≤ x → share_fame n c G L share x ≡ None
+pub found_below : (n : Stakes) (c : ℕ) (G : List Row) (L : List Link) (share : Share) (x : ℕ) → length L ≤ x → share_fame n c G L share x ≡ None
 unfolding share_fame
 found_below n c G L share x past =
     ap (λ (b : Bool). cond b (fame_of n c L (coin_at G) x) None) (false_from_ne_true (is_of_share n L share x) (λ h.
@@ -85,7 +86,7 @@ found_below n c G L share x past =
     let two = and_parts (ltb x (length L)) (is_witness n L x) one.0 in
     true≢false (sym two.0 ∙ le-ltb x (length L) past)))
 
-module _ (n c : ℕ) (s : State) (even : IsEven s) where
+module _ (n : Stakes) (c : ℕ) (s : State) (even : IsEven s) where
   pub adds_marks : (len : ℕ) (share : Share) (found : List (ℕ × Bool)) → Speaks n c s.rows s.links len share found →
       ((add_marks s.marks found).marks ≡ (with_marks n c s len share).marks) × ((add_marks s.marks found).count ≡ news n c s len share)
   unfolding add_marks found_in news

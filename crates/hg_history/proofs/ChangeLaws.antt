@@ -4,7 +4,8 @@ use Rattle.std.proofs.lemmas.Bool.{cases_lt}
 use Rattle.std.proofs.lemmas.List.{length_push}
 use Rattle.std.proofs.lemmas.Option.{slice_get_within}
 use Rattle.hg_model.specs.declared.row.Row.{Row}
-use Rattle.hg_model.specs.History.{Change, State, empty, with_row, with_marks, step, replay, AreSteps}
+use Rattle.hg_model.specs.History.{Change, State, empty, with_row, with_marks, step, replay, AreSteps, Accepts}
+use Rattle.hg_model.specs.Stakes.{Stakes}
 use Rattle.hg_model.specs.History.Change.{Took, Made, Marked}
 use Rattle.hg_model.proofs.LongerLaws.{slice_get-append}
 use Rattle.hg_model.proofs.PushLaws.{nobody, slice_get-before, slice_get-last}
@@ -33,7 +34,7 @@ split G more row x at = elim (cases_lt x (length G)) [
       inr cc)
 ]
 
-came_from : (accepts : Accepts) (n c own : ℕ) (s : State) (h : List Change) → AreSteps accepts n c own s h → (x : ℕ) (row : Row) → slice_get (fold (step n c) s h).rows x ≡ Some row →
+came_from : (accepts : Accepts) (n : Stakes) (c own : ℕ) (s : State) (h : List Change) → AreSteps accepts n c own s h → (x : ℕ) (row : Row) → slice_get (fold (step n c) s h).rows x ≡ Some row →
     (slice_get s.rows x ≡ Some row) ⊎ Came own h row
 came_from accepts n c own s [] steps x row at = inl at
 came_from accepts n c own s (Marked len share ∷ h) steps x row at = elim (came_from accepts n c own (with_marks n c s len share) h steps.1 x row at) [
@@ -68,7 +69,7 @@ rows_came accepts n c own h is x row at = elim (came_from accepts n c own empty 
   | inr came ↦ came
 ]
 
-module _ (n c : ℕ) where
+module _ (n : Stakes) (c : ℕ) where
   stays : (s : State) (h : List Change) (x : ℕ) (row : Row) → slice_get s.rows x ≡ Some row → slice_get (fold (step n c) s h).rows x ≡ Some row
   stays s h x row at =
       let more = rows_from n c s h in

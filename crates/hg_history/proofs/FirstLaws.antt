@@ -5,8 +5,9 @@ use Rattle.std.proofs.lemmas.Bool.{cases_lt}
 use Rattle.std.proofs.lemmas.List.{length-take, length-take-le, take-append-drop, get_or_append_left, map-append, take_all}
 use Rattle.std.proofs.lemmas.List.Sums.{position_or_len_is, fails_before_first, passes_at_first}
 use Rattle.hg_model.specs.declared.row.Row.{Row}
+use Rattle.hg_model.specs.Stakes.{Stakes, member_count, stake_of}
 use Rattle.hg_model.specs.Links.{Link, links, link_in, parent_names, is_named, place_of}
-use Rattle.hg_model.specs.Forks.{has_fork, forkers}
+use Rattle.hg_model.specs.Forks.{has_fork, forking}
 use Rattle.hg_model.specs.Graph.{name_in, name_at, IsShaped, IsGraph}
 use Rattle.hg_model.specs.Fits.{AreHeld, IsPresent}
 use Rattle.hg_model.proofs.ForkLaws.{has_fork_found, has_fork_from, is_fork_from}
@@ -32,7 +33,7 @@ held_in_front G more (name ∷ names) x le low =
     (let first = low.0 in (rw (place_in_front G more name (omega arith)) (omega arith), held_in_front G more names x le low.1))
 
 -- the parents of each of the first rows are among them
-present_in_front : (n : ℕ) (G more : List Row) → IsShaped n (links (G ++ more)) → (x : ℕ) → x < length G → IsPresent G (get_or G x nobody)
+present_in_front : (n : Stakes) (G more : List Row) → IsShaped n (links (G ++ more)) → (x : ℕ) → x < length G → IsPresent G (get_or G x nobody)
 present_in_front n G more shaped x inside =
     let row : Row = get_or G x nobody in
     let U = G ++ more in
@@ -49,7 +50,7 @@ same_links G more [] all = refl
 same_links G more (row ∷ H) all = ap₂ (λ (l : Link) (ls : List Link). l ∷ ls) (link_in-append G more row all.0) (same_links G more H all.1)
 
 -- the links of the first rows are the first links
-pub links_of_front : (n : ℕ) (G more : List Row) → IsShaped n (links (G ++ more)) → links G ≡ take (length G) (links (G ++ more))
+pub links_of_front : (n : Stakes) (G more : List Row) → IsShaped n (links (G ++ more)) → links G ≡ take (length G) (links (G ++ more))
 unfolding links
 links_of_front n G more shaped =
     let present = all_from (IsPresent G) nobody G (present_in_front n G more (unfold links in shaped)) in
@@ -74,7 +75,7 @@ fork_of_front n m L M longer forks =
       not_below = is_self_ancestor-longer L M longer b a inside_b ∙ f.4.not_below;
     }))
 
-module _ (n : ℕ) (G more : List Row) (u : IsGraph n (G ++ more)) where
+module _ (n : Stakes) (G more : List Row) (u : IsGraph n (G ++ more)) where
   first_links : links G ≡ take (length G) (links (G ++ more))
   first_links = links_of_front n G more u.shaped
 
@@ -84,7 +85,7 @@ module _ (n : ℕ) (G more : List Row) (u : IsGraph n (G ++ more)) where
       (longer-take (links (G ++ more)) (length G) (omega (arith, length-links (G ++ more), Rattle.std.proofs.Common.length-append G more)))
 
   pub graph_front : IsGraph n G
-  unfolding forkers name_at
+  unfolding forking name_at
   graph_front = record {
     distinct = record {
       one = λ x y hx hy same.
@@ -92,11 +93,11 @@ module _ (n : ℕ) (G more : List Row) (u : IsGraph n (G ++ more)) where
           u.distinct.one x y (omega arith) (omega arith) (ap name_in (slice_get-append G more nobody x hx) ∙ (same ∙ sym (ap name_in (slice_get-append G more nobody y hy))));
     };
     shaped = shaped-shorter n (links G) (links (G ++ more)) longer u.shaped;
-    few_forkers = omega (arith, u.few_forkers, weight_below-le (λ _. 1) n (has_fork (links G)) (has_fork (links (G ++ more))) (λ m inside forks. fork_of_front n m (links G) (links (G ++ more)) longer forks));
+    few_forkers = omega (arith, u.few_forkers, weight_below-le (stake_of n) (member_count n) (has_fork (links G)) (has_fork (links (G ++ more))) (λ m inside forks. fork_of_front n m (links G) (links (G ++ more)) longer forks));
   }
 
 -- a length past the end gives all rows
-whole_or_part : (n len : ℕ) (G : List Row) → IsGraph n G → len ≤ length G → IsGraph n (take len G) × (links (take len G) ≡ take len (links G))
+whole_or_part : (n : Stakes) (len : ℕ) (G : List Row) → IsGraph n G → len ≤ length G → IsGraph n (take len G) × (links (take len G) ≡ take len (links G))
 whole_or_part n len G g le =
     let parts = take-append-drop len G in
     let u = subst (IsGraph n) (sym parts) g in (

@@ -7,6 +7,7 @@ use Rattle.std.proofs.lemmas.List.{map-append}
 use Rattle.hg_model.specs.declared.row.Row.{Row}
 use Rattle.hg_model.specs.declared.row.Placed.{Placed}
 use Rattle.hg_model.specs.Places.{list_below}
+use Rattle.hg_model.specs.Stakes.{Stakes}
 use Rattle.hg_model.specs.Links.{Link, links, place_of}
 use Rattle.hg_model.specs.Graph.{name_in, name_at, HasDistinctNames}
 use Rattle.hg_model.specs.Fame.{Marks, fame_marks, is_closed}
@@ -50,7 +51,7 @@ module _ (G U : List Row) (distinct : HasDistinctNames U) (same : (x : ℕ) → 
   all_back [] all = refl
   all_back (keyed ∷ xs) all = ap₂ (λ (p : Placed) (ps : List Placed). p ∷ ps) (back_at keyed.1 all.0) (all_back xs all.1)
 
-  places_back : (n : ℕ) (marks : Marks) → map (placed_by U) (map (named_in G) (ordered n G (links G) marks)) ≡ ordered n G (links G) marks
+  places_back : (n : Stakes) (marks : Marks) → map (placed_by U) (map (named_in G) (ordered n G (links G) marks)) ≡ ordered n G (links G) marks
   unfolding ordered_in
   places_back n marks =
       let L = links G in
@@ -60,7 +61,7 @@ module _ (G U : List Row) (distinct : HasDistinctNames U) (same : (x : ℕ) → 
       (all_sorted (IsInside G) comes_before rows (all_list_below (IsInside G) (keyed_at n G L marks) (length L) (is_received_in n L marks (λ r. true)) (λ x inside e. omega arith)))
 
 -- where the rows of G are the first rows of U, an order that is a prefix by names is one by places
-pub prefix_by_places : (n : ℕ) (G U : List Row) (f h : Marks) → HasDistinctNames U → IsPrefix G U →
+pub prefix_by_places : (n : Stakes) (G U : List Row) (f h : Marks) → HasDistinctNames U → IsPrefix G U →
     IsPrefix (marked_order_by_names n G f) (marked_order_by_names n U h) → IsPrefix (ordered n G (links G) f) (ordered n U (links U) h)
 unfolding name_at
 prefix_by_places n G U f h distinct first names = (
@@ -76,7 +77,7 @@ prefix_by_places n G U f h distinct first names = (
 pub stands_as_first : (G U : List Row) → IsPrefix G U → StandsIn G U
 stands_as_first G U first = subst (StandsIn G) (sym first.1) (stands_in_longer G first.0)
 
-module _ (accepts : Accepts) (n c own : ℕ) (a b : List Change) (three : 2 < c) (is : IsHistory accepts n c own (a ++ b)) where
+module _ (accepts : Accepts) (n : Stakes) (c own : ℕ) (a b : List Change) (three : 2 < c) (is : IsHistory accepts n c own (a ++ b)) where
   early : IsSound accepts n c own (replay n c a)
   early = sound accepts n c own a three (moment accepts n c own a b is)
 
@@ -123,7 +124,7 @@ module _ (accepts : Accepts) (n c own : ℕ) (a b : List Change) (three : 2 < c)
       subst (λ (L : List Link). IsPrefix (map (named_in s.rows) (ordered n s.rows L s.marks)) (kept_by_names n t)) (sym early.linked)
       (subst (λ (L : List Link). IsPrefix (marked_order_by_names n s.rows s.marks) (map (named_in t.rows) (ordered n t.rows L t.marks))) (sym late.linked) names_of_rows)
 
-module _ (accepts : Accepts) (n c own : ℕ) (h : List Change) (three : 2 < c) (is : IsHistory accepts n c own h) where
+module _ (accepts : Accepts) (n : Stakes) (c own : ℕ) (h : List Change) (three : 2 < c) (is : IsHistory accepts n c own h) where
   now : IsSound accepts n c own (replay n c h)
   now = sound accepts n c own h three is
 

@@ -2,6 +2,7 @@
 use Rattle.std.proofs.Common.{◌≡◌, ℕ, suc, List, [], ◌∷◌, ◌++◌, length, get_or, fold, refl, ap, ap₂, ◌∙◌, arith}
 use Rattle.std.proofs.lemmas.List.{length_push, get_or_append_left, get_or_push}
 use Rattle.hg_model.specs.declared.row.Row.{Row}
+use Rattle.hg_model.specs.Stakes.{Stakes}
 use Rattle.hg_model.specs.History.{Change, State, empty, with_row, with_marks, step, replay}
 use Rattle.hg_model.specs.History.Change.{Took, Made, Marked}
 use Rattle.hg_model.specs.NodeView.{log_from, history_of}
@@ -9,7 +10,7 @@ use Rattle.hg_model.specs.Links.{no_row}
 use Rattle.hg_history.specs.Laws.{LogSpellsHistory}
 use Rattle.hg_history.proofs.StateLaws.{rows_from}
 
-module _ (n c : ℕ) where
+module _ (n : Stakes) (c : ℕ) where
   -- the row that comes next stands at its place in the end
   row_there : (s : State) (row : Row) (h : List Change) → get_or (fold (step n c) (with_row n s row) h).rows (length s.rows) no_row ≡ row
   row_there s row h =

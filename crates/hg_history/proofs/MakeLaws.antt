@@ -1,10 +1,11 @@
 -- An event that a node makes is a change of its history
-use Rattle.std.proofs.Common.{◌≡◌, ℕ, ◌^◌, ◌<◌, ◌≤◌, true, List, length, Option, Some, None, sym, refl, ap, ◌∙◌, subst, arith}
+use Rattle.std.proofs.Common.{◌≡◌, ℕ, ◌^◌, ◌<◌, ◌≤◌, true, List, length, Some, None, sym, refl, ap, ◌∙◌, subst, arith}
 use Rattle.std.specs.Prelude.{IfSome}
 use Rattle.hg_model.specs.declared.row.Row.{Row}
 use Rattle.hg_model.specs.declared.answers.MakeAnswer.{MakeAnswer}
 use Rattle.hg_model.specs.declared.answers.MakeAnswer.TheVariants as answer
 use Rattle.hg_model.specs.Links.{ParentNames, parent_names, place_of}
+use Rattle.hg_model.specs.Stakes.{member_count}
 use Rattle.hg_model.specs.Fits.{AreHeld}
 use Rattle.hg_model.specs.Spelling.{body_of, spelling, Spells}
 use Rattle.hg_model.specs.Verdict.{last_name, parents_on, made_row, making}
@@ -57,8 +58,8 @@ module _ (K : Type 0) (accepts : K → Accepts) (v : NodeView K) (others : List 
       let sizes = (node_graph (accepts v.start.keys) v.start.members v.start.coin own v.history node.coin node.history).sizes in
       let none = made_draft own G others time payload sig place is in
       let draft = drafted v.start.members own G others payload s.graph.distinct none in
-      let low : own < v.start.members = node.history.member in
-      let few : v.start.members ≤ 128 = node.few_members in
+      let low : own < member_count v.start.members = node.history.member in
+      let few : member_count v.start.members ≤ 128 = node.few_members in
       record {
         others = others;
         time = time;

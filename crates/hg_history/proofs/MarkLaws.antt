@@ -5,6 +5,7 @@ use Rattle.std.proofs.lemmas.Bool.{and_parts, and_from, cases_lt}
 use Rattle.std.proofs.lemmas.List.{length_push, get_or_push, length-take-le}
 use Rattle.std.proofs.lemmas.List.FromFn.{length-map-range_with_len}
 use Rattle.hg_model.specs.declared.row.Row.{Row}
+use Rattle.hg_model.specs.Stakes.{Stakes}
 use Rattle.hg_model.specs.Links.{Link, links}
 use Rattle.hg_model.specs.Graph.{IsGraph}
 use Rattle.hg_model.specs.Rounds.{round_of, is_witness}
@@ -24,7 +25,7 @@ use Rattle.hg_history.proofs.StateLaws.{IsEven, old_mark, mark_within, mark_of_t
 use Rattle.hg_model.proofs.ShapeLaws.{shaped-shorter}
 
 -- x is a witness of M, in a round that L has closed
-abbrev comes_late : ℕ → List Link → List Link → Marks → ℕ → Bool
+abbrev comes_late : Stakes → List Link → List Link → Marks → ℕ → Bool
 comes_late n L M marks x = is_witness n M x && is_closed n L marks (round_of n M x)
 
 mark_of_late : (late : Bool) (v : Bool) → cond late (Some false) None ≡ Some v → (late ≡ true) × (v ≡ false)
@@ -32,7 +33,7 @@ mark_of_late true v is = (refl, cc)
 mark_of_late false v is = cc
 
 -- a row comes
-module _ (n c : ℕ) (s : State) (row : Row) (g : IsGraph n s.rows) (u : IsGraph n (s.rows ++ row ∷ [])) (even : IsEven s) (three : 2 < c)
+module _ (n : Stakes) (c : ℕ) (s : State) (row : Row) (g : IsGraph n s.rows) (u : IsGraph n (s.rows ++ row ∷ [])) (even : IsEven s) (three : 2 < c)
     (linked : s.links ≡ links s.rows) (pushed : links_with s row ≡ links (s.rows ++ row ∷ [])) (fame : AreFame n c s.rows s.marks) where
   longer : IsLonger (links s.rows) (links (s.rows ++ row ∷ []))
   longer = links-longer n s.rows (row ∷ []) g.shaped
@@ -152,7 +153,7 @@ new_mark_is : (old new : Option Bool) (v : Bool) → option_or old new ≡ Some 
 new_mark_is None new v is = inr is
 new_mark_is (Some o) new v is = inl is
 
-module _ (n c : ℕ) (s : State) (g : IsGraph n s.rows) (linked : s.links ≡ links s.rows) (len : ℕ) (share : Share) (le : len ≤ length s.rows) where
+module _ (n : Stakes) (c : ℕ) (s : State) (g : IsGraph n s.rows) (linked : s.links ≡ links s.rows) (len : ℕ) (share : Share) (le : len ≤ length s.rows) where
   -- what a share finds in the first rows is fame in all rows
   pub early_is_fame : (x : ℕ) (v : Bool) → early_fame n c s.rows s.links len share x ≡ Some v → fame_of n c (links s.rows) (coin_at s.rows) x ≡ Some v
   unfolding share_fame
@@ -178,7 +179,7 @@ module _ (n c : ℕ) (s : State) (g : IsGraph n s.rows) (linked : s.links ≡ li
   }
 
 -- more marks leave a closed round closed
-pub closed_with_marks : (n : ℕ) (L : List Link) (f h : Marks) → ((x : ℕ) (v : Bool) → mark_at f x ≡ Some v → mark_at h x ≡ Some v) → (r : ℕ) → is_closed n L f r ≡ true → is_closed n L h r ≡ true
+pub closed_with_marks : (n : Stakes) (L : List Link) (f h : Marks) → ((x : ℕ) (v : Bool) → mark_at f x ≡ Some v → mark_at h x ≡ Some v) → (r : ℕ) → is_closed n L f r ≡ true → is_closed n L h r ≡ true
 closed_with_marks n L f h stay r closed =
     let w = witness_of_closed n L f r closed in
     closed_from n L h r w.0 (record { inside = w.1.inside; witness = w.1.witness; in_round = w.1.in_round }) (λ y inside witness le.

@@ -3,6 +3,7 @@ use Rattle.std.proofs.Common.{◌≡◌, ℕ, Bool, true, false, cond, eqb, List
 use Rattle.std.proofs.lemmas.Bool.{eqb-true}
 use Rattle.std.proofs.lemmas.List.{append-nil}
 use Rattle.hg_model.specs.declared.row.Row.{Row}
+use Rattle.hg_model.specs.Stakes.{Stakes}
 use Rattle.hg_model.specs.Links.{Link, links}
 use Rattle.hg_model.specs.Fame.{Marks, fame_marks}
 use Rattle.hg_model.specs.Order.{coin_at, ordered, order_of}
@@ -20,7 +21,7 @@ use Rattle.hg_history.proofs.SoundLaws.{IsSound, sound}
 use Rattle.hg_history.proofs.CallLaws.{publishes_leave_a_node}
 
 -- where the whole share has no news, it is the one share of one that has none
-one_share : (n c : ℕ) (s : State) → news n c s (length s.rows) whole ≡ 0 → HasNoNews n c s 1
+one_share : (n : Stakes) (c : ℕ) (s : State) → news n c s (length s.rows) whole ≡ 0 → HasNoNews n c s 1
 one_share n c s none = record {
   none = λ k low. (let first : k ≡ 0 = omega arith in ap (λ (i : ℕ). news n c s (length s.rows) (share i 1)) first ∙ none);
 }

@@ -3,8 +3,9 @@ use Rattle.std.proofs.Common.{◌≡◌, ◌≢◌, ◌⊎◌, inl, inr, ℕ, ze
 use Rattle.std.proofs.lemmas.Bool.{cases_Bool, cases_lt, cases_eq, both_ways, eq-eqb}
 use Rattle.std.proofs.lemmas.List.{length_push}
 use Rattle.hg_model.specs.declared.row.Row.{Row}
+use Rattle.hg_model.specs.Stakes.{Stakes, member_count, stake_of}
 use Rattle.hg_model.specs.Links.{links, creator}
-use Rattle.hg_model.specs.Forks.{has_fork, forkers}
+use Rattle.hg_model.specs.Forks.{has_fork, forking}
 use Rattle.hg_model.specs.Graph.{name_in, name_at, HasDistinctNames, IsShaped}
 use Rattle.hg_model.specs.Verdict.{later_name, last_name}
 use Rattle.hg_model.specs.Graph.{creator_at, creator_of_row}
@@ -98,7 +99,7 @@ module _ (m : ℕ) (G : List Row) (row : Row) (chain : IsChain m G) (distinct : 
 
 -- forks
 
-module _ (n : ℕ) (G : List Row) (row : Row) (shaped : IsShaped n (links G)) where
+module _ (n : Stakes) (G : List Row) (row : Row) (shaped : IsShaped n (links G)) where
   longer : IsLonger (links G) (links (G ++ row ∷ []))
   longer = links-longer n G (row ∷ []) shaped
 
@@ -132,12 +133,12 @@ module _ (n : ℕ) (G : List Row) (row : Row) (shaped : IsShaped n (links G)) wh
       }))
 
   -- and where its creator's rows are one chain, none at all
-  pub chain_forkers : HasDistinctNames (G ++ row ∷ []) → IsShaped n (links (G ++ row ∷ [])) → IsChain row.creator (G ++ row ∷ []) → forkers n (links (G ++ row ∷ [])) ≤ forkers n (links G)
-  unfolding forkers
-  chain_forkers distinct shaped' chain =
+  pub chain_forking : HasDistinctNames (G ++ row ∷ []) → IsShaped n (links (G ++ row ∷ [])) → IsChain row.creator (G ++ row ∷ []) → forking n (links (G ++ row ∷ [])) ≤ forking n (links G)
+  unfolding forking
+  chain_forking distinct shaped' chain =
       let U = G ++ row ∷ [] in
       let none = no_fork n row.creator U U distinct shaped' chain (λ u inside by. (u, inside, refl)) in
-      weight_below-le (λ _. 1) n (has_fork (links U)) (has_fork (links G)) (λ m inside forks. elim (cases_eq m row.creator) [
+      weight_below-le (stake_of n) (member_count n) (has_fork (links U)) (has_fork (links G)) (λ m inside forks. elim (cases_eq m row.creator) [
         | inl own ↦ absurd (both_ways (has_fork (links U) row.creator) none (subst (λ k. has_fork (links U) k ≡ true) own forks))
         | inr other ↦ fork_before m other forks
       ])

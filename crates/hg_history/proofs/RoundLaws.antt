@@ -4,6 +4,7 @@ use Rattle.std.proofs.Math.Bool.{and-false}
 use Rattle.std.proofs.lemmas.Bool.{cases_Bool, leb-true, leb-false, le-leb, lt-leb, eq-eqb, ne_eqb}
 use Rattle.hg_model.specs.declared.row.Placed.{Placed}
 use Rattle.hg_model.specs.Places.{IsEarlier}
+use Rattle.hg_model.specs.Stakes.{Stakes}
 use Rattle.hg_model.specs.Links.{parents}
 use Rattle.hg_model.specs.Order.{ordered_in, round_received, last_closed}
 use Rattle.hg_model.specs.History.{State}
@@ -27,7 +28,7 @@ just_last r m = elim (cases_Bool (leb r m)) [
   ]
 ]
 
-module _ (n : ℕ) (s : State) (e : IsEarlier (parents s.links)) where
+module _ (n : Stakes) (s : State) (e : IsEarlier (parents s.links)) where
   -- a round that received a row is closed
   received_bounds : (x r : ℕ) → round_received n s.links s.marks x ≡ Some r → (0 < r) × (r ≤ last_closed n s.links s.marks)
   received_bounds x r is = closed_last n s.links e s.marks r (received_is n s.links s.marks x r is).receives.closed

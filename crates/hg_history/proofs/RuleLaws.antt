@@ -10,11 +10,12 @@ use Rattle.hg_model.specs.declared.answers.MakeAnswer.TheVariants as answer
 use Rattle.hg_model.specs.declared.answers.MakeFault.{MakeFault}
 use Rattle.hg_model.specs.declared.answers.Fault.TheVariants as fault
 use Rattle.hg_model.specs.Links.{ParentNames, links, place_of}
-use Rattle.hg_model.specs.Forks.{forkers}
+use Rattle.hg_model.specs.Forks.{forking}
 use Rattle.hg_model.specs.Graph.{HasDistinctNames}
 use Rattle.hg_model.specs.Fits.{Fits}
 use Rattle.hg_model.specs.Spelling.{body_of}
-use Rattle.hg_model.specs.Verdict.{row_limit, has_bytes, is_held, first_missing, first_by, member_rule, name_rule, signature_rule, impostor_rule, missing_rule, creator_rule, arrival_rule, forkers_with, forkers_rule, full_rule, row_verdict, last_name, parents_on, made_row, first_rule, other_rule, payload_rule, draft_rule, collision_rule, room_rule, made_or, making}
+use Rattle.hg_model.specs.Verdict.{row_limit, has_bytes, is_held, first_missing, first_by, member_rule, name_rule, signature_rule, impostor_rule, missing_rule, creator_rule, arrival_rule, forkers_rule, full_rule, row_verdict, last_name, parents_on, made_row, first_rule, other_rule, payload_rule, draft_rule, collision_rule, room_rule, made_or, making, forking_with}
+use Rattle.hg_model.specs.Stakes.{Stakes, member_count, total}
 use Rattle.hg_model.specs.Graph.{creator_at}
 use Rattle.hg_model.specs.History.{IsTaken, IsMade}
 use Rattle.hg_model.specs.Signing.{Accepts}
@@ -69,15 +70,15 @@ none_of_creators G m (Some names) =
     none_then (not (eqb (creator_at G (place_of G names.0)) m)) (Refused (fault.SelfCreator (place_of G names.0))) _ refl
     (none_mapped (λ (place : ℕ). Refused (fault.OtherCreator place)) (λ place. refl) (first_by G m (names.1 ∷ [])))
 
-none_of_rules : (accepts : Accepts) (n own : ℕ) (G : List Row) (row : Row) → AcceptsNone (option_or (arrival_rule accepts n own G row) (option_or (forkers_rule n G row) (full_rule G)))
+none_of_rules : (accepts : Accepts) (n : Stakes) (own : ℕ) (G : List Row) (row : Row) → AcceptsNone (option_or (arrival_rule accepts n own G row) (option_or (forkers_rule n G row) (full_rule G)))
 unfolding is_accepted
 none_of_rules accepts n own G row =
     let p = place_of G row.name in
-    let member = none_of_one (nat_le n row.creator) (Refused (fault.Member row.creator)) refl in
+    let member = none_of_one (nat_le (member_count n) row.creator) (Refused (fault.Member row.creator)) refl in
     let name = none_of_rest (not (nat_lt p (length G))) (has_bytes G p (Rattle.hg_model.specs.Spelling.spelling row)) (Known p) (Refused (fault.Collision p)) refl refl in
     let signature = none_of_other (accepts row.creator (body_of row) row.sig) (Refused fault.Signature) refl in
     let impostor = none_of_one (eqb row.creator own) (Refused fault.Impostor) refl in
-    let forks = none_of_one (nat_le n (3 * forkers_with n G row)) (Refused (fault.TooManyForkers (forkers_with n G row))) refl in
+    let forks = none_of_one (nat_le (total n) (3 * forking_with n G row)) (Refused (fault.TooManyForkers (forking_with n G row))) refl in
     let full = none_of_one (nat_le row_limit (length G)) (Refused (fault.Full row_limit)) refl in
     none_of_both (arrival_rule accepts n own G row) (option_or (forkers_rule n G row) (full_rule G))
     (none_of_both (member_rule n row) _ member (none_of_both (name_rule G row) _ name (none_of_both (signature_rule accepts row) _ signature
@@ -91,14 +92,14 @@ none_speaks None p q refuses is = refl
 none_speaks (Some a) p q refuses is = absurd (true≢false (sym (ap is_accepted is) ∙ refuses))
 
 -- what a rule answers accepts nothing
-pub rule_accepts_none : (accepts : Accepts) (n own : ℕ) (G : List Row) (row : Row) (a : PutAnswer) (place : ℕ) →
+pub rule_accepts_none : (accepts : Accepts) (n : Stakes) (own : ℕ) (G : List Row) (row : Row) (a : PutAnswer) (place : ℕ) →
     option_or (arrival_rule accepts n own G row) (option_or (forkers_rule n G row) (full_rule G)) ≡ Some a → a ≡ Accepted place → ⊥
 unfolding is_accepted
 rule_accepts_none accepts n own G row a place speaks is =
     true≢false (sym (ap is_accepted is) ∙ subst AcceptsNone speaks (none_of_rules accepts n own G row))
 
 -- an accepted row comes at the next place
-pub accepted_place : (accepts : Accepts) (n own : ℕ) (G : List Row) (row : Row) (place : ℕ) → row_verdict accepts n own G row ≡ Accepted place → place ≡ length G
+pub accepted_place : (accepts : Accepts) (n : Stakes) (own : ℕ) (G : List Row) (row : Row) (place : ℕ) → row_verdict accepts n own G row ≡ Accepted place → place ≡ length G
 accepted_place accepts n own G row place is =
     let rules = option_or (arrival_rule accepts n own G row) (option_or (forkers_rule n G row) (full_rule G)) in
     let none = none_speaks rules (length G) place (none_of_rules accepts n own G row) is in
@@ -110,18 +111,18 @@ holds_from_none true x none = refl
 holds_from_none false x none = cc
 
 -- what a row that comes after the rows G is, whoever made it
-pub record Comes (accepts : Accepts) (n : ℕ) (G : List Row) (row : Row) : Type 0 where
+pub record Comes (accepts : Accepts) (n : Stakes) (G : List Row) (row : Row) : Type 0 where
   pub fits : Fits n G row
   pub new_name : length G ≤ place_of G row.name
   pub signed : accepts row.creator (body_of row) row.sig ≡ true
   pub room : length G < row_limit
 
-pub record TakenIs (accepts : Accepts) (n own : ℕ) (G : List Row) (row : Row) : Type 0 where
+pub record TakenIs (accepts : Accepts) (n : Stakes) (own : ℕ) (G : List Row) (row : Row) : Type 0 where
   pub comes : Comes accepts n G row
   pub by_other : row.creator ≢ own
-  pub few_forkers : 3 * forkers n (links (G ++ row ∷ [])) < n
+  pub few_forkers : 3 * forking n (links (G ++ row ∷ [])) < total n
 
-pub taken_is : (accepts : Accepts) (n own : ℕ) (G : List Row) (row : Row) → IsTaken accepts n own G row → TakenIs accepts n own G row
+pub taken_is : (accepts : Accepts) (n : Stakes) (own : ℕ) (G : List Row) (row : Row) → IsTaken accepts n own G row → TakenIs accepts n own G row
 taken_is accepts n own G row taken =
     let none = none_speaks (option_or (arrival_rule accepts n own G row) (option_or (forkers_rule n G row) (full_rule G))) (length G) (length G) (none_of_rules accepts n own G row) taken.accepted in
     let two = option_or_none (arrival_rule accepts n own G row) (option_or (forkers_rule n G row) (full_rule G)) none in
@@ -139,7 +140,7 @@ taken_is accepts n own G row taken =
         room = has_room n G row two.1;
       };
       by_other = eqb-false row.creator own (one_test (eqb row.creator own) (Refused fault.Impostor) d.0);
-      few_forkers = below_from_test n (3 * forkers_with n G row) (one_test (nat_le n (3 * forkers_with n G row)) (Refused (fault.TooManyForkers (forkers_with n G row))) late.0);
+      few_forkers = below_from_test (total n) (3 * forking_with n G row) (one_test (nat_le (total n) (3 * forking_with n G row)) (Refused (fault.TooManyForkers (forking_with n G row))) late.0);
     }
 
 -- making
@@ -167,12 +168,12 @@ own_parent (Some a) [] none = cc
 own_parent None (b ∷ others) none = cc
 own_parent (Some a) (b ∷ others) none = refl
 
-pub record MadeIs (accepts : Accepts) (n own : ℕ) (G : List Row) (row : Row) : Type 0 where
+pub record MadeIs (accepts : Accepts) (n : Stakes) (own : ℕ) (G : List Row) (row : Row) : Type 0 where
   pub comes : Comes accepts n G row
   pub by_own : row.creator ≡ own
   pub after_last : option_map (λ names. names.0) row.parents ≡ last_name own G
 
-made_fields : (accepts : Accepts) (n own : ℕ) (G : List Row) (others : List (List ℕ)) (time : ℕ) (payload sig : List ℕ) → own < n → HasDistinctNames G →
+made_fields : (accepts : Accepts) (n : Stakes) (own : ℕ) (G : List Row) (others : List (List ℕ)) (time : ℕ) (payload sig : List ℕ) → own < member_count n → HasDistinctNames G →
     accepts own (body_of (made_row own G others time payload sig)) sig ≡ true → making own G others time payload sig ≡ answer.Made (length G) →
     MadeIs accepts n own G (made_row own G others time payload sig)
 made_fields accepts n own G others time payload sig member distinct signed made =
@@ -193,7 +194,7 @@ made_fields accepts n own G others time payload sig member distinct signed made 
       after_last = own_parent (last_name own G) others first.0;
     }
 
-pub made_is : (accepts : Accepts) (n own : ℕ) (G : List Row) (row : Row) → own < n → HasDistinctNames G → IsMade accepts own G row → MadeIs accepts n own G row
+pub made_is : (accepts : Accepts) (n : Stakes) (own : ℕ) (G : List Row) (row : Row) → own < member_count n → HasDistinctNames G → IsMade accepts own G row → MadeIs accepts n own G row
 made_is accepts n own G row member distinct made =
     subst (MadeIs accepts n own G) (sym made.fields)
     (made_fields accepts n own G made.others made.time made.payload made.sig member distinct

@@ -8,6 +8,7 @@ use Rattle.std.proofs.lemmas.List.{ext_get_or}
 use Rattle.std.proofs.lemmas.List.FromFn.{length-map-range_with_len}
 use Rattle.hg_model.specs.declared.row.Row.{Row}
 use Rattle.hg_model.specs.Places.{count_below, table}
+use Rattle.hg_model.specs.Stakes.{Stakes}
 use Rattle.hg_model.specs.Links.{Link, links}
 use Rattle.hg_model.specs.Rounds.{is_witness}
 use Rattle.hg_model.specs.Fame.{mark_at, fame_of, fame_marks}
@@ -24,10 +25,10 @@ abbrev pub share : ℕ → ℕ → Share
 share k m = record { k = k; «of» = m }
 
 -- each witness is of one share, which tells its fame
-share_of : ℕ → List Link → ℕ → ℕ → ℕ
+share_of : Stakes → List Link → ℕ → ℕ → ℕ
 share_of n L m x = count_below x (is_witness n L) % m
 
-fame_of_its_share : (n c : ℕ) (G : List Row) (L : List Link) (m x : ℕ) → x < length L → is_witness n L x ≡ true →
+fame_of_its_share : (n : Stakes) (c : ℕ) (G : List Row) (L : List Link) (m x : ℕ) → x < length L → is_witness n L x ≡ true →
     share_fame n c G L (share (share_of n L m x) m) x ≡ fame_of n c L (coin_at G) x
 unfolding share_fame share_of
 fame_of_its_share n c G L m x inside witness =
@@ -56,10 +57,10 @@ not_counted (suc len) x test none low =
     ]
 
 -- no share of the m finds fame of an unmarked witness in the whole graph
-pub record HasNoNews (n c : ℕ) (s : State) (m : ℕ) : Type 0 where
+pub record HasNoNews (n : Stakes) (c : ℕ) (s : State) (m : ℕ) : Type 0 where
   pub none : (k : ℕ) → k < m → news n c s (length s.rows) (share k m) ≡ 0
 
-module _ (n c : ℕ) (s : State) (even : IsEven s) (linked : s.links ≡ links s.rows) where
+module _ (n : Stakes) (c : ℕ) (s : State) (even : IsEven s) (linked : s.links ≡ links s.rows) where
   whole_fame : (one : Share) (x : ℕ) → early_fame n c s.rows s.links (length s.rows) one x ≡ share_fame n c s.rows s.links one x
   whole_fame one x =
       ap₂ (λ (G : List Row) (L : List Link). share_fame n c G L one x) (take-length s.rows)
@@ -102,7 +103,7 @@ no_news_left None None h = true≢false (sym h)
 no_news_left None (Some v) h = true≢false (sym h)
 no_news_left (Some o) fame h = true≢false (sym h)
 
-module _ (n c : ℕ) (s : State) (len : ℕ) (one : Share) (le : len ≤ length s.rows) where
+module _ (n : Stakes) (c : ℕ) (s : State) (len : ℕ) (one : Share) (le : len ≤ length s.rows) where
   -- what was published is no news
   pub published : news n c (with_marks n c s len one) len one ≡ 0
   unfolding news
@@ -116,7 +117,7 @@ some_stays None fame None h = h
 some_stays None fame (Some v) h = absurd (true≢false (sym h))
 some_stays (Some o) fame other h = absurd (true≢false (sym h))
 
-module _ (n c : ℕ) (s : State) (len : ℕ) (other one : Share) (le : len ≤ length s.rows) where
+module _ (n : Stakes) (c : ℕ) (s : State) (len : ℕ) (other one : Share) (le : len ≤ length s.rows) where
   -- and what is no news does not become news by further marks
   pub still_no_news : news n c s len one ≡ 0 → news n c (with_marks n c s len other) len one ≡ 0
   unfolding news

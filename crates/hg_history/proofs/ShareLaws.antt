@@ -5,6 +5,7 @@ use Rattle.std.specs.Option.{option_or}
 use Rattle.std.proofs.lemmas.Bool.{cases_eq, and_parts, true≢false}
 use Rattle.std.proofs.lemmas.List.Sums.{fold-append}
 use Rattle.hg_model.specs.declared.row.Row.{Row}
+use Rattle.hg_model.specs.Stakes.{Stakes}
 use Rattle.hg_model.specs.Links.{Link, links}
 use Rattle.hg_model.specs.Graph.{IsGraph}
 use Rattle.hg_model.specs.Fame.{mark_at, fame_marks}
@@ -22,14 +23,14 @@ use Rattle.hg_history.proofs.SettleLaws.{share, HasNoNews, marks_are_all, publis
 use Rattle.hg_history.proofs.SoundLaws.{sound}
 
 -- t comes from s by publishing the first j of m shares
-record IsPublished (n c : ℕ) (s : State) (m j : ℕ) (t : State) : Type 0 where
+record IsPublished (n : Stakes) (c : ℕ) (s : State) (m j : ℕ) (t : State) : Type 0 where
   rows : t.rows ≡ s.rows
   links : t.links ≡ s.links
   even : IsEven t
   fame : AreFame n c t.rows t.marks
   quiet : (k : ℕ) → k < j → news n c t (length s.rows) (share k m) ≡ 0
 
-module _ (n c : ℕ) (s : State) (g : IsGraph n s.rows) (linked : s.links ≡ links s.rows) (m : ℕ) where
+module _ (n : Stakes) (c : ℕ) (s : State) (g : IsGraph n s.rows) (linked : s.links ≡ links s.rows) (m : ℕ) where
   next : (j : ℕ) (t : State) → IsPublished n c s m j t → IsPublished n c s m (suc j) (with_marks n c t (length s.rows) (share j m))
   next j t is =
       let le : length s.rows ≤ length t.rows = (let e = ap length is.rows in omega (arith, e)) in

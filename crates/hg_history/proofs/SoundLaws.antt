@@ -8,7 +8,8 @@ use Rattle.sha2.proofs.Facts512.{length-sha384}
 use Rattle.hg_model.specs.declared.row.Row.{Row}
 use Rattle.hg_model.specs.Links.{Link, links, link_in}
 use Rattle.hg_model.specs.Places.{some_below}
-use Rattle.hg_model.specs.Forks.{has_fork, forkers}
+use Rattle.hg_model.specs.Stakes.{Stakes, member_count, stake_of, total}
+use Rattle.hg_model.specs.Forks.{has_fork, forking}
 use Rattle.hg_model.specs.Graph.{name_in, name_at, IsGraph}
 use Rattle.hg_model.specs.Fame.{is_closed}
 use Rattle.hg_model.specs.Verdict.{row_limit}
@@ -23,10 +24,10 @@ use Rattle.hg_model.proofs.NameLaws.{distinct-none, distinct-push}
 use Rattle.hg_history.specs.Laws.{IsEvent, IsNodeGraph}
 use Rattle.hg_history.proofs.StateLaws.{IsEven, even_row, even_step, marks_step, replay-append}
 use Rattle.hg_history.proofs.RuleLaws.{Comes, taken_is, made_is}
-use Rattle.hg_history.proofs.OwnLaws.{chain_other, chain_own, chain_forkers}
+use Rattle.hg_history.proofs.OwnLaws.{chain_other, chain_own, chain_forking}
 use Rattle.hg_history.proofs.MarkLaws.{fame_with_row, closed_with_row, fame_with_marks, closed_with_marks}
 
-pub record IsSound (accepts : Accepts) (n c own : ℕ) (s : State) : Type 0 where
+pub record IsSound (accepts : Accepts) (n : Stakes) (c own : ℕ) (s : State) : Type 0 where
   pub graph : IsGraph n s.rows
   pub linked : s.links ≡ links s.rows
   pub even : IsEven s
@@ -39,13 +40,13 @@ all_push : {A : Type 0} (P : A → Type 0) (xs : List A) (x : A) → AllByRecurs
 all_push P [] x all here = (here, tt)
 all_push P (y ∷ ys) x all here = (all.0, all_push P ys x all.1 here)
 
-module _ (accepts : Accepts) (n c own : ℕ) (member : own < n) (three : 2 < c) where
+module _ (accepts : Accepts) (n : Stakes) (c own : ℕ) (member : own < member_count n) (three : 2 < c) where
   pushed_links : (s : State) (row : Row) → IsSound accepts n c own s → Comes accepts n s.rows row → links_with s row ≡ links (s.rows ++ row ∷ [])
   pushed_links s row sound comes =
       ap (λ (L : List Link). L ++ link_in s.rows row ∷ []) sound.linked
       ∙ sym (links-push s.rows row (all_present n s.rows sound.graph.shaped) comes.fits.present)
 
-  graph_push : (s : State) (row : Row) → IsSound accepts n c own s → Comes accepts n s.rows row → 3 * forkers n (links (s.rows ++ row ∷ [])) < n → IsGraph n (s.rows ++ row ∷ [])
+  graph_push : (s : State) (row : Row) → IsSound accepts n c own s → Comes accepts n s.rows row → 3 * forking n (links (s.rows ++ row ∷ [])) < total n → IsGraph n (s.rows ++ row ∷ [])
   graph_push s row sound comes few = record {
     distinct = distinct-push s.rows row sound.graph.distinct comes.new_name;
     shaped = shaped-push n s.rows row sound.graph.shaped comes.fits;
@@ -84,7 +85,7 @@ module _ (accepts : Accepts) (n c own : ℕ) (member : own < n) (three : 2 < c) 
       let distinct = distinct-push s.rows row sound.graph.distinct is.comes.new_name in
       let shaped = shaped-push n s.rows row sound.graph.shaped is.comes.fits in
       let chain = subst (λ (m : ℕ). IsChain m (s.rows ++ row ∷ [])) (sym is.by_own) (chain_made s row sound made) in
-      let le = chain_forkers n s.rows row sound.graph.shaped distinct shaped chain in
+      let le = chain_forking n s.rows row sound.graph.shaped distinct shaped chain in
       graph_push s row sound is.comes (omega (arith, le, sound.graph.few_forkers))
 
   pub sound_taken : (s : State) (row : Row) → IsSound accepts n c own s → IsTaken accepts n own s.rows row → IsSound accepts n c own (with_row n s row)
@@ -116,9 +117,10 @@ module _ (accepts : Accepts) (n c own : ℕ) (member : own < n) (three : 2 < c) 
   sound_from s [] sound steps = sound
   sound_from s (e ∷ h) sound steps = sound_from (step n c s e) h (sound_step s e sound steps.0) steps.1
 
-  no_forkers : forkers n (links []) ≡ 0
-  unfolding forkers has_fork some_below links
-  no_forkers = weight_below_none (λ _. 1) n (has_fork (links [])) (λ m inside forks. absurd (true≢false (sym forks)))
+module _ (accepts : Accepts) (n : Stakes) (c own : ℕ) (member : own < member_count n) (stake : 0 < total n) (three : 2 < c) where
+  no_forkers : forking n (links []) ≡ 0
+  unfolding forking has_fork some_below links
+  no_forkers = weight_below_none (stake_of n) (member_count n) (has_fork (links [])) (λ m inside forks. absurd (true≢false (sym forks)))
 
   sound_empty : IsSound accepts n c own empty
   unfolding links
@@ -134,43 +136,43 @@ module _ (accepts : Accepts) (n c own : ℕ) (member : own < n) (three : 2 < c) 
 
   pub sound_after : (h : List Change) → AreSteps accepts n c own empty h → IsSound accepts n c own (replay n c h)
   unfolding replay
-  sound_after h steps = sound_from empty h sound_empty steps
+  sound_after h steps = sound_from accepts n c own member three empty h sound_empty steps
 
-pub sound : (accepts : Accepts) (n c own : ℕ) (h : List Change) → 2 < c → IsHistory accepts n c own h → IsSound accepts n c own (replay n c h)
-sound accepts n c own h three is = sound_after accepts n c own is.member three h is.steps
+pub sound : (accepts : Accepts) (n : Stakes) (c own : ℕ) (h : List Change) → 2 < c → IsHistory accepts n c own h → IsSound accepts n c own (replay n c h)
+sound accepts n c own h three is = sound_after accepts n c own is.member is.stake three h is.steps
 
 -- moments
 
-steps_front : (accepts : Accepts) (n c own : ℕ) (s : State) (a b : List Change) → AreSteps accepts n c own s (a ++ b) → AreSteps accepts n c own s a
+steps_front : (accepts : Accepts) (n : Stakes) (c own : ℕ) (s : State) (a b : List Change) → AreSteps accepts n c own s (a ++ b) → AreSteps accepts n c own s a
 steps_front accepts n c own s [] b steps = tt
 steps_front accepts n c own s (e ∷ a) b steps = (steps.0, steps_front accepts n c own (step n c s e) a b steps.1)
 
-steps_rest : (accepts : Accepts) (n c own : ℕ) (s : State) (a b : List Change) → AreSteps accepts n c own s (a ++ b) → AreSteps accepts n c own (fold (step n c) s a) b
+steps_rest : (accepts : Accepts) (n : Stakes) (c own : ℕ) (s : State) (a b : List Change) → AreSteps accepts n c own s (a ++ b) → AreSteps accepts n c own (fold (step n c) s a) b
 steps_rest accepts n c own s [] b steps = steps
 steps_rest accepts n c own s (e ∷ a) b steps = steps_rest accepts n c own (step n c s e) a b steps.1
 
-steps_push : (accepts : Accepts) (n c own : ℕ) (s : State) (h : List Change) (e : Change) → AreSteps accepts n c own s h → IsStep accepts n c own (fold (step n c) s h) e → AreSteps accepts n c own s (h ++ e ∷ [])
+steps_push : (accepts : Accepts) (n : Stakes) (c own : ℕ) (s : State) (h : List Change) (e : Change) → AreSteps accepts n c own s h → IsStep accepts n c own (fold (step n c) s h) e → AreSteps accepts n c own s (h ++ e ∷ [])
 steps_push accepts n c own s [] e steps may = (may, tt)
 steps_push accepts n c own s (d ∷ h) e steps may = (steps.0, steps_push accepts n c own (step n c s d) h e steps.1 may)
 
-pub moment : (accepts : Accepts) (n c own : ℕ) (a b : List Change) → IsHistory accepts n c own (a ++ b) → IsHistory accepts n c own a
-moment accepts n c own a b is = record { member = is.member; steps = steps_front accepts n c own empty a b is.steps }
+pub moment : (accepts : Accepts) (n : Stakes) (c own : ℕ) (a b : List Change) → IsHistory accepts n c own (a ++ b) → IsHistory accepts n c own a
+moment accepts n c own a b is = record { member = is.member; stake = is.stake; steps = steps_front accepts n c own empty a b is.steps }
 
-pub rest : (accepts : Accepts) (n c own : ℕ) (a b : List Change) → IsHistory accepts n c own (a ++ b) → AreSteps accepts n c own (replay n c a) b
+pub rest : (accepts : Accepts) (n : Stakes) (c own : ℕ) (a b : List Change) → IsHistory accepts n c own (a ++ b) → AreSteps accepts n c own (replay n c a) b
 unfolding replay
 rest accepts n c own a b is = steps_rest accepts n c own empty a b is.steps
 
 -- a change that may come
-pub history_push : (accepts : Accepts) (n c own : ℕ) (h : List Change) (e : Change) → IsHistory accepts n c own h → IsStep accepts n c own (replay n c h) e → IsHistory accepts n c own (h ++ e ∷ [])
+pub history_push : (accepts : Accepts) (n : Stakes) (c own : ℕ) (h : List Change) (e : Change) → IsHistory accepts n c own h → IsStep accepts n c own (replay n c h) e → IsHistory accepts n c own (h ++ e ∷ [])
 unfolding replay
-history_push accepts n c own h e is may = record { member = is.member; steps = steps_push accepts n c own empty h e is.steps may }
+history_push accepts n c own h e is may = record { member = is.member; stake = is.stake; steps = steps_push accepts n c own empty h e is.steps may }
 
 -- closed rounds stay
 
-abbrev pub IsClosed : ℕ → State → ℕ → Type 0
+abbrev pub IsClosed : Stakes → State → ℕ → Type 0
 IsClosed n s r = is_closed n s.links s.marks r ≡ true
 
-module _ (accepts : Accepts) (n c own : ℕ) (member : own < n) (three : 2 < c) where
+module _ (accepts : Accepts) (n : Stakes) (c own : ℕ) (member : own < member_count n) (three : 2 < c) where
   closed_row : (s : State) (row : Row) (r : ℕ) → IsSound accepts n c own s → IsSound accepts n c own (with_row n s row) → IsClosed n s r → IsClosed n (with_row n s row) r
   closed_row s row r now later closed =
       subst (λ (L : List Link). is_closed n L (with_row n s row).marks r ≡ true) (sym later.linked)
@@ -188,7 +190,7 @@ module _ (accepts : Accepts) (n c own : ℕ) (member : own < n) (three : 2 < c) 
   closed_from s (e ∷ h) r now steps closed =
       closed_from (step n c s e) h r (sound_step accepts n c own member three s e now steps.0) steps.1 (closed_step s e r now steps.0 closed)
 
-pub closed_later : (accepts : Accepts) (n c own : ℕ) (a b : List Change) → 2 < c → IsHistory accepts n c own (a ++ b) → (r : ℕ) → IsClosed n (replay n c a) r → IsClosed n (replay n c (a ++ b)) r
+pub closed_later : (accepts : Accepts) (n : Stakes) (c own : ℕ) (a b : List Change) → 2 < c → IsHistory accepts n c own (a ++ b) → (r : ℕ) → IsClosed n (replay n c a) r → IsClosed n (replay n c (a ++ b)) r
 closed_later accepts n c own a b three is r closed =
     subst (λ (s : State). IsClosed n s r) (sym (replay-append n c a b))
     (closed_from accepts n c own is.member three (replay n c a) b r (sound accepts n c own a three (moment accepts n c own a b is)) (rest accepts n c own a b is) closed)
@@ -200,7 +202,7 @@ event_at accepts [] all x row at = cc
 event_at accepts (first ∷ G) all zero row at = (let same : first ≡ row = cc in subst (IsEvent accepts) same all.0)
 event_at accepts (first ∷ G) all (suc x) row at = event_at accepts G all.1 x row at
 
-pub node_graph : (accepts : Accepts) (n c own : ℕ) (h : List Change) → 2 < c → IsHistory accepts n c own h → IsNodeGraph accepts n own (replay n c h).rows
+pub node_graph : (accepts : Accepts) (n : Stakes) (c own : ℕ) (h : List Change) → 2 < c → IsHistory accepts n c own h → IsNodeGraph accepts n own (replay n c h).rows
 unfolding name_at
 node_graph accepts n c own h three is =
     let G : List Row = (replay n c h).rows in

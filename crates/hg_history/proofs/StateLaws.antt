@@ -7,6 +7,7 @@ use Rattle.std.proofs.lemmas.List.FromFn.{get_or-map-range_with_len, length-map-
 use Rattle.std.proofs.lemmas.List.Sums.{fold-append}
 use Rattle.hg_model.specs.declared.row.Row.{Row}
 use Rattle.hg_model.specs.Places.{table}
+use Rattle.hg_model.specs.Stakes.{Stakes}
 use Rattle.hg_model.specs.Links.{link_in}
 use Rattle.hg_model.specs.Fame.{Marks, mark_at}
 use Rattle.hg_model.specs.Shares.{early_fame}
@@ -21,11 +22,11 @@ pub prefix_more : {A : Type 0} (xs ys zs : List A) → IsPrefix xs ys → IsPref
 prefix_more xs ys zs p q = (p.0 ++ q.0, q.1 ∙ (ap (λ ws. ws ++ q.0) p.1 ∙ append_assoc xs p.0 q.0))
 
 -- replay goes on from the state that is reached
-pub replay-append : (n c : ℕ) (a b : List Change) → replay n c (a ++ b) ≡ fold (step n c) (replay n c a) b
+pub replay-append : (n : Stakes) (c : ℕ) (a b : List Change) → replay n c (a ++ b) ≡ fold (step n c) (replay n c a) b
 unfolding replay
 replay-append n c a b = fold-append (step n c) empty a b
 
-pub replay-push : (n c : ℕ) (h : List Change) (e : Change) → replay n c (h ++ e ∷ []) ≡ step n c (replay n c h) e
+pub replay-push : (n : Stakes) (c : ℕ) (h : List Change) (e : Change) → replay n c (h ++ e ∷ []) ≡ step n c (replay n c h) e
 replay-push n c h e = replay-append n c h (e ∷ [])
 
 -- each row has a link and a place for its mark
@@ -33,7 +34,7 @@ pub record IsEven (s : State) : Type 0 where
   pub links : length s.links ≡ length s.rows
   pub marks : length s.marks ≡ length s.rows
 
-module _ (n c : ℕ) where
+module _ (n : Stakes) (c : ℕ) where
   pub even_row : (s : State) (row : Row) → IsEven s → IsEven (with_row n s row)
   even_row s row even = record {
     links = omega (arith, length_push s.links (link_in s.rows row), length_push s.rows row, even.links);
@@ -89,7 +90,7 @@ mark_within marks x v is = elim (cases_lt x (length marks)) [
 pub mark_of_table : (mark : ℕ → Option Bool) (len x : ℕ) → x < len → mark_at (table mark len) x ≡ mark x
 mark_of_table mark len x inside = get_or-map-range_with_len mark 0 len x x None inside (omega arith)
 
-module _ (n c : ℕ) where
+module _ (n : Stakes) (c : ℕ) where
   pub old_mark : (s : State) (row : Row) (x : ℕ) → x < length s.marks → mark_at (with_row n s row).marks x ≡ mark_at s.marks x
   old_mark s row x inside = get_or_append_left s.marks (first_mark n s row ∷ []) None x inside
 

@@ -5,6 +5,7 @@ use Rattle.std.proofs.lemmas.Bool.{cases_lt, eq-eqb, eqb-true, false_from_ne_tru
 use Rattle.hg_model.specs.declared.row.Row.{Row}
 use Rattle.hg_model.specs.declared.row.Placed.{Placed}
 use Rattle.hg_model.specs.Places.{IsEarlier}
+use Rattle.hg_model.specs.Stakes.{Stakes}
 use Rattle.hg_model.specs.Links.{Link, links, parents}
 use Rattle.hg_model.specs.Graph.{name_in, name_at, IsGraph}
 use Rattle.hg_model.specs.Fame.{Marks, is_closed}
@@ -50,7 +51,7 @@ same_if true b there back = sym (there refl)
 same_if false b there back = sym (false_from_ne_true b (λ is. true≢false (sym (back is))))
 
 -- a graph, and one that begins with its rows, both with marks that are fame, which both have closed round r
-module _ (n c : ℕ) (U : List Row) (u : IsGraph n U) (three : 2 < c) (G : List Row) (f h : Marks) (g : IsMarkedPart n c U G f) (k : IsMarkedPart n c U U h)
+module _ (n : Stakes) (c : ℕ) (U : List Row) (u : IsGraph n U) (three : 2 < c) (G : List Row) (f h : Marks) (g : IsMarkedPart n c U G f) (k : IsMarkedPart n c U U h)
     (first : IsPrefix G U) (r : ℕ) (closed_G : is_closed n (links G) f r ≡ true) (closed_U : is_closed n (links U) h r ≡ true) where
   more : length G ≤ length U
   more = (let e = ap length first.1 in omega (arith, e, length-append G first.0))
@@ -111,7 +112,7 @@ module _ (n c : ℕ) (U : List Row) (u : IsGraph n U) (three : 2 < c) (G : List 
       (list_below-longer (keyed_at n U (links U) h) (length (links G)) (length (links U)) (is_received_in n (links U) h (λ i. eqb i r)) (let le = more in omega (arith, length-links G, length-links U)) none_later
       ∙ list_below-same (keyed_at n U (links U) h) (keyed_at n G (links G) f) (length (links G)) (is_received_in n (links U) h (λ i. eqb i r)) (is_received_in n (links G) f (λ i. eqb i r)) same_received same_keyed)
 
-module _ (accepts : Accepts) (n c own : ℕ) (a b : List Change) (three : 2 < c) (is : IsHistory accepts n c own (a ++ b)) where
+module _ (accepts : Accepts) (n : Stakes) (c own : ℕ) (a b : List Change) (three : 2 < c) (is : IsHistory accepts n c own (a ++ b)) where
   early : IsSound accepts n c own (replay n c a)
   early = sound accepts n c own a three (moment accepts n c own a b is)
 
@@ -151,7 +152,7 @@ by_rounds accepts n c own h three is =
 
 -- a row that comes
 
-module _ (accepts : Accepts) (n c own : ℕ) (h : List Change) (e : Change) (three : 2 < c) (is : IsHistory accepts n c own (h ++ e ∷ [])) (row : Row)
+module _ (accepts : Accepts) (n : Stakes) (c own : ℕ) (h : List Change) (e : Change) (three : 2 < c) (is : IsHistory accepts n c own (h ++ e ∷ [])) (row : Row)
     (came : replay n c (h ++ e ∷ []) ≡ with_row n (replay n c h) row) where
   before : IsSound accepts n c own (replay n c h)
   before = sound accepts n c own h three (moment accepts n c own h (e ∷ []) is)

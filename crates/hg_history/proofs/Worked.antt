@@ -1,6 +1,6 @@
 -- A worked history with the names that SHA-384 gives: what the second of two members does in six syncs in turn, of which
 -- it then publishes all fame. So the premises of the laws can be met
-use Rattle.std.proofs.Common.{◌≡◌, ℕ, ◌<◌, ◌^◌, true, List, [], ◌∷◌, ◌++◌, length, Option, Some, None, sym, refl, ap, arith}
+use Rattle.std.proofs.Common.{◌≡◌, ℕ, ◌<◌, ◌^◌, true, List, [], ◌∷◌, ◌++◌, length, Some, None, sym, refl, ap, arith}
 use Rattle.std.specs.Prelude.{replicate, IfSome}
 use Rattle.std.specs.Int.{w64, to_be_bytes}
 use Rattle.std.proofs.lemmas.List.{length-replicate}
@@ -9,8 +9,9 @@ use Rattle.hg_model.specs.declared.row.Row.{Row}
 use Rattle.hg_model.specs.declared.answers.MakeAnswer.TheVariants as answer
 use Rattle.hg_model.specs.Places.{weight_below, some_below, least_below, values_below, by_place, reaches}
 use Rattle.hg_model.specs.Links.{ParentNames, links, parents, self_parent, creator}
+use Rattle.hg_model.specs.Stakes.{Stakes, total}
 use Rattle.hg_model.specs.Ancestry.{is_ancestor, is_self_ancestor}
-use Rattle.hg_model.specs.Forks.{is_fork, has_fork_below, has_fork, forkers}
+use Rattle.hg_model.specs.Forks.{is_fork, has_fork_below, has_fork, forking}
 use Rattle.hg_model.specs.Seeing.{sees, sees_through, strongly_sees}
 use Rattle.hg_model.specs.Rounds.{round_of, is_witness}
 use Rattle.hg_model.specs.Votes.{vote_of, decides}
@@ -22,6 +23,10 @@ use Rattle.hg_model.specs.Shares.{whole, share_fame}
 use Rattle.hg_model.specs.History.{Change, replay, news, IsTaken, IsMade, MarksSome, IsHistory}
 use Rattle.hg_model.specs.History.Change.{Took, Made, Marked}
 use Rattle.hg_model.specs.Signing.{Accepts}
+
+-- the stakes of so many members
+abbrev members : ℕ → Stakes
+members k = k
 
 -- a name of 48 bytes, as six words
 abbrev name : ℕ → ℕ → ℕ → ℕ → ℕ → ℕ → List ℕ
@@ -166,12 +171,12 @@ made0 = record {
   made = making0;
 }
 
-taken1 : IsTaken all 2 1 (row0 ∷ []) row1
-unfolding forkers has_fork is_fork is_self_ancestor weight_below some_below reaches by_place values_below self_parent parents creator links
+taken1 : IsTaken all (members 2) 1 (row0 ∷ []) row1
+unfolding forking total has_fork is_fork is_self_ancestor weight_below some_below reaches by_place values_below self_parent parents creator links
 taken1 = record { spelled = event1; accepted = refl }
 
-taken2 : IsTaken all 2 1 (row0 ∷ row1 ∷ []) row2
-unfolding forkers has_fork is_fork is_self_ancestor weight_below some_below reaches by_place values_below self_parent parents creator links
+taken2 : IsTaken all (members 2) 1 (row0 ∷ row1 ∷ []) row2
+unfolding forking total has_fork is_fork is_self_ancestor weight_below some_below reaches by_place values_below self_parent parents creator links
 taken2 = record { spelled = event2; accepted = refl }
 
 making3 : making 1 (row0 ∷ row1 ∷ row2 ∷ []) (name2 ∷ []) 4 [] (replicate 64 4) ≡ answer.Made 3
@@ -191,8 +196,8 @@ made3 = record {
   made = making3;
 }
 
-taken4 : IsTaken all 2 1 (row0 ∷ row1 ∷ row2 ∷ row3 ∷ []) row4
-unfolding forkers has_fork is_fork is_self_ancestor weight_below some_below reaches by_place values_below self_parent parents creator links
+taken4 : IsTaken all (members 2) 1 (row0 ∷ row1 ∷ row2 ∷ row3 ∷ []) row4
+unfolding forking total has_fork is_fork is_self_ancestor weight_below some_below reaches by_place values_below self_parent parents creator links
 taken4 = record { spelled = event4; accepted = refl }
 
 making5 : making 1 (row0 ∷ row1 ∷ row2 ∷ row3 ∷ row4 ∷ []) (name4 ∷ []) 6 [] (replicate 64 6) ≡ answer.Made 5
@@ -212,8 +217,8 @@ made5 = record {
   made = making5;
 }
 
-taken6 : IsTaken all 2 1 (row0 ∷ row1 ∷ row2 ∷ row3 ∷ row4 ∷ row5 ∷ []) row6
-unfolding forkers has_fork is_fork is_self_ancestor weight_below some_below reaches by_place values_below self_parent parents creator links
+taken6 : IsTaken all (members 2) 1 (row0 ∷ row1 ∷ row2 ∷ row3 ∷ row4 ∷ row5 ∷ []) row6
+unfolding forking total has_fork is_fork is_self_ancestor weight_below some_below reaches by_place values_below self_parent parents creator links
 taken6 = record { spelled = event6; accepted = refl }
 
 making7 : making 1 (row0 ∷ row1 ∷ row2 ∷ row3 ∷ row4 ∷ row5 ∷ row6 ∷ []) (name6 ∷ []) 8 [] (replicate 64 8) ≡ answer.Made 7
@@ -236,18 +241,23 @@ made7 = record {
 abbrev events : List Change
 events = Made row0 ∷ Took row1 ∷ Took row2 ∷ Made row3 ∷ Took row4 ∷ Made row5 ∷ Took row6 ∷ Made row7 ∷ []
 
-four_news : news 2 10 (replay 2 10 events) 8 whole ≡ 4
-unfolding replay news share_fame fame_of least_below decides vote_of coin_at sig_at is_closed is_witness round_of strongly_sees sees_through sees has_fork_below is_fork is_ancestor is_self_ancestor weight_below some_below reaches by_place values_below parents self_parent creator links
+four_news : news (members 2) 10 (replay (members 2) 10 events) 8 whole ≡ 4
+unfolding replay news share_fame fame_of least_below decides vote_of coin_at sig_at is_closed is_witness round_of strongly_sees sees_through sees has_fork_below is_fork is_ancestor is_self_ancestor total weight_below some_below reaches by_place values_below parents self_parent creator links
 four_news = refl
 
-some_news : MarksSome 2 10 (replay 2 10 events) 8 whole
+some_news : MarksSome (members 2) 10 (replay (members 2) 10 events) 8 whole
 unfolding replay
 some_news = record { within = omega arith; some = omega (arith, four_news) }
 
+two_weigh : 0 < total (members 2)
+unfolding total weight_below
+two_weigh = omega arith
+
 -- these events are a history of the second member
-pub worked : IsHistory all 2 10 1 (events ++ Marked 8 whole ∷ [])
+pub worked : IsHistory all (members 2) 10 1 (events ++ Marked 8 whole ∷ [])
 unfolding replay
 worked = record {
   member = omega arith;
+  stake = two_weigh;
   steps = (made0, (taken1, (taken2, (made3, (taken4, (made5, (taken6, (made7, (some_news, tt)))))))));
 }

@@ -3,6 +3,7 @@ use Rattle.std.specs.Prelude.{ℕ, zero, suc, ◌≡◌, ◌≢◌, ◌<◌, ◌
 use Rattle.hg_model.specs.declared.row.Row.{Row}
 use Rattle.hg_model.specs.declared.answers.PutAnswer.TheVariants.{Accepted}
 use Rattle.hg_model.specs.declared.answers.MakeAnswer.TheVariants as made
+use Rattle.hg_model.specs.Stakes.{Stakes}
 use Rattle.hg_model.specs.Links.{links}
 use Rattle.hg_model.specs.Graph.{IsGraph}
 use Rattle.hg_model.specs.Fame.{mark_at, fame_marks, is_closed}
@@ -27,7 +28,7 @@ pub record IsEvent (accepts : Accepts) (row : Row) : Type 0 where
   pub signed : IsTrue (accepts row.creator (body_of row) row.sig)
 
 -- a graph of signed events with names of 48 bytes, not more than a node takes, in which the own member's rows are one chain
-pub record IsNodeGraph (accepts : Accepts) (n own : ℕ) (G : List Row) : Type 0 where
+pub record IsNodeGraph (accepts : Accepts) (n : Stakes) (own : ℕ) (G : List Row) : Type 0 where
   pub graph : IsGraph n G
   pub events : (x : ℕ) (row : Row) → slice_get G x ≡ Some row → IsEvent accepts row
   pub sizes : HasNameSizes 48 G
@@ -42,11 +43,11 @@ IsRow (Marked len share) = ⊥
 
 -- after each history the rows are such a graph
 abbrev pub RowsAreAGraph : Type 0
-RowsAreAGraph = (accepts : Accepts) (n c own : ℕ) (h : List Change) → 2 < c → IsHistory accepts n c own h → IsNodeGraph accepts n own (replay n c h).rows
+RowsAreAGraph = (accepts : Accepts) (n : Stakes) (c own : ℕ) (h : List Change) → 2 < c → IsHistory accepts n c own h → IsNodeGraph accepts n own (replay n c h).rows
 
 -- and the links, made as the rows came, are those of the rows
 abbrev pub LinksAreThoseOfTheRows : Type 0
-LinksAreThoseOfTheRows = (accepts : Accepts) (n c own : ℕ) (h : List Change) → 2 < c → IsHistory accepts n c own h → (replay n c h).links ≡ links (replay n c h).rows
+LinksAreThoseOfTheRows = (accepts : Accepts) (n : Stakes) (c own : ℕ) (h : List Change) → 2 < c → IsHistory accepts n c own h → (replay n c h).links ≡ links (replay n c h).rows
 
 -- the history has the change
 abbrev pub HasChange : List Change → Change → Type 0
@@ -54,68 +55,68 @@ HasChange h e = (i : ℕ) × (slice_get h i ≡ Some e)
 
 -- the rows by the own member are those that were made, and the rows by others those that were taken
 abbrev pub RowsCameByChanges : Type 0
-RowsCameByChanges = (accepts : Accepts) (n c own : ℕ) (h : List Change) → IsHistory accepts n c own h → (x : ℕ) (row : Row) → slice_get (replay n c h).rows x ≡ Some row →
+RowsCameByChanges = (accepts : Accepts) (n : Stakes) (c own : ℕ) (h : List Change) → IsHistory accepts n c own h → (x : ℕ) (row : Row) → slice_get (replay n c h).rows x ≡ Some row →
     (row.creator ≡ own → HasChange h (Made row)) × (row.creator ≢ own → HasChange h (Took row))
 
 -- a row that came stands among the rows
 abbrev pub ChangesLeftRows : Type 0
-ChangesLeftRows = (n c : ℕ) (h : List Change) (row : Row) → HasChange h (Made row) ⊎ HasChange h (Took row) → (x : ℕ) × (slice_get (replay n c h).rows x ≡ Some row)
+ChangesLeftRows = (n : Stakes) (c : ℕ) (h : List Change) (row : Row) → HasChange h (Made row) ⊎ HasChange h (Took row) → (x : ℕ) × (slice_get (replay n c h).rows x ≡ Some row)
 
 -- the verdict on a row with the sizes and the name of an event is that on its bytes
 abbrev pub VerdictsAreOfBytes : Type 0
-VerdictsAreOfBytes = (accepts : Accepts) (n own : ℕ) (G : List Row) (bytes : List ℕ) (row : Row) → Spells bytes row → verdict accepts n own G bytes ≡ row_verdict accepts n own G row
+VerdictsAreOfBytes = (accepts : Accepts) (n : Stakes) (own : ℕ) (G : List Row) (bytes : List ℕ) (row : Row) → Spells bytes row → verdict accepts n own G bytes ≡ row_verdict accepts n own G row
 
 -- there is a link and a place for a mark for each row
 abbrev pub ListsAreEven : Type 0
-ListsAreEven = (n c : ℕ) (h : List Change) → (length (replay n c h).links ≡ length (replay n c h).rows) × (length (replay n c h).marks ≡ length (replay n c h).rows)
+ListsAreEven = (n : Stakes) (c : ℕ) (h : List Change) → (length (replay n c h).links ≡ length (replay n c h).rows) × (length (replay n c h).marks ≡ length (replay n c h).rows)
 
 -- each mark is the fame of the graph now
 abbrev pub MarksAreFame : Type 0
-MarksAreFame = (accepts : Accepts) (n c own : ℕ) (h : List Change) → 2 < c → IsHistory accepts n c own h → AreFame n c (replay n c h).rows (replay n c h).marks
+MarksAreFame = (accepts : Accepts) (n : Stakes) (c own : ℕ) (h : List Change) → 2 < c → IsHistory accepts n c own h → AreFame n c (replay n c h).rows (replay n c h).marks
 
 -- at a later moment of a history the rows of an earlier one are the first rows, with the same links
 abbrev pub RowsGrow : Type 0
-RowsGrow = (n c : ℕ) (a b : List Change) → IsPrefix (replay n c a).rows (replay n c (a ++ b)).rows
+RowsGrow = (n : Stakes) (c : ℕ) (a b : List Change) → IsPrefix (replay n c a).rows (replay n c (a ++ b)).rows
 
 abbrev pub LinksGrow : Type 0
-LinksGrow = (n c : ℕ) (a b : List Change) → IsPrefix (replay n c a).links (replay n c (a ++ b)).links
+LinksGrow = (n : Stakes) (c : ℕ) (a b : List Change) → IsPrefix (replay n c a).links (replay n c (a ++ b)).links
 
 -- a mark stays
 abbrev pub MarksStay : Type 0
-MarksStay = (n c : ℕ) (a b : List Change) (x : ℕ) (v : Bool) → mark_at (replay n c a).marks x ≡ Some v → mark_at (replay n c (a ++ b)).marks x ≡ Some v
+MarksStay = (n : Stakes) (c : ℕ) (a b : List Change) (x : ℕ) (v : Bool) → mark_at (replay n c a).marks x ≡ Some v → mark_at (replay n c (a ++ b)).marks x ≡ Some v
 
 -- a closed round stays closed
 abbrev pub ClosedStays : Type 0
-ClosedStays = (accepts : Accepts) (n c own : ℕ) (a b : List Change) → 2 < c → IsHistory accepts n c own (a ++ b) → (r : ℕ) →
+ClosedStays = (accepts : Accepts) (n : Stakes) (c own : ℕ) (a b : List Change) → 2 < c → IsHistory accepts n c own (a ++ b) → (r : ℕ) →
     IsTrue (is_closed n (replay n c a).links (replay n c a).marks r) → IsTrue (is_closed n (replay n c (a ++ b)).links (replay n c (a ++ b)).marks r)
 
 -- a moment of a history is a history
 abbrev pub MomentsAreHistories : Type 0
-MomentsAreHistories = (accepts : Accepts) (n c own : ℕ) (a b : List Change) → IsHistory accepts n c own (a ++ b) → IsHistory accepts n c own a
+MomentsAreHistories = (accepts : Accepts) (n : Stakes) (c own : ℕ) (a b : List Change) → IsHistory accepts n c own (a ++ b) → IsHistory accepts n c own a
 
 -- to publish fame leaves the rows and their links
 abbrev pub MarkingLeavesRows : Type 0
-MarkingLeavesRows = (n c : ℕ) (h : List Change) (len : ℕ) (share : Share) →
+MarkingLeavesRows = (n : Stakes) (c : ℕ) (h : List Change) (len : ℕ) (share : Share) →
     ((replay n c (h ++ Marked len share ∷ [])).rows ≡ (replay n c h).rows) × ((replay n c (h ++ Marked len share ∷ [])).links ≡ (replay n c h).links)
 
 -- what a share has found at one moment speaks of the rows at each later one
 abbrev pub FoundLasts : Type 0
-FoundLasts = (n c : ℕ) (a b : List Change) (len : ℕ) (share : Share) (marks : List (ℕ × Bool)) →
+FoundLasts = (n : Stakes) (c : ℕ) (a b : List Change) (len : ℕ) (share : Share) (marks : List (ℕ × Bool)) →
     Speaks n c (replay n c a).rows (replay n c a).links len share marks → Speaks n c (replay n c (a ++ b)).rows (replay n c (a ++ b)).links len share marks
 
 -- of two moments of a history the order kept at the earlier is a prefix of that kept at the later
 abbrev pub KeptOrderGrows : Type 0
-KeptOrderGrows = (accepts : Accepts) (n c own : ℕ) (a b : List Change) → 2 < c → IsHistory accepts n c own (a ++ b) →
+KeptOrderGrows = (accepts : Accepts) (n : Stakes) (c own : ℕ) (a b : List Change) → 2 < c → IsHistory accepts n c own (a ++ b) →
     IsPrefix (kept n (replay n c a)) (kept n (replay n c (a ++ b)))
 
 -- so by names
 abbrev pub NamedOrderGrows : Type 0
-NamedOrderGrows = (accepts : Accepts) (n c own : ℕ) (a b : List Change) → 2 < c → IsHistory accepts n c own (a ++ b) →
+NamedOrderGrows = (accepts : Accepts) (n : Stakes) (c own : ℕ) (a b : List Change) → 2 < c → IsHistory accepts n c own (a ++ b) →
     IsPrefix (kept_by_names n (replay n c a)) (kept_by_names n (replay n c (a ++ b)))
 
 -- the kept order is a prefix of the order of the graph with its own fame
 abbrev pub KeptIsOfTheGraph : Type 0
-KeptIsOfTheGraph = (accepts : Accepts) (n c own : ℕ) (h : List Change) → 2 < c → IsHistory accepts n c own h →
+KeptIsOfTheGraph = (accepts : Accepts) (n : Stakes) (c own : ℕ) (h : List Change) → 2 < c → IsHistory accepts n c own h →
     IsPrefix (kept n (replay n c h)) (order_of n c (replay n c h).rows)
 
 -- the first k of m shares of the first `len` rows, published one after the other
@@ -125,43 +126,43 @@ shares_published len m (suc k) = shares_published len m k ++ Marked len (record 
 
 -- all shares of the whole graph have all its fame
 abbrev pub SharesAreAll : Type 0
-SharesAreAll = (accepts : Accepts) (n c own : ℕ) (h : List Change) → 2 < c → IsHistory accepts n c own h → (m : ℕ) → 0 < m →
+SharesAreAll = (accepts : Accepts) (n : Stakes) (c own : ℕ) (h : List Change) → 2 < c → IsHistory accepts n c own h → (m : ℕ) → 0 < m →
     let G = (replay n c h).rows in
     let t = replay n c (h ++ shares_published (length G) m m) in
     (t.rows ≡ G) × (t.marks ≡ fame_marks n c (links G) (coin_at G))
 
 -- to publish what a share found is to add its marks one after the other
 abbrev pub PublishingAddsMarks : Type 0
-PublishingAddsMarks = (n c : ℕ) (h : List Change) (len : ℕ) (share : Share) (found : List (ℕ × Bool)) →
+PublishingAddsMarks = (n : Stakes) (c : ℕ) (h : List Change) (len : ℕ) (share : Share) (found : List (ℕ × Bool)) →
     let s = replay n c h in Speaks n c s.rows s.links len share found →
     ((add_marks s.marks found).marks ≡ (with_marks n c s len share).marks) × ((add_marks s.marks found).count ≡ news n c s len share)
 
 -- what a share found in the first rows is no news once it was published, whatever comes then
 abbrev pub PublishedIsNoNews : Type 0
-PublishedIsNoNews = (n c : ℕ) (a b : List Change) (len : ℕ) (share : Share) → len ≤ length (replay n c a).rows →
+PublishedIsNoNews = (n : Stakes) (c : ℕ) (a b : List Change) (len : ℕ) (share : Share) → len ≤ length (replay n c a).rows →
     news n c (replay n c (a ++ Marked len share ∷ b)) len share ≡ 0
 
 -- the rows and the log tell the history
 abbrev pub LogSpellsHistory : Type 0
-LogSpellsHistory = (n c : ℕ) (h : List Change) → history_of (replay n c h).rows (log_from 0 h) ≡ h
+LogSpellsHistory = (n : Stakes) (c : ℕ) (h : List Change) → history_of (replay n c h).rows (log_from 0 h) ≡ h
 
 -- the first rows of a graph are a graph, with the first links
 abbrev pub FirstRowsAreAGraph : Type 0
-FirstRowsAreAGraph = (n len : ℕ) (G : List Row) → IsGraph n G → IsGraph n (take len G) × (links (take len G) ≡ take len (links G))
+FirstRowsAreAGraph = (n : Stakes) (len : ℕ) (G : List Row) → IsGraph n G → IsGraph n (take len G) × (links (take len G) ≡ take len (links G))
 
 -- the kept order is that of the closed rounds, one after the other
 abbrev pub OrderByRounds : Type 0
-OrderByRounds = (accepts : Accepts) (n c own : ℕ) (h : List Change) → 2 < c → IsHistory accepts n c own h →
+OrderByRounds = (accepts : Accepts) (n : Stakes) (c own : ℕ) (h : List Change) → 2 < c → IsHistory accepts n c own h →
     let s = replay n c h in kept n s ≡ kept_up_to n s (last_closed n s.links s.marks)
 
 -- and what a closed round has received stays
 abbrev pub RoundsStay : Type 0
-RoundsStay = (accepts : Accepts) (n c own : ℕ) (a b : List Change) → 2 < c → IsHistory accepts n c own (a ++ b) → (r : ℕ) →
+RoundsStay = (accepts : Accepts) (n : Stakes) (c own : ℕ) (a b : List Change) → 2 < c → IsHistory accepts n c own (a ++ b) → (r : ℕ) →
     IsTrue (is_closed n (replay n c a).links (replay n c a).marks r) → kept_in n (replay n c (a ++ b)) r ≡ kept_in n (replay n c a) r
 
 -- a row that comes closes no round, and so leaves the kept order
 abbrev pub RowsLeaveTheOrder : Type 0
-RowsLeaveTheOrder = (accepts : Accepts) (n c own : ℕ) (h : List Change) (e : Change) → 2 < c → IsHistory accepts n c own (h ++ e ∷ []) → IsRow e →
+RowsLeaveTheOrder = (accepts : Accepts) (n : Stakes) (c own : ℕ) (h : List Change) (e : Change) → 2 < c → IsHistory accepts n c own (h ++ e ∷ []) → IsRow e →
     let s = replay n c h in let t = replay n c (h ++ e ∷ []) in
     (last_closed n t.links t.marks ≡ last_closed n s.links s.marks) × (kept n t ≡ kept n s)
 

@@ -3,6 +3,7 @@ use Rattle.std.proofs.Common.{◌≡◌, inl, inr, ℕ, suc, ◌+◌, ◌<◌, B
 use Rattle.std.specs.List.{list_all}
 use Rattle.std.proofs.lemmas.Bool.{cases_lt, cases_eq, eq-eqb, ne_eqb, le-leb, lt-leb, false_from_ne_true}
 use Rattle.hg_model.specs.Places.{some_below, list_below, IsEarlier}
+use Rattle.hg_model.specs.Stakes.{Stakes}
 use Rattle.hg_model.specs.Links.{Link, parents}
 use Rattle.hg_model.specs.Ancestry.{is_ancestor}
 use Rattle.hg_model.specs.Fame.{Marks, is_closed, is_unique_famous}
@@ -69,7 +70,7 @@ module _ (g : Graph) (marks : Marks) (e : IsEarlier (parents (links_of g))) wher
   pub fresh_next : (m x : ℕ) → is_received_in g.members (links_of g) marks (λ k. eqb k (m + 1)) x ≡ (is_pending g marks m x && can_receive g.members (links_of g) marks x (m + 1))
   fresh_next m x = (next_of m x).comes
 
-module _ (n : ℕ) (L : List Link) (marks : Marks) (r : ℕ) where
+module _ (n : Stakes) (L : List Link) (marks : Marks) (r : ℕ) where
   -- a round without a unique famous witness receives nothing
   pub none_receive : length (famous_places n L marks r) ≡ 0 → (x : ℕ) → can_receive n L marks x r ≡ false
   unfolding can_receive famous_places

@@ -3,6 +3,7 @@ use Rattle.std.proofs.Common.{◌≡◌, ℕ, zero, suc, ◌<◌, ◌≤◌, tru
 use Rattle.std.proofs.lemmas.Bool.{leb-true, le-leb, eq-eqb, both_ways, false_from_ne_true, true≢false}
 use Rattle.hg_model.specs.declared.row.Row.{Row}
 use Rattle.hg_model.specs.declared.row.Placed.{Placed}
+use Rattle.hg_model.specs.Stakes.{Stakes}
 use Rattle.hg_model.specs.Links.{links}
 use Rattle.hg_model.specs.Graph.{IsGraph}
 use Rattle.hg_model.specs.Fame.{Marks, is_closed}
@@ -29,7 +30,7 @@ just_from r None is = cc
 just_from r (Some k) is = (let same : k ≡ r = cc in eq-eqb k r same)
 
 -- a graph, and one that begins with its rows, both with marks that are fame, which both have closed the rounds up to m
-module _ (n c : ℕ) (U : List Row) (u : IsGraph n U) (three : 2 < c) (G : List Row) (f h : Marks) (g : IsMarkedPart n c U G f) (k : IsMarkedPart n c U U h)
+module _ (n : Stakes) (c : ℕ) (U : List Row) (u : IsGraph n U) (three : 2 < c) (G : List Row) (f h : Marks) (g : IsMarkedPart n c U G f) (k : IsMarkedPart n c U U h)
     (first : IsPrefix G U) (m : ℕ) (closed_G : (r : ℕ) → 0 < r → r ≤ m → is_closed n (links G) f r ≡ true) (closed_U : (r : ℕ) → 0 < r → r ≤ m → is_closed n (links U) h r ≡ true) where
   pub order_stays : (r : ℕ) → r ≤ m → kept_up_to n (state_by (graph_of n c U) h) r ≡ kept_up_to n (state_by (graph_of n c G) f) r
   unfolding kept_up_to

@@ -3,7 +3,8 @@ use Rattle.std.proofs.Common.{◌≡◌, ℕ, zero, ◌<◌, Bool, true, false, 
 use Rattle.std.proofs.lemmas.Bool.{true≢false}
 use Rattle.hg_model.specs.Links.{links}
 use Rattle.hg_model.specs.Places.{some_below, list_below, greatest_below}
-use Rattle.hg_model.specs.Forks.{has_fork, forkers}
+use Rattle.hg_model.specs.Stakes.{Stakes, member_count, stake_of, total}
+use Rattle.hg_model.specs.Forks.{has_fork, forking}
 use Rattle.hg_model.specs.Fame.{is_closed}
 use Rattle.hg_model.specs.Order.{sort_by, ordered_in, last_closed}
 use Rattle.hg_model.specs.Prefix.{graph_of}
@@ -12,11 +13,11 @@ use Rattle.hg_model.proofs.PlacesLaws.{weight_below_none, list_below_zero}
 use Rattle.hg_model.proofs.PushLaws.{shaped-none}
 use Rattle.hg_kept.specs.Published.{Keeps, is_pending, unpublished}
 
-no_forkers : (n : ℕ) → forkers n (links []) ≡ 0
-unfolding forkers has_fork some_below links
-no_forkers n = weight_below_none (λ _. 1) n (has_fork (links [])) (λ m inside forks. absurd (true≢false (sym forks)))
+no_forkers : (n : Stakes) → forking n (links []) ≡ 0
+unfolding forking has_fork some_below links
+no_forkers n = weight_below_none (stake_of n) (member_count n) (has_fork (links [])) (λ m inside forks. absurd (true≢false (sym forks)))
 
-none_closed : (n : ℕ) → 0 ≡ last_closed n (links []) []
+none_closed : (n : Stakes) → 0 ≡ last_closed n (links []) []
 unfolding last_closed links greatest_below
 none_closed n = either (is_closed n [] [] 0)
   where
@@ -24,11 +25,11 @@ none_closed n = either (is_closed n [] [] 0)
     either true = refl
     either false = refl
 
-none_ordered : (n : ℕ) → [] ≡ ordered_in n [] (links []) [] (λ r. true)
+none_ordered : (n : Stakes) → [] ≡ ordered_in n [] (links []) [] (λ r. true)
 unfolding ordered_in sort_by list_below links
 none_ordered n = refl
 
-pub keeps_nothing : (n c : ℕ) → 0 < n → Keeps (graph_of n c []) unpublished
+pub keeps_nothing : (n : Stakes) (c : ℕ) → 0 < total n → Keeps (graph_of n c []) unpublished
 keeps_nothing n c some = record {
   graph = record { distinct = distinct-none; shaped = shaped-none n; few_forkers = omega (arith, no_forkers n) };
   even = refl;

@@ -8,6 +8,7 @@ use Rattle.std.proofs.lemmas.List.Elements.{All-from_recursion}
 use Rattle.std.proofs.lemmas.List.FromFn.{length-map-range_with_len}
 use Rattle.hg_model.specs.declared.row.Row.{Row}
 use Rattle.hg_model.specs.Places.{list_below}
+use Rattle.hg_model.specs.Stakes.{Stakes}
 use Rattle.hg_model.specs.Links.{Link, links}
 use Rattle.hg_model.specs.Fame.{Marks, mark_at, is_closed, is_yes}
 use Rattle.hg_model.specs.Prefix.{Graph, links_of}
@@ -103,7 +104,7 @@ keeps_all g v keeps fails =
     }
 
 -- what more rounds receive comes after what fewer do
-pub order_grows : (n : ℕ) (s : State) (m k : ℕ) → m ≤ k → IsPrefix (kept_up_to n s m) (kept_up_to n s k)
+pub order_grows : (n : Stakes) (s : State) (m k : ℕ) → m ≤ k → IsPrefix (kept_up_to n s m) (kept_up_to n s k)
 unfolding kept_up_to
 order_grows n s zero zero le = ([], refl)
 order_grows n s (suc m) zero le = absurd (omega arith)

@@ -5,6 +5,7 @@ use Rattle.std.proofs.lemmas.List.{length_push, get_or_push, take_at}
 use Rattle.std.proofs.lemmas.List.Folds.{position_or_len_push}
 use Rattle.hg_model.specs.declared.row.Row.{Row}
 use Rattle.hg_model.specs.Places.{has_place}
+use Rattle.hg_model.specs.Stakes.{Stakes}
 use Rattle.hg_model.specs.Links.{Link, parent_names, is_named, place_of, link_in, links, parents_in, parents}
 use Rattle.hg_model.specs.Graph.{IsShaped, IsGraph}
 use Rattle.hg_model.specs.Fits.{AreHeld}
@@ -53,7 +54,7 @@ module _ (G : List Row) (row : Row) where
       )
 
   -- so its link is that which it had when it came
-  pub links_pushed : (n : ℕ) → IsShaped n (links G) → IsShaped n (links (G ++ row ∷ [])) → links (G ++ row ∷ []) ≡ links G ++ link_in G row ∷ []
+  pub links_pushed : (n : Stakes) → IsShaped n (links G) → IsShaped n (links (G ++ row ∷ [])) → links (G ++ row ∷ []) ≡ links G ++ link_in G row ∷ []
   unfolding parents
   links_pushed n before after =
       let x = length G in
@@ -67,7 +68,7 @@ module _ (G : List Row) (row : Row) where
       })
 
 -- the row comes after these
-module _ (n c : ℕ) (G : List Row) (row : Row) (u : IsGraph n (G ++ row ∷ [])) (three : 2 < c) (v : Published) (keeps : Keeps (graph_of n c G) v) where
+module _ (n : Stakes) (c : ℕ) (G : List Row) (row : Row) (u : IsGraph n (G ++ row ∷ [])) (three : 2 < c) (v : Published) (keeps : Keeps (graph_of n c G) v) where
   abbrev U : List Row
   U = G ++ row ∷ []
 

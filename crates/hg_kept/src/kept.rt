@@ -1,4 +1,5 @@
 ghost use Rattle.std.specs.Prelude.{◌≡◌, ◌<◌, ◌≤◌, ◌+◌, ◌-◌, ℕ, [], length, OnOk, vec_len, vec_capacity};
+ghost use Rattle.hg_model.specs.Stakes.{Stakes, total};
 ghost use Rattle.hg_model.specs.Fame.{mark_at};
 ghost use Rattle.hg_model.specs.Prefix.{graph_of};
 ghost use Rattle.hg_model.specs.Orders.{IsPrefix};
@@ -38,7 +39,7 @@ impl Kept {
     /// Nothing, of no rows. Takes no memory.
     pub fn new(alloc: Global) -> Kept
         ensures none { result.published ≡ unpublished }
-        ensures keeps { (n c : ℕ) → 0 < n → Keeps (graph_of n c []) result.published }
+        ensures keeps { (n : Stakes) (c : ℕ) → 0 < total n → Keeps (graph_of n c []) result.published }
     {
         Kept {
             marks: Vec::new(alloc),

@@ -15,7 +15,7 @@ pub record Standing : Type 0 where
 abbrev pub standing_of : Stakes → List Link → ℕ → Standing
 standing_of n L x = record { round = round_of n L x; witness = is_witness n L x }
 
--- the standings of all events of a graph of n members
+-- the standings of all events of a graph
 unfoldable pub standings_of : Stakes → List Link → List Standing
 standings_of n L = table (standing_of n L) (length L)
 

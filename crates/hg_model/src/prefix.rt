@@ -1,4 +1,5 @@
 ghost use Rattle.std.specs.Prelude.{◌≡◌, ◌<◌, ◌≤◌, ◌-◌, ◌^◌, Some, length, slice_get};
+ghost use Rattle.hg_model.specs.Stakes.{member_count};
 ghost use Rattle.hg_model.specs.Prefix.{Graph, IsOfGraph, links_of};
 ghost use Rattle.hg_model.specs.GraphWords.{standings_in, shape_in, IsShapedIn};
 
@@ -33,7 +34,7 @@ pub trait Prefix: Sight + Rounds {
 pub fn is_of_graph<P: Prefix>(p: &P)
     ensures matches { IsOfGraph (P.shape p.now) (P.standings p.now) (P.graph p.now) }
     ensures shaped { IsShapedIn (shape_in (P.graph p.now)) }
-    ensures few { (P.graph p.now).members ≤ 128 }
+    ensures few { member_count (P.graph p.now).members ≤ 128 }
     ensures long { length (links_of (P.graph p.now)) ≡ length (P.graph p.now).rows }
     ensures links { length (P.shape p.now).links ≡ length (P.graph p.now).rows }
     ensures standings { length (P.standings p.now) ≡ length (P.graph p.now).rows }

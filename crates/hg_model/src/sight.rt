@@ -1,4 +1,5 @@
 ghost use Rattle.std.specs.Prelude.{◌≡◌, ℕ, ◌<◌, ◌≤◌, ◌+◌, ◌-◌, ◌^◌, length, IfOk, OnOk};
+ghost use Rattle.hg_model.specs.Stakes.{member_count};
 ghost use Rattle.hg_model.specs.Links.{creator, self_parent};
 ghost use Rattle.hg_model.specs.Ancestry.{is_ancestor};
 ghost use Rattle.hg_model.specs.Seeing.{sees, strongly_sees};
@@ -11,7 +12,7 @@ use crate::row::Member;
 
 /// What the rows of a graph see of each other. A place is below the number of rows.
 pub trait Sight {
-    /// The graph: how many members there are, and each row's creator and parents.
+    /// The graph: the members' stakes, and each row's creator and parents.
     ghost shape: { Self → Shape };
 
     /// How many rows there are, fewer than 2^32 - 1.
@@ -22,7 +23,7 @@ pub trait Sight {
 
     /// How many members there are, at most 128.
     fn members(&self) -> u32
-        ensures value { result ≡ (shape self.now).members }
+        ensures value { result ≡ member_count (shape self.now).members }
         ensures few { result ≤ 128 }
         ensures shaped { IsShapedIn (shape self.now) };
 
@@ -30,7 +31,7 @@ pub trait Sight {
     fn creator(&self, x: usize) -> Member
         requires { x < length (shape self.now).links }
         ensures value { result ≡ creator (shape self.now).links x }
-        ensures member { result < (shape self.now).members };
+        ensures member { result < member_count (shape self.now).members };
 
     /// The place of the self-parent of row `x`, if it has one.
     fn self_parent(&self, x: usize) -> Option<usize>

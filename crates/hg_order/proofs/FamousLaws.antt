@@ -8,6 +8,7 @@ use Rattle.std.proofs.lemmas.List.Folds.{fold-map}
 use Rattle.std.proofs.lemmas.List.Sums.{length-filter}
 use Rattle.hg_model.specs.declared.row.Row.{Row}
 use Rattle.hg_model.specs.Places.{some_below, list_below}
+use Rattle.hg_model.specs.Stakes.{Stakes, member_count}
 use Rattle.hg_model.specs.Links.{Link, creator}
 use Rattle.hg_model.specs.Ancestry.{is_ancestor}
 use Rattle.hg_model.specs.Graph.{IsShaped}
@@ -29,7 +30,7 @@ and_assoc_three : (a b c d : Bool) → (a && (b && c && d)) ≡ (a && b && c && 
 and_assoc_three true b c d = refl
 and_assoc_three false b c d = refl
 
-module _ (n : ℕ) (L : List Link) (marks : Marks) (r : ℕ) where
+module _ (n : Stakes) (L : List Link) (marks : Marks) (r : ℕ) where
   witness_of : (y : ℕ) → is_unique_famous n L marks r y ≡ true → is_famous_in n L marks r y ≡ true
   unfolding is_unique_famous
   witness_of y e = (and_parts (is_famous_in n L marks r y) (not (some_below (length L) (is_rival n L marks r y))) e).0
@@ -61,12 +62,12 @@ module _ (n : ℕ) (L : List Link) (marks : Marks) (r : ℕ) where
   famous_all P at = all_list_below P (λ w. w) (length L) (is_unique_famous n L marks r) at
 
   -- and so no more than members
-  pub famous_few : IsShaped n L → length (famous_places n L marks r) ≤ n
+  pub famous_few : IsShaped n L → length (famous_places n L marks r) ≤ member_count n
   unfolding famous_places
   famous_few s =
       let places = list_below (λ w. w) (length L) (is_unique_famous n L marks r) in
       let count = sum_by-list_below (λ _. 1) (λ w. w) (length L) (is_unique_famous n L marks r) in
-      omega (arith, sum_of_ones places, count, count_below-apart (creator L) (length L) n (is_unique_famous n L marks r) s.members one_by_creator)
+      omega (arith, sum_of_ones places, count, count_below-apart (creator L) (length L) (member_count n) (is_unique_famous n L marks r) s.members one_by_creator)
 
   -- among the witnesses of the round a lone famous one is a unique famous one
 
@@ -135,7 +136,7 @@ module _ (shape : Shape) (standings : List Standing) (g : Graph) (matches : IsOf
   lone_few = rw lone_counted (famous_few g.members (links_of g) marks r s)
 
 -- all of them are of the round
-round_of_all : (n : ℕ) (L : List Link) (marks : Marks) (r : ℕ) → AllByRecursion (λ w. (w < length L) × (round_of n L w ≡ r)) (famous_places n L marks r)
+round_of_all : (n : Stakes) (L : List Link) (marks : Marks) (r : ℕ) → AllByRecursion (λ w. (w < length L) × (round_of n L w ≡ r)) (famous_places n L marks r)
 round_of_all n L marks r = famous_all n L marks r (λ w. (w < length L) × (round_of n L w ≡ r)) (λ w h e. (h, round_of_famous n L marks r w e))
 
 pub round_is : (shape : Shape) (standings : List Standing) (g : Graph) → IsOfGraph shape standings g → (marks : Marks) (r i d : ℕ) (places : List ℕ) → places ≡ famous_of g marks r → i < length places →

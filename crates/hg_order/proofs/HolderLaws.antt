@@ -3,6 +3,7 @@ use Rattle.std.proofs.Common.{◌≡◌, ℕ, ◌<◌, ◌≤◌, Bool, true, no
 use Rattle.std.proofs.lemmas.Bool.{cases_Bool, and_parts, and_from, not-true, not_from_false, both_ways}
 use Rattle.hg_model.specs.declared.row.Row.{Row}
 use Rattle.hg_model.specs.Places.{some_below, list_below}
+use Rattle.hg_model.specs.Stakes.{Stakes}
 use Rattle.hg_model.specs.Links.{Link, creator}
 use Rattle.hg_model.specs.Ancestry.{is_ancestor, is_self_ancestor}
 use Rattle.hg_model.specs.Graph.{IsShaped}
@@ -16,7 +17,7 @@ use Rattle.hg_order.proofs.ImageLaws.{IsImage, weight_below-image}
 use Rattle.hg_order.proofs.LineLaws.{IsFirstHolder, is_new_to_line, first_holder_is, first_holder_found, first_holder-le, creator_of_line}
 use Rattle.hg_order.proofs.FamousLaws.{one_by_creator}
 
-module _ (n : ℕ) (L : List Link) (s : IsShaped n L) (marks : Marks) (r x : ℕ) where
+module _ (n : Stakes) (L : List Link) (s : IsShaped n L) (marks : Marks) (r x : ℕ) where
   -- all unique famous witnesses have x as ancestor
   abbrev pub AllHave : Type 0
   AllHave = (w : ℕ) → w < length L → is_unique_famous n L marks r w ≡ true → is_ancestor L w x ≡ true

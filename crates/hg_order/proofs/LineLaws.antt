@@ -3,6 +3,7 @@ use Rattle.std.proofs.Common.{◌≡◌, ℕ, zero, suc, ◌<◌, ◌≤◌, Boo
 use Rattle.std.specs.List.{list_all}
 use Rattle.std.proofs.lemmas.Bool.{cases_Bool, and_parts, and_from, not-true, both_ways, false_from_ne_true}
 use Rattle.hg_model.specs.Places.{has_place, IsEarlier}
+use Rattle.hg_model.specs.Stakes.{Stakes}
 use Rattle.hg_model.specs.Links.{Link, parents, self_parent, creator}
 use Rattle.hg_model.specs.Ancestry.{is_ancestor, is_self_ancestor}
 use Rattle.hg_model.specs.Graph.{IsShaped}
@@ -90,7 +91,7 @@ new_by_parent L x z p is not_held = rw (← is, ← not_held) refl
 pub new_without_parent : (L : List Link) (x z : ℕ) → [] ≡ self_parent L z → is_new_to_line L x z ≡ true
 new_without_parent L x z none = rw (← none) refl
 
-module _ (n : ℕ) (L : List Link) (s : IsShaped n L) where
+module _ (n : Stakes) (L : List Link) (s : IsShaped n L) where
   creator_to : (k w z : ℕ) → w < k → is_self_ancestor L w z ≡ true → creator L z ≡ creator L w
   creator_to zero w z h on = absurd (omega arith)
   creator_to (suc k) w z h on = elim (is_self_ancestor_cases L s.earlier w z on) [

@@ -3,6 +3,7 @@ use Rattle.std.proofs.Common.{◌≡◌, ℕ, zero, suc, ◌<◌, true, false, n
 use Rattle.std.specs.List.{AllByRecursion}
 use Rattle.std.proofs.lemmas.Bool.{and_parts, and_left, and_right, eqb-true, eq-eqb, not-true, true≢false}
 use Rattle.hg_model.specs.Places.{some_below, list_below}
+use Rattle.hg_model.specs.Stakes.{Stakes}
 use Rattle.hg_model.specs.Links.{Link}
 use Rattle.hg_model.specs.Ancestry.{is_ancestor}
 use Rattle.hg_model.specs.Fame.{Marks, is_closed, is_unique_famous}
@@ -18,7 +19,7 @@ pos_from : (k : ℕ) → eqb k 0 ≡ false → 0 < k
 pos_from zero e = absurd (true≢false e)
 pos_from (suc k) e = omega arith
 
-module _ (n : ℕ) (L : List Link) (marks : Marks) where
+module _ (n : Stakes) (L : List Link) (marks : Marks) where
   -- a round without unique famous witnesses receives nothing
   pub none_received : (x r : ℕ) → length (famous_places n L marks r) ≡ 0 → can_receive n L marks x r ≡ false
   unfolding can_receive famous_places
@@ -70,7 +71,7 @@ received_some g marks r some =
     can_some g.members (links_of g) marks first.0 r first.1
 
 -- the rows of a round that is not closed, or has no unique famous witness
-pub none_where_open : (n : ℕ) (L : List Link) (marks : Marks) (x r : ℕ) → is_closed n L marks r ≡ false → can_receive n L marks x r ≡ false
+pub none_where_open : (n : Stakes) (L : List Link) (marks : Marks) (x r : ℕ) → is_closed n L marks r ≡ false → can_receive n L marks x r ≡ false
 unfolding can_receive
 none_where_open n L marks x r not_closed =
     let some = some_below (length L) (is_unique_famous n L marks r) in

@@ -1,5 +1,6 @@
 ghost use Rattle.std.specs.Prelude.{◌≡◌, ◌<◌, ◌≤◌, All, length, take, drop, filter, count_by};
 ghost use Rattle.std.specs.List.{list_any};
+ghost use Rattle.hg_model.specs.Stakes.{member_count};
 ghost use Rattle.hg_model.specs.Fame.{is_yes, mark_at};
 ghost use Rattle.hg_model.specs.GraphWords.{famous_of};
 ghost use Rattle.hg_order.specs.Famous.{AreFamous, is_lone, is_rival_to};
@@ -9,12 +10,12 @@ use hg_model::{Prefix, Sight, is_of_graph};
 /// The unique famous witnesses of round `r` by the marks: their places, in order, to the front of `out`, which has
 /// room for one of each member. It answers how many there are.
 pub fn unique_famous<P: Prefix>(p: &P, marks: &[Option<bool>], r: u32, out: &mut [usize]) -> usize
-    requires { (P.graph p.now).members ≤ length out.old }
+    requires { member_count (P.graph p.now).members ≤ length out.old }
     ensures count { result ≡ length (famous_of (P.graph p.now) marks.now r) }
     ensures front { take result out.new ≡ famous_of (P.graph p.now) marks.now r }
     ensures rest { drop result out.new ≡ drop result out.old }
     ensures famous { AreFamous (P.graph p.now) (take result out.new) }
-    ensures fits { result ≤ (P.graph p.now).members }
+    ensures fits { result ≤ member_count (P.graph p.now).members }
 {
     is_of_graph(p);
     keep_lone(p, marks, p.witnesses(r), out)
