@@ -8,7 +8,7 @@ use Rattle.hg_model.specs.Places.{some_below}
 use Rattle.hg_model.specs.Links.{Link, place_of, link_in, links, first_place, parents as parents_at}
 use Rattle.hg_model.specs.Forks.{has_fork, forkers}
 use Rattle.hg_model.specs.Graph.{IsShaped, IsGraph}
-use Rattle.hg_model.specs.Shape.{Shape, FitsLink, first_links, shape_of, link_of, pair_list, place_list, with_link}
+use Rattle.hg_model.specs.Shape.{Shape, FitsLink, first_links, shape_of, link_of, place_list, with_link}
 use Rattle.hg_model.specs.Standings.{Standing, standings_of}
 use Rattle.hg_model.specs.Spelling.{Spells, spelling}
 use Rattle.hg_model.specs.Verdict.{row_limit}
@@ -22,7 +22,7 @@ use Rattle.hg_model.proofs.LinkLaws.{length-links, parents_read}
 use Rattle.hg_forks.specs.Own.{own_link_of, own_links, own_shape}
 use Rattle.hg_forks.proofs.OwnLaws.{own_links_serve}
 use Rattle.hg_rounds.specs.Tabled.{last_parents}
-use Rattle.hg_graph.specs.GraphWithRoom.{GraphWithRoom, AreEvents, IsHeld, KeepsGraph, shape_in, graph_with}
+use Rattle.hg_graph.specs.Held.{GraphWithRoom, AreEvents, IsHeld, KeepsGraph, shape_in, graph_with}
 use Rattle.hg_graph.proofs.NextLaws.{links_next, fits_last, name_next}
 
 -- without rows
@@ -70,29 +70,29 @@ events_with G row all here x r is = elim (cases_lt x (length G)) [
 
 -- without other-parents
 
-pub own_fits : (n : ℕ) (L : List Link) (m : ℕ) (parents : Option (ℕ × ℕ)) (own : Option ℕ) → place_list own ≡ first_place (pair_list parents) → FitsLink n L (link_of m parents) → FitsLink n (own_links L) (own_link_of m own)
+pub own_fits : (n : ℕ) (L : List Link) (m : ℕ) (parents : List ℕ) (own : Option ℕ) → place_list own ≡ first_place parents → FitsLink n L (link_of m parents) → FitsLink n (own_links L) (own_link_of m own)
 own_fits n L m parents own is fits =
     subst (λ (ps : List ℕ). FitsLink n (own_links L) (record { creator = m; parents = ps })) (sym is) ((own_links_serve n L).fits (link_of m parents) fits)
 
-own_push : (n : ℕ) (L : List Link) (m : ℕ) (parents : Option (ℕ × ℕ)) (own : Option ℕ) → place_list own ≡ first_place (pair_list parents) → own_links L ++ own_link_of m own ∷ [] ≡ own_links (L ++ link_of m parents ∷ [])
+own_push : (n : ℕ) (L : List Link) (m : ℕ) (parents : List ℕ) (own : Option ℕ) → place_list own ≡ first_place parents → own_links L ++ own_link_of m own ∷ [] ≡ own_links (L ++ link_of m parents ∷ [])
 own_push n L m parents own is =
     ap (λ (ps : List ℕ). own_links L ++ record { creator = m; parents = ps } ∷ []) is ∙ sym ((own_links_serve n L).push (link_of m parents))
 
-pub own_forkers : (n : ℕ) (L : List Link) (m : ℕ) (parents : Option (ℕ × ℕ)) (own : Option ℕ) → place_list own ≡ first_place (pair_list parents) → forkers n (own_links L ++ own_link_of m own ∷ []) ≡ forkers n (L ++ link_of m parents ∷ [])
+pub own_forkers : (n : ℕ) (L : List Link) (m : ℕ) (parents : List ℕ) (own : Option ℕ) → place_list own ≡ first_place parents → forkers n (own_links L ++ own_link_of m own ∷ []) ≡ forkers n (L ++ link_of m parents ∷ [])
 own_forkers n L m parents own is = ap (forkers n) (own_push n L m parents own is) ∙ (own_links_serve n (L ++ link_of m parents ∷ [])).forkers
 
 -- what a row needs, and does, that may come into a graph with these parents
-pub record Comes (g : Graph) (row : Row) (parents : Option (ℕ × ℕ)) (sight watched : Shape) : Type 0 where
+pub record Comes (g : Graph) (row : Row) (parents : List ℕ) (sight watched : Shape) : Type 0 where
   pub fits : FitsLink sight.members sight.links (link_of row.creator parents)
   pub short : length sight.links + 1 < 4294967295
-  pub own_fits : (own : Option ℕ) → place_list own ≡ first_place (pair_list parents) → FitsLink watched.members watched.links (own_link_of row.creator own)
+  pub own_fits : (own : Option ℕ) → place_list own ≡ first_place parents → FitsLink watched.members watched.links (own_link_of row.creator own)
   pub fresh : place_of g.rows row.name ≡ length g.rows
-  pub last : (after : Shape) → after ≡ with_link sight (link_of row.creator parents) → pair_list parents ≡ last_parents after
-  pub keeps : (own : Option ℕ) → place_list own ≡ first_place (pair_list parents) → (rows : List Row) (after watched_after : Shape) (standings : List Standing) →
+  pub last : (after : Shape) → after ≡ with_link sight (link_of row.creator parents) → parents ≡ last_parents after
+  pub keeps : (own : Option ℕ) → place_list own ≡ first_place parents → (rows : List Row) (after watched_after : Shape) (standings : List Standing) →
       rows ≡ g.rows ++ row ∷ [] → after ≡ with_link sight (link_of row.creator parents) → watched_after ≡ with_link watched (own_link_of row.creator own) →
       standings ≡ standings_of after.members after.links → KeepsGraph (graph_of g.members g.coin rows) after watched_after standings
 
-module _ (g : Graph) (row : Row) (bytes : List ℕ) (parents : Option (ℕ × ℕ)) (held : IsHeld g) (limit : length g.rows < row_limit) (spells : Spells bytes row)
+module _ (g : Graph) (row : Row) (bytes : List ℕ) (parents : List ℕ) (held : IsHeld g) (limit : length g.rows < row_limit) (spells : Spells bytes row)
     (is : link_in g.rows row ≡ link_of row.creator parents) (graph : IsGraph g.members (g.rows ++ row ∷ [])) where
   held_with : IsHeld (graph_with g row)
   held_with = record {
@@ -110,7 +110,7 @@ module _ (g : Graph) (row : Row) (bytes : List ℕ) (parents : Option (ℕ × �
   fits_next : FitsLink g.members (links g.rows) (link_of row.creator parents)
   fits_next = fits_last g.members (links g.rows) (link_of row.creator parents) (subst (IsShaped g.members) linked graph.shaped)
 
-  last_on : (L : List Link) → L ≡ links g.rows ++ link_of row.creator parents ∷ [] → pair_list parents ≡ parents_at L (length L - 1)
+  last_on : (L : List Link) → L ≡ links g.rows ++ link_of row.creator parents ∷ [] → parents ≡ parents_at L (length L - 1)
   last_on L at =
       let link = link_of row.creator parents in
       let long : length L ≡ length (links g.rows) + 1 = ap length at ∙ length_push (links g.rows) link in
@@ -136,7 +136,7 @@ module _ (g : Graph) (row : Row) (bytes : List ℕ) (parents : Option (ℕ × �
 
 -- the same of the graph of a value
 pub comes : {g : Graph} {room : ℕ} {v : GraphWithRoom} → record { graph = g; room = room } ≡ v → {sight watched : Shape} {standings : List Standing} → KeepsGraph g sight watched standings →
-    (row : Row) (bytes : List ℕ) (parents : Option (ℕ × ℕ)) → length v.graph.rows < row_limit → Spells bytes row → link_in v.graph.rows row ≡ link_of row.creator parents →
+    (row : Row) (bytes : List ℕ) (parents : List ℕ) → length v.graph.rows < row_limit → Spells bytes row → link_in v.graph.rows row ≡ link_of row.creator parents →
     IsGraph v.graph.members (v.graph.rows ++ row ∷ []) → Comes g row parents sight watched
 comes {g} {room} {v} view {sight} {watched} keeps row bytes parents limit spells is graph =
     let same : v.graph ≡ g = ap (λ (v : GraphWithRoom). v.graph) (sym view) in

@@ -1,20 +1,20 @@
 ghost use Rattle.std.specs.Prelude.{◌≡◌, ◌<◌, ◌≤◌, ◌++◌, ◌∷◌, [], Some, length, option_map, slice_get, IfOk, OnOk, refl};
-ghost use Rattle.hg_model.specs.Links.{first_place, link_in, links};
+ghost use Rattle.hg_model.specs.Links.{link_in, links};
 ghost use Rattle.hg_model.specs.Forks.{forkers};
 ghost use Rattle.hg_model.specs.Graph.{IsGraph};
-ghost use Rattle.hg_model.specs.Shape.{FitsLink, link_of, pair_list, place_list};
+ghost use Rattle.hg_model.specs.Shape.{FitsLink, link_of};
 ghost use Rattle.hg_model.specs.Spelling.{Spells, spelling};
 ghost use Rattle.hg_model.specs.Verdict.{row_limit};
 ghost use Rattle.hg_model.specs.Prefix.{graph_of};
 ghost use Rattle.hg_model.specs.GraphWords.{standings_in};
 ghost use Rattle.hg_graph.specs.RowsWithRoom.{found_place};
-ghost use Rattle.hg_graph.specs.GraphWithRoom.{IsHeld, graph_with, shape_in};
+ghost use Rattle.hg_graph.specs.Held.{IsHeld, graph_with, shape_in};
 
 use crate::store::RowStore;
 use hg_ancestry::BitSight;
 use hg_forks::Watch;
 use hg_frozen::Frozen;
-use hg_model::{Bytes, Growing, Member, Memory, Name, Prefix, Rounds, Row, Sight};
+use hg_model::{Bytes, Growing, Member, Memory, Name, Parents, Prefix, Rounds, Row, Sight};
 use hg_rounds::{RoundTable, place_round};
 use std::alloc::Global;
 use std::marker::Model;
@@ -34,7 +34,7 @@ impl Model for EventGraph {
     ghost use Rattle.std.specs.Prelude.{min};
     ghost use Rattle.hg_model.specs.Prefix.{graph_of};
     ghost use Rattle.hg_graph.specs.RowsWithRoom.{least_of};
-    ghost use Rattle.hg_graph.specs.GraphWithRoom.{GraphWithRoom, KeepsGraph};
+    ghost use Rattle.hg_graph.specs.Held.{GraphWithRoom, KeepsGraph};
 
     ghost Value = { GraphWithRoom };
 
@@ -85,11 +85,11 @@ impl EventGraph {
     }
 
     /// How many members have a fork once the member has made one row more, on these parents.
-    pub fn would(&self, creator: Member, parents: Option<(usize, usize)>) -> u32
+    pub fn would(&self, creator: Member, parents: Parents) -> u32
         requires { FitsLink self.now.graph.members (links self.now.graph.rows) (link_of creator parents) }
         ensures { result ≡ forkers self.now.graph.members (links self.now.graph.rows ++ link_of creator parents ∷ []) }
     {
-        self.watch.would(creator, own_of(parents))
+        self.watch.would(creator, parents.self_parent())
     }
 
     /// How many members have a fork.
@@ -112,7 +112,7 @@ impl EventGraph {
     }
 
     /// One more row, with its bytes and its parents' places. Takes no memory.
-    pub fn push(&mut self, row: Row, bytes: Bytes, parents: Option<(usize, usize)>)
+    pub fn push(&mut self, row: Row, bytes: Bytes, parents: Parents)
         requires room { 1 ≤ self.old.room }
         requires limit { length self.old.graph.rows < row_limit }
         requires spelled { Spells bytes row }
@@ -121,7 +121,7 @@ impl EventGraph {
         ensures { self.new.graph ≡ graph_with self.old.graph row }
     {
         self.sight.extend(parents, row.creator);
-        self.watch.add(row.creator, own_of(parents));
+        self.watch.add(row.creator, parents.self_parent());
         let (round, witness) = place_round(&self.sight, &self.rounds, parents);
         self.rounds.add(round, witness);
         self.store.push(row, bytes);
@@ -138,16 +138,6 @@ impl EventGraph {
             self.rounds.prefix(len)?,
             self.coin,
         ))
-    }
-}
-
-/// The self-parent's place.
-fn own_of(parents: Option<(usize, usize)>) -> Option<usize>
-    ensures { place_list result ≡ first_place (pair_list parents) }
-{
-    match parents {
-        None => None,
-        Some((own, _)) => Some(own),
     }
 }
 

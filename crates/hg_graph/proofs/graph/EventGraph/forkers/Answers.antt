@@ -3,7 +3,7 @@ use Rattle.hg_model.specs.Forks.{forkers}
 use Rattle.hg_model.specs.Links.{links}
 use Rattle.hg_model.specs.Shape.{Shape}
 use Rattle.hg_forks.proofs.OwnLaws.{own_links_serve}
-use Rattle.hg_graph.specs.GraphWithRoom.{GraphWithRoom}
+use Rattle.hg_graph.specs.Held.{GraphWithRoom}
 use Rattle.hg_graph.proofs.graph.EventGraph.forkers.Goals as goal
 
 pub returns : goal.returns

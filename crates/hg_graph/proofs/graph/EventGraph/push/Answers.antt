@@ -15,7 +15,7 @@ extend-requires-clause-short c =
 pub add-requires-clause-fits : goal.add-requires-clause-fits
 add-requires-clause-fits c =
     let p = comes c.self.view_is c.self.invariant c.args.row c.args.bytes c.args.parents c.requires.limit c.requires.spelled c.requires.link c.requires.graph in
-    p.own_fits c.own_of.result c.own_of.ensures
+    p.own_fits c.self_parent.result c.self_parent.ensures
 
 pub place_round-round-requires-clause-parents : goal.place_round-round-requires-clause-parents
 place_round-round-requires-clause-parents c =
@@ -30,5 +30,5 @@ push-requires-clause-new c =
 pub invariant_of-self : goal.invariant_of-self
 invariant_of-self c =
     let p = comes c.self.view_is c.self.invariant c.args.row c.args.bytes c.args.parents c.requires.limit c.requires.spelled c.requires.link c.requires.graph in
-    p.keeps c.own_of.result c.own_of.ensures c.push.new.self.rows c.extend.new.self.shape c.add.new.self.shape c.add-2.new.self.standings
+    p.keeps c.self_parent.result c.self_parent.ensures c.push.new.self.rows c.extend.new.self.shape c.add.new.self.shape c.add-2.new.self.standings
     c.push.ensures c.extend.ensures c.add.ensures (c.add-2.ensures ∙ c.place_round-round.ensures.whole)
