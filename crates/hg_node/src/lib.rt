@@ -8,16 +8,8 @@
 mod arrival;
 mod chronicle;
 mod draft;
-#[cfg(test)]
-mod full_node;
 mod laws;
 mod node;
-#[cfg(test)]
-mod paying;
-#[cfg(test)]
-mod publishing;
-#[cfg(test)]
-mod tests;
 
 pub use laws::making_is_one;
 pub use node::Node;

@@ -1,49 +1,46 @@
 -- A step of the loop that makes the ballots on one row
-use Rattle.std.proofs.Common.{◌≡◌, ◌≢◌, ℕ, ◌<◌, ◌≤◌, Bool, false, cond, ◌&&◌, not, eqb, List, length, sym, refl, ap, ap₂, ◌∙◌, arith}
+use Rattle.std.proofs.Common.{◌≡◌, ◌≢◌, ℕ, ◌<◌, ◌≤◌, Bool, false, cond, ◌&&◌, not, eqb, List, length, count_by, sym, refl, ap, ap₂, ◌∙◌, arith}
 use Rattle.std.specs.List.{AllByRecursion}
-use Rattle.std.proofs.lemmas.Bool.{eq-eqb, ne_eqb, and_right}
+use Rattle.std.proofs.lemmas.Bool.{eq-eqb, ne_eqb, and_left, and_right, false_from_ne_true}
 use Rattle.hg_model.specs.declared.ballot.Ballot.{Ballot}
-use Rattle.hg_model.specs.Links.{Link}
+use Rattle.hg_model.specs.Places.{count_below, IsEarlier}
+use Rattle.hg_model.specs.Links.{parents}
 use Rattle.hg_model.specs.Seeing.{sees}
 use Rattle.hg_model.specs.Rounds.{is_witness}
 use Rattle.hg_model.specs.Order.{coin_at}
 use Rattle.hg_model.specs.Prefix.{Graph, ballot_of, links_of}
 use Rattle.hg_model.specs.Votes.{is_voter, weighed_vote, weighed_decides, yes_votes, no_votes, rounds_above, vote_of, decides}
-use Rattle.hg_model.proofs.PlacesLaws.{weight_below-same}
-use Rattle.hg_model.proofs.ListLaws.{count_by-list_below, length-list_below-le, all_list_below}
+use Rattle.hg_model.proofs.PlacesLaws.{weight_below-same, weight_below-longer}
+use Rattle.hg_model.proofs.ListLaws.{count_by-list_below, all_list_below}
 use Rattle.hg_model.proofs.VoteLaws.{vote_of-at}
 use Rattle.hg_votes.specs.declared.tally.Tally.{Tally}
-use Rattle.hg_votes.specs.Tallies.{no_ballot, vote_at, tally_of}
+use Rattle.hg_votes.specs.Tallies.{no_ballot, vote_at, voters_of, tally_of}
+use Rattle.hg_votes.proofs.VoterLaws.{voter_below}
 use Rattle.hg_plain.specs.Tables.{IsTableOf}
-use Rattle.hg_plain.specs.Elections.{voter_places}
 
-pub voters_below : (n : ℕ) (L : List Link) (y m : ℕ) (voters : List ℕ) → voters ≡ voter_places n L y → y ≤ m → AllByRecursion (λ w. w < m) voters
-unfolding voter_places
-voters_below n L y m voters is le = rw is (all_list_below (λ w. w < m) (λ w. w) y (is_voter n L y) (λ k h e. omega arith))
+pub voters_before : (g : Graph) (y : ℕ) (voters : List ℕ) → IsEarlier (parents (links_of g)) → voters ≡ voters_of g y → AllByRecursion (λ w. w < y) voters
+unfolding voters_of
+voters_before g y voters e is =
+    rw is (all_list_below (λ w. w < y) (λ w. w) (length g.rows) (is_voter g.members (links_of g) y) (λ k h voter. voter_below g.members (links_of g) e y k voter))
 
-pub few_voters : (n : ℕ) (L : List Link) (y : ℕ) (voters : List ℕ) → voters ≡ voter_places n L y → length voters ≤ y
-unfolding voter_places
-few_voters n L y voters is = rw is (length-list_below-le (λ w. w) y (is_voter n L y))
-
-module _ (g : Graph) (x y : ℕ) (ballots : List Ballot) (matches : IsTableOf no_ballot (ballot_of g x) y ballots) where
+module _ (g : Graph) (x y : ℕ) (e : IsEarlier (parents (links_of g))) (there : y < length g.rows) (ballots : List Ballot) (matches : IsTableOf no_ballot (ballot_of g x) y ballots) where
   vote_at-matches : (w : ℕ) → w < y → vote_at ballots w ≡ vote_of g.members g.coin (links_of g) (coin_at g.rows) x w
   vote_at-matches w h = ap (λ (b : Ballot). b.vote) (matches.at w h)
 
-  counted_yes : (tally_of ballots (voter_places g.members (links_of g) y)).yes ≡ yes_votes g.members (links_of g) (vote_of g.members g.coin (links_of g) (coin_at g.rows) x) y
-  unfolding voter_places
-  counted_yes =
-      count_by-list_below (vote_at ballots) y (is_voter g.members (links_of g) y)
-      ∙ weight_below-same (λ _. 1) y _ _ (λ w h. rw (vote_at-matches w h) refl)
-
-  counted_no : (tally_of ballots (voter_places g.members (links_of g) y)).no ≡ no_votes g.members (links_of g) (vote_of g.members g.coin (links_of g) (coin_at g.rows) x) y
-  unfolding voter_places
-  counted_no =
-      count_by-list_below (λ w. not (vote_at ballots w)) y (is_voter g.members (links_of g) y)
-      ∙ weight_below-same (λ _. 1) y _ _ (λ w h. rw (vote_at-matches w h) refl)
+  counted_as : (f : Bool → Bool) →
+      count_by (λ w. f (vote_at ballots w)) (voters_of g y) ≡ count_below y (λ w. is_voter g.members (links_of g) y w && f (vote_of g.members g.coin (links_of g) (coin_at g.rows) x w))
+  unfolding voters_of
+  counted_as f =
+      let n = g.members in
+      let L = links_of g in
+      count_by-list_below (λ w. f (vote_at ballots w)) (length g.rows) (is_voter n L y)
+      ∙ (weight_below-longer (λ _. 1) y (length g.rows) (λ w. is_voter n L y w && f (vote_at ballots w)) (omega arith)
+      (λ w past h. and_left (is_voter n L y w) (f (vote_at ballots w)) (false_from_ne_true (is_voter n L y w) (λ voter. absurd (let below = voter_below n L e y w voter in omega arith))))
+      ∙ weight_below-same (λ _. 1) y _ _ (λ w h. rw (vote_at-matches w h) refl))
 
   -- any other number of rounds above x
   pub ballot_far : (voters : List ℕ) (above n c : ℕ) (bit : Bool) (tally : Tally) (weighed : Ballot) (witness : Bool) →
-      voters ≡ voter_places g.members (links_of g) y → above ≡ rounds_above g.members (links_of g) x y → above ≢ 1 → n ≡ g.members → c ≡ g.coin → bit ≡ coin_at g.rows y →
+      voters ≡ voters_of g y → above ≡ rounds_above g.members (links_of g) x y → above ≢ 1 → n ≡ g.members → c ≡ g.coin → bit ≡ coin_at g.rows y →
       tally ≡ tally_of ballots voters → weighed ≡ record { vote = weighed_vote n c above tally.yes tally.no bit; decides = weighed_decides n c above tally.yes tally.no } →
       witness ≡ is_witness g.members (links_of g) y → ◌≡◌ {A = Ballot} (record { vote = weighed.vote; decides = witness && weighed.decides }) (ballot_of g x y)
   unfolding decides
@@ -52,8 +49,8 @@ module _ (g : Graph) (x y : ℕ) (ballots : List Ballot) (matches : IsTableOf no
       let coin = coin_at g.rows in
       let yes_count = yes_votes g.members L (vote_of g.members g.coin L coin x) y in
       let no_count = no_votes g.members L (vote_of g.members g.coin L coin x) y in
-      let yes_same : tally.yes ≡ yes_count = ap (λ (t : Tally). t.yes) (tally_is ∙ ap (tally_of ballots) voters_is) ∙ counted_yes in
-      let no_same : tally.no ≡ no_count = ap (λ (t : Tally). t.no) (tally_is ∙ ap (tally_of ballots) voters_is) ∙ counted_no in
+      let yes_same : tally.yes ≡ yes_count = ap (λ (t : Tally). t.yes) (tally_is ∙ ap (tally_of ballots) voters_is) ∙ counted_as (λ v. v) in
+      let no_same : tally.no ≡ no_count = ap (λ (t : Tally). t.no) (tally_is ∙ ap (tally_of ballots) voters_is) ∙ counted_as not in
       let not_one : eqb (rounds_above g.members L x y) 1 ≡ false = ne_eqb (rounds_above g.members L x y) 1 (λ e. far (above_is ∙ e)) in
       let vote_same : weighed.vote ≡ vote_of g.members g.coin L coin x y =
       ap (λ (b : Ballot). b.vote) weighed_is ∙ (rw (n_is, c_is, above_is, yes_same, no_same, bit_is) refl

@@ -12,6 +12,9 @@ use Rattle.hg_model.proofs.RoundLaws.{is_witness_by-same, round_of-at, round_fro
 use Rattle.hg_model.proofs.PlacesLaws.{weight_below-same, maximum_below-same}
 use Rattle.hg_model.proofs.ReachLaws.{list_any-same}
 use Rattle.hg_model.proofs.AncestryLaws.{self_parent_earlier, is_ancestor-at, is_ancestor_self, is_self_ancestor-at, is_self_ancestor_self, some_ancestor-at}
+use Rattle.hg_plain.specs.By.{is_ancestor_by, parents_by}
+use Rattle.hg_plain.specs.declared.ancestry.By.{By}
+use Rattle.hg_plain.specs.declared.ancestry.By.TheVariants.{Parents, SelfParent}
 use Rattle.hg_plain.specs.Tables.{IsTableOf, cell_at, IsTableOfPairs}
 use Rattle.hg_plain.proofs.TableLaws.{cell_read}
 
@@ -21,21 +24,16 @@ pub told_of_earlier : (next : ℕ → List ℕ) (test : ℕ → Bool) (x : ℕ) 
 told_of_earlier next test x column e matches = list_any-same (λ p. get_or column p false) test (next x) (λ p h. matches.at p (e.earlier x p h))
 
 module _ (L : List Link) (e : IsEarlier (parents L)) (x y : ℕ) where
-  pub ancestor_here : x ≡ y → eqb x y ≡ is_ancestor L x y
-  ancestor_here same = eq-eqb x y same ∙ sym (rw same (is_ancestor_self L e y))
+  pub ancestor_here : (by : By) → x ≡ y → eqb x y ≡ is_ancestor_by by L x y
+  ancestor_here Parents same = eq-eqb x y same ∙ sym (rw same (is_ancestor_self L e y))
+  ancestor_here SelfParent same = eq-eqb x y same ∙ sym (rw same (is_self_ancestor_self L e y))
 
-  pub ancestor_above : (column : List Bool) (above : Bool) → IsTableOf false (λ k. is_ancestor L k y) x column → x ≢ y →
-      above ≡ list_any (λ p. get_or column p false) (parents L x) → above ≡ is_ancestor L x y
-  ancestor_above column above matches apart is =
+  pub ancestor_above : (by : By) (column : List Bool) (above : Bool) → IsTableOf false (λ k. is_ancestor_by by L k y) x column → x ≢ y →
+      above ≡ list_any (λ p. get_or column p false) (parents_by by L x) → above ≡ is_ancestor_by by L x y
+  ancestor_above Parents column above matches apart is =
       is ∙ (told_of_earlier (parents L) (λ k. is_ancestor L k y) x column e matches
       ∙ sym (rw (is_ancestor-at L e x y, ne_eqb x y apart)))
-
-  pub self_ancestor_here : x ≡ y → eqb x y ≡ is_self_ancestor L x y
-  self_ancestor_here same = eq-eqb x y same ∙ sym (rw same (is_self_ancestor_self L e y))
-
-  pub self_ancestor_above : (column : List Bool) (above : Bool) → IsTableOf false (λ k. is_self_ancestor L k y) x column → x ≢ y →
-      above ≡ list_any (λ p. get_or column p false) (self_parent L x) → above ≡ is_self_ancestor L x y
-  self_ancestor_above column above matches apart is =
+  ancestor_above SelfParent column above matches apart is =
       is ∙ (told_of_earlier (self_parent L) (λ k. is_self_ancestor L k y) x column (self_parent_earlier L e) matches
       ∙ sym (rw (is_self_ancestor-at L e x y, ne_eqb x y apart)))
 

@@ -1,16 +1,22 @@
 -- What the tables of an election hold
-use Rattle.std.specs.Prelude.{ℕ, Bool, cond, List, Option, Some, None, option_map, nat_le, get_or}
+use Rattle.std.specs.Prelude.{ℕ, Bool, cond, List, [], length, Option, Some, None, option_map, nat_le, get_or}
 use Rattle.hg_model.specs.declared.ballot.Ballot.{Ballot}
-use Rattle.hg_model.specs.Places.{list_below}
+use Rattle.hg_model.specs.Places.{least_below}
 use Rattle.hg_model.specs.Links.{Link}
 use Rattle.hg_model.specs.Rounds.{round_of}
-use Rattle.hg_model.specs.Votes.{is_voter}
-use Rattle.hg_votes.specs.Tallies.{no_ballot, vote_at}
+use Rattle.hg_model.specs.Shape.{Shape}
+use Rattle.hg_model.specs.Prefix.{Graph, ballot_of, links_of}
+use Rattle.hg_votes.specs.Tallies.{no_ballot, vote_at, voter_places}
+use Rattle.hg_plain.specs.Tables.{IsTableOf}
 use Rattle.hg_plain.specs.declared.fame.Decision.{Decision}
 
--- the voters of row y, in order
-unfoldable pub voter_places : ℕ → List Link → ℕ → List ℕ
-voter_places n L y = list_below (λ w. w) y (is_voter n L y)
+-- the voters of each row
+abbrev pub IsVoterTable : Graph → List (List ℕ) → Type 0
+IsVoterTable g voters = IsTableOf [] (voter_places g) (length (links_of g)) voters
+
+-- the ballots of the rows before y on row x
+abbrev pub IsBallotTable : Graph → ℕ → ℕ → List Ballot → Type 0
+IsBallotTable g x y ballots = IsTableOf no_ballot (ballot_of g x) y ballots
 
 -- whether the ballot at a place decides
 abbrev pub decides_at : List Ballot → ℕ → Bool
@@ -19,6 +25,11 @@ decides_at ballots y = (get_or ballots y no_ballot).decides
 -- the decision of row y
 abbrev pub decision_at : ℕ → List Link → List Ballot → ℕ → Decision
 decision_at n L ballots y = record { round = round_of n L y; vote = vote_at ballots y }
+
+-- the decision of the first decider, by round and then by place
+abbrev pub first_decision : Shape → List Ballot → Option Decision
+first_decision s ballots =
+    option_map (decision_at s.members s.links ballots) (least_below (round_of s.members s.links) (length s.links) (decides_at ballots))
 
 -- of two decisions the one of the lesser round; the earlier where the rounds are equal
 abbrev pub earlier_of : Option Decision → Decision → Decision

@@ -1,4 +1,5 @@
 pub mod Tables
+pub mod By
 pub mod Elections
 pub mod Held
 pub mod Twins

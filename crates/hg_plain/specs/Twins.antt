@@ -1,8 +1,9 @@
 -- Twins: events by one creator on one self-parent, or both without one. Where a member has a fork it has twins
-use Rattle.std.specs.Prelude.{ℕ, Bool, true, false, ◌&&◌, ◌==◌, List, length, Option, Some, None, slice_get}
+use Rattle.std.specs.Prelude.{ℕ, ◌≡◌, Bool, true, false, ◌&&◌, ◌==◌, List, length, Option, Some, None, slice_get}
 use Rattle.std.specs.Str.{bytes_eq}
 use Rattle.hg_model.specs.declared.row.Row.{Row}
-use Rattle.hg_model.specs.Places.{some_below}
+use Rattle.hg_model.specs.Places.{some_below, has_place}
+use Rattle.hg_model.specs.Links.{Link, creator, self_parent}
 use Rattle.hg_model.specs.Graph.{creator_at}
 
 abbrev pub is_same_self_parent : Option (List ℕ × List ℕ) → Option (List ℕ × List ℕ) → Bool
@@ -30,3 +31,7 @@ has_twin_before G x = some_below x (is_twin G x)
 -- member m has twins
 unfoldable pub has_twins : List Row → ℕ → Bool
 has_twins G m = some_below (length G) (λ x. creator_at G x == m && has_twin_before G x)
+
+-- a self-parent is by the creator of the row that stands on it
+abbrev pub IsOwnSelfParent : List Link → Type 0
+IsOwnSelfParent L = (x p : ℕ) → has_place (self_parent L x) p ≡ true → creator L p ≡ creator L x

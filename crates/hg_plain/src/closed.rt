@@ -1,7 +1,7 @@
-ghost use Rattle.std.specs.Prelude.{◌≡◌, ◌<◌, ◌+◌, ◌-◌, ◌^◌, false, suc, length, IfOk, slice_index_or};
+ghost use Rattle.std.specs.Prelude.{◌≡◌, ◌<◌, ◌+◌, ◌-◌, ◌^◌, false, length, IfOk, slice_index_or};
 ghost use Rattle.hg_model.specs.Places.{some_below, greatest_below};
 ghost use Rattle.hg_model.specs.Fame.{is_witness_of_round, is_unmarked, is_closed};
-ghost use Rattle.hg_plain.specs.Tables.{IsTableOf};
+ghost use Rattle.hg_plain.specs.Held.{IsClosedTable};
 
 use crate::sight::PlainSight;
 use hg_model::Memory;
@@ -69,7 +69,7 @@ pub fn closed_rounds(
 ) -> Result<Vec<bool>, Memory>
     requires same { length marks.now ≡ length sight.now.links }
     requires short { length marks.now < 2 ^ 32 - 1 }
-    ensures { IfOk result (λ v. IsTableOf false (is_closed sight.now.members sight.now.links marks.now) (suc (length sight.now.links)) v.items) }
+    ensures { IfOk result (λ v. IsClosedTable sight.now marks.now v.items) }
 {
     let mut closed = Vec::new(alloc);
     for r in 0..marks.len() as u32 + 1 {

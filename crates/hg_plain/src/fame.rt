@@ -1,10 +1,8 @@
-ghost use Rattle.std.specs.Prelude.{◌≡◌, ◌<◌, ◌-◌, ◌^◌, [], length, IfOk, option_map};
-ghost use Rattle.hg_model.specs.Places.{least_below};
-ghost use Rattle.hg_model.specs.Rounds.{round_of};
+ghost use Rattle.std.specs.Prelude.{◌≡◌, ◌<◌, ◌-◌, ◌^◌, length, IfOk};
+ghost use Rattle.hg_model.specs.Fame.{fame_of, fame_marks};
+ghost use Rattle.hg_model.specs.Order.{coin_at};
 ghost use Rattle.hg_model.specs.Prefix.{links_of};
-ghost use Rattle.hg_model.specs.GraphWords.{fame_in, fame_marks_in};
-ghost use Rattle.hg_plain.specs.Tables.{IsTableOf};
-ghost use Rattle.hg_plain.specs.Elections.{voter_places, decides_at, decision_at, earlier_of, decided_vote};
+ghost use Rattle.hg_plain.specs.Elections.{IsVoterTable, decided_vote, earlier_of, first_decision};
 
 use crate::prefix::PlainPrefix;
 use crate::sight::PlainSight;
@@ -33,7 +31,7 @@ fn earlier_of(earlier: Option<Decision>, later: Decision) -> Decision
 #[tactic(auto, using(crate::proofs::FameSteps::decision_steps))]
 fn first_decision(sight: &PlainSight, ballots: &[Ballot]) -> Option<Decision>
     requires { length ballots.now ≡ length sight.now.links }
-    ensures { result ≡ option_map (decision_at sight.now.members sight.now.links ballots.now) (least_below (round_of sight.now.members sight.now.links) (length sight.now.links) (decides_at ballots.now)) }
+    ensures { result ≡ first_decision sight.now ballots.now }
 {
     let mut first = None;
     for y in 0..sight.len() {
@@ -64,8 +62,8 @@ fn fame(
 ) -> Result<Option<bool>, Memory>
     requires short { length (links_of p.now) < 2 ^ 32 - 1 }
     requires candidate { x < length (links_of p.now) }
-    requires voters { IsTableOf [] (voter_places p.now.members (links_of p.now)) (length (links_of p.now)) voters.now }
-    ensures { IfOk result (λ fame. fame ≡ fame_in p.now x) }
+    requires voters { IsVoterTable p.now voters.now }
+    ensures { IfOk result (λ fame. fame ≡ fame_of p.now.members p.now.coin (links_of p.now) (coin_at p.now.rows) x) }
 {
     let sight = p.tables();
     if !sight.is_witness(x) {
@@ -79,10 +77,10 @@ fn fame(
 #[tactic(auto, using(crate::proofs::TableLaws::tells_steps))]
 pub fn marks(alloc: Global, p: &PlainPrefix<'_>) -> Result<Vec<Option<bool>>, Memory>
     requires short { length (links_of p.now) < 2 ^ 32 - 1 }
-    ensures marks { IfOk result (λ v. v.items ≡ fame_marks_in p.now) }
+    ensures marks { IfOk result (λ v. v.items ≡ fame_marks p.now.members p.now.coin (links_of p.now) (coin_at p.now.rows)) }
     ensures len { IfOk result (λ v. length v.items ≡ length (links_of p.now)) }
 {
-    let voters = voters(alloc, p.tables())?;
+    let voters = voters(alloc, p)?;
     let mut marks = Vec::new(alloc);
     for x in 0..voters.len() {
         marks.push(fame(alloc, p, &voters, x)?)?;

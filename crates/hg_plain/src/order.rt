@@ -1,10 +1,9 @@
-ghost use Rattle.std.specs.Prelude.{◌≡◌, ◌<◌, ◌≤◌, ◌==◌, ◌++◌, ◌^◌, None, false, suc, length, get_or, IfOk, OnOk};
-ghost use Rattle.hg_model.specs.Places.{list_below};
+ghost use Rattle.std.specs.Prelude.{◌≡◌, ◌<◌, ◌≤◌, ◌&&◌, ◌==◌, ◌++◌, ◌^◌, length, is_some, unwrap_or, IfOk, OnOk};
+ghost use Rattle.hg_model.specs.Order.{ordered};
 ghost use Rattle.hg_model.specs.Prefix.{links_of};
-ghost use Rattle.hg_model.specs.GraphWords.{received_order, is_closed_in, received_in, ordered_by};
-ghost use Rattle.hg_order.specs.Round.{received_places};
-ghost use Rattle.hg_plain.specs.Tables.{IsTableOf};
-ghost use Rattle.hg_plain.specs.Rounds.{is_round};
+ghost use Rattle.hg_order.specs.Round.{received_order, received_places};
+ghost use Rattle.hg_plain.specs.Held.{IsClosedTable, IsReceivedTable, shape_in};
+ghost use Rattle.hg_plain.specs.Rounds.{is_round, places_received};
 
 use crate::prefix::PlainPrefix;
 use crate::received::rounds_received;
@@ -20,9 +19,9 @@ pub fn ordered_rows(
     marks: &[Option<bool>],
     closed: &[bool],
 ) -> Result<Vec<Placed>, Memory>
-    requires closed { IsTableOf false (is_closed_in p.now marks.now) (suc (length (links_of p.now))) closed.now }
+    requires closed { IsClosedTable (shape_in p.now) marks.now closed.now }
     requires short { length closed.now < 2 ^ 32 }
-    ensures { IfOk result (λ v. v.items ≡ ordered_by p.now marks.now) }
+    ensures { IfOk result (λ v. v.items ≡ ordered p.now.members p.now.rows (links_of p.now) marks.now) }
 {
     let received = rounds_received(alloc, p, marks, closed)?;
     let mut order = Vec::new(alloc);
@@ -41,7 +40,7 @@ fn push_round(
     r: u32,
     order: &mut Vec<Placed>,
 ) -> Result<(), Memory>
-    requires received { IsTableOf None (received_in p.now marks.now) (length (links_of p.now)) received.now }
+    requires received { IsReceivedTable (shape_in p.now) marks.now received.now }
     ensures { OnOk result (order.new.items ≡ order.old.items ++ received_order p.now marks.now r) }
 {
     let fresh = received_places(alloc, received, r)?;
@@ -53,7 +52,7 @@ fn push_round(
 /// The places of the rows that round `r` receives.
 #[tactic(auto, using(hg_model::proofs::PlacesLaws::list_steps))]
 fn received_places(alloc: Global, received: &[Option<u32>], r: u32) -> Result<Vec<usize>, Memory>
-    ensures { IfOk result (λ v. v.items ≡ list_below (λ x. x) (length received.now) (λ x. is_round r (get_or received.now x None))) }
+    ensures { IfOk result (λ v. v.items ≡ places_received received.now r) }
 {
     let mut places = Vec::new(alloc);
     for x in 0..received.len() {

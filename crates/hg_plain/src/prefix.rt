@@ -1,12 +1,13 @@
-ghost use Rattle.std.specs.Prelude.{◌≡◌, ◌<◌, ◌≤◌, ◌-◌, ◌^◌, [], Some, suc, length, slice_get, slice_index_or, IfOk, refl};
+ghost use Rattle.std.specs.Prelude.{◌≡◌, ◌<◌, ◌≤◌, ◌-◌, ◌+◌, ◌^◌, [], Some, suc, length, slice_get, slice_index_or, IfOk, refl};
 ghost use Rattle.hg_model.specs.Links.{links};
 ghost use Rattle.hg_model.specs.Graph.{IsShaped};
 ghost use Rattle.hg_model.specs.Fame.{is_witness_of_round};
-ghost use Rattle.hg_model.specs.Prefix.{graph_of};
+ghost use Rattle.hg_model.specs.Places.{list_below};
+ghost use Rattle.hg_model.specs.Prefix.{graph_of, links_of};
 ghost use Rattle.hg_model.specs.Rounds.{last_round};
-ghost use Rattle.hg_model.specs.GraphWords.{standings_in, shape_in};
-ghost use Rattle.hg_plain.specs.Tables.{IsTableOf};
-ghost use Rattle.hg_plain.specs.Held.{witnesses_of};
+ghost use Rattle.hg_model.specs.Shape.{shape_of};
+ghost use Rattle.hg_model.specs.Standings.{standings_of};
+ghost use Rattle.hg_plain.specs.Held.{IsWitnessTable, witnesses_of};
 
 use crate::closed::is_witness_of_round;
 use crate::sight::PlainSight;
@@ -61,7 +62,7 @@ impl<'a> PlainPrefix<'a> {
 
     /// The tables.
     pub fn tables(&self) -> &PlainSight
-        ensures { result.now ≡ shape_in self.now }
+        ensures { result.now ≡ shape_of self.now.members (links_of self.now) }
     {
         &self.sight
     }
@@ -70,7 +71,7 @@ impl<'a> PlainPrefix<'a> {
 /// The witnesses of each round, from 0 to the greatest.
 #[tactic(auto, using(crate::proofs::TableLaws::tells_steps))]
 fn witness_lists(alloc: Global, sight: &PlainSight) -> Result<Vec<Items<usize>>, Memory>
-    ensures { IfOk result (λ v. IsTableOf [] (witnesses_of sight.now.members sight.now.links) (suc (last_round sight.now.members sight.now.links)) v.items) }
+    ensures { IfOk result (λ v. IsWitnessTable sight.now v.items) }
 {
     let mut lists = Vec::new(alloc);
     for r in 0..=sight.greatest() {
@@ -111,7 +112,7 @@ fn row_at(rows: &[Row], x: usize) -> &Row
 }
 
 impl<'a> Sight for PlainPrefix<'a> {
-    ghost shape = { λ g. shape_in g };
+    ghost shape = { λ g. shape_of g.members (links_of g) };
 
     fn rows(&self) -> usize {
         self.sight.len()
@@ -143,7 +144,7 @@ impl<'a> Sight for PlainPrefix<'a> {
 }
 
 impl<'a> Rounds for PlainPrefix<'a> {
-    ghost standings = { λ g. standings_in (shape_in g) };
+    ghost standings = { λ g. standings_of g.members (links_of g) };
 
     #[tactic(auto, using(hg_model::proofs::StandingLaws::standings_known))]
     fn round(&self, x: usize) -> u32 {

@@ -1,9 +1,8 @@
-ghost use Rattle.std.specs.Prelude.{◌≡◌, ◌<◌, ◌≤◌, ◌^◌, false, None, suc, length, IfOk};
+ghost use Rattle.std.specs.Prelude.{◌≡◌, ◌<◌, ◌≤◌, ◌^◌, length, IfOk};
 ghost use Rattle.hg_model.specs.Fame.{is_closed};
 ghost use Rattle.hg_model.specs.Order.{can_receive, round_received};
 ghost use Rattle.hg_model.specs.Prefix.{links_of};
-ghost use Rattle.hg_model.specs.GraphWords.{is_closed_in, can_receive_in, received_in};
-ghost use Rattle.hg_plain.specs.Tables.{IsTableOf};
+ghost use Rattle.hg_plain.specs.Held.{IsClosedTable, IsReceivedTable, shape_in};
 
 use crate::prefix::PlainPrefix;
 use hg_model::{Memory, Sight};
@@ -18,8 +17,8 @@ pub fn rounds_received(
     marks: &[Option<bool>],
     closed: &[bool],
 ) -> Result<Vec<Option<u32>>, Memory>
-    requires closed { IsTableOf false (is_closed_in p.now marks.now) (suc (length (links_of p.now))) closed.now }
-    ensures { IfOk result (λ v. IsTableOf None (received_in p.now marks.now) (length (links_of p.now)) v.items) }
+    requires closed { IsClosedTable (shape_in p.now) marks.now closed.now }
+    ensures { IfOk result (λ v. IsReceivedTable (shape_in p.now) marks.now v.items) }
 {
     let mut places = vec![in alloc; 0; p.members() as usize]?;
     let mut received = Vec::new(alloc);
@@ -38,11 +37,11 @@ fn round_received(
     x: usize,
     places: &mut [usize],
 ) -> Option<u32>
-    requires closed { IsTableOf false (is_closed_in p.now marks.now) (suc (length (links_of p.now))) closed.now }
+    requires closed { IsClosedTable (shape_in p.now) marks.now closed.now }
     requires row { x < length (links_of p.now) }
     requires room { p.now.members ≤ length places.old }
     requires short { length closed.now < 2 ^ 32 }
-    ensures { result ≡ received_in p.now marks.now x }
+    ensures { result ≡ round_received p.now.members (links_of p.now) marks.now x }
 {
     for (r, is_closed) in closed.iter().enumerate() {
         if can_receive(p, marks, *is_closed, r as u32, x, places) {
@@ -61,10 +60,10 @@ fn can_receive(
     x: usize,
     places: &mut [usize],
 ) -> bool
-    requires closed { decided ≡ is_closed_in p.now marks.now r }
+    requires closed { decided ≡ is_closed p.now.members (links_of p.now) marks.now r }
     requires row { x < length (links_of p.now) }
     requires room { p.now.members ≤ length places.old }
-    ensures { result ≡ can_receive_in p.now marks.now x r }
+    ensures { result ≡ can_receive p.now.members (links_of p.now) marks.now x r }
 {
     if !decided {
         return false;

@@ -2,8 +2,7 @@ ghost use Rattle.std.specs.Prelude.{◌≡◌, ◌<◌, ◌≤◌, ◌-◌, ◌^
 ghost use Rattle.hg_model.specs.Places.{IsEarlier, count_below, maximum_below};
 ghost use Rattle.hg_model.specs.Links.{parents};
 ghost use Rattle.hg_model.specs.Rounds.{parent_round, is_seen_witness, is_witness_by, round_of};
-ghost use Rattle.hg_model.specs.GraphWords.{strongly_sees_in};
-ghost use Rattle.hg_plain.specs.Tables.{IsTableOf, IsTableOfPairs};
+ghost use Rattle.hg_plain.specs.Held.{IsRoundTable, IsStrongTable, seen_witnesses};
 
 use crate::links::{PlainLink, parents_of, self_parent_of};
 use crate::seeing::Seeing;
@@ -14,9 +13,9 @@ use std::alloc::Global;
 /// The rounds of all rows, from the table of what strongly sees what.
 #[tactic(auto, using(crate::proofs::TableLaws::tells_steps))]
 pub fn rounds_of(alloc: Global, seeing: &Seeing, strong: &[Vec<bool>]) -> Result<Vec<u32>, Memory>
-    requires strong { IsTableOfPairs (strongly_sees_in seeing.now) (length seeing.now.links) (length seeing.now.links) strong.now }
+    requires strong { IsStrongTable seeing.now strong.now }
     requires short { length seeing.now.links < 2 ^ 32 - 1 }
-    ensures { IfOk result (λ v. IsTableOf 0 (round_of seeing.now.members seeing.now.links) (length seeing.now.links) v.items) }
+    ensures { IfOk result (λ v. IsRoundTable seeing.now (length seeing.now.links) v.items) }
 {
     let len = seeing.ancestry().links().len();
     let mut rounds = Vec::with_capacity(alloc, len)?;
@@ -29,8 +28,8 @@ pub fn rounds_of(alloc: Global, seeing: &Seeing, strong: &[Vec<bool>]) -> Result
 /// The round of row `x`, from the rounds of the rows before it.
 fn next_round(seeing: &Seeing, strong: &[Vec<bool>], rounds: &[u32], x: usize) -> u32
     requires place { x < length seeing.now.links }
-    requires strong { IsTableOfPairs (strongly_sees_in seeing.now) (length seeing.now.links) (length seeing.now.links) strong.now }
-    requires known { IsTableOf 0 (round_of seeing.now.members seeing.now.links) x rounds.now }
+    requires strong { IsStrongTable seeing.now strong.now }
+    requires known { IsRoundTable seeing.now x rounds.now }
     requires short { x < 2 ^ 32 - 1 }
     ensures { result ≡ round_of seeing.now.members seeing.now.links x }
 {
@@ -59,10 +58,10 @@ fn parent_round(links: &[PlainLink], rounds: &[u32], x: usize) -> u32
 #[tactic(auto, using(hg_model::proofs::PlacesLaws::count_steps))]
 fn count_seen(seeing: &Seeing, strong: &[Vec<bool>], rounds: &[u32], r: u32, x: usize) -> u32
     requires place { x < length seeing.now.links }
-    requires strong { IsTableOfPairs (strongly_sees_in seeing.now) (length seeing.now.links) (length seeing.now.links) strong.now }
+    requires strong { IsStrongTable seeing.now strong.now }
     requires known { x ≤ length rounds.now }
     requires short { x < 2 ^ 32 - 1 }
-    ensures { result ≡ count_below x (is_seen_witness (λ k. slice_index rounds.now k) seeing.now.members seeing.now.links r x) }
+    ensures { result ≡ seen_witnesses seeing.now rounds.now r x }
 {
     let mut count = 0;
     for y in 0..x {
@@ -83,7 +82,7 @@ fn is_seen_witness(
     y: usize,
 ) -> bool
     requires place { x < length seeing.now.links }
-    requires strong { IsTableOfPairs (strongly_sees_in seeing.now) (length seeing.now.links) (length seeing.now.links) strong.now }
+    requires strong { IsStrongTable seeing.now strong.now }
     requires known { x ≤ length rounds.now }
     requires before { y < x }
     ensures { result ≡ is_seen_witness (λ k. slice_index rounds.now k) seeing.now.members seeing.now.links r x y }

@@ -3,8 +3,8 @@ ghost use Rattle.hg_model.specs.Links.{creator, links};
 ghost use Rattle.hg_model.specs.Graph.{IsShaped};
 ghost use Rattle.hg_model.specs.Ancestry.{is_ancestor, some_ancestor};
 ghost use Rattle.hg_model.specs.Forks.{has_fork, has_fork_below, is_fork};
-ghost use Rattle.hg_model.specs.GraphWords.{IsShapedIn, sees_in};
-ghost use Rattle.hg_plain.specs.Tables.{IsTableOf, IsTableOfPairs};
+ghost use Rattle.hg_plain.specs.Held.{IsForkTable};
+ghost use Rattle.hg_plain.specs.Tables.{IsTableOf};
 
 use crate::ancestry::Ancestry;
 use crate::forks::has_fork;
@@ -53,14 +53,14 @@ impl Seeing {
 
     pub fn members(&self) -> u32
         ensures value { result ≡ self.now.members }
-        ensures shaped { IsShapedIn self.now }
+        ensures shaped { IsShaped self.now.members self.now.links }
     {
         self.members
     }
 
     pub fn ancestry(&self) -> &Ancestry
         ensures value { result.now ≡ self.now.links }
-        ensures shaped { IsShapedIn self.now }
+        ensures shaped { IsShaped self.now.members self.now.links }
     {
         &self.ancestry
     }
@@ -70,7 +70,7 @@ impl Seeing {
     pub fn sees(&self, x: usize, y: usize) -> bool
         requires left { x < length self.now.links }
         requires right { y < length self.now.links }
-        ensures { result ≡ sees_in self.now x y }
+        ensures { result ≡ sees self.now.links x y }
     {
         self.ancestry.is_ancestor(x, y) && !self.is_forked(x, y)
     }
@@ -95,7 +95,7 @@ fn forked_columns(
 ) -> Result<Vec<Vec<bool>>, Memory>
     requires shaped { IsShaped members (links rows.now) }
     requires same { ancestry.now ≡ links rows.now }
-    ensures { IfOk result (λ v. IsTableOfPairs (has_fork_below ancestry.now) (length ancestry.now) members v.items) }
+    ensures { IfOk result (λ v. IsForkTable members ancestry.now v.items) }
 {
     let mut columns = Vec::new(alloc);
     for member in 0..members {

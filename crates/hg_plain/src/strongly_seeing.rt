@@ -1,11 +1,11 @@
-ghost use Rattle.std.specs.Prelude.{◌≡◌, ℕ, ◌<◌, ◌≤◌, ◌&&◌, ◌==◌, false, length, IfOk};
+ghost use Rattle.std.specs.Prelude.{◌≡◌, ℕ, ◌<◌, ◌≤◌, ◌&&◌, ◌==◌, length, IfOk};
 ghost use Rattle.hg_model.specs.Places.{count_below};
 ghost use Rattle.hg_model.specs.Links.{creator};
 ghost use Rattle.hg_model.specs.Seeing.{sees, sees_through, strongly_sees};
-ghost use Rattle.hg_model.specs.GraphWords.{strongly_sees_in, sees_in};
-ghost use Rattle.hg_plain.specs.Tables.{IsTableOf, IsTableOfPairs, cell_at, column_at};
+ghost use Rattle.hg_plain.specs.Held.{IsStrongColumn, IsStrongTable, IsThroughColumn, IsThroughTable};
+ghost use Rattle.hg_plain.specs.Tables.{cell_at, column_at};
 
-use crate::ancestry::any_parent;
+use crate::ancestry::{By, any_parent};
 use crate::links::creator_of;
 use crate::seeing::Seeing;
 use crate::tables::cell;
@@ -14,7 +14,7 @@ use std::alloc::Global;
 
 /// For each row the rows that strongly see it.
 pub fn strong_columns(alloc: Global, seeing: &Seeing) -> Result<Vec<Vec<bool>>, Memory>
-    ensures { IfOk result (λ v. IsTableOfPairs (strongly_sees_in seeing.now) (length seeing.now.links) (length seeing.now.links) v.items) }
+    ensures { IfOk result (λ v. IsStrongTable seeing.now v.items) }
 {
     let len = seeing.ancestry().links().len();
     let mut columns = Vec::with_capacity(alloc, len)?;
@@ -28,7 +28,7 @@ pub fn strong_columns(alloc: Global, seeing: &Seeing) -> Result<Vec<Vec<bool>>, 
 #[tactic(auto, using(crate::proofs::TableLaws::tells_steps))]
 fn strong_column(alloc: Global, seeing: &Seeing, y: usize) -> Result<Vec<bool>, Memory>
     requires { y < length seeing.now.links }
-    ensures { IfOk result (λ v. IsTableOf false (λ x. strongly_sees_in seeing.now x y) (length seeing.now.links) v.items) }
+    ensures { IfOk result (λ v. IsStrongColumn seeing.now y v.items) }
 {
     let through = through_columns(alloc, seeing, y)?;
     let len = seeing.ancestry().links().len();
@@ -43,8 +43,8 @@ fn strong_column(alloc: Global, seeing: &Seeing, y: usize) -> Result<Vec<bool>, 
 #[tactic(auto, unfolding(hg_model::specs::Seeing::strongly_sees))]
 fn is_strong(seeing: &Seeing, through: &[Vec<bool>], x: usize, y: usize) -> bool
     requires place { x < length seeing.now.links }
-    requires known { IsTableOfPairs (λ x m. sees_through seeing.now.links x y m) (length seeing.now.links) seeing.now.members through.now }
-    ensures { result ≡ strongly_sees_in seeing.now x y }
+    requires known { IsThroughTable seeing.now y through.now }
+    ensures { result ≡ strongly_sees seeing.now.members seeing.now.links x y }
 {
     let members = seeing.members();
     is_supermajority(members, count_through(through, members, x))
@@ -69,7 +69,7 @@ fn count_through(through: &[Vec<bool>], members: u32, x: usize) -> u32
 /// For each member the rows that see row `y` through it.
 fn through_columns(alloc: Global, seeing: &Seeing, y: usize) -> Result<Vec<Vec<bool>>, Memory>
     requires { y < length seeing.now.links }
-    ensures { IfOk result (λ v. IsTableOfPairs (λ x m. sees_through seeing.now.links x y m) (length seeing.now.links) seeing.now.members v.items) }
+    ensures { IfOk result (λ v. IsThroughTable seeing.now y v.items) }
 {
     let mut columns = Vec::new(alloc);
     for member in 0..seeing.members() {
@@ -87,7 +87,7 @@ fn through_column(
     member: u32,
 ) -> Result<Vec<bool>, Memory>
     requires { y < length seeing.now.links }
-    ensures { IfOk result (λ v. IsTableOf false (λ x. sees_through seeing.now.links x y member) (length seeing.now.links) v.items) }
+    ensures { IfOk result (λ v. IsThroughColumn seeing.now y member (length seeing.now.links) v.items) }
 {
     let len = seeing.ancestry().links().len();
     let mut column = Vec::with_capacity(alloc, len)?;
@@ -102,18 +102,18 @@ fn through_column(
 fn next_through(seeing: &Seeing, column: &[bool], x: usize, y: usize, member: u32) -> bool
     requires place { x < length seeing.now.links }
     requires seen { y < length seeing.now.links }
-    requires known { IsTableOf false (λ k. sees_through seeing.now.links k y member) x column.now }
+    requires known { IsThroughColumn seeing.now y member x column.now }
     ensures { result ≡ sees_through seeing.now.links x y member }
 {
     let links = seeing.ancestry().links();
-    is_seen_by(seeing, x, y, member) || any_parent(links, column, x)
+    is_seen_by(seeing, x, y, member) || any_parent(By::Parents, links, column, x)
 }
 
 /// Whether row `x` is by the member and sees row `y`.
 fn is_seen_by(seeing: &Seeing, x: usize, y: usize, member: u32) -> bool
     requires place { x < length seeing.now.links }
     requires seen { y < length seeing.now.links }
-    ensures { result ≡ (creator seeing.now.links x == member && sees_in seeing.now x y) }
+    ensures { result ≡ (creator seeing.now.links x == member && sees seeing.now.links x y) }
 {
     u32::from(creator_of(seeing.ancestry().links(), x)) == member && seeing.sees(x, y)
 }

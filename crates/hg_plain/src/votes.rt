@@ -1,13 +1,12 @@
-ghost use Rattle.std.specs.Prelude.{◌≡◌, ◌<◌, ◌-◌, ◌^◌, [], length, IfOk};
+ghost use Rattle.std.specs.Prelude.{◌≡◌, ◌<◌, ◌-◌, ◌^◌, length, IfOk};
 ghost use Rattle.hg_model.specs.Prefix.{ballot_of, links_of};
 ghost use Rattle.hg_model.specs.Votes.{is_voter, rounds_above};
-ghost use Rattle.hg_votes.specs.Tallies.{no_ballot};
-ghost use Rattle.hg_plain.specs.Tables.{IsTableOf};
-ghost use Rattle.hg_plain.specs.Elections.{voter_places};
+ghost use Rattle.hg_votes.specs.Tallies.{voters_of};
+ghost use Rattle.hg_plain.specs.Elections.{IsBallotTable, IsVoterTable};
 
 use crate::prefix::PlainPrefix;
 use crate::sight::PlainSight;
-use hg_model::{Ballot, Items, Memory, Prefix};
+use hg_model::{Ballot, Items, Memory, Prefix, Sight};
 use hg_votes::{count_votes, weigh};
 use std::alloc::Global;
 
@@ -24,14 +23,14 @@ fn is_voter(sight: &PlainSight, y: usize, w: usize) -> bool
 }
 
 /// The voters of row `y`, in order.
-#[tactic(auto, using(hg_model::proofs::PlacesLaws::list_steps), unfolding(crate::specs::Elections::voter_places))]
-fn voter_places(alloc: Global, sight: &PlainSight, y: usize) -> Result<Items<usize>, Memory>
-    requires { y < length sight.now.links }
-    ensures { IfOk result (λ v. v ≡ voter_places sight.now.members sight.now.links y) }
+#[tactic(auto, using(hg_model::proofs::PlacesLaws::list_steps, hg_model::proofs::LinkLaws::link_lengths), unfolding(hg_votes::specs::Tallies::voters_of))]
+fn voters_of(alloc: Global, p: &PlainPrefix<'_>, y: usize) -> Result<Items<usize>, Memory>
+    requires { y < length (links_of p.now) }
+    ensures { IfOk result (λ v. v ≡ voters_of p.now y) }
 {
     let mut voters = Vec::new(alloc);
-    for w in 0..y {
-        if is_voter(sight, y, w) {
+    for w in 0..p.rows() {
+        if is_voter(p.tables(), y, w) {
             voters.push(w)?;
         }
     }
@@ -40,12 +39,12 @@ fn voter_places(alloc: Global, sight: &PlainSight, y: usize) -> Result<Items<usi
 
 /// The voters of each row.
 #[tactic(auto, using(crate::proofs::TableLaws::tells_steps))]
-pub fn voters(alloc: Global, sight: &PlainSight) -> Result<Vec<Items<usize>>, Memory>
-    ensures { IfOk result (λ v. IsTableOf [] (voter_places sight.now.members sight.now.links) (length sight.now.links) v.items) }
+pub fn voters(alloc: Global, p: &PlainPrefix<'_>) -> Result<Vec<Items<usize>>, Memory>
+    ensures { IfOk result (λ v. IsVoterTable p.now v.items) }
 {
     let mut voters = Vec::new(alloc);
-    for y in 0..sight.len() {
-        voters.push(voter_places(alloc, sight, y)?)?;
+    for y in 0..p.rows() {
+        voters.push(voters_of(alloc, p, y)?)?;
     }
     Ok(voters)
 }
@@ -71,11 +70,13 @@ fn next_ballot(
     requires short { length (links_of p.now) < 2 ^ 32 - 1 }
     requires candidate { x < length (links_of p.now) }
     requires row { y < length (links_of p.now) }
-    requires voters { voters.now ≡ voter_places p.now.members (links_of p.now) y }
-    requires known { IsTableOf no_ballot (ballot_of p.now x) y ballots.now }
+    requires voters { voters.now ≡ voters_of p.now y }
+    requires known { IsBallotTable p.now x y ballots.now }
     ensures { result ≡ ballot_of p.now x y }
 {
     let sight = p.tables();
+    // A graph is shaped.
+    p.rows();
     let above = rounds_above(sight, x, y);
     if above == 1 {
         return Ballot {
@@ -108,8 +109,8 @@ pub fn ballots(
 ) -> Result<Vec<Ballot>, Memory>
     requires short { length (links_of p.now) < 2 ^ 32 - 1 }
     requires candidate { x < length (links_of p.now) }
-    requires voters { IsTableOf [] (voter_places p.now.members (links_of p.now)) (length (links_of p.now)) voters.now }
-    ensures { IfOk result (λ v. IsTableOf no_ballot (ballot_of p.now x) (length (links_of p.now)) v.items) }
+    requires voters { IsVoterTable p.now voters.now }
+    ensures { IfOk result (λ v. IsBallotTable p.now x (length (links_of p.now)) v.items) }
 {
     let mut ballots = Vec::new(alloc);
     for y in 0..voters.len() {

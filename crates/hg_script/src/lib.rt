@@ -11,8 +11,6 @@ mod line;
 mod payload;
 mod script;
 mod table;
-#[cfg(test)]
-mod tests;
 mod verb;
 mod words;
 

@@ -1,6 +1,5 @@
-use Rattle.std.proofs.Common.{arith, ap, length}
+use Rattle.std.proofs.Common.{arith}
 use Rattle.hg_model.specs.Fame.{fame_marks}
-use Rattle.hg_model.specs.Shape.{Shape}
 use Rattle.hg_plain.proofs.TableLaws.{Prints-table}
 use Rattle.hg_plain.proofs.fame.marks.Goals as goal
 
@@ -8,4 +7,4 @@ pub returns-clause-marks : goal.returns-clause-marks
 unfolding fame_marks
 returns-clause-marks c =
     Prints-table _ _ _ _ _ c.loop-x.invariant
-    (omega (arith, c.in_ok-voters.ensures.len, ap (λ (s : Shape). length s.links) c.tables.ensures))
+    (omega (arith, c.in_ok-voters.ensures.len))

@@ -3,8 +3,9 @@ use Rattle.hg_model.specs.Rounds.{is_witness}
 use Rattle.hg_model.specs.Seeing.{sees}
 use Rattle.hg_model.specs.Shape.{Shape}
 use Rattle.hg_model.specs.Votes.{rounds_above}
-use Rattle.hg_votes.proofs.BallotLaws.{coin_read}
-use Rattle.hg_plain.proofs.BallotLaws.{voters_below, few_voters, ballot_next, ballot_far}
+use Rattle.hg_model.proofs.LinkLaws.{length-links}
+use Rattle.hg_votes.proofs.BallotLaws.{coin_read, few_voters}
+use Rattle.hg_plain.proofs.BallotLaws.{voters_before, ballot_next, ballot_far}
 use Rattle.hg_plain.proofs.votes.next_ballot.Goals as goal
 
 pub returns-then-above-eq1 : goal.returns-then-above-eq1
@@ -16,17 +17,18 @@ returns-then-above-eq1 c =
     (c.sees.ensures ∙ ap (λ (s : Shape). sees s.links y x) c.tables-sight.ensures)
 
 pub count_votes-tally-requires-clause-known : goal.count_votes-tally-requires-clause-known
-count_votes-tally-requires-clause-known c = voters_below _ _ c.args.y _ _ c.requires.voters (let len = c.requires.known.len in omega arith)
+count_votes-tally-requires-clause-known c =
+    rw c.requires.known.len (voters_before c.args.p.now c.args.y _ c.rows.ensures.shaped.earlier c.requires.voters)
 
 pub count_votes-tally-requires-clause-short : goal.count_votes-tally-requires-clause-short
-count_votes-tally-requires-clause-short c = omega (arith, few_voters _ _ c.args.y _ c.requires.voters)
+count_votes-tally-requires-clause-short c = omega (arith, few_voters c.args.p.now c.args.y _ c.requires.voters, length-links c.args.p.now.rows)
 
 pub returns : goal.returns
 returns c =
     let x = c.args.x in
     let y = c.args.y in
     let p = c.args.p.now in
-    ballot_far p x y c.args.ballots.now c.requires.known c.args.voters.now c.rounds_above-above.result c.members.result c.coin.result _ c.count_votes-tally.result
+    ballot_far p x y c.rows.ensures.shaped.earlier (rw (← length-links p.rows) c.requires.row) c.args.ballots.now c.requires.known c.args.voters.now c.rounds_above-above.result c.members.result c.coin.result _ c.count_votes-tally.result
     c.weigh-weighed.result c.is_witness.result c.requires.voters
     (c.rounds_above-above.ensures ∙ ap (λ (s : Shape). rounds_above s.members s.links x y) c.tables-sight.ensures) c.if-above-eq1.false
     (c.members.ensures ∙ ap (λ (s : Shape). s.members) c.tables-sight.ensures) c.coin.ensures.value (coin_read p.rows y c.row.result.now c.row.ensures)

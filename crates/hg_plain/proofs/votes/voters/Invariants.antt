@@ -1,7 +1,7 @@
 use Rattle.std.proofs.Common.{[]}
+use Rattle.hg_votes.specs.Tallies.{voters_of}
 use Rattle.hg_plain.specs.Tables.{IsTableOf}
-use Rattle.hg_plain.specs.Elections.{voter_places}
 use Rattle.hg_plain.proofs.votes.voters.Given as goal
 
 abbrev pub invariant-loop-y : goal.invariant-loop-y
-invariant-loop-y l = IsTableOf [] (voter_places l.sight.members l.sight.links) l.y l.voters.items
+invariant-loop-y l = IsTableOf [] (voters_of l.p) l.y l.voters.items

@@ -1,0 +1,41 @@
+use crate::playing::{equal, give, make, name_at, two_players};
+use hg_model::{Fault, MakeAnswer, MakeFault, Memory, Name, PutAnswer};
+use hg_node::{Node, ROW_LIMIT};
+use hg_sign::MacTable;
+use std::process::Abort;
+
+/// Makes so many events more on the other's first one, or fewer where one is refused.
+fn make_rows(node: &mut Node<MacTable>, other: Name, count: usize) -> Result<(), Memory> {
+    for _ in 0..count {
+        node.make(Some(other), 1, b"")?;
+    }
+    Ok(())
+}
+
+/// A's rows come to 16,384; B has an event that A does not.
+fn fill(rt: &impl Abort, a: &mut Node<MacTable>, b: &mut Node<MacTable>) -> Result<(), Memory> {
+    make(rt, a, None, 1, MakeAnswer::Made(0))?;
+    make(rt, b, None, 2, MakeAnswer::Made(0))?;
+    give(rt, b, 0, a, PutAnswer::Accepted(1))?;
+    give(rt, a, 0, b, PutAnswer::Accepted(1))?;
+    make(rt, b, Some(name_at(rt, a, 0)), 3, MakeAnswer::Made(2))?;
+    make_rows(a, name_at(rt, b, 0), ROW_LIMIT - 2)?;
+    equal(rt, a.rows(), 16_384);
+    Ok(())
+}
+
+fn overfill(rt: &impl Abort, a: &mut Node<MacTable>, b: &Node<MacTable>) -> Result<(), Memory> {
+    let full = MakeAnswer::Refused(MakeFault::Full(16_384));
+    make(rt, a, Some(name_at(rt, b, 0)), 4, full)?;
+    give(rt, b, 2, a, PutAnswer::Refused(Fault::Full(16_384)))?;
+    give(rt, b, 0, a, PutAnswer::Known(1))?;
+    equal(rt, a.rows(), 16_384);
+    Ok(())
+}
+
+#[test]
+fn takes_no_row_more_where_it_is_full(rt: HostRuntime) -> Result<(), Memory> {
+    let (mut a, mut b) = two_players(&rt, rt.alloc())?;
+    fill(&rt, &mut a.node, &mut b.node)?;
+    overfill(&rt, &mut a.node, &b.node)
+}

@@ -1,0 +1,114 @@
+//! What the tests of nodes share: players, and what they do.
+
+use crate::members::entry;
+use hg_model::{MakeAnswer, Members, Memory, Name, PutAnswer};
+use hg_node::Node;
+use hg_sign::MacTable;
+use std::alloc::Global;
+use std::fmt::Debug;
+use std::process::Abort;
+
+/// What the tests find is to be what they want. What an unequal pair prints is proved once here, and not at each of them.
+pub(crate) fn equal<T: Copy + Debug + PartialEq>(rt: &impl Abort, found: T, wanted: T) {
+    assert_eq!(rt; found, wanted);
+}
+
+/// A, who has 100, and B, who has nothing.
+fn two_members(alloc: Global) -> Result<Members, Memory> {
+    let mut entries = Vec::new(alloc);
+    entries.push(entry(alloc, b"A", 1, 100, true)?)?;
+    entries.push(entry(alloc, b"B", 2, 0, true)?)?;
+    Ok(Members::new(entries, 10))
+}
+
+/// The node of a member. The tests hold nodes in this alone: it goes in a call, which is proved once, where each place
+/// that lets a node itself go has the node's whole end proved again.
+pub(crate) struct Player {
+    pub node: Node<MacTable>,
+}
+
+impl Drop for Player {
+    fn drop(self) {
+        let Player { node } = self;
+        drop(node);
+    }
+}
+
+/// The player of a member, of a number below the members' count, with keys of its own.
+pub(crate) fn player_of(
+    rt: &impl Abort,
+    alloc: Global,
+    members: &Members,
+    own: u16,
+) -> Result<Player, Memory> {
+    assert!(rt; u32::from(own) < members.count());
+    let keys = MacTable::new(alloc, members)?;
+    Ok(Player {
+        node: Node::new(alloc, members, own, keys)?,
+    })
+}
+
+/// A and B.
+pub(crate) fn two_players(rt: &impl Abort, alloc: Global) -> Result<(Player, Player), Memory> {
+    let members = two_members(alloc)?;
+    let a = player_of(rt, alloc, &members, 0)?;
+    let b = player_of(rt, alloc, &members, 1)?;
+    Ok((a, b))
+}
+
+fn bytes_of<'a>(rt: &impl Abort, node: &'a Node<MacTable>, place: usize) -> &'a [u8] {
+    assert!(rt; place < node.rows());
+    node.bytes(place)
+}
+
+pub(crate) fn name_at(rt: &impl Abort, node: &Node<MacTable>, place: usize) -> Name {
+    assert!(rt; place < node.rows());
+    node.row(place).name
+}
+
+/// Puts a row of one node to the other, which is to answer so.
+pub(crate) fn give(
+    rt: &impl Abort,
+    from: &Node<MacTable>,
+    place: usize,
+    to: &mut Node<MacTable>,
+    answer: PutAnswer,
+) -> Result<(), Memory> {
+    equal(rt, to.put(bytes_of(rt, from, place))?, answer);
+    Ok(())
+}
+
+/// Has a node make its first event.
+pub(crate) fn begin(
+    node: &mut Node<MacTable>,
+    time: u64,
+    payload: &[u8],
+) -> Result<MakeAnswer, Memory> {
+    node.make(None, time, payload)
+}
+
+/// Has a node make an event, and it is to answer so.
+pub(crate) fn make(
+    rt: &impl Abort,
+    node: &mut Node<MacTable>,
+    other: Option<Name>,
+    time: u64,
+    answer: MakeAnswer,
+) -> Result<(), Memory> {
+    equal(rt, node.make(other, time, b"any")?, answer);
+    Ok(())
+}
+
+/// Puts all rows of the other node to this one, which then makes an event on the other's last.
+pub(crate) fn sync(
+    node: &mut Node<MacTable>,
+    other: &Node<MacTable>,
+    time: u64,
+    payload: &[u8],
+) -> Result<(), Memory> {
+    for place in 0..other.rows() {
+        node.put(other.bytes(place))?;
+    }
+    node.make(other.last_name(), time, payload)?;
+    Ok(())
+}

@@ -1,0 +1,146 @@
+use crate::members::entry;
+use crate::playing::{Player, begin, equal, give, player_of, sync, two_players};
+use hg_fame::elect_share;
+use hg_model::{Members, Memory, Placed, PutAnswer, Share};
+use hg_node::Node;
+use hg_sign::MacTable;
+use hg_votes::VoteTable;
+use std::alloc::Global;
+use std::process::Abort;
+
+fn four_members(alloc: Global) -> Result<Members, Memory> {
+    let mut entries = Vec::new(alloc);
+    entries.push(entry(alloc, b"A", 1, 0, true)?)?;
+    entries.push(entry(alloc, b"B", 2, 0, true)?)?;
+    entries.push(entry(alloc, b"C", 3, 0, true)?)?;
+    entries.push(entry(alloc, b"D", 4, 0, true)?)?;
+    Ok(Members::new(entries, 10))
+}
+
+/// Publishes what the node's graph, frozen as it is, has found; tells how many were marked.
+fn publish_all(alloc: Global, node: &mut Node<MacTable>) -> Result<u32, Memory> {
+    let rows = node.rows();
+    let frozen = node.freeze()?;
+    let mut votes = VoteTable::new(alloc, &frozen)?;
+    let found = elect_share(alloc, &frozen, &mut votes, Share::new(0, 1))?;
+    Ok(if found.len == rows {
+        node.publish(&found)
+    } else {
+        0
+    })
+}
+
+fn placed(place: usize, time: u64) -> Placed {
+    Placed {
+        place,
+        received: 2,
+        time,
+    }
+}
+
+/// A node finds and publishes all fame: so many marks are new, and what it has ordered then.
+fn publish(
+    rt: &impl Abort,
+    alloc: Global,
+    node: &mut Node<MacTable>,
+    marked: u32,
+    order: &[Placed],
+) -> Result<(), Memory> {
+    equal(rt, publish_all(alloc, node)?, marked);
+    equal(rt, node.kept(), order);
+    Ok(())
+}
+
+/// Round 1 of two members closes with six rows, which decide two witnesses, and round 2 with eight.
+fn play_two(
+    rt: &impl Abort,
+    alloc: Global,
+    a: &mut Node<MacTable>,
+    b: &mut Node<MacTable>,
+) -> Result<(), Memory> {
+    begin(a, 1, b"")?;
+    begin(b, 2, b"")?;
+    for (to_a, to_b) in [(3, 4), (5, 6)] {
+        sync(a, b, to_a, b"")?;
+        sync(b, a, to_b, b"")?;
+    }
+    publish(rt, alloc, b, 2, &[])?;
+    equal(rt, b.closed(), 1);
+    sync(a, b, 7, b"")?;
+    sync(b, a, 8, b"")?;
+    let order = [placed(1, 1), placed(0, 2), placed(2, 3), placed(3, 4)];
+    publish(rt, alloc, b, 2, &order)?;
+    equal(rt, b.closed(), 2);
+    Ok(())
+}
+
+#[test]
+fn publishes_what_is_decided(rt: HostRuntime) -> Result<(), Memory> {
+    let (mut a, mut b) = two_players(&rt, rt.alloc())?;
+    play_two(&rt, rt.alloc(), &mut a.node, &mut b.node)
+}
+
+/// Three members make their first events, and sync in a ring, four times each.
+fn play_ring(
+    a: &mut Node<MacTable>,
+    b: &mut Node<MacTable>,
+    c: &mut Node<MacTable>,
+) -> Result<(), Memory> {
+    begin(a, 1, b"")?;
+    begin(b, 52, b"")?;
+    begin(c, 65, b"")?;
+    for (to_b, to_c, to_a) in [(55, 50, 60), (70, 80, 90), (100, 110, 120), (130, 140, 150)] {
+        sync(b, a, to_b, b"")?;
+        sync(c, b, to_c, b"")?;
+        sync(a, c, to_a, b"")?;
+    }
+    Ok(())
+}
+
+/// What the first two rounds of the ring receive, by the places of the first member's graph.
+fn ring_order() -> [Placed; 7] {
+    [
+        placed(0, 50),
+        placed(2, 52),
+        placed(3, 55),
+        placed(4, 60),
+        placed(1, 65),
+        placed(5, 70),
+        placed(6, 80),
+    ]
+}
+
+/// The fourth member's first event comes when the ring's first rounds are closed.
+fn come_late(
+    rt: &impl Abort,
+    alloc: Global,
+    a: &mut Node<MacTable>,
+    d: &mut Node<MacTable>,
+) -> Result<(), Memory> {
+    equal(rt, a.rows(), 15);
+    publish(rt, alloc, a, 6, &ring_order())?;
+    begin(d, 160, b"")?;
+    give(rt, d, 0, a, PutAnswer::Accepted(15))?;
+    equal(rt, a.kept(), ring_order().as_slice());
+    assert!(rt; a.rows() == 16 && a.fame(15) == Some(false));
+    Ok(())
+}
+
+fn four_players(
+    rt: &impl Abort,
+    alloc: Global,
+) -> Result<(Player, Player, Player, Player), Memory> {
+    let members = four_members(alloc)?;
+    let a = player_of(rt, alloc, &members, 0)?;
+    let b = player_of(rt, alloc, &members, 1)?;
+    let c = player_of(rt, alloc, &members, 2)?;
+    let d = player_of(rt, alloc, &members, 3)?;
+    Ok((a, b, c, d))
+}
+
+#[test]
+fn a_late_witness_changes_no_order(rt: HostRuntime) -> Result<(), Memory> {
+    let (mut a, mut b, mut c, mut d) = four_players(&rt, rt.alloc())?;
+    play_ring(&mut a.node, &mut b.node, &mut c.node)?;
+    come_late(&rt, rt.alloc(), &mut a.node, &mut d.node)
+}

@@ -1,0 +1,55 @@
+use crate::playing::{equal, give, make, name_at, two_players};
+use hg_model::{Entry, Fault, MakeAnswer, MakeFault, Memory, PutAnswer};
+use hg_node::Node;
+use hg_sign::MacTable;
+use std::process::Abort;
+
+fn play(rt: &impl Abort, a: &mut Node<MacTable>, b: &mut Node<MacTable>) -> Result<(), Memory> {
+    make(rt, a, None, 1, MakeAnswer::Made(0))?;
+    give(rt, a, 0, b, PutAnswer::Accepted(0))?;
+    give(rt, a, 0, b, PutAnswer::Known(0))?;
+    let first = name_at(rt, a, 0);
+    make(rt, b, None, 1, MakeAnswer::Made(1))?;
+    make(rt, b, Some(first), 1, MakeAnswer::Made(2))?;
+    let missing = Fault::MissingSelf(name_at(rt, b, 1));
+    give(rt, b, 2, a, PutAnswer::Refused(missing))?;
+    give(rt, b, 1, a, PutAnswer::Accepted(1))?;
+    give(rt, b, 2, a, PutAnswer::Accepted(2))?;
+    let own = MakeFault::OtherCreator(0);
+    make(rt, a, Some(first), 1, MakeAnswer::Refused(own))?;
+    equal(rt, b.last_own(), Some(2));
+    let log = [Entry::Took(0), Entry::Made(1), Entry::Made(2)];
+    equal(rt, b.log(), log.as_slice());
+    Ok(())
+}
+
+#[test]
+fn plays_two_members(rt: HostRuntime) -> Result<(), Memory> {
+    let (mut a, mut b) = two_players(&rt, rt.alloc())?;
+    play(&rt, &mut a.node, &mut b.node)
+}
+
+/// The shortest event there is, by a creator who is no member of two.
+fn by_the_third() -> [u8; 81] {
+    let mut bytes = [0; 81];
+    bytes[0] = 0x48;
+    bytes[1] = 0x47;
+    bytes[2] = 0x45;
+    bytes[3] = 0x31;
+    bytes[5] = 2;
+    bytes[14] = 1;
+    bytes
+}
+
+fn knows_two(rt: &impl Abort, a: &mut Node<MacTable>) -> Result<(), Memory> {
+    let refused = PutAnswer::Refused(Fault::Member(2));
+    equal(rt, a.put(&by_the_third())?, refused);
+    equal(rt, a.rows(), 0);
+    Ok(())
+}
+
+#[test]
+fn knows_no_third_member(rt: HostRuntime) -> Result<(), Memory> {
+    let (mut a, _b) = two_players(&rt, rt.alloc())?;
+    knows_two(&rt, &mut a.node)
+}

@@ -1,0 +1,69 @@
+ghost use Rattle.std.specs.Prelude.{◌≡◌, ◌≤◌, ◌<◌, IfOk};
+ghost use Rattle.hg_model.specs.Members.{listed};
+ghost use Rattle.check_graphs.specs.Made.{made_entry, made_entries};
+
+use crate::dice::Dice;
+use hg_model::{Bytes, MemberEntry, Members, Memory};
+use std::alloc::Global;
+
+/// What a graph is made by.
+#[derive(Clone, Copy)]
+pub struct Plan {
+    /// 4 to 7.
+    pub members: u32,
+    /// 3 to 6 rounds.
+    pub coin: u32,
+    /// How many events are made. Some of them are refused.
+    pub events: u32,
+    /// The members who fork. Where both would be a third of all or more, one does not come to it.
+    pub forkers: Option<(u32, u32)>,
+    pub ghost few: { members ≤ 7 },
+    pub ghost some: { 4 ≤ members },
+    pub ghost coin_low: { 3 ≤ coin },
+    pub ghost coin_high: { coin ≤ 6 },
+}
+
+/// Whether the graph of this number must hold a fork: two of three do.
+pub fn asks_for_fork(number: u32) -> bool {
+    number % 3 != 0
+}
+
+/// The plan of the graph of this number, by its dice.
+pub fn plan_of(number: u32, dice: &mut Dice) -> Plan {
+    let members = 4 + dice.below(4);
+    let forkers = if asks_for_fork(number) {
+        Some((1 + dice.below(members - 1), 1 + dice.below(members - 1)))
+    } else {
+        None
+    };
+    Plan {
+        members,
+        coin: 3 + dice.below(4),
+        events: 44 + 11 * members + dice.below(12),
+        forkers,
+    }
+}
+
+/// The members of the plan, A, B, C and so on.
+pub fn members_of(alloc: Global, plan: &Plan) -> Result<Members, Memory>
+    ensures { IfOk result (λ members. members ≡ listed (made_entries plan.now.members) plan.now.coin) }
+{
+    let mut entries = Vec::new(alloc);
+    for number in 0..plan.members {
+        entries.push(entry_of(alloc, number as u8)?)?;
+    }
+    Ok(Members::new(entries, plan.coin))
+}
+
+/// The member of this number.
+fn entry_of(alloc: Global, number: u8) -> Result<MemberEntry, Memory>
+    requires { number < 7 }
+    ensures { IfOk result (λ entry. entry ≡ made_entry number) }
+{
+    Ok(MemberEntry {
+        name: Bytes::from_vec(Vec::from_slice(alloc, &[b'A' + number])?),
+        secret: Bytes::from_vec(Vec::from_slice(alloc, &[number])?),
+        balance: 0,
+        has_node: true,
+    })
+}

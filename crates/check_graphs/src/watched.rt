@@ -1,0 +1,107 @@
+ghost use Rattle.std.specs.Prelude.{All, IfOk};
+ghost use Rattle.hg_model.specs.Prefix.{links_of as prefix_links};
+ghost use Rattle.hg_model.specs.Shares.{Speaks};
+ghost use Rattle.check_graphs.specs.Moments.{SpeaksOf};
+
+use hg_ancestry::BitSight;
+use hg_fame::elect_share;
+use hg_frozen::Frozen;
+use hg_history::{found_lasts, rows_are_a_graph};
+use hg_model::{Found, MakeAnswer, Members, Memory, Name, PutAnswer, Share};
+use hg_node::Node;
+use hg_rounds::RoundTable;
+use hg_sign::MacTable;
+use hg_votes::VoteTable;
+use std::alloc::Global;
+
+/// A node's graph at an earlier moment.
+type Held = Frozen<BitSight, RoundTable>;
+
+/// What was published.
+#[derive(Drop)]
+pub struct Published {
+    /// What the share has found.
+    pub found: Found,
+    /// How many witnesses the node says that it has marked.
+    pub marked: u32,
+}
+
+/// The node of the first member, with its graph at some earlier moments.
+#[derive(Drop)]
+pub struct Watched<'a> {
+    node: Node<&'a MacTable>,
+    held: Vec<Held>,
+    ghost moments: { All (SpeaksOf node) held.items },
+}
+
+impl<'a> Watched<'a> {
+    /// The node without rows.
+    pub fn new(
+        alloc: Global,
+        members: &Members,
+        keys: &'a MacTable,
+    ) -> Result<Watched<'a>, Memory> {
+        // There are members.
+        members.count();
+        Ok(Watched {
+            node: Node::new(alloc, members, 0, keys)?,
+            held: Vec::new(alloc),
+        })
+    }
+
+    pub fn node(&self) -> &Node<&'a MacTable> {
+        &self.node
+    }
+
+    pub fn put(&mut self, bytes: &[u8]) -> Result<PutAnswer, Memory> {
+        found_lasts();
+        self.node.put(bytes)
+    }
+
+    pub fn make(&mut self, other: Option<Name>, time: u64) -> Result<MakeAnswer, Memory> {
+        found_lasts();
+        self.node.make(other, time, &[])
+    }
+
+    pub fn settle(&mut self) -> Result<(), Memory> {
+        found_lasts();
+        self.node.settle()
+    }
+
+    /// Holds the graph as it is now, in the place of the moment with this number, where there is one.
+    pub fn hold(&mut self, number: usize) -> Result<(), Memory> {
+        rows_are_a_graph();
+        self.node.rows();
+        let frozen = self.node.freeze()?;
+        if number < self.held.len() {
+            self.held[number] = frozen;
+        } else {
+            self.held.push(frozen)?;
+        }
+        Ok(())
+    }
+
+    /// Publishes what the share finds in the graph of the moment with this number, if there is one.
+    pub fn publish(
+        &mut self,
+        alloc: Global,
+        number: usize,
+        share: Share,
+    ) -> Result<Option<Published>, Memory> {
+        if number >= self.held.len() {
+            return Ok(None);
+        }
+        found_lasts();
+        let found = elect_in(alloc, &self.held[number], share)?;
+        let marked = self.node.publish(&found);
+        Ok(Some(Published { found, marked }))
+    }
+}
+
+/// What the share finds in a held graph.
+fn elect_in(alloc: Global, held: &Held, share: Share) -> Result<Found, Memory>
+    ensures { IfOk result (λ found. Speaks held.now.members held.now.coin held.now.rows (prefix_links held.now) found.len found.share found.marks) }
+{
+    let mut votes = VoteTable::new(alloc, held)?;
+    elect_share(alloc, held, &mut votes, share)
+}

@@ -1,6 +1,0 @@
-use Rattle.std.proofs.Common.{◌≡◌}
-use Rattle.hg_graphs.specs.Made.{made_entries}
-use Rattle.hg_graphs.proofs.plan.members_of.Given as goal
-
-abbrev pub invariant-loop-number : goal.invariant-loop-number
-invariant-loop-number l = l.entries.items ≡ made_entries l.number
