@@ -1,7 +1,7 @@
 -- What a graph keeps beside its rows, at first and with a row more
-use Rattle.std.proofs.Common.{◌≡◌, inl, inr, ℕ, ◌+◌, ◌-◌, ◌<◌, ◌≤◌, Option, List, [], ◌∷◌, ◌++◌, length, take, get_or, Some, slice_get, sym, refl, ap, ap₂, ◌∙◌, subst, arith}
+use Rattle.std.proofs.Common.{◌≡◌, inl, inr, ℕ, ◌+◌, ◌-◌, ◌<◌, ◌≤◌, Option, List, [], ◌∷◌, ◌++◌, length, take, get_or, Some, slice_get, sym, refl, ap, ◌∙◌, subst, arith}
 use Rattle.std.proofs.lemmas.Bool.{cases_lt, true≢false}
-use Rattle.std.proofs.lemmas.List.{take_all, length_push, get_or_append_left, get_or_push}
+use Rattle.std.proofs.lemmas.List.{take_all, length_push, get_or_push}
 use Rattle.std.proofs.lemmas.Option.{slice_get-get_or, slice_get_past}
 use Rattle.hg_model.specs.declared.row.Row.{Row}
 use Rattle.hg_model.specs.Places.{some_below}
@@ -13,6 +13,7 @@ use Rattle.hg_model.specs.Standings.{Standing, standings_of}
 use Rattle.hg_model.specs.Spelling.{Spells, spelling}
 use Rattle.hg_model.specs.Verdict.{row_limit}
 use Rattle.hg_model.specs.Prefix.{Graph, graph_of}
+use Rattle.hg_model.specs.GraphWords.{shape_in}
 use Rattle.hg_model.proofs.StandingLaws.{length-standings}
 use Rattle.hg_model.proofs.PlacesLaws.{weight_below_none}
 use Rattle.hg_model.proofs.LongerLaws.{slice_get-append}
@@ -22,7 +23,7 @@ use Rattle.hg_model.proofs.LinkLaws.{length-links, parents_read}
 use Rattle.hg_forks.specs.Own.{own_link_of, own_links, own_shape}
 use Rattle.hg_forks.proofs.OwnLaws.{own_links_serve}
 use Rattle.hg_rounds.specs.Tabled.{last_parents}
-use Rattle.hg_graph.specs.Held.{GraphWithRoom, AreEvents, IsHeld, KeepsGraph, shape_in, graph_with}
+use Rattle.hg_graph.specs.Held.{GraphWithRoom, AreEvents, IsHeld, KeepsGraph, graph_with}
 use Rattle.hg_graph.proofs.NextLaws.{links_next, fits_last, name_next}
 
 -- without rows

@@ -6,9 +6,9 @@ ghost use Rattle.hg_model.specs.Shape.{FitsLink, link_of};
 ghost use Rattle.hg_model.specs.Spelling.{Spells, spelling};
 ghost use Rattle.hg_model.specs.Verdict.{row_limit};
 ghost use Rattle.hg_model.specs.Prefix.{graph_of};
-ghost use Rattle.hg_model.specs.GraphWords.{standings_in};
+ghost use Rattle.hg_model.specs.GraphWords.{standings_in, shape_in};
 ghost use Rattle.hg_graph.specs.RowsWithRoom.{found_place};
-ghost use Rattle.hg_graph.specs.Held.{IsHeld, graph_with, shape_in};
+ghost use Rattle.hg_graph.specs.Held.{IsHeld, graph_with};
 
 use crate::store::RowStore;
 use hg_ancestry::BitSight;

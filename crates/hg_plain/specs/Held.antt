@@ -10,15 +10,11 @@ use Rattle.hg_model.specs.Graph.{IsShaped}
 use Rattle.hg_model.specs.Forks.{has_fork_below, forkers}
 use Rattle.hg_model.specs.Seeing.{sees_through, strongly_sees}
 use Rattle.hg_model.specs.Order.{round_received}
-use Rattle.hg_model.specs.Prefix.{Graph, links_of}
 use Rattle.hg_model.specs.Rounds.{is_seen_witness, round_of, last_round}
+use Rattle.hg_model.specs.GraphWords.{strongly_sees_in}
 use Rattle.hg_plain.specs.By.{IsAncestorTable}
 use Rattle.hg_plain.specs.declared.ancestry.By.TheVariants.{Parents, SelfParent}
 use Rattle.hg_plain.specs.Tables.{IsTableOf, IsTableOfPairs}
-
--- the shape of a graph
-abbrev pub shape_in : Graph → Shape
-shape_in g = shape_of g.members (links_of g)
 
 -- for each of n members the rows with a fork of that member below them
 abbrev pub IsForkTable : ℕ → List Link → List (Vec Bool) → Type 0
@@ -34,11 +30,11 @@ IsThroughTable s y columns = IsTableOfPairs (λ x m. sees_through s.links x y m)
 
 -- which rows strongly see row y
 abbrev pub IsStrongColumn : Shape → ℕ → List Bool → Type 0
-IsStrongColumn s y column = IsTableOf false (λ x. strongly_sees s.members s.links x y) (length s.links) column
+IsStrongColumn s y column = IsTableOf false (λ x. strongly_sees_in s x y) (length s.links) column
 
 -- for each row the rows that strongly see it
 abbrev pub IsStrongTable : Shape → List (Vec Bool) → Type 0
-IsStrongTable s columns = IsTableOfPairs (strongly_sees s.members s.links) (length s.links) (length s.links) columns
+IsStrongTable s columns = IsTableOfPairs (strongly_sees_in s) (length s.links) (length s.links) columns
 
 -- the rounds of the rows before x
 abbrev pub IsRoundTable : Shape → ℕ → List ℕ → Type 0

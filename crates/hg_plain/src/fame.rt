@@ -1,7 +1,6 @@
 ghost use Rattle.std.specs.Prelude.{◌≡◌, ◌<◌, ◌-◌, ◌^◌, length, IfOk};
-ghost use Rattle.hg_model.specs.Fame.{fame_of, fame_marks};
-ghost use Rattle.hg_model.specs.Order.{coin_at};
 ghost use Rattle.hg_model.specs.Prefix.{links_of};
+ghost use Rattle.hg_model.specs.GraphWords.{fame_in, fame_marks_in};
 ghost use Rattle.hg_plain.specs.Elections.{IsVoterTable, decided_vote, earlier_of, first_decision};
 
 use crate::prefix::PlainPrefix;
@@ -63,7 +62,7 @@ fn fame(
     requires short { length (links_of p.now) < 2 ^ 32 - 1 }
     requires candidate { x < length (links_of p.now) }
     requires voters { IsVoterTable p.now voters.now }
-    ensures { IfOk result (λ fame. fame ≡ fame_of p.now.members p.now.coin (links_of p.now) (coin_at p.now.rows) x) }
+    ensures { IfOk result (λ fame. fame ≡ fame_in p.now x) }
 {
     let sight = p.tables();
     if !sight.is_witness(x) {
@@ -77,7 +76,7 @@ fn fame(
 #[tactic(auto, using(crate::proofs::TableLaws::tells_steps))]
 pub fn marks(alloc: Global, p: &PlainPrefix<'_>) -> Result<Vec<Option<bool>>, Memory>
     requires short { length (links_of p.now) < 2 ^ 32 - 1 }
-    ensures marks { IfOk result (λ v. v.items ≡ fame_marks p.now.members p.now.coin (links_of p.now) (coin_at p.now.rows)) }
+    ensures marks { IfOk result (λ v. v.items ≡ fame_marks_in p.now) }
     ensures len { IfOk result (λ v. length v.items ≡ length (links_of p.now)) }
 {
     let voters = voters(alloc, p)?;

@@ -1,8 +1,7 @@
-ghost use Rattle.std.specs.Prelude.{◌≡◌, ◌<◌, ◌≤◌, ◌&&◌, ◌==◌, ◌++◌, ◌^◌, length, is_some, unwrap_or, IfOk, OnOk};
-ghost use Rattle.hg_model.specs.Order.{ordered};
-ghost use Rattle.hg_model.specs.Prefix.{links_of};
-ghost use Rattle.hg_order.specs.Round.{received_order, received_places};
-ghost use Rattle.hg_plain.specs.Held.{IsClosedTable, IsReceivedTable, shape_in};
+ghost use Rattle.std.specs.Prelude.{◌≡◌, ◌<◌, ◌≤◌, ◌==◌, ◌++◌, ◌^◌, length, IfOk, OnOk};
+ghost use Rattle.hg_model.specs.GraphWords.{received_order, shape_in, ordered_by};
+ghost use Rattle.hg_order.specs.Round.{received_places};
+ghost use Rattle.hg_plain.specs.Held.{IsClosedTable, IsReceivedTable};
 ghost use Rattle.hg_plain.specs.Rounds.{is_round, places_received};
 
 use crate::prefix::PlainPrefix;
@@ -21,7 +20,7 @@ pub fn ordered_rows(
 ) -> Result<Vec<Placed>, Memory>
     requires closed { IsClosedTable (shape_in p.now) marks.now closed.now }
     requires short { length closed.now < 2 ^ 32 }
-    ensures { IfOk result (λ v. v.items ≡ ordered p.now.members p.now.rows (links_of p.now) marks.now) }
+    ensures { IfOk result (λ v. v.items ≡ ordered_by p.now marks.now) }
 {
     let received = rounds_received(alloc, p, marks, closed)?;
     let mut order = Vec::new(alloc);

@@ -8,7 +8,8 @@ ghost use Rattle.hg_model.specs.Order.{coin_at, last_closed, order_of};
 ghost use Rattle.hg_model.specs.Ledger.{closed_of};
 ghost use Rattle.hg_model.specs.Prefix.{graph_of, links_of};
 ghost use Rattle.hg_model.specs.Shape.{shape_of};
-ghost use Rattle.hg_plain.specs.Held.{IsClosedTable, shape_in};
+ghost use Rattle.hg_model.specs.GraphWords.{shape_in, last_round_in, last_closed_in};
+ghost use Rattle.hg_plain.specs.Held.{IsClosedTable};
 
 use crate::closed::{closed_rounds, last_closed};
 use crate::fame::marks;
@@ -72,8 +73,8 @@ fn state_of(graph: &Elected<'_>) -> PlainState
     requires short { length graph.now.closed.items < 2 ^ 32 }
     requires closed { IsClosedTable (shape_in graph.now.prefix) graph.now.marks.items graph.now.closed.items }
     ensures forkers { result.forkers ≡ forkers graph.now.prefix.members (links_of graph.now.prefix) }
-    ensures greatest { result.greatest ≡ last_round graph.now.prefix.members (links_of graph.now.prefix) }
-    ensures closed { let g = graph.now.prefix in result.closed ≡ last_closed g.members (links_of g) graph.now.marks.items }
+    ensures greatest { result.greatest ≡ last_round_in graph.now.prefix }
+    ensures closed { let g = graph.now.prefix in result.closed ≡ last_closed_in g graph.now.marks.items }
 {
     PlainState {
         forkers: graph.prefix.tables().forkers(),

@@ -1,12 +1,9 @@
-ghost use Rattle.std.specs.Prelude.{◌≡◌, ◌<◌, ◌≤◌, ◌-◌, ◌+◌, ◌^◌, [], Some, suc, length, slice_get, slice_index_or, IfOk, refl};
+ghost use Rattle.std.specs.Prelude.{◌≡◌, ◌<◌, ◌≤◌, ◌-◌, ◌^◌, [], Some, length, slice_get, slice_index_or, IfOk, refl};
 ghost use Rattle.hg_model.specs.Links.{links};
 ghost use Rattle.hg_model.specs.Graph.{IsShaped};
 ghost use Rattle.hg_model.specs.Fame.{is_witness_of_round};
-ghost use Rattle.hg_model.specs.Places.{list_below};
-ghost use Rattle.hg_model.specs.Prefix.{graph_of, links_of};
-ghost use Rattle.hg_model.specs.Rounds.{last_round};
-ghost use Rattle.hg_model.specs.Shape.{shape_of};
-ghost use Rattle.hg_model.specs.Standings.{standings_of};
+ghost use Rattle.hg_model.specs.Prefix.{graph_of};
+ghost use Rattle.hg_model.specs.GraphWords.{standings_in, shape_in};
 ghost use Rattle.hg_plain.specs.Held.{IsWitnessTable, witnesses_of};
 
 use crate::closed::is_witness_of_round;
@@ -62,7 +59,7 @@ impl<'a> PlainPrefix<'a> {
 
     /// The tables.
     pub fn tables(&self) -> &PlainSight
-        ensures { result.now ≡ shape_of self.now.members (links_of self.now) }
+        ensures { result.now ≡ shape_in self.now }
     {
         &self.sight
     }
@@ -112,7 +109,7 @@ fn row_at(rows: &[Row], x: usize) -> &Row
 }
 
 impl<'a> Sight for PlainPrefix<'a> {
-    ghost shape = { λ g. shape_of g.members (links_of g) };
+    ghost shape = { λ g. shape_in g };
 
     fn rows(&self) -> usize {
         self.sight.len()
@@ -144,7 +141,7 @@ impl<'a> Sight for PlainPrefix<'a> {
 }
 
 impl<'a> Rounds for PlainPrefix<'a> {
-    ghost standings = { λ g. standings_of g.members (links_of g) };
+    ghost standings = { λ g. standings_in (shape_in g) };
 
     #[tactic(auto, using(hg_model::proofs::StandingLaws::standings_known))]
     fn round(&self, x: usize) -> u32 {

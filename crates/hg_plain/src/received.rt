@@ -2,7 +2,8 @@ ghost use Rattle.std.specs.Prelude.{◌≡◌, ◌<◌, ◌≤◌, ◌^◌, leng
 ghost use Rattle.hg_model.specs.Fame.{is_closed};
 ghost use Rattle.hg_model.specs.Order.{can_receive, round_received};
 ghost use Rattle.hg_model.specs.Prefix.{links_of};
-ghost use Rattle.hg_plain.specs.Held.{IsClosedTable, IsReceivedTable, shape_in};
+ghost use Rattle.hg_model.specs.GraphWords.{shape_in, is_closed_in, can_receive_in, received_in};
+ghost use Rattle.hg_plain.specs.Held.{IsClosedTable, IsReceivedTable};
 
 use crate::prefix::PlainPrefix;
 use hg_model::{Memory, Sight};
@@ -41,7 +42,7 @@ fn round_received(
     requires row { x < length (links_of p.now) }
     requires room { p.now.members ≤ length places.old }
     requires short { length closed.now < 2 ^ 32 }
-    ensures { result ≡ round_received p.now.members (links_of p.now) marks.now x }
+    ensures { result ≡ received_in p.now marks.now x }
 {
     for (r, is_closed) in closed.iter().enumerate() {
         if can_receive(p, marks, *is_closed, r as u32, x, places) {
@@ -60,10 +61,10 @@ fn can_receive(
     x: usize,
     places: &mut [usize],
 ) -> bool
-    requires closed { decided ≡ is_closed p.now.members (links_of p.now) marks.now r }
+    requires closed { decided ≡ is_closed_in p.now marks.now r }
     requires row { x < length (links_of p.now) }
     requires room { p.now.members ≤ length places.old }
-    ensures { result ≡ can_receive p.now.members (links_of p.now) marks.now x r }
+    ensures { result ≡ can_receive_in p.now marks.now x r }
 {
     if !decided {
         return false;

@@ -3,6 +3,7 @@ ghost use Rattle.hg_model.specs.Links.{creator, links};
 ghost use Rattle.hg_model.specs.Graph.{IsShaped};
 ghost use Rattle.hg_model.specs.Ancestry.{is_ancestor, some_ancestor};
 ghost use Rattle.hg_model.specs.Forks.{has_fork, has_fork_below, is_fork};
+ghost use Rattle.hg_model.specs.GraphWords.{IsShapedIn, sees_in};
 ghost use Rattle.hg_plain.specs.Held.{IsForkTable};
 ghost use Rattle.hg_plain.specs.Tables.{IsTableOf};
 
@@ -53,14 +54,14 @@ impl Seeing {
 
     pub fn members(&self) -> u32
         ensures value { result ≡ self.now.members }
-        ensures shaped { IsShaped self.now.members self.now.links }
+        ensures shaped { IsShapedIn self.now }
     {
         self.members
     }
 
     pub fn ancestry(&self) -> &Ancestry
         ensures value { result.now ≡ self.now.links }
-        ensures shaped { IsShaped self.now.members self.now.links }
+        ensures shaped { IsShapedIn self.now }
     {
         &self.ancestry
     }
@@ -70,7 +71,7 @@ impl Seeing {
     pub fn sees(&self, x: usize, y: usize) -> bool
         requires left { x < length self.now.links }
         requires right { y < length self.now.links }
-        ensures { result ≡ sees self.now.links x y }
+        ensures { result ≡ sees_in self.now x y }
     {
         self.ancestry.is_ancestor(x, y) && !self.is_forked(x, y)
     }

@@ -2,6 +2,7 @@ ghost use Rattle.std.specs.Prelude.{◌≡◌, ℕ, ◌<◌, ◌≤◌, ◌&&◌
 ghost use Rattle.hg_model.specs.Places.{count_below};
 ghost use Rattle.hg_model.specs.Links.{creator};
 ghost use Rattle.hg_model.specs.Seeing.{sees, sees_through, strongly_sees};
+ghost use Rattle.hg_model.specs.GraphWords.{strongly_sees_in, sees_in};
 ghost use Rattle.hg_plain.specs.Held.{IsStrongColumn, IsStrongTable, IsThroughColumn, IsThroughTable};
 ghost use Rattle.hg_plain.specs.Tables.{cell_at, column_at};
 
@@ -44,7 +45,7 @@ fn strong_column(alloc: Global, seeing: &Seeing, y: usize) -> Result<Vec<bool>, 
 fn is_strong(seeing: &Seeing, through: &[Vec<bool>], x: usize, y: usize) -> bool
     requires place { x < length seeing.now.links }
     requires known { IsThroughTable seeing.now y through.now }
-    ensures { result ≡ strongly_sees seeing.now.members seeing.now.links x y }
+    ensures { result ≡ strongly_sees_in seeing.now x y }
 {
     let members = seeing.members();
     is_supermajority(members, count_through(through, members, x))
@@ -113,7 +114,7 @@ fn next_through(seeing: &Seeing, column: &[bool], x: usize, y: usize, member: u3
 fn is_seen_by(seeing: &Seeing, x: usize, y: usize, member: u32) -> bool
     requires place { x < length seeing.now.links }
     requires seen { y < length seeing.now.links }
-    ensures { result ≡ (creator seeing.now.links x == member && sees seeing.now.links x y) }
+    ensures { result ≡ (creator seeing.now.links x == member && sees_in seeing.now x y) }
 {
     u32::from(creator_of(seeing.ancestry().links(), x)) == member && seeing.sees(x, y)
 }
