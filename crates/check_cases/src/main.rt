@@ -8,7 +8,6 @@ mod outcome;
 mod pack;
 mod playing;
 mod printing;
-mod tally;
 mod trouble;
 
 use crate::case::{Case, read_case};
@@ -16,7 +15,6 @@ use crate::outcome::difference;
 use crate::pack::Pack;
 use crate::playing::play;
 use crate::printing::print_difference;
-use crate::tally::Tally;
 use crate::trouble::Trouble;
 use check_tally::{Tally, exit};
 use std::fs;

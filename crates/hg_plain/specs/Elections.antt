@@ -6,13 +6,13 @@ use Rattle.hg_model.specs.Links.{Link}
 use Rattle.hg_model.specs.Rounds.{round_of}
 use Rattle.hg_model.specs.Shape.{Shape}
 use Rattle.hg_model.specs.Prefix.{Graph, ballot_of, links_of}
-use Rattle.hg_votes.specs.Tallies.{no_ballot, vote_at, voter_places}
+use Rattle.hg_votes.specs.Tallies.{no_ballot, vote_at, voters_of}
 use Rattle.hg_plain.specs.Tables.{IsTableOf}
 use Rattle.hg_plain.specs.declared.fame.Decision.{Decision}
 
 -- the voters of each row
 abbrev pub IsVoterTable : Graph → List (List ℕ) → Type 0
-IsVoterTable g voters = IsTableOf [] (voter_places g) (length (links_of g)) voters
+IsVoterTable g voters = IsTableOf [] (voters_of g) (length (links_of g)) voters
 
 -- the ballots of the rows before y on row x
 abbrev pub IsBallotTable : Graph → ℕ → ℕ → List Ballot → Type 0
