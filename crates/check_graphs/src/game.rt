@@ -185,7 +185,8 @@ fn play_plan(
         keys,
         watched,
     };
-    let mut alike = game.play_events()?;
+    let mut alike = game.is_plain()?;
+    alike = game.play_events()? && alike;
     alike = game.play_more(number)? && alike;
     Ok(game.end(number)? && alike)
 }

@@ -90,9 +90,9 @@ pub fn parents_of(links: &[PlainLink], x: usize) -> Option<(usize, usize)>
     listed_parents(links, x)
 }
 
-/// The same, where parents may stand anywhere.
+/// The same as it stands in the link, without a word on where.
 #[tactic(auto, using(hg_model::proofs::LinkLaws::link_reads))]
-pub fn listed_parents(links: &[PlainLink], x: usize) -> Option<(usize, usize)>
+fn listed_parents(links: &[PlainLink], x: usize) -> Option<(usize, usize)>
     requires { x < length links.now }
     ensures { pair_list result ≡ parents links.now x }
 {

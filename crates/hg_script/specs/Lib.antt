@@ -3,4 +3,6 @@ pub mod Payload
 pub mod Table
 pub mod Script
 pub mod Lawful
+pub mod Gives
+pub mod Words
 pub mod Text

@@ -1,8 +1,9 @@
-ghost use Rattle.std.specs.Prelude.{ℕ, ◌≡◌, ◌<◌, ◌↔◌, ◌⊎◌, ◌++◌, ◌∷◌, [], false, map, position, Some, IsBitSet, IsTrue, OnErr, OnOk};
+ghost use Rattle.std.specs.Prelude.{ℕ, ◌≡◌, ◌<◌, ◌↔◌, ◌⊎◌, ◌++◌, ◌∷◌, [], false, position, Some, IsBitSet, IsTrue, OnErr, OnOk};
 ghost use Rattle.std.specs.List.{list_any};
 ghost use Rattle.std.specs.Str.{bytes_eq};
 ghost use Rattle.hg_script.specs.Lawful.{IsLow, IsNew};
 ghost use Rattle.hg_script.specs.Script.{nothing_above, with_line};
+ghost use Rattle.hg_script.specs.Words.{bytes_in};
 ghost use Rattle.hg_script.specs.Table as spec;
 
 use crate::found::Found;
@@ -22,33 +23,34 @@ pub struct Above<'a> {
 }
 
 impl<'a> Model for Above<'a> {
-    ghost use Rattle.std.specs.Prelude.{ℕ, map, ◌↔◌, IsBitSet, IsTrue};
+    ghost use Rattle.std.specs.Prelude.{ℕ, ◌↔◌, IsBitSet, IsTrue};
+    ghost use Rattle.hg_script.specs.Words.{bytes_in};
     ghost use Rattle.hg_script.specs.Table.{Above as NodeView, is_created};
 
     ghost Value = { NodeView };
 
-    ghost view = { λ s. record { lines = s.lines.items; labels = map (λ name. name.now) s.labels.keys } };
+    ghost view = { λ s. record { lines = s.lines.items; labels = bytes_in s.labels.keys } };
 
     ghost invariant = { λ s. (x : ℕ) → IsBitSet s.created x ↔ IsTrue (is_created s.lines.items x) };
 }
 
 /// The place of a label among names.
 fn place_of(labels: &IndexSet<&[u8]>, label: &[u8]) -> Option<usize>
-    ensures { result ≡ position (bytes_eq label.now) (map (λ name. name.now) labels.now.keys) }
+    ensures { result ≡ position (bytes_eq label.now) (bytes_in labels.now.keys) }
 {
     labels.get_index_of(label)
 }
 
 fn is_label(labels: &IndexSet<&[u8]>, label: &[u8]) -> bool
-    ensures { result ≡ list_any (bytes_eq label.now) (map (λ name. name.now) labels.now.keys) }
+    ensures { result ≡ list_any (bytes_eq label.now) (bytes_in labels.now.keys) }
 {
     labels.contains(label)
 }
 
 /// One more name.
 fn add_label<'a>(labels: &mut IndexSet<&'a [u8]>, label: &'a [u8]) -> Result<(), AllocError>
-    requires { list_any (bytes_eq label.now) (map (λ name. name.now) labels.old.keys) ≡ false }
-    ensures ok { OnOk result (map (λ name. name.now) labels.new.keys ≡ map (λ name. name.now) labels.old.keys ++ label.now ∷ []) }
+    requires { list_any (bytes_eq label.now) (bytes_in labels.old.keys) ≡ false }
+    ensures ok { OnOk result (bytes_in labels.new.keys ≡ bytes_in labels.old.keys ++ label.now ∷ []) }
     ensures err { OnErr result (labels.new.keys ≡ labels.old.keys) }
 {
     labels.insert(label)?;

@@ -2,7 +2,8 @@ ghost use Rattle.std.specs.Prelude.{◌≡◌, ◌<◌, ◌≤◌, ◌+◌, ◌-
 ghost use Rattle.std.specs.List.{list_any};
 ghost use Rattle.std.specs.Str.{bytes_eq};
 ghost use Rattle.hg_model.specs.Members.{is_digit};
-ghost use Rattle.hg_model.specs.Results.{Reads, Gives};
+ghost use Rattle.hg_model.specs.Results.{Reads};
+ghost use Rattle.hg_script.specs.Words.{Finds};
 ghost use Rattle.hg_script.specs.Lawful.{HasNode};
 ghost use Rattle.hg_script.specs.Argument as spec;
 
@@ -169,7 +170,7 @@ pub fn digits_form(
 
 /// The bytes of 2 to 8,192 hexadecimal digits.
 pub fn bytes_of(alloc: Global, word: &[u8]) -> Result<Bytes, Stop<Why>>
-    ensures { Gives (λ bytes. bytes) result (spec.bytes_of word.now) }
+    ensures { Finds result (spec.bytes_of word.now) }
 {
     match digits_form(alloc, 2, 8192, word)? {
         Some(bytes) => Ok(bytes),

@@ -1,9 +1,10 @@
-ghost use Rattle.std.specs.Prelude.{◌≡◌, ◌≤◌, count_by, length, map, nat_le, position, IfOk};
+ghost use Rattle.std.specs.Prelude.{◌≡◌, ◌≤◌, count_by, length, nat_le, position, IfOk};
 ghost use Rattle.std.specs.List.{after_first, before_first, list_all};
 ghost use Rattle.std.specs.Option.{option_copied};
 ghost use Rattle.hg_model.specs.Pay.{transfer_limit};
 ghost use Rattle.hg_model.specs.Spelling.{payload_limit};
 ghost use Rattle.hg_model.specs.Results.{Gives};
+ghost use Rattle.hg_script.specs.Words.{Finds, bytes_in};
 ghost use Rattle.hg_script.specs.Payload as spec;
 
 use crate::argument::{digits_form, member_of, number_of};
@@ -55,7 +56,7 @@ fn has_few_parts(text: &[u8]) -> bool
 
 /// The parts of a text between commas.
 fn parts_of<'a>(alloc: Global, text: &'a [u8]) -> Result<Vec<&'a [u8]>, AllocError>
-    ensures { IfOk result (λ parts. map (λ part. part.now) parts.items ≡ spec.parts_of text.now) }
+    ensures { IfOk result (λ parts. bytes_in parts.items ≡ spec.parts_of text.now) }
 {
     text.split(|byte| is_comma(*byte)).collect(alloc)
 }
@@ -113,7 +114,7 @@ fn transfers_of(
     members: &Members,
     parts: &[&[u8]],
 ) -> Result<Vec<Transfer>, Stop<Why>>
-    ensures value { Gives (λ transfers. transfers.items) result (spec.transfers_of members.now (map (λ part. part.now) parts.now)) }
+    ensures value { Gives (λ transfers. transfers.items) result (spec.transfers_of members.now (bytes_in parts.now)) }
     ensures many { IfOk result (λ transfers. length transfers.items ≡ length parts.now) }
 {
     let mut transfers = Vec::with_capacity(alloc, parts.len())?;
@@ -127,7 +128,7 @@ fn transfers_of(
 /// The payload of the transfers of these items.
 fn pay_in(alloc: Global, members: &Members, parts: &[&[u8]]) -> Result<Bytes, Stop<Why>>
     requires { length parts.now ≤ transfer_limit }
-    ensures value { Gives (λ payload. payload) result (spec.pay_in members.now (map (λ part. part.now) parts.now)) }
+    ensures value { Finds result (spec.pay_in members.now (bytes_in parts.now)) }
     ensures fits { IfOk result (λ payload. length payload ≤ payload_limit) }
 {
     let transfers = transfers_of(alloc, members, parts)?;
@@ -139,7 +140,7 @@ fn pay_in(alloc: Global, members: &Members, parts: &[&[u8]]) -> Result<Bytes, St
 
 /// The payload of the transfers behind `pay:`.
 fn pay_of(alloc: Global, members: &Members, text: &[u8]) -> Result<Bytes, Stop<Why>>
-    ensures value { Gives (λ payload. payload) result (spec.pay_of members.now text.now) }
+    ensures value { Finds result (spec.pay_of members.now text.now) }
     ensures fits { IfOk result (λ payload. length payload ≤ payload_limit) }
 {
     if !has_few_parts(text) {
@@ -154,7 +155,7 @@ fn pay_of(alloc: Global, members: &Members, text: &[u8]) -> Result<Bytes, Stop<W
 
 /// The bytes of at most 2,048 hexadecimal digits.
 fn hex_of(alloc: Global, digits: &[u8]) -> Result<Bytes, Stop<Why>>
-    ensures value { Gives (λ payload. payload) result (spec.hex_of digits.now) }
+    ensures value { Finds result (spec.hex_of digits.now) }
     ensures fits { IfOk result (λ payload. length payload ≤ payload_limit) }
 {
     match digits_form(alloc, 0, 2048, digits)? {
@@ -164,7 +165,7 @@ fn hex_of(alloc: Global, digits: &[u8]) -> Result<Bytes, Stop<Why>>
 }
 
 fn payload_word(alloc: Global, members: &Members, word: &[u8]) -> Result<Bytes, Stop<Why>>
-    ensures value { Gives (λ payload. payload) result (spec.payload_word members.now word.now) }
+    ensures value { Finds result (spec.payload_word members.now word.now) }
     ensures fits { IfOk result (λ payload. length payload ≤ payload_limit) }
 {
     if let Some(digits) = word.strip_prefix(b"hex:".as_slice()) {
@@ -178,7 +179,7 @@ fn payload_word(alloc: Global, members: &Members, word: &[u8]) -> Result<Bytes, 
 
 /// The payload that the word tells, or an empty one without the word.
 pub fn payload_of(alloc: Global, members: &Members, word: Option<&[u8]>) -> Result<Bytes, Stop<Why>>
-    ensures value { Gives (λ payload. payload) result (spec.payload_of members.now (option_copied word.entry)) }
+    ensures value { Finds result (spec.payload_of members.now (option_copied word.entry)) }
     ensures fits { IfOk result (λ payload. length payload ≤ payload_limit) }
 {
     match word {

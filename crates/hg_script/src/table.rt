@@ -1,7 +1,7 @@
-ghost use Rattle.std.specs.Prelude.{◌≡◌, map, IfOk};
+ghost use Rattle.std.specs.Prelude.{◌≡◌, IfOk};
 ghost use Rattle.std.specs.Option.{option_copied};
 ghost use Rattle.hg_model.specs.Members.{MemberList};
-ghost use Rattle.hg_model.specs.Results.{Gives};
+ghost use Rattle.hg_script.specs.Words.{Finds, bytes_in};
 ghost use Rattle.hg_script.specs.Lawful.{IsFound};
 ghost use Rattle.hg_script.specs.Table as spec;
 ghost use Rattle.hg_script.specs.declared.line.Action.TheVariants.{Label};
@@ -39,7 +39,7 @@ fn create<'a>(
     t: &[u8],
     p: Option<&[u8]>,
 ) -> Result<Found<'a>, Stop<Why>>
-    ensures value { Gives (λ found. found) result (spec.create members.now above.now x.now t.now (option_copied p.entry)) }
+    ensures value { Finds result (spec.create members.now above.now x.now t.now (option_copied p.entry)) }
     ensures lawful { IfOk result (IsFound members.now above.now) }
 {
     let member = node_of(members, x)?;
@@ -61,7 +61,7 @@ fn create_line<'a>(
     above: &Above<'_>,
     arguments: &[&[u8]],
 ) -> Result<Found<'a>, Stop<Why>>
-    ensures value { Gives (λ found. found) result (spec.two_or_three (spec.create members.now above.now) (map (λ word. word.now) arguments.now)) }
+    ensures value { Finds result (spec.two_or_three (spec.create members.now above.now) (bytes_in arguments.now)) }
     ensures lawful { IfOk result (IsFound members.now above.now) }
 {
     match arguments {
@@ -81,7 +81,7 @@ fn sync<'a>(
     t: &[u8],
     p: Option<&[u8]>,
 ) -> Result<Found<'a>, Stop<Why>>
-    ensures value { Gives (λ found. found) result (spec.sync members.now above.now x.now y.now t.now (option_copied p.entry)) }
+    ensures value { Finds result (spec.sync members.now above.now x.now y.now t.now (option_copied p.entry)) }
     ensures lawful { IfOk result (IsFound members.now above.now) }
 {
     let taker = node_of(members, x)?;
@@ -105,7 +105,7 @@ fn sync_line<'a>(
     above: &Above<'_>,
     arguments: &[&[u8]],
 ) -> Result<Found<'a>, Stop<Why>>
-    ensures value { Gives (λ found. found) result (spec.three_or_four (spec.sync members.now above.now) (map (λ word. word.now) arguments.now)) }
+    ensures value { Finds result (spec.three_or_four (spec.sync members.now above.now) (bytes_in arguments.now)) }
     ensures lawful { IfOk result (IsFound members.now above.now) }
 {
     match arguments {
@@ -135,7 +135,7 @@ fn join<'a>(
     t: &[u8],
     p: Option<&[u8]>,
 ) -> Result<Found<'a>, Stop<Why>>
-    ensures value { Gives (λ found. found) result (spec.join members.now above.now x.now l.now t.now (option_copied p.entry)) }
+    ensures value { Finds result (spec.join members.now above.now x.now l.now t.now (option_copied p.entry)) }
     ensures lawful { IfOk result (IsFound members.now above.now) }
 {
     let member = node_of(members, x)?;
@@ -159,7 +159,7 @@ fn join_line<'a>(
     above: &Above<'_>,
     arguments: &[&[u8]],
 ) -> Result<Found<'a>, Stop<Why>>
-    ensures value { Gives (λ found. found) result (spec.three_or_four (spec.join members.now above.now) (map (λ word. word.now) arguments.now)) }
+    ensures value { Finds result (spec.three_or_four (spec.join members.now above.now) (bytes_in arguments.now)) }
     ensures lawful { IfOk result (IsFound members.now above.now) }
 {
     match arguments {
@@ -191,7 +191,7 @@ fn forge<'a>(
     t: &[u8],
     p: Option<&[u8]>,
 ) -> Result<Found<'a>, Stop<Why>>
-    ensures value { Gives (λ found. found) result (spec.forge members.now above.now l.now m.now s.now o.now t.now (option_copied p.entry)) }
+    ensures value { Finds result (spec.forge members.now above.now l.now m.now s.now o.now t.now (option_copied p.entry)) }
     ensures lawful { IfOk result (IsFound members.now above.now) }
 {
     let label = new_label(above, l)?;
@@ -216,7 +216,7 @@ fn forge_line<'a>(
     above: &Above<'_>,
     arguments: &[&'a [u8]],
 ) -> Result<Found<'a>, Stop<Why>>
-    ensures value { Gives (λ found. found) result (spec.five_or_six (spec.forge members.now above.now) (map (λ word. word.now) arguments.now)) }
+    ensures value { Finds result (spec.five_or_six (spec.forge members.now above.now) (bytes_in arguments.now)) }
     ensures lawful { IfOk result (IsFound members.now above.now) }
 {
     match arguments {
@@ -228,7 +228,7 @@ fn forge_line<'a>(
 
 #[tactic(auto, unfolding(crate::specs::Table::raw))]
 fn raw<'a>(alloc: Global, above: &Above<'_>, l: &'a [u8], h: &[u8]) -> Result<Found<'a>, Stop<Why>>
-    ensures value { Gives (λ found. found) result (spec.raw above.now l.now h.now) }
+    ensures value { Finds result (spec.raw above.now l.now h.now) }
     ensures lawful { (members : MemberList) → IfOk result (IsFound members above.now) }
 {
     let label = new_label(above, l)?;
@@ -307,7 +307,7 @@ fn line_by<'a>(
     verb: Verb,
     arguments: &[&'a [u8]],
 ) -> Result<Found<'a>, Stop<Why>>
-    ensures value { Gives (λ found. found) result (spec.line_by members.now above.now verb (map (λ word. word.now) arguments.now)) }
+    ensures value { Finds result (spec.line_by members.now above.now verb (bytes_in arguments.now)) }
     ensures lawful { IfOk result (IsFound members.now above.now) }
 {
     match (verb, arguments) {
@@ -342,7 +342,7 @@ pub fn found_by<'a>(
     word: &[u8],
     arguments: &[&'a [u8]],
 ) -> Result<Found<'a>, Stop<Why>>
-    ensures value { Gives (λ found. found) result (spec.found_by members.now above.now word.now (map (λ word. word.now) arguments.now)) }
+    ensures value { Finds result (spec.found_by members.now above.now word.now (bytes_in arguments.now)) }
     ensures lawful { IfOk result (IsFound members.now above.now) }
 {
     match Verb::of(word) {

@@ -1,5 +1,6 @@
-ghost use Rattle.std.specs.Prelude.{◌≡◌, ◌<◌, ◌∷◌, length, map, position, take, IfOk};
+ghost use Rattle.std.specs.Prelude.{◌≡◌, ◌<◌, ◌∷◌, length, position, take, IfOk};
 ghost use Rattle.std.specs.Str.Lines.{lines, strip_carriage_return};
+ghost use Rattle.hg_script.specs.Words.{bytes_in};
 ghost use Rattle.hg_script.specs.Script as spec;
 
 use std::alloc::{AllocError, Global};
@@ -15,7 +16,7 @@ fn is_blank(byte: u8) -> bool
 
 /// The words of a line, or the first `MOST_WORDS` of more.
 pub fn words_of<'a>(alloc: Global, line: &'a [u8]) -> Result<Vec<&'a [u8]>, AllocError>
-    ensures { IfOk result (λ words. map (λ word. word.now) words.items ≡ take MOST_WORDS (spec.words_of line.now)) }
+    ensures { IfOk result (λ words. bytes_in words.items ≡ take MOST_WORDS (spec.words_of line.now)) }
 {
     line.split(|byte| is_blank(*byte))
         .filter(|part| !part.is_empty())
