@@ -1,5 +1,5 @@
 -- What a status is to the outside: a line on standard error, and an exit status
-use Rattle.std.specs.Prelude.{ℕ, ◌⊎◌, List, ◌++◌, Option, codes}
+use Rattle.std.specs.Prelude.{ℕ, ◌⊎◌, List, ◌++◌, codes}
 use Rattle.std.specs.Fmt.{decimal}
 use Rattle.hg_io.specs.Bytes.{Appends, AppendsPart}
 use Rattle.hg_io.specs.Faults.{Rose}

@@ -1,5 +1,5 @@
 -- What comes of reading the two files
-use Rattle.std.specs.Prelude.{ℕ, ◌≡◌, List, Option, Some, Ok, Err, IfSome, IsSomeAnd, ⊤}
+use Rattle.std.specs.Prelude.{ℕ, ◌≡◌, List, Option, Ok, Err, IfSome, IsSomeAnd, ⊤}
 use Rattle.hg_io.specs.Bytes.{Appends, AppendsPart}
 use Rattle.hg_io.specs.Faults.{Rose}
 use Rattle.hg_io.specs.Files.{Files, content_of}
