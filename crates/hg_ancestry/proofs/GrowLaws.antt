@@ -4,6 +4,7 @@ use Rattle.std.specs.List.{list_any}
 use Rattle.std.proofs.lemmas.Bool.{cases_lt}
 use Rattle.std.proofs.lemmas.List.{length_push, length-take-le, get_or_append_left, get_or_push, get_or-take}
 use Rattle.hg_model.specs.Places.{table}
+use Rattle.hg_model.specs.Stakes.{Stakes, member_count}
 use Rattle.hg_model.specs.Links.{Link, links, parents}
 use Rattle.hg_model.specs.Ancestry.{is_ancestor}
 use Rattle.hg_model.specs.Forks.{has_fork_below}
@@ -22,7 +23,7 @@ use Rattle.hg_ancestry.specs.Held.{is_above, row_at, HoldsSight}
 
 -- nothing
 
-pub sight_none : (n : ℕ) → n ≤ 128 → HoldsSight n [] [] []
+pub sight_none : (n : Stakes) → member_count n ≤ 128 → HoldsSight n [] [] []
 unfolding links
 sight_none n few = record {
   shaped = shaped-none n;
@@ -34,7 +35,7 @@ sight_none n few = record {
 
 -- one row more
 
-module _ (n : ℕ) (L : List Link) (link : Link) (s : IsShaped n L) (fits : FitsLink n L link) where
+module _ (n : Stakes) (L : List Link) (link : Link) (s : IsShaped n L) (fits : FitsLink n L link) where
   pub parents_last : parents (L ++ link ∷ []) (length L) ≡ link.parents
   parents_last = parents_read (L ++ link ∷ []) (length L) link (omega (arith, length_push L link)) (sym (get_or_push L link link (length L) refl))
 
@@ -81,7 +82,7 @@ module _ (n : ℕ) (L : List Link) (link : Link) (s : IsShaped n L) (fits : Fits
       }
 
 -- the first rows
-pub sight_take : (n : ℕ) (L : List Link) (rows : List (List Bool)) (masks : List ℕ) (len : ℕ) → len ≤ length L → HoldsSight n L rows masks →
+pub sight_take : (n : Stakes) (L : List Link) (rows : List (List Bool)) (masks : List ℕ) (len : ℕ) → len ≤ length L → HoldsSight n L rows masks →
     HoldsSight n (take len L) (take len rows) (take len masks)
 unfolding row_at
 sight_take n L rows masks len le held =
@@ -107,7 +108,7 @@ sight_take n L rows masks len le held =
     }
 
 -- its link's parents as they were given
-pub sight_grown : (n : ℕ) (L : List Link) (by : ℕ) (on : List ℕ) (rows : List (List Bool)) (masks : List ℕ) (row : List Bool) (mask : ℕ) →
+pub sight_grown : (n : Stakes) (L : List Link) (by : ℕ) (on : List ℕ) (rows : List (List Bool)) (masks : List ℕ) (row : List Bool) (mask : ℕ) →
     HoldsSight n L rows masks → FitsLink n L (link_of by on) → length L + 1 < 2 ^ 32 - 1 → row ≡ table (λ k. eqb k (length L) || is_above L on k) (length L + 1) →
     ((m : ℕ) → mask_has mask m ≡ has_fork_below (L ++ link_of by on ∷ []) (length L) m) → HoldsSight n (L ++ link_of by on ∷ []) (rows ++ row ∷ []) (masks ++ mask ∷ [])
 sight_grown n L by on rows masks row mask held fits short row_is mask_is = sight_more n L (link_of by on) held.shaped fits rows masks row mask held short row_is mask_is

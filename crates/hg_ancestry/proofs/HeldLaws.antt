@@ -4,6 +4,7 @@ use Rattle.std.proofs.lemmas.Bool.{cases_lt, false_from_ne_true}
 use Rattle.std.proofs.lemmas.List.{get_or_read, get_or_past, get_or-replicate, length-replicate}
 use Rattle.std.proofs.Math.Bool.{or-false}
 use Rattle.hg_model.specs.Places.{table, IsEarlier}
+use Rattle.hg_model.specs.Stakes.{Stakes}
 use Rattle.hg_model.specs.Links.{Link, parents}
 use Rattle.hg_model.specs.Ancestry.{is_ancestor}
 use Rattle.std.specs.List.{AllByRecursion}
@@ -69,11 +70,11 @@ filled_last test row n i is =
     (λ k h. is_in-table (λ k. eqb k i || is_in row k) n k h ∙ ap (λ b. eqb k i || b) (ap (λ r. is_in r k) is ∙ is_in-table test n k h)))
 
 -- the parents of a link that fits are there
-pub parents_there : (n : ℕ) (L : List Link) (by own other : ℕ) (on : List ℕ) → on ≡ own ∷ other ∷ [] → FitsLink n L (link_of by on) → (own < length L) × (other < length L)
+pub parents_there : (n : Stakes) (L : List Link) (by own other : ℕ) (on : List ℕ) → on ≡ own ∷ other ∷ [] → FitsLink n L (link_of by on) → (own < length L) × (other < length L)
 parents_there n L by own other on is fits = (
   (subst (λ (on : List ℕ). FitsLink n L (link_of by on)) is fits).earlier own (has_place_first own (other ∷ [])),
   (subst (λ (on : List ℕ). FitsLink n L (link_of by on)) is fits).earlier other (has_place_later own other (other ∷ []) (has_place_first other [])),
 )
 
-pub places_fit : (n : ℕ) (L : List Link) (by : ℕ) (on : List ℕ) → FitsLink n L (link_of by on) → AllByRecursion (λ p. p < length L) on
+pub places_fit : (n : Stakes) (L : List Link) (by : ℕ) (on : List ℕ) → FitsLink n L (link_of by on) → AllByRecursion (λ p. p < length L) on
 places_fit n L by on fits = places_below (length L) on fits.earlier

@@ -2,6 +2,7 @@
 use Rattle.std.proofs.Common.{◌≡◌, ℕ, ◌<◌, ◌≤◌, ◌||◌, ◌&&◌, not, eqb, true, false, Bool, List, [], ◌∷◌, ◌++◌, length, sym, subst, ◌∙◌, refl, inl, inr, ◌⊎◌, arith}
 use Rattle.std.proofs.lemmas.Bool.{cases_Bool, both_ways, false_from_ne_true, or_cases, or_left, or_right, and_parts, and_from, eq-eqb, eqb-true, not-true, not_from_false, true≢false}
 use Rattle.hg_model.specs.Places.{has_place, IsEarlier}
+use Rattle.hg_model.specs.Stakes.{Stakes}
 use Rattle.hg_model.specs.Links.{Link, parents, self_parent, first_place, creator}
 use Rattle.hg_model.specs.Ancestry.{is_ancestor, is_self_ancestor, some_ancestor}
 use Rattle.hg_model.specs.Forks.{is_fork, has_fork_below}
@@ -38,7 +39,7 @@ apart_from L e x z m a up none by_m =
     (and_from (not (is_ancestor L z a)) (eqb (creator L a) m) (not_from_false (is_ancestor L z a) none) (eq-eqb (creator L a) m by_m))
 
 -- a row without parents has no fork above it
-pub no_fork_alone : (n : ℕ) (L : List Link) (m by : ℕ) → IsShaped n L → FitsLink n L (link_of by []) → has_fork_below (L ++ link_of by [] ∷ []) (length L) m ≡ false
+pub no_fork_alone : (n : Stakes) (L : List Link) (m by : ℕ) → IsShaped n L → FitsLink n L (link_of by []) → has_fork_below (L ++ link_of by [] ∷ []) (length L) m ≡ false
 no_fork_alone n L m by s fits =
     let link : Link = link_of by [] in
     let M = L ++ link ∷ [] in
@@ -52,7 +53,7 @@ no_fork_alone n L m by s fits =
     let same : f.0 ≡ f.1 = sym (only f.0 f.2) ∙ only f.1 f.3 in
     absurd (both_ways (is_self_ancestor M f.0 f.1) f.4.not_above (subst (λ b. is_self_ancestor M f.0 b ≡ true) same (is_self_ancestor_self M e f.0))))
 
-module _ (n : ℕ) (L : List Link) (s : IsShaped n L) (by own other : ℕ) (fits : FitsLink n L (link_of by (own ∷ other ∷ []))) (m : ℕ) where
+module _ (n : Stakes) (L : List Link) (s : IsShaped n L) (by own other : ℕ) (fits : FitsLink n L (link_of by (own ∷ other ∷ []))) (m : ℕ) where
   abbrev pub new_link : Link
   new_link = link_of by (own ∷ other ∷ [])
 

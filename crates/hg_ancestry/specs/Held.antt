@@ -2,6 +2,7 @@
 use Rattle.std.specs.Prelude.{◌≡◌, ℕ, ◌+◌, ◌-◌, ◌<◌, ◌≤◌, ◌^◌, Bool, false, not, ◌&&◌, ◌==◌, List, [], length, get_or, replicate, Option, Some, None}
 use Rattle.std.specs.List.{list_any}
 use Rattle.hg_model.specs.Places.{table}
+use Rattle.hg_model.specs.Stakes.{Stakes, member_count}
 use Rattle.hg_model.specs.Links.{Link, creator}
 use Rattle.hg_model.specs.Ancestry.{is_ancestor, some_ancestor}
 use Rattle.hg_model.specs.Forks.{has_fork_below}
@@ -23,9 +24,9 @@ pub record HoldsForks (L : List Link) (masks : List ℕ) : Type 0 where
   pub mask : (x : ℕ) → x < length L → (m : ℕ) → mask_has (get_or masks x 0) m ≡ has_fork_below L x m
 
 -- of a shaped graph of few members both
-pub record HoldsSight (n : ℕ) (L : List Link) (rows : List (List Bool)) (masks : List ℕ) : Type 0 where
+pub record HoldsSight (n : Stakes) (L : List Link) (rows : List (List Bool)) (masks : List ℕ) : Type 0 where
   pub shaped : IsShaped n L
-  pub few : n ≤ 128
+  pub few : member_count n ≤ 128
   pub short : length L < 2 ^ 32 - 1
   pub ancestors : HoldsAncestors L rows
   pub forks : HoldsForks L masks

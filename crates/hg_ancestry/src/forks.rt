@@ -1,4 +1,5 @@
 ghost use Rattle.std.specs.Prelude.{◌≡◌, ◌<◌, ◌≤◌, ◌++◌, ◌∷◌, [], ◌||◌, ◌&&◌, ◌==◌, ℕ, length, take, IfOk};
+ghost use Rattle.hg_model.specs.Stakes.{member_count};
 ghost use Rattle.hg_model.specs.Forks.{has_fork_below};
 ghost use Rattle.hg_model.specs.Shape.{FitsLink, link_of};
 ghost use Rattle.hg_bits.specs.Masks.{mask_has};
@@ -28,7 +29,7 @@ pub fn forked_below_next(sight: &BitSight, on: Parents, by: Member) -> u128
 /// The members that have a row among the ancestors of the self-parent alone, or are the creator,
 /// and have another among the ancestors of the other-parent alone.
 fn new_forks(sight: &BitSight, own: usize, other: usize, by: Member) -> u128
-    requires member { by < sight.now.shape.members }
+    requires member { by < member_count sight.now.shape.members }
     requires own { own < length sight.now.shape.links }
     requires other { other < length sight.now.shape.links }
     ensures { (m : ℕ) → mask_has result m ≡ ((m == by || is_apart sight.now.shape.links own other m) && is_apart sight.now.shape.links other own m) }

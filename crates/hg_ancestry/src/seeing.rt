@@ -1,4 +1,5 @@
 ghost use Rattle.std.specs.Prelude.{◌≡◌, ◌<◌, ◌≤◌, ◌||◌, ◌&&◌, ◌==◌, ℕ, length};
+ghost use Rattle.hg_model.specs.Stakes.{member_count};
 ghost use Rattle.hg_model.specs.Links.{creator};
 ghost use Rattle.hg_model.specs.Ancestry.{is_ancestor};
 ghost use Rattle.hg_model.specs.Seeing.{sees, strongly_sees};
@@ -46,7 +47,7 @@ pub fn strongly_sees(sight: &BitSight, x: usize, y: usize) -> bool
 
 /// The set with the creator of row `z`, if row `z` is an ancestor of row `x` and sees row `y`.
 fn with_seer(mask: u128, sight: &BitSight, x: usize, y: usize, z: usize) -> u128
-    requires few { sight.now.shape.members ≤ 128 }
+    requires few { member_count sight.now.shape.members ≤ 128 }
     requires left { x < length sight.now.shape.links }
     requires right { y < length sight.now.shape.links }
     requires place { z < length sight.now.shape.links }

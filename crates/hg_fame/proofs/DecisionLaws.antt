@@ -4,6 +4,7 @@ use Rattle.std.proofs.lemmas.Bool.{cases_Bool, cases_lt, eq-eqb, and_left, and_r
 use Rattle.std.proofs.lemmas.List.{take_all}
 use Rattle.hg_model.specs.declared.ballot.Ballot.{Ballot}
 use Rattle.hg_model.specs.Places.{least_below}
+use Rattle.hg_model.specs.Stakes.{Stakes}
 use Rattle.hg_model.specs.Links.{Link}
 use Rattle.hg_model.specs.Rounds.{round_of, is_witness, last_round}
 use Rattle.hg_model.specs.Votes.{rounds_above, vote_of, decides}
@@ -21,16 +22,16 @@ use Rattle.hg_model.proofs.StandingLaws.{witnesses_in-standings, greatest_in-sta
 use Rattle.hg_fame.specs.Decisions.{first_decider, decision_by, decider_in, IsUndecided}
 use Rattle.hg_fame.proofs.FirstLaws.{find_here, find_none_more, find-list_below, in_key, first_by_key, some_not_none}
 
-last_round-bounds : (n : ℕ) (L : List Link) (y : ℕ) → y < length L → round_of n L y ≤ last_round n L
+last_round-bounds : (n : Stakes) (L : List Link) (y : ℕ) → y < length L → round_of n L y ≤ last_round n L
 unfolding last_round
 last_round-bounds n L y h = maximum_below_bounds (round_of n L) (length L) y h
 
 -- who is no witness, or of no later round, decides nothing
-decides_other : (n c : ℕ) (L : List Link) (coin : ℕ → Bool) (x y : ℕ) → is_witness n L y ≡ false → decides n c L coin x y ≡ false
+decides_other : (n : Stakes) (c : ℕ) (L : List Link) (coin : ℕ → Bool) (x y : ℕ) → is_witness n L y ≡ false → decides n c L coin x y ≡ false
 unfolding decides
 decides_other n c L coin x y other = and_left (is_witness n L y) _ other
 
-decides_below : (n c : ℕ) (L : List Link) (coin : ℕ → Bool) (x y : ℕ) → round_of n L y ≤ round_of n L x → decides n c L coin x y ≡ false
+decides_below : (n : Stakes) (c : ℕ) (L : List Link) (coin : ℕ → Bool) (x y : ℕ) → round_of n L y ≤ round_of n L x → decides n c L coin x y ≡ false
 unfolding decides
 decides_below n c L coin x y low =
     let none : ltb 1 (rounds_above n L x y) ≡ false = le-ltb 1 (rounds_above n L x y) (omega arith) in

@@ -4,6 +4,7 @@ use Rattle.std.specs.Int.{from_bool}
 use Rattle.std.proofs.lemmas.Bool.{cases_lt, cases_Bool, both_ways, false_from_ne_true, eqb-true, eq-eqb, true≢false}
 use Rattle.std.proofs.lemmas.List.{length_push, get_or_push}
 use Rattle.hg_model.specs.Places.{has_place}
+use Rattle.hg_model.specs.Stakes.{Stakes}
 use Rattle.hg_model.specs.Links.{Link, first_place, self_parent, creator}
 use Rattle.hg_model.specs.Ancestry.{is_self_ancestor}
 use Rattle.hg_model.specs.Forks.{has_fork}
@@ -27,7 +28,7 @@ is_forked Empty = false
 is_forked (Ends last) = false
 is_forked (Forked a b) = true
 
-module _ (n : ℕ) (L : List Link) (s : IsShaped n L) where
+module _ (n : Stakes) (L : List Link) (s : IsShaped n L) where
   none_without_rows : (m : ℕ) → ((x : ℕ) → x < length L → creator L x ≢ m) → has_fork L m ≡ false
   none_without_rows m none = false_from_ne_true (has_fork L m) (λ h.
       let found = has_fork_found L m h in none found.0 found.2 found.4.first)

@@ -4,6 +4,7 @@ use Rattle.std.proofs.lemmas.Bool.{true≢false}
 use Rattle.std.proofs.lemmas.List.{map-append, length-map}
 use Rattle.std.proofs.lemmas.Option.{slice_get-map}
 use Rattle.hg_model.specs.Places.{has_place, some_below}
+use Rattle.hg_model.specs.Stakes.{Stakes, member_count}
 use Rattle.hg_model.specs.Links.{Link, first_place, later_places, parents_in, creator_in, parents, self_parent, creator}
 use Rattle.hg_model.specs.Ancestry.{is_self_ancestor}
 use Rattle.hg_model.specs.Forks.{is_fork, has_fork, forkers}
@@ -58,11 +59,11 @@ module _ (L : List Link) where
       ∙ some_below-same (length L) (λ a. some_below (length L) (λ b. is_fork (own_links L) m a b)) (λ a. some_below (length L) (λ b. is_fork L m a b))
       (λ a ha. some_below-same (length L) (λ b. is_fork (own_links L) m a b) (λ b. is_fork L m a b) (λ b hb. is_fork-own m a b))
 
-  forkers-own : (n : ℕ) → forkers n (own_links L) ≡ forkers n L
+  forkers-own : (n : Stakes) → forkers n (own_links L) ≡ forkers n L
   unfolding forkers
-  forkers-own n = weight_below-same (λ _. 1) n (has_fork (own_links L)) (has_fork L) (λ m h. has_fork-own m)
+  forkers-own n = weight_below-same (λ _. 1) (member_count n) (has_fork (own_links L)) (has_fork L) (λ m h. has_fork-own m)
 
-  fits-own : (n : ℕ) (link : Link) → FitsLink n L link → FitsLink n (own_links L) (own_link link)
+  fits-own : (n : Stakes) (link : Link) → FitsLink n L link → FitsLink n (own_links L) (own_link link)
   fits-own n link fits = record {
     member = fits.member;
     earlier = λ p h. (let low : p < length L = fits.earlier p (first_of_places link.parents p h) in omega (arith, length-own L));
@@ -74,7 +75,7 @@ module _ (L : List Link) where
   unfolding own_links
   push-own link = map-append own_link L (link ∷ [])
 
-pub own_links_serve : (n : ℕ) (L : List Link) → OwnLinksServe n L
+pub own_links_serve : (n : Stakes) (L : List Link) → OwnLinksServe n L
 own_links_serve n L = record {
   long = length-own L;
   push = push-own L;
@@ -85,11 +86,11 @@ own_links_serve n L = record {
 }
 
 -- a row on no self-parent fits where its creator is a member
-pub fits_first : (n : ℕ) (L : List Link) (m : ℕ) → m < n → FitsLink n L (own_link_of m None)
+pub fits_first : (n : Stakes) (L : List Link) (m : ℕ) → m < member_count n → FitsLink n L (own_link_of m None)
 fits_first n L m member = fits_alone n L m member
 
 -- a row on a row by its creator fits
-pub fits_on_own : (n : ℕ) (L : List Link) (m own : ℕ) → m < n → own < length L → creator L own ≡ m → FitsLink n L (own_link_of m (Some own))
+pub fits_on_own : (n : Stakes) (L : List Link) (m own : ℕ) → m < member_count n → own < length L → creator L own ≡ m → FitsLink n L (own_link_of m (Some own))
 fits_on_own n L m own member there by_m = record {
   member = member;
   earlier = λ p h. (let same : own ≡ p = one_there own p h in omega arith);

@@ -1,5 +1,6 @@
 -- Links with their other-parents left out: what forks need of a graph
 use Rattle.std.specs.Prelude.{ℕ, ◌≡◌, List, [], ◌∷◌, ◌++◌, length, map, Option}
+use Rattle.hg_model.specs.Stakes.{Stakes}
 use Rattle.hg_model.specs.Links.{Link, first_place}
 use Rattle.hg_model.specs.Forks.{is_fork, has_fork, forkers}
 use Rattle.hg_model.specs.Shape.{Shape, FitsLink, shape_of, place_list}
@@ -21,7 +22,7 @@ abbrev pub own_shape : Shape → Shape
 own_shape shape = shape_of shape.members (own_links shape.links)
 
 -- a graph without its other-parents serves for forks: it grows as the graph does, and has the same forks
-pub record OwnLinksServe (n : ℕ) (L : List Link) : Type 0 where
+pub record OwnLinksServe (n : Stakes) (L : List Link) : Type 0 where
   pub long : length (own_links L) ≡ length L
   pub push : (link : Link) → own_links (L ++ link ∷ []) ≡ own_links L ++ own_link link ∷ []
   pub fits : (link : Link) → FitsLink n L link → FitsLink n (own_links L) (own_link link)
@@ -30,4 +31,4 @@ pub record OwnLinksServe (n : ℕ) (L : List Link) : Type 0 where
   pub forkers : forkers n (own_links L) ≡ forkers n L
 
 abbrev pub OwnLinksHaveForks : Type 0
-OwnLinksHaveForks = (n : ℕ) (L : List Link) → OwnLinksServe n L
+OwnLinksHaveForks = (n : Stakes) (L : List Link) → OwnLinksServe n L

@@ -1,4 +1,5 @@
 ghost use Rattle.std.specs.Prelude.{◌≡◌, ◌<◌, ◌≤◌, [], ◌∷◌, ◌++◌, Some, IfOk, OnOk};
+ghost use Rattle.hg_model.specs.Stakes.{member_count};
 ghost use Rattle.hg_model.specs.Forks.{forkers, has_fork};
 ghost use Rattle.hg_model.specs.Shape.{FitsLink, shape_of, with_link};
 ghost use Rattle.hg_forks.specs.Own.{own_link_of};
@@ -88,7 +89,7 @@ impl Watch {
 
     /// Two rows that are a fork by the member, the later one second; none exactly where it has no fork.
     pub fn pair_of(&self, m: Member) -> Option<(usize, usize)>
-        requires { m < self.now.shape.members }
+        requires { m < member_count self.now.shape.members }
         ensures { IsForkPair self.now.shape.links m result }
     {
         fork_in(line_at(&self.lines, m))

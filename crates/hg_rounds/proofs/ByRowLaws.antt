@@ -4,6 +4,7 @@ use Rattle.std.proofs.Math.Seq.{take-suc, take-length, take-append_seam}
 use Rattle.std.proofs.lemmas.Bool.{cases_lt, true≢false}
 use Rattle.std.proofs.lemmas.List.{length-take-le}
 use Rattle.hg_model.specs.Places.{has_place, IsEarlier}
+use Rattle.hg_model.specs.Stakes.{Stakes}
 use Rattle.hg_model.specs.Links.{Link, parents}
 use Rattle.hg_model.specs.Standings.{standing_of, standings_of}
 use Rattle.hg_model.proofs.LinkLaws.{parents_past}
@@ -20,7 +21,7 @@ split_last L last long =
     let inside : last < length L = omega arith in
     (get_or L last nowhere, sym (sym (take-suc L last nowhere inside) ∙ (ap (λ k. take k L) (sym (long ∙ add-one last)) ∙ take-length L)))
 
-pub standings_last_by : (n : ℕ) (L : List Link) (last : ℕ) → IsEarlier (parents (take last L)) → length L ≡ last + 1 →
+pub standings_last_by : (n : Stakes) (L : List Link) (last : ℕ) → IsEarlier (parents (take last L)) → length L ≡ last + 1 →
     standings_of n L ≡ standings_of n (take last L) ++ standing_of n L last ∷ []
 standings_last_by n L last e long =
     let split = split_last L last long in
@@ -30,7 +31,7 @@ standings_last_by n L last e long =
     ∙ ap₂ (λ (M : List Link) (k : ℕ). standings_of n (take last L) ++ standing_of n M k ∷ []) (sym split.1) first_long)
 
 -- the standings of all rows are those of the rows before the last, and the last row's
-pub standings_last : (n : ℕ) (L : List Link) → IsShaped n L → (last : ℕ) → length L ≡ last + 1 →
+pub standings_last : (n : Stakes) (L : List Link) → IsShaped n L → (last : ℕ) → length L ≡ last + 1 →
     standings_of n L ≡ standings_of n (take last L) ++ standing_of n L last ∷ []
 standings_last n L shaped last long = standings_last_by n L last (shaped-take n L last (omega arith) shaped).earlier long
 
@@ -51,7 +52,7 @@ take_one_less L k le =
     ∙ (ap (λ j. take j (rows ++ one)) (sym (length-take-le k L (omega arith))) ∙ take-append_seam rows one)
 
 -- the first k rows
-by_row_to : (n : ℕ) (L : List Link) → IsEarlier (parents L) → (k : ℕ) → k ≤ length L → standings_by_row n L k ≡ standings_of n (take k L)
+by_row_to : (n : Stakes) (L : List Link) → IsEarlier (parents L) → (k : ℕ) → k ≤ length L → standings_by_row n L k ≡ standings_of n (take k L)
 unfolding standings_of
 by_row_to n L e zero le = refl
 by_row_to n L e (suc k) le =

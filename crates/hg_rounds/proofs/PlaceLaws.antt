@@ -3,13 +3,14 @@ use Rattle.std.proofs.Common.{◌≡◌, ℕ, ◌+◌, ◌-◌, ◌<◌, ◌≤�
 use Rattle.std.specs.List.{list_all, AllByRecursion}
 use Rattle.std.proofs.lemmas.Bool.{cases_eq}
 use Rattle.std.proofs.lemmas.List.{length-take-le}
-use Rattle.hg_model.specs.Places.{count_below, list_below}
+use Rattle.hg_model.specs.Places.{list_below}
+use Rattle.hg_model.specs.Stakes.{Stakes, member_count, total}
 use Rattle.hg_model.specs.Links.{Link, first_place, parents, self_parent}
 use Rattle.hg_model.specs.Seeing.{is_supermajority, strongly_sees}
-use Rattle.hg_model.specs.Rounds.{parent_round, is_seen_witness, round_of, is_witness}
+use Rattle.hg_model.specs.Rounds.{parent_round, is_seen_witness, round_of, is_witness, weight_of}
 use Rattle.hg_model.specs.Graph.{IsShaped}
 use Rattle.hg_model.specs.Standings.{Standing, standings_of, round_at, witnesses_in, greatest_in}
-use Rattle.hg_model.proofs.PlacesLaws.{list_below-same, maximum_below_bounds}
+use Rattle.hg_model.proofs.PlacesLaws.{list_below-same, maximum_below_bounds, total-count}
 use Rattle.hg_model.proofs.ListLaws.{count_by-list_below, length-list_below-le, all_list_below}
 use Rattle.hg_model.proofs.LinkLaws.{parents_below}
 use Rattle.hg_model.proofs.RoundLaws.{greatest_round-same, greatest_round_found, list_all-same, round_of-at, round_of_cases, round_of-pos, round_of-le}
@@ -19,7 +20,7 @@ use Rattle.hg_model.proofs.StandingLaws.{length-standings, round_at-standings, w
 use Rattle.hg_rounds.specs.Tabled.{standing}
 use Rattle.hg_rounds.proofs.ByRowLaws.{standings_last}
 
-module _ (n : ℕ) (L : List Link) (shaped : IsShaped n L) (some : 0 < length L) (S : List Standing) (is : S ≡ standings_of n (take (length L - 1) L)) where
+module _ (n : Stakes) (L : List Link) (shaped : IsShaped n L) (some : 0 < length L) (S : List Standing) (is : S ≡ standings_of n (take (length L - 1) L)) where
   abbrev pub last : ℕ
   last = length L - 1
 
@@ -66,18 +67,19 @@ module _ (n : ℕ) (L : List Link) (shaped : IsShaped n L) (some : 0 < length L)
   witnesses_few r =
       omega (arith, ap (λ (xs : List ℕ). length xs) (witnesses_known r), length-list_below-le (λ (x : ℕ). x) last (λ x. is_witness n L x && eqb (round_of n L x) r))
 
-  -- how many of them the last row strongly sees
-  pub seen_known : (r : ℕ) → count_by (strongly_sees n L last) (witnesses_in S r) ≡ count_below last (is_seen_witness (round_of n L) n L r last)
+  -- what those weigh that the last row strongly sees: each 1
+  pub seen_known : (r : ℕ) → count_by (strongly_sees n L last) (witnesses_in S r) ≡ weight_of n L last (is_seen_witness (round_of n L) n L r last)
   unfolding is_witness
   seen_known r = ap (count_by (strongly_sees n L last)) (witnesses_known r) ∙ count_by-list_below (strongly_sees n L last) last (λ x. is_witness n L x && eqb (round_of n L x) r)
 
   -- the round of the last row
   pub last_round_known : (r seen : ℕ) (many : Bool) → r ≡ parent_round (round_at S) (parents L last) → seen ≡ count_by (strongly_sees n L last) (witnesses_in S r) →
-      many ≡ is_supermajority n seen → cond many (r + 1) r ≡ round_of n L last
+      many ≡ is_supermajority (member_count n) seen → cond many (r + 1) r ≡ round_of n L last
   last_round_known r seen many r_is seen_is many_is =
       let r_known : r ≡ parent_round (round_of n L) (parents L last) = r_is ∙ greatest_known in
-      let seen_count : seen ≡ count_below last (is_seen_witness (round_of n L) n L r last) = seen_is ∙ seen_known r in
-      sym (round_of-at n L shaped.earlier last ∙ rw (← r_known, ← seen_count, ← many_is) refl)
+      let seen_count : seen ≡ weight_of n L last (is_seen_witness (round_of n L) n L r last) = seen_is ∙ seen_known r in
+      let over : many ≡ is_supermajority (total n) seen = many_is ∙ ap (λ all. is_supermajority all seen) (sym (total-count n)) in
+      sym (round_of-at n L shaped.earlier last ∙ rw (← r_known, ← seen_count, ← over) refl)
 
   last_round_fits : round_of n L last ≤ last + 1
   last_round_fits = round_of-le n L shaped.earlier last

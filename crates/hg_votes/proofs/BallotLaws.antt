@@ -4,15 +4,16 @@ use Rattle.std.specs.List.{AllByRecursion}
 use Rattle.std.proofs.lemmas.Bool.{cases_Bool, eq-eqb, ne_eqb, and_left, and_right, false_from_ne_true}
 use Rattle.hg_model.specs.declared.row.Row.{Row}
 use Rattle.hg_model.specs.declared.ballot.Ballot.{Ballot}
-use Rattle.hg_model.specs.Places.{count_below, IsEarlier}
+use Rattle.hg_model.specs.Places.{IsEarlier}
+use Rattle.hg_model.specs.Stakes.{member_count, total}
 use Rattle.hg_model.specs.Links.{parents}
 use Rattle.hg_model.specs.Seeing.{sees}
-use Rattle.hg_model.specs.Rounds.{round_of, is_witness}
+use Rattle.hg_model.specs.Rounds.{round_of, is_witness, weight_of}
 use Rattle.hg_model.specs.Votes.{is_voter, weighed_vote, weighed_decides, yes_votes, no_votes, rounds_above, vote_of, decides}
 use Rattle.hg_model.specs.Order.{row_sig, middle_bit, coin_at}
 use Rattle.hg_model.specs.Prefix.{Graph, IsCounted, ballot_of, links_of}
 use Rattle.hg_model.proofs.SeenLaws.{seen_witness_is}
-use Rattle.hg_model.proofs.PlacesLaws.{weight_below-same, weight_below-longer}
+use Rattle.hg_model.proofs.PlacesLaws.{weight_below-same, weight_below-longer, total-count}
 use Rattle.hg_model.proofs.ListLaws.{count_by-list_below, length-list_below-le, all_list_below}
 use Rattle.hg_model.proofs.VoteLaws.{vote_of-at}
 use Rattle.hg_votes.specs.declared.tally.Tally.{Tally}
@@ -47,8 +48,8 @@ module _ (g : Graph) (x y : ℕ) (counted : IsCounted g x (round_of g.members (l
       let no_count = no_votes n L (vote_of n g.coin L coin x) y in
       let vote_same : vote ≡ vote_of n g.coin L coin x y =
       vote_is ∙ sym (vote_of-at n g.coin L coin x y
-      ∙ ap (λ b. cond b (sees L y x) (weighed_vote n g.coin (rounds_above n L x y) yes_count no_count (coin y))) (eq-eqb (rounds_above n L x y) 1 at_one)) in
-      let none : weighed_decides n g.coin (rounds_above n L x y) yes_count no_count ≡ false = rw at_one refl in
+      ∙ ap (λ b. cond b (sees L y x) (weighed_vote (total n) g.coin (rounds_above n L x y) yes_count no_count (coin y))) (eq-eqb (rounds_above n L x y) 1 at_one)) in
+      let none : weighed_decides (total n) g.coin (rounds_above n L x y) yes_count no_count ≡ false = rw at_one refl in
       ap₂ (λ v d. record { vote = v; decides = d }) vote_same (sym (and_right (is_witness n L y) _ none))
 
   module _ (e : IsEarlier (parents (links_of g))) (far : rounds_above g.members (links_of g) x y ≢ 1) (ballots : List Ballot)
@@ -70,7 +71,7 @@ module _ (g : Graph) (x y : ℕ) (counted : IsCounted g x (round_of g.members (l
         ap (λ (b : Ballot). b.vote) (before.at w known)
 
     counted_as : (f : Bool → Bool) →
-        count_by (λ w. f (vote_at ballots w)) (voters_of g y) ≡ count_below y (λ w. is_voter g.members (links_of g) y w && f (vote_of g.members g.coin (links_of g) (coin_at g.rows) x w))
+        count_by (λ w. f (vote_at ballots w)) (voters_of g y) ≡ weight_of g.members (links_of g) y (λ w. is_voter g.members (links_of g) y w && f (vote_of g.members g.coin (links_of g) (coin_at g.rows) x w))
     unfolding voters_of
     counted_as f =
         let n = g.members in
@@ -87,7 +88,7 @@ module _ (g : Graph) (x y : ℕ) (counted : IsCounted g x (round_of g.members (l
 
     -- more rounds above x
     pub ballot_far : (voters : List ℕ) (above m period : ℕ) (bit : Bool) (tally : Tally) (weighed : Ballot) →
-        voters ≡ voters_of g y → above ≡ rounds_above g.members (links_of g) x y → m ≡ g.members → period ≡ g.coin → bit ≡ coin_at g.rows y →
+        voters ≡ voters_of g y → above ≡ rounds_above g.members (links_of g) x y → m ≡ member_count g.members → period ≡ g.coin → bit ≡ coin_at g.rows y →
         tally ≡ tally_of ballots voters → weighed ≡ record { vote = weighed_vote m period above tally.yes tally.no bit; decides = weighed_decides m period above tally.yes tally.no } →
         weighed ≡ ballot_of g x y
     unfolding decides
@@ -99,12 +100,13 @@ module _ (g : Graph) (x y : ℕ) (counted : IsCounted g x (round_of g.members (l
         let no_count = no_votes n L (vote_of n g.coin L coin x) y in
         let yes_same : tally.yes ≡ yes_count = ap (λ (t : Tally). t.yes) (tally_is ∙ ap (tally_of ballots) voters_is) ∙ counted_as (λ b. b) in
         let no_same : tally.no ≡ no_count = ap (λ (t : Tally). t.no) (tally_is ∙ ap (tally_of ballots) voters_is) ∙ counted_as not in
-        let vote_same : weighed_vote n g.coin (rounds_above n L x y) yes_count no_count (coin y) ≡ vote_of n g.coin L coin x y =
+        let vote_same : weighed_vote (total n) g.coin (rounds_above n L x y) yes_count no_count (coin y) ≡ vote_of n g.coin L coin x y =
         sym (vote_of-at n g.coin L coin x y
-        ∙ ap (λ b. cond b (sees L y x) (weighed_vote n g.coin (rounds_above n L x y) yes_count no_count (coin y))) (ne_eqb (rounds_above n L x y) 1 far)) in
-        let decides_same : weighed_decides n g.coin (rounds_above n L x y) yes_count no_count ≡ decides n g.coin L coin x y =
+        ∙ ap (λ b. cond b (sees L y x) (weighed_vote (total n) g.coin (rounds_above n L x y) yes_count no_count (coin y))) (ne_eqb (rounds_above n L x y) 1 far)) in
+        let decides_same : weighed_decides (total n) g.coin (rounds_above n L x y) yes_count no_count ≡ decides n g.coin L coin x y =
         (let witness : is_witness n L y ≡ true = counted.witness in rw witness refl) in
+        let all_is : m ≡ total n = m_is ∙ sym (total-count n) in
         let same : ◌≡◌ {A = Ballot} (record { vote = weighed_vote m period above tally.yes tally.no bit; decides = weighed_decides m period above tally.yes tally.no })
-        (record { vote = weighed_vote n g.coin (rounds_above n L x y) yes_count no_count (coin y); decides = weighed_decides n g.coin (rounds_above n L x y) yes_count no_count }) =
-        rw (m_is, period_is, above_is, yes_same, no_same, bit_is) refl in
+        (record { vote = weighed_vote (total n) g.coin (rounds_above n L x y) yes_count no_count (coin y); decides = weighed_decides (total n) g.coin (rounds_above n L x y) yes_count no_count }) =
+        rw (all_is, period_is, above_is, yes_same, no_same, bit_is) refl in
         weighed_is ∙ (same ∙ ap₂ (λ (v d : Bool). record { vote = v; decides = d }) vote_same decides_same)

@@ -4,6 +4,7 @@ use Rattle.std.specs.List.{AllByRecursion, filter}
 use Rattle.std.proofs.lemmas.Bool.{cases_lt}
 use Rattle.std.proofs.lemmas.List.{get_or_read_under}
 use Rattle.hg_model.specs.Places.{list_below, IsEarlier}
+use Rattle.hg_model.specs.Stakes.{Stakes}
 use Rattle.hg_model.specs.Links.{Link, parents}
 use Rattle.hg_model.specs.Seeing.{strongly_sees}
 use Rattle.hg_model.specs.Rounds.{round_of, is_witness}
@@ -22,7 +23,7 @@ use Rattle.hg_votes.specs.Tallies.{voters_of}
 use Rattle.hg_votes.specs.Counting.{HoldsVoters}
 
 -- the witnesses of a round are places of the graph
-pub witnesses_there : (n : ℕ) (L : List Link) (r m : ℕ) (S : List Standing) (ws : List ℕ) → S ≡ standings_of n L → ws ≡ witnesses_in S r → length L ≡ m → AllByRecursion (λ w. w < m) ws
+pub witnesses_there : (n : Stakes) (L : List Link) (r m : ℕ) (S : List Standing) (ws : List ℕ) → S ≡ standings_of n L → ws ≡ witnesses_in S r → length L ≡ m → AllByRecursion (λ w. w < m) ws
 witnesses_there n L r m S ws matches is long =
     rw (is, matches, witnesses_in-standings n L r) (all_list_below (λ w. w < m) (λ w. w) (length L) (λ w. is_witness n L w && eqb (round_of n L w) r) (λ k h e. omega arith))
 
@@ -39,7 +40,7 @@ voters_found g y r shape S ws seen shaped matches before is found =
     ∙ ap (λ len. list_below (λ w. w) len (is_voter n L y)) (length-links g.rows)))
 
 -- a voter stands below who it votes for
-pub voter_below : (n : ℕ) (L : List Link) → IsEarlier (parents L) → (y w : ℕ) → is_voter n L y w ≡ true → w < y
+pub voter_below : (n : Stakes) (L : List Link) → IsEarlier (parents L) → (y w : ℕ) → is_voter n L y w ≡ true → w < y
 voter_below n L e y w h =
     let seen = seen_witness_is n L (round_of n L y - 1) y w h in
     let le = is_ancestor-le L e y w (strongly_sees-is_ancestor L e n y w seen.seen) in
