@@ -8,10 +8,12 @@ use Rattle.hg_model.specs.declared.answers.Fault.TheVariants as fault
 use Rattle.hg_model.specs.declared.answers.PutAnswer.TheVariants.{Refused}
 use Rattle.hg_model.specs.declared.answers.MakeAnswer.TheVariants as make_answer
 use Rattle.hg_model.specs.declared.answers.SyncMade.TheVariants as sync_made
+use Rattle.hg_model.specs.declared.outcome.OrderLine.{OrderLine}
 use Rattle.hg_model.specs.declared.outcome.Printed.TheVariants as printed
+use Rattle.hg_model.specs.declared.members.MemberEntry.{MemberEntry}
 use Rattle.hg_model.specs.declared.pay.Transfer.{Transfer}
 use Rattle.hg_model.specs.declared.pay.Effect.TheVariants as effect
-use Rattle.hg_model.specs.Places.{weight_below, some_below, list_below, least_below, greatest_below, values_below, by_place, reaches, table}
+use Rattle.hg_model.specs.Places.{weight_below, some_below, list_below, least_below, greatest_below, maximum_below, values_below, by_place, reaches, table}
 use Rattle.hg_model.specs.Stakes.{Stakes, total}
 use Rattle.hg_model.specs.Links.{links, parents, self_parent, other_parents, creator}
 use Rattle.hg_model.specs.Ancestry.{is_ancestor, is_self_ancestor}
@@ -19,12 +21,14 @@ use Rattle.hg_model.specs.Forks.{is_fork, has_fork_below, has_fork, forkers, for
 use Rattle.hg_model.specs.Seeing.{sees, sees_through, strongly_sees, sees_by, strongly_sees_in_report}
 use Rattle.hg_model.proofs.TestLaws.{graph_from_test, is_graph}
 use Rattle.hg_model.specs.Graph.{IsGraph, name_at}
-use Rattle.hg_model.specs.Rounds.{round_of, is_witness, is_seen_witness}
+use Rattle.hg_model.specs.Rounds.{round_of, is_witness, is_seen_witness, last_round}
 use Rattle.hg_model.specs.Votes.{weighed_vote, weighed_decides, yes_votes, no_votes, vote_of, decides}
 use Rattle.hg_model.specs.Fame.{fame_of, fame_marks, is_closed, is_unique_famous, Marks}
-use Rattle.hg_model.specs.Order.{coin_at, sig_at, time_at, sort_by, median, can_receive, round_received, consensus_time, whitening, ordered_in, ordered, last_closed}
+use Rattle.hg_model.specs.Order.{coin_at, sig_at, time_at, sort_by, median, can_receive, round_received, consensus_time, whitening, ordered_in, ordered, order_of, last_closed, sequence_of}
 use Rattle.hg_model.specs.Verdict.{row_verdict}
 use Rattle.hg_model.specs.Pay.{pay_bytes, read_pay, paid, book_of}
+use Rattle.hg_model.specs.Members.{listed}
+use Rattle.hg_model.specs.Ledger.{closed_of, block_of}
 use Rattle.hg_model.specs.Report.{printed_texts}
 
 -- the stakes of so many members
@@ -92,6 +96,39 @@ whitened_order = refl
 two_closed : last_closed (members 2) (links two_members) two_marks ≡ 2
 unfolding last_closed greatest_below is_closed is_witness round_of strongly_sees sees_through sees has_fork_below is_fork is_ancestor is_self_ancestor total weight_below some_below reaches by_place values_below parents self_parent creator links
 two_closed = refl
+
+two_greatest : last_round (members 2) (links two_members) ≡ 4
+unfolding last_round maximum_below round_of strongly_sees sees_through sees has_fork_below is_fork is_ancestor is_self_ancestor total weight_below some_below reaches by_place values_below parents self_parent creator links
+two_greatest = refl
+
+abbrev pub entry : List ℕ → ℕ → MemberEntry
+entry name balance = record { name = name; secret = 1 ∷ []; balance = balance; has_node = true }
+
+abbrev pub two_line : ℕ → ℕ → ℕ → OrderLine
+two_line creator sequence time =
+    record { creator = creator; sequence = sequence; received = 2; time = time; effect = effect.Empty; name = time ∷ [] }
+
+-- the second member's block
+two_block : block_of (listed (entry (codes "A") 5 ∷ entry (codes "B") 6 ∷ []) 10) 1 two_members ≡ record {
+  member = 1;
+  events = 8;
+  forkers = 0;
+  greatest = 4;
+  closed = 2;
+  order = two_line 0 0 1 ∷ two_line 1 0 2 ∷ two_line 0 1 3 ∷ two_line 1 1 4 ∷ [];
+  balances = 5 ∷ 6 ∷ [];
+}
+unfolding block_of closed_of order_of last_closed greatest_below last_round maximum_below sequence_of forkers has_fork book_of fame_marks fame_of least_below decides vote_of is_witness coin_at sig_at ordered_in whitening consensus_time median sort_by round_received can_receive is_closed is_unique_famous round_of strongly_sees sees_through sees has_fork_below is_fork is_ancestor is_self_ancestor total weight_below some_below list_below reaches by_place values_below parents self_parent creator links time_at name_at
+two_block = refl
+
+-- three first events, two of them by one member: where both of these are famous, neither is a unique famous witness
+abbrev pub rival_rows : List Row
+rival_rows = first 0 1 ∷ first 1 2 ∷ first 1 3 ∷ []
+
+rivals : (list_below (λ w. w) 3 (is_unique_famous (members 4) (links rival_rows) (Some true ∷ Some true ∷ Some true ∷ []) 1) ≡ 0 ∷ [])
+    × (list_below (λ w. w) 3 (is_unique_famous (members 4) (links rival_rows) (Some true ∷ Some true ∷ Some false ∷ []) 1) ≡ 0 ∷ 1 ∷ [])
+unfolding list_below is_unique_famous is_witness round_of strongly_sees sees_through sees has_fork_below is_fork is_ancestor is_self_ancestor total weight_below some_below reaches by_place values_below parents self_parent creator links
+rivals = (refl, refl)
 
 -- three members who sync in a ring; the third's second event claims an earlier time than its first
 abbrev pub three_members : List Row
