@@ -5,8 +5,9 @@ use Rattle.std.proofs.lemmas.List.{take_all, length_push, get_or_push}
 use Rattle.std.proofs.lemmas.Option.{slice_get-get_or, slice_get_past}
 use Rattle.hg_model.specs.declared.row.Row.{Row}
 use Rattle.hg_model.specs.Places.{some_below}
+use Rattle.hg_model.specs.Stakes.{Stakes, member_count, stake_of, total}
 use Rattle.hg_model.specs.Links.{Link, place_of, link_in, links, first_place, parents as parents_at}
-use Rattle.hg_model.specs.Forks.{has_fork, forkers}
+use Rattle.hg_model.specs.Forks.{has_fork, forkers, forking}
 use Rattle.hg_model.specs.Graph.{IsShaped, IsGraph}
 use Rattle.hg_model.specs.Shape.{Shape, FitsLink, first_links, shape_of, link_of, place_list, with_link}
 use Rattle.hg_model.specs.Standings.{Standing, standings_of}
@@ -28,13 +29,13 @@ use Rattle.hg_graph.proofs.NextLaws.{links_next, fits_last, name_next}
 
 -- without rows
 
-no_forkers : (n : ℕ) → forkers n (links []) ≡ 0
-unfolding forkers has_fork some_below links
-no_forkers n = weight_below_none (λ _. 1) n (has_fork (links [])) (λ m inside forks. absurd (true≢false (sym forks)))
+no_forkers : (n : Stakes) → forking n (links []) ≡ 0
+unfolding forking has_fork some_below links
+no_forkers n = weight_below_none (stake_of n) (member_count n) (has_fork (links [])) (λ m inside forks. absurd (true≢false (sym forks)))
 
-held_none : (n c : ℕ) → 0 < n → n ≤ 128 → 2 < c → IsHeld (graph_of n c [])
+held_none : (n : Stakes) (c : ℕ) → 0 < total n → member_count n ≤ 128 → 2 < c → IsHeld (graph_of n c [])
 held_none n c some few three = record {
-  some_members = some;
+  some_stake = some;
   few_members = few;
   coin = three;
   graph = record { distinct = distinct-none; shaped = shaped-none n; few_forkers = omega (arith, no_forkers n) };
@@ -45,7 +46,7 @@ held_none n c some few three = record {
     none_there : (x : ℕ) (row : Row) → slice_get [] x ≡ Some row → ⊥
     none_there x row is = (let gone = slice_get_past {X = Row} [] x (omega arith) in cc)
 
-pub keeps_none : (n c : ℕ) → 0 < n → n ≤ 128 → 2 < c → KeepsGraph (graph_of n c []) (shape_of n []) (shape_of n []) []
+pub keeps_none : (n : Stakes) (c : ℕ) → 0 < total n → member_count n ≤ 128 → 2 < c → KeepsGraph (graph_of n c []) (shape_of n []) (shape_of n []) []
 unfolding links own_links standings_of
 keeps_none n c some few three = record { held = held_none n c some few three; seen = refl; forked = refl; placed = refl }
 
@@ -71,15 +72,15 @@ events_with G row all here x r is = elim (cases_lt x (length G)) [
 
 -- without other-parents
 
-pub own_fits : (n : ℕ) (L : List Link) (m : ℕ) (parents : List ℕ) (own : Option ℕ) → place_list own ≡ first_place parents → FitsLink n L (link_of m parents) → FitsLink n (own_links L) (own_link_of m own)
+pub own_fits : (n : Stakes) (L : List Link) (m : ℕ) (parents : List ℕ) (own : Option ℕ) → place_list own ≡ first_place parents → FitsLink n L (link_of m parents) → FitsLink n (own_links L) (own_link_of m own)
 own_fits n L m parents own is fits =
     subst (λ (ps : List ℕ). FitsLink n (own_links L) (record { creator = m; parents = ps })) (sym is) ((own_links_serve n L).fits (link_of m parents) fits)
 
-own_push : (n : ℕ) (L : List Link) (m : ℕ) (parents : List ℕ) (own : Option ℕ) → place_list own ≡ first_place parents → own_links L ++ own_link_of m own ∷ [] ≡ own_links (L ++ link_of m parents ∷ [])
+own_push : (n : Stakes) (L : List Link) (m : ℕ) (parents : List ℕ) (own : Option ℕ) → place_list own ≡ first_place parents → own_links L ++ own_link_of m own ∷ [] ≡ own_links (L ++ link_of m parents ∷ [])
 own_push n L m parents own is =
     ap (λ (ps : List ℕ). own_links L ++ record { creator = m; parents = ps } ∷ []) is ∙ sym ((own_links_serve n L).push (link_of m parents))
 
-pub own_forkers : (n : ℕ) (L : List Link) (m : ℕ) (parents : List ℕ) (own : Option ℕ) → place_list own ≡ first_place parents → forkers n (own_links L ++ own_link_of m own ∷ []) ≡ forkers n (L ++ link_of m parents ∷ [])
+pub own_forkers : (n : Stakes) (L : List Link) (m : ℕ) (parents : List ℕ) (own : Option ℕ) → place_list own ≡ first_place parents → forkers n (own_links L ++ own_link_of m own ∷ []) ≡ forkers n (L ++ link_of m parents ∷ [])
 own_forkers n L m parents own is = ap (forkers n) (own_push n L m parents own is) ∙ (own_links_serve n (L ++ link_of m parents ∷ [])).forkers
 
 -- what a row needs, and does, that may come into a graph with these parents
@@ -97,7 +98,7 @@ module _ (g : Graph) (row : Row) (bytes : List ℕ) (parents : List ℕ) (held :
     (is : link_in g.rows row ≡ link_of row.creator parents) (graph : IsGraph g.members (g.rows ++ row ∷ [])) where
   held_with : IsHeld (graph_with g row)
   held_with = record {
-    some_members = held.some_members;
+    some_stake = held.some_stake;
     few_members = held.few_members;
     coin = held.coin;
     graph = graph;

@@ -6,6 +6,7 @@ use Rattle.std.proofs.lemmas.List.{length_push, get_or_append_left, get_or_push}
 use Rattle.std.proofs.lemmas.List.Sums.{position_or_len_is, fails_before_first, passes_at_first, prefix_len-le-length}
 use Rattle.hg_model.specs.declared.row.Row.{Row}
 use Rattle.hg_model.specs.Places.{has_place}
+use Rattle.hg_model.specs.Stakes.{Stakes}
 use Rattle.hg_model.specs.Links.{Link, parent_names, is_named, place_of, link_in, links, first_place, later_places, parents, self_parent, other_parents, creator}
 use Rattle.hg_model.specs.Graph.{name_at, IsShaped, HasDistinctNames}
 use Rattle.hg_model.specs.Fits.{AreHeld, IsPresent, Fits}
@@ -29,7 +30,7 @@ held_before G row [] low = tt
 held_before G row (name ∷ names) low = (let first = low.0 in (rw (place_before G row name first) first, held_before G row names low.1))
 
 -- the last row of a shaped graph has its parents among the others
-present_next : (n : ℕ) (G : List Row) (row : Row) → IsShaped n (links (G ++ row ∷ [])) → IsPresent G row
+present_next : (n : Stakes) (G : List Row) (row : Row) → IsShaped n (links (G ++ row ∷ [])) → IsPresent G row
 present_next n G row shaped =
     let U = G ++ row ∷ [] in
     record {
@@ -39,11 +40,11 @@ present_next n G row shaped =
     }
 
 -- a row of a shaped graph adds its link
-pub links_next : (n : ℕ) (G : List Row) (row : Row) → IsShaped n (links G) → IsShaped n (links (G ++ row ∷ [])) → links (G ++ row ∷ []) ≡ links G ++ link_in G row ∷ []
+pub links_next : (n : Stakes) (G : List Row) (row : Row) → IsShaped n (links G) → IsShaped n (links (G ++ row ∷ [])) → links (G ++ row ∷ []) ≡ links G ++ link_in G row ∷ []
 links_next n G row before shaped = links-push G row (all_present n G before) (present_next n G row shaped)
 
 -- the last link of a shaped graph fits
-pub fits_last : (n : ℕ) (L : List Link) (link : Link) → IsShaped n (L ++ link ∷ []) → FitsLink n L link
+pub fits_last : (n : Stakes) (L : List Link) (link : Link) → IsShaped n (L ++ link ∷ []) → FitsLink n L link
 unfolding self_parent other_parents
 fits_last n L link shaped =
     let x = length L in
@@ -63,7 +64,7 @@ fits_last n L link shaped =
     }
 
 -- a row that fits adds its link, which fits
-pub adds_link : (n : ℕ) (G : List Row) (row : Row) → IsShaped n (links G) → Fits n G row → AddsLink n G row
+pub adds_link : (n : Stakes) (G : List Row) (row : Row) → IsShaped n (links G) → Fits n G row → AddsLink n G row
 adds_link n G row shaped fits =
     let added = links-push G row (all_present n G shaped) fits.present in
     record { fits = fits_last n (links G) (link_in G row) (subst (IsShaped n) added (shaped-push n G row shaped fits)); added = added }

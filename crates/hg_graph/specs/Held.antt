@@ -3,6 +3,7 @@ use Rattle.std.specs.Prelude.{ℕ, ◌≡◌, ◌<◌, ◌≤◌, List, [], ◌�
 use Rattle.hg_model.specs.declared.row.Row.{Row}
 use Rattle.hg_model.specs.Shape.{Shape}
 use Rattle.hg_model.specs.Standings.{Standing}
+use Rattle.hg_model.specs.Stakes.{member_count, total}
 use Rattle.hg_model.specs.Spelling.{Spells, spelling}
 use Rattle.hg_model.specs.Verdict.{row_limit}
 use Rattle.hg_model.specs.Prefix.{Graph, graph_of}
@@ -24,8 +25,8 @@ AreEvents G = (x : ℕ) (row : Row) → slice_get G x ≡ Some row → Spells (s
 
 -- a graph of 1 to 128 members and of at most so many events as a node holds
 pub record IsHeld (g : Graph) : Type 0 where
-  pub some_members : 0 < g.members
-  pub few_members : g.members ≤ 128
+  pub some_stake : 0 < total g.members
+  pub few_members : member_count g.members ≤ 128
   pub coin : 2 < g.coin
   pub graph : IsLawfulGraph g
   pub events : AreEvents g.rows
