@@ -31,10 +31,10 @@ pub speaks_after : {K R E : Type 0} (v w : NodeView K) (es : List Change) (r : R
 speaks_after v w es (Ok x) ok err lasts gs all = speaks_later v w es ok lasts gs all
 speaks_after {K} v w es (Err e) ok err lasts gs all = subst (λ (s : NodeView K). All (SpeaksOf s) gs) (sym err) all
 
-pub speaks_made : {K E : Type 0} (accepts : K → Accepts) (v w : NodeView K) (other : Option (List ℕ)) (time : ℕ) (payload : List ℕ) (r : Result MakeAnswer E) →
-    IfOk r (λ answer. IsMaking accepts v other time payload answer w) → OnErr r (w ≡ v) → FoundLasts → (gs : List Graph) → All (SpeaksOf v) gs → All (SpeaksOf w) gs
-speaks_made accepts v w other time payload (Ok answer) ok err lasts gs all = speaks_later v w (make_changes v other time payload ok.sig) ok.grown lasts gs all
-speaks_made {K} accepts v w other time payload (Err e) ok err lasts gs all = subst (λ (s : NodeView K). All (SpeaksOf s) gs) (sym err) all
+pub speaks_made : {K E : Type 0} (accepts : K → Accepts) (v w : NodeView K) (others : List (List ℕ)) (time : ℕ) (payload : List ℕ) (r : Result MakeAnswer E) →
+    IfOk r (λ answer. IsMaking accepts v others time payload answer w) → OnErr r (w ≡ v) → FoundLasts → (gs : List Graph) → All (SpeaksOf v) gs → All (SpeaksOf w) gs
+speaks_made accepts v w others time payload (Ok answer) ok err lasts gs all = speaks_later v w (make_changes v others time payload ok.sig) ok.grown lasts gs all
+speaks_made {K} accepts v w others time payload (Err e) ok err lasts gs all = subst (λ (s : NodeView K). All (SpeaksOf s) gs) (sym err) all
 
 pub all_pushed : {X : Type 0} (P : X → Type 0) (xs ys : List X) (x : X) (b : Bool) → ys ≡ (if b then xs ++ x ∷ [] else xs) → P x → All P xs → All P ys
 all_pushed P xs ys x true is one all = subst (All P) (sym is) (All-push P xs x all one)

@@ -5,7 +5,7 @@ use Rattle.std.proofs.lemmas.Slice.Eq.{bytes_eq-Decides}
 use Rattle.std.proofs.lemmas.Option.{slice_get_read, slice_get_cases}
 use Rattle.hg_model.specs.declared.row.Row.{Row}
 use Rattle.hg_model.specs.Places.{has_place, IsEarlier}
-use Rattle.hg_model.specs.Links.{place_of, parent_names, first_place, links, parents, self_parent, creator}
+use Rattle.hg_model.specs.Links.{ParentNames, place_of, parent_names, first_place, links, parents, self_parent, creator}
 use Rattle.hg_model.specs.Graph.{creator_at, creator_of_row}
 use Rattle.hg_model.specs.Forks.{has_fork}
 use Rattle.hg_model.proofs.PlacesLaws.{some_below_from, some_below_found}
@@ -20,7 +20,7 @@ unfolding is_twin
 is_twin_read G x y a b hx hy is_a is_b = ap₂ is_twin_in (slice_get_read G (length G) x a refl hx is_a) (slice_get_read G (length G) y b refl hy is_b)
 
 -- equal names stand for equal places
-same_places : (G : List Row) (one two : Option (List ℕ × List ℕ)) → is_same_self_parent one two ≡ true →
+same_places : (G : List Row) (one two : ParentNames) → is_same_self_parent one two ≡ true →
     first_place (map (place_of G) (parent_names one)) ≡ first_place (map (place_of G) (parent_names two))
 same_places G None None h = refl
 same_places G None (Some other) h = absurd (true≢false (sym h))
@@ -32,7 +32,7 @@ earlier_of [] = 0
 earlier_of (p ∷ ps) = p
 
 -- and equal places, where there are rows, for equal names
-same_names : (G : List Row) (one two : Option (List ℕ × List ℕ)) →
+same_names : (G : List Row) (one two : ParentNames) →
     ((p : ℕ) → has_place (first_place (map (place_of G) (parent_names one))) p ≡ true → p < length G) →
     first_place (map (place_of G) (parent_names one)) ≡ first_place (map (place_of G) (parent_names two)) → is_same_self_parent one two ≡ true
 same_names G None None found same = refl

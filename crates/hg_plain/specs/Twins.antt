@@ -3,10 +3,10 @@ use Rattle.std.specs.Prelude.{ℕ, ◌≡◌, Bool, true, false, ◌&&◌, ◌==
 use Rattle.std.specs.Str.{bytes_eq}
 use Rattle.hg_model.specs.declared.row.Row.{Row}
 use Rattle.hg_model.specs.Places.{some_below, has_place}
-use Rattle.hg_model.specs.Links.{Link, creator, self_parent}
+use Rattle.hg_model.specs.Links.{Link, creator, self_parent, ParentNames}
 use Rattle.hg_model.specs.Graph.{creator_at}
 
-abbrev pub is_same_self_parent : Option (List ℕ × List ℕ) → Option (List ℕ × List ℕ) → Bool
+abbrev pub is_same_self_parent : ParentNames → ParentNames → Bool
 is_same_self_parent None None = true
 is_same_self_parent None (Some other) = false
 is_same_self_parent (Some names) None = false

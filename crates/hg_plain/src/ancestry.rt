@@ -87,7 +87,7 @@ pub fn any_parent(by: By, links: &[PlainLink], column: &[bool], x: usize) -> boo
     ensures { result ≡ list_any (λ p. slice_index_or column.now p false) (parents_by by links.now x) }
 {
     match by {
-        By::Parents => match parents_of(links, x) {
+        By::Parents => match parents_of(links, x).pair() {
             None => false,
             Some((own, other)) => column[own] || column[other],
         },

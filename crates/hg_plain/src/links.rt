@@ -2,9 +2,9 @@ ghost use Rattle.std.specs.Prelude.{◌≡◌, ◌<◌, length, map, position, I
 ghost use Rattle.hg_model.specs.Links.{creator, is_named, link_in, links, parent_names, parents, place_of, self_parent};
 ghost use Rattle.hg_model.specs.Places.{IsEarlier};
 ghost use Rattle.std.specs.List.{AllByRecursion};
-ghost use Rattle.hg_model.specs.Shape.{pair_list, place_list};
+ghost use Rattle.hg_model.specs.Shape.{place_list};
 
-use hg_model::{Member, Memory, Name, Row};
+use hg_model::{Member, Memory, Name, Parents, Row};
 use std::alloc::Global;
 use std::marker::Model;
 
@@ -12,16 +12,15 @@ use std::marker::Model;
 #[derive(Drop)]
 pub struct PlainLink {
     creator: Member,
-    parents: Option<(usize, usize)>,
+    parents: Parents,
 }
 
 impl Model for PlainLink {
     ghost use Rattle.hg_model.specs.Links.{Link};
-    ghost use Rattle.hg_model.specs.Shape.{pair_list};
 
     ghost Value = { Link };
 
-    ghost view = { λ s. record { creator = s.creator; parents = pair_list s.parents } };
+    ghost view = { λ s. record { creator = s.creator; parents = s.parents } };
 }
 
 /// The links of the rows, each parent looked up by its name.
@@ -46,12 +45,12 @@ fn link_in(rows: &[Row], row: &Row) -> PlainLink
 }
 
 /// The places of the rows with these names.
-fn places_of(rows: &[Row], names: &Option<(Name, Name)>) -> Option<(usize, usize)>
-    ensures { pair_list result ≡ map (place_of rows.now) (parent_names names.now) }
+fn places_of(rows: &[Row], names: &Option<(Name, Name)>) -> Parents
+    ensures { result ≡ map (place_of rows.now) (parent_names names.now) }
 {
     match names {
-        None => None,
-        Some(names) => Some((place_in(rows, &names.0), place_in(rows, &names.1))),
+        None => Parents::none(),
+        Some(names) => Parents::of(place_in(rows, &names.0), place_in(rows, &names.1)),
     }
 }
 
@@ -81,20 +80,20 @@ pub fn creator_of(links: &[PlainLink], x: usize) -> Member
 }
 
 /// The places of the parents of row `x`, the self-parent's first.
-pub fn parents_of(links: &[PlainLink], x: usize) -> Option<(usize, usize)>
+pub fn parents_of(links: &[PlainLink], x: usize) -> Parents
     requires place { x < length links.now }
     requires earlier { IsEarlier (parents links.now) }
-    ensures value { pair_list result ≡ parents links.now x }
-    ensures earlier { AllByRecursion (λ p. p < x) (pair_list result) }
+    ensures value { result ≡ parents links.now x }
+    ensures earlier { AllByRecursion (λ p. p < x) result }
 {
     listed_parents(links, x)
 }
 
 /// The same as it stands in the link, without a word on where.
 #[tactic(auto, using(hg_model::proofs::LinkLaws::link_reads))]
-fn listed_parents(links: &[PlainLink], x: usize) -> Option<(usize, usize)>
+fn listed_parents(links: &[PlainLink], x: usize) -> Parents
     requires { x < length links.now }
-    ensures { pair_list result ≡ parents links.now x }
+    ensures { result ≡ parents links.now x }
 {
     let link = &links[x];
     link.parents
@@ -108,7 +107,7 @@ pub fn self_parent_of(links: &[PlainLink], x: usize) -> Option<usize>
     ensures value { place_list result ≡ self_parent links.now x }
     ensures earlier { AllByRecursion (λ p. p < x) (place_list result) }
 {
-    match parents_of(links, x) {
+    match parents_of(links, x).pair() {
         None => None,
         Some((own, _)) => Some(own),
     }

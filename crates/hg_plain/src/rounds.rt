@@ -48,7 +48,7 @@ fn parent_round(links: &[PlainLink], rounds: &[u32], x: usize) -> u32
     requires known { x ≤ length rounds.now }
     ensures { result ≡ parent_round (λ p. slice_index rounds.now p) (parents links.now x) }
 {
-    match parents_of(links, x) {
+    match parents_of(links, x).pair() {
         None => 1,
         Some((own, other)) => rounds[own].max(rounds[other].max(1)),
     }

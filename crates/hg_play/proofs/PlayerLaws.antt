@@ -60,30 +60,30 @@ module _ {K : Type 0} (v : NodeView K) where
   made_rows (answer.Refused f) row = none
 
   -- an event was made, or refused
-  pub rows_made : (other : Option (List ℕ)) (time : ℕ) (payload sig : List ℕ) →
-      node_rows (with_changes v (make_changes v other time payload sig)) ≡ with_made (node_rows v) (made_row v.start.own (node_rows v) other time payload sig) (making v.start.own (node_rows v) other time payload sig)
+  pub rows_made : (others : List (List ℕ)) (time : ℕ) (payload sig : List ℕ) →
+      node_rows (with_changes v (make_changes v others time payload sig)) ≡ with_made (node_rows v) (made_row v.start.own (node_rows v) others time payload sig) (making v.start.own (node_rows v) others time payload sig)
   unfolding make_changes make_answer
-  rows_made other time payload sig = made_rows (making v.start.own (node_rows v) other time payload sig) (made_row v.start.own (node_rows v) other time payload sig)
+  rows_made others time payload sig = made_rows (making v.start.own (node_rows v) others time payload sig) (made_row v.start.own (node_rows v) others time payload sig)
 
 -- a player's node to which bytes were put
 pub player_put : (v : NodeView (List (List ℕ))) (bytes : List ℕ) → player (with_changes v (put_changes accepts_by v bytes)) ≡ with_rows_of (player v) (node_put (keys_in (player v)) (state_in (player v)) bytes)
 player_put v bytes = ap (λ (G : List Row). let p : Player = record { start = v.start; rows = G } in p) (rows_put v accepts_by bytes)
 
 -- the answer and the player's node where it made an event, or refused to
-pub record HasMade (v w : NodeView (List (List ℕ))) (other : Option (List ℕ)) (time : ℕ) (payload : List ℕ) (a : MakeAnswer) : Type 0 where
-  pub answer : a ≡ making_by (keys_in (player v)) (state_in (player v)) other time payload
-  pub after : player w ≡ with_rows_of (player v) (node_made (keys_in (player v)) (state_in (player v)) other time payload)
+pub record HasMade (v w : NodeView (List (List ℕ))) (others : List (List ℕ)) (time : ℕ) (payload : List ℕ) (a : MakeAnswer) : Type 0 where
+  pub answer : a ≡ making_by (keys_in (player v)) (state_in (player v)) others time payload
+  pub after : player w ≡ with_rows_of (player v) (node_made (keys_in (player v)) (state_in (player v)) others time payload)
 
 one_accepted : (secrets : List (List ℕ)) (m : ℕ) (body sig : List ℕ) → accepts_by secrets m body sig ≡ true → sig ≡ signature_by secrets m body
 one_accepted secrets m body sig is = (bytes_eq-Decides sig (signature_by secrets m body)).0 is
 
-pub player_made : (v w : NodeView (List (List ℕ))) (other : Option (List ℕ)) (time : ℕ) (payload : List ℕ) (a : MakeAnswer) → IsMaking accepts_by v other time payload a w → HasMade v w other time payload a
+pub player_made : (v w : NodeView (List (List ℕ))) (others : List (List ℕ)) (time : ℕ) (payload : List ℕ) (a : MakeAnswer) → IsMaking accepts_by v others time payload a w → HasMade v w others time payload a
 unfolding make_answer make_body
-player_made v w other time payload a is =
-    let one = making_is_one (List (List ℕ)) accepts_by (signature_by v.start.keys) v w other time payload a (one_accepted v.start.keys) is in
+player_made v w others time payload a is =
+    let one = making_is_one (List (List ℕ)) accepts_by (signature_by v.start.keys) v w others time payload a (one_accepted v.start.keys) is in
     record {
       answer = one.0;
-      after = ap player one.1 ∙ ap (λ (G : List Row). let p : Player = record { start = v.start; rows = G } in p) (rows_made v other time payload (signature_made (signature_by v.start.keys) v other time payload));
+      after = ap player one.1 ∙ ap (λ (G : List Row). let p : Player = record { start = v.start; rows = G } in p) (rows_made v others time payload (signature_made (signature_by v.start.keys) v others time payload));
     }
 
 -- the bytes of one row more that a taker lacks

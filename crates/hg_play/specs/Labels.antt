@@ -2,7 +2,7 @@
 use Rattle.std.specs.Prelude.{ℕ, nat_lt, List, [], ◌++◌, length, slice_get, slice_index, slice_index_or, slice_set, bit_xor, Option, option_map, unwrap_or, if◌then◌else◌}
 use Rattle.sha2.specs.Sha512.{sha384}
 use Rattle.hg_model.specs.declared.row.Row.{Row}
-use Rattle.hg_model.specs.Links.{place_of}
+use Rattle.hg_model.specs.Links.{ParentNames, place_of}
 use Rattle.hg_model.specs.Spelling.{body_bytes, spelling}
 use Rattle.hg_model.specs.Verdict.{last_name}
 use Rattle.hg_model.specs.Gossip.{Keys, NodeState}
@@ -28,7 +28,7 @@ abbrev pub own_bytes : NodeState → List ℕ
 own_bytes s = unwrap_or (option_map (bytes_named s.rows) (last_name s.own s.rows)) []
 
 -- an event with these fields, under the member's signature
-abbrev pub forged : Keys → ℕ → Option (List ℕ × List ℕ) → ℕ → List ℕ → List ℕ
+abbrev pub forged : Keys → ℕ → ParentNames → ℕ → List ℕ → List ℕ
 forged keys m parents time payload = body_bytes m parents time payload ++ keys.sign m (body_bytes m parents time payload)
 
 -- the byte at a place XORed with the mask, if there is one

@@ -1,5 +1,5 @@
 -- The members' nodes, and what a line of gossip makes of one of them and prints
-use Rattle.std.specs.Prelude.{ℕ, ◌<◌, List, [], length, Some, None, slice_index_or, slice_set}
+use Rattle.std.specs.Prelude.{ℕ, ◌<◌, List, [], ◌∷◌, length, Some, None, slice_index_or, slice_set}
 use Rattle.hg_model.specs.declared.outcome.Printed.{Printed}
 use Rattle.hg_model.specs.declared.outcome.Printed.TheVariants as printed
 use Rattle.hg_model.specs.Members.{MemberList}
@@ -51,20 +51,20 @@ pulled keys s peer = taking keys s (parcel_for s.rows peer).rows
 
 -- the node of the actor s after it, with these nodes and labels
 abbrev pub node_by : Keys → List NodeState → List (List ℕ) → NodeState → Gossip → NodeState
-node_by keys nodes labels s (Create m time payload) = node_made keys s None time payload
+node_by keys nodes labels s (Create m time payload) = node_made keys s [] time payload
 node_by keys nodes labels s (Sync taker peer time payload) = node_synced keys s (node_at nodes peer) time payload
 node_by keys nodes labels s (Pull taker peer) = (pulled keys s (node_at nodes peer)).node
-node_by keys nodes labels s (Join m label time payload) = node_made keys s (Some (name_of_label labels label)) time payload
+node_by keys nodes labels s (Join m label time payload) = node_made keys s (name_of_label labels label ∷ []) time payload
 node_by keys nodes labels s (Give m label) = node_put keys s (bytes_at labels label)
 
 -- what is printed of it, under the line's number
 abbrev pub printed_by : Keys → List NodeState → List (List ℕ) → ℕ → NodeState → Gossip → Printed
-printed_by keys nodes labels number s (Create m time payload) = printed.Create number (making_by keys s None time payload)
+printed_by keys nodes labels number s (Create m time payload) = printed.Create number (making_by keys s [] time payload)
 printed_by keys nodes labels number s (Sync taker peer time payload) = printed.Sync number (sync_report keys s (node_at nodes peer) time payload)
 printed_by keys nodes labels number s (Pull taker peer) =
     printed.Pull number (pulled keys s (node_at nodes peer)).taken (pulled keys s (node_at nodes peer)).refused
 printed_by keys nodes labels number s (Join m label time payload) =
-    printed.Join number (making_by keys s (Some (name_of_label labels label)) time payload)
+    printed.Join number (making_by keys s (name_of_label labels label ∷ []) time payload)
 printed_by keys nodes labels number s (Give m label) = printed.Give number (verdict_by keys s (bytes_at labels label))
 
 -- all nodes after it, and what is printed

@@ -1,4 +1,5 @@
 ghost use Rattle.std.specs.Prelude.{◌≡◌, ◌<◌, ◌≤◌, IfOk, None, OnOk, Some, length, slice_set};
+ghost use Rattle.std.specs.Option.{option_to_list};
 ghost use Rattle.hg_model.specs.Gossip.{making_by, node_made, node_put, node_synced, sync_report, verdict_by};
 ghost use Rattle.hg_play.specs.Labels.{bytes_at, name_of_label};
 ghost use Rattle.hg_play.specs.Node.{starts, starts_of, states_of};
@@ -33,8 +34,8 @@ fn make(
     payload: &[u8],
 ) -> Result<MakeAnswer, Memory>
     requires { member < length nodes.old }
-    ensures answer { IfOk result (λ answer. answer ≡ making_by (keys_at nodes.old member) (node_at (states_of nodes.old) member) other time payload.now) }
-    ensures nodes { OnOk result (states_of nodes.new ≡ slice_set (states_of nodes.old) member (node_made (keys_at nodes.old member) (node_at (states_of nodes.old) member) other time payload.now)) }
+    ensures answer { IfOk result (λ answer. answer ≡ making_by (keys_at nodes.old member) (node_at (states_of nodes.old) member) (option_to_list other) time payload.now) }
+    ensures nodes { OnOk result (states_of nodes.new ≡ slice_set (states_of nodes.old) member (node_made (keys_at nodes.old member) (node_at (states_of nodes.old) member) (option_to_list other) time payload.now)) }
     ensures starts { starts_of nodes.new ≡ starts_of nodes.old }
 {
     let answer = nodes[member].make(other, time, payload)?;

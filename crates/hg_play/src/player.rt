@@ -1,4 +1,5 @@
 ghost use Rattle.std.specs.Prelude.{◌≡◌, ◌++◌, ◌+◌, ◌<◌, ◌≤◌, ◌-◌, ◌^◌, [], IfOk, OnOk, Some, length, map, slice_get, unwrap_or, option_map};
+ghost use Rattle.std.specs.Option.{option_to_list};
 ghost use Rattle.hg_model.specs.Spelling.{spelling};
 ghost use Rattle.hg_model.specs.Verdict.{last_name, row_limit};
 ghost use Rattle.hg_model.specs.Gossip.{count_refused, count_taken, lacking};
@@ -153,8 +154,8 @@ impl Player {
         time: u64,
         payload: &[u8],
     ) -> Result<MakeAnswer, Memory>
-        ensures answer { IfOk result (λ answer. answer ≡ making_by (keys_in self.old) (state_in self.old) other time payload.now) }
-        ensures after { OnOk result (self.new ≡ with_rows_of self.old (node_made (keys_in self.old) (state_in self.old) other time payload.now)) }
+        ensures answer { IfOk result (λ answer. answer ≡ making_by (keys_in self.old) (state_in self.old) (option_to_list other) time payload.now) }
+        ensures after { OnOk result (self.new ≡ with_rows_of self.old (node_made (keys_in self.old) (state_in self.old) (option_to_list other) time payload.now)) }
         ensures start { self.new.start ≡ self.old.start }
     {
         self.node.make(other, time, payload)

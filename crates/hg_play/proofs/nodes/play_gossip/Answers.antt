@@ -1,4 +1,4 @@
-use Rattle.std.proofs.Common.{◌∙◌, ℕ, List, None, ap, slice_set, sym}
+use Rattle.std.proofs.Common.{◌∙◌, ℕ, List, [], ap, slice_set, sym}
 use Rattle.hg_model.specs.declared.answers.MakeAnswer.{MakeAnswer}
 use Rattle.hg_model.specs.declared.outcome.Printed.TheVariants as printed
 use Rattle.hg_model.specs.Gossip.{making_by, node_made}
@@ -11,11 +11,11 @@ pub returns-in_ok-answer-in-Create-clause-printed : goal.returns-in_ok-answer-in
 returns-in_ok-answer-in-Create-clause-printed c =
     ap (λ (a : MakeAnswer). printed.Create c.args.line a)
     (c.in_ok-answer-in-Create.ensures.answer
-    ∙ ap (λ (payload : List ℕ). making_by (keys_at c.args.nodes.now c.in-Create.member) (node_at (states_of c.args.nodes.now) c.in-Create.member) None c.in-Create.time payload) c.as_slice.ensures)
+    ∙ ap (λ (payload : List ℕ). making_by (keys_at c.args.nodes.now c.in-Create.member) (node_at (states_of c.args.nodes.now) c.in-Create.member) [] c.in-Create.time payload) c.as_slice.ensures)
     ∙ ap (λ (g : Gossip). gossip_printed (keys_at c.args.nodes.now (actor g)) (states_of c.args.nodes.now) c.args.labels.now c.args.line g) (sym c.in-Create.is)
 
 pub returns-in_ok-answer-in-Create-clause-nodes : goal.returns-in_ok-answer-in-Create-clause-nodes
 returns-in_ok-answer-in-Create-clause-nodes c =
     c.in_ok-answer-in-Create.ensures.nodes
-    ∙ (ap (λ (payload : List ℕ). slice_set (states_of c.args.nodes.now) c.in-Create.member (node_made (keys_at c.args.nodes.now c.in-Create.member) (node_at (states_of c.args.nodes.now) c.in-Create.member) None c.in-Create.time payload)) c.as_slice.ensures
+    ∙ (ap (λ (payload : List ℕ). slice_set (states_of c.args.nodes.now) c.in-Create.member (node_made (keys_at c.args.nodes.now c.in-Create.member) (node_at (states_of c.args.nodes.now) c.in-Create.member) [] c.in-Create.time payload)) c.as_slice.ensures
     ∙ ap (λ (g : Gossip). nodes_after (keys_at c.args.nodes.now (actor g)) (states_of c.args.nodes.now) c.args.labels.now g) (sym c.in-Create.is))
