@@ -1,4 +1,4 @@
-ghost use Rattle.std.specs.Prelude.{◌≡◌, ◌↔◌, ◌<◌, ◌≤◌, ◌⊎◌, ◌++◌, ◌+◌, ◌-◌, [], ℕ, List, Contains, None, Some, IfOk, IsErr, IsTrue, OnErr, OnOk, drop, length, min, position, slice_index, slice_set, string_bytes, take, unwrap_or};
+ghost use Rattle.std.specs.Prelude.{◌≡◌, ◌↔◌, ◌<◌, ◌≤◌, ◌++◌, ◌+◌, ◌-◌, [], ℕ, List, Contains, None, Some, IfOk, IsErr, IsTrue, OnErr, OnOk, drop, length, min, position, slice_index, string_bytes, take};
 ghost use Rattle.std.specs.Str.{bytes_eq};
 ghost use Rattle.hg_io.specs.Faults.{Rose, raised};
 ghost use Rattle.hg_io.specs.Files.{content_of, file_place};
