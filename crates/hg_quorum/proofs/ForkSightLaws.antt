@@ -11,7 +11,7 @@ use Rattle.hg_model.proofs.PlacesLaws.{total-all}
 use Rattle.hg_quorum.proofs.QuorumLaws.{quorums_meet}
 use Rattle.hg_model.proofs.AncestryLaws.{is_ancestor-trans}
 use Rattle.hg_model.proofs.ForkLaws.{fork_is}
-use Rattle.hg_model.proofs.SightLaws.{sees_through_found, in_line, sees-is_ancestor, is_ancestor-from_self, sees-no_fork}
+use Rattle.hg_model.proofs.SightLaws.{has_fork_below_from, sees_through_found, in_line, sees-is_ancestor, is_ancestor-from_self, sees-no_fork}
 
 module _ (n : Stakes) (L : List Link) (s : IsShaped n L) where
   -- no row above both sides of a fork sees a row by the one who made it
