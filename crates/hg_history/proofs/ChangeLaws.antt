@@ -4,7 +4,7 @@ use Rattle.std.proofs.lemmas.Bool.{cases_lt}
 use Rattle.std.proofs.lemmas.List.{length_push}
 use Rattle.std.proofs.lemmas.Option.{slice_get_within}
 use Rattle.hg_model.specs.declared.row.Row.{Row}
-use Rattle.hg_model.specs.History.{Change, State, empty, with_row, with_marks, step, replay, AreSteps, Accepts}
+use Rattle.hg_model.specs.History.{Change, State, empty, with_row, with_marks, step, replay, AreSteps}
 use Rattle.hg_model.specs.Stakes.{Stakes}
 use Rattle.hg_model.specs.History.Change.{Took, Made, Marked}
 use Rattle.hg_model.proofs.LongerLaws.{slice_get-append}

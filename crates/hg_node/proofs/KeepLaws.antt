@@ -14,7 +14,7 @@ use Rattle.hg_model.proofs.PlacesLaws.{count_below-le}
 use Rattle.hg_graph.specs.Held.{graph_with}
 use Rattle.hg_kept.specs.Published.{Published, Keeps}
 use Rattle.hg_node.specs.ChronicleView.{KeepsRecord, marked}
-use Rattle.hg_node.proofs.LastLaws.{last_place-push}
+use Rattle.hg_node.proofs.LastLaws.{last_own_place-push}
 use Rattle.hg_node.proofs.NewsLaws.{marked_push, marked_news}
 
 few_marked : (g : Graph) (v : Published) → Keeps g v → marked v.marks ≤ length g.rows
@@ -35,7 +35,7 @@ module _ (own : ℕ) (g : Graph) (log : List Entry) (v : Published) (last_own : 
       later ≡ cond (eqb row.creator own) (Some (length g.rows)) last_own → 2 * (length g.rows + 1) ≤ room → KeepsRecord own (graph_with g row) (log ++ matches ∷ []) w later room
   record_with row matches w later room graph marks keeps' is memory = record {
     keeps = keeps';
-    last = is ∙ (ap (cond (eqb row.creator own) (Some (length g.rows))) keeps.last ∙ sym (last_place-push own g.rows row keeps.keeps.graph.distinct graph.distinct));
+    last = is ∙ (ap (cond (eqb row.creator own) (Some (length g.rows))) keeps.last ∙ sym (last_own_place-push own g.rows row keeps.keeps.graph.distinct graph.distinct));
     few_entries =
         let more : marked v.marks ≤ marked w.marks =
         subst (λ (h : Marks). marked v.marks ≤ marked h) (sym marks) (marked_push v.marks (first_mark g.members (state_by g v.marks) row)) in

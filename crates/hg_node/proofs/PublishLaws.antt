@@ -1,4 +1,4 @@
--- What the publishing of fame leaves chronicle_view
+-- What the publishing of fame leaves recorded
 use Rattle.std.proofs.Common.{◌≡◌, ℕ, ◌≤◌, Bool, true, false, cond, eqb, List, [], ◌∷◌, ◌++◌, length, refl, sym, ap, ap₂, ◌∙◌, subst, arith}
 use Rattle.std.proofs.lemmas.Bool.{eqb-true}
 use Rattle.std.proofs.lemmas.List.{append-nil}
@@ -22,7 +22,7 @@ use Rattle.hg_node.proofs.RecordLaws.{state_is, recorded_by, shown_after, record
 
 -- what a node becomes that publishes
 pub record IsPublishing {K : Type 0} (accepts : K → Accepts) (v w : NodeView K) (s : ChronicleView) (len : ℕ) (share : Share) : Type 0 where
-  pub chronicle_view : IsRecorded accepts w s
+  pub recorded : IsRecorded accepts w s
   pub grown : w ≡ with_changes v (publish_changes v len share)
 
 module _ {K : Type 0} (accepts : K → Accepts) (keys : K) (r : ChronicleView) (is : IsRecorded accepts (node_view keys r) r) (len : ℕ) (share : Share) where
@@ -60,14 +60,14 @@ module _ {K : Type 0} (accepts : K → Accepts) (keys : K) (r : ChronicleView) (
       IsPublishing accepts (node_view keys r) (node_view keys (chronicle_news r len share)) (chronicle_news r len share) len share
   publishing_by true none within =
       subst (λ (s : ChronicleView). IsPublishing accepts (node_view keys r) (node_view keys s) s len share) (none_published within none)
-      (record { chronicle_view = is; grown = sym (with_none (node_view keys r) (publish_changes (node_view keys r) len share) (changes_are true none)) })
+      (record { recorded = is; grown = sym (with_none (node_view keys r) (publish_changes (node_view keys r) len share) (changes_are true none)) })
   publishing_by false some within =
       let changes = changes_are false some in
       let low : len ≤ length (node_rows (node_view keys r)) = subst (λ (G : List Row). len ≤ length G) (sym is.rows) within in
       let node = subst (λ (es : List Change). IsNode accepts (with_changes (node_view keys r) es)) changes (publishes_leave_a_node K accepts (node_view keys r) len share low is.node) in
       subst (λ (s : ChronicleView). IsPublishing accepts (node_view keys r) (node_view keys s) s len share) (some_published some)
       (record {
-        chronicle_view = recorded_after accepts keys r (Marked len share) (entry.Marked len share) refl is node;
+        recorded = recorded_after accepts keys r (Marked len share) (entry.Marked len share) refl is node;
         grown = sym (ap (with_changes (node_view keys r)) changes ∙ shown_after accepts keys r (Marked len share) (entry.Marked len share) refl is);
       })
 
@@ -82,7 +82,7 @@ module _ {K : Type 0} (accepts : K → Accepts) (keys : K) (r : ChronicleView) (
 
 -- what a node becomes that settles
 pub record IsSettling {K : Type 0} (accepts : K → Accepts) (v w : NodeView K) (s : ChronicleView) : Type 0 where
-  pub chronicle_view : IsRecorded accepts w s
+  pub recorded : IsRecorded accepts w s
   pub grown : w ≡ with_changes v (settle_changes v)
   pub settled : IsSettled v w
 
@@ -98,7 +98,7 @@ module _ {K : Type 0} (accepts : K → Accepts) (keys : K) (r : ChronicleView) (
       let grown' : node_view keys s ≡ with_changes v (settle_changes v) =
       is_published.grown ∙ ap (λ (G : List Row). with_changes v (publish_changes v (length G) whole)) (sym is.rows) in
       record {
-        chronicle_view = is_published.chronicle_view;
+        recorded = is_published.recorded;
         grown = grown';
         settled = subst (IsSettled v) (sym grown') (settles_all K accepts v is.node);
       }

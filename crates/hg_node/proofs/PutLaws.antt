@@ -1,5 +1,5 @@
 -- What a put answers, and what it leaves recorded
-use Rattle.std.proofs.Common.{◌≡◌, ℕ, ◌<◌, List, [], ◌∷◌, ◌++◌, length, Option, Some, None, Result, Ok, Err, refl, sym, ap, ◌∙◌, subst}
+use Rattle.std.proofs.Common.{◌≡◌, ℕ, ◌<◌, List, [], ◌∷◌, ◌++◌, length, Option, Some, None, Result, Ok, Err, refl, sym, ap, ap₂, ◌∙◌, subst}
 use Rattle.std.specs.Prelude.{unwrap_or, IfOk, OnOk, OnErr}
 use Rattle.hg_model.specs.declared.row.Row.{Row}
 use Rattle.hg_model.specs.declared.entry.Entry.TheVariants as entry
@@ -8,8 +8,9 @@ use Rattle.hg_model.specs.declared.answers.Fault.TheVariants as fault
 use Rattle.hg_model.specs.declared.answers.PutAnswer.{PutAnswer}
 use Rattle.hg_model.specs.declared.answers.PutAnswer.TheVariants.{Accepted, Refused}
 use Rattle.hg_model.specs.Graph.{IsGraph}
+use Rattle.hg_model.specs.Prefix.{Graph}
 use Rattle.hg_model.specs.Reading.{read_event}
-use Rattle.hg_model.specs.Verdict.{row_limit, verdict_of, row_verdict, arrival_rule}
+use Rattle.hg_model.specs.Verdict.{row_limit, verdict_of, row_verdict}
 use Rattle.hg_model.specs.History.{Change}
 use Rattle.hg_model.specs.History.Change.{Took}
 use Rattle.hg_model.specs.NodeView.{NodeView, with_changes, node_rows, IsNode}
@@ -20,7 +21,7 @@ use Rattle.hg_event.proofs.Reading.{AreBytes}
 use Rattle.hg_history.proofs.RuleLaws.{rule_accepts_none}
 use Rattle.hg_history.proofs.CallLaws.{with_none, other_puts_add_none, puts_leave_a_node}
 use Rattle.hg_history.proofs.SoundLaws.{sound}
-use Rattle.hg_node.specs.Arrival.{all_rules}
+use Rattle.hg_node.specs.Arrival.{all_rules, arrival_by}
 use Rattle.hg_node.specs.ChronicleView.{ChronicleView, chronicle_with, node_view, IsRecorded}
 use Rattle.hg_node.proofs.RecordLaws.{shown_after, recorded_after}
 
@@ -54,9 +55,14 @@ put_faulty accepts v bytes e read = (
   sym (with_none v (put_changes accepts v bytes) (ap (taken_from accepts v) read)),
 )
 
+-- what the rules say of the graph and the member of the records
+pub rules_at : (accepts : Accepts) (r : ChronicleView) (row : Row) (o : Option PutAnswer) (m : ℕ) (g : Graph) → m ≡ r.own → g ≡ r.graph →
+    o ≡ all_rules accepts (Some m) g row → o ≡ all_rules accepts (Some r.own) r.graph row
+rules_at accepts r row o m g by of_graph is = is ∙ ap₂ (λ (k : ℕ) (h : Graph). all_rules accepts (Some k) h row) by of_graph
+
 module _ {K : Type 0} (accepts : K → Accepts) (keys : K) (r : ChronicleView) (bytes : List ℕ) (is : IsRecorded accepts (node_view keys r) r) where
   abbrev rules : Row → Option PutAnswer
-  rules row = all_rules (accepts keys) r.graph.members r.own r.graph.rows row
+  rules row = all_rules (accepts keys) (Some r.own) r.graph row
 
   module _ (row : Row) (read : read_event bytes ≡ Ok row) where
     answer_by : put_answer accepts (node_view keys r) bytes ≡ unwrap_or (rules row) (Accepted (length r.graph.rows))
@@ -85,7 +91,7 @@ module _ {K : Type 0} (accepts : K → Accepts) (keys : K) (r : ChronicleView) (
         let events : put_changes accepts (node_view keys r) bytes ≡ Took row ∷ [] = ap (taken_from accepts (node_view keys r)) read ∙ ap (λ (a : PutAnswer). taken_by a row) by_row in
         let node = subst (λ (es : List Change). IsNode accepts (with_changes (node_view keys r) es)) events (puts_leave_a_node K accepts (node_view keys r) bytes fit is.node) in
         let recorded = recorded_after accepts keys r (Took row) (entry.Took (length r.graph.rows)) refl is node in
-        let rest = (option_or_none (arrival_rule (accepts keys) r.graph.members r.own r.graph.rows row) _ (sym silent)).1 in
+        let rest = (option_or_none (arrival_by (accepts keys) (Some r.own) r.graph row) _ (sym silent)).1 in
         record {
           answer = answer;
           grown = sym (ap (with_changes (node_view keys r)) events ∙ shown_after accepts keys r (Took row) (entry.Took (length r.graph.rows)) refl is);

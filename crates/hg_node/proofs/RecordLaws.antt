@@ -1,4 +1,4 @@
--- A change of the history is chronicle_view: one row and one entry more
+-- A change of the history is recorded: one row and one entry more
 use Rattle.std.proofs.Common.{◌≡◌, ℕ, suc, ◌<◌, List, [], ◌∷◌, ◌++◌, length, fold, refl, sym, ap, ap₂, ◌∙◌, subst, arith}
 use Rattle.std.proofs.lemmas.List.{length_push}
 use Rattle.std.proofs.lemmas.List.{length-map}
@@ -45,7 +45,7 @@ module _ (n c : ℕ) where
 abbrev state_with : List Row → List Link → Marks → State
 state_with G L marks = record { rows = G; links = L; marks = marks }
 
--- what is chronicle_view is the state of the node
+-- what is recorded is the state of the node
 pub state_is : {K : Type 0} (accepts : K → Accepts) (keys : K) (r : ChronicleView) → IsRecorded accepts (node_view keys r) r → node_state (node_view keys r) ≡ chronicle_state r
 state_is accepts keys r is =
     let v = node_view keys r in
@@ -57,7 +57,7 @@ state_is accepts keys r is =
 pub book_is : {K : Type 0} (accepts : K → Accepts) (keys : K) (r : ChronicleView) → IsRecorded accepts (node_view keys r) r → book_kept (node_view keys r) ≡ book_in r
 book_is accepts keys r is = ap (λ (s : State). book_of r.balances s.rows (kept r.graph.members s)) (state_is accepts keys r is)
 
--- what is chronicle_view once a change has come, which an entry tells
+-- what is recorded once a change has come, which an entry tells
 abbrev pub recorded_by : ChronicleView → Change → Entry → ChronicleView
 recorded_by r e matches =
     let s = step r.graph.members r.graph.coin (chronicle_state r) e in

@@ -7,7 +7,8 @@ use Rattle.hg_model.specs.declared.entry.Entry.TheVariants as entry
 use Rattle.hg_model.specs.Places.{count_below}
 use Rattle.hg_model.specs.Links.{place_of}
 use Rattle.hg_model.specs.Fame.{Marks, mark_at}
-use Rattle.hg_model.specs.Shares.{Share}
+use Rattle.hg_model.specs.declared.share.Found.{Found}
+use Rattle.hg_model.specs.Shares.{Share, Speaks}
 use Rattle.hg_model.specs.Verdict.{last_name}
 use Rattle.hg_model.specs.Members.{MemberList, balances_of}
 use Rattle.hg_model.specs.Prefix.{Graph, graph_of}
@@ -15,7 +16,7 @@ use Rattle.hg_model.specs.Pay.{Book, book_of}
 use Rattle.hg_model.specs.Kept.{kept}
 use Rattle.hg_graph.specs.Held.{graph_with}
 use Rattle.hg_model.specs.History.{State, news, with_row, with_marks}
-use Rattle.hg_model.specs.NodeView.{NodeView, node_rows, node_marks, log, history_of, IsNode}
+use Rattle.hg_model.specs.NodeView.{NodeView, node_rows, node_marks, log, history_of, IsNode, node_links}
 use Rattle.hg_model.specs.Signing.{Accepts}
 use Rattle.hg_model.specs.GraphWords.{state_by}
 use Rattle.hg_kept.specs.Published.{Published, Keeps}
@@ -32,7 +33,7 @@ pub record ChronicleView : Type 0 where
 abbrev pub chronicle_view : ℕ → List ℕ → Graph → List Entry → Marks → ChronicleView
 chronicle_view own balances graph log marks = record { own = own; balances = balances; graph = graph; log = log; marks = marks }
 
--- of the node of a member among these no_chronicle yet
+-- of the node of a member among these, without rows
 abbrev pub no_chronicle : MemberList → ℕ → ChronicleView
 no_chronicle members own = chronicle_view own (balances_of members) (graph_of (length members.entries) members.coin []) [] []
 
@@ -47,6 +48,10 @@ book_in r = book_of r.balances r.graph.rows (kept r.graph.members (chronicle_sta
 -- with one row more, which came as the entry says
 abbrev pub chronicle_with : ChronicleView → Row → Entry → ChronicleView
 chronicle_with r row entry = chronicle_view r.own r.balances (graph_with r.graph row) (r.log ++ entry ∷ []) (with_row r.graph.members (chronicle_state r) row).marks
+
+-- with one row more that was taken
+abbrev pub chronicle_took : ChronicleView → Row → ChronicleView
+chronicle_took r row = chronicle_with r row (entry.Took (length r.graph.rows))
 
 -- how many witnesses are marked when what the share finds in the first `len` rows is published
 abbrev pub news_in : ChronicleView → ℕ → Share → ℕ
@@ -82,12 +87,24 @@ pub record KeepsBook (G : List Row) (order : List Placed) (a : Account) : Type 0
   pub book : a.book ≡ book_of a.opening G order
   pub memory : length G ≤ a.room
 
--- the node with these keys of which this is chronicle_view
+-- both
+abbrev pub KeepsAll : ℕ → Graph → List Entry → Published → Option ℕ → ℕ → Account → Type 0
+KeepsAll own graph log v last_own capacity a = KeepsRecord own graph log v last_own capacity × KeepsBook graph.rows v.order a
+
+-- the node with these keys of which this is the record
 abbrev pub node_view : {K : Type 0} → K → ChronicleView → NodeView K
 node_view keys r = record {
   start = record { own = r.own; members = r.graph.members; coin = r.graph.coin; balances = r.balances; keys = keys };
   history = history_of r.graph.rows r.log;
 }
+
+-- the node's rows as a graph
+abbrev pub graph_in : {K : Type 0} → NodeView K → Graph
+graph_in v = graph_of v.start.members v.start.coin (node_rows v)
+
+-- what was found is what the node's first rows decide
+abbrev pub IsFoundBy : {K : Type 0} → NodeView K → Found → Type 0
+IsFoundBy v found = Speaks v.start.members v.start.coin (node_rows v) (node_links v) found.len found.share found.marks
 
 -- the node's history has these rows, this log and these marks
 pub record IsRecorded {K : Type 0} (accepts : K → Accepts) (v : NodeView K) (r : ChronicleView) : Type 0 where

@@ -1,3 +1,4 @@
 pub mod ChronicleView
 pub mod Arrival
+pub mod Draft
 pub mod Laws

@@ -1,40 +1,37 @@
-ghost use Rattle.std.specs.Prelude.{◌≡◌, ◌<◌, length, Option, map, IfOk};
-ghost use Rattle.hg_model.specs.declared.row.Row.{Row};
+ghost use Rattle.std.specs.Prelude.{◌≡◌, ◌<◌, length, IfOk};
 ghost use Rattle.std.specs.Result.{result_err};
 ghost use Rattle.hg_event.specs.View.{row_of};
-ghost use Rattle.hg_model.specs.Links.{link_in, parent_names, place_of};
 ghost use Rattle.hg_model.specs.Graph.{creator_at};
-ghost use Rattle.hg_model.specs.Forks.{forkers};
-ghost use Rattle.hg_model.specs.Shape.{link_of, pair_list};
 ghost use Rattle.hg_model.specs.Spelling.{Spells};
-ghost use Rattle.hg_model.specs.Verdict.{arrival_rule, forkers_rule, full_rule, impostor_rule, member_rule, name_rule, signature_rule};
-ghost use Rattle.hg_node.specs.Arrival.{LinkComes, all_rules, parents_rule};
+ghost use Rattle.hg_model.specs.Verdict.{forkers_rule, full_rule, member_rule, signature_rule};
+ghost use Rattle.hg_node.specs.Arrival.{IsNameAnswer, LinkComes, StandsOn, all_rules, arrival_by, arrival_places, impostor_by, parents_rule};
 
 use crate::ROW_LIMIT;
-use crate::chronicle::Chronicle;
 use hg_event::{EventView, body_of};
 use hg_graph::EventGraph;
-use hg_model::{Fault, Member, Name, PutAnswer, Sight};
+use hg_model::{Fault, Member, Name, Parents, PutAnswer, Sight};
 use hg_sign::Signer;
 
-/// The places of the parents of an event that is put to a node with these records, or the answer of the first rule
-/// that speaks against it. Takes no memory; before the name is known to be new it does not look at the signature.
+/// The places of the parents of an event that is put to a graph, or the answer of the first rule that speaks against
+/// it. At the node of the member `own` an event of that member is an impostor's. Takes no memory; before the name is known
+/// to be new it does not look at the signature.
 pub fn parents_of_arrival<V: Signer>(
     keys: &V,
-    chronicle: &Chronicle,
+    graph: &EventGraph,
+    own: Option<Member>,
     view: &EventView<'_>,
     name: &Name,
     bytes: &[u8],
-) -> Result<Option<(usize, usize)>, PutAnswer>
+) -> Result<Parents, PutAnswer>
     requires spelled { Spells bytes.now (row_of view.now) }
     requires name { name.now ≡ (row_of view.now).name }
-    ensures answer { result_err result ≡ all_rules (V.accepts keys.now) chronicle.now.graph.members chronicle.now.own chronicle.now.graph.rows (row_of view.now) }
-    ensures link { IfOk result (λ parents. link_in chronicle.now.graph.rows (row_of view.now) ≡ link_of (row_of view.now).creator parents) }
+    ensures answer { result_err result ≡ all_rules (V.accepts keys.now) own graph.now.graph (row_of view.now) }
+    ensures link { IfOk result (λ on. StandsOn graph.now.graph.rows (row_of view.now) on) }
 {
-    let graph = chronicle.graph();
-    let members = graph.members();
-    let parents = arrival_rule(keys, members, chronicle.own(), graph, view, name, bytes)?;
-    forkers_rule(members, graph, view, parents)?;
+    // That the graph is shaped.
+    graph.members();
+    let parents = arrival_rule(keys, own, graph, view, name, bytes)?;
+    forkers_rule(graph, view, parents)?;
     full_rule(graph)?;
     Ok(parents)
 }
@@ -42,19 +39,18 @@ pub fn parents_of_arrival<V: Signer>(
 /// What is wrong with an event before the forks that it would make are counted.
 fn arrival_rule<V: Signer>(
     keys: &V,
-    members: u32,
-    own: Member,
+    own: Option<Member>,
     graph: &EventGraph,
     view: &EventView<'_>,
     name: &Name,
     bytes: &[u8],
-) -> Result<Option<(usize, usize)>, PutAnswer>
+) -> Result<Parents, PutAnswer>
     requires spelled { Spells bytes.now (row_of view.now) }
     requires name { name.now ≡ (row_of view.now).name }
-    ensures answer { result_err result ≡ arrival_rule (V.accepts keys.now) members own graph.now.graph.rows (row_of view.now) }
-    ensures places { IfOk result (λ parents. pair_list parents ≡ map (place_of graph.now.graph.rows) (parent_names (row_of view.now).parents)) }
+    ensures answer { result_err result ≡ arrival_by (V.accepts keys.now) own graph.now.graph (row_of view.now) }
+    ensures places { IfOk result (λ on. on ≡ arrival_places graph.now.graph.rows (row_of view.now)) }
 {
-    member_rule(members, view)?;
+    member_rule(graph.members(), view)?;
     name_rule(graph, name, bytes)?;
     signature_rule(keys, view)?;
     impostor_rule(own, view)?;
@@ -72,7 +68,7 @@ fn member_rule(members: u32, view: &EventView<'_>) -> Result<(), PutAnswer>
 
 /// Whether an event of these bytes is a row already, or its name is another row's.
 fn name_rule(graph: &EventGraph, name: &Name, bytes: &[u8]) -> Result<(), PutAnswer>
-    ensures { (row : Row) → Spells bytes.now row → name.now ≡ row.name → result_err result ≡ name_rule graph.now.graph.rows row }
+    ensures { IsNameAnswer graph.now.graph.rows name.now bytes.now (result_err result) }
 {
     match graph.place_of(name) {
         None => Ok(()),
@@ -96,25 +92,27 @@ fn signature_rule<V: Signer>(keys: &V, view: &EventView<'_>) -> Result<(), PutAn
     }
 }
 
-fn impostor_rule(own: Member, view: &EventView<'_>) -> Result<(), PutAnswer>
-    ensures { result_err result ≡ impostor_rule own (row_of view.now) }
+fn impostor_rule(own: Option<Member>, view: &EventView<'_>) -> Result<(), PutAnswer>
+    ensures { result_err result ≡ impostor_by own (row_of view.now) }
 {
-    if view.creator == own {
-        return Err(PutAnswer::Refused(Fault::Impostor));
+    match own {
+        None => Ok(()),
+        Some(own) => {
+            if view.creator == own {
+                return Err(PutAnswer::Refused(Fault::Impostor));
+            }
+            Ok(())
+        }
     }
-    Ok(())
 }
 
 /// The places of the event's parents, if they are rows by the right members.
-fn parent_places(
-    graph: &EventGraph,
-    view: &EventView<'_>,
-) -> Result<Option<(usize, usize)>, PutAnswer>
+fn parent_places(graph: &EventGraph, view: &EventView<'_>) -> Result<Parents, PutAnswer>
     ensures answer { result_err result ≡ parents_rule graph.now.graph.rows (row_of view.now) }
-    ensures places { IfOk result (λ parents. pair_list parents ≡ map (place_of graph.now.graph.rows) (parent_names (row_of view.now).parents)) }
+    ensures places { IfOk result (λ on. on ≡ arrival_places graph.now.graph.rows (row_of view.now)) }
 {
     let Some((own_name, other_name)) = view.parents else {
-        return Ok(None);
+        return Ok(Parents::none());
     };
     let Some(own) = graph.place_of(own_name) else {
         return Err(PutAnswer::Refused(Fault::MissingSelf(*own_name)));
@@ -128,7 +126,7 @@ fn parent_places(
     if creator_at(graph, other) == view.creator {
         return Err(PutAnswer::Refused(Fault::OtherCreator(other)));
     }
-    Ok(Some((own, other)))
+    Ok(Parents::of(own, other))
 }
 
 /// Who made the row at a place.
@@ -141,16 +139,11 @@ pub fn creator_at(graph: &EventGraph, place: usize) -> Member
 }
 
 /// Whether with the event too many members would have a fork.
-fn forkers_rule(
-    members: u32,
-    graph: &EventGraph,
-    view: &EventView<'_>,
-    parents: Option<(usize, usize)>,
-) -> Result<(), PutAnswer>
-    requires members { members ≡ graph.now.graph.members }
-    requires link { LinkComes members graph.now.graph.rows (row_of view.now) parents }
-    ensures { result_err result ≡ forkers_rule members graph.now.graph.rows (row_of view.now) }
+fn forkers_rule(graph: &EventGraph, view: &EventView<'_>, parents: Parents) -> Result<(), PutAnswer>
+    requires { LinkComes graph.now.graph (row_of view.now) parents }
+    ensures { result_err result ≡ forkers_rule graph.now.graph.members graph.now.graph.rows (row_of view.now) }
 {
+    let members = graph.members();
     let forkers = graph.would(view.creator, parents);
     if u64::from(members) <= 3 * u64::from(forkers) {
         return Err(PutAnswer::Refused(Fault::TooManyForkers(forkers)));

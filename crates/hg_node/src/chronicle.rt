@@ -1,19 +1,20 @@
 ghost use Rattle.std.specs.Prelude.{◌≡◌, ◌<◌, ◌++◌, ◌∷◌, ◌==◌, [], All, Some, cond, length, IfOk, OnOk, OnErr};
 ghost use Rattle.hg_model.specs.declared.entry.Entry.{Entry};
 ghost use Rattle.hg_model.specs.declared.row.Placed.{Placed};
-ghost use Rattle.hg_model.specs.Links.{link_in};
 ghost use Rattle.hg_model.specs.Graph.{IsGraph};
-ghost use Rattle.hg_model.specs.Shape.{link_of};
 ghost use Rattle.hg_model.specs.Spelling.{Spells};
 ghost use Rattle.hg_model.specs.Verdict.{last_name, row_limit};
 ghost use Rattle.hg_model.specs.Fame.{mark_at};
 ghost use Rattle.hg_model.specs.Kept.{kept};
 ghost use Rattle.hg_model.specs.GraphWords.{last_closed_in, SpeaksOf};
 ghost use Rattle.hg_node.specs.ChronicleView.{book_in, last_own_place, news_in, no_chronicle, chronicle_news, chronicle_with, chronicle_state};
+ghost use Rattle.hg_node.specs.Arrival.{StandsOn};
 
 use hg_graph::EventGraph;
 use hg_kept::Kept;
-use hg_model::{Bytes, Effect, Entry, Found, Member, Members, Memory, Name, Placed, Prefix, Row};
+use hg_model::{
+    Bytes, Effect, Entry, Found, Member, Members, Memory, Name, Parents, Placed, Prefix, Row,
+};
 use hg_pay::{Book, Ledger};
 use std::alloc::Global;
 use std::marker::Model;
@@ -33,13 +34,13 @@ pub struct Chronicle {
 
 impl Model for Chronicle {
     ghost use Rattle.std.specs.Prelude.{vec_capacity};
-    ghost use Rattle.hg_node.specs.ChronicleView.{ChronicleView, KeepsBook, KeepsRecord, chronicle_view};
+    ghost use Rattle.hg_node.specs.ChronicleView.{ChronicleView, KeepsAll, chronicle_view};
 
     ghost Value = { ChronicleView };
 
     ghost view = { λ s. chronicle_view s.own s.ledger.opening s.graph.graph s.log.items s.kept.published.marks };
 
-    ghost invariant = { λ s. KeepsRecord s.own s.graph.graph s.log.items s.kept.published s.last_own (vec_capacity s.log) × KeepsBook s.graph.graph.rows s.kept.published.order s.ledger };
+    ghost invariant = { λ s. KeepsAll s.own s.graph.graph s.log.items s.kept.published s.last_own (vec_capacity s.log) s.ledger };
 }
 
 impl Chronicle {
@@ -98,12 +99,12 @@ impl Chronicle {
         &mut self,
         row: Row,
         bytes: Bytes,
-        parents: Option<(usize, usize)>,
+        parents: Parents,
         entry: Entry,
     ) -> Result<(), Memory>
         requires limit { length self.old.graph.rows < row_limit }
         requires spelled { Spells bytes row }
-        requires link { link_in self.old.graph.rows row ≡ link_of row.creator parents }
+        requires link { StandsOn self.old.graph.rows row parents }
         requires graph { IsGraph self.old.graph.members (self.old.graph.rows ++ row ∷ []) }
         ensures ok { OnOk result (self.new ≡ chronicle_with self.old row entry) }
         ensures err { OnErr result (self.new ≡ self.old) }

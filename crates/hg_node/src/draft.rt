@@ -1,43 +1,52 @@
-ghost use Rattle.std.specs.Prelude.{◌≡◌, ◌≤◌, ◌<◌, length, map, option_map, true, IfOk};
-ghost use Rattle.std.specs.Option.{option_or};
+ghost use Rattle.std.specs.Prelude.{◌≡◌, ◌≤◌, ◌<◌, length, option_map, IfOk};
+ghost use Rattle.std.specs.Option.{option_to_list};
 ghost use Rattle.std.specs.Result.{result_err};
-ghost use Rattle.hg_model.specs.Links.{parent_names, place_of};
-ghost use Rattle.hg_model.specs.Shape.{pair_list};
-ghost use Rattle.hg_model.specs.Spelling.{Spells, body_bytes, payload_limit};
-ghost use Rattle.hg_model.specs.Verdict.{both_names, collision_rule, draft_rule, first_rule, last_name, other_rule, made_row, payload_rule, room_rule};
+ghost use Rattle.hg_model.specs.Links.{place_of};
+ghost use Rattle.hg_model.specs.Spelling.{Spells, payload_limit};
+ghost use Rattle.hg_model.specs.Verdict.{first_rule, other_rule, parents_on, payload_rule, signed_row};
+ghost use Rattle.hg_node.specs.Draft.{IsSigned, both_places, draft_fault, draft_names, draft_places, row_fault};
 
 use crate::ROW_LIMIT;
 use crate::arrival::creator_at;
 use crate::chronicle::Chronicle;
 use hg_event::{PAYLOAD_LIMIT, encode_body};
 use hg_graph::EventGraph;
-use hg_model::{Bytes, Items, MakeFault, Member, Memory, Name, Row};
+use hg_model::{Bytes, Items, MakeFault, Member, Memory, Name, Parents, Row};
 use hg_name::name_of;
 use hg_sign::Signer;
 use std::alloc::Global;
 
-/// The places of the parents of the event that a node with these records makes, or what is wrong with the event before it
-/// is signed. Takes no memory.
-pub fn parents_of_draft(
+/// The parents of an event that a node is to make: their names and their places.
+#[derive(Clone, Copy)]
+pub struct Draft {
+    pub names: Option<(Name, Name)>,
+    pub places: Parents,
+}
+
+/// The draft of the event that a node with these records makes, or what is wrong with the event before it is signed.
+/// Takes no memory.
+pub fn draft_of(
     chronicle: &Chronicle,
     other: &Option<Name>,
     payload: &[u8],
-) -> Result<Option<(usize, usize)>, MakeFault>
-    ensures fault { result_err result ≡ draft_rule chronicle.now.own chronicle.now.graph.rows other.now payload.now }
-    ensures places { IfOk result (λ parents. pair_list parents ≡ map (place_of chronicle.now.graph.rows) (parent_names (both_names (last_name chronicle.now.own chronicle.now.graph.rows) other.now))) }
+) -> Result<Draft, MakeFault>
+    ensures fault { result_err result ≡ draft_fault chronicle.now (option_to_list other.now) payload.now }
+    ensures names { IfOk result (λ draft. draft.names ≡ draft_names chronicle.now (option_to_list other.now)) }
+    ensures places { IfOk result (λ draft. draft.places ≡ draft_places chronicle.now draft.names) }
 {
-    first_rule(&chronicle.last_name(), other)?;
+    let last = chronicle.last_name();
+    first_rule(&last, other)?;
     let other_parent = other_place(chronicle.graph(), chronicle.own(), other)?;
     payload_rule(payload)?;
-    match (chronicle.last_own(), other_parent) {
-        (Some(own), Some(other)) => Ok(Some((own, other))),
-        _ => Ok(None),
-    }
+    Ok(Draft {
+        names: names_on(last, *other),
+        places: places_on(chronicle.last_own(), other_parent),
+    })
 }
 
 /// An other-parent for each event but the node's first.
 fn first_rule(last: &Option<Name>, other: &Option<Name>) -> Result<(), MakeFault>
-    ensures { result_err result ≡ first_rule last.now other.now }
+    ensures { result_err result ≡ first_rule last.now (option_to_list other.now) }
 {
     match (last, other) {
         (Some(_), None) => Err(MakeFault::HasFirst),
@@ -52,7 +61,7 @@ fn other_place(
     own: Member,
     other: &Option<Name>,
 ) -> Result<Option<usize>, MakeFault>
-    ensures fault { result_err result ≡ other_rule own graph.now.graph.rows other.now }
+    ensures fault { result_err result ≡ other_rule own graph.now.graph.rows (option_to_list other.now) }
     ensures place { IfOk result (λ place. place ≡ option_map (place_of graph.now.graph.rows) other.now) }
 {
     let Some(name) = other else {
@@ -77,8 +86,8 @@ fn payload_rule(payload: &[u8]) -> Result<(), MakeFault>
 }
 
 /// Both parents' names, or none.
-fn both_names(last: Option<Name>, other: Option<Name>) -> Option<(Name, Name)>
-    ensures { result ≡ both_names last other }
+fn names_on(last: Option<Name>, other: Option<Name>) -> Option<(Name, Name)>
+    ensures { result ≡ parents_on last (option_to_list other) }
 {
     match (last, other) {
         (Some(last), Some(other)) => Some((last, other)),
@@ -86,23 +95,31 @@ fn both_names(last: Option<Name>, other: Option<Name>) -> Option<(Name, Name)>
     }
 }
 
-/// The event that a node with these records makes, signed, and its bytes, which are written out once.
+/// Both parents' places, or none.
+fn places_on(last: Option<usize>, other: Option<usize>) -> Parents
+    ensures { result ≡ both_places last other }
+{
+    match (last, other) {
+        (Some(last), Some(other)) => Parents::of(last, other),
+        _ => Parents::none(),
+    }
+}
+
+/// The event of a member on parents of these names, signed, and its bytes, which are written out once.
 pub fn signed_event<V: Signer>(
     alloc: Global,
     keys: &V,
-    chronicle: &Chronicle,
-    other: Option<Name>,
+    creator: Member,
+    parents: Option<(Name, Name)>,
     time: u64,
     payload: &[u8],
 ) -> Result<(Row, Bytes), Memory>
     requires { length payload.now ≤ payload_limit }
-    ensures row { IfOk result (λ event. event.0 ≡ made_row chronicle.now.own chronicle.now.graph.rows other time payload.now event.0.sig) }
-    ensures accepted { IfOk result (λ event. V.accepts keys.now chronicle.now.own (body_bytes chronicle.now.own (both_names (last_name chronicle.now.own chronicle.now.graph.rows) other) time payload.now) event.0.sig ≡ true) }
+    ensures row { IfOk result (λ event. event.0 ≡ signed_row creator parents time payload.now event.0.sig) }
+    ensures accepted { IfOk result (λ event. IsSigned (V.accepts keys.now) creator parents time payload.now event.0.sig) }
     ensures spelled { IfOk result (λ event. Spells event.1 event.0) }
     ensures sized { IfOk result (λ event. length event.0.sig ≡ 64) }
 {
-    let creator = chronicle.own();
-    let parents = both_names(chronicle.last_name(), other);
     let mut bytes = encode_body(alloc, creator, &parents, time, payload)?;
     let sig = keys.sign(creator, bytes.as_slice());
     bytes.extend_from_slice(&sig).unwrap();
@@ -118,10 +135,9 @@ pub fn signed_event<V: Signer>(
 }
 
 /// What is wrong with an event that is signed. Takes no memory.
-pub fn row_rule(chronicle: &Chronicle, row: &Row) -> Result<(), MakeFault>
-    ensures { result_err result ≡ option_or (collision_rule chronicle.now.graph.rows row.now) (room_rule chronicle.now.graph.rows) }
+pub fn row_rule(graph: &EventGraph, row: &Row) -> Result<(), MakeFault>
+    ensures { result_err result ≡ row_fault graph.now.graph.rows row.now }
 {
-    let graph = chronicle.graph();
     if let Some(place) = graph.place_of(&row.name) {
         return Err(MakeFault::Collision(place));
     }

@@ -1,33 +1,30 @@
 ghost use Rattle.std.specs.Prelude.{◌≡◌, ◌<◌, ◌++◌, ◌∷◌, [], All, None, Some, length, option_map, slice_get, IfOk, OnErr, OnOk};
+ghost use Rattle.std.specs.Option.{option_to_list};
 ghost use Rattle.hg_model.specs.declared.row.Placed.{Placed};
 ghost use Rattle.hg_event.specs.View.{row_of};
 ghost use Rattle.hg_model.specs.Forks.{forkers};
-ghost use Rattle.hg_model.specs.Prefix.{graph_of};
 ghost use Rattle.hg_model.specs.Rounds.{last_round};
 ghost use Rattle.hg_model.specs.Spelling.{Spells, spelling};
-ghost use Rattle.hg_model.specs.Links.{link_in};
 ghost use Rattle.hg_model.specs.Graph.{IsGraph};
 ghost use Rattle.hg_model.specs.Verdict.{last_name, row_limit};
-ghost use Rattle.hg_model.specs.declared.entry.Entry.TheVariants.{Took};
-ghost use Rattle.hg_model.specs.Shape.{link_of};
-ghost use Rattle.hg_node.specs.ChronicleView.{chronicle_with};
+ghost use Rattle.hg_node.specs.Arrival.{StandsOn};
+ghost use Rattle.hg_node.specs.ChronicleView.{IsFoundBy, chronicle_took, graph_in};
 ghost use Rattle.hg_model.specs.declared.answers.PutAnswer.TheVariants.{Accepted};
 ghost use Rattle.hg_model.specs.Fame.{mark_at};
-ghost use Rattle.hg_model.specs.Shares.{Speaks};
 ghost use Rattle.hg_model.specs.NodeView.{book_kept, node_rows, kept_of, last_closed_of, node_links, log, node_marks, start_of, with_changes, IsNode};
 ghost use Rattle.hg_model.specs.Calls.{IsMaking, make_draft, publish_answer, publish_changes, put_answer, put_changes, settle_changes, IsSettled};
 
 use crate::arrival::parents_of_arrival;
 use crate::chronicle::Chronicle;
-use crate::draft::{parents_of_draft, row_rule, signed_event};
+use crate::draft::{draft_of, row_rule, signed_event};
 use hg_ancestry::BitSight;
 use hg_event::{EventView, decode};
 use hg_fame::elect_share;
 use hg_frozen::Frozen;
 use hg_graph::EventGraph;
 use hg_model::{
-    Effect, Entry, Fault, Found, Items, MakeAnswer, Member, Members, Memory, Name, Placed, Prefix,
-    PutAnswer, Rounds, Row, Share,
+    Effect, Entry, Fault, Found, Items, MakeAnswer, Member, Members, Memory, Name, Parents, Placed,
+    Prefix, PutAnswer, Rounds, Row, Share,
 };
 use hg_name::name_of;
 use hg_pay::Book;
@@ -90,7 +87,9 @@ impl<V: Signer> Node<V> {
             Err(fault) => return Ok(PutAnswer::Refused(Fault::Bytes(fault))),
         };
         let name = name_of(bytes);
-        match parents_of_arrival(&self.keys, &self.chronicle, &view, &name, bytes) {
+        let graph = self.chronicle.graph();
+        let own = Some(self.chronicle.own());
+        match parents_of_arrival(&self.keys, graph, own, &view, &name, bytes) {
             Ok(parents) => take(self.alloc, &mut self.chronicle, &view, name, bytes, parents),
             Err(answer) => Ok(answer),
         }
@@ -104,27 +103,22 @@ impl<V: Signer> Node<V> {
         time: u64,
         payload: &[u8],
     ) -> Result<MakeAnswer, Memory>
-        ensures ok { IfOk result (λ answer. IsMaking V.accepts self.old other time payload.now answer self.new) }
+        ensures ok { IfOk result (λ a. IsMaking V.accepts self.old (option_to_list other) time payload.now a self.new) }
         ensures err { OnErr result (self.new ≡ self.old) }
-        ensures free { OnErr result (make_draft self.old other payload.now ≡ None) }
+        ensures free { OnErr result (make_draft self.old (option_to_list other) payload.now ≡ None) }
     {
-        let parents = match parents_of_draft(&self.chronicle, &other, payload) {
-            Ok(parents) => parents,
+        let draft = match draft_of(&self.chronicle, &other, payload) {
+            Ok(draft) => draft,
             Err(fault) => return Ok(MakeAnswer::Refused(fault)),
         };
-        let (row, bytes) = signed_event(
-            self.alloc,
-            &self.keys,
-            &self.chronicle,
-            other,
-            time,
-            payload,
-        )?;
-        match row_rule(&self.chronicle, &row) {
+        let own = self.chronicle.own();
+        let (row, bytes) = signed_event(self.alloc, &self.keys, own, draft.names, time, payload)?;
+        match row_rule(self.chronicle.graph(), &row) {
             Err(fault) => Ok(MakeAnswer::Refused(fault)),
             Ok(()) => {
                 let place = self.chronicle.graph().len();
-                self.chronicle.add(row, bytes, parents, Entry::Made(place))?;
+                self.chronicle
+                    .add(row, bytes, draft.places, Entry::Made(place))?;
                 Ok(MakeAnswer::Made(place))
             }
         }
@@ -133,7 +127,7 @@ impl<V: Signer> Node<V> {
     /// Publishes what a share has found in the node's first rows: each found witness without a mark gets it, and what
     /// is ordered then is paid. Prints how many were marked. Takes no memory.
     pub fn publish(&mut self, found: &Found) -> u32
-        requires { Speaks self.old.start.members self.old.start.coin (node_rows self.old) (node_links self.old) found.now.len found.now.share found.now.marks }
+        requires { IsFoundBy self.old found.now }
         ensures answer { result ≡ publish_answer self.old found.now.len found.now.share }
         ensures grown { self.new ≡ with_changes self.old (publish_changes self.old found.now.len found.now.share) }
     {
@@ -155,7 +149,7 @@ impl<V: Signer> Node<V> {
 
     /// The node's graph as a value of its own, which speaks of its rows whatever comes then.
     pub fn freeze(&self) -> Result<Frozen<BitSight, RoundTable>, Memory>
-        ensures { IfOk result (λ frozen. frozen ≡ graph_of self.now.start.members self.now.start.coin (node_rows self.now)) }
+        ensures { IfOk result (λ frozen. frozen ≡ graph_in self.now) }
     {
         self.chronicle.graph().freeze()
     }
@@ -207,7 +201,7 @@ impl<V: Signer> Node<V> {
 
     /// The node's graph.
     pub fn graph(&self) -> &EventGraph
-        ensures { result.now.graph ≡ graph_of self.now.start.members self.now.start.coin (node_rows self.now) }
+        ensures { result.now.graph ≡ graph_in self.now }
     {
         self.chronicle.graph()
     }
@@ -293,15 +287,15 @@ fn take(
     view: &EventView<'_>,
     name: Name,
     bytes: &[u8],
-    parents: Option<(usize, usize)>,
+    parents: Parents,
 ) -> Result<PutAnswer, Memory>
     requires limit { length chronicle.old.graph.rows < row_limit }
     requires spelled { Spells bytes.now (row_of view.now) }
     requires name { name ≡ (row_of view.now).name }
-    requires link { link_in chronicle.old.graph.rows (row_of view.now) ≡ link_of (row_of view.now).creator parents }
+    requires link { StandsOn chronicle.old.graph.rows (row_of view.now) parents }
     requires graph { IsGraph chronicle.old.graph.members (chronicle.old.graph.rows ++ row_of view.now ∷ []) }
     ensures answer { IfOk result (λ answer. answer ≡ Accepted (length chronicle.old.graph.rows)) }
-    ensures ok { OnOk result (chronicle.new ≡ chronicle_with chronicle.old (row_of view.now) (Took (length chronicle.old.graph.rows))) }
+    ensures ok { OnOk result (chronicle.new ≡ chronicle_took chronicle.old (row_of view.now)) }
     ensures err { OnErr result (chronicle.new ≡ chronicle.old) }
 {
     let place = chronicle.graph().len();

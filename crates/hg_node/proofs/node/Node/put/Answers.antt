@@ -1,7 +1,7 @@
-use Rattle.std.proofs.Common.{arith}
+use Rattle.std.proofs.Common.{Some, None, arith}
 use Rattle.hg_event.specs.View.{row_of}
 use Rattle.hg_node.specs.ChronicleView.{node_view}
-use Rattle.hg_node.proofs.PutLaws.{IsPut, put_faulty, put_refused, put_taken, put_ends}
+use Rattle.hg_node.proofs.PutLaws.{IsPut, rules_at, put_faulty, put_refused, put_taken, put_ends}
 use Rattle.hg_node.proofs.node.Node.put.Given as given
 use Rattle.hg_node.proofs.node.Node.put.Goals as goal
 
@@ -14,14 +14,14 @@ returns-in-Err-clause-ok g c = (put_faulty g.V.Verifier.accepts c.args.self.now 
 pub take-requires-clause-graph : goal.take-requires-clause-graph
 take-requires-clause-graph g c =
     (put_taken g.V.Verifier.accepts c.self.inside.keys c.self.inside.chronicle c.args.bytes.now c.self.invariant (row_of c.in-Ok.view) c.in-Ok.ensures.exact
-    (λ i. omega (arith, c.type_inv.bytes i)) c.in-Ok-parents_of_arrival.ensures.answer).graph
+    (λ i. omega (arith, c.type_inv.bytes i)) (rules_at (g.V.Verifier.accepts c.self.inside.keys) c.self.inside.chronicle (row_of c.in-Ok.view) None c.own.result c.graph-graph.result.now.graph c.own.ensures c.graph-graph.ensures c.in-Ok-parents_of_arrival.ensures.answer)).graph
 
 -- all that the taking left
 ends : (g : given.Over) (c : goal.After-take g) → IsPut g.V.Verifier.accepts (node_view c.self.inside.keys c.self.inside.chronicle)
     (node_view c.self.inside.keys c.take.new.chronicle) c.take.new.chronicle c.args.bytes.now c.take.result
 ends g c =
     put_ends g.V.Verifier.accepts c.self.inside.keys c.self.inside.chronicle c.args.bytes.now c.self.invariant (row_of c.in-Ok.view) c.in-Ok.ensures.exact
-    c.take.result c.take.new.chronicle (λ i. omega (arith, c.type_inv.bytes i)) c.in-Ok-parents_of_arrival.ensures.answer c.take.ensures.answer c.take.ensures.ok c.take.ensures.err
+    c.take.result c.take.new.chronicle (λ i. omega (arith, c.type_inv.bytes i)) (rules_at (g.V.Verifier.accepts c.self.inside.keys) c.self.inside.chronicle (row_of c.in-Ok.view) None c.own.result c.graph-graph.result.now.graph c.own.ensures c.graph-graph.ensures c.in-Ok-parents_of_arrival.ensures.answer) c.take.ensures.answer c.take.ensures.ok c.take.ensures.err
 
 pub invariant_of-self : goal.invariant_of-self
 invariant_of-self g c = (ends g c).recorded
@@ -39,10 +39,10 @@ pub returns-in-Err-parents_of_arrival-clause-answer : goal.returns-in-Err-parent
 returns-in-Err-parents_of_arrival-clause-answer g c =
     rw (← c.self.view_is)
     (put_refused g.V.Verifier.accepts c.self.inside.keys c.self.inside.chronicle c.args.bytes.now c.self.invariant (row_of c.in-Ok.view) c.in-Ok.ensures.exact
-    c.in-Err-parents_of_arrival.answer c.in-Err-parents_of_arrival.ensures.answer).0
+    c.in-Err-parents_of_arrival.answer (rules_at (g.V.Verifier.accepts c.self.inside.keys) c.self.inside.chronicle (row_of c.in-Ok.view) (Some c.in-Err-parents_of_arrival.answer) c.own.result c.graph-graph.result.now.graph c.own.ensures c.graph-graph.ensures c.in-Err-parents_of_arrival.ensures.answer)).0
 
 pub returns-in-Err-parents_of_arrival-clause-ok : goal.returns-in-Err-parents_of_arrival-clause-ok
 returns-in-Err-parents_of_arrival-clause-ok g c =
     rw (← c.self.view_is)
     (put_refused g.V.Verifier.accepts c.self.inside.keys c.self.inside.chronicle c.args.bytes.now c.self.invariant (row_of c.in-Ok.view) c.in-Ok.ensures.exact
-    c.in-Err-parents_of_arrival.answer c.in-Err-parents_of_arrival.ensures.answer).1
+    c.in-Err-parents_of_arrival.answer (rules_at (g.V.Verifier.accepts c.self.inside.keys) c.self.inside.chronicle (row_of c.in-Ok.view) (Some c.in-Err-parents_of_arrival.answer) c.own.result c.graph-graph.result.now.graph c.own.ensures c.graph-graph.ensures c.in-Err-parents_of_arrival.ensures.answer)).1
