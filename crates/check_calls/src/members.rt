@@ -1,8 +1,6 @@
-ghost use Rattle.std.specs.Prelude.{◌≡◌, true, IfOk};
-ghost use Rattle.hg_model.specs.Members.{IsEntry, is_member_name};
-
-use hg_model::{Bytes, MemberEntry, Memory};
+use hg_model::{Bytes, MemberEntry, Members, Memory};
 use std::alloc::Global;
+use std::process::Abort;
 
 /// A member with a secret of one byte.
 pub(crate) fn entry(
@@ -11,16 +9,16 @@ pub(crate) fn entry(
     secret: u8,
     balance: u64,
     has_node: bool,
-) -> Result<MemberEntry, Memory>
-    requires { is_member_name name.now ≡ true }
-    ensures lawful { IfOk result (λ e. IsEntry e) }
-    ensures named { IfOk result (λ e. e.name ≡ name.now) }
-    ensures balance { IfOk result (λ e. e.balance ≡ balance) }
-{
+) -> Result<MemberEntry, Memory> {
     Ok(MemberEntry {
         name: Bytes::from_vec(Vec::from_slice(alloc, name)?),
         secret: Bytes::from_vec(Vec::from_slice(alloc, &[secret])?),
         balance,
         has_node,
     })
+}
+
+/// These members with a coin period of 10 rounds. The tests' members are lawful.
+pub(crate) fn members_of(rt: &impl Abort, entries: Vec<MemberEntry>) -> Members {
+    Members::try_new(entries, 10).ok().expect(rt, "lawful members")
 }

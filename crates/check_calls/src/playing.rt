@@ -1,6 +1,6 @@
 //! What the tests of nodes share: players, and what they do.
 
-use crate::members::entry;
+use crate::members::{entry, members_of};
 use hg_model::{MakeAnswer, Members, Memory, Name, PutAnswer};
 use hg_node::Node;
 use hg_sign::MacTable;
@@ -14,11 +14,11 @@ pub(crate) fn equal<T: Copy + Debug + PartialEq>(rt: &impl Abort, found: T, want
 }
 
 /// A, who has 100, and B, who has nothing.
-fn two_members(alloc: Global) -> Result<Members, Memory> {
+fn two_members(rt: &impl Abort, alloc: Global) -> Result<Members, Memory> {
     let mut entries = Vec::new(alloc);
     entries.push(entry(alloc, b"A", 1, 100, true)?)?;
     entries.push(entry(alloc, b"B", 2, 0, true)?)?;
-    Ok(Members::new(entries, 10))
+    Ok(members_of(rt, entries))
 }
 
 /// The node of a member. The tests hold nodes in this alone: it goes in a call, which is proved once, where each place
@@ -50,7 +50,7 @@ pub(crate) fn player_of(
 
 /// A and B.
 pub(crate) fn two_players(rt: &impl Abort, alloc: Global) -> Result<(Player, Player), Memory> {
-    let members = two_members(alloc)?;
+    let members = two_members(rt, alloc)?;
     let a = player_of(rt, alloc, &members, 0)?;
     let b = player_of(rt, alloc, &members, 1)?;
     Ok((a, b))

@@ -1,4 +1,4 @@
-use crate::members::entry;
+use crate::members::{entry, members_of};
 use crate::playing::{Player, begin, equal, give, player_of, sync, two_players};
 use hg_fame::elect_share;
 use hg_model::{Members, Memory, Placed, PutAnswer, Share};
@@ -8,13 +8,13 @@ use hg_votes::VoteTable;
 use std::alloc::Global;
 use std::process::Abort;
 
-fn four_members(alloc: Global) -> Result<Members, Memory> {
+fn four_members(rt: &impl Abort, alloc: Global) -> Result<Members, Memory> {
     let mut entries = Vec::new(alloc);
     entries.push(entry(alloc, b"A", 1, 0, true)?)?;
     entries.push(entry(alloc, b"B", 2, 0, true)?)?;
     entries.push(entry(alloc, b"C", 3, 0, true)?)?;
     entries.push(entry(alloc, b"D", 4, 0, true)?)?;
-    Ok(Members::new(entries, 10))
+    Ok(members_of(rt, entries))
 }
 
 /// Publishes what the node's graph, frozen as it is, has found; tells how many were marked.
@@ -130,7 +130,7 @@ fn four_players(
     rt: &impl Abort,
     alloc: Global,
 ) -> Result<(Player, Player, Player, Player), Memory> {
-    let members = four_members(alloc)?;
+    let members = four_members(rt, alloc)?;
     let a = player_of(rt, alloc, &members, 0)?;
     let b = player_of(rt, alloc, &members, 1)?;
     let c = player_of(rt, alloc, &members, 2)?;

@@ -1,28 +1,29 @@
-use crate::members::entry;
+use crate::members::{entry, members_of};
 use hg_model::{Items, Members, Memory};
 use hg_script::{Line, ScriptFault, Why, read_script};
 use std::alloc::{AllocError, Global};
+use std::process::Abort;
 use std::test::Fail;
 
 /// The members m0 and m1, and n without a node.
-fn three_members(alloc: Global) -> Result<Members, Memory> {
+fn three_members(rt: &impl Abort, alloc: Global) -> Result<Members, Memory> {
     let entries = [
         entry(alloc, b"m0", 1, 0, true)?,
         entry(alloc, b"m1", 1, 0, true)?,
         entry(alloc, b"n", 1, 0, false)?,
     ];
-    Ok(Members::new(Vec::from_array(alloc, entries)?, 10))
+    Ok(members_of(rt, Vec::from_array(alloc, entries)?))
 }
 
-fn lines_of(alloc: Global, bytes: &[u8]) -> Result<Items<Line>, Fail> {
-    match read_script(alloc, bytes, &three_members(alloc)?)? {
+fn lines_of(rt: &impl Abort, alloc: Global, bytes: &[u8]) -> Result<Items<Line>, Fail> {
+    match read_script(alloc, bytes, &three_members(rt, alloc)?)? {
         Ok(lines) => Ok(lines),
         Err(_) => Err("refused".into()),
     }
 }
 
-fn fault_of(alloc: Global, bytes: &[u8]) -> Result<Option<ScriptFault>, Fail> {
-    Ok(read_script(alloc, bytes, &three_members(alloc)?)?.err())
+fn fault_of(rt: &impl Abort, alloc: Global, bytes: &[u8]) -> Result<Option<ScriptFault>, Fail> {
+    Ok(read_script(alloc, bytes, &three_members(rt, alloc)?)?.err())
 }
 
 const SCRIPT: &[u8] =
@@ -76,7 +77,7 @@ const LINES: [(u64, &str); 17] = [
 
 #[test]
 fn lines_are_read(rt: HostRuntime) -> Result<(), Fail> {
-    let lines = lines_of(rt.alloc(), SCRIPT)?;
+    let lines = lines_of(&rt, rt.alloc(), SCRIPT)?;
     assert_eq!(rt; lines.as_slice().len(), LINES.len());
     for (line, (number, action)) in lines.as_slice().iter().zip(&LINES) {
         assert_eq!(rt; line.number, *number);
@@ -88,7 +89,7 @@ fn lines_are_read(rt: HostRuntime) -> Result<(), Fail> {
 
 #[test]
 fn no_bytes_are_no_lines(rt: HostRuntime) -> Result<(), Fail> {
-    let lines = lines_of(rt.alloc(), &[])?;
+    let lines = lines_of(&rt, rt.alloc(), &[])?;
     assert!(rt; lines.as_slice().is_empty());
     Ok(())
 }
@@ -119,7 +120,7 @@ const DIGITS: [(&[u8], usize, Option<ScriptFault>); 5] = [
 fn digits_have_a_limit(rt: HostRuntime) -> Result<(), Fail> {
     for (front, digits, fault) in &DIGITS {
         let line = digits_line(rt.alloc(), front, *digits)?;
-        assert_eq!(rt; fault_of(rt.alloc(), line.as_slice())?, *fault, "{digits}");
+        assert_eq!(rt; fault_of(&rt, rt.alloc(), line.as_slice())?, *fault, "{digits}");
     }
     Ok(())
 }
@@ -161,7 +162,7 @@ fn whys_are_known(rt: HostRuntime) -> Result<(), Fail> {
             line: *line,
             why: *why,
         };
-        assert_eq!(rt; fault_of(rt.alloc(), text)?, Some(fault), "{text:?}");
+        assert_eq!(rt; fault_of(&rt, rt.alloc(), text)?, Some(fault), "{text:?}");
     }
     Ok(())
 }

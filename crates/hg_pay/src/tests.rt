@@ -1,13 +1,10 @@
-ghost use Rattle.std.specs.Prelude.{◌≡◌, true, IfOk};
-
 use crate::{Book, Ledger, read_pay, write_pay};
 use hg_model::{Bytes, Effect, MemberEntry, Members, Memory, Transfer};
 use std::alloc::Global;
+use std::process::Abort;
 use std::test::Fail;
 
-fn entry(alloc: Global, name: &[u8], balance: u64) -> Result<MemberEntry, Memory>
-    ensures { IfOk result (λ e. e ≡ record { name = name.now; secret = name.now; balance = balance; has_node = true }) }
-{
+fn entry(alloc: Global, name: &[u8], balance: u64) -> Result<MemberEntry, Memory> {
     Ok(MemberEntry {
         name: Bytes::from_vec(Vec::from_slice(alloc, name)?),
         secret: Bytes::from_vec(Vec::from_slice(alloc, name)?),
@@ -16,11 +13,11 @@ fn entry(alloc: Global, name: &[u8], balance: u64) -> Result<MemberEntry, Memory
     })
 }
 
-fn two_members(alloc: Global) -> Result<Members, Memory> {
+fn two_members(rt: &impl Abort, alloc: Global) -> Result<Members, Memory> {
     let mut entries = Vec::new(alloc);
     entries.push(entry(alloc, b"A", 100)?)?;
     entries.push(entry(alloc, b"B", 0)?)?;
-    Ok(Members::new(entries, 10))
+    Ok(Members::try_new(entries, 10).ok().expect(rt, "lawful members"))
 }
 
 /// A payload, what came of it, and what both hold then.
@@ -66,7 +63,7 @@ const CASES: [Case; 5] = [
 
 #[test]
 fn pays_what_is_held(rt: HostRuntime) -> Result<(), Fail> {
-    let mut book = Book::new(rt.alloc(), &two_members(rt.alloc())?)?;
+    let mut book = Book::new(rt.alloc(), &two_members(&rt, rt.alloc())?)?;
     for case in &CASES {
         let effect = book.apply_payload(case.payer, case.payload);
         assert_eq!(rt; effect, case.effect);
@@ -77,7 +74,7 @@ fn pays_what_is_held(rt: HostRuntime) -> Result<(), Fail> {
 
 #[test]
 fn tells_which_transfers_were_done(rt: HostRuntime) -> Result<(), Fail> {
-    let mut book = Book::new(rt.alloc(), &two_members(rt.alloc())?)?;
+    let mut book = Book::new(rt.alloc(), &two_members(&rt, rt.alloc())?)?;
     for (case, bits) in CASES[..3].iter().zip([0b01, 0b10, 0b01]) {
         let Some(pay) = read_pay(case.payload) else {
             return Err(Fail::new("no transfers"));
@@ -109,7 +106,7 @@ fn writes_what_is_read(rt: HostRuntime) -> Result<(), Fail> {
 
 #[test]
 fn begins_without_effects(rt: HostRuntime) -> Result<(), Fail> {
-    let mut ledger = Ledger::new(rt.alloc(), &two_members(rt.alloc())?)?;
+    let mut ledger = Ledger::new(rt.alloc(), &two_members(&rt, rt.alloc())?)?;
     ledger.reserve(4)?;
     ledger.reserve(2)?;
     assert!(rt; ledger.effects().is_empty());

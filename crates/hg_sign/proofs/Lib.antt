@@ -1,3 +1,2 @@
 pub mod Differing
 pub mod Secrets
-pub mod TwoMembers

@@ -1,9 +1,8 @@
-ghost use Rattle.std.specs.Prelude.{◌≡◌, true, IfOk};
-
 use crate::key::Key;
 use crate::{MacTable, Signer, Verifier};
 use hg_model::{Bytes, MemberEntry, Members, Memory};
 use std::alloc::Global;
+use std::process::Abort;
 use std::test::Fail;
 
 // RFC 4231, section 4.2.
@@ -14,9 +13,7 @@ const FIRST_MAC: [u8; 64] = [
     0xbe, 0x9d, 0x91, 0x4e, 0xeb, 0x61, 0xf1, 0x70, 0x2e, 0x69, 0x6c, 0x20, 0x3a, 0x12, 0x68, 0x54,
 ];
 
-fn entry(alloc: Global, name: &[u8], secret: &[u8]) -> Result<MemberEntry, Memory>
-    ensures { IfOk result (λ e. e ≡ record { name = name.now; secret = secret.now; balance = 0; has_node = true }) }
-{
+fn entry(alloc: Global, name: &[u8], secret: &[u8]) -> Result<MemberEntry, Memory> {
     Ok(MemberEntry {
         name: Bytes::from_vec(Vec::from_slice(alloc, name)?),
         secret: Bytes::from_vec(Vec::from_slice(alloc, secret)?),
@@ -25,11 +22,11 @@ fn entry(alloc: Global, name: &[u8], secret: &[u8]) -> Result<MemberEntry, Memor
     })
 }
 
-fn two_members(alloc: Global) -> Result<Members, Memory> {
+fn two_members(rt: &impl Abort, alloc: Global) -> Result<Members, Memory> {
     let mut entries = Vec::new(alloc);
     entries.push(entry(alloc, b"A", &[0x0b; 20])?)?;
     entries.push(entry(alloc, b"B", b"Jefe")?)?;
-    Ok(Members::new(entries, 10))
+    Ok(Members::try_new(entries, 10).ok().expect(rt, "lawful members"))
 }
 
 #[test]
@@ -41,7 +38,7 @@ fn gives_the_first_mac_of_the_standard(rt: HostRuntime) -> Result<(), Fail> {
 
 #[test]
 fn signs_for_members(rt: HostRuntime) -> Result<(), Fail> {
-    let table = MacTable::new(rt.alloc(), &two_members(rt.alloc())?)?;
+    let table = MacTable::new(rt.alloc(), &two_members(&rt, rt.alloc())?)?;
     let sig = table.sign(0, b"Hi There");
     assert_eq!(rt; sig.as_slice(), FIRST_MAC.as_slice());
     assert!(rt; table.check(0, b"Hi There", &sig));
