@@ -1,16 +1,17 @@
 -- A step of the loop that makes the ballots on one row
-use Rattle.std.proofs.Common.{◌≡◌, ◌≢◌, ℕ, ◌<◌, ◌≤◌, Bool, false, cond, ◌&&◌, not, eqb, List, length, count_by, sym, refl, ap, ap₂, ◌∙◌, arith}
+use Rattle.std.proofs.Common.{◌≡◌, ◌≢◌, ℕ, ◌<◌, Bool, false, cond, ◌&&◌, not, eqb, List, length, count_by, sym, refl, ap, ap₂, ◌∙◌, arith}
 use Rattle.std.specs.List.{AllByRecursion}
 use Rattle.std.proofs.lemmas.Bool.{eq-eqb, ne_eqb, and_left, and_right, false_from_ne_true}
 use Rattle.hg_model.specs.declared.ballot.Ballot.{Ballot}
 use Rattle.hg_model.specs.Places.{count_below, IsEarlier}
 use Rattle.hg_model.specs.Links.{parents}
+use Rattle.hg_model.specs.Stakes.{member_count, total}
 use Rattle.hg_model.specs.Seeing.{sees}
 use Rattle.hg_model.specs.Rounds.{is_witness}
 use Rattle.hg_model.specs.Order.{coin_at}
 use Rattle.hg_model.specs.Prefix.{Graph, ballot_of, links_of}
 use Rattle.hg_model.specs.Votes.{is_voter, weighed_vote, weighed_decides, yes_votes, no_votes, rounds_above, vote_of, decides}
-use Rattle.hg_model.proofs.PlacesLaws.{weight_below-same, weight_below-longer}
+use Rattle.hg_model.proofs.PlacesLaws.{weight_below-same, weight_below-longer, total-count}
 use Rattle.hg_model.proofs.ListLaws.{count_by-list_below, all_list_below}
 use Rattle.hg_model.proofs.VoteLaws.{vote_of-at}
 use Rattle.hg_votes.specs.declared.tally.Tally.{Tally}
@@ -40,7 +41,7 @@ module _ (g : Graph) (x y : ℕ) (e : IsEarlier (parents (links_of g))) (there :
 
   -- any other number of rounds above x
   pub ballot_far : (voters : List ℕ) (above n c : ℕ) (bit : Bool) (tally : Tally) (weighed : Ballot) (witness : Bool) →
-      voters ≡ voters_of g y → above ≡ rounds_above g.members (links_of g) x y → above ≢ 1 → n ≡ g.members → c ≡ g.coin → bit ≡ coin_at g.rows y →
+      voters ≡ voters_of g y → above ≡ rounds_above g.members (links_of g) x y → above ≢ 1 → n ≡ member_count g.members → c ≡ g.coin → bit ≡ coin_at g.rows y →
       tally ≡ tally_of ballots voters → weighed ≡ record { vote = weighed_vote n c above tally.yes tally.no bit; decides = weighed_decides n c above tally.yes tally.no } →
       witness ≡ is_witness g.members (links_of g) y → ◌≡◌ {A = Ballot} (record { vote = weighed.vote; decides = witness && weighed.decides }) (ballot_of g x y)
   unfolding decides
@@ -51,13 +52,14 @@ module _ (g : Graph) (x y : ℕ) (e : IsEarlier (parents (links_of g))) (there :
       let no_count = no_votes g.members L (vote_of g.members g.coin L coin x) y in
       let yes_same : tally.yes ≡ yes_count = ap (λ (t : Tally). t.yes) (tally_is ∙ ap (tally_of ballots) voters_is) ∙ counted_as (λ v. v) in
       let no_same : tally.no ≡ no_count = ap (λ (t : Tally). t.no) (tally_is ∙ ap (tally_of ballots) voters_is) ∙ counted_as not in
+      let all_is : n ≡ total g.members = n_is ∙ sym (total-count g.members) in
       let not_one : eqb (rounds_above g.members L x y) 1 ≡ false = ne_eqb (rounds_above g.members L x y) 1 (λ e. far (above_is ∙ e)) in
       let vote_same : weighed.vote ≡ vote_of g.members g.coin L coin x y =
-      ap (λ (b : Ballot). b.vote) weighed_is ∙ (rw (n_is, c_is, above_is, yes_same, no_same, bit_is) refl
+      ap (λ (b : Ballot). b.vote) weighed_is ∙ (rw (all_is, c_is, above_is, yes_same, no_same, bit_is) refl
       ∙ sym (vote_of-at g.members g.coin L coin x y
-      ∙ ap (λ b. cond b (sees L y x) (weighed_vote g.members g.coin (rounds_above g.members L x y) yes_count no_count (coin y))) not_one)) in
-      let decides_same : weighed.decides ≡ weighed_decides g.members g.coin (rounds_above g.members L x y) yes_count no_count =
-      ap (λ (b : Ballot). b.decides) weighed_is ∙ rw (n_is, c_is, above_is, yes_same, no_same) refl in
+      ∙ ap (λ b. cond b (sees L y x) (weighed_vote (total g.members) g.coin (rounds_above g.members L x y) yes_count no_count (coin y))) not_one)) in
+      let decides_same : weighed.decides ≡ weighed_decides (total g.members) g.coin (rounds_above g.members L x y) yes_count no_count =
+      ap (λ (b : Ballot). b.decides) weighed_is ∙ rw (all_is, c_is, above_is, yes_same, no_same) refl in
       ap₂ (λ v d. record { vote = v; decides = d }) vote_same (ap₂ (λ a b. a && b) witness_is decides_same)
 
 -- one round above x
@@ -73,6 +75,6 @@ ballot_next g x y above vote above_is one vote_is =
     let no_count = no_votes n L (vote_of n g.coin L coin x) y in
     let vote_same : vote ≡ vote_of n g.coin L coin x y =
     vote_is ∙ sym (vote_of-at n g.coin L coin x y
-    ∙ ap (λ b. cond b (sees L y x) (weighed_vote n g.coin (rounds_above n L x y) yes_count no_count (coin y))) (eq-eqb (rounds_above n L x y) 1 at_one)) in
-    let none : weighed_decides n g.coin (rounds_above n L x y) yes_count no_count ≡ false = rw at_one refl in
+    ∙ ap (λ b. cond b (sees L y x) (weighed_vote (total n) g.coin (rounds_above n L x y) yes_count no_count (coin y))) (eq-eqb (rounds_above n L x y) 1 at_one)) in
+    let none : weighed_decides (total n) g.coin (rounds_above n L x y) yes_count no_count ≡ false = rw at_one refl in
     ap₂ (λ v d. record { vote = v; decides = d }) vote_same (sym (and_right (is_witness n L y) _ none))

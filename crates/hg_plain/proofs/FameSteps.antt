@@ -3,6 +3,7 @@ use Rattle.std.proofs.Common.{◌≡◌, ℕ, ◌+◌, ◌<◌, Bool, true, fals
 use Rattle.std.proofs.lemmas.Bool.{cases_Bool}
 use Rattle.hg_model.specs.declared.ballot.Ballot.{Ballot}
 use Rattle.hg_model.specs.Places.{lesser_of, least_below}
+use Rattle.hg_model.specs.Stakes.{Stakes}
 use Rattle.hg_model.specs.Links.{Link}
 use Rattle.hg_model.specs.Rounds.{round_of, is_witness}
 use Rattle.hg_model.specs.Votes.{vote_of, decides}
@@ -17,7 +18,7 @@ use Rattle.hg_plain.specs.Tables.{IsTableOf}
 use Rattle.hg_plain.specs.declared.fame.Decision.{Decision}
 use Rattle.hg_plain.specs.Elections.{decides_at, decision_at, earlier_of, decided_vote}
 
-first_of-decision_at : (n : ℕ) (L : List Link) (ballots : List Ballot) (earlier : Option ℕ) (y : ℕ) →
+first_of-decision_at : (n : Stakes) (L : List Link) (ballots : List Ballot) (earlier : Option ℕ) (y : ℕ) →
     earlier_of (option_map (decision_at n L ballots) earlier) (decision_at n L ballots y) ≡ decision_at n L ballots (lesser_of (round_of n L) earlier y)
 first_of-decision_at n L ballots None y = refl
 first_of-decision_at n L ballots (Some z) y = elim (cases_Bool (leb (round_of n L z) (round_of n L y))) [
@@ -26,14 +27,14 @@ first_of-decision_at n L ballots (Some z) y = elim (cases_Bool (leb (round_of n 
 ]
 
 -- the first decision below y
-pub first_decision_zero : (n : ℕ) (L : List Link) (ballots : List Ballot) → option_map (decision_at n L ballots) (least_below (round_of n L) 0 (decides_at ballots)) ≡ None
+pub first_decision_zero : (n : Stakes) (L : List Link) (ballots : List Ballot) → option_map (decision_at n L ballots) (least_below (round_of n L) 0 (decides_at ballots)) ≡ None
 first_decision_zero n L ballots = ap (option_map (decision_at n L ballots)) (least_below_zero (round_of n L) (decides_at ballots))
 
-pub first_decision_fails : (n : ℕ) (L : List Link) (ballots : List Ballot) (y : ℕ) → decides_at ballots y ≡ false →
+pub first_decision_fails : (n : Stakes) (L : List Link) (ballots : List Ballot) (y : ℕ) → decides_at ballots y ≡ false →
     option_map (decision_at n L ballots) (least_below (round_of n L) (y + 1) (decides_at ballots)) ≡ option_map (decision_at n L ballots) (least_below (round_of n L) y (decides_at ballots))
 first_decision_fails n L ballots y fails = ap (option_map (decision_at n L ballots)) (least_below_fails (round_of n L) y (decides_at ballots) fails)
 
-pub first_decision_passes : (n : ℕ) (L : List Link) (ballots : List Ballot) (y : ℕ) → decides_at ballots y ≡ true →
+pub first_decision_passes : (n : Stakes) (L : List Link) (ballots : List Ballot) (y : ℕ) → decides_at ballots y ≡ true →
     option_map (decision_at n L ballots) (least_below (round_of n L) (y + 1) (decides_at ballots))
     ≡ Some (earlier_of (option_map (decision_at n L ballots) (least_below (round_of n L) y (decides_at ballots))) (decision_at n L ballots y))
 first_decision_passes n L ballots y passes =

@@ -4,6 +4,7 @@ use Rattle.std.proofs.Math.Bool.{and-false}
 use Rattle.std.proofs.lemmas.Bool.{cases_lt, ltb-true, ltb-false, lt-ltb, le-ltb, eq-eqb, ne_eqb}
 use Rattle.hg_model.specs.declared.row.Row.{Row}
 use Rattle.hg_model.specs.declared.row.Placed.{Placed}
+use Rattle.hg_model.specs.Stakes.{Stakes}
 use Rattle.hg_model.specs.Links.{Link}
 use Rattle.hg_model.specs.Fame.{Marks}
 use Rattle.hg_model.specs.Order.{ordered_in, ordered, round_received, can_receive}
@@ -26,7 +27,7 @@ just_last z r = elim (cases_lt z r) [
   ]
 ]
 
-module _ (n : ℕ) (G : List Row) (L : List Link) (marks : Marks) where
+module _ (n : Stakes) (G : List Row) (L : List Link) (marks : Marks) where
   pub before_none : ordered_before n G L marks 0 ≡ []
   unfolding ordered_before
   before_none =

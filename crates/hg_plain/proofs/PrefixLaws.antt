@@ -3,6 +3,7 @@ use Rattle.std.proofs.Common.{◌≡◌, ℕ, suc, ◌<◌, eqb, List, [], lengt
 use Rattle.std.proofs.lemmas.Bool.{cases_lt, and_right, ne_eqb}
 use Rattle.std.proofs.lemmas.List.{get_or_past}
 use Rattle.hg_model.specs.Places.{list_below}
+use Rattle.hg_model.specs.Stakes.{Stakes}
 use Rattle.hg_model.specs.Links.{Link}
 use Rattle.hg_model.specs.Rounds.{round_of, is_witness, last_round}
 use Rattle.hg_model.specs.Fame.{Marks, is_witness_of_round}
@@ -16,7 +17,7 @@ use Rattle.hg_plain.specs.Tables.{IsTableOf}
 use Rattle.hg_plain.specs.Held.{witnesses_of}
 use Rattle.hg_plain.specs.Rounds.{is_round}
 
-module _ (n : ℕ) (L : List Link) (r : ℕ) where
+module _ (n : Stakes) (L : List Link) (r : ℕ) where
   -- no round above the greatest has witnesses
   none_above : last_round n L < r → witnesses_of n L r ≡ []
   unfolding witnesses_of last_round

@@ -4,12 +4,13 @@ use Rattle.std.specs.List.{list_any}
 use Rattle.std.specs.Global.{Vec}
 use Rattle.std.proofs.lemmas.Bool.{eq-eqb, ne_eqb}
 use Rattle.hg_model.specs.Places.{count_below, maximum_below, IsEarlier}
+use Rattle.hg_model.specs.Stakes.{Stakes, member_count, total}
 use Rattle.hg_model.specs.Links.{Link, creator, parents, self_parent}
 use Rattle.hg_model.specs.Ancestry.{is_ancestor, is_self_ancestor}
 use Rattle.hg_model.specs.Seeing.{sees, sees_through, is_supermajority}
-use Rattle.hg_model.specs.Rounds.{parent_round, is_witness_by, is_seen_witness, round_of, is_witness, last_round}
+use Rattle.hg_model.specs.Rounds.{parent_round, is_witness_by, is_seen_witness, round_of, is_witness, last_round, weight_of}
 use Rattle.hg_model.proofs.RoundLaws.{is_witness_by-same, round_of-at, round_from-same}
-use Rattle.hg_model.proofs.PlacesLaws.{weight_below-same, maximum_below-same}
+use Rattle.hg_model.proofs.PlacesLaws.{weight_below-same, maximum_below-same, total-count}
 use Rattle.hg_model.proofs.ReachLaws.{list_any-same}
 use Rattle.hg_model.proofs.AncestryLaws.{self_parent_earlier, is_ancestor-at, is_ancestor_self, is_self_ancestor-at, is_self_ancestor_self, some_ancestor-at}
 use Rattle.hg_plain.specs.By.{is_ancestor_by, parents_by}
@@ -62,21 +63,23 @@ pub and_given : (a s v : Bool) → a ≡ true → v ≡ s → v ≡ (a && s)
 and_given a s v passes is = is ∙ sym (ap (λ b. b && s) passes)
 
 -- the next round, from the rounds before it
-pub round_next : (n : ℕ) (L : List Link) → IsEarlier (parents L) → (rounds : List ℕ) (x r count : ℕ) (many : Bool) → IsTableOf 0 (round_of n L) x rounds →
+pub round_next : (n : Stakes) (L : List Link) → IsEarlier (parents L) → (rounds : List ℕ) (x r count : ℕ) (many : Bool) → IsTableOf 0 (round_of n L) x rounds →
     r ≡ parent_round (λ p. get_or rounds p 0) (parents L x) → count ≡ count_below x (is_seen_witness (λ k. get_or rounds k 0) n L r x) →
-    many ≡ is_supermajority n count → cond many (r + 1) r ≡ round_of n L x
+    many ≡ is_supermajority (member_count n) count → cond many (r + 1) r ≡ round_of n L x
 round_next n L e rounds x r count many matches r_is count_is many_is =
+    let weighs : count ≡ weight_of n L x (is_seen_witness (λ k. get_or rounds k 0) n L r x) = count_is in
+    let over : many ≡ is_supermajority (total n) count = many_is ∙ ap (λ all. is_supermajority all count) (sym (total-count n)) in
     sym (round_of-at n L e x
     ∙ (round_from-same n L e (round_of n L) (λ k. get_or rounds k 0) x (λ p h. sym (matches.at p h))
-    ∙ rw (← r_is, ← count_is, ← many_is) refl))
+    ∙ rw (← r_is, ← weighs, ← over) refl))
 
-pub last_round_known : (n : ℕ) (L : List Link) (rounds : List ℕ) → IsTableOf 0 (round_of n L) (length L) rounds →
+pub last_round_known : (n : Stakes) (L : List Link) (rounds : List ℕ) → IsTableOf 0 (round_of n L) (length L) rounds →
     maximum_below (λ x. get_or rounds x 0) (length rounds) ≡ last_round n L
 unfolding last_round
 last_round_known n L rounds matches =
     ap (λ k. maximum_below (λ x. get_or rounds x 0) k) matches.len ∙ maximum_below-same (λ x. get_or rounds x 0) (round_of n L) (length L) (λ x h. matches.at x h)
 
-pub is_witness_known : (n : ℕ) (L : List Link) → IsEarlier (parents L) → (rounds : List ℕ) (x : ℕ) → IsTableOf 0 (round_of n L) (length L) rounds → x < length L →
+pub is_witness_known : (n : Stakes) (L : List Link) → IsEarlier (parents L) → (rounds : List ℕ) (x : ℕ) → IsTableOf 0 (round_of n L) (length L) rounds → x < length L →
     is_witness_by (λ p. get_or rounds p 0) L x ≡ is_witness n L x
 unfolding is_witness
 is_witness_known n L e rounds x matches h = is_witness_by-same n L e (λ p. get_or rounds p 0) (round_of n L) x (λ p le. matches.at p (omega arith))

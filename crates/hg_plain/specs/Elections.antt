@@ -2,6 +2,7 @@
 use Rattle.std.specs.Prelude.{ℕ, Bool, cond, List, [], length, Option, Some, None, option_map, nat_le, get_or}
 use Rattle.hg_model.specs.declared.ballot.Ballot.{Ballot}
 use Rattle.hg_model.specs.Places.{least_below}
+use Rattle.hg_model.specs.Stakes.{Stakes}
 use Rattle.hg_model.specs.Links.{Link}
 use Rattle.hg_model.specs.Rounds.{round_of}
 use Rattle.hg_model.specs.Shape.{Shape}
@@ -23,7 +24,7 @@ abbrev pub decides_at : List Ballot → ℕ → Bool
 decides_at ballots y = (get_or ballots y no_ballot).decides
 
 -- the decision of row y
-abbrev pub decision_at : ℕ → List Link → List Ballot → ℕ → Decision
+abbrev pub decision_at : Stakes → List Link → List Ballot → ℕ → Decision
 decision_at n L ballots y = record { round = round_of n L y; vote = vote_at ballots y }
 
 -- the decision of the first decider, by round and then by place

@@ -3,6 +3,7 @@ use Rattle.std.specs.Prelude.{ℕ, suc, ◌≡◌, ◌<◌, ◌≤◌, ◌-◌, 
 use Rattle.std.specs.Global.{Vec}
 use Rattle.hg_model.specs.declared.row.Row.{Row}
 use Rattle.hg_model.specs.Places.{count_below, list_below}
+use Rattle.hg_model.specs.Stakes.{Stakes, member_count}
 use Rattle.hg_model.specs.Links.{Link, links}
 use Rattle.hg_model.specs.Shape.{Shape, shape_of}
 use Rattle.hg_model.specs.Fame.{Marks, is_closed, is_witness_of_round}
@@ -16,9 +17,9 @@ use Rattle.hg_plain.specs.By.{IsAncestorTable}
 use Rattle.hg_plain.specs.declared.ancestry.By.TheVariants.{Parents, SelfParent}
 use Rattle.hg_plain.specs.Tables.{IsTableOf, IsTableOfPairs}
 
--- for each of n members the rows with a fork of that member below them
+-- for each member the rows with a fork of that member below them
 abbrev pub IsForkTable : ℕ → List Link → List (Vec Bool) → Type 0
-IsForkTable n L columns = IsTableOfPairs (has_fork_below L) (length L) n columns
+IsForkTable n L columns = IsTableOfPairs (has_fork_below L) (length L) (member_count n) columns
 
 -- which of the rows before x see row y through member m
 abbrev pub IsThroughColumn : Shape → ℕ → ℕ → ℕ → List Bool → Type 0
@@ -26,7 +27,7 @@ IsThroughColumn s y m x column = IsTableOf false (λ k. sees_through s.links k y
 
 -- for each member the rows that see row y through it
 abbrev pub IsThroughTable : Shape → ℕ → List (Vec Bool) → Type 0
-IsThroughTable s y columns = IsTableOfPairs (λ x m. sees_through s.links x y m) (length s.links) s.members columns
+IsThroughTable s y columns = IsTableOfPairs (λ x m. sees_through s.links x y m) (length s.links) (member_count s.members) columns
 
 -- which rows strongly see row y
 abbrev pub IsStrongColumn : Shape → ℕ → List Bool → Type 0
@@ -56,13 +57,13 @@ pub record HoldsAncestry (L : List Link) (above self_above : List (Vec Bool)) : 
   pub ancestors : IsAncestorTable Parents L above
   pub self_ancestors : IsAncestorTable SelfParent L self_above
 
--- a shaped graph, and for each of its n members the rows with a fork of that member below them
-pub record HoldsForkTable (n : ℕ) (L : List Link) (below : List (Vec Bool)) : Type 0 where
+-- a shaped graph, and for each of its members the rows with a fork of that member below them
+pub record HoldsForkTable (n : Stakes) (L : List Link) (below : List (Vec Bool)) : Type 0 where
   pub shaped : IsShaped n L
   pub forked : IsForkTable n L below
 
--- of a shaped graph of n members what strongly sees what, the rounds, how many members have a fork, and the greatest round
-pub record HoldsRounds (n : ℕ) (L : List Link) (strong : List (Vec Bool)) (rounds : List ℕ) (forking greatest : ℕ) : Type 0 where
+-- of a shaped graph what strongly sees what, the rounds, how many members have a fork, and the greatest round
+pub record HoldsRounds (n : Stakes) (L : List Link) (strong : List (Vec Bool)) (rounds : List ℕ) (forking greatest : ℕ) : Type 0 where
   pub shaped : IsShaped n L
   pub strongly_sees : IsStrongTable (shape_of n L) strong
   pub round_of : IsRoundTable (shape_of n L) (length L) rounds
@@ -70,7 +71,7 @@ pub record HoldsRounds (n : ℕ) (L : List Link) (strong : List (Vec Bool)) (rou
   pub last_round : greatest ≡ last_round n L
 
 -- the witnesses of round r, in order
-unfoldable pub witnesses_of : ℕ → List Link → ℕ → List ℕ
+unfoldable pub witnesses_of : Stakes → List Link → ℕ → List ℕ
 witnesses_of n L r = list_below (λ w. w) (length L) (is_witness_of_round n L r)
 
 -- for each round up to the greatest its witnesses
@@ -82,6 +83,6 @@ pub record HoldsPrefix (G : List Row) (shape : Shape) (coin : ℕ) (witnesses : 
   pub same : shape.links ≡ links G
   pub shaped : IsShaped shape.members (links G)
   pub short : length (links G) < 2 ^ 32 - 1
-  pub few : shape.members ≤ 128
+  pub few : member_count shape.members ≤ 128
   pub lawful_coin : 2 < coin
   pub witnesses_of : IsWitnessTable (shape_of shape.members (links G)) witnesses

@@ -3,6 +3,7 @@ use Rattle.std.specs.Prelude.{ℕ, Bool, ◌&&◌, ◌==◌, nat_lt, List, lengt
 use Rattle.hg_model.specs.Places.{list_below}
 use Rattle.hg_model.specs.declared.row.Row.{Row}
 use Rattle.hg_model.specs.declared.row.Placed.{Placed}
+use Rattle.hg_model.specs.Stakes.{Stakes}
 use Rattle.hg_model.specs.Links.{Link}
 use Rattle.hg_model.specs.Fame.{Marks}
 use Rattle.hg_model.specs.Order.{ordered_in}
@@ -16,5 +17,5 @@ abbrev pub places_received : List (Option ℕ) → ℕ → List ℕ
 places_received received r = list_below (λ x. x) (length received) (λ x. is_round r (get_or received x None))
 
 -- what rounds before r received, in order
-unfoldable pub ordered_before : ℕ → List Row → List Link → Marks → ℕ → List Placed
+unfoldable pub ordered_before : Stakes → List Row → List Link → Marks → ℕ → List Placed
 ordered_before n G L marks r = ordered_in n G L marks (λ k. nat_lt k r)

@@ -1,8 +1,9 @@
-ghost use Rattle.std.specs.Prelude.{◌≡◌, ◌<◌, ◌≤◌, ◌==◌, ◌++◌, ◌^◌, length, IfOk, OnOk};
+ghost use Rattle.std.specs.Prelude.{◌≡◌, ◌<◌, ◌≤◌, ◌==◌, ◌++◌, ◌^◌, length, IfOk, OnOk, None, false};
 ghost use Rattle.hg_model.specs.GraphWords.{received_order, shape_in, ordered_by};
-ghost use Rattle.hg_order.specs.Round.{received_places};
+ghost use Rattle.hg_order.specs.Round.{received_places, received_order};
 ghost use Rattle.hg_plain.specs.Held.{IsClosedTable, IsReceivedTable};
 ghost use Rattle.hg_plain.specs.Rounds.{is_round, places_received};
+ghost use Rattle.hg_model.specs.Stakes.{member_count};
 
 use crate::prefix::PlainPrefix;
 use crate::received::rounds_received;
@@ -105,7 +106,7 @@ fn place_fresh(
     placed: &mut [Placed],
 )
     requires fresh { fresh.now ≡ received_places p.now marks.now r }
-    requires room { p.now.members ≤ length places.old }
+    requires room { member_count p.now.members ≤ length places.old }
     requires same { length placed.old ≡ length fresh.now }
     ensures { placed.new ≡ received_order p.now marks.now r }
 {

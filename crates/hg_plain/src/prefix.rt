@@ -5,6 +5,7 @@ ghost use Rattle.hg_model.specs.Fame.{is_witness_of_round};
 ghost use Rattle.hg_model.specs.Prefix.{graph_of};
 ghost use Rattle.hg_model.specs.GraphWords.{standings_in, shape_in};
 ghost use Rattle.hg_plain.specs.Held.{IsWitnessTable, witnesses_of};
+ghost use Rattle.hg_model.specs.Stakes.{member_count};
 
 use crate::closed::is_witness_of_round;
 use crate::sight::PlainSight;
@@ -44,7 +45,7 @@ impl<'a> PlainPrefix<'a> {
         requires same { sight.links ≡ links rows.now }
         requires shaped { IsShaped sight.members (links rows.now) }
         requires short { length (links rows.now) < 2 ^ 32 - 1 }
-        requires few { sight.members ≤ 128 }
+        requires few { member_count sight.members ≤ 128 }
         requires coin { 2 < coin }
         ensures { IfOk result (λ p. p ≡ graph_of sight.members coin rows.now) }
     {

@@ -1,4 +1,5 @@
-ghost use Rattle.std.specs.Prelude.{◌≡◌, ◌<◌, ◌≤◌, ◌^◌, length, IfOk};
+ghost use Rattle.std.specs.Prelude.{◌≡◌, ◌<◌, ◌≤◌, ◌^◌, length, IfOk, false, None};
+ghost use Rattle.hg_model.specs.Stakes.{member_count};
 ghost use Rattle.hg_model.specs.Fame.{is_closed};
 ghost use Rattle.hg_model.specs.Order.{can_receive, round_received};
 ghost use Rattle.hg_model.specs.Prefix.{links_of};
@@ -40,7 +41,7 @@ fn round_received(
 ) -> Option<u32>
     requires closed { IsClosedTable (shape_in p.now) marks.now closed.now }
     requires row { x < length (links_of p.now) }
-    requires room { p.now.members ≤ length places.old }
+    requires room { member_count p.now.members ≤ length places.old }
     requires short { length closed.now < 2 ^ 32 }
     ensures { result ≡ received_in p.now marks.now x }
 {

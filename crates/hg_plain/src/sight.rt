@@ -1,4 +1,5 @@
 ghost use Rattle.std.specs.Prelude.{◌≡◌, ◌<◌, ◌-◌, ◌^◌, length, IfOk};
+ghost use Rattle.hg_model.specs.Stakes.{member_count};
 ghost use Rattle.hg_model.specs.Links.{links};
 ghost use Rattle.hg_model.specs.Graph.{IsShaped};
 ghost use Rattle.hg_model.specs.Shape.{shape_of};
@@ -72,7 +73,7 @@ impl PlainSight {
 
     /// How many members there are.
     pub fn members(&self) -> u32
-        ensures { result ≡ self.now.members }
+        ensures { result ≡ member_count self.now.members }
     {
         self.seeing.members()
     }
