@@ -14,9 +14,14 @@ use Rattle.hg_model.specs.declared.answers.Fault.TheVariants as fault
 use Rattle.hg_model.specs.declared.answers.PutAnswer.{PutAnswer}
 use Rattle.hg_model.specs.declared.answers.PutAnswer.TheVariants.{Refused}
 use Rattle.hg_model.specs.Prefix.{Graph}
+use Rattle.hg_model.proofs.PlacesLaws.{total-count}
+use Rattle.hg_model.proofs.ForkLaws.{forking-count}
 use Rattle.hg_model.proofs.RuleLaws.{arrives}
 use Rattle.hg_graph.proofs.NextLaws.{adds_link}
 use Rattle.hg_node.specs.Arrival.{LinkComes, arrival_by, arrival_places, parents_rule}
+
+-- each member weighs 1
+pub ruleset by_count = (total-count)
 
 -- an event that no rule refuses on its arrival fits, at a member's node and elsewhere
 pub fits_by : (accepts : Accepts) (own : Option ℕ) (g : Graph) (row : Row) → None ≡ arrival_by accepts own g row → Fits g.members g.rows row
@@ -39,5 +44,5 @@ link_comes accepts own g row parents shaped silent places =
     record {
       link = link;
       fits = subst (FitsLink n (links G)) link adds.fits;
-      forkers = ap (λ (l : Link). forkers n (links G ++ l ∷ [])) (sym link) ∙ ap (forkers n) (sym adds.added);
+      forkers = ap (λ (l : Link). forkers n (links G ++ l ∷ [])) (sym link) ∙ (ap (forkers n) (sym adds.added) ∙ sym (forking-count n (links (G ++ row ∷ []))));
     }

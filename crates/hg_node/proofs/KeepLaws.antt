@@ -3,6 +3,7 @@ use Rattle.std.proofs.Common.{◌≡◌, ℕ, ◌+◌, ◌*◌, ◌<◌, ◌≤�
 use Rattle.std.proofs.lemmas.List.{length_push}
 use Rattle.hg_model.specs.declared.row.Row.{Row}
 use Rattle.hg_model.specs.declared.entry.Entry.{Entry}
+use Rattle.hg_model.specs.Stakes.{Stakes}
 use Rattle.hg_model.specs.Graph.{IsGraph}
 use Rattle.hg_model.specs.Fame.{Marks, mark_at}
 use Rattle.hg_model.specs.Prefix.{Graph, graph_of}
@@ -22,7 +23,7 @@ unfolding marked
 few_marked g v keeps = omega (arith, count_below-le (length v.marks) (λ x. is_some (mark_at v.marks x)), keeps.even)
 
 -- at the beginning
-pub record_none : (own n coin : ℕ) (v : Published) (capacity : ℕ) → Keeps (graph_of n coin []) v → KeepsRecord own (graph_of n coin []) [] v None capacity
+pub record_none : (own : ℕ) (n : Stakes) (coin : ℕ) (v : Published) (capacity : ℕ) → Keeps (graph_of n coin []) v → KeepsRecord own (graph_of n coin []) [] v None capacity
 record_none own n coin v capacity keeps = record { keeps = keeps; last = refl; few_entries = omega arith; memory = omega arith }
 
 module _ (own : ℕ) (g : Graph) (log : List Entry) (v : Published) (last_own : Option ℕ) (capacity : ℕ) (keeps : KeepsRecord own g log v last_own capacity) where

@@ -5,6 +5,7 @@ use Rattle.std.specs.Option.{option_or}
 use Rattle.std.proofs.lemmas.Bool.{cases_lt, true≢false}
 use Rattle.std.proofs.lemmas.List.{ext_get_or, length_push, get_or_append_left, length-take-le}
 use Rattle.std.proofs.lemmas.List.FromFn.{length-map-range_with_len}
+use Rattle.hg_model.specs.Stakes.{Stakes}
 use Rattle.hg_model.specs.Fame.{Marks, mark_at}
 use Rattle.hg_model.specs.Shares.{Share, early_fame}
 use Rattle.hg_model.specs.History.{State, is_news, news, new_mark, with_marks}
@@ -44,7 +45,7 @@ or_none a None e = keeps a
     keeps (Some v) = refl
 or_none a (Some v) e = cc
 
-module _ (n c : ℕ) (s : State) (even : IsEven s) (len : ℕ) (share : Share) (within : len ≤ length s.rows) where
+module _ (n : Stakes) (c : ℕ) (s : State) (even : IsEven s) (len : ℕ) (share : Share) (within : len ≤ length s.rows) where
   after : Marks
   after = (with_marks n c s len share).marks
 

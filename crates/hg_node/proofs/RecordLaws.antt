@@ -4,7 +4,8 @@ use Rattle.std.proofs.lemmas.List.{length_push}
 use Rattle.std.proofs.lemmas.List.{length-map}
 use Rattle.hg_model.specs.declared.members.MemberEntry.{MemberEntry}
 use Rattle.hg_model.specs.declared.row.Row.{Row}
-use Rattle.hg_model.specs.Members.{MemberList, IsMemberList}
+use Rattle.hg_model.specs.Stakes.{Stakes}
+use Rattle.hg_model.specs.Members.{MemberList, IsMemberList, stakes_of}
 use Rattle.hg_model.specs.Prefix.{graph_of}
 use Rattle.hg_model.specs.declared.entry.Entry.{Entry}
 use Rattle.hg_model.specs.declared.entry.Entry.TheVariants as entry
@@ -20,8 +21,9 @@ use Rattle.hg_history.proofs.StateLaws.{replay-push}
 use Rattle.hg_history.proofs.SoundLaws.{sound}
 use Rattle.hg_history.proofs.LogLaws.{log_spells_history}
 use Rattle.hg_node.specs.ChronicleView.{ChronicleView, chronicle_view, no_chronicle, book_in, chronicle_state, node_view, IsRecorded}
+use Rattle.hg_model.proofs.PlacesLaws.{total-count}
 
-module _ (n c : ℕ) where
+module _ (n : Stakes) (c : ℕ) where
   next : (s : State) (row : Row) → suc (length s.rows) ≡ length (s.rows ++ row ∷ [])
   next s row = omega (arith, length_push s.rows row)
 
@@ -110,7 +112,7 @@ begins accepts members own keys lawful member = record {
     few_members = lawful.few;
     coin = lawful.coin_low;
     balances = length-map members.entries (λ (e : MemberEntry). e.balance);
-    history = record { member = member; steps = tt };
+    history = record { member = member; stake = omega (arith, total-count (stakes_of members), member); steps = tt };
   };
   rows = refl;
   log = refl;

@@ -6,7 +6,7 @@ use Rattle.hg_model.specs.Links.{links, link_in, parent_names, place_of}
 use Rattle.hg_model.specs.Forks.{forkers}
 use Rattle.hg_model.specs.Shape.{FitsLink, link_of}
 use Rattle.hg_model.specs.declared.answers.PutAnswer.{PutAnswer}
-use Rattle.hg_model.specs.Verdict.{missing_rule, creator_rule, forkers_with, forkers_rule, full_rule, member_rule, name_rule, signature_rule, impostor_rule}
+use Rattle.hg_model.specs.Verdict.{missing_rule, creator_rule, forkers_rule, full_rule, member_rule, name_rule, signature_rule, impostor_rule, forking_with}
 use Rattle.hg_model.specs.Signing.{Accepts}
 use Rattle.hg_model.specs.Spelling.{Spells}
 use Rattle.hg_model.specs.Prefix.{Graph}
@@ -47,4 +47,4 @@ StandsOn G row parents = link_in G row ≡ link_of row.creator parents
 pub record LinkComes (g : Graph) (row : Row) (parents : List ℕ) : Type 0 where
   pub link : StandsOn g.rows row parents
   pub fits : FitsLink g.members (links g.rows) (link_of row.creator parents)
-  pub forkers : forkers g.members (links g.rows ++ link_of row.creator parents ∷ []) ≡ forkers_with g.members g.rows row
+  pub forkers : forkers g.members (links g.rows ++ link_of row.creator parents ∷ []) ≡ forking_with g.members g.rows row

@@ -10,7 +10,7 @@ use Rattle.hg_model.specs.Fame.{Marks, mark_at}
 use Rattle.hg_model.specs.declared.share.Found.{Found}
 use Rattle.hg_model.specs.Shares.{Share, Speaks}
 use Rattle.hg_model.specs.Verdict.{last_name}
-use Rattle.hg_model.specs.Members.{MemberList, balances_of}
+use Rattle.hg_model.specs.Members.{MemberList, balances_of, stakes_of}
 use Rattle.hg_model.specs.Prefix.{Graph, graph_of}
 use Rattle.hg_model.specs.Pay.{Book, book_of}
 use Rattle.hg_model.specs.Kept.{kept}
@@ -35,7 +35,7 @@ chronicle_view own balances graph log marks = record { own = own; balances = bal
 
 -- of the node of a member among these, without rows
 abbrev pub no_chronicle : MemberList → ℕ → ChronicleView
-no_chronicle members own = chronicle_view own (balances_of members) (graph_of (length members.entries) members.coin []) [] []
+no_chronicle members own = chronicle_view own (balances_of members) (graph_of (stakes_of members) members.coin []) [] []
 
 -- the state of the node
 abbrev pub chronicle_state : ChronicleView → State

@@ -139,6 +139,7 @@ pub fn creator_at(graph: &EventGraph, place: usize) -> Member
 }
 
 /// Whether with the event too many members would have a fork.
+#[tactic(auto, using(crate::proofs::ArrivalLaws::by_count))]
 fn forkers_rule(graph: &EventGraph, view: &EventView<'_>, parents: Parents) -> Result<(), PutAnswer>
     requires { LinkComes graph.now.graph (row_of view.now) parents }
     ensures { result_err result ≡ forkers_rule graph.now.graph.members graph.now.graph.rows (row_of view.now) }

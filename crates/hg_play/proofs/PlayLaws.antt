@@ -12,6 +12,7 @@ use Rattle.hg_model.specs.declared.members.MemberEntry.{MemberEntry}
 use Rattle.hg_model.specs.declared.outcome.Printed.{Printed}
 use Rattle.hg_model.specs.Members.{MemberList, has_node}
 use Rattle.hg_model.specs.Places.{list_below}
+use Rattle.hg_model.specs.Stakes.{Stakes}
 use Rattle.hg_model.specs.declared.gossip.Parcel.{Parcel}
 use Rattle.hg_model.specs.Gossip.{NodeState, new_node, parcel_for}
 use Rattle.hg_script.specs.declared.line.Line.{Line}
@@ -53,9 +54,9 @@ start_read members players k are inside =
     ∙ get_or-map-range_with_len (start_in members) 0 (length members.entries) k k no_player.start (omega (arith, inside, long)) (zero-add k))
 
 -- a player that has begun
-pub new_state : (members : MemberList) (own n : ℕ) (p : Player) → n ≡ length members.entries → p.start ≡ start_in members own → p.rows ≡ [] → state_in p ≡ new_node n own
+pub new_state : (members : MemberList) (own : ℕ) (n : Stakes) (p : Player) → n ≡ length members.entries → p.start ≡ start_in members own → p.rows ≡ [] → state_in p ≡ new_node n own
 new_state members own n p count start rows =
-    ap₂ (λ (st : Start (List (List ℕ))) (G : List Row). state_in (record { start = st; rows = G })) start rows ∙ ap (λ (k : ℕ). new_node k own) (sym count)
+    ap₂ (λ (st : Start (List (List ℕ))) (G : List Row). state_in (record { start = st; rows = G })) start rows ∙ ap (λ (n : Stakes). new_node n own) (sym count)
 
 -- one player has become another, which began alike
 pub set_states : (players : List Player) (k : ℕ) (p : Player) → states_of (slice_set players k p) ≡ slice_set (states_of players) k (state_in p)

@@ -7,6 +7,7 @@ use Rattle.hg_model.specs.declared.answers.PutAnswer.{PutAnswer}
 use Rattle.hg_model.specs.declared.answers.PutAnswer.TheVariants.{Accepted, Known, Refused}
 use Rattle.hg_model.specs.declared.answers.MakeAnswer.{MakeAnswer}
 use Rattle.hg_model.specs.declared.answers.MakeAnswer.TheVariants as answer
+use Rattle.hg_model.specs.Stakes.{Stakes}
 use Rattle.hg_model.specs.Reading.{read_event}
 use Rattle.hg_model.specs.Verdict.{row_verdict, with_answer, rows_with, rows_after, made_row, making, with_made}
 use Rattle.hg_model.specs.History.{Change, replay}
@@ -119,7 +120,7 @@ pub missing_length : (held rows : List Row) → length (map spelling (lacking he
 missing_length held rows = (let long = length-map (lacking held rows) spelling in let few = lacking_length held rows in omega (arith, long, few))
 
 -- a node without changes has no rows
-pub no_rows : (n c : ℕ) (h : List Change) → h ≡ [] → (replay n c h).rows ≡ []
+pub no_rows : (n : Stakes) (c : ℕ) (h : List Change) → h ≡ [] → (replay n c h).rows ≡ []
 unfolding replay
 no_rows n c h none = ap (λ (es : List Change). (fold (Rattle.hg_model.specs.History.step n c) Rattle.hg_model.specs.History.empty es).rows) none
 

@@ -3,6 +3,7 @@ use Rattle.std.proofs.Common.{◌≡◌, ℕ, zero, suc, ◌+◌, ◌<◌, ◌�
 use Rattle.std.proofs.lemmas.Bool.{cases_Bool, cases_lt, true≢false}
 use Rattle.std.proofs.lemmas.List.FromFn.{get_or-map-range_with_len, length-map-range_with_len}
 use Rattle.hg_model.specs.Places.{count_below, has_place, IsEarlier, table}
+use Rattle.hg_model.specs.Stakes.{Stakes}
 use Rattle.hg_model.specs.Links.{Link, self_parent}
 use Rattle.hg_model.specs.Ancestry.{is_self_ancestor}
 use Rattle.hg_model.specs.Graph.{IsShaped}
@@ -38,7 +39,7 @@ pub record IsOn (L : List Link) (x p : ℕ) : Type 0 where
   pub next : sequence_of L x ≡ sequence_of L p + 1
   pub small : sequence_of L p ≤ p
 
-module _ (n : ℕ) (L : List Link) (shaped : IsShaped n L) where
+module _ (n : Stakes) (L : List Link) (shaped : IsShaped n L) where
   self_earlier : IsEarlier (self_parent L)
   self_earlier = self_parent_earlier L shaped.earlier
 

@@ -7,7 +7,7 @@ use Rattle.hg_model.specs.Fame.{fame_marks}
 use Rattle.hg_model.specs.Order.{order_of, last_closed, coin_at}
 use Rattle.hg_model.specs.declared.outcome.OrderLine.{OrderLine}
 use Rattle.hg_model.specs.declared.outcome.Block.{Block}
-use Rattle.hg_model.specs.Members.{MemberList, balances_of}
+use Rattle.hg_model.specs.Members.{MemberList, balances_of, stakes_of}
 use Rattle.hg_model.specs.Forks.{forkers}
 use Rattle.hg_model.specs.Rounds.{last_round}
 use Rattle.hg_model.specs.Pay.{Book, book_of}
@@ -40,7 +40,7 @@ pub block_is : (members : MemberList) (x : ℕ) (v : NodeView (List (List ℕ)))
     (let block : Block = record { member = x; events = events; forkers = forking; greatest = greatest; closed = closed; order = lines; balances = balances } in block) ≡ block_of members x (node_rows v)
 unfolding block_of
 block_is members x v lines events forking greatest closed balances start final lines_are events_are forking_is greatest_is closed_is balances_are =
-    let n = length members.entries in
+    let n = stakes_of members in
     let G = node_rows v in
     let order : kept_of v ≡ order_of n members.coin G = final.order ∙ ap (λ (s : Start (List (List ℕ))). order_of s.members s.coin G) start in
     let the_book : book_kept v ≡ book_of (balances_of members) G (order_of n members.coin G) =

@@ -2,7 +2,7 @@
 use Rattle.std.specs.Prelude.{ℕ, ◌<◌, List, [], ◌∷◌, length, Some, None, slice_index_or, slice_set}
 use Rattle.hg_model.specs.declared.outcome.Printed.{Printed}
 use Rattle.hg_model.specs.declared.outcome.Printed.TheVariants as printed
-use Rattle.hg_model.specs.Members.{MemberList}
+use Rattle.hg_model.specs.Members.{MemberList, stakes_of}
 use Rattle.hg_model.specs.Places.{table}
 use Rattle.hg_model.specs.Gossip.{Keys, NodeState, Taking, new_node, making_by, node_made, verdict_by, node_put, parcel_for, taking, sync_report, node_synced}
 use Rattle.hg_script.specs.declared.line.Gossip.{Gossip}
@@ -16,7 +16,7 @@ node_at nodes m = slice_index_or nodes m (new_node 0 0)
 
 -- each member begins with a node without rows
 abbrev pub new_nodes : MemberList → List NodeState
-new_nodes members = table (new_node (length members.entries)) (length members.entries)
+new_nodes members = table (new_node (stakes_of members)) (length members.entries)
 
 -- the player of a member; one without rows and secrets for a number that is no member's
 abbrev pub no_player : Player
