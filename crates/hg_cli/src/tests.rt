@@ -3,11 +3,13 @@ ghost use Rattle.std.specs.Prelude.{◌≤◌, IfOk, length};
 
 use crate::words_of;
 use hg_top::NoWords;
+use std::alloc::Global;
 use std::env::FillError;
 use std::rt::Env;
 use std::test::Fail;
 
 /// A command line of the program's name and these bytes.
+#[derive(Drop)]
 struct OneWord {
     bytes: &'static [u8],
 }
@@ -40,13 +42,16 @@ impl Env for OneWord {
     }
 }
 
+/// How many words a command line has.
+fn words_in(alloc: Global, bytes: &'static [u8]) -> Result<usize, NoWords> {
+    let words = words_of(&(OneWord { bytes }, alloc))?;
+    Ok(words.len())
+}
+
 #[test]
 fn a_word_that_is_not_text(rt: HostRuntime) -> Result<(), Fail> {
-    for bytes in [b"\xff".as_slice(), b"run\xc3".as_slice()] {
-        let words = words_of(&(OneWord { bytes }, rt.alloc()));
-        assert!(rt; matches!(words, Err(NoWords::NotText)));
-    }
-    let words = words_of(&(OneWord { bytes: b"run" }, rt.alloc()));
-    assert!(rt; matches!(words, Ok(words) if words.len() == 2));
+    assert_eq!(rt; words_in(rt.alloc(), b"\xff"), Err(NoWords::NotText));
+    assert_eq!(rt; words_in(rt.alloc(), b"run\xc3"), Err(NoWords::NotText));
+    assert_eq!(rt; words_in(rt.alloc(), b"run"), Ok(2));
     Ok(())
 }
