@@ -3,6 +3,5 @@ pub mod Payload
 pub mod Table
 pub mod Script
 pub mod Lawful
-pub mod Gives
 pub mod Words
 pub mod Text
