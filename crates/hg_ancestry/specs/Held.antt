@@ -1,5 +1,5 @@
 -- What the rows of bits and the masks of a graph hold
-use Rattle.std.specs.Prelude.{◌≡◌, ℕ, ◌+◌, ◌-◌, ◌<◌, ◌≤◌, ◌^◌, Bool, false, not, ◌&&◌, ◌==◌, List, [], length, get_or, replicate, Option, Some, None}
+use Rattle.std.specs.Prelude.{◌≡◌, ℕ, ◌+◌, ◌-◌, ◌<◌, ◌≤◌, ◌^◌, Bool, false, not, ◌&&◌, ◌==◌, List, [], length, get_or, replicate, Option, Some, None, ◌||◌, ◌∷◌, ◌++◌}
 use Rattle.std.specs.List.{list_any}
 use Rattle.hg_model.specs.Places.{table}
 use Rattle.hg_model.specs.Stakes.{Stakes, member_count}
@@ -7,6 +7,7 @@ use Rattle.hg_model.specs.Links.{Link, creator}
 use Rattle.hg_model.specs.Ancestry.{is_ancestor, some_ancestor}
 use Rattle.hg_model.specs.Forks.{has_fork_below}
 use Rattle.hg_model.specs.Graph.{IsShaped}
+use Rattle.hg_model.specs.Seeing.{sees}
 use Rattle.hg_bits.specs.Masks.{mask_has}
 
 -- the row of bits of x
@@ -48,3 +49,16 @@ is_above L parents y = list_any (λ p. is_ancestor L p y) parents
 -- member m has a row that is an ancestor of x and none of z
 abbrev pub is_apart : List Link → ℕ → ℕ → ℕ → Bool
 is_apart L x z m = some_ancestor L x (λ a. not (is_ancestor L z a) && creator L a == m)
+
+-- the mask has these members, and that of z, where z is an ancestor of x that sees y
+abbrev pub AddsSeer : List Link → ℕ → ℕ → ℕ → ℕ → ℕ → Type 0
+AddsSeer L x y z before after =
+    (m : ℕ) → mask_has after m ≡ (mask_has before m || (is_ancestor L x z && (creator L z == m && sees L z y)))
+
+-- the mask has the members with a fork among the ancestors of a new row with this link
+abbrev pub IsForkMask : List Link → Link → ℕ → Type 0
+IsForkMask L link mask = (m : ℕ) → mask_has mask m ≡ has_fork_below (L ++ link ∷ []) (length L) m
+
+-- the mask has the members that have rows above both of two parents alone, of whom the new row's creator has its own
+abbrev pub IsApartMask : List Link → ℕ → ℕ → ℕ → ℕ → Type 0
+IsApartMask L by own other mask = (m : ℕ) → mask_has mask m ≡ ((m == by || is_apart L own other m) && is_apart L other own m)

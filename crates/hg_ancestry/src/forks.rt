@@ -1,9 +1,8 @@
-ghost use Rattle.std.specs.Prelude.{◌≡◌, ◌<◌, ◌≤◌, ◌++◌, ◌∷◌, [], ◌||◌, ◌&&◌, ◌==◌, ℕ, length, take, IfOk};
+ghost use Rattle.std.specs.Prelude.{◌≡◌, ◌<◌, ◌≤◌, ℕ, length, take, IfOk};
 ghost use Rattle.hg_model.specs.Stakes.{member_count};
-ghost use Rattle.hg_model.specs.Forks.{has_fork_below};
 ghost use Rattle.hg_model.specs.Shape.{FitsLink, link_of};
 ghost use Rattle.hg_bits.specs.Masks.{mask_has};
-ghost use Rattle.hg_ancestry.specs.Held.{is_apart};
+ghost use Rattle.hg_ancestry.specs.Held.{is_apart, IsForkMask, IsApartMask};
 
 use crate::sight::BitSight;
 use hg_bits::{join_masks, meet_masks, with_member};
@@ -13,7 +12,7 @@ use std::alloc::Global;
 /// The members with a fork among the ancestors of a row by this member on these parents, which comes next.
 pub fn forked_below_next(sight: &BitSight, on: Parents, by: Member) -> u128
     requires { FitsLink sight.now.shape.members sight.now.shape.links (link_of by on) }
-    ensures { (m : ℕ) → mask_has result m ≡ has_fork_below (sight.now.shape.links ++ link_of by on ∷ []) (length sight.now.shape.links) m }
+    ensures { IsForkMask sight.now.shape.links (link_of by on) result }
 {
     // That the graph is shaped.
     sight.rows();
@@ -32,7 +31,7 @@ fn new_forks(sight: &BitSight, own: usize, other: usize, by: Member) -> u128
     requires member { by < member_count sight.now.shape.members }
     requires own { own < length sight.now.shape.links }
     requires other { other < length sight.now.shape.links }
-    ensures { (m : ℕ) → mask_has result m ≡ ((m == by || is_apart sight.now.shape.links own other m) && is_apart sight.now.shape.links other own m) }
+    ensures { IsApartMask sight.now.shape.links by own other result }
 {
     // That there are at most 128 members.
     sight.members();

@@ -1,9 +1,9 @@
-ghost use Rattle.std.specs.Prelude.{◌≡◌, ◌<◌, ◌≤◌, ◌||◌, ◌&&◌, ◌==◌, ℕ, length};
+ghost use Rattle.std.specs.Prelude.{◌≡◌, ◌<◌, ◌≤◌, ◌&&◌, length};
 ghost use Rattle.hg_model.specs.Stakes.{member_count};
 ghost use Rattle.hg_model.specs.Links.{creator};
-ghost use Rattle.hg_model.specs.Ancestry.{is_ancestor};
 ghost use Rattle.hg_model.specs.Seeing.{sees, strongly_sees};
 ghost use Rattle.hg_model.specs.GraphWords.{strongly_sees_in, sees_in};
+ghost use Rattle.hg_ancestry.specs.Held.{AddsSeer};
 ghost use Rattle.hg_bits.specs.Masks.{mask_has};
 
 use crate::sight::BitSight;
@@ -51,7 +51,7 @@ fn with_seer(mask: u128, sight: &BitSight, x: usize, y: usize, z: usize) -> u128
     requires left { x < length sight.now.shape.links }
     requires right { y < length sight.now.shape.links }
     requires place { z < length sight.now.shape.links }
-    ensures { (m : ℕ) → mask_has result m ≡ (mask_has mask m || (is_ancestor sight.now.shape.links x z && (creator sight.now.shape.links z == m && sees_in sight.now.shape z y))) }
+    ensures { AddsSeer sight.now.shape.links x y z mask result }
 {
     let member = sight.creator(z);
     if mask_has(mask, member) {

@@ -1,5 +1,5 @@
 -- Who decides the fame of a witness
-use Rattle.std.specs.Prelude.{ℕ, ◌≡◌, ◌<◌, ◌≤◌, Bool, false, length, Option, find}
+use Rattle.std.specs.Prelude.{ℕ, ◌≡◌, ◌<◌, ◌≤◌, Bool, false, length, Option, find, option_map}
 use Rattle.hg_model.specs.Places.{least_below}
 use Rattle.hg_model.specs.Votes.{decides}
 use Rattle.hg_model.specs.Fame.{is_decider}
@@ -7,6 +7,8 @@ use Rattle.hg_model.specs.Order.{coin_at}
 use Rattle.hg_model.specs.Standings.{witnesses_in}
 use Rattle.hg_model.specs.Prefix.{Graph, links_of}
 use Rattle.hg_model.specs.GraphWords.{vote_in, decides_in, round_in, standings_in, shape_in}
+use Rattle.hg_model.specs.declared.share.Found.{Found}
+use Rattle.hg_model.specs.Shares.{Share, Speaks}
 
 -- the first decider of x, by round and then by place
 abbrev pub first_decider : Graph → ℕ → Option ℕ
@@ -24,3 +26,11 @@ decider_in g x r = find (decides_in g x) (witnesses_in (standings_in (shape_in g
 -- no row of a round up to this one decides the fame of x
 pub record IsUndecided (g : Graph) (x last : ℕ) : Type 0 where
   pub none : (y : ℕ) → y < length g.rows → round_in g y ≤ last → decides_in g x y ≡ false
+
+-- the decision of round r on the fame of x, by its first decider
+abbrev pub decision_of : Graph → ℕ → ℕ → Option (Bool × ℕ)
+decision_of g x r = option_map (decision_by g x) (decider_in g x r)
+
+-- what was found is what this share finds in so many first rows
+abbrev pub SpeaksFor : Graph → Share → Found → Type 0
+SpeaksFor g share found = Speaks g.members g.coin g.rows (links_of g) found.len share found.marks

@@ -1,6 +1,6 @@
 ghost use Rattle.std.specs.Prelude.{◌≡◌, ◌<◌, IsTrue, length, option_map};
 ghost use Rattle.hg_model.specs.GraphWords.{fame_in, round_in, is_witness_in};
-ghost use Rattle.hg_fame.specs.Decisions.{decider_in, decision_by, first_decider};
+ghost use Rattle.hg_fame.specs.Decisions.{first_decider, decision_of};
 
 use hg_model::{Prefix, Votes};
 
@@ -9,7 +9,7 @@ fn decision_in<P: Prefix, V: Votes>(p: &P, votes: &V, r: u32) -> Option<(bool, u
     requires made { V.MadeFor votes.now (P.graph p.now) }
     requires counted { V.counted votes.now ≡ r }
     requires later { round_in (P.graph p.now) (V.candidate votes.now) < r }
-    ensures { result ≡ option_map (decision_by (P.graph p.now) (V.candidate votes.now)) (decider_in (P.graph p.now) (V.candidate votes.now) r) }
+    ensures { result ≡ decision_of (P.graph p.now) (V.candidate votes.now) r }
 {
     for y in p.witnesses(r) {
         let ballot = votes.ballot(*y);

@@ -1,9 +1,9 @@
 ghost use Rattle.std.specs.Prelude.{◌≡◌, ◌<◌, IsTrue, length, IfOk};
 ghost use Rattle.hg_model.specs.Places.{count_below};
-ghost use Rattle.hg_model.specs.Prefix.{links_of};
 ghost use Rattle.hg_model.specs.Rounds.{is_witness};
-ghost use Rattle.hg_model.specs.Shares.{Speaks, share_fame};
+ghost use Rattle.hg_model.specs.Shares.{share_fame};
 ghost use Rattle.hg_model.specs.GraphWords.{is_witness_in, share_fame_in};
+ghost use Rattle.hg_fame.specs.Decisions.{SpeaksFor};
 
 use crate::electing::elect;
 use hg_model::{Found, Items, Memory, Prefix, Share, Votes};
@@ -43,7 +43,7 @@ pub fn elect_share<P: Prefix, V: Votes>(
     ensures made { V.MadeFor votes.new (P.graph p.now) }
     ensures share { IfOk result (λ found. found.share ≡ share) }
     ensures len { IfOk result (λ found. found.len ≡ length (P.graph p.now).rows) }
-    ensures speaks { IfOk result (λ found. Speaks (P.graph p.now).members (P.graph p.now).coin (P.graph p.now).rows (links_of (P.graph p.now)) found.len share found.marks) }
+    ensures speaks { IfOk result (λ found. SpeaksFor (P.graph p.now) share found) }
 {
     let mut marks = Vec::new(alloc);
     let mut witnesses = 0;

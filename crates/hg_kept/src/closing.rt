@@ -1,12 +1,11 @@
-ghost use Rattle.std.specs.Prelude.{◌≡◌, ◌<◌, ◌≤◌, ◌+◌, ◌^◌, ℕ, true, All, ◌++◌, length, is_some, take, vec_len, vec_capacity};
+ghost use Rattle.std.specs.Prelude.{◌≡◌, ◌<◌, ◌≤◌, ◌+◌, ◌^◌, true, All, length, is_some, take, vec_len, vec_capacity};
 ghost use Rattle.std.specs.List.{AllByRecursion, list_all};
-ghost use Rattle.hg_model.specs.Fame.{Marks, mark_at};
+ghost use Rattle.hg_model.specs.Fame.{mark_at};
 ghost use Rattle.hg_model.specs.Orders.{IsPrefix};
-ghost use Rattle.hg_model.specs.GraphWords.{famous_of, received_order, is_closed_in};
+ghost use Rattle.hg_model.specs.GraphWords.{famous_of, is_closed_in};
 ghost use Rattle.hg_order.specs.Famous.{AreFamous, IsBelowAll};
-ghost use Rattle.hg_order.specs.Round.{received_places};
 ghost use Rattle.hg_kept.specs.Published.{IsReached, Keeps, KeepsUpTo};
-ghost use Rattle.hg_kept.specs.Waiting.{published_as};
+ghost use Rattle.hg_kept.specs.Waiting.{published_as, AppendsRound};
 
 use crate::pending::Pending;
 use hg_model::{Placed, Prefix, is_of_graph};
@@ -54,7 +53,7 @@ fn append_round<P: Prefix>(p: &P, famous: &[usize], fresh: &[usize], order: &mut
     requires some { 0 < length famous.now }
     requires received { AllByRecursion (IsBelowAll (P.graph p.now) famous.now) fresh.now }
     requires room { vec_len order.old + length fresh.now ≤ vec_capacity order.old }
-    ensures order { (marks : Marks) (r : ℕ) → famous.now ≡ famous_of (P.graph p.now) marks r → fresh.now ≡ received_places (P.graph p.now) marks r → order.new.items ≡ order.old.items ++ received_order (P.graph p.now) marks r }
+    ensures order { AppendsRound (P.graph p.now) famous.now fresh.now order.old.items order.new.items }
     ensures room { vec_capacity order.new ≡ vec_capacity order.old }
 {
     let before = order.len();

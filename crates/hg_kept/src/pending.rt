@@ -1,8 +1,8 @@
-ghost use Rattle.std.specs.Prelude.{◌≡◌, ◌<◌, ◌≤◌, ◌+◌, ◌-◌, All, not, max, [], ◌++◌, length, take, filter, slice_index, OnOk, vec_len, vec_capacity};
+ghost use Rattle.std.specs.Prelude.{◌≡◌, ◌<◌, ◌≤◌, ◌+◌, ◌-◌, All, max, [], ◌++◌, length, take, filter, slice_index, OnOk, vec_len, vec_capacity};
 ghost use Rattle.std.specs.List.{range_with_len};
 ghost use Rattle.hg_model.specs.Prefix.{links_of};
 ghost use Rattle.hg_order.specs.Famous.{AreFamous, all_have};
-ghost use Rattle.hg_kept.specs.Waiting.{places_to};
+ghost use Rattle.hg_kept.specs.Waiting.{places_to, received_of, left_of};
 
 use hg_model::{Memory, Prefix, is_of_graph};
 use hg_order::received_in;
@@ -63,8 +63,8 @@ impl Pending {
         requires looked { self.old.looked ≤ length (links_of (P.graph p.now)) }
         requires room { length (links_of (P.graph p.now)) ≤ self.old.room }
         ensures looked { self.new.looked ≡ max self.old.looked (slice_index famous.now 0 + 1) }
-        ensures fresh { self.new.fresh ≡ filter (all_have (links_of (P.graph p.now)) famous.now) (places_to self.old self.new.looked) }
-        ensures places { self.new.places ≡ filter (λ x. not (all_have (links_of (P.graph p.now)) famous.now x)) (places_to self.old self.new.looked) }
+        ensures fresh { self.new.fresh ≡ received_of (P.graph p.now) famous.now (places_to self.old self.new.looked) }
+        ensures places { self.new.places ≡ left_of (P.graph p.now) famous.now (places_to self.old self.new.looked) }
         ensures room { self.new.room ≡ self.old.room }
     {
         is_of_graph(p);
@@ -102,7 +102,7 @@ fn part<P: Prefix>(p: &P, famous: &[usize], places: &mut Vec<usize>, fresh: &mut
     requires places { All (λ x. x < length (links_of (P.graph p.now))) places.old.items }
     requires room { vec_len places.old ≤ vec_capacity fresh.old }
     ensures fresh { fresh.new.items ≡ filter (all_have (links_of (P.graph p.now)) famous.now) places.old.items }
-    ensures places { places.new.items ≡ filter (λ x. not (all_have (links_of (P.graph p.now)) famous.now x)) places.old.items }
+    ensures places { places.new.items ≡ left_of (P.graph p.now) famous.now places.old.items }
     ensures places_room { vec_capacity places.new ≡ vec_capacity places.old }
     ensures fresh_room { vec_capacity fresh.new ≡ vec_capacity fresh.old }
 {
@@ -124,7 +124,7 @@ fn move_received<P: Prefix>(
     requires none { fresh.old.items ≡ [] }
     requires room { length places.old ≤ vec_capacity fresh.old }
     ensures fresh { fresh.new.items ≡ filter (all_have (links_of (P.graph p.now)) famous.now) places.old }
-    ensures others { take result places.new ≡ filter (λ x. not (all_have (links_of (P.graph p.now)) famous.now x)) places.old }
+    ensures others { take result places.new ≡ left_of (P.graph p.now) famous.now places.old }
     ensures room { vec_capacity fresh.new ≡ vec_capacity fresh.old }
 {
     let mut kept = 0;

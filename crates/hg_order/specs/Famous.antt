@@ -8,7 +8,7 @@ use Rattle.hg_model.specs.Ancestry.{is_ancestor, is_self_ancestor}
 use Rattle.hg_model.specs.Fame.{Marks, mark_at, is_yes}
 use Rattle.hg_model.specs.Prefix.{Graph, links_of}
 use Rattle.hg_model.specs.Order.{sig_at, time_at, xor_bytes}
-use Rattle.hg_model.specs.GraphWords.{famous_of}
+use Rattle.hg_model.specs.GraphWords.{famous_of, is_closed_in, can_receive_in}
 
 -- these places are the unique famous witnesses of some round by some marks, in the order of their places
 pub record AreFamous (g : Graph) (places : List ℕ) : Type 0 where
@@ -43,3 +43,8 @@ times_of G L x places = map (λ w. time_at G (first_holder L x w)) places
 -- the signatures of these, XORed
 unfoldable pub whitening_of : List Row → List ℕ → List ℕ
 whitening_of G places = fold (λ white w. xor_bytes white (sig_at G w)) (replicate 64 0) places
+
+-- where these are the unique famous witnesses of a round that some marks close, it says whether that round can receive x
+abbrev pub SaysReceived : Graph → List ℕ → ℕ → Bool → Type 0
+SaysReceived g famous x result =
+    (marks : Marks) (r : ℕ) → famous ≡ famous_of g marks r → is_closed_in g marks r ≡ true → result ≡ can_receive_in g marks x r

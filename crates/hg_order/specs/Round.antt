@@ -1,5 +1,5 @@
 -- The order of what one round receives. SWIRLDS-TR-2016-01, section 4, procedure findOrder
-use Rattle.std.specs.Prelude.{ℕ, ◌≡◌, Bool, ◌==◌, List, length, map, replicate, Option, Some, None, slice_get}
+use Rattle.std.specs.Prelude.{ℕ, ◌≡◌, Bool, ◌==◌, List, length, map, replicate, Option, Some, None, slice_get, ◌<◌}
 use Rattle.std.specs.declared.cmp.Ordering.{Ordering}
 use Rattle.std.specs.Ordering.{nat_cmp, ordering_then, is_lt}
 use Rattle.std.specs.Cmp.Lexicographic.{slice_cmp}
@@ -10,7 +10,7 @@ use Rattle.hg_model.specs.Links.{Link}
 use Rattle.hg_model.specs.Fame.{Marks}
 use Rattle.hg_model.specs.Prefix.{Graph, links_of}
 use Rattle.hg_model.specs.Order.{median, order_key, sig_at, sort_by, xor_bytes}
-use Rattle.hg_model.specs.GraphWords.{is_received_by, consensus_time_in}
+use Rattle.hg_model.specs.GraphWords.{is_received_by, consensus_time_in, famous_of, received_order}
 use Rattle.hg_order.specs.Famous.{times_of}
 
 -- x as round r places it
@@ -66,3 +66,18 @@ placed_less G white a b = is_lt (placed_cmp G white a b)
 -- the row at x has a signature of 64 bytes
 abbrev pub IsWide : List Row → ℕ → Type 0
 IsWide G x = length (sig_at G x) ≡ 64
+
+-- where these are the unique famous witnesses of a round by some marks: it is the consensus timestamp of x, the round
+-- itself, these rows as the round places them, and the order of all that it receives
+abbrev pub IsTimeBy : Graph → List ℕ → ℕ → ℕ → Type 0
+IsTimeBy g famous x time = (marks : Marks) (r : ℕ) → famous ≡ famous_of g marks r → time ≡ consensus_time_in g marks r x
+
+abbrev pub IsRoundOf : Graph → List ℕ → ℕ → Type 0
+IsRoundOf g famous round = (marks : Marks) (r : ℕ) → famous ≡ famous_of g marks r → 0 < length famous → round ≡ r
+
+abbrev pub ArePlacedBy : Graph → List ℕ → List ℕ → List Placed → Type 0
+ArePlacedBy g famous fresh placed = (marks : Marks) (r : ℕ) → famous ≡ famous_of g marks r → placed ≡ placed_in g marks r fresh
+
+abbrev pub AreOrderedBy : Graph → List ℕ → List ℕ → List Placed → Type 0
+AreOrderedBy g famous fresh placed =
+    (marks : Marks) (r : ℕ) → famous ≡ famous_of g marks r → fresh ≡ received_places g marks r → placed ≡ received_order g marks r

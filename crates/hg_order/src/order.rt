@@ -1,11 +1,9 @@
-ghost use Rattle.std.specs.Prelude.{◌≡◌, ◌<◌, ℕ, All, length, map, replicate, slice_get};
+ghost use Rattle.std.specs.Prelude.{◌≡◌, ◌<◌, All, length, map, replicate, slice_get};
 ghost use Rattle.std.specs.List.{AllByRecursion};
-ghost use Rattle.hg_model.specs.Fame.{Marks};
 ghost use Rattle.hg_model.specs.Prefix.{links_of};
 ghost use Rattle.hg_model.specs.Order.{sort_by};
-ghost use Rattle.hg_model.specs.GraphWords.{famous_of, received_order};
 ghost use Rattle.hg_order.specs.Famous.{AreFamous, IsBelowAll};
-ghost use Rattle.hg_order.specs.Round.{placed_below, placed_in, received_places, rows_cmp, sig_or_zeros, name_or_zeros, placed_cmp, placed_less, IsWide};
+ghost use Rattle.hg_order.specs.Round.{placed_below, rows_cmp, sig_or_zeros, name_or_zeros, placed_cmp, placed_less, IsWide, ArePlacedBy, AreOrderedBy, IsRoundOf};
 
 use crate::time::median_time;
 use crate::white::{no_signature, white_cmp, whitening};
@@ -20,8 +18,8 @@ pub fn order_round<P: Prefix>(p: &P, famous: &[usize], fresh: &[usize], out: &mu
     requires some { 0 < length fresh.now → 0 < length famous.now }
     requires received { AllByRecursion (IsBelowAll (P.graph p.now) famous.now) fresh.now }
     requires same { length out.old ≡ length fresh.now }
-    ensures placed { (marks : Marks) (r : ℕ) → famous.now ≡ famous_of (P.graph p.now) marks r → out.new ≡ placed_in (P.graph p.now) marks r fresh.now }
-    ensures whole { (marks : Marks) (r : ℕ) → famous.now ≡ famous_of (P.graph p.now) marks r → fresh.now ≡ received_places (P.graph p.now) marks r → out.new ≡ received_order (P.graph p.now) marks r }
+    ensures placed { ArePlacedBy (P.graph p.now) famous.now fresh.now out.new }
+    ensures whole { AreOrderedBy (P.graph p.now) famous.now fresh.now out.new }
 {
     is_of_graph(p);
     place_rows(p, famous, round_of(p, famous), fresh, out);
@@ -31,7 +29,7 @@ pub fn order_round<P: Prefix>(p: &P, famous: &[usize], fresh: &[usize], out: &mu
 /// The round of these unique famous witnesses, or 0 if there is none.
 fn round_of<P: Prefix>(p: &P, famous: &[usize]) -> u32
     requires { AreFamous (P.graph p.now) famous.now }
-    ensures { (marks : Marks) (r : ℕ) → famous.now ≡ famous_of (P.graph p.now) marks r → 0 < length famous.now → result ≡ r }
+    ensures { IsRoundOf (P.graph p.now) famous.now result }
 {
     is_of_graph(p);
     match famous {

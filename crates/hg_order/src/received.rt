@@ -1,8 +1,6 @@
-ghost use Rattle.std.specs.Prelude.{◌≡◌, ◌<◌, ℕ, true, All, length};
+ghost use Rattle.std.specs.Prelude.{◌≡◌, ◌<◌, All, length};
 ghost use Rattle.hg_model.specs.Prefix.{links_of};
-ghost use Rattle.hg_model.specs.Fame.{Marks};
-ghost use Rattle.hg_model.specs.GraphWords.{famous_of, is_closed_in, can_receive_in};
-ghost use Rattle.hg_order.specs.Famous.{AreFamous, all_have};
+ghost use Rattle.hg_order.specs.Famous.{AreFamous, all_have, SaysReceived};
 
 use hg_model::{Prefix, Sight, is_of_graph};
 
@@ -13,7 +11,7 @@ pub fn received_in<P: Prefix>(p: &P, famous: &[usize], x: usize) -> bool
     requires some { 0 < length famous.now }
     requires place { x < length (links_of (P.graph p.now)) }
     ensures all { result ≡ all_have (links_of (P.graph p.now)) famous.now x }
-    ensures receives { (marks : Marks) (r : ℕ) → famous.now ≡ famous_of (P.graph p.now) marks r → is_closed_in (P.graph p.now) marks r ≡ true → result ≡ can_receive_in (P.graph p.now) marks x r }
+    ensures receives { SaysReceived (P.graph p.now) famous.now x result }
 {
     is_of_graph(p);
     have_all(p, famous, x)

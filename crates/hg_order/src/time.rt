@@ -1,9 +1,9 @@
-ghost use Rattle.std.specs.Prelude.{◌≡◌, ◌<◌, ◌≤◌, ◌-◌, ◌/◌, ℕ, true, All, length, slice_index};
+ghost use Rattle.std.specs.Prelude.{◌≡◌, ◌<◌, ◌≤◌, ◌-◌, ◌/◌, true, All, length, slice_index};
 ghost use Rattle.hg_model.specs.Prefix.{links_of};
 ghost use Rattle.hg_model.specs.Ancestry.{is_ancestor};
-ghost use Rattle.hg_model.specs.Fame.{Marks};
 ghost use Rattle.hg_model.specs.Order.{median, time_at};
-ghost use Rattle.hg_model.specs.GraphWords.{famous_of, consensus_time_in, shape_in, IsShapedIn};
+ghost use Rattle.hg_model.specs.GraphWords.{shape_in, IsShapedIn};
+ghost use Rattle.hg_order.specs.Round.{IsTimeBy};
 ghost use Rattle.hg_order.specs.Famous.{AreFamous, first_holder, times_of, IsBelowAll};
 
 use hg_model::{Prefix, Sight, is_of_graph};
@@ -12,7 +12,7 @@ use hg_model::{Prefix, Sight, is_of_graph};
 pub fn time_of<P: Prefix>(p: &P, famous: &[usize], x: usize) -> u64
     requires famous { AreFamous (P.graph p.now) famous.now }
     requires received { IsBelowAll (P.graph p.now) famous.now x }
-    ensures { (marks : Marks) (r : ℕ) → famous.now ≡ famous_of (P.graph p.now) marks r → result ≡ consensus_time_in (P.graph p.now) marks r x }
+    ensures { IsTimeBy (P.graph p.now) famous.now x result }
 {
     is_of_graph(p);
     median_time(p, famous, x)

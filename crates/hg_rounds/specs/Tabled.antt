@@ -3,6 +3,7 @@ use Rattle.std.specs.Prelude.{ℕ, ◌≡◌, ◌≢◌, ◌<◌, ◌≤◌, ◌
 use Rattle.hg_model.specs.Links.{parents}
 use Rattle.hg_model.specs.Shape.{Shape, first_links}
 use Rattle.hg_model.specs.Standings.{Standing, round_at, witnesses_in, greatest_in}
+use Rattle.hg_model.specs.Rounds.{round_of, is_witness}
 use Rattle.hg_rounds.specs.Listed.{Listed}
 
 -- the standings of the rows, and for how many more there is memory at least
@@ -51,3 +52,10 @@ pub record KeepsLists (S : List Standing) (lists : List Listed) (top full : ℕ)
 -- may be full
 abbrev pub room_by : ℕ → ℕ → Listed → Listed → ℕ
 room_by rows lists full next = min (min rows lists) (min full.room next.room)
+
+-- the round of the graph's last row, and whether it is a witness
+abbrev pub last_row_round : Shape → ℕ
+last_row_round shape = round_of shape.members shape.links (last_place shape)
+
+abbrev pub is_last_row_witness : Shape → Bool
+is_last_row_witness shape = is_witness shape.members shape.links (last_place shape)

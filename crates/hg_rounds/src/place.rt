@@ -1,11 +1,11 @@
 ghost use Rattle.std.specs.Prelude.{◌≡◌, ◌<◌, ◌≤◌, ◌+◌, ◌-◌, ◌^◌, [], ◌∷◌, ◌++◌, cond, length, count_by, nat_lt};
 ghost use Rattle.hg_model.specs.Links.{first_place};
-ghost use Rattle.hg_model.specs.Rounds.{parent_round, is_witness, round_of};
+ghost use Rattle.hg_model.specs.Rounds.{parent_round};
 ghost use Rattle.hg_model.specs.Seeing.{is_supermajority, strongly_sees};
 ghost use Rattle.hg_model.specs.Standings.{greatest_in, round_at};
 ghost use Rattle.hg_model.specs.GraphWords.{standings_in, strongly_sees_in};
 ghost use Rattle.std.specs.List.{AllByRecursion, list_all};
-ghost use Rattle.hg_rounds.specs.Tabled.{before_last, last_parents, last_place, standing};
+ghost use Rattle.hg_rounds.specs.Tabled.{before_last, last_parents, standing, last_row_round, is_last_row_witness};
 
 use crate::table::RoundTable;
 use hg_model::{Parents, Rounds, Sight, is_supermajority};
@@ -16,8 +16,8 @@ pub fn place_round<S: Sight>(sight: &S, table: &RoundTable, parents: Parents) ->
     requires some { 0 < length (S.shape sight.now).links }
     requires parents { parents ≡ last_parents (S.shape sight.now) }
     requires before { table.now.standings ≡ standings_in (before_last (S.shape sight.now)) }
-    ensures round { result.0 ≡ round_of (S.shape sight.now).members (S.shape sight.now).links (last_place (S.shape sight.now)) }
-    ensures witness { result.1 ≡ is_witness (S.shape sight.now).members (S.shape sight.now).links (last_place (S.shape sight.now)) }
+    ensures round { result.0 ≡ last_row_round (S.shape sight.now) }
+    ensures witness { result.1 ≡ is_last_row_witness (S.shape sight.now) }
     // What `RoundTable::add` needs, and does.
     ensures first { 1 ≤ result.0 }
     ensures next { result.0 ≤ greatest_in table.now.standings + 1 }
