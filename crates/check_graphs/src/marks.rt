@@ -1,7 +1,8 @@
-ghost use Rattle.std.specs.Prelude.{◌≡◌, ◌<◌, ℕ, Some, IfSome, IsTrue, is_some, length, slice_get};
+ghost use Rattle.std.specs.Prelude.{◌≡◌, ◌<◌, ℕ, Some, IsTrue, is_some, length};
 ghost use Rattle.hg_model.specs.Fame.{mark_at};
 ghost use Rattle.hg_model.specs.Places.{count_below};
 ghost use Rattle.hg_model.specs.NodeView.{node_rows, node_marks};
+ghost use Rattle.check_graphs.specs.Moments.{IsMarkedSo};
 
 use hg_node::Node;
 use hg_sign::MacTable;
@@ -29,7 +30,7 @@ fn is_marked(node: &Node<&MacTable>, place: usize, fame: bool) -> bool
 
 /// Whether the place that is found at `x` has its mark in the node.
 fn is_found_marked(node: &Node<&MacTable>, marks: &[(usize, bool)], x: usize) -> bool
-    ensures { IsTrue result → IfSome (slice_get marks.now x) (λ found. mark_at (node_marks node.now) found.0 ≡ Some found.1) }
+    ensures { IsTrue result → IsMarkedSo node.now marks.now x }
 {
     match marks.get(x) {
         None => false,
@@ -39,7 +40,7 @@ fn is_found_marked(node: &Node<&MacTable>, marks: &[(usize, bool)], x: usize) ->
 
 /// Whether these places have these marks in the node.
 pub fn are_marked(node: &Node<&MacTable>, marks: &[(usize, bool)]) -> bool
-    ensures { IsTrue result → (x : ℕ) → x < length marks.now → IfSome (slice_get marks.now x) (λ found. mark_at (node_marks node.now) found.0 ≡ Some found.1) }
+    ensures { IsTrue result → (x : ℕ) → x < length marks.now → IsMarkedSo node.now marks.now x }
 {
     for x in 0..marks.len() {
         if !is_found_marked(node, marks, x) {

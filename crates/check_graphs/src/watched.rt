@@ -1,7 +1,6 @@
 ghost use Rattle.std.specs.Prelude.{All, IfOk};
-ghost use Rattle.hg_model.specs.Prefix.{links_of as prefix_links};
-ghost use Rattle.hg_model.specs.Shares.{Speaks};
-ghost use Rattle.check_graphs.specs.Moments.{SpeaksOf};
+ghost use Rattle.hg_model.specs.GraphWords.{SpeaksOf};
+ghost use Rattle.check_graphs.specs.Moments.{IsMomentOf};
 
 use hg_ancestry::BitSight;
 use hg_fame::elect_share;
@@ -31,7 +30,7 @@ pub struct Published {
 pub struct Watched<'a> {
     node: Node<&'a MacTable>,
     held: Vec<Held>,
-    ghost moments: { All (SpeaksOf node) held.items },
+    ghost moments: { All (IsMomentOf node) held.items },
 }
 
 impl<'a> Watched<'a> {
@@ -100,7 +99,7 @@ impl<'a> Watched<'a> {
 
 /// What the share finds in a held graph.
 fn elect_in(alloc: Global, held: &Held, share: Share) -> Result<Found, Memory>
-    ensures { IfOk result (λ found. Speaks held.now.members held.now.coin held.now.rows (prefix_links held.now) found.len found.share found.marks) }
+    ensures { IfOk result (λ found. SpeaksOf held.now found) }
 {
     let mut votes = VoteTable::new(alloc, held)?;
     elect_share(alloc, held, &mut votes, share)

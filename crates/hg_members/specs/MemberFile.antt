@@ -31,6 +31,10 @@ coin_of (Some value) = coin_number (unwrap_or (as_integer value) (pos 0))
 abbrev pub entries_of : Option Data → Items
 entries_of found = unwrap_or (option_and_then as_array found) no_items
 
+-- what a document has under `member`, where it is an array, and the entries there, where they are not too few or too many
+abbrev pub member_array : Data → Option Items
+member_array document = option_and_then as_array (get (codes "member") document)
+
 abbrev pub count_of : Items → ℕ
 count_of no_items = 0
 count_of (item value rest) = suc (count_of rest)
@@ -38,6 +42,9 @@ count_of (item value rest) = suc (count_of rest)
 -- 2 to 128 entries
 abbrev pub checked_count : Items → Result Items MemberFault
 checked_count entries = if nat_le 2 (count_of entries) && nat_le (count_of entries) 128 then Ok entries else Err (Count (count_of entries))
+
+abbrev pub member_entries : Data → Result Items MemberFault
+member_entries document = checked_count (entries_of (get (codes "member") document))
 
 -- the text under a key of an entry
 abbrev pub text_at : List ℕ → Data → Option (List ℕ)

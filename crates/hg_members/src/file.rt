@@ -1,4 +1,4 @@
-ghost use Rattle.std.specs.Prelude.{◌≡◌, ◌≤◌, [], codes, length, option_and_then, option_map, sum_by, IfOk, ◌<◌, ◌^◌};
+ghost use Rattle.std.specs.Prelude.{◌≡◌, ◌≤◌, [], codes, length, option_map, sum_by, IfOk, ◌<◌, ◌^◌};
 ghost use Rattle.std.specs.Option.{ok_or};
 ghost use Rattle.toml.specs.Data.{as_array, get};
 ghost use Rattle.toml.specs.View.{array_view, view};
@@ -49,14 +49,14 @@ fn coin_in(document: &Value) -> Result<u32, MemberFault>
 }
 
 fn array_in(document: &Value) -> Option<&Array>
-    ensures { option_map (λ array. array_view array.now) result ≡ option_and_then as_array (get (codes "member") (view document.now)) }
+    ensures { option_map (λ array. array_view array.now) result ≡ spec.member_array (view document.now) }
 {
     document.get("member")?.as_array()
 }
 
 #[tactic(auto, using(crate::proofs::Entries::count_of_items))]
 fn entries_in(document: &Value) -> Result<&Array, MemberFault>
-    ensures { Reads (λ array. array_view array.now) result (spec.checked_count (spec.entries_of (get (codes "member") (view document.now)))) }
+    ensures { Reads (λ array. array_view array.now) result (spec.member_entries (view document.now)) }
 {
     let entries = array_in(document).ok_or(MemberFault::Count(0))?;
     let count = entries.len();

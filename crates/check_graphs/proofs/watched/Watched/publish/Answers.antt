@@ -1,12 +1,12 @@
 use Rattle.std.proofs.Common.{arith, subst, sym}
 use Rattle.hg_model.specs.Prefix.{Graph}
-use Rattle.check_graphs.specs.Moments.{SpeaksOf}
+use Rattle.check_graphs.specs.Moments.{IsMomentOf}
 use Rattle.check_graphs.proofs.MomentLaws.{speaks_later}
 use Rattle.check_graphs.proofs.watched.Watched.publish.Goals as goal
 
 pub publish-marked-requires : goal.publish-marked-requires
 publish-marked-requires c =
-    let speaks : SpeaksOf c.args.self.now.node c.index.result.now = subst (λ (g : Graph). SpeaksOf c.args.self.now.node g) (sym c.index.ensures)
+    let speaks : IsMomentOf c.args.self.now.node c.index.result.now = subst (λ (g : Graph). IsMomentOf c.args.self.now.node g) (sym c.index.ensures)
     (c.args.self.now.moments c.args.number c.index.result.now (omega arith)) in
     speaks _ _ _ c.in_ok-found.ensures
 
