@@ -49,17 +49,17 @@ module _ (L : List Link) (e : IsEarlier (parents L)) (rows : List (List Bool)) (
   joined_long row other = length-table (λ k. is_in row k || is_in other k) (length row)
 
   -- that of two parents' ancestors
-  pub filled_on : (n own other : ℕ) → own < length L → other < length L →
-      union_of (union_of (replicate n false) (row_at rows own)) (row_at rows other) ≡ table (is_above L (own ∷ other ∷ [])) n
-  filled_on n own other hown hother =
+  pub filled_on : (n self_place other : ℕ) → self_place < length L → other < length L →
+      union_of (union_of (replicate n false) (row_at rows self_place)) (row_at rows other) ≡ table (is_above L (self_place ∷ other ∷ [])) n
+  filled_on n self_place other hown hother =
       let empty : List Bool = replicate n false in
-      let first = union_of empty (row_at rows own) in
+      let first = union_of empty (row_at rows self_place) in
       let long : length empty ≡ n = length-replicate n false in
-      let first_long = joined_long empty (row_at rows own) in
-      is_table (union_of first (row_at rows other)) (is_above L (own ∷ other ∷ [])) n (joined_long first (row_at rows other) ∙ (first_long ∙ long))
+      let first_long = joined_long empty (row_at rows self_place) in
+      is_table (union_of first (row_at rows other)) (is_above L (self_place ∷ other ∷ [])) n (joined_long first (row_at rows other) ∙ (first_long ∙ long))
       (λ k h. joined_one first other k hother (omega (arith, first_long, long))
-      ∙ (ap (λ b. b || is_ancestor L other k) (joined_one empty own k hown (omega (arith, long)) ∙ ap (λ b. b || is_ancestor L own k) (get_or-replicate n k false false h))
-      ∙ ap (λ b. is_ancestor L own k || b) (sym (or-false (is_ancestor L other k)))))
+      ∙ (ap (λ b. b || is_ancestor L other k) (joined_one empty self_place k hown (omega (arith, long)) ∙ ap (λ b. b || is_ancestor L self_place k) (get_or-replicate n k false false h))
+      ∙ ap (λ b. is_ancestor L self_place k || b) (sym (or-false (is_ancestor L other k)))))
 
 -- and the place of the row itself
 pub filled_last : (test : ℕ → Bool) (row : List Bool) (n i : ℕ) → row ≡ table test n → with_place row i ≡ table (λ k. eqb k i || test k) n
@@ -70,10 +70,10 @@ filled_last test row n i is =
     (λ k h. is_in-table (λ k. eqb k i || is_in row k) n k h ∙ ap (λ b. eqb k i || b) (ap (λ r. is_in r k) is ∙ is_in-table test n k h)))
 
 -- the parents of a link that fits are there
-pub parents_there : (n : Stakes) (L : List Link) (by own other : ℕ) (on : List ℕ) → on ≡ own ∷ other ∷ [] → FitsLink n L (link_of by on) → (own < length L) × (other < length L)
-parents_there n L by own other on is fits = (
-  (subst (λ (on : List ℕ). FitsLink n L (link_of by on)) is fits).earlier own (has_place_first own (other ∷ [])),
-  (subst (λ (on : List ℕ). FitsLink n L (link_of by on)) is fits).earlier other (has_place_later own other (other ∷ []) (has_place_first other [])),
+pub parents_there : (n : Stakes) (L : List Link) (by self_place other : ℕ) (on : List ℕ) → on ≡ self_place ∷ other ∷ [] → FitsLink n L (link_of by on) → (self_place < length L) × (other < length L)
+parents_there n L by self_place other on is fits = (
+  (subst (λ (on : List ℕ). FitsLink n L (link_of by on)) is fits).earlier self_place (has_place_first self_place (other ∷ [])),
+  (subst (λ (on : List ℕ). FitsLink n L (link_of by on)) is fits).earlier other (has_place_later self_place other (other ∷ []) (has_place_first other [])),
 )
 
 pub places_fit : (n : Stakes) (L : List Link) (by : ℕ) (on : List ℕ) → FitsLink n L (link_of by on) → AllByRecursion (λ p. p < length L) on

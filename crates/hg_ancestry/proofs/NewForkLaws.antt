@@ -53,9 +53,9 @@ no_fork_alone n L m by s fits =
     let same : f.0 ≡ f.1 = sym (only f.0 f.2) ∙ only f.1 f.3 in
     absurd (both_ways (is_self_ancestor M f.0 f.1) f.4.not_above (subst (λ b. is_self_ancestor M f.0 b ≡ true) same (is_self_ancestor_self M e f.0))))
 
-module _ (n : Stakes) (L : List Link) (s : IsShaped n L) (by own other : ℕ) (fits : FitsLink n L (link_of by (own ∷ other ∷ []))) (m : ℕ) where
+module _ (n : Stakes) (L : List Link) (s : IsShaped n L) (by self_place other : ℕ) (fits : FitsLink n L (link_of by (self_place ∷ other ∷ []))) (m : ℕ) where
   abbrev pub new_link : Link
-  new_link = link_of by (own ∷ other ∷ [])
+  new_link = link_of by (self_place ∷ other ∷ [])
 
   abbrev pub grown : List Link
   grown = L ++ new_link ∷ []
@@ -69,46 +69,46 @@ module _ (n : Stakes) (L : List Link) (s : IsShaped n L) (by own other : ℕ) (f
   after : IsEarlier (parents grown)
   after = (shape-push n L new_link s fits).earlier
 
-  on : parents grown (length L) ≡ own ∷ other ∷ []
+  on : parents grown (length L) ≡ self_place ∷ other ∷ []
   on = parents_last n L new_link s fits
 
-  own_below : own < length L
-  own_below = fits.earlier own (has_place_first own (other ∷ []))
+  self_below : self_place < length L
+  self_below = fits.earlier self_place (has_place_first self_place (other ∷ []))
 
   other_below : other < length L
-  other_below = fits.earlier other (has_place_later own other (other ∷ []) (has_place_first other []))
+  other_below = fits.earlier other (has_place_later self_place other (other ∷ []) (has_place_first other []))
 
-  to_own : has_place (parents grown (length L)) own ≡ true
-  to_own = rw on (has_place_first own (other ∷ []))
+  to_self : has_place (parents grown (length L)) self_place ≡ true
+  to_self = rw on (has_place_first self_place (other ∷ []))
 
   to_other : has_place (parents grown (length L)) other ≡ true
-  to_other = rw on (has_place_later own other (other ∷ []) (has_place_first other []))
+  to_other = rw on (has_place_later self_place other (other ∷ []) (has_place_first other []))
 
-  to_self : has_place (self_parent grown (length L)) own ≡ true
+  to_self : has_place (self_parent grown (length L)) self_place ≡ true
   unfolding self_parent
-  to_self = rw on (has_place_first own [])
+  to_self = rw on (has_place_first self_place [])
 
   -- the new row's member has a row above its self-parent alone, or is its creator, and has one above its other-parent alone
   abbrev pub forks_anew : Bool
-  forks_anew = (eqb m by || is_apart L own other m) && is_apart L other own m
+  forks_anew = (eqb m by || is_apart L self_place other m) && is_apart L other self_place m
 
   abbrev pub forks_here : Bool
-  forks_here = (has_fork_below L own m || has_fork_below L other m) || forks_anew
+  forks_here = (has_fork_below L self_place m || has_fork_below L other m) || forks_anew
 
   -- an ancestor of the new row is that row, or an ancestor of a parent
-  above_cases : (a : ℕ) → is_ancestor grown (length L) a ≡ true → (length L ≡ a) ⊎ ((a < length L) × ((is_ancestor L own a ≡ true) ⊎ (is_ancestor L other a ≡ true)))
+  above_cases : (a : ℕ) → is_ancestor grown (length L) a ≡ true → (length L ≡ a) ⊎ ((a < length L) × ((is_ancestor L self_place a ≡ true) ⊎ (is_ancestor L other a ≡ true)))
   above_cases a up = elim (is_ancestor_cases grown after (length L) a up) [
     | inl same ↦ inl same
     | inr by_parent ↦
         (let p : ℕ = by_parent.0 in
-        let has : has_place (own ∷ other ∷ []) p ≡ true = subst (λ ps. has_place ps p ≡ true) on by_parent.1 in
+        let has : has_place (self_place ∷ other ∷ []) p ≡ true = subst (λ ps. has_place ps p ≡ true) on by_parent.1 in
         let low : p < length L = fits.earlier p has in
         let up_p : is_ancestor L p a ≡ true = sym (is_ancestor-longer L grown longer p a low) ∙ by_parent.2 in
         let le : a ≤ p = is_ancestor-le L before p a up_p in
         inr (
           omega arith,
-          elim (or_cases (eqb own p) (has_place (other ∷ []) p) has) [
-            | inl first ↦ inl (subst (λ k. is_ancestor L k a ≡ true) (sym (eqb-true own p first)) up_p)
+          elim (or_cases (eqb self_place p) (has_place (other ∷ []) p) has) [
+            | inl first ↦ inl (subst (λ k. is_ancestor L k a ≡ true) (sym (eqb-true self_place p first)) up_p)
             | inr rest ↦ elim (or_cases (eqb other p) (has_place [] p) rest) [
               | inl second ↦ inr (subst (λ k. is_ancestor L k a ≡ true) (sym (eqb-true other p second)) up_p)
               | inr none ↦ absurd (true≢false (sym none))
@@ -125,67 +125,67 @@ module _ (n : Stakes) (L : List Link) (s : IsShaped n L) (by own other : ℕ) (f
     not_below = sym (is_self_ancestor-longer L grown longer b a hb) ∙ f.not_below;
   }
 
-  known_own : has_fork_below L own m ≡ true → forks_here ≡ true
-  known_own h = or_left (has_fork_below L own m || has_fork_below L other m) forks_anew (or_left (has_fork_below L own m) (has_fork_below L other m) h)
+  known_self : has_fork_below L self_place m ≡ true → forks_here ≡ true
+  known_self h = or_left (has_fork_below L self_place m || has_fork_below L other m) forks_anew (or_left (has_fork_below L self_place m) (has_fork_below L other m) h)
 
   known_other : has_fork_below L other m ≡ true → forks_here ≡ true
-  known_other h = or_left (has_fork_below L own m || has_fork_below L other m) forks_anew (or_right (has_fork_below L own m) (has_fork_below L other m) h)
+  known_other h = or_left (has_fork_below L self_place m || has_fork_below L other m) forks_anew (or_right (has_fork_below L self_place m) (has_fork_below L other m) h)
 
-  anew : (eqb m by || is_apart L own other m) ≡ true → (b : ℕ) → is_ancestor L other b ≡ true → is_ancestor L own b ≡ false → creator L b ≡ m → forks_here ≡ true
+  anew : (eqb m by || is_apart L self_place other m) ≡ true → (b : ℕ) → is_ancestor L other b ≡ true → is_ancestor L self_place b ≡ false → creator L b ≡ m → forks_here ≡ true
   anew here b up none by_m =
-      or_right (has_fork_below L own m || has_fork_below L other m) forks_anew
-      (and_from (eqb m by || is_apart L own other m) (is_apart L other own m) here
-      (apart_from L before other own m b up none by_m))
+      or_right (has_fork_below L self_place m || has_fork_below L other m) forks_anew
+      (and_from (eqb m by || is_apart L self_place other m) (is_apart L other self_place m) here
+      (apart_from L before other self_place m b up none by_m))
 
-  fork_below_own : (a b : ℕ) → is_ancestor L own a ≡ true → is_ancestor L own b ≡ true → Fork L m a b → forks_here ≡ true
-  fork_below_own a b ua ub f = known_own (has_fork_below_from L before own a b m ua ub (is_fork_from L m a b f))
+  fork_below_self : (a b : ℕ) → is_ancestor L self_place a ≡ true → is_ancestor L self_place b ≡ true → Fork L m a b → forks_here ≡ true
+  fork_below_self a b ua ub f = known_self (has_fork_below_from L before self_place a b m ua ub (is_fork_from L m a b f))
 
   fork_below_other : (a b : ℕ) → is_ancestor L other a ≡ true → is_ancestor L other b ≡ true → Fork L m a b → forks_here ≡ true
   fork_below_other a b ua ub f = known_other (has_fork_below_from L before other a b m ua ub (is_fork_from L m a b f))
 
   -- a fork of the new row with an earlier one
-  new_side : (b : ℕ) → b < length L → (is_ancestor L own b ≡ true) ⊎ (is_ancestor L other b ≡ true) → Fork grown m (length L) b → forks_here ≡ true
+  new_side : (b : ℕ) → b < length L → (is_ancestor L self_place b ≡ true) ⊎ (is_ancestor L other b ≡ true) → Fork grown m (length L) b → forks_here ≡ true
   new_side b hb up f =
       let made : by ≡ m = sym (creator_last n L new_link (length L) refl) ∙ f.first in
       let by_m : creator L b ≡ m = sym (creator-longer L grown longer b hb) ∙ f.second in
-      elim (cases_Bool (is_ancestor L own b)) [
+      elim (cases_Bool (is_ancestor L self_place b)) [
         | inl above ↦
-            (let line : is_self_ancestor L own b ≡ true → ⊥ = λ r. both_ways (is_self_ancestor grown (length L) b) f.not_above
-            (is_self_ancestor_by grown after (length L) own b to_self (is_self_ancestor-longer L grown longer own b own_below ∙ r)) in
-            let le : b ≤ own = is_ancestor-le L before own b above in
-            fork_below_own own b (is_ancestor_self L before own) above (record {
-              first = fits.self_by_same own (has_place_first own []) ∙ made;
+            (let line : is_self_ancestor L self_place b ≡ true → ⊥ = λ r. both_ways (is_self_ancestor grown (length L) b) f.not_above
+            (is_self_ancestor_by grown after (length L) self_place b to_self (is_self_ancestor-longer L grown longer self_place b self_below ∙ r)) in
+            let le : b ≤ self_place = is_ancestor-le L before self_place b above in
+            fork_below_self self_place b (is_ancestor_self L before self_place) above (record {
+              first = fits.self_by_same self_place (has_place_first self_place []) ∙ made;
               second = by_m;
-              not_above = false_from_ne_true (is_self_ancestor L own b) line;
-              not_below = false_from_ne_true (is_self_ancestor L b own) (λ r.
-                  let ge : own ≤ b = is_self_ancestor-le L before b own r in
-                  let same : b ≡ own = omega arith in
-                  line (subst (λ k. is_self_ancestor L own k ≡ true) (sym same) (is_self_ancestor_self L before own)));
+              not_above = false_from_ne_true (is_self_ancestor L self_place b) line;
+              not_below = false_from_ne_true (is_self_ancestor L b self_place) (λ r.
+                  let ge : self_place ≤ b = is_self_ancestor-le L before b self_place r in
+                  let same : b ≡ self_place = omega arith in
+                  line (subst (λ k. is_self_ancestor L self_place k ≡ true) (sym same) (is_self_ancestor_self L before self_place)));
             }))
         | inr not_above ↦ elim up [
-          | inl above ↦ absurd (both_ways (is_ancestor L own b) not_above above)
-          | inr above ↦ anew (or_left (eqb m by) (is_apart L own other m) (eq-eqb m by (sym made))) b above not_above by_m
+          | inl above ↦ absurd (both_ways (is_ancestor L self_place b) not_above above)
+          | inr above ↦ anew (or_left (eqb m by) (is_apart L self_place other m) (eq-eqb m by (sym made))) b above not_above by_m
         ]
       ]
 
   -- a fork of a row above the one parent alone and a row above the other alone
-  across : (a b : ℕ) → is_ancestor L own a ≡ true → is_ancestor L other b ≡ true → Fork L m a b → forks_here ≡ true
-  across a b ua ub f = elim (cases_Bool (is_ancestor L own b)) [
-    | inl both ↦ fork_below_own a b ua both f
+  across : (a b : ℕ) → is_ancestor L self_place a ≡ true → is_ancestor L other b ≡ true → Fork L m a b → forks_here ≡ true
+  across a b ua ub f = elim (cases_Bool (is_ancestor L self_place b)) [
+    | inl both ↦ fork_below_self a b ua both f
     | inr b_apart ↦ elim (cases_Bool (is_ancestor L other a)) [
       | inl both ↦ fork_below_other a b both ub f
-      | inr a_apart ↦ anew (or_right (eqb m by) (is_apart L own other m)
-          (apart_from L before own other m a ua a_apart f.first)) b ub b_apart f.second
+      | inr a_apart ↦ anew (or_right (eqb m by) (is_apart L self_place other m)
+          (apart_from L before self_place other m a ua a_apart f.first)) b ub b_apart f.second
     ]
   ]
 
   swapped : (K : List Link) (a b : ℕ) → Fork K m a b → Fork K m b a
   swapped K a b f = record { first = f.second; second = f.first; not_above = f.not_below; not_below = f.not_above }
 
-  old_sides : (a b : ℕ) → (is_ancestor L own a ≡ true) ⊎ (is_ancestor L other a ≡ true) → (is_ancestor L own b ≡ true) ⊎ (is_ancestor L other b ≡ true) → Fork L m a b → forks_here ≡ true
+  old_sides : (a b : ℕ) → (is_ancestor L self_place a ≡ true) ⊎ (is_ancestor L other a ≡ true) → (is_ancestor L self_place b ≡ true) ⊎ (is_ancestor L other b ≡ true) → Fork L m a b → forks_here ≡ true
   old_sides a b ua ub f = elim ua [
-    | inl a_own ↦ elim ub [ inl b_own ↦ fork_below_own a b a_own b_own f | inr b_other ↦ across a b a_own b_other f ]
-    | inr a_other ↦ elim ub [ inl b_own ↦ across b a b_own a_other (swapped L a b f) | inr b_other ↦ fork_below_other a b a_other b_other f ]
+    | inl a_self ↦ elim ub [ inl b_self ↦ fork_below_self a b a_self b_self f | inr b_other ↦ across a b a_self b_other f ]
+    | inr a_other ↦ elim ub [ inl b_self ↦ across b a b_self a_other (swapped L a b f) | inr b_other ↦ fork_below_other a b a_other b_other f ]
   ]
 
   fork_known : has_fork_below grown (length L) m ≡ true → forks_here ≡ true
@@ -204,8 +204,8 @@ module _ (n : Stakes) (L : List Link) (s : IsShaped n L) (by own other : ℕ) (f
         ]
       ]
 
-  up_own : (a : ℕ) → is_ancestor L own a ≡ true → is_ancestor grown (length L) a ≡ true
-  up_own a up = is_ancestor_by grown after (length L) own a to_own (is_ancestor-longer L grown longer own a own_below ∙ up)
+  up_self : (a : ℕ) → is_ancestor L self_place a ≡ true → is_ancestor grown (length L) a ≡ true
+  up_self a up = is_ancestor_by grown after (length L) self_place a to_self (is_ancestor-longer L grown longer self_place a self_below ∙ up)
 
   up_other : (a : ℕ) → is_ancestor L other a ≡ true → is_ancestor grown (length L) a ≡ true
   up_other a up = is_ancestor_by grown after (length L) other a to_other (is_ancestor-longer L grown longer other a other_below ∙ up)
@@ -213,15 +213,15 @@ module _ (n : Stakes) (L : List Link) (s : IsShaped n L) (by own other : ℕ) (f
   grown_fork : (a b : ℕ) → is_ancestor grown (length L) a ≡ true → is_ancestor grown (length L) b ≡ true → Fork grown m a b → has_fork_below grown (length L) m ≡ true
   grown_fork a b ua ub f = has_fork_below_from grown after (length L) a b m ua ub (is_fork_from grown m a b f)
 
-  only_own : (p : ℕ) → has_place (self_parent grown (length L)) p ≡ true → p ≡ own
+  only_self : (p : ℕ) → has_place (self_parent grown (length L)) p ≡ true → p ≡ self_place
   unfolding self_parent
-  only_own p h = elim (or_cases (eqb own p) (has_place [] p) (subst (λ ps. has_place (first_place ps) p ≡ true) on h)) [
-    | inl same ↦ sym (eqb-true own p same)
+  only_self p h = elim (or_cases (eqb self_place p) (has_place [] p) (subst (λ ps. has_place (first_place ps) p ≡ true) on h)) [
+    | inl same ↦ sym (eqb-true self_place p same)
     | inr none ↦ absurd (true≢false (sym none))
   ]
 
   -- the new row and a row above its other-parent alone
-  fork_with_new : by ≡ m → (b : ℕ) → is_ancestor L other b ≡ true → is_ancestor L own b ≡ false → creator L b ≡ m → has_fork_below grown (length L) m ≡ true
+  fork_with_new : by ≡ m → (b : ℕ) → is_ancestor L other b ≡ true → is_ancestor L self_place b ≡ false → creator L b ≡ m → has_fork_below grown (length L) m ≡ true
   fork_with_new made b up none by_m =
       let le : b ≤ other = is_ancestor-le L before other b up in
       let low = other_below in
@@ -232,44 +232,44 @@ module _ (n : Stakes) (L : List Link) (s : IsShaped n L) (by own other : ℕ) (f
         not_above = false_from_ne_true (is_self_ancestor grown (length L) b) (λ r. elim (is_self_ancestor_cases grown after (length L) b r) [
           | inl same ↦ absurd (omega arith)
           | inr line ↦
-              (let first : line.0 ≡ own = only_own line.0 line.1 in
-              let from_own : is_self_ancestor grown own b ≡ true = subst (λ k. is_self_ancestor grown k b ≡ true) first line.2 in
-              both_ways (is_ancestor L own b) none (is_ancestor-from_self L before own b (sym (is_self_ancestor-longer L grown longer own b own_below) ∙ from_own)))
+              (let first : line.0 ≡ self_place = only_self line.0 line.1 in
+              let from_self : is_self_ancestor grown self_place b ≡ true = subst (λ k. is_self_ancestor grown k b ≡ true) first line.2 in
+              both_ways (is_ancestor L self_place b) none (is_ancestor-from_self L before self_place b (sym (is_self_ancestor-longer L grown longer self_place b self_below) ∙ from_self)))
         ]);
         not_below = false_from_ne_true (is_self_ancestor grown b (length L)) (λ r. absurd (omega (arith, is_self_ancestor-le grown after b (length L) r)));
       })
 
   -- rows above the one parent alone and above the other alone
-  fork_across : (a b : ℕ) → is_ancestor L own a ≡ true → is_ancestor L other a ≡ false → is_ancestor L other b ≡ true → is_ancestor L own b ≡ false →
+  fork_across : (a b : ℕ) → is_ancestor L self_place a ≡ true → is_ancestor L other a ≡ false → is_ancestor L other b ≡ true → is_ancestor L self_place b ≡ false →
       creator L a ≡ m → creator L b ≡ m → has_fork_below grown (length L) m ≡ true
   fork_across a b ua na ub nb by_a by_b =
-      let own_low = own_below in
+      let self_low = self_below in
       let other_low = other_below in
-      let la : a ≤ own = is_ancestor-le L before own a ua in
+      let la : a ≤ self_place = is_ancestor-le L before self_place a ua in
       let lb : b ≤ other = is_ancestor-le L before other b ub in
       let ha : a < length L = omega arith in
       let hb : b < length L = omega arith in
-      grown_fork a b (up_own a ua) (up_other b ub) (record {
+      grown_fork a b (up_self a ua) (up_other b ub) (record {
         first = creator-longer L grown longer a ha ∙ by_a;
         second = creator-longer L grown longer b hb ∙ by_b;
         not_above = is_self_ancestor-longer L grown longer a b ha ∙ false_from_ne_true (is_self_ancestor L a b) (λ r.
-            both_ways (is_ancestor L own b) nb (is_ancestor-trans L before own a b ua (is_ancestor-from_self L before a b r)));
+            both_ways (is_ancestor L self_place b) nb (is_ancestor-trans L before self_place a b ua (is_ancestor-from_self L before a b r)));
         not_below = is_self_ancestor-longer L grown longer b a hb ∙ false_from_ne_true (is_self_ancestor L b a) (λ r.
             both_ways (is_ancestor L other a) na (is_ancestor-trans L before other b a ub (is_ancestor-from_self L before b a r)));
       })
 
   fork_is_there : forks_here ≡ true → has_fork_below grown (length L) m ≡ true
-  fork_is_there h = elim (or_cases (has_fork_below L own m || has_fork_below L other m) forks_anew h) [
-    | inl known ↦ elim (or_cases (has_fork_below L own m) (has_fork_below L other m) known) [
-      | inl below ↦ has_fork_below_grows grown after (length L) own m (up_own own (is_ancestor_self L before own)) (has_fork_below-longer L grown longer own m own_below ∙ below)
+  fork_is_there h = elim (or_cases (has_fork_below L self_place m || has_fork_below L other m) forks_anew h) [
+    | inl known ↦ elim (or_cases (has_fork_below L self_place m) (has_fork_below L other m) known) [
+      | inl below ↦ has_fork_below_grows grown after (length L) self_place m (up_self self_place (is_ancestor_self L before self_place)) (has_fork_below-longer L grown longer self_place m self_below ∙ below)
       | inr below ↦ has_fork_below_grows grown after (length L) other m (up_other other (is_ancestor_self L before other)) (has_fork_below-longer L grown longer other m other_below ∙ below)
     ]
     | inr new ↦
-        (let parts = and_parts (eqb m by || is_apart L own other m) (is_apart L other own m) new in
-        let b = apart_found L before other own m parts.1 in
-        elim (or_cases (eqb m by) (is_apart L own other m) parts.0) [
+        (let parts = and_parts (eqb m by || is_apart L self_place other m) (is_apart L other self_place m) new in
+        let b = apart_found L before other self_place m parts.1 in
+        elim (or_cases (eqb m by) (is_apart L self_place other m) parts.0) [
           | inl made ↦ fork_with_new (sym (eqb-true m by made)) b.0 b.1 b.2 b.3
-          | inr apart ↦ (let a = apart_found L before own other m apart in fork_across a.0 b.0 a.1 a.2 b.1 b.2 a.3 b.3)
+          | inr apart ↦ (let a = apart_found L before self_place other m apart in fork_across a.0 b.0 a.1 a.2 b.1 b.2 a.3 b.3)
         ])
   ]
 

@@ -61,4 +61,4 @@ IsForkMask L link mask = (m : ℕ) → mask_has mask m ≡ has_fork_below (L ++ 
 
 -- the mask has the members that have rows above both of two parents alone, of whom the new row's creator has its own
 abbrev pub IsApartMask : List Link → ℕ → ℕ → ℕ → ℕ → Type 0
-IsApartMask L by own other mask = (m : ℕ) → mask_has mask m ≡ ((m == by || is_apart L own other m) && is_apart L other own m)
+IsApartMask L by self_place other mask = (m : ℕ) → mask_has mask m ≡ ((m == by || is_apart L self_place other m) && is_apart L other self_place m)

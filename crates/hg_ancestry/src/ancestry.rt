@@ -40,8 +40,8 @@ fn add_parents(row: &mut BitRow, links: &[PlacedLink], rows: &[BitRow], on: Pare
 {
     match on.pair() {
         None => {}
-        Some((own, other)) => {
-            row.union(row_of(rows, own));
+        Some((self_place, other)) => {
+            row.union(row_of(rows, self_place));
             row.union(row_of(rows, other));
         }
     }

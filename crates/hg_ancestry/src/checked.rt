@@ -14,10 +14,10 @@ pub fn fits(sight: &BitSight, parents: Parents, creator: Member) -> bool
     }
     match parents.pair() {
         None => true,
-        Some((own, other)) => {
-            own < sight.rows()
+        Some((self_place, other)) => {
+            self_place < sight.rows()
                 && other < sight.rows()
-                && sight.creator(own) == creator
+                && sight.creator(self_place) == creator
                 && sight.creator(other) != creator
         }
     }

@@ -18,25 +18,25 @@ pub fn forked_below_next(sight: &BitSight, on: Parents, by: Member) -> u128
     sight.rows();
     match on.pair() {
         None => 0,
-        Some((own, other)) => {
-            let known = join_masks(sight.forked_below(own), sight.forked_below(other));
-            join_masks(known, new_forks(sight, own, other, by))
+        Some((self_place, other)) => {
+            let known = join_masks(sight.forked_below(self_place), sight.forked_below(other));
+            join_masks(known, new_forks(sight, self_place, other, by))
         }
     }
 }
 
 /// The members that have a row among the ancestors of the self-parent alone, or are the creator,
 /// and have another among the ancestors of the other-parent alone.
-fn new_forks(sight: &BitSight, own: usize, other: usize, by: Member) -> u128
+fn new_forks(sight: &BitSight, self_place: usize, other: usize, by: Member) -> u128
     requires member { by < member_count sight.now.shape.members }
-    requires own { own < length sight.now.shape.links }
+    requires self_place { self_place < length sight.now.shape.links }
     requires other { other < length sight.now.shape.links }
-    ensures { IsApartMask sight.now.shape.links by own other result }
+    ensures { IsApartMask sight.now.shape.links by self_place other result }
 {
     // That there are at most 128 members.
     sight.members();
-    let here = with_member(members_apart(sight, own, other), by);
-    meet_masks(here, members_apart(sight, other, own))
+    let here = with_member(members_apart(sight, self_place, other), by);
+    meet_masks(here, members_apart(sight, other, self_place))
 }
 
 /// The members with a row among the ancestors of row `x` that is none of those of row `z`.

@@ -150,7 +150,7 @@ mod tests {
     fn on(pair: Option<(usize, usize)>) -> Parents {
         match pair {
             None => Parents::none(),
-            Some((own, other)) => Parents::of(own, other),
+            Some((self_place, other)) => Parents::of(self_place, other),
         }
     }
 

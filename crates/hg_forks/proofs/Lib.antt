@@ -1,3 +1,3 @@
-pub mod OwnLaws
+pub mod SelfLaws
 pub mod LineLaws
 pub mod WatchLaws

@@ -18,7 +18,7 @@ use Rattle.hg_model.proofs.PushLaws.{creator_before, creator_last, shape-push}
 use Rattle.hg_model.proofs.LongerLaws.{longer-append, is_self_ancestor-longer}
 use Rattle.hg_forks.specs.declared.line.Line.{Line}
 use Rattle.hg_forks.specs.declared.line.Line.TheVariants.{Empty, Ends, Forked}
-use Rattle.hg_forks.specs.Own.{own_link_of}
+use Rattle.hg_forks.specs.SelfLinks.{self_link_of}
 use Rattle.hg_forks.specs.Pairs.{IsForkOf}
 use Rattle.hg_forks.specs.Lines.{is_on, makes_fork, next_line, IsLast, IsLineOf}
 
@@ -50,9 +50,9 @@ module _ (n : Stakes) (L : List Link) (s : IsShaped n L) where
   has_fork_known m (Ends last) matches = none_in_line m last matches
   has_fork_known m (Forked a b) matches = (let order = matches.order in let there = matches.there in has_fork_from L m a b (omega arith) there matches.fork)
 
-  module _ (k : ℕ) (self_parent_of : Option ℕ) (fits : FitsLink n L (own_link_of k self_parent_of)) where
+  module _ (k : ℕ) (self_parent_of : Option ℕ) (fits : FitsLink n L (self_link_of k self_parent_of)) where
     abbrev pub link : Link
-    link = own_link_of k self_parent_of
+    link = self_link_of k self_parent_of
 
     abbrev pub M : List Link
     M = L ++ link ∷ []
@@ -183,13 +183,13 @@ module _ (n : Stakes) (L : List Link) (s : IsShaped n L) where
         }
 
     -- the line of the new row's member
-    pub own_line : (line : Line) → IsLineOf L k line → IsLineOf M k (next_line line self_parent_of (length L))
-    own_line Empty matches = new_last (λ x h by_k. absurd (matches x h by_k))
-    own_line (Ends last) matches = elim (cases_Bool (is_on self_parent_of last)) [
+    pub self_line : (line : Line) → IsLineOf L k line → IsLineOf M k (next_line line self_parent_of (length L))
+    self_line Empty matches = new_last (λ x h by_k. absurd (matches x h by_k))
+    self_line (Ends last) matches = elim (cases_Bool (is_on self_parent_of last)) [
       | inl on ↦ subst (λ b. IsLineOf M k (cond b (Ends (length L)) (Forked last (length L)))) (sym on) (on_last last on matches)
       | inr off ↦ subst (λ b. IsLineOf M k (cond b (Ends (length L)) (Forked last (length L)))) (sym off) (off_last last off matches)
     ]
-    own_line (Forked a b) matches = fork_kept k a b matches
+    self_line (Forked a b) matches = fork_kept k a b matches
 
 -- a row makes a line forked where it makes the first fork
 pub is_forked_next : (line : Line) (self_parent_of : Option ℕ) (x : ℕ) →

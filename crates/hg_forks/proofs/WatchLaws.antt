@@ -12,10 +12,10 @@ use Rattle.hg_model.proofs.PlacesLaws.{weight_below-same, weight_below_none, cou
 use Rattle.hg_model.proofs.PushLaws.{shape-push}
 use Rattle.hg_forks.specs.declared.line.Line.{Line}
 use Rattle.hg_forks.specs.declared.line.Line.TheVariants.{Empty, Ends, Forked}
-use Rattle.hg_forks.specs.Own.{own_link_of}
+use Rattle.hg_forks.specs.SelfLinks.{self_link_of}
 use Rattle.hg_forks.specs.Pairs.{IsForkPair}
 use Rattle.hg_forks.specs.Lines.{fork_in, next_line, line_at, new_forkers, lengthened, IsLineOf, KeepsLines}
-use Rattle.hg_forks.proofs.LineLaws.{is_forked, has_fork_known, other_line, own_line, is_forked_next}
+use Rattle.hg_forks.proofs.LineLaws.{is_forked, has_fork_known, other_line, self_line, is_forked_next}
 
 -- two tests that agree but at m
 count-changed : (n m : ℕ) (one two : ℕ → Bool) → m < n → ((k : ℕ) → k < n → k ≢ m → one k ≡ two k) →
@@ -46,9 +46,9 @@ module _ (L : List Link) (lines : List Line) (forking : ℕ) (keeps : KeepsLines
       matches (Ends last) t = has_fork_known (length lines) L keeps.shaped m (Ends last) t
       matches (Forked a b) t = t
 
-  module _ (m : ℕ) (self_parent_of : Option ℕ) (fits : FitsLink (length lines) L (own_link_of m self_parent_of)) where
+  module _ (m : ℕ) (self_parent_of : Option ℕ) (fits : FitsLink (length lines) L (self_link_of m self_parent_of)) where
     abbrev pub M : List Link
-    M = L ++ own_link_of m self_parent_of ∷ []
+    M = L ++ self_link_of m self_parent_of ∷ []
 
     abbrev line : Line
     line = line_at lines m
@@ -60,13 +60,13 @@ module _ (L : List Link) (lines : List Line) (forking : ℕ) (keeps : KeepsLines
     member = fits.member
 
     shaped : IsShaped (length lines) M
-    shaped = shape-push (length lines) L (own_link_of m self_parent_of) keeps.shaped fits
+    shaped = shape-push (length lines) L (self_link_of m self_parent_of) keeps.shaped fits
 
     told_other : (k : ℕ) → k < length lines → k ≢ m → IsLineOf M k (line_at lines k)
     told_other k h other = other_line (length lines) L keeps.shaped m self_parent_of fits k (line_at lines k) other (keeps.matches k h)
 
-    told_own : IsLineOf M m next
-    told_own = own_line (length lines) L keeps.shaped m self_parent_of fits line (keeps.matches m member)
+    told_self : IsLineOf M m next
+    told_self = self_line (length lines) L keeps.shaped m self_parent_of fits line (keeps.matches m member)
 
     -- how many members have a fork with the row
     pub forkers_next : forking + new_forkers lines m self_parent_of ≡ forkers (length lines) M
@@ -77,7 +77,7 @@ module _ (L : List Link) (lines : List Line) (forking : ℕ) (keeps : KeepsLines
         has_fork_known n L keeps.shaped k (line_at lines k) (keeps.matches k h)
         ∙ sym (has_fork_known n M shaped k (line_at lines k) (told_other k h other))) in
         let old : from_bool (has_fork L m) ≡ from_bool (is_forked line) = ap from_bool (has_fork_known n L keeps.shaped m line (keeps.matches m member)) in
-        let new : from_bool (has_fork M m) ≡ from_bool (is_forked next) = ap from_bool (has_fork_known n M shaped m next told_own) in
+        let new : from_bool (has_fork M m) ≡ from_bool (is_forked next) = ap from_bool (has_fork_known n M shaped m next told_self) in
         let step = is_forked_next line self_parent_of (length L) in
         let count : forking ≡ count_below n (has_fork L) = keeps.count in
         omega (arith, counts, old, new, step, count)
@@ -94,8 +94,8 @@ module _ (L : List Link) (lines : List Line) (forking : ℕ) (keeps : KeepsLines
           few = rw same keeps.few;
           shaped = rw same shaped;
           matches = λ k h. elim (cases_eq k m) [
-            | inl own ↦ subst (λ j. IsLineOf M j (get_or (slice_set lines m next) j Empty)) (sym own)
-                (subst (λ l. IsLineOf M m l) (sym (get_or-set_same lines m next Empty member)) told_own)
+            | inl self_place ↦ subst (λ j. IsLineOf M j (get_or (slice_set lines m next) j Empty)) (sym self_place)
+                (subst (λ l. IsLineOf M m l) (sym (get_or-set_same lines m next Empty member)) told_self)
             | inr other ↦ subst (λ l. IsLineOf M k l) (sym (get_or-set_other lines m k next Empty other)) (told_other k (omega (arith, same)) other)
           ];
           count = forkers_next ∙ ap (λ n. forkers n M) (sym same);

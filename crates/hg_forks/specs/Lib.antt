@@ -1,3 +1,3 @@
-pub mod Own
+pub mod SelfLinks
 pub mod Pairs
 pub mod Lines

@@ -7,8 +7,8 @@
 mod checked;
 mod laws;
 mod line;
-mod own_row;
+mod self_row;
 mod watch;
 
-pub use laws::own_links_have_forks;
+pub use laws::self_links_have_forks;
 pub use watch::Watch;

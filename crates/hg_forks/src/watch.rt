@@ -2,11 +2,11 @@ ghost use Rattle.std.specs.Prelude.{◌≡◌, ◌<◌, ◌≤◌, [], ◌∷◌
 ghost use Rattle.hg_model.specs.Stakes.{member_count};
 ghost use Rattle.hg_model.specs.Forks.{forkers, has_fork};
 ghost use Rattle.hg_model.specs.Shape.{FitsLink, shape_of, with_link};
-ghost use Rattle.hg_forks.specs.Own.{own_link_of};
+ghost use Rattle.hg_forks.specs.SelfLinks.{self_link_of};
 ghost use Rattle.hg_forks.specs.Pairs.{IsForkPair};
 
 use crate::line::{Line, fork_in, line_at, new_forkers, next_line};
-use crate::own_row::OwnRow;
+use crate::self_row::SelfRow;
 use hg_model::{Member, Memory};
 use std::alloc::Global;
 use std::marker::Model;
@@ -16,7 +16,7 @@ use std::marker::Model;
 #[derive(Drop)]
 pub struct Watch {
     /// The rows so far: what contracts speak of.
-    rows: Vec<OwnRow>,
+    rows: Vec<SelfRow>,
     /// Each member's line.
     lines: Vec<Line>,
     /// How many of the lines are forked.
@@ -50,8 +50,8 @@ impl Watch {
 
     /// How many members have a fork once the member has made one row more, on this self-parent.
     pub fn would(&self, creator: Member, self_parent: Option<usize>) -> u32
-        requires { FitsLink self.now.shape.members self.now.shape.links (own_link_of creator self_parent) }
-        ensures { result ≡ forkers self.now.shape.members (self.now.shape.links ++ own_link_of creator self_parent ∷ []) }
+        requires { FitsLink self.now.shape.members self.now.shape.links (self_link_of creator self_parent) }
+        ensures { result ≡ forkers self.now.shape.members (self.now.shape.links ++ self_link_of creator self_parent ∷ []) }
     {
         self.forkers + new_forkers(&self.lines, creator, self_parent)
     }
@@ -68,13 +68,13 @@ impl Watch {
     /// One row more, by the member, on this self-parent. Takes no memory.
     pub fn add(&mut self, creator: Member, self_parent: Option<usize>)
         requires room { 1 ≤ self.old.room }
-        requires fits { FitsLink self.old.shape.members self.old.shape.links (own_link_of creator self_parent) }
-        ensures { self.new.shape ≡ with_link self.old.shape (own_link_of creator self_parent) }
+        requires fits { FitsLink self.old.shape.members self.old.shape.links (self_link_of creator self_parent) }
+        ensures { self.new.shape ≡ with_link self.old.shape (self_link_of creator self_parent) }
     {
         self.forkers += new_forkers(&self.lines, creator, self_parent);
         let line = next_line(line_at(&self.lines, creator), self_parent, self.rows.len());
         self.lines[usize::from(creator)] = line;
-        self.rows.push_reserved(OwnRow {
+        self.rows.push_reserved(SelfRow {
             creator,
             self_parent,
         });

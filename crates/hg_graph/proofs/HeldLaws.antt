@@ -21,8 +21,8 @@ use Rattle.hg_model.proofs.LongerLaws.{slice_get-append}
 use Rattle.hg_model.proofs.NameLaws.{distinct-none}
 use Rattle.hg_model.proofs.PushLaws.{nobody, shaped-none}
 use Rattle.hg_model.proofs.LinkLaws.{length-links, parents_read}
-use Rattle.hg_forks.specs.Own.{own_link_of, own_links, own_shape}
-use Rattle.hg_forks.proofs.OwnLaws.{own_links_serve}
+use Rattle.hg_forks.specs.SelfLinks.{self_link_of, self_links, self_shape}
+use Rattle.hg_forks.proofs.SelfLaws.{self_links_serve}
 use Rattle.hg_rounds.specs.Tabled.{last_parents}
 use Rattle.hg_graph.specs.Held.{GraphWithRoom, AreEvents, IsHeld, KeepsGraph, graph_with}
 use Rattle.hg_graph.proofs.NextLaws.{links_next, fits_last, name_next}
@@ -47,7 +47,7 @@ held_none n c some few three = record {
     none_there x row is = (let gone = slice_get_past {X = Row} [] x (omega arith) in cc)
 
 pub keeps_none : (n : Stakes) (c : ℕ) → 0 < total n → member_count n ≤ 128 → 2 < c → KeepsGraph (graph_of n c []) (shape_of n []) (shape_of n []) []
-unfolding links own_links standings_of
+unfolding links self_links standings_of
 keeps_none n c some few three = record { held = held_none n c some few three; seen = refl; forked = refl; placed = refl }
 
 -- with one more
@@ -72,26 +72,26 @@ events_with G row all here x r is = elim (cases_lt x (length G)) [
 
 -- without other-parents
 
-pub own_fits : (n : Stakes) (L : List Link) (m : ℕ) (parents : List ℕ) (own : Option ℕ) → place_list own ≡ first_place parents → FitsLink n L (link_of m parents) → FitsLink n (own_links L) (own_link_of m own)
-own_fits n L m parents own is fits =
-    subst (λ (ps : List ℕ). FitsLink n (own_links L) (record { creator = m; parents = ps })) (sym is) ((own_links_serve n L).fits (link_of m parents) fits)
+pub self_fits : (n : Stakes) (L : List Link) (m : ℕ) (parents : List ℕ) (self_place : Option ℕ) → place_list self_place ≡ first_place parents → FitsLink n L (link_of m parents) → FitsLink n (self_links L) (self_link_of m self_place)
+self_fits n L m parents self_place is fits =
+    subst (λ (ps : List ℕ). FitsLink n (self_links L) (record { creator = m; parents = ps })) (sym is) ((self_links_serve n L).fits (link_of m parents) fits)
 
-own_push : (n : Stakes) (L : List Link) (m : ℕ) (parents : List ℕ) (own : Option ℕ) → place_list own ≡ first_place parents → own_links L ++ own_link_of m own ∷ [] ≡ own_links (L ++ link_of m parents ∷ [])
-own_push n L m parents own is =
-    ap (λ (ps : List ℕ). own_links L ++ record { creator = m; parents = ps } ∷ []) is ∙ sym ((own_links_serve n L).push (link_of m parents))
+self_push : (n : Stakes) (L : List Link) (m : ℕ) (parents : List ℕ) (self_place : Option ℕ) → place_list self_place ≡ first_place parents → self_links L ++ self_link_of m self_place ∷ [] ≡ self_links (L ++ link_of m parents ∷ [])
+self_push n L m parents self_place is =
+    ap (λ (ps : List ℕ). self_links L ++ record { creator = m; parents = ps } ∷ []) is ∙ sym ((self_links_serve n L).push (link_of m parents))
 
-pub own_forkers : (n : Stakes) (L : List Link) (m : ℕ) (parents : List ℕ) (own : Option ℕ) → place_list own ≡ first_place parents → forkers n (own_links L ++ own_link_of m own ∷ []) ≡ forkers n (L ++ link_of m parents ∷ [])
-own_forkers n L m parents own is = ap (forkers n) (own_push n L m parents own is) ∙ (own_links_serve n (L ++ link_of m parents ∷ [])).forkers
+pub self_forkers : (n : Stakes) (L : List Link) (m : ℕ) (parents : List ℕ) (self_place : Option ℕ) → place_list self_place ≡ first_place parents → forkers n (self_links L ++ self_link_of m self_place ∷ []) ≡ forkers n (L ++ link_of m parents ∷ [])
+self_forkers n L m parents self_place is = ap (forkers n) (self_push n L m parents self_place is) ∙ (self_links_serve n (L ++ link_of m parents ∷ [])).forkers
 
 -- what a row needs, and does, that may come into a graph with these parents
 pub record Comes (g : Graph) (row : Row) (parents : List ℕ) (sight watched : Shape) : Type 0 where
   pub fits : FitsLink sight.members sight.links (link_of row.creator parents)
   pub short : length sight.links + 1 < 4294967295
-  pub own_fits : (own : Option ℕ) → place_list own ≡ first_place parents → FitsLink watched.members watched.links (own_link_of row.creator own)
+  pub self_fits : (self_place : Option ℕ) → place_list self_place ≡ first_place parents → FitsLink watched.members watched.links (self_link_of row.creator self_place)
   pub fresh : place_of g.rows row.name ≡ length g.rows
   pub last : (after : Shape) → after ≡ with_link sight (link_of row.creator parents) → parents ≡ last_parents after
-  pub keeps : (own : Option ℕ) → place_list own ≡ first_place parents → (rows : List Row) (after watched_after : Shape) (standings : List Standing) →
-      rows ≡ g.rows ++ row ∷ [] → after ≡ with_link sight (link_of row.creator parents) → watched_after ≡ with_link watched (own_link_of row.creator own) →
+  pub keeps : (self_place : Option ℕ) → place_list self_place ≡ first_place parents → (rows : List Row) (after watched_after : Shape) (standings : List Standing) →
+      rows ≡ g.rows ++ row ∷ [] → after ≡ with_link sight (link_of row.creator parents) → watched_after ≡ with_link watched (self_link_of row.creator self_place) →
       standings ≡ standings_of after.members after.links → KeepsGraph (graph_of g.members g.coin rows) after watched_after standings
 
 module _ (g : Graph) (row : Row) (bytes : List ℕ) (parents : List ℕ) (held : IsHeld g) (limit : length g.rows < row_limit) (spells : Spells bytes row)
@@ -119,19 +119,19 @@ module _ (g : Graph) (row : Row) (bytes : List ℕ) (parents : List ℕ) (held :
       let here : link ≡ get_or L (length L - 1) link = sym (ap (λ (M : List Link). get_or M (length L - 1) link) at ∙ get_or_push (links g.rows) link link (length L - 1) (omega arith)) in
       sym (parents_read L (length L - 1) link (omega arith) here)
 
-  comes_to : (watched : Shape) → watched ≡ own_shape (shape_in g) → Comes g row parents (shape_in g) watched
+  comes_to : (watched : Shape) → watched ≡ self_shape (shape_in g) → Comes g row parents (shape_in g) watched
   comes_to watched forked = record {
     fits = fits_next;
     short = omega (arith, length-links g.rows);
-    own_fits = λ own first. rw forked (own_fits g.members (links g.rows) row.creator parents own first fits_next);
+    self_fits = λ self_place first. rw forked (self_fits g.members (links g.rows) row.creator parents self_place first fits_next);
     fresh = name_next g.rows row graph.distinct;
     last = λ after at. last_on after.links (ap (λ (s : Shape). s.links) at);
-    keeps = λ own first rows after watched_after standings rows_are at watched_at placed. rw (rows_are, placed) (record {
+    keeps = λ self_place first rows after watched_after standings rows_are at watched_at placed. rw (rows_are, placed) (record {
       held = held_with;
       seen = at ∙ ap (shape_of g.members) (sym linked);
       forked = watched_at
-          ∙ (ap (λ (s : Shape). with_link s (own_link_of row.creator own)) forked
-          ∙ ap (shape_of g.members) (own_push g.members (links g.rows) row.creator parents own first ∙ ap own_links (sym linked)));
+          ∙ (ap (λ (s : Shape). with_link s (self_link_of row.creator self_place)) forked
+          ∙ ap (shape_of g.members) (self_push g.members (links g.rows) row.creator parents self_place first ∙ ap self_links (sym linked)));
       placed = ap (λ (s : Shape). standings_of s.members s.links) (at ∙ ap (shape_of g.members) (sym linked));
     });
   }

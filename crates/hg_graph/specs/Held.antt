@@ -8,7 +8,7 @@ use Rattle.hg_model.specs.Spelling.{Spells, spelling}
 use Rattle.hg_model.specs.Verdict.{row_limit}
 use Rattle.hg_model.specs.Prefix.{Graph, graph_of}
 use Rattle.hg_model.specs.GraphWords.{IsLawfulGraph, standings_in, shape_in}
-use Rattle.hg_forks.specs.Own.{own_shape}
+use Rattle.hg_forks.specs.SelfLinks.{self_shape}
 
 -- a graph, and for how many more rows there is memory at least
 pub record GraphWithRoom : Type 0 where
@@ -36,5 +36,5 @@ pub record IsHeld (g : Graph) : Type 0 where
 pub record KeepsGraph (g : Graph) (sight watched : Shape) (standings : List Standing) : Type 0 where
   pub held : IsHeld g
   pub seen : sight ≡ shape_in g
-  pub forked : watched ≡ own_shape (shape_in g)
+  pub forked : watched ≡ self_shape (shape_in g)
   pub placed : standings ≡ standings_in (shape_in g)

@@ -53,7 +53,7 @@ row_at G x h = elim (slice_get_cases G x).1 [
   | inr past ↦ absurd (omega (arith, past.0))
 ]
 
-module _ (G : List Row) (e : IsEarlier (parents (links G))) (own : (x p : ℕ) → has_place (self_parent (links G) x) p ≡ true → creator (links G) p ≡ creator (links G) x) where
+module _ (G : List Row) (e : IsEarlier (parents (links G))) (self_place : (x p : ℕ) → has_place (self_parent (links G) x) p ≡ true → creator (links G) p ≡ creator (links G) x) where
   twins_from_rows : (x y m : ℕ) → x < length G → y < x → creator (links G) x ≡ m → is_twin G x y ≡ true → Twins (links G) m x y
   twins_from_rows x y m hx hy by_m h =
       let a = row_at G x hx in
@@ -95,7 +95,7 @@ module _ (G : List Row) (e : IsEarlier (parents (links G))) (own : (x p : ℕ) �
   has_twins-from m h =
       let fork = has_fork_found (links G) m h in
       let len = length-links G in
-      let t = twins_of_fork (links G) e own (length G) m fork.0 fork.1 (omega (arith, fork.2)) (omega (arith, fork.3)) fork.4 in
+      let t = twins_of_fork (links G) e self_place (length G) m fork.0 fork.1 (omega (arith, fork.2)) (omega (arith, fork.3)) fork.4 in
       elim (cases_lt t.0 t.1) [
         | inl lower ↦ twins_to_has t.1 t.0 m t.3 lower (record { first = t.4.second; second = t.4.first; apart = λ same. t.4.apart (sym same); on_same = sym t.4.on_same })
         | inr upper ↦ (let apart : t.0 ≢ t.1 = t.4.apart in twins_to_has t.0 t.1 m t.2 (omega arith) t.4)
@@ -115,7 +115,7 @@ module _ (G : List Row) (e : IsEarlier (parents (links G))) (own : (x p : ℕ) �
       let by_m : creator (links G) x ≡ m = sym (row_creator-links G x hx row.0 row.1) ∙ eqb-true (creator_at G x) m parts.0 in
       let len = length-links G in
       has_fork_from (links G) m x y (omega arith) (omega arith)
-      (is_fork_from (links G) m x y (fork_of_twins (links G) e own m x y (twins_from_rows x y m hx hy by_m before.2)))
+      (is_fork_from (links G) m x y (fork_of_twins (links G) e self_place m x y (twins_from_rows x y m hx hy by_m before.2)))
 
   pub has_fork-has_twins : (m : ℕ) → has_fork (links G) m ≡ has_twins G m
   has_fork-has_twins m = bool_iff (has_fork (links G) m) (has_twins G m) (has_twins-from m) (has_twins-to m)

@@ -33,5 +33,5 @@ unfoldable pub has_twins : List Row → ℕ → Bool
 has_twins G m = some_below (length G) (λ x. creator_at G x == m && has_twin_before G x)
 
 -- a self-parent is by the creator of the row that stands on it
-abbrev pub IsOwnSelfParent : List Link → Type 0
-IsOwnSelfParent L = (x p : ℕ) → has_place (self_parent L x) p ≡ true → creator L p ≡ creator L x
+abbrev pub IsSelfParentBySame : List Link → Type 0
+IsSelfParentBySame L = (x p : ℕ) → has_place (self_parent L x) p ≡ true → creator L p ≡ creator L x

@@ -89,11 +89,11 @@ pub fn any_parent(by: By, links: &[PlainLink], column: &[bool], x: usize) -> boo
     match by {
         By::Parents => match parents_of(links, x).pair() {
             None => false,
-            Some((own, other)) => column[own] || column[other],
+            Some((self_place, other)) => column[self_place] || column[other],
         },
         By::SelfParent => match self_parent_of(links, x) {
             None => false,
-            Some(own) => column[own],
+            Some(self_place) => column[self_place],
         },
     }
 }

@@ -4,7 +4,7 @@ ghost use Rattle.hg_model.specs.Links.{links, parents};
 ghost use Rattle.hg_model.specs.Forks.{forkers, has_fork};
 ghost use Rattle.hg_model.specs.Graph.{IsShaped};
 ghost use Rattle.hg_model.specs.Graph.{creator_at};
-ghost use Rattle.hg_plain.specs.Twins.{IsOwnSelfParent, has_twin_before, has_twins, is_same_self_parent, is_twin, is_twin_row};
+ghost use Rattle.hg_plain.specs.Twins.{IsSelfParentBySame, has_twin_before, has_twins, is_same_self_parent, is_twin, is_twin_row};
 
 use hg_model::{Name, Row};
 
@@ -27,7 +27,7 @@ pub fn plain_forkers(rows: &[Row], members: u32) -> u32
 /// Whether the member has a fork.
 pub fn has_fork(rows: &[Row], member: u32) -> bool
     requires earlier { IsEarlier (parents (links rows.now)) }
-    requires own { IsOwnSelfParent (links rows.now) }
+    requires self_place { IsSelfParentBySame (links rows.now) }
     ensures { result ≡ has_fork (links rows.now) member }
 {
     has_twins(rows, member)

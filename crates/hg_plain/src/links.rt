@@ -109,6 +109,6 @@ pub fn self_parent_of(links: &[PlainLink], x: usize) -> Option<usize>
 {
     match parents_of(links, x).pair() {
         None => None,
-        Some((own, _)) => Some(own),
+        Some((self_place, _)) => Some(self_place),
     }
 }

@@ -50,7 +50,7 @@ fn parent_round(links: &[PlainLink], rounds: &[u32], x: usize) -> u32
 {
     match parents_of(links, x).pair() {
         None => 1,
-        Some((own, other)) => rounds[own].max(rounds[other].max(1)),
+        Some((self_place, other)) => rounds[self_place].max(rounds[other].max(1)),
     }
 }
 
@@ -109,7 +109,7 @@ pub fn is_witness_by(links: &[PlainLink], rounds: &[u32], x: usize) -> bool
 {
     match self_parent_of(links, x) {
         None => true,
-        Some(own) => rounds[own] < rounds[x],
+        Some(self_place) => rounds[self_place] < rounds[x],
     }
 }
 

@@ -37,7 +37,7 @@ fn parent_round(table: &RoundTable, parents: Parents) -> u32
 {
     match parents.pair() {
         None => 1,
-        Some((own, other)) => table.round(own).max(table.round(other).max(1)),
+        Some((self_place, other)) => table.round(self_place).max(table.round(other).max(1)),
     }
 }
 
@@ -77,6 +77,6 @@ fn is_first(table: &RoundTable, parents: Parents, round: u32) -> bool
 {
     match parents.self_parent() {
         None => true,
-        Some(own) => table.round(own) < round,
+        Some(self_place) => table.round(self_place) < round,
     }
 }

@@ -11,8 +11,8 @@ use Rattle.hg_ancestry.proofs.ancestry.add_parents.Goals as goal
 pub union-requires : goal.union-requires
 union-requires c =
     let places = subst (λ (on : List ℕ). AllByRecursion (λ p. p < length c.args.links.now) on) (sym c.pair.ensures ∙ ap pair_list c.in-Some.is) c.requires.places in
-    let inside : c.in-Some.own < length c.args.links.now = places.0 in
-    let long = row_long c.args.links.now c.in-Some.own _ (c.row_of.ensures ∙ c.requires.known.row c.in-Some.own inside) in
+    let inside : c.in-Some.self_place < length c.args.links.now = places.0 in
+    let long = row_long c.args.links.now c.in-Some.self_place _ (c.row_of.ensures ∙ c.requires.known.row c.in-Some.self_place inside) in
     let empty = ap length c.requires.empty ∙ length-replicate (length c.args.links.now + 1) false in
     omega (arith, long, empty)
 
@@ -36,4 +36,4 @@ returns-in-Some c =
     let places = subst (λ (on : List ℕ). AllByRecursion (λ p. p < length L) on) (sym c.pair.ensures ∙ ap pair_list c.in-Some.is) c.requires.places in
     subst (λ (on : List ℕ). c.union-in-Some.new.self ≡ table (is_above L on) (length L + 1)) (sym (ap pair_list c.in-Some.is) ∙ c.pair.ensures)
     (c.union-in-Some.ensures ∙ (ap₂ (λ (a b : List Bool). union_of a b) (c.union.ensures ∙ ap₂ (λ (a b : List Bool). union_of a b) c.requires.empty c.row_of.ensures) c.row_of-in-Some.ensures
-    ∙ filled_on L c.requires.earlier c.args.rows.now c.requires.known (length L + 1) c.in-Some.own c.in-Some.other places.0 places.1.0))
+    ∙ filled_on L c.requires.earlier c.args.rows.now c.requires.known (length L + 1) c.in-Some.self_place c.in-Some.other places.0 places.1.0))

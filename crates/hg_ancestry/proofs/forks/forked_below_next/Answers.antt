@@ -13,8 +13,8 @@ forked_below-requires c = (parents_there c.args.sight.now.shape.members c.args.s
 pub forked_below-requires-in-Some : goal.forked_below-requires-in-Some
 forked_below-requires-in-Some c = (parents_there c.args.sight.now.shape.members c.args.sight.now.shape.links c.args.by _ _ _ (sym c.pair.ensures ∙ ap pair_list c.in-Some.is) c.requires).1
 
-pub new_forks-requires-clause-own : goal.new_forks-requires-clause-own
-new_forks-requires-clause-own c = (parents_there c.args.sight.now.shape.members c.args.sight.now.shape.links c.args.by _ _ _ (sym c.pair.ensures ∙ ap pair_list c.in-Some.is) c.requires).0
+pub new_forks-requires-clause-self_place : goal.new_forks-requires-clause-self_place
+new_forks-requires-clause-self_place c = (parents_there c.args.sight.now.shape.members c.args.sight.now.shape.links c.args.by _ _ _ (sym c.pair.ensures ∙ ap pair_list c.in-Some.is) c.requires).0
 
 pub new_forks-requires-clause-other : goal.new_forks-requires-clause-other
 new_forks-requires-clause-other c = (parents_there c.args.sight.now.shape.members c.args.sight.now.shape.links c.args.by _ _ _ (sym c.pair.ensures ∙ ap pair_list c.in-Some.is) c.requires).1
@@ -35,4 +35,4 @@ returns-in-Some c = λ m.
     ∙ (ap₂ (λ (a b : Bool). a || b)
     (c.join_masks-known.ensures m ∙ ap₂ (λ (a b : Bool). a || b) (c.forked_below.ensures m) (c.forked_below-in-Some.ensures m))
     (c.new_forks.ensures m)
-    ∙ forks_are shape.members shape.links c.rows.ensures.shaped c.args.by c.in-Some.own c.in-Some.other fits m))
+    ∙ forks_are shape.members shape.links c.rows.ensures.shaped c.args.by c.in-Some.self_place c.in-Some.other fits m))

@@ -15,7 +15,7 @@ extend-requires-clause-short c =
 pub add-requires-clause-fits : goal.add-requires-clause-fits
 add-requires-clause-fits c =
     let p = comes c.self.view_is c.self.invariant c.args.row c.args.bytes c.args.parents c.requires.limit c.requires.spelled c.requires.link c.requires.graph in
-    p.own_fits c.self_parent.result c.self_parent.ensures
+    p.self_fits c.self_parent.result c.self_parent.ensures
 
 pub place_round-round-requires-clause-parents : goal.place_round-round-requires-clause-parents
 place_round-round-requires-clause-parents c =
