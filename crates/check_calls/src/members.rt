@@ -20,5 +20,7 @@ pub(crate) fn entry(
 
 /// These members with a coin period of 10 rounds. The tests' members are lawful.
 pub(crate) fn members_of(rt: &impl Abort, entries: Vec<MemberEntry>) -> Members {
-    Members::try_new(entries, 10).ok().expect(rt, "lawful members")
+    Members::try_new(entries, 10)
+        .ok()
+        .expect(rt, "lawful members")
 }

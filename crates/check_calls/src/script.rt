@@ -120,7 +120,11 @@ const DIGITS: [(&[u8], usize, Option<ScriptFault>); 5] = [
 fn digits_have_a_limit(rt: HostRuntime) -> Result<(), Fail> {
     for (front, digits, fault) in &DIGITS {
         let line = digits_line(rt.alloc(), front, *digits)?;
-        assert_eq!(rt; fault_of(&rt, rt.alloc(), line.as_slice())?, *fault, "{digits}");
+        assert_eq!(rt;
+            fault_of(&rt, rt.alloc(), line.as_slice())?,
+            *fault,
+            "{digits}"
+        );
     }
     Ok(())
 }

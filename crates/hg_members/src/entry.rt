@@ -7,7 +7,7 @@ ghost use Rattle.hg_members.specs.MemberFile as spec;
 
 use crate::fault::MemberFault;
 use hex::FromHexError;
-use hg_model::{Bytes, MemberEntry, Stop, is_member_name, has_name};
+use hg_model::{Bytes, MemberEntry, Stop, has_name, is_member_name};
 use std::alloc::{AllocError, Global};
 use toml::Value;
 

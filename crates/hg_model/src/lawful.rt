@@ -58,5 +58,8 @@ fn are_in_range(entries: &[MemberEntry], coin: u32) -> bool
 pub fn is_member_list(entries: &[MemberEntry], coin: u32) -> bool
     ensures { result ≡ is_member_list entries.now coin }
 {
-    are_in_range(entries, coin) && are_entries(entries) && are_named_apart(entries) && is_sum_small(entries)
+    are_in_range(entries, coin)
+        && are_entries(entries)
+        && are_named_apart(entries)
+        && is_sum_small(entries)
 }

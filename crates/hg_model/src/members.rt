@@ -41,7 +41,9 @@ fn place_in(entries: &[MemberEntry], name: &[u8]) -> Option<usize>
     ensures value { result ≡ position (λ (e : MemberEntry). bytes_eq e.name name.now) entries.now }
     ensures inside { IfSome result (λ place. place < length entries.now) }
 {
-    entries.iter().position(|entry| entry.name.as_slice() == name)
+    entries
+        .iter()
+        .position(|entry| entry.name.as_slice() == name)
 }
 
 impl Members {

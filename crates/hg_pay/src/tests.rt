@@ -17,7 +17,11 @@ fn two_members(rt: &impl Abort, alloc: Global) -> Result<Members, Memory> {
     let mut entries = Vec::new(alloc);
     entries.push(entry(alloc, b"A", 100)?)?;
     entries.push(entry(alloc, b"B", 0)?)?;
-    Ok(Members::try_new(entries, 10).ok().expect(rt, "lawful members"))
+    Ok(
+        Members::try_new(entries, 10)
+            .ok()
+            .expect(rt, "lawful members"),
+    )
 }
 
 /// A payload, what came of it, and what both hold then.

@@ -26,7 +26,11 @@ fn two_members(rt: &impl Abort, alloc: Global) -> Result<Members, Memory> {
     let mut entries = Vec::new(alloc);
     entries.push(entry(alloc, b"A", &[0x0b; 20])?)?;
     entries.push(entry(alloc, b"B", b"Jefe")?)?;
-    Ok(Members::try_new(entries, 10).ok().expect(rt, "lawful members"))
+    Ok(
+        Members::try_new(entries, 10)
+            .ok()
+            .expect(rt, "lawful members"),
+    )
 }
 
 #[test]

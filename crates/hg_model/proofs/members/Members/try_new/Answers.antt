@@ -10,6 +10,7 @@ new-requires c =
     (ap (λ entries. is_member_list entries c.args.coin) (sym c.as_slice.ensures.value) ∙ sym c.if-is_member_list.ensures)
 
 pub returns-else-is_member_list-clause-exact : goal.returns-else-is_member_list-clause-exact
-returns-else-is_member_list-clause-exact c =
-    ((λ wrong. absurd (false≢true wrong)),
-     (λ lawful. c.if-is_member_list.ensures ∙ (ap (λ entries. is_member_list entries c.args.coin) c.as_slice.ensures.value ∙ member_list_from c.args.entries.items c.args.coin lawful)))
+returns-else-is_member_list-clause-exact c = (
+  (λ wrong. absurd (false≢true wrong)),
+  (λ lawful. c.if-is_member_list.ensures ∙ (ap (λ entries. is_member_list entries c.args.coin) c.as_slice.ensures.value ∙ member_list_from c.args.entries.items c.args.coin lawful)),
+)
