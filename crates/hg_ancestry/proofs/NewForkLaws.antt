@@ -72,14 +72,14 @@ module _ (n : Stakes) (L : List Link) (s : IsShaped n L) (by self_place other : 
   on : parents grown (length L) ≡ self_place ∷ other ∷ []
   on = parents_last n L new_link s fits
 
-  self_below : self_place < length L
-  self_below = fits.earlier self_place (has_place_first self_place (other ∷ []))
+  self_place_below : self_place < length L
+  self_place_below = fits.earlier self_place (has_place_first self_place (other ∷ []))
 
   other_below : other < length L
   other_below = fits.earlier other (has_place_later self_place other (other ∷ []) (has_place_first other []))
 
-  to_self : has_place (parents grown (length L)) self_place ≡ true
-  to_self = rw on (has_place_first self_place (other ∷ []))
+  to_self_place : has_place (parents grown (length L)) self_place ≡ true
+  to_self_place = rw on (has_place_first self_place (other ∷ []))
 
   to_other : has_place (parents grown (length L)) other ≡ true
   to_other = rw on (has_place_later self_place other (other ∷ []) (has_place_first other []))
@@ -125,8 +125,8 @@ module _ (n : Stakes) (L : List Link) (s : IsShaped n L) (by self_place other : 
     not_below = sym (is_self_ancestor-longer L grown longer b a hb) ∙ f.not_below;
   }
 
-  known_self : has_fork_below L self_place m ≡ true → forks_here ≡ true
-  known_self h = or_left (has_fork_below L self_place m || has_fork_below L other m) forks_anew (or_left (has_fork_below L self_place m) (has_fork_below L other m) h)
+  known_self_place : has_fork_below L self_place m ≡ true → forks_here ≡ true
+  known_self_place h = or_left (has_fork_below L self_place m || has_fork_below L other m) forks_anew (or_left (has_fork_below L self_place m) (has_fork_below L other m) h)
 
   known_other : has_fork_below L other m ≡ true → forks_here ≡ true
   known_other h = or_left (has_fork_below L self_place m || has_fork_below L other m) forks_anew (or_right (has_fork_below L self_place m) (has_fork_below L other m) h)
@@ -137,8 +137,8 @@ module _ (n : Stakes) (L : List Link) (s : IsShaped n L) (by self_place other : 
       (and_from (eqb m by || is_apart L self_place other m) (is_apart L other self_place m) here
       (apart_from L before other self_place m b up none by_m))
 
-  fork_below_self : (a b : ℕ) → is_ancestor L self_place a ≡ true → is_ancestor L self_place b ≡ true → Fork L m a b → forks_here ≡ true
-  fork_below_self a b ua ub f = known_self (has_fork_below_from L before self_place a b m ua ub (is_fork_from L m a b f))
+  fork_below_self_place : (a b : ℕ) → is_ancestor L self_place a ≡ true → is_ancestor L self_place b ≡ true → Fork L m a b → forks_here ≡ true
+  fork_below_self_place a b ua ub f = known_self_place (has_fork_below_from L before self_place a b m ua ub (is_fork_from L m a b f))
 
   fork_below_other : (a b : ℕ) → is_ancestor L other a ≡ true → is_ancestor L other b ≡ true → Fork L m a b → forks_here ≡ true
   fork_below_other a b ua ub f = known_other (has_fork_below_from L before other a b m ua ub (is_fork_from L m a b f))
@@ -151,9 +151,9 @@ module _ (n : Stakes) (L : List Link) (s : IsShaped n L) (by self_place other : 
       elim (cases_Bool (is_ancestor L self_place b)) [
         | inl above ↦
             (let line : is_self_ancestor L self_place b ≡ true → ⊥ = λ r. both_ways (is_self_ancestor grown (length L) b) f.not_above
-            (is_self_ancestor_by grown after (length L) self_place b to_self (is_self_ancestor-longer L grown longer self_place b self_below ∙ r)) in
+            (is_self_ancestor_by grown after (length L) self_place b to_self (is_self_ancestor-longer L grown longer self_place b self_place_below ∙ r)) in
             let le : b ≤ self_place = is_ancestor-le L before self_place b above in
-            fork_below_self self_place b (is_ancestor_self L before self_place) above (record {
+            fork_below_self_place self_place b (is_ancestor_self L before self_place) above (record {
               first = fits.self_by_same self_place (has_place_first self_place []) ∙ made;
               second = by_m;
               not_above = false_from_ne_true (is_self_ancestor L self_place b) line;
@@ -171,7 +171,7 @@ module _ (n : Stakes) (L : List Link) (s : IsShaped n L) (by self_place other : 
   -- a fork of a row above the one parent alone and a row above the other alone
   across : (a b : ℕ) → is_ancestor L self_place a ≡ true → is_ancestor L other b ≡ true → Fork L m a b → forks_here ≡ true
   across a b ua ub f = elim (cases_Bool (is_ancestor L self_place b)) [
-    | inl both ↦ fork_below_self a b ua both f
+    | inl both ↦ fork_below_self_place a b ua both f
     | inr b_apart ↦ elim (cases_Bool (is_ancestor L other a)) [
       | inl both ↦ fork_below_other a b both ub f
       | inr a_apart ↦ anew (or_right (eqb m by) (is_apart L self_place other m)
@@ -184,8 +184,8 @@ module _ (n : Stakes) (L : List Link) (s : IsShaped n L) (by self_place other : 
 
   old_sides : (a b : ℕ) → (is_ancestor L self_place a ≡ true) ⊎ (is_ancestor L other a ≡ true) → (is_ancestor L self_place b ≡ true) ⊎ (is_ancestor L other b ≡ true) → Fork L m a b → forks_here ≡ true
   old_sides a b ua ub f = elim ua [
-    | inl a_self ↦ elim ub [ inl b_self ↦ fork_below_self a b a_self b_self f | inr b_other ↦ across a b a_self b_other f ]
-    | inr a_other ↦ elim ub [ inl b_self ↦ across b a b_self a_other (swapped L a b f) | inr b_other ↦ fork_below_other a b a_other b_other f ]
+    | inl a_self_place ↦ elim ub [ inl b_self_place ↦ fork_below_self_place a b a_self_place b_self_place f | inr b_other ↦ across a b a_self_place b_other f ]
+    | inr a_other ↦ elim ub [ inl b_self_place ↦ across b a b_self_place a_other (swapped L a b f) | inr b_other ↦ fork_below_other a b a_other b_other f ]
   ]
 
   fork_known : has_fork_below grown (length L) m ≡ true → forks_here ≡ true
@@ -204,8 +204,8 @@ module _ (n : Stakes) (L : List Link) (s : IsShaped n L) (by self_place other : 
         ]
       ]
 
-  up_self : (a : ℕ) → is_ancestor L self_place a ≡ true → is_ancestor grown (length L) a ≡ true
-  up_self a up = is_ancestor_by grown after (length L) self_place a to_self (is_ancestor-longer L grown longer self_place a self_below ∙ up)
+  up_self_place : (a : ℕ) → is_ancestor L self_place a ≡ true → is_ancestor grown (length L) a ≡ true
+  up_self_place a up = is_ancestor_by grown after (length L) self_place a to_self_place (is_ancestor-longer L grown longer self_place a self_place_below ∙ up)
 
   up_other : (a : ℕ) → is_ancestor L other a ≡ true → is_ancestor grown (length L) a ≡ true
   up_other a up = is_ancestor_by grown after (length L) other a to_other (is_ancestor-longer L grown longer other a other_below ∙ up)
@@ -213,9 +213,9 @@ module _ (n : Stakes) (L : List Link) (s : IsShaped n L) (by self_place other : 
   grown_fork : (a b : ℕ) → is_ancestor grown (length L) a ≡ true → is_ancestor grown (length L) b ≡ true → Fork grown m a b → has_fork_below grown (length L) m ≡ true
   grown_fork a b ua ub f = has_fork_below_from grown after (length L) a b m ua ub (is_fork_from grown m a b f)
 
-  only_self : (p : ℕ) → has_place (self_parent grown (length L)) p ≡ true → p ≡ self_place
+  only_self_place : (p : ℕ) → has_place (self_parent grown (length L)) p ≡ true → p ≡ self_place
   unfolding self_parent
-  only_self p h = elim (or_cases (eqb self_place p) (has_place [] p) (subst (λ ps. has_place (first_place ps) p ≡ true) on h)) [
+  only_self_place p h = elim (or_cases (eqb self_place p) (has_place [] p) (subst (λ ps. has_place (first_place ps) p ≡ true) on h)) [
     | inl same ↦ sym (eqb-true self_place p same)
     | inr none ↦ absurd (true≢false (sym none))
   ]
@@ -232,9 +232,9 @@ module _ (n : Stakes) (L : List Link) (s : IsShaped n L) (by self_place other : 
         not_above = false_from_ne_true (is_self_ancestor grown (length L) b) (λ r. elim (is_self_ancestor_cases grown after (length L) b r) [
           | inl same ↦ absurd (omega arith)
           | inr line ↦
-              (let first : line.0 ≡ self_place = only_self line.0 line.1 in
-              let from_self : is_self_ancestor grown self_place b ≡ true = subst (λ k. is_self_ancestor grown k b ≡ true) first line.2 in
-              both_ways (is_ancestor L self_place b) none (is_ancestor-from_self L before self_place b (sym (is_self_ancestor-longer L grown longer self_place b self_below) ∙ from_self)))
+              (let first : line.0 ≡ self_place = only_self_place line.0 line.1 in
+              let from_self_place : is_self_ancestor grown self_place b ≡ true = subst (λ k. is_self_ancestor grown k b ≡ true) first line.2 in
+              both_ways (is_ancestor L self_place b) none (is_ancestor-from_self L before self_place b (sym (is_self_ancestor-longer L grown longer self_place b self_place_below) ∙ from_self_place)))
         ]);
         not_below = false_from_ne_true (is_self_ancestor grown b (length L)) (λ r. absurd (omega (arith, is_self_ancestor-le grown after b (length L) r)));
       })
@@ -243,13 +243,13 @@ module _ (n : Stakes) (L : List Link) (s : IsShaped n L) (by self_place other : 
   fork_across : (a b : ℕ) → is_ancestor L self_place a ≡ true → is_ancestor L other a ≡ false → is_ancestor L other b ≡ true → is_ancestor L self_place b ≡ false →
       creator L a ≡ m → creator L b ≡ m → has_fork_below grown (length L) m ≡ true
   fork_across a b ua na ub nb by_a by_b =
-      let self_low = self_below in
+      let self_place_low = self_place_below in
       let other_low = other_below in
       let la : a ≤ self_place = is_ancestor-le L before self_place a ua in
       let lb : b ≤ other = is_ancestor-le L before other b ub in
       let ha : a < length L = omega arith in
       let hb : b < length L = omega arith in
-      grown_fork a b (up_self a ua) (up_other b ub) (record {
+      grown_fork a b (up_self_place a ua) (up_other b ub) (record {
         first = creator-longer L grown longer a ha ∙ by_a;
         second = creator-longer L grown longer b hb ∙ by_b;
         not_above = is_self_ancestor-longer L grown longer a b ha ∙ false_from_ne_true (is_self_ancestor L a b) (λ r.
@@ -261,7 +261,7 @@ module _ (n : Stakes) (L : List Link) (s : IsShaped n L) (by self_place other : 
   fork_is_there : forks_here ≡ true → has_fork_below grown (length L) m ≡ true
   fork_is_there h = elim (or_cases (has_fork_below L self_place m || has_fork_below L other m) forks_anew h) [
     | inl known ↦ elim (or_cases (has_fork_below L self_place m) (has_fork_below L other m) known) [
-      | inl below ↦ has_fork_below_grows grown after (length L) self_place m (up_self self_place (is_ancestor_self L before self_place)) (has_fork_below-longer L grown longer self_place m self_below ∙ below)
+      | inl below ↦ has_fork_below_grows grown after (length L) self_place m (up_self_place self_place (is_ancestor_self L before self_place)) (has_fork_below-longer L grown longer self_place m self_place_below ∙ below)
       | inr below ↦ has_fork_below_grows grown after (length L) other m (up_other other (is_ancestor_self L before other)) (has_fork_below-longer L grown longer other m other_below ∙ below)
     ]
     | inr new ↦
