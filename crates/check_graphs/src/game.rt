@@ -26,7 +26,7 @@ struct Game<'a> {
 }
 
 impl<'a> Game<'a> {
-    /// An event comes by another member. Prints whether the node has it under its name, if it was not refused.
+    /// An event comes by another member. Answers whether the node has it under its name, if it was not refused.
     fn put(&mut self, draft: &Draft) -> Result<bool, Memory> {
         let (bytes, name) = signed_event(self.alloc, self.keys, draft)?;
         match self.watched.put(bytes.as_slice())? {
@@ -50,7 +50,7 @@ impl<'a> Game<'a> {
         }
     }
 
-    /// Publishes a share of a moment. Prints whether the kept order has only grown and is a front of the plain program's, and
+    /// Publishes a share of a moment. Answers whether the kept order has only grown and is a front of the plain program's, and
     /// whether the marks are those that were found.
     fn publish(&mut self, number: usize, share: Share) -> Result<bool, Memory> {
         let before = Vec::from_slice(self.alloc, self.watched.node().kept())?;

@@ -9,7 +9,7 @@ use Rattle.hg_model.proofs.PlacesLaws.{some_below-same, some_below_next}
 use Rattle.hg_bits.specs.Words.{IsFirst, NoneFrom}
 use Rattle.hg_bits.specs.Rows.{is_over}
 use Rattle.hg_ancestry.specs.Held.{is_apart}
-use Rattle.hg_ancestry.proofs.HeldLaws.{row_long, row_tells}
+use Rattle.hg_ancestry.proofs.HeldLaws.{row_long, row_says}
 use Rattle.hg_ancestry.proofs.SeerLaws.{eqb_turned}
 
 -- a search that goes on from one place that passes to the next
@@ -41,5 +41,5 @@ module _ (L : List Link) (row other : List Bool) (from : ℕ) (mask : ℕ → Bo
       matches m ∙ sym (skipped (λ a. is_over row other a && eqb (creator L a) m) from (length row) le (λ i h l. apart_none i m (none i h l)))
       ∙ (ap (λ k. some_below k (λ a. is_over row other a && eqb (creator L a) m)) (long ∙ add-one x)
       ∙ some_below-same (suc x) (λ a. is_over row other a && eqb (creator L a) m) (λ a. is_ancestor L x a && (not (is_ancestor L z a) && eqb (creator L a) m)) (λ a h.
-      ap₂ (λ (up none : Bool). (up && not none) && eqb (creator L a) m) (row_tells L e x a row row_is) (row_tells L e z a other other_is)
+      ap₂ (λ (up none : Bool). (up && not none) && eqb (creator L a) m) (row_says L e x a row row_is) (row_says L e z a other other_is)
       ∙ and_assoc (is_ancestor L x a) (not (is_ancestor L z a)) (eqb (creator L a) m)))

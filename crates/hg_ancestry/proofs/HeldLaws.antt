@@ -26,8 +26,8 @@ pub row_long : (L : List Link) (x : ℕ) (row : List Bool) → row ≡ table (is
 row_long L x row is = ap length is ∙ length-table (is_ancestor L x) (x + 1)
 
 -- what the row of bits of x has, also past its end
-pub row_tells : (L : List Link) → IsEarlier (parents L) → (x y : ℕ) (row : List Bool) → row ≡ table (is_ancestor L x) (x + 1) → is_in row y ≡ is_ancestor L x y
-row_tells L e x y row is = elim (cases_lt y (x + 1)) [
+pub row_says : (L : List Link) → IsEarlier (parents L) → (x y : ℕ) (row : List Bool) → row ≡ table (is_ancestor L x) (x + 1) → is_in row y ≡ is_ancestor L x y
+row_says L e x y row is = elim (cases_lt y (x + 1)) [
   | inl inside ↦ ap (λ row. is_in row y) is ∙ is_in-table (is_ancestor L x) (x + 1) y inside
   | inr past ↦ get_or_past row y false (omega (arith, row_long L x row is))
       ∙ sym (false_from_ne_true (is_ancestor L x y) (λ up. absurd (omega (arith, is_ancestor-le L e x y up))))
@@ -42,7 +42,7 @@ module _ (L : List Link) (e : IsEarlier (parents L)) (rows : List (List Bool)) (
   joined_one : (row : List Bool) (x k : ℕ) → x < length L → k < length row → is_in (union_of row (row_at rows x)) k ≡ (is_in row k || is_ancestor L x k)
   unfolding union_of
   joined_one row x k hx hk =
-      is_in-table (λ k. is_in row k || is_in (row_at rows x) k) (length row) k hk ∙ ap (λ b. is_in row k || b) (row_tells L e x k (row_at rows x) (held.row x hx))
+      is_in-table (λ k. is_in row k || is_in (row_at rows x) k) (length row) k hk ∙ ap (λ b. is_in row k || b) (row_says L e x k (row_at rows x) (held.row x hx))
 
   pub joined_long : (row other : List Bool) → length (union_of row other) ≡ length row
   unfolding union_of

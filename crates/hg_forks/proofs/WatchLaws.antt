@@ -62,11 +62,11 @@ module _ (L : List Link) (lines : List Line) (forking : ℕ) (keeps : KeepsLines
     shaped : IsShaped (length lines) M
     shaped = shape-push (length lines) L (self_link_of m self_parent_of) keeps.shaped fits
 
-    told_other : (k : ℕ) → k < length lines → k ≢ m → IsLineOf M k (line_at lines k)
-    told_other k h other = other_line (length lines) L keeps.shaped m self_parent_of fits k (line_at lines k) other (keeps.matches k h)
+    other_line_kept : (k : ℕ) → k < length lines → k ≢ m → IsLineOf M k (line_at lines k)
+    other_line_kept k h other = other_line (length lines) L keeps.shaped m self_parent_of fits k (line_at lines k) other (keeps.matches k h)
 
-    told_self : IsLineOf M m next
-    told_self = self_line (length lines) L keeps.shaped m self_parent_of fits line (keeps.matches m member)
+    self_line_kept : IsLineOf M m next
+    self_line_kept = self_line (length lines) L keeps.shaped m self_parent_of fits line (keeps.matches m member)
 
     -- how many members have a fork with the row
     pub forkers_next : forking + new_forkers lines m self_parent_of ≡ forkers (length lines) M
@@ -75,9 +75,9 @@ module _ (L : List Link) (lines : List Line) (forking : ℕ) (keeps : KeepsLines
         let n = length lines in
         let counts = count-changed n m (has_fork L) (has_fork M) member (λ k h other.
         has_fork_known n L keeps.shaped k (line_at lines k) (keeps.matches k h)
-        ∙ sym (has_fork_known n M shaped k (line_at lines k) (told_other k h other))) in
+        ∙ sym (has_fork_known n M shaped k (line_at lines k) (other_line_kept k h other))) in
         let old : from_bool (has_fork L m) ≡ from_bool (is_forked line) = ap from_bool (has_fork_known n L keeps.shaped m line (keeps.matches m member)) in
-        let new : from_bool (has_fork M m) ≡ from_bool (is_forked next) = ap from_bool (has_fork_known n M shaped m next told_self) in
+        let new : from_bool (has_fork M m) ≡ from_bool (is_forked next) = ap from_bool (has_fork_known n M shaped m next self_line_kept) in
         let step = is_forked_next line self_parent_of (length L) in
         let count : forking ≡ count_below n (has_fork L) = keeps.count in
         omega (arith, counts, old, new, step, count)
@@ -95,8 +95,8 @@ module _ (L : List Link) (lines : List Line) (forking : ℕ) (keeps : KeepsLines
           shaped = rw same shaped;
           matches = λ k h. elim (cases_eq k m) [
             | inl self_place ↦ subst (λ j. IsLineOf M j (get_or (slice_set lines m next) j Empty)) (sym self_place)
-                (subst (λ l. IsLineOf M m l) (sym (get_or-set_same lines m next Empty member)) told_self)
-            | inr other ↦ subst (λ l. IsLineOf M k l) (sym (get_or-set_other lines m k next Empty other)) (told_other k (omega (arith, same)) other)
+                (subst (λ l. IsLineOf M m l) (sym (get_or-set_same lines m next Empty member)) self_line_kept)
+            | inr other ↦ subst (λ l. IsLineOf M k l) (sym (get_or-set_other lines m k next Empty other)) (other_line_kept k (omega (arith, same)) other)
           ];
           count = forkers_next ∙ ap (λ n. forkers n M) (sym same);
         }

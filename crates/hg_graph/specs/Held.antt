@@ -23,7 +23,7 @@ graph_with g row = graph_of g.members g.coin (g.rows ++ row ∷ [])
 abbrev pub AreEvents : List Row → Type 0
 AreEvents G = (x : ℕ) (row : Row) → slice_get G x ≡ Some row → Spells (spelling row) row
 
--- a graph of 1 to 128 members and of at most so many events as a node holds
+-- a graph of at most 128 members, who have some stake, and of at most so many events as a node holds
 pub record IsHeld (g : Graph) : Type 0 where
   pub some_stake : 0 < total g.members
   pub few_members : member_count g.members ≤ 128

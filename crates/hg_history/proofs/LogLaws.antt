@@ -21,16 +21,16 @@ module _ (n : Stakes) (c : ℕ) where
   next_place : (s : State) (row : Row) → suc (length s.rows) ≡ length (s.rows ++ row ∷ [])
   next_place s row = omega (arith, length_push s.rows row)
 
-  told_from : (s : State) (h : List Change) → history_of (fold (step n c) s h).rows (log_from (length s.rows) h) ≡ h
-  told_from s [] = refl
-  told_from s (Took row ∷ h) =
+  changes_from : (s : State) (h : List Change) → history_of (fold (step n c) s h).rows (log_from (length s.rows) h) ≡ h
+  changes_from s [] = refl
+  changes_from s (Took row ∷ h) =
       ap₂ (λ (r : Row) (rest : List Change). Took r ∷ rest) (row_there s row h)
-      (ap (λ (place : ℕ). history_of (fold (step n c) (with_row n s row) h).rows (log_from place h)) (next_place s row) ∙ told_from (with_row n s row) h)
-  told_from s (Made row ∷ h) =
+      (ap (λ (place : ℕ). history_of (fold (step n c) (with_row n s row) h).rows (log_from place h)) (next_place s row) ∙ changes_from (with_row n s row) h)
+  changes_from s (Made row ∷ h) =
       ap₂ (λ (r : Row) (rest : List Change). Made r ∷ rest) (row_there s row h)
-      (ap (λ (place : ℕ). history_of (fold (step n c) (with_row n s row) h).rows (log_from place h)) (next_place s row) ∙ told_from (with_row n s row) h)
-  told_from s (Marked len share ∷ h) = ap (λ (rest : List Change). Marked len share ∷ rest) (told_from (with_marks n c s len share) h)
+      (ap (λ (place : ℕ). history_of (fold (step n c) (with_row n s row) h).rows (log_from place h)) (next_place s row) ∙ changes_from (with_row n s row) h)
+  changes_from s (Marked len share ∷ h) = ap (λ (rest : List Change). Marked len share ∷ rest) (changes_from (with_marks n c s len share) h)
 
 pub log_spells_history : LogSpellsHistory
 unfolding replay
-log_spells_history n c h = told_from n c empty h
+log_spells_history n c h = changes_from n c empty h

@@ -17,8 +17,8 @@ pub record IsPresent (G : List Row) (row : Row) : Type 0 where
 -- of rows with these names the first is by member m, and the later ones are by others
 abbrev pub ParentsFit : List Row → ℕ → List (List ℕ) → Type 0
 ParentsFit G m [] = Unit {0}
-ParentsFit G m (own ∷ others) =
-    (creator_at G (place_of G own) ≡ m) × AllByRecursion (λ name. creator_at G (place_of G name) ≢ m) others
+ParentsFit G m (first ∷ others) =
+    (creator_at G (place_of G first) ≡ m) × AllByRecursion (λ name. creator_at G (place_of G name) ≢ m) others
 
 -- what a row must meet to come after the rows of a shaped graph: its creator is a member, its parents are held, the
 -- first of them by its own creator, the later ones by others

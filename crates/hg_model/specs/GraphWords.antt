@@ -9,8 +9,8 @@ use Rattle.hg_model.specs.Shape.{Shape, shape_of}
 use Rattle.hg_model.specs.Rounds.{round_of, is_witness, last_round}
 use Rattle.hg_model.specs.Standings.{Standing, standings_of}
 use Rattle.hg_model.specs.Votes.{vote_of, decides, is_voter}
-use Rattle.hg_model.specs.Fame.{Marks, fame_of, fame_marks, is_closed, is_unique_famous}
-use Rattle.hg_model.specs.Order.{coin_at, round_received, can_receive, consensus_time, is_received_in, famous_places, ordered, ordered_in, order_of, last_closed}
+use Rattle.hg_model.specs.Fame.{Marks, fame_of, fame_marks, is_closed}
+use Rattle.hg_model.specs.Order.{coin_at, round_received, can_receive, consensus_time, is_received_in, famous_places, ordered, ordered_in, last_closed}
 use Rattle.hg_model.specs.Prefix.{Graph, links_of}
 use Rattle.hg_model.specs.Shares.{Share, share_fame, Speaks}
 use Rattle.hg_model.specs.History.{State, news, with_marks}
@@ -52,7 +52,7 @@ is_witness_in g x = is_witness g.members (links_of g) x
 abbrev pub last_round_in : Graph → ℕ
 last_round_in g = last_round g.members (links_of g)
 
--- w votes on what y decides, by being a voter of y
+-- w is a voter of y
 abbrev pub is_voter_in : Graph → ℕ → ℕ → Bool
 is_voter_in g y w = is_voter g.members (links_of g) y w
 
@@ -74,10 +74,6 @@ fame_marks_in g = fame_marks g.members g.coin (links_of g) (coin_at g.rows)
 abbrev pub share_fame_in : Graph → Share → ℕ → Option Bool
 share_fame_in g share x = share_fame g.members g.coin g.rows (links_of g) share x
 
--- the order by its own fame
-abbrev pub order_in : Graph → List Placed
-order_in g = order_of g.members g.coin g.rows
-
 -- what a share found, with the number of rows in which it was found, speaks of the graph
 abbrev pub SpeaksOf : Graph → Found → Type 0
 SpeaksOf g found = Speaks g.members g.coin g.rows (links_of g) found.len found.share found.marks
@@ -96,8 +92,8 @@ abbrev pub famous_of : Graph → Marks → ℕ → List ℕ
 famous_of g marks r = famous_places g.members (links_of g) marks r
 
 -- the round that receives x, whether round r can, and whether a round that passes the test does
-abbrev pub received_in : Graph → Marks → ℕ → Option ℕ
-received_in g marks x = round_received g.members (links_of g) marks x
+abbrev pub round_received_in : Graph → Marks → ℕ → Option ℕ
+round_received_in g marks x = round_received g.members (links_of g) marks x
 
 abbrev pub can_receive_in : Graph → Marks → ℕ → ℕ → Bool
 can_receive_in g marks x r = can_receive g.members (links_of g) marks x r
@@ -109,16 +105,13 @@ is_received_by g marks test x = is_received_in g.members (links_of g) marks test
 abbrev pub consensus_time_in : Graph → Marks → ℕ → ℕ → ℕ
 consensus_time_in g marks r x = consensus_time g.members g.rows (links_of g) marks r x
 
--- the received rows in order: all, and those of the rounds that pass the test
+-- the received rows in order
 abbrev pub ordered_by : Graph → Marks → List Placed
 ordered_by g marks = ordered g.members g.rows (links_of g) marks
 
-abbrev pub ordered_by_rounds : Graph → Marks → (ℕ → Bool) → List Placed
-ordered_by_rounds g marks test = ordered_in g.members g.rows (links_of g) marks test
-
 -- the rows that just round r received, in order
 abbrev pub received_order : Graph → Marks → ℕ → List Placed
-received_order g marks r = ordered_by_rounds g marks (λ k. k == r)
+received_order g marks r = ordered_in g.members g.rows (links_of g) marks (λ k. k == r)
 
 -- the state of a node with this graph and these marks, how many marks come new where it publishes what was found, and the
 -- marks then

@@ -32,7 +32,7 @@ after_magic size bytes =
     else if starts_with nat_eq magic bytes then Err (Short size) else Err BadMagic
 
 -- the kind, and the parents' names that it says
-unfoldable pub parents_field : ℕ → List ℕ → Field (ParentNames)
+unfoldable pub parents_field : ℕ → List ℕ → Field ParentNames
 parents_field size [] = Err (Short size)
 parents_field size (zero ∷ rest) = Ok (None, rest)
 parents_field size (suc zero ∷ rest) = do

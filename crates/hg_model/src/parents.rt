@@ -54,7 +54,7 @@ impl Parents {
     {
         match self.places {
             None => None,
-            Some((own, _)) => Some(own),
+            Some((self_parent, _)) => Some(self_parent),
         }
     }
 }

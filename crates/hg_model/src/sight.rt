@@ -67,7 +67,8 @@ pub trait Growing: Sight {
         ensures room { OnOk result (1 ≤ room self.new) }
         ensures same { Self.shape self.new ≡ Self.shape self.old };
 
-    /// One more row, by the member, on parents at these places. /// Takes no memory; `reserve` comes before it.
+    /// One more row, by the member, on parents at these places, the self-parent's first, or on none.
+    /// Takes no memory; `reserve` comes before it.
     fn extend(&mut self, parents: Parents, creator: Member)
         requires room { 1 ≤ room self.old }
         requires fits { FitsLink (Self.shape self.old).members (Self.shape self.old).links (link_of creator parents) }

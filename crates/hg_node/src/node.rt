@@ -125,7 +125,7 @@ impl<V: Signer> Node<V> {
     }
 
     /// Publishes what a share has found in the node's first rows: each found witness without a mark gets it, and what
-    /// is ordered then is paid. Prints how many were marked. Takes no memory.
+    /// is ordered then is paid. Answers how many were marked. Takes no memory.
     pub fn publish(&mut self, found: &Found) -> u32
         requires { IsFoundBy self.old found.now }
         ensures answer { result ≡ publish_answer self.old found.now.len found.now.share }

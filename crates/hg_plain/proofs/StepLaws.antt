@@ -20,9 +20,9 @@ use Rattle.hg_plain.specs.Tables.{IsTableOf, cell_at, IsTableOfPairs}
 use Rattle.hg_plain.proofs.TableLaws.{cell_read}
 
 -- what a column tells of earlier places
-pub told_of_earlier : (next : ℕ → List ℕ) (test : ℕ → Bool) (x : ℕ) (column : List Bool) → IsEarlier next → IsTableOf false test x column →
+pub table_of_earlier : (next : ℕ → List ℕ) (test : ℕ → Bool) (x : ℕ) (column : List Bool) → IsEarlier next → IsTableOf false test x column →
     list_any (λ p. get_or column p false) (next x) ≡ list_any test (next x)
-told_of_earlier next test x column e matches = list_any-same (λ p. get_or column p false) test (next x) (λ p h. matches.at p (e.earlier x p h))
+table_of_earlier next test x column e matches = list_any-same (λ p. get_or column p false) test (next x) (λ p h. matches.at p (e.earlier x p h))
 
 module _ (L : List Link) (e : IsEarlier (parents L)) (x y : ℕ) where
   pub ancestor_here : (by : By) → x ≡ y → eqb x y ≡ is_ancestor_by by L x y
@@ -32,10 +32,10 @@ module _ (L : List Link) (e : IsEarlier (parents L)) (x y : ℕ) where
   pub ancestor_above : (by : By) (column : List Bool) (above : Bool) → IsTableOf false (λ k. is_ancestor_by by L k y) x column → x ≢ y →
       above ≡ list_any (λ p. get_or column p false) (parents_by by L x) → above ≡ is_ancestor_by by L x y
   ancestor_above Parents column above matches apart is =
-      is ∙ (told_of_earlier (parents L) (λ k. is_ancestor L k y) x column e matches
+      is ∙ (table_of_earlier (parents L) (λ k. is_ancestor L k y) x column e matches
       ∙ sym (rw (is_ancestor-at L e x y, ne_eqb x y apart)))
   ancestor_above SelfParent column above matches apart is =
-      is ∙ (told_of_earlier (self_parent L) (λ k. is_self_ancestor L k y) x column (self_parent_earlier L e) matches
+      is ∙ (table_of_earlier (self_parent L) (λ k. is_self_ancestor L k y) x column (self_parent_earlier L e) matches
       ∙ sym (rw (is_self_ancestor-at L e x y, ne_eqb x y apart)))
 
 -- members with an event that sees y
@@ -50,7 +50,7 @@ module _ (L : List Link) (e : IsEarlier (parents L)) (x y m : ℕ) (here : Bool)
   pub through_above : (column : List Bool) (above : Bool) → IsTableOf false (λ k. sees_through L k y m) x column → here ≡ false →
       above ≡ list_any (λ p. get_or column p false) (parents L x) → above ≡ sees_through L x y m
   through_above column above matches missed is =
-      is ∙ (told_of_earlier (parents L) (λ k. sees_through L k y m) x column e matches ∙ sym (rw (through-at, missed)))
+      is ∙ (table_of_earlier (parents L) (λ k. sees_through L k y m) x column e matches ∙ sym (rw (through-at, missed)))
 
 -- how many members are found in their columns
 pub count_of_columns : (L : List Link) (n x y : ℕ) (through : List (Vec Bool)) → IsTableOfPairs (λ x m. sees_through L x y m) (length L) n through → x < length L →

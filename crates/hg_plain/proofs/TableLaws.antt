@@ -24,7 +24,7 @@ Prints_more default value n xs last matches is = record {
 pub Prints_none : {A : Type 0} (default : A) (value : ℕ → A) → IsTableOf default value 0 []
 Prints_none default value = record { len = refl; at = λ k h. absurd (omega arith) }
 
-pub ruleset tells_steps = (Prints_more, Prints_none)
+pub ruleset table_steps = (Prints_more, Prints_none)
 
 column_before : (columns : List (Vec Bool)) (last : Vec Bool) (y : ℕ) → y < length columns → column_at (columns ++ last ∷ []) y ≡ column_at columns y
 unfolding column_at

@@ -109,7 +109,7 @@ fn next_ancestor(by: By, links: &[PlainLink], column: &[bool], x: usize, y: usiz
 }
 
 /// The rows that have row `y` as ancestor.
-#[tactic(auto, using(crate::proofs::TableLaws::tells_steps))]
+#[tactic(auto, using(crate::proofs::TableLaws::table_steps))]
 fn ancestor_column(
     alloc: Global,
     by: By,

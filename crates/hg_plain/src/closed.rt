@@ -61,7 +61,7 @@ fn is_closed(sight: &PlainSight, marks: &[Option<bool>], r: u32) -> bool
 }
 
 /// Whether the marks close each round, from 0 to the number of rows.
-#[tactic(auto, using(crate::proofs::TableLaws::tells_steps))]
+#[tactic(auto, using(crate::proofs::TableLaws::table_steps))]
 pub fn closed_rounds(
     alloc: Global,
     sight: &PlainSight,

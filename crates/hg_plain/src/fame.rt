@@ -73,7 +73,7 @@ fn fame(
 }
 
 /// The fame of all rows.
-#[tactic(auto, using(crate::proofs::TableLaws::tells_steps))]
+#[tactic(auto, using(crate::proofs::TableLaws::table_steps))]
 pub fn marks(alloc: Global, p: &PlainPrefix<'_>) -> Result<Vec<Option<bool>>, Memory>
     requires short { length (links_of p.now) < 2 ^ 32 - 1 }
     ensures marks { IfOk result (λ v. v.items ≡ fame_marks_in p.now) }

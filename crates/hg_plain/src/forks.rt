@@ -27,7 +27,7 @@ pub fn plain_forkers(rows: &[Row], members: u32) -> u32
 /// Whether the member has a fork.
 pub fn has_fork(rows: &[Row], member: u32) -> bool
     requires earlier { IsEarlier (parents (links rows.now)) }
-    requires self_place { IsSelfParentBySame (links rows.now) }
+    requires by_same { IsSelfParentBySame (links rows.now) }
     ensures { result ≡ has_fork (links rows.now) member }
 {
     has_twins(rows, member)

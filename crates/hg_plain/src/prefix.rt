@@ -67,7 +67,7 @@ impl<'a> PlainPrefix<'a> {
 }
 
 /// The witnesses of each round, from 0 to the greatest.
-#[tactic(auto, using(crate::proofs::TableLaws::tells_steps))]
+#[tactic(auto, using(crate::proofs::TableLaws::table_steps))]
 fn witness_lists(alloc: Global, sight: &PlainSight) -> Result<Vec<Items<usize>>, Memory>
     ensures { IfOk result (λ v. IsWitnessTable sight.now v.items) }
 {

@@ -3,7 +3,7 @@ ghost use Rattle.hg_model.specs.Stakes.{member_count};
 ghost use Rattle.hg_model.specs.Fame.{is_closed};
 ghost use Rattle.hg_model.specs.Order.{can_receive, round_received};
 ghost use Rattle.hg_model.specs.Prefix.{links_of};
-ghost use Rattle.hg_model.specs.GraphWords.{shape_in, is_closed_in, can_receive_in, received_in};
+ghost use Rattle.hg_model.specs.GraphWords.{shape_in, is_closed_in, can_receive_in, round_received_in};
 ghost use Rattle.hg_plain.specs.Held.{IsClosedTable, IsReceivedTable};
 
 use crate::prefix::PlainPrefix;
@@ -12,7 +12,7 @@ use hg_order::{received_in, unique_famous};
 use std::alloc::Global;
 
 /// The round that receives each row, if some round does.
-#[tactic(auto, using(crate::proofs::TableLaws::tells_steps))]
+#[tactic(auto, using(crate::proofs::TableLaws::table_steps))]
 pub fn rounds_received(
     alloc: Global,
     p: &PlainPrefix<'_>,
@@ -43,7 +43,7 @@ fn round_received(
     requires row { x < length (links_of p.now) }
     requires room { member_count p.now.members ≤ length places.old }
     requires short { length closed.now < 2 ^ 32 }
-    ensures { result ≡ received_in p.now marks.now x }
+    ensures { result ≡ round_received_in p.now marks.now x }
 {
     for (r, is_closed) in closed.iter().enumerate() {
         if can_receive(p, marks, *is_closed, r as u32, x, places) {

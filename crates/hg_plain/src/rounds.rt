@@ -11,7 +11,7 @@ use hg_model::{Memory, is_supermajority};
 use std::alloc::Global;
 
 /// The rounds of all rows, from the table of what strongly sees what.
-#[tactic(auto, using(crate::proofs::TableLaws::tells_steps))]
+#[tactic(auto, using(crate::proofs::TableLaws::table_steps))]
 pub fn rounds_of(alloc: Global, seeing: &Seeing, strong: &[Vec<bool>]) -> Result<Vec<u32>, Memory>
     requires strong { IsStrongTable seeing.now strong.now }
     requires short { length seeing.now.links < 2 ^ 32 - 1 }

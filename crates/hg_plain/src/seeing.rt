@@ -106,7 +106,7 @@ fn forked_columns(
 }
 
 /// The rows below which the member has a fork; none where it `has` none at all.
-#[tactic(auto, using(crate::proofs::TableLaws::tells_steps))]
+#[tactic(auto, using(crate::proofs::TableLaws::table_steps))]
 fn forked_column(
     alloc: Global,
     ancestry: &Ancestry,

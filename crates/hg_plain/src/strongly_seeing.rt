@@ -26,7 +26,7 @@ pub fn strong_columns(alloc: Global, seeing: &Seeing) -> Result<Vec<Vec<bool>>, 
 }
 
 /// The rows that strongly see row `y`.
-#[tactic(auto, using(crate::proofs::TableLaws::tells_steps))]
+#[tactic(auto, using(crate::proofs::TableLaws::table_steps))]
 fn strong_column(alloc: Global, seeing: &Seeing, y: usize) -> Result<Vec<bool>, Memory>
     requires { y < length seeing.now.links }
     ensures { IfOk result (λ v. IsStrongColumn seeing.now y v.items) }
@@ -80,7 +80,7 @@ fn through_columns(alloc: Global, seeing: &Seeing, y: usize) -> Result<Vec<Vec<b
 }
 
 /// The rows among whose ancestors the member has an event that sees row `y`.
-#[tactic(auto, using(crate::proofs::TableLaws::tells_steps))]
+#[tactic(auto, using(crate::proofs::TableLaws::table_steps))]
 fn through_column(
     alloc: Global,
     seeing: &Seeing,

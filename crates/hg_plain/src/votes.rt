@@ -38,7 +38,7 @@ fn voters_of(alloc: Global, p: &PlainPrefix<'_>, y: usize) -> Result<Items<usize
 }
 
 /// The voters of each row.
-#[tactic(auto, using(crate::proofs::TableLaws::tells_steps))]
+#[tactic(auto, using(crate::proofs::TableLaws::table_steps))]
 pub fn voters(alloc: Global, p: &PlainPrefix<'_>) -> Result<Vec<Items<usize>>, Memory>
     ensures { IfOk result (λ v. IsVoterTable p.now v.items) }
 {
@@ -100,7 +100,7 @@ fn next_ballot(
 }
 
 /// The ballots of all rows on row `x`.
-#[tactic(auto, using(crate::proofs::TableLaws::tells_steps))]
+#[tactic(auto, using(crate::proofs::TableLaws::table_steps))]
 pub fn ballots(
     alloc: Global,
     p: &PlainPrefix<'_>,

@@ -48,10 +48,10 @@ name_of_key size received time white name sized =
     subst (λ (k : ℕ). drop (length key - k) key ≡ name) sized (end_rest key name (received ∷ time ∷ white) refl)
 
 -- the key of a placed row tells its name, round and time
-abbrev IsTold : ℕ → List Row → List ℕ × Placed → Type 0
-IsTold size G keyed = named_in G keyed.1 ≡ named_by size keyed.0
+abbrev IsNamedSo : ℕ → List Row → List ℕ × Placed → Type 0
+IsNamedSo size G keyed = named_in G keyed.1 ≡ named_by size keyed.0
 
-all_known : (size : ℕ) (G : List Row) (xs : List (List ℕ × Placed)) → AllByRecursion (IsTold size G) xs → map (named_in G) (map (λ keyed. keyed.1) xs) ≡ map (named_by size) (map (λ keyed. keyed.0) xs)
+all_known : (size : ℕ) (G : List Row) (xs : List (List ℕ × Placed)) → AllByRecursion (IsNamedSo size G) xs → map (named_in G) (map (λ keyed. keyed.1) xs) ≡ map (named_by size) (map (λ keyed. keyed.0) xs)
 all_known size G [] matches = refl
 all_known size G (keyed ∷ xs) matches = ap₂ (λ (row : Ordered) (rows : List Ordered). row ∷ rows) matches.0 (all_known size G xs matches.1)
 
@@ -59,8 +59,8 @@ always : ℕ → Bool
 always r = true
 
 module _ (n : Stakes) (size : ℕ) (G : List Row) (marks : Marks) (sizes : HasNameSizes size G) where
-  told_at : (x : ℕ) → x < length (links G) → IsTold size G (keyed_at n G (links G) marks x)
-  told_at x inside =
+  named_so_at : (x : ℕ) → x < length (links G) → IsNamedSo size G (keyed_at n G (links G) marks x)
+  named_so_at x inside =
       let sized = sizes.sized x (rw (← length-links G) inside) in
       let placed : Placed = placed_at n G (links G) marks x in
       let white : List ℕ = xor_bytes (sig_at G x) (whitening n G (links G) marks placed.received) in
@@ -75,7 +75,7 @@ module _ (n : Stakes) (size : ℕ) (G : List Row) (marks : Marks) (sizes : HasNa
   names_by_keys =
       let rows = list_below (keyed_at n G (links G) marks) (length (links G)) (is_received_in n (links G) marks always) in
       all_known size G (sort_by comes_before rows)
-      (all_sorted (IsTold size G) comes_before rows (all_list_below (IsTold size G) (keyed_at n G (links G) marks) (length (links G)) (is_received_in n (links G) marks always) (λ x inside e. told_at x inside)))
+      (all_sorted (IsNamedSo size G) comes_before rows (all_list_below (IsNamedSo size G) (keyed_at n G (links G) marks) (length (links G)) (is_received_in n (links G) marks always) (λ x inside e. named_so_at x inside)))
       ∙ ap (map (named_by size))
       (sym (sort_by-map (λ (keyed : List ℕ × Placed). keyed.0) bytes_less rows)
       ∙ ap (sort_by bytes_less) (map-list_below (λ (keyed : List ℕ × Placed). keyed.0) (keyed_at n G (links G) marks) (length (links G)) (is_received_in n (links G) marks always)))

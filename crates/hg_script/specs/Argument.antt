@@ -63,7 +63,7 @@ abbrev pub parents_of : List (List ℕ) → List ℕ → List ℕ → Result (Op
 parents_of labels s o =
     if is_dash s && is_dash o then Ok None
     else if is_dash s || is_dash o then Err Label
-    else label_of labels s >>= (λ self_place. label_of labels o >>= (λ other. Ok (Some (self_place, other))))
+    else label_of labels s >>= (λ self_label. label_of labels o >>= (λ other. Ok (Some (self_label, other))))
 
 -- the bytes of so many hexadecimal digits, of either case
 abbrev pub digits_form : ℕ → ℕ → List ℕ → Option (List ℕ)

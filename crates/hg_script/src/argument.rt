@@ -143,9 +143,9 @@ pub fn parents_of(above: &Above<'_>, s: &[u8], o: &[u8]) -> Result<Option<(usize
     if is_dash(s) || is_dash(o) {
         return Err(Why::Label);
     }
-    let self_place = label_of(above, s)?;
+    let self_label = label_of(above, s)?;
     let other = label_of(above, o)?;
-    Ok(Some((self_place, other)))
+    Ok(Some((self_label, other)))
 }
 
 /// The bytes of so many hexadecimal digits, from the least to the most.

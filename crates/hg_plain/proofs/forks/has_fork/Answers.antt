@@ -3,4 +3,4 @@ use Rattle.hg_plain.proofs.TwinLaws.{has_fork-has_twins}
 use Rattle.hg_plain.proofs.forks.has_fork.Goals as goal
 
 pub returns : goal.returns
-returns c = c.has_twins.ensures ∙ sym (has_fork-has_twins _ c.requires.earlier c.requires.self_place _)
+returns c = c.has_twins.ensures ∙ sym (has_fork-has_twins _ c.requires.earlier c.requires.by_same _)

@@ -4,7 +4,7 @@ use Rattle.hg_model.specs.Ancestry.{is_ancestor}
 use Rattle.hg_model.specs.Shape.{ShapeWithRoom}
 use Rattle.hg_model.proofs.AncestryLaws.{is_ancestor-le}
 use Rattle.hg_ancestry.specs.Held.{row_at}
-use Rattle.hg_ancestry.proofs.HeldLaws.{row_long, row_tells}
+use Rattle.hg_ancestry.proofs.HeldLaws.{row_long, row_says}
 use Rattle.hg_ancestry.proofs.sight.BitSightSight.ancestor.Goals as goal
 
 pub has-requires : goal.has-requires
@@ -20,7 +20,7 @@ returns-then-y-x c =
     let inside : c.args.x < length L = subst (λ (g : ShapeWithRoom). c.args.x < length g.shape.links) (sym c.self.view_is) c.requires.left in
     let row_is = c.row_of-row.ensures ∙ (ap (λ rows. row_at rows c.args.x) c.deref.ensures.value ∙ c.self.invariant.sight.ancestors.row c.args.x inside) in
     subst (λ (g : ShapeWithRoom). c.has.result ≡ is_ancestor g.shape.links c.args.x c.args.y) c.self.view_is
-    (c.has.ensures ∙ row_tells L c.self.invariant.sight.shaped.earlier c.args.x c.args.y c.row_of-row.result.now row_is)
+    (c.has.ensures ∙ row_says L c.self.invariant.sight.shaped.earlier c.args.x c.args.y c.row_of-row.result.now row_is)
 
 pub returns-else-y-x : goal.returns-else-y-x
 returns-else-y-x c =
