@@ -2,19 +2,14 @@ ghost use Rattle.std.specs.Prelude.{All, IfOk};
 ghost use Rattle.hg_model.specs.GraphWords.{SpeaksOf};
 ghost use Rattle.check_graphs.specs.Moments.{IsMomentOf};
 
-use hg_ancestry::BitSight;
 use hg_fame::elect_share;
-use hg_frozen::Frozen;
+use hg_graph::FrozenGraph;
 use hg_history::{found_lasts, rows_are_a_graph};
 use hg_model::{Found, MakeAnswer, Members, Memory, Name, PutAnswer, Share};
 use hg_node::Node;
-use hg_rounds::RoundTable;
 use hg_sign::MacTable;
 use hg_votes::VoteTable;
 use std::alloc::Global;
-
-/// A node's graph at an earlier moment.
-type Held = Frozen<BitSight, RoundTable>;
 
 /// What was published.
 #[derive(Drop)]
@@ -29,7 +24,7 @@ pub struct Published {
 #[derive(Drop)]
 pub struct Watched<'a> {
     node: Node<&'a MacTable>,
-    held: Vec<Held>,
+    held: Vec<FrozenGraph>,
     ghost moments: { All (IsMomentOf node) held.items },
 }
 
@@ -98,7 +93,7 @@ impl<'a> Watched<'a> {
 }
 
 /// What the share finds in a held graph.
-fn elect_in(alloc: Global, held: &Held, share: Share) -> Result<Found, Memory>
+fn elect_in(alloc: Global, held: &FrozenGraph, share: Share) -> Result<Found, Memory>
     ensures { IfOk result (λ found. SpeaksOf held.now found) }
 {
     let mut votes = VoteTable::new(alloc, held)?;

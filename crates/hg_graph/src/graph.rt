@@ -19,6 +19,9 @@ use hg_rounds::{RoundTable, place_round};
 use std::alloc::Global;
 use std::marker::Model;
 
+/// The first rows of a node's graph, as a value of its own: what workers read.
+pub type FrozenGraph = Frozen<BitSight, RoundTable>;
+
 /// A node's graph. Of its members fewer than a third have a fork, and each row is an event.
 #[derive(Drop)]
 pub struct EventGraph {
@@ -128,7 +131,7 @@ impl EventGraph {
     }
 
     /// The same rows as a value of its own, with their sight and their rounds.
-    pub fn freeze(&self) -> Result<Frozen<BitSight, RoundTable>, Memory>
+    pub fn freeze(&self) -> Result<FrozenGraph, Memory>
         ensures { IfOk result (λ frozen. frozen ≡ self.now.graph) }
     {
         let len = self.store.len();

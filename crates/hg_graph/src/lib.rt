@@ -7,5 +7,5 @@ mod graph;
 mod laws;
 mod store;
 
-pub use graph::EventGraph;
+pub use graph::{EventGraph, FrozenGraph};
 pub use laws::rows_add_links;

@@ -17,18 +17,15 @@ ghost use Rattle.hg_model.specs.Calls.{IsMaking, make_draft, publish_answer, pub
 use crate::arrival::parents_of_arrival;
 use crate::chronicle::Chronicle;
 use crate::draft::{draft_of, row_rule, signed_event};
-use hg_ancestry::BitSight;
 use hg_event::{EventView, decode};
 use hg_fame::elect_share;
-use hg_frozen::Frozen;
-use hg_graph::EventGraph;
+use hg_graph::{EventGraph, FrozenGraph};
 use hg_model::{
     Effect, Entry, Fault, Found, Items, MakeAnswer, Member, Members, Memory, Name, Parents, Placed,
     Prefix, PutAnswer, Rounds, Row, Share,
 };
 use hg_name::name_of;
 use hg_pay::Book;
-use hg_rounds::RoundTable;
 use hg_sign::Signer;
 use hg_votes::VoteTable;
 use std::alloc::Global;
@@ -148,7 +145,7 @@ impl<V: Signer> Node<V> {
     }
 
     /// The node's graph as a value of its own, which speaks of its rows whatever comes then.
-    pub fn freeze(&self) -> Result<Frozen<BitSight, RoundTable>, Memory>
+    pub fn freeze(&self) -> Result<FrozenGraph, Memory>
         ensures { IfOk result (λ frozen. frozen ≡ graph_in self.now) }
     {
         self.chronicle.graph().freeze()

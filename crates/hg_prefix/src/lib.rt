@@ -1,6 +1,7 @@
 //! Laws of two graphs: what they have in common they see, judge and order alike.
 //! Each law is the contract of a function without a body; its statement stands in `specs/`.
 //! The layers above use that of the orders of two graphs one is a prefix of the other: `orders_of_chains`.
+//! Its must-fail edits change definitions, since there is no code here that an edit could change.
 #![tactic(auto)]
 
 mod laws;

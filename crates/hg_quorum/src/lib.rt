@@ -1,7 +1,8 @@
 //! Laws of one graph: what forks cannot do to strongly seeing, and what two quorums share.
-//! They are told of the definitions of `hg_model`; no function here computes anything.
-//! No crate stands on this one: its laws are what a reader may ask of the definitions, and the lemmas that prove them,
-//! in `hg_model`, serve the laws above.
+//! They speak of the definitions of `hg_model`; no function here computes anything.
+//! The layers above use the lemmas that prove them: of the two rows of a fork one at most is strongly seen, and weights of
+//! several sets.
+//! Its must-fail edits change definitions, since there is no code here that an edit could change.
 #![tactic(auto)]
 
 mod laws;
