@@ -1,0 +1,4 @@
+pub mod SeenLaws
+pub mod TakeLaws
+pub mod RowLaws
+pub mod AloneLaws

@@ -1,0 +1,131 @@
+ghost use Rattle.std.specs.Prelude.{◌≡◌, ◌+◌, ◌-◌, ◌<◌, ◌^◌, IfOk, OnErr, length};
+ghost use Rattle.hg_model.specs.Gossip.{made_in_sync};
+ghost use Rattle.hg_gossip.specs.Gossip.{HasPulled, HasPulledSome, HasSynced, HasTaken, HasTakenSome, MakesAfter, with_answer};
+ghost use Rattle.hg_gossip.specs.Holding.{Waits, names_in, parcel_beyond};
+
+use crate::holder::Holder;
+use hg_model::{Bytes, MakeAnswer, Memory, Name, Parcel, PutAnswer, SyncMade, SyncReport};
+use std::alloc::Global;
+
+/// How many events were taken, and how many refused. Those that were known count as neither.
+#[derive(Clone, Copy, Debug, PartialEq, Eq)]
+pub struct Taken {
+    pub taken: u64,
+    pub refused: u64,
+}
+
+/// The counts with one answer more.
+fn with_answer(counts: Taken, answer: PutAnswer) -> Taken
+    requires { counts.taken + counts.refused < 2 ^ 64 - 1 }
+    ensures { result ≡ with_answer counts answer }
+{
+    match answer {
+        PutAnswer::Accepted(_) => Taken {
+            taken: counts.taken + 1,
+            refused: counts.refused,
+        },
+        PutAnswer::Known(_) => counts,
+        PutAnswer::Refused(_) => Taken {
+            taken: counts.taken,
+            refused: counts.refused + 1,
+        },
+    }
+}
+
+/// Puts these events, one after the other.
+fn take<H: Holder>(taker: &mut H, events: &[Bytes]) -> Result<Taken, Memory>
+    ensures ok { IfOk result (HasTaken H.rules (H.seen taker.old) events.now (H.seen taker.new)) }
+    ensures err { OnErr result (HasTakenSome H.rules (H.seen taker.old) events.now (H.seen taker.new)) }
+{
+    let _count = events.len();
+    let mut counts = Taken {
+        taken: 0,
+        refused: 0,
+    };
+    for event in events {
+        let answer = taker.put(event.as_slice())?;
+        counts = with_answer(counts, answer);
+    }
+    Ok(counts)
+}
+
+/// What came of an event at the end of a sync.
+fn sync_made(answer: MakeAnswer) -> SyncMade
+    ensures { result ≡ made_in_sync answer }
+{
+    match answer {
+        MakeAnswer::Made(place) => SyncMade::Row(place),
+        MakeAnswer::Refused(fault) => SyncMade::Fault(fault),
+    }
+}
+
+/// Makes an event with this other-parent, if there is one.
+fn make_after<H: Holder>(
+    taker: &mut H,
+    other: Option<Name>,
+    time: u64,
+    payload: &[u8],
+) -> Result<SyncMade, Memory>
+    ensures ok { IfOk result (MakesAfter H.rules (H.seen taker.old) other time payload.now (H.seen taker.new)) }
+    ensures err { OnErr result (Waits H.rules (H.seen taker.old) (H.seen taker.new)) }
+{
+    match other {
+        None => Ok(SyncMade::PeerBare),
+        Some(name) => {
+            let answer = taker.make(Some(name), time, payload)?;
+            Ok(sync_made(answer))
+        }
+    }
+}
+
+/// What the peer has that the taker lacks, and how the taker was when its names were read.
+fn parcel_for<T: Holder, P: Holder>(
+    alloc: Global,
+    taker: &mut T,
+    peer: &mut P,
+) -> Result<Parcel, Memory>
+    ensures taker { Waits T.rules (T.seen taker.old) (T.seen taker.new) }
+    ensures peer { Waits P.rules (P.seen peer.old) (P.seen peer.new) }
+    ensures ok { IfOk result (λ p. p ≡ parcel_beyond (names_in (T.seen taker.new)) (P.seen peer.new)) }
+{
+    let names = taker.held(alloc)?;
+    peer.missing(alloc, names.as_slice())
+}
+
+/// Takes from the peer the rows that the taker lacks, by their names, in the peer's order.
+/// After `Memory` some of the first of them are put.
+pub fn pull<T: Holder, P: Holder>(
+    alloc: Global,
+    taker: &mut T,
+    peer: &mut P,
+) -> Result<Taken, Memory>
+    ensures peer { Waits P.rules (P.seen peer.old) (P.seen peer.new) }
+    ensures ok { IfOk result (HasPulled T.rules (T.seen taker.old) (P.seen peer.new) (T.seen taker.new)) }
+    ensures err { OnErr result (HasPulledSome T.rules (T.seen taker.old) (P.seen peer.new) (T.seen taker.new)) }
+{
+    let parcel = parcel_for(alloc, taker, peer)?;
+    take(taker, parcel.rows.as_slice())
+}
+
+/// Pulls from the peer, and makes an event whose other-parent is the peer's last own row, if it has one. The time is
+/// any, in no unit of ours. After `Memory` some of the first of the rows are put, and no event is made.
+pub fn sync<T: Holder, P: Holder>(
+    alloc: Global,
+    taker: &mut T,
+    peer: &mut P,
+    time: u64,
+    payload: &[u8],
+) -> Result<SyncReport, Memory>
+    ensures peer { Waits P.rules (P.seen peer.old) (P.seen peer.new) }
+    ensures ok { IfOk result (HasSynced T.rules (T.seen taker.old) (P.seen peer.new) time payload.now (T.seen taker.new)) }
+    ensures err { OnErr result (HasPulledSome T.rules (T.seen taker.old) (P.seen peer.new) (T.seen taker.new)) }
+{
+    let parcel = parcel_for(alloc, taker, peer)?;
+    let counts = take(taker, parcel.rows.as_slice())?;
+    let made = make_after(taker, parcel.last, time, payload)?;
+    Ok(SyncReport {
+        taken: counts.taken,
+        refused: counts.refused,
+        made,
+    })
+}

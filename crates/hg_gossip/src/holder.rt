@@ -1,0 +1,39 @@
+ghost use Rattle.std.specs.Prelude.{◌≡◌, IfOk, OnErr};
+ghost use Rattle.std.specs.Option.{option_to_list};
+ghost use Rattle.hg_gossip.specs.Holding.{HasMade, HasPut, Rules, Seen, Waits, names_in, parcel_beyond};
+
+use hg_model::{MakeAnswer, Memory, Name, Parcel, PutAnswer};
+use std::alloc::Global;
+
+/// Who calls a node: its only holder, or one of several. Others may change the node before each call, and each answer
+/// is the node's at the history then reached.
+pub trait Holder {
+    /// What the node signs with and checks signatures by.
+    type Keys;
+
+    ghost rules: { Rules Self.Keys };
+
+    ghost seen: { Self → Seen Self.Keys };
+
+    /// The names of the node's rows, in the order in which they came.
+    fn held(&mut self, alloc: Global) -> Result<Vec<Name>, Memory>
+        ensures waits { Waits rules (seen self.old) (seen self.new) }
+        ensures names { IfOk result (λ names. names.items ≡ names_in (seen self.new)) };
+
+    /// The bytes of the rows that have none of the names, in the order in which they came, and the name of the last
+    /// row that the node made, if it made any.
+    fn missing(&mut self, alloc: Global, names: &[Name]) -> Result<Parcel, Memory>
+        ensures waits { Waits rules (seen self.old) (seen self.new) }
+        ensures parcel { IfOk result (λ parcel. parcel ≡ parcel_beyond names.now (seen self.new)) };
+
+    /// Puts the bytes of an event.
+    fn put(&mut self, bytes: &[u8]) -> Result<PutAnswer, Memory>
+        ensures ok { IfOk result (HasPut rules (seen self.old) bytes.now (seen self.new)) }
+        ensures err { OnErr result (Waits rules (seen self.old) (seen self.new)) };
+
+    /// Makes an event of the node's member on its last one, with this other-parent, or its first one without parents.
+    /// The time is any, in no unit of ours.
+    fn make(&mut self, other: Option<Name>, time: u64, payload: &[u8]) -> Result<MakeAnswer, Memory>
+        ensures ok { IfOk result (HasMade rules (seen self.old) (option_to_list other) time payload.now (seen self.new)) }
+        ensures err { OnErr result (Waits rules (seen self.old) (seen self.new)) };
+}

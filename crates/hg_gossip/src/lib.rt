@@ -1,0 +1,28 @@
+//! Gossip: who holds a node takes from another what the node lacks, and makes an event on it.
+//! The layers above use that `pull` and `sync` put the peer's rows whose names the taker lacks, in the peer's order, each
+//! at the history then reached. A holder's meaning is the node that it has seen, and the positions of the changes of its
+//! own calls; others may change a node that is shared, and then each answer speaks of what was reached. Of a `Node` nobody
+//! else is a holder, and `pulling_alone` and `syncing_alone` say what is left as a function of both nodes.
+//!
+//! ```text
+//! fn meet<V: Signer>(alloc: Global, a: &mut Node<V>, b: &mut Node<V>, now: u64) -> Result<u64, Memory> {
+//!     let first = sync(alloc, a, b, now, b"")?;
+//!     let then = sync(alloc, b, a, now, b"")?;
+//!     Ok(match then.made {
+//!         SyncMade::Row(_) => first.taken + then.taken,
+//!         SyncMade::PeerBare | SyncMade::Fault(_) => 0,
+//!     })
+//! }
+//! ```
+#![tactic(auto)]
+
+mod gossip;
+mod holder;
+mod laws;
+mod node;
+#[cfg(test)]
+mod tests;
+
+pub use gossip::{Taken, pull, sync};
+pub use holder::Holder;
+pub use laws::{missing_is_lacking, pulling_alone, syncing_alone, waiting_alone};

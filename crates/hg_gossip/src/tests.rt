@@ -1,0 +1,160 @@
+use crate::{Holder, Taken, pull, sync};
+use hg_model::{Bytes, MakeAnswer, MemberEntry, Members, Memory, SyncMade, SyncReport};
+use hg_node::Node;
+use hg_sign::MacTable;
+use std::alloc::Global;
+use std::fmt::Debug;
+use std::process::Abort;
+
+/// What the tests find is to be what they want.
+fn equal<T: Copy + Debug + PartialEq>(rt: &impl Abort, found: T, wanted: T) {
+    assert_eq!(rt; found, wanted);
+}
+
+fn entry(alloc: Global, name: &[u8]) -> Result<MemberEntry, Memory> {
+    Ok(MemberEntry {
+        name: Bytes::from_vec(Vec::from_slice(alloc, name)?),
+        secret: Bytes::from_vec(Vec::from_slice(alloc, name)?),
+        balance: 1,
+        has_node: true,
+    })
+}
+
+/// A and B.
+fn two_members(rt: &impl Abort, alloc: Global) -> Result<Members, Memory> {
+    let mut entries = Vec::new(alloc);
+    entries.push(entry(alloc, b"A")?)?;
+    entries.push(entry(alloc, b"B")?)?;
+    Ok(
+        Members::try_new(entries, 10)
+            .ok()
+            .expect(rt, "lawful members"),
+    )
+}
+
+/// The node of a member. The tests hold nodes in this alone: it goes in a call, which is proved once.
+struct Player {
+    node: Node<MacTable>,
+}
+
+impl Drop for Player {
+    fn drop(self) {
+        let Player { node } = self;
+        drop(node);
+    }
+}
+
+fn player(rt: &impl Abort, alloc: Global, own: u16) -> Result<Player, Memory> {
+    let members = two_members(rt, alloc)?;
+    assert!(rt; u32::from(own) < members.count());
+    let keys = MacTable::new(alloc, &members)?;
+    Ok(Player {
+        node: Node::new(alloc, &members, own, keys)?,
+    })
+}
+
+fn begins(rt: &impl Abort, node: &mut Node<MacTable>, place: usize) -> Result<(), Memory> {
+    equal(rt, Node::make(node, None, 1, b"")?, MakeAnswer::Made(place));
+    Ok(())
+}
+
+fn pulls(
+    rt: &impl Abort,
+    alloc: Global,
+    taker: &mut Node<MacTable>,
+    peer: &mut Node<MacTable>,
+    wanted: (u64, u64),
+) -> Result<(), Memory> {
+    let (taken, refused) = wanted;
+    equal(rt, pull(alloc, taker, peer)?, Taken { taken, refused });
+    Ok(())
+}
+
+fn syncs(
+    rt: &impl Abort,
+    alloc: Global,
+    taker: &mut Node<MacTable>,
+    peer: &mut Node<MacTable>,
+    wanted: (u64, u64, SyncMade),
+) -> Result<(), Memory> {
+    let (taken, refused, made) = wanted;
+    let report = SyncReport {
+        taken,
+        refused,
+        made,
+    };
+    equal(rt, sync(alloc, taker, peer, 2, b"")?, report);
+    Ok(())
+}
+
+/// A and B make an event each, and then take turns: A has A0 B0 A1, then B has B0 A0 A1 B1.
+fn play(
+    rt: &impl Abort,
+    alloc: Global,
+    a: &mut Node<MacTable>,
+    b: &mut Node<MacTable>,
+) -> Result<(), Memory> {
+    begins(rt, a, 0)?;
+    begins(rt, b, 0)?;
+    syncs(rt, alloc, a, b, (1, 0, SyncMade::Row(2)))?;
+    syncs(rt, alloc, b, a, (2, 0, SyncMade::Row(3)))?;
+    pulls(rt, alloc, a, b, (1, 0))?;
+    pulls(rt, alloc, a, b, (0, 0))?;
+    equal(rt, Holder::held(a, alloc)?.len(), 4);
+    Ok(())
+}
+
+#[test]
+fn plays_two_members(rt: HostRuntime) -> Result<(), Memory> {
+    let mut a = player(&rt, rt.alloc(), 0)?;
+    let mut b = player(&rt, rt.alloc(), 1)?;
+    play(&rt, rt.alloc(), &mut a.node, &mut b.node)
+}
+
+fn syncs_with_a_bare_peer(
+    rt: &impl Abort,
+    alloc: Global,
+    a: &mut Node<MacTable>,
+    b: &mut Node<MacTable>,
+) -> Result<(), Memory> {
+    begins(rt, a, 0)?;
+    syncs(rt, alloc, a, b, (0, 0, SyncMade::PeerBare))?;
+    equal(rt, a.rows(), 1);
+    pulls(rt, alloc, b, a, (1, 0))?;
+    syncs(rt, alloc, a, b, (0, 0, SyncMade::PeerBare))?;
+    equal(rt, a.rows(), 1);
+    Ok(())
+}
+
+#[test]
+fn makes_nothing_on_a_bare_peer(rt: HostRuntime) -> Result<(), Memory> {
+    let mut a = player(&rt, rt.alloc(), 0)?;
+    let mut b = player(&rt, rt.alloc(), 1)?;
+    syncs_with_a_bare_peer(&rt, rt.alloc(), &mut a.node, &mut b.node)
+}
+
+/// B has an event in A's name that A did not make, and its own after it. A refuses the one each time and takes the other.
+fn takes_after_an_impostor(
+    rt: &impl Abort,
+    alloc: Global,
+    a: &mut Node<MacTable>,
+    b: &mut Node<MacTable>,
+    other: &mut Node<MacTable>,
+) -> Result<(), Memory> {
+    begins(rt, other, 0)?;
+    pulls(rt, alloc, b, other, (1, 0))?;
+    begins(rt, b, 1)?;
+    pulls(rt, alloc, a, b, (1, 1))?;
+    pulls(rt, alloc, a, b, (0, 1))?;
+    equal(rt, Node::make(a, None, 3, b"")?, MakeAnswer::Made(1));
+    syncs(rt, alloc, a, b, (0, 1, SyncMade::Row(2)))?;
+    Ok(())
+}
+
+#[test]
+fn takes_what_follows_a_refused_row(rt: HostRuntime) -> Result<(), Memory> {
+    let mut a = player(&rt, rt.alloc(), 0)?;
+    let mut b = player(&rt, rt.alloc(), 1)?;
+    let mut other = player(&rt, rt.alloc(), 0)?;
+    takes_after_an_impostor(&rt, rt.alloc(), &mut a.node, &mut b.node, &mut other.node)
+}
