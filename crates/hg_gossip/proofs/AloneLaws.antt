@@ -4,8 +4,8 @@ use Rattle.hg_model.specs.declared.answers.PutAnswer.{PutAnswer}
 use Rattle.hg_model.specs.declared.answers.SyncMade.{SyncMade}
 use Rattle.hg_model.specs.Calls.{IsMaking, put_answer, put_changes}
 use Rattle.hg_gossip.specs.declared.gossip.Taken.{Taken}
-use Rattle.hg_gossip.specs.Holding.{HasPut, Rules, Seen, Waits, names_in, parcel_beyond, with_others, with_own}
-use Rattle.hg_gossip.specs.Gossip.{HasTaken, MakesAfter, Takes, none_taken, with_answer}
+use Rattle.hg_gossip.specs.Holding.{Puts, Rules, Seen, Waits, names_in, parcel_beyond, with_others, with_own}
+use Rattle.hg_gossip.specs.Gossip.{TakesAll, MakesAfter, Takes, none_taken, with_answer}
 use Rattle.hg_gossip.specs.Alone.{MakesOn, PullsAlone, SyncsAlone, Taking, WaitsAlone, pulling, take_event, taking_of}
 use Rattle.hg_gossip.proofs.SeenLaws.{others_none}
 
@@ -14,7 +14,7 @@ waits_alone K rules old new alone waits =
     waits.later ∙ (ap (with_others old) (waits.alone alone) ∙ others_none old)
 
 module _ {K : Type 0} (rules : Rules K) (alone : rules.shared ≡ false) where
-  put_alone : (old new : Seen K) (bytes : List ℕ) (before : Taken) (answer : PutAnswer) → HasPut rules old bytes new answer → taking_of new (with_answer before answer) ≡ take_event rules (taking_of old before) bytes
+  put_alone : (old new : Seen K) (bytes : List ℕ) (before : Taken) (answer : PutAnswer) → Puts rules old bytes new answer → taking_of new (with_answer before answer) ≡ take_event rules (taking_of old before) bytes
   put_alone old new bytes before answer put =
       let same : put.reached ≡ old = waits_alone K rules old put.reached alone put.waits in
       let left : new ≡ with_own old (put_changes rules.accepts old.node bytes) = put.grown ∙ ap (λ (s : Seen K). with_own s (put_changes rules.accepts s.node bytes)) same in
@@ -27,7 +27,7 @@ module _ {K : Type 0} (rules : Rules K) (alone : rules.shared ≡ false) where
       takes_alone events some.0 new (with_answer before some.1) after some.3
       ∙ ap (λ (t : Taking K). fold (take_event rules) t events) (put_alone old some.0 bytes before some.1 some.2)
 
-  pub pulled_alone : {L : Type 0} (old reached new : Seen K) (peer : Seen L) (taken : Taken) → Waits rules old reached → HasTaken rules reached (parcel_beyond (names_in reached) peer).rows new taken → taking_of new taken ≡ pulling rules old peer
+  pub pulled_alone : {L : Type 0} (old reached new : Seen K) (peer : Seen L) (taken : Taken) → Waits rules old reached → TakesAll rules reached (parcel_beyond (names_in reached) peer).rows new taken → taking_of new taken ≡ pulling rules old peer
   pulled_alone old reached new peer taken waits takes =
       takes_alone (parcel_beyond (names_in reached) peer).rows reached new none_taken taken takes
       ∙ ap (λ (s : Seen K). pulling rules s peer) (waits_alone K rules old reached alone waits)

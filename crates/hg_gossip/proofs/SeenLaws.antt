@@ -8,7 +8,7 @@ use Rattle.hg_model.specs.Signing.{Accepts}
 use Rattle.hg_model.specs.History.{Change}
 use Rattle.hg_model.specs.NodeView.{NodeView, with_changes}
 use Rattle.hg_model.specs.Calls.{IsMaking, make_changes, put_answer, put_changes}
-use Rattle.hg_gossip.specs.Holding.{HasMade, HasPut, Rules, Seen, Waits, positions_from, rules_alone, seen_whole, with_others, with_own}
+use Rattle.hg_gossip.specs.Holding.{Makes, Puts, Rules, Seen, Waits, positions_from, rules_alone, seen_whole, with_others, with_own}
 
 module _ {K : Type 0} where
   pub others_none : (s : Seen K) → with_others s [] ≡ s
@@ -46,7 +46,7 @@ module _ {K : Type 0} (accepts : K → Accepts) where
 
   -- bytes were put to it
   pub whole_put : {E : Type 0} (v w : NodeView K) (bytes : List ℕ) (result : Result PutAnswer E) → IfOk result (λ a. a ≡ put_answer accepts v bytes) →
-      OnOk result (w ≡ with_changes v (put_changes accepts v bytes)) → IfOk result (HasPut (rules_alone accepts) (seen_whole v) bytes (seen_whole w))
+      OnOk result (w ≡ with_changes v (put_changes accepts v bytes)) → IfOk result (Puts (rules_alone accepts) (seen_whole v) bytes (seen_whole w))
   whole_put v w bytes (Ok a) answer grown = record {
     reached = seen_whole v;
     waits = waits_none (rules_alone accepts) (seen_whole v);
@@ -57,7 +57,7 @@ module _ {K : Type 0} (accepts : K → Accepts) where
 
   -- it made an event, or refused to
   pub whole_made : {E : Type 0} (v w : NodeView K) (others : List (List ℕ)) (time : ℕ) (payload : List ℕ) (result : Result MakeAnswer E) →
-      IfOk result (λ a. IsMaking accepts v others time payload a w) → IfOk result (HasMade (rules_alone accepts) (seen_whole v) others time payload (seen_whole w))
+      IfOk result (λ a. IsMaking accepts v others time payload a w) → IfOk result (Makes (rules_alone accepts) (seen_whole v) others time payload (seen_whole w))
   whole_made v w others time payload (Ok a) is = record {
     reached = seen_whole v;
     waits = waits_none (rules_alone accepts) (seen_whole v);

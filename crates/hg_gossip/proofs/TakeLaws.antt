@@ -8,25 +8,25 @@ use Rattle.hg_model.specs.declared.answers.PutAnswer.TheVariants.{Accepted, Know
 use Rattle.hg_model.specs.declared.answers.SyncMade.{SyncMade}
 use Rattle.hg_model.specs.declared.gossip.Parcel.{Parcel}
 use Rattle.hg_gossip.specs.declared.gossip.Taken.{Taken}
-use Rattle.hg_gossip.specs.Holding.{HasPut, Rules, Seen, Waits, names_in, parcel_beyond}
-use Rattle.hg_gossip.specs.Gossip.{HasPulled, HasPulledSome, HasSynced, HasTaken, HasTakenSome, MakesAfter, Takes, none_taken, with_answer}
+use Rattle.hg_gossip.specs.Holding.{Puts, Rules, Seen, Waits, names_in, parcel_beyond}
+use Rattle.hg_gossip.specs.Gossip.{Pulls, PullsSome, Syncs, TakesAll, TakesSome, MakesAfter, Takes, none_taken, with_answer}
 use Rattle.hg_gossip.proofs.SeenLaws.{waits_none}
 
 module _ {K : Type 0} (rules : Rules K) where
   -- one more
   pub takes_push : (events : List (List ℕ)) (old mid new : Seen K) (before counts : Taken) (bytes : List ℕ) (answer : PutAnswer) →
-      Takes rules old before events mid counts → HasPut rules mid bytes new answer → Takes rules old before (events ++ bytes ∷ []) new (with_answer counts answer)
+      Takes rules old before events mid counts → Puts rules mid bytes new answer → Takes rules old before (events ++ bytes ∷ []) new (with_answer counts answer)
   takes_push [] old mid new before counts bytes answer none put = (
     new,
     answer,
-    subst (λ (s : Seen K). HasPut rules s bytes new answer) none.0 put,
+    subst (λ (s : Seen K). Puts rules s bytes new answer) none.0 put,
     (refl, ap (λ (t : Taken). with_answer t answer) none.1),
   )
   takes_push (first ∷ events) old mid new before counts bytes answer some put =
       (some.0, some.1, some.2, takes_push events some.0 mid new (with_answer before some.1) counts bytes answer some.3 put)
 
   -- all of them, and then memory ran out
-  pub takes_all : (events : List (List ℕ)) (old mid new : Seen K) (counts : Taken) → HasTaken rules old events mid counts → Waits rules mid new → HasTakenSome rules old events new
+  pub takes_all : (events : List (List ℕ)) (old mid new : Seen K) (counts : Taken) → TakesAll rules old events mid counts → Waits rules mid new → TakesSome rules old events new
   takes_all events old mid new counts takes waits = record {
     first = events;
     rest = [];
@@ -38,7 +38,7 @@ module _ {K : Type 0} (rules : Rules K) where
   }
 
   -- none of them
-  pub takes_none : (events : List (List ℕ)) (old : Seen K) → HasTakenSome rules old events old
+  pub takes_none : (events : List (List ℕ)) (old : Seen K) → TakesSome rules old events old
   takes_none events old = record {
     first = [];
     rest = events;
@@ -50,7 +50,7 @@ module _ {K : Type 0} (rules : Rules K) where
   }
 
   -- the first of them, and then memory ran out
-  pub takes_first : (events : List (List ℕ)) (i : ℕ) (old mid new : Seen K) (counts : Taken) → HasTaken rules old (take i events) mid counts → Waits rules mid new → HasTakenSome rules old events new
+  pub takes_first : (events : List (List ℕ)) (i : ℕ) (old mid new : Seen K) (counts : Taken) → TakesAll rules old (take i events) mid counts → Waits rules mid new → TakesSome rules old events new
   takes_first events i old mid new counts takes waits = record {
     first = take i events;
     rest = drop i events;
@@ -63,15 +63,15 @@ module _ {K : Type 0} (rules : Rules K) where
 
   -- the next of them
   pub takes_next : (events : List (List ℕ)) (i : ℕ) (item bytes : List ℕ) (old mid new : Seen K) (counts more : Taken) (answer : PutAnswer) → i < length events → item ≡ get_or events i item → bytes ≡ item →
-      more ≡ with_answer counts answer → HasTaken rules old (take i events) mid counts → HasPut rules mid bytes new answer → HasTaken rules old (take (i + 1) events) new more
+      more ≡ with_answer counts answer → TakesAll rules old (take i events) mid counts → Puts rules mid bytes new answer → TakesAll rules old (take (i + 1) events) new more
   takes_next events i item bytes old mid new counts more answer within is same counted takes put =
       let next : take (i + 1) events ≡ take i events ++ bytes ∷ [] =
       ap (λ (n : ℕ). take n events) (add-one i) ∙ (take-suc events i item within ∙ ap (λ (b : List ℕ). take i events ++ b ∷ []) (sym is ∙ sym same)) in
-      subst (λ (t : Taken). HasTaken rules old (take (i + 1) events) new t) (sym counted)
-      (subst (λ (es : List (List ℕ)). HasTaken rules old es new (with_answer counts answer)) (sym next)
+      subst (λ (t : Taken). TakesAll rules old (take (i + 1) events) new t) (sym counted)
+      (subst (λ (es : List (List ℕ)). TakesAll rules old es new (with_answer counts answer)) (sym next)
       (takes_push (take i events) old mid new none_taken counts bytes answer takes put))
 
-  pub pulls_none : {L : Type 0} (old reached : Seen K) (peer : Seen L) → Waits rules old reached → HasPulledSome rules old peer reached
+  pub pulls_none : {L : Type 0} (old reached : Seen K) (peer : Seen L) → Waits rules old reached → PullsSome rules old peer reached
   pulls_none old reached peer waits = record {
     reached = reached;
     waits = waits;
@@ -79,34 +79,34 @@ module _ {K : Type 0} (rules : Rules K) where
   }
 
   pub pulls_some : {L : Type 0} (old reached new : Seen K) (peer : Seen L) (parcel : Parcel) (events : List (List ℕ)) → parcel ≡ parcel_beyond (names_in reached) peer → events ≡ parcel.rows →
-      Waits rules old reached → HasTakenSome rules reached events new → HasPulledSome rules old peer new
+      Waits rules old reached → TakesSome rules reached events new → PullsSome rules old peer new
   pulls_some old reached new peer parcel events is rows waits takes = record {
     reached = reached;
     waits = waits;
-    takes = subst (λ (es : List (List ℕ)). HasTakenSome rules reached es new) (rows ∙ ap (λ (p : Parcel). p.rows) is) takes;
+    takes = subst (λ (es : List (List ℕ)). TakesSome rules reached es new) (rows ∙ ap (λ (p : Parcel). p.rows) is) takes;
   }
 
   pub pulls_all : {L : Type 0} (old reached new : Seen K) (peer : Seen L) (parcel : Parcel) (events : List (List ℕ)) (taken : Taken) → parcel ≡ parcel_beyond (names_in reached) peer → events ≡ parcel.rows →
-      Waits rules old reached → HasTaken rules reached events new taken → HasPulled rules old peer new taken
+      Waits rules old reached → TakesAll rules reached events new taken → Pulls rules old peer new taken
   pulls_all old reached new peer parcel events taken is rows waits takes = record {
     reached = reached;
     waits = waits;
-    takes = subst (λ (es : List (List ℕ)). HasTaken rules reached es new taken) (rows ∙ ap (λ (p : Parcel). p.rows) is) takes;
+    takes = subst (λ (es : List (List ℕ)). TakesAll rules reached es new taken) (rows ∙ ap (λ (p : Parcel). p.rows) is) takes;
   }
 
   pub pull_ended : {L E : Type 0} (old reached new : Seen K) (peer : Seen L) (parcel : Parcel) (events : List (List ℕ)) (result : Result Taken E) → parcel ≡ parcel_beyond (names_in reached) peer → events ≡ parcel.rows →
-      Waits rules old reached → IfOk result (HasTaken rules reached events new) → IfOk result (HasPulled rules old peer new)
+      Waits rules old reached → IfOk result (TakesAll rules reached events new) → IfOk result (Pulls rules old peer new)
   pull_ended old reached new peer parcel events (Ok taken) is rows waits takes = pulls_all old reached new peer parcel events taken is rows waits takes
   pull_ended old reached new peer parcel events (Err e) is rows waits takes = tt
 
   pub pull_stopped : {L E : Type 0} (old reached new : Seen K) (peer : Seen L) (parcel : Parcel) (events : List (List ℕ)) (result : Result Taken E) → parcel ≡ parcel_beyond (names_in reached) peer → events ≡ parcel.rows →
-      Waits rules old reached → OnErr result (HasTakenSome rules reached events new) → OnErr result (HasPulledSome rules old peer new)
+      Waits rules old reached → OnErr result (TakesSome rules reached events new) → OnErr result (PullsSome rules old peer new)
   pull_stopped old reached new peer parcel events (Ok taken) is rows waits takes = tt
   pull_stopped old reached new peer parcel events (Err e) is rows waits takes = pulls_some old reached new peer parcel events is rows waits takes
 
   pub syncs_all : {L : Type 0} (old reached full new : Seen K) (peer : Seen L) (parcel : Parcel) (events : List (List ℕ)) (time : ℕ) (payload : List ℕ) (taken : Taken) (made : SyncMade) →
-      parcel ≡ parcel_beyond (names_in reached) peer → events ≡ parcel.rows → Waits rules old reached → HasTaken rules reached events full taken → MakesAfter rules full parcel.last time payload new made →
-      HasSynced rules old peer time payload new (record { taken = taken.taken; refused = taken.refused; made = made })
+      parcel ≡ parcel_beyond (names_in reached) peer → events ≡ parcel.rows → Waits rules old reached → TakesAll rules reached events full taken → MakesAfter rules full parcel.last time payload new made →
+      Syncs rules old peer time payload new (record { taken = taken.taken; refused = taken.refused; made = made })
   syncs_all old reached full new peer parcel events time payload taken made is rows waits takes makes = record {
     full = full;
     taken = taken;

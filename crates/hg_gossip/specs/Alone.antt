@@ -9,7 +9,7 @@ use Rattle.hg_model.specs.Calls.{IsMaking, put_answer, put_changes}
 use Rattle.hg_model.specs.Gossip.{lacking, made_in_sync}
 use Rattle.hg_gossip.specs.declared.gossip.Taken.{Taken}
 use Rattle.hg_gossip.specs.Holding.{Rules, Seen, Waits, names_in, names_of, parcel_beyond, unnamed, with_own}
-use Rattle.hg_gossip.specs.Gossip.{HasPulled, HasSynced, none_taken, with_answer}
+use Rattle.hg_gossip.specs.Gossip.{Pulls, Syncs, none_taken, with_answer}
 
 -- a holder that takes events, and what came of them so far
 pub record Taking (K : Type 0) : Type 0 where
@@ -44,7 +44,7 @@ WaitsAlone K = (rules : Rules K) (old new : Seen K) → rules.shared ≡ false �
 
 abbrev pub PullsAlone : (K L : Type 0) → Type 0
 PullsAlone K L = (rules : Rules K) (old new : Seen K) (peer : Seen L) (taken : Taken) → rules.shared ≡ false →
-    HasPulled rules old peer new taken → taking_of new taken ≡ pulling rules old peer
+    Pulls rules old peer new taken → taking_of new taken ≡ pulling rules old peer
 
 -- what a sync leaves
 pub record IsSynced {K L : Type 0} (rules : Rules K) (old : Seen K) (peer : Seen L) (time : ℕ) (payload : List ℕ) (new : Seen K) (report : SyncReport) : Type 0 where
@@ -54,7 +54,7 @@ pub record IsSynced {K L : Type 0} (rules : Rules K) (old : Seen K) (peer : Seen
 
 abbrev pub SyncsAlone : (K L : Type 0) → Type 0
 SyncsAlone K L = (rules : Rules K) (old new : Seen K) (peer : Seen L) (time : ℕ) (payload : List ℕ) (report : SyncReport) → rules.shared ≡ false →
-    HasSynced rules old peer time payload new report → IsSynced rules old peer time payload new report
+    Syncs rules old peer time payload new report → IsSynced rules old peer time payload new report
 
 -- the rows without the names of these are those whose names these lack
 abbrev pub UnnamedAreLacking : Type 0

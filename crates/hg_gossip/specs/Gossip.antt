@@ -7,7 +7,7 @@ use Rattle.hg_model.specs.declared.answers.SyncMade.TheVariants as sync_made
 use Rattle.hg_model.specs.declared.answers.SyncReport.{SyncReport}
 use Rattle.hg_model.specs.Gossip.{count_refused, count_taken, made_in_sync}
 use Rattle.hg_gossip.specs.declared.gossip.Taken.{Taken}
-use Rattle.hg_gossip.specs.Holding.{HasMade, HasPut, Rules, Seen, Waits, names_in, parcel_beyond}
+use Rattle.hg_gossip.specs.Holding.{Makes, Puts, Rules, Seen, Waits, names_in, parcel_beyond}
 
 abbrev pub none_taken : Taken
 none_taken = record { taken = 0; refused = 0 }
@@ -20,44 +20,44 @@ with_answer t answer = record { taken = t.taken + count_taken answer; refused = 
 abbrev pub Takes : {K : Type 0} → Rules K → Seen K → Taken → List (List ℕ) → Seen K → Taken → Type 0
 Takes rules old before [] new after = (new ≡ old) × (after ≡ before)
 Takes {K} rules old before (bytes ∷ events) new after =
-    (next : Seen K) × (answer : PutAnswer) × HasPut rules old bytes next answer × Takes rules next (with_answer before answer) events new after
+    (next : Seen K) × (answer : PutAnswer) × Puts rules old bytes next answer × Takes rules next (with_answer before answer) events new after
 
 -- the same, from no counts
-abbrev pub HasTaken : {K : Type 0} → Rules K → Seen K → List (List ℕ) → Seen K → Taken → Type 0
-HasTaken rules old events new taken = Takes rules old none_taken events new taken
+abbrev pub TakesAll : {K : Type 0} → Rules K → Seen K → List (List ℕ) → Seen K → Taken → Type 0
+TakesAll rules old events new taken = Takes rules old none_taken events new taken
 
 -- some of the first of these were, and then memory ran out
-pub record HasTakenSome {K : Type 0} (rules : Rules K) (old : Seen K) (events : List (List ℕ)) (new : Seen K) : Type 0 where
+pub record TakesSome {K : Type 0} (rules : Rules K) (old : Seen K) (events : List (List ℕ)) (new : Seen K) : Type 0 where
   pub first : List (List ℕ)
   pub rest : List (List ℕ)
   pub whole : events ≡ first ++ rest
   pub next : Seen K
   pub taken : Taken
-  pub takes : HasTaken rules old first next taken
+  pub takes : TakesAll rules old first next taken
   pub waits : Waits rules next new
 
 -- the rows of the peer whose names were not among the holder's when it read them were put, in the peer's order
-pub record HasPulled {K L : Type 0} (rules : Rules K) (old : Seen K) (peer : Seen L) (new : Seen K) (taken : Taken) : Type 0 where
+pub record Pulls {K L : Type 0} (rules : Rules K) (old : Seen K) (peer : Seen L) (new : Seen K) (taken : Taken) : Type 0 where
   pub reached : Seen K
   pub waits : Waits rules old reached
-  pub takes : HasTaken rules reached (parcel_beyond (names_in reached) peer).rows new taken
+  pub takes : TakesAll rules reached (parcel_beyond (names_in reached) peer).rows new taken
 
 -- some of the first of them were, and nothing was made
-pub record HasPulledSome {K L : Type 0} (rules : Rules K) (old : Seen K) (peer : Seen L) (new : Seen K) : Type 0 where
+pub record PullsSome {K L : Type 0} (rules : Rules K) (old : Seen K) (peer : Seen L) (new : Seen K) : Type 0 where
   pub reached : Seen K
   pub waits : Waits rules old reached
-  pub takes : HasTakenSome rules reached (parcel_beyond (names_in reached) peer).rows new
+  pub takes : TakesSome rules reached (parcel_beyond (names_in reached) peer).rows new
 
 -- an event on this other-parent was made, or refused; none where there is no name
 abbrev pub MakesAfter : {K : Type 0} → Rules K → Seen K → Option (List ℕ) → ℕ → List ℕ → Seen K → SyncMade → Type 0
 MakesAfter rules old None time payload new made = (new ≡ old) × (made ≡ sync_made.PeerBare)
 MakesAfter rules old (Some other) time payload new made =
-    (answer : MakeAnswer) × HasMade rules old (other ∷ []) time payload new answer × (made ≡ made_in_sync answer)
+    (answer : MakeAnswer) × Makes rules old (other ∷ []) time payload new answer × (made ≡ made_in_sync answer)
 
 -- the holder pulled from the peer, and made an event on the peer's last own row
-pub record HasSynced {K L : Type 0} (rules : Rules K) (old : Seen K) (peer : Seen L) (time : ℕ) (payload : List ℕ) (new : Seen K) (report : SyncReport) : Type 0 where
+pub record Syncs {K L : Type 0} (rules : Rules K) (old : Seen K) (peer : Seen L) (time : ℕ) (payload : List ℕ) (new : Seen K) (report : SyncReport) : Type 0 where
   pub full : Seen K
   pub taken : Taken
-  pub pulled : HasPulled rules old peer full taken
+  pub pulled : Pulls rules old peer full taken
   pub counts : (report.taken ≡ taken.taken) × (report.refused ≡ taken.refused)
   pub made : MakesAfter rules full (parcel_beyond [] peer).last time payload new report.made

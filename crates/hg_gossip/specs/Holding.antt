@@ -1,5 +1,5 @@
 -- A holder of a node: the node that it has seen, and which of the node's changes its own calls added
-use Rattle.std.specs.Prelude.{ℕ, suc, ◌≡◌, Bool, false, not, cond, List, [], ◌∷◌, ◌++◌, length, map, filter}
+use Rattle.std.specs.Prelude.{ℕ, suc, ◌≡◌, Bool, false, not, cond, List, [], ◌∷◌, ◌++◌, length, map, filter, Option, option_map, slice_get}
 use Rattle.std.specs.List.{list_any}
 use Rattle.std.specs.Str.{bytes_eq}
 use Rattle.hg_model.specs.declared.row.Row.{Row}
@@ -50,14 +50,14 @@ pub record Waits {K : Type 0} (rules : Rules K) (old new : Seen K) : Type 0 wher
   pub later : new ≡ with_others old others
 
 -- bytes were put at the history then reached, with this answer
-pub record HasPut {K : Type 0} (rules : Rules K) (old : Seen K) (bytes : List ℕ) (new : Seen K) (answer : PutAnswer) : Type 0 where
+pub record Puts {K : Type 0} (rules : Rules K) (old : Seen K) (bytes : List ℕ) (new : Seen K) (answer : PutAnswer) : Type 0 where
   pub reached : Seen K
   pub waits : Waits rules old reached
   pub answers : answer ≡ put_answer rules.accepts reached.node bytes
   pub grown : new ≡ with_own reached (put_changes rules.accepts reached.node bytes)
 
 -- an event was made there, or refused
-pub record HasMade {K : Type 0} (rules : Rules K) (old : Seen K) (others : List (List ℕ)) (time : ℕ) (payload : List ℕ) (new : Seen K) (answer : MakeAnswer) : Type 0 where
+pub record Makes {K : Type 0} (rules : Rules K) (old : Seen K) (others : List (List ℕ)) (time : ℕ) (payload : List ℕ) (new : Seen K) (answer : MakeAnswer) : Type 0 where
   pub reached : Seen K
   pub waits : Waits rules old reached
   pub making : IsMaking rules.accepts reached.node others time payload answer new.node
@@ -78,6 +78,10 @@ HaveSame names others = (name : List ℕ) → list_any (bytes_eq name) names ≡
 -- the bytes of the row, unless its name is among these
 abbrev pub unnamed_bytes : List (List ℕ) → Row → List (List ℕ)
 unnamed_bytes names row = cond (list_any (bytes_eq row.name) names) [] (spelling row ∷ [])
+
+-- these and the bytes of the row at a place, unless its name is among the names; nothing where there is no row
+abbrev pub with_place : List Row → ℕ → List (List ℕ) → List (List ℕ) → Option (List (List ℕ))
+with_place G place names rows = option_map (λ (row : Row). rows ++ unnamed_bytes names row) (slice_get G place)
 
 -- those of these rows that have none of the names
 abbrev pub unnamed : List (List ℕ) → List Row → List Row

@@ -1,6 +1,6 @@
 ghost use Rattle.std.specs.Prelude.{◌≡◌, ◌+◌, ◌-◌, ◌<◌, ◌^◌, IfOk, OnErr, length};
 ghost use Rattle.hg_model.specs.Gossip.{made_in_sync};
-ghost use Rattle.hg_gossip.specs.Gossip.{HasPulled, HasPulledSome, HasSynced, HasTaken, HasTakenSome, MakesAfter, with_answer};
+ghost use Rattle.hg_gossip.specs.Gossip.{Pulls, PullsSome, Syncs, TakesAll, TakesSome, MakesAfter, with_answer};
 ghost use Rattle.hg_gossip.specs.Holding.{Waits, names_in, parcel_beyond};
 
 use crate::holder::Holder;
@@ -34,8 +34,8 @@ fn with_answer(counts: Taken, answer: PutAnswer) -> Taken
 
 /// Puts these events, one after the other.
 fn take<H: Holder>(taker: &mut H, events: &[Bytes]) -> Result<Taken, Memory>
-    ensures ok { IfOk result (HasTaken H.rules (H.seen taker.old) events.now (H.seen taker.new)) }
-    ensures err { OnErr result (HasTakenSome H.rules (H.seen taker.old) events.now (H.seen taker.new)) }
+    ensures ok { IfOk result (TakesAll H.rules (H.seen taker.old) events.now (H.seen taker.new)) }
+    ensures err { OnErr result (TakesSome H.rules (H.seen taker.old) events.now (H.seen taker.new)) }
 {
     let _count = events.len();
     let mut counts = Taken {
@@ -100,8 +100,8 @@ pub fn pull<T: Holder, P: Holder>(
     peer: &mut P,
 ) -> Result<Taken, Memory>
     ensures peer { Waits P.rules (P.seen peer.old) (P.seen peer.new) }
-    ensures ok { IfOk result (HasPulled T.rules (T.seen taker.old) (P.seen peer.new) (T.seen taker.new)) }
-    ensures err { OnErr result (HasPulledSome T.rules (T.seen taker.old) (P.seen peer.new) (T.seen taker.new)) }
+    ensures ok { IfOk result (Pulls T.rules (T.seen taker.old) (P.seen peer.new) (T.seen taker.new)) }
+    ensures err { OnErr result (PullsSome T.rules (T.seen taker.old) (P.seen peer.new) (T.seen taker.new)) }
 {
     let parcel = parcel_for(alloc, taker, peer)?;
     take(taker, parcel.rows.as_slice())
@@ -117,8 +117,8 @@ pub fn sync<T: Holder, P: Holder>(
     payload: &[u8],
 ) -> Result<SyncReport, Memory>
     ensures peer { Waits P.rules (P.seen peer.old) (P.seen peer.new) }
-    ensures ok { IfOk result (HasSynced T.rules (T.seen taker.old) (P.seen peer.new) time payload.now (T.seen taker.new)) }
-    ensures err { OnErr result (HasPulledSome T.rules (T.seen taker.old) (P.seen peer.new) (T.seen taker.new)) }
+    ensures ok { IfOk result (Syncs T.rules (T.seen taker.old) (P.seen peer.new) time payload.now (T.seen taker.new)) }
+    ensures err { OnErr result (PullsSome T.rules (T.seen taker.old) (P.seen peer.new) (T.seen taker.new)) }
 {
     let parcel = parcel_for(alloc, taker, peer)?;
     let counts = take(taker, parcel.rows.as_slice())?;

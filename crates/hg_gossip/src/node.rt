@@ -1,9 +1,9 @@
-ghost use Rattle.std.specs.Prelude.{◌≡◌, ◌<◌, ◌++◌, ◌∷◌, [], IfOk, OnOk, Some, length, map, option_map, slice_get};
+ghost use Rattle.std.specs.Prelude.{◌≡◌, ◌<◌, ◌++◌, ◌∷◌, [], IfOk, OnOk, Some, length, map};
 ghost use Rattle.std.specs.List.{list_any};
 ghost use Rattle.std.specs.Str.{bytes_eq};
 ghost use Rattle.hg_model.specs.NodeView.{node_rows};
 ghost use Rattle.hg_model.specs.Spelling.{spelling};
-ghost use Rattle.hg_gossip.specs.Holding.{names_of, unnamed, unnamed_bytes, HaveSame};
+ghost use Rattle.hg_gossip.specs.Holding.{names_of, unnamed, with_place, HaveSame};
 
 use crate::holder::Holder;
 use hg_model::{Bytes, Items, MakeAnswer, Memory, Name, Parcel, PutAnswer};
@@ -57,7 +57,7 @@ fn push_unless_named<V: Signer>(
     place: usize,
 ) -> Result<(), Memory>
     requires { place < length (node_rows node.now) }
-    ensures { OnOk result (option_map (λ row. rows.old.items ++ unnamed_bytes named.now.keys row) (slice_get (node_rows node.now) place) ≡ Some rows.new.items) }
+    ensures { OnOk result (with_place (node_rows node.now) place named.now.keys rows.old.items ≡ Some rows.new.items) }
 {
     if !named.contains(&node.row(place).name) {
         rows.push(copied(alloc, node.bytes(place))?)?;

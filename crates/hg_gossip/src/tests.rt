@@ -44,7 +44,7 @@ impl Drop for Player {
     }
 }
 
-fn player(rt: &impl Abort, alloc: Global, own: u16) -> Result<Player, Memory> {
+fn player_of(rt: &impl Abort, alloc: Global, own: u16) -> Result<Player, Memory> {
     let members = two_members(rt, alloc)?;
     assert!(rt; u32::from(own) < members.count());
     let keys = MacTable::new(alloc, &members)?;
@@ -106,8 +106,8 @@ fn play(
 
 #[test]
 fn plays_two_members(rt: HostRuntime) -> Result<(), Memory> {
-    let mut a = player(&rt, rt.alloc(), 0)?;
-    let mut b = player(&rt, rt.alloc(), 1)?;
+    let mut a = player_of(&rt, rt.alloc(), 0)?;
+    let mut b = player_of(&rt, rt.alloc(), 1)?;
     play(&rt, rt.alloc(), &mut a.node, &mut b.node)
 }
 
@@ -128,8 +128,8 @@ fn syncs_with_a_bare_peer(
 
 #[test]
 fn makes_nothing_on_a_bare_peer(rt: HostRuntime) -> Result<(), Memory> {
-    let mut a = player(&rt, rt.alloc(), 0)?;
-    let mut b = player(&rt, rt.alloc(), 1)?;
+    let mut a = player_of(&rt, rt.alloc(), 0)?;
+    let mut b = player_of(&rt, rt.alloc(), 1)?;
     syncs_with_a_bare_peer(&rt, rt.alloc(), &mut a.node, &mut b.node)
 }
 
@@ -153,8 +153,8 @@ fn takes_after_an_impostor(
 
 #[test]
 fn takes_what_follows_a_refused_row(rt: HostRuntime) -> Result<(), Memory> {
-    let mut a = player(&rt, rt.alloc(), 0)?;
-    let mut b = player(&rt, rt.alloc(), 1)?;
-    let mut other = player(&rt, rt.alloc(), 0)?;
+    let mut a = player_of(&rt, rt.alloc(), 0)?;
+    let mut b = player_of(&rt, rt.alloc(), 1)?;
+    let mut other = player_of(&rt, rt.alloc(), 0)?;
     takes_after_an_impostor(&rt, rt.alloc(), &mut a.node, &mut b.node, &mut other.node)
 }
