@@ -5,12 +5,13 @@
 //! else is a holder, and `pulling_alone` and `syncing_alone` say what is left as a function of both nodes.
 //!
 //! ```text
-//! fn meet<V: Signer>(alloc: Global, a: &mut Node<V>, b: &mut Node<V>, now: u64) -> Result<u64, Memory> {
-//!     let first = sync(alloc, a, b, now, b"")?;
-//!     let then = sync(alloc, b, a, now, b"")?;
-//!     Ok(match then.made {
-//!         SyncMade::Row(_) => first.taken + then.taken,
-//!         SyncMade::PeerBare | SyncMade::Fault(_) => 0,
+//! /// Both learn what the other has, and each adds an event on the other's last one. Whether B did.
+//! fn meet<V: Signer>(alloc: Global, a: &mut Node<V>, b: &mut Node<V>, now: u64) -> Result<bool, Memory> {
+//!     sync(alloc, a, b, now, b"")?;
+//!     let report = sync(alloc, b, a, now, b"")?;
+//!     Ok(match report.made {
+//!         SyncMade::Row(_) => true,
+//!         SyncMade::PeerBare | SyncMade::Fault(_) => false,
 //!     })
 //! }
 //! ```

@@ -1,7 +1,7 @@
 use crate::{Holder, Taken, pull, sync};
 use hg_model::{Bytes, MakeAnswer, MemberEntry, Members, Memory, SyncMade, SyncReport};
 use hg_node::Node;
-use hg_sign::MacTable;
+use hg_sign::{MacTable, Signer};
 use std::alloc::Global;
 use std::fmt::Debug;
 use std::process::Abort;
@@ -87,6 +87,21 @@ fn syncs(
     Ok(())
 }
 
+/// Both learn what the other has, and each adds an event on the other's last one. Whether B did.
+fn meet<V: Signer>(
+    alloc: Global,
+    a: &mut Node<V>,
+    b: &mut Node<V>,
+    now: u64,
+) -> Result<bool, Memory> {
+    sync(alloc, a, b, now, b"")?;
+    let report = sync(alloc, b, a, now, b"")?;
+    Ok(match report.made {
+        SyncMade::Row(_) => true,
+        SyncMade::PeerBare | SyncMade::Fault(_) => false,
+    })
+}
+
 /// A and B make an event each, and then take turns: A has A0 B0 A1, then B has B0 A0 A1 B1.
 fn play(
     rt: &impl Abort,
@@ -101,6 +116,8 @@ fn play(
     pulls(rt, alloc, a, b, (1, 0))?;
     pulls(rt, alloc, a, b, (0, 0))?;
     equal(rt, Holder::held(a, alloc)?.len(), 4);
+    equal(rt, meet(alloc, a, b, 4)?, true);
+    equal(rt, b.rows(), 6);
     Ok(())
 }
 
