@@ -16,7 +16,7 @@ use Rattle.hg_model.specs.Links.{is_named, no_row, place_of}
 use Rattle.hg_model.specs.Verdict.{is_held}
 use Rattle.hg_model.specs.Spelling.{spelling}
 use Rattle.hg_gossip.specs.Holding.{HaveSame, names_of, unnamed, unnamed_bytes}
-use Rattle.hg_gossip.specs.Alone.{UnnamedAreLacking}
+use Rattle.hg_gossip.specs.Nodes.{UnnamedAreLacking}
 
 -- the name of one row more
 pub names_more : (G : List Row) (k : ℕ) (row : Row) (names more : List (List ℕ)) → slice_get G k ≡ Some row → names ≡ names_of (take k G) → more ≡ names ++ row.name ∷ [] → more ≡ names_of (take (k + 1) G)

@@ -38,7 +38,7 @@ module _ {K : Type 0} (accepts : K → Accepts) where
   positions_grown v es = positions_past 0 v.history es ∙ ap (λ (q : ℕ). positions_from 0 v.history ++ positions_from q es) (omega arith)
 
   -- a node that has one holder adds what its calls add
-  whole_grown : (v w : NodeView K) (es : List Change) → w ≡ with_changes v es → seen_whole w ≡ with_own (seen_whole v) es
+  pub whole_grown : (v w : NodeView K) (es : List Change) → w ≡ with_changes v es → seen_whole w ≡ with_own (seen_whole v) es
   whole_grown v w es grown = ap seen_whole grown ∙ ap at (positions_grown v es)
     where
       at : List ℕ → Seen K

@@ -1,3 +1,3 @@
 pub mod Holding
 pub mod Gossip
-pub mod Alone
+pub mod Nodes

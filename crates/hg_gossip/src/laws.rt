@@ -1,16 +1,17 @@
-ghost use Rattle.hg_gossip.specs.Alone.{PullsAlone, SyncsAlone, UnnamedAreLacking, WaitsAlone};
+ghost use Rattle.hg_gossip.specs.Nodes.{PullsAlone, SyncsAlone, UnnamedAreLacking, WaitsAlone};
 
 /// A law: nothing comes between the calls on a node that has one holder.
 pub fn waiting_alone<K>()
     ensures { WaitsAlone K }
 {}
 
-/// A law: what a pull leaves of such a node, and its counts, are one function of both nodes.
+/// A law: what a pull leaves of such a node, and its counts, are a function of both nodes: one fold of puts over the
+/// bytes that the node lacked.
 pub fn pulling_alone<K, L>()
     ensures { PullsAlone K L }
 {}
 
-/// A law: what a sync leaves of it is the node after the pull, and then what an event that it makes adds.
+/// A law: a sync leaves what making an event leaves of the node after the pull, or that node where the peer is bare.
 pub fn syncing_alone<K, L>()
     ensures { SyncsAlone K L }
 {}

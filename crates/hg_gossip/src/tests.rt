@@ -1,3 +1,6 @@
+ghost use Rattle.std.specs.Prelude.{◌≡◌, IfOk};
+ghost use Rattle.hg_gossip.specs.Nodes.{pulling, taking_of};
+
 use crate::{Holder, Taken, pull, sync};
 use hg_model::{Bytes, MakeAnswer, MemberEntry, Members, Memory, SyncMade, SyncReport};
 use hg_node::Node;
@@ -66,7 +69,7 @@ fn pulls(
     wanted: (u64, u64),
 ) -> Result<(), Memory> {
     let (taken, refused) = wanted;
-    equal(rt, pull(alloc, taker, peer)?, Taken { taken, refused });
+    equal(rt, pull_alone(alloc, taker, peer)?, Taken { taken, refused });
     Ok(())
 }
 
@@ -85,6 +88,18 @@ fn syncs(
     };
     equal(rt, sync(alloc, taker, peer, 2, b"")?, report);
     Ok(())
+}
+
+/// What the clauses of a pull say of two nodes with one holder each.
+fn pull_alone<V: Signer, W: Signer>(
+    alloc: Global,
+    taker: &mut Node<V>,
+    peer: &mut Node<W>,
+) -> Result<Taken, Memory>
+    ensures peer { peer.new ≡ peer.old }
+    ensures ok { IfOk result (λ taken. taking_of taker.new taken ≡ pulling V.accepts taker.old peer.old) }
+{
+    pull(alloc, taker, peer)
 }
 
 /// Both learn what the other has, and each adds an event on the other's last one. Whether B did.
