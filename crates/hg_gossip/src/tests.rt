@@ -69,7 +69,11 @@ fn pulls(
     wanted: (u64, u64),
 ) -> Result<(), Memory> {
     let (taken, refused) = wanted;
-    equal(rt, pull_alone(alloc, taker, peer)?, Taken { taken, refused });
+    equal(
+        rt,
+        pull_alone(alloc, taker, peer)?,
+        Taken { taken, refused },
+    );
     Ok(())
 }
 
