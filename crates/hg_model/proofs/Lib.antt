@@ -19,6 +19,7 @@ pub mod RoundLaws
 pub mod SightLaws
 pub mod SeenLaws
 pub mod LongerLaws
+pub mod FrontLaws
 pub mod StandingLaws
 pub mod PrefixLaws
 pub mod ShapeLaws

@@ -28,7 +28,7 @@ use Rattle.hg_model.specs.Order.{coin_at, sig_at, time_at, sort_by, median, can_
 use Rattle.hg_model.specs.Verdict.{row_verdict}
 use Rattle.hg_model.specs.Pay.{pay_bytes, read_pay, paid, book_of}
 use Rattle.hg_model.specs.Members.{listed}
-use Rattle.hg_model.specs.Ledger.{closed_of, block_of}
+use Rattle.hg_model.specs.Ledger.{block_of, marked_block}
 use Rattle.hg_model.specs.Report.{printed_texts}
 
 -- the stakes of so many members
@@ -118,7 +118,7 @@ two_block : block_of (listed (entry (codes "A") 5 ∷ entry (codes "B") 6 ∷ []
   order = two_line 0 0 1 ∷ two_line 1 0 2 ∷ two_line 0 1 3 ∷ two_line 1 1 4 ∷ [];
   balances = 5 ∷ 6 ∷ [];
 }
-unfolding block_of closed_of order_of last_closed greatest_below last_round maximum_below sequence_of forkers has_fork book_of fame_marks fame_of least_below decides vote_of is_witness coin_at sig_at ordered_in whitening consensus_time median sort_by round_received can_receive is_closed is_unique_famous round_of strongly_sees sees_through sees has_fork_below is_fork is_ancestor is_self_ancestor total weight_below some_below list_below reaches by_place values_below parents self_parent creator links time_at name_at
+unfolding marked_block last_closed greatest_below last_round maximum_below sequence_of forkers has_fork book_of fame_marks fame_of least_below decides vote_of is_witness coin_at sig_at ordered_in whitening consensus_time median sort_by round_received can_receive is_closed is_unique_famous round_of strongly_sees sees_through sees has_fork_below is_fork is_ancestor is_self_ancestor total weight_below some_below list_below reaches by_place values_below parents self_parent creator links time_at name_at
 two_block = refl
 
 -- three first events, two of them by one member: where both of these are famous, neither is a unique famous witness

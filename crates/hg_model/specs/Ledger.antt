@@ -12,8 +12,8 @@ use Rattle.hg_model.specs.Links.{Link, links, creator}
 use Rattle.hg_model.specs.Forks.{forkers}
 use Rattle.hg_model.specs.Graph.{name_at}
 use Rattle.hg_model.specs.Rounds.{last_round}
-use Rattle.hg_model.specs.Fame.{fame_marks}
-use Rattle.hg_model.specs.Order.{coin_at, last_closed, order_of, sequence_of}
+use Rattle.hg_model.specs.Fame.{Marks, fame_marks}
+use Rattle.hg_model.specs.Order.{coin_at, last_closed, ordered, sequence_of}
 use Rattle.hg_model.specs.Pay.{book_of}
 
 -- the greatest round that the graph's own fame closes, or 0
@@ -35,18 +35,23 @@ order_line G L p e = record {
 abbrev pub order_lines : List Row → List Link → List Placed → List Effect → List OrderLine
 order_lines G L order effects = map (λ (x : Placed × Effect). order_line G L x.0 x.1) (zip order effects)
 
--- the block of the node of member x with the rows G
-unfoldable pub block_of : MemberList → ℕ → List Row → Block
-block_of members x G =
+-- the block of the node of member x with the rows G and the published marks
+unfoldable pub marked_block : MemberList → ℕ → List Row → Marks → Block
+marked_block members x G marks =
     let n = stakes_of members in
-    let order = order_of n members.coin G in
+    let L = links G in
+    let order = ordered n G L marks in
     let book = book_of (balances_of members) G order in
     record {
       member = x;
       events = length G;
-      forkers = forkers n (links G);
-      greatest = last_round n (links G);
-      closed = closed_of n members.coin G;
-      order = order_lines G (links G) order book.effects;
+      forkers = forkers n L;
+      greatest = last_round n L;
+      closed = last_closed n L marks;
+      order = order_lines G L order book.effects;
       balances = book.balances;
     }
+
+-- the block of the node of member x with the rows G, by the graph's own fame
+abbrev pub block_of : MemberList → ℕ → List Row → Block
+block_of members x G = marked_block members x G (fame_marks (stakes_of members) members.coin (links G) (coin_at G))

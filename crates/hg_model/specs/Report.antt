@@ -132,6 +132,8 @@ printed_text names (printed.Join line answer) = answer_line line (codes "join") 
 printed_text names (printed.Sync line report) = sync_line line report
 printed_text names (printed.Pull line taken refused) = pull_line line taken refused
 printed_text names (printed.Give line answer) = answer_line line (codes "give") (put_answer_text answer)
+printed_text names (printed.Freeze line len) = answer_line line (codes "freeze") (decimal len)
+printed_text names (printed.Publish line count) = answer_line line (codes "publish") (decimal count)
 printed_text names (printed.Block b) = block_text false names b
 printed_text names (printed.Names b) = block_text true names b
 

@@ -98,28 +98,14 @@ abbrev pub row_verdict : Accepts → Stakes → ℕ → List Row → Row → Put
 row_verdict accepts n own G row =
     unwrap_or (option_or (arrival_rule accepts n own G row) (option_or (forkers_rule n G row) (full_rule G))) (Accepted (length G))
 
--- the rows after it
-abbrev pub with_answer : List Row → Row → PutAnswer → List Row
-with_answer G row (Accepted p) = G ++ row ∷ []
-with_answer G row (Known p) = G
-with_answer G row (Refused f) = G
-
 -- what comes of bytes by what was read of them: a fault of the bytes comes before all others
 abbrev pub verdict_of : Accepts → Stakes → ℕ → List Row → Result Row ByteFault → PutAnswer
 verdict_of accepts n own G (Err e) = Refused (fault.Bytes e)
 verdict_of accepts n own G (Ok row) = row_verdict accepts n own G row
 
-abbrev pub rows_with : Accepts → Stakes → ℕ → List Row → Result Row ByteFault → List Row
-rows_with accepts n own G (Err e) = G
-rows_with accepts n own G (Ok row) = with_answer G row (row_verdict accepts n own G row)
-
 -- what comes of bytes that are put to the node
 abbrev pub verdict : Accepts → Stakes → ℕ → List Row → List ℕ → PutAnswer
 verdict accepts n own G bytes = verdict_of accepts n own G (read_event bytes)
-
--- the rows after them
-abbrev pub rows_after : Accepts → Stakes → ℕ → List Row → List ℕ → List Row
-rows_after accepts n own G bytes = rows_with accepts n own G (read_event bytes)
 
 -- the rules of making
 
@@ -186,8 +172,3 @@ abbrev pub making : ℕ → List Row → List (List ℕ) → ℕ → List ℕ �
 making own G others time payload sig =
     made_or (option_or (draft_rule own G others payload)
     (option_or (collision_rule G (made_row own G others time payload sig)) (room_rule G))) (length G)
-
--- the rows after it
-abbrev pub with_made : List Row → Row → MakeAnswer → List Row
-with_made G row (make_answer.Made p) = G ++ row ∷ []
-with_made G row (make_answer.Refused f) = G

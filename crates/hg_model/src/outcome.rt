@@ -46,6 +46,10 @@ pub enum Printed {
     Pull { line: u64, taken: u64, refused: u64 },
     /// The bytes of a label, put to a node.
     Give { line: u64, answer: PutAnswer },
+    /// How many rows of a node's graph a worker froze.
+    Freeze { line: u64, len: u64 },
+    /// How many witnesses were marked.
+    Publish { line: u64, count: u32 },
     Block(Block),
     /// A block whose order tells the names of the events.
     Names(Block),
