@@ -1,0 +1,4 @@
+pub mod Run
+pub mod Honest
+pub mod Safety
+pub mod Laws
