@@ -1,0 +1,95 @@
+-- A run step by step: what each step makes of the world, and what it answers. SWIRLDS-TR-2016-01, sections 2 to 4.
+-- Publishing by workers, of rows that they froze before, is our own
+use Rattle.std.specs.Prelude.{ℕ, ◌≡◌, ◌<◌, List, [], ◌∷◌, ◌++◌, fold, length, Option, Some, None}
+use Rattle.std.specs.Option.{option_to_list}
+use Rattle.hg_model.specs.declared.answers.PutAnswer.{PutAnswer}
+use Rattle.hg_model.specs.declared.answers.MakeAnswer.{MakeAnswer}
+use Rattle.hg_model.specs.Shares.{Share, whole}
+use Rattle.hg_model.specs.Signing.{signature_by, accepts_by}
+use Rattle.hg_model.specs.NodeView.{NodeView, with_changes, node_rows}
+use Rattle.hg_model.specs.Calls.{put_answer, put_changes, make_answer, make_changes, publish_answer, publish_changes}
+use Rattle.hg_node.specs.Laws.{signature_made}
+use Rattle.hg_world.specs.declared.step.Step.{Step}
+use Rattle.hg_world.specs.declared.step.Step.TheVariants.{Make, Deliver, Freeze, Publish}
+use Rattle.hg_world.specs.declared.step.Reply.{Reply}
+use Rattle.hg_world.specs.declared.step.Reply.TheVariants as reply
+use Rattle.hg_world.specs.World.{Secrets, WorldView, worker_count, node_at, frozen_by, with_node, with_frozen, IsMemberOf}
+
+-- the signature under which the node makes such an event
+abbrev pub own_signature : NodeView Secrets → List (List ℕ) → ℕ → List ℕ → List ℕ
+own_signature v others time payload = signature_made (signature_by v.start.keys) v others time payload
+
+-- what comes of making an event, and the node after it
+abbrev pub making_at : NodeView Secrets → List (List ℕ) → ℕ → List ℕ → MakeAnswer
+making_at v others time payload = make_answer v others time payload (own_signature v others time payload)
+
+abbrev pub node_made : NodeView Secrets → List (List ℕ) → ℕ → List ℕ → NodeView Secrets
+node_made v others time payload = with_changes v (make_changes v others time payload (own_signature v others time payload))
+
+-- what comes of bytes that are put, and the node after them
+abbrev pub putting_at : NodeView Secrets → List ℕ → PutAnswer
+putting_at v bytes = put_answer accepts_by v bytes
+
+abbrev pub node_put : NodeView Secrets → List ℕ → NodeView Secrets
+node_put v bytes = with_changes v (put_changes accepts_by v bytes)
+
+-- the node once it has published what a share decides in the first `len` rows
+abbrev pub node_published : NodeView Secrets → ℕ → Share → NodeView Secrets
+node_published v len share = with_changes v (publish_changes v len share)
+
+-- an event is made, or bytes come, or a worker freezes the rows, or publishes what a share decides in those that it froze
+abbrev pub after_step : WorldView → Step → WorldView
+after_step w (Make m other time payload) = with_node w m (node_made (node_at w m) (option_to_list other) time payload)
+after_step w (Deliver m bytes) = with_node w m (node_put (node_at w m) bytes)
+after_step w (Freeze m worker) = with_frozen w m worker (length (node_rows (node_at w m)))
+after_step w (Publish m worker share) = with_node w m (node_published (node_at w m) (frozen_by w m worker) share)
+
+abbrev pub reply_to : WorldView → Step → Reply
+reply_to w (Make m other time payload) = reply.Make (making_at (node_at w m) (option_to_list other) time payload)
+reply_to w (Deliver m bytes) = reply.Put (putting_at (node_at w m) bytes)
+reply_to w (Freeze m worker) = reply.Frozen (length (node_rows (node_at w m)))
+reply_to w (Publish m worker share) = reply.Published (publish_answer (node_at w m) (frozen_by w m worker) share)
+
+-- the world after these steps, one after the other, and what they answer
+abbrev pub after_steps : WorldView → List Step → WorldView
+after_steps w steps = fold after_step w steps
+
+abbrev pub replies_to : WorldView → List Step → List Reply
+replies_to w [] = []
+replies_to w (step ∷ steps) = reply_to w step ∷ replies_to (after_step w step) steps
+
+-- the member whose node does it
+abbrev pub actor : Step → ℕ
+actor (Make m other time payload) = m
+actor (Deliver m bytes) = m
+actor (Freeze m worker) = m
+actor (Publish m worker share) = m
+
+abbrev pub HasWorker : Step → Type 0
+HasWorker (Make m other time payload) = Unit {0}
+HasWorker (Deliver m bytes) = Unit {0}
+HasWorker (Freeze m worker) = worker < worker_count
+HasWorker (Publish m worker share) = worker < worker_count
+
+-- the step's node and worker are there
+abbrev pub IsStepOf : WorldView → Step → Type 0
+IsStepOf w step = IsMemberOf w (actor step) × HasWorker step
+
+-- what a step answers and leaves
+abbrev pub HasStepped : WorldView → Step → Reply → WorldView → Type 0
+HasStepped old step answer new = (answer ≡ reply_to old step) × (new ≡ after_step old step)
+
+-- the same of several
+abbrev pub HasRun : WorldView → List Step → List Reply → WorldView → Type 0
+HasRun old steps answers new = (answers ≡ replies_to old steps) × (new ≡ after_steps old steps)
+
+-- the first of these steps were done, before memory ran out
+pub record RanSome (old : WorldView) (steps : List Step) (new : WorldView) : Type 0 where
+  pub first : List Step
+  pub rest : List Step
+  pub whole : steps ≡ first ++ rest
+  pub after : new ≡ after_steps old first
+
+-- a member's node is settled: worker 0 freezes all rows and publishes all that they decide
+abbrev pub settle_steps : ℕ → List Step
+settle_steps m = Freeze m 0 ∷ Publish m 0 whole ∷ []
