@@ -1,7 +1,9 @@
 -- What a graph keeps beside its rows, at first and with a row more
-use Rattle.std.proofs.Common.{◌≡◌, inl, inr, ℕ, ◌+◌, ◌-◌, ◌<◌, ◌≤◌, Option, List, [], ◌∷◌, ◌++◌, length, take, get_or, Some, slice_get, sym, refl, ap, ◌∙◌, subst, arith}
+use Rattle.std.proofs.Common.{◌≡◌, inl, inr, ℕ, ◌+◌, ◌-◌, ◌<◌, ◌≤◌, Option, List, [], ◌∷◌, ◌++◌, length, map, take, get_or, Bool, Some, slice_get, sym, refl, ap, ◌∙◌, ap₂, subst, arith, zero-add}
 use Rattle.std.proofs.lemmas.Bool.{cases_lt, true≢false}
-use Rattle.std.proofs.lemmas.List.{take_all, length_push, get_or_push}
+use Rattle.std.specs.List.{range_with_len}
+use Rattle.std.proofs.lemmas.List.{length_push, get_or_push, length-take-le, ext_get_or}
+use Rattle.std.proofs.lemmas.List.FromFn.{get_or-map-range_with_len, length-map-range_with_len, take-map-range_with_len}
 use Rattle.std.proofs.lemmas.Option.{slice_get-get_or, slice_get_past}
 use Rattle.hg_model.specs.declared.row.Row.{Row}
 use Rattle.hg_model.specs.Places.{some_below}
@@ -10,14 +12,16 @@ use Rattle.hg_model.specs.Links.{Link, place_of, link_in, links, first_place, pa
 use Rattle.hg_model.specs.Forks.{has_fork, forkers, forking}
 use Rattle.hg_model.specs.Graph.{IsShaped, IsGraph}
 use Rattle.hg_model.specs.Shape.{Shape, FitsLink, first_links, shape_of, link_of, place_list, with_link}
-use Rattle.hg_model.specs.Standings.{Standing, standings_of}
+use Rattle.hg_model.specs.Standings.{Standing, standing_of, standings_of}
 use Rattle.hg_model.specs.Spelling.{Spells, spelling}
 use Rattle.hg_model.specs.Verdict.{row_limit}
 use Rattle.hg_model.specs.Prefix.{Graph, graph_of}
 use Rattle.hg_model.specs.GraphWords.{shape_in}
 use Rattle.hg_model.proofs.StandingLaws.{length-standings}
+use Rattle.hg_model.proofs.FrontLaws.{links-take}
+use Rattle.hg_model.proofs.ShapeLaws.{shaped-take}
 use Rattle.hg_model.proofs.PlacesLaws.{weight_below_none}
-use Rattle.hg_model.proofs.LongerLaws.{slice_get-append}
+use Rattle.hg_model.proofs.LongerLaws.{slice_get-append, longer-take, round_of-longer, is_witness-longer}
 use Rattle.hg_model.proofs.NameLaws.{distinct-none}
 use Rattle.hg_model.proofs.PushLaws.{nobody, shaped-none}
 use Rattle.hg_model.proofs.LinkLaws.{length-links, parents_read}
@@ -146,17 +150,43 @@ comes {g} {room} {v} view {sight} {watched} keeps row bytes parents limit spells
     (comes_to g row bytes parents keeps.held (subst (λ (g : Graph). length g.rows < row_limit) same limit) spells
     (subst (λ (g : Graph). link_in g.rows row ≡ link_of row.creator parents) same is) (subst (λ (g : Graph). IsGraph g.members (g.rows ++ row ∷ [])) same graph) watched keeps.forked)
 
--- the first rows, of which there are as many as all
+-- the first rows
 
-pub all_links : {g : Graph} {sight watched : Shape} {standings : List Standing} → KeepsGraph g sight watched standings → (len : ℕ) → len ≡ length g.rows →
-    (len ≤ length sight.links) × (len ≤ length standings) × (first_links sight len ≡ shape_in g) × (take len standings ≡ standings_of g.members (links g.rows))
-all_links {g} keeps len is =
+nothing : Standing
+nothing = record { round = 0; witness = Rattle.std.proofs.Common.false }
+
+standings-take : (n : Stakes) (L : List Link) (len : ℕ) → IsShaped n L → len ≤ length L → take len (standings_of n L) ≡ standings_of n (take len L)
+unfolding standings_of
+standings-take n L len shaped le =
+    let S = take len L in
+    let short : length S ≡ len = length-take-le len L le in
+    let longer = longer-take L len le in
+    let earlier = (shaped-take n L len le shaped).earlier in
+    let same : (x : ℕ) → x < length S → standing_of n L x ≡ standing_of n S x =
+    λ x h. ap₂ (λ (r : ℕ) (w : Bool). record { round = r; witness = w }) (round_of-longer S L longer n x h) (is_witness-longer S L longer n earlier x h) in
+    let before = map (standing_of n L) (range_with_len 0 (length S)) in
+    let after = map (standing_of n S) (range_with_len 0 (length S)) in
+    let all = length-map-range_with_len (standing_of n L) 0 (length S) in
+    take-map-range_with_len (standing_of n L) 0 (length L) len le
+    ∙ (ap (λ (k : ℕ). map (standing_of n L) (range_with_len 0 k)) (sym short)
+    ∙ ext_get_or nothing before after
+    (all ∙ sym (length-map-range_with_len (standing_of n S) 0 (length S)))
+    (λ x h.
+    let inside : x < length S = omega (arith, all) in
+    get_or-map-range_with_len (standing_of n L) 0 (length S) x x nothing inside (zero-add x)
+    ∙ (same x inside ∙ sym (get_or-map-range_with_len (standing_of n S) 0 (length S) x x nothing inside (zero-add x)))))
+
+pub first_links_are : {g : Graph} {sight watched : Shape} {standings : List Standing} → KeepsGraph g sight watched standings → (len : ℕ) → len ≤ length g.rows →
+    (len ≤ length sight.links) × (len ≤ length standings) × (first_links sight len ≡ shape_of g.members (links (take len g.rows))) × (take len standings ≡ standings_of g.members (links (take len g.rows)))
+first_links_are {g} keeps len le =
     let n = g.members in
     let L = links g.rows in
     let short : length L ≡ length g.rows = length-links g.rows in
+    let shaped = keeps.held.graph.shaped in
+    let first : links (take len g.rows) ≡ take len L = links-take n g.rows len shaped le in
     let placed = length-standings n L in (
       rw keeps.seen (omega arith),
       rw keeps.placed (omega arith),
-      ap (λ (s : Shape). first_links s len) keeps.seen ∙ ap (shape_of n) (take_all len L (omega arith)),
-      ap (take len) keeps.placed ∙ take_all len (standings_of n L) (omega arith),
+      ap (λ (s : Shape). first_links s len) keeps.seen ∙ ap (shape_of n) (sym first),
+      ap (take len) keeps.placed ∙ (standings-take n L len shaped (omega arith) ∙ ap (standings_of n) (sym first)),
     )

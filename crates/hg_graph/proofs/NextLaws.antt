@@ -11,7 +11,7 @@ use Rattle.hg_model.specs.Links.{Link, parent_names, is_named, place_of, link_in
 use Rattle.hg_model.specs.Graph.{name_at, IsShaped, HasDistinctNames}
 use Rattle.hg_model.specs.Fits.{AreHeld, IsPresent, Fits}
 use Rattle.hg_model.specs.Shape.{FitsLink}
-use Rattle.hg_model.proofs.LinkLaws.{length-links, parents_read, parents_below, parents-links}
+use Rattle.hg_model.proofs.LinkLaws.{parents_read, parents_below, parents-links}
 use Rattle.hg_model.proofs.NameLaws.{name-at, place_of_at}
 use Rattle.hg_model.proofs.PushLaws.{nobody, place_of-append, links-push, all_present, first_of_places, later_of_places, creator_before, creator_last, shaped-push}
 use Rattle.hg_graph.specs.Added.{AddsLink}

@@ -1,5 +1,5 @@
 -- A node's graph as callers see it, and what every such graph keeps to
-use Rattle.std.specs.Prelude.{ℕ, ◌≡◌, ◌<◌, ◌≤◌, List, [], ◌∷◌, ◌++◌, length, Some, slice_get}
+use Rattle.std.specs.Prelude.{ℕ, ◌≡◌, ◌<◌, ◌≤◌, List, [], ◌∷◌, ◌++◌, length, take, Some, slice_get}
 use Rattle.hg_model.specs.declared.row.Row.{Row}
 use Rattle.hg_model.specs.Shape.{Shape}
 use Rattle.hg_model.specs.Standings.{Standing}
@@ -18,6 +18,10 @@ pub record GraphWithRoom : Type 0 where
 -- the graph with one row more
 abbrev pub graph_with : Graph → Row → Graph
 graph_with g row = graph_of g.members g.coin (g.rows ++ row ∷ [])
+
+-- the graph of the first `len` rows
+abbrev pub first_graph : Graph → ℕ → Graph
+first_graph g len = graph_of g.members g.coin (take len g.rows)
 
 -- each row has the sizes and the name of an event
 abbrev pub AreEvents : List Row → Type 0

@@ -8,7 +8,7 @@ ghost use Rattle.hg_model.specs.Verdict.{row_limit};
 ghost use Rattle.hg_model.specs.Prefix.{graph_of};
 ghost use Rattle.hg_model.specs.GraphWords.{standings_in, shape_in};
 ghost use Rattle.hg_graph.specs.RowsWithRoom.{found_place};
-ghost use Rattle.hg_graph.specs.Held.{IsHeld, graph_with};
+ghost use Rattle.hg_graph.specs.Held.{IsHeld, first_graph, graph_with};
 
 use crate::store::RowStore;
 use hg_ancestry::BitSight;
@@ -19,8 +19,11 @@ use hg_rounds::{RoundTable, place_round};
 use std::alloc::Global;
 use std::marker::Model;
 
+/// What knows the sight in a node's graph. Another one that is `Growing` is a change of this line and of its import.
+type NodeSight = BitSight;
+
 /// The first rows of a node's graph, as a value of its own: what workers read.
-pub type FrozenGraph = Frozen<BitSight, RoundTable>;
+pub type FrozenGraph = Frozen<NodeSight, RoundTable>;
 
 /// A node's graph. Of its members fewer than a third have a fork, and each row is an event.
 #[derive(Drop)]
@@ -28,7 +31,7 @@ pub struct EventGraph {
     members: u32,
     coin: u32,
     store: RowStore,
-    sight: BitSight,
+    sight: NodeSight,
     watch: Watch,
     rounds: RoundTable,
 }
@@ -58,7 +61,7 @@ impl EventGraph {
             members,
             coin,
             store: RowStore::new(alloc),
-            sight: BitSight::new(alloc, members)?,
+            sight: NodeSight::new(alloc, members)?,
             watch: Watch::new(alloc, members)?,
             rounds: RoundTable::new(alloc)?,
         })
@@ -130,17 +133,24 @@ impl EventGraph {
         self.store.push(row, bytes);
     }
 
-    /// The same rows as a value of its own, with their sight and their rounds.
-    pub fn freeze(&self) -> Result<FrozenGraph, Memory>
-        ensures { IfOk result (λ frozen. frozen ≡ self.now.graph) }
+    /// The first `len` rows as a value of its own, with their sight and their rounds.
+    pub fn prefix(&self, len: usize) -> Result<FrozenGraph, Memory>
+        requires { len ≤ length self.now.graph.rows }
+        ensures { IfOk result (λ frozen. frozen ≡ first_graph self.now.graph len) }
     {
-        let len = self.store.len();
         Ok(Frozen::of(
-            self.store.copy_rows()?,
+            self.store.first_rows(len)?,
             self.sight.prefix(len)?,
             self.rounds.prefix(len)?,
             self.coin,
         ))
+    }
+
+    /// The same rows as a value of its own.
+    pub fn freeze(&self) -> Result<FrozenGraph, Memory>
+        ensures { IfOk result (λ frozen. frozen ≡ self.now.graph) }
+    {
+        self.prefix(self.store.len())
     }
 }
 

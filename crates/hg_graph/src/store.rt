@@ -1,5 +1,7 @@
-ghost use Rattle.std.specs.Prelude.{◌≡◌, ◌<◌, ◌≤◌, ◌++◌, ◌∷◌, [], Some, length, option_map, slice_get, IfOk, OnOk, false};
+ghost use Rattle.std.specs.Prelude.{◌≡◌, ◌<◌, ◌≤◌, ◌++◌, ◌∷◌, [], Some, length, option_map, slice_get, take, IfOk, OnOk, false};
 ghost use Rattle.std.specs.List.{list_any};
+ghost use Rattle.std.proofs.Common.{rules};
+ghost use Rattle.std.specs.Cmp.Rules.{comparing, hashing};
 ghost use Rattle.std.specs.Str.{bytes_eq};
 ghost use Rattle.indexmap.specs.IndexSet.{spare};
 ghost use Rattle.hg_model.specs.Links.{place_of};
@@ -9,7 +11,48 @@ ghost use Rattle.hg_graph.specs.RowsWithRoom.{found_place};
 use hg_model::{Bytes, Memory, Name, Row};
 use indexmap::IndexSet;
 use std::alloc::Global;
+use std::hash::{Hash, Hasher};
 use std::marker::Model;
+
+/// A name to be looked up, hashed by its first eight bytes: names are digests, so these spread as well as all 48.
+#[derive(Drop)]
+struct Key {
+    name: Name,
+}
+
+impl Model for Key {
+    ghost use Rattle.std.specs.Prelude.{List, ℕ};
+
+    ghost Value = { List ℕ };
+
+    ghost view = { λ s. s.name };
+}
+
+impl PartialEq for Key {
+    ghost eq = { bytes_eq };
+
+    ghost laws = { Prim.search (comparing, rules) };
+
+    fn eq(&self, other: &Key) -> bool {
+        self.name == other.name
+    }
+}
+
+impl Eq for Key {
+    ghost laws = { Prim.search (comparing, rules) };
+}
+
+impl Hash for Key {
+    ghost use Rattle.std.specs.Prelude.{[], ◌∷◌, take};
+
+    ghost hash_input = { λ k. take 8 k ∷ [] };
+
+    ghost respects_eq = { Prim.search (hashing, rules) };
+
+    fn hash<H: Hasher>(&self, state: &mut H) {
+        state.write(&self.name[..8]);
+    }
+}
 
 /// Rows in the order in which they came, each with its bytes, and found by its name.
 #[derive(Drop)]
@@ -17,7 +60,7 @@ pub struct RowStore {
     alloc: Global,
     rows: Vec<Row>,
     bytes: Vec<Bytes>,
-    names: IndexSet<Name>,
+    names: IndexSet<Key>,
 }
 
 impl Model for RowStore {
@@ -72,7 +115,7 @@ impl RowStore {
     pub fn place_of(&self, name: &Name) -> Option<usize>
         ensures { result ≡ found_place self.now.rows name.now }
     {
-        self.names.get_index_of(name)
+        self.names.get_index_of(&Key { name: *name })
     }
 
     /// Takes the memory of one more row.
@@ -98,11 +141,12 @@ impl RowStore {
         self.rows.push_reserved(row);
     }
 
-    /// The rows, in memory of their own.
-    pub fn copy_rows(&self) -> Result<Vec<Row>, Memory>
-        ensures { IfOk result (λ rows. rows.items ≡ self.now.rows) }
+    /// The first `len` rows, in memory of their own.
+    pub fn first_rows(&self, len: usize) -> Result<Vec<Row>, Memory>
+        requires { len ≤ length self.now.rows }
+        ensures { IfOk result (λ rows. rows.items ≡ take len self.now.rows) }
     {
-        copy_rows(self.alloc, &self.rows)
+        copy_rows(self.alloc, &self.rows[..len])
     }
 }
 
@@ -123,10 +167,10 @@ fn copy_of(row: &Row) -> Result<Row, Memory>
 }
 
 /// Enters a name for which there is room.
-fn add_name(names: &mut IndexSet<Name>, name: Name)
+fn add_name(names: &mut IndexSet<Key>, name: Name)
     requires room { 1 ≤ spare names.old }
     requires new { list_any (bytes_eq name) names.old.keys ≡ false }
     ensures { names.new.keys ≡ names.old.keys ++ name ∷ [] }
 {
-    names.insert(name).unwrap();
+    names.insert(Key { name }).unwrap();
 }

@@ -1,4 +1,4 @@
-ghost use Rattle.std.specs.Prelude.{◌≡◌, ◌<◌, ◌++◌, ◌∷◌, [], All, None, Some, length, option_map, slice_get, IfOk, OnErr, OnOk};
+ghost use Rattle.std.specs.Prelude.{◌≡◌, ◌<◌, ◌≤◌, ◌++◌, ◌∷◌, [], All, None, Some, length, option_map, slice_get, IfOk, OnErr, OnOk};
 ghost use Rattle.std.specs.Option.{option_to_list};
 ghost use Rattle.hg_model.specs.declared.row.Placed.{Placed};
 ghost use Rattle.hg_event.specs.View.{row_of};
@@ -7,6 +7,7 @@ ghost use Rattle.hg_model.specs.Rounds.{last_round};
 ghost use Rattle.hg_model.specs.Spelling.{Spells, spelling};
 ghost use Rattle.hg_model.specs.Graph.{IsGraph};
 ghost use Rattle.hg_model.specs.Verdict.{last_name, row_limit};
+ghost use Rattle.hg_graph.specs.Held.{first_graph};
 ghost use Rattle.hg_node.specs.Arrival.{StandsOn};
 ghost use Rattle.hg_node.specs.ChronicleView.{IsFoundBy, chronicle_took, graph_in};
 ghost use Rattle.hg_model.specs.declared.answers.PutAnswer.TheVariants.{Accepted};
@@ -149,6 +150,14 @@ impl<V: Signer> Node<V> {
         ensures { IfOk result (λ frozen. frozen ≡ graph_in self.now) }
     {
         self.chronicle.graph().freeze()
+    }
+
+    /// The graph of the node's first `len` rows, at most all, as a value of its own.
+    pub fn prefix(&self, len: usize) -> Result<FrozenGraph, Memory>
+        requires { len ≤ length (node_rows self.now) }
+        ensures { IfOk result (λ frozen. frozen ≡ first_graph (graph_in self.now) len) }
+    {
+        self.chronicle.graph().prefix(len)
     }
 
     /// What the closed rounds have received, in order: an order that only grows.

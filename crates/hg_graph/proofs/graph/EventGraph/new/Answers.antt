@@ -1,4 +1,4 @@
-use Rattle.std.proofs.Common.{◌<◌, arith}
+use Rattle.std.proofs.Common.{arith}
 use Rattle.hg_model.proofs.PlacesLaws.{total-count}
 use Rattle.hg_graph.proofs.HeldLaws.{keeps_none}
 use Rattle.hg_graph.proofs.graph.EventGraph.new.Goals as goal

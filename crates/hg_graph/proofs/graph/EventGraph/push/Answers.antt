@@ -1,4 +1,4 @@
-use Rattle.std.proofs.Common.{◌≡◌, ◌∙◌}
+use Rattle.std.proofs.Common.{◌∙◌}
 use Rattle.hg_graph.proofs.HeldLaws.{comes}
 use Rattle.hg_graph.proofs.graph.EventGraph.push.Goals as goal
 

@@ -1,4 +1,4 @@
-use Rattle.std.proofs.Common.{◌≡◌, ◌∙◌, ◌++◌, ◌∷◌, [], ap, sym, subst}
+use Rattle.std.proofs.Common.{◌∙◌, ◌++◌, ◌∷◌, [], ap, sym, subst}
 use Rattle.hg_model.specs.Forks.{forkers}
 use Rattle.hg_model.specs.Links.{links}
 use Rattle.hg_model.specs.Shape.{Shape, FitsLink, link_of}

@@ -1,4 +1,4 @@
-use Rattle.std.proofs.Common.{◌≡◌, ◌∙◌, ap, sym, subst, false, length, List, ℕ}
+use Rattle.std.proofs.Common.{◌≡◌, sym, subst, false, length, List, ℕ}
 use Rattle.std.specs.List.{list_any}
 use Rattle.std.specs.Str.{bytes_eq}
 use Rattle.hg_model.specs.Links.{place_of}
