@@ -15,16 +15,16 @@ use Rattle.hg_model.specs.declared.row.Row.{Row}
 use Rattle.hg_model.specs.Links.{is_named, no_row, place_of}
 use Rattle.hg_model.specs.Verdict.{is_held}
 use Rattle.hg_model.specs.Spelling.{spelling}
-use Rattle.hg_gossip.specs.Holding.{HaveSame, names_of, unnamed, unnamed_bytes}
+use Rattle.hg_gossip.specs.Holding.{HaveSame, row_names, unnamed, unnamed_bytes}
 use Rattle.hg_gossip.specs.Nodes.{UnnamedAreLacking}
 
 -- the name of one row more
-pub names_more : (G : List Row) (k : ℕ) (row : Row) (names more : List (List ℕ)) → slice_get G k ≡ Some row → names ≡ names_of (take k G) → more ≡ names ++ row.name ∷ [] → more ≡ names_of (take (k + 1) G)
+pub names_more : (G : List Row) (k : ℕ) (row : Row) (names more : List (List ℕ)) → slice_get G k ≡ Some row → names ≡ row_names (take k G) → more ≡ names ++ row.name ∷ [] → more ≡ row_names (take (k + 1) G)
 names_more G k row names more at before grown =
     let within : k < length G = slice_get_within G k row at in
     let first : take (k + 1) G ≡ take k G ++ row ∷ [] =
     ap (λ (n : ℕ). take n G) (add-one k) ∙ (take-suc G k row within ∙ ap (λ (r : Row). take k G ++ r ∷ []) (get_or_from_slice_get G k row row at)) in
-    grown ∙ (ap (λ (ns : List (List ℕ)). ns ++ row.name ∷ []) before ∙ sym (ap names_of first ∙ map-append (λ (r : Row). r.name) (take k G) (row ∷ [])))
+    grown ∙ (ap (λ (ns : List (List ℕ)). ns ++ row.name ∷ []) before ∙ sym (ap row_names first ∙ map-append (λ (r : Row). r.name) (take k G) (row ∷ [])))
 
 -- a name that is there already is there once more
 same_or : (keys : List (List ℕ)) (name k : List ℕ) → list_any (bytes_eq name) keys ≡ true → list_any (bytes_eq k) keys ≡ (list_any (bytes_eq k) keys || (bytes_eq k name || false))
@@ -98,7 +98,7 @@ below_next a b = elim (cases_Bool (ltb a b)) [
 ]
 
 -- a name is among those of rows where one of the rows has it
-held_is : (G : List Row) (name : List ℕ) → list_any (bytes_eq name) (names_of G) ≡ is_held G name
+held_is : (G : List Row) (name : List ℕ) → list_any (bytes_eq name) (row_names G) ≡ is_held G name
 held_is [] name = refl
 held_is (row ∷ G) name = elim (cases_Bool (is_named name row)) [
   | inl here ↦ rw (turned name row.name, here) (sym (lt-ltb 0 (suc (length G)) (omega arith)))
@@ -108,7 +108,7 @@ held_is (row ∷ G) name = elim (cases_Bool (is_named name row)) [
 pub unnamed_lacks : UnnamedAreLacking
 unnamed_lacks G [] = refl
 unnamed_lacks G (row ∷ H) =
-    ap (λ (b : Bool). cond (not b) (row ∷ unnamed (names_of G) H) (unnamed (names_of G) H)) (held_is G row.name)
+    ap (λ (b : Bool). cond (not b) (row ∷ unnamed (row_names G) H) (unnamed (row_names G) H)) (held_is G row.name)
     ∙ ap (λ (rest : List Row). cond (not (is_held G row.name)) (row ∷ rest) rest) (unnamed_lacks G H)
 
 -- rows outside a set of the names

@@ -64,12 +64,12 @@ pub record Makes {K : Type 0} (rules : Rules K) (old : Seen K) (others : List (L
   pub positions : new.positions ≡ reached.positions ++ positions_from (length reached.node.history) (make_changes reached.node others time payload making.sig)
 
 -- the names of rows
-abbrev pub names_of : List Row → List (List ℕ)
-names_of G = map (λ (row : Row). row.name) G
+abbrev pub row_names : List Row → List (List ℕ)
+row_names G = map (λ (row : Row). row.name) G
 
 -- the names of its rows, in the order in which they came
 abbrev pub names_in : {K : Type 0} → Seen K → List (List ℕ)
-names_in s = names_of (node_rows s.node)
+names_in s = row_names (node_rows s.node)
 
 -- a name is among the ones exactly where it is among the others
 abbrev pub HaveSame : List (List ℕ) → List (List ℕ) → Type 0
@@ -80,8 +80,8 @@ abbrev pub unnamed_bytes : List (List ℕ) → Row → List (List ℕ)
 unnamed_bytes names row = cond (list_any (bytes_eq row.name) names) [] (spelling row ∷ [])
 
 -- these and the bytes of the row at a place, unless its name is among the names; nothing where there is no row
-abbrev pub with_place : List Row → ℕ → List (List ℕ) → List (List ℕ) → Option (List (List ℕ))
-with_place G place names rows = option_map (λ (row : Row). rows ++ unnamed_bytes names row) (slice_get G place)
+abbrev pub with_row_at : List Row → ℕ → List (List ℕ) → List (List ℕ) → Option (List (List ℕ))
+with_row_at G place names rows = option_map (λ (row : Row). rows ++ unnamed_bytes names row) (slice_get G place)
 
 -- those of these rows that have none of the names
 abbrev pub unnamed : List (List ℕ) → List Row → List Row

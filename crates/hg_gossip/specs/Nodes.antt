@@ -13,7 +13,7 @@ use Rattle.hg_model.specs.NodeView.{NodeView, node_rows, with_changes}
 use Rattle.hg_model.specs.Calls.{IsMaking, put_answer, put_changes}
 use Rattle.hg_model.specs.Gossip.{lacking, made_in_sync}
 use Rattle.hg_gossip.specs.declared.gossip.Taken.{Taken}
-use Rattle.hg_gossip.specs.Holding.{Waits, names_of, rules_alone, seen_whole, unnamed}
+use Rattle.hg_gossip.specs.Holding.{Waits, row_names, rules_alone, seen_whole, unnamed}
 use Rattle.hg_gossip.specs.Gossip.{Pulls, Syncs, none_taken, with_answer}
 
 -- a node that takes events, and what came of them so far
@@ -67,4 +67,4 @@ SyncsAlone K L = (accepts : K → Accepts) (old new : NodeView K) (peer : NodeVi
 
 -- the rows without the names of these are those whose names these lack
 abbrev pub UnnamedAreLacking : Type 0
-UnnamedAreLacking = (G H : List Row) → unnamed (names_of G) H ≡ lacking G H
+UnnamedAreLacking = (G H : List Row) → unnamed (row_names G) H ≡ lacking G H

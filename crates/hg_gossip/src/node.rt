@@ -1,7 +1,7 @@
 ghost use Rattle.std.specs.Prelude.{◌≡◌, ◌<◌, ◌++◌, ◌∷◌, [], IfOk, OnOk, Some, length, map};
 ghost use Rattle.hg_model.specs.NodeView.{node_rows};
 ghost use Rattle.hg_model.specs.Spelling.{spelling};
-ghost use Rattle.hg_gossip.specs.Holding.{names_of, unnamed, with_place, HaveSame};
+ghost use Rattle.hg_gossip.specs.Holding.{row_names, unnamed, with_row_at, HaveSame};
 
 use crate::holder::Holder;
 use hg_model::{Bytes, Items, MakeAnswer, Memory, Name, Parcel, PutAnswer};
@@ -12,7 +12,7 @@ use std::alloc::Global;
 
 /// The names of a node's rows.
 fn names<V: Signer>(alloc: Global, node: &Node<V>) -> Result<Vec<Name>, Memory>
-    ensures { IfOk result (λ names. names.items ≡ names_of (node_rows node.now)) }
+    ensures { IfOk result (λ names. names.items ≡ row_names (node_rows node.now)) }
 {
     let mut names = Vec::new(alloc);
     for place in 0..node.rows() {
@@ -55,7 +55,7 @@ fn push_unless_named<V: Signer>(
     place: usize,
 ) -> Result<(), Memory>
     requires { place < length (node_rows node.now) }
-    ensures { OnOk result (with_place (node_rows node.now) place named.now.keys rows.old.items ≡ Some rows.new.items) }
+    ensures { OnOk result (with_row_at (node_rows node.now) place named.now.keys rows.old.items ≡ Some rows.new.items) }
 {
     if !named.contains(&node.row(place).name) {
         rows.push(copied(alloc, node.bytes(place))?)?;
