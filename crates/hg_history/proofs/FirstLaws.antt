@@ -1,22 +1,19 @@
 -- The first rows of a graph are a graph
 use Rattle.std.proofs.Common.{◌≡◌, inl, inr, ℕ, ◌*◌, ◌<◌, ◌≤◌, Bool, true, List, [], ◌∷◌, ◌++◌, length, map, take, drop, get_or, min, slice_get, sym, refl, ap, ap₂, ◌∙◌, subst, arith}
-use Rattle.std.specs.List.{AllByRecursion}
 use Rattle.std.proofs.lemmas.Bool.{cases_lt}
-use Rattle.std.proofs.lemmas.List.{length-take, length-take-le, take-append-drop, get_or_append_left, map-append, take_all}
-use Rattle.std.proofs.lemmas.List.Sums.{position_or_len_is, fails_before_first, passes_at_first}
+use Rattle.std.proofs.lemmas.List.{length-take-le, take-append-drop, take_all}
 use Rattle.hg_model.specs.declared.row.Row.{Row}
 use Rattle.hg_model.specs.Stakes.{Stakes, member_count, stake_of}
-use Rattle.hg_model.specs.Links.{Link, links, link_in, parent_names, is_named, place_of}
+use Rattle.hg_model.specs.Links.{Link, links}
 use Rattle.hg_model.specs.Forks.{has_fork, forking}
-use Rattle.hg_model.specs.Graph.{name_in, name_at, IsShaped, IsGraph}
-use Rattle.hg_model.specs.Fits.{AreHeld, IsPresent}
+use Rattle.hg_model.specs.Graph.{name_in, name_at, IsGraph}
 use Rattle.hg_model.proofs.ForkLaws.{has_fork_found, has_fork_from, is_fork_from}
-use Rattle.hg_model.proofs.LinkLaws.{length-links, parents_below, parents-links}
+use Rattle.hg_model.proofs.LinkLaws.{length-links}
 use Rattle.hg_model.proofs.LongerLaws.{IsLonger, longer-take, slice_get-append, creator-longer, is_self_ancestor-longer}
 use Rattle.hg_model.proofs.FrontLaws.{links_of_front}
 use Rattle.hg_model.proofs.PlacesLaws.{weight_below-le}
 use Rattle.hg_model.proofs.ShapeLaws.{shaped-shorter}
-use Rattle.hg_model.proofs.PushLaws.{all_from, nobody, link_in-append}
+use Rattle.hg_model.proofs.PushLaws.{nobody}
 use Rattle.hg_history.specs.Laws.{FirstRowsAreAGraph}
 
 fork_of_front : (n m : ℕ) (L M : List Link) → IsLonger L M → has_fork L m ≡ true → has_fork M m ≡ true

@@ -12,7 +12,7 @@ pub mod MakeLaws
 pub mod NodeLaws
 pub mod LogLaws
 pub mod FirstLaws
-mod Worked
+pub mod Worked
 pub mod RoundLaws
 pub mod StayLaws
 pub mod ChangeLaws

@@ -25,7 +25,7 @@ use Rattle.hg_model.specs.History.Change.{Took, Made, Marked}
 use Rattle.hg_model.specs.Signing.{Accepts}
 
 -- the stakes of so many members
-abbrev members : ℕ → Stakes
+abbrev pub members : ℕ → Stakes
 members k = k
 
 -- a name of 48 bytes, as six words
@@ -33,11 +33,11 @@ abbrev name : ℕ → ℕ → ℕ → ℕ → ℕ → ℕ → List ℕ
 name a b c d e f = to_be_bytes w64 a ++ (to_be_bytes w64 b ++ (to_be_bytes w64 c ++ (to_be_bytes w64 d ++ (to_be_bytes w64 e ++ to_be_bytes w64 f))))
 
 -- an event without payload, whose signature repeats its time
-abbrev row : ℕ → ParentNames → ℕ → List ℕ → Row
+abbrev pub row : ℕ → ParentNames → ℕ → List ℕ → Row
 row m parents time name = record { creator = m; parents = parents; time = time; payload = []; sig = replicate 64 time; name = name }
 
 -- each signature is accepted
-abbrev all : Accepts
+abbrev pub all : Accepts
 all m body sig = true
 
 event : (m : ℕ) (parents : ParentNames) (time : ℕ) (name : List ℕ) → m < 2 ^ 16 → IfSome parents (λ names. (length names.0 ≡ 48) × (length names.1 ≡ 48)) → time < 2 ^ 64 →
@@ -50,108 +50,108 @@ event m parents time name small sizes early named = record {
 
 -- the names, as another program computes them
 
-abbrev name0 : List ℕ
+abbrev pub name0 : List ℕ
 name0 = name 0xC562115D776BF4EA 0x7D34A3095989C4AA 0xD3F9CBC3B922E2D4 0x85A32D85E6D12DF9 0xA5A314E66D3FDCE3 0x9889F90FC95423C7
 
-abbrev name1 : List ℕ
+abbrev pub name1 : List ℕ
 name1 = name 0xC620B0FD36DCB69A 0x73D6FC131F7B7177 0x30B19BAC7DE00ABC 0x333D271710B2AA73 0x372EAB66AD7BAFFE 0x5B07A557002096F0
 
-abbrev name2 : List ℕ
+abbrev pub name2 : List ℕ
 name2 = name 0x920D0C27D41A8603 0x6334FA3F951E9018 0x972A50D198E049B6 0xFF82254AE1ADAE9F 0x1266BB10B5EA932E 0x14B7B911C4C22508
 
-abbrev name3 : List ℕ
+abbrev pub name3 : List ℕ
 name3 = name 0x79F3BC75ABC68F6E 0xF097D9EA712B397A 0x72B46F813DEBE6D2 0x2D1D0138C4F37444 0x60E1702380168764 0xCA328705146D2F4C
 
-abbrev name4 : List ℕ
+abbrev pub name4 : List ℕ
 name4 = name 0x0A1BEBBD23DD9D08 0x2992ACE6C3B4D014 0x954E1AE09A21C038 0x528852E14F07C679 0x218E55C29F2B08BF 0xF2CF2E7A3B3FECED
 
-abbrev name5 : List ℕ
+abbrev pub name5 : List ℕ
 name5 = name 0x68EE0295182076DE 0x49813FD1C5C2A12C 0x0B8943559ACBD109 0x1CE84748BB6337B3 0x7110D4DF79398FA1 0x2F8CFFB2BD9DA4D0
 
-abbrev name6 : List ℕ
+abbrev pub name6 : List ℕ
 name6 = name 0x18655544486EDA18 0x7820D0F5C1E173AE 0xFA45BA7E747AC93A 0x3762CD05ABAD1B00 0x4AA076B9FC3F188A 0x0E43939360CE3138
 
-abbrev name7 : List ℕ
+abbrev pub name7 : List ℕ
 name7 = name 0x60F1ACFB9CB1F0CB 0x60506E5C9FFC8701 0xFCED7C67886DC840 0x390F8D80A6A99DE3 0x57AC35D538623DFA 0xD6ECD72262B82CE0
 
-abbrev row0 : Row
+abbrev pub row0 : Row
 row0 = row 1 None 2 name0
 
-named0 : sha384 (spelling row0) ≡ name0
+pub named0 : sha384 (spelling row0) ≡ name0
 unfolding body_of spelling first_words schedule rounds compress hash_after digest_bytes sha384
 named0 = refl
 
-event0 : Spells (spelling row0) row0
+pub event0 : Spells (spelling row0) row0
 event0 = event 1 None 2 name0 (omega arith) tt (omega arith) named0
 
-abbrev row1 : Row
+abbrev pub row1 : Row
 row1 = row 0 None 1 name1
 
-named1 : sha384 (spelling row1) ≡ name1
+pub named1 : sha384 (spelling row1) ≡ name1
 unfolding body_of spelling first_words schedule rounds compress hash_after digest_bytes sha384
 named1 = refl
 
-event1 : Spells (spelling row1) row1
+pub event1 : Spells (spelling row1) row1
 event1 = event 0 None 1 name1 (omega arith) tt (omega arith) named1
 
-abbrev row2 : Row
+abbrev pub row2 : Row
 row2 = row 0 (Some (name1, name0)) 3 name2
 
-named2 : sha384 (spelling row2) ≡ name2
+pub named2 : sha384 (spelling row2) ≡ name2
 unfolding body_of spelling first_words schedule rounds compress hash_after digest_bytes sha384
 named2 = refl
 
-event2 : Spells (spelling row2) row2
+pub event2 : Spells (spelling row2) row2
 event2 = event 0 (Some (name1, name0)) 3 name2 (omega arith) (refl, refl) (omega arith) named2
 
-abbrev row3 : Row
+abbrev pub row3 : Row
 row3 = row 1 (Some (name0, name2)) 4 name3
 
-named3 : sha384 (spelling row3) ≡ name3
+pub named3 : sha384 (spelling row3) ≡ name3
 unfolding body_of spelling first_words schedule rounds compress hash_after digest_bytes sha384
 named3 = refl
 
-event3 : Spells (spelling row3) row3
+pub event3 : Spells (spelling row3) row3
 event3 = event 1 (Some (name0, name2)) 4 name3 (omega arith) (refl, refl) (omega arith) named3
 
-abbrev row4 : Row
+abbrev pub row4 : Row
 row4 = row 0 (Some (name2, name3)) 5 name4
 
-named4 : sha384 (spelling row4) ≡ name4
+pub named4 : sha384 (spelling row4) ≡ name4
 unfolding body_of spelling first_words schedule rounds compress hash_after digest_bytes sha384
 named4 = refl
 
-event4 : Spells (spelling row4) row4
+pub event4 : Spells (spelling row4) row4
 event4 = event 0 (Some (name2, name3)) 5 name4 (omega arith) (refl, refl) (omega arith) named4
 
-abbrev row5 : Row
+abbrev pub row5 : Row
 row5 = row 1 (Some (name3, name4)) 6 name5
 
-named5 : sha384 (spelling row5) ≡ name5
+pub named5 : sha384 (spelling row5) ≡ name5
 unfolding body_of spelling first_words schedule rounds compress hash_after digest_bytes sha384
 named5 = refl
 
-event5 : Spells (spelling row5) row5
+pub event5 : Spells (spelling row5) row5
 event5 = event 1 (Some (name3, name4)) 6 name5 (omega arith) (refl, refl) (omega arith) named5
 
-abbrev row6 : Row
+abbrev pub row6 : Row
 row6 = row 0 (Some (name4, name5)) 7 name6
 
-named6 : sha384 (spelling row6) ≡ name6
+pub named6 : sha384 (spelling row6) ≡ name6
 unfolding body_of spelling first_words schedule rounds compress hash_after digest_bytes sha384
 named6 = refl
 
-event6 : Spells (spelling row6) row6
+pub event6 : Spells (spelling row6) row6
 event6 = event 0 (Some (name4, name5)) 7 name6 (omega arith) (refl, refl) (omega arith) named6
 
-abbrev row7 : Row
+abbrev pub row7 : Row
 row7 = row 1 (Some (name5, name6)) 8 name7
 
-named7 : sha384 (spelling row7) ≡ name7
+pub named7 : sha384 (spelling row7) ≡ name7
 unfolding body_of spelling first_words schedule rounds compress hash_after digest_bytes sha384
 named7 = refl
 
-event7 : Spells (spelling row7) row7
+pub event7 : Spells (spelling row7) row7
 event7 = event 1 (Some (name5, name6)) 8 name7 (omega arith) (refl, refl) (omega arith) named7
 
 making0 : making 1 ([]) [] 2 [] (replicate 64 2) ≡ answer.Made 0
@@ -238,7 +238,7 @@ made7 = record {
   made = making7;
 }
 
-abbrev events : List Change
+abbrev pub events : List Change
 events = Made row0 ∷ Took row1 ∷ Took row2 ∷ Made row3 ∷ Took row4 ∷ Made row5 ∷ Took row6 ∷ Made row7 ∷ []
 
 four_news : news (members 2) 10 (replay (members 2) 10 events) 8 whole ≡ 4
@@ -249,7 +249,7 @@ some_news : MarksSome (members 2) 10 (replay (members 2) 10 events) 8 whole
 unfolding replay
 some_news = record { within = omega arith; some = omega (arith, four_news) }
 
-two_weigh : 0 < total (members 2)
+pub two_weigh : 0 < total (members 2)
 unfolding total weight_below
 two_weigh = omega arith
 

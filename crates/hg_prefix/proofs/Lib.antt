@@ -11,6 +11,7 @@ pub mod OrderLaws
 pub mod OwnLaws
 pub mod GrowthLaws
 pub mod JoinLaws
+pub mod UnionLaws
 pub mod ChainLaws
 pub mod CoreLaws
 pub mod LineLaws

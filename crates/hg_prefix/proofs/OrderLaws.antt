@@ -1,5 +1,5 @@
 -- Of the orders of two graphs that stand in one graph the one is a prefix of the other
-use Rattle.std.proofs.Common.{◌≡◌, ◌⊎◌, inl, inr, ℕ, ◌+◌, ◌-◌, ◌<◌, ◌≤◌, Bool, true, false, ◌&&◌, not, leb, List, [], ◌∷◌, ◌++◌, length, map, get_or, drop, Option, Some, is_some, unwrap_or, None, sym, refl, ap, ap₂, ◌∙◌, subst, arith}
+use Rattle.std.proofs.Common.{◌≡◌, ◌⊎◌, inl, inr, ℕ, ◌+◌, ◌-◌, ◌<◌, ◌≤◌, Bool, true, false, not, leb, List, [], ◌∷◌, ◌++◌, length, map, get_or, drop, Option, Some, is_some, unwrap_or, None, sym, refl, ap, ap₂, ◌∙◌, subst, arith}
 use Rattle.std.specs.List.{AllByRecursion}
 use Rattle.std.proofs.Math.Bool.{and-true}
 use Rattle.std.proofs.lemmas.Bool.{and_parts, and_from, cases_lt, le-leb, leb-true, leb-false, not-true, true≢false}

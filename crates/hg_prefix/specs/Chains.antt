@@ -1,6 +1,7 @@
 -- Two graphs of which each member but a few has made one chain of rows
-use Rattle.std.specs.Prelude.{ℕ, ◌≡◌, ◌<◌, List, length, slice_get}
+use Rattle.std.specs.Prelude.{ℕ, ◌≡◌, ◌<◌, List, ◌++◌, length, slice_get}
 use Rattle.hg_model.specs.declared.row.Row.{Row}
+use Rattle.hg_model.specs.Gossip.{lacking}
 use Rattle.hg_model.specs.Graph.{name_at, creator_at}
 use Rattle.hg_model.specs.Chains.{IsChain}
 use Rattle.hg_prefix.specs.Standing.{IsRowOf}
@@ -8,6 +9,10 @@ use Rattle.hg_prefix.specs.Standing.{IsRowOf}
 -- rows of equal names are equal
 pub record HaveEqualRows (G H : List Row) : Type 0 where
   pub equal : (x y : ℕ) → x < length G → y < length H → name_at G x ≡ name_at H y → slice_get G x ≡ slice_get H y
+
+-- the rows of G, and then those of H whose names G lacks, in their order
+abbrev pub union : List Row → List Row → List Row
+union G H = G ++ lacking G H
 
 -- one chain has all rows by m of both graphs
 pub record HasOneChain (m : ℕ) (G H : List Row) : Type 0 where

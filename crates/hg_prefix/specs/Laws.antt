@@ -8,7 +8,7 @@ use Rattle.hg_model.specs.Graph.{IsGraph}
 use Rattle.hg_model.specs.Order.{last_closed, order_by_names}
 use Rattle.hg_model.specs.Orders.{IsPrefix, marked_order_by_names, HasNameSizes, AreFame}
 use Rattle.hg_prefix.specs.Standing.{StandsIn, HasTheSame, IsMarkedPart, HasUniqueFamous}
-use Rattle.hg_prefix.specs.Chains.{HaveEqualRows, HasOneChain}
+use Rattle.hg_prefix.specs.Chains.{HaveEqualRows, union, HasOneChain}
 
 -- each row has in a larger graph the ancestors, seeing, strongly seeing, round and votes of its own graph
 abbrev pub PartsAreAlike : Type 0
@@ -51,11 +51,11 @@ OrderGrows = (n : Stakes) (c size : ℕ) (G more : List Row) → IsGraph n G →
 -- The core law of safety knows no histories: two graphs whose rows of equal names are equal, and for each member but
 -- those of less than a third of the stake one chain of rows that has the member's rows of both.
 
--- they stand in one graph
+-- they stand in one graph, their union
 abbrev pub ChainsStandInOne : Type 0
 ChainsStandInOne = (n : Stakes) (G H : List Row) (faulty : ℕ → Bool) → IsGraph n G → IsGraph n H → HaveEqualRows G H →
     3 * stake_where n faulty < total n → ((m : ℕ) → m < member_count n → faulty m ≡ false → HasOneChain m G H) →
-    (U : List Row) × IsGraph n U × StandsIn G U × StandsIn H U
+    IsGraph n (union G H) × StandsIn G (union G H) × StandsIn H (union G H)
 
 -- and with marks that are their fame one of the two orders is a prefix of the other
 abbrev pub OrdersOfChains : Type 0

@@ -26,8 +26,8 @@ pub fn order_grows()
 {}
 
 /// The core law of safety: two graphs whose rows of equal names are equal, where each member but those of less
-/// than a third of the stake has one chain of rows that holds its rows of both. They stand in one graph, and of
-/// their orders by names one is a prefix of the other.
+/// than a third of the stake has one chain of rows that holds its rows of both. They stand in one graph, their
+/// union, and of their orders by names one is a prefix of the other.
 pub fn orders_of_chains()
     ensures one_graph { ChainsStandInOne }
     ensures one { OrdersOfChains }
