@@ -1,4 +1,4 @@
-mod SettledLaws
 mod SequenceLaws
-mod PlayerLaws
+mod WorldLaws
+mod BlockLaws
 mod PlayLaws

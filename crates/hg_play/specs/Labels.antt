@@ -1,11 +1,16 @@
 -- The bytes that labels stand for
-use Rattle.std.specs.Prelude.{ℕ, nat_lt, List, [], ◌++◌, length, slice_get, slice_index, slice_index_or, slice_set, bit_xor, Option, option_map, unwrap_or, if◌then◌else◌}
+use Rattle.std.specs.Prelude.{ℕ, nat_lt, List, [], ◌∷◌, ◌++◌, length, take, slice_get, slice_index, slice_index_or, slice_set, bit_xor, Option, option_map, unwrap_or, if◌then◌else◌}
 use Rattle.sha2.specs.Sha512.{sha384}
 use Rattle.hg_model.specs.declared.row.Row.{Row}
 use Rattle.hg_model.specs.Links.{ParentNames, place_of}
 use Rattle.hg_model.specs.Spelling.{body_bytes, spelling}
-use Rattle.hg_model.specs.Verdict.{last_name}
-use Rattle.hg_model.specs.Gossip.{Keys, NodeState}
+use Rattle.hg_model.specs.Members.{MemberList}
+use Rattle.hg_model.specs.Signing.{secrets_of, signature_by}
+use Rattle.hg_model.specs.NodeView.{NodeView, node_rows}
+use Rattle.hg_script.specs.declared.line.Source.{Source}
+use Rattle.hg_script.specs.declared.line.Source.TheVariants.{Last, Forged, Raw, Altered, Front}
+use Rattle.hg_world.specs.World.{Secrets, WorldView, node_at}
+use Rattle.hg_world.specs.Syncs.{last_made}
 
 -- the bytes of a label, by its number; none for a number that is no label's
 abbrev pub bytes_at : List (List ℕ) → ℕ → List ℕ
@@ -24,13 +29,22 @@ abbrev pub bytes_named : List Row → List ℕ → List ℕ
 bytes_named G name = unwrap_or (option_map spelling (slice_get G (place_of G name))) []
 
 -- the bytes of the last event that the node made, or none
-abbrev pub own_bytes : NodeState → List ℕ
-own_bytes s = unwrap_or (option_map (bytes_named s.rows) (last_name s.own s.rows)) []
+abbrev pub last_bytes : NodeView Secrets → List ℕ
+last_bytes v = unwrap_or (option_map (bytes_named (node_rows v)) (last_made v)) []
 
 -- an event with these fields, under the member's signature
-abbrev pub forged : Keys → ℕ → ParentNames → ℕ → List ℕ → List ℕ
-forged keys m parents time payload = body_bytes m parents time payload ++ keys.sign m (body_bytes m parents time payload)
+abbrev pub forged : Secrets → ℕ → ParentNames → ℕ → List ℕ → List ℕ
+forged secrets m parents time payload =
+    body_bytes m parents time payload ++ signature_by secrets m (body_bytes m parents time payload)
 
 -- the byte at a place XORed with the mask, if there is one
 abbrev pub altered : List ℕ → ℕ → ℕ → List ℕ
 altered bytes at mask = if nat_lt at (length bytes) then slice_set bytes at (bit_xor (slice_index bytes at) mask) else bytes
+
+-- the bytes from a source
+abbrev pub source_bytes : Secrets → WorldView → List (List ℕ) → Source → List ℕ
+source_bytes secrets w labels (Last m) = last_bytes (node_at w m)
+source_bytes secrets w labels (Forged m parents time payload) = forged secrets m (option_map (names_of_labels labels) parents) time payload
+source_bytes secrets w labels (Raw bytes) = bytes
+source_bytes secrets w labels (Altered label at mask) = altered (bytes_at labels label) at mask
+source_bytes secrets w labels (Front label len) = take len (bytes_at labels label)

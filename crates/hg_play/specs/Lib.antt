@@ -1,5 +1,4 @@
-pub mod Node
-pub mod Settled
 pub mod Labels
-pub mod Nodes
+pub mod Lines
 pub mod Play
+pub mod Sites

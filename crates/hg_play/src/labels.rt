@@ -1,11 +1,12 @@
 ghost use Rattle.std.specs.Prelude.{◌≡◌, ◌≤◌, IfOk, length, option_map, take};
 ghost use Rattle.hg_model.specs.Spelling.{payload_limit};
-ghost use Rattle.hg_play.specs.Labels.{altered, bytes_at, forged, name_of_label, names_of_labels};
-ghost use Rattle.hg_play.specs.Node.{keys_by};
+ghost use Rattle.hg_model.specs.NodeView.{node_rows};
+ghost use Rattle.hg_play.specs.Labels.{altered, bytes_at, bytes_named, forged, last_bytes, name_of_label, names_of_labels};
 
 use hg_event::encode_body;
 use hg_model::{Bytes, Items, Member, Memory, Name};
 use hg_name::name_of;
+use hg_node::Node;
 use hg_sign::{MacTable, Signer};
 use std::alloc::Global;
 
@@ -49,7 +50,7 @@ pub(crate) fn forged(
     payload: &[u8],
 ) -> Result<Bytes, Memory>
     requires { length payload.now ≤ payload_limit }
-    ensures { IfOk result (λ bytes. bytes ≡ forged (keys_by keys.now) creator parents.now time payload.now) }
+    ensures { IfOk result (λ bytes. bytes ≡ forged keys.now creator parents.now time payload.now) }
 {
     let mut bytes = encode_body(alloc, creator, parents, time, payload)?;
     let sig = keys.sign(creator, bytes.as_slice());
@@ -92,4 +93,24 @@ pub(crate) fn copied(alloc: Global, bytes: &[u8]) -> Result<Bytes, Memory>
     ensures { IfOk result (λ copy. copy ≡ bytes.now) }
 {
     Ok(Items::from_vec(Vec::from_slice(alloc, bytes)?))
+}
+
+/// The bytes of the row with this name, if there is one.
+fn bytes_named(alloc: Global, node: &Node<MacTable>, name: &Name) -> Result<Bytes, Memory>
+    ensures { IfOk result (λ bytes. bytes ≡ bytes_named (node_rows node.now) name.now) }
+{
+    match node.place_of(name) {
+        Some(place) => copied(alloc, node.bytes(place)),
+        None => Ok(Items::new(alloc)),
+    }
+}
+
+/// The bytes of the last event that the node made, or none.
+pub(crate) fn last_bytes(alloc: Global, node: &Node<MacTable>) -> Result<Bytes, Memory>
+    ensures { IfOk result (λ bytes. bytes ≡ last_bytes node.now) }
+{
+    match node.last_name() {
+        Some(name) => bytes_named(alloc, node, &name),
+        None => Ok(Items::new(alloc)),
+    }
 }

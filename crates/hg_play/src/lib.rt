@@ -1,15 +1,13 @@
 //! A gossip script played over the members' nodes.
-//! The layer above uses `play`, whose answer is all that the script prints, as the definitions say it.
-//! Nodes hand each other bytes: what a node takes it reads and judges itself.
+//! The layer above uses `play`, whose answer is all that the script prints, as the definitions say it, and whose run is
+//! safe. Each line is a list of steps of a run; the nodes are those of `hg_world`.
 #![tactic(auto)]
 
 mod blocks;
+mod gossip;
 mod labels;
 mod lines;
-mod nodes;
-mod player;
 mod playing;
 mod printing;
-mod settled;
 
 pub use playing::play;

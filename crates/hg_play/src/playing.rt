@@ -1,13 +1,14 @@
-ghost use Rattle.std.specs.Prelude.{◌≡◌, All, IfOk};
+ghost use Rattle.std.specs.Prelude.{◌≡◌, All, IfOk, OnOk};
 ghost use Rattle.hg_model.specs.Members.{names_of};
 ghost use Rattle.hg_script.specs.Lawful.{IsLine};
-ghost use Rattle.hg_play.specs.Play.{play};
+ghost use Rattle.hg_play.specs.Play.{IsSafePlay, play};
 
-use crate::lines::play_over;
-use crate::nodes::new_nodes;
+use crate::blocks::push_blocks;
+use crate::lines::play_lines;
 use hg_model::{Bytes, Items, Members, Memory, Outcome};
 use hg_script::Line;
 use hg_sign::MacTable;
+use hg_world::World;
 use std::alloc::Global;
 
 /// The members' names, in their order.
@@ -22,15 +23,21 @@ fn names(alloc: Global, members: &Members) -> Result<Items<Bytes>, Memory>
 }
 
 /// Plays the lines of a script over the members' nodes, and gives all that the script prints, with a last block for
-/// each node. The lines are those of `read_script` for these members.
+/// each node. The lines are those of `read_script` for these members. The run of the lines' steps is safe: of the
+/// orders that two nodes keep at two moments one is a prefix of the other, where less than a third of the stake is
+/// dishonest and names do not collide.
 pub fn play(alloc: Global, members: &Members, lines: &[Line]) -> Result<Outcome, Memory>
     requires { All (IsLine members.now) lines.now }
-    ensures { IfOk result (λ outcome. outcome ≡ play members.now lines.now) }
+    ensures outcome { IfOk result (λ outcome. outcome ≡ play members.now lines.now) }
+    ensures safe { OnOk result (IsSafePlay members.now lines.now) }
 {
     let keys = MacTable::new(alloc, members)?;
-    let mut nodes = new_nodes(alloc, members)?;
-    let printed = play_over(alloc, members, &keys, nodes.as_mut_slice(), lines)?;
+    let mut world = World::new(alloc, members)?;
+    let mut printed = play_lines(alloc, members, &keys, &mut world, lines)?;
+    push_blocks(alloc, members, &mut world, &mut printed)?;
     let names = names(alloc, members)?;
+    // That the run up to here is safe.
+    world.count();
     Ok(Outcome {
         names,
         printed: Items::from_vec(printed),

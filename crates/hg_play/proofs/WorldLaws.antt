@@ -1,0 +1,93 @@
+-- What the nodes of a world began with, and that to settle nodes leaves all rows
+use Rattle.std.proofs.Common.{◌≡◌, ℕ, zero, suc, ◌<◌, Bool, true, false, cond, List, [], ◌∷◌, ◌++◌, length, map, fold, get_or, sym, refl, ap, ◌∙◌, arith, zero-add}
+use Rattle.std.proofs.lemmas.List.{length-map, get_or-map, fold-append}
+use Rattle.std.proofs.lemmas.List.FromFn.{get_or-map-range_with_len, length-map-range_with_len}
+use Rattle.std.proofs.Math.Seq.{map-set_same}
+use Rattle.hg_model.specs.declared.row.Row.{Row}
+use Rattle.hg_model.specs.Members.{MemberList, has_node}
+use Rattle.hg_model.specs.Shares.{Share, whole}
+use Rattle.hg_model.specs.History.{State}
+use Rattle.hg_model.specs.NodeView.{NodeView, Start, node_rows}
+use Rattle.hg_model.specs.Calls.{publish_answer, publish_changes}
+use Rattle.hg_history.proofs.CallLaws.{with_none}
+use Rattle.hg_history.proofs.StateLaws.{replay-push}
+use Rattle.hg_world.specs.declared.step.Step.{Step}
+use Rattle.hg_world.specs.declared.step.Step.TheVariants.{Make, Deliver, Freeze, Publish}
+use Rattle.hg_world.specs.World.{Secrets, Site, WorldView, no_site, site_at, node_at, rows_at, frozen_by, with_site}
+use Rattle.hg_world.specs.Steps.{after_step, after_steps, node_published, settle_steps}
+use Rattle.hg_play.specs.Play.{end_steps}
+use Rattle.hg_play.specs.Sites.{start_in, starts, starts_of}
+
+-- one step after the others
+pub steps-append : (w : WorldView) (a b : List Step) → after_steps w (a ++ b) ≡ after_steps (after_steps w a) b
+steps-append w a b = fold-append after_step w a b
+
+-- another site, whose node began alike
+with_starts : (w : WorldView) (m : ℕ) (site : Site) → site.node.start ≡ (node_at w m).start → starts_of (with_site w m site) ≡ starts_of w
+with_starts w m site same = map-set_same (λ (s : Site). s.node.start) w.sites m site no_site same
+
+-- a step leaves what the nodes began with
+starts-step : (w : WorldView) (step : Step) → starts_of (after_step w step) ≡ starts_of w
+starts-step w (Make m other time payload) = with_starts w m _ refl
+starts-step w (Deliver m bytes) = with_starts w m _ refl
+starts-step w (Freeze m worker) = with_starts w m _ refl
+starts-step w (Publish m worker share) = with_starts w m _ refl
+
+pub starts-steps : (w : WorldView) (steps : List Step) → starts_of (after_steps w steps) ≡ starts_of w
+starts-steps w [] = refl
+starts-steps w (step ∷ steps) = starts-steps (after_step w step) steps ∙ starts-step w step
+
+-- there are as many nodes as members
+pub starts_length : (members : MemberList) (w : WorldView) → starts_of w ≡ starts members → length w.sites ≡ length members.entries
+starts_length members w are =
+    sym (length-map w.sites (λ (s : Site). s.node.start)) ∙ (ap length are ∙ length-map-range_with_len (start_in members) 0 (length members.entries))
+
+-- what the node of a member began with
+pub start_read : (members : MemberList) (w : WorldView) (m : ℕ) → starts_of w ≡ starts members → m < length w.sites → (node_at w m).start ≡ start_in members m
+start_read members w m are inside =
+    let long = starts_length members w are in
+    let none : Start Secrets = no_site.node.start in
+    sym (get_or-map (λ (s : Site). s.node.start) w.sites m no_site none inside)
+    ∙ (ap (λ (xs : List (Start Secrets)). get_or xs m none) are
+    ∙ get_or-map-range_with_len (start_in members) 0 (length members.entries) m m none (omega (arith, inside, long)) (zero-add m))
+
+-- the rows of all nodes
+abbrev all_rows : WorldView → List (List Row)
+all_rows w = map (λ (s : Site). node_rows s.node) w.sites
+
+pub rows_read : (v w : WorldView) (m : ℕ) → all_rows v ≡ all_rows w → m < length w.sites → rows_at v m ≡ rows_at w m
+rows_read v w m same inside =
+    let rows = λ (s : Site). node_rows s.node in
+    let long : length v.sites ≡ length w.sites = sym (length-map v.sites rows) ∙ (ap length same ∙ length-map w.sites rows) in
+    sym (get_or-map rows v.sites m no_site [] (omega (arith, inside, long)))
+    ∙ (ap (λ (xs : List (List Row)). get_or xs m []) same ∙ get_or-map rows w.sites m no_site [] inside)
+
+-- to publish leaves the rows
+rows_published : (v : NodeView Secrets) (len : ℕ) (share : Share) → node_rows (node_published v len share) ≡ node_rows v
+unfolding publish_changes
+rows_published v len share = published (publish_answer v len share == 0)
+  where
+    open Rattle.std.proofs.Common.{◌==◌}
+    published : (none : Bool) → node_rows (Rattle.hg_model.specs.NodeView.with_changes v (cond none [] (Rattle.hg_model.specs.History.Change.Marked len share ∷ []))) ≡ node_rows v
+    published true = ap (λ (w : NodeView Secrets). node_rows w) (with_none v [] refl)
+    published false = ap (λ (s : State). s.rows) (replay-push v.start.members v.start.coin v.history (Rattle.hg_model.specs.History.Change.Marked len share))
+
+with_rows : (w : WorldView) (m : ℕ) (site : Site) → node_rows site.node ≡ rows_at w m → all_rows (with_site w m site) ≡ all_rows w
+with_rows w m site same = map-set_same (λ (s : Site). node_rows s.node) w.sites m site no_site same
+
+-- so to settle a node leaves the rows of all
+rows-settle : (w : WorldView) (m : ℕ) → all_rows (after_steps w (settle_steps m)) ≡ all_rows w
+rows-settle w m =
+    let v = after_step w (Freeze m 0) in
+    with_rows v m _ (rows_published (node_at v m) (frozen_by v m 0) whole) ∙ with_rows w m _ refl
+
+rows-end_step : (w : WorldView) (m : ℕ) (has : Bool) → all_rows (after_steps w (cond has (settle_steps m) [])) ≡ all_rows w
+rows-end_step w m true = rows-settle w m
+rows-end_step w m false = refl
+
+pub rows-end : (members : MemberList) (w : WorldView) (k : ℕ) → all_rows (after_steps w (end_steps members k)) ≡ all_rows w
+rows-end members w zero = refl
+rows-end members w (suc k) =
+    let before = end_steps members k in
+    ap all_rows (steps-append w before (cond (has_node members k) (settle_steps k) []))
+    ∙ (rows-end_step (after_steps w before) k (has_node members k) ∙ rows-end members w k)

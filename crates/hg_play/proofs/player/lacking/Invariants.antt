@@ -1,8 +1,0 @@
-use Rattle.std.proofs.Common.{◌≡◌, ◌++◌, drop, map}
-use Rattle.hg_model.specs.Gossip.{lacking}
-use Rattle.hg_model.specs.Spelling.{spelling}
-use Rattle.hg_model.specs.NodeView.{node_rows}
-use Rattle.hg_play.proofs.player.lacking.Given as goal
-
-abbrev pub invariant-loop-place : goal.invariant-loop-place
-invariant-loop-place l = l.missing.items ++ map spelling (lacking (node_rows l.taker) (drop l.place (node_rows l.node))) ≡ map spelling (lacking (node_rows l.taker) (node_rows l.node))

@@ -1,0 +1,19 @@
+-- What the nodes of a world began with
+use Rattle.std.specs.Prelude.{ℕ, List, length, map}
+use Rattle.hg_model.specs.Places.{table}
+use Rattle.hg_model.specs.Members.{MemberList}
+use Rattle.hg_model.specs.Signing.{secrets_of}
+use Rattle.hg_model.specs.NodeView.{Start, start_of}
+use Rattle.hg_world.specs.World.{Secrets, Site, WorldView}
+
+-- what the node of member m begins with
+abbrev pub start_in : MemberList → ℕ → Start Secrets
+start_in members m = start_of members m (secrets_of members)
+
+-- what the nodes of all members begin with
+abbrev pub starts : MemberList → List (Start Secrets)
+starts members = table (start_in members) (length members.entries)
+
+-- what the nodes of this world began with
+abbrev pub starts_of : WorldView → List (Start Secrets)
+starts_of w = map (λ (site : Site). site.node.start) w.sites
