@@ -1,5 +1,5 @@
 -- What holds of every run, as public functions state it
-use Rattle.std.specs.Prelude.{ℕ, ◌*◌, ◌≡◌, ◌<◌, Bool, true, false, List, IsTrue}
+use Rattle.std.specs.Prelude.{ℕ, ◌*◌, ◌≡◌, ◌<◌, Bool, false, List}
 use Rattle.hg_model.specs.declared.row.Row.{Row}
 use Rattle.hg_model.specs.Stakes.{Stakes, member_count, stake_where, total}
 use Rattle.hg_model.specs.Links.{links}
