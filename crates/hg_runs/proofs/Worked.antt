@@ -15,7 +15,7 @@ use Rattle.hg_model.specs.Graph.{name_in, name_at, HasDistinctNames}
 use Rattle.hg_model.specs.Rounds.{round_of, is_witness}
 use Rattle.hg_model.specs.Votes.{vote_of, decides}
 use Rattle.hg_model.specs.Fame.{fame_of, is_closed, is_unique_famous}
-use Rattle.hg_model.specs.Order.{coin_at, sig_at, time_at, sort_by, median, can_receive, round_received, consensus_time, whitening, famous_places, ordered_in}
+use Rattle.hg_model.specs.Order.{coin_at, sig_at, time_at, sort_by, median, can_receive, round_received, consensus_time, whitening, famous_places, ordered_in, Ordered}
 use Rattle.hg_model.specs.Spelling.{body_of, spelling}
 use Rattle.hg_model.specs.Verdict.{making}
 use Rattle.hg_model.specs.Shares.{whole, share_fame}
@@ -195,7 +195,7 @@ distinct : HasDistinctNames second_rows
 distinct = subst (λ (G : List Row). HasDistinctNames G) (rows_of_1 0) (node_graph all (members 2) 10 1 history_1 (omega arith) worked).graph.distinct
 
 -- of two graphs that stand in one with distinct names
-equal_in_one : (G H U : List Row) → HasDistinctNames U → StandsIn G U → StandsIn H U → HaveEqualRows G H
+pub equal_in_one : (G H U : List Row) → HasDistinctNames U → StandsIn G U → StandsIn H U → HaveEqualRows G H
 unfolding name_at
 equal_in_one G H U distinct stands_G stands_H = record {
   equal = λ x y inside_x inside_y same.
@@ -213,7 +213,11 @@ are_apart = record {
 orders_agree : OrdersAgree (members 2) 10 run
 orders_agree = runs_safe accepts (members 2) 10 run is_run (omega (arith, none_dishonest, two_weigh)) are_apart
 
+-- received in round 2
+abbrev ordered : List ℕ → ℕ → Ordered
+ordered name time = record { name = name; received = 2; time = time }
+
 -- the order that the second node keeps at the end
-four_ordered : order_after (members 2) 10 history_1 ≡ record { name = name1; received = 2; time = 1 } ∷ record { name = name0; received = 2; time = 2 } ∷ record { name = name2; received = 2; time = 3 } ∷ record { name = name3; received = 2; time = 4 } ∷ []
+four_ordered : order_after (members 2) 10 history_1 ≡ ordered name1 1 ∷ ordered name0 2 ∷ ordered name2 3 ∷ ordered name3 4 ∷ []
 unfolding ordered_in consensus_time whitening median sort_by round_received can_receive is_unique_famous famous_places time_at name_at list_below replay news share_fame fame_of least_below decides vote_of coin_at sig_at is_closed is_witness round_of strongly_sees sees_through sees has_fork_below is_fork is_ancestor is_self_ancestor total weight_below some_below reaches by_place values_below parents self_parent creator links
 four_ordered = refl
