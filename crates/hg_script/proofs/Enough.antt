@@ -9,7 +9,7 @@ use Rattle.hg_script.specs.declared.verb.Verb.{Verb}
 use Rattle.hg_script.specs.declared.verb.Verb.TheVariants as verb
 use Rattle.hg_script.specs.declared.words.TheConstants.{MOST_WORDS}
 use Rattle.hg_script.specs.Script.{line_in}
-use Rattle.hg_script.specs.Table.{Above, Found, found_by, line_by, alter, create, cut, forge, give, join, name, names, pull, raw, show, sync, one_word, two_words, three_words, four_words, two_or_three, three_or_four, five_or_six, verb_of}
+use Rattle.hg_script.specs.Table.{Above, Found, found_by, line_by, alter, create, cut, forge, freeze, give, join, name, names, publish, pull, raw, show, show_kept, sync, one_word, two_words, three_words, four_words, two_or_three, three_or_four, five_or_six, verb_of}
 
 one_enough : (line : List ℕ → Result Found Why) (words : List (List ℕ)) → one_word line (take 7 words) ≡ one_word line words
 one_enough line [] = refl
@@ -73,6 +73,9 @@ line_enough members above verb.Raw words = two_enough (raw above) words
 line_enough members above verb.Alter words = four_enough (alter above) words
 line_enough members above verb.Cut words = three_enough (cut above) words
 line_enough members above verb.Give words = two_enough (give members above) words
+line_enough members above verb.Freeze words = two_enough (freeze members) words
+line_enough members above verb.Publish words = two_enough (publish members) words
+line_enough members above verb.Kept words = one_enough (show_kept members) words
 line_enough members above verb.Show words = one_enough (show members) words
 line_enough members above verb.Names words = one_enough (names members) words
 

@@ -3,6 +3,6 @@ pub mod LineLaws
 pub mod NameLaws
 pub mod Numbers
 pub mod OnLiterals
-pub mod SixBytes
+pub mod Spelled
 mod Worked
 pub mod PayloadLaws

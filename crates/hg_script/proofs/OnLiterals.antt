@@ -6,8 +6,8 @@ use Rattle.hex.specs.Hex.{decode_pairs}
 use Rattle.hg_model.specs.Pay.{pay_bytes}
 use Rattle.hg_script.specs.Payload.{transfer_of}
 use Rattle.hg_script.specs.Script.{lines_of}
-use Rattle.hg_script.specs.Table.{alter, create, cut, forge, give, join, name, names, pull, raw, show, sync}
+use Rattle.hg_script.specs.Table.{alter, create, cut, forge, freeze, give, join, name, names, publish, pull, raw, show, show_kept, sync}
 
 unfoldable pub script_on_literals : ⊤
-unfolding lines_of pay_bytes transfer_of alter create cut forge give join name names pull raw show sync decode_pairs is_utf8 chars encode_utf8
+unfolding lines_of pay_bytes transfer_of alter create cut forge freeze give join name names publish pull raw show show_kept sync decode_pairs is_utf8 chars encode_utf8
 script_on_literals = tt

@@ -116,10 +116,11 @@ not_created : script (codes "create B 1\nsync A B 2\ncreate A") ≡ refused 2 Fi
 unfolding script_on_literals
 not_created = refl
 
-every_line : script (codes "create A 1\ncreate B 2\nname a A\njoin B a 3\npull A B\nforge f N a a 9\nforge g A - - 0\nraw r 00fF\nalter s r 1 255\ncut A s 18446744073709551615\ngive A A\nshow A\nnames B\nsync A B 4")
+every_line : script (codes "create A 1\ncreate B 2\nname a A\njoin B a 3\npull A B\nforge f N a a 9\nforge g A - - 0\nraw r 00fF\nalter s r 1 255\ncut A s 18446744073709551615\ngive A A\nfreeze A 15\npublish B 00\nkept A\nshow A\nnames B\nsync A B 4")
     ≡ Ok (does 1 (Create 0 1 []) ∷ does 2 (Create 1 2 []) ∷ makes 3 (Last 0) ∷ does 4 (Join 1 0 3 []) ∷ does 5 (Pull 0 1) ∷ makes 6 (Forged 2 (Some (0, 0)) 9 [])
     ∷ makes 7 (Forged 0 None 0 []) ∷ makes 8 (Raw (0 ∷ 255 ∷ [])) ∷ makes 9 (Altered 3 1 255) ∷ makes 10 (Front 4 18446744073709551615)
-    ∷ does 11 (Give 0 5) ∷ line_at 12 (action.Show 0) ∷ line_at 13 (action.Names 1) ∷ does 14 (Sync 0 1 4 []) ∷ [])
+    ∷ does 11 (Give 0 5) ∷ line_at 12 (action.Freeze 0 15) ∷ line_at 13 (action.Publish 1 0) ∷ line_at 14 (action.Kept 0)
+    ∷ line_at 15 (action.Show 0) ∷ line_at 16 (action.Names 1) ∷ does 17 (Sync 0 1 4 []) ∷ [])
 unfolding script_on_literals
 every_line = refl
 
@@ -197,6 +198,14 @@ name_no_node = refl
 give_no_node : script (codes "give N a") ≡ refused 1 NoNode
 unfolding script_on_literals
 give_no_node = refl
+
+great_worker : script (codes "publish A 16") ≡ refused 1 Number
+unfolding script_on_literals
+great_worker = refl
+
+node_before_worker : script (codes "freeze N x") ≡ refused 1 NoNode
+unfolding script_on_literals
+node_before_worker = refl
 
 show_no_node : script (codes "show N") ≡ refused 1 NoNode
 unfolding script_on_literals

@@ -27,6 +27,14 @@ number_of word = if nat_le 1 (length word) && nat_le (length word) 20 then below
 abbrev pub byte_of : List ℕ → Result ℕ Why
 byte_of word = number_of word >>= (λ n. below 256 (Some n))
 
+-- how many workers a node can have, numbered from 0
+abbrev pub worker_limit : ℕ
+worker_limit = 16
+
+-- the number of a worker
+abbrev pub worker_of : List ℕ → Result ℕ Why
+worker_of word = number_of word >>= (λ w. below worker_limit (Some w))
+
 -- the number of the member with this name
 abbrev pub member_of : MemberList → List ℕ → Result ℕ Why
 member_of members word = ok_or (member_named members word) Member
@@ -70,5 +78,5 @@ abbrev pub digits_form : ℕ → ℕ → List ℕ → Option (List ℕ)
 digits_form least most word = if nat_le least (length word) && nat_le (length word) most then result_ok (decode_of word) else None
 
 -- the bytes of 2 to 8,192 digits
-abbrev pub bytes_of : List ℕ → Result (List ℕ) Why
-bytes_of word = ok_or (digits_form 2 8192 word) Payload
+abbrev pub raw_bytes : List ℕ → Result (List ℕ) Why
+raw_bytes word = ok_or (digits_form 2 8192 word) Payload

@@ -11,6 +11,7 @@ use Rattle.hg_script.specs.declared.line.Source.TheVariants.{Last, Forged}
 use Rattle.hg_script.specs.declared.line.Action.{Action}
 use Rattle.hg_script.specs.declared.line.Action.TheVariants as action
 use Rattle.hg_script.specs.declared.line.Line.{Line}
+use Rattle.hg_script.specs.Argument.{worker_limit}
 use Rattle.hg_script.specs.Table.{Above, Found}
 
 -- the number is that of a member with a node
@@ -20,6 +21,10 @@ HasNode members m = has_node members m ≡ true
 -- the payload of an event can be so long
 abbrev pub IsShortPayload : List ℕ → Type 0
 IsShortPayload payload = length payload ≤ payload_limit
+
+-- the number is that of a worker
+abbrev pub IsWorker : ℕ → Type 0
+IsWorker w = w < worker_limit
 
 abbrev pub IsGossip : MemberList → Gossip → Type 0
 IsGossip members (Create member time payload) = HasNode members member × IsShortPayload payload
@@ -33,10 +38,13 @@ IsSource members (Last member) = HasNode members member
 IsSource members (Forged creator parents time payload) = IsShortPayload payload
 IsSource members _ = ⊤
 
--- the members that the action names have nodes, and its payload fits
+-- the members that the action names have nodes, its payload fits, and its worker is one
 abbrev pub IsLawful : MemberList → Action → Type 0
 IsLawful members (action.Gossip g) = IsGossip members g
 IsLawful members (action.Label s) = IsSource members s
+IsLawful members (action.Freeze member worker) = HasNode members member × IsWorker worker
+IsLawful members (action.Publish member worker) = HasNode members member × IsWorker worker
+IsLawful members (action.Kept member) = HasNode members member
 IsLawful members (action.Show member) = HasNode members member
 IsLawful members (action.Names member) = HasNode members member
 

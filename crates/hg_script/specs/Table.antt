@@ -15,7 +15,7 @@ use Rattle.hg_script.specs.declared.line.Action.TheVariants as action
 use Rattle.hg_script.specs.declared.line.Line.{Line}
 use Rattle.hg_script.specs.declared.verb.Verb.{Verb}
 use Rattle.hg_script.specs.declared.verb.Verb.TheVariants as verb
-use Rattle.hg_script.specs.Argument.{byte_of, bytes_of, label_of, member_of, new_label, node_of, number_of, parents_of, peer_of}
+use Rattle.hg_script.specs.Argument.{byte_of, label_of, member_of, new_label, node_of, number_of, parents_of, peer_of, raw_bytes, worker_of}
 use Rattle.hg_script.specs.Payload.{payload_of}
 
 -- what stands above a line: lines, and the names of the labels that they made, in order
@@ -108,7 +108,7 @@ forge members above l m s o t p = do
 unfoldable pub raw : Above → List ℕ → List ℕ → Result Found Why
 raw above l h = do
   label ← new_label above.labels l
-  bytes ← bytes_of h
+  bytes ← raw_bytes h
   Ok (makes (action.Label (Raw bytes)) label)
 
 -- alter L L2 AT B
@@ -134,6 +134,24 @@ give members above x l = do
   member ← node_of members x
   label ← label_of above.labels l
   Ok (gossip (Give member label))
+
+-- freeze X W
+unfoldable pub freeze : MemberList → List ℕ → List ℕ → Result Found Why
+freeze members x w = do
+  member ← node_of members x
+  worker ← worker_of w
+  Ok (does (action.Freeze member worker))
+
+-- publish X W
+unfoldable pub publish : MemberList → List ℕ → List ℕ → Result Found Why
+publish members x w = do
+  member ← node_of members x
+  worker ← worker_of w
+  Ok (does (action.Publish member worker))
+
+-- kept X
+unfoldable pub show_kept : MemberList → List ℕ → Result Found Why
+show_kept members x = node_of members x >>= (λ member. Ok (does (action.Kept member)))
 
 -- show X
 unfoldable pub show : MemberList → List ℕ → Result Found Why
@@ -192,6 +210,9 @@ verb_of word =
     else if bytes_eq word (codes "alter") then Some verb.Alter
     else if bytes_eq word (codes "cut") then Some verb.Cut
     else if bytes_eq word (codes "give") then Some verb.Give
+    else if bytes_eq word (codes "freeze") then Some verb.Freeze
+    else if bytes_eq word (codes "publish") then Some verb.Publish
+    else if bytes_eq word (codes "kept") then Some verb.Kept
     else if bytes_eq word (codes "show") then Some verb.Show
     else if bytes_eq word (codes "names") then Some verb.Names
     else None
@@ -207,6 +228,9 @@ line_by members above verb.Raw arguments = two_words (raw above) arguments
 line_by members above verb.Alter arguments = four_words (alter above) arguments
 line_by members above verb.Cut arguments = three_words (cut above) arguments
 line_by members above verb.Give arguments = two_words (give members above) arguments
+line_by members above verb.Freeze arguments = two_words (freeze members) arguments
+line_by members above verb.Publish arguments = two_words (publish members) arguments
+line_by members above verb.Kept arguments = one_word (show_kept members) arguments
 line_by members above verb.Show arguments = one_word (show members) arguments
 line_by members above verb.Names arguments = one_word (names members) arguments
 

@@ -8,5 +8,5 @@ abbrev pub bytes_in : List (Bor (List ℕ)) → List (List ℕ)
 bytes_in words = map (λ word. word.now) words
 
 -- the value is what reading finds, or the fault is the same, unless memory runs out
-abbrev pub Finds : {X E : Type 0} → Result X (Stop E) → Result X E → Type 0
-Finds result read = Gives (λ x. x) result read
+abbrev pub ReadsAs : {X E : Type 0} → Result X (Stop E) → Result X E → Type 0
+ReadsAs result read = Gives (λ x. x) result read

@@ -3,8 +3,8 @@ ghost use Rattle.std.specs.List.{list_any};
 ghost use Rattle.std.specs.Str.{bytes_eq};
 ghost use Rattle.hg_model.specs.Members.{is_digit};
 ghost use Rattle.hg_model.specs.Results.{Reads};
-ghost use Rattle.hg_script.specs.Words.{Finds};
-ghost use Rattle.hg_script.specs.Lawful.{HasNode};
+ghost use Rattle.hg_script.specs.Words.{ReadsAs};
+ghost use Rattle.hg_script.specs.Lawful.{HasNode, IsWorker};
 ghost use Rattle.hg_script.specs.Argument as spec;
 
 use crate::above::Above;
@@ -103,6 +103,19 @@ pub fn byte_of(word: &[u8]) -> Result<u8, Why>
     }
 }
 
+/// The number of a worker, below 16.
+pub fn worker_of(word: &[u8]) -> Result<u32, Why>
+    ensures value { result ≡ spec.worker_of word.now }
+    ensures worker { IfOk result IsWorker }
+{
+    let number = number_of(word)?;
+    if number < 16 {
+        Ok(number as u32)
+    } else {
+        Err(Why::Number)
+    }
+}
+
 /// The number of a label that was made above.
 pub fn label_of(above: &Above<'_>, word: &[u8]) -> Result<usize, Why>
     ensures { result ≡ spec.label_of above.now.labels word.now }
@@ -169,8 +182,8 @@ pub fn digits_form(
 }
 
 /// The bytes of 2 to 8,192 hexadecimal digits.
-pub fn bytes_of(alloc: Global, word: &[u8]) -> Result<Bytes, Stop<Why>>
-    ensures { Finds result (spec.bytes_of word.now) }
+pub fn raw_bytes(alloc: Global, word: &[u8]) -> Result<Bytes, Stop<Why>>
+    ensures { ReadsAs result (spec.raw_bytes word.now) }
 {
     match digits_form(alloc, 2, 8192, word)? {
         Some(bytes) => Ok(bytes),

@@ -74,6 +74,13 @@ pub enum Action {
     Gossip(Gossip),
     /// One label more stands for these bytes. Nothing is printed.
     Label(Source),
+    /// A worker of the member's node, numbered below 16, freezes the node's graph as it is now.
+    Freeze { member: Member, worker: u32 },
+    /// The fame of all witnesses of the rows that a worker of the member's node, numbered below 16, froze last is
+    /// published by the node; nothing where it froze none.
+    Publish { member: Member, worker: u32 },
+    /// The block of the member's node is printed, by what the node has published so far.
+    Kept { member: Member },
     /// The block of the member's node is printed.
     Show { member: Member },
     /// The same, each line of the order with the event's name.

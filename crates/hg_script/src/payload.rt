@@ -4,7 +4,7 @@ ghost use Rattle.std.specs.Option.{option_copied};
 ghost use Rattle.hg_model.specs.Pay.{transfer_limit};
 ghost use Rattle.hg_model.specs.Spelling.{payload_limit};
 ghost use Rattle.hg_model.specs.Results.{Gives};
-ghost use Rattle.hg_script.specs.Words.{Finds, bytes_in};
+ghost use Rattle.hg_script.specs.Words.{ReadsAs, bytes_in};
 ghost use Rattle.hg_script.specs.Payload as spec;
 
 use crate::argument::{digits_form, member_of, number_of};
@@ -128,7 +128,7 @@ fn transfers_of(
 /// The payload of the transfers of these items.
 fn pay_in(alloc: Global, members: &Members, parts: &[&[u8]]) -> Result<Bytes, Stop<Why>>
     requires { length parts.now ≤ transfer_limit }
-    ensures value { Finds result (spec.pay_in members.now (bytes_in parts.now)) }
+    ensures value { ReadsAs result (spec.pay_in members.now (bytes_in parts.now)) }
     ensures fits { IfOk result (λ payload. length payload ≤ payload_limit) }
 {
     let transfers = transfers_of(alloc, members, parts)?;
@@ -140,7 +140,7 @@ fn pay_in(alloc: Global, members: &Members, parts: &[&[u8]]) -> Result<Bytes, St
 
 /// The payload of the transfers behind `pay:`.
 fn pay_of(alloc: Global, members: &Members, text: &[u8]) -> Result<Bytes, Stop<Why>>
-    ensures value { Finds result (spec.pay_of members.now text.now) }
+    ensures value { ReadsAs result (spec.pay_of members.now text.now) }
     ensures fits { IfOk result (λ payload. length payload ≤ payload_limit) }
 {
     if !has_few_parts(text) {
@@ -155,7 +155,7 @@ fn pay_of(alloc: Global, members: &Members, text: &[u8]) -> Result<Bytes, Stop<W
 
 /// The bytes of at most 2,048 hexadecimal digits.
 fn hex_of(alloc: Global, digits: &[u8]) -> Result<Bytes, Stop<Why>>
-    ensures value { Finds result (spec.hex_of digits.now) }
+    ensures value { ReadsAs result (spec.hex_of digits.now) }
     ensures fits { IfOk result (λ payload. length payload ≤ payload_limit) }
 {
     match digits_form(alloc, 0, 2048, digits)? {
@@ -165,7 +165,7 @@ fn hex_of(alloc: Global, digits: &[u8]) -> Result<Bytes, Stop<Why>>
 }
 
 fn payload_word(alloc: Global, members: &Members, word: &[u8]) -> Result<Bytes, Stop<Why>>
-    ensures value { Finds result (spec.payload_word members.now word.now) }
+    ensures value { ReadsAs result (spec.payload_word members.now word.now) }
     ensures fits { IfOk result (λ payload. length payload ≤ payload_limit) }
 {
     if let Some(digits) = word.strip_prefix(b"hex:".as_slice()) {
@@ -179,7 +179,7 @@ fn payload_word(alloc: Global, members: &Members, word: &[u8]) -> Result<Bytes, 
 
 /// The payload that the word tells, or an empty one without the word.
 pub fn payload_of(alloc: Global, members: &Members, word: Option<&[u8]>) -> Result<Bytes, Stop<Why>>
-    ensures value { Finds result (spec.payload_of members.now (option_copied word.entry)) }
+    ensures value { ReadsAs result (spec.payload_of members.now (option_copied word.entry)) }
     ensures fits { IfOk result (λ payload. length payload ≤ payload_limit) }
 {
     match word {

@@ -1,7 +1,7 @@
 ghost use Rattle.std.specs.Prelude.{◌≡◌, All, IfOk, IfSome, OnOk};
 ghost use Rattle.std.specs.Str.{is_utf8};
 ghost use Rattle.std.specs.Str.Lines.{lines};
-ghost use Rattle.hg_script.specs.Words.{Finds, bytes_in};
+ghost use Rattle.hg_script.specs.Words.{ReadsAs, bytes_in};
 ghost use Rattle.hg_script.specs.Lawful.{IsFound, IsLine};
 ghost use Rattle.hg_model.specs.Results.{Gives};
 ghost use Rattle.hg_script.specs.Script as spec;
@@ -30,7 +30,7 @@ fn line_in<'a>(
     above: &Above<'_>,
     words: &[&'a [u8]],
 ) -> Result<Option<Found<'a>>, Stop<Why>>
-    ensures value { Finds result (spec.line_in members.now above.now (bytes_in words.now)) }
+    ensures value { ReadsAs result (spec.line_in members.now above.now (bytes_in words.now)) }
     ensures lawful { IfOk result (λ found. IfSome found (IsFound members.now above.now)) }
 {
     match words {
@@ -46,7 +46,7 @@ fn line_of<'a>(
     above: &Above<'_>,
     line: &'a [u8],
 ) -> Result<Option<Found<'a>>, Stop<Why>>
-    ensures value { Finds result (spec.line_of members.now above.now line.now) }
+    ensures value { ReadsAs result (spec.line_of members.now above.now line.now) }
     ensures lawful { IfOk result (λ found. IfSome found (IsFound members.now above.now)) }
 {
     if !is_text(line) {
@@ -81,7 +81,7 @@ fn all_lines<'a>(
     bytes: &'a [u8],
     members: &Members,
 ) -> Result<Above<'a>, Stop<ScriptFault>>
-    ensures read { Finds result (spec.lines_after members.now spec.nothing_above 1 (lines bytes.now)) }
+    ensures read { ReadsAs result (spec.lines_after members.now spec.nothing_above 1 (lines bytes.now)) }
     ensures lawful { IfOk result (λ above. All (IsLine members.now) above.lines) }
 {
     let mut above = Above::new(alloc);

@@ -1,14 +1,15 @@
 ghost use Rattle.std.specs.Prelude.{◌≡◌, IfOk};
 ghost use Rattle.std.specs.Option.{option_copied};
 ghost use Rattle.hg_model.specs.Members.{MemberList};
-ghost use Rattle.hg_script.specs.Words.{Finds, bytes_in};
+ghost use Rattle.hg_script.specs.Words.{ReadsAs, bytes_in};
 ghost use Rattle.hg_script.specs.Lawful.{IsFound};
 ghost use Rattle.hg_script.specs.Table as spec;
 ghost use Rattle.hg_script.specs.declared.line.Action.TheVariants.{Label};
 
 use crate::above::Above;
 use crate::argument::{
-    byte_of, bytes_of, label_of, member_of, new_label, node_of, number_of, parents_of, peer_of,
+    byte_of, label_of, member_of, new_label, node_of, number_of, parents_of, peer_of, raw_bytes,
+    worker_of,
 };
 use crate::fault::Why;
 use crate::found::Found;
@@ -39,7 +40,7 @@ fn create<'a>(
     t: &[u8],
     p: Option<&[u8]>,
 ) -> Result<Found<'a>, Stop<Why>>
-    ensures value { Finds result (spec.create members.now above.now x.now t.now (option_copied p.entry)) }
+    ensures value { ReadsAs result (spec.create members.now above.now x.now t.now (option_copied p.entry)) }
     ensures lawful { IfOk result (IsFound members.now above.now) }
 {
     let member = node_of(members, x)?;
@@ -61,7 +62,7 @@ fn create_line<'a>(
     above: &Above<'_>,
     arguments: &[&[u8]],
 ) -> Result<Found<'a>, Stop<Why>>
-    ensures value { Finds result (spec.two_or_three (spec.create members.now above.now) (bytes_in arguments.now)) }
+    ensures value { ReadsAs result (spec.two_or_three (spec.create members.now above.now) (bytes_in arguments.now)) }
     ensures lawful { IfOk result (IsFound members.now above.now) }
 {
     match arguments {
@@ -81,7 +82,7 @@ fn sync<'a>(
     t: &[u8],
     p: Option<&[u8]>,
 ) -> Result<Found<'a>, Stop<Why>>
-    ensures value { Finds result (spec.sync members.now above.now x.now y.now t.now (option_copied p.entry)) }
+    ensures value { ReadsAs result (spec.sync members.now above.now x.now y.now t.now (option_copied p.entry)) }
     ensures lawful { IfOk result (IsFound members.now above.now) }
 {
     let taker = node_of(members, x)?;
@@ -105,7 +106,7 @@ fn sync_line<'a>(
     above: &Above<'_>,
     arguments: &[&[u8]],
 ) -> Result<Found<'a>, Stop<Why>>
-    ensures value { Finds result (spec.three_or_four (spec.sync members.now above.now) (bytes_in arguments.now)) }
+    ensures value { ReadsAs result (spec.three_or_four (spec.sync members.now above.now) (bytes_in arguments.now)) }
     ensures lawful { IfOk result (IsFound members.now above.now) }
 {
     match arguments {
@@ -135,7 +136,7 @@ fn join<'a>(
     t: &[u8],
     p: Option<&[u8]>,
 ) -> Result<Found<'a>, Stop<Why>>
-    ensures value { Finds result (spec.join members.now above.now x.now l.now t.now (option_copied p.entry)) }
+    ensures value { ReadsAs result (spec.join members.now above.now x.now l.now t.now (option_copied p.entry)) }
     ensures lawful { IfOk result (IsFound members.now above.now) }
 {
     let member = node_of(members, x)?;
@@ -159,7 +160,7 @@ fn join_line<'a>(
     above: &Above<'_>,
     arguments: &[&[u8]],
 ) -> Result<Found<'a>, Stop<Why>>
-    ensures value { Finds result (spec.three_or_four (spec.join members.now above.now) (bytes_in arguments.now)) }
+    ensures value { ReadsAs result (spec.three_or_four (spec.join members.now above.now) (bytes_in arguments.now)) }
     ensures lawful { IfOk result (IsFound members.now above.now) }
 {
     match arguments {
@@ -191,7 +192,7 @@ fn forge<'a>(
     t: &[u8],
     p: Option<&[u8]>,
 ) -> Result<Found<'a>, Stop<Why>>
-    ensures value { Finds result (spec.forge members.now above.now l.now m.now s.now o.now t.now (option_copied p.entry)) }
+    ensures value { ReadsAs result (spec.forge members.now above.now l.now m.now s.now o.now t.now (option_copied p.entry)) }
     ensures lawful { IfOk result (IsFound members.now above.now) }
 {
     let label = new_label(above, l)?;
@@ -216,7 +217,7 @@ fn forge_line<'a>(
     above: &Above<'_>,
     arguments: &[&'a [u8]],
 ) -> Result<Found<'a>, Stop<Why>>
-    ensures value { Finds result (spec.five_or_six (spec.forge members.now above.now) (bytes_in arguments.now)) }
+    ensures value { ReadsAs result (spec.five_or_six (spec.forge members.now above.now) (bytes_in arguments.now)) }
     ensures lawful { IfOk result (IsFound members.now above.now) }
 {
     match arguments {
@@ -228,11 +229,11 @@ fn forge_line<'a>(
 
 #[tactic(auto, unfolding(crate::specs::Table::raw))]
 fn raw<'a>(alloc: Global, above: &Above<'_>, l: &'a [u8], h: &[u8]) -> Result<Found<'a>, Stop<Why>>
-    ensures value { Finds result (spec.raw above.now l.now h.now) }
+    ensures value { ReadsAs result (spec.raw above.now l.now h.now) }
     ensures lawful { (members : MemberList) → IfOk result (IsFound members above.now) }
 {
     let label = new_label(above, l)?;
-    let bytes = bytes_of(alloc, h)?;
+    let bytes = raw_bytes(alloc, h)?;
     Ok(makes(Source::Raw { bytes }, label))
 }
 
@@ -282,6 +283,35 @@ fn give<'a>(members: &Members, above: &Above<'_>, x: &[u8], l: &[u8]) -> Result<
     Ok(gossip(Gossip::Give { member, label }))
 }
 
+#[tactic(auto, unfolding(crate::specs::Table::freeze))]
+fn freeze<'a>(members: &Members, x: &[u8], w: &[u8]) -> Result<Found<'a>, Why>
+    ensures value { result ≡ spec.freeze members.now x.now w.now }
+    ensures lawful { (above : spec.Above) → IfOk result (IsFound members.now above) }
+{
+    let member = node_of(members, x)?;
+    let worker = worker_of(w)?;
+    Ok(Found::does(Action::Freeze { member, worker }))
+}
+
+#[tactic(auto, unfolding(crate::specs::Table::publish))]
+fn publish<'a>(members: &Members, x: &[u8], w: &[u8]) -> Result<Found<'a>, Why>
+    ensures value { result ≡ spec.publish members.now x.now w.now }
+    ensures lawful { (above : spec.Above) → IfOk result (IsFound members.now above) }
+{
+    let member = node_of(members, x)?;
+    let worker = worker_of(w)?;
+    Ok(Found::does(Action::Publish { member, worker }))
+}
+
+#[tactic(auto, unfolding(crate::specs::Table::show_kept))]
+fn show_kept<'a>(members: &Members, x: &[u8]) -> Result<Found<'a>, Why>
+    ensures value { result ≡ spec.show_kept members.now x.now }
+    ensures lawful { (above : spec.Above) → IfOk result (IsFound members.now above) }
+{
+    let member = node_of(members, x)?;
+    Ok(Found::does(Action::Kept { member }))
+}
+
 #[tactic(auto, unfolding(crate::specs::Table::show))]
 fn show<'a>(members: &Members, x: &[u8]) -> Result<Found<'a>, Why>
     ensures value { result ≡ spec.show members.now x.now }
@@ -307,7 +337,7 @@ fn line_by<'a>(
     verb: Verb,
     arguments: &[&'a [u8]],
 ) -> Result<Found<'a>, Stop<Why>>
-    ensures value { Finds result (spec.line_by members.now above.now verb (bytes_in arguments.now)) }
+    ensures value { ReadsAs result (spec.line_by members.now above.now verb (bytes_in arguments.now)) }
     ensures lawful { IfOk result (IsFound members.now above.now) }
 {
     match (verb, arguments) {
@@ -327,6 +357,12 @@ fn line_by<'a>(
         (Verb::Cut, _) => Err(Stop::Fault(Why::Arity)),
         (Verb::Give, [x, l]) => Ok(give(members, above, x, l)?),
         (Verb::Give, _) => Err(Stop::Fault(Why::Arity)),
+        (Verb::Freeze, [x, w]) => Ok(freeze(members, x, w)?),
+        (Verb::Freeze, _) => Err(Stop::Fault(Why::Arity)),
+        (Verb::Publish, [x, w]) => Ok(publish(members, x, w)?),
+        (Verb::Publish, _) => Err(Stop::Fault(Why::Arity)),
+        (Verb::Kept, [x]) => Ok(show_kept(members, x)?),
+        (Verb::Kept, _) => Err(Stop::Fault(Why::Arity)),
         (Verb::Show, [x]) => Ok(show(members, x)?),
         (Verb::Show, _) => Err(Stop::Fault(Why::Arity)),
         (Verb::Names, [x]) => Ok(names(members, x)?),
@@ -342,7 +378,7 @@ pub fn found_by<'a>(
     word: &[u8],
     arguments: &[&'a [u8]],
 ) -> Result<Found<'a>, Stop<Why>>
-    ensures value { Finds result (spec.found_by members.now above.now word.now (bytes_in arguments.now)) }
+    ensures value { ReadsAs result (spec.found_by members.now above.now word.now (bytes_in arguments.now)) }
     ensures lawful { IfOk result (IsFound members.now above.now) }
 {
     match Verb::of(word) {
