@@ -87,6 +87,30 @@ fn lines_are_read(rt: HostRuntime) -> Result<(), Fail> {
     Ok(())
 }
 
+const WORKER_LINES: [(&[u8], &str); 3] = [
+    (b"freeze m1 15", "Freeze { member: 1, worker: 15 }"),
+    (b"publish m0 0", "Publish { member: 0, worker: 0 }"),
+    (b"kept m1", "Kept { member: 1 }"),
+];
+
+#[test]
+fn workers_are_below_16(rt: HostRuntime) -> Result<(), Fail> {
+    for (text, action) in &WORKER_LINES {
+        let lines = lines_of(&rt, rt.alloc(), text)?;
+        let read = format!(in rt.alloc(); "{:?}", lines.as_slice()[0].action)?;
+        assert_eq!(rt; read.as_str(), *action);
+    }
+    let fault = ScriptFault {
+        line: 1,
+        why: Why::Number,
+    };
+    assert_eq!(rt;
+        fault_of(&rt, rt.alloc(), b"freeze m1 16")?,
+        Some(fault)
+    );
+    Ok(())
+}
+
 #[test]
 fn no_bytes_are_no_lines(rt: HostRuntime) -> Result<(), Fail> {
     let lines = lines_of(&rt, rt.alloc(), &[])?;

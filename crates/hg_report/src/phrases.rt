@@ -1,4 +1,5 @@
 ghost use Rattle.std.specs.Prelude.{◌≡◌, ◌++◌};
+ghost use Rattle.std.specs.Fmt.{decimal};
 ghost use Rattle.hg_model.specs.Report.{byte_fault_text, fault_text, make_answer_text, make_fault_text, put_answer_text, sync_made_text};
 ghost use Rattle.hg_report.specs.Phrases.{phrase_text};
 ghost use Rattle.hg_report.specs.Pieces.{piece_text};
@@ -72,6 +73,13 @@ fn phrase_of<'a>(first: &'a [u8], parts: (&'a [u8], Piece<'a>)) -> Phrase<'a>
     }
 }
 
+/// A number alone.
+pub(crate) fn number_phrase(number: u64) -> Phrase<'static>
+    ensures { phrase_text result ≡ decimal number }
+{
+    phrase_of(b"", (b"", Piece::Number(number)))
+}
+
 /// What came of bytes that were put to a node.
 pub(crate) fn put_answer_phrase(answer: &PutAnswer) -> Phrase<'_>
     ensures { phrase_text result ≡ put_answer_text answer.now }
@@ -98,7 +106,7 @@ pub(crate) fn sync_made_phrase(made: &SyncMade) -> Phrase<'_>
     ensures { phrase_text result ≡ sync_made_text made.now }
 {
     match made {
-        SyncMade::Row(place) => phrase_of(b"", (b"", Piece::Number(*place as u64))),
+        SyncMade::Row(place) => number_phrase(*place as u64),
         SyncMade::PeerBare => phrase_of(b"", (b"none peer-bare", Piece::Bytes(b""))),
         SyncMade::Fault(fault) => phrase_of(b"none ", make_fault_parts(fault)),
     }

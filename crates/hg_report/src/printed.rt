@@ -3,7 +3,9 @@ ghost use Rattle.hg_model.specs.Report.{printed_text, printed_texts, pull_line, 
 ghost use Rattle.hg_report.specs.Writes.{PutsAnswer};
 
 use crate::block::write_block;
-use crate::phrases::{Phrase, make_answer_phrase, put_answer_phrase, sync_made_phrase};
+use crate::phrases::{
+    Phrase, make_answer_phrase, number_phrase, put_answer_phrase, sync_made_phrase,
+};
 use crate::pieces::{Piece, write_pieces};
 use hg_io::{Failed, Page, Sink};
 use hg_model::{Bytes, Outcome, Printed, SyncReport};
@@ -109,6 +111,12 @@ fn write_printed<K: Sink>(
         } => write_pull(page, sink, *line, *taken, *refused),
         Printed::Give { line, answer } => {
             write_answer(page, sink, *line, b"give", put_answer_phrase(answer))
+        }
+        Printed::Freeze { line, len } => {
+            write_answer(page, sink, *line, b"freeze", number_phrase(*len))
+        }
+        Printed::Publish { line, count } => {
+            write_answer(page, sink, *line, b"publish", number_phrase(u64::from(*count)))
         }
         Printed::Block(block) => write_block(page, sink, false, names, block),
         Printed::Names(block) => write_block(page, sink, true, names, block),

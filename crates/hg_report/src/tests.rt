@@ -9,7 +9,7 @@ use std::test::Fail;
 
 // As the description of the report's lines has them.
 const TEXT: &str =
-    "1 create made 0\n2 create refused missing-other 070707070707070707070707070707070707070707070707070707070707070707070707070707070707070707070707\n3 sync taken 4 refused 1 made 5\n12 sync taken 0 refused 0 made none full 16384\nnode B events 20 forkers 1 round 4 closed 2 ordered 3\n1 A 0 round 2 time 18446744073709551615 paid 1 of 12\n2 B 7 round 2 time 9 unread\n3 A 1 round 3 time 9 -\nbalance A 100\nbalance B 0\n";
+    "1 create made 0\n2 create refused missing-other 070707070707070707070707070707070707070707070707070707070707070707070707070707070707070707070707\n3 sync taken 4 refused 1 made 5\n12 sync taken 0 refused 0 made none full 16384\n13 freeze 20\n14 publish 7\nnode B events 20 forkers 1 round 4 closed 2 ordered 3\n1 A 0 round 2 time 18446744073709551615 paid 1 of 12\n2 B 7 round 2 time 9 unread\n3 A 1 round 3 time 9 -\nbalance A 100\nbalance B 0\n";
 
 fn outcome(alloc: Global) -> Result<Outcome, Fail> {
     let mut names = Vec::new(alloc);
@@ -40,6 +40,8 @@ fn outcome(alloc: Global) -> Result<Outcome, Fail> {
             made: SyncMade::Fault(MakeFault::Full(16384)),
         },
     })?;
+    printed.push(Printed::Freeze { line: 13, len: 20 })?;
+    printed.push(Printed::Publish { line: 14, count: 7 })?;
     let order = [
         OrderLine {
             creator: 0,
