@@ -116,7 +116,13 @@ fn write_printed<K: Sink>(
             write_answer(page, sink, *line, b"freeze", number_phrase(*len))
         }
         Printed::Publish { line, count } => {
-            write_answer(page, sink, *line, b"publish", number_phrase(u64::from(*count)))
+            write_answer(
+                page,
+                sink,
+                *line,
+                b"publish",
+                number_phrase(u64::from(*count)),
+            )
         }
         Printed::Block(block) => write_block(page, sink, false, names, block),
         Printed::Names(block) => write_block(page, sink, true, names, block),

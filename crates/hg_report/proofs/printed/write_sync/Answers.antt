@@ -1,4 +1,4 @@
-use Rattle.std.proofs.Common.{◌≡◌, ◌∙◌, ◌++◌, List, ℕ, ap, codes, subst, sym, append_assoc}
+use Rattle.std.proofs.Common.{◌∙◌, ◌++◌, List, ℕ, ap, codes, subst, sym, append_assoc}
 use Rattle.std.specs.Fmt.{decimal}
 use Rattle.hg_io.specs.Printing.{Puts, desk}
 use Rattle.hg_model.specs.Report.{with_number}
