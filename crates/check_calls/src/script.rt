@@ -27,11 +27,11 @@ fn fault_of(rt: &impl Abort, alloc: Global, bytes: &[u8]) -> Result<Option<Scrip
 }
 
 const SCRIPT: &[u8] =
-    b"create m1 2\ncreate m0 4 pay:m1=30\r\nsync\tm1  m0 4 \n\tsync m0 m1 18446744073709551615 hex:0aFF\n# labels\nraw a 00Ff\n\ngive m0 a\nname m1 m1\njoin m1 m1 7\nforge f n a m1 8\npull m1 m0\nalter g f 3 255\ncut h g 0\ngive m1 h\nforge i m0 - - 9\nshow m0\nnames m1\nsync m1 m0 00000000000000000028";
+    b"create m1 2\ncreate m0 4 pay:m1=30\r\nsync\tm1  m0 4 \n\tsync m0 m1 18446744073709551615 hex:0aFF\n# labels\nraw a 00Ff\n\ngive m0 a\nname m1 m1\njoin m1 m1 7\nforge f n a m1 8\npull m1 m0\nalter g f 3 255\ncut h g 0\ngive m1 h\nforge i m0 - - 9\nshow m0\nnames m1\nsync m1 m0 00000000000000000028\nfreeze m1 15\npublish m0 0\nkept m1";
 
 // The number of each of its lines, and what the line does. A label is told by how many were made above it, whatever
 // stands between.
-const LINES: [(u64, &str); 17] = [
+const LINES: [(u64, &str); 20] = [
     (
         1,
         "Gossip(Create { member: 1, time: 2, payload: Items { items: [] } })",
@@ -73,6 +73,9 @@ const LINES: [(u64, &str); 17] = [
         19,
         "Gossip(Sync { taker: 1, peer: 0, time: 28, payload: Items { items: [] } })",
     ),
+    (20, "Freeze { member: 1, worker: 15 }"),
+    (21, "Publish { member: 0, worker: 0 }"),
+    (22, "Kept { member: 1 }"),
 ];
 
 #[test]
@@ -84,30 +87,6 @@ fn lines_are_read(rt: HostRuntime) -> Result<(), Fail> {
         let matches = format!(in rt.alloc(); "{:?}", line.action)?;
         assert_eq!(rt; matches.as_str(), *action);
     }
-    Ok(())
-}
-
-const WORKER_LINES: [(&[u8], &str); 3] = [
-    (b"freeze m1 15", "Freeze { member: 1, worker: 15 }"),
-    (b"publish m0 0", "Publish { member: 0, worker: 0 }"),
-    (b"kept m1", "Kept { member: 1 }"),
-];
-
-#[test]
-fn workers_are_below_16(rt: HostRuntime) -> Result<(), Fail> {
-    for (text, action) in &WORKER_LINES {
-        let lines = lines_of(&rt, rt.alloc(), text)?;
-        let read = format!(in rt.alloc(); "{:?}", lines.as_slice()[0].action)?;
-        assert_eq!(rt; read.as_str(), *action);
-    }
-    let fault = ScriptFault {
-        line: 1,
-        why: Why::Number,
-    };
-    assert_eq!(rt;
-        fault_of(&rt, rt.alloc(), b"freeze m1 16")?,
-        Some(fault)
-    );
     Ok(())
 }
 
@@ -154,7 +133,7 @@ fn digits_have_a_limit(rt: HostRuntime) -> Result<(), Fail> {
 }
 
 // What an implementation in another language answers to such lines.
-const REFUSED: [(&[u8], u64, Why); 26] = [
+const REFUSED: [(&[u8], u64, Why); 27] = [
     (b"create m1 1\ncreate m0 \xed\xa0\x80\n", 2, Why::Utf8),
     (b"createm1 m1 1\n", 1, Why::Word),
     (b"create\x0bm1 m1 1\n", 1, Why::Word),
@@ -181,6 +160,7 @@ const REFUSED: [(&[u8], u64, Why); 26] = [
     (b"create m1 1 pay:m1=1,\n", 1, Why::Payload),
     (b"create m1 1 pay:m9=x\n", 1, Why::Member),
     (b"create m1 1 pay:#70000=1\n", 1, Why::Number),
+    (b"freeze m1 16\n", 1, Why::Number),
 ];
 
 #[test]
