@@ -1,21 +1,29 @@
 -- What the nodes of a world began with, and that to settle nodes leaves all rows
-use Rattle.std.proofs.Common.{◌≡◌, ℕ, zero, suc, ◌<◌, Bool, true, false, cond, List, [], ◌∷◌, ◌++◌, length, map, fold, get_or, sym, refl, ap, ◌∙◌, arith, zero-add}
-use Rattle.std.proofs.lemmas.List.{length-map, get_or-map, fold-append}
+use Rattle.std.proofs.Common.{◌≡◌, ℕ, zero, suc, ◌+◌, ◌<◌, Bool, true, false, cond, List, [], ◌∷◌, ◌++◌, length, map, fold, get_or, sym, refl, ap, ◌∙◌, subst, ◌==◌, arith, add-one, zero-add}
+use Rattle.std.proofs.lemmas.List.{length-map, get_or-map}
+use Rattle.std.proofs.lemmas.List.Sums.{fold-append}
 use Rattle.std.proofs.lemmas.List.FromFn.{get_or-map-range_with_len, length-map-range_with_len}
 use Rattle.std.proofs.Math.Seq.{map-set_same}
 use Rattle.hg_model.specs.declared.row.Row.{Row}
-use Rattle.hg_model.specs.Members.{MemberList, has_node}
+use Rattle.hg_model.specs.declared.outcome.Printed.{Printed}
+use Rattle.hg_model.specs.declared.outcome.Printed.TheVariants as printed
+use Rattle.hg_model.specs.Ledger.{block_of}
+use Rattle.hg_model.specs.Members.{MemberList, has_node, stakes_of}
 use Rattle.hg_model.specs.Shares.{Share, whole}
 use Rattle.hg_model.specs.History.{State}
-use Rattle.hg_model.specs.NodeView.{NodeView, Start, node_rows}
+use Rattle.hg_model.specs.History.Change.{Marked}
+use Rattle.hg_model.specs.NodeView.{NodeView, Start, node_rows, with_changes}
 use Rattle.hg_model.specs.Calls.{publish_answer, publish_changes}
 use Rattle.hg_history.proofs.CallLaws.{with_none}
 use Rattle.hg_history.proofs.StateLaws.{replay-push}
 use Rattle.hg_world.specs.declared.step.Step.{Step}
 use Rattle.hg_world.specs.declared.step.Step.TheVariants.{Make, Deliver, Freeze, Publish}
-use Rattle.hg_world.specs.World.{Secrets, Site, WorldView, no_site, site_at, node_at, rows_at, frozen_by, with_site}
+use Rattle.hg_runs.specs.Safety.{IsSafe}
+use Rattle.hg_world.specs.World.{Secrets, Site, WorldView, new_world, no_site, site_at, node_at, rows_at, run_of, frozen_by, with_site}
 use Rattle.hg_world.specs.Steps.{after_step, after_steps, node_published, settle_steps}
-use Rattle.hg_play.specs.Play.{end_steps}
+use Rattle.hg_script.specs.declared.line.Line.{Line}
+use Rattle.hg_play.specs.Lines.{action_steps}
+use Rattle.hg_play.specs.Play.{Stage, IsSafePlay, after_line, after_lines, block_at, end_steps, first_stage, lines_steps, play_run, play_steps}
 use Rattle.hg_play.specs.Sites.{start_in, starts, starts_of}
 
 -- one step after the others
@@ -63,14 +71,13 @@ rows_read v w m same inside =
     ∙ (ap (λ (xs : List (List Row)). get_or xs m []) same ∙ get_or-map rows w.sites m no_site [] inside)
 
 -- to publish leaves the rows
+rows_published_if : (v : NodeView Secrets) (len : ℕ) (share : Share) (none : Bool) → node_rows (with_changes v (cond none [] (Marked len share ∷ []))) ≡ node_rows v
+rows_published_if v len share true = ap (λ (w : NodeView Secrets). node_rows w) (with_none v [] refl)
+rows_published_if v len share false = ap (λ (s : State). s.rows) (replay-push v.start.members v.start.coin v.history (Marked len share))
+
 rows_published : (v : NodeView Secrets) (len : ℕ) (share : Share) → node_rows (node_published v len share) ≡ node_rows v
 unfolding publish_changes
-rows_published v len share = published (publish_answer v len share == 0)
-  where
-    open Rattle.std.proofs.Common.{◌==◌}
-    published : (none : Bool) → node_rows (Rattle.hg_model.specs.NodeView.with_changes v (cond none [] (Rattle.hg_model.specs.History.Change.Marked len share ∷ []))) ≡ node_rows v
-    published true = ap (λ (w : NodeView Secrets). node_rows w) (with_none v [] refl)
-    published false = ap (λ (s : State). s.rows) (replay-push v.start.members v.start.coin v.history (Rattle.hg_model.specs.History.Change.Marked len share))
+rows_published v len share = rows_published_if v len share (publish_answer v len share == 0)
 
 with_rows : (w : WorldView) (m : ℕ) (site : Site) → node_rows site.node ≡ rows_at w m → all_rows (with_site w m site) ≡ all_rows w
 with_rows w m site same = map-set_same (λ (s : Site). node_rows s.node) w.sites m site no_site same
@@ -91,3 +98,78 @@ rows-end members w (suc k) =
     let before = end_steps members k in
     ap all_rows (steps-append w before (cond (has_node members k) (settle_steps k) []))
     ∙ (rows-end_step (after_steps w before) k (has_node members k) ∙ rows-end members w k)
+
+-- and the blocks of all
+pub block_same : (members : MemberList) (w : WorldView) (k m : ℕ) → m < length w.sites → block_at members (after_steps w (end_steps members k)) m ≡ block_at members w m
+block_same members w k m inside =
+    ap (λ (G : List Row). let p : Printed = printed.Block (block_of members m G) in p) (rows_read (after_steps w (end_steps members k)) w m (rows-end members w k) inside)
+
+-- the steps of one more node
+pub steps-more : (members : MemberList) (w : WorldView) (m : ℕ) (before after : WorldView) → before ≡ after_steps w (end_steps members m) →
+    after ≡ after_steps before (cond (has_node members m) (settle_steps m) []) → after ≡ after_steps w (end_steps members (m + 1))
+steps-more members w m before after before_is after_is =
+    rw add-one
+    (after_is ∙ (ap (λ (v : WorldView). after_steps v (cond (has_node members m) (settle_steps m) [])) before_is
+    ∙ sym (steps-append w (end_steps members m) (cond (has_node members m) (settle_steps m) []))))
+
+-- lines leave what the nodes began with
+pub starts-lines : (members : MemberList) (s : Stage) (lines : List Line) → starts_of (after_lines members s lines).world ≡ starts_of s.world
+starts-lines members s [] = refl
+starts-lines members s (line ∷ lines) =
+    starts-lines members (after_line members s line) lines ∙ starts-steps s.world (action_steps s.world s.labels line.action)
+
+-- and how many nodes there are
+pub sites_length : (v w : WorldView) → starts_of v ≡ starts_of w → length v.sites ≡ length w.sites
+sites_length v w same =
+    sym (length-map v.sites (λ (s : Site). s.node.start)) ∙ (ap length same ∙ length-map w.sites (λ (s : Site). s.node.start))
+
+-- the world after lines is that after their steps
+lines-steps : (members : MemberList) (s : Stage) (lines : List Line) → (after_lines members s lines).world ≡ after_steps s.world (lines_steps members s lines)
+lines-steps members s [] = refl
+lines-steps members s (line ∷ lines) =
+    let now = action_steps s.world s.labels line.action in
+    lines-steps members (after_line members s line) lines
+    ∙ sym (steps-append s.world now (lines_steps members (after_line members s line) lines))
+
+-- and after all steps of a script it is that in which the play ends
+pub play-steps : (members : MemberList) (lines : List Line) (last : WorldView) →
+    last ≡ after_steps (after_lines members (first_stage members) lines).world (end_steps members (length members.entries)) →
+    last ≡ after_steps (new_world members) (play_steps members lines)
+play-steps members lines last is =
+    let all = lines_steps members (first_stage members) lines in
+    let ends = end_steps members (length members.entries) in
+    is ∙ (ap (λ (w : WorldView). after_steps w ends) (lines-steps members (first_stage members) lines) ∙ sym (steps-append (new_world members) all ends))
+
+-- steps leave members and coin period
+pub members-steps : (w : WorldView) (steps : List Step) → (after_steps w steps).members ≡ w.members
+members-steps w [] = refl
+members-steps w (step ∷ steps) = members-steps (after_step w step) steps ∙ members-step w step
+  where
+    members-step : (w : WorldView) (step : Step) → (after_step w step).members ≡ w.members
+    members-step w (Make m other time payload) = refl
+    members-step w (Deliver m bytes) = refl
+    members-step w (Freeze m worker) = refl
+    members-step w (Publish m worker share) = refl
+
+pub coin-steps : (w : WorldView) (steps : List Step) → (after_steps w steps).coin ≡ w.coin
+coin-steps w [] = refl
+coin-steps w (step ∷ steps) = coin-steps (after_step w step) steps ∙ coin-step w step
+  where
+    coin-step : (w : WorldView) (step : Step) → (after_step w step).coin ≡ w.coin
+    coin-step w (Make m other time payload) = refl
+    coin-step w (Deliver m bytes) = refl
+    coin-step w (Freeze m worker) = refl
+    coin-step w (Publish m worker share) = refl
+
+-- so it is safe, where the last world is
+pub safe-play : (members : MemberList) (lines : List Line) (last : WorldView) →
+    last ≡ after_steps (after_lines members (first_stage members) lines).world (end_steps members (length members.entries)) →
+    IsSafe last.members last.coin (run_of last) → IsSafePlay members lines
+unfolding play_run
+safe-play members lines last is safe =
+    let whole = play_steps members lines in
+    let all = play-steps members lines last is in
+    let count : last.members ≡ stakes_of members = ap (λ (w : WorldView). w.members) all ∙ members-steps (new_world members) whole in
+    let coin : last.coin ≡ members.coin = ap (λ (w : WorldView). w.coin) all ∙ coin-steps (new_world members) whole in
+    subst (λ (w : WorldView). IsSafe (stakes_of members) members.coin (run_of w)) all
+    (subst (λ (n : ℕ). IsSafe n members.coin (run_of last)) count (subst (λ (k : ℕ). IsSafe last.members k (run_of last)) coin safe))

@@ -50,7 +50,8 @@ pub(crate) fn kept_at(
     requires starts { starts_of world.now ≡ starts members.now }
     ensures { IfOk result (λ block. block ≡ kept_block members.now member (node_at world.now member)) }
 {
-    kept_block(alloc, members, member, world.node(member))
+    let block = kept_block(alloc, members, member, world.node(member))?;
+    Ok(block)
 }
 
 /// The block of the node of a member, which is settled for it.
@@ -66,7 +67,8 @@ pub(crate) fn settled_at(
     ensures world { OnOk result (world.new ≡ after_steps world.old (settle_steps member)) }
 {
     world.settle(member)?;
-    kept_at(alloc, members, world, member)
+    let block = kept_at(alloc, members, world, member)?;
+    Ok(block)
 }
 
 /// The block of a node behind what was printed, if the member has one.

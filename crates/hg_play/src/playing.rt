@@ -37,7 +37,7 @@ pub fn play(alloc: Global, members: &Members, lines: &[Line]) -> Result<Outcome,
     push_blocks(alloc, members, &mut world, &mut printed)?;
     let names = names(alloc, members)?;
     // That the run up to here is safe.
-    world.count();
+    world.members();
     Ok(Outcome {
         names,
         printed: Items::from_vec(printed),

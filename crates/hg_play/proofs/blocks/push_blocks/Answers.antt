@@ -1,29 +1,40 @@
-use Rattle.std.proofs.Common.{◌≡◌, ◌∙◌, ◌++◌, ◌∷◌, [], ℕ, List, ap, cond, length, refl, arith}
+use Rattle.std.proofs.Common.{◌≡◌, ◌∙◌, ◌++◌, ◌∷◌, [], ℕ, List, ap, cond, length, refl, sym, arith, add-one, ◌<◌}
+use Rattle.hg_model.specs.declared.outcome.Printed.{Printed}
 use Rattle.hg_model.specs.Places.{list_below}
 use Rattle.hg_model.specs.Members.{has_node}
-use Rattle.hg_play.specs.Node.{Player, starts_of, states_of}
-use Rattle.hg_play.specs.Play.{block_at}
-use Rattle.hg_play.proofs.PlayLaws.{block_more, no_blocks, starts_length}
+use Rattle.hg_world.specs.World.{WorldView}
+use Rattle.hg_world.specs.Steps.{after_steps, settle_steps}
+use Rattle.hg_play.specs.Play.{block_at, end_steps}
+use Rattle.hg_play.specs.Sites.{starts, starts_of}
+use Rattle.hg_play.proofs.PlayLaws.{block_more, no_blocks}
+use Rattle.hg_play.proofs.WorldLaws.{block_same, starts_length, starts-steps, steps-more}
 use Rattle.hg_play.proofs.blocks.push_blocks.Goals as goal
 
 pub loop-member-init : goal.loop-member-init
-loop-member-init c = record { same = refl; printed = no_blocks c.args.members.now (states_of c.args.nodes.now) c.args.printed.now.items }
+loop-member-init c = record { world = refl; printed = no_blocks c.args.members.now c.args.world.now c.args.printed.now.items }
 
 pub push_block-requires-clause-starts : goal.push_block-requires-clause-starts
-push_block-requires-clause-starts c = ap starts_of c.loop-member.invariant.same ∙ c.requires.starts
+push_block-requires-clause-starts c =
+    ap starts_of c.loop-member.invariant.world ∙ (starts-steps c.args.world.now (end_steps c.args.members.now c.loop-member.member) ∙ c.requires)
+
+pub push_block-requires-clause-below : goal.push_block-requires-clause-below
+push_block-requires-clause-below c =
+    let begun : starts_of c.loop-member.world ≡ starts c.args.members.now =
+    ap starts_of c.loop-member.invariant.world ∙ (starts-steps c.args.world.now (end_steps c.args.members.now c.loop-member.member) ∙ c.requires) in
+    let long = starts_length c.args.members.now c.loop-member.world begun in
+    omega (arith, long, c.count-member-end.ensures.value, c.loop-member-test.true)
 
 pub loop-member-preserved : goal.loop-member-preserved
-loop-member-preserved c = record {
-  same = c.in_ok-push_block.ensures.same ∙ c.loop-member.invariant.same;
-  printed =
-      block_more c.args.members.now (states_of c.args.nodes.now) c.loop-member.printed.items c.args.printed.now.items c.loop-member.member c.push_block.new.printed.items c.loop-member.invariant.printed
-      (c.in_ok-push_block.ensures.printed
-      ∙ ap (λ (players : List Player). c.loop-member.printed.items ++ cond (has_node c.args.members.now c.loop-member.member) (block_at c.args.members.now (states_of players) c.loop-member.member ∷ []) []) c.loop-member.invariant.same);
-}
-
-pub returns : goal.returns
-returns c =
-    let long = starts_length c.args.members.now c.args.nodes.now c.requires.starts in
-    let at : c.loop-member.member ≡ length c.args.members.now.entries = omega (arith, long, c.loop-member-test.false, c.loop-member.auto.member-end) in
-    c.loop-member.invariant.printed
-    ∙ ap (λ (m : ℕ). c.args.printed.now.items ++ list_below (block_at c.args.members.now (states_of c.args.nodes.now)) m (has_node c.args.members.now)) at
+loop-member-preserved c =
+    let members = c.args.members.now in
+    let m = c.loop-member.member in
+    let w : WorldView = c.args.world.now in
+    let long = starts_length members w c.requires in
+    let inside : m < length w.sites = omega (arith, long, c.count-member-end.ensures.value, c.loop-member-test.true) in
+    let block : block_at members c.loop-member.world m ≡ block_at members w m = ap (λ (v : WorldView). block_at members v m) c.loop-member.invariant.world ∙ block_same members w m m inside in
+    record {
+      world = steps-more members w m c.loop-member.world c.push_block.new.world c.loop-member.invariant.world c.in_ok-push_block.ensures.world;
+      printed =
+          block_more members w c.loop-member.printed.items c.args.printed.now.items m c.push_block.new.printed.items c.loop-member.invariant.printed
+          (c.in_ok-push_block.ensures.printed ∙ ap (λ (b : Printed). c.loop-member.printed.items ++ cond (has_node members m) (b ∷ []) []) block);
+    }
