@@ -1,7 +1,7 @@
 -- The test of a list of members passes just where the list keeps to its rules.
-use Rattle.std.proofs.Common.{◌≡◌, ℕ, zero, suc, ◌<◌, ◌≤◌, ◌^◌, Bool, true, false, not, ◌&&◌, List, [], ◌∷◌, length, get_or, sum_by, All, AllPairs, refl, sym, ◌∙◌, arith}
+use Rattle.std.proofs.Common.{◌≡◌, ℕ, suc, ◌^◌, true, not, ◌&&◌, List, [], ◌∷◌, length, get_or, sum_by, All, AllPairs, refl, sym, ◌∙◌, arith}
 use Rattle.std.specs.Prelude.{nat_le, nat_lt}
-use Rattle.std.specs.List.{list_all, list_any}
+use Rattle.std.specs.List.{list_all}
 use Rattle.std.specs.Str.{bytes_eq}
 use Rattle.std.proofs.lemmas.Bool.{and_parts, and_from, not-true, not_from_false, false_from_ne_true, leb-true, le-leb, ltb-true, lt-ltb, false≢true}
 use Rattle.std.proofs.lemmas.List.Elements.{All-cons, All-nil, All-head, All-tail}
@@ -9,7 +9,7 @@ use Rattle.std.proofs.lemmas.List.Folds.{list_any_at, list_any_none}
 use Rattle.std.proofs.lemmas.List.Kept.{AllPairs-cons}
 use Rattle.std.proofs.lemmas.Slice.Eq.{bytes_eq-Decides}
 use Rattle.hg_model.specs.declared.members.MemberEntry.{MemberEntry}
-use Rattle.hg_model.specs.Members.{MemberList, IsEntry, IsMemberList, listed, is_entry, has_name, are_named_apart, are_in_range, is_member_list, is_member_name}
+use Rattle.hg_model.specs.Members.{IsEntry, IsMemberList, listed, is_entry, has_name, are_named_apart, are_in_range, is_member_list, is_member_name}
 
 entry_to : (e : MemberEntry) → is_entry e ≡ true → IsEntry e
 entry_to e h =

@@ -24,7 +24,7 @@ use Rattle.hg_model.specs.Graph.{IsGraph, name_at}
 use Rattle.hg_model.specs.Rounds.{round_of, is_witness, is_seen_witness, last_round}
 use Rattle.hg_model.specs.Votes.{weighed_vote, weighed_decides, yes_votes, no_votes, vote_of, decides}
 use Rattle.hg_model.specs.Fame.{fame_of, fame_marks, is_closed, is_unique_famous, Marks}
-use Rattle.hg_model.specs.Order.{coin_at, sig_at, time_at, sort_by, median, can_receive, round_received, consensus_time, whitening, ordered_in, ordered, order_of, last_closed, sequence_of}
+use Rattle.hg_model.specs.Order.{coin_at, sig_at, time_at, sort_by, median, can_receive, round_received, consensus_time, whitening, ordered_in, ordered, last_closed, sequence_of}
 use Rattle.hg_model.specs.Verdict.{row_verdict}
 use Rattle.hg_model.specs.Pay.{pay_bytes, read_pay, paid, book_of}
 use Rattle.hg_model.specs.Members.{listed}

@@ -1,4 +1,4 @@
-use Rattle.std.proofs.Common.{◌≡◌, ◌∙◌, ap, sym, true}
+use Rattle.std.proofs.Common.{◌∙◌, ap, sym}
 use Rattle.std.proofs.lemmas.Bool.{false≢true}
 use Rattle.hg_model.specs.Members.{is_member_list}
 use Rattle.hg_model.proofs.MemberLaws.{member_list_to, member_list_from}
