@@ -1,3 +1,4 @@
 pub mod World
+pub mod Kept
 pub mod Steps
 pub mod Syncs

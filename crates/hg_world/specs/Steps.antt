@@ -1,6 +1,6 @@
 -- A run step by step: what each step makes of the world, and what it answers. SWIRLDS-TR-2016-01, sections 2 to 4.
 -- Publishing by workers, of rows that they froze before, is our own
-use Rattle.std.specs.Prelude.{ℕ, ◌≡◌, ◌<◌, List, [], ◌∷◌, ◌++◌, fold, length, Option, Some, None}
+use Rattle.std.specs.Prelude.{ℕ, ◌≡◌, ◌<◌, List, [], ◌∷◌, ◌++◌, fold, length}
 use Rattle.std.specs.Option.{option_to_list}
 use Rattle.hg_model.specs.declared.answers.PutAnswer.{PutAnswer}
 use Rattle.hg_model.specs.declared.answers.MakeAnswer.{MakeAnswer}

@@ -1,18 +1,21 @@
 -- Gossip as steps of a run: what one member's node takes from another's, and the event that it makes then.
 -- SWIRLDS-TR-2016-01, section 3
-use Rattle.std.specs.Prelude.{ℕ, List, [], ◌∷◌, ◌++◌, map, Option, Some, None}
+use Rattle.std.specs.Prelude.{ℕ, ◌≡◌, cond, List, [], ◌∷◌, ◌++◌, map, slice_get, Option, Some, None, option_map}
+use Rattle.hg_model.specs.declared.row.Row.{Row}
 use Rattle.hg_model.specs.declared.answers.SyncMade.{SyncMade}
 use Rattle.hg_model.specs.declared.answers.SyncMade.TheVariants as sync_made
 use Rattle.hg_model.specs.declared.answers.SyncReport.{SyncReport}
 use Rattle.hg_model.specs.Gossip.{made_in_sync}
 use Rattle.hg_model.specs.Signing.{accepts_by}
-use Rattle.hg_model.specs.Verdict.{last_name}
+use Rattle.hg_model.specs.Spelling.{spelling}
+use Rattle.hg_model.specs.Verdict.{is_held, last_name}
 use Rattle.hg_model.specs.NodeView.{NodeView, node_rows}
-use Rattle.hg_gossip.specs.Nodes.{Taking, lacked, pulling}
+use Rattle.hg_gossip.specs.declared.gossip.Taken.{Taken}
+use Rattle.hg_gossip.specs.Nodes.{Taking, lacked, pulling, taking, taking_of}
 use Rattle.hg_world.specs.declared.step.Step.{Step}
 use Rattle.hg_world.specs.declared.step.Step.TheVariants.{Make, Deliver}
 use Rattle.hg_world.specs.World.{Secrets, WorldView, node_at}
-use Rattle.hg_world.specs.Steps.{making_at}
+use Rattle.hg_world.specs.Steps.{making_at, after_steps}
 
 -- the bytes of the peer's rows whose names the taker lacks are delivered, in the peer's order
 abbrev pub pull_steps : WorldView → ℕ → ℕ → List Step
@@ -48,3 +51,36 @@ sync_report w taker peer time payload = record {
   refused = (pulled w taker peer).counts.refused;
   made = made_after (pulled w taker peer).node (last_made (node_at w peer)) time payload;
 }
+
+-- bytes that are delivered to a member's node, one after the other
+abbrev pub deliver_steps : ℕ → List (List ℕ) → List Step
+deliver_steps m events = map (λ (bytes : List ℕ). Deliver m bytes) events
+
+-- they were, and so many were taken and refused
+pub record HasTaken (old : WorldView) (m : ℕ) (events : List (List ℕ)) (counts : Taken) (new : WorldView) : Type 0 where
+  pub after : new ≡ after_steps old (deliver_steps m events)
+  pub counted : taking_of (node_at new m) counts ≡ taking accepts_by (node_at old m) events
+
+-- the taker pulled from the peer: its counts, and the world and the taker's node then
+pub record HasPulled (old : WorldView) (taker peer : ℕ) (taken : Taken) (new : WorldView) : Type 0 where
+  pub counts : taken ≡ (pulled old taker peer).counts
+  pub after : new ≡ after_steps old (pull_steps old taker peer)
+  pub node : node_at new taker ≡ (pulled old taker peer).node
+
+-- it synced with the peer
+abbrev pub HasSynced : WorldView → ℕ → ℕ → ℕ → List ℕ → SyncReport → WorldView → Type 0
+HasSynced old taker peer time payload report new =
+    (report ≡ sync_report old taker peer time payload) × (new ≡ after_steps old (sync_steps old taker peer time payload))
+
+-- an event was made on this other-parent, or refused; none where there is no name
+abbrev pub HasMadeAfter : WorldView → ℕ → Option (List ℕ) → ℕ → List ℕ → SyncMade → WorldView → Type 0
+HasMadeAfter old m other time payload made new =
+    (made ≡ made_after (node_at old m) other time payload) × (new ≡ after_steps old (make_steps m other time payload))
+
+-- the bytes of the row, unless its name is held
+abbrev pub unheld_bytes : List Row → Row → List (List ℕ)
+unheld_bytes held row = cond (is_held held row.name) [] (spelling row ∷ [])
+
+-- these and the bytes of the peer's row at a place, unless the taker has its name; nothing where there is no row
+abbrev pub with_lacked : List Row → List Row → ℕ → List (List ℕ) → Option (List (List ℕ))
+with_lacked taker peer place events = option_map (λ (row : Row). events ++ unheld_bytes taker row) (slice_get peer place)

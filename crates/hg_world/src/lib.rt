@@ -1,8 +1,13 @@
 //! The members' nodes in one process: a run, step by step.
 //! The layers above use that each call leaves the world after the steps that it names (`after_steps`), and that of the
 //! orders that any two nodes keep at any two moments one is a prefix of the other, where the premises of `IsSafe` hold.
+//! Nodes hand each other bytes: what a node takes it reads and judges itself.
 #![tactic(auto)]
 
+mod events;
+mod nodes;
 mod step;
+mod world;
 
 pub use step::{Reply, Step};
+pub use world::World;

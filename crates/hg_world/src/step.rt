@@ -12,9 +12,15 @@ pub enum Step {
         payload: Bytes,
     },
     /// Any bytes come to the node.
-    Deliver { node: Member, bytes: Bytes },
+    Deliver {
+        node: Member,
+        bytes: Bytes,
+    },
     /// A worker, of a number below 16, freezes the node's rows.
-    Freeze { node: Member, worker: u32 },
+    Freeze {
+        node: Member,
+        worker: u32,
+    },
     /// The worker publishes what a share of the witnesses decides in the rows that it froze last; nothing where it
     /// froze none.
     Publish {

@@ -1,0 +1,128 @@
+-- Pulls and syncs as steps
+use Rattle.std.proofs.Common.{◌≡◌, ℕ, suc, ◌+◌, ◌<◌, Bool, true, false, not, cond, List, [], ◌∷◌, ◌++◌, length, map, take, drop, get_or, slice_get, Option, Some, option_map, Result, Ok, Err, sym, refl, ap, ap₂, ◌∙◌, subst, add-one, append_assoc, arith}
+use Rattle.std.specs.Prelude.{OnErr, IfOk}
+use Rattle.std.proofs.lemmas.List.{append-nil, get_or-set_same, map-append, take-append-drop}
+use Rattle.std.proofs.lemmas.List.Sums.{fold-append}
+use Rattle.std.proofs.lemmas.Option.{slice_get-get_or}
+use Rattle.std.proofs.Math.Seq.{drop-cons}
+use Rattle.hg_model.specs.declared.row.Row.{Row}
+use Rattle.hg_model.specs.declared.answers.PutAnswer.{PutAnswer}
+use Rattle.hg_model.specs.declared.answers.SyncMade.{SyncMade}
+use Rattle.hg_model.specs.declared.answers.SyncReport.{SyncReport}
+use Rattle.hg_model.specs.Links.{no_row}
+use Rattle.hg_model.specs.Gossip.{lacking}
+use Rattle.hg_model.specs.Signing.{accepts_by}
+use Rattle.hg_model.specs.Spelling.{spelling}
+use Rattle.hg_model.specs.Verdict.{is_held}
+use Rattle.hg_model.specs.NodeView.{NodeView}
+use Rattle.hg_gossip.specs.declared.gossip.Taken.{Taken}
+use Rattle.hg_gossip.specs.Gossip.{none_taken, with_answer}
+use Rattle.hg_gossip.specs.Nodes.{Taking, lacked, take_event, taking, taking_of}
+use Rattle.hg_world.specs.declared.step.Step.{Step}
+use Rattle.hg_world.specs.declared.step.Step.TheVariants.{Deliver}
+use Rattle.hg_world.specs.World.{Secrets, WorldView, Site, no_site, node_at, site_at, site_of}
+use Rattle.hg_world.specs.Steps.{RanSome, after_step, after_steps, node_put, putting_at}
+use Rattle.hg_world.specs.Syncs.{HasMadeAfter, HasPulled, HasSynced, HasTaken, deliver_steps, last_made, make_steps, made_after, pull_steps, pulled, unheld_bytes}
+use Rattle.hg_world.proofs.StepLaws.{after_both, after_more, steps_sites, taken_more}
+
+-- the node that bytes come to
+put_node : (w : WorldView) (m : ℕ) (bytes : List ℕ) → m < length w.sites → node_at (after_step w (Deliver m bytes)) m ≡ node_put (node_at w m) bytes
+put_node w m bytes low = ap (λ (s : Site). s.node) (get_or-set_same w.sites m (site_of (node_put (node_at w m) bytes) (site_at w m).frozen) no_site low)
+
+-- nothing is put yet
+pub takes_none : (w : WorldView) (m : ℕ) → HasTaken w m [] none_taken w
+takes_none w m = record { after = refl; counted = refl }
+
+-- one event more
+pub takes_more : (old now new : WorldView) (m : ℕ) (events : List (List ℕ)) (i : ℕ) (event bytes : List ℕ) (before after : Taken) (answer : PutAnswer) → m < length old.sites → i < length events → event ≡ get_or events i event → bytes ≡ event →
+    HasTaken old m (take i events) before now → answer ≡ putting_at (node_at now m) bytes → new ≡ after_step now (Deliver m bytes) → after ≡ with_answer before answer →
+    HasTaken old m (take (i + 1) events) after new
+takes_more old now new m events i event bytes before after answer inside low is same taken answers put counted =
+    let first = take i events in
+    let all = taken_more events i event low is in
+    let low_now : m < length now.sites = omega (arith, inside, ap (λ (w : WorldView). length w.sites) taken.after, steps_sites old (deliver_steps m first)) in
+    record {
+      after =
+          put
+          ∙ (ap₂ (λ (w : WorldView) (b : List ℕ). after_step w (Deliver m b)) taken.after same
+          ∙ (sym (after_more old (deliver_steps m first) (Deliver m event))
+          ∙ ap (after_steps old) (sym (ap (deliver_steps m) all ∙ map-append (λ (b : List ℕ). let s : Step = Deliver m b in s) first (event ∷ [])))));
+      counted =
+          ap₂ (λ (v : NodeView Secrets) (t : Taken). taking_of v t) (ap (λ (w : WorldView). node_at w m) put ∙ put_node now m bytes low_now) (counted ∙ ap (with_answer before) answers)
+          ∙ (ap (take_event accepts_by (taking_of (node_at now m) before)) same
+          ∙ (ap (λ (t : Taking Secrets). take_event accepts_by t event) taken.counted
+          ∙ (sym (fold-append (take_event accepts_by) (taking_of (node_at old m) none_taken) first (event ∷ [])) ∙ ap (taking accepts_by (node_at old m)) (sym all))));
+    }
+
+-- memory ran out at the next one
+pub ran_puts : (old now new : WorldView) (m : ℕ) (events : List (List ℕ)) (i : ℕ) (counts : Taken) → HasTaken old m (take i events) counts now → new ≡ now → RanSome old (deliver_steps m events) new
+ran_puts old now new m events i counts taken same = record {
+  first = deliver_steps m (take i events);
+  rest = deliver_steps m (drop i events);
+  whole = ap (deliver_steps m) (sym (take-append-drop i events)) ∙ map-append (λ (b : List ℕ). let s : Step = Deliver m b in s) (take i events) (drop i events);
+  after = same ∙ taken.after;
+}
+
+-- none were done
+pub ran_none : (w : WorldView) (steps : List Step) → RanSome w steps w
+ran_none w steps = record { first = []; rest = steps; whole = refl; after = refl }
+
+-- all were
+pub ran_all : (old new : WorldView) (steps : List Step) → new ≡ after_steps old steps → RanSome old steps new
+ran_all old new steps is = record { first = steps; rest = []; whole = sym (append-nil steps); after = is }
+
+pub errs : {A E : Type 0} (result : Result A E) (P : Type 0) → P → OnErr result P
+errs (Ok a) P p = tt
+errs (Err e) P p = p
+
+-- what a pull leaves, by what it takes
+pulls : (old new : WorldView) (taker peer : ℕ) (events : List (List ℕ)) (counts : Taken) → events ≡ lacked (node_at old taker) (node_at old peer) → HasTaken old taker events counts new → HasPulled old taker peer counts new
+pulls old new taker peer events counts is taken =
+    let counted : taking_of (node_at new taker) counts ≡ pulled old taker peer = taken.counted ∙ ap (taking accepts_by (node_at old taker)) is in
+    record {
+      counts = ap (λ (t : Taking Secrets). t.counts) counted;
+      after = taken.after ∙ ap (λ (es : List (List ℕ)). after_steps old (deliver_steps taker es)) is;
+      node = ap (λ (t : Taking Secrets). t.node) counted;
+    }
+
+pub pull_ended : {E : Type 0} (old new : WorldView) (taker peer : ℕ) (events put : List (List ℕ)) (result : Result Taken E) → events ≡ lacked (node_at old taker) (node_at old peer) → put ≡ events →
+    IfOk result (λ counts. HasTaken old taker put counts new) → IfOk result (λ counts. HasPulled old taker peer counts new)
+pull_ended old new taker peer events put (Ok counts) is same taken = pulls old new taker peer put counts (same ∙ is) taken
+pull_ended old new taker peer events put (Err e) is same taken = tt
+
+pub pull_stopped : {E : Type 0} (old new : WorldView) (taker peer : ℕ) (events put : List (List ℕ)) (result : Result Taken E) → events ≡ lacked (node_at old taker) (node_at old peer) → put ≡ events →
+    OnErr result (RanSome old (deliver_steps taker put) new) → OnErr result (RanSome old (pull_steps old taker peer) new)
+pull_stopped old new taker peer events put (Ok counts) is same ran = tt
+pull_stopped old new taker peer events put (Err e) is same ran = subst (λ (es : List (List ℕ)). RanSome old (deliver_steps taker es) new) (same ∙ is) ran
+
+-- what a sync leaves and reports
+pub syncs : (old now new : WorldView) (taker peer : ℕ) (last : Option (List ℕ)) (time : ℕ) (payload : List ℕ) (counts : Taken) (made : SyncMade) → last ≡ last_made (node_at old peer) →
+    HasPulled old taker peer counts now → HasMadeAfter now taker last time payload made new →
+    HasSynced old taker peer time payload (record { taken = counts.taken; refused = counts.refused; made = made }) new
+syncs old now new taker peer last time payload counts made is pull makes =
+    let report : Taken → SyncMade → SyncReport = λ t r. record { taken = t.taken; refused = t.refused; made = r } in (
+      ap₂ report pull.counts (makes.0 ∙ ap₂ (λ (v : NodeView Secrets) (o : Option (List ℕ)). made_after v o time payload) pull.node is),
+      makes.1
+          ∙ (ap₂ (λ (w : WorldView) (o : Option (List ℕ)). after_steps w (make_steps taker o time payload)) pull.after is
+          ∙ sym (after_both old (pull_steps old taker peer) (make_steps taker (last_made (node_at old peer)) time payload))),
+    )
+
+-- the bytes of one row more that the taker lacks
+bytes_at : (held rows : List Row) (k : ℕ) (d : Row) → k < length rows →
+    unheld_bytes held (get_or rows k d) ++ map spelling (lacking held (drop (k + 1) rows)) ≡ map spelling (lacking held (drop k rows))
+bytes_at held rows k d inside = rw (add-one, drop-cons rows k d inside) (one (is_held held (get_or rows k d).name) (get_or rows k d) (lacking held (drop (suc k) rows)))
+  where
+    one : (b : Bool) (row : Row) (rest : List Row) → cond b [] (spelling row ∷ []) ++ map spelling rest ≡ map spelling (cond (not b) (row ∷ rest) rest)
+    one true row rest = refl
+    one false row rest = refl
+
+pub bytes_more : (held rows : List Row) (k : ℕ) (before after all : List (List ℕ)) → k < length rows → option_map (λ (row : Row). before ++ unheld_bytes held row) (slice_get rows k) ≡ Some after →
+    before ++ map spelling (lacking held (drop k rows)) ≡ all → after ++ map spelling (lacking held (drop (k + 1) rows)) ≡ all
+bytes_more held rows k before after all inside grown is =
+    let row : Row = get_or rows k no_row in
+    let rest : List (List ℕ) = map spelling (lacking held (drop (k + 1) rows)) in
+    let some : Some (before ++ unheld_bytes held row) ≡ Some after = sym (ap (option_map (λ (r : Row). before ++ unheld_bytes held r)) (slice_get-get_or rows k no_row inside)) ∙ grown in
+    let same : before ++ unheld_bytes held row ≡ after = cc in
+    ap (λ (xs : List (List ℕ)). xs ++ rest) (sym same)
+    ∙ (append_assoc before (unheld_bytes held row) rest
+    ∙ (ap (λ (xs : List (List ℕ)). before ++ xs) (bytes_at held rows k no_row inside) ∙ is))

@@ -1,0 +1,78 @@
+ghost use Rattle.std.specs.Prelude.{◌≡◌, ◌+◌, ◌-◌, ◌<◌, ◌^◌, IfOk, OnOk, Some, length};
+ghost use Rattle.hg_model.specs.Gossip.{made_in_sync};
+ghost use Rattle.hg_model.specs.NodeView.{node_rows};
+ghost use Rattle.hg_gossip.specs.Gossip.{with_answer};
+ghost use Rattle.hg_gossip.specs.Nodes.{lacked};
+ghost use Rattle.hg_world.specs.Syncs.{with_lacked};
+
+use hg_gossip::Taken;
+use hg_model::{Bytes, Items, MakeAnswer, Memory, PutAnswer, SyncMade};
+use hg_node::Node;
+use hg_sign::MacTable;
+use std::alloc::Global;
+
+/// The counts with one answer more.
+pub(crate) fn counted(counts: Taken, answer: PutAnswer) -> Taken
+    requires { counts.taken + counts.refused < 2 ^ 64 - 1 }
+    ensures { result ≡ with_answer counts answer }
+{
+    match answer {
+        PutAnswer::Accepted(_) => Taken {
+            taken: counts.taken + 1,
+            refused: counts.refused,
+        },
+        PutAnswer::Known(_) => counts,
+        PutAnswer::Refused(_) => Taken {
+            taken: counts.taken,
+            refused: counts.refused + 1,
+        },
+    }
+}
+
+/// What came of an event at the end of a sync.
+pub(crate) fn sync_made(answer: MakeAnswer) -> SyncMade
+    ensures { result ≡ made_in_sync answer }
+{
+    match answer {
+        MakeAnswer::Made(place) => SyncMade::Row(place),
+        MakeAnswer::Refused(fault) => SyncMade::Fault(fault),
+    }
+}
+
+fn copied(alloc: Global, bytes: &[u8]) -> Result<Bytes, Memory>
+    ensures { IfOk result (λ copy. copy ≡ bytes.now) }
+{
+    Ok(Items::from_vec(Vec::from_slice(alloc, bytes)?))
+}
+
+/// The bytes of a row of the peer behind the others, unless the taker has its name.
+fn push_unless_held(
+    alloc: Global,
+    events: &mut Vec<Bytes>,
+    taker: &Node<MacTable>,
+    peer: &Node<MacTable>,
+    place: usize,
+) -> Result<(), Memory>
+    requires { place < length (node_rows peer.now) }
+    ensures { OnOk result (with_lacked (node_rows taker.now) (node_rows peer.now) place events.old.items ≡ Some events.new.items) }
+{
+    if taker.place_of(&peer.row(place).name).is_none() {
+        events.push(copied(alloc, peer.bytes(place))?)?;
+    }
+    Ok(())
+}
+
+/// The bytes of the peer's rows whose names the taker lacks.
+pub(crate) fn lacked(
+    alloc: Global,
+    taker: &Node<MacTable>,
+    peer: &Node<MacTable>,
+) -> Result<Vec<Bytes>, Memory>
+    ensures { IfOk result (λ events. events.items ≡ lacked taker.now peer.now) }
+{
+    let mut events = Vec::new(alloc);
+    for place in 0..peer.rows() {
+        push_unless_held(alloc, &mut events, taker, peer, place)?;
+    }
+    Ok(events)
+}

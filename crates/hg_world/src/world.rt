@@ -1,0 +1,362 @@
+ghost use Rattle.std.specs.Prelude.{◌≡◌, ◌<◌, All, IfErr, IfOk, OnErr, OnOk, length, map};
+ghost use Rattle.std.specs.Option.{option_to_list};
+ghost use Rattle.hg_model.specs.Calls.{IsSettled, publish_answer};
+ghost use Rattle.hg_runs.specs.Safety.{IsSafe};
+ghost use Rattle.hg_world.specs.declared.step.Step.TheVariants.{Make, Deliver, Freeze, Publish};
+ghost use Rattle.hg_world.specs.Kept.{AreOfOneList, IsWorld, nth_node, unfrozen};
+ghost use Rattle.hg_world.specs.World.{IsMemberOf, IsSiteOf, frozen_by, new_world, node_at, nodes_of, rows_at, run_of, site_at, worker_count};
+ghost use Rattle.hg_world.specs.Steps.{HasRun, HasStepped, IsStepOf, RanSome, after_step, after_steps, making_at, putting_at, settle_steps};
+ghost use Rattle.hg_world.specs.Syncs.{HasMadeAfter, HasPulled, HasSynced, HasTaken, deliver_steps, pull_steps};
+
+use crate::events::{counted, lacked, sync_made};
+use crate::nodes::{self, Frozen};
+use crate::step::{Reply, Step};
+use hg_gossip::Taken;
+use hg_model::{
+    Bytes, MakeAnswer, Member, Members, Memory, Name, Prefix, PutAnswer, Share, Sight, SyncMade,
+    SyncReport,
+};
+use hg_node::Node;
+use hg_sign::MacTable;
+use std::alloc::Global;
+use std::marker::Model;
+
+/// The members' nodes, each with what its workers have frozen.
+#[derive(Drop)]
+pub struct World {
+    alloc: Global,
+    members: u32,
+    coin: u32,
+    nodes: Vec<Node<MacTable>>,
+    frozen: Vec<Frozen>,
+}
+
+impl Model for World {
+    ghost use Rattle.hg_world.specs.World.{WorldView};
+    ghost use Rattle.hg_world.specs.Kept.{KeepsWorld, world_of};
+
+    ghost Value = { WorldView };
+
+    ghost view = { λ s. world_of s.members s.coin s.nodes.items s.frozen.items };
+
+    ghost invariant = { λ s. KeepsWorld s.members s.coin s.nodes.items s.frozen.items };
+}
+
+impl World {
+    /// A node for each member, without rows.
+    pub fn new(alloc: Global, members: &Members) -> Result<World, Memory>
+        ensures { IfOk result (λ w. w ≡ new_world members.now) }
+    {
+        let nodes = nodes::new_nodes(alloc, members)?;
+        let frozen = nodes::none_frozen(alloc, nodes.len())?;
+        Ok(World {
+            alloc,
+            members: members.count(),
+            coin: members.coin(),
+            nodes,
+            frozen,
+        })
+    }
+
+    /// How many members there are.
+    pub fn members(&self) -> u32
+        ensures value { result ≡ length self.now.sites }
+        ensures world { IsWorld self.now }
+        ensures safe { IsSafe self.now.members self.now.coin (run_of self.now) }
+    {
+        self.members
+    }
+
+    /// The node of a member.
+    pub fn node(&self, member: Member) -> &Node<MacTable>
+        requires { IsMemberOf self.now member }
+        ensures value { result.now ≡ node_at self.now member }
+        ensures site { IsSiteOf self.now member (site_at self.now member) }
+    {
+        &self.nodes[member as usize]
+    }
+
+    /// A member's node makes an event.
+    fn make(
+        &mut self,
+        member: Member,
+        other: Option<Name>,
+        time: u64,
+        payload: &[u8],
+    ) -> Result<MakeAnswer, Memory>
+        requires { IsMemberOf self.old member }
+        ensures answer { IfOk result (λ a. a ≡ making_at (node_at self.old member) (option_to_list other) time payload.now) }
+        ensures ok { OnOk result (self.new ≡ after_step self.old (Make member other time payload.now)) }
+        ensures err { OnErr result (self.new ≡ self.old) }
+    {
+        nodes::make(&mut self.nodes, member as usize, other, time, payload)
+    }
+
+    /// Bytes come to a member's node.
+    fn put(&mut self, member: Member, bytes: &[u8]) -> Result<PutAnswer, Memory>
+        requires { IsMemberOf self.old member }
+        ensures answer { IfOk result (λ a. a ≡ putting_at (node_at self.old member) bytes.now) }
+        ensures ok { OnOk result (self.new ≡ after_step self.old (Deliver member bytes.now)) }
+        ensures err { OnErr result (self.new ≡ self.old) }
+    {
+        nodes::put(&mut self.nodes, member as usize, bytes)
+    }
+
+    /// A worker freezes the rows of a member's node; tells how many they are.
+    fn freeze(&mut self, member: Member, worker: u32) -> usize
+        requires member { IsMemberOf self.old member }
+        requires worker { worker < worker_count }
+        ensures len { result ≡ length (rows_at self.old member) }
+        ensures after { self.new ≡ after_step self.old (Freeze member worker) }
+    {
+        let len = self.nodes[member as usize].rows();
+        nodes::set_frozen(&mut self.frozen, member as usize, worker as usize, len);
+        len
+    }
+
+    /// A worker of a member's node publishes what a share decides in the rows that it froze last; tells how many were
+    /// marked.
+    fn publish(&mut self, member: Member, worker: u32, share: Share) -> Result<u32, Memory>
+        requires member { IsMemberOf self.old member }
+        requires worker { worker < worker_count }
+        ensures answer { IfOk result (λ count. count ≡ publish_answer (node_at self.old member) (frozen_by self.old member worker) share) }
+        ensures ok { OnOk result (self.new ≡ after_step self.old (Publish member worker share)) }
+        ensures err { OnErr result (self.new ≡ self.old) }
+    {
+        let m = member as usize;
+        let len = nodes::frozen_at(&self.frozen, m, worker as usize);
+        nodes::publish(self.alloc, &mut self.nodes, m, len, share)
+    }
+
+    fn apply(&mut self, step: &Step) -> Result<Reply, Memory>
+        requires { IsStepOf self.old step.now }
+        ensures ok { IfOk result (λ reply. HasStepped self.old step.now reply self.new) }
+        ensures err { OnErr result (self.new ≡ self.old) }
+    {
+        match step {
+            Step::Make {
+                node,
+                other,
+                time,
+                payload,
+            } => {
+                let answer = self.make(*node, *other, *time, payload.as_slice())?;
+                Ok(Reply::Make(answer))
+            }
+            Step::Deliver { node, bytes } => {
+                let answer = self.put(*node, bytes.as_slice())?;
+                Ok(Reply::Put(answer))
+            }
+            Step::Freeze { node, worker } => Ok(Reply::Frozen(self.freeze(*node, *worker))),
+            Step::Publish {
+                node,
+                worker,
+                share,
+            } => {
+                let count = self.publish(*node, *worker, *share)?;
+                Ok(Reply::Published(count))
+            }
+        }
+    }
+
+    /// One step of a run.
+    pub fn step(&mut self, step: &Step) -> Result<Reply, Memory>
+        requires { IsStepOf self.old step.now }
+        ensures ok { IfOk result (λ reply. HasStepped self.old step.now reply self.new) }
+        ensures err { OnErr result (self.new ≡ self.old) }
+        ensures safe { IsSafe self.new.members self.new.coin (run_of self.new) }
+    {
+        let reply = self.apply(step);
+        // That it is safe.
+        self.members();
+        reply
+    }
+
+    fn apply_all(&mut self, alloc: Global, steps: &[Step]) -> Result<Vec<Reply>, Memory>
+        requires { All (IsStepOf self.old) steps.now }
+        ensures ok { IfOk result (λ replies. HasRun self.old steps.now replies.items self.new) }
+        ensures err { OnErr result (RanSome self.old steps.now self.new) }
+    {
+        let mut replies = Vec::new(alloc);
+        for step in steps {
+            let reply = self.apply(step)?;
+            replies.push(reply)?;
+        }
+        Ok(replies)
+    }
+
+    /// The steps, one after the other, and what they answer. After `Memory` the first of them are done.
+    pub fn run(&mut self, alloc: Global, steps: &[Step]) -> Result<Vec<Reply>, Memory>
+        requires { All (IsStepOf self.old) steps.now }
+        ensures ok { IfOk result (λ replies. HasRun self.old steps.now replies.items self.new) }
+        ensures err { OnErr result (RanSome self.old steps.now self.new) }
+        ensures safe { IsSafe self.new.members self.new.coin (run_of self.new) }
+    {
+        let replies = self.apply_all(alloc, steps);
+        self.members();
+        replies
+    }
+
+    /// Puts these events to a member's node, one after the other.
+    fn take(&mut self, member: Member, events: &[Bytes]) -> Result<Taken, Memory>
+        requires { IsMemberOf self.old member }
+        ensures ok { IfOk result (λ counts. HasTaken self.old member events.now counts self.new) }
+        ensures err { OnErr result (RanSome self.old (deliver_steps member events.now) self.new) }
+    {
+        let _count = events.len();
+        let mut counts = Taken {
+            taken: 0,
+            refused: 0,
+        };
+        for event in events {
+            let answer = self.put(member, event.as_slice())?;
+            counts = counted(counts, answer);
+        }
+        Ok(counts)
+    }
+
+    fn pull_rows(&mut self, taker: Member, peer: Member) -> Result<Taken, Memory>
+        requires taker { IsMemberOf self.old taker }
+        requires peer { IsMemberOf self.old peer }
+        ensures ok { IfOk result (λ counts. HasPulled self.old taker peer counts self.new) }
+        ensures err { OnErr result (RanSome self.old (pull_steps self.old taker peer) self.new) }
+    {
+        let events = lacked(self.alloc, self.node(taker), self.node(peer))?;
+        self.take(taker, events.as_slice())
+    }
+
+    /// The taker's node takes from the peer's the rows that it lacks, by their names, in the peer's order. After
+    /// `Memory` some of the first of them are put.
+    pub fn pull(&mut self, taker: Member, peer: Member) -> Result<Taken, Memory>
+        requires taker { IsMemberOf self.old taker }
+        requires peer { IsMemberOf self.old peer }
+        ensures ok { IfOk result (λ counts. HasPulled self.old taker peer counts self.new) }
+        ensures err { OnErr result (RanSome self.old (pull_steps self.old taker peer) self.new) }
+        ensures safe { IsSafe self.new.members self.new.coin (run_of self.new) }
+    {
+        let counts = self.pull_rows(taker, peer);
+        self.members();
+        counts
+    }
+
+    /// Makes an event with this other-parent, if there is one.
+    fn make_after(
+        &mut self,
+        member: Member,
+        other: Option<Name>,
+        time: u64,
+        payload: &[u8],
+    ) -> Result<SyncMade, Memory>
+        requires { IsMemberOf self.old member }
+        ensures ok { IfOk result (λ made. HasMadeAfter self.old member other time payload.now made self.new) }
+        ensures err { OnErr result (self.new ≡ self.old) }
+    {
+        match other {
+            None => Ok(SyncMade::PeerBare),
+            Some(name) => {
+                let answer = self.make(member, Some(name), time, payload)?;
+                Ok(sync_made(answer))
+            }
+        }
+    }
+
+    fn sync_rows(
+        &mut self,
+        taker: Member,
+        peer: Member,
+        time: u64,
+        payload: &[u8],
+    ) -> Result<SyncReport, Memory>
+        requires taker { IsMemberOf self.old taker }
+        requires peer { IsMemberOf self.old peer }
+        ensures ok { IfOk result (λ report. HasSynced self.old taker peer time payload.now report self.new) }
+        ensures err { OnErr result (RanSome self.old (pull_steps self.old taker peer) self.new) }
+    {
+        let last = self.node(peer).last_name();
+        let counts = self.pull_rows(taker, peer)?;
+        let made = self.make_after(taker, last, time, payload)?;
+        Ok(SyncReport {
+            taken: counts.taken,
+            refused: counts.refused,
+            made,
+        })
+    }
+
+    /// Pulls from the peer, and makes an event whose other-parent is the peer's last own row, if it has one. The time
+    /// is any, in no unit of ours. After `Memory` some of the first of the rows are put, and no event is made.
+    pub fn sync(
+        &mut self,
+        taker: Member,
+        peer: Member,
+        time: u64,
+        payload: &[u8],
+    ) -> Result<SyncReport, Memory>
+        requires taker { IsMemberOf self.old taker }
+        requires peer { IsMemberOf self.old peer }
+        ensures ok { IfOk result (λ report. HasSynced self.old taker peer time payload.now report self.new) }
+        ensures err { OnErr result (RanSome self.old (pull_steps self.old taker peer) self.new) }
+        ensures safe { IsSafe self.new.members self.new.coin (run_of self.new) }
+    {
+        let report = self.sync_rows(taker, peer, time, payload);
+        self.members();
+        report
+    }
+
+    /// Worker 0 of a member's node freezes all rows and publishes all fame that they decide. It copies no row.
+    pub fn settle(&mut self, member: Member) -> Result<(), Memory>
+        requires { IsMemberOf self.old member }
+        ensures ok { OnOk result (self.new ≡ after_steps self.old (settle_steps member)) }
+        ensures settled { OnOk result (IsSettled (node_at self.old member) (node_at self.new member)) }
+        ensures err { OnErr result (self.new ≡ self.old) }
+        ensures safe { IsSafe self.new.members self.new.coin (run_of self.new) }
+    {
+        let settled = self.settle_node(member);
+        self.members();
+        settled
+    }
+
+    fn settle_node(&mut self, member: Member) -> Result<(), Memory>
+        requires { IsMemberOf self.old member }
+        ensures ok { OnOk result (self.new ≡ after_steps self.old (settle_steps member)) }
+        ensures settled { OnOk result (IsSettled (node_at self.old member) (node_at self.new member)) }
+        ensures err { OnErr result (self.new ≡ self.old) }
+    {
+        let len = nodes::settle(&mut self.nodes, member as usize)?;
+        nodes::set_frozen(&mut self.frozen, member as usize, 0, len);
+        Ok(())
+    }
+
+    /// The nodes, in the order of the members.
+    pub fn into_nodes(self) -> Vec<Node<MacTable>>
+        ensures nodes { result.items ≡ nodes_of self }
+        ensures lawful { AreOfOneList result.items }
+    {
+        self.nodes
+    }
+
+    /// A world of these nodes, of which no worker has frozen any rows: one for each of the members with which the first
+    /// began, in their order. Where memory runs out they come back.
+    pub fn from_nodes(
+        alloc: Global,
+        nodes: Vec<Node<MacTable>>,
+    ) -> Result<World, Vec<Node<MacTable>>>
+        requires { AreOfOneList nodes.items }
+        ensures ok { IfOk result (λ world. world.sites ≡ unfrozen nodes.items) }
+        ensures members { IfOk result (λ world. world.members ≡ (nth_node nodes.items 0).start.members) }
+        ensures coin { IfOk result (λ world. world.coin ≡ (nth_node nodes.items 0).start.coin) }
+        ensures back { IfErr result (λ back. back.items ≡ nodes.items) }
+    {
+        nodes::see_all(&nodes);
+        let (members, coin) = (nodes[0].graph().members(), nodes[0].graph().coin());
+        match nodes::none_frozen(alloc, nodes.len()) {
+            Ok(frozen) => Ok(World {
+                alloc,
+                members,
+                coin,
+                nodes,
+                frozen,
+            }),
+            Err(Memory) => Err(nodes),
+        }
+    }
+}
