@@ -76,8 +76,9 @@ impl World {
         &self.nodes[member as usize]
     }
 
-    /// A member's node makes an event.
-    fn make(
+    /// A member's node makes an event on its last one, with this other-parent, or its first one without parents. The time
+    /// is any, in no unit of ours.
+    pub fn make(
         &mut self,
         member: Member,
         other: Option<Name>,
@@ -93,7 +94,7 @@ impl World {
     }
 
     /// Bytes come to a member's node.
-    fn put(&mut self, member: Member, bytes: &[u8]) -> Result<PutAnswer, Memory>
+    pub fn put(&mut self, member: Member, bytes: &[u8]) -> Result<PutAnswer, Memory>
         requires { IsMemberOf self.old member }
         ensures answer { IfOk result (λ a. a ≡ putting_at (node_at self.old member) bytes.now) }
         ensures ok { OnOk result (self.new ≡ after_step self.old (Deliver member bytes.now)) }
@@ -102,8 +103,8 @@ impl World {
         nodes::put(&mut self.nodes, member as usize, bytes)
     }
 
-    /// A worker freezes the rows of a member's node; tells how many they are.
-    fn freeze(&mut self, member: Member, worker: u32) -> usize
+    /// A worker, of a number below 16, freezes the rows of a member's node; tells how many they are.
+    pub fn freeze(&mut self, member: Member, worker: u32) -> usize
         requires member { IsMemberOf self.old member }
         requires worker { worker < worker_count }
         ensures len { result ≡ length (rows_at self.old member) }
@@ -114,9 +115,9 @@ impl World {
         len
     }
 
-    /// A worker of a member's node publishes what a share decides in the rows that it froze last; tells how many were
-    /// marked.
-    fn publish(&mut self, member: Member, worker: u32, share: Share) -> Result<u32, Memory>
+    /// A worker of a member's node, of a number below 16, publishes what a share decides in the rows that it froze last;
+    /// tells how many were marked.
+    pub fn publish(&mut self, member: Member, worker: u32, share: Share) -> Result<u32, Memory>
         requires member { IsMemberOf self.old member }
         requires worker { worker < worker_count }
         ensures answer { IfOk result (λ count. count ≡ publish_answer (node_at self.old member) (frozen_by self.old member worker) share) }
