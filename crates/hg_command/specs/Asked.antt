@@ -10,14 +10,14 @@ use Rattle.hg_command.specs.declared.request.Request.{Request}
 use Rattle.hg_command.specs.declared.request.Request.TheVariants as request
 
 -- a run over two files, with so many workers
-pub record Run : Type 0 where
+pub record RunFiles : Type 0 where
   pub members : Text
   pub script : Text
   pub workers : ℕ
 
 -- what a command asks for
 pub data Asked : Type 0 where
-  run : Run → Asked
+  run : RunFiles → Asked
 
 -- a request, with its texts
 abbrev pub asked : Request → Asked
@@ -37,7 +37,7 @@ abbrev pub number_in : Text → List Row → ℕ
 number_in option rows = unwrap_or (option_and_then text_number (one_of option rows)) 0
 
 -- what the options of `run` ask for
-abbrev pub run_in : List Row → Run
+abbrev pub run_in : List Row → RunFiles
 run_in rows = record {
   members = text_in (codes "members") rows;
   script = text_in (codes "script") rows;

@@ -1,5 +1,6 @@
 -- What the nodes of a world began with, and that to settle nodes leaves all rows
 use Rattle.std.proofs.Common.{◌≡◌, ℕ, zero, suc, ◌+◌, ◌<◌, Bool, true, false, cond, List, [], ◌∷◌, ◌++◌, length, map, fold, get_or, sym, refl, ap, ◌∙◌, subst, ◌==◌, arith, add-one, zero-add}
+use Rattle.std.specs.List.{range_with_len}
 use Rattle.std.proofs.lemmas.List.{length-map, get_or-map}
 use Rattle.std.proofs.lemmas.List.Sums.{fold-append}
 use Rattle.std.proofs.lemmas.List.FromFn.{get_or-map-range_with_len, length-map-range_with_len}
@@ -19,7 +20,7 @@ use Rattle.hg_history.proofs.StateLaws.{replay-push}
 use Rattle.hg_world.specs.declared.step.Step.{Step}
 use Rattle.hg_world.specs.declared.step.Step.TheVariants.{Make, Deliver, Freeze, Publish}
 use Rattle.hg_runs.specs.Safety.{IsSafe}
-use Rattle.hg_world.specs.World.{Secrets, Site, WorldView, new_world, no_site, site_at, node_at, rows_at, run_of, frozen_by, with_site}
+use Rattle.hg_world.specs.World.{Secrets, Site, WorldView, new_site, new_world, no_site, site_at, node_at, rows_at, run_of, frozen_by, with_site}
 use Rattle.hg_world.specs.Steps.{after_step, after_steps, node_published, settle_steps}
 use Rattle.hg_script.specs.declared.line.Line.{Line}
 use Rattle.hg_play.specs.Lines.{action_steps}
@@ -173,3 +174,11 @@ safe-play members lines last is safe =
     let coin : last.coin ≡ members.coin = ap (λ (w : WorldView). w.coin) all ∙ coin-steps (new_world members) whole in
     subst (λ (w : WorldView). IsSafe (stakes_of members) members.coin (run_of w)) all
     (subst (λ (n : ℕ). IsSafe n members.coin (run_of last)) count (subst (λ (k : ℕ). IsSafe last.members k (run_of last)) coin safe))
+
+-- the nodes of a new world
+starts-sites : (members : MemberList) (ms : List ℕ) → map (λ (s : Site). s.node.start) (map (new_site members) ms) ≡ map (start_in members) ms
+starts-sites members [] = refl
+starts-sites members (m ∷ ms) = ap (λ (xs : List (Start Secrets)). start_in members m ∷ xs) (starts-sites members ms)
+
+pub starts-new : (members : MemberList) → starts_of (new_world members) ≡ starts members
+starts-new members = starts-sites members (range_with_len 0 (length members.entries))

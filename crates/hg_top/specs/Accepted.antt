@@ -9,8 +9,8 @@ use Rattle.hg_members.specs.MemberFile.{members_of}
 use Rattle.hg_script.specs.declared.fault.ScriptFault.{ScriptFault}
 use Rattle.hg_script.specs.declared.line.Line.{Line}
 use Rattle.hg_script.specs.Script.{lines_of}
-use Rattle.hg_command.specs.Asked.{Run}
-use Rattle.hg_play.specs.Play.{play}
+use Rattle.hg_command.specs.Asked.{RunFiles}
+use Rattle.hg_play.specs.Play.{IsSafePlay, play}
 use Rattle.hg_top.specs.declared.status.Refusal.{Refusal}
 use Rattle.hg_top.specs.declared.status.Refusal.TheVariants.{TooLong, Fault}
 
@@ -39,6 +39,11 @@ abbrev pub report_of : List ℕ → List ℕ → Option (List ℕ)
 report_of member_bytes script_bytes =
     option_and_then (λ members. option_map (λ lines. report_text (play members lines)) (result_ok (accepted_lines members script_bytes))) (result_ok (accepted_members member_bytes))
 
+-- the run of the steps of the script is safe, if both are accepted
+abbrev pub IsSafeReport : List ℕ → List ℕ → Type 0
+IsSafeReport member_bytes script_bytes =
+    (members : MemberList) (lines : List Line) → accepted_members member_bytes ≡ Ok members → accepted_lines members script_bytes ≡ Ok lines → IsSafePlay members lines
+
 -- the shelf has these bytes under the name, where it tells what it has
 abbrev pub Has : Option Files → List ℕ → List ℕ → Type 0
 Has holds name bytes = IfSome holds (λ files. content_of files name ≡ Some bytes)
@@ -51,16 +56,17 @@ pub record FileNames : Type 0 where
 abbrev pub file_names : List ℕ → List ℕ → FileNames
 file_names members script = record { members = members; script = script }
 
-abbrev pub file_names_of : Run → FileNames
+abbrev pub file_names_of : RunFiles → FileNames
 file_names_of request = file_names request.members request.script
 
--- the text is the report of a run over the two files
+-- the text is the report of a run over the two files, and the run is safe
 pub record IsReport (holds : Option Files) (names : FileNames) (text : List ℕ) : Type 0 where
   pub member_bytes : List ℕ
   pub script_bytes : List ℕ
   pub has_members : Has holds names.members member_bytes
   pub has_script : Has holds names.script script_bytes
   pub report : report_of member_bytes script_bytes ≡ Some text
+  pub safe : IsSafeReport member_bytes script_bytes
 
 -- the member file is refused, and this is what is wrong with it
 abbrev pub HasBadMembers : Option Files → FileNames → Refusal MemberFault → Type 0

@@ -8,12 +8,12 @@ use Rattle.hg_io.specs.declared.shelf.Shelf as shelf
 use Rattle.hg_io.specs.declared.sink.Sink as sink
 use Rattle.hg_members.specs.declared.fault.MemberFault.{MemberFault}
 use Rattle.hg_script.specs.declared.fault.ScriptFault.{ScriptFault}
-use Rattle.hg_command.specs.Asked.{Asked, Run, run, request_of, texts}
+use Rattle.hg_command.specs.Asked.{Asked, RunFiles, run, request_of, texts}
 use Rattle.hg_top.specs.declared.status.File.TheVariants as file
 use Rattle.hg_top.specs.declared.status.Refusal.{Refusal}
 use Rattle.hg_top.specs.declared.status.Status.{Status}
 use Rattle.hg_top.specs.declared.status.Status.TheVariants.{Done, ReadFault, Usage, Members, Script, WriteFault, Memory}
-use Rattle.hg_top.specs.Accepted.{FileNames, file_names, file_names_of, report_of, IsReport, HasBadMembers, HasGoodMembers, HasBadScript}
+use Rattle.hg_top.specs.Accepted.{FileNames, file_names, file_names_of, report_of, IsReport, IsSafeReport, HasBadMembers, HasGoodMembers, HasBadScript}
 
 -- what the words of a command line ask for, where they are accepted
 abbrev pub asks : List (String Global) → Option Asked
@@ -94,7 +94,7 @@ pub record IsUsage (asked : Option Asked) (status : Status) : Type 0 where
 -- Accepted words and files, and no fault of the two files or of standard output, give the whole report, or want of memory
 abbrev pub IsComplete : Option Asked → Course → Status → Type 0
 IsComplete asked c status =
-    (request : Run) (files : Files) (member_bytes script_bytes text : List ℕ) →
+    (request : RunFiles) (files : Files) (member_bytes script_bytes text : List ℕ) →
     asked ≡ Some (run request) → c.holds ≡ Some files →
     content_of files request.members ≡ Some member_bytes → content_of files request.script ≡ Some script_bytes →
     report_of member_bytes script_bytes ≡ Some text →
@@ -104,7 +104,15 @@ IsComplete asked c status =
 -- A refused file gives just its status, but for a fault of reading before it, or want of memory
 abbrev pub IsRefused : Option Asked → Course → Status → Type 0
 IsRefused asked c status =
-    (request : Run) (files : Files) → asked ≡ Some (run request) → c.holds ≡ Some files → (HasReadFault c request.members → ⊥) →
+    (request : RunFiles) (files : Files) → asked ≡ Some (run request) → c.holds ≡ Some files → (HasReadFault c request.members → ⊥) →
     ((refusal : Refusal MemberFault) → HasBadMembers c.holds (file_names_of request) refusal → (status ≡ Members refusal) ⊎ (status ≡ Memory))
     × ((refusal : Refusal ScriptFault) → HasBadScript c.holds (file_names_of request) refusal →
     (HasReadFault c request.script → ⊥) → (status ≡ Script refusal) ⊎ (status ≡ Memory))
+
+-- Where the report was written, in whole or in part, the run of the two files is safe: no two nodes' orders part ways
+abbrev pub IsSafeEnd : Option Asked → Course → Status → Type 0
+IsSafeEnd asked c status =
+    (request : RunFiles) (files : Files) (member_bytes script_bytes : List ℕ) →
+    asked ≡ Some (run request) → c.holds ≡ Some files →
+    content_of files request.members ≡ Some member_bytes → content_of files request.script ≡ Some script_bytes →
+    (status ≡ Done) ⊎ (status ≡ WriteFault) → IsSafeReport member_bytes script_bytes
