@@ -22,7 +22,8 @@ use std::process::ExitCode;
 use std::rt::Files;
 
 /// The packed cases, which lie where the program runs.
-const PACKS: [&str; 4] = [
+const PACKS: [&str; 5] = [
+    "base.cases",
     "first-path.cases",
     "further.cases",
     "stage-a.cases",

@@ -23,19 +23,19 @@ HonestRunsAgree = (accepts : ℕ → Accepts) (n : Stakes) (c : ℕ) (run : Run)
     3 * stake_where n faulty < total n → ((m : ℕ) → m < member_count n → faulty m ≡ false → IsHonest n c run m) → OrdersAgree n c run
 
 -- the rows that two nodes have at two moments
-abbrev pub union_of : Stakes → ℕ → List Change → List Change → List Row
-union_of n c a b = union (replay n c a).rows (replay n c b).rows
+abbrev pub union_after : Stakes → ℕ → List Change → List Change → List Row
+union_after n c a b = union (replay n c a).rows (replay n c b).rows
 
 -- an honest member has no fork among them
 abbrev pub HonestHaveNoFork : Type 0
 HonestHaveNoFork = (accepts : ℕ → Accepts) (n : Stakes) (c : ℕ) (run : Run) (j k : ℕ) (a b : List Change) → IsRun accepts n c run → AreApart n c run →
-    IsMoment n run j a → IsMoment n run k b → (m : ℕ) → m < member_count n → IsHonest n c run m → has_fork (links (union_of n c a b)) m ≡ false
+    IsMoment n run j a → IsMoment n run k b → (m : ℕ) → m < member_count n → IsHonest n c run m → has_fork (links (union_after n c a b)) m ≡ false
 
 -- so they are a graph, in which both nodes' graphs stand
 abbrev pub UnionsAreGraphs : Type 0
 UnionsAreGraphs = (accepts : ℕ → Accepts) (n : Stakes) (c : ℕ) (run : Run) (j k : ℕ) (a b : List Change) → IsRun accepts n c run → AreApart n c run →
     3 * dishonest n c run < total n → IsMoment n run j a → IsMoment n run k b →
-    IsGraph n (union_of n c a b) × StandsIn (replay n c a).rows (union_of n c a b) × StandsIn (replay n c b).rows (union_of n c a b)
+    IsGraph n (union_after n c a b) × StandsIn (replay n c a).rows (union_after n c a b) × StandsIn (replay n c b).rows (union_after n c a b)
 
 -- the test of honesty is the relation
 abbrev pub HonestyIsTested : Type 0
