@@ -81,6 +81,7 @@ fn write_report<K: Sink>(out: &mut K, outcome: &Outcome) -> Status
 }
 
 /// What the run of a script comes to, with the names of the two files.
+#[tactic(auto, using(crate::proofs::SafeLaws::safe_report))]
 fn run<F: Shelf, K: Sink>(
     alloc: Global,
     members: &str,
