@@ -3,6 +3,7 @@ ghost use Rattle.hg_model.specs.Gossip.{made_in_sync};
 ghost use Rattle.hg_model.specs.NodeView.{node_rows};
 ghost use Rattle.hg_gossip.specs.Gossip.{with_answer};
 ghost use Rattle.hg_gossip.specs.Nodes.{lacked};
+ghost use Rattle.hg_world.specs.Kept.{KnowsFirst};
 ghost use Rattle.hg_world.specs.Syncs.{with_lacked};
 
 use hg_gossip::Taken;
@@ -62,16 +63,18 @@ fn push_unless_held(
     Ok(())
 }
 
-/// The bytes of the peer's rows whose names the taker lacks.
-pub(crate) fn lacked(
+/// The bytes of the peer's rows whose names the taker lacks, who has those of the rows before this place.
+pub(crate) fn lacked_from(
     alloc: Global,
     taker: &Node<MacTable>,
     peer: &Node<MacTable>,
+    from: usize,
 ) -> Result<Vec<Bytes>, Memory>
+    requires { KnowsFirst (node_rows taker.now) (node_rows peer.now) from }
     ensures { IfOk result (λ events. events.items ≡ lacked taker.now peer.now) }
 {
     let mut events = Vec::new(alloc);
-    for place in 0..peer.rows() {
+    for place in from..peer.rows() {
         push_unless_held(alloc, &mut events, taker, peer, place)?;
     }
     Ok(events)

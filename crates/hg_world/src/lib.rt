@@ -5,6 +5,7 @@
 #![tactic(auto)]
 
 mod events;
+mod known;
 mod nodes;
 mod step;
 mod world;

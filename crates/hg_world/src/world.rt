@@ -1,14 +1,16 @@
-ghost use Rattle.std.specs.Prelude.{◌≡◌, ◌<◌, All, IfErr, IfOk, OnErr, OnOk, length, map};
+ghost use Rattle.std.specs.Prelude.{◌≡◌, ◌<◌, All, IfErr, IfOk, OnErr, OnOk, length, replicate};
 ghost use Rattle.std.specs.Option.{option_to_list};
 ghost use Rattle.hg_model.specs.Calls.{IsSettled, publish_answer};
 ghost use Rattle.hg_runs.specs.Safety.{IsSafe};
 ghost use Rattle.hg_world.specs.declared.step.Step.TheVariants.{Make, Deliver, Freeze, Publish};
-ghost use Rattle.hg_world.specs.Kept.{AreOfOneList, IsWorld, nth_node, unfrozen};
+ghost use Rattle.hg_world.specs.Kept.{AreKnown, AreOfOneList, IsWorld, nth_node, unfrozen};
+ghost use Rattle.hg_gossip.specs.Nodes.{lacked};
 ghost use Rattle.hg_world.specs.World.{IsMemberOf, IsSiteOf, frozen_by, new_world, node_at, nodes_of, rows_at, run_of, site_at, worker_count};
 ghost use Rattle.hg_world.specs.Steps.{HasRun, HasStepped, IsStepOf, RanSome, after_step, after_steps, making_at, putting_at, settle_steps};
 ghost use Rattle.hg_world.specs.Syncs.{HasMadeAfter, HasPulled, HasSynced, HasTaken, deliver_steps, pull_steps};
 
-use crate::events::{counted, lacked, sync_made};
+use crate::events::{counted, lacked_from, sync_made};
+use crate::known::{self, Known};
 use crate::nodes::{self, Frozen};
 use crate::step::{Reply, Step};
 use hg_gossip::Taken;
@@ -29,17 +31,19 @@ pub struct World {
     coin: u32,
     nodes: Vec<Node<MacTable>>,
     frozen: Vec<Frozen>,
+    /// The rows of a node only get more, so what is known stays known.
+    known: Vec<Known>,
 }
 
 impl Model for World {
     ghost use Rattle.hg_world.specs.World.{WorldView};
-    ghost use Rattle.hg_world.specs.Kept.{KeepsWorld, world_of};
+    ghost use Rattle.hg_world.specs.Kept.{KeepsKnown, KeepsWorld, world_of};
 
     ghost Value = { WorldView };
 
     ghost view = { λ s. world_of s.members s.coin s.nodes.items s.frozen.items };
 
-    ghost invariant = { λ s. KeepsWorld s.members s.coin s.nodes.items s.frozen.items };
+    ghost invariant = { λ s. KeepsWorld s.members s.coin s.nodes.items s.frozen.items × KeepsKnown s.nodes.items s.known.items };
 }
 
 impl World {
@@ -49,12 +53,14 @@ impl World {
     {
         let nodes = nodes::new_nodes(alloc, members)?;
         let frozen = nodes::none_frozen(alloc, nodes.len())?;
+        let known = known::none_known(alloc, nodes.len())?;
         Ok(World {
             alloc,
             members: members.count(),
             coin: members.coin(),
             nodes,
             frozen,
+            known,
         })
     }
 
@@ -216,14 +222,59 @@ impl World {
         Ok(counts)
     }
 
+    /// The bytes of the peer's rows whose names the taker lacks. Looks at no row whose name it is known to have.
+    fn lacked(&self, taker: Member, peer: Member) -> Result<Vec<Bytes>, Memory>
+        requires taker { IsMemberOf self.now taker }
+        requires peer { IsMemberOf self.now peer }
+        ensures { IfOk result (λ events. events.items ≡ lacked (node_at self.now taker) (node_at self.now peer)) }
+    {
+        let (x, y) = (taker as usize, peer as usize);
+        let from = known::known_at(&self.known, x, y);
+        lacked_from(self.alloc, &self.nodes[x], &self.nodes[y], from)
+    }
+
+    /// The taker has the names of all rows of the peer, and so those that the peer is known to have.
+    fn note_all(&mut self, taker: Member, peer: Member)
+        requires taker { IsMemberOf self.old taker }
+        requires peer { IsMemberOf self.old peer }
+        requires all { AreKnown (rows_at self.old taker) (rows_at self.old peer) }
+        ensures { self.new ≡ self.old }
+    {
+        let (x, y) = (taker as usize, peer as usize);
+        let len = self.nodes[y].rows();
+        known::hand_on(&mut self.known, x, y);
+        known::set_known(&mut self.known, x, y, len);
+    }
+
+    /// The taker has the names of the peer's rows before the first one that it lacks.
+    fn note_first(&mut self, taker: Member, peer: Member)
+        requires taker { IsMemberOf self.old taker }
+        requires peer { IsMemberOf self.old peer }
+        ensures { self.new ≡ self.old }
+    {
+        let (x, y) = (taker as usize, peer as usize);
+        let from = known::known_at(&self.known, x, y);
+        let first = known::first_unknown(&self.nodes[x], &self.nodes[y], from);
+        known::set_known(&mut self.known, x, y, first);
+    }
+
     fn pull_rows(&mut self, taker: Member, peer: Member) -> Result<Taken, Memory>
         requires taker { IsMemberOf self.old taker }
         requires peer { IsMemberOf self.old peer }
         ensures ok { IfOk result (λ counts. HasPulled self.old taker peer counts self.new) }
         ensures err { OnErr result (RanSome self.old (pull_steps self.old taker peer) self.new) }
     {
-        let events = lacked(self.alloc, self.node(taker), self.node(peer))?;
-        self.take(taker, events.as_slice())
+        let events = self.lacked(taker, peer)?;
+        let number = events.len() as u64;
+        // That the peer's node is one.
+        self.members();
+        let counts = self.take(taker, events.as_slice())?;
+        if counts.taken == number {
+            self.note_all(taker, peer);
+        } else {
+            self.note_first(taker, peer);
+        }
+        Ok(counts)
     }
 
     /// The taker's node takes from the peer's the rows that it lacks, by their names, in the peer's order. After
@@ -349,15 +400,26 @@ impl World {
     {
         nodes::see_all(&nodes);
         let (members, coin) = (nodes[0].graph().members(), nodes[0].graph().coin());
-        match nodes::none_frozen(alloc, nodes.len()) {
-            Ok(frozen) => Ok(World {
+        match nothing_done(alloc, nodes.len()) {
+            Ok((frozen, known)) => Ok(World {
                 alloc,
                 members,
                 coin,
                 nodes,
                 frozen,
+                known,
             }),
             Err(Memory) => Err(nodes),
         }
     }
+}
+
+/// So many nodes of which no rows are frozen or known.
+fn nothing_done(alloc: Global, count: usize) -> Result<(Vec<Frozen>, Vec<Known>), Memory>
+    ensures frozen { IfOk result (λ parts. parts.0.items ≡ replicate count (replicate worker_count 0)) }
+    ensures known { IfOk result (λ parts. parts.1.items ≡ replicate count (replicate 128 0)) }
+{
+    let frozen = nodes::none_frozen(alloc, count)?;
+    let known = known::none_known(alloc, count)?;
+    Ok((frozen, known))
 }

@@ -5,4 +5,4 @@ use Rattle.hg_world.proofs.WorldLaws.{safe}
 use Rattle.hg_world.proofs.world.World.members.Goals as goal
 
 pub returns-clause-safe : goal.returns-clause-safe
-returns-clause-safe c = subst (λ (w : WorldView). IsSafe w.members w.coin (run_of w)) c.self.view_is (safe _ c.self.invariant.world)
+returns-clause-safe c = subst (λ (w : WorldView). IsSafe w.members w.coin (run_of w)) c.self.view_is (safe _ c.self.invariant.0.world)

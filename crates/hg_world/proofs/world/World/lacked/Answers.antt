@@ -1,0 +1,30 @@
+use Rattle.std.proofs.Common.{◌≡◌, ◌∙◌, ℕ, ap, sym, subst, arith}
+use Rattle.std.specs.Prelude.{IfOk}
+use Rattle.hg_model.specs.NodeView.{NodeView, node_rows}
+use Rattle.hg_gossip.specs.Nodes.{lacked}
+use Rattle.hg_world.specs.World.{Secrets, node_at}
+use Rattle.hg_world.specs.Kept.{KnowsFirst, nth_node}
+use Rattle.hg_world.proofs.NodeLaws.{node_here}
+use Rattle.hg_world.proofs.TableLaws.{knows_here}
+use Rattle.hg_world.proofs.WorldLaws.{low_in, node_in}
+use Rattle.hg_world.proofs.world.World.lacked.Goals as goal
+
+pub known_at-from-requires-clause-x : goal.known_at-from-requires-clause-x
+known_at-from-requires-clause-x c = omega (arith, c.self.invariant.1.long, low_in c.self.inside.members c.self.inside.coin c.self.inside.nodes.items c.self.inside.frozen.items c.args.self.now c.args.taker c.self.invariant.0 c.self.view_is c.requires.taker)
+
+pub index-requires : goal.index-requires
+index-requires c = omega (arith, c.self.inside.nodes.ok.0, low_in c.self.inside.members c.self.inside.coin c.self.inside.nodes.items c.self.inside.frozen.items c.args.self.now c.args.taker c.self.invariant.0 c.self.view_is c.requires.taker)
+
+pub index-requires-2 : goal.index-requires-2
+index-requires-2 c = omega (arith, c.self.inside.nodes.ok.0, low_in c.self.inside.members c.self.inside.coin c.self.inside.nodes.items c.self.inside.frozen.items c.args.self.now c.args.peer c.self.invariant.0 c.self.view_is c.requires.peer)
+
+pub lacked_from-requires : goal.lacked_from-requires
+lacked_from-requires c =
+    knows_here c.self.inside.nodes.items c.self.inside.known.items c.args.taker c.args.peer c.index.result.now c.index-2.result.now c.known_at-from.result c.self.invariant.1 (low_in c.self.inside.members c.self.inside.coin c.self.inside.nodes.items c.self.inside.frozen.items c.args.self.now c.args.taker c.self.invariant.0 c.self.view_is c.requires.taker) (low_in c.self.inside.members c.self.inside.coin c.self.inside.nodes.items c.self.inside.frozen.items c.args.self.now c.args.peer c.self.invariant.0 c.self.view_is c.requires.peer)
+    (c.index.ensures ∙ node_here c.self.inside.nodes.items c.args.taker _ (low_in c.self.inside.members c.self.inside.coin c.self.inside.nodes.items c.self.inside.frozen.items c.args.self.now c.args.taker c.self.invariant.0 c.self.view_is c.requires.taker)) (c.index-2.ensures ∙ node_here c.self.inside.nodes.items c.args.peer _ (low_in c.self.inside.members c.self.inside.coin c.self.inside.nodes.items c.self.inside.frozen.items c.args.self.now c.args.peer c.self.invariant.0 c.self.view_is c.requires.peer)) c.known_at-from.ensures
+
+pub returns : goal.returns
+returns c =
+    subst (λ (v : NodeView Secrets). IfOk c.lacked_from.result (λ events. events.items ≡ lacked v (node_at c.args.self.now c.args.peer))) (c.index.ensures ∙ (node_here c.self.inside.nodes.items c.args.taker _ (low_in c.self.inside.members c.self.inside.coin c.self.inside.nodes.items c.self.inside.frozen.items c.args.self.now c.args.taker c.self.invariant.0 c.self.view_is c.requires.taker) ∙ node_in c.self.inside.members c.self.inside.coin c.self.inside.nodes.items c.self.inside.frozen.items c.args.self.now c.args.taker c.self.invariant.0 c.self.view_is c.requires.taker))
+    (subst (λ (v : NodeView Secrets). IfOk c.lacked_from.result (λ events. events.items ≡ lacked c.index.result.now v)) (c.index-2.ensures ∙ (node_here c.self.inside.nodes.items c.args.peer _ (low_in c.self.inside.members c.self.inside.coin c.self.inside.nodes.items c.self.inside.frozen.items c.args.self.now c.args.peer c.self.invariant.0 c.self.view_is c.requires.peer) ∙ node_in c.self.inside.members c.self.inside.coin c.self.inside.nodes.items c.self.inside.frozen.items c.args.self.now c.args.peer c.self.invariant.0 c.self.view_is c.requires.peer))
+    c.lacked_from.ensures)
