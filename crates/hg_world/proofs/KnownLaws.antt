@@ -1,6 +1,6 @@
 -- Rows whose names a node has: none of them is lacking, and they stay known
-use Rattle.std.proofs.Common.{◌≡◌, inl, inr, ℕ, zero, suc, ◌+◌, ◌<◌, ◌≤◌, Bool, true, false, not, cond, ◌||◌, List, [], ◌∷◌, ◌++◌, length, map, fold, take, drop, get_or, slice_get, Some, None, is_some, sym, refl, ap, ◌∙◌, subst, add-one, append_assoc, arith}
-use Rattle.std.specs.List.{AllByRecursion, filter, list_any}
+use Rattle.std.proofs.Common.{◌≡◌, inl, inr, ℕ, zero, suc, ◌+◌, ◌<◌, Bool, true, false, not, cond, ◌||◌, List, [], ◌∷◌, ◌++◌, length, take, drop, slice_get, Some, None, is_some, sym, refl, ap, ◌∙◌, subst, add-one, append_assoc, arith}
+use Rattle.std.specs.List.{list_any}
 use Rattle.std.specs.Str.{bytes_eq}
 use Rattle.std.proofs.lemmas.Bool.{cases_Bool, true≢false}
 use Rattle.std.proofs.lemmas.List.{length-append, map-append, take-append-drop, take-append-le}

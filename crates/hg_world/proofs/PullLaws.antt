@@ -1,7 +1,7 @@
 -- Pulls and syncs as steps
-use Rattle.std.proofs.Common.{◌≡◌, ℕ, suc, ◌+◌, ◌<◌, Bool, true, false, not, cond, List, [], ◌∷◌, ◌++◌, length, map, take, drop, get_or, slice_get, Option, Some, option_map, Result, Ok, Err, sym, refl, ap, ap₂, ◌∙◌, subst, add-one, append_assoc, arith}
+use Rattle.std.proofs.Common.{◌≡◌, ℕ, suc, ◌+◌, ◌<◌, Bool, true, false, not, cond, List, [], ◌∷◌, ◌++◌, length, map, fold, take, drop, get_or, slice_get, Option, Some, option_map, Result, Ok, Err, sym, refl, ap, ap₂, ◌∙◌, subst, add-one, append_assoc, arith}
 use Rattle.std.specs.Prelude.{OnErr, IfOk}
-use Rattle.std.proofs.lemmas.List.{append-nil, get_or-set_same, map-append, take-append-drop}
+use Rattle.std.proofs.lemmas.List.{append-nil, get_or-set_same, map-append, take-append-drop, length-set, set-get_or, set-set}
 use Rattle.std.proofs.lemmas.List.Sums.{fold-append}
 use Rattle.std.proofs.lemmas.Option.{slice_get-get_or}
 use Rattle.std.proofs.Math.Seq.{drop-cons}
@@ -20,9 +20,10 @@ use Rattle.hg_gossip.specs.Gossip.{none_taken, with_answer}
 use Rattle.hg_gossip.specs.Nodes.{Taking, lacked, take_event, taking, taking_of}
 use Rattle.hg_world.specs.declared.step.Step.{Step}
 use Rattle.hg_world.specs.declared.step.Step.TheVariants.{Deliver}
-use Rattle.hg_world.specs.World.{Secrets, WorldView, Site, no_site, node_at, site_at, site_of}
+use Rattle.hg_world.specs.World.{Secrets, WorldView, Site, no_site, node_at, site_at, site_of, with_node, with_site}
 use Rattle.hg_world.specs.Steps.{RanSome, after_step, after_steps, node_put, putting_at}
 use Rattle.hg_world.specs.Syncs.{HasMadeAfter, HasPulled, HasSynced, HasTaken, deliver_steps, last_made, make_steps, made_after, pull_steps, pulled, unheld_bytes}
+use Rattle.hg_world.specs.Laws.{PullsSetOneNode}
 use Rattle.hg_world.proofs.StepLaws.{after_both, after_more, steps_sites, taken_more}
 
 -- the node that bytes come to
@@ -126,3 +127,22 @@ bytes_more held rows k before after all inside grown is =
     ap (λ (xs : List (List ℕ)). xs ++ rest) (sym same)
     ∙ (append_assoc before (unheld_bytes held row) rest
     ∙ (ap (λ (xs : List (List ℕ)). before ++ xs) (bytes_at held rows k no_row inside) ∙ is))
+
+-- events that come to one node set that node
+puts_set : (events : List (List ℕ)) (w : WorldView) (m : ℕ) (counts : Taken) → m < length w.sites →
+    after_steps w (deliver_steps m events) ≡ with_node w m (fold (take_event accepts_by) (taking_of (node_at w m) counts) events).node
+puts_set [] w m counts low =
+    ap (λ (sites : List Site). let u : WorldView = record { members = w.members; coin = w.coin; sites = sites } in u) (sym (set-get_or w.sites m no_site))
+puts_set (bytes ∷ events) w m counts low =
+    let site : Site = site_of (node_put (node_at w m) bytes) (site_at w m).frozen in
+    let next : WorldView = after_step w (Deliver m bytes) in
+    let more : Taken = with_answer counts (putting_at (node_at w m) bytes) in
+    let read : site_at next m ≡ site = get_or-set_same w.sites m site no_site low in
+    let end : NodeView Secrets → NodeView Secrets = λ v. (fold (take_event accepts_by) (taking_of v more) events).node in
+    puts_set events next m more (omega (arith, low, length-set w.sites m site))
+    ∙ (ap (λ (s : Site). with_site next m (site_of (end s.node) s.frozen)) read
+    ∙ ap (λ (sites : List Site). let u : WorldView = record { members = w.members; coin = w.coin; sites = sites } in u)
+    (set-set w.sites m site (site_of (end site.node) site.frozen)))
+
+pub pulls_set : PullsSetOneNode
+pulls_set w taker peer low = puts_set (lacked (node_at w taker) (node_at w peer)) w taker none_taken low

@@ -2,3 +2,4 @@ pub mod World
 pub mod Kept
 pub mod Steps
 pub mod Syncs
+pub mod Laws

@@ -6,9 +6,13 @@
 
 mod events;
 mod known;
+mod laws;
 mod nodes;
 mod step;
+#[cfg(test)]
+mod tests;
 mod world;
 
+pub use laws::{pulls_set_one_node, steps_keep_sites};
 pub use step::{Reply, Step};
 pub use world::World;

@@ -1,4 +1,4 @@
-use Rattle.std.proofs.Common.{◌∙◌, List, ℕ, Option, ap, is_some, sym}
+use Rattle.std.proofs.Common.{◌∙◌, ℕ, Option, ap, is_some, sym}
 use Rattle.hg_model.specs.NodeView.{node_rows}
 use Rattle.hg_world.proofs.KnownLaws.{first_step, found_held}
 use Rattle.hg_world.proofs.known.first_unknown.Goals as goal

@@ -1,9 +1,8 @@
-use Rattle.std.proofs.Common.{◌≡◌, ◌∙◌, ℕ, ap, sym, subst, arith}
+use Rattle.std.proofs.Common.{◌≡◌, ◌∙◌, subst, arith}
 use Rattle.std.specs.Prelude.{IfOk}
-use Rattle.hg_model.specs.NodeView.{NodeView, node_rows}
+use Rattle.hg_model.specs.NodeView.{NodeView}
 use Rattle.hg_gossip.specs.Nodes.{lacked}
 use Rattle.hg_world.specs.World.{Secrets, node_at}
-use Rattle.hg_world.specs.Kept.{KnowsFirst, nth_node}
 use Rattle.hg_world.proofs.NodeLaws.{node_here}
 use Rattle.hg_world.proofs.TableLaws.{knows_here}
 use Rattle.hg_world.proofs.WorldLaws.{low_in, node_in}
