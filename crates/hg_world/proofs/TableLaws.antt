@@ -16,9 +16,6 @@ abbrev rows_of : List (NodeView Secrets) → ℕ → List Row
 rows_of nodes m = node_rows (nth_node nodes m)
 
 -- none are known yet
-pub none_known : ℕ → List (List ℕ)
-none_known count = replicate count (replicate 128 0)
-
 pub knows_none : (nodes : List (NodeView Secrets)) (known : List (List ℕ)) → length nodes ≤ 128 → known ≡ replicate (length nodes) (replicate 128 0) → KeepsKnown nodes known
 knows_none nodes known few are = record {
   long = ap length are ∙ length-replicate (length nodes) (replicate 128 0);

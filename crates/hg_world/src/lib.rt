@@ -1,7 +1,20 @@
 //! The members' nodes in one process: a run, step by step.
 //! The layers above use that each call leaves the world after the steps that it names (`after_steps`), and that of the
 //! orders that any two nodes keep at any two moments one is a prefix of the other, where the premises of `IsSafe` hold.
-//! Nodes hand each other bytes: what a node takes it reads and judges itself.
+//! Nodes hand each other bytes: what a node takes it reads and judges itself. Of what it has of each other node it keeps a
+//! number, so that a pull looks at no row twice.
+//!
+//! ```text
+//! /// A member's node settles: how many events its order has then.
+//! fn ordered(world: &mut World, member: Member) -> Result<usize, Memory>
+//!     requires { IsMemberOf world.old member }
+//!     ensures { IfOk result (λ n. n ≡ length (kept_of (node_at world.new member))) }
+//! {
+//!     steps_keep_sites();
+//!     world.settle(member)?;
+//!     Ok(world.node(member).kept().len())
+//! }
+//! ```
 #![tactic(auto)]
 
 mod events;

@@ -1,5 +1,6 @@
 ghost use Rattle.std.specs.Prelude.{◌≡◌, IfOk, length};
 ghost use Rattle.hg_model.specs.NodeView.{kept_of};
+ghost use Rattle.hg_world.specs.Kept.{AreOfOneList};
 ghost use Rattle.hg_world.specs.World.{IsMemberOf, node_at};
 
 use crate::{Reply, Step, World, steps_keep_sites};
@@ -8,6 +9,8 @@ use hg_model::{
     ByteFault, Bytes, Fault, MakeAnswer, Member, MemberEntry, Members, Memory, Placed, PutAnswer, Share, SyncMade,
     SyncReport,
 };
+use hg_node::Node;
+use hg_sign::MacTable;
 use std::alloc::Global;
 use std::fmt::Debug;
 use std::process::Abort;
@@ -47,6 +50,15 @@ impl Drop for Held {
     fn drop(self) {
         let Held { world } = self;
         drop(world);
+    }
+}
+
+impl Held {
+    fn into_nodes(self) -> Vec<Node<MacTable>>
+        ensures { AreOfOneList result.items }
+    {
+        let Held { world } = self;
+        world.into_nodes()
     }
 }
 
@@ -199,8 +211,7 @@ fn publishes_an_old_prefix(rt: HostRuntime) -> Result<(), Memory> {
 
 /// The nodes alone are a world again, in which no worker has frozen any rows.
 fn again(alloc: Global, held: Held) -> Result<Held, Memory> {
-    let Held { world } = held;
-    match World::from_nodes(alloc, world.into_nodes()) {
+    match World::from_nodes(alloc, held.into_nodes()) {
         Ok(world) => Ok(Held { world }),
         Err(nodes) => {
             drop(nodes);
