@@ -125,7 +125,7 @@ sites_length v w same =
     sym (length-map v.sites (λ (s : Site). s.node.start)) ∙ (ap length same ∙ length-map w.sites (λ (s : Site). s.node.start))
 
 -- the world after lines is that after their steps
-lines-steps : (members : MemberList) (s : Stage) (lines : List Line) → (after_lines members s lines).world ≡ after_steps s.world (lines_steps members s lines)
+pub lines-steps : (members : MemberList) (s : Stage) (lines : List Line) → (after_lines members s lines).world ≡ after_steps s.world (lines_steps members s lines)
 lines-steps members s [] = refl
 lines-steps members s (line ∷ lines) =
     let now = action_steps s.world s.labels line.action in

@@ -1,3 +1,4 @@
+pub mod Agree
 pub mod Labels
 pub mod Lines
 pub mod Play

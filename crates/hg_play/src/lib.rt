@@ -6,8 +6,10 @@
 mod blocks;
 mod gossip;
 mod labels;
+mod laws;
 mod lines;
 mod playing;
 mod printing;
 
+pub use laws::lines_are_steps;
 pub use playing::play;
