@@ -1,6 +1,6 @@
 -- Who is honest in a run, and that names do not collide in it. SWIRLDS-TR-2016-01, sections 3 and 5.
--- Honesty is told by events alone: a member is honest where its own node made each event by it that any node has. So
--- nobody signed for it, and, since a node makes its events in one chain, it has no fork
+-- Honesty is told by events alone: a member is honest where its own node made each event by it that any node has. So no
+-- node has an event that another signed for it, and, since a node makes its events in one chain, it has no fork
 use Rattle.std.specs.Prelude.{ℕ, ◌≡◌, ◌<◌, Bool, false, not, ◌&&◌, ◌==◌, List, Some, slice_get}
 use Rattle.std.specs.List.{list_any}
 use Rattle.std.specs.Str.{bytes_eq}

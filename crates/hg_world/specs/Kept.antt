@@ -49,7 +49,7 @@ pub record HasStart (n : Stakes) (c m : ℕ) (v : NodeView Secrets) : Type 0 whe
   pub members : v.start.members ≡ n
   pub coin : v.start.coin ≡ c
 
--- nodes of one list of members, one for each, in the members' order
+-- nodes among as many members, with one coin period, one for each, in the members' order
 pub record AreOfMembers (n : Stakes) (c : ℕ) (nodes : List (NodeView Secrets)) : Type 0 where
   pub some : 0 < length nodes
   pub count : length nodes ≡ member_count n

@@ -83,7 +83,7 @@ run_of w = λ m. (node_at w m).history
 abbrev pub IsMemberOf : WorldView → ℕ → Type 0
 IsMemberOf w m = m < length w.sites
 
--- what every world keeps to
+-- the site is that of member m
 pub record IsSiteOf (w : WorldView) (m : ℕ) (site : Site) : Type 0 where
   pub own : site.node.start.own ≡ m
   pub members : site.node.start.members ≡ w.members
