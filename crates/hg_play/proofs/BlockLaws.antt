@@ -1,5 +1,5 @@
 -- The block of a node, part by part, and that of a node that is settled
-use Rattle.std.proofs.Common.{◌≡◌, ℕ, List, length, ap, ap₂, sym, refl, ◌∙◌}
+use Rattle.std.proofs.Common.{◌≡◌, ℕ, List, length, ap, ap₂, refl, ◌∙◌}
 use Rattle.hg_model.specs.declared.row.Row.{Row}
 use Rattle.hg_model.specs.declared.row.Placed.{Placed}
 use Rattle.hg_model.specs.declared.outcome.OrderLine.{OrderLine}

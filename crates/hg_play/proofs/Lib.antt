@@ -1,3 +1,4 @@
+mod AgreeLaws
 mod SequenceLaws
 mod WorldLaws
 mod BlockLaws

@@ -1,5 +1,5 @@
 -- What the nodes of a world began with, and that to settle nodes leaves all rows
-use Rattle.std.proofs.Common.{◌≡◌, ℕ, zero, suc, ◌+◌, ◌<◌, Bool, true, false, cond, List, [], ◌∷◌, ◌++◌, length, map, fold, get_or, sym, refl, ap, ◌∙◌, subst, ◌==◌, arith, add-one, zero-add}
+use Rattle.std.proofs.Common.{◌≡◌, ℕ, zero, suc, ◌+◌, ◌<◌, Bool, true, false, cond, List, [], ◌∷◌, ◌++◌, length, map, get_or, sym, refl, ap, ◌∙◌, subst, ◌==◌, arith, add-one, zero-add}
 use Rattle.std.specs.List.{range_with_len}
 use Rattle.std.proofs.lemmas.List.{length-map, get_or-map}
 use Rattle.std.proofs.lemmas.List.Sums.{fold-append}
@@ -20,11 +20,11 @@ use Rattle.hg_history.proofs.StateLaws.{replay-push}
 use Rattle.hg_world.specs.declared.step.Step.{Step}
 use Rattle.hg_world.specs.declared.step.Step.TheVariants.{Make, Deliver, Freeze, Publish}
 use Rattle.hg_runs.specs.Safety.{IsSafe}
-use Rattle.hg_world.specs.World.{Secrets, Site, WorldView, new_site, new_world, no_site, site_at, node_at, rows_at, run_of, frozen_by, with_site}
+use Rattle.hg_world.specs.World.{Secrets, Site, WorldView, new_site, new_world, no_site, node_at, rows_at, run_of, frozen_by, with_site}
 use Rattle.hg_world.specs.Steps.{after_step, after_steps, node_published, settle_steps}
 use Rattle.hg_script.specs.declared.line.Line.{Line}
 use Rattle.hg_play.specs.Lines.{action_steps}
-use Rattle.hg_play.specs.Play.{Stage, IsSafePlay, after_line, after_lines, block_at, end_steps, first_stage, lines_steps, play_run, play_steps}
+use Rattle.hg_play.specs.Play.{Stage, IsSafePlay, after_line, after_lines, block_at, end_steps, first_stage, lines_steps, play_run, play_steps, stage}
 use Rattle.hg_play.specs.Sites.{start_in, starts, starts_of}
 
 -- one step after the others
@@ -140,6 +140,14 @@ play-steps members lines last is =
     let all = lines_steps members (first_stage members) lines in
     let ends = end_steps members (length members.entries) in
     is ∙ (ap (λ (w : WorldView). after_steps w ends) (lines-steps members (first_stage members) lines) ∙ sym (steps-append (new_world members) all ends))
+
+-- the world in which the play ends, by the worlds before
+pub last-world : (members : MemberList) (lines : List Line) (new played last : WorldView) → new ≡ new_world members → played ≡ (after_lines members (stage new [] []) lines).world →
+    last ≡ after_steps played (end_steps members (length members.entries)) →
+    last ≡ after_steps (after_lines members (first_stage members) lines).world (end_steps members (length members.entries))
+last-world members lines new played last new_is played_is last_is =
+    last_is ∙ ap (λ (w : WorldView). after_steps w (end_steps members (length members.entries)))
+    (played_is ∙ ap (λ (w : WorldView). (after_lines members (stage w [] []) lines).world) new_is)
 
 -- steps leave members and coin period
 pub members-steps : (w : WorldView) (steps : List Step) → (after_steps w steps).members ≡ w.members

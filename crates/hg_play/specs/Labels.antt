@@ -1,11 +1,10 @@
 -- The bytes that labels stand for
-use Rattle.std.specs.Prelude.{ℕ, nat_lt, List, [], ◌∷◌, ◌++◌, length, take, slice_get, slice_index, slice_index_or, slice_set, bit_xor, Option, option_map, unwrap_or, if◌then◌else◌}
+use Rattle.std.specs.Prelude.{ℕ, nat_lt, List, [], ◌++◌, length, take, slice_get, slice_index, slice_index_or, slice_set, bit_xor, option_map, unwrap_or, if◌then◌else◌}
 use Rattle.sha2.specs.Sha512.{sha384}
 use Rattle.hg_model.specs.declared.row.Row.{Row}
 use Rattle.hg_model.specs.Links.{ParentNames, place_of}
 use Rattle.hg_model.specs.Spelling.{body_bytes, spelling}
-use Rattle.hg_model.specs.Members.{MemberList}
-use Rattle.hg_model.specs.Signing.{secrets_of, signature_by}
+use Rattle.hg_model.specs.Signing.{signature_by}
 use Rattle.hg_model.specs.NodeView.{NodeView, node_rows}
 use Rattle.hg_script.specs.declared.line.Source.{Source}
 use Rattle.hg_script.specs.declared.line.Source.TheVariants.{Last, Forged, Raw, Altered, Front}

@@ -1,6 +1,6 @@
 //! A gossip script played over the members' nodes.
-//! The layer above uses `play`, whose answer is all that the script prints, as the definitions say it, and whose run is
-//! safe. Each line is a list of steps of a run; the nodes are those of `hg_world`.
+//! The layer above uses `play`, whose answer is all that the script prints, as the definitions say it, whose run is
+//! safe, and whose blocks agree. Each line is a list of steps of a run; the nodes are those of `hg_world`.
 #![tactic(auto)]
 
 mod blocks;

@@ -1,6 +1,7 @@
 ghost use Rattle.std.specs.Prelude.{◌≡◌, All, IfOk, OnOk};
 ghost use Rattle.hg_model.specs.Members.{names_of};
 ghost use Rattle.hg_script.specs.Lawful.{IsLine};
+ghost use Rattle.hg_play.specs.Agree.{IsAgreed};
 ghost use Rattle.hg_play.specs.Play.{IsSafePlay, play};
 
 use crate::blocks::push_blocks;
@@ -25,11 +26,12 @@ fn names(alloc: Global, members: &Members) -> Result<Items<Bytes>, Memory>
 /// Plays the lines of a script over the members' nodes, and gives all that the script prints, with a last block for
 /// each node. The lines are those of `read_script` for these members. The run of the lines' steps is safe: of the
 /// orders that two nodes keep at two moments one is a prefix of the other, where less than a third of the stake is
-/// dishonest and names do not collide.
+/// dishonest and names do not collide. Then so are the orders that any two of the printed blocks show.
 pub fn play(alloc: Global, members: &Members, lines: &[Line]) -> Result<Outcome, Memory>
     requires { All (IsLine members.now) lines.now }
     ensures outcome { IfOk result (λ outcome. outcome ≡ play members.now lines.now) }
     ensures safe { OnOk result (IsSafePlay members.now lines.now) }
+    ensures agree { OnOk result (IsAgreed members.now lines.now) }
 {
     let keys = MacTable::new(alloc, members)?;
     let mut world = World::new(alloc, members)?;

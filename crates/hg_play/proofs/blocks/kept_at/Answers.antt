@@ -1,4 +1,4 @@
-use Rattle.std.proofs.Common.{◌≡◌, ◌∙◌, ap}
+use Rattle.std.proofs.Common.{◌∙◌, ap}
 use Rattle.hg_model.specs.NodeView.{NodeView}
 use Rattle.hg_play.specs.Lines.{kept_block}
 use Rattle.hg_world.specs.World.{Secrets}

@@ -1,9 +1,7 @@
-use Rattle.std.proofs.Common.{◌≡◌, ◌∙◌, ◌++◌, ◌∷◌, [], ℕ, List, ap, cond, length, refl, sym, arith, add-one, ◌<◌}
+use Rattle.std.proofs.Common.{◌≡◌, ◌∙◌, ◌++◌, ◌∷◌, [], ap, cond, length, refl, arith, ◌<◌}
 use Rattle.hg_model.specs.declared.outcome.Printed.{Printed}
-use Rattle.hg_model.specs.Places.{list_below}
 use Rattle.hg_model.specs.Members.{has_node}
 use Rattle.hg_world.specs.World.{WorldView}
-use Rattle.hg_world.specs.Steps.{after_steps, settle_steps}
 use Rattle.hg_play.specs.Play.{block_at, end_steps}
 use Rattle.hg_play.specs.Sites.{starts, starts_of}
 use Rattle.hg_play.proofs.PlayLaws.{block_more, no_blocks}

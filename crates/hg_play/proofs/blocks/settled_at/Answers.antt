@@ -1,5 +1,5 @@
-use Rattle.std.proofs.Common.{◌≡◌, ◌∙◌, ap}
-use Rattle.hg_world.specs.World.{WorldView, node_at}
+use Rattle.std.proofs.Common.{◌∙◌, ap}
+use Rattle.hg_world.specs.World.{node_at}
 use Rattle.hg_world.specs.Steps.{settle_steps}
 use Rattle.hg_play.specs.Sites.{starts_of}
 use Rattle.hg_play.proofs.WorldLaws.{start_read, starts-steps}

@@ -1,4 +1,4 @@
-use Rattle.std.proofs.Common.{◌≡◌, ◌∙◌, [], ℕ, ap, length, subst, sym, take}
+use Rattle.std.proofs.Common.{◌∙◌, [], ℕ, ap, length, subst, sym, take}
 use Rattle.hg_script.specs.declared.line.Line.{Line}
 use Rattle.hg_play.specs.Lines.{IsBelow}
 use Rattle.hg_play.specs.Play.{Stage, stage}

@@ -1,12 +1,12 @@
-use Rattle.std.proofs.Common.{◌≡◌, ◌∙◌, ◌++◌, [], List, ℕ, ap, ap₂, length, sym}
+use Rattle.std.proofs.Common.{◌≡◌, ◌∙◌, ◌++◌, [], List, ℕ, ap, ap₂, length, refl}
 use Rattle.hg_model.specs.declared.outcome.Outcome.{Outcome}
 use Rattle.hg_model.specs.declared.outcome.Printed.{Printed}
 use Rattle.hg_world.specs.World.{WorldView, new_world}
-use Rattle.hg_world.specs.Steps.{after_steps}
-use Rattle.hg_play.specs.Play.{Stage, after_lines, end_blocks, end_steps, play, stage}
+use Rattle.hg_play.specs.Play.{Stage, after_lines, end_blocks, play, stage}
 use Rattle.hg_play.specs.Sites.{starts, starts_of}
+use Rattle.hg_play.proofs.AgreeLaws.{agreed}
 use Rattle.hg_play.proofs.PlayLaws.{lines_below}
-use Rattle.hg_play.proofs.WorldLaws.{safe-play, starts-lines, starts-new, starts_length}
+use Rattle.hg_play.proofs.WorldLaws.{last-world, safe-play, starts-lines, starts-new, starts_length}
 use Rattle.hg_play.proofs.playing.play.Goals as goal
 
 pub play_lines-requires-clause-lines : goal.play_lines-requires-clause-lines
@@ -37,9 +37,13 @@ returns-clause-outcome c =
 
 pub returns-clause-safe : goal.returns-clause-safe
 returns-clause-safe c =
+    safe-play c.args.members.now c.args.lines.now c.push_blocks.new.world
+    (last-world c.args.members.now c.args.lines.now _ _ _ c.in_ok-world.ensures c.in_ok-printed.ensures.world c.in_ok-push_blocks.ensures.world) c.members.ensures.safe
+
+pub returns-clause-agree : goal.returns-clause-agree
+returns-clause-agree c =
     let members = c.args.members.now in
-    let ends = end_steps members (length members.entries) in
-    safe-play members c.args.lines.now c.push_blocks.new.world
-    (c.in_ok-push_blocks.ensures.world ∙ ap (λ (w : WorldView). after_steps w ends)
-    (c.in_ok-printed.ensures.world ∙ ap (λ (w : WorldView). (after_lines members (stage w [] []) c.args.lines.now).world) c.in_ok-world.ensures))
-    c.members.ensures.safe
+    let last = c.push_blocks.new.world in
+    let is = last-world members c.args.lines.now _ _ _ c.in_ok-world.ensures c.in_ok-printed.ensures.world c.in_ok-push_blocks.ensures.world in
+    agreed members c.args.lines.now last is c.members.ensures.world (lines_below members (length members.entries) c.args.lines.now refl c.requires)
+    (safe-play members c.args.lines.now last is c.members.ensures.safe)
