@@ -10,6 +10,7 @@ use Rattle.hg_script.specs.declared.fault.ScriptFault.{ScriptFault}
 use Rattle.hg_script.specs.declared.line.Line.{Line}
 use Rattle.hg_script.specs.Script.{lines_of}
 use Rattle.hg_command.specs.Asked.{RunFiles}
+use Rattle.hg_play.specs.Agree.{IsAgreed}
 use Rattle.hg_play.specs.Play.{IsSafePlay, play}
 use Rattle.hg_top.specs.declared.status.Refusal.{Refusal}
 use Rattle.hg_top.specs.declared.status.Refusal.TheVariants.{TooLong, Fault}
@@ -39,10 +40,12 @@ abbrev pub report_of : List ℕ → List ℕ → Option (List ℕ)
 report_of member_bytes script_bytes =
     option_and_then (λ members. option_map (λ lines. report_text (play members lines)) (result_ok (accepted_lines members script_bytes))) (result_ok (accepted_members member_bytes))
 
--- the run of the steps of the script is safe, if both are accepted
+-- if both are accepted, the run of the steps of the script is safe, and so is what the report shows: no two of its orders
+-- part ways
 abbrev pub IsSafeReport : List ℕ → List ℕ → Type 0
 IsSafeReport member_bytes script_bytes =
-    (members : MemberList) (lines : List Line) → accepted_members member_bytes ≡ Ok members → accepted_lines members script_bytes ≡ Ok lines → IsSafePlay members lines
+    (members : MemberList) (lines : List Line) → accepted_members member_bytes ≡ Ok members → accepted_lines members script_bytes ≡ Ok lines →
+    IsSafePlay members lines × IsAgreed members lines
 
 -- the shelf has these bytes under the name, where it tells what it has
 abbrev pub Has : Option Files → List ℕ → List ℕ → Type 0

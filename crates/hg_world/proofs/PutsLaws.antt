@@ -57,8 +57,8 @@ accepted_held v row place spells accepted =
     let one = puts_add_one Secrets accepts_by v (spelling row) place accepted in
     let same : one.1.0 ≡ row = ok_same one.1.0 row (read_event (spelling row)) one.1.1 (Spells-read_event (spelling row) row spells) in
     let rows : node_rows (with_changes v (put_changes accepts_by v (spelling row))) ≡ node_rows v ++ row ∷ [] =
-        ap (λ (es : List Change). node_rows (with_changes v es)) (one.1.2 ∙ ap (λ (r : Row). Took r ∷ []) same)
-        ∙ ap (λ (s : State). s.rows) (replay-push v.start.members v.start.coin v.history (Took row)) in
+    ap (λ (es : List Change). node_rows (with_changes v es)) (one.1.2 ∙ ap (λ (r : Row). Took r ∷ []) same)
+    ∙ ap (λ (s : State). s.rows) (replay-push v.start.members v.start.coin v.history (Took row)) in
     subst (λ (G : List Row). is_held G row.name ≡ true) (sym rows) (held_last (node_rows v) row)
 
 -- events one after the other
@@ -88,12 +88,16 @@ all_taken (row ∷ rows) accepts t events all = by (put_answer accepts_by t.node
   where
     next : Taking Secrets
     next = take_event accepts_by t (spelling row)
+
     end : Taking Secrets
     end = fold (take_event accepts_by) next (map spelling rows)
+
     few : end.counts.taken ≤ next.counts.taken + length rows
     few = subst (λ (k : ℕ). end.counts.taken ≤ next.counts.taken + k) (length-map rows spelling) (taken_few (map spelling rows) next)
+
     some : (answer : PutAnswer) → put_answer accepts_by t.node (spelling row) ≡ answer → next.counts.taken ≡ t.counts.taken + count_taken answer
     some answer is = ap (λ (a : PutAnswer). t.counts.taken + count_taken a) is
+
     by : (answer : PutAnswer) → put_answer accepts_by t.node (spelling row) ≡ answer → (end.counts.taken ≡ next.counts.taken + length rows → AreKnown (node_rows end.node) rows) → AreKnown (node_rows end.node) (row ∷ rows)
     by (Accepted p) is then = (
       held_more (node_rows next.node) (node_rows end.node) row.name (rows_more (map spelling rows) next) (accepted_held t.node row p events.0.spelled is),
@@ -112,7 +116,7 @@ pulled_all v peer events now counts node is counted all =
     let end : taking_of now counts ≡ fold (take_event accepts_by) start (map spelling missing) = counted ∙ ap (taking accepts_by v) is in
     let node_is : now ≡ (fold (take_event accepts_by) start (map spelling missing)).node = ap (λ (t : Taking Secrets). t.node) end in
     let counted_all : (fold (take_event accepts_by) start (map spelling missing)).counts.taken ≡ length missing =
-        sym (ap (λ (t : Taking Secrets). t.counts.taken) end) ∙ (all ∙ (ap length is ∙ length-map missing spelling)) in
+    sym (ap (λ (t : Taking Secrets). t.counts.taken) end) ∙ (all ∙ (ap length is ∙ length-map missing spelling)) in
     let number : (fold (take_event accepts_by) start (map spelling missing)).counts.taken ≡ 0 + length missing = omega (arith, counted_all) in
     let rows = (sound accepts peer.start.members peer.start.coin peer.start.own peer.history node.coin node.history).events in
     subst (λ (u : NodeView Secrets). AreKnown (node_rows u) (node_rows peer)) (sym node_is)

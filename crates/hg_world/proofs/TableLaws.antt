@@ -35,6 +35,7 @@ grown_at nodes m k es low = by (cases_eq k m)
   where
     v : NodeView Secrets
     v = with_changes (nth_node nodes m) es
+
     by : (k ≡ m) ⊎ (k ≢ m) → IsPrefix (rows_of nodes k) (rows_of (slice_set nodes m v) k)
     by (inl here) = subst (λ (j : ℕ). IsPrefix (rows_of nodes j) (rows_of (slice_set nodes m v) j)) (sym here)
         (subst (λ (u : NodeView Secrets). IsPrefix (rows_of nodes m) (node_rows u)) (sym (get_or-set_same nodes m v no_node low))
@@ -70,6 +71,7 @@ knows_row nodes known x row row_wide low keeps knows = record {
     wide_at : (a : ℕ) → a < length nodes → (a ≡ x) ⊎ (a ≢ x) → length (get_or (slice_set known x row) a []) ≡ 128
     wide_at a low_a (inl here) = subst (λ (j : ℕ). length (get_or (slice_set known x row) j []) ≡ 128) (sym here) (ap length (get_or-set_same known x row [] (omega (arith, low, keeps.long))) ∙ row_wide)
     wide_at a low_a (inr other) = ap length (get_or-set_other known x a row [] other) ∙ keeps.wide a low_a
+
     by : (a z : ℕ) → a < length nodes → z < length nodes → (a ≡ x) ⊎ (a ≢ x) → KnowsFirst (rows_of nodes a) (rows_of nodes z) (known_by (slice_set known x row) a z)
     by a z low_a low_z (inl here) = subst (λ (j : ℕ). KnowsFirst (rows_of nodes j) (rows_of nodes z) (known_by (slice_set known x row) j z)) (sym here)
         (subst (λ (r : List ℕ). KnowsFirst (rows_of nodes x) (rows_of nodes z) (get_or r z 0)) (sym (get_or-set_same known x row [] (omega (arith, low, keeps.long)))) (knows z low_z))

@@ -6,8 +6,8 @@ ghost use Rattle.hg_world.specs.World.{IsMemberOf, node_at};
 use crate::{Reply, Step, World, steps_keep_sites};
 use hg_gossip::Taken;
 use hg_model::{
-    ByteFault, Bytes, Fault, MakeAnswer, Member, MemberEntry, Members, Memory, Placed, PutAnswer, Share, SyncMade,
-    SyncReport,
+    ByteFault, Bytes, Fault, MakeAnswer, Member, MemberEntry, Members, Memory, Placed, PutAnswer,
+    Share, SyncMade, SyncReport,
 };
 use hg_node::Node;
 use hg_sign::MacTable;

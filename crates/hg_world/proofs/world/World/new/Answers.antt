@@ -8,10 +8,10 @@ pub invariant_of-result : goal.invariant_of-result
 invariant_of-result c =
     rw (c.count.ensures.value, c.coin.ensures.value) (
       (is_new c.args.members.now c.in_ok-nodes.nodes.items c.in_ok-frozen.frozen.items c.count.ensures.lawful c.in_ok-nodes.ensures.nodes c.in_ok-nodes.ensures.lawful
-    (c.in_ok-frozen.ensures ∙ ap (λ (k : ℕ). replicate k (replicate worker_count 0)) (c.len.ensures ∙ c.in_ok-nodes.nodes.ok.0))).keeps,
+          (c.in_ok-frozen.ensures ∙ ap (λ (k : ℕ). replicate k (replicate worker_count 0)) (c.len.ensures ∙ c.in_ok-nodes.nodes.ok.0))).keeps,
       knows_none c.in_ok-nodes.nodes.items c.in_ok-known.known.items (is_new c.args.members.now c.in_ok-nodes.nodes.items c.in_ok-frozen.frozen.items c.count.ensures.lawful c.in_ok-nodes.ensures.nodes c.in_ok-nodes.ensures.lawful
-    (c.in_ok-frozen.ensures ∙ ap (λ (k : ℕ). replicate k (replicate worker_count 0)) (c.len.ensures ∙ c.in_ok-nodes.nodes.ok.0))).keeps.few
-      (c.in_ok-known.ensures ∙ ap (λ (k : ℕ). replicate k (replicate 128 0)) (c.len-2.ensures ∙ c.in_ok-nodes.nodes.ok.0)),
+          (c.in_ok-frozen.ensures ∙ ap (λ (k : ℕ). replicate k (replicate worker_count 0)) (c.len.ensures ∙ c.in_ok-nodes.nodes.ok.0))).keeps.few
+          (c.in_ok-known.ensures ∙ ap (λ (k : ℕ). replicate k (replicate 128 0)) (c.len-2.ensures ∙ c.in_ok-nodes.nodes.ok.0)),
     )
 
 pub returns : goal.returns

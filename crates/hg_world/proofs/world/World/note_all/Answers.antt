@@ -25,7 +25,7 @@ pub invariant_of-self : goal.invariant_of-self
 invariant_of-self c = (
   c.self.invariant.0,
   notes_all c.self.inside.nodes.items c.self.inside.known.items c.hand_on.new.known.items c.set_known.new.known.items c.args.taker c.args.peer c.rows-len.result c.self.invariant.0.few (low_in c.self.inside.members c.self.inside.coin c.self.inside.nodes.items c.self.inside.frozen.items c.args.self.now c.args.taker c.self.invariant.0 c.self.view_is c.requires.taker) (low_in c.self.inside.members c.self.inside.coin c.self.inside.nodes.items c.self.inside.frozen.items c.args.self.now c.args.peer c.self.invariant.0 c.self.view_is c.requires.peer) c.self.invariant.1
-  (subst (λ (v : NodeView Secrets). AreKnown (node_rows v) (node_rows (nth_node c.self.inside.nodes.items c.args.peer))) (sym (node_in c.self.inside.members c.self.inside.coin c.self.inside.nodes.items c.self.inside.frozen.items c.args.self.now c.args.taker c.self.invariant.0 c.self.view_is c.requires.taker))
-  (subst (λ (v : NodeView Secrets). AreKnown (rows_at c.args.self.now c.args.taker) (node_rows v)) (sym (node_in c.self.inside.members c.self.inside.coin c.self.inside.nodes.items c.self.inside.frozen.items c.args.self.now c.args.peer c.self.invariant.0 c.self.view_is c.requires.peer)) c.requires.all))
-  c.hand_on.ensures (c.rows-len.ensures.value ∙ ap (λ (v : NodeView Secrets). length (node_rows v)) (c.index.ensures ∙ node_here c.self.inside.nodes.items c.args.peer _ (low_in c.self.inside.members c.self.inside.coin c.self.inside.nodes.items c.self.inside.frozen.items c.args.self.now c.args.peer c.self.invariant.0 c.self.view_is c.requires.peer))) c.set_known.ensures,
+      (subst (λ (v : NodeView Secrets). AreKnown (node_rows v) (node_rows (nth_node c.self.inside.nodes.items c.args.peer))) (sym (node_in c.self.inside.members c.self.inside.coin c.self.inside.nodes.items c.self.inside.frozen.items c.args.self.now c.args.taker c.self.invariant.0 c.self.view_is c.requires.taker))
+      (subst (λ (v : NodeView Secrets). AreKnown (rows_at c.args.self.now c.args.taker) (node_rows v)) (sym (node_in c.self.inside.members c.self.inside.coin c.self.inside.nodes.items c.self.inside.frozen.items c.args.self.now c.args.peer c.self.invariant.0 c.self.view_is c.requires.peer)) c.requires.all))
+      c.hand_on.ensures (c.rows-len.ensures.value ∙ ap (λ (v : NodeView Secrets). length (node_rows v)) (c.index.ensures ∙ node_here c.self.inside.nodes.items c.args.peer _ (low_in c.self.inside.members c.self.inside.coin c.self.inside.nodes.items c.self.inside.frozen.items c.args.self.now c.args.peer c.self.invariant.0 c.self.view_is c.requires.peer))) c.set_known.ensures,
 )

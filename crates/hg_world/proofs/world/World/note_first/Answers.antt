@@ -25,5 +25,5 @@ pub invariant_of-self : goal.invariant_of-self
 invariant_of-self c = (
   c.self.invariant.0,
   notes_first c.self.inside.nodes.items c.self.inside.known.items c.set_known.new.known.items c.args.taker c.args.peer c.first_unknown-first.result c.index.result.now c.index-2.result.now c.self.invariant.0.few (low_in c.self.inside.members c.self.inside.coin c.self.inside.nodes.items c.self.inside.frozen.items c.args.self.now c.args.taker c.self.invariant.0 c.self.view_is c.requires.taker) c.self.invariant.1
-  (c.index.ensures ∙ node_here c.self.inside.nodes.items c.args.taker _ (low_in c.self.inside.members c.self.inside.coin c.self.inside.nodes.items c.self.inside.frozen.items c.args.self.now c.args.taker c.self.invariant.0 c.self.view_is c.requires.taker)) (c.index-2.ensures ∙ node_here c.self.inside.nodes.items c.args.peer _ (low_in c.self.inside.members c.self.inside.coin c.self.inside.nodes.items c.self.inside.frozen.items c.args.self.now c.args.peer c.self.invariant.0 c.self.view_is c.requires.peer)) c.first_unknown-first.ensures c.set_known.ensures,
+      (c.index.ensures ∙ node_here c.self.inside.nodes.items c.args.taker _ (low_in c.self.inside.members c.self.inside.coin c.self.inside.nodes.items c.self.inside.frozen.items c.args.self.now c.args.taker c.self.invariant.0 c.self.view_is c.requires.taker)) (c.index-2.ensures ∙ node_here c.self.inside.nodes.items c.args.peer _ (low_in c.self.inside.members c.self.inside.coin c.self.inside.nodes.items c.self.inside.frozen.items c.args.self.now c.args.peer c.self.invariant.0 c.self.view_is c.requires.peer)) c.first_unknown-first.ensures c.set_known.ensures,
 )
