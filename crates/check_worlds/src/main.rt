@@ -1,0 +1,40 @@
+//! Plays made worlds: the members' nodes gossip and publish fame from what their workers froze, while members of less
+//! than a third of all fork, and damaged and repeated bytes come. After each step the orders that the nodes keep are
+//! compared: of any two one must be a prefix of the other, and each must begin with what it was.
+//! It tells how many worlds there are, how many pairs of orders were compared, and how many worlds differ from that.
+//! `compare` says what is compared: the word of the law of safety, `IsOnePrefix`.
+#![tactic(auto)]
+
+mod comparing;
+mod dice;
+mod forging;
+mod game;
+mod orders;
+mod plan;
+mod trouble;
+
+use crate::game::play;
+use crate::trouble::Trouble;
+use check_tally::{Tally, exit};
+use std::process::ExitCode;
+
+/// How many worlds are played.
+const WORLDS: u32 = 100;
+
+/// Plays all worlds, and tells how many there are, how many pairs of orders were compared, and how many worlds differ.
+fn play_all<R: AllocGlobal + Print>(rt: &R) -> Result<Tally, Trouble> {
+    let mut worlds = Tally::new();
+    let mut pairs = 0_u64;
+    for number in 0..WORLDS {
+        let played = play(rt.alloc(), number)?;
+        pairs = pairs.saturating_add(played.compared.tried);
+        worlds = worlds.with(played.is_worth && played.compared.differ == 0);
+    }
+    let things = format!(in rt.alloc(); "worlds, {pairs} comparisons")?;
+    worlds.print(rt, things.as_str())?;
+    Ok(worlds)
+}
+
+fn main(rt: HostRuntime) -> ExitCode {
+    exit(play_all(&rt))
+}

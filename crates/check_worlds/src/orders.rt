@@ -1,0 +1,77 @@
+ghost use Rattle.std.specs.Prelude.{◌≡◌, ◌<◌, IfOk, length};
+ghost use Rattle.hg_model.specs.Order.{named_in};
+ghost use Rattle.hg_model.specs.NodeView.{node_rows};
+ghost use Rattle.hg_world.specs.World.{IsMemberOf, node_at};
+ghost use Rattle.check_worlds.specs.Orders.{kept_order, orders_in};
+
+use hg_model::{Items, Member, Memory, Name, Placed};
+use hg_node::Node;
+use hg_sign::MacTable;
+use hg_world::World;
+use std::alloc::Global;
+use std::marker::Model;
+
+/// An event of an order by its name, which speaks of it at every node.
+#[derive(Clone, Copy, Debug, PartialEq, Eq)]
+pub struct Ordered {
+    name: Name,
+    received: u32,
+    time: u64,
+}
+
+impl Model for Ordered {
+    ghost use Rattle.hg_model.specs.Order as order;
+
+    ghost Value = { order.Ordered };
+
+    ghost view = { λ s. record { name = s.name; received = s.received; time = s.time } };
+
+    ghost inverse = { λ s. record { name = s.name; received = s.received; time = s.time } };
+}
+
+/// An order of a node, by names.
+pub type Order = Items<Ordered>;
+
+/// A placed row of the node, by its name.
+#[tactic(auto, unfolding(hg_model::specs::Graph::name_at))]
+fn named(node: &Node<MacTable>, placed: &Placed) -> Ordered
+    requires { placed.now.place < length (node_rows node.now) }
+    ensures { result ≡ named_in (node_rows node.now) placed.now }
+{
+    Ordered {
+        name: node.row(placed.place).name,
+        received: placed.received,
+        time: placed.time,
+    }
+}
+
+/// The order that the node keeps.
+fn order_of(alloc: Global, node: &Node<MacTable>) -> Result<Order, Memory>
+    ensures { IfOk result (λ order. order ≡ kept_order node.now) }
+{
+    let kept = node.kept();
+    let mut order = Vec::with_capacity(alloc, kept.len())?;
+    for x in 0..kept.len() {
+        order.push(named(node, &kept[x]))?;
+    }
+    Ok(Items::from_vec(order))
+}
+
+/// The order that a member's node keeps.
+fn order_at(alloc: Global, world: &World, member: Member) -> Result<Order, Memory>
+    requires { IsMemberOf world.now member }
+    ensures { IfOk result (λ order. order ≡ kept_order (node_at world.now member)) }
+{
+    order_of(alloc, world.node(member))
+}
+
+/// The orders that the nodes keep, in the order of the members.
+pub fn orders_of(alloc: Global, world: &World) -> Result<Vec<Order>, Memory>
+    ensures { IfOk result (λ orders. orders.items ≡ orders_in world.now) }
+{
+    let mut orders = Vec::new(alloc);
+    for member in 0..world.members() {
+        orders.push(order_at(alloc, world, member as Member)?)?;
+    }
+    Ok(orders)
+}
