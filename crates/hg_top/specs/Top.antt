@@ -13,7 +13,7 @@ use Rattle.hg_top.specs.declared.status.File.TheVariants as file
 use Rattle.hg_top.specs.declared.status.Refusal.{Refusal}
 use Rattle.hg_top.specs.declared.status.Status.{Status}
 use Rattle.hg_top.specs.declared.status.Status.TheVariants.{Done, ReadFault, Usage, Members, Script, WriteFault, Memory}
-use Rattle.hg_top.specs.Accepted.{FileNames, file_names, file_names_of, report_of, IsReport, IsSafeReport, HasBadMembers, HasGoodMembers, HasBadScript}
+use Rattle.hg_top.specs.Accepted.{FileNames, file_names, file_names_of, report_of, IsReport, HasBadMembers, HasGoodMembers, HasBadScript}
 
 -- what the words of a command line ask for, where they are accepted
 abbrev pub asks : List (String Global) → Option Asked
@@ -108,11 +108,3 @@ IsRefused asked c status =
     ((refusal : Refusal MemberFault) → HasBadMembers c.holds (file_names_of request) refusal → (status ≡ Members refusal) ⊎ (status ≡ Memory))
     × ((refusal : Refusal ScriptFault) → HasBadScript c.holds (file_names_of request) refusal →
     (HasReadFault c request.script → ⊥) → (status ≡ Script refusal) ⊎ (status ≡ Memory))
-
--- Where the report was written, in whole or in part, the run of the two files is safe: no two nodes' orders part ways
-abbrev pub IsSafeEnd : Option Asked → Course → Status → Type 0
-IsSafeEnd asked c status =
-    (request : RunFiles) (files : Files) (member_bytes script_bytes : List ℕ) →
-    asked ≡ Some (run request) → c.holds ≡ Some files →
-    content_of files request.members ≡ Some member_bytes → content_of files request.script ≡ Some script_bytes →
-    (status ≡ Done) ⊎ (status ≡ WriteFault) → IsSafeReport member_bytes script_bytes

