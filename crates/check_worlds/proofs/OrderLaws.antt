@@ -1,5 +1,5 @@
 -- Lists of orders, one more compared
-use Rattle.std.proofs.Common.{◌<◌, ◌+◌, ◌≡◌, ◌⊎◌, inl, inr, ◌&&◌, ◌==◌, ◌∙◌, ℕ, nat_eq, List, [], length, get_or, refl, ap, subst, sym, arith}
+use Rattle.std.proofs.Common.{◌<◌, ◌+◌, ◌≡◌, inl, inr, ◌&&◌, ◌∙◌, ℕ, nat_eq, List, [], length, get_or, refl, ap, subst, arith}
 use Rattle.std.specs.Cmp.Lexicographic.{pointwise}
 use Rattle.std.specs.Bool.{Decides}
 use Rattle.std.proofs.lemmas.Bool.{cases_lt}

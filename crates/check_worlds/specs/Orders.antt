@@ -1,5 +1,5 @@
 -- The orders of a world that are compared
-use Rattle.std.specs.Prelude.{ℕ, ◌≡◌, ◌<◌, List, [], get_or, length, slice_get, IfSome}
+use Rattle.std.specs.Prelude.{ℕ, ◌<◌, List, [], get_or, length, slice_get, IfSome}
 use Rattle.std.specs.List.{AllPairs}
 use Rattle.hg_model.specs.Places.{table}
 use Rattle.hg_model.specs.NodeView.{NodeView}

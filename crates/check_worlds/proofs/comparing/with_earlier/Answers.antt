@@ -1,6 +1,4 @@
-use Rattle.std.proofs.Common.{◌≡◌, ℕ, [], List, get_or, ap₂, subst, arith, ◌∙◌}
-use Rattle.std.proofs.lemmas.List.{get_or_default}
-use Rattle.hg_model.specs.Order.{Ordered}
+use Rattle.std.proofs.Common.{[], get_or, arith, ◌∙◌}
 use Rattle.hg_runs.specs.Safety.{IsOnePrefix}
 use Rattle.check_worlds.proofs.OrderLaws.{below_next, at_places}
 use Rattle.check_worlds.proofs.comparing.with_earlier.Goals as goal

@@ -1,4 +1,4 @@
-use Rattle.std.proofs.Common.{◌<◌, ℕ, [], get_or, arith}
+use Rattle.std.proofs.Common.{◌<◌, [], get_or, arith}
 use Rattle.hg_runs.specs.Safety.{IsOnePrefix}
 use Rattle.check_worlds.proofs.OrderLaws.{below_next, pairs_of}
 use Rattle.check_worlds.proofs.comparing.with_pairs.Goals as goal
