@@ -1,5 +1,5 @@
 -- A row is what its bytes spell, just where it is what reading them gives.
-use Rattle.std.proofs.Common.{◌≡◌, ℕ, ◌-◌, true, eqb, List, [], ◌++◌, length, take, Option, Result, Ok, Err, refl, sym, ap, subst, ◌∙◌, append_assoc, arith}
+use Rattle.std.proofs.Common.{◌≡◌, ℕ, ◌-◌, true, eqb, List, [], ◌++◌, length, take, Result, Ok, Err, refl, sym, ap, subst, ◌∙◌, append_assoc, arith}
 use Rattle.std.specs.Int.{w16, w64, to_be_bytes}
 use Rattle.std.proofs.lemmas.Bool.{eqb-true}
 use Rattle.std.proofs.lemmas.List.{append-nil, nil_from_length, take_at, length-append}
@@ -103,3 +103,11 @@ fields_read bytes rest creator parents time payload sig fit a b c d e f ended =
 pub IfOk-Spells : (bytes : List ℕ) (r : Result EventView ByteFault) → AreBytes bytes → Reads row_of r (read_event bytes) → IfOk r (λ view. Spells bytes (row_of view))
 IfOk-Spells bytes (Ok view) fit gives = read_event-Spells bytes (row_of view) fit gives
 IfOk-Spells bytes (Err fault) fit gives = tt
+
+-- the parts of a row and of its bytes: what is signed of them, and the row again
+pub parts_again : (bytes slice : List ℕ) (row : Row) (n : ℕ) (parents : ParentNames) (payload : List ℕ) → Spells bytes row → slice ≡ bytes → n ≡ length slice - 64
+    → parents ≡ row.parents → payload ≡ row.payload
+    → (take n slice ≡ body_bytes row.creator parents row.time payload) × (signed_row row.creator parents row.time payload row.sig ≡ row)
+unfolding body_of
+parts_again bytes slice row n parents payload spells whole size names paid =
+    (rw (size, whole, names, paid) (Spells-body_of bytes row spells), rw (names, paid) (sym (Spells-signed_row bytes row spells)))

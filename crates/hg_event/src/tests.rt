@@ -1,5 +1,6 @@
-use crate::{body_of, decode, encode, encode_body};
+use crate::{Event, body_of, decode, encode, encode_body};
 use hg_model::{ByteFault, Bytes, Row};
+use sha2::{Digest, Sha384};
 use std::test::Fail;
 
 // Creator 0, no parents, time 1, no payload, and a signature of zero bytes.
@@ -90,5 +91,18 @@ fn writes_the_fields_in_order(rt: HostRuntime) -> Result<(), Fail> {
         &body[103..],
         b"\x03\x04\x05\x06\x07\x08\x09\x0a\x00\x03pay".as_slice()
     );
+    Ok(())
+}
+
+#[test]
+fn keeps_an_event_as_it_was_read(rt: HostRuntime) -> Result<(), Fail> {
+    let bytes = plain_event();
+    let Ok(view) = decode(&bytes) else {
+        return Err("a fault".into());
+    };
+    let event = Event::copied(rt.alloc(), &view, Sha384::digest(&bytes), &bytes)?;
+    assert_eq!(rt; event.row().time, 1);
+    assert_eq!(rt; event.bytes(), bytes.as_slice());
+    assert_eq!(rt; body_of(&event.view()), &bytes[..17]);
     Ok(())
 }

@@ -1,0 +1,100 @@
+ghost use Rattle.std.specs.Prelude.{◌≡◌, IfOk, option_map};
+ghost use Rattle.hg_model.specs.Spelling.{Spells, spelling};
+ghost use Rattle.hg_event.specs.View.{row_of};
+
+use crate::view::EventView;
+use hg_model::{Bytes, Items, Memory, Name, Row};
+use std::alloc::Global;
+use std::marker::Model;
+
+/// An event with its bytes, as one value that several nodes may share. Contracts see the row.
+#[derive(Drop)]
+pub struct Event {
+    row: Row,
+    bytes: Bytes,
+}
+
+impl Model for Event {
+    ghost use Rattle.hg_model.specs.declared.row.Row.{Row};
+    ghost use Rattle.hg_model.specs.Spelling.{Spells};
+
+    ghost Value = { Row };
+
+    ghost view = { λ s. s.row };
+
+    ghost invariant = { λ s. Spells s.bytes s.row };
+}
+
+impl Event {
+    /// The event of a row and of its bytes. Takes no memory.
+    pub fn new(row: Row, bytes: Bytes) -> Event
+        requires { Spells bytes row }
+        ensures { result ≡ row }
+    {
+        Event { row, bytes }
+    }
+
+    /// A copy of the event that was read in these bytes, under its name.
+    pub fn copied(
+        alloc: Global,
+        view: &EventView<'_>,
+        name: Name,
+        bytes: &[u8],
+    ) -> Result<Event, Memory>
+        requires spelled { Spells bytes.now (row_of view.now) }
+        requires name { name ≡ (row_of view.now).name }
+        ensures { IfOk result (λ event. event ≡ row_of view.now) }
+    {
+        let row = Row {
+            creator: view.creator,
+            parents: view.parents.map(|names| (*names.0, *names.1)),
+            time: view.time,
+            payload: Items::from_vec(Vec::from_slice(alloc, view.payload)?),
+            sig: *view.sig,
+            name,
+        };
+        let bytes = Items::from_vec(Vec::from_slice(alloc, bytes)?);
+        Ok(Event::new(row, bytes))
+    }
+
+    /// The row: the event's fields and its name.
+    pub fn row(&self) -> &Row
+        ensures value { result.now ≡ self.now }
+        ensures spelled { Spells (spelling self.now) self.now }
+    {
+        &self.row
+    }
+
+    /// Its bytes.
+    pub fn bytes(&self) -> &[u8]
+        ensures { result.now ≡ spelling self.now }
+    {
+        self.bytes.as_slice()
+    }
+
+    /// The event as it is read in its bytes.
+    pub fn view(&self) -> EventView<'_>
+        ensures { row_of result ≡ self.now }
+    {
+        let row = &self.row;
+        let bytes = self.bytes.as_slice();
+        EventView {
+            creator: row.creator,
+            parents: names_of(&row.parents),
+            time: row.time,
+            payload: row.payload.as_slice(),
+            sig: &row.sig,
+            body: &bytes[..bytes.len().saturating_sub(row.sig.len())],
+        }
+    }
+}
+
+/// The parents' names, borrowed.
+fn names_of(parents: &Option<(Name, Name)>) -> Option<(&Name, &Name)>
+    ensures { option_map (λ names. (names.0.now, names.1.now)) result ≡ parents.now }
+{
+    match parents {
+        None => None,
+        Some(names) => Some((&names.0, &names.1)),
+    }
+}
