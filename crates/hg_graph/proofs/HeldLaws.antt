@@ -87,18 +87,18 @@ self_push n L m parents self_place is =
 pub self_forkers : (n : Stakes) (L : List Link) (m : ℕ) (parents : List ℕ) (self_place : Option ℕ) → place_list self_place ≡ first_place parents → forkers n (self_links L ++ self_link_of m self_place ∷ []) ≡ forkers n (L ++ link_of m parents ∷ [])
 self_forkers n L m parents self_place is = ap (forkers n) (self_push n L m parents self_place is) ∙ (self_links_serve n (L ++ link_of m parents ∷ [])).forkers
 
--- what a row needs, and does, that may come into a graph with these parents
-pub record Comes (g : Graph) (row : Row) (parents : List ℕ) (sight watched : Shape) : Type 0 where
+-- what a row needs, and does, that may come into a graph with these parents; it is read of a shared event
+pub record Comes (g : Graph) (row shared : Row) (parents : List ℕ) (sight watched : Shape) : Type 0 where
   pub fits : FitsLink sight.members sight.links (link_of row.creator parents)
   pub short : length sight.links + 1 < 4294967295
   pub self_fits : (self_place : Option ℕ) → place_list self_place ≡ first_place parents → FitsLink watched.members watched.links (self_link_of row.creator self_place)
-  pub fresh : place_of g.rows row.name ≡ length g.rows
+  pub fresh : place_of g.rows shared.name ≡ length g.rows
   pub last : (after : Shape) → after ≡ with_link sight (link_of row.creator parents) → parents ≡ last_parents after
   pub keeps : (self_place : Option ℕ) → place_list self_place ≡ first_place parents → (rows : List Row) (after watched_after : Shape) (standings : List Standing) →
-      rows ≡ g.rows ++ row ∷ [] → after ≡ with_link sight (link_of row.creator parents) → watched_after ≡ with_link watched (self_link_of row.creator self_place) →
+      rows ≡ g.rows ++ shared ∷ [] → after ≡ with_link sight (link_of row.creator parents) → watched_after ≡ with_link watched (self_link_of row.creator self_place) →
       standings ≡ standings_of after.members after.links → KeepsGraph (graph_of g.members g.coin rows) after watched_after standings
 
-module _ (g : Graph) (row : Row) (bytes : List ℕ) (parents : List ℕ) (held : IsHeld g) (limit : length g.rows < row_limit) (spells : Spells bytes row)
+module _ (g : Graph) (row : Row) (parents : List ℕ) (held : IsHeld g) (limit : length g.rows < row_limit) (spells : Spells (spelling row) row)
     (is : link_in g.rows row ≡ link_of row.creator parents) (graph : IsGraph g.members (g.rows ++ row ∷ [])) where
   held_with : IsHeld (graph_with g row)
   held_with = record {
@@ -106,7 +106,7 @@ module _ (g : Graph) (row : Row) (bytes : List ℕ) (parents : List ℕ) (held :
     few_members = held.few_members;
     coin = held.coin;
     graph = graph;
-    events = events_with g.rows row held.events (subst (λ (b : List ℕ). Spells b row) spells.spelled spells);
+    events = events_with g.rows row held.events spells;
     few = omega (arith, length_push g.rows row);
   }
 
@@ -123,7 +123,7 @@ module _ (g : Graph) (row : Row) (bytes : List ℕ) (parents : List ℕ) (held :
       let here : link ≡ get_or L (length L - 1) link = sym (ap (λ (M : List Link). get_or M (length L - 1) link) at ∙ get_or_push (links g.rows) link link (length L - 1) (omega arith)) in
       sym (parents_read L (length L - 1) link (omega arith) here)
 
-  comes_to : (watched : Shape) → watched ≡ self_shape (shape_in g) → Comes g row parents (shape_in g) watched
+  comes_to : (watched : Shape) → watched ≡ self_shape (shape_in g) → Comes g row row parents (shape_in g) watched
   comes_to watched forked = record {
     fits = fits_next;
     short = omega (arith, length-links g.rows);
@@ -142,13 +142,15 @@ module _ (g : Graph) (row : Row) (bytes : List ℕ) (parents : List ℕ) (held :
 
 -- the same of the graph of a value
 pub comes : {g : Graph} {room : ℕ} {v : GraphWithRoom} → record { graph = g; room = room } ≡ v → {sight watched : Shape} {standings : List Standing} → KeepsGraph g sight watched standings →
-    (row : Row) (bytes : List ℕ) (parents : List ℕ) → length v.graph.rows < row_limit → Spells bytes row → link_in v.graph.rows row ≡ link_of row.creator parents →
-    IsGraph v.graph.members (v.graph.rows ++ row ∷ []) → Comes g row parents sight watched
-comes {g} {room} {v} view {sight} {watched} keeps row bytes parents limit spells is graph =
+    {row event shared : Row} → row ≡ event → event ≡ shared → (parents : List ℕ) → length v.graph.rows < row_limit → Spells (spelling event) event →
+    link_in v.graph.rows shared ≡ link_of shared.creator parents → IsGraph v.graph.members (v.graph.rows ++ shared ∷ []) → Comes g row shared parents sight watched
+comes {g} {room} {v} view {sight} {watched} keeps {row} {event} {shared} of_event of_shared parents limit spells is graph =
     let same : v.graph ≡ g = ap (λ (v : GraphWithRoom). v.graph) (sym view) in
-    subst (λ (s : Shape). Comes g row parents s watched) (sym keeps.seen)
-    (comes_to g row bytes parents keeps.held (subst (λ (g : Graph). length g.rows < row_limit) same limit) spells
-    (subst (λ (g : Graph). link_in g.rows row ≡ link_of row.creator parents) same is) (subst (λ (g : Graph). IsGraph g.members (g.rows ++ row ∷ [])) same graph) watched keeps.forked)
+    subst (λ (s : Shape). Comes g row shared parents s watched) (sym keeps.seen)
+    (subst (λ (r : Row). Comes g r shared parents (shape_in g) watched) (sym (of_event ∙ of_shared))
+    (comes_to g shared parents keeps.held (subst (λ (g : Graph). length g.rows < row_limit) same limit) (subst (λ (r : Row). Spells (spelling r) r) of_shared spells)
+    (subst (λ (g : Graph). link_in g.rows shared ≡ link_of shared.creator parents) same is)
+    (subst (λ (g : Graph). IsGraph g.members (g.rows ++ shared ∷ [])) same graph) watched keeps.forked))
 
 -- the first rows
 

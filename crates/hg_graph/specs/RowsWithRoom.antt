@@ -1,8 +1,8 @@
--- Rows with their bytes and names, and for how many more rows there is memory
-use Rattle.std.specs.Prelude.{ℕ, ◌≡◌, List, map, min, Option, Some, None, if◌then◌else◌}
+-- Rows with their names, and for how many more rows there is memory
+use Rattle.std.specs.Prelude.{ℕ, List, map, min, Option, Some, None, if◌then◌else◌}
+use Rattle.std.specs.declared.sync.Arc.{Arc}
 use Rattle.hg_model.specs.declared.row.Row.{Row}
 use Rattle.hg_model.specs.Links.{place_of}
-use Rattle.hg_model.specs.Spelling.{spelling}
 use Rattle.hg_model.specs.Verdict.{is_held}
 
 -- rows, and for how many more there is memory at least
@@ -17,10 +17,9 @@ row_name row = row.name
 abbrev pub found_place : List Row → List ℕ → Option ℕ
 found_place G name = if is_held G name then Some (place_of G name) else None
 
--- of each row the bytes that spell it, and its name
-pub record IsStored (rows : List Row) (bytes names : List (List ℕ)) : Type 0 where
-  pub spelled : bytes ≡ map spelling rows
-  pub named : names ≡ map row_name rows
+-- the rows of events that are shared
+abbrev pub rows_of : {A : Type 0} → List (Arc Row A) → List Row
+rows_of events = map (λ event. event.value) events
 
 -- the least of three rooms
 abbrev pub least_of : ℕ → ℕ → ℕ → ℕ

@@ -3,7 +3,7 @@ ghost use Rattle.hg_model.specs.Links.{link_in, links};
 ghost use Rattle.hg_model.specs.Forks.{forkers};
 ghost use Rattle.hg_model.specs.Graph.{IsGraph};
 ghost use Rattle.hg_model.specs.Shape.{FitsLink, link_of};
-ghost use Rattle.hg_model.specs.Spelling.{Spells, spelling};
+ghost use Rattle.hg_model.specs.Spelling.{spelling};
 ghost use Rattle.hg_model.specs.Verdict.{row_limit};
 ghost use Rattle.hg_model.specs.Prefix.{graph_of};
 ghost use Rattle.hg_model.specs.GraphWords.{standings_in, shape_in};
@@ -12,12 +12,14 @@ ghost use Rattle.hg_graph.specs.Held.{IsHeld, first_graph, graph_with};
 
 use crate::store::RowStore;
 use hg_ancestry::BitSight;
+use hg_event::Event;
 use hg_forks::Watch;
 use hg_frozen::Frozen;
-use hg_model::{Bytes, Growing, Member, Memory, Name, Parents, Prefix, Rounds, Row, Sight};
+use hg_model::{Growing, Member, Memory, Name, Parents, Prefix, Rounds, Row, Sight};
 use hg_rounds::{RoundTable, place_round};
 use std::alloc::Global;
 use std::marker::Model;
+use std::sync::Arc;
 
 /// What knows the sight in a node's graph. Another one that is `Growing` is a change of this line and of its import.
 type NodeSight = BitSight;
@@ -75,6 +77,14 @@ impl EventGraph {
         self.store.len()
     }
 
+    /// The event that is row `x`.
+    pub fn event(&self, x: usize) -> &Arc<Event>
+        requires { x < length self.now.graph.rows }
+        ensures { slice_get self.now.graph.rows x ≡ Some result.now.value }
+    {
+        self.store.event(x)
+    }
+
     /// The bytes of row `x`.
     pub fn bytes(&self, x: usize) -> &[u8]
         requires { x < length self.now.graph.rows }
@@ -117,20 +127,20 @@ impl EventGraph {
         Ok(())
     }
 
-    /// One more row, with its bytes and its parents' places. Takes no memory.
-    pub fn push(&mut self, row: Row, bytes: Bytes, parents: Parents)
+    /// One more row, an event with its parents' places. Takes no memory.
+    pub fn push(&mut self, event: Arc<Event>, parents: Parents)
         requires room { 1 ≤ self.old.room }
         requires limit { length self.old.graph.rows < row_limit }
-        requires spelled { Spells bytes row }
-        requires link { link_in self.old.graph.rows row ≡ link_of row.creator parents }
-        requires graph { IsGraph self.old.graph.members (self.old.graph.rows ++ row ∷ []) }
-        ensures { self.new.graph ≡ graph_with self.old.graph row }
+        requires link { link_in self.old.graph.rows event.value ≡ link_of event.value.creator parents }
+        requires graph { IsGraph self.old.graph.members (self.old.graph.rows ++ event.value ∷ []) }
+        ensures { self.new.graph ≡ graph_with self.old.graph event.value }
     {
-        self.sight.extend(parents, row.creator);
-        self.watch.add(row.creator, parents.self_parent());
+        let creator = event.row().creator;
+        self.sight.extend(parents, creator);
+        self.watch.add(creator, parents.self_parent());
         let (round, witness) = place_round(&self.sight, &self.rounds, parents);
         self.rounds.add(round, witness);
-        self.store.push(row, bytes);
+        self.store.push(event);
     }
 
     /// The first `len` rows as a value of its own, with their sight and their rounds.

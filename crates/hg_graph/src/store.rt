@@ -6,13 +6,15 @@ ghost use Rattle.std.specs.Str.{bytes_eq};
 ghost use Rattle.indexmap.specs.IndexSet.{spare};
 ghost use Rattle.hg_model.specs.Links.{place_of};
 ghost use Rattle.hg_model.specs.Spelling.{spelling};
-ghost use Rattle.hg_graph.specs.RowsWithRoom.{found_place};
+ghost use Rattle.hg_graph.specs.RowsWithRoom.{found_place, rows_of};
 
-use hg_model::{Bytes, Memory, Name, Row};
+use hg_event::Event;
+use hg_model::{Memory, Name, Row};
 use indexmap::IndexSet;
 use std::alloc::Global;
 use std::hash::{Hash, Hasher};
 use std::marker::Model;
+use std::sync::Arc;
 
 /// A name to be looked up, hashed by its first eight bytes: names are digests, so these spread as well as all 48.
 #[derive(Drop)]
@@ -54,25 +56,25 @@ impl Hash for Key {
     }
 }
 
-/// Rows in the order in which they came, each with its bytes, and found by its name.
+/// Events in the order in which they came, each shared with whoever else holds it, and found by its name.
 #[derive(Drop)]
 pub struct RowStore {
     alloc: Global,
-    rows: Vec<Row>,
-    bytes: Vec<Bytes>,
+    events: Vec<Arc<Event>>,
     names: IndexSet<Key>,
 }
 
 impl Model for RowStore {
-    ghost use Rattle.std.specs.Prelude.{◌-◌, vec_capacity, vec_len};
+    ghost use Rattle.std.specs.Prelude.{◌≡◌, ◌-◌, map, min, vec_capacity, vec_len};
     ghost use Rattle.indexmap.specs.IndexSet.{spare};
-    ghost use Rattle.hg_graph.specs.RowsWithRoom.{IsStored, RowsWithRoom, least_of};
+    ghost use Rattle.hg_graph.specs.RowsWithRoom.{RowsWithRoom, row_name, rows_of};
 
     ghost Value = { RowsWithRoom };
 
-    ghost view = { λ s. record { rows = s.rows.items; room = least_of (vec_capacity s.rows - vec_len s.rows) (vec_capacity s.bytes - vec_len s.bytes) (spare s.names) } };
+    ghost view = { λ s. record { rows = rows_of s.events.items; room = min (vec_capacity s.events - vec_len s.events) (spare s.names) } };
 
-    ghost invariant = { λ s. IsStored s.rows.items s.bytes.items s.names.keys };
+    // each row's name, in the same order
+    ghost invariant = { λ s. s.names.keys ≡ map row_name (rows_of s.events.items) };
 }
 
 impl RowStore {
@@ -82,8 +84,7 @@ impl RowStore {
     {
         RowStore {
             alloc,
-            rows: Vec::new(alloc),
-            bytes: Vec::new(alloc),
+            events: Vec::new(alloc),
             names: IndexSet::new(alloc),
         }
     }
@@ -92,7 +93,15 @@ impl RowStore {
     pub fn len(&self) -> usize
         ensures { result ≡ length self.now.rows }
     {
-        self.rows.len()
+        self.events.len()
+    }
+
+    /// The event at a place.
+    pub fn event(&self, x: usize) -> &Arc<Event>
+        requires { x < length self.now.rows }
+        ensures { slice_get self.now.rows x ≡ Some result.now.value }
+    {
+        &self.events[x]
     }
 
     /// The row at a place.
@@ -100,7 +109,7 @@ impl RowStore {
         requires { x < length self.now.rows }
         ensures { slice_get self.now.rows x ≡ Some result.now }
     {
-        &self.rows[x]
+        self.event(x).row()
     }
 
     /// The bytes of the row at a place.
@@ -108,7 +117,7 @@ impl RowStore {
         requires { x < length self.now.rows }
         ensures { option_map spelling (slice_get self.now.rows x) ≡ Some result.now }
     {
-        self.bytes[x].as_slice()
+        self.event(x).bytes()
     }
 
     /// The place of the row with this name, if there is one.
@@ -123,22 +132,19 @@ impl RowStore {
         ensures room { OnOk result (1 ≤ self.new.room) }
         ensures same { self.new.rows ≡ self.old.rows }
     {
-        self.rows.reserve(1)?;
-        self.bytes.reserve(1)?;
+        self.events.reserve(1)?;
         self.names.reserve(1)?;
         Ok(())
     }
 
-    /// One more row, under a name that no other has. Takes no memory.
-    pub fn push(&mut self, row: Row, bytes: Bytes)
+    /// One more event, under a name that no other has. Takes no memory.
+    pub fn push(&mut self, event: Arc<Event>)
         requires room { 1 ≤ self.old.room }
-        requires bytes { bytes ≡ spelling row }
-        requires new { place_of self.old.rows row.name ≡ length self.old.rows }
-        ensures { self.new.rows ≡ self.old.rows ++ row ∷ [] }
+        requires new { place_of self.old.rows event.value.name ≡ length self.old.rows }
+        ensures { self.new.rows ≡ self.old.rows ++ event.value ∷ [] }
     {
-        add_name(&mut self.names, row.name);
-        self.bytes.push_reserved(bytes);
-        self.rows.push_reserved(row);
+        add_name(&mut self.names, event.row().name);
+        self.events.push_reserved(event);
     }
 
     /// The first `len` rows, in memory of their own.
@@ -146,18 +152,18 @@ impl RowStore {
         requires { len ≤ length self.now.rows }
         ensures { IfOk result (λ rows. rows.items ≡ take len self.now.rows) }
     {
-        copy_rows(self.alloc, &self.rows[..len])
+        copy_rows(self.alloc, &self.events[..len])
     }
 }
 
-fn copy_rows(alloc: Global, rows: &[Row]) -> Result<Vec<Row>, Memory>
-    ensures { IfOk result (λ copy. copy.items ≡ rows.now) }
+fn copy_rows(alloc: Global, events: &[Arc<Event>]) -> Result<Vec<Row>, Memory>
+    ensures { IfOk result (λ rows. rows.items ≡ rows_of events.now) }
 {
-    let mut copy = Vec::with_capacity(alloc, rows.len())?;
-    for row in rows {
-        copy.push(copy_of(row)?)?;
+    let mut rows = Vec::with_capacity(alloc, events.len())?;
+    for event in events {
+        rows.push(copy_of(event.row())?)?;
     }
-    Ok(copy)
+    Ok(rows)
 }
 
 fn copy_of(row: &Row) -> Result<Row, Memory>

@@ -1,5 +1,5 @@
--- An event against which no rule of its arrival speaks adds its link
-use Rattle.std.proofs.Common.{◌≡◌, ℕ, suc, Bool, false, cond, eqb, List, [], ◌∷◌, ◌++◌, Option, Some, None, sym, ap, ◌∙◌, subst, arith}
+-- An event against which no rule of its arrival speaks adds its link; the rules that are left for a signed one
+use Rattle.std.proofs.Common.{◌≡◌, ℕ, suc, ◌<◌, Bool, true, false, cond, eqb, List, [], ◌∷◌, ◌++◌, Option, Some, None, sym, ap, ◌∙◌, subst, arith}
 use Rattle.std.specs.Option.{option_or}
 use Rattle.std.proofs.lemmas.Bool.Decides.{nat_tests}
 use Rattle.hg_model.specs.declared.row.Row.{Row}
@@ -7,7 +7,8 @@ use Rattle.hg_model.specs.Links.{Link, links, link_in}
 use Rattle.hg_model.specs.Forks.{forkers}
 use Rattle.hg_model.specs.Graph.{IsShaped}
 use Rattle.hg_model.specs.Shape.{FitsLink, link_of}
-use Rattle.hg_model.specs.Verdict.{impostor_rule, member_rule, name_rule, signature_rule}
+use Rattle.hg_model.specs.Spelling.{body_of}
+use Rattle.hg_model.specs.Verdict.{forkers_rule, full_rule, impostor_rule, member_rule, name_rule, signature_rule}
 use Rattle.hg_model.specs.Signing.{Accepts}
 use Rattle.hg_model.specs.Fits.{Fits}
 use Rattle.hg_model.specs.declared.answers.Fault.TheVariants as fault
@@ -18,31 +19,49 @@ use Rattle.hg_model.proofs.PlacesLaws.{total-count}
 use Rattle.hg_model.proofs.ForkLaws.{forking-count}
 use Rattle.hg_model.proofs.RuleLaws.{arrives}
 use Rattle.hg_graph.proofs.NextLaws.{adds_link}
-use Rattle.hg_node.specs.Arrival.{LinkComes, arrival_by, arrival_places, parents_rule}
+use Rattle.hg_node.specs.Arrival.{LinkComes, all_rules, arrival_places, impostor_by, parents_rule, signed_rules}
 
 -- each member weighs 1
 pub ruleset by_count = (total-count)
 
--- an event that no rule refuses on its arrival fits, at a member's node and elsewhere
-pub fits_by : (accepts : Accepts) (own : Option ℕ) (g : Graph) (row : Row) → None ≡ arrival_by accepts own g row → Fits g.members g.rows row
-fits_by accepts (Some own) g row silent = (arrives accepts g.members own g.rows row (sym silent)).fits
-fits_by accepts None g row silent =
+member_silent : (g : Graph) (row : Row) → row.creator < g.members → member_rule g.members row ≡ None
+member_silent g row member =
+    let inside : Rattle.std.specs.Prelude.nat_le g.members row.creator ≡ false = grind (arith, nat_tests) in
+    ap (λ (b : Bool). cond b (Some (Refused (fault.Member row.creator))) None) inside
+
+-- an event of a member that is new fits where no rule speaks against its parents
+pub fits_by : (g : Graph) (row : Row) → row.creator < g.members → None ≡ name_rule g.rows row → None ≡ parents_rule g.rows row → Fits g.members g.rows row
+fits_by g row member fresh silent =
+    let all : Accepts = λ m body sig. true in
     let own : ℕ = suc row.creator in
     let by_another : eqb row.creator own ≡ false = grind (arith, nat_tests) in
     let no_impostor : impostor_rule own row ≡ None = ap (λ (b : Bool). cond b (Some (Refused fault.Impostor)) None) by_another in
-    let silent_here = ap (λ (o : Option PutAnswer).
-    option_or (member_rule g.members row) (option_or (name_rule g.rows row) (option_or (signature_rule accepts row) (option_or o (parents_rule g.rows row))))) no_impostor ∙ sym silent in
-    (arrives accepts g.members own g.rows row silent_here).fits
+    let silent_here =
+    ap (λ (o : Option PutAnswer). option_or o (option_or (name_rule g.rows row) (option_or (impostor_rule own row) (parents_rule g.rows row)))) (member_silent g row member)
+    ∙ (ap (λ (o : Option PutAnswer). option_or o (option_or (impostor_rule own row) (parents_rule g.rows row))) (sym fresh)
+    ∙ (ap (λ (o : Option PutAnswer). option_or o (parents_rule g.rows row)) no_impostor ∙ sym silent)) in
+    (arrives all g.members own g.rows row silent_here).fits
 
-pub link_comes : (accepts : Accepts) (own : Option ℕ) (g : Graph) (row : Row) (parents : List ℕ) → IsShaped g.members (links g.rows) → None ≡ arrival_by accepts own g row →
+pub link_comes : (g : Graph) (row : Row) (parents : List ℕ) → IsShaped g.members (links g.rows) → row.creator < g.members → None ≡ name_rule g.rows row → None ≡ parents_rule g.rows row →
     parents ≡ arrival_places g.rows row → LinkComes g row parents
-link_comes accepts own g row parents shaped silent places =
+link_comes g row parents shaped member fresh silent places =
     let n : ℕ = g.members in
     let G : List Row = g.rows in
-    let adds = adds_link n G row shaped (fits_by accepts own g row silent) in
+    let adds = adds_link n G row shaped (fits_by g row member fresh silent) in
     let link : link_in G row ≡ link_of row.creator parents = ap (λ (ps : List ℕ). record { creator = row.creator; parents = ps }) (sym places) in
     record {
       link = link;
       fits = subst (FitsLink n (links G)) link adds.fits;
       forkers = ap (λ (l : Link). forkers n (links G ++ l ∷ [])) (sym link) ∙ (ap (forkers n) (sym adds.added) ∙ sym (forking-count n (links (G ++ row ∷ []))));
     }
+
+-- where the event is a member's and signed, the rules that ask for that are silent
+pub signed_answer : (accepts : Accepts) (own : Option ℕ) (g : Graph) (row : Row) → row.creator < g.members → accepts row.creator (body_of row) row.sig ≡ true →
+    signed_rules own g row ≡ all_rules accepts own g row
+signed_answer accepts own g row member signed =
+    let rest = option_or (forkers_rule g.members g.rows row) (full_rule g.rows) in
+    let behind = option_or (impostor_by own row) (parents_rule g.rows row) in
+    let no_forgery : signature_rule accepts row ≡ None = ap (λ (b : Bool). cond b None (Some (Refused fault.Signature))) signed in
+    sym (
+    ap (λ (o : Option PutAnswer). option_or (option_or o (option_or (name_rule g.rows row) (option_or (signature_rule accepts row) behind))) rest) (member_silent g row member)
+    ∙ ap (λ (o : Option PutAnswer). option_or (option_or (name_rule g.rows row) (option_or o behind)) rest) no_forgery)

@@ -1,5 +1,5 @@
 -- What a put answers, and what it leaves recorded
-use Rattle.std.proofs.Common.{◌≡◌, ℕ, ◌<◌, List, [], ◌∷◌, ◌++◌, length, Option, Some, None, Result, Ok, Err, refl, sym, ap, ap₂, ◌∙◌, subst}
+use Rattle.std.proofs.Common.{◌≡◌, ℕ, ◌<◌, List, [], ◌∷◌, ◌++◌, length, true, Option, Some, None, Result, Ok, Err, refl, sym, ap, ap₂, ◌∙◌, subst}
 use Rattle.std.specs.Prelude.{unwrap_or, IfOk, OnOk, OnErr}
 use Rattle.hg_model.specs.declared.row.Row.{Row}
 use Rattle.hg_model.specs.declared.entry.Entry.TheVariants as entry
@@ -10,6 +10,7 @@ use Rattle.hg_model.specs.declared.answers.PutAnswer.TheVariants.{Accepted, Refu
 use Rattle.hg_model.specs.Graph.{IsGraph}
 use Rattle.hg_model.specs.Prefix.{Graph}
 use Rattle.hg_model.specs.Reading.{read_event}
+use Rattle.hg_model.specs.Spelling.{Spells, body_of, spelling}
 use Rattle.hg_model.specs.Verdict.{row_limit, verdict_of, row_verdict}
 use Rattle.hg_model.specs.History.{Change}
 use Rattle.hg_model.specs.History.Change.{Took}
@@ -18,11 +19,13 @@ use Rattle.hg_model.specs.Calls.{put_answer, put_changes, taken_by, taken_from}
 use Rattle.hg_model.specs.Signing.{Accepts}
 use Rattle.hg_model.proofs.RuleLaws.{option_or_none, has_room}
 use Rattle.hg_event.proofs.Reading.{AreBytes}
+use Rattle.hg_event.proofs.Spells.{Spells-read_event}
 use Rattle.hg_history.proofs.RuleLaws.{rule_accepts_none}
 use Rattle.hg_history.proofs.CallLaws.{with_none, other_puts_add_none, puts_leave_a_node}
 use Rattle.hg_history.proofs.SoundLaws.{sound}
-use Rattle.hg_node.specs.Arrival.{all_rules, arrival_by}
+use Rattle.hg_node.specs.Arrival.{all_rules, arrival_by, signed_rules}
 use Rattle.hg_node.specs.ChronicleView.{ChronicleView, chronicle_with, node_view, IsRecorded}
+use Rattle.hg_node.proofs.ArrivalLaws.{signed_answer}
 use Rattle.hg_node.proofs.RecordLaws.{shown_after, recorded_after}
 
 -- what a node becomes that takes the row
@@ -117,3 +120,30 @@ module _ {K : Type 0} (accepts : K → Accepts) (keys : K) (r : ChronicleView) (
       ok = tt;
       free = (put_taken fit silent).answer ∙ ap (λ (G : List Row). Accepted (length G)) (sym is.rows);
     }
+
+-- an event of a member, whose signature the keys accept, as it stands at another node
+module _ {K : Type 0} (accepts : K → Accepts) (keys : K) (r : ChronicleView) {v : NodeView K} (view : node_view keys r ≡ v) (is : IsRecorded accepts (node_view keys r) r)
+    {event row : Row} (of_row : event ≡ row) (spells : Spells (spelling event) event) (member : row.creator < v.start.members)
+    (signed : accepts v.start.keys row.creator (body_of row) row.sig ≡ true) (m : ℕ) (g : Graph) (own : m ≡ r.own) (graph : g ≡ r.graph) where
+  event_read : read_event (spelling row) ≡ Ok row
+  event_read = Spells-read_event (spelling row) row (subst (λ (e : Row). Spells (spelling e) e) of_row spells)
+
+  event_rules : (o : Option PutAnswer) → o ≡ signed_rules (Some m) g row → o ≡ all_rules (accepts keys) (Some r.own) r.graph row
+  event_rules o says =
+      let here : row.creator < r.graph.members = subst (λ (w : NodeView K). row.creator < w.start.members) (sym view) member in
+      let accepted : accepts keys row.creator (body_of row) row.sig ≡ true =
+      subst (λ (w : NodeView K). accepts w.start.keys row.creator (body_of row) row.sig ≡ true) (sym view) signed in
+      says ∙ (ap₂ (λ (k : ℕ) (h : Graph). signed_rules (Some k) h row) own graph ∙ signed_answer (accepts keys) (Some r.own) r.graph row here accepted)
+
+  pub event_refused : (a : PutAnswer) → Some a ≡ signed_rules (Some m) g row →
+      (a ≡ put_answer accepts (node_view keys r) (spelling row)) × (node_view keys r ≡ with_changes (node_view keys r) (put_changes accepts (node_view keys r) (spelling row)))
+  event_refused a says = put_refused accepts keys r (spelling row) is row event_read a (event_rules (Some a) says)
+
+  module _ (bytes : List ℕ) (whole : bytes ≡ spelling row) (fit : AreBytes bytes) (silent : None ≡ signed_rules (Some m) g row) where
+    pub event_taken : IsTaking accepts (node_view keys r) (node_view keys (chronicle_with r row (entry.Took (length r.graph.rows)))) r row (spelling row)
+    event_taken = put_taken accepts keys r (spelling row) is row event_read (subst AreBytes whole fit) (event_rules None silent)
+
+    pub event_ends : {E : Type 0} (result : Result PutAnswer E) (s : ChronicleView) →
+        IfOk result (λ a. a ≡ Accepted (length r.graph.rows)) → OnOk result (s ≡ chronicle_with r row (entry.Took (length r.graph.rows))) → OnErr result (s ≡ r) →
+        IsPut accepts (node_view keys r) (node_view keys s) s (spelling row) result
+    event_ends result s answer ok err = put_ends accepts keys r (spelling row) is row event_read result s (subst AreBytes whole fit) (event_rules None silent) answer ok err

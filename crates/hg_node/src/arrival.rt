@@ -1,16 +1,17 @@
-ghost use Rattle.std.specs.Prelude.{◌≡◌, ◌<◌, length, IfOk};
+ghost use Rattle.std.specs.Prelude.{◌≡◌, ◌<◌, None, length, IfOk, OnOk};
 ghost use Rattle.std.specs.Result.{result_err};
 ghost use Rattle.hg_event.specs.View.{row_of};
 ghost use Rattle.hg_model.specs.Graph.{creator_at};
 ghost use Rattle.hg_model.specs.Spelling.{Spells};
-ghost use Rattle.hg_model.specs.Verdict.{forkers_rule, full_rule, member_rule, signature_rule};
-ghost use Rattle.hg_node.specs.Arrival.{IsNameAnswer, LinkComes, StandsOn, all_rules, arrival_by, arrival_places, impostor_by, parents_rule};
+ghost use Rattle.hg_model.specs.Verdict.{forkers_rule, full_rule, member_rule, name_rule, signature_rule};
+ghost use Rattle.hg_node.specs.Arrival.{IsNameAnswer, LinkComes, StandsOn, all_rules, arrival_places, impostor_by, later_rules, parents_rule, signed_rules};
 
 use crate::ROW_LIMIT;
-use hg_event::{EventView, body_of};
+use hg_event::{Event, EventView, body_of};
 use hg_graph::EventGraph;
 use hg_model::{Fault, Member, Name, Parents, PutAnswer, Sight};
 use hg_sign::Signer;
+use std::sync::Arc;
 
 /// The places of the parents of an event that is put to a graph, or the answer of the first rule that speaks against
 /// it. At the node of the member `own` an event of that member is an impostor's. Takes no memory; before the name is known
@@ -28,37 +29,49 @@ pub fn parents_of_arrival<V: Signer>(
     ensures answer { result_err result ≡ all_rules (V.accepts keys.now) own graph.now.graph (row_of view.now) }
     ensures link { IfOk result (λ on. StandsOn graph.now.graph.rows (row_of view.now) on) }
 {
+    member_rule(graph.members(), view)?;
+    name_rule(graph, name, bytes)?;
+    signature_rule(keys, view)?;
+    parents_of_new(graph, own, view)
+}
+
+/// The same of an event of a member whose signature is accepted.
+pub fn parents_of_signed(
+    graph: &EventGraph,
+    own: Option<Member>,
+    event: &Arc<Event>,
+) -> Result<Parents, PutAnswer>
+    requires { event.now.value.creator < graph.now.graph.members }
+    ensures answer { result_err result ≡ signed_rules own graph.now.graph event.now.value }
+    ensures link { IfOk result (λ on. StandsOn graph.now.graph.rows event.now.value on) }
+{
+    name_rule(graph, &event.row().name, event.bytes())?;
+    parents_of_new(graph, own, &event.view())
+}
+
+/// The same of one whose name is new too: what is left to be asked.
+fn parents_of_new(
+    graph: &EventGraph,
+    own: Option<Member>,
+    view: &EventView<'_>,
+) -> Result<Parents, PutAnswer>
+    requires member { view.now.creator < graph.now.graph.members }
+    requires fresh { None ≡ name_rule graph.now.graph.rows (row_of view.now) }
+    ensures answer { result_err result ≡ later_rules own graph.now.graph (row_of view.now) }
+    ensures link { IfOk result (λ on. StandsOn graph.now.graph.rows (row_of view.now) on) }
+{
     // That the graph is shaped.
     graph.members();
-    let parents = arrival_rule(keys, own, graph, view, name, bytes)?;
+    impostor_rule(own, view)?;
+    let parents = parent_places(graph, view)?;
     forkers_rule(graph, view, parents)?;
     full_rule(graph)?;
     Ok(parents)
 }
 
-/// What is wrong with an event before the forks that it would make are counted.
-fn arrival_rule<V: Signer>(
-    keys: &V,
-    own: Option<Member>,
-    graph: &EventGraph,
-    view: &EventView<'_>,
-    name: &Name,
-    bytes: &[u8],
-) -> Result<Parents, PutAnswer>
-    requires spelled { Spells bytes.now (row_of view.now) }
-    requires name { name.now ≡ (row_of view.now).name }
-    ensures answer { result_err result ≡ arrival_by (V.accepts keys.now) own graph.now.graph (row_of view.now) }
-    ensures places { IfOk result (λ on. on ≡ arrival_places graph.now.graph.rows (row_of view.now)) }
-{
-    member_rule(graph.members(), view)?;
-    name_rule(graph, name, bytes)?;
-    signature_rule(keys, view)?;
-    impostor_rule(own, view)?;
-    parent_places(graph, view)
-}
-
 fn member_rule(members: u32, view: &EventView<'_>) -> Result<(), PutAnswer>
-    ensures { result_err result ≡ member_rule members (row_of view.now) }
+    ensures answer { result_err result ≡ member_rule members (row_of view.now) }
+    ensures member { OnOk result (view.now.creator < members) }
 {
     if members <= u32::from(view.creator) {
         return Err(PutAnswer::Refused(Fault::Member(view.creator)));

@@ -2,7 +2,6 @@ ghost use Rattle.std.specs.Prelude.{◌≡◌, ◌<◌, ◌++◌, ◌∷◌, ◌
 ghost use Rattle.hg_model.specs.declared.entry.Entry.{Entry};
 ghost use Rattle.hg_model.specs.declared.row.Placed.{Placed};
 ghost use Rattle.hg_model.specs.Graph.{IsGraph};
-ghost use Rattle.hg_model.specs.Spelling.{Spells};
 ghost use Rattle.hg_model.specs.Verdict.{last_name, row_limit};
 ghost use Rattle.hg_model.specs.Fame.{mark_at};
 ghost use Rattle.hg_model.specs.Kept.{kept};
@@ -10,14 +9,14 @@ ghost use Rattle.hg_model.specs.GraphWords.{last_closed_in, SpeaksOf};
 ghost use Rattle.hg_node.specs.ChronicleView.{book_in, last_own_place, news_in, no_chronicle, chronicle_news, chronicle_with, chronicle_state};
 ghost use Rattle.hg_node.specs.Arrival.{StandsOn};
 
+use hg_event::Event;
 use hg_graph::EventGraph;
 use hg_kept::Kept;
-use hg_model::{
-    Bytes, Effect, Entry, Found, Member, Members, Memory, Name, Parents, Placed, Prefix, Row,
-};
+use hg_model::{Effect, Entry, Found, Member, Members, Memory, Name, Parents, Placed, Prefix};
 use hg_pay::{Book, Ledger};
 use std::alloc::Global;
 use std::marker::Model;
+use std::sync::Arc;
 
 /// The rows of a member's node, the log of how they came, what is published of them, the ledger of the order that they
 /// have got, and the place of the last one that the member made.
@@ -93,20 +92,13 @@ impl Chronicle {
         &self.log
     }
 
-    /// One row more, with its bytes and its parents' places, and the entry that tells how it came.
+    /// One row more, an event with its parents' places, and the entry that tells how it came.
     /// There is memory then for two entries of the log and an effect for each row.
-    pub fn add(
-        &mut self,
-        row: Row,
-        bytes: Bytes,
-        parents: Parents,
-        entry: Entry,
-    ) -> Result<(), Memory>
+    pub fn add(&mut self, event: Arc<Event>, parents: Parents, entry: Entry) -> Result<(), Memory>
         requires limit { length self.old.graph.rows < row_limit }
-        requires spelled { Spells bytes row }
-        requires link { StandsOn self.old.graph.rows row parents }
-        requires graph { IsGraph self.old.graph.members (self.old.graph.rows ++ row ∷ []) }
-        ensures ok { OnOk result (self.new ≡ chronicle_with self.old row entry) }
+        requires link { StandsOn self.old.graph.rows event.value parents }
+        requires graph { IsGraph self.old.graph.members (self.old.graph.rows ++ event.value ∷ []) }
+        ensures ok { OnOk result (self.new ≡ chronicle_with self.old event.value entry) }
         ensures err { OnErr result (self.new ≡ self.old) }
     {
         let place = self.graph.len();
@@ -114,8 +106,8 @@ impl Chronicle {
         self.kept.reserve()?;
         self.ledger.reserve(place + 1)?;
         self.log.reserve(2 * (place + 1) - self.log.len())?;
-        self.last_own = later_place(self.last_own, self.own, row.creator, place);
-        self.graph.push(row, bytes, parents);
+        self.last_own = later_place(self.last_own, self.own, event.row().creator, place);
+        self.graph.push(event, parents);
         self.kept.add(&self.graph);
         self.log.push_reserved(entry);
         Ok(())

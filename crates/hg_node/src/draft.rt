@@ -2,19 +2,20 @@ ghost use Rattle.std.specs.Prelude.{◌≡◌, ◌≤◌, ◌<◌, length, optio
 ghost use Rattle.std.specs.Option.{option_to_list};
 ghost use Rattle.std.specs.Result.{result_err};
 ghost use Rattle.hg_model.specs.Links.{place_of};
-ghost use Rattle.hg_model.specs.Spelling.{Spells, payload_limit};
+ghost use Rattle.hg_model.specs.Spelling.{payload_limit};
 ghost use Rattle.hg_model.specs.Verdict.{first_rule, other_rule, parents_on, payload_rule, signed_row};
 ghost use Rattle.hg_node.specs.Draft.{IsSigned, both_places, draft_fault, draft_names, draft_places, row_fault};
 
 use crate::ROW_LIMIT;
 use crate::arrival::creator_at;
 use crate::chronicle::Chronicle;
-use hg_event::{PAYLOAD_LIMIT, encode_body};
+use hg_event::{Event, PAYLOAD_LIMIT, encode_body};
 use hg_graph::EventGraph;
-use hg_model::{Bytes, Items, MakeFault, Member, Memory, Name, Parents, Row};
+use hg_model::{Items, MakeFault, Member, Memory, Name, Parents, Row};
 use hg_name::name_of;
 use hg_sign::Signer;
 use std::alloc::Global;
+use std::sync::Arc;
 
 /// The parents of an event that a node is to make: their names and their places.
 #[derive(Clone, Copy)]
@@ -105,7 +106,7 @@ fn places_on(last: Option<usize>, other: Option<usize>) -> Parents
     }
 }
 
-/// The event of a member on parents of these names, signed, and its bytes, which are written out once.
+/// The event of a member on parents of these names, signed. It is named, and its bytes are written out, once.
 pub fn signed_event<V: Signer>(
     alloc: Global,
     keys: &V,
@@ -113,12 +114,11 @@ pub fn signed_event<V: Signer>(
     parents: Option<(Name, Name)>,
     time: u64,
     payload: &[u8],
-) -> Result<(Row, Bytes), Memory>
+) -> Result<Arc<Event>, Memory>
     requires { length payload.now ≤ payload_limit }
-    ensures row { IfOk result (λ event. event.0 ≡ signed_row creator parents time payload.now event.0.sig) }
-    ensures accepted { IfOk result (λ event. IsSigned (V.accepts keys.now) creator parents time payload.now event.0.sig) }
-    ensures spelled { IfOk result (λ event. Spells event.1 event.0) }
-    ensures sized { IfOk result (λ event. length event.0.sig ≡ 64) }
+    ensures row { IfOk result (λ event. event.value ≡ signed_row creator parents time payload.now event.value.sig) }
+    ensures accepted { IfOk result (λ event. IsSigned (V.accepts keys.now) creator parents time payload.now event.value.sig) }
+    ensures sized { IfOk result (λ event. length event.value.sig ≡ 64) }
 {
     let mut bytes = encode_body(alloc, creator, &parents, time, payload)?;
     let sig = keys.sign(creator, bytes.as_slice());
@@ -131,14 +131,14 @@ pub fn signed_event<V: Signer>(
         sig,
         name: name_of(bytes.as_slice()),
     };
-    Ok((row, Items::from_vec(bytes)))
+    Ok(Arc::new(alloc, Event::new(row, Items::from_vec(bytes)))?)
 }
 
 /// What is wrong with an event that is signed. Takes no memory.
-pub fn row_rule(graph: &EventGraph, row: &Row) -> Result<(), MakeFault>
-    ensures { result_err result ≡ row_fault graph.now.graph.rows row.now }
+pub fn row_rule(graph: &EventGraph, event: &Arc<Event>) -> Result<(), MakeFault>
+    ensures { result_err result ≡ row_fault graph.now.graph.rows event.now.value }
 {
-    if let Some(place) = graph.place_of(&row.name) {
+    if let Some(place) = graph.place_of(&event.row().name) {
         return Err(MakeFault::Collision(place));
     }
     if ROW_LIMIT <= graph.len() {

@@ -1,10 +1,11 @@
-ghost use Rattle.std.specs.Prelude.{◌≡◌, ◌<◌, ◌≤◌, ◌++◌, ◌∷◌, [], All, None, Some, length, option_map, slice_get, IfOk, OnErr, OnOk};
+ghost use Rattle.std.specs.Prelude.{ℕ, ◌≡◌, ◌<◌, ◌≤◌, ◌++◌, ◌∷◌, [], All, None, Some, get_or, length, option_map, slice_get, true, IfOk, OnErr, OnOk};
 ghost use Rattle.std.specs.Option.{option_to_list};
 ghost use Rattle.hg_model.specs.declared.row.Placed.{Placed};
 ghost use Rattle.hg_event.specs.View.{row_of};
 ghost use Rattle.hg_model.specs.Forks.{forkers};
 ghost use Rattle.hg_model.specs.Rounds.{last_round};
-ghost use Rattle.hg_model.specs.Spelling.{Spells, spelling};
+ghost use Rattle.hg_model.specs.Stakes.{member_count};
+ghost use Rattle.hg_model.specs.Spelling.{Spells, body_of, spelling};
 ghost use Rattle.hg_model.specs.Graph.{IsGraph};
 ghost use Rattle.hg_model.specs.Verdict.{last_name, row_limit};
 ghost use Rattle.hg_graph.specs.Held.{first_graph};
@@ -15,14 +16,14 @@ ghost use Rattle.hg_model.specs.Fame.{mark_at};
 ghost use Rattle.hg_model.specs.NodeView.{book_kept, node_rows, kept_of, last_closed_of, node_links, log, node_marks, start_of, with_changes, IsNode};
 ghost use Rattle.hg_model.specs.Calls.{IsMaking, make_draft, publish_answer, publish_changes, put_answer, put_changes, settle_changes, IsSettled};
 
-use crate::arrival::parents_of_arrival;
+use crate::arrival::{parents_of_arrival, parents_of_signed};
 use crate::chronicle::Chronicle;
 use crate::draft::{draft_of, row_rule, signed_event};
-use hg_event::{EventView, decode};
+use hg_event::{Event, EventView, decode};
 use hg_fame::elect_share;
 use hg_graph::{EventGraph, FrozenGraph};
 use hg_model::{
-    Effect, Entry, Fault, Found, Items, MakeAnswer, Member, Members, Memory, Name, Parents, Placed,
+    Effect, Entry, Fault, Found, MakeAnswer, Member, Members, Memory, Name, Parents, Placed,
     Prefix, PutAnswer, Rounds, Row, Share,
 };
 use hg_name::name_of;
@@ -31,6 +32,7 @@ use hg_sign::Signer;
 use hg_votes::VoteTable;
 use std::alloc::Global;
 use std::marker::Model;
+use std::sync::Arc;
 
 /// The node of a member, which signs and checks with its keys.
 #[derive(Drop)]
@@ -93,6 +95,27 @@ impl<V: Signer> Node<V> {
         }
     }
 
+    /// Puts an event of a member, whose signature the node's keys accept, as it stands at another node: what comes of it
+    /// is what comes of its bytes, but it is not read, named, checked or copied again.
+    pub fn put_event(&mut self, event: &Arc<Event>) -> Result<PutAnswer, Memory>
+        requires fits { event.now.value.creator < member_count self.old.start.members }
+        requires signed { V.accepts self.old.start.keys event.now.value.creator (body_of event.now.value) event.now.value.sig ≡ true }
+        ensures answer { IfOk result (λ answer. answer ≡ put_answer V.accepts self.old (spelling event.now.value)) }
+        ensures ok { OnOk result (self.new ≡ with_changes self.old (put_changes V.accepts self.old (spelling event.now.value))) }
+        ensures err { OnErr result (self.new ≡ self.old) }
+        ensures free { OnErr result (put_answer V.accepts self.old (spelling event.now.value) ≡ Accepted (length (node_rows self.old))) }
+    {
+        // That its bytes are bytes, and those of an event.
+        event.row();
+        are_bytes(event.bytes());
+        let graph = self.chronicle.graph();
+        let own = Some(self.chronicle.own());
+        match parents_of_signed(graph, own, event) {
+            Ok(parents) => take_shared(&mut self.chronicle, event, parents),
+            Err(answer) => Ok(answer),
+        }
+    }
+
     /// Makes an event of the node's member on its last one, with this other-parent, or its first one without parents.
     /// The time is any, in no unit of ours. To tell that the event is refused before it is signed takes no memory.
     pub fn make(
@@ -110,13 +133,12 @@ impl<V: Signer> Node<V> {
             Err(fault) => return Ok(MakeAnswer::Refused(fault)),
         };
         let own = self.chronicle.own();
-        let (row, bytes) = signed_event(self.alloc, &self.keys, own, draft.names, time, payload)?;
-        match row_rule(self.chronicle.graph(), &row) {
+        let event = signed_event(self.alloc, &self.keys, own, draft.names, time, payload)?;
+        match row_rule(self.chronicle.graph(), &event) {
             Err(fault) => Ok(MakeAnswer::Refused(fault)),
             Ok(()) => {
                 let place = self.chronicle.graph().len();
-                self.chronicle
-                    .add(row, bytes, draft.places, Entry::Made(place))?;
+                self.chronicle.add(event, draft.places, Entry::Made(place))?;
                 Ok(MakeAnswer::Made(place))
             }
         }
@@ -220,6 +242,14 @@ impl<V: Signer> Node<V> {
         self.chronicle.graph().len()
     }
 
+    /// The event at a place below the number of rows.
+    pub fn event(&self, place: usize) -> &Arc<Event>
+        requires { place < length (node_rows self.now) }
+        ensures { slice_get (node_rows self.now) place ≡ Some result.now.value }
+    {
+        self.chronicle.graph().event(place)
+    }
+
     /// The row at a place below the number of rows.
     pub fn row(&self, place: usize) -> &Row
         requires { place < length (node_rows self.now) }
@@ -304,25 +334,31 @@ fn take(
     ensures ok { OnOk result (chronicle.new ≡ chronicle_took chronicle.old (row_of view.now)) }
     ensures err { OnErr result (chronicle.new ≡ chronicle.old) }
 {
-    let place = chronicle.graph().len();
-    let row = row_with(alloc, view, name)?;
-    let bytes = Items::from_vec(Vec::from_slice(alloc, bytes)?);
-    chronicle.add(row, bytes, parents, Entry::Took(place))?;
-    Ok(PutAnswer::Accepted(place))
+    let event = Event::copied(alloc, view, name, bytes)?;
+    take_shared(chronicle, &Arc::new(alloc, event)?, parents)
 }
 
-/// The row of an event that was read, under its name.
-fn row_with(alloc: Global, view: &EventView<'_>, name: Name) -> Result<Row, Memory>
-    requires { name ≡ (row_of view.now).name }
-    ensures { IfOk result (λ row. row ≡ row_of view.now) }
+/// Bytes are below 256.
+fn are_bytes(bytes: &[u8])
+    ensures { (i : ℕ) → get_or bytes.now i 0 < 256 }
 {
-    let payload = view.payload;
-    Ok(Row {
-        creator: view.creator,
-        parents: view.parents.map(|names| (*names.0, *names.1)),
-        time: view.time,
-        payload: Items::from_vec(Vec::from_slice(alloc, payload)?),
-        sig: *view.sig,
-        name,
-    })
+    let _len = bytes.len();
+}
+
+/// Takes the event, on its parents' places.
+fn take_shared(
+    chronicle: &mut Chronicle,
+    event: &Arc<Event>,
+    parents: Parents,
+) -> Result<PutAnswer, Memory>
+    requires limit { length chronicle.old.graph.rows < row_limit }
+    requires link { StandsOn chronicle.old.graph.rows event.now.value parents }
+    requires graph { IsGraph chronicle.old.graph.members (chronicle.old.graph.rows ++ event.now.value ∷ []) }
+    ensures answer { IfOk result (λ answer. answer ≡ Accepted (length chronicle.old.graph.rows)) }
+    ensures ok { OnOk result (chronicle.new ≡ chronicle_took chronicle.old event.now.value) }
+    ensures err { OnErr result (chronicle.new ≡ chronicle.old) }
+{
+    let place = chronicle.graph().len();
+    chronicle.add(Arc::clone(event)?, parents, Entry::Took(place))?;
+    Ok(PutAnswer::Accepted(place))
 }

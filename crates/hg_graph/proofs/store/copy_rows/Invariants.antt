@@ -1,5 +1,6 @@
 use Rattle.std.proofs.Common.{◌≡◌, take}
+use Rattle.hg_graph.specs.RowsWithRoom.{rows_of}
 use Rattle.hg_graph.proofs.store.copy_rows.Given as goal
 
-abbrev pub invariant-loop-row : goal.invariant-loop-row
-invariant-loop-row l = l.copy.items ≡ take l.row-index l.rows
+abbrev pub invariant-loop-event : goal.invariant-loop-event
+invariant-loop-event l = l.rows.items ≡ rows_of (take l.event-index l.events)

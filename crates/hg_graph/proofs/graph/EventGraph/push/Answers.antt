@@ -4,31 +4,31 @@ use Rattle.hg_graph.proofs.graph.EventGraph.push.Goals as goal
 
 pub extend-requires-clause-fits : goal.extend-requires-clause-fits
 extend-requires-clause-fits c =
-    let p = comes c.self.view_is c.self.invariant c.args.row c.args.bytes c.args.parents c.requires.limit c.requires.spelled c.requires.link c.requires.graph in
+    let p = comes c.self.view_is c.self.invariant c.row.ensures.value c.deref.ensures c.args.parents c.requires.limit c.row.ensures.spelled c.requires.link c.requires.graph in
     p.fits
 
 pub extend-requires-clause-short : goal.extend-requires-clause-short
 extend-requires-clause-short c =
-    let p = comes c.self.view_is c.self.invariant c.args.row c.args.bytes c.args.parents c.requires.limit c.requires.spelled c.requires.link c.requires.graph in
+    let p = comes c.self.view_is c.self.invariant c.row.ensures.value c.deref.ensures c.args.parents c.requires.limit c.row.ensures.spelled c.requires.link c.requires.graph in
     p.short
 
 pub add-requires-clause-fits : goal.add-requires-clause-fits
 add-requires-clause-fits c =
-    let p = comes c.self.view_is c.self.invariant c.args.row c.args.bytes c.args.parents c.requires.limit c.requires.spelled c.requires.link c.requires.graph in
+    let p = comes c.self.view_is c.self.invariant c.row.ensures.value c.deref.ensures c.args.parents c.requires.limit c.row.ensures.spelled c.requires.link c.requires.graph in
     p.self_fits c.self_parent.result c.self_parent.ensures
 
 pub place_round-round-requires-clause-parents : goal.place_round-round-requires-clause-parents
 place_round-round-requires-clause-parents c =
-    let p = comes c.self.view_is c.self.invariant c.args.row c.args.bytes c.args.parents c.requires.limit c.requires.spelled c.requires.link c.requires.graph in
+    let p = comes c.self.view_is c.self.invariant c.row.ensures.value c.deref.ensures c.args.parents c.requires.limit c.row.ensures.spelled c.requires.link c.requires.graph in
     p.last c.extend.new.self.shape c.extend.ensures
 
 pub push-requires-clause-new : goal.push-requires-clause-new
 push-requires-clause-new c =
-    let p = comes c.self.view_is c.self.invariant c.args.row c.args.bytes c.args.parents c.requires.limit c.requires.spelled c.requires.link c.requires.graph in
+    let p = comes c.self.view_is c.self.invariant c.row.ensures.value c.deref.ensures c.args.parents c.requires.limit c.row.ensures.spelled c.requires.link c.requires.graph in
     p.fresh
 
 pub invariant_of-self : goal.invariant_of-self
 invariant_of-self c =
-    let p = comes c.self.view_is c.self.invariant c.args.row c.args.bytes c.args.parents c.requires.limit c.requires.spelled c.requires.link c.requires.graph in
+    let p = comes c.self.view_is c.self.invariant c.row.ensures.value c.deref.ensures c.args.parents c.requires.limit c.row.ensures.spelled c.requires.link c.requires.graph in
     p.keeps c.self_parent.result c.self_parent.ensures c.push.new.self.rows c.extend.new.self.shape c.add.new.self.shape c.add-2.new.self.standings
     c.push.ensures c.extend.ensures c.add.ensures (c.add-2.ensures ∙ c.place_round-round.ensures.whole)

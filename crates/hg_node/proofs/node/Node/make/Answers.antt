@@ -13,8 +13,8 @@ returns-in-Err-clause-ok g c =
     rw (← c.self.view_is)
     (draft_refused g.V.Verifier.accepts c.self.inside.keys c.self.inside.chronicle (option_to_list c.args.other) c.args.time c.args.payload.now c.self.invariant c.in-Err.fault c.in-Err.ensures.fault)
 
-pub returns-in_err-row-clause-free : goal.returns-in_err-row-clause-free
-returns-in_err-row-clause-free g c =
+pub returns-in_err-event-clause-free : goal.returns-in_err-event-clause-free
+returns-in_err-event-clause-free g c =
     rw (← c.self.view_is)
     (draft_silent g.V.Verifier.accepts c.self.inside.keys c.self.inside.chronicle (option_to_list c.args.other) c.args.time c.args.payload.now c.self.invariant
     c.from_residual.result c.in-Ok.ensures.fault)
@@ -22,7 +22,7 @@ returns-in_err-row-clause-free g c =
 pub add-requires-clause-graph : goal.add-requires-clause-graph
 add-requires-clause-graph g c =
     (row_made g.V.Verifier.accepts c.self.inside.keys c.self.inside.chronicle (option_to_list c.args.other) c.args.time c.args.payload.now c.self.invariant
-    c.in_ok-row.row.sig c.in_ok-row.ensures.sized c.in_ok-row.row c.in-Ok.ensures.fault (signed_of_draft (g.V.Verifier.accepts c.self.inside.keys) c.self.inside.chronicle (option_to_list c.args.other) c.args.time c.args.payload.now c.own-own.result c.in-Ok.draft.names c.in_ok-row.row.sig c.own-own.ensures c.in-Ok.ensures.names c.in_ok-row.ensures.accepted) (row_of_draft c.self.inside.chronicle (option_to_list c.args.other) c.args.time c.args.payload.now c.own-own.result c.in-Ok.draft.names c.in_ok-row.row.sig c.in_ok-row.row c.own-own.ensures c.in-Ok.ensures.names c.in_ok-row.ensures.row) (omega (arith, c.ranges.time.fits)) (c.in-Ok-row_rule.ensures ∙ ap (λ (h : Graph). row_fault h.rows c.in_ok-row.row) c.graph.ensures)).graph
+    c.in_ok-event.event.value.sig c.in_ok-event.ensures.sized c.in_ok-event.event.value c.in-Ok.ensures.fault (signed_of_draft (g.V.Verifier.accepts c.self.inside.keys) c.self.inside.chronicle (option_to_list c.args.other) c.args.time c.args.payload.now c.own-own.result c.in-Ok.draft.names c.in_ok-event.event.value.sig c.own-own.ensures c.in-Ok.ensures.names c.in_ok-event.ensures.accepted) (row_of_draft c.self.inside.chronicle (option_to_list c.args.other) c.args.time c.args.payload.now c.own-own.result c.in-Ok.draft.names c.in_ok-event.event.value.sig c.in_ok-event.event.value c.own-own.ensures c.in-Ok.ensures.names c.in_ok-event.ensures.row) (omega (arith, c.ranges.time.fits)) (c.in-Ok-row_rule.ensures ∙ ap (λ (h : Graph). row_fault h.rows c.in_ok-event.event.value) c.graph.ensures)).graph
 
 pub returns-in_err-add-in-Ok-row_rule-clause-free : goal.returns-in_err-add-in-Ok-row_rule-clause-free
 returns-in_err-add-in-Ok-row_rule-clause-free g c =
@@ -34,21 +34,21 @@ pub returns-in-Err-row_rule-clause-ok : goal.returns-in-Err-row_rule-clause-ok
 returns-in-Err-row_rule-clause-ok g c =
     rw (← c.self.view_is)
     (row_refused g.V.Verifier.accepts c.self.inside.keys c.self.inside.chronicle (option_to_list c.args.other) c.args.time c.args.payload.now c.self.invariant
-    c.in_ok-row.row.sig c.in_ok-row.ensures.sized c.in_ok-row.row c.in-Ok.ensures.fault (signed_of_draft (g.V.Verifier.accepts c.self.inside.keys) c.self.inside.chronicle (option_to_list c.args.other) c.args.time c.args.payload.now c.own-own.result c.in-Ok.draft.names c.in_ok-row.row.sig c.own-own.ensures c.in-Ok.ensures.names c.in_ok-row.ensures.accepted) (row_of_draft c.self.inside.chronicle (option_to_list c.args.other) c.args.time c.args.payload.now c.own-own.result c.in-Ok.draft.names c.in_ok-row.row.sig c.in_ok-row.row c.own-own.ensures c.in-Ok.ensures.names c.in_ok-row.ensures.row) c.in-Err-row_rule.fault (c.in-Err-row_rule.ensures ∙ ap (λ (h : Graph). row_fault h.rows c.in_ok-row.row) c.graph.ensures))
+    c.in_ok-event.event.value.sig c.in_ok-event.ensures.sized c.in_ok-event.event.value c.in-Ok.ensures.fault (signed_of_draft (g.V.Verifier.accepts c.self.inside.keys) c.self.inside.chronicle (option_to_list c.args.other) c.args.time c.args.payload.now c.own-own.result c.in-Ok.draft.names c.in_ok-event.event.value.sig c.own-own.ensures c.in-Ok.ensures.names c.in_ok-event.ensures.accepted) (row_of_draft c.self.inside.chronicle (option_to_list c.args.other) c.args.time c.args.payload.now c.own-own.result c.in-Ok.draft.names c.in_ok-event.event.value.sig c.in_ok-event.event.value c.own-own.ensures c.in-Ok.ensures.names c.in_ok-event.ensures.row) c.in-Err-row_rule.fault (c.in-Err-row_rule.ensures ∙ ap (λ (h : Graph). row_fault h.rows c.in_ok-event.event.value) c.graph.ensures))
 
 -- the row is made
 makes : (g : given.Over) (c : goal.In_ok-add-in-Ok-row_rule g) → MakesRow g.V.Verifier.accepts (node_view c.self.inside.keys c.self.inside.chronicle)
-    (node_view c.self.inside.keys (chronicle_with c.self.inside.chronicle c.in_ok-row.row (entry.Made (length c.self.inside.chronicle.graph.rows))))
-    c.self.inside.chronicle c.in_ok-row.row (option_to_list c.args.other) c.args.time c.args.payload.now
+    (node_view c.self.inside.keys (chronicle_with c.self.inside.chronicle c.in_ok-event.event.value (entry.Made (length c.self.inside.chronicle.graph.rows))))
+    c.self.inside.chronicle c.in_ok-event.event.value (option_to_list c.args.other) c.args.time c.args.payload.now
 makes g c =
     row_made g.V.Verifier.accepts c.self.inside.keys c.self.inside.chronicle (option_to_list c.args.other) c.args.time c.args.payload.now c.self.invariant
-    c.in_ok-row.row.sig c.in_ok-row.ensures.sized c.in_ok-row.row c.in-Ok.ensures.fault (signed_of_draft (g.V.Verifier.accepts c.self.inside.keys) c.self.inside.chronicle (option_to_list c.args.other) c.args.time c.args.payload.now c.own-own.result c.in-Ok.draft.names c.in_ok-row.row.sig c.own-own.ensures c.in-Ok.ensures.names c.in_ok-row.ensures.accepted) (row_of_draft c.self.inside.chronicle (option_to_list c.args.other) c.args.time c.args.payload.now c.own-own.result c.in-Ok.draft.names c.in_ok-row.row.sig c.in_ok-row.row c.own-own.ensures c.in-Ok.ensures.names c.in_ok-row.ensures.row) (omega (arith, c.ranges.time.fits)) (c.in-Ok-row_rule.ensures ∙ ap (λ (h : Graph). row_fault h.rows c.in_ok-row.row) c.graph.ensures)
+    c.in_ok-event.event.value.sig c.in_ok-event.ensures.sized c.in_ok-event.event.value c.in-Ok.ensures.fault (signed_of_draft (g.V.Verifier.accepts c.self.inside.keys) c.self.inside.chronicle (option_to_list c.args.other) c.args.time c.args.payload.now c.own-own.result c.in-Ok.draft.names c.in_ok-event.event.value.sig c.own-own.ensures c.in-Ok.ensures.names c.in_ok-event.ensures.accepted) (row_of_draft c.self.inside.chronicle (option_to_list c.args.other) c.args.time c.args.payload.now c.own-own.result c.in-Ok.draft.names c.in_ok-event.event.value.sig c.in_ok-event.event.value c.own-own.ensures c.in-Ok.ensures.names c.in_ok-event.ensures.row) (omega (arith, c.ranges.time.fits)) (c.in-Ok-row_rule.ensures ∙ ap (λ (h : Graph). row_fault h.rows c.in_ok-event.event.value) c.graph.ensures)
 
 place_is : (g : given.Over) (c : goal.In_ok-add-in-Ok-row_rule g) → c.len-place.result ≡ length c.self.inside.chronicle.graph.rows
 place_is g c = c.len-place.ensures.value ∙ ap (λ (h : Graph). length h.rows) c.graph-in-Ok-row_rule.ensures
 
-recorded_is : (g : given.Over) (c : goal.In_ok-add-in-Ok-row_rule g) → c.add.new.self ≡ chronicle_with c.self.inside.chronicle c.in_ok-row.row (entry.Made (length c.self.inside.chronicle.graph.rows))
-recorded_is g c = c.in_ok-add-in-Ok-row_rule.ensures.ok ∙ ap (λ (k : ℕ). chronicle_with c.self.inside.chronicle c.in_ok-row.row (entry.Made k)) (place_is g c)
+recorded_is : (g : given.Over) (c : goal.In_ok-add-in-Ok-row_rule g) → c.add.new.self ≡ chronicle_with c.self.inside.chronicle c.in_ok-event.event.value (entry.Made (length c.self.inside.chronicle.graph.rows))
+recorded_is g c = c.in_ok-add-in-Ok-row_rule.ensures.ok ∙ ap (λ (k : ℕ). chronicle_with c.self.inside.chronicle c.in_ok-event.event.value (entry.Made k)) (place_is g c)
 
 pub invariant_of-self-in-Ok-row_rule : goal.invariant_of-self-in-Ok-row_rule
 invariant_of-self-in-Ok-row_rule g c =

@@ -1,0 +1,47 @@
+use Rattle.std.proofs.Common.{◌∙◌, ap, arith}
+use Rattle.hg_model.specs.Spelling.{spelling}
+use Rattle.hg_node.specs.ChronicleView.{node_view}
+use Rattle.hg_node.proofs.PutLaws.{IsPut, event_ends, event_refused, event_taken}
+use Rattle.hg_node.proofs.node.Node.put_event.Given as given
+use Rattle.hg_node.proofs.node.Node.put_event.Goals as goal
+
+pub take_shared-requires-clause-graph : goal.take_shared-requires-clause-graph
+take_shared-requires-clause-graph g c =
+    (event_taken g.V.Verifier.accepts c.self.inside.keys c.self.inside.chronicle c.self.view_is c.self.invariant c.deref.ensures c.row.ensures.spelled c.requires.fits c.requires.signed
+    c.own.result c.graph-graph.result.now.graph c.own.ensures c.graph-graph.ensures
+    c.bytes.result.now (c.bytes.ensures ∙ ap spelling c.deref-2.ensures) c.are_bytes.ensures c.in-Ok.ensures.answer).graph
+
+-- all that the taking left
+ends : (g : given.Over) (c : goal.After-take_shared g) → IsPut g.V.Verifier.accepts (node_view c.self.inside.keys c.self.inside.chronicle)
+    (node_view c.self.inside.keys c.take_shared.new.chronicle) c.take_shared.new.chronicle (spelling c.args.event.now.value) c.take_shared.result
+ends g c =
+    event_ends g.V.Verifier.accepts c.self.inside.keys c.self.inside.chronicle c.self.view_is c.self.invariant c.deref.ensures c.row.ensures.spelled c.requires.fits c.requires.signed
+    c.own.result c.graph-graph.result.now.graph c.own.ensures c.graph-graph.ensures
+    c.bytes.result.now (c.bytes.ensures ∙ ap spelling c.deref-2.ensures) c.are_bytes.ensures c.in-Ok.ensures.answer
+    c.take_shared.result c.take_shared.new.chronicle c.take_shared.ensures.answer c.take_shared.ensures.ok c.take_shared.ensures.err
+
+pub invariant_of-self : goal.invariant_of-self
+invariant_of-self g c = (ends g c).recorded
+
+pub returns-in-Ok-clause-answer : goal.returns-in-Ok-clause-answer
+returns-in-Ok-clause-answer g c = rw (← c.self.view_is) (ends g c).answer
+
+pub returns-in-Ok-clause-ok : goal.returns-in-Ok-clause-ok
+returns-in-Ok-clause-ok g c = rw (← c.self.view_is) (ends g c).ok
+
+pub returns-in-Ok-clause-free : goal.returns-in-Ok-clause-free
+returns-in-Ok-clause-free g c = rw (← c.self.view_is) (ends g c).free
+
+pub returns-in-Err-clause-answer : goal.returns-in-Err-clause-answer
+returns-in-Err-clause-answer g c =
+    rw (← c.self.view_is)
+    (event_refused g.V.Verifier.accepts c.self.inside.keys c.self.inside.chronicle c.self.view_is c.self.invariant c.deref.ensures c.row.ensures.spelled c.requires.fits c.requires.signed
+    c.own.result c.graph-graph.result.now.graph c.own.ensures c.graph-graph.ensures
+    c.in-Err.answer c.in-Err.ensures.answer).0
+
+pub returns-in-Err-clause-ok : goal.returns-in-Err-clause-ok
+returns-in-Err-clause-ok g c =
+    rw (← c.self.view_is)
+    (event_refused g.V.Verifier.accepts c.self.inside.keys c.self.inside.chronicle c.self.view_is c.self.invariant c.deref.ensures c.row.ensures.spelled c.requires.fits c.requires.signed
+    c.own.result c.graph-graph.result.now.graph c.own.ensures c.graph-graph.ensures
+    c.in-Err.answer c.in-Err.ensures.answer).1
