@@ -1,4 +1,4 @@
-use Rattle.std.proofs.Common.{◌∙◌, ap, arith}
+use Rattle.std.proofs.Common.{◌∙◌, ap}
 use Rattle.hg_model.specs.Spelling.{spelling}
 use Rattle.hg_node.specs.ChronicleView.{node_view}
 use Rattle.hg_node.proofs.PutLaws.{IsPut, event_ends, event_refused, event_taken}
