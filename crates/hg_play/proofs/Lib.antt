@@ -1,5 +1,7 @@
 mod AgreeLaws
 mod SequenceLaws
 mod WorldLaws
+mod NodesLaws
+mod AlikeLaws
 mod BlockLaws
 mod PlayLaws

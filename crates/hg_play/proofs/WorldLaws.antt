@@ -24,7 +24,7 @@ use Rattle.hg_world.specs.World.{Secrets, Site, WorldView, new_site, new_world, 
 use Rattle.hg_world.specs.Steps.{after_step, after_steps, node_published, settle_steps}
 use Rattle.hg_script.specs.declared.line.Line.{Line}
 use Rattle.hg_play.specs.Lines.{action_steps}
-use Rattle.hg_play.specs.Play.{Stage, IsSafePlay, after_line, after_lines, block_at, end_steps, first_stage, lines_steps, play_run, play_steps, stage}
+use Rattle.hg_play.specs.Play.{Stage, IsSafePlay, after_line, after_lines, block_at, end_steps, first_stage, lines_steps, play_run, play_steps}
 use Rattle.hg_play.specs.Sites.{start_in, starts, starts_of}
 
 -- one step after the others
@@ -76,7 +76,7 @@ rows_published_if : (v : NodeView Secrets) (len : ℕ) (share : Share) (none : B
 rows_published_if v len share true = ap (λ (w : NodeView Secrets). node_rows w) (with_none v [] refl)
 rows_published_if v len share false = ap (λ (s : State). s.rows) (replay-push v.start.members v.start.coin v.history (Marked len share))
 
-rows_published : (v : NodeView Secrets) (len : ℕ) (share : Share) → node_rows (node_published v len share) ≡ node_rows v
+pub rows_published : (v : NodeView Secrets) (len : ℕ) (share : Share) → node_rows (node_published v len share) ≡ node_rows v
 unfolding publish_changes
 rows_published v len share = rows_published_if v len share (publish_answer v len share == 0)
 
@@ -140,14 +140,6 @@ play-steps members lines last is =
     let all = lines_steps members (first_stage members) lines in
     let ends = end_steps members (length members.entries) in
     is ∙ (ap (λ (w : WorldView). after_steps w ends) (lines-steps members (first_stage members) lines) ∙ sym (steps-append (new_world members) all ends))
-
--- the world in which the play ends, by the worlds before
-pub last-world : (members : MemberList) (lines : List Line) (new played last : WorldView) → new ≡ new_world members → played ≡ (after_lines members (stage new [] []) lines).world →
-    last ≡ after_steps played (end_steps members (length members.entries)) →
-    last ≡ after_steps (after_lines members (first_stage members) lines).world (end_steps members (length members.entries))
-last-world members lines new played last new_is played_is last_is =
-    last_is ∙ ap (λ (w : WorldView). after_steps w (end_steps members (length members.entries)))
-    (played_is ∙ ap (λ (w : WorldView). (after_lines members (stage w [] []) lines).world) new_is)
 
 -- steps leave members and coin period
 pub members-steps : (w : WorldView) (steps : List Step) → (after_steps w steps).members ≡ w.members

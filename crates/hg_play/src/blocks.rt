@@ -1,12 +1,11 @@
-ghost use Rattle.std.specs.Prelude.{◌≡◌, ◌++◌, ◌<◌, ◌^◌, [], ◌∷◌, cond, IfOk, OnOk, length};
-ghost use Rattle.hg_model.specs.Ledger.{block_of};
-ghost use Rattle.hg_model.specs.Members.{has_node};
-ghost use Rattle.hg_world.specs.World.{IsMemberOf, node_at, rows_at};
+ghost use Rattle.std.specs.Prelude.{◌≡◌, ◌<◌, ◌^◌, IfOk, OnOk, length};
+ghost use Rattle.hg_world.specs.World.{IsMemberOf};
 ghost use Rattle.hg_world.specs.Steps.{after_steps, settle_steps};
 ghost use Rattle.hg_play.specs.Lines.{kept_block};
-ghost use Rattle.hg_play.specs.Play.{block_at, end_blocks, end_steps};
-ghost use Rattle.hg_play.specs.Sites.{start_in, starts, starts_of};
+ghost use Rattle.hg_play.specs.Nodes.{IsKept, IsKeptBlock, IsShownBlock, TellsBlock, TellsBlocks};
+ghost use Rattle.hg_play.specs.Sites.{start_in};
 
+use crate::nodes::Nodes;
 use crate::printing::order_lines;
 use hg_model::{Block, Items, Member, Members, Memory, Printed};
 use hg_node::Node;
@@ -21,8 +20,7 @@ fn kept_block(
     member: Member,
     node: &Node<MacTable>,
 ) -> Result<Block, Memory>
-    requires { node.now.start ≡ start_in members.now member }
-    ensures { IfOk result (λ block. block ≡ kept_block members.now member node.now) }
+    ensures { IfOk result (λ b. node.now.start ≡ start_in members.now member → b ≡ kept_block members.now member node.now) }
 {
     // That it is a node, whose links are those of its rows.
     let events = node.rows() as u64;
@@ -46,9 +44,8 @@ pub(crate) fn kept_at(
     world: &World,
     member: Member,
 ) -> Result<Block, Memory>
-    requires below { IsMemberOf world.now member }
-    requires starts { starts_of world.now ≡ starts members.now }
-    ensures { IfOk result (λ block. block ≡ kept_block members.now member (node_at world.now member)) }
+    requires { IsMemberOf world.now member }
+    ensures { IfOk result (IsKeptBlock members.now world.now member) }
 {
     let block = kept_block(alloc, members, member, world.node(member))?;
     Ok(block)
@@ -61,10 +58,10 @@ pub(crate) fn settled_at(
     world: &mut World,
     member: Member,
 ) -> Result<Block, Memory>
-    requires below { IsMemberOf world.old member }
-    requires starts { starts_of world.old ≡ starts members.now }
-    ensures block { IfOk result (λ block. block ≡ block_of members.now member (rows_at world.old member)) }
+    requires { IsMemberOf world.old member }
+    ensures block { IfOk result (IsShownBlock members.now world.old member) }
     ensures world { OnOk result (world.new ≡ after_steps world.old (settle_steps member)) }
+    ensures sites { length world.new.sites ≡ length world.old.sites }
 {
     world.settle(member)?;
     let block = kept_at(alloc, members, world, member)?;
@@ -72,39 +69,38 @@ pub(crate) fn settled_at(
 }
 
 /// The block of a node behind what was printed, if the member has one.
-fn push_block(
+fn push_block<N: Nodes>(
     alloc: Global,
     members: &Members,
-    world: &mut World,
+    nodes: &mut N,
     member: usize,
     printed: &mut Vec<Printed>,
 ) -> Result<(), Memory>
-    requires below { IsMemberOf world.old member }
+    requires below { member < (N.seen nodes.old).count }
     requires few { member < 2 ^ 16 }
-    requires starts { starts_of world.old ≡ starts members.now }
-    ensures printed { OnOk result (printed.new.items ≡ printed.old.items ++ cond (has_node members.now member) (block_at members.now world.old member ∷ []) []) }
-    ensures world { OnOk result (world.new ≡ after_steps world.old (cond (has_node members.now member) (settle_steps member) [])) }
+    ensures kept { IsKept (N.seen nodes.old) (N.seen nodes.new) }
+    ensures told { OnOk result (TellsBlock (N.seen nodes.old) (N.seen nodes.new) members.now member printed.old.items printed.new.items) }
 {
     if members.has_node(member as Member) {
-        let block = settled_at(alloc, members, world, member as Member)?;
+        let block = nodes.show(alloc, members, member as Member)?;
         printed.push(Printed::Block(block))?;
     }
     Ok(())
 }
 
 /// The blocks of all nodes, in the order of the members, behind what was printed.
-pub(crate) fn push_blocks(
+pub(crate) fn push_blocks<N: Nodes>(
     alloc: Global,
     members: &Members,
-    world: &mut World,
+    nodes: &mut N,
     printed: &mut Vec<Printed>,
 ) -> Result<(), Memory>
-    requires { starts_of world.old ≡ starts members.now }
-    ensures printed { OnOk result (printed.new.items ≡ printed.old.items ++ end_blocks members.now world.old) }
-    ensures world { OnOk result (world.new ≡ after_steps world.old (end_steps members.now (length members.now.entries))) }
+    requires { (N.seen nodes.old).count ≡ length members.now.entries }
+    ensures kept { IsKept (N.seen nodes.old) (N.seen nodes.new) }
+    ensures told { OnOk result (TellsBlocks (N.seen nodes.old) (N.seen nodes.new) members.now printed.old.items printed.new.items) }
 {
     for member in 0..members.count() as usize {
-        push_block(alloc, members, world, member, printed)?;
+        push_block(alloc, members, nodes, member, printed)?;
     }
     Ok(())
 }

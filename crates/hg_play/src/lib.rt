@@ -8,8 +8,9 @@ mod gossip;
 mod labels;
 mod laws;
 mod lines;
+mod nodes;
 mod playing;
 mod printing;
 
-pub use laws::lines_are_steps;
+pub use laws::{lines_are_steps, steps_need_rows_alone};
 pub use playing::play;

@@ -1,34 +1,31 @@
-ghost use Rattle.std.specs.Prelude.{◌≡◌, [], All, IfOk, OnOk, length};
+ghost use Rattle.std.specs.Prelude.{◌≡◌, All, IfOk, OnOk};
 ghost use Rattle.hg_model.specs.Signing.{secrets_of};
 ghost use Rattle.hg_script.specs.declared.line.Action.{Action};
-ghost use Rattle.hg_script.specs.declared.line.Line.{Line};
-ghost use Rattle.hg_play.specs.Labels.{source_bytes};
 ghost use Rattle.hg_play.specs.Lines.{IsBelow};
-ghost use Rattle.hg_play.specs.Play.{Stage, after_line, after_lines, stage};
-ghost use Rattle.hg_play.specs.Sites.{starts, starts_of};
+ghost use Rattle.hg_play.specs.Nodes.{IsKept, IsPlayable, TellsLine, TellsLines, TellsSource};
 
-use crate::blocks::{kept_at, settled_at};
 use crate::gossip::play_gossip;
-use crate::labels::{altered, bytes_at, copied, forged, front, last_bytes, names_of_labels};
+use crate::labels::{altered, bytes_at, copied, forged, front, names_of_labels};
+use crate::nodes::Nodes;
 use hg_model::{Bytes, Members, Memory, Printed, Share};
 use hg_script::{Action, Line, Source};
 use hg_sign::MacTable;
-use hg_world::World;
 use std::alloc::Global;
 
 /// The bytes from a source.
-fn source_bytes(
+fn source_bytes<N: Nodes>(
     alloc: Global,
     keys: &MacTable,
-    world: &World,
+    nodes: &mut N,
     labels: &[Bytes],
     source: &Source,
 ) -> Result<Bytes, Memory>
-    requires { IsBelow (length world.now.sites) (Action.Label source.now) }
-    ensures { IfOk result (λ bytes. bytes ≡ source_bytes keys.now world.now labels.now source.now) }
+    requires { IsBelow (N.seen nodes.old).count (Action.Label source.now) }
+    ensures kept { IsKept (N.seen nodes.old) (N.seen nodes.new) }
+    ensures told { IfOk result (TellsSource (N.seen nodes.old) (N.seen nodes.new) keys.now labels.now source.now) }
 {
     match source {
-        Source::Last { member } => last_bytes(alloc, world.node(*member)),
+        Source::Last { member } => nodes.last_bytes(alloc, *member),
         Source::Forged {
             creator,
             parents,
@@ -45,77 +42,76 @@ fn source_bytes(
 }
 
 /// Plays a line.
-fn play_line(
+fn play_line<N: Nodes>(
     alloc: Global,
     members: &Members,
     keys: &MacTable,
-    world: &mut World,
+    nodes: &mut N,
     labels: &mut Vec<Bytes>,
     printed: &mut Vec<Printed>,
     line: &Line,
 ) -> Result<(), Memory>
-    requires below { IsBelow (length world.old.sites) line.now.action }
-    requires starts { starts_of world.old ≡ starts members.now }
+    requires playable { IsPlayable (N.seen nodes.old) line.now }
     requires keys { keys.now ≡ secrets_of members.now }
-    ensures { OnOk result (stage world.new labels.new.items printed.new.items ≡ after_line members.now (stage world.old labels.old.items printed.old.items) line.now) }
+    ensures kept { IsKept (N.seen nodes.old) (N.seen nodes.new) }
+    ensures told { OnOk result (TellsLine members.now line.now (N.seen nodes.old) labels.old.items printed.old.items (N.seen nodes.new) labels.new.items printed.new.items) }
 {
     match &line.action {
         Action::Gossip(gossip) => {
-            let piece = play_gossip(world, labels.as_slice(), line.number, gossip)?;
+            let piece = play_gossip(nodes, labels.as_slice(), line.number, gossip)?;
             printed.push(piece)?;
         }
         Action::Label(source) => {
-            let bytes = source_bytes(alloc, keys, world, labels.as_slice(), source)?;
+            let bytes = source_bytes(alloc, keys, nodes, labels.as_slice(), source)?;
             labels.push(bytes)?;
         }
         Action::Freeze { member, worker } => {
-            let len = world.freeze(*member, *worker) as u64;
+            let len = nodes.freeze(*member, *worker) as u64;
             printed.push(Printed::Freeze {
                 line: line.number,
                 len,
             })?;
         }
         Action::Publish { member, worker } => {
-            let count = world.publish(*member, *worker, Share::new(0, 1))?;
+            let count = nodes.publish(*member, *worker, Share::new(0, 1))?;
             printed.push(Printed::Publish {
                 line: line.number,
                 count,
             })?;
         }
         Action::Kept { member } => {
-            let block = kept_at(alloc, members, world, *member)?;
+            let block = nodes.kept(alloc, members, *member)?;
             printed.push(Printed::Block(block))?;
         }
         Action::Show { member } => {
-            let block = settled_at(alloc, members, world, *member)?;
+            let block = nodes.show(alloc, members, *member)?;
             printed.push(Printed::Block(block))?;
         }
         Action::Names { member } => {
-            let block = settled_at(alloc, members, world, *member)?;
+            let block = nodes.show(alloc, members, *member)?;
             printed.push(Printed::Names(block))?;
         }
     }
     Ok(())
 }
 
-/// Plays the lines over the world, one after the other, and gives what they print.
-pub(crate) fn play_lines(
+/// Plays the lines over the nodes, one after the other, and gives what they print.
+pub(crate) fn play_lines<N: Nodes>(
     alloc: Global,
     members: &Members,
     keys: &MacTable,
-    world: &mut World,
+    nodes: &mut N,
     lines: &[Line],
 ) -> Result<Vec<Printed>, Memory>
-    requires lines { All (λ (line : Line). IsBelow (length world.old.sites) line.action) lines.now }
-    requires starts { starts_of world.old ≡ starts members.now }
+    requires lines { All (IsPlayable (N.seen nodes.old)) lines.now }
     requires keys { keys.now ≡ secrets_of members.now }
-    ensures world { OnOk result (world.new ≡ (after_lines members.now (stage world.old [] []) lines.now).world) }
-    ensures printed { IfOk result (λ printed. printed.items ≡ (after_lines members.now (stage world.old [] []) lines.now).printed) }
+    ensures kept { IsKept (N.seen nodes.old) (N.seen nodes.new) }
+    ensures told { IfOk result (λ v. TellsLines (N.seen nodes.old) (N.seen nodes.new) members.now lines.now v.items) }
 {
     let mut labels = Vec::new(alloc);
     let mut printed = Vec::new(alloc);
     for line in lines {
-        play_line(alloc, members, keys, world, &mut labels, &mut printed, line)?;
+        play_line(alloc, members, keys, nodes, &mut labels, &mut printed, line)?;
     }
     Ok(printed)
 }

@@ -5,10 +5,8 @@ use Rattle.hg_world.specs.World.{Secrets}
 use Rattle.hg_play.proofs.WorldLaws.{start_read}
 use Rattle.hg_play.proofs.blocks.kept_at.Goals as goal
 
-pub kept_block-requires : goal.kept_block-requires
-kept_block-requires c =
-    ap (λ (v : NodeView Secrets). v.start) c.node.ensures.value
-    ∙ start_read c.args.members.now c.args.world.now c.args.member c.requires.starts c.requires.below
-
 pub returns : goal.returns
-returns c = c.in_ok-block.ensures ∙ ap (kept_block c.args.members.now c.args.member) c.node.ensures.value
+returns c = λ begun.
+    c.in_ok-block.ensures
+    (ap (λ (v : NodeView Secrets). v.start) c.node.ensures.value ∙ start_read c.args.members.now c.args.world.now c.args.member begun c.requires)
+    ∙ ap (kept_block c.args.members.now c.args.member) c.node.ensures.value

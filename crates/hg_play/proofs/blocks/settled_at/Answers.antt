@@ -6,12 +6,8 @@ use Rattle.hg_play.proofs.WorldLaws.{start_read, starts-steps}
 use Rattle.hg_play.proofs.BlockLaws.{settled_is}
 use Rattle.hg_play.proofs.blocks.settled_at.Goals as goal
 
-pub kept_at-requires-clause-starts : goal.kept_at-requires-clause-starts
-kept_at-requires-clause-starts c =
-    ap starts_of c.in_ok-settle.ensures.ok ∙ (starts-steps c.args.world.now (settle_steps c.args.member) ∙ c.requires.starts)
-
 pub returns-clause-block : goal.returns-clause-block
-returns-clause-block c =
-    c.in_ok-block.ensures
+returns-clause-block c = λ begun.
+    c.in_ok-block.ensures (ap starts_of c.in_ok-settle.ensures.ok ∙ (starts-steps c.args.world.now (settle_steps c.args.member) ∙ begun))
     ∙ settled_is c.args.members.now c.args.member (node_at c.args.world.now c.args.member) (node_at c.settle.new.self c.args.member)
-    (start_read c.args.members.now c.args.world.now c.args.member c.requires.starts c.requires.below) c.in_ok-settle.ensures.settled
+    (start_read c.args.members.now c.args.world.now c.args.member begun c.requires) c.in_ok-settle.ensures.settled

@@ -1,7 +1,10 @@
-use Rattle.std.proofs.Common.{◌≡◌, [], take}
-use Rattle.hg_play.specs.Play.{after_lines, stage}
+use Rattle.std.proofs.Common.{take}
+use Rattle.hg_play.specs.Nodes.{IsKept}
+use Rattle.hg_play.proofs.NodesLaws.{LinesSoFar}
 use Rattle.hg_play.proofs.lines.play_lines.Given as goal
 
 abbrev pub invariant-loop-line : goal.invariant-loop-line
-invariant-loop-line l =
-    stage l.world l.labels.items l.printed.items ≡ after_lines l.members (stage l.initial.world [] []) (take l.line-index l.lines)
+invariant-loop-line g l = record {
+  kept : IsKept (g.N.Nodes.seen l.initial.nodes) (g.N.Nodes.seen l.nodes);
+  told : LinesSoFar l.members (take l.line-index l.lines) (g.N.Nodes.seen l.initial.nodes) (g.N.Nodes.seen l.nodes) l.labels.items l.printed.items;
+}

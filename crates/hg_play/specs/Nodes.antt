@@ -1,0 +1,149 @@
+-- Many nodes that lines are played over: of one thread, or shared with others who add nothing but marks. What a call
+-- answers is told once it is known that others did no more
+use Rattle.std.specs.Prelude.{ℕ, ◌≡◌, ⊤, cond, List, [], ◌∷◌, ◌++◌, length, Option}
+use Rattle.std.specs.Option.{option_to_list}
+use Rattle.hg_model.specs.declared.answers.PutAnswer.{PutAnswer}
+use Rattle.hg_model.specs.declared.answers.MakeAnswer.{MakeAnswer}
+use Rattle.hg_model.specs.declared.answers.SyncReport.{SyncReport}
+use Rattle.hg_model.specs.declared.outcome.Block.{Block}
+use Rattle.hg_model.specs.declared.outcome.Printed.{Printed}
+use Rattle.hg_model.specs.Members.{MemberList, has_node}
+use Rattle.hg_model.specs.Ledger.{block_of}
+use Rattle.hg_model.specs.Shares.{Share}
+use Rattle.hg_model.specs.Calls.{publish_answer}
+use Rattle.hg_gossip.specs.declared.gossip.Taken.{Taken}
+use Rattle.hg_script.specs.declared.line.Gossip.{Gossip}
+use Rattle.hg_script.specs.declared.line.Source.{Source}
+use Rattle.hg_script.specs.declared.line.Action.{Action}
+use Rattle.hg_script.specs.declared.line.Action.TheVariants as action
+use Rattle.hg_script.specs.declared.line.Line.{Line}
+use Rattle.hg_world.specs.declared.step.Step.{Step}
+use Rattle.hg_world.specs.declared.step.Step.TheVariants.{Make, Deliver, Freeze, Publish}
+use Rattle.hg_world.specs.World.{Secrets, WorldView, frozen_by, node_at, rows_at}
+use Rattle.hg_world.specs.Steps.{after_steps, making_at, putting_at, settle_steps}
+use Rattle.hg_world.specs.Syncs.{pull_steps, pulled, sync_report, sync_steps}
+use Rattle.hg_play.specs.Labels.{last_bytes, source_bytes}
+use Rattle.hg_play.specs.Lines.{IsBelow, gossip_printed, gossip_steps, kept_block}
+use Rattle.hg_play.specs.Play.{Stage, after_line, after_lines, block_at, end_blocks, end_steps, stage}
+use Rattle.hg_play.specs.Sites.{starts, starts_of}
+
+-- many nodes at a moment, as their caller sees them: how many they are; that all that others did since the beginning are
+-- marks; that nobody else marks; of which worlds they are the nodes, but for what others marked; and since which moments
+pub record NodesView (N : Type 0) : Type 1 where
+  pub count : ℕ
+  pub Alone : Type 0
+  pub Own : Type 0
+  pub Agrees : WorldView → Type 0
+  pub Since : N → Type 0
+
+-- the nodes of one thread are those of the world alone, to which nobody else does anything
+abbrev pub seen_alone : WorldView → NodesView WorldView
+seen_alone w = record { count = length w.sites; Alone = ⊤; Own = ⊤; Agrees = λ v. w ≡ v; Since = λ earlier. ⊤ }
+
+-- what every call keeps. That others only mark is known of a moment where it is known of a later one
+pub record IsKept {N : Type 0} (old new : NodesView N) : Type 0 where
+  pub since : (earlier : N) → old.Since earlier → new.Since earlier
+  pub back : new.Alone → old.Alone
+  pub own : old.Own → new.Own
+  pub count : new.count ≡ old.count
+
+-- if others only mark, then of each world whose nodes they were this is so, and they are now those after these steps
+abbrev pub Told : {N : Type 0} → NodesView N → NodesView N → (WorldView → List Step) → (WorldView → Type 0) → Type 0
+Told old new steps IsSo = new.Alone → (w : WorldView) → old.Agrees w → IsSo w × new.Agrees (after_steps w (steps w))
+
+-- what is told of an event that a node made, or refused to make
+abbrev pub TellsMaking : {N : Type 0} → NodesView N → NodesView N → ℕ → Option (List ℕ) → ℕ → List ℕ → MakeAnswer → Type 0
+TellsMaking old new m other time payload answer =
+    Told old new (λ w. Make m other time payload ∷ []) (λ w. answer ≡ making_at (node_at w m) (option_to_list other) time payload)
+
+-- of bytes that came to a node
+abbrev pub TellsPutting : {N : Type 0} → NodesView N → NodesView N → ℕ → List ℕ → PutAnswer → Type 0
+TellsPutting old new m bytes answer = Told old new (λ w. Deliver m bytes ∷ []) (λ w. answer ≡ putting_at (node_at w m) bytes)
+
+-- of a pull
+abbrev pub TellsPulling : {N : Type 0} → NodesView N → NodesView N → ℕ → ℕ → Taken → Type 0
+TellsPulling old new taker peer counts = Told old new (λ w. pull_steps w taker peer) (λ w. counts ≡ (pulled w taker peer).counts)
+
+-- of a sync
+abbrev pub TellsSyncing : {N : Type 0} → NodesView N → NodesView N → ℕ → ℕ → ℕ → List ℕ → SyncReport → Type 0
+TellsSyncing old new taker peer time payload report =
+    Told old new (λ w. sync_steps w taker peer time payload) (λ w. report ≡ sync_report w taker peer time payload)
+
+-- of the bytes of the last event that a node made
+abbrev pub TellsLast : {N : Type 0} → NodesView N → NodesView N → ℕ → List ℕ → Type 0
+TellsLast old new m bytes = Told old new (λ w. []) (λ w. bytes ≡ last_bytes (node_at w m))
+
+-- the block is that of the rows of member m's node, where the nodes began as those of these members
+abbrev pub IsShownBlock : MemberList → WorldView → ℕ → Block → Type 0
+IsShownBlock members w m block = starts_of w ≡ starts members → block ≡ block_of members m (rows_at w m)
+
+-- the block is that by the marks which the node has published
+abbrev pub IsKeptBlock : MemberList → WorldView → ℕ → Block → Type 0
+IsKeptBlock members w m block = starts_of w ≡ starts members → block ≡ kept_block members m (node_at w m)
+
+-- of the block of a node that was settled for it
+abbrev pub TellsShown : {N : Type 0} → NodesView N → NodesView N → MemberList → ℕ → Block → Type 0
+TellsShown old new members m block = Told old new (λ w. settle_steps m) (λ w. IsShownBlock members w m block)
+
+-- of the block of a node by the marks that it has published
+abbrev pub TellsKept : {N : Type 0} → NodesView N → NodesView N → MemberList → ℕ → Block → Type 0
+TellsKept old new members m block = Told old new (λ w. []) (λ w. IsKeptBlock members w m block)
+
+-- of rows that a worker of a node froze
+abbrev pub TellsFrozen : {N : Type 0} → NodesView N → NodesView N → ℕ → ℕ → ℕ → Type 0
+TellsFrozen old new m worker len = Told old new (λ w. Freeze m worker ∷ []) (λ w. len ≡ length (rows_at w m))
+
+-- of the marks that it published
+abbrev pub TellsPublished : {N : Type 0} → NodesView N → NodesView N → ℕ → ℕ → Share → ℕ → Type 0
+TellsPublished old new m worker share marked =
+    Told old new (λ w. Publish m worker share ∷ []) (λ w. marked ≡ publish_answer (node_at w m) (frozen_by w m worker) share)
+
+-- of a line of gossip, under its number
+abbrev pub TellsGossip : {N : Type 0} → NodesView N → NodesView N → List (List ℕ) → ℕ → Gossip → Printed → Type 0
+TellsGossip old new labels number gossip p =
+    Told old new (λ w. gossip_steps w labels gossip) (λ w. p ≡ gossip_printed w labels number gossip)
+
+-- of the bytes from a source
+abbrev pub TellsSource : {N : Type 0} → NodesView N → NodesView N → Secrets → List (List ℕ) → Source → List ℕ → Type 0
+TellsSource old new secrets labels source bytes = Told old new (λ w. []) (λ w. bytes ≡ source_bytes secrets w labels source)
+
+-- to freeze rows, to publish marks, and to show what was published are for nodes that nobody else marks
+abbrev pub MayPlay : Type 0 → Action → Type 0
+MayPlay own (action.Freeze m worker) = own
+MayPlay own (action.Publish m worker) = own
+MayPlay own (action.Kept m) = own
+MayPlay own _ = ⊤
+
+-- the line can be played over the nodes
+abbrev pub IsPlayable : {N : Type 0} → NodesView N → Line → Type 0
+IsPlayable v line = IsBelow v.count line.action × MayPlay v.Own line.action
+
+-- the nodes, which began as those of these members, the labels, and what was printed are those of a stage
+pub record IsStage {N : Type 0} (members : MemberList) (v : NodesView N) (labels : List (List ℕ)) (printed : List Printed) (s : Stage) : Type 0 where
+  pub agrees : v.Agrees s.world
+  pub begun : starts_of s.world ≡ starts members
+  pub labelled : labels ≡ s.labels
+  pub shown : printed ≡ s.printed
+
+-- if others only mark, then after the line they are those of the stage after it
+abbrev pub TellsLine : {N : Type 0} → MemberList → Line → NodesView N → List (List ℕ) → List Printed → NodesView N → List (List ℕ) → List Printed → Type 0
+TellsLine members line old labels printed new labels_new printed_new =
+    new.Alone → (s : Stage) → IsStage members old labels printed s → IsStage members new labels_new printed_new (after_line members s line)
+
+-- what is told of lines that were played over nodes that began as those of these members: all that they print, and that the
+-- nodes are those of the world after them
+abbrev pub TellsLines : {N : Type 0} → NodesView N → NodesView N → MemberList → List Line → List Printed → Type 0
+TellsLines old new members lines printed =
+    new.Alone → (w : WorldView) → old.Agrees w → starts_of w ≡ starts members →
+    (let s = after_lines members (stage w [] []) lines in (printed ≡ s.printed) × new.Agrees s.world)
+
+-- of the block of a node behind what was printed, if the member has one
+abbrev pub TellsBlock : {N : Type 0} → NodesView N → NodesView N → MemberList → ℕ → List Printed → List Printed → Type 0
+TellsBlock old new members m before after =
+    Told old new (λ w. cond (has_node members m) (settle_steps m) [])
+    (λ w. starts_of w ≡ starts members → after ≡ before ++ cond (has_node members m) (block_at members w m ∷ []) [])
+
+-- of the blocks of all nodes
+abbrev pub TellsBlocks : {N : Type 0} → NodesView N → NodesView N → MemberList → List Printed → List Printed → Type 0
+TellsBlocks old new members before after =
+    Told old new (λ w. end_steps members (length members.entries)) (λ w. starts_of w ≡ starts members → after ≡ before ++ end_blocks members w)

@@ -1,0 +1,149 @@
+ghost use Rattle.std.specs.Prelude.{◌≡◌, ◌<◌, IfOk};
+ghost use Rattle.hg_world.specs.World.{worker_count};
+ghost use Rattle.hg_play.specs.Nodes.{IsKept, NodesView, TellsFrozen, TellsKept, TellsLast, TellsMaking, TellsPublished, TellsPulling, TellsPutting, TellsShown, TellsSyncing};
+
+use crate::blocks::{kept_at, settled_at};
+use crate::labels;
+use hg_gossip::Taken;
+use hg_model::{
+    Block, Bytes, MakeAnswer, Member, Members, Memory, Name, PutAnswer, Share, SyncReport,
+};
+use hg_world::World;
+use std::alloc::Global;
+
+/// The members' nodes, of one thread, or shared with others who add nothing but marks. What a call answers is told of
+/// each world whose nodes they were before it, once it is known that others only marked.
+pub trait Nodes {
+    ghost seen: { Self → NodesView Self };
+
+    /// A member's node makes an event on its last one, with this other-parent, or its first one without parents. The time
+    /// is any, in no unit of ours.
+    fn make(
+        &mut self,
+        member: Member,
+        other: Option<Name>,
+        time: u64,
+        payload: &[u8],
+    ) -> Result<MakeAnswer, Memory>
+        requires { member < (seen self.old).count }
+        ensures kept { IsKept (seen self.old) (seen self.new) }
+        ensures told { IfOk result (TellsMaking (seen self.old) (seen self.new) member other time payload.now) };
+
+    /// Bytes come to a member's node.
+    fn put(&mut self, member: Member, bytes: &[u8]) -> Result<PutAnswer, Memory>
+        requires { member < (seen self.old).count }
+        ensures kept { IsKept (seen self.old) (seen self.new) }
+        ensures told { IfOk result (TellsPutting (seen self.old) (seen self.new) member bytes.now) };
+
+    /// The taker's node takes from the peer's the rows that it lacks, by their names, in the peer's order.
+    fn pull(&mut self, taker: Member, peer: Member) -> Result<Taken, Memory>
+        requires taker { taker < (seen self.old).count }
+        requires peer { peer < (seen self.old).count }
+        ensures kept { IsKept (seen self.old) (seen self.new) }
+        ensures told { IfOk result (TellsPulling (seen self.old) (seen self.new) taker peer) };
+
+    /// Pulls from the peer, and makes an event whose other-parent is the peer's last own row, if it has one. The time is
+    /// any, in no unit of ours.
+    fn sync(
+        &mut self,
+        taker: Member,
+        peer: Member,
+        time: u64,
+        payload: &[u8],
+    ) -> Result<SyncReport, Memory>
+        requires taker { taker < (seen self.old).count }
+        requires peer { peer < (seen self.old).count }
+        ensures kept { IsKept (seen self.old) (seen self.new) }
+        ensures told { IfOk result (TellsSyncing (seen self.old) (seen self.new) taker peer time payload.now) };
+
+    /// The bytes of the last event that a member's node made, or none.
+    fn last_bytes(&mut self, alloc: Global, member: Member) -> Result<Bytes, Memory>
+        requires { member < (seen self.old).count }
+        ensures kept { IsKept (seen self.old) (seen self.new) }
+        ensures told { IfOk result (TellsLast (seen self.old) (seen self.new) member) };
+
+    /// The block of a member's node, which is settled for it: worker 0 freezes its rows and publishes all that they decide.
+    /// The nodes are those of these members.
+    fn show(&mut self, alloc: Global, members: &Members, member: Member) -> Result<Block, Memory>
+        requires { member < (seen self.old).count }
+        ensures kept { IsKept (seen self.old) (seen self.new) }
+        ensures told { IfOk result (TellsShown (seen self.old) (seen self.new) members.now member) };
+
+    /// The block of a member's node by the marks that it has published. The nodes are those of these members.
+    fn kept(&mut self, alloc: Global, members: &Members, member: Member) -> Result<Block, Memory>
+        requires member { member < (seen self.old).count }
+        requires own { (seen self.old).Own }
+        ensures kept { IsKept (seen self.old) (seen self.new) }
+        ensures told { IfOk result (TellsKept (seen self.old) (seen self.new) members.now member) };
+
+    /// A worker, of a number below 16, freezes the rows of a member's node; tells how many they are.
+    fn freeze(&mut self, member: Member, worker: u32) -> usize
+        requires member { member < (seen self.old).count }
+        requires worker { worker < worker_count }
+        requires own { (seen self.old).Own }
+        ensures kept { IsKept (seen self.old) (seen self.new) }
+        ensures told { TellsFrozen (seen self.old) (seen self.new) member worker result };
+
+    /// A worker of a member's node, of a number below 16, publishes what a share decides in the rows that it froze last;
+    /// tells how many were marked.
+    fn publish(&mut self, member: Member, worker: u32, share: Share) -> Result<u32, Memory>
+        requires member { member < (seen self.old).count }
+        requires worker { worker < worker_count }
+        requires own { (seen self.old).Own }
+        ensures kept { IsKept (seen self.old) (seen self.new) }
+        ensures told { IfOk result (TellsPublished (seen self.old) (seen self.new) member worker share) };
+}
+
+impl Nodes for World {
+    ghost use Rattle.hg_play.specs.Nodes.{seen_alone};
+
+    ghost seen = { λ w. seen_alone w };
+
+    fn make(
+        &mut self,
+        member: Member,
+        other: Option<Name>,
+        time: u64,
+        payload: &[u8],
+    ) -> Result<MakeAnswer, Memory> {
+        World::make(self, member, other, time, payload)
+    }
+
+    fn put(&mut self, member: Member, bytes: &[u8]) -> Result<PutAnswer, Memory> {
+        World::put(self, member, bytes)
+    }
+
+    fn pull(&mut self, taker: Member, peer: Member) -> Result<Taken, Memory> {
+        World::pull(self, taker, peer)
+    }
+
+    fn sync(
+        &mut self,
+        taker: Member,
+        peer: Member,
+        time: u64,
+        payload: &[u8],
+    ) -> Result<SyncReport, Memory> {
+        World::sync(self, taker, peer, time, payload)
+    }
+
+    fn last_bytes(&mut self, alloc: Global, member: Member) -> Result<Bytes, Memory> {
+        labels::last_bytes(alloc, self.node(member))
+    }
+
+    fn show(&mut self, alloc: Global, members: &Members, member: Member) -> Result<Block, Memory> {
+        settled_at(alloc, members, self, member)
+    }
+
+    fn kept(&mut self, alloc: Global, members: &Members, member: Member) -> Result<Block, Memory> {
+        kept_at(alloc, members, self, member)
+    }
+
+    fn freeze(&mut self, member: Member, worker: u32) -> usize {
+        World::freeze(self, member, worker)
+    }
+
+    fn publish(&mut self, member: Member, worker: u32, share: Share) -> Result<u32, Memory> {
+        World::publish(self, member, worker, share)
+    }
+}
