@@ -1,5 +1,5 @@
 -- What is read in the rows of bits
-use Rattle.std.proofs.Common.{◌≡◌, ℕ, ◌+◌, ◌<◌, ◌||◌, eqb, false, List, [], ◌∷◌, Bool, length, get_or, replicate, sym, ap, subst, ◌∙◌, inl, inr, arith}
+use Rattle.std.proofs.Common.{◌≡◌, ℕ, ◌+◌, ◌-◌, ◌^◌, ◌<◌, ◌||◌, eqb, false, List, [], ◌∷◌, Bool, length, get_or, replicate, sym, ap, subst, ◌∙◌, inl, inr, arith}
 use Rattle.std.proofs.lemmas.Bool.{cases_lt, false_from_ne_true}
 use Rattle.std.proofs.lemmas.List.{get_or_read, get_or_past, get_or-replicate, length-replicate}
 use Rattle.std.proofs.Math.Bool.{or-false}
@@ -15,6 +15,7 @@ use Rattle.hg_model.proofs.AncestryLaws.{is_ancestor-le}
 use Rattle.hg_bits.specs.Rows.{is_in, with_place, union_of}
 use Rattle.hg_bits.proofs.RowLaws.{is_in-table, is_table, length-table}
 use Rattle.hg_ancestry.specs.Held.{row_at, HoldsAncestors, is_above}
+use Rattle.hg_ancestry.specs.Kept.{no_place}
 
 pub row_read : (rows : List (List Bool)) (x : ℕ) (row : List Bool) → x < length rows → row ≡ get_or rows x row → row ≡ row_at rows x
 unfolding row_at
@@ -78,3 +79,7 @@ parents_there n L by self_place other on is fits = (
 
 pub places_fit : (n : Stakes) (L : List Link) (by : ℕ) (on : List ℕ) → FitsLink n L (link_of by on) → AllByRecursion (λ p. p < length L) on
 places_fit n L by on fits = places_below (length L) on fits.earlier
+
+-- and each is below the number that stands for none
+pub places_kept : (n : Stakes) (L : List Link) (by : ℕ) (on : List ℕ) → FitsLink n L (link_of by on) → length L + 1 < 2 ^ 32 - 1 → AllByRecursion (λ p. p < no_place) on
+places_kept n L by on fits short = places_below no_place on (λ p h. omega (arith, fits.earlier p h))

@@ -124,7 +124,7 @@ impl Growing for BitSight {
         let forked = forked_below_next(self, parents, creator);
         if let Some(mut row) = self.spare.take() {
             fill(&mut row, &self.links, &self.ancestors, parents);
-            self.links.push_reserved(PlacedLink { creator, parents });
+            self.links.push_reserved(PlacedLink::of(creator, parents));
             self.ancestors.push_reserved(row);
             self.forked.push_reserved(forked);
         }

@@ -1,5 +1,5 @@
 -- Forks need of a graph no other-parents
-use Rattle.std.proofs.Common.{◌≡◌, ℕ, suc, ◌<◌, true, List, [], ◌∷◌, ◌++◌, length, Option, Some, None, option_map, slice_get, refl, sym, ap, ◌∙◌, subst, arith}
+use Rattle.std.proofs.Common.{◌≡◌, ℕ, suc, ◌<◌, true, List, [], ◌∷◌, ◌++◌, length, Option, Some, None, IfSome, option_map, slice_get, refl, sym, ap, ◌∙◌, subst, arith}
 use Rattle.std.proofs.lemmas.Bool.{true≢false}
 use Rattle.std.proofs.lemmas.List.{map-append, length-map}
 use Rattle.std.proofs.lemmas.Option.{slice_get-map}
@@ -11,9 +11,10 @@ use Rattle.hg_model.specs.Forks.{is_fork, has_fork, forkers}
 use Rattle.hg_model.specs.Shape.{FitsLink}
 use Rattle.hg_model.proofs.PlacesLaws.{some_below-same, weight_below-same}
 use Rattle.hg_model.proofs.PushLaws.{first_of_places}
-use Rattle.hg_model.proofs.ReachLaws.{reaches-same, none_there, one_there}
+use Rattle.hg_model.proofs.ReachLaws.{has_place_first, reaches-same, none_there, one_there}
 use Rattle.hg_model.proofs.ShapeLaws.{fits_alone}
 use Rattle.hg_forks.specs.SelfLinks.{self_link, self_link_of, self_links, SelfLinksServe}
+use Rattle.hg_forks.specs.Kept.{no_place}
 
 pub length-self_place : (L : List Link) → length (self_links L) ≡ length L
 unfolding self_links
@@ -99,3 +100,9 @@ fits_on_self n L m self_place member there by_m = record {
 }
 
 pub ruleset fits_self_links = (fits_first, fits_on_self)
+
+-- the self-parent of a row that fits after these is below the number that stands for none
+pub place_kept : (n : Stakes) (L : List Link) (m : ℕ) (self_parent_of : Option ℕ) → FitsLink n L (self_link_of m self_parent_of) → length L < no_place →
+    IfSome self_parent_of (λ p. p < no_place)
+place_kept n L m None fits short = tt
+place_kept n L m (Some p) fits short = omega (arith, fits.earlier p (has_place_first p []))

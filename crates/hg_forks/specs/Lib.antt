@@ -1,3 +1,4 @@
 pub mod SelfLinks
+pub mod Kept
 pub mod Pairs
 pub mod Lines

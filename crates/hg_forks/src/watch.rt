@@ -24,14 +24,15 @@ pub struct Watch {
 }
 
 impl Model for Watch {
-    ghost use Rattle.std.specs.Prelude.{◌-◌, length, vec_capacity, vec_len};
+    ghost use Rattle.std.specs.Prelude.{length, vec_capacity, vec_len};
     ghost use Rattle.hg_model.specs.Shape.{ShapeWithRoom, shape_of};
 
     ghost Value = { ShapeWithRoom };
 
+    ghost use Rattle.hg_forks.specs.Kept.{room_after};
     ghost use Rattle.hg_forks.specs.Lines.{KeepsLines};
 
-    ghost view = { λ s. record { shape = shape_of (length s.lines.items) s.rows.items; room = vec_capacity s.rows - vec_len s.rows } };
+    ghost view = { λ s. record { shape = shape_of (length s.lines.items) s.rows.items; room = room_after (vec_len s.rows) (vec_capacity s.rows) } };
 
     ghost invariant = { λ s. KeepsLines s.rows.items s.lines.items s.forkers };
 }
@@ -56,11 +57,14 @@ impl Watch {
         self.forkers + new_forkers(&self.lines, creator, self_parent)
     }
 
-    /// Takes the memory of one more row.
+    /// Takes the memory of one more row. There is none for more than 2^32 - 1 rows.
     pub fn reserve(&mut self) -> Result<(), Memory>
         ensures room { OnOk result (1 ≤ self.new.room) }
         ensures same { self.new.shape ≡ self.old.shape }
     {
+        if self.rows.len() >= u32::MAX as usize {
+            return Err(Memory);
+        }
         self.rows.reserve(1)?;
         Ok(())
     }
@@ -74,10 +78,7 @@ impl Watch {
         self.forkers += new_forkers(&self.lines, creator, self_parent);
         let line = next_line(line_at(&self.lines, creator), self_parent, self.rows.len());
         self.lines[usize::from(creator)] = line;
-        self.rows.push_reserved(SelfRow {
-            creator,
-            self_parent,
-        });
+        self.rows.push_reserved(SelfRow::of(creator, self_parent));
     }
 
     /// How many members have a fork.

@@ -6,7 +6,7 @@ use Rattle.hg_model.specs.Forks.{has_fork_below}
 use Rattle.hg_model.specs.Shape.{ShapeWithRoom, FitsLink, link_of}
 use Rattle.hg_bits.specs.Masks.{mask_has}
 use Rattle.hg_ancestry.specs.Held.{IsSpare, is_above, spare_room}
-use Rattle.hg_ancestry.proofs.HeldLaws.{places_fit}
+use Rattle.hg_ancestry.proofs.HeldLaws.{places_fit, places_kept}
 use Rattle.hg_ancestry.proofs.GrowLaws.{sight_grown}
 use Rattle.hg_ancestry.proofs.sight.BitSightGrowing.extend.Goals as goal
 
@@ -15,6 +15,12 @@ fill-requires-clause-places c =
     let fits = subst (λ (g : ShapeWithRoom). FitsLink g.shape.members g.shape.links (link_of c.args.creator c.args.parents)) (sym c.self.view_is) c.requires.fits in
     subst (λ (L : List Link). AllByRecursion (λ p. p < length L) c.args.parents) (sym c.deref.ensures.value)
     (places_fit c.self.inside.members c.self.inside.links.items c.args.creator c.args.parents fits)
+
+pub of-requires : goal.of-requires
+of-requires c =
+    let fits = subst (λ (g : ShapeWithRoom). FitsLink g.shape.members g.shape.links (link_of c.args.creator c.args.parents)) (sym c.self.view_is) c.requires.fits in
+    let short = subst (λ (g : ShapeWithRoom). length g.shape.links + 1 < 4294967295) (sym c.self.view_is) c.requires.short in
+    places_kept c.self.inside.members c.self.inside.links.items c.args.creator c.args.parents fits short
 
 pub invariant_of-self : goal.invariant_of-self
 invariant_of-self c =
@@ -28,7 +34,7 @@ invariant_of-self c =
     (sym c.self.view_is) c.forked_below_next-forked.ensures in
     let none : spare_room c.take.new.self ≡ 0 = ap spare_room c.take.ensures.after in
     record {
-      sight = rw (c.push_reserved.ensures.items, c.push_reserved-in-Some.ensures.items, c.push_reserved-in-Some-2.ensures.items)
+      sight = rw (c.push_reserved.ensures.items, c.push_reserved-in-Some.ensures.items, c.push_reserved-in-Some-2.ensures.items, c.of.ensures)
           (sight_grown c.self.inside.members L c.args.creator c.args.parents c.self.inside.ancestors.items c.self.inside.forked.items c.fill.new.row c.forked_below_next-forked.result
           c.self.invariant.sight fits short row_is mask_is);
       spare = subst (IsSpare (vec_len c.push_reserved.new.self)) (sym c.take.ensures.after) tt;
