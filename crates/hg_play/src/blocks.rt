@@ -10,7 +10,7 @@ ghost use Rattle.hg_play.specs.Sites.{start_in, starts, starts_of};
 use crate::printing::order_lines;
 use hg_model::{Block, Items, Member, Members, Memory, Printed};
 use hg_node::Node;
-use hg_sign::MacTable;
+use hg_sign::SharedTable;
 use hg_world::World;
 use std::alloc::Global;
 
@@ -19,7 +19,7 @@ fn kept_block(
     alloc: Global,
     members: &Members,
     member: Member,
-    node: &Node<MacTable>,
+    node: &Node<SharedTable>,
 ) -> Result<Block, Memory>
     requires { node.now.start ≡ start_in members.now member }
     ensures { IfOk result (λ block. block ≡ kept_block members.now member node.now) }
