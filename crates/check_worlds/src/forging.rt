@@ -2,11 +2,11 @@ use crate::dice::Dice;
 use hg_event::{encode, encode_body};
 use hg_model::{Bytes, Member, Memory, Name, Row};
 use hg_node::Node;
-use hg_sign::{MacTable, Signer};
+use hg_sign::{MacTable, SharedTable, Signer};
 use std::alloc::Global;
 
 /// The name of the row by a member that is so many before the last one at the node.
-fn name_back(node: &Node<MacTable>, member: Member, back: u32) -> Option<Name> {
+fn name_back(node: &Node<SharedTable>, member: Member, back: u32) -> Option<Name> {
     let mut left = back;
     for place in (0..node.rows()).rev() {
         let row = node.row(place);
@@ -24,7 +24,7 @@ fn name_back(node: &Node<MacTable>, member: Member, back: u32) -> Option<Name> {
 /// Nothing where the dice ask for a row that is not there.
 fn forged_parents(
     dice: &mut Dice,
-    node: &Node<MacTable>,
+    node: &Node<SharedTable>,
     creator: Member,
     other: Member,
 ) -> Option<Option<(Name, Name)>> {
@@ -42,7 +42,7 @@ pub fn forged_event(
     alloc: Global,
     dice: &mut Dice,
     keys: &MacTable,
-    node: &Node<MacTable>,
+    node: &Node<SharedTable>,
     creator: Member,
     other: Member,
 ) -> Result<Option<Vec<u8>>, Memory> {

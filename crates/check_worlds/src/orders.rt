@@ -6,7 +6,7 @@ ghost use Rattle.check_worlds.specs.Orders.{kept_order, orders_in};
 
 use hg_model::{Items, Member, Memory, Name, Placed};
 use hg_node::Node;
-use hg_sign::MacTable;
+use hg_sign::SharedTable;
 use hg_world::World;
 use std::alloc::Global;
 use std::marker::Model;
@@ -34,7 +34,7 @@ pub type Order = Items<Ordered>;
 
 /// A placed row of the node, by its name.
 #[tactic(auto, unfolding(hg_model::specs::Graph::name_at))]
-fn named(node: &Node<MacTable>, placed: &Placed) -> Ordered
+fn named(node: &Node<SharedTable>, placed: &Placed) -> Ordered
     requires { placed.now.place < length (node_rows node.now) }
     ensures { result ≡ named_in (node_rows node.now) placed.now }
 {
@@ -46,7 +46,7 @@ fn named(node: &Node<MacTable>, placed: &Placed) -> Ordered
 }
 
 /// The order that the node keeps.
-fn order_of(alloc: Global, node: &Node<MacTable>) -> Result<Order, Memory>
+fn order_of(alloc: Global, node: &Node<SharedTable>) -> Result<Order, Memory>
     ensures { IfOk result (λ order. order ≡ kept_order node.now) }
 {
     let kept = node.kept();

@@ -8,7 +8,7 @@ use Rattle.hg_model.specs.Verdict.{last_name}
 use Rattle.hg_model.specs.NodeView.{NodeView, node_rows, with_changes}
 use Rattle.hg_model.specs.Calls.{IsMaking, put_answer, put_changes}
 use Rattle.hg_gossip.specs.declared.gossip.Taken.{Taken}
-use Rattle.hg_gossip.specs.Holding.{Puts, Seen, Waits, names_in, parcel_beyond, rules_alone, seen_whole, with_others, with_own}
+use Rattle.hg_gossip.specs.Holding.{PutsBytes, Seen, Waits, names_in, parcel_beyond, rules_alone, seen_whole, with_others, with_own}
 use Rattle.std.specs.Prelude.{IfOk}
 use Rattle.hg_gossip.specs.Gossip.{Pulls, MakesAfter, Takes, TakesAll, none_taken, with_answer}
 use Rattle.hg_gossip.specs.Nodes.{MakesOn, PullsAlone, SyncsAlone, WaitsAlone, lacked, pulling, take_event, taking_of}
@@ -25,7 +25,7 @@ module _ {K : Type 0} (accepts : K → Accepts) where
   takes_alone [] v before new after none = none
   takes_alone (bytes ∷ events) v before new after some =
       let w : NodeView K = with_changes v (put_changes accepts v bytes) in
-      let put : Puts (rules_alone accepts) (seen_whole v) bytes some.0 some.1 = some.2 in
+      let put : PutsBytes (rules_alone accepts) (seen_whole v) bytes some.0 some.1 = some.2 in
       let same : put.reached ≡ seen_whole v = nothing_came (seen_whole v) put.reached put.waits in
       let next : some.0 ≡ seen_whole w =
       put.grown ∙ (ap (λ (s : Seen K). with_own s (put_changes accepts s.node bytes)) same ∙ sym (whole_grown accepts v w (put_changes accepts v bytes) refl)) in

@@ -1,14 +1,14 @@
 -- What a holder has seen, before and after changes
-use Rattle.std.proofs.Common.{◌≡◌, ℕ, suc, ◌+◌, List, [], ◌∷◌, ◌++◌, length, Result, Ok, Err, sym, refl, ap, ◌∙◌, arith}
+use Rattle.std.proofs.Common.{◌≡◌, ℕ, suc, ◌+◌, List, [], ◌∷◌, ◌++◌, length, Result, Ok, Err, sym, refl, ap, ◌∙◌, subst, arith}
 use Rattle.std.specs.Prelude.{IfOk, OnErr, OnOk}
 use Rattle.std.proofs.lemmas.List.{append-nil}
 use Rattle.hg_model.specs.declared.answers.PutAnswer.{PutAnswer}
 use Rattle.hg_model.specs.declared.answers.MakeAnswer.{MakeAnswer}
 use Rattle.hg_model.specs.Signing.{Accepts}
 use Rattle.hg_model.specs.History.{Change}
-use Rattle.hg_model.specs.NodeView.{NodeView, with_changes}
+use Rattle.hg_model.specs.NodeView.{IsNode, NodeView, with_changes}
 use Rattle.hg_model.specs.Calls.{IsMaking, make_changes, put_answer, put_changes}
-use Rattle.hg_gossip.specs.Holding.{Makes, Puts, Rules, Seen, Waits, positions_from, rules_alone, seen_whole, with_others, with_own}
+use Rattle.hg_gossip.specs.Holding.{Makes, PutsBytes, Rules, Seen, Waits, positions_from, rules_alone, seen_whole, with_others, with_own}
 
 module _ {K : Type 0} where
   pub others_none : (s : Seen K) → with_others s [] ≡ s
@@ -23,6 +23,7 @@ module _ {K : Type 0} where
     others = [];
     alone = λ _. refl;
     later = same ∙ sym (others_none old);
+    lawful = subst (λ (s : Seen K). IsNode rules.accepts s.node) (sym same);
   }
 
   pub waits_none : (rules : Rules K) (s : Seen K) → Waits rules s s
@@ -46,7 +47,7 @@ module _ {K : Type 0} (accepts : K → Accepts) where
 
   -- bytes were put to it
   pub whole_put : {E : Type 0} (v w : NodeView K) (bytes : List ℕ) (result : Result PutAnswer E) → IfOk result (λ a. a ≡ put_answer accepts v bytes) →
-      OnOk result (w ≡ with_changes v (put_changes accepts v bytes)) → IfOk result (Puts (rules_alone accepts) (seen_whole v) bytes (seen_whole w))
+      OnOk result (w ≡ with_changes v (put_changes accepts v bytes)) → IfOk result (PutsBytes (rules_alone accepts) (seen_whole v) bytes (seen_whole w))
   whole_put v w bytes (Ok a) answer grown = record {
     reached = seen_whole v;
     waits = waits_none (rules_alone accepts) (seen_whole v);

@@ -8,18 +8,18 @@ use Rattle.hg_model.specs.declared.answers.PutAnswer.TheVariants.{Accepted, Know
 use Rattle.hg_model.specs.declared.answers.SyncMade.{SyncMade}
 use Rattle.hg_model.specs.declared.gossip.Parcel.{Parcel}
 use Rattle.hg_gossip.specs.declared.gossip.Taken.{Taken}
-use Rattle.hg_gossip.specs.Holding.{Puts, Rules, Seen, Waits, names_in, parcel_beyond}
+use Rattle.hg_gossip.specs.Holding.{PutsBytes, Rules, Seen, Waits, names_in, parcel_beyond}
 use Rattle.hg_gossip.specs.Gossip.{Pulls, PullsSome, Syncs, TakesAll, TakesSome, MakesAfter, Takes, none_taken, with_answer}
 use Rattle.hg_gossip.proofs.SeenLaws.{waits_none}
 
 module _ {K : Type 0} (rules : Rules K) where
   -- one more
   pub takes_push : (events : List (List ℕ)) (old mid new : Seen K) (before counts : Taken) (bytes : List ℕ) (answer : PutAnswer) →
-      Takes rules old before events mid counts → Puts rules mid bytes new answer → Takes rules old before (events ++ bytes ∷ []) new (with_answer counts answer)
+      Takes rules old before events mid counts → PutsBytes rules mid bytes new answer → Takes rules old before (events ++ bytes ∷ []) new (with_answer counts answer)
   takes_push [] old mid new before counts bytes answer none put = (
     new,
     answer,
-    subst (λ (s : Seen K). Puts rules s bytes new answer) none.0 put,
+    subst (λ (s : Seen K). PutsBytes rules s bytes new answer) none.0 put,
     (refl, ap (λ (t : Taken). with_answer t answer) none.1),
   )
   takes_push (first ∷ events) old mid new before counts bytes answer some put =
@@ -63,7 +63,7 @@ module _ {K : Type 0} (rules : Rules K) where
 
   -- the next of them
   pub takes_next : (events : List (List ℕ)) (i : ℕ) (item bytes : List ℕ) (old mid new : Seen K) (counts more : Taken) (answer : PutAnswer) → i < length events → item ≡ get_or events i item → bytes ≡ item →
-      more ≡ with_answer counts answer → TakesAll rules old (take i events) mid counts → Puts rules mid bytes new answer → TakesAll rules old (take (i + 1) events) new more
+      more ≡ with_answer counts answer → TakesAll rules old (take i events) mid counts → PutsBytes rules mid bytes new answer → TakesAll rules old (take (i + 1) events) new more
   takes_next events i item bytes old mid new counts more answer within is same counted takes put =
       let next : take (i + 1) events ≡ take i events ++ bytes ∷ [] =
       ap (λ (n : ℕ). take n events) (add-one i) ∙ (take-suc events i item within ∙ ap (λ (b : List ℕ). take i events ++ b ∷ []) (sym is ∙ sym same)) in

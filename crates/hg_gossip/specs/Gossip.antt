@@ -7,7 +7,7 @@ use Rattle.hg_model.specs.declared.answers.SyncMade.TheVariants as sync_made
 use Rattle.hg_model.specs.declared.answers.SyncReport.{SyncReport}
 use Rattle.hg_model.specs.Gossip.{count_refused, count_taken, made_in_sync}
 use Rattle.hg_gossip.specs.declared.gossip.Taken.{Taken}
-use Rattle.hg_gossip.specs.Holding.{Makes, Puts, Rules, Seen, Waits, names_in, parcel_beyond}
+use Rattle.hg_gossip.specs.Holding.{Makes, PutsBytes, Rules, Seen, Waits, names_in, parcel_beyond}
 
 abbrev pub none_taken : Taken
 none_taken = record { taken = 0; refused = 0 }
@@ -20,7 +20,7 @@ with_answer t answer = record { taken = t.taken + count_taken answer; refused = 
 abbrev pub Takes : {K : Type 0} → Rules K → Seen K → Taken → List (List ℕ) → Seen K → Taken → Type 0
 Takes rules old before [] new after = (new ≡ old) × (after ≡ before)
 Takes {K} rules old before (bytes ∷ events) new after =
-    (next : Seen K) × (answer : PutAnswer) × Puts rules old bytes next answer × Takes rules next (with_answer before answer) events new after
+    (next : Seen K) × (answer : PutAnswer) × PutsBytes rules old bytes next answer × Takes rules next (with_answer before answer) events new after
 
 -- the same, from no counts
 abbrev pub TakesAll : {K : Type 0} → Rules K → Seen K → List (List ℕ) → Seen K → Taken → Type 0

@@ -10,7 +10,7 @@ use Rattle.hg_model.specs.Spelling.{spelling}
 use Rattle.hg_model.specs.Verdict.{last_name}
 use Rattle.hg_model.specs.Signing.{Accepts}
 use Rattle.hg_model.specs.History.{Change}
-use Rattle.hg_model.specs.NodeView.{NodeView, node_rows, with_changes}
+use Rattle.hg_model.specs.NodeView.{IsNode, NodeView, node_rows, with_changes}
 use Rattle.hg_model.specs.Calls.{IsMaking, make_changes, put_answer, put_changes}
 
 -- what a holder has seen of its node, and the positions in the history of the changes that its own calls added
@@ -43,14 +43,15 @@ with_others s es = record { node = with_changes s.node es; positions = s.positio
 abbrev pub with_own : {K : Type 0} → Seen K → List Change → Seen K
 with_own s es = record { node = with_changes s.node es; positions = s.positions ++ positions_from (length s.node.history) es }
 
--- nothing but what others did came between: nothing at all where the node has one holder
+-- nothing but what others did came between, which leaves a node a node: nothing at all where it has one holder
 pub record Waits {K : Type 0} (rules : Rules K) (old new : Seen K) : Type 0 where
   pub others : List Change
   pub alone : rules.shared ≡ false → others ≡ []
   pub later : new ≡ with_others old others
+  pub lawful : IsNode rules.accepts old.node → IsNode rules.accepts new.node
 
 -- bytes were put at the history then reached, with this answer
-pub record Puts {K : Type 0} (rules : Rules K) (old : Seen K) (bytes : List ℕ) (new : Seen K) (answer : PutAnswer) : Type 0 where
+pub record PutsBytes {K : Type 0} (rules : Rules K) (old : Seen K) (bytes : List ℕ) (new : Seen K) (answer : PutAnswer) : Type 0 where
   pub reached : Seen K
   pub waits : Waits rules old reached
   pub answers : answer ≡ put_answer rules.accepts reached.node bytes

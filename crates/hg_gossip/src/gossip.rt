@@ -15,7 +15,7 @@ pub struct Taken {
 }
 
 /// The counts with one answer more.
-fn with_answer(counts: Taken, answer: PutAnswer) -> Taken
+pub fn with_answer(counts: Taken, answer: PutAnswer) -> Taken
     requires { counts.taken + counts.refused < 2 ^ 64 - 1 }
     ensures { result ≡ with_answer counts answer }
 {
@@ -50,7 +50,7 @@ fn take<H: Holder>(taker: &mut H, events: &[Bytes]) -> Result<Taken, Memory>
 }
 
 /// What came of an event at the end of a sync.
-fn sync_made(answer: MakeAnswer) -> SyncMade
+pub fn sync_made(answer: MakeAnswer) -> SyncMade
     ensures { result ≡ made_in_sync answer }
 {
     match answer {

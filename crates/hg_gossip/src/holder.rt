@@ -1,6 +1,6 @@
 ghost use Rattle.std.specs.Prelude.{◌≡◌, IfOk, OnErr};
 ghost use Rattle.std.specs.Option.{option_to_list};
-ghost use Rattle.hg_gossip.specs.Holding.{Makes, Puts, Rules, Seen, Waits, names_in, parcel_beyond};
+ghost use Rattle.hg_gossip.specs.Holding.{Makes, PutsBytes, Rules, Seen, Waits, names_in, parcel_beyond};
 
 use hg_model::{MakeAnswer, Memory, Name, Parcel, PutAnswer};
 use std::alloc::Global;
@@ -28,7 +28,7 @@ pub trait Holder {
 
     /// Puts the bytes of an event.
     fn put(&mut self, bytes: &[u8]) -> Result<PutAnswer, Memory>
-        ensures ok { IfOk result (Puts rules (seen self.old) bytes.now (seen self.new)) }
+        ensures ok { IfOk result (PutsBytes rules (seen self.old) bytes.now (seen self.new)) }
         ensures err { OnErr result (Waits rules (seen self.old) (seen self.new)) };
 
     /// Makes an event of the node's member on its last one, with this other-parent, or its first one without parents.

@@ -24,6 +24,6 @@ mod node;
 #[cfg(test)]
 mod tests;
 
-pub use gossip::{Taken, pull, sync};
+pub use gossip::{Taken, pull, sync, sync_made, with_answer};
 pub use holder::Holder;
 pub use laws::{missing_is_lacking, pulling_alone, syncing_alone, waiting_alone};

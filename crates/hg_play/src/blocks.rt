@@ -9,7 +9,7 @@ use crate::nodes::Nodes;
 use crate::printing::order_lines;
 use hg_model::{Block, Items, Member, Members, Memory, Printed};
 use hg_node::Node;
-use hg_sign::MacTable;
+use hg_sign::SharedTable;
 use hg_world::World;
 use std::alloc::Global;
 
@@ -18,7 +18,7 @@ fn kept_block(
     alloc: Global,
     members: &Members,
     member: Member,
-    node: &Node<MacTable>,
+    node: &Node<SharedTable>,
 ) -> Result<Block, Memory>
     ensures { IfOk result (λ b. node.now.start ≡ start_in members.now member → b ≡ kept_block members.now member node.now) }
 {

@@ -7,7 +7,7 @@ use hg_event::encode_body;
 use hg_model::{Bytes, Items, Member, Memory, Name};
 use hg_name::name_of;
 use hg_node::Node;
-use hg_sign::{MacTable, Signer};
+use hg_sign::{MacTable, SharedTable, Signer};
 use std::alloc::Global;
 
 /// The bytes of a label, by its number; none for a number that is no label's.
@@ -96,7 +96,7 @@ pub(crate) fn copied(alloc: Global, bytes: &[u8]) -> Result<Bytes, Memory>
 }
 
 /// The bytes of the row with this name, if there is one.
-fn bytes_named(alloc: Global, node: &Node<MacTable>, name: &Name) -> Result<Bytes, Memory>
+fn bytes_named(alloc: Global, node: &Node<SharedTable>, name: &Name) -> Result<Bytes, Memory>
     ensures { IfOk result (λ bytes. bytes ≡ bytes_named (node_rows node.now) name.now) }
 {
     match node.place_of(name) {
@@ -106,7 +106,7 @@ fn bytes_named(alloc: Global, node: &Node<MacTable>, name: &Name) -> Result<Byte
 }
 
 /// The bytes of the last event that the node made, or none.
-pub(crate) fn last_bytes(alloc: Global, node: &Node<MacTable>) -> Result<Bytes, Memory>
+pub(crate) fn last_bytes(alloc: Global, node: &Node<SharedTable>) -> Result<Bytes, Memory>
     ensures { IfOk result (λ bytes. bytes ≡ last_bytes node.now) }
 {
     match node.last_name() {

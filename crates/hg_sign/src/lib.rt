@@ -5,11 +5,13 @@
 
 mod key;
 mod laws;
+mod shared;
 mod signer;
 mod table;
 #[cfg(test)]
 mod tests;
 
 pub use laws::one_signature;
+pub use shared::SharedTable;
 pub use signer::{Signer, Verifier};
 pub use table::MacTable;

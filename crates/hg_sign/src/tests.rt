@@ -1,5 +1,5 @@
 use crate::key::Key;
-use crate::{MacTable, Signer, Verifier};
+use crate::{MacTable, SharedTable, Signer, Verifier};
 use hg_model::{Bytes, MemberEntry, Members, Memory};
 use std::alloc::Global;
 use std::process::Abort;
@@ -49,5 +49,18 @@ fn signs_for_members(rt: HostRuntime) -> Result<(), Fail> {
     assert!(rt; !table.check(1, b"Hi There", &sig));
     assert!(rt; !table.check(0, b"Hi there", &sig));
     assert!(rt; !table.check(2, b"Hi There", &sig));
+    Ok(())
+}
+
+#[test]
+fn signs_alike_from_each_handle(rt: HostRuntime) -> Result<(), Fail> {
+    let table = SharedTable::new(rt.alloc(), &two_members(&rt, rt.alloc())?)?;
+    let other = table.shared()?;
+    let sig = other.sign(0, b"Hi There");
+    assert_eq!(rt; sig.as_slice(), FIRST_MAC.as_slice());
+    assert!(rt; table.check(0, b"Hi There", &sig));
+    drop(table);
+    assert!(rt; other.check(0, b"Hi There", &sig));
+    assert!(rt; !other.check(1, b"Hi There", &sig));
     Ok(())
 }

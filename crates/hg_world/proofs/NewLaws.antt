@@ -8,7 +8,7 @@ use Rattle.std.proofs.lemmas.List.FromFn.{get_or-map-range_with_len, length-map-
 use Rattle.hg_model.specs.Members.{MemberList, IsMemberList}
 use Rattle.hg_model.specs.Places.{table}
 use Rattle.hg_model.specs.Stakes.{Stakes, member_count}
-use Rattle.hg_model.specs.Signing.{accepts_by}
+use Rattle.hg_model.specs.Signing.{accepts_by, secrets_of}
 use Rattle.hg_model.specs.NodeView.{NodeView, IsNode}
 use Rattle.hg_world.specs.World.{Secrets, Site, WorldView, new_node, new_site, new_world, no_site, site_of, worker_count}
 use Rattle.hg_world.specs.Kept.{AreOfOneList, IsWorld, KeepsSite, KeepsWorld, no_node, nth_node, sites_of, unfrozen, world_of}
@@ -72,9 +72,10 @@ is_new members nodes frozen lawful nodes_are all frozen_are = record {
         (ap (λ (vs : List (NodeView Secrets)). nth_node vs m) nodes_are ∙ get_or-map-range_with_len (new_node members) 0 n m m no_node low (zero-add m))
         (all m no_node (omega (arith, low, many)))
 
-    site_is : (m : ℕ) → m < n → KeepsSite (new_world members) m (new_site members m)
+    site_is : (m : ℕ) → m < n → KeepsSite (new_world members) (secrets_of members) m (new_site members m)
     site_is m low = record {
       is = record { own = refl; members = refl; coin = refl; workers = length-replicate {A = ℕ} worker_count 0 };
+      keyed = refl;
       node = node_is m low;
       frozen = λ k. omega (arith, no_lens k);
     }
@@ -84,9 +85,10 @@ is_new members nodes frozen lawful nodes_are all frozen_are = record {
       coin = omega (arith, lawful.coin_low);
       some = omega (arith, lawful.some, sites_many);
       count = sites_many;
+      keys = secrets_of members;
       sites = λ m low. (
           let inside : m < n = omega (arith, low, sites_many) in
-          subst (KeepsSite (new_world members) m) (sym (get_or-map-range_with_len (new_site members) 0 n m m no_site inside (zero-add m))) (site_is m inside));
+          subst (KeepsSite (new_world members) (secrets_of members) m) (sym (get_or-map-range_with_len (new_site members) 0 n m m no_site inside (zero-add m))) (site_is m inside));
     }
 
 -- nodes of one list of members make a world
@@ -102,7 +104,7 @@ pub record IsOfNodes (n : Stakes) (c : ℕ) (nodes : List (NodeView Secrets)) (f
 pub of_nodes : (n : Stakes) (c : ℕ) (nodes : List (NodeView Secrets)) (frozen : List (List ℕ)) → AreOfOneList nodes → All (IsNode accepts_by) nodes →
     n ≡ (nth_node nodes 0).start.members → c ≡ (nth_node nodes 0).start.coin → frozen ≡ replicate (length nodes) none_frozen → IsOfNodes n c nodes frozen
 of_nodes n c nodes frozen are all n_is c_is frozen_are =
-    let of_one = are.2 in
+    let of_one = are.3 in
     let first = of_one.each 0 of_one.some in
     let node : IsNode accepts_by (nth_node nodes 0) = all 0 no_node of_one.some in
     let stakes : are.0 ≡ n = sym (n_is ∙ first.members) in
@@ -117,13 +119,15 @@ of_nodes n c nodes frozen are all n_is c_is frozen_are =
           coin = omega (arith, node.coin, c_is);
           some = omega (arith, of_one.some, sites);
           count = sites ∙ (of_one.count ∙ ap member_count stakes);
+          keys = are.2;
           sites = λ m low. (
               let inside : m < length nodes = omega (arith, low, sites) in
               let start = of_one.each m inside in
               let lens : get_or frozen m [] ≡ none_frozen = ap (λ (f : List (List ℕ)). get_or f m []) frozen_are ∙ get_or-replicate (length nodes) m none_frozen [] inside in
-              subst (KeepsSite (world_of n c nodes frozen) m) (sym (site_read nodes frozen m long inside))
-              (subst (λ (f : List ℕ). KeepsSite (world_of n c nodes frozen) m (site_of (nth_node nodes m) f)) (sym lens) (record {
+              subst (KeepsSite (world_of n c nodes frozen) are.2 m) (sym (site_read nodes frozen m long inside))
+              (subst (λ (f : List ℕ). KeepsSite (world_of n c nodes frozen) are.2 m (site_of (nth_node nodes m) f)) (sym lens) (record {
                 is = record { own = start.own; members = start.members ∙ stakes; coin = start.coin ∙ sym (c_is ∙ first.coin); workers = length-replicate {A = ℕ} worker_count 0 };
+                keyed = start.keyed;
                 node = all m no_node inside;
                 frozen = λ k. omega (arith, no_lens k);
               })));
@@ -137,11 +141,12 @@ of_one_list n c nodes frozen keeps =
     let sites = sites_length nodes frozen keeps.long in (
       n,
       c,
+      keeps.world.keys,
       record {
         some = omega (arith, keeps.world.some, sites);
         count = sym sites ∙ keeps.world.count;
         each = λ m low. (
-            let site = subst (KeepsSite (world_of n c nodes frozen) m) (site_read nodes frozen m keeps.long low) (keeps.world.sites m (omega (arith, low, sites))) in
-            record { own = site.is.own; members = site.is.members; coin = site.is.coin });
+            let site = subst (KeepsSite (world_of n c nodes frozen) keeps.world.keys m) (site_read nodes frozen m keeps.long low) (keeps.world.sites m (omega (arith, low, sites))) in
+            record { own = site.is.own; members = site.is.members; coin = site.is.coin; keyed = site.keyed });
       },
     )

@@ -20,7 +20,7 @@ use Rattle.hg_gossip.specs.Gossip.{none_taken, with_answer}
 use Rattle.hg_gossip.specs.Nodes.{Taking, lacked, take_event, taking, taking_of}
 use Rattle.hg_world.specs.declared.step.Step.{Step}
 use Rattle.hg_world.specs.declared.step.Step.TheVariants.{Deliver}
-use Rattle.hg_world.specs.World.{Secrets, WorldView, Site, no_site, node_at, site_at, site_of, with_node, with_site}
+use Rattle.hg_world.specs.World.{Secrets, WorldView, Site, no_site, node_at, site_at, site_of, with_node_at, with_site}
 use Rattle.hg_world.specs.Steps.{RanSome, after_step, after_steps, node_put, putting_at}
 use Rattle.hg_world.specs.Syncs.{HasMadeAfter, HasPulled, HasSynced, HasTaken, deliver_steps, last_made, make_steps, made_after, pull_steps, pulled, unheld_bytes}
 use Rattle.hg_world.specs.Laws.{PullsSetOneNode}
@@ -130,7 +130,7 @@ bytes_more held rows k before after all inside grown is =
 
 -- events that come to one node set that node
 puts_set : (events : List (List ℕ)) (w : WorldView) (m : ℕ) (counts : Taken) → m < length w.sites →
-    after_steps w (deliver_steps m events) ≡ with_node w m (fold (take_event accepts_by) (taking_of (node_at w m) counts) events).node
+    after_steps w (deliver_steps m events) ≡ with_node_at w m (fold (take_event accepts_by) (taking_of (node_at w m) counts) events).node
 puts_set [] w m counts low =
     ap (λ (sites : List Site). let u : WorldView = record { members = w.members; coin = w.coin; sites = sites } in u) (sym (set-get_or w.sites m no_site))
 puts_set (bytes ∷ events) w m counts low =

@@ -12,7 +12,7 @@ use Rattle.hg_model.specs.NodeView.{NodeView, IsNode, node_rows, with_changes}
 use Rattle.hg_history.proofs.StateLaws.{rows_grow}
 use Rattle.hg_runs.specs.Safety.{IsSafe}
 use Rattle.hg_runs.proofs.SafetyLaws.{runs_safe}
-use Rattle.hg_world.specs.World.{Secrets, Site, WorldView, no_site, site_of, site_at, node_at, with_site, with_node, with_frozen, frozen_by, run_of}
+use Rattle.hg_world.specs.World.{Secrets, Site, WorldView, no_site, site_of, site_at, node_at, with_site, with_node_at, with_frozen, frozen_by, run_of}
 use Rattle.hg_world.specs.Steps.{after_steps, node_published, settle_steps}
 use Rattle.hg_world.specs.Kept.{KeepsSite, IsWorld, KeepsWorld, sites_of, world_of, no_node, nth_node}
 
@@ -21,7 +21,7 @@ pub safe : (w : WorldView) → IsWorld w → IsSafe w.members w.coin (run_of w)
 safe w is = runs_safe (λ m. accepts_by (node_at w m).start.keys) w.members w.coin (run_of w) (record {
   coin = is.coin;
   histories = λ m low. (
-      let site : KeepsSite w m (site_at w m) = is.sites m (omega (arith, low, is.count)) in
+      let site : KeepsSite w is.keys m (site_at w m) = is.sites m (omega (arith, low, is.count)) in
       let v = node_at w m in
       subst (λ (k : ℕ). IsHistory (accepts_by v.start.keys) w.members w.coin k v.history) site.is.own
       (subst (λ (c : ℕ). IsHistory (accepts_by v.start.keys) w.members c v.start.own v.history) site.is.coin
@@ -30,24 +30,26 @@ safe w is = runs_safe (λ m. accepts_by (node_at w m).start.keys) w.members w.co
 
 -- a world with another site
 
-same_site : (w : WorldView) (m k : ℕ) (other s : Site) → KeepsSite w k s → KeepsSite (with_site w m other) k s
-same_site w m k other s keeps = record {
+same_site : (w : WorldView) (keys : Secrets) (m k : ℕ) (other s : Site) → KeepsSite w keys k s → KeepsSite (with_site w m other) keys k s
+same_site w keys m k other s keeps = record {
   is = record { own = keeps.is.own; members = keeps.is.members; coin = keeps.is.coin; workers = keeps.is.workers };
+  keyed = keeps.keyed;
   node = keeps.node;
   frozen = keeps.frozen;
 }
 
-pub set_site : (w : WorldView) (m : ℕ) (s : Site) → IsWorld w → m < length w.sites → KeepsSite w m s → IsWorld (with_site w m s)
+pub set_site : (w : WorldView) (m : ℕ) (s : Site) → (is : IsWorld w) → m < length w.sites → KeepsSite w is.keys m s → IsWorld (with_site w m s)
 set_site w m s is low keeps = record {
   coin = is.coin;
   some = omega (arith, is.some, length-set w.sites m s);
   count = length-set w.sites m s ∙ is.count;
-  sites = λ k inside. same_site w m k s (site_at (with_site w m s) k) (by k (cases_eq k m) (omega (arith, inside, length-set w.sites m s)));
+  keys = is.keys;
+  sites = λ k inside. same_site w is.keys m k s (site_at (with_site w m s) k) (by k (cases_eq k m) (omega (arith, inside, length-set w.sites m s)));
 }
   where
-    by : (k : ℕ) → (k ≡ m) ⊎ (k ≢ m) → k < length w.sites → KeepsSite w k (site_at (with_site w m s) k)
-    by k (inl here) inside = subst (λ (j : ℕ). KeepsSite w j (site_at (with_site w m s) j)) (sym here) (subst (KeepsSite w m) (sym (get_or-set_same w.sites m s no_site low)) keeps)
-    by k (inr other) inside = subst (KeepsSite w k) (sym (get_or-set_other w.sites m k s no_site other)) (is.sites k inside)
+    by : (k : ℕ) → (k ≡ m) ⊎ (k ≢ m) → k < length w.sites → KeepsSite w is.keys k (site_at (with_site w m s) k)
+    by k (inl here) inside = subst (λ (j : ℕ). KeepsSite w is.keys j (site_at (with_site w m s) j)) (sym here) (subst (KeepsSite w is.keys m) (sym (get_or-set_same w.sites m s no_site low)) keeps)
+    by k (inr other) inside = subst (KeepsSite w is.keys k) (sym (get_or-set_other w.sites m k s no_site other)) (is.sites k inside)
 
 -- the rows only get more
 pub more_rows : (v : NodeView Secrets) (es : List Change) → length (node_rows v) ≤ length (node_rows (with_changes v es))
@@ -56,16 +58,18 @@ more_rows v es =
     let long : length (node_rows (with_changes v es)) ≡ length (node_rows v) + length grown.0 = ap length grown.1 ∙ length-append (node_rows v) grown.0 in
     omega (arith, long)
 
-changed_site : (w : WorldView) (m : ℕ) (v : NodeView Secrets) (lens : List ℕ) (es : List Change) → KeepsSite w m (site_of v lens) → IsNode accepts_by (with_changes v es) → KeepsSite w m (site_of (with_changes v es) lens)
-changed_site w m v lens es keeps node = record {
+changed_site : (w : WorldView) (keys : Secrets) (m : ℕ) (v : NodeView Secrets) (lens : List ℕ) (es : List Change) → KeepsSite w keys m (site_of v lens) → IsNode accepts_by (with_changes v es) → KeepsSite w keys m (site_of (with_changes v es) lens)
+changed_site w keys m v lens es keeps node = record {
   is = record { own = keeps.is.own; members = keeps.is.members; coin = keeps.is.coin; workers = keeps.is.workers };
+  keyed = keeps.keyed;
   node = node;
   frozen = λ worker. omega (arith, keeps.frozen worker, more_rows v es);
 }
 
-frozen_site : (w : WorldView) (m : ℕ) (v : NodeView Secrets) (lens : List ℕ) (worker len : ℕ) → KeepsSite w m (site_of v lens) → len ≤ length (node_rows v) → KeepsSite w m (site_of v (slice_set lens worker len))
-frozen_site w m v lens worker len keeps low = record {
+frozen_site : (w : WorldView) (keys : Secrets) (m : ℕ) (v : NodeView Secrets) (lens : List ℕ) (worker len : ℕ) → KeepsSite w keys m (site_of v lens) → len ≤ length (node_rows v) → KeepsSite w keys m (site_of v (slice_set lens worker len))
+frozen_site w keys m v lens worker len keeps low = record {
   is = record { own = keeps.is.own; members = keeps.is.members; coin = keeps.is.coin; workers = length-set lens worker len ∙ keeps.is.workers };
+  keyed = keeps.keyed;
   node = keeps.node;
   frozen = λ k. by k (cases_eq k worker);
 }
@@ -117,11 +121,11 @@ module _ (n : Stakes) (c : ℕ) (nodes : List (NodeView Secrets)) (frozen : List
   pub node_read : node_at w m ≡ nth_node nodes m
   node_read = ap (λ (s : Site). s.node) read
 
-  here : KeepsSite w m (site_of (nth_node nodes m) (get_or frozen m []))
-  here = subst (KeepsSite w m) read (keeps.world.sites m within)
+  here : KeepsSite w keeps.world.keys m (site_of (nth_node nodes m) (get_or frozen m []))
+  here = subst (KeepsSite w keeps.world.keys m) read (keeps.world.sites m within)
 
   -- another node
-  pub with_node_is : (v : NodeView Secrets) → world_of n c (slice_set nodes m v) frozen ≡ with_node w m v
+  pub with_node_is : (v : NodeView Secrets) → world_of n c (slice_set nodes m v) frozen ≡ with_node_at w m v
   with_node_is v =
       ap (λ (sites : List Site). let u : WorldView = record { members = n; coin = c; sites = sites } in u)
       (ap (sites_of (slice_set nodes m v)) (sym (set-get_or frozen m []))
@@ -136,7 +140,7 @@ module _ (n : Stakes) (c : ℕ) (nodes : List (NodeView Secrets)) (frozen : List
         few = omega (arith, keeps.few, length-set nodes m v);
         world = subst IsWorld (sym (with_node_is v))
             (set_site w m (site_of v (site_at w m).frozen) keeps.world within
-            (subst (λ (s : Site). KeepsSite w m (site_of v s.frozen)) (sym read) (changed_site w m (nth_node nodes m) (get_or frozen m []) es here node)));
+            (subst (λ (s : Site). KeepsSite w keeps.world.keys m (site_of v s.frozen)) (sym read) (changed_site w keeps.world.keys m (nth_node nodes m) (get_or frozen m []) es here node)));
       }
 
   -- other lengths
@@ -156,13 +160,13 @@ module _ (n : Stakes) (c : ℕ) (nodes : List (NodeView Secrets)) (frozen : List
     few = keeps.few;
     world = subst IsWorld (sym (with_frozen_is worker len))
         (set_site w m (site_of (node_at w m) (slice_set (site_at w m).frozen worker len)) keeps.world within
-        (subst (λ (s : Site). KeepsSite w m (site_of s.node (slice_set s.frozen worker len))) (sym read) (frozen_site w m (nth_node nodes m) (get_or frozen m []) worker len here few)));
+        (subst (λ (s : Site). KeepsSite w keeps.world.keys m (site_of s.node (slice_set s.frozen worker len))) (sym read) (frozen_site w keeps.world.keys m (nth_node nodes m) (get_or frozen m []) worker len here few)));
   }
 
 -- a call on the nodes of a world that makes changes at one of them, or fails
 pub record Changed {A E : Type 0} (n : Stakes) (c : ℕ) (after : List (NodeView Secrets)) (frozen : List (List ℕ)) (w : WorldView) (m : ℕ) (v : NodeView Secrets) (result : Result A E) : Type 0 where
   pub keeps : KeepsWorld n c after frozen
-  pub ok : OnOk result (world_of n c after frozen ≡ with_node w m v)
+  pub ok : OnOk result (world_of n c after frozen ≡ with_node_at w m v)
 
 module _ (n : Stakes) (c : ℕ) (nodes : List (NodeView Secrets)) (frozen : List (List ℕ)) (w : WorldView) (m : ℕ) (keeps : KeepsWorld n c nodes frozen) (is : world_of n c nodes frozen ≡ w) (member : m < length w.sites) where
   pub low_in : m < length nodes
@@ -182,7 +186,7 @@ module _ (n : Stakes) (c : ℕ) (nodes : List (NodeView Secrets)) (frozen : List
     ok =
         ap (λ (vs : List (NodeView Secrets)). world_of n c vs frozen) ok
         ∙ (with_node_is n c nodes frozen keeps m low_in (with_changes (nth_node nodes m) (es (nth_node nodes m)))
-        ∙ ap₂ (λ (u : WorldView) (v : NodeView Secrets). with_node u m (with_changes v (es v))) is node_in);
+        ∙ ap₂ (λ (u : WorldView) (v : NodeView Secrets). with_node_at u m (with_changes v (es v))) is node_in);
   }
   changed after es (Err e) ok node err = record {
     keeps = subst (λ (vs : List (NodeView Secrets)). KeepsWorld n c vs frozen) (sym err) keeps;
@@ -206,7 +210,7 @@ module _ (n : Stakes) (c : ℕ) (nodes : List (NodeView Secrets)) (frozen : List
   }
 
   -- what a worker froze
-  site_keeps : KeepsSite (world_of n c nodes frozen) m (site_of (nth_node nodes m) (get_or frozen m []))
+  site_keeps : KeepsSite (world_of n c nodes frozen) keeps.world.keys m (site_of (nth_node nodes m) (get_or frozen m []))
   site_keeps = here n c nodes frozen keeps m low_in
 
   pub few_frozen : (worker len : ℕ) → len ≡ get_or (get_or frozen m []) worker 0 → len ≤ length (node_rows (nth_node nodes m))
@@ -241,6 +245,6 @@ settled n c nodes after frozen lens w m len keeps is member set node rows freeze
     ∙ (get_or-set_same (get_or frozen m []) 0 len 0 (first_worker n c nodes frozen w m keeps is member) ∙ rows) in
     record {
       keeps = then.keeps;
-      ok = then.ok ∙ ap (λ (k : ℕ). with_node w1 m (node_published (node_at w1 m) k whole)) (sym zeroth);
+      ok = then.ok ∙ ap (λ (k : ℕ). with_node_at w1 m (node_published (node_at w1 m) k whole)) (sym zeroth);
       node = node_in n c after lens (world_of n c after lens) m then.keeps refl (omega (arith, sites_length after lens then.keeps.long, ap length set, length-set nodes m (node_published (nth_node nodes m) all whole), low));
     }

@@ -17,18 +17,20 @@ sites_of (v ∷ nodes) (lens ∷ frozen) = site_of v lens ∷ sites_of nodes fro
 abbrev pub world_of : Stakes → ℕ → List (NodeView Secrets) → List (List ℕ) → WorldView
 world_of n c nodes frozen = record { members = n; coin = c; sites = sites_of nodes frozen }
 
--- the site is the member's, and its node is one, whose workers froze no more rows than it has
-pub record KeepsSite (w : WorldView) (m : ℕ) (site : Site) : Type 0 where
+-- the site is the member's, and its node is one, with these keys, whose workers froze no more rows than it has
+pub record KeepsSite (w : WorldView) (keys : Secrets) (m : ℕ) (site : Site) : Type 0 where
   pub is : IsSiteOf w m site
+  pub keyed : site.node.start.keys ≡ keys
   pub node : IsNode accepts_by site.node
   pub frozen : (worker : ℕ) → get_or site.frozen worker 0 ≤ length (node_rows site.node)
 
--- there are members, and a site for each
+-- there are members, and a site for each; the nodes have the same keys
 pub record IsWorld (w : WorldView) : Type 0 where
   pub coin : 2 < w.coin
   pub some : 0 < length w.sites
   pub count : length w.sites ≡ member_count w.members
-  pub sites : (m : ℕ) → m < length w.sites → KeepsSite w m (site_at w m)
+  pub keys : Secrets
+  pub sites : (m : ℕ) → m < length w.sites → KeepsSite w keys m (site_at w m)
 
 -- the same over the parts
 pub record KeepsWorld (n : Stakes) (c : ℕ) (nodes : List (NodeView Secrets)) (frozen : List (List ℕ)) : Type 0 where
@@ -43,20 +45,21 @@ no_node = no_site.node
 abbrev pub nth_node : List (NodeView Secrets) → ℕ → NodeView Secrets
 nth_node nodes m = get_or nodes m no_node
 
--- the node is that of member m among such members
-pub record HasStart (n : Stakes) (c m : ℕ) (v : NodeView Secrets) : Type 0 where
+-- the node is that of member m among such members, with these keys
+pub record HasStart (n : Stakes) (c : ℕ) (keys : Secrets) (m : ℕ) (v : NodeView Secrets) : Type 0 where
   pub own : v.start.own ≡ m
   pub members : v.start.members ≡ n
   pub coin : v.start.coin ≡ c
+  pub keyed : v.start.keys ≡ keys
 
--- nodes among as many members, with one coin period, one for each, in the members' order
-pub record AreOfMembers (n : Stakes) (c : ℕ) (nodes : List (NodeView Secrets)) : Type 0 where
+-- nodes among as many members, with one coin period and the same keys, one for each, in the members' order
+pub record AreOfMembers (n : Stakes) (c : ℕ) (keys : Secrets) (nodes : List (NodeView Secrets)) : Type 0 where
   pub some : 0 < length nodes
   pub count : length nodes ≡ member_count n
-  pub each : (m : ℕ) → m < length nodes → HasStart n c m (nth_node nodes m)
+  pub each : (m : ℕ) → m < length nodes → HasStart n c keys m (nth_node nodes m)
 
 abbrev pub AreOfOneList : List (NodeView Secrets) → Type 0
-AreOfOneList nodes = (n : Stakes) × (c : ℕ) × AreOfMembers n c nodes
+AreOfOneList nodes = (n : Stakes) × (c : ℕ) × (keys : Secrets) × AreOfMembers n c keys nodes
 
 -- the nodes as a world of which no worker has frozen any rows
 abbrev pub unfrozen : List (NodeView Secrets) → List Site

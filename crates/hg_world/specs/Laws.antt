@@ -1,7 +1,7 @@
 -- What holds of every world, as public functions state it
 use Rattle.std.specs.Prelude.{ℕ, ◌≡◌, List, length}
 use Rattle.hg_world.specs.declared.step.Step.{Step}
-use Rattle.hg_world.specs.World.{WorldView, IsMemberOf, with_node}
+use Rattle.hg_world.specs.World.{WorldView, IsMemberOf, with_node_at}
 use Rattle.hg_world.specs.Steps.{after_steps}
 use Rattle.hg_world.specs.Syncs.{pull_steps, pulled}
 
@@ -11,4 +11,4 @@ StepsKeepSites = (w : WorldView) (steps : List Step) → length (after_steps w s
 
 -- a pull sets the node of the taker
 abbrev pub PullsSetOneNode : Type 0
-PullsSetOneNode = (w : WorldView) (taker peer : ℕ) → IsMemberOf w taker → after_steps w (pull_steps w taker peer) ≡ with_node w taker (pulled w taker peer).node
+PullsSetOneNode = (w : WorldView) (taker peer : ℕ) → IsMemberOf w taker → after_steps w (pull_steps w taker peer) ≡ with_node_at w taker (pulled w taker peer).node

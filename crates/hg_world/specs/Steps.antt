@@ -13,7 +13,7 @@ use Rattle.hg_world.specs.declared.step.Step.{Step}
 use Rattle.hg_world.specs.declared.step.Step.TheVariants.{Make, Deliver, Freeze, Publish}
 use Rattle.hg_world.specs.declared.step.Reply.{Reply}
 use Rattle.hg_world.specs.declared.step.Reply.TheVariants as reply
-use Rattle.hg_world.specs.World.{Secrets, WorldView, worker_count, node_at, frozen_by, with_node, with_frozen, IsMemberOf}
+use Rattle.hg_world.specs.World.{Secrets, WorldView, worker_count, node_at, frozen_by, with_node_at, with_frozen, IsMemberOf}
 
 -- the signature under which the node makes such an event
 abbrev pub own_signature : NodeView Secrets → List (List ℕ) → ℕ → List ℕ → List ℕ
@@ -39,10 +39,10 @@ node_published v len share = with_changes v (publish_changes v len share)
 
 -- an event is made, or bytes come, or a worker freezes the rows, or publishes what a share decides in those that it froze
 abbrev pub after_step : WorldView → Step → WorldView
-after_step w (Make m other time payload) = with_node w m (node_made (node_at w m) (option_to_list other) time payload)
-after_step w (Deliver m bytes) = with_node w m (node_put (node_at w m) bytes)
+after_step w (Make m other time payload) = with_node_at w m (node_made (node_at w m) (option_to_list other) time payload)
+after_step w (Deliver m bytes) = with_node_at w m (node_put (node_at w m) bytes)
 after_step w (Freeze m worker) = with_frozen w m worker (length (node_rows (node_at w m)))
-after_step w (Publish m worker share) = with_node w m (node_published (node_at w m) (frozen_by w m worker) share)
+after_step w (Publish m worker share) = with_node_at w m (node_published (node_at w m) (frozen_by w m worker) share)
 
 abbrev pub reply_to : WorldView → Step → Reply
 reply_to w (Make m other time payload) = reply.Make (making_at (node_at w m) (option_to_list other) time payload)

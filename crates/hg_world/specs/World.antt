@@ -64,8 +64,8 @@ abbrev pub with_site : WorldView → ℕ → Site → WorldView
 with_site w m site = record { members = w.members; coin = w.coin; sites = slice_set w.sites m site }
 
 -- with another node of member m
-abbrev pub with_node : WorldView → ℕ → NodeView Secrets → WorldView
-with_node w m v = with_site w m (site_of v (site_at w m).frozen)
+abbrev pub with_node_at : WorldView → ℕ → NodeView Secrets → WorldView
+with_node_at w m v = with_site w m (site_of v (site_at w m).frozen)
 
 -- once this worker of member m's node has frozen so many rows
 abbrev pub with_frozen : WorldView → ℕ → ℕ → ℕ → WorldView

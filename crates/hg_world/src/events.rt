@@ -1,44 +1,13 @@
-ghost use Rattle.std.specs.Prelude.{◌≡◌, ◌+◌, ◌-◌, ◌<◌, ◌^◌, IfOk, OnOk, Some, length};
-ghost use Rattle.hg_model.specs.Gossip.{made_in_sync};
+ghost use Rattle.std.specs.Prelude.{◌≡◌, ◌<◌, IfOk, OnOk, Some, length};
 ghost use Rattle.hg_model.specs.NodeView.{node_rows};
-ghost use Rattle.hg_gossip.specs.Gossip.{with_answer};
 ghost use Rattle.hg_gossip.specs.Nodes.{lacked};
 ghost use Rattle.hg_world.specs.Kept.{KnowsFirst};
 ghost use Rattle.hg_world.specs.Syncs.{with_lacked};
 
-use hg_gossip::Taken;
-use hg_model::{Bytes, Items, MakeAnswer, Memory, PutAnswer, SyncMade};
+use hg_model::{Bytes, Items, Memory};
 use hg_node::Node;
-use hg_sign::MacTable;
+use hg_sign::SharedTable;
 use std::alloc::Global;
-
-/// The counts with one answer more.
-pub(crate) fn counted(counts: Taken, answer: PutAnswer) -> Taken
-    requires { counts.taken + counts.refused < 2 ^ 64 - 1 }
-    ensures { result ≡ with_answer counts answer }
-{
-    match answer {
-        PutAnswer::Accepted(_) => Taken {
-            taken: counts.taken + 1,
-            refused: counts.refused,
-        },
-        PutAnswer::Known(_) => counts,
-        PutAnswer::Refused(_) => Taken {
-            taken: counts.taken,
-            refused: counts.refused + 1,
-        },
-    }
-}
-
-/// What came of an event at the end of a sync.
-pub(crate) fn sync_made(answer: MakeAnswer) -> SyncMade
-    ensures { result ≡ made_in_sync answer }
-{
-    match answer {
-        MakeAnswer::Made(place) => SyncMade::Row(place),
-        MakeAnswer::Refused(fault) => SyncMade::Fault(fault),
-    }
-}
 
 fn copied(alloc: Global, bytes: &[u8]) -> Result<Bytes, Memory>
     ensures { IfOk result (λ copy. copy ≡ bytes.now) }
@@ -50,8 +19,8 @@ fn copied(alloc: Global, bytes: &[u8]) -> Result<Bytes, Memory>
 fn push_unless_held(
     alloc: Global,
     events: &mut Vec<Bytes>,
-    taker: &Node<MacTable>,
-    peer: &Node<MacTable>,
+    taker: &Node<SharedTable>,
+    peer: &Node<SharedTable>,
     place: usize,
 ) -> Result<(), Memory>
     requires { place < length (node_rows peer.now) }
@@ -66,8 +35,8 @@ fn push_unless_held(
 /// The bytes of the peer's rows whose names the taker lacks, who has those of the rows before this place.
 pub(crate) fn lacked_from(
     alloc: Global,
-    taker: &Node<MacTable>,
-    peer: &Node<MacTable>,
+    taker: &Node<SharedTable>,
+    peer: &Node<SharedTable>,
     from: usize,
 ) -> Result<Vec<Bytes>, Memory>
     requires { KnowsFirst (node_rows taker.now) (node_rows peer.now) from }

@@ -4,7 +4,7 @@ ghost use Rattle.hg_world.specs.Kept.{HandsOn, KnowsFirst, known_by};
 
 use hg_model::Memory;
 use hg_node::Node;
-use hg_sign::MacTable;
+use hg_sign::SharedTable;
 use std::alloc::Global;
 
 /// Of how many first rows of each node a node has the names.
@@ -59,7 +59,11 @@ pub(crate) fn hand_on(known: &mut Vec<Known>, x: usize, y: usize)
 }
 
 /// The first place, from this one on, of a row of the peer whose name the taker lacks, or the number of the peer's rows.
-pub(crate) fn first_unknown(taker: &Node<MacTable>, peer: &Node<MacTable>, from: usize) -> usize
+pub(crate) fn first_unknown(
+    taker: &Node<SharedTable>,
+    peer: &Node<SharedTable>,
+    from: usize,
+) -> usize
     requires { KnowsFirst (node_rows taker.now) (node_rows peer.now) from }
     ensures { KnowsFirst (node_rows taker.now) (node_rows peer.now) result }
 {

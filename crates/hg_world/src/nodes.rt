@@ -3,7 +3,7 @@ ghost use Rattle.std.specs.Option.{option_to_list};
 ghost use Rattle.hg_model.specs.Calls.{IsSettled, publish_answer};
 ghost use Rattle.hg_model.specs.NodeView.{IsNode, node_rows};
 ghost use Rattle.hg_model.specs.Places.{table};
-ghost use Rattle.hg_model.specs.Signing.{accepts_by};
+ghost use Rattle.hg_model.specs.Signing.{accepts_by, secrets_of};
 ghost use Rattle.hg_model.specs.Shares.{whole};
 ghost use Rattle.hg_node.specs.ChronicleView.{IsFoundBy};
 ghost use Rattle.hg_world.specs.World.{new_node, worker_count};
@@ -13,7 +13,7 @@ ghost use Rattle.hg_world.specs.Kept.{nth_node};
 use hg_fame::elect_share;
 use hg_model::{Found, MakeAnswer, Member, Members, Memory, Name, PutAnswer, Share};
 use hg_node::Node;
-use hg_sign::MacTable;
+use hg_sign::SharedTable;
 use hg_votes::VoteTable;
 use std::alloc::Global;
 
@@ -21,31 +21,37 @@ use std::alloc::Global;
 pub(crate) type Frozen = [usize; 16];
 
 /// A node for each member, without rows.
-pub(crate) fn new_nodes(alloc: Global, members: &Members) -> Result<Vec<Node<MacTable>>, Memory>
+pub(crate) fn new_nodes(alloc: Global, members: &Members) -> Result<Vec<Node<SharedTable>>, Memory>
     ensures nodes { IfOk result (λ nodes. nodes.items ≡ table (new_node members.now) (length members.now.entries)) }
     ensures lawful { IfOk result (λ nodes. All (IsNode accepts_by) nodes.items) }
 {
+    let keys = SharedTable::new(alloc, members)?;
     let mut nodes = Vec::new(alloc);
     for own in 0..members.count() {
-        nodes.push(new_node(alloc, members, own as Member)?)?;
+        nodes.push(new_node(alloc, members, own as Member, &keys)?)?;
     }
     Ok(nodes)
 }
 
-/// The node of a member, without rows.
-fn new_node(alloc: Global, members: &Members, own: Member) -> Result<Node<MacTable>, Memory>
-    requires { own < length members.now.entries }
+/// The node of a member, without rows, under the members' secrets.
+fn new_node(
+    alloc: Global,
+    members: &Members,
+    own: Member,
+    keys: &SharedTable,
+) -> Result<Node<SharedTable>, Memory>
+    requires member { own < length members.now.entries }
+    requires keys { keys.now ≡ secrets_of members.now }
     ensures value { IfOk result (λ node. node ≡ new_node members.now own) }
     ensures lawful { IfOk result (λ node. IsNode accepts_by node) }
 {
-    let keys = MacTable::new(alloc, members)?;
-    let node = Node::new(alloc, members, own, keys)?;
+    let node = Node::new(alloc, members, own, keys.shared()?)?;
     node.rows();
     Ok(node)
 }
 
 /// That each of these is a node.
-pub(crate) fn see_all(nodes: &Vec<Node<MacTable>>)
+pub(crate) fn see_all(nodes: &Vec<Node<SharedTable>>)
     ensures { All (IsNode accepts_by) nodes.now.items }
 {
     for node in nodes {
@@ -84,7 +90,7 @@ pub(crate) fn frozen_at(frozen: &Vec<Frozen>, m: usize, worker: usize) -> usize
 
 /// The node at a place makes an event.
 pub(crate) fn make(
-    nodes: &mut Vec<Node<MacTable>>,
+    nodes: &mut Vec<Node<SharedTable>>,
     m: usize,
     other: Option<Name>,
     time: u64,
@@ -104,7 +110,7 @@ pub(crate) fn make(
 
 /// Bytes come to the node at a place.
 pub(crate) fn put(
-    nodes: &mut Vec<Node<MacTable>>,
+    nodes: &mut Vec<Node<SharedTable>>,
     m: usize,
     bytes: &[u8],
 ) -> Result<PutAnswer, Memory>
@@ -121,7 +127,7 @@ pub(crate) fn put(
 }
 
 /// The node at a place publishes all fame that its graph decides; tells how many rows it has.
-pub(crate) fn settle(nodes: &mut Vec<Node<MacTable>>, m: usize) -> Result<usize, Memory>
+pub(crate) fn settle(nodes: &mut Vec<Node<SharedTable>>, m: usize) -> Result<usize, Memory>
     requires { m < length nodes.old.items }
     ensures rows { IfOk result (λ len. len ≡ length (node_rows (nth_node nodes.old.items m))) }
     ensures ok { OnOk result (nodes.new.items ≡ slice_set nodes.old.items m (node_published (nth_node nodes.old.items m) (length (node_rows (nth_node nodes.old.items m))) whole)) }
@@ -140,7 +146,7 @@ pub(crate) fn settle(nodes: &mut Vec<Node<MacTable>>, m: usize) -> Result<usize,
 /// marked.
 pub(crate) fn publish(
     alloc: Global,
-    nodes: &mut Vec<Node<MacTable>>,
+    nodes: &mut Vec<Node<SharedTable>>,
     m: usize,
     len: usize,
     share: Share,
@@ -160,7 +166,12 @@ pub(crate) fn publish(
 }
 
 /// What a share of the witnesses decides in the node's first `len` rows.
-fn found_by(alloc: Global, node: &Node<MacTable>, len: usize, share: Share) -> Result<Found, Memory>
+fn found_by(
+    alloc: Global,
+    node: &Node<SharedTable>,
+    len: usize,
+    share: Share,
+) -> Result<Found, Memory>
     requires { len ≤ length (node_rows node.now) }
     ensures speaks { IfOk result (λ found. IsFoundBy node.now found) }
     ensures len { IfOk result (λ found. found.len ≡ len) }

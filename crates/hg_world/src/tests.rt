@@ -10,7 +10,7 @@ use hg_model::{
     Share, SyncMade, SyncReport,
 };
 use hg_node::Node;
-use hg_sign::MacTable;
+use hg_sign::SharedTable;
 use std::alloc::Global;
 use std::fmt::Debug;
 use std::process::Abort;
@@ -54,7 +54,7 @@ impl Drop for Held {
 }
 
 impl Held {
-    fn into_nodes(self) -> Vec<Node<MacTable>>
+    fn into_nodes(self) -> Vec<Node<SharedTable>>
         ensures { AreOfOneList result.items }
     {
         let Held { world } = self;

@@ -9,17 +9,17 @@ ghost use Rattle.hg_world.specs.World.{IsMemberOf, IsSiteOf, frozen_by, new_worl
 ghost use Rattle.hg_world.specs.Steps.{HasRun, HasStepped, IsStepOf, RanSome, after_step, after_steps, making_at, putting_at, settle_steps};
 ghost use Rattle.hg_world.specs.Syncs.{HasMadeAfter, HasPulled, HasSynced, HasTaken, deliver_steps, pull_steps};
 
-use crate::events::{counted, lacked_from, sync_made};
+use crate::events::lacked_from;
 use crate::known::{self, Known};
 use crate::nodes::{self, Frozen};
 use crate::step::{Reply, Step};
-use hg_gossip::Taken;
+use hg_gossip::{Taken, sync_made, with_answer};
 use hg_model::{
     Bytes, MakeAnswer, Member, Members, Memory, Name, Prefix, PutAnswer, Share, Sight, SyncMade,
     SyncReport,
 };
 use hg_node::Node;
-use hg_sign::MacTable;
+use hg_sign::SharedTable;
 use std::alloc::Global;
 use std::marker::Model;
 
@@ -29,7 +29,7 @@ pub struct World {
     alloc: Global,
     members: u32,
     coin: u32,
-    nodes: Vec<Node<MacTable>>,
+    nodes: Vec<Node<SharedTable>>,
     frozen: Vec<Frozen>,
     /// The rows of a node only get more, so what is known stays known.
     known: Vec<Known>,
@@ -74,7 +74,7 @@ impl World {
     }
 
     /// The node of a member.
-    pub fn node(&self, member: Member) -> &Node<MacTable>
+    pub fn node(&self, member: Member) -> &Node<SharedTable>
         requires { IsMemberOf self.now member }
         ensures value { result.now ≡ node_at self.now member }
         ensures site { IsSiteOf self.now member (site_at self.now member) }
@@ -217,7 +217,7 @@ impl World {
         };
         for event in events {
             let answer = self.put(member, event.as_slice())?;
-            counts = counted(counts, answer);
+            counts = with_answer(counts, answer);
         }
         Ok(counts)
     }
@@ -379,7 +379,7 @@ impl World {
     }
 
     /// The nodes, in the order of the members.
-    pub fn into_nodes(self) -> Vec<Node<MacTable>>
+    pub fn into_nodes(self) -> Vec<Node<SharedTable>>
         ensures nodes { result.items ≡ nodes_of self }
         ensures lawful { AreOfOneList result.items }
     {
@@ -387,11 +387,11 @@ impl World {
     }
 
     /// A world of these nodes, of which no worker has frozen any rows: one for each of the members with which the first
-    /// began, in their order. Where memory runs out they come back.
+    /// began, in their order, all with the same keys. Where memory runs out they come back.
     pub fn from_nodes(
         alloc: Global,
-        nodes: Vec<Node<MacTable>>,
-    ) -> Result<World, Vec<Node<MacTable>>>
+        nodes: Vec<Node<SharedTable>>,
+    ) -> Result<World, Vec<Node<SharedTable>>>
         requires { AreOfOneList nodes.items }
         ensures ok { IfOk result (λ world. world.sites ≡ unfrozen nodes.items) }
         ensures members { IfOk result (λ world. world.members ≡ (nth_node nodes.items 0).start.members) }

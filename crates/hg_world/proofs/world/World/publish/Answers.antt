@@ -2,7 +2,7 @@ use Rattle.std.proofs.Common.{◌≡◌, ℕ, subst, arith}
 use Rattle.std.specs.Prelude.{IfOk, OnOk}
 use Rattle.hg_model.specs.Calls.{publish_answer, publish_changes}
 use Rattle.hg_model.specs.NodeView.{NodeView}
-use Rattle.hg_world.specs.World.{Secrets, node_at, with_node}
+use Rattle.hg_world.specs.World.{Secrets, node_at, with_node_at}
 use Rattle.hg_world.specs.Steps.{node_published}
 use Rattle.hg_world.specs.Kept.{world_of}
 use Rattle.hg_world.specs.Kept.{nth_node}
@@ -32,5 +32,5 @@ returns-clause-answer c =
 
 pub returns-clause-ok : goal.returns-clause-ok
 returns-clause-ok c =
-    subst (λ (k : ℕ). OnOk c.publish.result (world_of c.self.inside.members c.self.inside.coin c.publish.new.nodes.items c.self.inside.frozen.items ≡ with_node c.args.self.now c.args.member (node_published (node_at c.args.self.now c.args.member) k c.args.share))) (len_in c.self.inside.members c.self.inside.coin c.self.inside.nodes.items c.self.inside.frozen.items c.args.self.now c.args.member c.self.invariant.0 c.self.view_is c.requires.member c.args.worker c.frozen_at-len.result c.frozen_at-len.ensures)
+    subst (λ (k : ℕ). OnOk c.publish.result (world_of c.self.inside.members c.self.inside.coin c.publish.new.nodes.items c.self.inside.frozen.items ≡ with_node_at c.args.self.now c.args.member (node_published (node_at c.args.self.now c.args.member) k c.args.share))) (len_in c.self.inside.members c.self.inside.coin c.self.inside.nodes.items c.self.inside.frozen.items c.args.self.now c.args.member c.self.invariant.0 c.self.view_is c.requires.member c.args.worker c.frozen_at-len.result c.frozen_at-len.ensures)
     (changed c.self.inside.members c.self.inside.coin c.self.inside.nodes.items c.self.inside.frozen.items c.args.self.now c.args.member c.self.invariant.0 c.self.view_is c.requires.member c.publish.new.nodes.items (λ v. publish_changes v c.frozen_at-len.result c.args.share) c.publish.result c.publish.ensures.ok c.publish.ensures.node c.publish.ensures.err).ok

@@ -16,7 +16,7 @@ returns-in_err-answer-clause-err c =
 pub loop-event-preserved : goal.loop-event-preserved
 loop-event-preserved c = record {
   taken =
-      takes_more c.args.self.now c.loop-event.self c.put.new.self c.args.member c.args.events.now c.loop-event.event-index c.event-item.result c.as_slice.result.now c.loop-event.counts c.counted-counts.result c.in_ok-answer.answer
-      c.requires (omega arith) c.event-item.is c.as_slice.ensures c.loop-event.invariant.taken c.in_ok-answer.ensures.answer c.in_ok-answer.ensures.ok c.counted-counts.ensures;
-  few = few_more c.loop-event.counts c.counted-counts.result c.in_ok-answer.answer c.loop-event.event-index c.counted-counts.ensures c.loop-event.invariant.few;
+      takes_more c.args.self.now c.loop-event.self c.put.new.self c.args.member c.args.events.now c.loop-event.event-index c.event-item.result c.as_slice.result.now c.loop-event.counts c.with_answer-counts.result c.in_ok-answer.answer
+      c.requires (omega arith) c.event-item.is c.as_slice.ensures c.loop-event.invariant.taken c.in_ok-answer.ensures.answer c.in_ok-answer.ensures.ok c.with_answer-counts.ensures;
+  few = few_more c.loop-event.counts c.with_answer-counts.result c.in_ok-answer.answer c.loop-event.event-index c.with_answer-counts.ensures c.loop-event.invariant.few;
 }
