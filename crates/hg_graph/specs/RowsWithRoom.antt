@@ -1,5 +1,6 @@
 -- Rows with their names, and for how many more rows there is memory
-use Rattle.std.specs.Prelude.{ℕ, List, min, Option, Some, None, if◌then◌else◌}
+use Rattle.std.specs.Prelude.{ℕ, List, map, min, Option, Some, None, if◌then◌else◌}
+use Rattle.std.specs.declared.sync.Arc.{Arc}
 use Rattle.hg_model.specs.declared.row.Row.{Row}
 use Rattle.hg_model.specs.Links.{place_of}
 use Rattle.hg_model.specs.Verdict.{is_held}
@@ -9,9 +10,16 @@ pub record RowsWithRoom : Type 0 where
   pub rows : List Row
   pub room : ℕ
 
+abbrev pub row_name : Row → List ℕ
+row_name row = row.name
+
 -- the place of the row with this name, if there is one
 abbrev pub found_place : List Row → List ℕ → Option ℕ
 found_place G name = if is_held G name then Some (place_of G name) else None
+
+-- the rows of events that are shared
+abbrev pub rows_of : {A : Type 0} → List (Arc Row A) → List Row
+rows_of events = map (λ event. event.value) events
 
 -- the least of three rooms
 abbrev pub least_of : ℕ → ℕ → ℕ → ℕ

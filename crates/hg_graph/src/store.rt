@@ -4,13 +4,13 @@ ghost use Rattle.std.proofs.Common.{rules};
 ghost use Rattle.std.specs.Cmp.Rules.{comparing, hashing};
 ghost use Rattle.std.specs.Str.{bytes_eq};
 ghost use Rattle.indexmap.specs.IndexSet.{spare};
-ghost use Rattle.hg_model.specs.Links.{is_named, place_of};
+ghost use Rattle.hg_model.specs.Links.{place_of};
 ghost use Rattle.hg_model.specs.Spelling.{spelling};
-ghost use Rattle.hg_graph.specs.RowsWithRoom.{found_place};
+ghost use Rattle.hg_graph.specs.RowsWithRoom.{found_place, rows_of};
 
 use hg_event::Event;
 use hg_model::{Memory, Name, Row};
-use indexmap::{Equivalent, IndexSet};
+use indexmap::IndexSet;
 use std::alloc::Global;
 use std::hash::{Hash, Hasher};
 use std::marker::Model;
@@ -56,72 +56,25 @@ impl Hash for Key {
     }
 }
 
-/// An event to be found by its name.
-#[derive(Drop)]
-struct Named {
-    event: Arc<Event>,
-}
-
-impl Model for Named {
-    ghost use Rattle.hg_model.specs.declared.row.Row.{Row};
-
-    ghost Value = { Row };
-
-    ghost view = { λ s. s.event.value };
-}
-
-impl PartialEq for Named {
-    ghost eq = { λ row. is_named row.name };
-
-    ghost laws = { Prim.search (comparing, rules) };
-
-    fn eq(&self, other: &Named) -> bool {
-        other.event.row().name == self.event.row().name
-    }
-}
-
-impl Eq for Named {
-    ghost laws = { Prim.search (comparing, rules) };
-}
-
-impl Hash for Named {
-    ghost use Rattle.std.specs.Prelude.{[], ◌∷◌, take};
-
-    ghost hash_input = { λ row. take 8 row.name ∷ [] };
-
-    ghost respects_eq = { Prim.search (hashing, rules) };
-
-    fn hash<H: Hasher>(&self, state: &mut H) {
-        state.write(&self.event.row().name[..8]);
-    }
-}
-
-impl Equivalent<Named> for &Key {
-    ghost equivalent = { λ q row. is_named q.now row };
-
-    ghost respects_hash = { Prim.search (hashing, rules) };
-
-    ghost respects_eq = { Prim.search (comparing, rules) };
-
-    fn equivalent(&self, key: &Named) -> bool {
-        key.event.row().name == self.name
-    }
-}
-
-/// Events in the order in which they came, each found by its name.
+/// Events in the order in which they came, each shared with whoever else holds it, and found by its name.
 #[derive(Drop)]
 pub struct RowStore {
     alloc: Global,
-    events: IndexSet<Named>,
+    events: Vec<Arc<Event>>,
+    names: IndexSet<Key>,
 }
 
 impl Model for RowStore {
+    ghost use Rattle.std.specs.Prelude.{◌≡◌, ◌-◌, map, min, vec_capacity, vec_len};
     ghost use Rattle.indexmap.specs.IndexSet.{spare};
-    ghost use Rattle.hg_graph.specs.RowsWithRoom.{RowsWithRoom};
+    ghost use Rattle.hg_graph.specs.RowsWithRoom.{RowsWithRoom, row_name, rows_of};
 
     ghost Value = { RowsWithRoom };
 
-    ghost view = { λ s. record { rows = s.events.keys; room = spare s.events } };
+    ghost view = { λ s. record { rows = rows_of s.events.items; room = min (vec_capacity s.events - vec_len s.events) (spare s.names) } };
+
+    // each row's name, in the same order
+    ghost invariant = { λ s. s.names.keys ≡ map row_name (rows_of s.events.items) };
 }
 
 impl RowStore {
@@ -131,7 +84,8 @@ impl RowStore {
     {
         RowStore {
             alloc,
-            events: IndexSet::new(alloc),
+            events: Vec::new(alloc),
+            names: IndexSet::new(alloc),
         }
     }
 
@@ -147,10 +101,7 @@ impl RowStore {
         requires { x < length self.now.rows }
         ensures { slice_get self.now.rows x ≡ Some result.now.value }
     {
-        match self.events.get_index(x) {
-            Some(named) => &named.event,
-            None => unreachable!(),
-        }
+        &self.events[x]
     }
 
     /// The row at a place.
@@ -173,7 +124,7 @@ impl RowStore {
     pub fn place_of(&self, name: &Name) -> Option<usize>
         ensures { result ≡ found_place self.now.rows name.now }
     {
-        self.events.get_index_of(&Key { name: *name })
+        self.names.get_index_of(&Key { name: *name })
     }
 
     /// Takes the memory of one more row.
@@ -182,6 +133,7 @@ impl RowStore {
         ensures same { self.new.rows ≡ self.old.rows }
     {
         self.events.reserve(1)?;
+        self.names.reserve(1)?;
         Ok(())
     }
 
@@ -191,7 +143,8 @@ impl RowStore {
         requires new { place_of self.old.rows event.value.name ≡ length self.old.rows }
         ensures { self.new.rows ≡ self.old.rows ++ event.value ∷ [] }
     {
-        add_event(&mut self.events, event);
+        add_name(&mut self.names, event.row().name);
+        self.events.push_reserved(event);
     }
 
     /// The first `len` rows, in memory of their own.
@@ -199,16 +152,16 @@ impl RowStore {
         requires { len ≤ length self.now.rows }
         ensures { IfOk result (λ rows. rows.items ≡ take len self.now.rows) }
     {
-        copy_rows(self.alloc, &self.events.as_slice()[..len])
+        copy_rows(self.alloc, &self.events[..len])
     }
 }
 
-fn copy_rows(alloc: Global, events: &[Named]) -> Result<Vec<Row>, Memory>
-    ensures { IfOk result (λ rows. rows.items ≡ events.now) }
+fn copy_rows(alloc: Global, events: &[Arc<Event>]) -> Result<Vec<Row>, Memory>
+    ensures { IfOk result (λ rows. rows.items ≡ rows_of events.now) }
 {
     let mut rows = Vec::with_capacity(alloc, events.len())?;
-    for named in events {
-        rows.push(copy_of(named.event.row())?)?;
+    for event in events {
+        rows.push(copy_of(event.row())?)?;
     }
     Ok(rows)
 }
@@ -219,11 +172,11 @@ fn copy_of(row: &Row) -> Result<Row, Memory>
     Ok(row.clone()?)
 }
 
-/// Enters an event under a new name, for which there is room.
-fn add_event(events: &mut IndexSet<Named>, event: Arc<Event>)
-    requires room { 1 ≤ spare events.old }
-    requires new { list_any (is_named event.value.name) events.old.keys ≡ false }
-    ensures { events.new.keys ≡ events.old.keys ++ event.value ∷ [] }
+/// Enters a name for which there is room.
+fn add_name(names: &mut IndexSet<Key>, name: Name)
+    requires room { 1 ≤ spare names.old }
+    requires new { list_any (bytes_eq name) names.old.keys ≡ false }
+    ensures { names.new.keys ≡ names.old.keys ++ name ∷ [] }
 {
-    events.insert(Named { event }).unwrap();
+    names.insert(Key { name }).unwrap();
 }
