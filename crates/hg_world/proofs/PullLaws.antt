@@ -1,5 +1,5 @@
 -- Pulls and syncs as steps
-use Rattle.std.proofs.Common.{◌≡◌, ℕ, suc, ◌+◌, ◌<◌, Bool, true, false, not, cond, List, [], ◌∷◌, ◌++◌, length, map, fold, take, drop, get_or, slice_get, Option, Some, option_map, Result, Ok, Err, sym, refl, ap, ap₂, ◌∙◌, subst, add-one, append_assoc, arith}
+use Rattle.std.proofs.Common.{◌≡◌, ℕ, suc, ◌+◌, ◌<◌, Bool, true, false, not, cond, List, [], ◌∷◌, ◌++◌, length, fold, take, drop, get_or, slice_get, Option, Some, option_map, Result, Ok, Err, sym, refl, ap, ap₂, ◌∙◌, subst, add-one, append_assoc, arith}
 use Rattle.std.specs.Prelude.{OnErr, IfOk}
 use Rattle.std.proofs.lemmas.List.{append-nil, get_or-set_same, map-append, take-append-drop, length-set, set-get_or, set-set}
 use Rattle.std.proofs.lemmas.List.Sums.{fold-append}
@@ -12,7 +12,6 @@ use Rattle.hg_model.specs.declared.answers.SyncReport.{SyncReport}
 use Rattle.hg_model.specs.Links.{no_row}
 use Rattle.hg_model.specs.Gossip.{lacking}
 use Rattle.hg_model.specs.Signing.{accepts_by}
-use Rattle.hg_model.specs.Spelling.{spelling}
 use Rattle.hg_model.specs.Verdict.{is_held}
 use Rattle.hg_model.specs.NodeView.{NodeView}
 use Rattle.hg_gossip.specs.declared.gossip.Taken.{Taken}
@@ -22,7 +21,7 @@ use Rattle.hg_world.specs.declared.step.Step.{Step}
 use Rattle.hg_world.specs.declared.step.Step.TheVariants.{Deliver}
 use Rattle.hg_world.specs.World.{Secrets, WorldView, Site, no_site, node_at, site_at, site_of, with_node_at, with_site}
 use Rattle.hg_world.specs.Steps.{RanSome, after_step, after_steps, node_put, putting_at}
-use Rattle.hg_world.specs.Syncs.{HasMadeAfter, HasPulled, HasSynced, HasTaken, deliver_steps, last_made, make_steps, made_after, pull_steps, pulled, unheld_bytes}
+use Rattle.hg_world.specs.Syncs.{HasMadeAfter, HasPulled, HasSynced, HasTaken, deliver_steps, last_made, make_steps, made_after, pull_steps, pulled, unheld}
 use Rattle.hg_world.specs.Laws.{PullsSetOneNode}
 use Rattle.hg_world.proofs.StepLaws.{after_both, after_more, steps_sites, taken_more}
 
@@ -108,25 +107,24 @@ syncs old now new taker peer last time payload counts made is pull makes =
           ∙ sym (after_both old (pull_steps old taker peer) (make_steps taker (last_made (node_at old peer)) time payload))),
     )
 
--- the bytes of one row more that the taker lacks
-bytes_at : (held rows : List Row) (k : ℕ) (d : Row) → k < length rows →
-    unheld_bytes held (get_or rows k d) ++ map spelling (lacking held (drop (k + 1) rows)) ≡ map spelling (lacking held (drop k rows))
-bytes_at held rows k d inside = rw (add-one, drop-cons rows k d inside) (one (is_held held (get_or rows k d).name) (get_or rows k d) (lacking held (drop (suc k) rows)))
+-- one row more that the taker lacks
+lacked_at : (held rows : List Row) (k : ℕ) (d : Row) → k < length rows → unheld held (get_or rows k d) ++ lacking held (drop (k + 1) rows) ≡ lacking held (drop k rows)
+lacked_at held rows k d inside = rw (add-one, drop-cons rows k d inside) (one (is_held held (get_or rows k d).name) (get_or rows k d) (lacking held (drop (suc k) rows)))
   where
-    one : (b : Bool) (row : Row) (rest : List Row) → cond b [] (spelling row ∷ []) ++ map spelling rest ≡ map spelling (cond (not b) (row ∷ rest) rest)
+    one : (b : Bool) (row : Row) (rest : List Row) → cond b [] (row ∷ []) ++ rest ≡ cond (not b) (row ∷ rest) rest
     one true row rest = refl
     one false row rest = refl
 
-pub bytes_more : (held rows : List Row) (k : ℕ) (before after all : List (List ℕ)) → k < length rows → option_map (λ (row : Row). before ++ unheld_bytes held row) (slice_get rows k) ≡ Some after →
-    before ++ map spelling (lacking held (drop k rows)) ≡ all → after ++ map spelling (lacking held (drop (k + 1) rows)) ≡ all
-bytes_more held rows k before after all inside grown is =
+pub lacked_more : (held rows : List Row) (k : ℕ) (before after all : List Row) → k < length rows → option_map (λ (row : Row). before ++ unheld held row) (slice_get rows k) ≡ Some after →
+    before ++ lacking held (drop k rows) ≡ all → after ++ lacking held (drop (k + 1) rows) ≡ all
+lacked_more held rows k before after all inside grown is =
     let row : Row = get_or rows k no_row in
-    let rest : List (List ℕ) = map spelling (lacking held (drop (k + 1) rows)) in
-    let some : Some (before ++ unheld_bytes held row) ≡ Some after = sym (ap (option_map (λ (r : Row). before ++ unheld_bytes held r)) (slice_get-get_or rows k no_row inside)) ∙ grown in
-    let same : before ++ unheld_bytes held row ≡ after = cc in
-    ap (λ (xs : List (List ℕ)). xs ++ rest) (sym same)
-    ∙ (append_assoc before (unheld_bytes held row) rest
-    ∙ (ap (λ (xs : List (List ℕ)). before ++ xs) (bytes_at held rows k no_row inside) ∙ is))
+    let rest : List Row = lacking held (drop (k + 1) rows) in
+    let some : Some (before ++ unheld held row) ≡ Some after = sym (ap (option_map (λ (r : Row). before ++ unheld held r)) (slice_get-get_or rows k no_row inside)) ∙ grown in
+    let same : before ++ unheld held row ≡ after = cc in
+    ap (λ (xs : List Row). xs ++ rest) (sym same)
+    ∙ (append_assoc before (unheld held row) rest
+    ∙ (ap (λ (xs : List Row). before ++ xs) (lacked_at held rows k no_row inside) ∙ is))
 
 -- events that come to one node set that node
 puts_set : (events : List (List ℕ)) (w : WorldView) (m : ℕ) (counts : Taken) → m < length w.sites →

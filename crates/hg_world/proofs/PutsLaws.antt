@@ -1,6 +1,6 @@
 -- The names of rows whose events were all taken are known
-use Rattle.std.proofs.Common.{◌≡◌, ◌≢◌, inl, inr, ℕ, ◌+◌, ◌<◌, ◌≤◌, true, false, List, [], ◌∷◌, ◌++◌, length, map, fold, Bool, not, cond, Result, Ok, sym, refl, ap, ◌∙◌, subst, arith}
-use Rattle.std.specs.List.{AllByRecursion, filter}
+use Rattle.std.proofs.Common.{◌≡◌, ◌≢◌, inl, inr, ℕ, ◌+◌, ◌<◌, ◌≤◌, true, List, [], ◌∷◌, ◌++◌, length, map, fold, not, Result, Ok, sym, refl, ap, ◌∙◌, subst, arith}
+use Rattle.std.specs.List.{AllByRecursion}
 use Rattle.std.proofs.lemmas.Bool.{cases_eq}
 use Rattle.std.proofs.lemmas.List.{get_or-set_other, length-map}
 use Rattle.hg_model.specs.declared.row.Row.{Row}
@@ -31,18 +31,11 @@ use Rattle.hg_world.specs.Steps.{after_step, after_steps, node_put}
 use Rattle.hg_world.specs.Syncs.{HasTaken, deliver_steps}
 use Rattle.hg_world.specs.Kept.{AreKnown, IsWorld}
 use Rattle.hg_world.proofs.KnownLaws.{held_last, held_more, known_all, known_own}
+use Rattle.hg_world.proofs.SignedLaws.{all_filtered}
 
 -- the rows are events
 abbrev AreEvents : Accepts → List Row → Type 0
 AreEvents accepts rows = AllByRecursion (IsEvent accepts) rows
-
-events_kept : (accepts : Accepts) (keeps : Row → Bool) (rows : List Row) → AreEvents accepts rows → AreEvents accepts (filter keeps rows)
-events_kept accepts keeps [] all = tt
-events_kept accepts keeps (row ∷ rows) all = by (keeps row) (events_kept accepts keeps rows all.1)
-  where
-    by : (b : Bool) → AreEvents accepts (filter keeps rows) → AreEvents accepts (cond b (row ∷ filter keeps rows) (filter keeps rows))
-    by true then = (all.0, then)
-    by false then = then
 
 abbrev result_of : Row → Result Row ByteFault
 result_of row = Ok row
@@ -121,7 +114,7 @@ pulled_all v peer events now counts node is counted all =
     let rows = (sound accepts peer.start.members peer.start.coin peer.start.own peer.history node.coin node.history).events in
     subst (λ (u : NodeView Secrets). AreKnown (node_rows u) (node_rows peer)) (sym node_is)
     (known_all (node_rows v) (node_rows (fold (take_event accepts_by) start (map spelling missing)).node) (node_rows peer) (rows_more (map spelling missing) start)
-    (all_taken missing accepts start (events_kept accepts (λ (row : Row). not (is_held (node_rows v) row.name)) (node_rows peer) rows) number))
+    (all_taken missing accepts start (all_filtered (IsEvent accepts) (λ (row : Row). not (is_held (node_rows v) row.name)) (node_rows peer) rows) number))
 
 -- the nodes of others stay
 others_stay : (w : WorldView) (m k : ℕ) (events : List (List ℕ)) → k ≢ m → node_at (after_steps w (deliver_steps m events)) k ≡ node_at w k

@@ -1,8 +1,9 @@
 //! The members' nodes in one process: a run, step by step.
 //! The layers above use that each call leaves the world after the steps that it names (`after_steps`), and that of the
 //! orders that any two nodes keep at any two moments one is a prefix of the other, where the premises of `IsSafe` hold.
-//! Nodes hand each other bytes: what a node takes it reads and judges itself. Of what it has of each other node it keeps a
-//! number, so that a pull looks at no row twice.
+//! Nodes share events: what one hands to another was read, named and checked once, under the keys that all have, and the
+//! taker judges only what depends on its own rows. Of what it has of each other node it keeps a number, so that a pull
+//! looks at no row twice.
 //!
 //! ```text
 //! /// A member's node settles: how many events its order has then.

@@ -5,17 +5,21 @@ ghost use Rattle.hg_model.specs.NodeView.{IsNode, node_rows};
 ghost use Rattle.hg_model.specs.Places.{table};
 ghost use Rattle.hg_model.specs.Signing.{accepts_by, secrets_of};
 ghost use Rattle.hg_model.specs.Shares.{whole};
+ghost use Rattle.hg_model.specs.Spelling.{spelling};
 ghost use Rattle.hg_node.specs.ChronicleView.{IsFoundBy};
 ghost use Rattle.hg_world.specs.World.{new_node, worker_count};
 ghost use Rattle.hg_world.specs.Steps.{making_at, node_made, node_put, node_published, putting_at};
 ghost use Rattle.hg_world.specs.Kept.{nth_node};
+ghost use Rattle.hg_world.specs.Syncs.{IsSigned};
 
+use hg_event::Event;
 use hg_fame::elect_share;
 use hg_model::{Found, MakeAnswer, Member, Members, Memory, Name, PutAnswer, Share};
 use hg_node::Node;
 use hg_sign::SharedTable;
 use hg_votes::VoteTable;
 use std::alloc::Global;
+use std::sync::Arc;
 
 /// How many rows each worker of a node froze last, or 0.
 pub(crate) type Frozen = [usize; 16];
@@ -122,6 +126,25 @@ pub(crate) fn put(
 {
     let node = &mut nodes[m];
     let answer = node.put(bytes)?;
+    node.rows();
+    Ok(answer)
+}
+
+/// An event that the node at a place accepts as signed comes to it.
+pub(crate) fn put_event(
+    nodes: &mut Vec<Node<SharedTable>>,
+    m: usize,
+    event: &Arc<Event>,
+) -> Result<PutAnswer, Memory>
+    requires place { m < length nodes.old.items }
+    requires signed { IsSigned (nth_node nodes.old.items m).start event.now.value }
+    ensures answer { IfOk result (λ a. a ≡ putting_at (nth_node nodes.old.items m) (spelling event.now.value)) }
+    ensures ok { OnOk result (nodes.new.items ≡ slice_set nodes.old.items m (node_put (nth_node nodes.old.items m) (spelling event.now.value))) }
+    ensures node { OnOk result (IsNode accepts_by (node_put (nth_node nodes.old.items m) (spelling event.now.value))) }
+    ensures err { OnErr result (nodes.new.items ≡ nodes.old.items) }
+{
+    let node = &mut nodes[m];
+    let answer = node.put_event(event)?;
     node.rows();
     Ok(answer)
 }

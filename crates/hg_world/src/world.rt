@@ -3,25 +3,29 @@ ghost use Rattle.std.specs.Option.{option_to_list};
 ghost use Rattle.hg_model.specs.Calls.{IsSettled, publish_answer};
 ghost use Rattle.hg_runs.specs.Safety.{IsSafe};
 ghost use Rattle.hg_world.specs.declared.step.Step.TheVariants.{Make, Deliver, Freeze, Publish};
+ghost use Rattle.hg_graph.specs.RowsWithRoom.{rows_of};
 ghost use Rattle.hg_world.specs.Kept.{AreKnown, AreOfOneList, IsWorld, nth_node, unfrozen};
-ghost use Rattle.hg_gossip.specs.Nodes.{lacked};
+ghost use Rattle.hg_model.specs.Gossip.{lacking};
+ghost use Rattle.hg_model.specs.Spelling.{spelling};
 ghost use Rattle.hg_world.specs.World.{IsMemberOf, IsSiteOf, frozen_by, new_world, node_at, nodes_of, rows_at, run_of, site_at, worker_count};
 ghost use Rattle.hg_world.specs.Steps.{HasRun, HasStepped, IsStepOf, RanSome, after_step, after_steps, making_at, putting_at, settle_steps};
-ghost use Rattle.hg_world.specs.Syncs.{HasMadeAfter, HasPulled, HasSynced, HasTaken, deliver_steps, pull_steps};
+ghost use Rattle.hg_world.specs.Syncs.{AreSigned, HasMadeAfter, HasPulled, HasSynced, HasTaken, IsSigned, bytes_of, deliver_steps, pull_steps};
 
 use crate::events::lacked_from;
 use crate::known::{self, Known};
 use crate::nodes::{self, Frozen};
 use crate::step::{Reply, Step};
+use hg_event::Event;
 use hg_gossip::{Taken, sync_made, with_answer};
 use hg_model::{
-    Bytes, MakeAnswer, Member, Members, Memory, Name, Prefix, PutAnswer, Share, Sight, SyncMade,
+    MakeAnswer, Member, Members, Memory, Name, Prefix, PutAnswer, Share, Sight, SyncMade,
     SyncReport,
 };
 use hg_node::Node;
 use hg_sign::SharedTable;
 use std::alloc::Global;
 use std::marker::Model;
+use std::sync::Arc;
 
 /// The members' nodes, each with what its workers have frozen.
 #[derive(Drop)]
@@ -204,11 +208,23 @@ impl World {
         replies
     }
 
-    /// Puts these events to a member's node, one after the other.
-    fn take(&mut self, member: Member, events: &[Bytes]) -> Result<Taken, Memory>
-        requires { IsMemberOf self.old member }
-        ensures ok { IfOk result (λ counts. HasTaken self.old member events.now counts self.new) }
-        ensures err { OnErr result (RanSome self.old (deliver_steps member events.now) self.new) }
+    /// An event that a member's node accepts as signed comes to it.
+    fn put_event(&mut self, member: Member, event: &Arc<Event>) -> Result<PutAnswer, Memory>
+        requires member { IsMemberOf self.old member }
+        requires signed { IsSigned (node_at self.old member).start event.now.value }
+        ensures answer { IfOk result (λ a. a ≡ putting_at (node_at self.old member) (spelling event.now.value)) }
+        ensures ok { OnOk result (self.new ≡ after_step self.old (Deliver member (spelling event.now.value))) }
+        ensures err { OnErr result (self.new ≡ self.old) }
+    {
+        nodes::put_event(&mut self.nodes, member as usize, event)
+    }
+
+    /// Puts these events, which a member's node accepts as signed, to it, one after the other.
+    fn take(&mut self, member: Member, events: &[Arc<Event>]) -> Result<Taken, Memory>
+        requires member { IsMemberOf self.old member }
+        requires signed { AreSigned (node_at self.old member).start (rows_of events.now) }
+        ensures ok { IfOk result (λ counts. HasTaken self.old member (bytes_of events.now) counts self.new) }
+        ensures err { OnErr result (RanSome self.old (deliver_steps member (bytes_of events.now)) self.new) }
     {
         let _count = events.len();
         let mut counts = Taken {
@@ -216,17 +232,17 @@ impl World {
             refused: 0,
         };
         for event in events {
-            let answer = self.put(member, event.as_slice())?;
+            let answer = self.put_event(member, event)?;
             counts = with_answer(counts, answer);
         }
         Ok(counts)
     }
 
-    /// The bytes of the peer's rows whose names the taker lacks. Looks at no row whose name it is known to have.
-    fn lacked(&self, taker: Member, peer: Member) -> Result<Vec<Bytes>, Memory>
+    /// The peer's events whose names the taker lacks. Looks at no row whose name it is known to have.
+    fn lacked(&self, taker: Member, peer: Member) -> Result<Vec<Arc<Event>>, Memory>
         requires taker { IsMemberOf self.now taker }
         requires peer { IsMemberOf self.now peer }
-        ensures { IfOk result (λ events. events.items ≡ lacked (node_at self.now taker) (node_at self.now peer)) }
+        ensures { IfOk result (λ events. rows_of events.items ≡ lacking (rows_at self.now taker) (rows_at self.now peer)) }
     {
         let (x, y) = (taker as usize, peer as usize);
         let from = known::known_at(&self.known, x, y);
@@ -266,7 +282,7 @@ impl World {
     {
         let events = self.lacked(taker, peer)?;
         let number = events.len() as u64;
-        // That the peer's node is one.
+        // That the peer's node is one, and has the taker's members and keys.
         self.members();
         let counts = self.take(taker, events.as_slice())?;
         if counts.taken == number {

@@ -1,8 +1,9 @@
 use Rattle.std.proofs.Common.{◌≡◌, ◌∙◌, subst, arith}
 use Rattle.std.specs.Prelude.{IfOk}
-use Rattle.hg_model.specs.NodeView.{NodeView}
-use Rattle.hg_gossip.specs.Nodes.{lacked}
-use Rattle.hg_world.specs.World.{Secrets, node_at}
+use Rattle.hg_model.specs.NodeView.{NodeView, node_rows}
+use Rattle.hg_model.specs.Gossip.{lacking}
+use Rattle.hg_world.specs.World.{Secrets, rows_at}
+use Rattle.hg_graph.specs.RowsWithRoom.{rows_of}
 use Rattle.hg_world.proofs.NodeLaws.{node_here}
 use Rattle.hg_world.proofs.TableLaws.{knows_here}
 use Rattle.hg_world.proofs.WorldLaws.{low_in, node_in}
@@ -24,6 +25,6 @@ lacked_from-requires c =
 
 pub returns : goal.returns
 returns c =
-    subst (λ (v : NodeView Secrets). IfOk c.lacked_from.result (λ events. events.items ≡ lacked v (node_at c.args.self.now c.args.peer))) (c.index.ensures ∙ (node_here c.self.inside.nodes.items c.args.taker _ (low_in c.self.inside.members c.self.inside.coin c.self.inside.nodes.items c.self.inside.frozen.items c.args.self.now c.args.taker c.self.invariant.0 c.self.view_is c.requires.taker) ∙ node_in c.self.inside.members c.self.inside.coin c.self.inside.nodes.items c.self.inside.frozen.items c.args.self.now c.args.taker c.self.invariant.0 c.self.view_is c.requires.taker))
-    (subst (λ (v : NodeView Secrets). IfOk c.lacked_from.result (λ events. events.items ≡ lacked c.index.result.now v)) (c.index-2.ensures ∙ (node_here c.self.inside.nodes.items c.args.peer _ (low_in c.self.inside.members c.self.inside.coin c.self.inside.nodes.items c.self.inside.frozen.items c.args.self.now c.args.peer c.self.invariant.0 c.self.view_is c.requires.peer) ∙ node_in c.self.inside.members c.self.inside.coin c.self.inside.nodes.items c.self.inside.frozen.items c.args.self.now c.args.peer c.self.invariant.0 c.self.view_is c.requires.peer))
+    subst (λ (v : NodeView Secrets). IfOk c.lacked_from.result (λ events. rows_of events.items ≡ lacking (node_rows v) (rows_at c.args.self.now c.args.peer))) (c.index.ensures ∙ (node_here c.self.inside.nodes.items c.args.taker _ (low_in c.self.inside.members c.self.inside.coin c.self.inside.nodes.items c.self.inside.frozen.items c.args.self.now c.args.taker c.self.invariant.0 c.self.view_is c.requires.taker) ∙ node_in c.self.inside.members c.self.inside.coin c.self.inside.nodes.items c.self.inside.frozen.items c.args.self.now c.args.taker c.self.invariant.0 c.self.view_is c.requires.taker))
+    (subst (λ (v : NodeView Secrets). IfOk c.lacked_from.result (λ events. rows_of events.items ≡ lacking (node_rows c.index.result.now) (node_rows v))) (c.index-2.ensures ∙ (node_here c.self.inside.nodes.items c.args.peer _ (low_in c.self.inside.members c.self.inside.coin c.self.inside.nodes.items c.self.inside.frozen.items c.args.self.now c.args.peer c.self.invariant.0 c.self.view_is c.requires.peer) ∙ node_in c.self.inside.members c.self.inside.coin c.self.inside.nodes.items c.self.inside.frozen.items c.args.self.now c.args.peer c.self.invariant.0 c.self.view_is c.requires.peer))
     c.lacked_from.ensures)
