@@ -1,6 +1,5 @@
 //! Plays made graphs: a node takes and makes rows, some of them forks, and publishes fame from earlier prefixes, while
-//! the plain program says what its rows must come to; and a few graphs of which that was worked by hand. It tells how
-//! many graphs differ.
+//! the plain program says what its rows must come to. It tells how many graphs differ from that.
 //! `Watched` says that what is elected in an earlier prefix may be published; the comparisons say what is alike.
 #![tactic(auto)]
 
@@ -13,23 +12,18 @@ mod plain;
 mod plan;
 mod trouble;
 mod watched;
-mod worked;
 
 use crate::game::play;
 use crate::trouble::Trouble;
-use crate::worked::{WORKED, play_worked};
 use check_tally::{Tally, exit};
 use std::process::ExitCode;
 
-/// How many graphs are made and played.
+/// How many graphs are played.
 const GRAPHS: u32 = 50;
 
-/// Plays all graphs, the worked ones first, and tells how many there are and how many of them differ.
+/// Plays all graphs, and tells how many there are and how many of them differ.
 fn play_all<R: AllocGlobal + Print>(rt: &R) -> Result<Tally, Trouble> {
     let mut tally = Tally::new();
-    for number in 0..WORKED {
-        tally = tally.with(play_worked(rt.alloc(), number)?);
-    }
     for number in 0..GRAPHS {
         tally = tally.with(play(rt.alloc(), number)?);
     }
