@@ -1,0 +1,4 @@
+pub mod PrefixLaws
+pub mod PositionLaws
+pub mod MoveLaws
+pub mod TurnLaws
