@@ -14,6 +14,12 @@ use Rattle.hg_board.specs.Seats.{Place, Stand}
 abbrev pub AreMarks : Share → List Change → List ℕ → Type 0
 AreMarks share h positions = AllByRecursion (λ q. (len : ℕ) × (slice_get h q ≡ Some (Marked len share))) positions
 
+-- its calls added publications of the share alone
+pub record OnlyMarks {V : Type 0} (share : Share) (old new : Stand V) : Type 0 where
+  pub more : List ℕ
+  pub mine : new.mine ≡ old.mine ++ more
+  pub marks : AreMarks share new.seen more
+
 -- how many witnesses the node marks by a change
 abbrev pub marked_by : {V : Type 0} → NodeView V → Option Change → ℕ
 marked_by node None = 0
@@ -26,13 +32,7 @@ module _ {V : Type 0} (p : Place V) where
   abbrev pub marked_at : List Change → List ℕ → ℕ
   marked_at h positions = sum_by (λ q. marked_by (node_at p.start (take q h)) (slice_get h q)) positions
 
-  -- its calls added publications of the share alone
-  pub record OnlyMarks (share : Share) (old new : Stand V) : Type 0 where
-    pub more : List ℕ
-    pub mine : new.mine ≡ old.mine ++ more
-    pub marks : AreMarks share new.seen more
-
-  -- and they marked so many witnesses
+  -- and these marked so many witnesses
   pub record MarksOf (share : Share) (old new : Stand V) (count : ℕ) : Type 0 where
     pub more : List ℕ
     pub mine : new.mine ≡ old.mine ++ more
