@@ -37,7 +37,7 @@ module _ {V : Type 0} (p : Place V) where
     pub more : List ℕ
     pub mine : new.mine ≡ old.mine ++ more
     pub marks : AreMarks share new.seen more
-    pub count : count ≡ marked_at new.seen more
+    pub counted : count ≡ marked_at new.seen more
 
   -- each witness of the share that the graph of the old history decides has its mark in the new one
   abbrev pub MarksAll : Share → Stand V → Stand V → Type 0
