@@ -1,5 +1,5 @@
 -- What is so once two seats are one, and in the end
-use Rattle.std.proofs.Common.{◌≡◌, ℕ, ◌+◌, ◌<◌, ◌≤◌, Bool, true, false, cond, nat_le, List, [], ◌++◌, length, Option, Some, refl, sym, ap, ◌∙◌, subst}
+use Rattle.std.proofs.Common.{◌≡◌, ℕ, ◌≤◌, Bool, true, false, cond, nat_le, List, ◌++◌, length, Option, refl, sym, ap, ◌∙◌, subst}
 use mathlib.Core.Option.{some}
 use lib.ListN.{get_elem?}
 use Rattle.atomic_table.specs.Seated.{TableId}
@@ -11,7 +11,7 @@ use Rattle.hg_model.specs.Signing.{Accepts}
 use Rattle.hg_board.specs.Positions.{times, AreBelow}
 use Rattle.hg_board.specs.declared.view.View.{View}
 use Rattle.hg_board.specs.Table.{Orderly, node_at}
-use Rattle.hg_board.specs.Steps.{Hand, HasCompared, joined, longer, shorter}
+use Rattle.hg_board.specs.Steps.{Hand, HasCompared, joined, longer}
 use Rattle.hg_board.specs.Seats.{IsOf, place, stand_of}
 use Rattle.hg_board.specs.Turns.{Enters, inside_at}
 use Rattle.hg_board.specs.Calls.{Absorbs, IsWhole}

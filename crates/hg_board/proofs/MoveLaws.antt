@@ -1,5 +1,5 @@
 -- Each kind of step keeps the rule, and tells what it tells
-use Rattle.std.proofs.Common.{◌≡◌, ◌≢◌, ℕ, zero, suc, ◌+◌, ◌%◌, ◌^◌, ◌<◌, ◌≤◌, eqb, List, [], ◌∷◌, ◌++◌, map, length, get_or, set, Option, Some, cond, sum_by, refl, sym, ap, ◌∙◌, subst, ⊎_elim, arith, length-append}
+use Rattle.std.proofs.Common.{◌≡◌, ◌≢◌, ℕ, suc, ◌+◌, ◌%◌, ◌^◌, ◌<◌, ◌≤◌, eqb, List, [], ◌∷◌, ◌++◌, map, length, get_or, set, Option, Some, cond, sum_by, refl, sym, ap, ◌∙◌, subst, ⊎_elim, arith, length-append}
 use mathlib.Core.Option.{none, some, some-ne-none}
 use mathlib.Core.Option as maybe
 use lib.ListN.{get_elem?}
@@ -18,8 +18,8 @@ use Rattle.hg_board.specs.declared.view.Hold.{Hold}
 use Rattle.hg_board.specs.declared.view.Hold.TheVariants.{Free, Taken, Loaded}
 use Rattle.hg_board.specs.declared.view.View.{View}
 use Rattle.hg_board.specs.Table.{all_parts, turns_of, node_at, view, first_view, spent, Holds, Fits, Orderly}
-use Rattle.hg_board.specs.Steps.{Hand, HasCompared, HasTaken, IsAtRest, after_split, compared, given, joined, loaded, raised, split_off, taken, with_hold}
-use Rattle.hg_board.proofs.PrefixLaws.{longest, of_longer, of_shorter, prefix_front, prefix_length, prefix_none, prefix_of_prefix, prefix_self}
+use Rattle.hg_board.specs.Steps.{Hand, IsAtRest, after_split, compared, given, joined, loaded, raised, split_off, taken, with_hold}
+use Rattle.hg_board.proofs.PrefixLaws.{longest, of_longer, of_shorter, prefix_length, prefix_none, prefix_of_prefix, prefix_self}
 use Rattle.hg_board.proofs.PositionLaws.{alone_in_sum, below_append, below_more, once_few, once_none, once_push, one_in_sum, sum_push, sum_replaced, times-append, times_none, times_push, two_in_sum}
 
 is_free : (hold : Hold) → turns_of hold ≡ 0 → hold ≡ Free
@@ -157,8 +157,7 @@ module _ {V : Type 0} where
         let at_home = o.home free in
         let node : NodeView V = node_at start o.history in
         let w : View V = with_hold v (Taken o.history) in
-        let f = o.each id v me in
-        (
+        let f = o.each id v me in (
           w,
           takes 0 (Some node),
           ap (λ homes. get_elem? homes 0) at_home,
@@ -200,8 +199,8 @@ module _ {V : Type 0} where
           tt,
           looked s o id 1 v w me fits (sym (ap turns_of has)) refl refl,
           λ h has_h.
-          let also : h ≡ o.history = held_as start o.history v (Taken h) f has_h in
-          (count_is s o ∙ ap length (sym also), λ i. (view v.start (sym also i) v.told v.mine v.parts Loaded, c)),
+              let also : h ≡ o.history = held_as start o.history v (Taken h) f has_h in
+              (count_is s o ∙ ap length (sym also), λ i. (view v.start (sym also i) v.told v.mine v.parts Loaded, c)),
         )
 
     -- 4, raise the count, for a change that is named
@@ -368,7 +367,7 @@ module _ {V : Type 0} where
         let g = o.each other w there in
         let size = longest v.seen w.seen in
         let sums : (weight : View V → ℕ) → sum_by weight (set views other spent) + weight w + weight v ≡ sum_by weight s.views + weight both + weight spent =
-            λ weight. omega (arith, sum_replaced weight s.views id v both me, sum_replaced weight views other w spent them) in
+        λ weight. omega (arith, sum_replaced weight s.views id v both me, sum_replaced weight views other w spent them) in
         let fits : Fits start o.history both = record {
           seen = of_longer (λ h. IsPrefix h o.history) v.seen w.seen f.seen g.seen;
           told = of_shorter (λ h. IsPrefix h o.history) v.seen w.seen f.seen g.seen;

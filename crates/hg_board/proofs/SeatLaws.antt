@@ -1,5 +1,5 @@
 -- What a call did to its seat, from the steps inside
-use Rattle.std.proofs.Common.{◌≡◌, ℕ, ◌+◌, ◌<◌, ◌≤◌, Bool, true, false, cond, eqb, List, [], ◌∷◌, ◌++◌, length, drop, Result, Ok, Err, Option, Some, refl, sym, ap, ◌∙◌, subst, arith}
+use Rattle.std.proofs.Common.{◌≡◌, ℕ, ◌≤◌, Bool, true, false, cond, eqb, List, [], ◌∷◌, ◌++◌, length, drop, Result, Ok, Err, Some, refl, sym, ap, ◌∙◌, subst, arith}
 use Rattle.std.specs.Prelude.{IfOk, OnErr, OnOk}
 use Rattle.std.proofs.lemmas.Bool.{true≢false}
 use Rattle.std.proofs.lemmas.List.{append-nil}
@@ -23,14 +23,14 @@ use Rattle.hg_model.specs.Signing.{Accepts}
 use Rattle.hg_node.specs.ChronicleView.{IsFoundBy}
 use Rattle.hg_history.proofs.FoundLaws.{found_lasts}
 use Rattle.hg_history.proofs.StateLaws.{prefix_more}
-use Rattle.hg_gossip.specs.Holding.{Makes, Puts, Seen, Waits, positions_from, rules_alone, seen_whole, with_own}
+use Rattle.hg_gossip.specs.Holding.{Seen, Waits, positions_from, rules_alone, seen_whole, with_own}
 use Rattle.hg_gossip.proofs.AloneLaws.{waits_alone}
 use Rattle.hg_board.specs.declared.view.View.{View}
 use Rattle.hg_board.specs.Table.{node_at}
 use Rattle.hg_board.specs.Steps.{Hand}
 use Rattle.hg_board.specs.Seats.{IsOf, Place, Stand, place, seen_by, stand_of}
 use Rattle.hg_board.specs.Turns.{Enters, IsGrown, IsInside, inside_at, mine_with, outside_at}
-use Rattle.hg_board.specs.Calls.{Publishes, SeatMakes, SeatPublishes, SeatPuts, SeatWaits, Stays, rules_shared}
+use Rattle.hg_board.specs.Calls.{SeatMakes, SeatPublishes, SeatPuts, SeatWaits, Stays, rules_shared}
 use Rattle.hg_board.proofs.PrefixLaws.{prefix_front}
 use Rattle.hg_board.proofs.TurnLaws.{drop_front}
 

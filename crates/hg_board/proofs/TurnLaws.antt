@@ -1,5 +1,5 @@
 -- What a seat has between the steps of one call
-use Rattle.std.proofs.Common.{◌≡◌, ℕ, zero, suc, ◌+◌, ◌<◌, ◌≤◌, List, [], ◌∷◌, ◌++◌, length, drop, get_or, Option, Some, None, refl, sym, ap, ◌∙◌, subst, arith, length-append}
+use Rattle.std.proofs.Common.{◌≡◌, ℕ, ◌<◌, ◌≤◌, List, [], ◌∷◌, ◌++◌, length, drop, get_or, Option, Some, None, refl, sym, ap, ◌∙◌, subst, arith, length-append}
 use Rattle.std.specs.Prelude.{IsSome}
 use Rattle.std.proofs.lemmas.List.{append-nil}
 use Rattle.atomic_table.specs.Table.{Step, rest}
@@ -48,7 +48,7 @@ module _ {V : Type 0} (accepts : V → Accepts) (start : NodeView V) where
   took_from m n from t =
       let same : t.start ≡ start = same_some t.start start (sym t.from ∙ from) in
       subst (λ (x : NodeView V). (IsNode accepts (node_at x t.history)) → n ≡ (with_hold m.0 (Taken t.history), (0, Some (node_at x t.history)) ∷ []) → Took m n) (sym same)
-          (λ node is. record { history = t.history; seen = t.seen; node = node; taken = is }) t.node t.taken
+      (λ node is. record { history = t.history; seen = t.seen; node = node; taken = is }) t.node t.taken
 
   pub took : (m n : Hand V) (step : Step (Option (NodeView V))) (found : ℕ) → m.0.start ≡ Some start → taken accepts step m found n → found ≡ 0 → Took m n
   took m n step found from told hit = took_from m n from (told.0 hit)

@@ -1,5 +1,5 @@
 -- What workers do with a seat: publish what a share of the witnesses decides
-use Rattle.std.specs.Prelude.{◌≡◌, ℕ, ◌<◌, Bool, List, ◌++◌, length, take, sum_by, Option, Some, None, slice_get}
+use Rattle.std.specs.Prelude.{◌≡◌, ℕ, Bool, List, ◌++◌, take, sum_by, Option, Some, None, slice_get}
 use Rattle.std.specs.List.{AllByRecursion}
 use Rattle.hg_model.specs.Shares.{Share, share_fame}
 use Rattle.hg_model.specs.Fame.{mark_at}

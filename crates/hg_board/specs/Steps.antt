@@ -1,5 +1,5 @@
 -- What each kind of step tells its seat, and what split and join make of views
-use Rattle.std.specs.Prelude.{◌≡◌, ◌≢◌, ℕ, ◌+◌, ◌-◌, ◌<◌, ◌≤◌, List, [], ◌∷◌, ◌++◌, length, cond, nat_le, Option, Some, None}
+use Rattle.std.specs.Prelude.{◌≡◌, ◌≢◌, ℕ, ◌+◌, ◌-◌, ◌<◌, ◌≤◌, List, [], ◌∷◌, ◌++◌, length, cond, nat_le, Option, Some}
 use Rattle.atomic_table.specs.Table.{Me, Step}
 use Rattle.hg_model.specs.Orders.{IsPrefix}
 use Rattle.hg_model.specs.History.{Change}
@@ -83,7 +83,6 @@ module _ {V : Type 0} where
   -- 8, join a seat into another
   abbrev pub joined : View V → View V → View V
   joined v w = view v.start (longer v.seen w.seen) (shorter v.seen w.seen) (v.mine ++ w.mine) (v.parts + w.parts) v.hold
-
 
   -- a seat between two calls
   pub record IsAtRest (m : Hand V) : Type 0 where

@@ -28,8 +28,7 @@ impl<V: Signer> TableRule<Option<Node<V>>, View<V>, Snapshot<Node<V>>> for Rule<
 pub type Board<V> = Table<Option<Node<V>>, View<V>, Snapshot<Node<V>>, Rule<V>, Global>;
 
 /// The board as its callers step on it.
-pub type Steps<V> =
-    atomic_table::Shared<Option<Node<V>>, View<V>, Snapshot<Node<V>>, Rule<V>>;
+pub type Steps<V> = atomic_table::Shared<Option<Node<V>>, View<V>, Snapshot<Node<V>>, Rule<V>>;
 
 pub type RawSeat<V> = atomic_table::Seat<Option<Node<V>>, View<V>>;
 

@@ -1,9 +1,9 @@
-use Rattle.std.proofs.Common.{◌≡◌, ◌<◌, [], ◌∷◌, Some, sym, ap, ◌∙◌, arith}
+use Rattle.std.proofs.Common.{◌≡◌, [], ◌∷◌, Some, sym, ap, ◌∙◌, arith}
 use mathlib.Core.Option.{none}
 use Rattle.atomic_table.specs.Table.{step}
 use Rattle.hg_board.specs.Table.{node_at}
 use Rattle.hg_board.proofs.MoveLaws.{gives_at}
-use Rattle.hg_board.proofs.TurnLaws.{empty_handed, holds_one, put_in, went_out}
+use Rattle.hg_board.proofs.TurnLaws.{put_in, went_out}
 use Rattle.hg_board.proofs.turn.leave.Goals as goal
 
 pub store-requires : goal.store-requires

@@ -1,6 +1,6 @@
-use Rattle.std.proofs.Common.{◌≡◌, ◌<◌, length, arith}
+use Rattle.std.proofs.Common.{◌<◌, length, arith}
 use Rattle.hg_board.specs.Table.{node_at}
-use Rattle.hg_board.proofs.TurnLaws.{grown_none, grown_one, raised_none}
+use Rattle.hg_board.proofs.TurnLaws.{grown_one}
 use Rattle.hg_board.proofs.turn.raise_if_changed.Goals as goal
 
 pub raise-requires-clause-node : goal.raise-requires-clause-node

@@ -1,4 +1,4 @@
-use Rattle.std.proofs.Common.{◌≡◌, ◌+◌, ◌<◌, ap, ◌∙◌, sym, subst, arith}
+use Rattle.std.proofs.Common.{◌≡◌, ◌+◌, ap, ◌∙◌, subst, arith}
 use Rattle.hg_board.specs.Seats.{place, stand_of}
 use Rattle.hg_board.specs.Calls.{Absorbs}
 use Rattle.hg_board.proofs.MoveLaws.{compares, joins}

@@ -1,4 +1,4 @@
-use Rattle.std.proofs.Common.{◌≡◌, ◌∙◌, map, subst}
+use Rattle.std.proofs.Common.{◌≡◌, ◌∙◌, subst}
 use Rattle.std.specs.Prelude.{IfOk}
 use Rattle.hg_gossip.specs.Holding.{parcel_beyond, seen_whole}
 use Rattle.hg_board.specs.Seats.{stand_of}

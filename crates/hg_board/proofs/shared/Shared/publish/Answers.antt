@@ -1,5 +1,4 @@
 use Rattle.std.proofs.Common.{◌∙◌}
-use Rattle.std.specs.Prelude.{IfOk, OnErr}
 use Rattle.hg_board.specs.Seats.{stand_of}
 use Rattle.hg_board.specs.Calls.{SeatPublishes, Stays}
 use Rattle.hg_board.proofs.SeatLaws.{as_seen, found_inside, found_seen, grown_inside, grown_stays, of_inside, publish_grown, publishes}

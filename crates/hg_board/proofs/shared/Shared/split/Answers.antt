@@ -1,4 +1,4 @@
-use Rattle.std.proofs.Common.{◌<◌, ap, arith}
+use Rattle.std.proofs.Common.{ap, arith}
 use Rattle.hg_board.proofs.MoveLaws.{splits}
 use Rattle.hg_board.proofs.SeatLaws.{same_table}
 use Rattle.hg_board.proofs.shared.Shared.split.Goals as goal
