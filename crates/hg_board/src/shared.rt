@@ -1,0 +1,255 @@
+ghost use Rattle.std.specs.Prelude.{◌≡◌, ◌<◌, IfErr, IfOk, OnErr};
+ghost use Rattle.std.specs.Option.{option_to_list};
+ghost use Rattle.hg_model.specs.NodeView.{kept_of};
+ghost use Rattle.hg_node.specs.ChronicleView.{IsFoundBy, graph_in};
+ghost use Rattle.hg_gossip.specs.Holding.{names_in, parcel_beyond};
+ghost use Rattle.hg_board.specs.Seats.{IsOf, seen_by};
+ghost use Rattle.hg_board.specs.Calls.{Absorbs, IsStarted, IsWhole, SeatMakes, SeatPublishes, SeatPuts, SeatWaits, Stays, after_split, split_off};
+
+use crate::rule::{Board, Both, Compare, OnePart};
+use crate::seat::Seat;
+use crate::turn::{enter, leave, leave_changed};
+use atomic_table::{Refused, Table};
+use hg_gossip::Holder;
+use hg_graph::FrozenGraph;
+use hg_model::{Found, MakeAnswer, Memory, Name, Parcel, Placed, PutAnswer};
+use hg_node::Node;
+use hg_sign::Signer;
+use std::alloc::Global;
+use std::marker::Model;
+use std::snapshot::Snapshot;
+use std::sync::Wait;
+
+/// A node between threads. Each call needs a seat of it, and answers as the node does at the history that it then finds,
+/// of which the seat had seen a prefix.
+#[derive(Drop)]
+pub struct Shared<V: Signer> {
+    table: Board<V>,
+}
+
+impl<V: Signer> Model for Shared<V> {
+    ghost use Rattle.hg_board.specs.Seats.{Place, place};
+    ghost use Rattle.hg_board.specs.Turns.{IsSized};
+
+    ghost Value = { Place V };
+
+    ghost view = { λ s. place s.table.shared.table_id s.table.shared.key.value };
+
+    ghost invariant = { λ s. IsSized s.table.shared.table_id };
+}
+
+/// How many parts the first seat has.
+const ALL_PARTS: u32 = 65_536;
+
+impl<V: Signer + Drop> Shared<V> {
+    /// Shares a node, with its first seat. Without memory the node comes back.
+    pub fn start(alloc: Global, node: Node<V>) -> Result<(Shared<V>, Seat<V>), Node<V>>
+        ensures ok { IfOk result (λ r. IsStarted V.accepts r.0 node r.1) }
+        ensures err { IfErr result (λ back. back ≡ node) }
+    {
+        node.rows();
+        let key = Snapshot::of(&node);
+        let count = node.changes() as u64;
+        let Ok(mut slots) = Vec::with_capacity(alloc, 1) else {
+            return Err(node);
+        };
+        slots.push_reserved(Some(node));
+        match Table::new(alloc, &[0, count], slots, &key) {
+            Ok((table, raw)) => Ok((
+                Shared { table },
+                Seat {
+                    raw,
+                    parts: ALL_PARTS,
+                },
+            )),
+            Err(Refused { mut slots }) => Err(slots.pop().unwrap().unwrap()),
+        }
+    }
+
+    /// Puts the bytes of an event. Only to accept it takes memory.
+    pub fn put<R: Wait>(
+        &self,
+        rt: &R,
+        seat: &mut Seat<V>,
+        bytes: &[u8],
+    ) -> Result<PutAnswer, Memory>
+        requires { IsOf self.now seat.old }
+        ensures stays { Stays V.accepts self.now seat.old seat.new }
+        ensures ok { IfOk result (SeatPuts V.accepts self.now seat.old bytes.now seat.new) }
+        ensures err { OnErr result (SeatWaits V.accepts self.now seat.old seat.new) }
+    {
+        let steps = &self.table.shared;
+        let raw = &mut seat.raw;
+        let (mut node, count) = enter(rt, steps, raw);
+        let answer = node.put(bytes);
+        leave_changed(steps, raw, node, count);
+        answer
+    }
+
+    /// Makes an event of the node's member on its last one, with this other-parent, or its first one without parents.
+    /// The time is any, in no unit of ours. To tell that the event is refused before it is signed takes no memory.
+    pub fn make<R: Wait>(
+        &self,
+        rt: &R,
+        seat: &mut Seat<V>,
+        other: Option<Name>,
+        time: u64,
+        payload: &[u8],
+    ) -> Result<MakeAnswer, Memory>
+        requires { IsOf self.now seat.old }
+        ensures stays { Stays V.accepts self.now seat.old seat.new }
+        ensures ok { IfOk result (SeatMakes V.accepts self.now seat.old (option_to_list other) time payload.now seat.new) }
+        ensures err { OnErr result (SeatWaits V.accepts self.now seat.old seat.new) }
+    {
+        let steps = &self.table.shared;
+        let raw = &mut seat.raw;
+        let (mut node, count) = enter(rt, steps, raw);
+        let answer = node.make(other, time, payload);
+        leave_changed(steps, raw, node, count);
+        answer
+    }
+
+    /// Publishes what a share has found in the first rows of the graph that the seat has seen: each found witness without
+    /// a mark gets it, and what is ordered then is paid. Answers how many were marked. Takes no memory.
+    pub fn publish<R: Wait>(&self, rt: &R, seat: &mut Seat<V>, found: &Found) -> u32
+        requires seat { IsOf self.now seat.old }
+        requires found { IsFoundBy (seen_by self.now seat.old).node found.now }
+        ensures stays { Stays V.accepts self.now seat.old seat.new }
+        ensures marks { SeatPublishes V.accepts self.now seat.old found.now.len found.now.share seat.new result }
+    {
+        let steps = &self.table.shared;
+        let raw = &mut seat.raw;
+        let (mut node, count) = enter(rt, steps, raw);
+        let marked = node.publish(found);
+        leave_changed(steps, raw, node, count);
+        marked
+    }
+
+    /// The graph that the seat then has seen, as a value of its own.
+    pub fn freeze<R: Wait>(&self, rt: &R, seat: &mut Seat<V>) -> Result<FrozenGraph, Memory>
+        requires { IsOf self.now seat.old }
+        ensures stays { Stays V.accepts self.now seat.old seat.new }
+        ensures waits { SeatWaits V.accepts self.now seat.old seat.new }
+        ensures graph { IfOk result (λ frozen. frozen ≡ graph_in (seen_by self.now seat.new).node) }
+    {
+        let steps = &self.table.shared;
+        let raw = &mut seat.raw;
+        let (node, _count) = enter(rt, steps, raw);
+        let frozen = node.freeze();
+        leave(steps, raw, node);
+        frozen
+    }
+
+    /// The names of the rows, in the order in which they came.
+    pub fn held<R: Wait>(
+        &self,
+        rt: &R,
+        alloc: Global,
+        seat: &mut Seat<V>,
+    ) -> Result<Vec<Name>, Memory>
+        requires { IsOf self.now seat.old }
+        ensures stays { Stays V.accepts self.now seat.old seat.new }
+        ensures waits { SeatWaits V.accepts self.now seat.old seat.new }
+        ensures names { IfOk result (λ names. names.items ≡ names_in (seen_by self.now seat.new)) }
+    {
+        let steps = &self.table.shared;
+        let raw = &mut seat.raw;
+        let (mut node, _count) = enter(rt, steps, raw);
+        let names = node.held(alloc);
+        leave(steps, raw, node);
+        names
+    }
+
+    /// The bytes of the rows that have none of the names, in the order in which they came, and the name of the last row
+    /// that the node made, if it made any.
+    pub fn missing<R: Wait>(
+        &self,
+        rt: &R,
+        alloc: Global,
+        seat: &mut Seat<V>,
+        names: &[Name],
+    ) -> Result<Parcel, Memory>
+        requires { IsOf self.now seat.old }
+        ensures stays { Stays V.accepts self.now seat.old seat.new }
+        ensures waits { SeatWaits V.accepts self.now seat.old seat.new }
+        ensures parcel { IfOk result (λ parcel. parcel ≡ parcel_beyond names.now (seen_by self.now seat.new)) }
+    {
+        let steps = &self.table.shared;
+        let raw = &mut seat.raw;
+        let (mut node, _count) = enter(rt, steps, raw);
+        let parcel = node.missing(alloc, names);
+        leave(steps, raw, node);
+        parcel
+    }
+
+    /// What the closed rounds have received, in order.
+    pub fn kept_copy<R: Wait>(
+        &self,
+        rt: &R,
+        alloc: Global,
+        seat: &mut Seat<V>,
+    ) -> Result<Vec<Placed>, Memory>
+        requires { IsOf self.now seat.old }
+        ensures stays { Stays V.accepts self.now seat.old seat.new }
+        ensures waits { SeatWaits V.accepts self.now seat.old seat.new }
+        ensures order { IfOk result (λ order. order.items ≡ kept_of (seen_by self.now seat.new).node) }
+    {
+        let steps = &self.table.shared;
+        let raw = &mut seat.raw;
+        let (node, _count) = enter(rt, steps, raw);
+        let order = copied(alloc, node.kept());
+        leave(steps, raw, node);
+        order
+    }
+
+    /// A seat for another caller, which has seen as much. It gets one part of this one, which has two at least.
+    pub fn split(&self, seat: &mut Seat<V>) -> Seat<V>
+        requires seat { IsOf self.now seat.old }
+        requires parts { 1 < seat.old.parts }
+        ensures old { seat.new ≡ after_split seat.old }
+        ensures new { result ≡ split_off seat.old }
+    {
+        let raw = &mut seat.raw;
+        let other = self.table.shared.split_seat::<OnePart>(raw);
+        seat.parts -= 1;
+        Seat {
+            raw: other,
+            parts: 1,
+        }
+    }
+
+    /// Takes another seat into this one. Of the histories that they have seen it keeps the longer.
+    pub fn absorb(&self, seat: &mut Seat<V>, other: Seat<V>)
+        requires seat { IsOf self.now seat.old }
+        requires other { IsOf self.now other }
+        ensures { Absorbs V.accepts self.now seat.old other seat.new }
+    {
+        let steps = &self.table.shared;
+        let Seat { raw: other, parts } = other;
+        let raw = &mut seat.raw;
+        steps.join_seat::<Both>(raw, other);
+        steps.load::<Compare>(raw, 1);
+        seat.parts += parts;
+    }
+
+    /// The node, with the whole history.
+    pub fn finish<R: Wait>(self, rt: &R, seat: Seat<V>) -> Node<V>
+        requires { IsOf self seat }
+        ensures { IsWhole V.accepts self seat result }
+    {
+        let Shared { table } = self;
+        let Seat { mut raw, parts: _ } = seat;
+        let (node, _count) = enter(rt, &table.shared, &mut raw);
+        let mut closed = table.close_with(raw);
+        drop(closed.take(0));
+        closed.free();
+        node
+    }
+}
+
+/// A copy of the order.
+fn copied(alloc: Global, order: &[Placed]) -> Result<Vec<Placed>, Memory>
+    ensures { IfOk result (λ copy. copy.items ≡ order.now) }
+{
+    Ok(Vec::from_slice(alloc, order)?)
+}

@@ -1,0 +1,115 @@
+// How a seat comes in, with the turn and the node, and goes out.
+ghost use Rattle.std.specs.Prelude.{◌≡◌, ◌++◌, ◌∷◌, [], length};
+ghost use Rattle.hg_model.specs.NodeView.{IsNode};
+ghost use Rattle.hg_board.specs.Table.{node_at};
+ghost use Rattle.hg_board.specs.Steps.{IsAtRest};
+ghost use Rattle.hg_board.specs.Turns.{Enters, IsGrown, IsInside, IsSized, inside_at, mine_with, outside_at};
+
+use crate::rule::{Give, Look, Naming, Raise, RawSeat, Steps, Take};
+use hg_node::Node;
+use hg_sign::Signer;
+use std::marker::Brand;
+use std::sync::Wait;
+use std::thread;
+
+/// The word that is 1 where a seat holds the turn, else 0.
+const TURN: usize = 0;
+
+/// The word that is the history's length.
+const COUNT: usize = 1;
+
+/// The slot of the node.
+const NODE: usize = 0;
+
+/// Takes the turn, loads the count and moves the node out.
+pub fn enter<V: Signer + Drop, R: Wait>(
+    rt: &R,
+    steps: &Steps<V>,
+    raw: &mut RawSeat<V>,
+) -> (Node<V>, u64)
+    requires size { IsSized steps.now.table_id }
+    requires table { raw.old.table_id ≡ steps.now.table_id }
+    requires rest { IsAtRest raw.old.me }
+    requires start { raw.old.me.0.start ≡ Some steps.now.key.value }
+    ensures table { raw.new.table_id ≡ raw.old.table_id }
+    ensures seat { Enters V.accepts steps.now.key.value raw.old.me raw.new.me result.0 result.1 }
+{
+    for _ in rt.forever() {
+        if steps.compare_exchange::<Take>(raw, TURN, 0, 1) == 0 {
+            let count = steps.load::<Look>(raw, COUNT);
+            let node = steps.exchange(raw, NODE, None).unwrap();
+            return (node, count);
+        }
+        thread::yield_now();
+    }
+    unreachable!()
+}
+
+/// Moves the node in and gives the turn. The node has the history that the seat has seen.
+pub fn leave<V: Signer + Drop>(steps: &Steps<V>, raw: &mut RawSeat<V>, node: Node<V>)
+    requires size { IsSized steps.now.table_id }
+    requires table { raw.old.table_id ≡ steps.now.table_id }
+    requires inside { IsInside raw.old.me }
+    requires node { node ≡ node_at steps.now.key.value raw.old.me.0.seen }
+    ensures table { raw.new.table_id ≡ raw.old.table_id }
+    ensures seat { raw.new.me ≡ outside_at raw.old.me.0 raw.old.me.0.seen raw.old.me.0.mine }
+{
+    drop(steps.exchange(raw, NODE, Some(node)));
+    steps.store::<Give>(raw, TURN, 0);
+}
+
+/// Raises the count for the one change that the node has more than the seat has seen.
+fn raise<V: Signer + Drop, N: Naming>(steps: &Steps<V>, raw: &mut RawSeat<V>, node: &Node<V>)
+    requires size { IsSized steps.now.table_id }
+    requires table { raw.old.table_id ≡ steps.now.table_id }
+    requires inside { IsInside raw.old.me }
+    requires node { node.now ≡ node_at steps.now.key.value (raw.old.me.0.seen ++ N.change ∷ []) }
+    ensures table { raw.new.table_id ≡ raw.old.table_id }
+    ensures seat { raw.new.me ≡ inside_at raw.old.me.0 node.now.history (mine_with raw.old.me.0 node.now.history) }
+{
+    // It is a node's history, and its length fits the word.
+    node.rows();
+    node.changes();
+    steps.fetch_add::<Raise<N>>(raw, COUNT, 1);
+}
+
+/// Raises the count where the node has a change that the count has not.
+fn raise_if_changed<V: Signer + Drop>(
+    steps: &Steps<V>,
+    raw: &mut RawSeat<V>,
+    node: &Node<V>,
+    count: u64,
+)
+    requires size { IsSized steps.now.table_id }
+    requires table { raw.old.table_id ≡ steps.now.table_id }
+    requires inside { IsInside raw.old.me }
+    requires count { count ≡ length raw.old.me.0.seen }
+    requires node { IsGrown (node_at steps.now.key.value raw.old.me.0.seen) node.now }
+    ensures table { raw.new.table_id ≡ raw.old.table_id }
+    ensures seat { raw.new.me ≡ inside_at raw.old.me.0 node.now.history (mine_with raw.old.me.0 node.now.history) }
+{
+    if node.changes() as u64 > count {
+        raise::<V, Brand>(steps, raw, node);
+    }
+}
+
+/// The same as `leave`, after a call that may have changed the node once: then the count is raised first.
+pub fn leave_changed<V: Signer + Drop>(
+    steps: &Steps<V>,
+    raw: &mut RawSeat<V>,
+    node: Node<V>,
+    count: u64,
+)
+    requires size { IsSized steps.now.table_id }
+    requires table { raw.old.table_id ≡ steps.now.table_id }
+    requires inside { IsInside raw.old.me }
+    requires count { count ≡ length raw.old.me.0.seen }
+    requires node { IsGrown (node_at steps.now.key.value raw.old.me.0.seen) node }
+    ensures table { raw.new.table_id ≡ raw.old.table_id }
+    ensures seat { raw.new.me ≡ outside_at raw.old.me.0 node.history (mine_with raw.old.me.0 node.history) }
+    ensures node { IsNode V.accepts node }
+{
+    node.rows();
+    raise_if_changed(steps, raw, &node, count);
+    leave(steps, raw, node);
+}
