@@ -129,6 +129,7 @@ module _ {V : Type 0} (accepts : V → Accepts) where
         others = inside.seen.0;
         alone = λ e. absurd (true≢false e);
         later = ap (λ (h : List Change). known h m.0.mine) inside.seen.1;
+        lawful = λ is. inside.lawful;
       }
 
       -- the changes of its own

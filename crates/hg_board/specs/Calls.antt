@@ -7,7 +7,7 @@ use Rattle.hg_model.specs.Orders.{IsPrefix}
 use Rattle.hg_model.specs.NodeView.{NodeView, IsNode}
 use Rattle.hg_model.specs.Calls.{publish_answer, publish_changes}
 use Rattle.hg_model.specs.Signing.{Accepts}
-use Rattle.hg_gossip.specs.Holding.{Makes, Puts, Rules, Seen, Waits, with_own}
+use Rattle.hg_gossip.specs.Holding.{Makes, PutsBytes, Rules, Seen, Waits, with_own}
 use Rattle.hg_board.specs.Positions.{times, once_from, AreBelow}
 use Rattle.hg_board.specs.Table.{all_parts, node_at}
 use Rattle.hg_board.specs.Steps.{longer}
@@ -38,7 +38,7 @@ module _ {V : Type 0} (accepts : V → Accepts) (p : Place V) where
 
   -- the bytes were put to the node at a history of which the seat had seen a prefix
   abbrev pub SeatPuts : Stand V → List ℕ → Stand V → PutAnswer → Type 0
-  SeatPuts old bytes new answer = Puts (rules_shared accepts) (seen_by p old) bytes (seen_by p new) answer
+  SeatPuts old bytes new answer = PutsBytes (rules_shared accepts) (seen_by p old) bytes (seen_by p new) answer
 
   -- so was the event made
   abbrev pub SeatMakes : Stand V → List (List ℕ) → ℕ → List ℕ → Stand V → MakeAnswer → Type 0
