@@ -4,3 +4,4 @@ pub mod MoveLaws
 pub mod TurnLaws
 pub mod SeatLaws
 pub mod JoinLaws
+pub mod ChangeLaws

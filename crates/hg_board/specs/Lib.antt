@@ -5,3 +5,4 @@ pub mod Seats
 pub mod Turns
 pub mod Calls
 pub mod Crews
+pub mod Laws

@@ -21,6 +21,7 @@
 #![tactic(auto)]
 
 mod crew;
+mod laws;
 mod rule;
 mod seat;
 mod shared;
@@ -28,5 +29,6 @@ mod turn;
 mod view;
 
 pub use crew::Crew;
+pub use laws::{makes_add_one, publishes_add_one, puts_add_one};
 pub use seat::Seat;
 pub use shared::Shared;

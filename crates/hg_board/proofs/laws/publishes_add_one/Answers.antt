@@ -1,0 +1,8 @@
+use Rattle.hg_board.proofs.ChangeLaws.{other_publishes_add_none, publishes_add_one}
+use Rattle.hg_board.proofs.laws.publishes_add_one.Goals as goal
+
+pub returns-clause-one : goal.returns-clause-one
+returns-clause-one g c = publishes_add_one g.row.V.Denot
+
+pub returns-clause-none : goal.returns-clause-none
+returns-clause-none g c = other_publishes_add_none g.row.V.Denot

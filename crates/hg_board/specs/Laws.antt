@@ -1,0 +1,55 @@
+-- The calls that may change a shared node, in the plain words of a history and one change more
+use Rattle.std.specs.Prelude.{ℕ, ◌≡◌, ◌<◌, List, [], ◌∷◌, ◌++◌, length, Ok}
+use Rattle.hg_model.specs.declared.row.Row.{Row}
+use Rattle.hg_model.specs.declared.answers.PutAnswer.{PutAnswer}
+use Rattle.hg_model.specs.declared.answers.PutAnswer.TheVariants.{Accepted}
+use Rattle.hg_model.specs.declared.answers.MakeAnswer.TheVariants as made
+use Rattle.hg_model.specs.Orders.{IsPrefix}
+use Rattle.hg_model.specs.Reading.{read_event}
+use Rattle.hg_model.specs.Shares.{Share}
+use Rattle.hg_model.specs.Verdict.{made_row}
+use Rattle.hg_model.specs.History.{Change}
+use Rattle.hg_model.specs.History.Change.{Took, Made, Marked}
+use Rattle.hg_model.specs.NodeView.{node_rows}
+use Rattle.hg_model.specs.Calls.{make_answer, publish_answer, put_answer}
+use Rattle.hg_model.specs.Signing.{Accepts}
+use Rattle.hg_board.specs.Table.{node_at}
+use Rattle.hg_board.specs.Seats.{Place, Stand}
+use Rattle.hg_board.specs.Calls.{SeatMakes, SeatPublishes, SeatPuts}
+
+-- what the seat then has seen is a history of which it had seen a prefix, and this change, at whose position it is its own
+pub record AddsOne {V : Type 0} (old new : Stand V) (history : List Change) (change : Change) : Type 0 where
+  pub begins : IsPrefix old.seen history
+  pub grown : new.seen ≡ history ++ change ∷ []
+  pub mine : new.mine ≡ old.mine ++ length history ∷ []
+
+-- it has seen more, and added nothing
+pub record AddsNone {V : Type 0} (old new : Stand V) : Type 0 where
+  pub begins : IsPrefix old.seen new.seen
+  pub mine : new.mine ≡ old.mine
+
+-- a put that was accepted adds the row that the bytes spell, as the node does in the history before it
+abbrev pub PutsAddOne : (V : Type 0) → Type 0
+PutsAddOne V = (accepts : V → Accepts) (p : Place V) (old new : Stand V) (bytes : List ℕ) (place : ℕ) → SeatPuts accepts p old bytes new (Accepted place) →
+    (h : List Change) × (row : Row) × AddsOne old new h (Took row) × (read_event bytes ≡ Ok row) × (put_answer accepts (node_at p.start h) bytes ≡ Accepted place)
+
+-- any other put answers as the node does in what the seat then has seen
+abbrev pub OtherPutsAddNone : (V : Type 0) → Type 0
+OtherPutsAddNone V = (accepts : V → Accepts) (p : Place V) (old new : Stand V) (bytes : List ℕ) (answer : PutAnswer) → SeatPuts accepts p old bytes new answer →
+    ((place : ℕ) → answer ≡ Accepted place → ⊥) → AddsNone old new × (answer ≡ put_answer accepts (node_at p.start new.seen) bytes)
+
+-- an event that was made is one change more: the row that the node makes in the history before it, under some signature
+abbrev pub MakesAddOne : (V : Type 0) → Type 0
+MakesAddOne V = (accepts : V → Accepts) (p : Place V) (old new : Stand V) (others : List (List ℕ)) (time : ℕ) (payload : List ℕ) (place : ℕ) →
+    SeatMakes accepts p old others time payload new (made.Made place) →
+    (h : List Change) × (sig : List ℕ) × AddsOne old new h (Made (made_row p.start.start.own (node_rows (node_at p.start h)) others time payload sig))
+    × (make_answer (node_at p.start h) others time payload sig ≡ made.Made place)
+
+-- a publication that marked some witnesses is one change more, with as many as the node marks in the history before it
+abbrev pub PublishesAddOne : (V : Type 0) → Type 0
+PublishesAddOne V = (accepts : V → Accepts) (p : Place V) (old new : Stand V) (len : ℕ) (share : Share) (count : ℕ) → 0 < count → SeatPublishes accepts p old len share new count →
+    (h : List Change) × AddsOne old new h (Marked len share) × (count ≡ publish_answer (node_at p.start h) len share)
+
+-- one that marked none adds nothing
+abbrev pub OtherPublishesAddNone : (V : Type 0) → Type 0
+OtherPublishesAddNone V = (accepts : V → Accepts) (p : Place V) (old new : Stand V) (len : ℕ) (share : Share) → SeatPublishes accepts p old len share new 0 → AddsNone old new
