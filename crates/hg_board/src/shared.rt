@@ -234,7 +234,8 @@ impl<V: Signer + Drop> Shared<V> {
         seat.parts += parts;
     }
 
-    /// The node, with the whole history.
+    /// The node. Its history goes on from what the seat has seen; where the seat has all parts, each change since the start
+    /// is one of the seat's.
     pub fn finish<R: Wait>(self, rt: &R, seat: Seat<V>) -> Node<V>
         requires { IsOf self seat }
         ensures { IsWhole V.accepts self seat result }
