@@ -1,21 +1,24 @@
 -- A call that may change a shared node, by what it added
-use Rattle.std.proofs.Common.{◌≡◌, ℕ, ◌<◌, Bool, cond, eqb, List, [], ◌∷◌, ◌++◌, length, sym, ap, ◌∙◌, subst, arith}
+use Rattle.std.proofs.Common.{◌≡◌, ℕ, ◌<◌, Bool, cond, eqb, List, [], ◌∷◌, ◌++◌, length, None, sym, ap, ◌∙◌, subst, arith}
 use Rattle.std.proofs.lemmas.Bool.{ne_eqb}
 use Rattle.std.proofs.lemmas.List.{append-nil}
+use Rattle.hg_model.specs.declared.answers.MakeFault.{MakeFault}
+use Rattle.hg_model.specs.declared.answers.MakeAnswer.TheVariants as made
 use Rattle.hg_model.specs.Orders.{IsPrefix}
 use Rattle.hg_model.specs.Verdict.{made_row}
 use Rattle.hg_model.specs.History.{Change}
 use Rattle.hg_model.specs.History.Change.{Made, Marked}
 use Rattle.hg_model.specs.NodeView.{NodeView, Start, node_rows}
-use Rattle.hg_model.specs.Calls.{make_answer, make_changes, publish_answer, publish_changes, put_answer, put_changes}
+use Rattle.hg_model.specs.Calls.{make_answer, make_changes, make_draft, publish_answer, publish_changes, put_answer, put_changes}
 use Rattle.hg_model.specs.Shares.{Share}
 use Rattle.hg_model.specs.Signing.{Accepts}
 use Rattle.hg_history.proofs.CallLaws as node
+use Rattle.hg_history.proofs.RuleLaws.{made_draft}
 use Rattle.hg_gossip.specs.Holding.{Seen, Waits, positions_from, with_own}
 use Rattle.hg_board.specs.Table.{node_at}
 use Rattle.hg_board.specs.Seats.{Place, Stand, seen_by}
 use Rattle.hg_board.specs.Calls.{rules_shared}
-use Rattle.hg_board.specs.Laws.{AddsNone, AddsOne, MakesAddOne, OtherPublishesAddNone, OtherPutsAddNone, PublishesAddOne, PutsAddOne}
+use Rattle.hg_board.specs.Laws.{AddsNone, AddsOne, IsSignedBy, MakesAddOne, OtherMakesAddNone, OtherPublishesAddNone, OtherPutsAddNone, PublishesAddOne, PutsAddOne}
 
 module _ {V : Type 0} (accepts : V → Accepts) (p : Place V) (old new : Stand V) (reached : Seen V) (waits : Waits (rules_shared accepts) (seen_by p old) reached) where
   node_reached : reached.node ≡ node_at p.start reached.node.history
@@ -79,6 +82,14 @@ other_puts_add_none V accepts p old new bytes answer puts other =
       puts.answers ∙ ap (λ (v : NodeView V). put_answer accepts v bytes) (node_none accepts p old new r puts.waits es seen mine none_new),
     )
 
+-- an event that is made has no fault before it is signed
+drafted : {V : Type 0} (v : NodeView V) (others : List (List ℕ)) (time : ℕ) (payload sig : List ℕ) (place : ℕ) → make_answer v others time payload sig ≡ made.Made place → make_draft v others payload ≡ None
+unfolding make_draft make_answer
+drafted v others time payload sig place is = made_draft v.start.own (node_rows v) others time payload sig place is
+
+refused_made : (fault : MakeFault) (place : ℕ) → made.Refused fault ≡ made.Made place → ⊥
+refused_made fault place e = cc
+
 pub makes_add_one : (V : Type 0) → MakesAddOne V
 makes_add_one V accepts p old new others time payload place makes =
     let r : Seen V = makes.reached in
@@ -90,7 +101,20 @@ makes_add_one V accepts p old new others time payload place makes =
       sig,
       subst (λ (v : NodeView V). AddsOne old new r.node.history (Made (made_row v.start.own (node_rows v) others time payload sig))) is
           (adds_one accepts p old new r makes.waits es (ap (λ (v : NodeView V). v.history) makes.making.grown) makes.positions (Made (made_row r.node.start.own (node_rows r.node) others time payload sig)) one.1),
+      subst (λ (v : NodeView V). IsSignedBy accepts v others time payload sig) is (makes.making.signed (drafted r.node others time payload sig place (sym makes.making.answers))),
       ap (λ (v : NodeView V). make_answer v others time payload sig) (sym is) ∙ sym makes.making.answers,
+    )
+
+pub other_makes_add_none : (V : Type 0) → OtherMakesAddNone V
+other_makes_add_none V accepts p old new others time payload fault makes =
+    let r : Seen V = makes.reached in
+    let sig = makes.making.sig in
+    let es : List Change = make_changes r.node others time payload sig in
+    let none_new : es ≡ [] = node.other_makes_add_none V r.node others time payload sig (λ place e. refused_made fault place (makes.making.answers ∙ e)) in
+    let seen : new.seen ≡ r.node.history ++ es = ap (λ (v : NodeView V). v.history) makes.making.grown in (
+      adds_none accepts p old new r makes.waits es seen makes.positions none_new,
+      sig,
+      ap (λ (v : NodeView V). make_answer v others time payload sig) (sym (node_none accepts p old new r makes.waits es seen makes.positions none_new)) ∙ sym makes.making.answers,
     )
 
 -- what is published, where it marks some witnesses, and where it marks none
@@ -116,5 +140,9 @@ pub other_publishes_add_none : (V : Type 0) → OtherPublishesAddNone V
 other_publishes_add_none V accepts p old new len share publishes =
     let r : Seen V = publishes.reached in
     let es : List Change = publish_changes r.node len share in
-    adds_none accepts p old new r publishes.waits es (own_seen accepts p old new r publishes.waits es publishes.grown) (own_mine accepts p old new r publishes.waits es publishes.grown)
-    (none_published r.node len share (sym publishes.answers))
+    let none_new : es ≡ [] = none_published r.node len share (sym publishes.answers) in
+    let seen = own_seen accepts p old new r publishes.waits es publishes.grown in
+    let mine = own_mine accepts p old new r publishes.waits es publishes.grown in (
+      adds_none accepts p old new r publishes.waits es seen mine none_new,
+      ap (λ (v : NodeView V). publish_answer v len share) (sym (node_none accepts p old new r publishes.waits es seen mine none_new)) ∙ sym publishes.answers,
+    )

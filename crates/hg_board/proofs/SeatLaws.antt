@@ -199,6 +199,16 @@ module _ {V : Type 0} (accepts : V → Accepts) where
         failed_waits (Ok a) is = tt
         failed_waits (Err e) is = same_waits is
 
+        -- what is so of the node where memory ran out is so of what the seat then has seen
+        pub failed_at : {A E : Type 0} (P : NodeView V → Type 0) (result : Result A E) → OnErr result (w ≡ node) → OnErr result (P node) →
+            OnErr result (P (seen_by (place table start) (stand_of new o.0)).node)
+        failed_at P (Ok a) is so = tt
+        failed_at P (Err e) is so =
+            let is_new = own_new [] (grown_left [] (with_no_change node w is)) in
+            let same_node : (seen_by (place table start) (stand_of new o.0)).node ≡ node =
+            ap (λ (s : Seen V). s.node) is_new ∙ (ap (λ (h : List Change). node_at start h) (append-nil inside.history) ∙ sym inside.found) in
+            subst P (sym same_node) so
+
         pub puts : {E : Type 0} (bytes : List ℕ) (result : Result PutAnswer E) → IfOk result (λ a. a ≡ put_answer accepts node bytes) → OnOk result (w ≡ with_changes node (put_changes accepts node bytes)) →
             IfOk result (SeatPuts accepts (place table start) (stand_of old m.0) bytes (stand_of new o.0))
         puts bytes (Ok a) answer grown = record {

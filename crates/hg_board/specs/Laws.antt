@@ -1,8 +1,9 @@
 -- The calls that may change a shared node, in the plain words of a history and one change more
-use Rattle.std.specs.Prelude.{ℕ, ◌≡◌, ◌<◌, List, [], ◌∷◌, ◌++◌, length, Ok}
+use Rattle.std.specs.Prelude.{ℕ, ◌≡◌, ◌<◌, true, List, [], ◌∷◌, ◌++◌, length, Ok}
 use Rattle.hg_model.specs.declared.row.Row.{Row}
 use Rattle.hg_model.specs.declared.answers.PutAnswer.{PutAnswer}
 use Rattle.hg_model.specs.declared.answers.PutAnswer.TheVariants.{Accepted}
+use Rattle.hg_model.specs.declared.answers.MakeFault.{MakeFault}
 use Rattle.hg_model.specs.declared.answers.MakeAnswer.TheVariants as made
 use Rattle.hg_model.specs.Orders.{IsPrefix}
 use Rattle.hg_model.specs.Reading.{read_event}
@@ -10,8 +11,8 @@ use Rattle.hg_model.specs.Shares.{Share}
 use Rattle.hg_model.specs.Verdict.{made_row}
 use Rattle.hg_model.specs.History.{Change}
 use Rattle.hg_model.specs.History.Change.{Took, Made, Marked}
-use Rattle.hg_model.specs.NodeView.{node_rows}
-use Rattle.hg_model.specs.Calls.{make_answer, publish_answer, put_answer}
+use Rattle.hg_model.specs.NodeView.{NodeView, node_rows}
+use Rattle.hg_model.specs.Calls.{make_answer, make_body, publish_answer, put_answer}
 use Rattle.hg_model.specs.Signing.{Accepts}
 use Rattle.hg_board.specs.Table.{node_at}
 use Rattle.hg_board.specs.Seats.{Place, Stand}
@@ -38,12 +39,22 @@ abbrev pub OtherPutsAddNone : (V : Type 0) → Type 0
 OtherPutsAddNone V = (accepts : V → Accepts) (p : Place V) (old new : Stand V) (bytes : List ℕ) (answer : PutAnswer) → SeatPuts accepts p old bytes new answer →
     ((place : ℕ) → answer ≡ Accepted place → ⊥) → AddsNone old new × (answer ≡ put_answer accepts (node_at p.start new.seen) bytes)
 
--- an event that was made is one change more: the row that the node makes in the history before it, under some signature
+-- the node's member signed such an event so
+abbrev pub IsSignedBy : {V : Type 0} → (V → Accepts) → NodeView V → List (List ℕ) → ℕ → List ℕ → List ℕ → Type 0
+IsSignedBy accepts v others time payload sig = accepts v.start.keys v.start.own (make_body v others time payload) sig ≡ true
+
+-- an event that was made is one change more: the row that the node makes in the history before it, signed by its member
 abbrev pub MakesAddOne : (V : Type 0) → Type 0
 MakesAddOne V = (accepts : V → Accepts) (p : Place V) (old new : Stand V) (others : List (List ℕ)) (time : ℕ) (payload : List ℕ) (place : ℕ) →
     SeatMakes accepts p old others time payload new (made.Made place) →
     (h : List Change) × (sig : List ℕ) × AddsOne old new h (Made (made_row p.start.start.own (node_rows (node_at p.start h)) others time payload sig))
-    × (make_answer (node_at p.start h) others time payload sig ≡ made.Made place)
+    × IsSignedBy accepts (node_at p.start h) others time payload sig × (make_answer (node_at p.start h) others time payload sig ≡ made.Made place)
+
+-- one that was refused adds nothing, and is refused by what the seat then has seen
+abbrev pub OtherMakesAddNone : (V : Type 0) → Type 0
+OtherMakesAddNone V = (accepts : V → Accepts) (p : Place V) (old new : Stand V) (others : List (List ℕ)) (time : ℕ) (payload : List ℕ) (fault : MakeFault) →
+    SeatMakes accepts p old others time payload new (made.Refused fault) →
+    AddsNone old new × (sig : List ℕ) × (make_answer (node_at p.start new.seen) others time payload sig ≡ made.Refused fault)
 
 -- a publication that marked some witnesses is one change more, with as many as the node marks in the history before it
 abbrev pub PublishesAddOne : (V : Type 0) → Type 0
@@ -52,4 +63,5 @@ PublishesAddOne V = (accepts : V → Accepts) (p : Place V) (old new : Stand V) 
 
 -- one that marked none adds nothing
 abbrev pub OtherPublishesAddNone : (V : Type 0) → Type 0
-OtherPublishesAddNone V = (accepts : V → Accepts) (p : Place V) (old new : Stand V) (len : ℕ) (share : Share) → SeatPublishes accepts p old len share new 0 → AddsNone old new
+OtherPublishesAddNone V = (accepts : V → Accepts) (p : Place V) (old new : Stand V) (len : ℕ) (share : Share) → SeatPublishes accepts p old len share new 0 →
+    AddsNone old new × (publish_answer (node_at p.start new.seen) len share ≡ 0)

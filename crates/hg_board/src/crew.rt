@@ -1,4 +1,6 @@
 ghost use Rattle.std.specs.Prelude.{◌<◌, IfOk, OnOk};
+ghost use Rattle.hg_model.specs.NodeView.{IsNode};
+ghost use Rattle.hg_board.specs.Table.{node_at};
 ghost use Rattle.hg_board.specs.Seats.{IsOf};
 ghost use Rattle.hg_board.specs.Calls.{Stays};
 ghost use Rattle.hg_board.specs.Crews.{MarksAll, MarksOf, OnlyMarks};
@@ -12,9 +14,10 @@ use std::sync::Wait;
 
 /// What works beside the callers that put and make: it publishes what a share of the witnesses decides.
 pub trait Crew {
-    /// Works so many turns with a seat. In each it may freeze the graph, decide the share's witnesses in it, and publish
-    /// what it found. It adds nothing else, also where memory runs out, and answers how many witnesses it marked.
-    /// After one turn at least each witness of the share that the graph decided before is marked.
+    /// Works with a seat, in turns: in each it may freeze the graph, decide the share's witnesses in it, and publish what
+    /// it found. It adds nothing else, also where memory runs out, and answers how many witnesses it marked. Unless
+    /// memory ran out, after one turn or more each witness of the share that the graph which the seat had seen decides
+    /// is marked so.
     fn work<V: Signer + Drop, R: Wait>(
         &self,
         rt: &R,
@@ -24,7 +27,8 @@ pub trait Crew {
         share: Share,
         turns: u32,
     ) -> Result<u32, Memory>
-        requires { IsOf shared.now seat.old }
+        requires seat { IsOf shared.now seat.old }
+        requires node { IsNode V.accepts (node_at shared.now.start seat.old.seen) }
         ensures stays { Stays V.accepts shared.now seat.old seat.new }
         ensures marks { OnlyMarks share seat.old seat.new }
         ensures counted { IfOk result (MarksOf shared.now share seat.old seat.new) }

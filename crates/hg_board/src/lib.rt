@@ -1,6 +1,7 @@
 //! A node between threads. Callers share a `Shared`, and each has a `Seat`: what it has seen of the node's one history,
-//! and the positions of the changes that its own calls added. A call takes the turn, waiting while another has it, and
-//! answers as the node does at the history that it then finds. `specs/Table.antt` is what holds at every moment.
+//! and the positions of the changes that its own calls added. Each call but `start`, `split` and `absorb` takes the turn,
+//! waiting while another has it, and answers as the node does at the history that its seat then has seen, which may be
+//! longer than before. `specs/Table.antt` is what holds at every moment.
 //! The layers above use the clauses of `Shared`, in the words of `hg_gossip`'s holders, and `Crew`, which workers keep to.
 //!
 //! ```text
@@ -29,6 +30,6 @@ mod turn;
 mod view;
 
 pub use crew::Crew;
-pub use laws::{makes_add_one, publishes_add_one, puts_add_one};
+pub use laws::{shared_makes_add_one, shared_publishes_add_one, shared_puts_add_one};
 pub use seat::Seat;
 pub use shared::Shared;

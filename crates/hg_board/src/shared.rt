@@ -4,7 +4,7 @@ ghost use Rattle.hg_model.specs.NodeView.{kept_of};
 ghost use Rattle.hg_node.specs.ChronicleView.{IsFoundBy, graph_in};
 ghost use Rattle.hg_gossip.specs.Holding.{names_in, parcel_beyond};
 ghost use Rattle.hg_board.specs.Seats.{IsOf, seen_by};
-ghost use Rattle.hg_board.specs.Calls.{Absorbs, IsStarted, IsWhole, SeatMakes, SeatPublishes, SeatPuts, SeatWaits, Stays, after_split, split_off};
+ghost use Rattle.hg_board.specs.Calls.{Absorbs, IsStarted, IsWhole, SeatMakes, SeatPublishes, SeatPuts, SeatWaits, Stays, WouldSign, WouldTake, after_split, split_off};
 
 use crate::rule::{Board, Both, Compare, OnePart};
 use crate::seat::Seat;
@@ -20,8 +20,8 @@ use std::marker::Model;
 use std::snapshot::Snapshot;
 use std::sync::Wait;
 
-/// A node between threads. Each call needs a seat of it, and answers as the node does at the history that it then finds,
-/// of which the seat had seen a prefix.
+/// A node between threads. Each call needs a seat of it, and answers as the node does at the history that the seat then
+/// has seen, of which it had seen a prefix.
 #[derive(Drop)]
 pub struct Shared<V: Signer> {
     table: Board<V>,
@@ -77,6 +77,7 @@ impl<V: Signer + Drop> Shared<V> {
         ensures stays { Stays V.accepts self.now seat.old seat.new }
         ensures ok { IfOk result (SeatPuts V.accepts self.now seat.old bytes.now seat.new) }
         ensures err { OnErr result (SeatWaits V.accepts self.now seat.old seat.new) }
+        ensures free { OnErr result (WouldTake V.accepts self.now seat.new bytes.now) }
     {
         let steps = &self.table.shared;
         let raw = &mut seat.raw;
@@ -100,6 +101,7 @@ impl<V: Signer + Drop> Shared<V> {
         ensures stays { Stays V.accepts self.now seat.old seat.new }
         ensures ok { IfOk result (SeatMakes V.accepts self.now seat.old (option_to_list other) time payload.now seat.new) }
         ensures err { OnErr result (SeatWaits V.accepts self.now seat.old seat.new) }
+        ensures free { OnErr result (WouldSign V.accepts self.now seat.new (option_to_list other) payload.now) }
     {
         let steps = &self.table.shared;
         let raw = &mut seat.raw;

@@ -11,7 +11,7 @@ use Rattle.hg_world.specs.World.{WorldView}
 use Rattle.hg_world.specs.Steps.{HasRun, HasStepped, IsStepOf, RanSome, after_step, after_steps, replies_to, reply_to}
 
 -- there are as many sites after a step
-step_sites : (w : WorldView) (step : Step) → length (after_step w step).sites ≡ length w.sites
+pub step_sites : (w : WorldView) (step : Step) → length (after_step w step).sites ≡ length w.sites
 step_sites w (Make m other time payload) = length-set w.sites m _
 step_sites w (Deliver m bytes) = length-set w.sites m _
 step_sites w (Freeze m worker) = length-set w.sites m _

@@ -58,7 +58,7 @@ more_rows v es =
     let long : length (node_rows (with_changes v es)) ≡ length (node_rows v) + length grown.0 = ap length grown.1 ∙ length-append (node_rows v) grown.0 in
     omega (arith, long)
 
-changed_site : (w : WorldView) (keys : Secrets) (m : ℕ) (v : NodeView Secrets) (lens : List ℕ) (es : List Change) → KeepsSite w keys m (site_of v lens) → IsNode accepts_by (with_changes v es) → KeepsSite w keys m (site_of (with_changes v es) lens)
+pub changed_site : (w : WorldView) (keys : Secrets) (m : ℕ) (v : NodeView Secrets) (lens : List ℕ) (es : List Change) → KeepsSite w keys m (site_of v lens) → IsNode accepts_by (with_changes v es) → KeepsSite w keys m (site_of (with_changes v es) lens)
 changed_site w keys m v lens es keeps node = record {
   is = record { own = keeps.is.own; members = keeps.is.members; coin = keeps.is.coin; workers = keeps.is.workers };
   keyed = keeps.keyed;
@@ -66,7 +66,7 @@ changed_site w keys m v lens es keeps node = record {
   frozen = λ worker. omega (arith, keeps.frozen worker, more_rows v es);
 }
 
-frozen_site : (w : WorldView) (keys : Secrets) (m : ℕ) (v : NodeView Secrets) (lens : List ℕ) (worker len : ℕ) → KeepsSite w keys m (site_of v lens) → len ≤ length (node_rows v) → KeepsSite w keys m (site_of v (slice_set lens worker len))
+pub frozen_site : (w : WorldView) (keys : Secrets) (m : ℕ) (v : NodeView Secrets) (lens : List ℕ) (worker len : ℕ) → KeepsSite w keys m (site_of v lens) → len ≤ length (node_rows v) → KeepsSite w keys m (site_of v (slice_set lens worker len))
 frozen_site w keys m v lens worker len keeps low = record {
   is = record { own = keeps.is.own; members = keeps.is.members; coin = keeps.is.coin; workers = length-set lens worker len ∙ keeps.is.workers };
   keyed = keeps.keyed;

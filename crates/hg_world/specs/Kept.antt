@@ -6,7 +6,8 @@ use Rattle.hg_model.specs.Stakes.{Stakes, member_count}
 use Rattle.hg_model.specs.Signing.{accepts_by}
 use Rattle.hg_model.specs.Verdict.{is_held}
 use Rattle.hg_model.specs.NodeView.{NodeView, IsNode, node_rows}
-use Rattle.hg_world.specs.World.{Secrets, Site, WorldView, IsSiteOf, no_site, site_at, site_of, worker_count}
+use Rattle.hg_graph.specs.Held.{AreEvents}
+use Rattle.hg_world.specs.World.{Secrets, Site, WorldView, IsSiteOf, no_site, rows_at, site_at, site_of, worker_count}
 
 -- what these nodes are with what their workers have frozen
 abbrev pub sites_of : List (NodeView Secrets) → List (List ℕ) → List Site
@@ -31,6 +32,10 @@ pub record IsWorld (w : WorldView) : Type 0 where
   pub count : length w.sites ≡ member_count w.members
   pub keys : Secrets
   pub sites : (m : ℕ) → m < length w.sites → KeepsSite w keys m (site_at w m)
+
+-- all rows of its nodes are events
+abbrev pub HaveEvents : WorldView → Type 0
+HaveEvents w = (m : ℕ) → m < length w.sites → AreEvents (rows_at w m)
 
 -- the same over the parts
 pub record KeepsWorld (n : Stakes) (c : ℕ) (nodes : List (NodeView Secrets)) (frozen : List (List ℕ)) : Type 0 where

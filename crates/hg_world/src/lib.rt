@@ -27,6 +27,6 @@ mod step;
 mod tests;
 mod world;
 
-pub use laws::{pulls_set_one_node, steps_keep_sites};
+pub use laws::{pulls_set_one_node, steps_keep_sites, steps_stay_lawful};
 pub use step::{Reply, Step};
 pub use world::World;

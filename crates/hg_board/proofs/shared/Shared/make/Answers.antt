@@ -1,9 +1,10 @@
-use Rattle.std.proofs.Common.{◌∙◌}
+use Rattle.std.proofs.Common.{◌≡◌, ◌∙◌, None}
 use Rattle.std.specs.Prelude.{IfOk, OnErr}
 use Rattle.std.specs.Option.{option_to_list}
+use Rattle.hg_model.specs.Calls.{make_draft}
 use Rattle.hg_board.specs.Seats.{stand_of}
-use Rattle.hg_board.specs.Calls.{SeatMakes, SeatWaits, Stays}
-use Rattle.hg_board.proofs.SeatLaws.{as_seen, failed_waits, grown_inside, grown_stays, make_grown, makes, of_inside}
+use Rattle.hg_board.specs.Calls.{SeatMakes, SeatWaits, Stays, WouldSign}
+use Rattle.hg_board.proofs.SeatLaws.{as_seen, failed_at, failed_waits, grown_inside, grown_stays, make_grown, makes, of_inside}
 use Rattle.hg_board.proofs.shared.Shared.make.Goals as goal
 
 pub leave_changed-requires-clause-node : goal.leave_changed-requires-clause-node
@@ -42,3 +43,13 @@ returns-clause-err g c =
     (λ p s. OnErr c.make-answer.result (SeatWaits g.V.Verifier.accepts p s (stand_of c.leave_changed.new.raw.table_id c.leave_changed.new.raw.me.0)))
     (failed_waits g.V.Verifier.accepts top.key.value raw.me c.enter-node.new.raw.me c.enter-node.result.0 c.enter-node.result.1 c.enter-node.ensures.seat top.table_id raw.table_id c.leave_changed.new.raw.table_id of (c.leave_changed.ensures.table ∙ c.enter-node.ensures.table) c.leave_changed.new.raw.me c.make-answer.new.self c.leave_changed.ensures.seat
     c.make-answer.result c.make-answer.ensures.err)
+
+pub returns-clause-free : goal.returns-clause-free
+returns-clause-free g c =
+    let top = c.self.inside.table.shared in
+    let raw = c.seat.inside.raw in
+    let of = of_inside top.table_id raw.table_id top.key.value raw.me.0 c.args.self.now c.args.seat.now c.self.view_is c.seat.view_is c.requires in
+    as_seen top.table_id raw.table_id top.key.value raw.me.0 c.args.self.now c.args.seat.now c.self.view_is c.seat.view_is
+    (λ p s. OnErr c.make-answer.result (WouldSign g.V.Verifier.accepts p (stand_of c.leave_changed.new.raw.table_id c.leave_changed.new.raw.me.0) (option_to_list c.args.other) c.args.payload.now))
+    (failed_at g.V.Verifier.accepts top.key.value raw.me c.enter-node.new.raw.me c.enter-node.result.0 c.enter-node.result.1 c.enter-node.ensures.seat top.table_id raw.table_id c.leave_changed.new.raw.table_id of (c.leave_changed.ensures.table ∙ c.enter-node.ensures.table) c.leave_changed.new.raw.me c.make-answer.new.self c.leave_changed.ensures.seat
+    (λ v. make_draft v (option_to_list c.args.other) c.args.payload.now ≡ None) c.make-answer.result c.make-answer.ensures.err c.make-answer.ensures.free)

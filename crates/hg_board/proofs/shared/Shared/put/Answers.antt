@@ -1,8 +1,11 @@
-use Rattle.std.proofs.Common.{◌∙◌}
+use Rattle.std.proofs.Common.{◌≡◌, ◌∙◌, length, None}
 use Rattle.std.specs.Prelude.{IfOk, OnErr}
+use Rattle.hg_model.specs.declared.answers.PutAnswer.TheVariants.{Accepted}
+use Rattle.hg_model.specs.NodeView.{node_rows}
+use Rattle.hg_model.specs.Calls.{put_answer}
 use Rattle.hg_board.specs.Seats.{stand_of}
-use Rattle.hg_board.specs.Calls.{SeatPuts, SeatWaits, Stays}
-use Rattle.hg_board.proofs.SeatLaws.{as_seen, failed_waits, grown_inside, grown_stays, of_inside, put_grown, puts}
+use Rattle.hg_board.specs.Calls.{SeatPuts, SeatWaits, Stays, WouldTake}
+use Rattle.hg_board.proofs.SeatLaws.{as_seen, failed_at, failed_waits, grown_inside, grown_stays, of_inside, put_grown, puts}
 use Rattle.hg_board.proofs.shared.Shared.put.Goals as goal
 
 pub leave_changed-requires-clause-node : goal.leave_changed-requires-clause-node
@@ -41,3 +44,13 @@ returns-clause-err g c =
     (λ p s. OnErr c.put-answer.result (SeatWaits g.V.Verifier.accepts p s (stand_of c.leave_changed.new.raw.table_id c.leave_changed.new.raw.me.0)))
     (failed_waits g.V.Verifier.accepts top.key.value raw.me c.enter-node.new.raw.me c.enter-node.result.0 c.enter-node.result.1 c.enter-node.ensures.seat top.table_id raw.table_id c.leave_changed.new.raw.table_id of (c.leave_changed.ensures.table ∙ c.enter-node.ensures.table) c.leave_changed.new.raw.me c.put-answer.new.self c.leave_changed.ensures.seat
     c.put-answer.result c.put-answer.ensures.err)
+
+pub returns-clause-free : goal.returns-clause-free
+returns-clause-free g c =
+    let top = c.self.inside.table.shared in
+    let raw = c.seat.inside.raw in
+    let of = of_inside top.table_id raw.table_id top.key.value raw.me.0 c.args.self.now c.args.seat.now c.self.view_is c.seat.view_is c.requires in
+    as_seen top.table_id raw.table_id top.key.value raw.me.0 c.args.self.now c.args.seat.now c.self.view_is c.seat.view_is
+    (λ p s. OnErr c.put-answer.result (WouldTake g.V.Verifier.accepts p (stand_of c.leave_changed.new.raw.table_id c.leave_changed.new.raw.me.0) c.args.bytes.now))
+    (failed_at g.V.Verifier.accepts top.key.value raw.me c.enter-node.new.raw.me c.enter-node.result.0 c.enter-node.result.1 c.enter-node.ensures.seat top.table_id raw.table_id c.leave_changed.new.raw.table_id of (c.leave_changed.ensures.table ∙ c.enter-node.ensures.table) c.leave_changed.new.raw.me c.put-answer.new.self c.leave_changed.ensures.seat
+    (λ v. put_answer g.V.Verifier.accepts v c.args.bytes.now ≡ Accepted (length (node_rows v))) c.put-answer.result c.put-answer.ensures.err c.put-answer.ensures.free)

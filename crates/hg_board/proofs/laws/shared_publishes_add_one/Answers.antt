@@ -1,5 +1,5 @@
 use Rattle.hg_board.proofs.ChangeLaws.{other_publishes_add_none, publishes_add_one}
-use Rattle.hg_board.proofs.laws.publishes_add_one.Goals as goal
+use Rattle.hg_board.proofs.laws.shared_publishes_add_one.Goals as goal
 
 pub returns-clause-one : goal.returns-clause-one
 returns-clause-one g c = publishes_add_one g.row.V.Denot
