@@ -1,1 +1,3 @@
 pub mod Crowd
+pub mod Workers
+pub mod Laws

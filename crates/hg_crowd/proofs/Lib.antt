@@ -1,0 +1,5 @@
+pub mod MarkLaws
+pub mod ListLaws
+pub mod WorkLaws
+pub mod CrowdLaws
+pub mod EndLaws

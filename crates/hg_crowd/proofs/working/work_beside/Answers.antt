@@ -1,0 +1,18 @@
+use Rattle.std.proofs.Common.{arith, ◌+◌, ◌-◌}
+use Rattle.hg_model.specs.Shares.{whole}
+use Rattle.hg_crowd.specs.Workers.{AllMark, AllMarkUpTo}
+use Rattle.hg_crowd.proofs.CrowdLaws.{all_whole_marked, has_fewer, ok_map}
+use Rattle.hg_crowd.proofs.working.work_beside.Goals as goal
+
+pub work_up_to-requires-clause-seats : goal.work_up_to-requires-clause-seats
+work_up_to-requires-clause-seats g c κs within =
+    has_fewer g.V.Verifier.accepts c.args.shared.now c.args.workers (c.args.workers - 1) c.args.seats.items (omega arith) c.requires.seats
+
+pub returns-clause-marked : goal.returns-clause-marked
+returns-clause-marked g c =
+    let ps = c.args.shared.now in
+    let olds = c.args.seats.items in
+    let news = c.work_up_to.result.0.items in
+    let some = c.requires.workers in
+    ok_map c.work_up_to.result.1 (AllMarkUpTo ps (c.args.workers - 1) c.args.workers olds news) (AllMark ps whole olds news)
+    (all_whole_marked ps olds news (c.args.workers - 1) c.args.workers (omega (arith, some))) c.work_up_to.ensures.marked
