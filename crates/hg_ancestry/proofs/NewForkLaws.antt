@@ -26,14 +26,14 @@ has_fork_below_found L e x m h =
     (one.0, two.0, one.2, two.2, fork_is L m one.0 two.0 two.3)
 
 -- a row by m that is above the one and not above the other
-apart_found : (L : List Link) → IsEarlier (parents L) → (x z m : ℕ) → is_apart L x z m ≡ true →
+pub apart_found : (L : List Link) → IsEarlier (parents L) → (x z m : ℕ) → is_apart L x z m ≡ true →
     (a : ℕ) × (is_ancestor L x a ≡ true) × (is_ancestor L z a ≡ false) × (creator L a ≡ m)
 apart_found L e x z m h =
     let a = some_ancestor_found L e x (λ a. not (is_ancestor L z a) && eqb (creator L a) m) h in
     let parts = and_parts (not (is_ancestor L z a.0)) (eqb (creator L a.0) m) a.3 in
     (a.0, a.2, not-true (is_ancestor L z a.0) parts.0, eqb-true (creator L a.0) m parts.1)
 
-apart_from : (L : List Link) → IsEarlier (parents L) → (x z m a : ℕ) → is_ancestor L x a ≡ true → is_ancestor L z a ≡ false → creator L a ≡ m → is_apart L x z m ≡ true
+pub apart_from : (L : List Link) → IsEarlier (parents L) → (x z m a : ℕ) → is_ancestor L x a ≡ true → is_ancestor L z a ≡ false → creator L a ≡ m → is_apart L x z m ≡ true
 apart_from L e x z m a up none by_m =
     some_ancestor_with L e x a (λ a. not (is_ancestor L z a) && eqb (creator L a) m) up
     (and_from (not (is_ancestor L z a)) (eqb (creator L a) m) (not_from_false (is_ancestor L z a) none) (eq-eqb (creator L a) m by_m))

@@ -1,8 +1,9 @@
-//! Rows of bits by words of 64, and sets of members as masks.
+//! Rows of bits by words of 64, sets of members as masks, and kernels over rows of numbers.
 //! The layers above see a `BitRow` as the list of its truth values, and a mask by the members that it has.
 //! A row keeps no bit past its end, so that whole words can be compared.
 #![tactic(auto)]
 
+pub mod kernels;
 mod masks;
 mod row;
 mod words;

@@ -1,0 +1,58 @@
+//! Loops over two rows of numbers of one length, a number for each lane.
+
+ghost use Rattle.std.specs.Prelude.{◌≡◌, ◌<◌, ◌^◌, length};
+ghost use Rattle.hg_model.specs.Places.{count_below};
+ghost use Rattle.hg_bits.specs.Lanes.{is_at_least, IsMaximum};
+
+/// In how many lanes the row is at least the other.
+#[tactic(auto, using(hg_model::proofs::PlacesLaws::count_steps))]
+pub fn count_ge(row: &[u32], other: &[u32]) -> u32
+    requires same { length row.now ≡ length other.now }
+    requires short { length row.now < 2 ^ 32 }
+    ensures { result ≡ count_below (length row.now) (is_at_least row.now other.now) }
+{
+    let mut count = 0;
+    for i in 0..row.len() {
+        if other[i] <= row[i] {
+            count += 1;
+        }
+    }
+    count
+}
+
+/// Raises each lane of the row to that of the other.
+pub fn max_into(row: &mut [u32], other: &[u32])
+    requires { length row.old ≡ length other.now }
+    ensures { IsMaximum row.old other.now row.new }
+{
+    for i in 0..other.len() {
+        row[i] = row[i].max(other[i]);
+    }
+}
+
+#[cfg(test)]
+mod tests {
+    use super::*;
+
+    // For so many lanes, in how many of them 0, 1, 2, 0, .. is at least 1.
+    const LANES: [(usize, u32); 6] = [(0, 0), (1, 0), (7, 4), (8, 5), (9, 6), (128, 85)];
+
+    #[test]
+    fn each_lane_counts(rt: HostRuntime) {
+        let ones = [1; 128];
+        for (len, count) in &LANES {
+            let mut row = [0; 128];
+            for i in 0..128 {
+                row[i] = (i % 3) as u32;
+            }
+            assert_eq!(rt; count_ge(&row[..*len], &ones[..*len]), *count, "{len}");
+            max_into(&mut row[..*len], &ones[..*len]);
+            assert_eq!(rt;
+                count_ge(&row[..*len], &ones[..*len]) as usize,
+                *len,
+                "{len}"
+            );
+            assert!(rt; row[2] == 2 && row[127] == 1);
+        }
+    }
+}
