@@ -1,0 +1,4 @@
+pub mod Requests
+pub mod Matching
+pub mod Books
+pub mod Laws
