@@ -11,7 +11,7 @@ use Rattle.hg_script.specs.declared.line.Source.TheVariants.{Last, Forged}
 use Rattle.hg_script.specs.declared.line.Action.{Action}
 use Rattle.hg_script.specs.declared.line.Action.TheVariants as action
 use Rattle.hg_script.specs.declared.line.Line.{Line}
-use Rattle.hg_model.specs.Shares.{worker_limit}
+use Rattle.hg_script.specs.Argument.{worker_limit}
 use Rattle.hg_script.specs.Table.{Above, Found}
 
 -- the number is that of a member with a node
