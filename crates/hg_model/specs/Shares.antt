@@ -14,10 +14,6 @@ pub record Share : Type 0 where
   pub k : ℕ
   pub «of» : ℕ
 
--- how many workers a node can have, numbered from 0
-abbrev pub worker_limit : ℕ
-worker_limit = 16
-
 -- all witnesses are of the one share of one
 abbrev pub whole : Share
 whole = record { k = 0; «of» = 1 }

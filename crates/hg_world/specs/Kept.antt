@@ -6,9 +6,8 @@ use Rattle.hg_model.specs.Stakes.{Stakes, member_count}
 use Rattle.hg_model.specs.Signing.{accepts_by}
 use Rattle.hg_model.specs.Verdict.{is_held}
 use Rattle.hg_model.specs.NodeView.{NodeView, IsNode, node_rows}
-use Rattle.hg_model.specs.Shares.{worker_limit}
 use Rattle.hg_graph.specs.Held.{AreEvents}
-use Rattle.hg_world.specs.World.{Secrets, Site, WorldView, IsSiteOf, no_site, rows_at, site_at, site_of}
+use Rattle.hg_world.specs.World.{Secrets, Site, WorldView, IsSiteOf, no_site, rows_at, site_at, site_of, worker_count}
 
 -- what these nodes are with what their workers have frozen
 abbrev pub sites_of : List (NodeView Secrets) → List (List ℕ) → List Site
@@ -69,7 +68,7 @@ AreOfOneList nodes = (n : Stakes) × (c : ℕ) × (keys : Secrets) × AreOfMembe
 
 -- the nodes as a world of which no worker has frozen any rows
 abbrev pub unfrozen : List (NodeView Secrets) → List Site
-unfrozen nodes = map (λ (v : NodeView Secrets). site_of v (replicate worker_limit 0)) nodes
+unfrozen nodes = map (λ (v : NodeView Secrets). site_of v (replicate worker_count 0)) nodes
 
 -- G has the names of all these rows
 abbrev pub AreKnown : List Row → List Row → Type 0

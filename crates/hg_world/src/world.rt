@@ -7,8 +7,7 @@ ghost use Rattle.hg_graph.specs.RowsWithRoom.{rows_of};
 ghost use Rattle.hg_world.specs.Kept.{AreKnown, AreOfOneList, IsWorld, nth_node, unfrozen};
 ghost use Rattle.hg_model.specs.Gossip.{lacking};
 ghost use Rattle.hg_model.specs.Spelling.{spelling};
-ghost use Rattle.hg_model.specs.Shares.{worker_limit};
-ghost use Rattle.hg_world.specs.World.{IsMemberOf, IsSiteOf, frozen_by, new_world, node_at, nodes_of, rows_at, run_of, site_at};
+ghost use Rattle.hg_world.specs.World.{IsMemberOf, IsSiteOf, frozen_by, new_world, node_at, nodes_of, rows_at, run_of, site_at, worker_count};
 ghost use Rattle.hg_world.specs.Steps.{HasRun, HasStepped, IsStepOf, RanSome, after_step, after_steps, making_at, putting_at, settle_steps};
 ghost use Rattle.hg_world.specs.Syncs.{AreSigned, HasMadeAfter, HasPulled, HasSynced, HasTaken, IsSigned, bytes_of, deliver_steps, pull_steps};
 
@@ -117,7 +116,7 @@ impl World {
     /// A worker, of a number below 16, freezes the rows of a member's node; tells how many they are.
     pub fn freeze(&mut self, member: Member, worker: u32) -> usize
         requires member { IsMemberOf self.old member }
-        requires worker { worker < worker_limit }
+        requires worker { worker < worker_count }
         ensures len { result ≡ length (rows_at self.old member) }
         ensures after { self.new ≡ after_step self.old (Freeze member worker) }
     {
@@ -130,7 +129,7 @@ impl World {
     /// tells how many were marked.
     pub fn publish(&mut self, member: Member, worker: u32, share: Share) -> Result<u32, Memory>
         requires member { IsMemberOf self.old member }
-        requires worker { worker < worker_limit }
+        requires worker { worker < worker_count }
         ensures answer { IfOk result (λ count. count ≡ publish_answer (node_at self.old member) (frozen_by self.old member worker) share) }
         ensures ok { OnOk result (self.new ≡ after_step self.old (Publish member worker share)) }
         ensures err { OnErr result (self.new ≡ self.old) }
@@ -433,7 +432,7 @@ impl World {
 
 /// So many nodes of which no rows are frozen or known.
 fn nothing_done(alloc: Global, count: usize) -> Result<(Vec<Frozen>, Vec<Known>), Memory>
-    ensures frozen { IfOk result (λ parts. parts.0.items ≡ replicate count (replicate worker_limit 0)) }
+    ensures frozen { IfOk result (λ parts. parts.0.items ≡ replicate count (replicate worker_count 0)) }
     ensures known { IfOk result (λ parts. parts.1.items ≡ replicate count (replicate 128 0)) }
 {
     let frozen = nodes::none_frozen(alloc, count)?;
