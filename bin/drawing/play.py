@@ -1,0 +1,303 @@
+"""Plays a script: the nodes after each line, and the report that the program should print of them."""
+
+import re
+import sys
+
+from .consensus import Ledger, Web
+from .events import PAYLOAD_MOST, Fields, Refused, name_of, sign, spell, spell_transfers
+
+EVENTS_MOST = 16384
+
+
+class Mark:
+    """The fame of a witness in a node: its value, since which line, and its first decider, which published marks lack."""
+
+    def __init__(self, value, line, by=None):
+        self.value, self.line, self.by = value, line, by
+
+
+class Node:
+    """A member's node. `found` are the marks that its graph decides, `published` those that it has published."""
+
+    def __init__(self, members, web, member):
+        self.members, self.web, self.member = members, web, member
+        self.rows, self.lines = [], []      # the events, and the line at which each came
+        self.places = {}                    # of the names
+        self.counts = [0] * members.n       # events by each member
+        self.forkers = set()
+        self.witnesses = {}                 # by round
+        self.last_own = None
+        self.found, self.published = {}, {}
+        self.decided, self.kept = Ledger(members, self.found), Ledger(members, self.published)
+        self.frozen = {}                    # by worker the marks that its frozen graph decides
+        self.froze = []                     # (line, worker, length)
+        self.forked_since = {}              # by forking member the line
+
+    def place(self, event):
+        return self.places[event.name]
+
+    def greatest(self):
+        return max(self.witnesses, default=0)
+
+    def put(self, data, line):
+        try:
+            return self.check(data, line)
+        except Refused as why:
+            return f"refused {why}"
+
+    def check(self, data, line):
+        """Takes the bytes, or raises the first thing that is wrong with them."""
+        fields = Fields(data)
+        if fields.creator >= self.members.n:
+            raise Refused(f"member {fields.creator}")
+        name = name_of(data)
+        if name in self.places:
+            place = self.places[name]
+            if self.rows[place].data == data:
+                return f"known {place}"
+            raise Refused(f"collision {place}")
+        creator = self.members.all[fields.creator]
+        if fields.signature != sign(creator.secret, fields.body):
+            raise Refused("signature")
+        if creator is self.member:
+            raise Refused("impostor")
+        own, other = self.parents_of(fields)
+        forkers = self.forkers_with(fields.creator, own)
+        if len(forkers) > len(self.forkers) and 3 * len(forkers) >= self.members.n:
+            raise Refused(f"too-many-forkers {len(forkers)}")
+        self.check_room()
+        return f"accepted {self.add(self.web.event(data, name, fields, own, other), line)}"
+
+    def parents_of(self, fields):
+        """The self-parent and the other-parent, both there and by the right creators."""
+        if not fields.parents:
+            return None, None
+        for name, which in zip(fields.parents, ("missing-self", "missing-other")):
+            if name not in self.places:
+                raise Refused(f"{which} {name.hex()}")
+        own, other = (self.rows[self.places[name]] for name in fields.parents)
+        if own.creator != fields.creator:
+            raise Refused(f"self-creator {self.place(own)}")
+        if other.creator == fields.creator:
+            raise Refused(f"other-creator {self.place(other)}")
+        return own, other
+
+    def forkers_with(self, creator, own):
+        """The forking members once the creator has a further event on `own`: it keeps to one chain if all that it has
+        here are self-ancestors of the new one."""
+        chain = own.sequence + 1 if own else 0
+        return self.forkers | ({creator} if self.counts[creator] > chain else set())
+
+    def check_room(self):
+        if len(self.rows) >= EVENTS_MOST:
+            raise Refused(f"full {EVENTS_MOST}")
+
+    def make(self, other, time, payload, line):
+        """Makes an event on the node's last own one and on the event named `other`, or a first one where it is None."""
+        if other is None and self.last_own:
+            raise Refused("has-first")
+        if other is not None and not self.last_own:
+            raise Refused("no-first")
+        if other is not None and other not in self.places:
+            raise Refused(f"missing-other {other.hex()}")
+        parent = self.rows[self.places[other]] if other is not None else None
+        if parent and parent.creator == self.member.number:
+            raise Refused(f"other-creator {self.place(parent)}")
+        if len(payload) > PAYLOAD_MOST:
+            raise Refused(f"payload-long {len(payload)}")
+        parents = (self.last_own.name, other) if parent else None
+        data = spell(self.member, parents, time, payload)
+        name = name_of(data)
+        if name in self.places:
+            raise Refused(f"collision {self.places[name]}")
+        self.check_room()
+        self.last_own = self.web.event(data, name, Fields(data), self.last_own, parent)
+        return f"made {self.add(self.last_own, line)}"
+
+    def add(self, event, line):
+        """Puts the event at the next place, which is the answer."""
+        for member in self.forkers_with(event.creator, event.own) - self.forkers:
+            self.forkers.add(member)
+            self.forked_since[member] = line
+        self.places[event.name] = len(self.rows)
+        self.rows.append(event)
+        self.lines.append(line)
+        self.counts[event.creator] += 1
+        if event.witness:
+            self.witnesses.setdefault(event.round, []).append(event)
+            self.find_fame(event, line)
+            self.mark_late(event, line)
+            self.decided.advance(self.witnesses, line)
+            self.kept.advance(self.witnesses, line)
+        return len(self.rows) - 1
+
+    def find_fame(self, new, line):
+        """The fame that the graph decides with the new witness: its own, and that of earlier rounds' witnesses. The first
+        decider is that of the least round, and of the least place in it."""
+        pairs = [(new, y) for r in sorted(self.witnesses) if r > new.round for y in self.witnesses[r]]
+        pairs += [(x, new) for r in self.witnesses if r < new.round for x in self.witnesses[r]]
+        for x, y in pairs:
+            known = self.found.get(x)
+            if known and known.by.round <= y.round:
+                continue
+            vote = self.web.vote(y, x)
+            if vote.decides:
+                if known and known.value != vote.value:
+                    sys.exit("draw-graph: two witnesses decide otherwise on a third; nothing is drawn")
+                self.found[x] = Mark(vote.value, known.line if known else line, y)
+
+    def mark_late(self, new, line):
+        """A witness that comes to a closed round is not famous: its graph says so, and where the node has published the
+        round's fame, the mark is published with it."""
+        if new.round <= self.decided.closed and (new not in self.found or self.found[new].value):
+            sys.exit("draw-graph: a witness came to a closed round and is not decided as not famous; nothing is drawn")
+        if new.round <= self.kept.closed:
+            self.published[new] = Mark(False, line)
+
+    def publish(self, marks, line):
+        """Publishes the marks, and answers how many had not been published before."""
+        fresh = [x for x in marks if x not in self.published]
+        for x in fresh:
+            self.published[x] = Mark(marks[x].value, line)
+        self.kept.advance(self.witnesses, line)
+        return len(fresh)
+
+    def settle(self, line):
+        self.publish(self.found, line)
+
+    def block(self, ledger, names=False):
+        """The block of the report."""
+        lines = [f"node {self.member.name} events {len(self.rows)} forkers {len(self.forkers)} round {self.greatest()} "
+                 f"closed {ledger.closed} ordered {len(ledger.order)}"]
+        for number, row in enumerate(ledger.order, 1):
+            creator = self.members.all[row.event.creator].name
+            name = f" {row.event.name.hex()}" if names else ""
+            lines.append(f"{number} {creator} {row.event.sequence} round {row.received} time {row.time} {row.effect()}{name}")
+        for member, balance in zip(self.members.all, ledger.balances):
+            lines.append(f"balance {member.name} {balance}")
+        return lines
+
+
+class Play:
+    """A script that the program takes, played line by line. `report` has pairs of a script line and a printed line; the
+    blocks at the end stand under the line `end`."""
+
+    def __init__(self, members, script):
+        self.members = members
+        self.script = script
+        self.web = Web(members.n, members.coin)
+        self.nodes = {m.name: Node(members, self.web, m) for m in members.all if m.has_node}
+        self.labels = {}
+        self.label_lines = []       # (line, label, bytes)
+        self.report = []
+        self.line, self.word = 0, ""
+        for self.line, text in enumerate(script, 1):
+            words = text.strip(" \t")
+            if words and not words.startswith("#"):
+                self.word, *rest = re.split("[ \t]+", words)
+                getattr(self, f"line_{self.word}")(*rest)
+        self.end = self.line = len(script) + 1
+        for node in self.nodes.values():
+            node.settle(self.end)
+            self.print_lines(node.block(node.kept))
+
+    def print_lines(self, lines):
+        self.report += [(self.line, line) for line in lines]
+
+    def answer(self, text):
+        self.print_lines([f"{self.line} {self.word} {text}"])
+
+    def make(self, x, other, time, payload):
+        """What a node's making answers: `made P`, or the fault."""
+        return self.nodes[x].make(other, int(time), self.payload(payload), self.line)
+
+    def payload(self, word):
+        if word.startswith("hex:"):
+            return bytes.fromhex(word[4:])
+        if not word:
+            return b""
+        pairs = [pair.split("=") for pair in word[4:].split(",")]
+        number = lambda who: int(who[1:]) if who.startswith("#") else self.members.numbers[who]
+        return spell_transfers([(number(who), int(amount)) for who, amount in pairs])
+
+    def label(self, label, data):
+        self.labels[label] = data
+        self.label_lines.append((self.line, label, data))
+
+    def take(self, x, y):
+        """Puts to x what it lacks of y's events, in y's order: how many were taken and refused."""
+        taker = self.nodes[x]
+        answers = [taker.put(row.data, self.line) for row in self.nodes[y].rows if row.name not in taker.places]
+        refused = sum(answer.startswith("refused") for answer in answers)
+        return f"taken {len(answers) - refused} refused {refused}"
+
+    def line_create(self, x, time, payload=""):
+        try:
+            self.answer(self.make(x, None, time, payload))
+        except Refused as why:
+            self.answer(f"refused {why}")
+
+    def line_join(self, x, label, time, payload=""):
+        try:
+            self.answer(self.make(x, name_of(self.labels[label]), time, payload))
+        except Refused as why:
+            self.answer(f"refused {why}")
+
+    def line_sync(self, x, y, time, payload=""):
+        taken = self.take(x, y)
+        last = self.nodes[y].last_own
+        try:
+            if not last:
+                raise Refused("peer-bare")
+            self.answer(f"{taken} {self.make(x, last.name, time, payload)}")
+        except Refused as why:
+            self.answer(f"{taken} made none {why}")
+
+    def line_pull(self, x, y):
+        self.answer(self.take(x, y))
+
+    def line_give(self, x, label):
+        self.answer(self.nodes[x].put(self.labels[label], self.line))
+
+    def line_name(self, label, x):
+        last = self.nodes[x].last_own
+        self.label(label, last.data if last else b"")
+
+    def line_forge(self, label, m, own, other, time, payload=""):
+        parents = None if own == "-" else (name_of(self.labels[own]), name_of(self.labels[other]))
+        member = self.members.all[self.members.numbers[m]]
+        self.label(label, spell(member, parents, int(time), self.payload(payload)))
+
+    def line_raw(self, label, digits):
+        self.label(label, bytes.fromhex(digits))
+
+    def line_alter(self, label, source, at, change):
+        data = bytearray(self.labels[source])
+        if int(at) < len(data):
+            data[int(at)] ^= int(change)
+        self.label(label, bytes(data))
+
+    def line_cut(self, label, source, count):
+        self.label(label, self.labels[source][:int(count)])
+
+    def line_freeze(self, x, worker):
+        node = self.nodes[x]
+        node.frozen[int(worker)] = dict(node.found)
+        node.froze.append((self.line, int(worker), len(node.rows)))
+        self.answer(str(len(node.rows)))
+
+    def line_publish(self, x, worker):
+        node = self.nodes[x]
+        self.answer(str(node.publish(node.frozen.get(int(worker), {}), self.line)))
+
+    def line_kept(self, x):
+        self.print_lines(self.nodes[x].block(self.nodes[x].kept))
+
+    def line_show(self, x):
+        self.nodes[x].settle(self.line)
+        self.line_kept(x)
+
+    def line_names(self, x):
+        node = self.nodes[x]
+        node.settle(self.line)
+        self.print_lines(node.block(node.kept, names=True))
