@@ -1,0 +1,81 @@
+-- What a graph keeps of its branches: for each row its branch, its counts and who has a fork below it; for each branch its
+-- maker and its end, which is one more than the place of its last row, or 0
+use Rattle.std.specs.Prelude.{◌≡◌, ℕ, ◌+◌, ◌-◌, ◌<◌, ◌≤◌, ◌^◌, ◌==◌, ◌&&◌, ◌||◌, nat_lt, Bool, false, cond, List, [], ◌∷◌, ◌++◌, length, get_or, replicate, slice_set, Option, Some, None}
+use Rattle.hg_model.specs.Stakes.{Stakes, member_count}
+use Rattle.hg_model.specs.Links.{Link}
+use Rattle.hg_model.specs.Graph.{IsShaped}
+use Rattle.hg_model.specs.Places.{some_below}
+use Rattle.hg_bits.specs.Masks.{mask_has}
+use Rattle.hg_branches.specs.Branches.{Branching, IsBranched, CountsAncestors}
+
+-- the branches that these columns tell
+abbrev pub branching_of : List ℕ → List ℕ → Branching
+branching_of branches makers = record { branch = λ x. get_or branches x 0; maker = λ b. get_or makers b 0 }
+
+-- what row x counts of branch b
+abbrev pub count_in : List (List ℕ) → ℕ → ℕ → ℕ
+count_in counts x b = get_or (get_or counts x []) b 0
+
+-- the branch of a row by this member on these parents, which comes next: that of its self-parent, or without parents the
+-- member's own, if no row has gone further there, and else a new one
+abbrev pub next_branch : List ℕ → List ℕ → List ℕ → ℕ → ℕ
+next_branch branches ends [] by = cond (get_or ends by 0 == 0) by (length ends)
+next_branch branches ends (p ∷ ps) by = cond (get_or ends (get_or branches p 0) 0 == p + 1) (get_or branches p 0) (length ends)
+
+-- the list with this value at a place, which may be the one behind its end
+abbrev pub put_at : List ℕ → ℕ → ℕ → List ℕ
+put_at xs b v = cond (b == length xs) (xs ++ v ∷ []) (slice_set xs b v)
+
+-- the makers, with that of branch b if it is a new one
+abbrev pub with_maker : List ℕ → ℕ → ℕ → List ℕ
+with_maker makers b by = cond (b == length makers) (makers ++ by ∷ []) makers
+
+-- the rows stand on branches, of which the first are the members' own
+pub record HoldsBranches (n : Stakes) (L : List Link) (branches makers ends : List ℕ) : Type 0 where
+  pub shaped : IsShaped n L
+  pub few : member_count n ≤ 128
+  pub short : length L < 2 ^ 32 - 1
+  pub rows : length branches ≡ length L
+  pub own : (m : ℕ) → m < member_count n → get_or makers m 0 ≡ m
+  pub all : member_count n ≤ length makers
+  pub ends_all : length ends ≡ length makers
+  pub members : (b : ℕ) → b < length makers → get_or makers b 0 < member_count n
+  pub known : (x : ℕ) → x < length L → get_or branches x 0 < length makers
+  pub lines : IsBranched L (branching_of branches makers)
+  pub end : (x : ℕ) → x < length L → x < get_or ends (get_or branches x 0) 0
+  pub sparse : length makers ≤ member_count n + length L
+  pub early : (x : ℕ) → x < length L → get_or branches x 0 ≤ member_count n + x
+
+-- each row has its counts: of the members' own branches, and of no more branches than there were
+pub record HoldsCounts (n : Stakes) (L : List Link) (branches makers : List ℕ) (counts : List (List ℕ)) : Type 0 where
+  pub len : length counts ≡ length L
+  pub row : (x : ℕ) → x < length L → CountsAncestors L (branching_of branches makers) x (count_in counts x)
+  pub wide : (x : ℕ) → x < length L → member_count n ≤ length (get_or counts x [])
+  pub narrow : (x : ℕ) → x < length L → length (get_or counts x []) ≤ length makers + 1
+  pub early : (x : ℕ) → x < length L → length (get_or counts x []) ≤ member_count n + x + 1
+
+-- of some branch by member m the first counts more than the second
+abbrev pub counts_more : List ℕ → (ℕ → ℕ) → (ℕ → ℕ) → ℕ → Bool
+counts_more makers count other m = some_below (length makers) (λ b. nat_lt (other b) (count b) && get_or makers b 0 == m)
+
+-- member m has rows that the self-parent alone counts, or is the creator, and has rows that the other-parent alone counts
+abbrev pub forks_anew : List ℕ → (ℕ → ℕ) → (ℕ → ℕ) → ℕ → ℕ → Bool
+forks_anew makers count other by m = (m == by || counts_more makers count other m) && counts_more makers other count m
+
+-- whether member m has a fork among the ancestors of a row on these parents by this member; `many` tells whether some
+-- member has a second branch
+abbrev pub forks_next : List ℕ → List (List ℕ) → List ℕ → Bool → Option (ℕ × ℕ) → ℕ → ℕ → Bool
+forks_next makers counts masks many None by m = false
+forks_next makers counts masks many (Some on) by m =
+    (mask_has (get_or masks on.0 0) m || mask_has (get_or masks on.1 0) m)
+    || (many && forks_anew makers (count_in counts on.0) (count_in counts on.1) by m)
+
+-- the memory of the next row's counts, if there is any: a zero for each branch and for one more
+abbrev pub IsSpare : ℕ → Option (List ℕ) → Type 0
+IsSpare branches None = Unit {0}
+IsSpare branches (Some row) = row ≡ replicate (branches + 1) 0
+
+-- for how many rows that serves
+abbrev pub spare_room : Option (List ℕ) → ℕ
+spare_room None = 0
+spare_room (Some row) = 1

@@ -1,0 +1,5 @@
+pub mod Branches
+pub mod Columns
+pub mod Kept
+pub mod Lines
+pub mod Sight

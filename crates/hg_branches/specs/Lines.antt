@@ -1,0 +1,43 @@
+-- Which branches have a row that sees another
+use Rattle.std.specs.Prelude.{◌≡◌, ℕ, suc, ◌+◌, ◌-◌, Bool, not, ◌&&◌, ◌||◌, ◌==◌, nat_lt, nat_le, List, length, slice_index}
+use Rattle.hg_model.specs.Places.{count_below, some_below}
+use Rattle.hg_model.specs.Stakes.{member_count}
+use Rattle.hg_model.specs.Links.{Link}
+use Rattle.hg_model.specs.Ancestry.{is_self_ancestor}
+use Rattle.hg_model.specs.Seeing.{sees, is_supermajority}
+use Rattle.hg_model.specs.Shape.{Shape}
+use Rattle.hg_bits.specs.Masks.{mask_has}
+
+-- z or a self-ancestor of it sees y
+abbrev pub line_sees : List Link → ℕ → ℕ → Bool
+line_sees L z y = some_below (suc z) (λ w. is_self_ancestor L z w && sees L w y)
+
+-- so it is of the last row that is counted of branch b, if one is
+abbrev pub sees_on : List Link → List ℕ → ℕ → ℕ → Bool
+sees_on L counts y b = nat_lt 0 (slice_index counts b) && line_sees L (slice_index counts b - 1) y
+
+-- the first descendant on the own branch of member m is counted
+abbrev pub own_sees : List ℕ → List ℕ → ℕ → Bool
+own_sees firsts counts m = nat_le (slice_index firsts m) (slice_index counts m)
+
+-- a row counted of branch b, which is no member's own, sees y, and the first descendant on its maker's own is not counted
+abbrev pub other_sees : List Link → List ℕ → List ℕ → List ℕ → ℕ → ℕ → Bool
+other_sees L makers firsts counts y b = nat_le (length firsts) b && not (own_sees firsts counts (slice_index makers b)) && sees_on L counts y b
+
+-- member m has a branch that sees y
+abbrev pub seen_on : List Link → List ℕ → List ℕ → ℕ → ℕ → Bool
+seen_on L makers counts y m = some_below (length makers) (λ b. sees_on L counts y b && slice_index makers b == m)
+
+-- member m has a branch besides its own that sees y, while its own does not
+abbrev pub others_see : List Link → List ℕ → List ℕ → List ℕ → ℕ → ℕ → Bool
+others_see L makers firsts counts y m = some_below (length makers) (λ b. other_sees L makers firsts counts y b && slice_index makers b == m)
+
+-- the mask has these members, and the maker of branch b if that sees y and its own does not
+abbrev pub AddsOther : List Link → List ℕ → List ℕ → List ℕ → ℕ → ℕ → ℕ → ℕ → Type 0
+AddsOther L makers firsts counts y b before after =
+    (m : ℕ) → mask_has after m ≡ (mask_has before m || (other_sees L makers firsts counts y b && slice_index makers b == m))
+
+-- the members that see y, by their own branches or by others, are more than two thirds
+abbrev pub is_strong_by_firsts : Shape → List ℕ → List ℕ → List ℕ → ℕ → Bool
+is_strong_by_firsts shape makers firsts counts y =
+    is_supermajority (member_count shape.members) (count_below (length firsts) (own_sees firsts counts) + count_below 128 (others_see shape.links makers firsts counts y))

@@ -1,0 +1,81 @@
+ghost use Rattle.std.specs.Prelude.{◌≡◌, ◌<◌, ◌≤◌, ◌+◌, ◌-◌, ◌^◌, ℕ, replicate, length, slice_index, slice_index_or, take, IfOk, vec_len, vec_capacity};
+ghost use Rattle.hg_model.specs.Shape.{pair_list};
+ghost use Rattle.std.specs.List.{AllByRecursion, range_with_len};
+ghost use Rattle.hg_branches.specs.Columns.{next_branch, put_at, with_maker};
+
+use hg_model::{Member, Memory};
+use std::alloc::Global;
+
+/// The branch of the next row, by this member on parents at these places. It goes on where its self-parent is the last row
+/// of a branch, and without parents where its member's own branch is empty. Any other row opens a branch.
+pub fn branch_for(branches: &[usize], ends: &[u32], on: Option<(usize, usize)>, by: Member) -> usize
+    requires places { AllByRecursion (λ p. p < length branches.now) (pair_list on) }
+    requires known { AllByRecursion (λ p. slice_index branches.now p < length ends.now) (pair_list on) }
+    requires short { length branches.now < 2 ^ 32 - 1 }
+    requires member { by < length ends.now }
+    ensures { result ≡ next_branch branches.now ends.now (pair_list on) by }
+{
+    match on {
+        None => {
+            let own = usize::from(by);
+            if ends[own] == 0 { own } else { ends.len() }
+        }
+        Some((self_place, _)) => {
+            let branch = branches[self_place];
+            if ends[branch] == self_place as u32 + 1 {
+                branch
+            } else {
+                ends.len()
+            }
+        }
+    }
+}
+
+/// Moves the end of the branch to that of a new row by this member. The branch may be new.
+pub fn move_end(makers: &mut Vec<Member>, ends: &mut Vec<u32>, branch: usize, by: Member, end: u32)
+    requires same { length makers.old.items ≡ length ends.old.items }
+    requires there { branch ≤ length ends.old.items }
+    requires makers_room { vec_len makers.old < vec_capacity makers.old }
+    requires ends_room { vec_len ends.old < vec_capacity ends.old }
+    ensures makers { makers.new.items ≡ with_maker makers.old.items branch by }
+    ensures ends { ends.new.items ≡ put_at ends.old.items branch end }
+{
+    if branch == ends.len() {
+        makers.push_reserved(by);
+        ends.push_reserved(end);
+    } else {
+        ends[branch] = end;
+    }
+}
+
+/// The ends of so many branches, by the branches of all rows.
+pub fn ends_of(alloc: Global, branches: &[usize], many: usize) -> Result<Vec<u32>, Memory>
+    requires known { (x : ℕ) → x < length branches.now → slice_index branches.now x < many }
+    requires short { length branches.now < 2 ^ 32 - 1 }
+    ensures len { IfOk result (λ v. length v.items ≡ many) }
+    ensures end { IfOk result (λ v. (x : ℕ) → x < length branches.now → x < slice_index v.items (slice_index branches.now x)) }
+{
+    let mut ends = no_ends(alloc, many)?;
+    mark_ends(&mut ends, branches);
+    Ok(ends)
+}
+
+/// The ends of so many empty branches.
+pub fn no_ends(alloc: Global, many: usize) -> Result<Vec<u32>, Memory>
+    ensures { IfOk result (λ v. length v.items ≡ many) }
+{
+    Ok(vec![in alloc; 0u32; many]?)
+}
+
+/// Moves the ends row by row.
+fn mark_ends(ends: &mut [u32], branches: &[usize])
+    requires known { (x : ℕ) → x < length branches.now → slice_index branches.now x < length ends.old }
+    requires short { length branches.now < 2 ^ 32 - 1 }
+    ensures len { length ends.new ≡ length ends.old }
+    ensures end { (x : ℕ) → x < length branches.now → x < slice_index ends.new (slice_index branches.now x) }
+{
+    for x in 0..branches.len() {
+        let branch = branches[x];
+        ends[branch] = x as u32 + 1;
+    }
+}

@@ -1,0 +1,67 @@
+ghost use Rattle.std.specs.Prelude.{◌≡◌, ◌<◌, ◌≤◌, ◌+◌, ◌&&◌, ◌||◌, ◌==◌, ℕ, nat_lt, nat_le, length, slice_index};
+ghost use Rattle.hg_model.specs.Shape.{pair_list};
+ghost use Rattle.std.specs.List.{AllByRecursion};
+ghost use Rattle.hg_bits.specs.Masks.{mask_has};
+ghost use Rattle.hg_branches.specs.Columns.{count_in, counts_more, forks_anew, forks_next};
+
+use crate::counts::{CountRow, counts_of};
+use hg_bits::{join_masks, meet_masks, with_member};
+use hg_model::Member;
+
+/// The members with a fork among the ancestors of the next row, by this member on these parents. Counts are compared only
+/// where `many` says that some member has a second branch.
+pub fn forked_next(
+    makers: &[Member],
+    counts: &[CountRow],
+    forked: &[u128],
+    many: bool,
+    on: Option<(usize, usize)>,
+    by: Member,
+) -> u128
+    requires member { by < 128 }
+    requires members { (b : ℕ) → b < length makers.now → slice_index makers.now b < 128 }
+    requires rows { length counts.now ≡ length forked.now }
+    requires places { AllByRecursion (λ p. p < length forked.now) (pair_list on) }
+    ensures { (m : ℕ) → mask_has result m ≡ forks_next makers.now counts.now forked.now many on by m }
+{
+    match on {
+        None => 0,
+        Some((self_place, other)) => {
+            let known = join_masks(forked[self_place], forked[other]);
+            if many {
+                let here = counts_of(counts, self_place);
+                let there = counts_of(counts, other);
+                join_masks(known, new_forks(makers, here, there, by))
+            } else {
+                known
+            }
+        }
+    }
+}
+
+/// The members that have rows which the self-parent alone counts, or are the creator, and have rows which the other-parent
+/// alone counts.
+fn new_forks(makers: &[Member], counts: &CountRow, other: &CountRow, by: Member) -> u128
+    requires member { by < 128 }
+    requires members { (b : ℕ) → b < length makers.now → slice_index makers.now b < 128 }
+    ensures { (m : ℕ) → mask_has result m ≡ forks_anew makers.now (slice_index counts.now) (slice_index other.now) by m }
+{
+    let here = with_member(members_apart(makers, counts, other), by);
+    meet_masks(here, members_apart(makers, other, counts))
+}
+
+/// The members with a branch of which the first row counts more than the other.
+#[tactic(auto, using(hg_model::proofs::PlacesLaws::some_steps))]
+fn members_apart(makers: &[Member], counts: &CountRow, other: &CountRow) -> u128
+    requires { (b : ℕ) → b < length makers.now → slice_index makers.now b < 128 }
+    ensures { (m : ℕ) → mask_has result m ≡ counts_more makers.now (slice_index counts.now) (slice_index other.now) m }
+{
+    let mut mask = 0;
+    for b in 0..makers.len() {
+        let maker = makers[b];
+        if other.at(b) < counts.at(b) {
+            mask = with_member(mask, maker);
+        }
+    }
+    mask
+}

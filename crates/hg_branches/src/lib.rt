@@ -1,0 +1,17 @@
+//! What the rows of a graph see of each other, told by branches, which are lines of self-parents.
+//! A layer above uses `BranchSight` as a graph that grows (`Growing` of `hg_model`). It may besides tell it which rows it
+//! will ask of often (`keep_last`), which changes no answer.
+//! The first branches are the members' own, so that a branch's number is its member; the others are opened by forks. A row
+//! keeps a number for each branch, and an ancestor is told by one comparison.
+#![tactic(auto)]
+
+mod branches;
+mod counts;
+mod forks;
+mod kept;
+mod seeing;
+mod sight;
+#[cfg(test)]
+mod tests;
+
+pub use sight::BranchSight;

@@ -1,0 +1,180 @@
+ghost use Rattle.std.specs.Prelude.{◌≡◌, ◌<◌, ◌≤◌, ◌||◌, ◌&&◌, ◌==◌, ◌+◌, ◌^◌, ℕ, not, nat_le, length, slice_index};
+ghost use Rattle.hg_model.specs.Places.{some_below, count_below};
+ghost use Rattle.hg_model.specs.Seeing.{sees};
+ghost use Rattle.hg_model.specs.GraphWords.{sees_in};
+ghost use Rattle.hg_bits.specs.Masks.{mask_has};
+ghost use Rattle.hg_branches.specs.Lines.{line_sees, sees_on, own_sees, others_see, seen_on, AddsOther, is_strong_by_firsts};
+
+use crate::counts::CountRow;
+use crate::sight::BranchSight;
+use hg_bits::kernels::count_ge;
+use hg_bits::{mask_has, with_member};
+use hg_model::{Member, Sight, is_supermajority};
+
+/// Whether row `x` sees row `y`.
+#[tactic(auto, unfolding(hg_model::specs::Seeing::sees))]
+pub fn sees(sight: &BranchSight, x: usize, y: usize) -> bool
+    requires left { x < length sight.now.shape.links }
+    requires right { y < length sight.now.shape.links }
+    ensures { result ≡ sees_in sight.now.shape x y }
+{
+    // That there are at most 128 members.
+    sight.members();
+    sight.ancestor(x, y) && !mask_has(sight.forked_below(x), sight.creator(y))
+}
+
+/// The members with a branch that sees row `y`: a look at the last counted row of each branch.
+#[tactic(auto, using(hg_model::proofs::PlacesLaws::some_steps))]
+pub fn seers(sight: &BranchSight, makers: &[Member], counts: &CountRow, y: usize) -> u128
+    requires place { y < length sight.now.shape.links }
+    requires members { (b : ℕ) → b < length makers.now → slice_index makers.now b < 128 }
+    requires places { (b : ℕ) → slice_index counts.now b ≤ length sight.now.shape.links }
+    ensures { (m : ℕ) → mask_has result m ≡ seen_on sight.now.shape.links makers.now counts.now y m }
+{
+    let mut mask = 0;
+    for b in 0..makers.len() {
+        mask = with_seer(mask, sight, counts, b, makers[b], y);
+    }
+    mask
+}
+
+/// Whether more than two thirds of the members have a branch that sees row `y`, whose first descendants are given: one
+/// comparison for each member's own branch, and a look at each other branch.
+pub fn strong_by_firsts(
+    sight: &BranchSight,
+    makers: &[Member],
+    counts: &CountRow,
+    firsts: &CountRow,
+    y: usize,
+) -> bool
+    requires place { y < length sight.now.shape.links }
+    requires members { (b : ℕ) → b < length makers.now → slice_index makers.now b < 128 }
+    requires places { (b : ℕ) → slice_index counts.now b ≤ length sight.now.shape.links }
+    requires few { length firsts.now ≤ 128 }
+    requires own { length firsts.now ≤ length makers.now }
+    requires wide { length firsts.now ≤ length counts.now }
+    ensures { result ≡ is_strong_by_firsts sight.now.shape makers.now firsts.now counts.now y }
+{
+    let own = count_own(counts, firsts);
+    let others = members_in(others(sight, makers, counts, firsts, y));
+    is_supermajority(sight.members(), own + others)
+}
+
+/// How many members' own branches have their first descendant counted.
+#[tactic(auto, using(hg_model::proofs::PlacesLaws::count_steps))]
+fn count_own(counts: &CountRow, firsts: &CountRow) -> u32
+    requires few { length firsts.now ≤ 128 }
+    requires wide { length firsts.now ≤ length counts.now }
+    ensures value { result ≡ count_below (length firsts.now) (own_sees firsts.now counts.now) }
+    ensures few { result ≤ 128 }
+{
+    count_ge(&counts.as_slice()[..firsts.len()], firsts.as_slice())
+}
+
+/// How many members are in the set.
+fn members_in(mask: u128) -> u32
+    ensures value { result ≡ count_below 128 (mask_has mask) }
+    ensures few { result ≤ 128 }
+{
+    mask.count_ones()
+}
+
+/// The members with another branch that sees row `y`, while their own does not.
+#[tactic(auto, using(hg_model::proofs::PlacesLaws::some_steps))]
+fn others(
+    sight: &BranchSight,
+    makers: &[Member],
+    counts: &CountRow,
+    firsts: &CountRow,
+    y: usize,
+) -> u128
+    requires place { y < length sight.now.shape.links }
+    requires members { (b : ℕ) → b < length makers.now → slice_index makers.now b < 128 }
+    requires places { (b : ℕ) → slice_index counts.now b ≤ length sight.now.shape.links }
+    requires few { length firsts.now ≤ length makers.now }
+    ensures { (m : ℕ) → mask_has result m ≡ others_see sight.now.shape.links makers.now firsts.now counts.now y m }
+{
+    let mut mask = 0;
+    for b in firsts.len()..makers.len() {
+        mask = with_other(mask, sight, makers, counts, firsts, b, y);
+    }
+    mask
+}
+
+/// The set with the maker of the branch, if the branch sees row `y` and the maker's own does not.
+fn with_other(
+    mask: u128,
+    sight: &BranchSight,
+    makers: &[Member],
+    counts: &CountRow,
+    firsts: &CountRow,
+    b: usize,
+    y: usize,
+) -> u128
+    requires place { y < length sight.now.shape.links }
+    requires branch { b < length makers.now }
+    requires other { length firsts.now ≤ b }
+    requires member { slice_index makers.now b < 128 }
+    requires there { slice_index counts.now b ≤ length sight.now.shape.links }
+    ensures { AddsOther sight.now.shape.links makers.now firsts.now counts.now y b mask result }
+{
+    let maker = makers[b];
+    let own = usize::from(maker);
+    if firsts.at(own) <= counts.at(own) {
+        return mask;
+    }
+    with_seer(mask, sight, counts, b, maker, y)
+}
+
+/// The set with the maker of the branch, if the branch sees row `y`.
+fn with_seer(
+    mask: u128,
+    sight: &BranchSight,
+    counts: &CountRow,
+    b: usize,
+    maker: Member,
+    y: usize,
+) -> u128
+    requires place { y < length sight.now.shape.links }
+    requires member { maker < 128 }
+    requires there { slice_index counts.now b ≤ length sight.now.shape.links }
+    ensures { (m : ℕ) → mask_has result m ≡ (mask_has mask m || (sees_on sight.now.shape.links counts.now y b && maker == m)) }
+{
+    if mask_has(mask, maker) {
+        return mask;
+    }
+    // That the graph is shaped: no row before y sees it.
+    sight.rows();
+    let end = counts.at(b) as usize;
+    if end <= y {
+        return mask;
+    }
+    if line_sees(sight, end - 1, y) {
+        return with_member(mask, maker);
+    }
+    mask
+}
+
+/// Whether row `z` or a self-ancestor of it sees row `y`. It goes down no further than to the first that does not have `y`
+/// as ancestor, and no step where the creator of `y` has no fork below row `z`.
+fn line_sees(sight: &BranchSight, z: usize, y: usize) -> bool
+    requires left { z < length sight.now.shape.links }
+    requires right { y < length sight.now.shape.links }
+    ensures { result ≡ line_sees sight.now.shape.links z y }
+{
+    // That the graph is shaped.
+    sight.rows();
+    let mut at = z;
+    'line: loop {
+        if sight.sees(at, y) {
+            return true;
+        }
+        if !sight.ancestor(at, y) {
+            return false;
+        }
+        match sight.self_parent(at) {
+            None => return false,
+            Some(parent) => at = parent,
+        }
+    }
+}

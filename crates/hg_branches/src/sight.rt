@@ -1,0 +1,204 @@
+ghost use Rattle.std.specs.Prelude.{◌≡◌, ◌<◌, ◌≤◌, ◌+◌, ℕ, [], length, slice_index, IfOk};
+ghost use Rattle.hg_model.specs.Forks.{has_fork_below};
+ghost use Rattle.hg_model.specs.Shape.{shape_of};
+ghost use Rattle.hg_bits.specs.Masks.{mask_has};
+
+use crate::branches::{branch_for, ends_of, move_end, no_ends};
+use crate::counts::{CountRow, copy_counts, counts_of, fill};
+use crate::forks::forked_next;
+use crate::kept::{KeptRow, firsts_at, no_rows, note_all, oldest_slot, slot_of};
+use crate::seeing;
+use hg_ancestry::{PlacedLink, copy_links, copy_masks, creator_of, self_parent_of};
+use hg_bits::{mask_has, members_over};
+use hg_model::{Growing, Member, Memory, Parents, Sight};
+use std::alloc::Global;
+use std::marker::Model;
+
+/// A graph that tells its ancestry by branches.
+#[derive(Drop)]
+pub struct BranchSight {
+    alloc: Global,
+    members: u32,
+    links: Vec<PlacedLink>,
+    /// For each row its branch.
+    branches: Vec<usize>,
+    /// For each branch the member whose rows it has. The first branches are the members' own.
+    makers: Vec<Member>,
+    /// For each branch one more than the place of its last row, or 0.
+    ends: Vec<u32>,
+    /// For each row and branch one more than the place of the branch's last row among the row's ancestors, or 0.
+    counts: Vec<CountRow>,
+    /// For each row the members with a fork among its ancestors.
+    forked: Vec<u128>,
+    /// Slots for first descendants, as many for each member; a prefix has none.
+    kept: Vec<KeptRow>,
+    /// The counts of the next row, if there is memory for one.
+    spare: Option<CountRow>,
+}
+
+impl Model for BranchSight {
+    ghost use Rattle.hg_model.specs.Shape.{ShapeWithRoom, shape_of};
+    ghost use Rattle.hg_branches.specs.Sight.{HoldsBranchSight};
+    ghost use Rattle.hg_branches.specs.Columns.{spare_room};
+
+    ghost Value = { ShapeWithRoom };
+
+    ghost view = { λ s. record { shape = shape_of s.members s.links.items; room = spare_room s.spare } };
+
+    ghost invariant = { HoldsBranchSight };
+}
+
+impl BranchSight {
+    /// The graph of no rows by `members` members. Takes the memory of all slots.
+    pub fn new(alloc: Global, members: u32) -> Result<BranchSight, Memory>
+        requires { members ≤ 128 }
+        ensures { IfOk result (λ s. s.shape ≡ shape_of members []) }
+    {
+        Ok(BranchSight {
+            alloc,
+            members,
+            links: Vec::new(alloc),
+            branches: Vec::new(alloc),
+            makers: own_branches(alloc, members)?,
+            ends: no_ends(alloc, members as usize)?,
+            counts: Vec::new(alloc),
+            forked: Vec::new(alloc),
+            kept: no_rows(alloc, members)?,
+            spare: None,
+        })
+    }
+
+    /// Gives the last row a slot, that of the earliest row by its creator which has one: its first descendants are kept
+    /// from now on, so that `strongly_sees` of it is quick. It changes no answer, and takes no memory.
+    pub fn keep_last(&mut self)
+        ensures { self.new ≡ self.old }
+    {
+        let end = self.links.len();
+        if end > 0 {
+            let member = creator_of(&self.links, self.members, end - 1);
+            let branch = self.branches[end - 1];
+            if let Some(slot) = oldest_slot(&self.kept, member) {
+                self.kept[slot].begin(branch, end as u32);
+            }
+        }
+    }
+
+    /// The members with a fork among the ancestors of row `x`.
+    pub(crate) fn forked_below(&self, x: usize) -> u128
+        requires { x < length self.now.shape.links }
+        ensures { (m : ℕ) → mask_has result m ≡ has_fork_below self.now.shape.links x m }
+    {
+        self.forked[x]
+    }
+}
+
+/// The makers of the members' own branches.
+fn own_branches(alloc: Global, members: u32) -> Result<Vec<Member>, Memory>
+    requires { members ≤ 128 }
+    ensures len { IfOk result (λ v. length v.items ≡ members) }
+    ensures own { IfOk result (λ v. (m : ℕ) → m < members → slice_index v.items m ≡ m) }
+{
+    let mut makers = Vec::with_capacity(alloc, members as usize)?;
+    for m in 0..members {
+        makers.push(m as Member)?;
+    }
+    Ok(makers)
+}
+
+impl Sight for BranchSight {
+    ghost shape = { λ s. s.shape };
+
+    fn rows(&self) -> usize {
+        self.links.len()
+    }
+
+    fn members(&self) -> u32 {
+        self.members
+    }
+
+    fn creator(&self, x: usize) -> Member {
+        creator_of(&self.links, self.members, x)
+    }
+
+    fn self_parent(&self, x: usize) -> Option<usize> {
+        self_parent_of(&self.links, x)
+    }
+
+    fn ancestor(&self, x: usize, y: usize) -> bool {
+        y < counts_of(&self.counts, x).at(self.branches[y]) as usize
+    }
+
+    fn sees(&self, x: usize, y: usize) -> bool {
+        seeing::sees(self, x, y)
+    }
+
+    fn strongly_sees(&self, x: usize, y: usize) -> bool {
+        // That the graph is shaped.
+        self.members();
+        if !self.ancestor(x, y) {
+            return false;
+        }
+        let counts = counts_of(&self.counts, x);
+        let member = self.creator(y);
+        if !mask_has(self.forked_below(x), member) {
+            if let Some(slot) = slot_of(&self.kept, member, y) {
+                let firsts = firsts_at(&self.kept, slot);
+                return seeing::strong_by_firsts(self, &self.makers, counts, firsts, y);
+            }
+        }
+        let seers = seeing::seers(self, &self.makers, counts, y);
+        members_over(seers, self.members)
+    }
+}
+
+impl Growing for BranchSight {
+    ghost room = { λ s. s.room };
+
+    fn reserve(&mut self) -> Result<(), Memory> {
+        if self.spare.is_none() {
+            self.links.reserve(1)?;
+            self.branches.reserve(1)?;
+            self.makers.reserve(1)?;
+            self.ends.reserve(1)?;
+            self.counts.reserve(1)?;
+            self.forked.reserve(1)?;
+            let row = CountRow::new(self.alloc, self.makers.len() + 1)?;
+            self.spare = Some(row);
+        }
+        Ok(())
+    }
+
+    fn extend(&mut self, parents: Parents, creator: Member) {
+        let members = self.members as usize;
+        let on = parents.pair();
+        let branch = branch_for(&self.branches, &self.ends, on, creator);
+        let many = members < self.makers.len() || members <= branch;
+        let forked = forked_next(&self.makers, &self.counts, &self.forked, many, on, creator);
+        let end = self.links.len() as u32 + 1;
+        if let Some(mut row) = self.spare.take() {
+            fill(&mut row, &self.counts, on, branch, end);
+            note_all(&mut self.kept, &self.branches, &row, branch, end);
+            self.links.push_reserved(PlacedLink::of(creator, parents));
+            self.branches.push_reserved(branch);
+            move_end(&mut self.makers, &mut self.ends, branch, creator, end);
+            self.counts.push_reserved(row);
+            self.forked.push_reserved(forked);
+        }
+    }
+
+    fn prefix(&self, len: usize) -> Result<BranchSight, Memory> {
+        let many = self.makers.len().min(self.members as usize + len);
+        Ok(BranchSight {
+            alloc: self.alloc,
+            members: self.members,
+            links: copy_links(self.alloc, &self.links, len)?,
+            branches: Vec::from_slice(self.alloc, &self.branches[..len])?,
+            makers: Vec::from_slice(self.alloc, &self.makers[..many])?,
+            ends: ends_of(self.alloc, &self.branches[..len], many)?,
+            counts: copy_counts(self.alloc, &self.counts, len)?,
+            forked: copy_masks(self.alloc, &self.forked, len)?,
+            kept: Vec::new(self.alloc),
+            spare: None,
+        })
+    }
+}
