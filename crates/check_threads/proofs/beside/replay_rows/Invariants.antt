@@ -1,0 +1,5 @@
+use Rattle.hg_board.specs.Seats.{IsOf}
+use Rattle.check_threads.proofs.beside.replay_rows.Given as goal
+
+abbrev pub invariant-loop-place : goal.invariant-loop-place
+invariant-loop-place g l = IsOf l.shared l.seat

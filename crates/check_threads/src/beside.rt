@@ -1,0 +1,136 @@
+//! A node that is shared by two threads: one puts and makes the events of a node that was alone, the other votes.
+
+ghost use Rattle.std.specs.Prelude.{◌<◌, length};
+ghost use Rattle.hg_model.specs.NodeView.{node_rows};
+ghost use Rattle.hg_board.specs.Seats.{IsOf};
+
+use crate::players::{Player, is_same, node_of, played_alone};
+use crate::trouble::Trouble;
+use hg_board::{Crew, Seat, Shared};
+use hg_io::{Gate, NoGate};
+use hg_model::{Members, Memory, Share};
+use hg_node::Node;
+use hg_sign::MacTable;
+use hg_workers::Voters;
+use std::alloc::Global;
+use std::sync::Wait;
+use std::thread::{Threads, join};
+
+/// How many turns the worker has.
+const TURNS: u32 = 4;
+
+/// Makes the event at this place of a node that was alone, if it is the node's own, or puts it.
+fn replay_row<R: Wait>(
+    rt: &R,
+    shared: &Shared<MacTable>,
+    seat: &mut Seat<MacTable>,
+    alone: &Node<MacTable>,
+    place: usize,
+) -> Result<(), Memory>
+    requires seat { IsOf shared.now seat.old }
+    requires place { place < length (node_rows alone.now) }
+    ensures { IsOf shared.now seat.new }
+{
+    let row = alone.row(place);
+    if row.creator == alone.own() {
+        let other = row.parents.map(|names| names.1);
+        shared.make(rt, seat, other, row.time, row.payload.as_slice())?;
+    } else {
+        shared.put(rt, seat, alone.bytes(place))?;
+    }
+    Ok(())
+}
+
+/// All events of that node, in its order.
+fn replay_rows<R: Wait>(
+    rt: &R,
+    shared: &Shared<MacTable>,
+    seat: &mut Seat<MacTable>,
+    alone: &Node<MacTable>,
+) -> Result<(), Memory>
+    requires { IsOf shared.now seat.old }
+    ensures { IsOf shared.now seat.new }
+{
+    for place in 0..alone.rows() {
+        replay_row(rt, shared, seat, alone, place)?;
+    }
+    Ok(())
+}
+
+/// The same with a seat that comes back.
+fn replay<R: Wait>(
+    rt: &R,
+    shared: &Shared<MacTable>,
+    mut seat: Seat<MacTable>,
+    alone: &Node<MacTable>,
+) -> (Seat<MacTable>, Result<(), Memory>)
+    requires { IsOf shared.now seat }
+    ensures { IsOf shared.now result.0 }
+{
+    let replayed = replay_rows(rt, shared, &mut seat, alone);
+    (seat, replayed)
+}
+
+/// A worker's turns at a gate, with a seat that comes back.
+pub fn vote<R: Wait, G: Gate>(
+    rt: &R,
+    alloc: Global,
+    shared: &Shared<MacTable>,
+    mut seat: Seat<MacTable>,
+    gate: &G,
+    turns: u32,
+) -> (Seat<MacTable>, Result<u32, Memory>)
+    requires { IsOf shared.now seat }
+    ensures { IsOf shared.now result.0 }
+{
+    let whole = Share::new(0, 1);
+    let marked = Voters::new(gate).work(rt, alloc, shared, &mut seat, whole, turns);
+    (seat, marked)
+}
+
+/// One branch replays the events of a node that was alone, the other votes meanwhile.
+fn shared_beside<R: Threads + Wait + Sync>(
+    rt: &R,
+    alloc: Global,
+    node: Node<MacTable>,
+    alone: &Node<MacTable>,
+) -> Result<Player, Memory> {
+    let Ok((shared, mut seat)) = Shared::start(alloc, node) else {
+        return Err(Memory);
+    };
+    let other = shared.split(&mut seat);
+    let top = &shared;
+    let ((mut seat, replayed), (other, marked)) = join(
+        rt,
+        move || -> (Seat<MacTable>, Result<(), Memory>)
+            requires { IsOf top.now seat }
+            ensures { IsOf top.entry.now result.0 }
+        { replay(rt, top, seat, alone) },
+        move || -> (Seat<MacTable>, Result<u32, Memory>)
+            requires { IsOf top.now other }
+            ensures { IsOf top.entry.now result.0 }
+        { vote(rt, alloc, top, other, &NoGate, TURNS) },
+    );
+    shared.absorb(&mut seat, other);
+    let player = Player {
+        node: shared.finish(rt, seat),
+    };
+    replayed?;
+    marked?;
+    Ok(player)
+}
+
+/// Whether a node that was shared ends as one that was alone.
+pub fn is_as_alone<R: Threads + Wait + Sync>(
+    rt: &R,
+    alloc: Global,
+    members: &Members,
+    first: u64,
+) -> Result<bool, Trouble> {
+    let mut alone = played_alone(alloc, members, first)?;
+    let node = node_of(alloc, members, 0)?;
+    let mut shared = shared_beside(rt, alloc, node, &alone.node)?;
+    alone.node.settle()?;
+    shared.node.settle()?;
+    Ok(is_same(&alone.node, &shared.node) && !alone.node.kept().is_empty())
+}

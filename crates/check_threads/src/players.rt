@@ -1,0 +1,101 @@
+//! Two members, the nodes that they play with, and what a node does that no one shares.
+
+use crate::trouble::Trouble;
+use hg_model::{Bytes, Member, MemberEntry, Members, Memory};
+use hg_node::Node;
+use hg_sign::MacTable;
+use std::alloc::Global;
+
+/// How often each of the two syncs with the other.
+const SYNCS: u64 = 5;
+
+/// What has a node. To let this go is one call, which is proved once.
+pub struct Player {
+    pub node: Node<MacTable>,
+}
+
+impl Drop for Player {
+    fn drop(self) {
+        let Player { node } = self;
+        drop(node);
+    }
+}
+
+fn entry(alloc: Global, name: u8, secret: u8, balance: u64) -> Result<MemberEntry, Memory> {
+    Ok(MemberEntry {
+        name: Bytes::from_vec(Vec::from_slice(alloc, &[name])?),
+        secret: Bytes::from_vec(Vec::from_slice(alloc, &[secret; 4])?),
+        balance,
+        has_node: true,
+    })
+}
+
+/// A, who has 100, and B, who has nothing.
+fn two_entries(alloc: Global) -> Result<Vec<MemberEntry>, Memory> {
+    let mut entries = Vec::new(alloc);
+    entries.push(entry(alloc, b'A', 0x0b, 100)?)?;
+    entries.push(entry(alloc, b'B', 0x0c, 0)?)?;
+    Ok(entries)
+}
+
+/// A and B, with a coin period of 10 rounds.
+pub fn two_members(alloc: Global) -> Result<Members, Trouble> {
+    match Members::try_new(two_entries(alloc)?, 10) {
+        Ok(members) => Ok(members),
+        Err(_entries) => Err(Trouble::Members),
+    }
+}
+
+/// The node of the member of this number, without rows.
+pub fn node_of(alloc: Global, members: &Members, own: Member) -> Result<Node<MacTable>, Trouble> {
+    if u32::from(own) >= members.count() {
+        return Err(Trouble::Members);
+    }
+    let keys = MacTable::new(alloc, members)?;
+    Ok(Node::new(alloc, members, own, keys)?)
+}
+
+/// Puts all rows of the other node to this one, which then makes an event on the other's last.
+fn sync(node: &mut Node<MacTable>, other: &Node<MacTable>, time: u64) -> Result<(), Memory> {
+    for place in 0..other.rows() {
+        node.put(other.bytes(place))?;
+    }
+    node.make(other.last_name(), time, b"")?;
+    Ok(())
+}
+
+/// Both make their first events, and then sync by turns.
+fn play(a: &mut Node<MacTable>, b: &mut Node<MacTable>, first: u64) -> Result<(), Memory> {
+    a.make(None, first, b"")?;
+    b.make(None, first, b"")?;
+    for turn in 1..=SYNCS {
+        sync(a, b, first.saturating_add(turn))?;
+        sync(b, a, first.saturating_add(turn))?;
+    }
+    Ok(())
+}
+
+/// A as it is once it played with B, from this time on.
+pub fn played_alone(alloc: Global, members: &Members, first: u64) -> Result<Player, Trouble> {
+    let mut a = Player {
+        node: node_of(alloc, members, 0)?,
+    };
+    let mut b = Player {
+        node: node_of(alloc, members, 1)?,
+    };
+    play(&mut a.node, &mut b.node, first)?;
+    Ok(a)
+}
+
+/// Whether both nodes have the same rows, and keep the same order.
+pub fn is_same(one: &Node<MacTable>, other: &Node<MacTable>) -> bool {
+    if one.rows() != other.rows() {
+        return false;
+    }
+    for place in 0..one.rows() {
+        if one.bytes(place) != other.bytes(place) {
+            return false;
+        }
+    }
+    one.kept() == other.kept()
+}
