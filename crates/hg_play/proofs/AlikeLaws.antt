@@ -33,7 +33,7 @@ use Rattle.hg_play.specs.Alike.{AnswersAlike, AreAlike, GossipAlike, MadeAlike, 
 use Rattle.hg_play.proofs.WorldLaws.{rows_published}
 
 -- the rows that changes add
-abbrev added : List Change → List Row
+abbrev pub added : List Change → List Row
 added [] = []
 added (Took row ∷ h) = row ∷ added h
 added (Made row ∷ h) = row ∷ added h
@@ -45,7 +45,7 @@ rows_fold n c s (Took row ∷ h) = rows_fold n c (with_row n s row) h ∙ append
 rows_fold n c s (Made row ∷ h) = rows_fold n c (with_row n s row) h ∙ append_assoc s.rows (row ∷ []) (added h)
 rows_fold n c s (Marked len share ∷ h) = rows_fold n c (with_marks n c s len share) h
 
-rows_changed : (v : NodeView Secrets) (es : List Change) → node_rows (with_changes v es) ≡ node_rows v ++ added es
+pub rows_changed : (v : NodeView Secrets) (es : List Change) → node_rows (with_changes v es) ≡ node_rows v ++ added es
 rows_changed v es =
     ap (λ (s : State). s.rows) (replay-append v.start.members v.start.coin v.history es) ∙ rows_fold v.start.members v.start.coin (node_state v) es
 
@@ -57,7 +57,7 @@ changed_alike v u es fs alike same = record {
 }
 
 -- what a function of start and rows gives
-same_of : {A : Type 0} (f : Start Secrets → List Row → A) (v u : NodeView Secrets) → AreAlike v u → f v.start (node_rows v) ≡ f u.start (node_rows u)
+pub same_of : {A : Type 0} (f : Start Secrets → List Row → A) (v u : NodeView Secrets) → AreAlike v u → f v.start (node_rows v) ≡ f u.start (node_rows u)
 same_of f v u alike = ap₂ f alike.start alike.rows
 
 taken_same : (v u : NodeView Secrets) (read : Result Row ByteFault) → AreAlike v u → taken_from accepts_by v read ≡ taken_from accepts_by u read

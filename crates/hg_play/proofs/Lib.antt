@@ -5,3 +5,8 @@ mod NodesLaws
 mod AlikeLaws
 mod BlockLaws
 mod PlayLaws
+mod OthersLaws
+mod SharedLaws
+mod CallLaws
+mod LikeLaws
+mod PartLaws

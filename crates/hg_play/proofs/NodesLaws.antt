@@ -1,32 +1,31 @@
 -- What is told of many nodes, call by call, and of the nodes of one thread
 use Rattle.std.proofs.Common.{◌≡◌, ℕ, ◌+◌, ◌<◌, cond, List, [], ◌∷◌, ◌++◌, length, get_or, take, Result, Ok, Err, sym, refl, ap, ap₂, ◌∙◌, subst, add-one, arith}
-use Rattle.std.specs.Prelude.{⊤, All, IfOk, OnErr, OnOk}
+use Rattle.std.specs.Prelude.{All, IfOk, OnErr, OnOk}
 use Rattle.std.proofs.lemmas.List.Sums.{fold_more}
 use Rattle.hg_model.specs.declared.outcome.Printed.{Printed}
 use Rattle.hg_model.specs.Members.{MemberList, has_node}
 use Rattle.hg_model.specs.Places.{list_below}
 use Rattle.hg_script.specs.declared.line.Action.{Action}
-use Rattle.hg_script.specs.declared.line.Action.TheVariants as action
 use Rattle.hg_script.specs.declared.line.Line.{Line}
 use Rattle.hg_world.specs.declared.step.Step.{Step}
 use Rattle.hg_world.specs.World.{WorldView, new_world}
 use Rattle.hg_world.specs.Steps.{RanSome, after_steps, settle_steps}
-use Rattle.hg_play.specs.Lines.{IsBelow, action_labels, action_printed, action_steps}
-use Rattle.hg_play.specs.Nodes.{IsKept, IsPlayable, IsStage, MayPlay, NodesView, TellsBlock, TellsBlocks, TellsLine, TellsLines, Told, seen_alone}
+use Rattle.hg_play.specs.Lines.{action_labels, action_printed, action_steps}
+use Rattle.hg_play.specs.Nodes.{IsKept, IsStage, NodesView, TellsBlock, TellsBlocks, TellsLine, TellsLines, Told, seen_alone}
 use Rattle.hg_play.specs.Play.{Stage, after_line, after_lines, all_printed, block_at, end_blocks, end_steps, first_stage, stage}
 use Rattle.hg_play.specs.Sites.{starts, starts_of}
+use Rattle.hg_play.specs.Through.{TellsParts}
 use Rattle.hg_play.proofs.PlayLaws.{block_more, no_blocks}
 use Rattle.hg_play.proofs.WorldLaws.{block_same, sites_length, starts-lines, starts-new, starts-steps, starts_length, steps-append}
 
 -- what calls keep, one after the other
 pub kept_same : {N : Type 0} (v : NodesView N) → IsKept v v
-kept_same v = record { since = λ earlier is. is; back = λ alone. alone; own = λ own. own; count = refl }
+kept_same v = record { since = λ earlier is. is; back = λ alone. alone; count = refl }
 
 pub kept_both : {N : Type 0} {old now new : NodesView N} → IsKept old now → IsKept now new → IsKept old new
 kept_both a b = record {
   since = λ earlier is. b.since earlier (a.since earlier is);
   back = λ alone. a.back (b.back alone);
-  own = λ own. b.own (a.own own);
   count = b.count ∙ a.count;
 }
 
@@ -41,7 +40,7 @@ told_both old now new first rest all P Q R back steps is one two = λ alone w ag
 
 -- the nodes of one thread
 pub kept_alone : (old new : WorldView) → length new.sites ≡ length old.sites → IsKept (seen_alone old) (seen_alone new)
-kept_alone old new long = record { since = λ earlier is. tt; back = λ alone. tt; own = λ own. tt; count = long }
+kept_alone old new long = record { since = λ earlier is. tt; back = λ alone. tt; count = long }
 
 pub kept_steps : (old new : WorldView) (steps : List Step) → new ≡ after_steps old steps → IsKept (seen_alone old) (seen_alone new)
 kept_steps old new steps is = kept_alone old new (sites_length new old (ap starts_of is ∙ starts-steps old steps))
@@ -53,29 +52,6 @@ kept_or_same (Err e) old new steps ok err = kept_steps old new [] err
 
 pub told_alone : (old new : WorldView) (steps : WorldView → List Step) (IsSo : WorldView → Type 0) → IsSo old → new ≡ after_steps old (steps old) → Told (seen_alone old) (seen_alone new) steps IsSo
 told_alone old new steps IsSo so is = λ alone w same. subst (λ (v : WorldView). IsSo v × (new ≡ after_steps v (steps v))) same (so, is)
-
--- the line may be played later where it may be now
-may_still : {own later : Type 0} (a : Action) → (own → later) → MayPlay own a → MayPlay later a
-may_still (action.Gossip g) is may = tt
-may_still (action.Label source) is may = tt
-may_still (action.Freeze m worker) is may = is may
-may_still (action.Publish m worker) is may = is may
-may_still (action.Kept m) is may = is may
-may_still (action.Show m) is may = tt
-may_still (action.Names m) is may = tt
-
--- over the nodes of one thread all lines may be played
-may_alone : (a : Action) → MayPlay ⊤ a
-may_alone (action.Gossip g) = tt
-may_alone (action.Label source) = tt
-may_alone (action.Freeze m worker) = tt
-may_alone (action.Publish m worker) = tt
-may_alone (action.Kept m) = tt
-may_alone (action.Show m) = tt
-may_alone (action.Names m) = tt
-
-pub all_playable : (w : WorldView) (lines : List Line) → All (λ (line : Line). IsBelow (length w.sites) line.action) lines → All (IsPlayable (seen_alone w)) lines
-all_playable w lines below = λ i d low. (below i d low, may_alone (get_or lines i d).action)
 
 -- a line by what is told of its call
 pub line_told : {N : Type 0} (old new : NodesView N) (members : MemberList) (line : Line) (a : Action) (labels labels_new : List (List ℕ)) (printed printed_new : List Printed) → line.action ≡ a →
@@ -97,16 +73,21 @@ line_told old new members line a labels labels_new printed printed_new action to
     subst (λ (ls : List (List ℕ)). IsStage members new labels_new printed_new (after line.number ls line.action)) is.labelled
     (subst (λ (b : Action). IsStage members new labels_new printed_new (after line.number labels b)) (sym action) here)
 
--- lines so far, by stages
-abbrev pub LinesSoFar : {N : Type 0} → MemberList → List Line → NodesView N → NodesView N → List (List ℕ) → List Printed → Type 0
-LinesSoFar members lines old now labels printed =
-    now.Alone → (s : Stage) → IsStage members old [] [] s → IsStage members now labels printed (after_lines members s lines)
+-- no lines so far
+pub parts_none : {N : Type 0} (members : MemberList) (v : NodesView N) (labels labels_now : List (List ℕ)) (printed printed_now : List Printed) → labels_now ≡ labels → printed_now ≡ printed →
+    TellsParts members [] v labels printed v labels_now printed_now
+parts_none members v labels labels_now printed printed_now same shown = λ alone s at. record {
+  agrees = at.agrees;
+  begun = at.begun;
+  labelled = same ∙ at.labelled;
+  shown = shown ∙ at.shown;
+}
 
--- and one more
-pub lines_more : {N : Type 0} (old now new : NodesView N) (members : MemberList) (lines : List Line) (i : ℕ) (line : Line) (labels labels_new : List (List ℕ)) (printed printed_new : List Printed) →
-    i < length lines → line ≡ get_or lines i line → (new.Alone → now.Alone) → LinesSoFar members (take i lines) old now labels printed →
-    TellsLine members line now labels printed new labels_new printed_new → LinesSoFar members (take (i + 1) lines) old new labels_new printed_new
-lines_more old now new members lines i line labels labels_new printed printed_new within is back so_far told = λ alone s at.
+-- one line more
+pub parts_more : {N : Type 0} (old now new : NodesView N) (members : MemberList) (lines : List Line) (i : ℕ) (line : Line) (labels_old labels labels_new : List (List ℕ)) (printed_old printed printed_new : List Printed) →
+    i < length lines → line ≡ get_or lines i line → (new.Alone → now.Alone) → TellsParts members (take i lines) old labels_old printed_old now labels printed →
+    TellsLine members line now labels printed new labels_new printed_new → TellsParts members (take (i + 1) lines) old labels_old printed_old new labels_new printed_new
+parts_more old now new members lines i line labels_old labels labels_new printed_old printed printed_new within is back so_far told = λ alone s at.
     let before = after_lines members s (take i lines) in
     let next : after_lines members s (take (i + 1) lines) ≡ after_line members before line =
     fold_more (after_line members) s lines i line within ∙ ap (after_line members before) (sym is) in
@@ -153,28 +134,17 @@ blocks_more old now new members m before printed printed_new low back so_far tol
     (rest (starts-steps w (end_steps members m) ∙ begun) ∙ ap (λ (b : Printed). printed ++ cond (has_node members m) (b ∷ []) []) block))
     so_far told
 
-pub lines_none : {N : Type 0} (members : MemberList) (v : NodesView N) (labels : List (List ℕ)) (printed : List Printed) → labels ≡ [] → printed ≡ [] →
-    LinesSoFar members [] v v labels printed
-lines_none members v labels printed no_labels none = λ alone s at. record {
-  agrees = at.agrees;
-  begun = at.begun;
-  labelled = no_labels ∙ at.labelled;
-  shown = none ∙ at.shown;
-}
-
 -- all of them, over a world
 pub lines_told : {N : Type 0} (old now : NodesView N) (members : MemberList) (lines : List Line) (labels : List (List ℕ)) (printed : List Printed) →
-    LinesSoFar members lines old now labels printed → TellsLines old now members lines printed
+    TellsParts members lines old [] [] now labels printed → TellsLines old now members lines printed
 lines_told old now members lines labels printed told = λ alone w agrees begun.
     let at = told alone (stage w [] []) (record { agrees = agrees; begun = begun; labelled = refl; shown = refl }) in
     (at.shown, at.agrees)
 
--- what can be played still can, after calls
-pub playable_still : {N : Type 0} (old now : NodesView N) → IsKept old now → (lines : List Line) (i : ℕ) (line : Line) → i < length lines → line ≡ get_or lines i line →
-    All (IsPlayable old) lines → IsPlayable now line
-playable_still old now kept lines i line low is each =
-    let here : IsPlayable old line = subst (IsPlayable old) (sym is) (each i line low) in
-    (subst (λ (n : ℕ). IsBelow n line.action) (sym kept.count) here.0, may_still line.action kept.own here.1)
+-- lines that may be played may be later
+pub lines_still : {N : Type 0} (Is : ℕ → Line → Type 0) (old now : NodesView N) → IsKept old now → (lines : List Line) (i : ℕ) (line : Line) → i < length lines → line ≡ get_or lines i line →
+    All (Is old.count) lines → Is now.count line
+lines_still Is old now kept lines i line low is each = subst (λ (n : ℕ). Is n line) (sym kept.count) (subst (Is old.count) (sym is) (each i line low))
 
 -- what the nodes of one thread come to, and all that they print
 pub played_alone : (members : MemberList) (lines : List Line) (world now last : WorldView) (pieces printed : List Printed) → world ≡ new_world members →

@@ -18,7 +18,7 @@ use Rattle.hg_script.specs.declared.line.Action.{Action}
 use Rattle.hg_script.specs.declared.line.Action.TheVariants as action
 use Rattle.hg_script.specs.Lawful.{IsGossip, IsSource, IsLawful, IsLine}
 use Rattle.hg_world.specs.World.{WorldView}
-use Rattle.hg_play.specs.Lines.{IsBelow, IsGossipBelow}
+use Rattle.hg_play.specs.Lines.{IsBelow, IsGossipBelow, IsLineBelow}
 use Rattle.hg_play.specs.Play.{block_at}
 
 -- what three things make is what others make that are the same
@@ -55,7 +55,7 @@ action_below members (action.Show m) lawful = has_node_below members.entries m l
 action_below members (action.Names m) lawful = has_node_below members.entries m lawful
 
 -- lawful lines name members alone
-pub lines_below : (members : MemberList) (N : ℕ) (lines : List Line) → N ≡ length members.entries → All (IsLine members) lines → All (λ (line : Line). IsBelow N line.action) lines
+pub lines_below : (members : MemberList) (N : ℕ) (lines : List Line) → N ≡ length members.entries → All (IsLine members) lines → All (IsLineBelow N) lines
 lines_below members N lines long lawful = λ k d low. subst (λ (n : ℕ). IsBelow n (get_or lines k d).action) (sym long) (action_below members (get_or lines k d).action (lawful k d low))
 
 -- one block more

@@ -5,3 +5,4 @@ pub mod Lines
 pub mod Nodes
 pub mod Play
 pub mod Sites
+pub mod Through

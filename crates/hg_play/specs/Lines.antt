@@ -15,6 +15,7 @@ use Rattle.hg_script.specs.declared.line.Gossip.TheVariants.{Create, Sync, Pull,
 use Rattle.hg_script.specs.declared.line.Source.TheVariants.{Last, Forged}
 use Rattle.hg_script.specs.declared.line.Action.{Action}
 use Rattle.hg_script.specs.declared.line.Action.TheVariants as action
+use Rattle.hg_script.specs.declared.line.Line.{Line}
 use Rattle.hg_world.specs.declared.step.Step.{Step}
 use Rattle.hg_world.specs.declared.step.Step.TheVariants as step
 use Rattle.hg_world.specs.World.{Secrets, WorldView, worker_count, node_at, rows_at, frozen_by}
@@ -88,3 +89,6 @@ IsBelow n (action.Publish m worker) = (m < n) × (worker < worker_count)
 IsBelow n (action.Kept m) = m < n
 IsBelow n (action.Show m) = m < n
 IsBelow n (action.Names m) = m < n
+
+abbrev pub IsLineBelow : ℕ → Line → Type 0
+IsLineBelow n line = IsBelow n line.action

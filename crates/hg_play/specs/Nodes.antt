@@ -1,5 +1,5 @@
 -- Many nodes that lines are played over: of one thread, or shared with others who add nothing but marks. What a call
--- answers is told once it is known that others did no more
+-- answers is told once it is known that others did no more. Lines that need the marks are played over a world
 use Rattle.std.specs.Prelude.{ℕ, ◌≡◌, ⊤, cond, List, [], ◌∷◌, ◌++◌, length, Option}
 use Rattle.std.specs.Option.{option_to_list}
 use Rattle.hg_model.specs.declared.answers.PutAnswer.{PutAnswer}
@@ -9,42 +9,36 @@ use Rattle.hg_model.specs.declared.outcome.Block.{Block}
 use Rattle.hg_model.specs.declared.outcome.Printed.{Printed}
 use Rattle.hg_model.specs.Members.{MemberList, has_node}
 use Rattle.hg_model.specs.Ledger.{block_of}
-use Rattle.hg_model.specs.Shares.{Share}
-use Rattle.hg_model.specs.Calls.{publish_answer}
 use Rattle.hg_gossip.specs.declared.gossip.Taken.{Taken}
 use Rattle.hg_script.specs.declared.line.Gossip.{Gossip}
 use Rattle.hg_script.specs.declared.line.Source.{Source}
-use Rattle.hg_script.specs.declared.line.Action.{Action}
-use Rattle.hg_script.specs.declared.line.Action.TheVariants as action
 use Rattle.hg_script.specs.declared.line.Line.{Line}
 use Rattle.hg_world.specs.declared.step.Step.{Step}
-use Rattle.hg_world.specs.declared.step.Step.TheVariants.{Make, Deliver, Freeze, Publish}
-use Rattle.hg_world.specs.World.{Secrets, WorldView, frozen_by, node_at, rows_at}
+use Rattle.hg_world.specs.declared.step.Step.TheVariants.{Make, Deliver}
+use Rattle.hg_world.specs.World.{Secrets, WorldView, node_at, rows_at}
 use Rattle.hg_world.specs.Steps.{after_steps, making_at, putting_at, settle_steps}
 use Rattle.hg_world.specs.Syncs.{pull_steps, pulled, sync_report, sync_steps}
 use Rattle.hg_play.specs.Labels.{last_bytes, source_bytes}
-use Rattle.hg_play.specs.Lines.{IsBelow, gossip_printed, gossip_steps, kept_block}
+use Rattle.hg_play.specs.Lines.{gossip_printed, gossip_steps, kept_block}
 use Rattle.hg_play.specs.Play.{Stage, after_line, after_lines, block_at, end_blocks, end_steps, stage}
 use Rattle.hg_play.specs.Sites.{starts, starts_of}
 
 -- many nodes at a moment, as their caller sees them: how many they are; that all that others did since the beginning are
--- marks; that nobody else marks; of which worlds they are the nodes, but for what others marked; and since which moments
+-- marks; of which worlds they are the nodes, but for what others marked; and since which moments
 pub record NodesView (N : Type 0) : Type 1 where
   pub count : ℕ
   pub Alone : Type 0
-  pub Own : Type 0
   pub Agrees : WorldView → Type 0
   pub Since : N → Type 0
 
 -- the nodes of one thread are those of the world alone, to which nobody else does anything
 abbrev pub seen_alone : WorldView → NodesView WorldView
-seen_alone w = record { count = length w.sites; Alone = ⊤; Own = ⊤; Agrees = λ v. w ≡ v; Since = λ earlier. ⊤ }
+seen_alone w = record { count = length w.sites; Alone = ⊤; Agrees = λ v. w ≡ v; Since = λ earlier. ⊤ }
 
 -- what every call keeps. That others only mark is known of a moment where it is known of a later one
 pub record IsKept {N : Type 0} (old new : NodesView N) : Type 0 where
   pub since : (earlier : N) → old.Since earlier → new.Since earlier
   pub back : new.Alone → old.Alone
-  pub own : old.Own → new.Own
   pub count : new.count ≡ old.count
 
 -- if others only mark, then of each world whose nodes they were this is so, and they are now those after these steps
@@ -81,23 +75,6 @@ IsShownBlock members w m block = starts_of w ≡ starts members → block ≡ bl
 abbrev pub IsKeptBlock : MemberList → WorldView → ℕ → Block → Type 0
 IsKeptBlock members w m block = starts_of w ≡ starts members → block ≡ kept_block members m (node_at w m)
 
--- of the block of a node that was settled for it
-abbrev pub TellsShown : {N : Type 0} → NodesView N → NodesView N → MemberList → ℕ → Block → Type 0
-TellsShown old new members m block = Told old new (λ w. settle_steps m) (λ w. IsShownBlock members w m block)
-
--- of the block of a node by the marks that it has published
-abbrev pub TellsKept : {N : Type 0} → NodesView N → NodesView N → MemberList → ℕ → Block → Type 0
-TellsKept old new members m block = Told old new (λ w. []) (λ w. IsKeptBlock members w m block)
-
--- of rows that a worker of a node froze
-abbrev pub TellsFrozen : {N : Type 0} → NodesView N → NodesView N → ℕ → ℕ → ℕ → Type 0
-TellsFrozen old new m worker len = Told old new (λ w. Freeze m worker ∷ []) (λ w. len ≡ length (rows_at w m))
-
--- of the marks that it published
-abbrev pub TellsPublished : {N : Type 0} → NodesView N → NodesView N → ℕ → ℕ → Share → ℕ → Type 0
-TellsPublished old new m worker share marked =
-    Told old new (λ w. Publish m worker share ∷ []) (λ w. marked ≡ publish_answer (node_at w m) (frozen_by w m worker) share)
-
 -- of a line of gossip, under its number
 abbrev pub TellsGossip : {N : Type 0} → NodesView N → NodesView N → List (List ℕ) → ℕ → Gossip → Printed → Type 0
 TellsGossip old new labels number gossip p =
@@ -106,17 +83,6 @@ TellsGossip old new labels number gossip p =
 -- of the bytes from a source
 abbrev pub TellsSource : {N : Type 0} → NodesView N → NodesView N → Secrets → List (List ℕ) → Source → List ℕ → Type 0
 TellsSource old new secrets labels source bytes = Told old new (λ w. []) (λ w. bytes ≡ source_bytes secrets w labels source)
-
--- to freeze rows, to publish marks, and to show what was published are for nodes that nobody else marks
-abbrev pub MayPlay : Type 0 → Action → Type 0
-MayPlay own (action.Freeze m worker) = own
-MayPlay own (action.Publish m worker) = own
-MayPlay own (action.Kept m) = own
-MayPlay own _ = ⊤
-
--- the line can be played over the nodes
-abbrev pub IsPlayable : {N : Type 0} → NodesView N → Line → Type 0
-IsPlayable v line = IsBelow v.count line.action × MayPlay v.Own line.action
 
 -- the nodes, which began as those of these members, the labels, and what was printed are those of a stage
 pub record IsStage {N : Type 0} (members : MemberList) (v : NodesView N) (labels : List (List ℕ)) (printed : List Printed) (s : Stage) : Type 0 where

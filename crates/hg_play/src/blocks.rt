@@ -2,10 +2,9 @@ ghost use Rattle.std.specs.Prelude.{◌≡◌, ◌<◌, ◌^◌, IfOk, OnOk, len
 ghost use Rattle.hg_world.specs.World.{IsMemberOf};
 ghost use Rattle.hg_world.specs.Steps.{after_steps, settle_steps};
 ghost use Rattle.hg_play.specs.Lines.{kept_block};
-ghost use Rattle.hg_play.specs.Nodes.{IsKept, IsKeptBlock, IsShownBlock, TellsBlock, TellsBlocks};
+ghost use Rattle.hg_play.specs.Nodes.{IsKept, IsKeptBlock, IsShownBlock, TellsBlock, TellsBlocks, seen_alone};
 ghost use Rattle.hg_play.specs.Sites.{start_in};
 
-use crate::nodes::Nodes;
 use crate::printing::order_lines;
 use hg_model::{Block, Items, Member, Members, Memory, Printed};
 use hg_node::Node;
@@ -69,38 +68,38 @@ pub(crate) fn settled_at(
 }
 
 /// The block of a node behind what was printed, if the member has one.
-fn push_block<N: Nodes>(
+fn push_block(
     alloc: Global,
     members: &Members,
-    nodes: &mut N,
+    world: &mut World,
     member: usize,
     printed: &mut Vec<Printed>,
 ) -> Result<(), Memory>
-    requires below { member < (N.seen nodes.old).count }
+    requires below { IsMemberOf world.old member }
     requires few { member < 2 ^ 16 }
-    ensures kept { IsKept (N.seen nodes.old) (N.seen nodes.new) }
-    ensures told { OnOk result (TellsBlock (N.seen nodes.old) (N.seen nodes.new) members.now member printed.old.items printed.new.items) }
+    ensures kept { IsKept (seen_alone world.old) (seen_alone world.new) }
+    ensures told { OnOk result (TellsBlock (seen_alone world.old) (seen_alone world.new) members.now member printed.old.items printed.new.items) }
 {
     if members.has_node(member as Member) {
-        let block = nodes.show(alloc, members, member as Member)?;
+        let block = settled_at(alloc, members, world, member as Member)?;
         printed.push(Printed::Block(block))?;
     }
     Ok(())
 }
 
 /// The blocks of all nodes, in the order of the members, behind what was printed.
-pub(crate) fn push_blocks<N: Nodes>(
+pub(crate) fn push_blocks(
     alloc: Global,
     members: &Members,
-    nodes: &mut N,
+    world: &mut World,
     printed: &mut Vec<Printed>,
 ) -> Result<(), Memory>
-    requires { (N.seen nodes.old).count ≡ length members.now.entries }
-    ensures kept { IsKept (N.seen nodes.old) (N.seen nodes.new) }
-    ensures told { OnOk result (TellsBlocks (N.seen nodes.old) (N.seen nodes.new) members.now printed.old.items printed.new.items) }
+    requires { length world.old.sites ≡ length members.now.entries }
+    ensures kept { IsKept (seen_alone world.old) (seen_alone world.new) }
+    ensures told { OnOk result (TellsBlocks (seen_alone world.old) (seen_alone world.new) members.now printed.old.items printed.new.items) }
 {
     for member in 0..members.count() as usize {
-        push_block(alloc, members, nodes, member, printed)?;
+        push_block(alloc, members, world, member, printed)?;
     }
     Ok(())
 }

@@ -1,5 +1,6 @@
 ghost use Rattle.hg_play.specs.Agree.{LinesAreSteps};
 ghost use Rattle.hg_play.specs.Alike.{GossipNeedsRowsAlone, NodesNeedRowsAlone, StepsNeedRowsAlone};
+ghost use Rattle.hg_play.specs.Through.{LinesNeedRowsAlone};
 
 /// A law: the world in which lines are played is that after their steps.
 pub fn lines_are_steps()
@@ -12,4 +13,9 @@ pub fn steps_need_rows_alone()
     ensures nodes { NodesNeedRowsAlone }
     ensures steps { StepsNeedRowsAlone }
     ensures gossip { GossipNeedsRowsAlone }
+{}
+
+/// A law: what a line prints, unless it freezes rows, publishes or shows what was published, does not depend on marks.
+pub fn lines_need_rows_alone()
+    ensures { LinesNeedRowsAlone }
 {}

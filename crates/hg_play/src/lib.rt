@@ -11,6 +11,11 @@ mod lines;
 mod nodes;
 mod playing;
 mod printing;
+mod seated;
+mod seats;
+mod shared;
+mod through;
 
-pub use laws::{lines_are_steps, steps_need_rows_alone};
+pub use laws::{lines_are_steps, lines_need_rows_alone, steps_need_rows_alone};
 pub use playing::play;
+pub use seated::Seated;

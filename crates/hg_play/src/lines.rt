@@ -1,15 +1,18 @@
-ghost use Rattle.std.specs.Prelude.{◌≡◌, All, IfOk, OnOk};
+ghost use Rattle.std.specs.Prelude.{◌≡◌, All, IfOk, OnOk, length};
 ghost use Rattle.hg_model.specs.Signing.{secrets_of};
 ghost use Rattle.hg_script.specs.declared.line.Action.{Action};
-ghost use Rattle.hg_play.specs.Lines.{IsBelow};
-ghost use Rattle.hg_play.specs.Nodes.{IsKept, IsPlayable, TellsLine, TellsLines, TellsSource};
+ghost use Rattle.hg_play.specs.Lines.{IsBelow, IsLineBelow};
+ghost use Rattle.hg_play.specs.Nodes.{IsKept, TellsLine, TellsLines, TellsSource, seen_alone};
+ghost use Rattle.hg_play.specs.Through.{IsPart};
 
+use crate::blocks::{kept_at, settled_at};
 use crate::gossip::play_gossip;
 use crate::labels::{altered, bytes_at, copied, forged, front, names_of_labels};
 use crate::nodes::Nodes;
 use hg_model::{Bytes, Members, Memory, Printed, Share};
 use hg_script::{Action, Line, Source};
 use hg_sign::MacTable;
+use hg_world::World;
 use std::alloc::Global;
 
 /// The bytes from a source.
@@ -41,8 +44,8 @@ fn source_bytes<N: Nodes>(
     }
 }
 
-/// Plays a line.
-fn play_line<N: Nodes>(
+/// Plays a line of gossip, or one that makes a label.
+pub(crate) fn play_part<N: Nodes>(
     alloc: Global,
     members: &Members,
     keys: &MacTable,
@@ -51,7 +54,7 @@ fn play_line<N: Nodes>(
     printed: &mut Vec<Printed>,
     line: &Line,
 ) -> Result<(), Memory>
-    requires playable { IsPlayable (N.seen nodes.old) line.now }
+    requires part { IsPart (N.seen nodes.old).count line.now.action }
     requires keys { keys.now ≡ secrets_of members.now }
     ensures kept { IsKept (N.seen nodes.old) (N.seen nodes.new) }
     ensures told { OnOk result (TellsLine members.now line.now (N.seen nodes.old) labels.old.items printed.old.items (N.seen nodes.new) labels.new.items printed.new.items) }
@@ -65,53 +68,78 @@ fn play_line<N: Nodes>(
             let bytes = source_bytes(alloc, keys, nodes, labels.as_slice(), source)?;
             labels.push(bytes)?;
         }
+        // No other line comes here.
+        _ => {}
+    }
+    Ok(())
+}
+
+/// Plays a line over a world.
+pub(crate) fn play_line(
+    alloc: Global,
+    members: &Members,
+    keys: &MacTable,
+    world: &mut World,
+    labels: &mut Vec<Bytes>,
+    printed: &mut Vec<Printed>,
+    line: &Line,
+) -> Result<(), Memory>
+    requires below { IsBelow (length world.old.sites) line.now.action }
+    requires keys { keys.now ≡ secrets_of members.now }
+    ensures kept { IsKept (seen_alone world.old) (seen_alone world.new) }
+    ensures told { OnOk result (TellsLine members.now line.now (seen_alone world.old) labels.old.items printed.old.items (seen_alone world.new) labels.new.items printed.new.items) }
+{
+    match &line.action {
+        Action::Gossip(_) | Action::Label(_) => {
+            play_part(alloc, members, keys, world, labels, printed, line)?;
+        }
         Action::Freeze { member, worker } => {
-            let len = nodes.freeze(*member, *worker) as u64;
+            let len = world.freeze(*member, *worker) as u64;
             printed.push(Printed::Freeze {
                 line: line.number,
                 len,
             })?;
         }
         Action::Publish { member, worker } => {
-            let count = nodes.publish(*member, *worker, Share::new(0, 1))?;
+            let count = world.publish(*member, *worker, Share::new(0, 1))?;
             printed.push(Printed::Publish {
                 line: line.number,
                 count,
             })?;
         }
         Action::Kept { member } => {
-            let block = nodes.kept(alloc, members, *member)?;
+            let block = kept_at(alloc, members, world, *member)?;
             printed.push(Printed::Block(block))?;
         }
         Action::Show { member } => {
-            let block = nodes.show(alloc, members, *member)?;
+            let block = settled_at(alloc, members, world, *member)?;
             printed.push(Printed::Block(block))?;
         }
         Action::Names { member } => {
-            let block = nodes.show(alloc, members, *member)?;
+            let block = settled_at(alloc, members, world, *member)?;
             printed.push(Printed::Names(block))?;
         }
     }
     Ok(())
 }
 
-/// Plays the lines over the nodes, one after the other, and gives what they print.
-pub(crate) fn play_lines<N: Nodes>(
+/// Plays the lines over a world, one after the other, and gives what they print.
+pub(crate) fn play_lines(
     alloc: Global,
     members: &Members,
     keys: &MacTable,
-    nodes: &mut N,
+    world: &mut World,
     lines: &[Line],
 ) -> Result<Vec<Printed>, Memory>
-    requires lines { All (IsPlayable (N.seen nodes.old)) lines.now }
+    requires lines { All (IsLineBelow (length world.old.sites)) lines.now }
     requires keys { keys.now ≡ secrets_of members.now }
-    ensures kept { IsKept (N.seen nodes.old) (N.seen nodes.new) }
-    ensures told { IfOk result (λ v. TellsLines (N.seen nodes.old) (N.seen nodes.new) members.now lines.now v.items) }
+    ensures kept { IsKept (seen_alone world.old) (seen_alone world.new) }
+    ensures told { IfOk result (λ v. TellsLines (seen_alone world.old) (seen_alone world.new) members.now lines.now v.items) }
 {
     let mut labels = Vec::new(alloc);
     let mut printed = Vec::new(alloc);
     for line in lines {
-        play_line(alloc, members, keys, nodes, &mut labels, &mut printed, line)?;
+        play_line(alloc, members, keys, world, &mut labels, &mut printed, line)?;
     }
     Ok(printed)
 }

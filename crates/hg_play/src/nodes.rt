@@ -1,13 +1,9 @@
 ghost use Rattle.std.specs.Prelude.{◌≡◌, ◌<◌, IfOk};
-ghost use Rattle.hg_world.specs.World.{worker_count};
-ghost use Rattle.hg_play.specs.Nodes.{IsKept, NodesView, TellsFrozen, TellsKept, TellsLast, TellsMaking, TellsPublished, TellsPulling, TellsPutting, TellsShown, TellsSyncing};
+ghost use Rattle.hg_play.specs.Nodes.{IsKept, NodesView, TellsLast, TellsMaking, TellsPulling, TellsPutting, TellsSyncing};
 
-use crate::blocks::{kept_at, settled_at};
 use crate::labels;
 use hg_gossip::Taken;
-use hg_model::{
-    Block, Bytes, MakeAnswer, Member, Members, Memory, Name, PutAnswer, Share, SyncReport,
-};
+use hg_model::{Bytes, MakeAnswer, Member, Memory, Name, PutAnswer, SyncReport};
 use hg_world::World;
 use std::alloc::Global;
 
@@ -61,37 +57,6 @@ pub trait Nodes {
         requires { member < (seen self.old).count }
         ensures kept { IsKept (seen self.old) (seen self.new) }
         ensures told { IfOk result (TellsLast (seen self.old) (seen self.new) member) };
-
-    /// The block of a member's node, which is settled for it: worker 0 freezes its rows and publishes all that they decide.
-    /// The nodes are those of these members.
-    fn show(&mut self, alloc: Global, members: &Members, member: Member) -> Result<Block, Memory>
-        requires { member < (seen self.old).count }
-        ensures kept { IsKept (seen self.old) (seen self.new) }
-        ensures told { IfOk result (TellsShown (seen self.old) (seen self.new) members.now member) };
-
-    /// The block of a member's node by the marks that it has published. The nodes are those of these members.
-    fn kept(&mut self, alloc: Global, members: &Members, member: Member) -> Result<Block, Memory>
-        requires member { member < (seen self.old).count }
-        requires own { (seen self.old).Own }
-        ensures kept { IsKept (seen self.old) (seen self.new) }
-        ensures told { IfOk result (TellsKept (seen self.old) (seen self.new) members.now member) };
-
-    /// A worker, of a number below 16, freezes the rows of a member's node; tells how many they are.
-    fn freeze(&mut self, member: Member, worker: u32) -> usize
-        requires member { member < (seen self.old).count }
-        requires worker { worker < worker_count }
-        requires own { (seen self.old).Own }
-        ensures kept { IsKept (seen self.old) (seen self.new) }
-        ensures told { TellsFrozen (seen self.old) (seen self.new) member worker result };
-
-    /// A worker of a member's node, of a number below 16, publishes what a share decides in the rows that it froze last;
-    /// tells how many were marked.
-    fn publish(&mut self, member: Member, worker: u32, share: Share) -> Result<u32, Memory>
-        requires member { member < (seen self.old).count }
-        requires worker { worker < worker_count }
-        requires own { (seen self.old).Own }
-        ensures kept { IsKept (seen self.old) (seen self.new) }
-        ensures told { IfOk result (TellsPublished (seen self.old) (seen self.new) member worker share) };
 }
 
 impl Nodes for World {
@@ -129,21 +94,5 @@ impl Nodes for World {
 
     fn last_bytes(&mut self, alloc: Global, member: Member) -> Result<Bytes, Memory> {
         labels::last_bytes(alloc, self.node(member))
-    }
-
-    fn show(&mut self, alloc: Global, members: &Members, member: Member) -> Result<Block, Memory> {
-        settled_at(alloc, members, self, member)
-    }
-
-    fn kept(&mut self, alloc: Global, members: &Members, member: Member) -> Result<Block, Memory> {
-        kept_at(alloc, members, self, member)
-    }
-
-    fn freeze(&mut self, member: Member, worker: u32) -> usize {
-        World::freeze(self, member, worker)
-    }
-
-    fn publish(&mut self, member: Member, worker: u32, share: Share) -> Result<u32, Memory> {
-        World::publish(self, member, worker, share)
     }
 }

@@ -1,10 +1,10 @@
-use Rattle.std.proofs.Common.{take}
-use Rattle.hg_play.specs.Nodes.{IsKept}
-use Rattle.hg_play.proofs.NodesLaws.{LinesSoFar}
+use Rattle.std.proofs.Common.{[], take}
+use Rattle.hg_play.specs.Nodes.{IsKept, seen_alone}
+use Rattle.hg_play.specs.Through.{TellsParts}
 use Rattle.hg_play.proofs.lines.play_lines.Given as goal
 
 abbrev pub invariant-loop-line : goal.invariant-loop-line
-invariant-loop-line g l = record {
-  kept : IsKept (g.N.Nodes.seen l.initial.nodes) (g.N.Nodes.seen l.nodes);
-  told : LinesSoFar l.members (take l.line-index l.lines) (g.N.Nodes.seen l.initial.nodes) (g.N.Nodes.seen l.nodes) l.labels.items l.printed.items;
+invariant-loop-line l = record {
+  kept : IsKept (seen_alone l.initial.world) (seen_alone l.world);
+  told : TellsParts l.members (take l.line-index l.lines) (seen_alone l.initial.world) [] [] (seen_alone l.world) l.labels.items l.printed.items;
 }

@@ -1,0 +1,206 @@
+-- What a call through a seat leaves, where others only mark
+use Rattle.std.proofs.Common.{◌≡◌, ◌≢◌, ℕ, zero, suc, ◌+◌, ◌<◌, ◌≤◌, eqb, cond, List, [], ◌∷◌, ◌++◌, length, Some, slice_get, sym, refl, ap, ◌∙◌, subst, append_assoc, arith}
+use Rattle.std.proofs.lemmas.Bool.{ne_eqb}
+use Rattle.std.proofs.lemmas.List.{append-nil, length-append}
+use Rattle.hg_model.specs.declared.row.Row.{Row}
+use Rattle.hg_model.specs.declared.answers.PutAnswer.{PutAnswer}
+use Rattle.hg_model.specs.declared.answers.MakeAnswer.{MakeAnswer}
+use Rattle.hg_model.specs.Signing.{accepts_by}
+use Rattle.hg_model.specs.History.{Change}
+use Rattle.hg_model.specs.History.Change.{Took, Made, Marked}
+use Rattle.hg_model.specs.NodeView.{NodeView, node_rows, with_changes}
+use Rattle.hg_model.specs.Calls.{make_changes, put_answer, put_changes}
+use Rattle.hg_gossip.specs.Holding.{Seen, positions_from, with_others, with_own}
+use Rattle.hg_board.specs.Positions.{times, AreBelow}
+use Rattle.hg_board.specs.Seats.{Place, Stand, seen_by}
+use Rattle.hg_board.specs.Calls.{SeatMakes, SeatPuts, SeatWaits, Stays}
+use Rattle.hg_board.proofs.PositionLaws as positions
+use Rattle.hg_board.proofs.PrefixLaws.{prefix_length}
+use Rattle.hg_world.specs.World.{Secrets}
+use Rattle.hg_world.specs.Steps.{making_at, node_made, node_put, putting_at}
+use Rattle.hg_world.proofs.NodeLaws.{makes}
+use Rattle.hg_crowd.specs.Crowd.{IsMark, IsSeat, IsStill, OthersMark}
+use Rattle.hg_play.specs.Alike.{AreAlike}
+use Rattle.hg_play.specs.Through.{node_seen}
+use Rattle.hg_play.proofs.AlikeLaws.{added, rows_changed, stay_alike}
+
+pub alike_back : (v u : NodeView Secrets) → AreAlike v u → AreAlike u v
+alike_back v u alike = record { start = sym alike.start; rows = sym alike.rows }
+
+pub alike_both : (v u t : NodeView Secrets) → AreAlike v u → AreAlike u t → AreAlike v t
+alike_both v u t a b = record { start = a.start ∙ b.start; rows = a.rows ∙ b.rows }
+
+pub alike_same : (v u : NodeView Secrets) → v ≡ u → AreAlike v u
+alike_same v u same = record { start = ap (λ (w : NodeView Secrets). w.start) same; rows = ap (λ (w : NodeView Secrets). node_rows w) same }
+
+-- how often a position stands in lists
+times_cons : (q p : ℕ) (ps : List ℕ) → times q (p ∷ ps) ≡ times q (p ∷ []) + times q ps
+times_cons q p ps = positions.times-append q (p ∷ []) ps
+
+times_other : (q p : ℕ) → p ≢ q → times q (p ∷ []) ≡ 0
+times_other q p other =
+    let none : (◌≡◌ {A = ℕ} (cond (eqb p q) 1 0) 0) = ap (λ b. cond b 1 0) (ne_eqb p q other) in
+    omega (arith, positions.times_push q [] p, positions.times_none q, none)
+
+-- no position past the end stands in a list of positions below it
+times_past : (n q : ℕ) (ps : List ℕ) → AreBelow n ps → n ≤ q → times q ps ≡ 0
+times_past n q [] below past = positions.times_none q
+times_past n q (p ∷ ps) below past = omega (arith, times_cons q p ps, times_other q p (λ e. omega (arith, below.0)), times_past n q ps below.1 past)
+
+-- nor does one before the first in those that go on from it
+times_before : (n q : ℕ) (es : List Change) → q < n → times q (positions_from n es) ≡ 0
+times_before n q [] before = positions.times_none q
+times_before n q (e ∷ es) before =
+    omega (arith, times_cons q n (positions_from (suc n) es), times_other q n (λ e. omega arith), times_before (suc n) q es (omega arith))
+
+from_below : (n : ℕ) (es : List Change) → AreBelow (n + length es) (positions_from n es)
+from_below n [] = tt
+from_below n (e ∷ es) = (omega arith, positions.below_more (suc n + length es) (n + length (e ∷ es)) (positions_from (suc n) es) (omega arith) (from_below (suc n) es))
+
+module _ {A : Type 0} where
+  get_front : (xs ys : List A) (k : ℕ) → k < length xs → slice_get (xs ++ ys) k ≡ slice_get xs k
+  get_front [] ys k low = absurd (omega arith)
+  get_front (x ∷ xs) ys zero low = refl
+  get_front (x ∷ xs) ys (suc k) low = get_front xs ys k (omega arith)
+
+  get_back : (xs ys : List A) (k : ℕ) → slice_get (xs ++ ys) (length xs + k) ≡ slice_get ys k
+  get_back [] ys k = let same : 0 + k ≡ k = omega arith in ap (slice_get ys) same
+  get_back (x ∷ xs) ys k = let same : suc (length xs) + k ≡ suc (length xs + k) = omega arith in ap (slice_get (x ∷ (xs ++ ys))) same ∙ get_back xs ys k
+
+-- marks add no row
+marks_add_none : (es : List Change) → ((k : ℕ) → k < length es → IsMark es k) → added es ≡ []
+marks_add_none [] marks = refl
+marks_add_none (Took row ∷ es) marks = absurd (let m = marks 0 (omega arith) in let is : Some (Took row) ≡ Some (Marked m.0 m.1) = m.2 in cc)
+marks_add_none (Made row ∷ es) marks = absurd (let m = marks 0 (omega arith) in let is : Some (Made row) ≡ Some (Marked m.0 m.1) = m.2 in cc)
+marks_add_none (Marked len share ∷ es) marks = marks_add_none es (λ k low. marks (suc k) (omega arith))
+
+-- through a seat: others' changes, and then those of its own call
+record IsCalled (old new : Stand Secrets) (others own : List Change) : Type 0 where
+  pub seen : new.seen ≡ old.seen ++ others ++ own
+  pub mine : new.mine ≡ old.mine ++ positions_from (length (old.seen ++ others)) own
+
+-- after a call: the seat, which is the same still; and that others only marked is known of before where it is known of after
+pub record IsAfter (p : Place Secrets) (old new : Stand Secrets) : Type 0 where
+  pub seat : IsSeat accepts_by p new
+  pub still : IsStill old new
+  pub back : OthersMark p new → OthersMark p old
+
+module _ (p : Place Secrets) (old new : Stand Secrets) (others own : List Change) (called : IsCalled old new others own) where
+  whole : new.seen ≡ old.seen ++ (others ++ own)
+  whole = called.seen ∙ append_assoc old.seen others own
+
+  long : length (old.seen ++ others) ≡ length old.seen + length others
+  long = length-append old.seen others
+
+  -- the seat's own positions, before those of the call
+  times_mine : (q : ℕ) → q < length (old.seen ++ others) → times q old.mine ≡ 0 → times q new.mine ≡ 0
+  times_mine q low none =
+      omega (arith, ap (times q) called.mine, positions.times-append q old.mine (positions_from (length (old.seen ++ others)) own), none, times_before (length (old.seen ++ others)) q own low)
+
+  others_back : OthersMark p new → OthersMark p old
+  others_back mark q low high none =
+      let m = mark q low (omega (arith, high, ap length whole, length-append old.seen (others ++ own))) (times_mine q (omega (arith, high, long)) none) in
+      (m.0, m.1, sym (get_front old.seen (others ++ own) q high) ∙ (ap (λ (h : List Change). slice_get h q) (sym whole) ∙ m.2))
+
+  others_add_none : IsSeat accepts_by p old → OthersMark p new → added others ≡ []
+  others_add_none seat mark = marks_add_none others (λ k low.
+      let q : ℕ = length old.seen + k in
+      let here : q < length (old.seen ++ others) = omega (arith, long, low) in
+      let m = mark q (omega (arith, prefix_length p.start.history old.seen seat.begun)) (omega (arith, here, ap length called.seen, length-append (old.seen ++ others) own))
+          (times_mine q here (times_past (length old.seen) q old.mine seat.within (omega arith))) in
+      (m.0, m.1, sym (get_back old.seen others k) ∙ (sym (get_front (old.seen ++ others) own q here) ∙ (ap (λ (h : List Change). slice_get h q) (sym called.seen) ∙ m.2))))
+
+  -- what others made of the node is alike
+  reached_alike : IsSeat accepts_by p old → OthersMark p new → AreAlike (with_changes (node_seen p old) others) (node_seen p old)
+  reached_alike seat mark = record {
+    start = refl;
+    rows = rows_changed (node_seen p old) others ∙ (ap (λ (G : List Row). node_rows (node_seen p old) ++ G) (others_add_none seat mark) ∙ append-nil (node_rows (node_seen p old)));
+  }
+
+  after : IsSeat accepts_by p old → Stays accepts_by p old new → IsAfter p old new
+  after seat stays = record {
+    seat = record {
+      of = stays.of;
+      begun = (seat.begun.0 ++ (others ++ own), whole ∙ (ap (λ (h : List Change). h ++ (others ++ own)) seat.begun.1 ∙ append_assoc p.start.history seat.begun.0 (others ++ own)));
+      within = subst (AreBelow (length new.seen)) (sym called.mine)
+          (positions.below_append (length new.seen) old.mine (positions_from (length (old.seen ++ others)) own)
+          (positions.below_more (length old.seen) (length new.seen) old.mine (omega (arith, ap length whole, length-append old.seen (others ++ own))) seat.within)
+          (subst (λ (n : ℕ). AreBelow n (positions_from (length (old.seen ++ others)) own)) (sym (ap length called.seen ∙ length-append (old.seen ++ others) own)) (from_below (length (old.seen ++ others)) own)));
+      node = stays.node;
+    };
+    still = record {
+      same = stays.of.table ∙ sym seat.of.table;
+      start = stays.of.start ∙ sym seat.of.start;
+      parts = stays.parts;
+      seen = (others ++ own, whole);
+    };
+    back = others_back;
+  }
+
+-- bytes were put through a seat
+module _ (p : Place Secrets) (old new : Stand Secrets) (bytes : List ℕ) (answer : PutAnswer) (puts : SeatPuts accepts_by p old bytes new answer) where
+  abbrev put_others : List Change
+  put_others = puts.waits.others
+
+  put_grown : seen_by p new ≡ with_own (with_others (seen_by p old) put_others) (put_changes accepts_by (with_changes (node_seen p old) put_others) bytes)
+  put_grown = puts.grown ∙ ap (λ (s : Seen Secrets). with_own s (put_changes accepts_by s.node bytes)) puts.waits.later
+
+  put_called : IsCalled old new put_others (put_changes accepts_by (with_changes (node_seen p old) put_others) bytes)
+  put_called = record { seen = ap (λ (s : Seen Secrets). s.node.history) put_grown; mine = ap (λ (s : Seen Secrets). s.positions) put_grown }
+
+  pub put_after : IsSeat accepts_by p old → Stays accepts_by p old new → IsAfter p old new
+  put_after = after p old new put_others (put_changes accepts_by (with_changes (node_seen p old) put_others) bytes) put_called
+
+  pub put_told : IsSeat accepts_by p old → OthersMark p new → (answer ≡ putting_at (node_seen p old) bytes) × AreAlike (node_seen p new) (node_put (node_seen p old) bytes)
+  put_told seat mark =
+      let u : NodeView Secrets = with_changes (node_seen p old) put_others in
+      let alike = stay_alike u (node_seen p old) (reached_alike p old new put_others (put_changes accepts_by u bytes) put_called seat mark) in
+      let put = alike.put bytes in (
+        puts.answers ∙ (ap (λ (s : Seen Secrets). put_answer accepts_by s.node bytes) puts.waits.later ∙ put.0),
+        alike_both (node_seen p new) (node_put u bytes) (node_put (node_seen p old) bytes) (alike_same (node_seen p new) (node_put u bytes) (ap (λ (s : Seen Secrets). s.node) put_grown)) put.1,
+      )
+
+-- an event was made through a seat, or refused
+module _ (p : Place Secrets) (old new : Stand Secrets) (names : List (List ℕ)) (time : ℕ) (payload : List ℕ) (answer : MakeAnswer) (made : SeatMakes accepts_by p old names time payload new answer) where
+  abbrev make_others : List Change
+  make_others = made.waits.others
+
+  abbrev make_own : List Change
+  make_own = make_changes (with_changes (node_seen p old) make_others) names time payload made.making.sig
+
+  make_called : IsCalled old new make_others make_own
+  make_called = record {
+    seen = ap (λ (v : NodeView Secrets). v.history) made.making.grown
+        ∙ ap (λ (s : Seen Secrets). s.node.history ++ make_changes s.node names time payload made.making.sig) made.waits.later;
+    mine = made.positions ∙ ap (λ (s : Seen Secrets). s.positions ++ positions_from (length s.node.history) (make_changes s.node names time payload made.making.sig)) made.waits.later;
+  }
+
+  pub make_after : IsSeat accepts_by p old → Stays accepts_by p old new → IsAfter p old new
+  make_after = after p old new make_others make_own make_called
+
+  pub make_told : IsSeat accepts_by p old → OthersMark p new → (answer ≡ making_at (node_seen p old) names time payload) × AreAlike (node_seen p new) (node_made (node_seen p old) names time payload)
+  make_told seat mark =
+      let u : NodeView Secrets = with_changes (node_seen p old) make_others in
+      let alike = stay_alike u (node_seen p old) (reached_alike p old new make_others make_own make_called seat mark) in
+      let of = alike.made names time payload in
+      let is = makes u made.reached.node (node_seen p new) names time payload answer (ap (λ (s : Seen Secrets). s.node) made.waits.later) made.making in (
+        is.0 ∙ of.0,
+        alike_both (node_seen p new) (node_made u names time payload) (node_made (node_seen p old) names time payload) (alike_same (node_seen p new) (node_made u names time payload) is.1) of.1,
+      )
+
+-- a call through a seat added nothing
+module _ (p : Place Secrets) (old new : Stand Secrets) (waits : SeatWaits accepts_by p old new) where
+  wait_called : IsCalled old new waits.others []
+  wait_called = record {
+    seen = ap (λ (s : Seen Secrets). s.node.history) waits.later ∙ sym (append-nil (old.seen ++ waits.others));
+    mine = ap (λ (s : Seen Secrets). s.positions) waits.later ∙ sym (append-nil old.mine);
+  }
+
+  pub wait_after : IsSeat accepts_by p old → Stays accepts_by p old new → IsAfter p old new
+  wait_after = after p old new waits.others [] wait_called
+
+  pub wait_told : IsSeat accepts_by p old → OthersMark p new → AreAlike (node_seen p new) (node_seen p old)
+  wait_told seat mark =
+      let u : NodeView Secrets = with_changes (node_seen p old) waits.others in
+      alike_both (node_seen p new) u (node_seen p old) (alike_same (node_seen p new) u (ap (λ (s : Seen Secrets). s.node) waits.later))
+      (reached_alike p old new waits.others [] wait_called seat mark)
