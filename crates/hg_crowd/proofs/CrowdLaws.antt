@@ -16,6 +16,11 @@ use Rattle.hg_model.specs.Shares.{Share, is_of_share, share_fame, whole}
 use Rattle.hg_model.specs.Signing.{Accepts}
 use Rattle.hg_model.specs.NodeView.{NodeView, node_links, node_rows}
 use Rattle.hg_board.specs.Table.{node_at}
+use Rattle.hg_model.specs.NodeView.{IsNode}
+use Rattle.hg_model.specs.History.{Change}
+use Rattle.hg_history.proofs.StateLaws.{prefix_same}
+use Rattle.hg_board.specs.Positions.{AreBelow}
+use Rattle.hg_board.specs.Table.{all_parts}
 use Rattle.hg_board.specs.Seats.{IsOf, Place, Stand}
 use Rattle.hg_board.specs.Calls.{Absorbs, IsStarted, IsWhole, Stays, after_split, split_off}
 use Rattle.hg_board.specs.Crews.{MarksAll, OnlyMarks}
@@ -353,3 +358,36 @@ module _ {V : Type 0} (accepts : V → Accepts) where
         },
         seat.of,
       )
+
+  -- the first seats have many parts
+  pub seats_started : (many : ℕ) (nodes : List (NodeView V)) (places : List (Place V)) (seats : List (Stand V)) → many < all_parts →
+      AreStarted accepts nodes places seats → Each (HasMore accepts many) places seats
+  seats_started many nodes places seats few so = record {
+    count = so.seats_count ∙ sym so.places_count;
+    each = λ k p s inside.
+      let started = so.each k p.start p s (omega (arith, inside, so.places_count)) in
+      let same : (get_or seats k s).seen ≡ (get_or places k p).start.history = started.seen ∙ ap (λ (v : NodeView V). v.history) (sym started.start) in
+      record {
+        seat = record {
+          of = started.of;
+          begun = prefix_same (get_or places k p).start.history (get_or seats k s).seen (sym same);
+          within = subst (AreBelow (length (get_or seats k s).seen)) (sym started.mine) tt;
+          node = subst (λ (h : List Change). IsNode accepts (node_at (get_or places k p).start h)) (sym same) (subst (IsNode accepts) (sym started.start) started.lawful);
+        };
+        parts = omega (arith, started.parts, few);
+      };
+  }
+
+  -- seats that worked and absorbed others have as many parts at least
+  pub has_again : (many : ℕ) (places : List (Place V)) (olds nows others news : List (Stand V)) → Each (HasMore accepts many) places olds → Each Worked olds nows → AreSeats accepts places nows →
+      AllAbsorb accepts places nows others news → Each (HasMore accepts many) places news
+  has_again many places olds nows others news had worked seats absorbs =
+      let each = seats_absorbed accepts places nows others news seats absorbs in
+      record {
+        count = each.count;
+        each = λ k p s inside.
+          let old = had.each k p s inside in
+          let still = (worked.each k s s (omega (arith, inside, had.count))).still in
+          let absorbed = absorbs.each k p s s s (omega (arith, inside, seats.count)) in
+          record { seat = each.each k p s inside; parts = omega (arith, old.parts, still.parts, absorbed.parts) };
+      }
