@@ -1,6 +1,4 @@
 ghost use Rattle.std.specs.Prelude.{◌<◌, IfOk, OnOk};
-ghost use Rattle.hg_model.specs.NodeView.{IsNode};
-ghost use Rattle.hg_board.specs.Table.{node_at};
 ghost use Rattle.hg_board.specs.Seats.{IsOf};
 ghost use Rattle.hg_board.specs.Calls.{Stays};
 ghost use Rattle.hg_board.specs.Crews.{MarksAll, MarksOf, OnlyMarks};
@@ -27,8 +25,7 @@ pub trait Crew {
         share: Share,
         turns: u32,
     ) -> Result<u32, Memory>
-        requires seat { IsOf shared.now seat.old }
-        requires node { IsNode V.accepts (node_at shared.now.start seat.old.seen) }
+        requires { IsOf shared.now seat.old }
         ensures stays { Stays V.accepts shared.now seat.old seat.new }
         ensures marks { OnlyMarks share seat.old seat.new }
         ensures counted { IfOk result (MarksOf shared.now share seat.old seat.new) }

@@ -5,15 +5,10 @@ use Rattle.hg_crowd.proofs.working.work_each.Goals as goal
 pub nodes-init : goal.nodes-init
 nodes-init g c = working_none g.V.Verifier.accepts c.args.shared.now c.args.share c.args.seats.now.items c.requires
 
-pub work-requires-clause-seat : goal.work-requires-clause-seat
-work-requires-clause-seat g c =
+pub work-requires : goal.work-requires
+work-requires g c =
     (working_seat g.V.Verifier.accepts c.args.shared.now c.args.share c.args.seats.now.items c.nodes.seats.items c.nodes.i c.index-shared-i.result c.index_mut.result.now
     (sym c.requires.count) c.nodes.invariant c.nodes-test.true c.index-shared-i.is c.index_mut.ensures.value).of
-
-pub work-requires-clause-node : goal.work-requires-clause-node
-work-requires-clause-node g c =
-    (working_seat g.V.Verifier.accepts c.args.shared.now c.args.share c.args.seats.now.items c.nodes.seats.items c.nodes.i c.index-shared-i.result c.index_mut.result.now
-    (sym c.requires.count) c.nodes.invariant c.nodes-test.true c.index-shared-i.is c.index_mut.ensures.value).node
 
 pub returns-in_err-work-clause-seats : goal.returns-in_err-work-clause-seats
 returns-in_err-work-clause-seats g c =
