@@ -150,7 +150,7 @@ module _ {V : Type 0} (p : Place V) where
 
       marks_none : count ≡ 0 → MarksOf p share c d count
       marks_none none =
-          let added = other_publishes_add_none V accepts p c d len share (subst (SeatPublishes accepts p c len share d) none publishes) in
+          let added = (other_publishes_add_none V accepts p c d len share (subst (SeatPublishes accepts p c len share d) none publishes)).0 in
           record { more = []; mine = added.mine ∙ sym (append-nil c.mine); marks = tt; counted = none }
 
       pub marks_of_turn : MarksOf p share c d count
@@ -159,4 +159,4 @@ module _ {V : Type 0} (p : Place V) where
     -- one of nothing adds nothing
     pub nothing_added : (c d : Stand V) (share : Share) (count : ℕ) → SeatPublishes accepts p c 0 share d count → AddsNone c d
     nothing_added c d share count publishes =
-        other_publishes_add_none V accepts p c d 0 share (subst (SeatPublishes accepts p c 0 share d) (publishes.answers ∙ nothing_published publishes.reached.node share) publishes)
+        (other_publishes_add_none V accepts p c d 0 share (subst (SeatPublishes accepts p c 0 share d) (publishes.answers ∙ nothing_published publishes.reached.node share) publishes)).0
