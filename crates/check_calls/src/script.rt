@@ -16,14 +16,20 @@ fn three_members(rt: &impl Abort, alloc: Global) -> Result<Members, Memory> {
 }
 
 fn lines_of(rt: &impl Abort, alloc: Global, bytes: &[u8]) -> Result<Items<Line>, Fail> {
-    match read_script(alloc, bytes, &three_members(rt, alloc)?)? {
+    match read_script(alloc, bytes, &three_members(rt, alloc)?, 0)? {
         Ok(lines) => Ok(lines),
         Err(_) => Err("refused".into()),
     }
 }
 
-fn fault_of(rt: &impl Abort, alloc: Global, bytes: &[u8]) -> Result<Option<ScriptFault>, Fail> {
-    Ok(read_script(alloc, bytes, &three_members(rt, alloc)?)?.err())
+/// The fault in a run with so many workers.
+fn fault_of(
+    rt: &impl Abort,
+    alloc: Global,
+    bytes: &[u8],
+    workers: u32,
+) -> Result<Option<ScriptFault>, Fail> {
+    Ok(read_script(alloc, bytes, &three_members(rt, alloc)?, workers)?.err())
 }
 
 const SCRIPT: &[u8] =
@@ -124,7 +130,7 @@ fn digits_have_a_limit(rt: HostRuntime) -> Result<(), Fail> {
     for (front, digits, fault) in &DIGITS {
         let line = digits_line(rt.alloc(), front, *digits)?;
         assert_eq!(rt;
-            fault_of(&rt, rt.alloc(), line.as_slice())?,
+            fault_of(&rt, rt.alloc(), line.as_slice(), 0)?,
             *fault,
             "{digits}"
         );
@@ -170,7 +176,24 @@ fn whys_are_known(rt: HostRuntime) -> Result<(), Fail> {
             line: *line,
             why: *why,
         };
-        assert_eq!(rt; fault_of(&rt, rt.alloc(), text)?, Some(fault), "{text:?}");
+        assert_eq!(rt; fault_of(&rt, rt.alloc(), text, 0)?, Some(fault), "{text:?}");
+    }
+    Ok(())
+}
+
+const WITH_WORKERS: [(&[u8], Option<Why>); 5] = [
+    (b"freeze m1 15", Some(Why::Workers)),
+    (b"publish m0 0", Some(Why::Workers)),
+    (b"kept m1", Some(Why::Workers)),
+    (b"freeze m1 16", Some(Why::Number)),
+    (b"show m1", None),
+];
+
+#[test]
+fn workers_take_lines_away(rt: HostRuntime) -> Result<(), Fail> {
+    for (text, why) in &WITH_WORKERS {
+        let fault = fault_of(&rt, rt.alloc(), text, 1)?;
+        assert_eq!(rt; fault.map(|fault| fault.why), *why, "{text:?}");
     }
     Ok(())
 }

@@ -89,6 +89,7 @@ found_enough : (members : MemberList) (above : Above) (word : List ℕ) (words :
 found_enough members above word words =
     bind_same (ok_or (verb_of word) Word) _ _ (λ v. line_enough members above v words)
 
-pub words_enough : (members : MemberList) (above : Above) (words : List (List ℕ)) → line_in members above (take MOST_WORDS words) ≡ line_in members above words
-words_enough members above [] = refl
-words_enough members above (word ∷ words) = rw (found_enough members above word words)
+pub words_enough : (members : MemberList) (workers : ℕ) (above : Above) (words : List (List ℕ))
+    → line_in members workers above (take MOST_WORDS words) ≡ line_in members workers above words
+words_enough members workers above [] = refl
+words_enough members workers above (word ∷ words) = rw (found_enough members above word words)

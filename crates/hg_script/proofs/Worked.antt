@@ -4,7 +4,7 @@ use Rattle.hg_model.specs.Members.{MemberList, listed}
 use Rattle.hg_model.specs.Pay.{pay_bytes}
 use Rattle.hg_script.specs.declared.fault.ScriptFault.{ScriptFault}
 use Rattle.hg_script.specs.declared.fault.Why.{Why}
-use Rattle.hg_script.specs.declared.fault.Why.TheVariants.{Utf8, Word, Arity, Member, NoNode, Number, Payload, Label, DoubleLabel, NotFirst, First}
+use Rattle.hg_script.specs.declared.fault.Why.TheVariants.{Utf8, Word, Arity, Member, NoNode, Number, Payload, Label, DoubleLabel, NotFirst, First, Workers}
 use Rattle.hg_script.specs.declared.line.Gossip.{Gossip}
 use Rattle.hg_script.specs.declared.line.Gossip.TheVariants.{Create, Sync, Pull, Join, Give}
 use Rattle.hg_script.specs.declared.line.Source.{Source}
@@ -23,7 +23,7 @@ members = listed
     ∷ record { name = codes "N"; secret = 3 ∷ []; balance = 0; has_node = false } ∷ []) 10
 
 abbrev script : List ℕ → Result (List Line) ScriptFault
-script bytes = lines_of bytes members
+script bytes = lines_of bytes members 0
 
 abbrev refused : ℕ → Why → Result (List Line) ScriptFault
 refused line why = Err (record { line = line; why = why })
@@ -36,6 +36,10 @@ does number gossip = line_at number (action.Gossip gossip)
 
 abbrev makes : ℕ → Source → Line
 makes number source = line_at number (action.Label source)
+
+-- the same in a run with a worker
+abbrev script_with_worker : List ℕ → Result (List Line) ScriptFault
+script_with_worker bytes = lines_of bytes members 1
 
 no_bytes : script [] ≡ Ok []
 unfolding script_on_literals
@@ -246,6 +250,29 @@ two_returns = refl
 dash_before_member : script (codes "forge - ? - - 1\n") ≡ refused 1 Label
 unfolding script_on_literals
 dash_before_member = refl
+
+-- in a run with a worker
+
+freeze_with_worker : script_with_worker (codes "create A 1\nfreeze A 0\nkept A") ≡ refused 2 Workers
+unfolding script_on_literals
+freeze_with_worker = refl
+
+publish_with_worker : script_with_worker (codes "publish B 15") ≡ refused 1 Workers
+unfolding script_on_literals
+publish_with_worker = refl
+
+kept_with_worker : script_with_worker (codes "create A 1\nkept A") ≡ refused 2 Workers
+unfolding script_on_literals
+kept_with_worker = refl
+
+-- which is looked at last
+number_before_workers : script_with_worker (codes "freeze A 16") ≡ refused 1 Number
+unfolding script_on_literals
+number_before_workers = refl
+
+other_with_worker : script_with_worker (codes "create A 1\nshow A\nnames B") ≡ Ok (does 1 (Create 0 1 []) ∷ line_at 2 (action.Show 0) ∷ line_at 3 (action.Names 1) ∷ [])
+unfolding script_on_literals
+other_with_worker = refl
 
 -- a payload word, looked at last
 

@@ -48,8 +48,15 @@ IsLawful members (action.Kept member) = HasNode members member
 IsLawful members (action.Show member) = HasNode members member
 IsLawful members (action.Names member) = HasNode members member
 
-abbrev pub IsLine : MemberList → Line → Type 0
-IsLine members line = IsLawful members line.action
+-- a worker's lines and the block as published are for a run without workers
+abbrev pub IsWithWorkers : ℕ → Action → Type 0
+IsWithWorkers workers (action.Freeze member worker) = workers ≡ 0
+IsWithWorkers workers (action.Publish member worker) = workers ≡ 0
+IsWithWorkers workers (action.Kept member) = workers ≡ 0
+IsWithWorkers workers _ = ⊤
+
+abbrev pub IsLine : MemberList → ℕ → Line → Type 0
+IsLine members workers line = IsLawful members line.action × IsWithWorkers workers line.action
 
 -- a member that makes a first event has a number below 128
 abbrev pub IsLow : Action → Type 0
@@ -64,3 +71,7 @@ IsNew labels (Some name) = list_any (bytes_eq name) labels ≡ false
 -- what a line below these lines is found to do
 abbrev pub IsFound : MemberList → Above → Found → Type 0
 IsFound members above found = IsLawful members found.action × IsLow found.action × IsNew above.labels found.label
+
+-- the same, in a run with so many workers
+abbrev pub IsAllowed : MemberList → ℕ → Above → Found → Type 0
+IsAllowed members workers above found = IsFound members above found × IsWithWorkers workers found.action

@@ -1,7 +1,7 @@
 -- How it is told why a line is refused
 use Rattle.std.specs.Prelude.{ℕ, List, codes}
 use Rattle.hg_script.specs.declared.fault.Why.{Why}
-use Rattle.hg_script.specs.declared.fault.Why.TheVariants.{Utf8, Word, Arity, Member, NoNode, Number, Payload, Label, DoubleLabel, NotFirst, First}
+use Rattle.hg_script.specs.declared.fault.Why.TheVariants.{Utf8, Word, Arity, Member, NoNode, Number, Payload, Label, DoubleLabel, NotFirst, First, Workers}
 
 abbrev pub why_text : Why → List ℕ
 why_text Utf8 = codes "utf8"
@@ -15,3 +15,4 @@ why_text Label = codes "label"
 why_text DoubleLabel = codes "double-label"
 why_text NotFirst = codes "not-first"
 why_text First = codes "first"
+why_text Workers = codes "workers"

@@ -4,7 +4,7 @@ ghost use Rattle.hg_script.specs.Text.{why_text};
 use hg_model::Stop;
 
 /// Why a line is refused: the first that holds. `Utf8`, `Word` and `Arity` come first, then the arguments from left to
-/// right, each by what its kind asks for in this order, and last `NotFirst` and `First`.
+/// right, each by what its kind asks for in this order, and last `NotFirst`, `First` and `Workers`.
 #[derive(Clone, Copy, Debug, PartialEq, Eq)]
 pub enum Why {
     /// The line is not UTF-8.
@@ -31,6 +31,8 @@ pub enum Why {
     NotFirst,
     /// A `sync` or `join` line, and no `create` line of the member that makes an event stands above.
     First,
+    /// A `freeze`, `publish` or `kept` line, and there are workers.
+    Workers,
 }
 
 impl Why {
@@ -50,6 +52,7 @@ impl Why {
             Why::DoubleLabel => b"double-label",
             Why::NotFirst => b"not-first",
             Why::First => b"first",
+            Why::Workers => b"workers",
         }
     }
 }

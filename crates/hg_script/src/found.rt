@@ -1,5 +1,6 @@
 ghost use Rattle.std.specs.Prelude.{◌≡◌};
 ghost use Rattle.std.specs.Option.{option_copied};
+ghost use Rattle.hg_script.specs.Script.{is_alone};
 ghost use Rattle.hg_script.specs.Table as spec;
 
 use crate::line::Action;
@@ -40,6 +41,16 @@ impl<'a> Found<'a> {
             action,
             label: Some(label),
         }
+    }
+
+    /// Whether the line is for a run without workers.
+    pub fn is_alone(&self) -> bool
+        ensures { result ≡ is_alone self.now.action }
+    {
+        matches!(
+            self.action,
+            Action::Freeze { .. } | Action::Publish { .. } | Action::Kept { .. }
+        )
     }
 
     /// What the line does, and the label's name.

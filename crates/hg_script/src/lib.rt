@@ -1,5 +1,5 @@
 //! The gossip script: its lines, read from bytes.
-//! The layer above uses `read_script`, which gives just the lines that the bytes are, or the first line that is refused.
+//! The layer above uses `read_script`, which gives just the lines that the bytes are in a run with so many workers, or the first line that is refused.
 //! The table of lines stands in `specs/Table.antt`, and its Rust form in `table.rt`, with `argument.rt` and `payload.rt` for what a word can have to be.
 #![tactic(auto)]
 

@@ -2,7 +2,7 @@ ghost use Rattle.std.specs.Prelude.{◌≡◌, All, IfOk, IfSome, OnOk};
 ghost use Rattle.std.specs.Str.{is_utf8};
 ghost use Rattle.std.specs.Str.Lines.{lines};
 ghost use Rattle.hg_script.specs.Words.{ReadsAs, bytes_in};
-ghost use Rattle.hg_script.specs.Lawful.{IsFound, IsLine};
+ghost use Rattle.hg_script.specs.Lawful.{IsAllowed, IsLine};
 ghost use Rattle.hg_model.specs.Results.{Gives};
 ghost use Rattle.hg_script.specs.Script as spec;
 
@@ -27,15 +27,22 @@ fn is_text(line: &[u8]) -> bool
 fn line_in<'a>(
     alloc: Global,
     members: &Members,
+    workers: u32,
     above: &Above<'_>,
     words: &[&'a [u8]],
 ) -> Result<Option<Found<'a>>, Stop<Why>>
-    ensures value { ReadsAs result (spec.line_in members.now above.now (bytes_in words.now)) }
-    ensures lawful { IfOk result (λ found. IfSome found (IsFound members.now above.now)) }
+    ensures value { ReadsAs result (spec.line_in members.now workers above.now (bytes_in words.now)) }
+    ensures lawful { IfOk result (λ found. IfSome found (IsAllowed members.now workers above.now)) }
 {
     match words {
         [] | [[b'#', ..], ..] => Ok(None),
-        [word, arguments @ ..] => Ok(Some(found_by(alloc, members, above, word, arguments)?)),
+        [word, arguments @ ..] => {
+            let found = found_by(alloc, members, above, word, arguments)?;
+            if workers > 0 && found.is_alone() {
+                return Err(Stop::Fault(Why::Workers));
+            }
+            Ok(Some(found))
+        }
     }
 }
 
@@ -43,31 +50,33 @@ fn line_in<'a>(
 fn line_of<'a>(
     alloc: Global,
     members: &Members,
+    workers: u32,
     above: &Above<'_>,
     line: &'a [u8],
 ) -> Result<Option<Found<'a>>, Stop<Why>>
-    ensures value { ReadsAs result (spec.line_of members.now above.now line.now) }
-    ensures lawful { IfOk result (λ found. IfSome found (IsFound members.now above.now)) }
+    ensures value { ReadsAs result (spec.line_of members.now workers above.now line.now) }
+    ensures lawful { IfOk result (λ found. IfSome found (IsAllowed members.now workers above.now)) }
 {
     if !is_text(line) {
         return Err(Stop::Fault(Why::Utf8));
     }
     let words = words_of(alloc, line)?;
-    line_in(alloc, members, above, words.as_slice())
+    line_in(alloc, members, workers, above, words.as_slice())
 }
 
 /// One line more, of this number, if it does anything.
 fn push_line<'a>(
     alloc: Global,
     members: &Members,
+    workers: u32,
     above: &mut Above<'a>,
     number: u64,
     line: &'a [u8],
 ) -> Result<(), Stop<ScriptFault>>
-    ensures read { Gives (λ _. above.new) result (spec.line_more members.now above.old number line.now) }
-    ensures lawful { All (IsLine members.now) above.old.lines → OnOk result (All (IsLine members.now) above.new.lines) }
+    ensures read { Gives (λ _. above.new) result (spec.line_more members.now workers above.old number line.now) }
+    ensures lawful { All (IsLine members.now workers) above.old.lines → OnOk result (All (IsLine members.now workers) above.new.lines) }
 {
-    match line_of(alloc, members, above, line) {
+    match line_of(alloc, members, workers, above, line) {
         Ok(Some(found)) => above.push(number, found)?,
         Ok(None) => {}
         Err(Stop::Fault(why)) => return Err(Stop::Fault(ScriptFault { line: number, why })),
@@ -80,33 +89,35 @@ fn all_lines<'a>(
     alloc: Global,
     bytes: &'a [u8],
     members: &Members,
+    workers: u32,
 ) -> Result<Above<'a>, Stop<ScriptFault>>
-    ensures read { ReadsAs result (spec.lines_after members.now spec.nothing_above 1 (lines bytes.now)) }
-    ensures lawful { IfOk result (λ above. All (IsLine members.now) above.lines) }
+    ensures read { ReadsAs result (spec.lines_after members.now workers spec.nothing_above 1 (lines bytes.now)) }
+    ensures lawful { IfOk result (λ above. All (IsLine members.now workers) above.lines) }
 {
     let mut above = Above::new(alloc);
     let mut rest = bytes;
     let mut number = 1;
     'lines: while !rest.is_empty() {
         let (line, after) = first_line(rest);
-        push_line(alloc, members, &mut above, number, line)?;
+        push_line(alloc, members, workers, &mut above, number, line)?;
         rest = after;
         number += 1;
     }
     Ok(above)
 }
 
-/// The lines that the bytes of a script are, or the first line that is refused.
+/// The lines that the bytes of a script are in a run with so many workers, or the first line that is refused.
 #[tactic(auto, unfolding(crate::specs::Script::lines_of))]
 pub fn read_script(
     alloc: Global,
     bytes: &[u8],
     members: &Members,
+    workers: u32,
 ) -> Result<Result<Items<Line>, ScriptFault>, Memory>
-    ensures lines { IfOk result (λ answer. answer ≡ spec.lines_of bytes.now members.now) }
-    ensures lawful { IfOk result (λ answer. IfOk answer (λ lines. All (IsLine members.now) lines)) }
+    ensures lines { IfOk result (λ answer. answer ≡ spec.lines_of bytes.now members.now workers) }
+    ensures lawful { IfOk result (λ answer. IfOk answer (λ lines. All (IsLine members.now workers) lines)) }
 {
-    match all_lines(alloc, bytes, members) {
+    match all_lines(alloc, bytes, members, workers) {
         Ok(above) => Ok(Ok(above.into_lines())),
         Err(Stop::Fault(fault)) => Ok(Err(fault)),
         Err(Stop::Memory) => Err(Memory),

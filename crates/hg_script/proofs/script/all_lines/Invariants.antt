@@ -7,8 +7,8 @@ use Rattle.hg_script.proofs.script.all_lines.Given as goal
 
 abbrev pub invariant-lines : goal.invariant-lines
 invariant-lines l = record {
-  read : lines_after l.members nothing_above 1 (lines l.bytes) ≡ lines_after l.members l.above l.number (lines l.rest);
-  lawful : All (IsLine l.members) l.above.lines;
+  read : lines_after l.members l.workers nothing_above 1 (lines l.bytes) ≡ lines_after l.members l.workers l.above l.number (lines l.rest);
+  lawful : All (IsLine l.members l.workers) l.above.lines;
   room : l.number + length l.rest ≤ length l.bytes + 1;
 }
 
