@@ -190,3 +190,18 @@ played_alone members lines world now last pieces printed is lines_told blocks_to
       ends.0 begun ∙ ap₂ (λ (ps : List Printed) (w : WorldView). ps ++ end_blocks members w) pieces_are now_is,
       ends.1 ∙ ap (λ (w : WorldView). after_steps w (end_steps members (length members.entries))) now_is,
     )
+
+-- the same of blocks behind other pieces than those of the lines
+pub summed_alone : (members : MemberList) (lines : List Line) (world now last : WorldView) (pieces before printed : List Printed) → world ≡ new_world members →
+    TellsLines (seen_alone world) (seen_alone now) members lines pieces → TellsBlocks (seen_alone now) (seen_alone last) members before printed →
+    (printed ≡ before ++ end_blocks members (after_lines members (first_stage members) lines).world)
+    × (last ≡ after_steps (after_lines members (first_stage members) lines).world (end_steps members (length members.entries)))
+summed_alone members lines world now last pieces before printed is lines_told blocks_told =
+    let played : WorldView → Stage = λ w. after_lines members (stage w [] []) lines in
+    let first = lines_told tt world refl (ap starts_of is ∙ starts-new members) in
+    let now_is : now ≡ (played (new_world members)).world = first.1 ∙ ap (λ (w : WorldView). (played w).world) is in
+    let ends = blocks_told tt now refl in
+    let begun : starts_of now ≡ starts members = ap starts_of now_is ∙ (starts-lines members (first_stage members) lines ∙ starts-new members) in (
+      ends.0 begun ∙ ap (λ (w : WorldView). before ++ end_blocks members w) now_is,
+      ends.1 ∙ ap (λ (w : WorldView). after_steps w (end_steps members (length members.entries))) now_is,
+    )

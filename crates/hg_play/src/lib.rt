@@ -13,4 +13,4 @@ mod playing;
 mod printing;
 
 pub use laws::{lines_are_steps, steps_need_rows_alone};
-pub use playing::play;
+pub use playing::{play, summary};
