@@ -20,18 +20,22 @@ use check_tally::{Tally, exit};
 use std::fs;
 use std::process::ExitCode;
 use std::rt::Files;
+use std::sync::Wait;
+use std::thread::Threads;
 
 /// The packed cases, which lie where the program runs.
-const PACKS: [&str; 5] = [
+const PACKS: [&str; 7] = [
     "base.cases",
     "first-path.cases",
     "further.cases",
+    "made.cases",
     "stage-a.cases",
     "transfers.cases",
+    "workers.cases",
 ];
 
 /// Plays the next case, tells how it differs, if it does, and counts it.
-fn play_next<R: AllocGlobal + Print>(
+fn play_next<R: AllocGlobal + Print + Threads + Wait + Sync>(
     rt: &R,
     pack: &mut Pack<'_>,
     tally: Tally,
@@ -42,7 +46,7 @@ fn play_next<R: AllocGlobal + Print>(
         files,
         wanted,
     } = read_case(rt.alloc(), pack)?;
-    let played = play(rt.alloc(), words.as_slice(), files)?;
+    let played = play(rt, rt.alloc(), words.as_slice(), files)?;
     let got = played.outcome();
     let part = difference(&wanted, &got);
     if let Some(part) = part {
@@ -52,7 +56,11 @@ fn play_next<R: AllocGlobal + Print>(
 }
 
 /// Plays all cases of a pack, to its end.
-fn play_pack<R: AllocGlobal + Print>(rt: &R, bytes: &[u8], tally: Tally) -> Result<Tally, Trouble> {
+fn play_pack<R: AllocGlobal + Print + Threads + Wait + Sync>(
+    rt: &R,
+    bytes: &[u8],
+    tally: Tally,
+) -> Result<Tally, Trouble> {
     let mut tally = tally;
     let mut pack = Pack::new(bytes);
     let count = pack.count()?;
@@ -64,7 +72,7 @@ fn play_pack<R: AllocGlobal + Print>(rt: &R, bytes: &[u8], tally: Tally) -> Resu
 }
 
 /// Plays the cases of the file of this name.
-fn play_file<R: AllocGlobal + Files + Print>(
+fn play_file<R: AllocGlobal + Files + Print + Threads + Wait + Sync>(
     rt: &R,
     name: &str,
     tally: Tally,
@@ -74,7 +82,9 @@ fn play_file<R: AllocGlobal + Files + Print>(
 }
 
 /// Plays all packs, and tells how many cases there are and how many of them differ.
-fn play_all<R: AllocGlobal + Files + Print + Eprint>(rt: &R) -> Result<Tally, Trouble> {
+fn play_all<R: AllocGlobal + Files + Print + Eprint + Threads + Wait + Sync>(
+    rt: &R,
+) -> Result<Tally, Trouble> {
     let mut tally = Tally::new();
     for name in PACKS {
         tally = match play_file(rt, name, tally) {

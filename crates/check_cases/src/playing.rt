@@ -1,8 +1,10 @@
 use crate::outcome::Outcome;
-use hg_io::{ShelfMem, SinkMem};
+use hg_io::{NoGate, ShelfMem, SinkMem};
 use hg_model::Memory;
 use hg_top::{Status, hashgraph};
 use std::alloc::Global;
+use std::sync::Wait;
+use std::thread::Threads;
 
 /// More bytes than any case writes.
 const ROOM: usize = 1_048_576;
@@ -26,7 +28,8 @@ impl Played {
 }
 
 /// Runs the program with these words, its name first, where these files lie.
-pub fn play(
+pub fn play<R: Threads + Wait + Sync>(
+    rt: &R,
     alloc: Global,
     words: &[String],
     files: Vec<(String, Vec<u8>)>,
@@ -34,6 +37,6 @@ pub fn play(
     let mut shelf = ShelfMem::new(alloc, files, Vec::new(alloc))?;
     let mut out = SinkMem::new(alloc, ROOM, ROOM, Vec::new(alloc))?;
     let mut err = SinkMem::new(alloc, ROOM, ROOM, Vec::new(alloc))?;
-    let status = hashgraph(alloc, words, &mut shelf, &mut out, &mut err);
+    let status = hashgraph(rt, alloc, words, &mut shelf, &mut out, &mut err, &NoGate);
     Ok(Played { status, out, err })
 }

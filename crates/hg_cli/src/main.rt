@@ -10,6 +10,7 @@ mod tests;
 
 use crate::disk::Disk;
 use crate::stream::Stream;
+use hg_io::NoGate;
 use hg_top::{NoWords, hashgraph, without_words};
 use std::env;
 use std::io::{ErrorKind, Write};
@@ -36,7 +37,16 @@ fn main(rt: HostRuntime) -> ExitCode {
         Ok(words) => {
             let mut disk = Disk::new(&rt);
             let mut out = Stream::new(rt.stdout());
-            hashgraph(rt.alloc(), words.as_slice(), &mut disk, &mut out, &mut err)
+            let words = words.as_slice();
+            hashgraph(
+                &rt,
+                rt.alloc(),
+                words,
+                &mut disk,
+                &mut out,
+                &mut err,
+                &NoGate,
+            )
         }
         Err(why) => without_words(why, &mut err),
     };

@@ -2,7 +2,7 @@
 use Rattle.std.proofs.Common.{◌≡◌, List, [], ◌∷◌, ◌++◌, Option, Some, None, codes, refl}
 use Rattle.clap.proofs.OnLiterals.{clap_on_literals}
 use Rattle.clap.specs.Words.{Text}
-use Rattle.hg_command.specs.Asked.{Asked, request_of, run}
+use Rattle.hg_command.specs.Asked.{Asked, make, request_of, run}
 
 -- the program's name and the command
 abbrev play : List Text
@@ -36,6 +36,10 @@ with_a_sign = refl
 workers_first : request_of (play ++ workers (codes "0") ++ members ++ script) ≡ the_run
 unfolding clap_on_literals
 workers_first = refl
+
+most_of_workers : request_of (play ++ members ++ script ++ workers (codes "16")) ≡ Some (run (record { members = codes "m.toml"; script = codes "s.txt"; workers = 16 }))
+unfolding clap_on_literals
+most_of_workers = refl
 
 -- a number may have a sign and leading zeros
 workers_signed : request_of (play ++ members ++ script ++ codes "--workers=-00" ∷ []) ≡ the_run
@@ -75,7 +79,7 @@ dash_for_a_name : request_of (play ++ codes "--members" ∷ codes "-m" ∷ scrip
 unfolding clap_on_literals
 dash_for_a_name = refl
 
-too_many_workers : request_of (play ++ members ++ script ++ workers (codes "1")) ≡ None
+too_many_workers : request_of (play ++ members ++ script ++ workers (codes "17")) ≡ None
 unfolding clap_on_literals
 too_many_workers = refl
 
@@ -102,3 +106,42 @@ help_for_a_run = refl
 help_by_name : request_of (codes "hashgraph" ∷ codes "help" ∷ []) ≡ None
 unfolding clap_on_literals
 help_by_name = refl
+
+-- ---- made input
+
+abbrev makes : Text → Text → Text → List Text
+makes members lines seed =
+    codes "hashgraph" ∷ codes "make" ∷ codes "--members" ∷ members ∷ codes "--lines" ∷ lines ∷ codes "--seed" ∷ seed ∷ []
+
+made : request_of (makes (codes "2") (codes "3") (codes "7")) ≡ Some (make (record { members = 2; lines = 3; seed = 7; workers = 0 }))
+unfolding clap_on_literals
+made = refl
+
+made_at_the_ends : request_of (makes (codes "128") (codes "1000000") (codes "18446744073709551615") ++ workers (codes "4"))
+    ≡ Some (make (record { members = 128; lines = 1000000; seed = 18446744073709551615; workers = 4 }))
+unfolding clap_on_literals
+made_at_the_ends = refl
+
+too_few_members : request_of (makes (codes "1") (codes "3") (codes "7")) ≡ None
+unfolding clap_on_literals
+too_few_members = refl
+
+too_many_members : request_of (makes (codes "129") (codes "3") (codes "7")) ≡ None
+unfolding clap_on_literals
+too_many_members = refl
+
+too_many_lines : request_of (makes (codes "2") (codes "1000001") (codes "7")) ≡ None
+unfolding clap_on_literals
+too_many_lines = refl
+
+too_great_a_seed : request_of (makes (codes "2") (codes "3") (codes "18446744073709551616")) ≡ None
+unfolding clap_on_literals
+too_great_a_seed = refl
+
+no_seed : request_of (codes "hashgraph" ∷ codes "make" ∷ codes "--members" ∷ codes "2" ∷ codes "--lines" ∷ codes "3" ∷ []) ≡ None
+unfolding clap_on_literals
+no_seed = refl
+
+no_files_to_make_of : request_of (codes "hashgraph" ∷ codes "make" ∷ members ++ script) ≡ None
+unfolding clap_on_literals
+no_files_to_make_of = refl

@@ -1,6 +1,6 @@
 ghost use Rattle.std.specs.Prelude.{◌≡◌, Some, option_map, true, codes};
 ghost use Rattle.clap.specs.Words.{found_of, has_subcommand, rows_of, subcommand_rows_of};
-ghost use Rattle.hg_command.specs.Asked.{asked, asked_in, number_in, run, run_in, text_in};
+ghost use Rattle.hg_command.specs.Asked.{asked, asked_in, make, make_in, number_in, run, run_in, text_in};
 
 use clap::ArgMatches;
 
@@ -13,12 +13,27 @@ pub enum Request<'a> {
         script: &'a str,
         workers: u32,
     },
+    /// To play so many lines among so many members, both made from the seed.
+    Make {
+        members: u32,
+        lines: u32,
+        seed: u64,
+        workers: u32,
+    },
 }
 
-fn number_at(matches: &ArgMatches<'_>, option: &str) -> u32
-    ensures { result ≡ number_in option.now (rows_of (found_of matches.now)) }
+/// The number that the option was given, `least` where it was left out.
+fn number_at(matches: &ArgMatches<'_>, option: &str, least: u32) -> u32
+    ensures { result ≡ number_in 32 least option.now (rows_of (found_of matches.now)) }
 {
-    matches.get_one::<u32>(option).unwrap_or(0)
+    matches.get_one::<u32>(option).unwrap_or(least)
+}
+
+/// The seed that the option was given, 0 where it was left out.
+fn seed_at(matches: &ArgMatches<'_>, option: &str) -> u64
+    ensures { result ≡ number_in 64 0 option.now (rows_of (found_of matches.now)) }
+{
+    matches.get_one::<u64>(option).unwrap_or(0)
 }
 
 fn text_at<'a>(matches: &ArgMatches<'a>, option: &str) -> &'a str
@@ -33,7 +48,18 @@ fn run_at<'a>(matches: &ArgMatches<'a>) -> Request<'a>
     Request::Run {
         members: text_at(matches, "members"),
         script: text_at(matches, "script"),
-        workers: number_at(matches, "workers"),
+        workers: number_at(matches, "workers", 0),
+    }
+}
+
+fn make_at<'a>(matches: &ArgMatches<'a>) -> Request<'a>
+    ensures { asked result ≡ make (make_in (rows_of (found_of matches.now))) }
+{
+    Request::Make {
+        members: number_at(matches, "members", 2),
+        lines: number_at(matches, "lines", 0),
+        seed: seed_at(matches, "seed"),
+        workers: number_at(matches, "workers", 0),
     }
 }
 
@@ -43,7 +69,13 @@ pub(crate) fn request_at<'a>(matches: &ArgMatches<'a>) -> Request<'a>
     ensures { Some (asked result) ≡ option_map asked_in (subcommand_rows_of matches.now) }
 {
     match matches.subcommand() {
-        Some((_, options)) => run_at(options),
+        Some((name, options)) => {
+            if name == "run" {
+                run_at(options)
+            } else {
+                make_at(options)
+            }
+        }
         None => unreachable!(),
     }
 }

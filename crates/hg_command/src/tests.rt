@@ -23,6 +23,10 @@ fn lines_are_taken(rt: HostRuntime) -> Result<(), Fail> {
         "run|--members||--script|script.txt",
         "run|--members=|--script=script.txt",
         "run|--members|-|--script|script.txt",
+        "run|--members|members.toml|--script|script.txt|--workers|16",
+        "make|--members|2|--lines|0|--seed|0",
+        "make|--members|128|--lines|1000000|--seed|18446744073709551615",
+        "make|--seed|+7|--lines|003|--members=2",
     ] {
         let words = words_of(rt.alloc(), line)?;
         let request = read_words(rt.alloc(), words.as_slice())?;
@@ -68,6 +72,15 @@ fn lines_are_refused(rt: HostRuntime) -> Result<(), Fail> {
         "run|--member|members.toml|--script|script.txt",
         "run|--MEMBERS|members.toml|--script|script.txt",
         "run|-members|members.toml|--script|script.txt",
+        "make",
+        "make|--members|1|--lines|0|--seed|7",
+        "make|--members|129|--lines|0|--seed|7",
+        "make|--members|2|--lines|1000001|--seed|7",
+        "make|--members|2|--lines|0|--seed|18446744073709551616",
+        "make|--members|2|--lines|0|--seed|-1",
+        "make|--members|2|--lines|0",
+        "make|--members|2|--lines|0|--seed|7|--workers|17",
+        "make|--members|members.toml|--script|script.txt",
     ] {
         let words = words_of(rt.alloc(), line)?;
         let request = read_words(rt.alloc(), words.as_slice())?;
@@ -86,6 +99,17 @@ fn names_are_handed_over(rt: HostRuntime) -> Result<(), Fail> {
         workers: 0,
     };
     assert_eq!(rt; request, Some(wanted));
+    let made = words_of(
+        rt.alloc(),
+        "make|--workers|4|--members|7|--seed|1|--lines|2000",
+    )?;
+    let wanted = Request::Make {
+        members: 7,
+        lines: 2000,
+        seed: 1,
+        workers: 4,
+    };
+    assert_eq!(rt; read_words(rt.alloc(), made.as_slice())?, Some(wanted));
     assert_eq!(rt; read_words(rt.alloc(), &[])?, None);
     Ok(())
 }

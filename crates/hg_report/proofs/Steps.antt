@@ -1,10 +1,11 @@
 -- The first of what is left of a text, and the others
-use Rattle.std.proofs.Common.{◌≡◌, ◌∙◌, ◌+◌, ◌<◌, ◌++◌, ℕ, Bool, List, [], ◌∷◌, length, drop, get_or, sym, ap, add-one, append_assoc, arith}
+use Rattle.std.proofs.Common.{◌≡◌, ◌∙◌, ◌+◌, ◌<◌, ◌++◌, ℕ, zero, suc, take, append-nil, Bool, List, [], ◌∷◌, length, drop, get_or, sym, ap, add-one, append_assoc, arith}
 use Rattle.std.proofs.Math.Seq.{drop-cons}
 use Rattle.hg_model.specs.Report.{balance_text, balances_text, order_line_text, order_text, printed_text, printed_texts}
 use Rattle.hg_model.specs.declared.outcome.OrderLine.{OrderLine}
 use Rattle.hg_model.specs.declared.outcome.Printed.{Printed}
 use Rattle.hg_report.specs.Pieces.{piece_text, pieces_text}
+use Rattle.hg_report.specs.Summary.{names_together, piece_summary, pieces_summary}
 use Rattle.hg_report.specs.declared.pieces.Piece.{Piece}
 
 first_left : {X : Type 0} (xs : List X) (i : ℕ) (d : X) → i < length xs → drop i xs ≡ get_or xs i d ∷ drop (i + 1) xs
@@ -37,3 +38,22 @@ pub four_then : (pieces : List Piece) (d : Piece) (text rest : List ℕ) → len
     → piece_text (get_or pieces 0 d) ++ (piece_text (get_or pieces 1 d) ++ (piece_text (get_or pieces 2 d) ++ (piece_text (get_or pieces 3 d) ++ rest))) ≡ text ++ rest
 four_then (p ∷ q ∷ r ∷ s ∷ []) d text rest four is = rw (← is) (simp append_assoc)
 four_then _ d text rest four is = absurd (omega arith)
+
+pub summary_left : (names : List (List ℕ)) (pieces : List Printed) (i : ℕ) (piece : Printed) → piece ≡ get_or pieces i piece → i < length pieces
+    → pieces_summary names (drop i pieces) ≡ piece_summary names piece ++ pieces_summary names (drop (i + 1) pieces)
+summary_left names pieces i piece is lt =
+    ap (pieces_summary names) (first_left pieces i piece lt)
+    ∙ ap (λ p. piece_summary names p ++ pieces_summary names (drop (i + 1) pieces)) (sym is)
+
+-- the names of the first rows, and of one more
+names_next : (lines : List OrderLine) (i : ℕ) (d : OrderLine) → i < length lines
+    → names_together (take (suc i) lines) ≡ names_together (take i lines) ++ (get_or lines i d).name
+names_next [] i d lt = absurd (omega (arith, lt))
+names_next (line ∷ lines) zero d lt = append-nil line.name
+names_next (line ∷ lines) (suc i) d lt =
+    ap (λ (xs : List ℕ). line.name ++ xs) (names_next lines i d (omega (arith, lt)))
+    ∙ sym (append_assoc line.name (names_together (take i lines)) (get_or lines i d).name)
+
+pub names_more : (lines : List OrderLine) (i : ℕ) (d : OrderLine) → i < length lines
+    → names_together (take (i + 1) lines) ≡ names_together (take i lines) ++ (get_or lines i d).name
+names_more lines i d lt = ap (λ k. names_together (take k lines)) (add-one i) ∙ names_next lines i d lt

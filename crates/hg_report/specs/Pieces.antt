@@ -8,6 +8,7 @@ use Rattle.hg_report.specs.declared.pieces.Piece.TheVariants as piece
 abbrev pub piece_text : Piece → List ℕ
 piece_text (piece.Bytes bytes) = bytes.now
 piece_text (piece.Number number) = decimal number
+piece_text (piece.Wide number) = decimal number
 piece_text (piece.Signed number) = signed_decimal number
 piece_text (piece.Name name) = encode_lower name.now
 

@@ -131,7 +131,7 @@ fn write_balances<K: Sink>(
 }
 
 /// The first line of a block.
-fn write_head<K: Sink>(
+pub(crate) fn write_head<K: Sink>(
     page: &mut Page,
     sink: &mut K,
     names: &[Bytes],

@@ -15,6 +15,8 @@ pub enum Piece<'a> {
     Bytes(&'a [u8]),
     /// A number in decimal digits.
     Number(u64),
+    /// The same, of up to 128 bits.
+    Wide(u128),
     /// The same, with a minus before it where it is below 0.
     Signed(i64),
     /// An event's name in lower-case hexadecimal digits.
@@ -37,6 +39,7 @@ fn write_piece<K: Sink>(page: &mut Page, sink: &mut K, piece: &Piece<'_>) -> Res
     match piece {
         Piece::Bytes(bytes) => page.put(sink, bytes),
         Piece::Number(number) => page.put(sink, Buffer::new().format(*number).as_bytes()),
+        Piece::Wide(number) => page.put(sink, Buffer::new().format(*number).as_bytes()),
         Piece::Signed(number) => page.put(sink, Buffer::new().format(*number).as_bytes()),
         Piece::Name(name) => page.put(sink, name_hex(name).as_slice()),
     }

@@ -11,6 +11,10 @@ use std::test::Fail;
 const TEXT: &str =
     "1 create made 0\n2 create refused missing-other 070707070707070707070707070707070707070707070707070707070707070707070707070707070707070707070707\n3 sync taken 4 refused 1 made 5\n12 sync taken 0 refused 0 made none full 16384\n13 freeze 20\n14 publish 7\nnode B events 20 forkers 1 round 4 closed 2 ordered 3\n1 A 0 round 2 time 18446744073709551615 paid 1 of 12\n2 B 7 round 2 time 9 unread\n3 A 1 round 3 time 9 -\nbalance A 100\nbalance B 0\n";
 
+// The digest is that of another implementation.
+const SUMMARY: &str =
+    "node B events 20 forkers 1 round 4 closed 2 ordered 3\norder be9102e3314a9220c06d1ad479b298cb8928b470f3234e72dbc1a021c2f80fd9bff3208f94952ef479a293e0e6c839c6\ntotal 100\n";
+
 fn outcome(alloc: Global) -> Result<Outcome, Fail> {
     let mut names = Vec::new(alloc);
     names.push(Bytes::from_vec(Vec::from_slice(alloc, b"A")?))?;
@@ -89,6 +93,9 @@ fn the_text_is_written(rt: HostRuntime) -> Result<(), Fail> {
     let mut sink = SinkMem::new(rt.alloc(), 1000, 1000, Vec::new(rt.alloc()))?;
     assert_eq!(rt; text_of(&outcome, &mut sink), Ok(()));
     assert!(rt; sink.bytes() == TEXT.as_bytes());
+    let mut sink = SinkMem::new(rt.alloc(), 1000, 1000, Vec::new(rt.alloc()))?;
+    assert_eq!(rt; summary_of(&outcome, &mut sink), Ok(()));
+    assert!(rt; sink.bytes() == SUMMARY.as_bytes());
     Ok(())
 }
 

@@ -1,4 +1,5 @@
 pub mod Accepted
 pub mod Reading
+pub mod Made
 pub mod Top
 pub mod Printing

@@ -18,10 +18,10 @@ pub record ReadsMembers (holds : Option Files) (name : List ℕ) (members : Memb
   pub has : Has holds name bytes
   pub is : accepted_members bytes ≡ Ok members
 
-pub record ReadsLines (holds : Option Files) (name : List ℕ) (members : MemberList) (lines : List Line) : Type 0 where
+pub record ReadsLines (holds : Option Files) (name : List ℕ) (members : MemberList) (workers : ℕ) (lines : List Line) : Type 0 where
   pub bytes : List ℕ
   pub has : Has holds name bytes
-  pub is : accepted_lines members bytes ≡ Ok lines
+  pub is : accepted_lines members workers bytes ≡ Ok lines
 
 -- why a shelf F, before and after, gave no members
 abbrev pub StopsAtMembers : {S : Type 0} → shelf.Ghosts S → S → S → List ℕ → Status → Type 0
@@ -32,12 +32,12 @@ StopsAtMembers F before after name Memory = ⊤
 StopsAtMembers F before after name _ = ⊥
 
 -- why it gave no lines
-abbrev pub StopsAtScript : {S : Type 0} → shelf.Ghosts S → S → S → List ℕ → MemberList → Status → Type 0
-StopsAtScript F before after name members (ReadFault file.Script) = Rose (F.faults before name) (F.faults after name)
-StopsAtScript F before after name members (Script refusal) =
-    IfSome (F.holds before) (λ files. IsSomeAnd (content_of files name) (λ bytes. accepted_lines members bytes ≡ Err refusal))
-StopsAtScript F before after name members Memory = ⊤
-StopsAtScript F before after name members _ = ⊥
+abbrev pub StopsAtScript : {S : Type 0} → shelf.Ghosts S → S → S → List ℕ → MemberList → ℕ → Status → Type 0
+StopsAtScript F before after name members workers (ReadFault file.Script) = Rose (F.faults before name) (F.faults after name)
+StopsAtScript F before after name members workers (Script refusal) =
+    IfSome (F.holds before) (λ files. IsSomeAnd (content_of files name) (λ bytes. accepted_lines members workers bytes ≡ Err refusal))
+StopsAtScript F before after name members workers Memory = ⊤
+StopsAtScript F before after name members workers _ = ⊥
 
 -- what came of writing the report to a sink K
 abbrev pub Writes : {S : Type 0} → sink.Ghosts S → S → S → List ℕ → Status → Type 0

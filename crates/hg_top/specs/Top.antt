@@ -1,5 +1,5 @@
 -- What a run of the program comes to: the report, or the cause of its status
-use Rattle.std.specs.Prelude.{ℕ, ◌≡◌, ◌⊎◌, List, Option, Some, None, String}
+use Rattle.std.specs.Prelude.{ℕ, ◌≡◌, ◌⊎◌, ⊤, List, Option, Some, None, String}
 use Rattle.std.specs.Global.{Global}
 use Rattle.hg_io.specs.Bytes.{Appends, AppendsPart}
 use Rattle.hg_io.specs.Faults.{Rose, raised}
@@ -8,12 +8,13 @@ use Rattle.hg_io.specs.declared.shelf.Shelf as shelf
 use Rattle.hg_io.specs.declared.sink.Sink as sink
 use Rattle.hg_members.specs.declared.fault.MemberFault.{MemberFault}
 use Rattle.hg_script.specs.declared.fault.ScriptFault.{ScriptFault}
-use Rattle.hg_command.specs.Asked.{Asked, RunFiles, run, request_of, texts}
+use Rattle.hg_command.specs.Asked.{Asked, MadeRun, RunFiles, make, run, request_of, texts}
 use Rattle.hg_top.specs.declared.status.File.TheVariants as file
 use Rattle.hg_top.specs.declared.status.Refusal.{Refusal}
 use Rattle.hg_top.specs.declared.status.Status.{Status}
 use Rattle.hg_top.specs.declared.status.Status.TheVariants.{Done, ReadFault, Usage, Members, Script, WriteFault, Memory}
-use Rattle.hg_top.specs.Accepted.{FileNames, file_names, file_names_of, report_of, IsReport, HasBadMembers, HasGoodMembers, HasBadScript}
+use Rattle.hg_top.specs.Made.{EndsMade, made_text}
+use Rattle.hg_top.specs.Accepted.{run_files, report_of, IsReport, HasBadMembers, HasGoodMembers, HasBadScript}
 
 -- what the words of a command line ask for, where they are accepted
 abbrev pub asks : List (String Global) → Option Asked
@@ -57,27 +58,33 @@ abbrev pub HasWriteFault : Course → Type 0
 HasWriteFault c = Rose c.before.write_faults c.after.write_faults
 
 -- what an accepted request came to
-abbrev pub Ends : FileNames → Course → Status → Type 0
-Ends names c Done = (text : List ℕ) × IsReport c.holds names text × Appends c.before.written c.after.written text
-Ends names c (ReadFault file.Members) = HasReadFault c names.members × WritesNothing c
-Ends names c (ReadFault file.Script) = HasReadFault c names.script × HasGoodMembers c.holds names × WritesNothing c
-Ends names c Usage = ⊥
-Ends names c (Members refusal) = HasBadMembers c.holds names refusal × WritesNothing c
-Ends names c (Script refusal) = HasBadScript c.holds names refusal × WritesNothing c
-Ends names c WriteFault =
-    HasWriteFault c × ((text : List ℕ) × IsReport c.holds names text × AppendsPart c.before.written c.after.written text)
-Ends names c Memory = WritesNothing c
+abbrev pub Ends : RunFiles → Course → Status → Type 0
+Ends r c Done = (text : List ℕ) × IsReport c.holds r text × Appends c.before.written c.after.written text
+Ends r c (ReadFault file.Members) = HasReadFault c r.members × WritesNothing c
+Ends r c (ReadFault file.Script) = HasReadFault c r.script × HasGoodMembers c.holds r × WritesNothing c
+Ends r c Usage = ⊥
+Ends r c (Members refusal) = HasBadMembers c.holds r refusal × WritesNothing c
+Ends r c (Script refusal) = HasBadScript c.holds r refusal × WritesNothing c
+Ends r c WriteFault =
+    HasWriteFault c × ((text : List ℕ) × IsReport c.holds r text × AppendsPart c.before.written c.after.written text)
+Ends r c Memory = WritesNothing c
 
--- the same of a run over the files of these names
-abbrev pub EndsOn : List ℕ → List ℕ → Course → Status → Type 0
-EndsOn members script c status = Ends (file_names members script) c status
+-- the same of a run over the files of these names, with so many workers
+abbrev pub EndsOn : List ℕ → List ℕ → ℕ → Course → Status → Type 0
+EndsOn members script workers c status = Ends (run_files members script workers) c status
 
 -- what words come to: a request that is accepted, or just the status of a faulty command line, or want of memory
 abbrev pub EndsBy : Option Asked → Course → Status → Type 0
 EndsBy None c status = ((status ≡ Usage) ⊎ (status ≡ Memory)) × WritesNothing c
-EndsBy (Some (run request)) c status = Ends (file_names_of request) c status
+EndsBy (Some (run r)) c status = Ends r c status
+EndsBy (Some (make m)) c status = EndsMade m c.before.written c.after.written c.before.write_faults c.after.write_faults status
 
--- how many files were started: the member file alone where that ends the work, else the script behind it, and each once
+-- no file is read for faulty words, and none for a run that is made
+abbrev pub ReadsNoFile : Option Asked → Type 0
+ReadsNoFile (Some (run r)) = ⊥
+ReadsNoFile _ = ⊤
+
+-- how many files a run started: the member file alone where that ends the work, else the script behind it, and each once
 abbrev pub Starts : Course → Status → Type 0
 Starts c Usage = c.after.starts ≡ c.before.starts
 Starts c (ReadFault file.Members) = c.after.starts ≡ raised c.before.starts
@@ -85,6 +92,10 @@ Starts c (Members refusal) = c.after.starts ≡ raised c.before.starts
 Starts c Memory =
     (c.after.starts ≡ c.before.starts) ⊎ ((c.after.starts ≡ raised c.before.starts) ⊎ (c.after.starts ≡ raised (raised c.before.starts)))
 Starts c _ = c.after.starts ≡ raised (raised c.before.starts)
+
+abbrev pub StartsBy : Option Asked → Course → Status → Type 0
+StartsBy (Some (run r)) c status = Starts c status
+StartsBy _ c status = c.after.starts ≡ c.before.starts
 
 -- The status of a faulty command line comes for faulty words alone, and they get no other, or want of memory
 pub record IsUsage (asked : Option Asked) (status : Status) : Type 0 where
@@ -97,14 +108,20 @@ IsComplete asked c status =
     (request : RunFiles) (files : Files) (member_bytes script_bytes text : List ℕ) →
     asked ≡ Some (run request) → c.holds ≡ Some files →
     content_of files request.members ≡ Some member_bytes → content_of files request.script ≡ Some script_bytes →
-    report_of member_bytes script_bytes ≡ Some text →
+    report_of request.workers member_bytes script_bytes ≡ Some text →
     (HasReadFault c request.members → ⊥) → (HasReadFault c request.script → ⊥) → (HasWriteFault c → ⊥) →
     ((status ≡ Done) × Appends c.before.written c.after.written text) ⊎ (status ≡ Memory)
+
+-- Accepted words that make a run, and no fault of standard output, give the whole summary, or want of memory
+abbrev pub IsCompleteMade : Option Asked → Course → Status → Type 0
+IsCompleteMade asked c status =
+    (m : MadeRun) → asked ≡ Some (make m) → (HasWriteFault c → ⊥) →
+    ((status ≡ Done) × Appends c.before.written c.after.written (made_text m)) ⊎ (status ≡ Memory)
 
 -- A refused file gives just its status, but for a fault of reading before it, or want of memory
 abbrev pub IsRefused : Option Asked → Course → Status → Type 0
 IsRefused asked c status =
     (request : RunFiles) (files : Files) → asked ≡ Some (run request) → c.holds ≡ Some files → (HasReadFault c request.members → ⊥) →
-    ((refusal : Refusal MemberFault) → HasBadMembers c.holds (file_names_of request) refusal → (status ≡ Members refusal) ⊎ (status ≡ Memory))
-    × ((refusal : Refusal ScriptFault) → HasBadScript c.holds (file_names_of request) refusal →
+    ((refusal : Refusal MemberFault) → HasBadMembers c.holds request refusal → (status ≡ Members refusal) ⊎ (status ≡ Memory))
+    × ((refusal : Refusal ScriptFault) → HasBadScript c.holds request refusal →
     (HasReadFault c request.script → ⊥) → (status ≡ Script refusal) ⊎ (status ≡ Memory))

@@ -1,12 +1,14 @@
 use crate::printing::without_words;
 use crate::status::{File, NoWords, Refusal, Status};
 use crate::top::hashgraph;
-use hg_io::{ShelfMem, SinkMem};
+use hg_io::{NoGate, ShelfMem, SinkMem};
 use hg_members::MemberFault;
 use hg_script::{ScriptFault, Why};
 use std::alloc::Global;
 use std::process::Abort;
+use std::sync::Wait;
 use std::test::Fail;
+use std::thread::Threads;
 
 const MEMBERS: &str =
     "coin = 10\n[[member]]\nname = \"A\"\nsecret = \"0b0b0b0b\"\nbalance = 100\n[[member]]\nname = \"B\"\nsecret = \"0c0c0c0c\"\n";
@@ -17,14 +19,10 @@ const SCRIPT: &str =
 const REPORT: &str =
     "1 create made 0\n2 create made 0\n3 sync taken 1 refused 0 made 2\n4 sync taken 2 refused 0 made 3\n5 sync taken 1 refused 0 made 4\n6 sync taken 1 refused 0 made 5\n7 sync taken 1 refused 0 made 6\n8 sync taken 1 refused 0 made 7\nnode A events 7 forkers 0 round 3 closed 1 ordered 0\nbalance A 100\nbalance B 0\nnode B events 8 forkers 0 round 4 closed 2 ordered 4\n1 A 0 round 2 time 1 -\n2 B 0 round 2 time 2 -\n3 A 1 round 2 time 3 -\n4 B 1 round 2 time 4 -\nbalance A 100\nbalance B 0\n";
 
-const WORDS: [&str; 6] = [
-    "hashgraph",
-    "run",
-    "--members",
-    "members.toml",
-    "--script",
-    "script.txt",
-];
+const RUN: &str = "hashgraph run --members members.toml --script script.txt";
+
+const USAGE: &str =
+    "hashgraph: usage: run --members FILE --script FILE [--workers K] or make --members N --lines L --seed S [--workers K]\n";
 
 /// What a run came to, and what it wrote to standard output and standard error.
 #[derive(Drop)]
@@ -34,10 +32,10 @@ struct Ran {
     err: SinkMem,
 }
 
-fn words_of(alloc: Global, words: &[&str]) -> Result<Vec<String>, Fail> {
+fn words_of(alloc: Global, line: &str) -> Result<Vec<String>, Fail> {
     let mut owned = Vec::new(alloc);
-    for word in words {
-        owned.push(String::from_str(alloc, *word)?)?;
+    for word in line.split(' ') {
+        owned.push(String::from_str(alloc, word)?)?;
     }
     Ok(owned)
 }
@@ -56,18 +54,27 @@ fn shelf_of(alloc: Global, members: &str, script: &str, fails: &[u64]) -> Result
 }
 
 /// Runs the program over two files, with calls of the shelf that fail, and with a sink for the report.
-fn run(
+fn run<R: Threads + Wait + Sync>(
+    rt: &R,
     alloc: Global,
-    words: &[&str],
+    line: &str,
     members: &str,
     script: &str,
     fails: &[u64],
     mut out: SinkMem,
 ) -> Result<Ran, Fail> {
-    let words = words_of(alloc, words)?;
+    let words = words_of(alloc, line)?;
     let mut shelf = shelf_of(alloc, members, script, fails)?;
     let mut err = SinkMem::new(alloc, 4096, 4096, Vec::new(alloc))?;
-    let status = hashgraph(alloc, words.as_slice(), &mut shelf, &mut out, &mut err);
+    let status = hashgraph(
+        rt,
+        alloc,
+        words.as_slice(),
+        &mut shelf,
+        &mut out,
+        &mut err,
+        &NoGate,
+    );
     Ok(Ran { status, out, err })
 }
 
@@ -85,15 +92,46 @@ fn expect(rt: &impl Abort, ran: &Ran, status: Status, out: &str, err: &str) {
 #[test]
 fn two_members(rt: HostRuntime) -> Result<(), Fail> {
     let alloc = rt.alloc();
-    let ran = run(alloc, WORDS.as_slice(), MEMBERS, SCRIPT, &[], ample(alloc)?)?;
+    let ran = run(&rt, alloc, RUN, MEMBERS, SCRIPT, &[], ample(alloc)?)?;
     expect(&rt, &ran, Status::Done, REPORT, "");
+    for line in [
+        "hashgraph run --members members.toml --script script.txt --workers 1",
+        "hashgraph run --members members.toml --script script.txt --workers 16",
+    ] {
+        let ran = run(&rt, alloc, line, MEMBERS, SCRIPT, &[], ample(alloc)?)?;
+        expect(&rt, &ran, Status::Done, REPORT, "");
+    }
+    Ok(())
+}
+
+// The digest is that of no bytes.
+#[test]
+fn made_runs(rt: HostRuntime) -> Result<(), Fail> {
+    let alloc = rt.alloc();
+    for (line, out) in [
+        (
+            "hashgraph make --members 2 --lines 0 --seed 7",
+            "node m0 events 0 forkers 0 round 0 closed 0 ordered 0\norder 38b060a751ac96384cd9327eb1b1e36a21fdb71114be07434c0cc7bf63f6e1da274edebfe76f65fbd51ad2f14898b95b\ntotal 2000\nnode m1 events 0 forkers 0 round 0 closed 0 ordered 0\norder 38b060a751ac96384cd9327eb1b1e36a21fdb71114be07434c0cc7bf63f6e1da274edebfe76f65fbd51ad2f14898b95b\ntotal 2000\n",
+        ),
+        (
+            "hashgraph make --members 2 --lines 2 --seed 7 --workers 2",
+            "node m0 events 1 forkers 0 round 1 closed 0 ordered 0\norder 38b060a751ac96384cd9327eb1b1e36a21fdb71114be07434c0cc7bf63f6e1da274edebfe76f65fbd51ad2f14898b95b\ntotal 2000\nnode m1 events 1 forkers 0 round 1 closed 0 ordered 0\norder 38b060a751ac96384cd9327eb1b1e36a21fdb71114be07434c0cc7bf63f6e1da274edebfe76f65fbd51ad2f14898b95b\ntotal 2000\n",
+        ),
+        (
+            "hashgraph make --members 2 --lines 3 --seed 7",
+            "node m0 events 3 forkers 0 round 1 closed 0 ordered 0\norder 38b060a751ac96384cd9327eb1b1e36a21fdb71114be07434c0cc7bf63f6e1da274edebfe76f65fbd51ad2f14898b95b\ntotal 2000\nnode m1 events 1 forkers 0 round 1 closed 0 ordered 0\norder 38b060a751ac96384cd9327eb1b1e36a21fdb71114be07434c0cc7bf63f6e1da274edebfe76f65fbd51ad2f14898b95b\ntotal 2000\n",
+        ),
+    ] {
+        let ran = run(&rt, alloc, line, "", "", &[0, 1], ample(alloc)?)?;
+        expect(&rt, &ran, Status::Done, out, "");
+    }
     Ok(())
 }
 
 #[test]
 fn empty_script_and_bare_peer(rt: HostRuntime) -> Result<(), Fail> {
     let alloc = rt.alloc();
-    let ran = run(alloc, WORDS.as_slice(), MEMBERS, "", &[], ample(alloc)?)?;
+    let ran = run(&rt, alloc, RUN, MEMBERS, "", &[], ample(alloc)?)?;
     expect(
         &rt,
         &ran,
@@ -102,8 +140,9 @@ fn empty_script_and_bare_peer(rt: HostRuntime) -> Result<(), Fail> {
         "",
     );
     let ran = run(
+        &rt,
         alloc,
-        WORDS.as_slice(),
+        RUN,
         MEMBERS,
         "create A 1\nsync A B 2\n",
         &[],
@@ -120,8 +159,8 @@ fn empty_script_and_bare_peer(rt: HostRuntime) -> Result<(), Fail> {
 }
 
 /// With each of these calls of the shelf failing, the run ends at this file, and tells it so.
-fn expect_read_fault(
-    rt: &impl Abort,
+fn expect_read_fault<R: Abort + Threads + Wait + Sync>(
+    rt: &R,
     alloc: Global,
     calls: &[u64],
     file: File,
@@ -130,7 +169,7 @@ fn expect_read_fault(
     for call in calls {
         let fails = [*call];
         let out = ample(alloc)?;
-        let ran = run(alloc, WORDS.as_slice(), MEMBERS, SCRIPT, &fails, out)?;
+        let ran = run(rt, alloc, RUN, MEMBERS, SCRIPT, &fails, out)?;
         expect(rt, &ran, Status::ReadFault(file), "", err);
     }
     Ok(())
@@ -151,7 +190,7 @@ fn failing_writes(rt: HostRuntime) -> Result<(), Fail> {
         let mut fails = Vec::new(alloc);
         fails.push(call as u64)?;
         let out = SinkMem::new(alloc, 65_536, 1, fails)?;
-        let ran = run(alloc, WORDS.as_slice(), MEMBERS, SCRIPT, &[], out)?;
+        let ran = run(&rt, alloc, RUN, MEMBERS, SCRIPT, &[], out)?;
         assert!(&rt; ran.status == Status::WriteFault);
         assert!(&rt; ran.out.bytes() == &REPORT.as_bytes()[..call]);
         assert!(&rt; ran.err.bytes() == b"hashgraph: cannot write\n".as_slice());
@@ -162,27 +201,15 @@ fn failing_writes(rt: HostRuntime) -> Result<(), Fail> {
 #[test]
 fn faulty_words(rt: HostRuntime) -> Result<(), Fail> {
     let alloc = rt.alloc();
-    let usage =
-        "hashgraph: usage: run --members FILE --script FILE [--workers K] or make --members N --lines L --seed S [--workers K]\n";
-    let ran = run(alloc, &["hashgraph"], MEMBERS, SCRIPT, &[], ample(alloc)?)?;
-    expect(&rt, &ran, Status::Usage, "", usage);
-    let dashed = [
+    for line in [
         "hashgraph",
-        "run",
-        "--members",
-        "-m",
-        "--script",
-        "script.txt",
-    ];
-    let ran = run(
-        alloc,
-        dashed.as_slice(),
-        MEMBERS,
-        SCRIPT,
-        &[],
-        ample(alloc)?,
-    )?;
-    expect(&rt, &ran, Status::Usage, "", usage);
+        "hashgraph run --members -m --script script.txt",
+        "hashgraph run --members members.toml --script script.txt --workers 17",
+        "hashgraph make --members 1 --lines 0 --seed 7",
+    ] {
+        let ran = run(&rt, alloc, line, MEMBERS, SCRIPT, &[], ample(alloc)?)?;
+        expect(&rt, &ran, Status::Usage, "", USAGE);
+    }
     Ok(())
 }
 
@@ -190,12 +217,7 @@ fn faulty_words(rt: HostRuntime) -> Result<(), Fail> {
 fn words_that_could_not_be_read(rt: HostRuntime) -> Result<(), Fail> {
     let alloc = rt.alloc();
     for (why, status, code, line) in [
-        (
-            NoWords::NotText,
-            Status::Usage,
-            2,
-            "hashgraph: usage: run --members FILE --script FILE [--workers K] or make --members N --lines L --seed S [--workers K]\n",
-        ),
+        (NoWords::NotText, Status::Usage, 2, USAGE),
         (
             NoWords::Memory,
             Status::Memory,
@@ -212,8 +234,8 @@ fn words_that_could_not_be_read(rt: HostRuntime) -> Result<(), Fail> {
 }
 
 /// The run over these files ends so, and tells this line.
-fn expect_refusal(
-    rt: &impl Abort,
+fn expect_refusal<R: Abort + Threads + Wait + Sync>(
+    rt: &R,
     alloc: Global,
     members: &str,
     script: &str,
@@ -221,7 +243,7 @@ fn expect_refusal(
     err: &str,
 ) -> Result<(), Fail> {
     let out = ample(alloc)?;
-    let ran = run(alloc, WORDS.as_slice(), members, script, &[], out)?;
+    let ran = run(rt, alloc, RUN, members, script, &[], out)?;
     expect(rt, &ran, status, "", err);
     Ok(())
 }
@@ -283,6 +305,13 @@ fn refused_scripts(rt: HostRuntime) -> Result<(), Fail> {
         let status = Status::Script(Refusal::Fault(ScriptFault { line, why }));
         expect_refusal(&rt, rt.alloc(), MEMBERS, script, status, err)?;
     }
+    let alloc = rt.alloc();
+    let line = "hashgraph run --members members.toml --script script.txt --workers 1";
+    let script = "create A 1\nkept A\n";
+    let ran = run(&rt, alloc, line, MEMBERS, script, &[], ample(alloc)?)?;
+    let why = Why::Workers;
+    let status = Status::Script(Refusal::Fault(ScriptFault { line: 2, why }));
+    expect(&rt, &ran, status, "", "hashgraph: script line 2: workers\n");
     Ok(())
 }
 
@@ -295,7 +324,7 @@ fn long_files(rt: HostRuntime) -> Result<(), Fail> {
         long.push('\n')?;
     }
     let out = ample(alloc)?;
-    let ran = run(alloc, WORDS.as_slice(), long.as_str(), SCRIPT, &[], out)?;
+    let ran = run(&rt, alloc, RUN, long.as_str(), SCRIPT, &[], out)?;
     expect(&rt, &ran, Status::Done, REPORT, "");
     long.push('\n')?;
     let status = Status::Members(Refusal::TooLong);

@@ -1,22 +1,27 @@
-ghost use Rattle.std.specs.Prelude.{◌≡◌, ◌≤◌, ℕ, List, All, IfOk, IfErr, None};
+ghost use Rattle.std.specs.Prelude.{◌≡◌, ◌≤◌, ℕ, List, All, IfOk, IfErr};
 ghost use Rattle.hg_io.specs.Faults.{raised};
 ghost use Rattle.hg_model.specs.Report.{report_text};
-ghost use Rattle.hg_play.specs.Play.{play};
 ghost use Rattle.hg_script.specs.Lawful.{IsLine};
+ghost use Rattle.hg_report.specs.Summary.{summary_text};
+ghost use Rattle.hg_top.specs.Made.{EndsMadeOn, made_run};
 ghost use Rattle.hg_top.specs.Reading.{ReadsLines, ReadsMembers, StopsAtMembers, StopsAtScript, Writes};
 ghost use Rattle.hg_top.specs.Printing.{IsPrintedOn, status_line};
-ghost use Rattle.hg_top.specs.Top.{EndsBy, EndsOn, IsComplete, IsRefused, IsUsage, Starts, asks, course};
+ghost use Rattle.hg_top.specs.Top.{EndsBy, EndsOn, IsComplete, IsCompleteMade, IsRefused, IsUsage, ReadsNoFile, Starts, StartsBy, asks, course};
 
 use crate::printing::report_status;
 use crate::status::{File, Refusal, Status};
 use hg_command::{Request, read_words};
-use hg_io::{Failed, FileAnswer, Shelf, Sink, read_file};
+use hg_io::{Failed, FileAnswer, Gate, Shelf, Sink, read_file};
+use hg_made::generate;
 use hg_members::read_members;
 use hg_model::{Items, Members, Memory, Outcome};
-use hg_play::play;
-use hg_report::text_of;
+use hg_play::{play, summary};
+use hg_report::{summary_of, text_of};
 use hg_script::{Line, read_script};
+use hg_workers::Voters;
 use std::alloc::Global;
+use std::sync::Wait;
+use std::thread::Threads;
 
 /// The greatest number of bytes of a member file.
 const MEMBER_LIMIT: usize = 1_048_576;
@@ -44,16 +49,17 @@ fn members_from<F: Shelf>(alloc: Global, shelf: &mut F, name: &str) -> Result<Me
     }
 }
 
-/// The lines that the script of this name is.
+/// The lines that the script of this name is, for so many workers.
 fn lines_from<F: Shelf>(
     alloc: Global,
     shelf: &mut F,
     name: &str,
     members: &Members,
+    workers: u32,
 ) -> Result<Items<Line>, Status>
-    ensures ok { IfOk result (ReadsLines (F.holds shelf.old) name.now members.now) }
-    ensures lawful { IfOk result (λ lines. All (IsLine members.now) lines) }
-    ensures err { IfErr result (StopsAtScript F.Shelf shelf.old shelf.new name.now members.now) }
+    ensures ok { IfOk result (ReadsLines (F.holds shelf.old) name.now members.now workers) }
+    ensures lawful { IfOk result (λ lines. All (IsLine members.now workers) lines) }
+    ensures err { IfErr result (StopsAtScript F.Shelf shelf.old shelf.new name.now members.now workers) }
     ensures same { F.holds shelf.new ≡ F.holds shelf.old }
     ensures counts { (other : List ℕ) → F.faults shelf.old other ≤ F.faults shelf.new other }
     ensures begun { F.starts shelf.new ≡ raised (F.starts shelf.old) }
@@ -62,7 +68,12 @@ fn lines_from<F: Shelf>(
         Err(_) => Err(Status::Memory),
         Ok(FileAnswer::Failed) => Err(Status::ReadFault(File::Script)),
         Ok(FileAnswer::TooLong(_)) => Err(Status::Script(Refusal::TooLong)),
-        Ok(FileAnswer::Bytes(bytes)) => match read_script(alloc, bytes.as_slice(), members) {
+        Ok(FileAnswer::Bytes(bytes)) => match read_script(
+            alloc,
+            bytes.as_slice(),
+            members,
+            workers,
+        ) {
             Err(Memory) => Err(Status::Memory),
             Ok(Err(fault)) => Err(Status::Script(Refusal::Fault(fault))),
             Ok(Ok(lines)) => Ok(lines),
@@ -80,15 +91,29 @@ fn write_report<K: Sink>(out: &mut K, outcome: &Outcome) -> Status
     }
 }
 
-/// What the run of a script comes to, with the names of the two files.
-fn run<F: Shelf, K: Sink>(
+/// Writes the summary.
+fn write_summary<K: Sink>(out: &mut K, outcome: &Outcome) -> Status
+    ensures { Writes K.Sink out.old out.new (summary_text outcome.now) result }
+{
+    match summary_of(outcome, out) {
+        Ok(()) => Status::Done,
+        Err(Failed) => Status::WriteFault,
+    }
+}
+
+/// What the run of a script comes to, with the names of the two files and so many workers.
+fn run<R: Threads + Wait + Sync, F: Shelf, K: Sink, G: Gate + Sync>(
+    rt: &R,
     alloc: Global,
     members: &str,
     script: &str,
+    workers: u32,
     shelf: &mut F,
     out: &mut K,
+    gate: &G,
 ) -> Status
-    ensures ends { EndsOn members.now script.now (course F.Shelf K.Sink shelf.old shelf.new out.old out.new) result }
+    requires { workers ≤ 16 }
+    ensures ends { EndsOn members.now script.now workers (course F.Shelf K.Sink shelf.old shelf.new out.old out.new) result }
     ensures begun { Starts (course F.Shelf K.Sink shelf.old shelf.new out.old out.new) result }
     ensures same { F.holds shelf.new ≡ F.holds shelf.old }
 {
@@ -96,35 +121,70 @@ fn run<F: Shelf, K: Sink>(
         Ok(list) => list,
         Err(status) => return status,
     };
-    let lines = match lines_from(alloc, shelf, script, &list) {
+    let lines = match lines_from(alloc, shelf, script, &list, workers) {
         Ok(lines) => lines,
         Err(status) => return status,
     };
-    match play(alloc, &list, lines.as_slice()) {
+    let voters = Voters::new(gate);
+    match play(rt, alloc, &list, lines.as_slice(), workers, &voters, gate) {
         Ok(outcome) => write_report(out, &outcome),
         Err(Memory) => Status::Memory,
     }
 }
 
-/// Runs the program `hashgraph` over the files of a shelf. `words` has the program's name first, then
-/// `run --members FILE --script FILE`. Each member that has a node gossips as the script says; then the nodes'
-/// ledgers are written to `out`, and what is wrong to `err`, in one line. All that memory is taken for is done before
-/// the first byte is written.
-pub fn hashgraph<F: Shelf, K: Sink, E: Sink>(
+/// What the run of made members and lines comes to.
+fn make<R: Threads + Wait + Sync, K: Sink, G: Gate + Sync>(
+    rt: &R,
+    alloc: Global,
+    members: u32,
+    lines: u32,
+    seed: u64,
+    workers: u32,
+    out: &mut K,
+    gate: &G,
+) -> Status
+    requires some { 2 ≤ members }
+    requires few { members ≤ 128 }
+    requires workers { workers ≤ 16 }
+    ensures { EndsMadeOn K.Sink out.old out.new (made_run members lines seed workers) result }
+{
+    let (list, lines) = match generate(alloc, seed, members, lines) {
+        Ok(made) => made,
+        Err(Memory) => return Status::Memory,
+    };
+    let voters = Voters::new(gate);
+    match summary(rt, alloc, &list, lines.as_slice(), workers, &voters, gate) {
+        Ok(outcome) => write_summary(out, &outcome),
+        Err(Memory) => Status::Memory,
+    }
+}
+
+/// Runs the program `hashgraph` over the files of a shelf. `words` has the program's name first, and then one of two
+/// commands. `run --members FILE --script FILE [--workers K]`: each member that has a node gossips as the script says; then
+/// the nodes' ledgers are written to `out`. `make --members N --lines L --seed S [--workers K]`: so many members and lines
+/// are made from the seed and played, and a summary of each node is written to `out`; no file is read. What is wrong is
+/// written to `err`, in one line. With workers the fame of witnesses is decided by so many threads beside the one that
+/// plays the lines; what is written does not change with their number. They pass the points of `gate`. All that memory is
+/// taken for is done before the first byte is written.
+pub fn hashgraph<R: Threads + Wait + Sync, F: Shelf, K: Sink, E: Sink, G: Gate + Sync>(
+    rt: &R,
     alloc: Global,
     words: &[String],
     shelf: &mut F,
     out: &mut K,
     err: &mut E,
+    gate: &G,
 ) -> Status
-    // The report at `Done`, of a run in which no two nodes' orders part ways, and the cause of each other status.
+    // The report or the summary at `Done`, of a run in which no two nodes' orders part ways, and the cause of each other
+    // status.
     ensures ends { EndsBy (asks words.now) (course F.Shelf K.Sink shelf.old shelf.new out.old out.new) result }
     ensures usage { IsUsage (asks words.now) result }
     ensures refused { IsRefused (asks words.now) (course F.Shelf K.Sink shelf.old shelf.new out.old out.new) result }
     ensures complete { IsComplete (asks words.now) (course F.Shelf K.Sink shelf.old shelf.new out.old out.new) result }
-    // No file is started for faulty words, and no script where the member file ends the work.
-    ensures unread { asks words.now ≡ None → shelf.new ≡ shelf.old }
-    ensures begun { Starts (course F.Shelf K.Sink shelf.old shelf.new out.old out.new) result }
+    ensures made { IsCompleteMade (asks words.now) (course F.Shelf K.Sink shelf.old shelf.new out.old out.new) result }
+    // No file is started for faulty words or a run that is made, and no script where the member file ends the work.
+    ensures unread { ReadsNoFile (asks words.now) → shelf.new ≡ shelf.old }
+    ensures begun { StartsBy (asks words.now) (course F.Shelf K.Sink shelf.old shelf.new out.old out.new) result }
     ensures matches { IsPrintedOn E.Sink err.old err.new (status_line result) }
     ensures same { F.holds shelf.new ≡ F.holds shelf.old }
 {
@@ -134,10 +194,20 @@ pub fn hashgraph<F: Shelf, K: Sink, E: Sink>(
                 Request::Run {
                     members,
                     script,
-                    ..
+                    workers,
                 },
             ),
-        ) => run(alloc, members, script, shelf, out),
+        ) => run(rt, alloc, members, script, workers, shelf, out, gate),
+        Ok(
+            Some(
+                Request::Make {
+                    members,
+                    lines,
+                    seed,
+                    workers,
+                },
+            ),
+        ) => make(rt, alloc, members, lines, seed, workers, out, gate),
         Ok(None) => Status::Usage,
         Err(Memory) => Status::Memory,
     };

@@ -1,0 +1,28 @@
+ghost use Rattle.std.specs.Prelude.{◌≡◌, ◌≤◌, ℕ, All, IfOk};
+ghost use Rattle.hg_script.specs.Lawful.{IsLine};
+ghost use Rattle.hg_made.specs.Made.{generate};
+
+use crate::lines::made_lines;
+use crate::members::made_members;
+use hg_model::{Members, Memory};
+use hg_script::Line;
+use std::alloc::Global;
+
+/// So many members, named m0, m1 and so on, each with a node, and so many lines for them: first each member's first event,
+/// then syncs with a transfer. All is drawn from the seed, and is the same for the same numbers.
+#[tactic(auto, unfolding(crate::specs::Made::generate))]
+pub fn generate(
+    alloc: Global,
+    seed: u64,
+    members: u32,
+    lines: u32,
+) -> Result<(Members, Vec<Line>), Memory>
+    requires some { 2 ≤ members }
+    requires few { members ≤ 128 }
+    ensures made { IfOk result (λ made. (made.0, made.1.items) ≡ generate seed members lines) }
+    ensures lawful { (workers : ℕ) → IfOk result (λ made. All (IsLine made.0 workers) made.1.items) }
+{
+    let list = made_members(alloc, seed, members)?;
+    let made = made_lines(alloc, seed, members, lines)?;
+    Ok((list, made))
+}
