@@ -10,3 +10,5 @@ mod SharedLaws
 mod CallLaws
 mod LikeLaws
 mod PartLaws
+mod BatchLaws
+mod LawfulLaws

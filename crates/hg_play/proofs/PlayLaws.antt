@@ -55,8 +55,8 @@ action_below members (action.Show m) lawful = has_node_below members.entries m l
 action_below members (action.Names m) lawful = has_node_below members.entries m lawful
 
 -- lawful lines name members alone
-pub lines_below : (members : MemberList) (N : ℕ) (lines : List Line) → N ≡ length members.entries → All (IsLine members) lines → All (IsLineBelow N) lines
-lines_below members N lines long lawful = λ k d low. subst (λ (n : ℕ). IsBelow n (get_or lines k d).action) (sym long) (action_below members (get_or lines k d).action (lawful k d low))
+pub lines_below : (members : MemberList) (workers N : ℕ) (lines : List Line) → N ≡ length members.entries → All (IsLine members workers) lines → All (IsLineBelow N) lines
+lines_below members workers N lines long lawful = λ k d low. subst (λ (n : ℕ). IsBelow n (get_or lines k d).action) (sym long) (action_below members (get_or lines k d).action (lawful k d low).0)
 
 -- one block more
 pub block_more : (members : MemberList) (w : WorldView) (before now : List Printed) (m : ℕ) (printed : List Printed) →

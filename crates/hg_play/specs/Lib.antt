@@ -1,5 +1,6 @@
 pub mod Agree
 pub mod Alike
+pub mod Batch
 pub mod Labels
 pub mod Lines
 pub mod Nodes

@@ -59,6 +59,13 @@ all_printed members lines =
 unfoldable pub play : MemberList → List Line → Outcome
 play members lines = record { names = names_of members; printed = all_printed members lines }
 
+-- the outcome with the names and the last blocks alone
+unfoldable pub summary : MemberList → List Line → Outcome
+summary members lines = record {
+  names = names_of members;
+  printed = end_blocks members (after_lines members (first_stage members) lines).world;
+}
+
 -- the steps of these lines, one line after the other
 abbrev pub lines_steps : MemberList → Stage → List Line → List Step
 lines_steps members s [] = []

@@ -3,6 +3,7 @@
 //! safe, and whose blocks agree. Each line is a list of steps of a run; the nodes are those of `hg_world`.
 #![tactic(auto)]
 
+mod batch;
 mod blocks;
 mod gossip;
 mod labels;
@@ -17,5 +18,5 @@ mod shared;
 mod through;
 
 pub use laws::{lines_are_steps, lines_need_rows_alone, steps_need_rows_alone};
-pub use playing::play;
+pub use playing::{play, summary};
 pub use seated::Seated;

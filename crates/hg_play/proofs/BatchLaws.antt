@@ -1,0 +1,288 @@
+-- Nodes of a world that were shared, and are a world again
+use Rattle.std.proofs.Common.{◌≡◌, inl, inr, ℕ, ◌+◌, ◌<◌, ◌≤◌, true, List, [], ◌∷◌, ◌++◌, length, take, drop, map, get_or, replicate, sym, refl, ap, ◌∙◌, subst, arith}
+use Rattle.std.specs.Prelude.{All}
+use Rattle.std.proofs.Math.Seq.{take-add}
+use Rattle.std.proofs.lemmas.Bool.{cases_lt, true≢false}
+use Rattle.std.proofs.lemmas.List.Sums.{fold-append, fold_more}
+use Rattle.std.proofs.lemmas.List.{get_or-drop, get_or-map, get_or-take, get_or_past, length-map, length-take-le, take_all}
+use Rattle.hg_model.specs.declared.outcome.Printed.{Printed}
+use Rattle.hg_model.specs.declared.row.Row.{Row}
+use Rattle.hg_model.specs.Members.{MemberList}
+use Rattle.hg_model.specs.Signing.{accepts_by}
+use Rattle.hg_model.specs.NodeView.{NodeView, Start, node_rows}
+use Rattle.hg_script.specs.declared.line.Action.{Action}
+use Rattle.hg_script.specs.declared.line.Action.TheVariants as action
+use Rattle.hg_script.specs.declared.line.Line.{Line}
+use Rattle.hg_world.specs.World.{Secrets, Site, WorldView, no_site, node_at, nodes_of, new_world, site_of, worker_count}
+use Rattle.hg_world.specs.Kept.{AreOfMembers, AreOfOneList, no_node, nth_node, unfrozen}
+use Rattle.hg_board.specs.Seats.{Place, Stand}
+use Rattle.hg_board.specs.Calls.{after_split, split_off}
+use Rattle.hg_crowd.specs.Crowd.{AreSeats, AreStill, Each, OthersMark}
+use Rattle.hg_crowd.specs.Workers.{AllAbsorb, AreStarted, AreWhole, HasMore, Worked}
+use Rattle.hg_crowd.specs.Laws.{AreEnded, IsRun}
+use Rattle.hg_crowd.proofs.CrowdLaws.{after_split_all, seats_of, seats_started, split_off_all}
+use Rattle.hg_crowd.proofs.EndLaws.{runs_end}
+use Rattle.hg_crowd.proofs.ListLaws.{some_of}
+use Rattle.hg_play.specs.Alike.{AreAlike, WorldsAlike}
+use Rattle.hg_play.specs.Batch.{IsPartBelow, IsPlayed, PlaysNext, TellsBatch, is_part}
+use Rattle.hg_play.specs.Lines.{IsBelow, IsLineBelow}
+use Rattle.hg_play.specs.Nodes.{TellsLine, TellsLines, seen_alone}
+use Rattle.hg_play.specs.Play.{Stage, after_line, after_lines, first_stage, stage}
+use Rattle.hg_play.proofs.LikeLaws.{line_like, worlds_alike}
+use Rattle.hg_play.proofs.WorldLaws.{starts-new}
+use Rattle.hg_play.specs.Sites.{starts_of}
+use Rattle.hg_play.specs.Through.{AllOthersMark, AreSeen, IsOfRows, IsPart, IsPartLine, IsStageLike, IsStageOf, TellsThrough, node_seen}
+
+-- the node of a place that was started with it is the node
+same_node : (p : Place Secrets) (s : Stand Secrets) (v : NodeView Secrets) → p.start ≡ v → s.seen ≡ v.history → node_seen p s ≡ v
+same_node p s v start seen = λ i. record { start = (start i).start; history = seen i }
+
+-- the nodes of a world, by place
+node_of : (w : WorldView) (m : ℕ) (d : NodeView Secrets) → m < length w.sites → get_or (nodes_of w) m d ≡ node_at w m
+node_of w m d low = get_or-map (λ (site : Site). site.node) w.sites m no_site d low
+
+-- the seats that were split off have seen the nodes with which the places were started
+pub seen_first : (world w : WorldView) (nodes : List (NodeView Secrets)) (places : List (Place Secrets)) (firsts : List (Stand Secrets)) → nodes ≡ nodes_of world →
+    AreStarted accepts_by nodes places firsts → WorldsAlike world w → AreSeen places (map split_off firsts) w
+seen_first world w nodes places firsts is started alike =
+    let long : length nodes ≡ length world.sites = ap length is ∙ length-map world.sites (λ (site : Site). site.node) in
+    let split : length (map split_off firsts) ≡ length firsts = length-map firsts split_off in
+    record {
+      count = omega (arith, alike.count, long, split, started.seats_count);
+      nodes = λ m p s low.
+        let there : m < length firsts = omega (arith, low, split) in
+        let inside : m < length nodes = omega (arith, there, started.seats_count) in
+        let here : m < length world.sites = omega (arith, inside, long) in
+        let v : NodeView Secrets = node_at world m in
+        let first = started.each m v p s inside in
+        let node : get_or nodes m v ≡ v = ap (λ (ns : List (NodeView Secrets)). get_or ns m v) is ∙ node_of world m v here in
+        let seat : get_or (map split_off firsts) m s ≡ split_off (get_or firsts m s) = get_or-map split_off firsts m s s there in
+        let same : node_seen (get_or places m p) (get_or (map split_off firsts) m s) ≡ v =
+          same_node (get_or places m p) (get_or (map split_off firsts) m s) v (first.start ∙ node) (ap (λ (t : Stand Secrets). t.seen) seat ∙ (first.seen ∙ ap (λ (u : NodeView Secrets). u.history) node)) in
+        let other = alike.nodes m in
+        subst (AreAlike (node_at w m)) (sym same) (record { start = sym other.start; rows = sym other.rows });
+    }
+
+-- nodes that ended so are alike with those that their seats have seen
+module _ (new w : WorldView) (places : List (Place Secrets)) (called : List (Stand Secrets)) (ends : List (NodeView Secrets)) (is : new.sites ≡ unfrozen ends)
+    (ended : AreEnded places called ends) (seen : AreSeen places called w) where
+  long_new : length new.sites ≡ length ends
+  long_new = ap length is ∙ length-map ends (λ (v : NodeView Secrets). site_of v (replicate worker_count 0))
+
+  node_new : (m : ℕ) → m < length ends → node_at new m ≡ nth_node ends m
+  node_new m low =
+      ap (λ (sites : List Site). (get_or sites m no_site).node) is
+      ∙ ap (λ (s : Site). s.node) (get_or-map (λ (v : NodeView Secrets). site_of v (replicate worker_count 0)) ends m no_node no_site low)
+
+  ended_node : (m : ℕ) → m < length ends → AreAlike (node_at new m) (node_at w m)
+  ended_node m low =
+      let p : Place Secrets = some_of places m (omega (arith, low, ended.places_count)) in
+      let s : Stand Secrets = some_of called m (omega (arith, low, ended.called_count)) in
+      let end = ended.each m p s no_node low in
+      let other = seen.nodes m p s (omega (arith, low, ended.called_count)) in
+      subst (λ (v : NodeView Secrets). AreAlike v (node_at w m)) (sym (node_new m low)) (record { start = end.start ∙ sym other.start; rows = end.rows ∙ sym other.rows })
+
+  pub ended_alike : WorldsAlike new w
+  ended_alike = record {
+    count = omega (arith, long_new, seen.count, ended.called_count);
+    nodes = λ m. elim (cases_lt m (length ends)) [
+      | inl low ↦ ended_node m low
+      | inr past ↦
+          let first : node_at new m ≡ no_site.node = ap (λ (s : Site). s.node) (get_or_past new.sites m no_site (omega (arith, past, long_new))) in
+          let second : node_at w m ≡ no_site.node = ap (λ (s : Site). s.node) (get_or_past w.sites m no_site (omega (arith, past, seen.count, ended.called_count))) in
+          rw (first, second) record { start = refl; rows = refl }
+    ];
+  }
+
+-- nodes that began as those of one list did
+same_start : (nodes ends : List (NodeView Secrets)) → length ends ≡ length nodes → ((m : ℕ) → m < length ends → (nth_node ends m).start ≡ (nth_node nodes m).start) → AreOfOneList nodes → AreOfOneList ends
+same_start nodes ends long starts of =
+    let each = of.3 in
+    (of.0, of.1, of.2, record {
+      some = omega (arith, each.some, long);
+      count = long ∙ each.count;
+      each = λ m low.
+        let was = each.each m (omega (arith, low, long)) in
+        let same = starts m low in
+        record {
+          own = ap (λ (s : Start Secrets). s.own) same ∙ was.own;
+          members = ap (λ (s : Start Secrets). s.members) same ∙ was.members;
+          coin = ap (λ (s : Start Secrets). s.coin) same ∙ was.coin;
+          keyed = ap (λ (s : Start Secrets). s.keys) same ∙ was.keyed;
+        };
+    })
+
+pub ends_of_one_list : (nodes : List (NodeView Secrets)) (places : List (Place Secrets)) (called : List (Stand Secrets)) (ends : List (NodeView Secrets)) →
+    IsRun accepts_by nodes places called ends → AreOfOneList nodes → AreOfOneList ends
+ends_of_one_list nodes places called ends run of =
+    let ended = runs_end Secrets accepts_by nodes places called ends run in
+    let started = run.started in
+    let long : length ends ≡ length nodes = omega (arith, ended.places_count, started.places_count) in
+    same_start nodes ends long (λ m low.
+      let p : Place Secrets = some_of places m (omega (arith, low, ended.places_count)) in
+      let s : Stand Secrets = some_of called m (omega (arith, low, ended.called_count)) in
+      (ended.each m p s no_node low).start ∙ ap (λ (v : NodeView Secrets). v.start) (started.each m no_node p s (omega (arith, low, long))).start) of
+
+-- what comes of a batch
+pub batch_told : (members : MemberList) (lines : List Line) (world new : WorldView) (nodes : List (NodeView Secrets)) (places : List (Place Secrets)) (called : List (Stand Secrets)) (ends : List (NodeView Secrets))
+    (labels labels_new : List (List ℕ)) (printed printed_new : List Printed) → nodes ≡ nodes_of world → (run : IsRun accepts_by nodes places called ends) → new.sites ≡ unfrozen ends →
+    TellsThrough members lines places (map split_off run.firsts) labels printed called labels_new printed_new → TellsBatch members lines world labels printed new labels_new printed_new
+batch_told members lines world new nodes places called ends labels labels_new printed printed_new is run sites told = λ s at.
+    let ended = runs_end Secrets accepts_by nodes places called ends run in
+    let alone : AllOthersMark places called = record {
+      count = omega (arith, ended.places_count, ended.called_count);
+      each = λ m p t low. (ended.each m p t no_node (omega (arith, low, ended.places_count))).others;
+    } in
+    let here : IsStageOf members places (map split_off run.firsts) labels printed s = record {
+      agrees = seen_first world s.world nodes places run.firsts is run.started at.agrees;
+      begun = at.begun;
+      labelled = at.labelled;
+      shown = at.shown;
+    } in
+    let after = told alone s here in
+    record {
+      agrees = ended_alike new (after_lines members s lines).world places called ends sites ended after.agrees;
+      begun = after.begun;
+      labelled = after.labelled;
+      shown = after.shown;
+    }
+
+pub batch_count : (world new : WorldView) (nodes : List (NodeView Secrets)) (places : List (Place Secrets)) (called : List (Stand Secrets)) (ends : List (NodeView Secrets)) → nodes ≡ nodes_of world →
+    IsRun accepts_by nodes places called ends → new.sites ≡ unfrozen ends → length new.sites ≡ length world.sites
+batch_count world new nodes places called ends is run sites =
+    let ended = runs_end Secrets accepts_by nodes places called ends run in
+    let long : length nodes ≡ length world.sites = ap length is ∙ length-map world.sites (λ (site : Site). site.node) in
+    let last : length new.sites ≡ length ends = ap length sites ∙ length-map ends (λ (v : NodeView Secrets). site_of v (replicate worker_count 0)) in
+    omega (arith, last, long, ended.places_count, run.started.places_count)
+
+-- batches, one after the other, up to a line
+pub record InBatches (members : MemberList) (lines : List Line) (first now : WorldView) (labels : List (List ℕ)) (printed : List Printed) (next : ℕ) : Type 0 where
+  pub within : next ≤ length lines
+  pub count : length now.sites ≡ length first.sites
+  pub stage : IsStageLike members now labels printed (after_lines members (first_stage members) (take next lines))
+
+pub in_none : (members : MemberList) (lines : List Line) (first : WorldView) (labels : List (List ℕ)) (printed : List Printed) → first ≡ new_world members → labels ≡ [] → printed ≡ [] →
+    InBatches members lines first first labels printed 0
+in_none members lines first labels printed is no_labels none = record {
+  within = omega arith;
+  count = refl;
+  stage = record {
+    agrees = subst (λ (w : WorldView). WorldsAlike first w) is (worlds_alike first);
+    begun = starts-new members;
+    labelled = no_labels;
+    shown = none;
+  };
+}
+
+pub in_next : (members : MemberList) (lines : List Line) (first now new : WorldView) (labels labels_new : List (List ℕ)) (printed printed_new : List Printed) (next to : ℕ) →
+    InBatches members lines first now labels printed next → PlaysNext members lines next now labels printed new labels_new printed_new to → InBatches members lines first new labels_new printed_new to
+in_next members lines first now new labels labels_new printed printed_new next to so plays = record {
+  within = plays.within;
+  count = plays.count ∙ so.count;
+  stage = plays.told (first_stage members) so.stage;
+}
+
+pub in_all : (members : MemberList) (lines : List Line) (first now : WorldView) (labels : List (List ℕ)) (printed : List Printed) (next : ℕ) → InBatches members lines first now labels printed next →
+    length lines ≤ next → IsPlayed members lines now printed
+in_all members lines first now labels printed next so past =
+    let at = subst (λ (ls : List Line). IsStageLike members now labels printed (after_lines members (first_stage members) ls)) (take_all next lines past) so.stage in
+    record { world = at.agrees; pieces = at.shown }
+
+-- the lines played next are those behind the ones before
+after_more : (members : MemberList) (s : Stage) (lines : List Line) (from count : ℕ) →
+    after_lines members s (take (from + count) lines) ≡ after_lines members (after_lines members s (take from lines)) (take count (drop from lines))
+after_more members s lines from count = ap (λ (ls : List Line). after_lines members s ls) (take-add from count lines) ∙ fold-append (after_line members) s (take from lines) (take count (drop from lines))
+
+pub plays_batch : (members : MemberList) (lines batch rest : List Line) (from count : ℕ) (old new : WorldView) (labels labels_new : List (List ℕ)) (printed printed_new : List Printed) →
+    rest ≡ drop from lines → batch ≡ take count rest → 0 < count → count ≤ length rest → length rest + from ≡ length lines → length new.sites ≡ length old.sites →
+    TellsBatch members batch old labels printed new labels_new printed_new → PlaysNext members lines from old labels printed new labels_new printed_new (from + count)
+plays_batch members lines batch rest from count old new labels labels_new printed printed_new is_rest is some few long same told = record {
+  further = omega (arith, some);
+  within = omega (arith, few, long);
+  count = same;
+  told = λ s at.
+    let behind : after_lines members s (take (from + count) lines) ≡ after_lines members (after_lines members s (take from lines)) batch =
+      after_more members s lines from count ∙ ap (λ (ls : List Line). after_lines members (after_lines members s (take from lines)) ls) (sym (is ∙ ap (take count) is_rest)) in
+    subst (IsStageLike members new labels_new printed_new) (sym behind) (told (after_lines members s (take from lines)) at);
+}
+
+pub plays_line : (members : MemberList) (lines : List Line) (line : Line) (from : ℕ) (old new : WorldView) (labels labels_new : List (List ℕ)) (printed printed_new : List Printed) →
+    from < length lines → line ≡ get_or lines from line → IsOfRows line.action → length new.sites ≡ length old.sites →
+    TellsLine members line (seen_alone old) labels printed (seen_alone new) labels_new printed_new → PlaysNext members lines from old labels printed new labels_new printed_new (from + 1)
+plays_line members lines line from old new labels labels_new printed printed_new low is of same told = record {
+  further = omega arith;
+  within = omega (arith, low);
+  count = same;
+  told = λ s at.
+    let before = after_lines members s (take from lines) in
+    let behind : after_lines members s (take (from + 1) lines) ≡ after_line members before line =
+      fold_more (after_line members) s lines from line low ∙ ap (after_line members before) (sym is) in
+    subst (IsStageLike members new labels_new printed_new) (sym behind) (line_like members line old new labels labels_new printed printed_new of told before at);
+}
+
+-- lines that may stand in a batch are parts
+part_of : (n : ℕ) (a : Action) → is_part a ≡ true → IsBelow n a → IsPart n a
+part_of n (action.Gossip g) part below = below
+part_of n (action.Label source) part below = below
+part_of n (action.Freeze m worker) part below = absurd (true≢false (sym part))
+part_of n (action.Publish m worker) part below = absurd (true≢false (sym part))
+part_of n (action.Kept m) part below = absurd (true≢false (sym part))
+part_of n (action.Show m) part below = absurd (true≢false (sym part))
+part_of n (action.Names m) part below = absurd (true≢false (sym part))
+
+pub batch_parts : (n from count : ℕ) (lines rest batch : List Line) → rest ≡ drop from lines → batch ≡ take count rest → count ≤ length rest → length rest + from ≡ length lines → All (IsLineBelow n) lines → IsPartBelow rest count → All (IsPartLine n) batch
+batch_parts n from count lines rest batch is_rest is few long below parts = λ k d low.
+    let short : length batch ≡ count = ap length is ∙ length-take-le count rest few in
+    let early : k < count = omega (arith, low, short) in
+    let here : get_or batch k d ≡ get_or rest k d = ap (λ (ls : List Line). get_or ls k d) is ∙ get_or-take count rest k d early in
+    let there : get_or rest k d ≡ get_or lines (from + k) d = ap (λ (ls : List Line). get_or ls k d) is_rest ∙ get_or-drop from lines k d in
+    subst (IsPartLine n) (sym here) (part_of n (get_or rest k d).action (parts k d early) (subst (IsLineBelow n) (sym there) (below (from + k) d (omega (arith, early, few, long)))))
+
+-- the run that a batch is
+abbrev pub the_run : (nodes : List (NodeView Secrets)) (shared places : List (Place Secrets)) (firsts split own called beside back lasts : List (Stand Secrets)) (ends : List (NodeView Secrets)) → places ≡ shared →
+    AreStarted accepts_by nodes shared firsts → split ≡ map after_split firsts → own ≡ map split_off firsts → AreSeats accepts_by places called → AreStill own called → Each Worked split beside →
+    AllAbsorb accepts_by places beside called back → Each Worked back lasts → AreWhole accepts_by shared lasts ends → IsRun accepts_by nodes places called ends
+the_run nodes shared places firsts split own called beside back lasts ends same started split_is own_is seats still worked absorbed again whole = record {
+  firsts = firsts;
+  beside = beside;
+  back = back;
+  lasts = lasts;
+  started = subst (λ (l : List (Place Secrets)). AreStarted accepts_by nodes l firsts) (sym same) started;
+  still = subst (λ (l : List (Stand Secrets)). AreStill l called) own_is still;
+  seats = seats;
+  worked = subst (λ (l : List (Stand Secrets)). Each Worked l beside) split_is worked;
+  absorbed = absorbed;
+  again = again;
+  whole = subst (λ (l : List (Place Secrets)). AreWhole accepts_by l lasts ends) (sym same) whole;
+}
+
+-- what the seats beside the calls have
+pub has_beside : (workers : ℕ) (nodes : List (NodeView Secrets)) (shared places : List (Place Secrets)) (firsts split : List (Stand Secrets)) → places ≡ shared → workers + 1 < 65536 →
+    AreStarted accepts_by nodes shared firsts → split ≡ map after_split firsts → Each (HasMore accepts_by workers) places split
+has_beside workers nodes shared places firsts split same few started is =
+    subst (λ (l : List (Place Secrets)). Each (HasMore accepts_by workers) l split) (sym same)
+    (subst (Each (HasMore accepts_by workers) shared) (sym is) (after_split_all accepts_by shared workers firsts (seats_started accepts_by (workers + 1) nodes shared firsts few started)))
+
+-- what the seats of the calls are
+pub seats_own : (nodes : List (NodeView Secrets)) (shared places : List (Place Secrets)) (firsts own : List (Stand Secrets)) → places ≡ shared →
+    AreStarted accepts_by nodes shared firsts → own ≡ map split_off firsts → AreSeats accepts_by places own
+seats_own nodes shared places firsts own same started is =
+    subst (λ (l : List (Place Secrets)). AreSeats accepts_by l own) (sym same)
+    (subst (AreSeats accepts_by shared) (sym is) (split_off_all accepts_by shared firsts (seats_of accepts_by shared 1 firsts (seats_started accepts_by 1 nodes shared firsts (omega arith) started))))
+
+pub own_count : (world : WorldView) (nodes : List (NodeView Secrets)) (shared : List (Place Secrets)) (firsts own : List (Stand Secrets)) → nodes ≡ nodes_of world → AreStarted accepts_by nodes shared firsts → own ≡ map split_off firsts →
+    length own ≡ length world.sites
+own_count world nodes shared firsts own is started own_is =
+    let long : length nodes ≡ length world.sites = ap length is ∙ length-map world.sites (λ (site : Site). site.node) in
+    let split : length own ≡ length firsts = ap length own_is ∙ length-map firsts split_off in
+    omega (arith, long, split, started.seats_count)
+
+-- lines that were played by one thread
+pub played_by_one : (members : MemberList) (lines : List Line) (world now : WorldView) (printed : List Printed) → world ≡ new_world members → TellsLines (seen_alone world) (seen_alone now) members lines printed →
+    IsPlayed members lines now printed
+played_by_one members lines world now printed is told =
+    let first = told tt world refl (ap starts_of is ∙ starts-new members) in
+    record {
+      world = subst (λ (w : WorldView). WorldsAlike now (after_lines members (stage w [] []) lines).world) is (subst (WorldsAlike now) first.1 (worlds_alike now));
+      pieces = first.0 ∙ ap (λ (w : WorldView). (after_lines members (stage w [] []) lines).printed) is;
+    }

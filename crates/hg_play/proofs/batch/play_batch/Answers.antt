@@ -1,0 +1,70 @@
+use Rattle.std.proofs.Common.{rules, arith, sym, subst, ◌≡◌, ◌∙◌, ap, ◌+◌, map, length, get_or}
+use Rattle.std.specs.Prelude.{IfOk}
+use Rattle.hg_model.specs.Signing.{accepts_by}
+use Rattle.hg_board.specs.Calls.{split_off}
+use Rattle.hg_crowd.specs.Crowd.{Each}
+use Rattle.hg_crowd.specs.Workers.{HasMore}
+use Rattle.hg_crowd.proofs.CrowdLaws.{has_again, seats_started}
+use Rattle.hg_play.specs.Through.{IsPartLine, TellsThrough}
+use Rattle.hg_play.proofs.BatchLaws.{batch_count, batch_told, ends_of_one_list, has_beside, own_count, seats_own, the_run}
+use Rattle.hg_play.proofs.batch.play_batch.Goals as goal
+
+pub split_all-requires : goal.split_all-requires
+split_all-requires g c =
+    subst (λ l. Each (HasMore accepts_by 1) l c.in_ok-shared.seats.items) (sym c.as_slice.ensures.value)
+    (seats_started accepts_by 1 c.into_nodes.result.items c.in_ok-shared.shared.items c.in_ok-shared.seats.items (omega arith) c.in_ok-shared.ensures)
+
+pub join-own-requires-after_bounds : goal.join-own-requires-after_bounds
+join-own-requires-after_bounds g c κs within = ?
+
+pub work_beside-seats-requires-clause-seats : goal.work_beside-seats-requires-clause-seats
+work_beside-seats-requires-clause-seats g c κs within =
+    let places = c.as_slice-places.result.now in
+    let few = c.requires.few in
+    let had = has_beside c.args.workers c.into_nodes.result.items c.in_ok-shared.shared.items places c.in_ok-shared.seats.items c.split_all.new.seats.items
+      c.as_slice-places.ensures.value (omega (arith, few)) c.in_ok-shared.ensures c.in_ok-own.ensures.old in
+    has_again accepts_by c.args.workers places c.split_all.new.seats.items c.join-own.result.1.0.items c.join-own.result.0.0.items c.absorb_all.new.seats.items had
+    c.join-own.ensures.second.1 c.join-own.ensures.second.0 c.absorb_all.ensures
+
+pub from_nodes-requires : goal.from_nodes-requires
+from_nodes-requires g c =
+    let nodes = c.into_nodes.result.items in
+    let shared = c.in_ok-shared.shared.items in
+    let places = c.as_slice-places.result.now in
+    let called = c.join-own.result.0.0.items in
+    let ends = c.in_ok-nodes.nodes.items in
+    let run = the_run nodes shared places c.in_ok-shared.seats.items c.split_all.new.seats.items c.in_ok-own.own.items called c.join-own.result.1.0.items c.absorb_all.new.seats.items
+      c.work_beside-seats.result.0.items ends c.as_slice-places.ensures.value c.in_ok-shared.ensures c.in_ok-own.ensures.old c.in_ok-own.ensures.new c.join-own.ensures.first.0 c.join-own.ensures.first.1.0
+      c.join-own.ensures.second.1 c.absorb_all.ensures c.work_beside-seats.ensures.worked c.in_ok-nodes.ensures in
+    ends_of_one_list nodes places called ends run c.into_nodes.ensures.lawful
+
+pub returns-clause-count : goal.returns-clause-count
+returns-clause-count g c =
+    let nodes = c.into_nodes.result.items in
+    let shared = c.in_ok-shared.shared.items in
+    let places = c.as_slice-places.result.now in
+    let called = c.join-own.result.0.0.items in
+    let ends = c.in_ok-nodes.nodes.items in
+    let run = the_run nodes shared places c.in_ok-shared.seats.items c.split_all.new.seats.items c.in_ok-own.own.items called c.join-own.result.1.0.items c.absorb_all.new.seats.items
+      c.work_beside-seats.result.0.items ends c.as_slice-places.ensures.value c.in_ok-shared.ensures c.in_ok-own.ensures.old c.in_ok-own.ensures.new c.join-own.ensures.first.0 c.join-own.ensures.first.1.0
+      c.join-own.ensures.second.1 c.absorb_all.ensures c.work_beside-seats.ensures.worked c.in_ok-nodes.ensures in
+    batch_count c.args.world c.in-Ok.world nodes places called ends c.into_nodes.ensures.nodes run c.in-Ok.ensures.ok
+
+pub returns-clause-told : goal.returns-clause-told
+returns-clause-told g c =
+    let nodes = c.into_nodes.result.items in
+    let shared = c.in_ok-shared.shared.items in
+    let places = c.as_slice-places.result.now in
+    let called = c.join-own.result.0.0.items in
+    let ends = c.in_ok-nodes.nodes.items in
+    let own = c.in_ok-own.own.items in
+    let members = c.args.members.now in
+    let lines = c.args.lines.now in
+    let labels = c.args.labels.items in
+    let printed = c.args.printed.items in
+    let run = the_run nodes shared places c.in_ok-shared.seats.items c.split_all.new.seats.items own called c.join-own.result.1.0.items c.absorb_all.new.seats.items
+      c.work_beside-seats.result.0.items ends c.as_slice-places.ensures.value c.in_ok-shared.ensures c.in_ok-own.ensures.old c.in_ok-own.ensures.new c.join-own.ensures.first.0 c.join-own.ensures.first.1.0
+      c.join-own.ensures.second.1 c.absorb_all.ensures c.work_beside-seats.ensures.worked c.in_ok-nodes.ensures in
+    let told = subst (λ r. IfOk r (λ v. TellsThrough members lines places own labels printed called v.0.items v.1.items)) c.in_ok-labels.was c.join-own.ensures.first.1.1 in
+    let through = subst (λ l. TellsThrough members lines places l labels printed called c.in_ok-labels.labels.items c.in_ok-labels.printed.items) c.in_ok-own.ensures.new told in
+    batch_told members lines c.args.world c.in-Ok.world nodes places called ends labels c.in_ok-labels.labels.items printed c.in_ok-labels.printed.items c.into_nodes.ensures.nodes run c.in-Ok.ensures.ok through

@@ -1,0 +1,43 @@
+-- Lines that are played over a world whose nodes are those of a stage but for marks, some of them between threads
+use Rattle.std.specs.Prelude.{ℕ, ◌≡◌, ◌<◌, ◌≤◌, Bool, true, false, List, length, take, get_or}
+use Rattle.hg_model.specs.declared.outcome.Printed.{Printed}
+use Rattle.hg_model.specs.Members.{MemberList}
+use Rattle.hg_script.specs.declared.line.Action.{Action}
+use Rattle.hg_script.specs.declared.line.Action.TheVariants as action
+use Rattle.hg_script.specs.declared.line.Line.{Line}
+use Rattle.hg_world.specs.World.{WorldView}
+use Rattle.hg_play.specs.Alike.{WorldsAlike}
+use Rattle.hg_play.specs.Play.{Stage, after_lines, first_stage}
+use Rattle.hg_play.specs.Through.{IsOfRows, IsStageLike}
+
+-- the world's nodes, the labels and what was printed are those of the stage after these lines, where they were those of a
+-- stage before
+abbrev pub TellsBatch : MemberList → List Line → WorldView → List (List ℕ) → List Printed → WorldView → List (List ℕ) → List Printed → Type 0
+TellsBatch members lines old labels printed new labels_new printed_new =
+    (s : Stage) → IsStageLike members old labels printed s → IsStageLike members new labels_new printed_new (after_lines members s lines)
+
+-- the line may stand in a batch: it is of gossip, or makes a label
+abbrev pub is_part : Action → Bool
+is_part (action.Gossip g) = true
+is_part (action.Label source) = true
+is_part _ = false
+
+abbrev pub IsPartBelow : List Line → ℕ → Type 0
+IsPartBelow lines count = (k : ℕ) (line : Line) → k < count → is_part (get_or lines k line).action ≡ true
+
+-- the line's number may be put beside marks
+abbrev pub IsLineOfRows : Line → Type 0
+IsLineOfRows line = IsOfRows line.action
+
+-- the lines from one on up to another were played
+pub record PlaysNext (members : MemberList) (lines : List Line) (from : ℕ) (old : WorldView) (labels : List (List ℕ)) (printed : List Printed) (new : WorldView) (labels_new : List (List ℕ)) (printed_new : List Printed) (to : ℕ) : Type 0 where
+  pub further : from < to
+  pub within : to ≤ length lines
+  pub count : length new.sites ≡ length old.sites
+  pub told : (s : Stage) → IsStageLike members old labels printed (after_lines members s (take from lines)) →
+      IsStageLike members new labels_new printed_new (after_lines members s (take to lines))
+
+-- all lines were played over the members' nodes: what they print, and the nodes but for marks
+pub record IsPlayed (members : MemberList) (lines : List Line) (new : WorldView) (printed : List Printed) : Type 0 where
+  pub world : WorldsAlike new (after_lines members (first_stage members) lines).world
+  pub pieces : printed ≡ (after_lines members (first_stage members) lines).printed
