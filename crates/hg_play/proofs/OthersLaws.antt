@@ -107,7 +107,7 @@ module _ (p : Place Secrets) (old new : Stand Secrets) (others own : List Change
       let q : ℕ = length old.seen + k in
       let here : q < length (old.seen ++ others) = omega (arith, long, low) in
       let m = mark q (omega (arith, prefix_length p.start.history old.seen seat.begun)) (omega (arith, here, ap length called.seen, length-append (old.seen ++ others) own))
-          (times_mine q here (times_past (length old.seen) q old.mine seat.within (omega arith))) in
+      (times_mine q here (times_past (length old.seen) q old.mine seat.within (omega arith))) in
       (m.0, m.1, sym (get_back old.seen others k) ∙ (sym (get_front (old.seen ++ others) own q here) ∙ (ap (λ (h : List Change). slice_get h q) (sym called.seen) ∙ m.2))))
 
   -- what others made of the node is alike

@@ -9,9 +9,7 @@ use crate::nodes::Nodes;
 use crate::seats::{held_at, make_at, missing_at, put_at};
 use hg_board::{Seat, Shared};
 use hg_gossip::{Taken, sync_made, with_answer};
-use hg_model::{
-    Bytes, MakeAnswer, Member, Memory, Name, Parcel, PutAnswer, SyncMade, SyncReport,
-};
+use hg_model::{Bytes, MakeAnswer, Member, Memory, Name, Parcel, PutAnswer, SyncMade, SyncReport};
 use hg_sign::SharedTable;
 use std::alloc::Global;
 use std::marker::Model;
@@ -205,11 +203,6 @@ impl<'a, R: Wait> Nodes for SharedNodes<'a, R> {
     fn last_bytes(&mut self, alloc: Global, member: Member) -> Result<Bytes, Memory> {
         let parcel = self.missing(member, &[])?;
         let names = self.held(member)?;
-        last_beside(
-            alloc,
-            names.as_slice(),
-            parcel.rows.as_slice(),
-            parcel.last,
-        )
+        last_beside(alloc, names.as_slice(), parcel.rows.as_slice(), parcel.last)
     }
 }

@@ -118,6 +118,8 @@ pub(crate) fn play_through<R: Wait, G: Gate>(
     ensures played { IfOk result.1 (λ r. TellsThrough members.now lines.now shared.now seats.items labels.items printed.items result.0.items r.0.items r.1.items) }
 {
     let mut nodes = SharedNodes::new(rt, alloc, shared, seats);
-    let played = play_parts(alloc, members, keys, &mut nodes, labels, printed, lines, gate);
+    let played = play_parts(
+        alloc, members, keys, &mut nodes, labels, printed, lines, gate,
+    );
     (nodes.into_seats(), played)
 }
