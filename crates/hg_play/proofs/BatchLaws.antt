@@ -50,17 +50,17 @@ seen_first world w nodes places firsts is started alike =
     record {
       count = omega (arith, alike.count, long, split, started.seats_count);
       nodes = λ m p s low.
-        let there : m < length firsts = omega (arith, low, split) in
-        let inside : m < length nodes = omega (arith, there, started.seats_count) in
-        let here : m < length world.sites = omega (arith, inside, long) in
-        let v : NodeView Secrets = node_at world m in
-        let first = started.each m v p s inside in
-        let node : get_or nodes m v ≡ v = ap (λ (ns : List (NodeView Secrets)). get_or ns m v) is ∙ node_of world m v here in
-        let seat : get_or (map split_off firsts) m s ≡ split_off (get_or firsts m s) = get_or-map split_off firsts m s s there in
-        let same : node_seen (get_or places m p) (get_or (map split_off firsts) m s) ≡ v =
+          let there : m < length firsts = omega (arith, low, split) in
+          let inside : m < length nodes = omega (arith, there, started.seats_count) in
+          let here : m < length world.sites = omega (arith, inside, long) in
+          let v : NodeView Secrets = node_at world m in
+          let first = started.each m v p s inside in
+          let node : get_or nodes m v ≡ v = ap (λ (ns : List (NodeView Secrets)). get_or ns m v) is ∙ node_of world m v here in
+          let seat : get_or (map split_off firsts) m s ≡ split_off (get_or firsts m s) = get_or-map split_off firsts m s s there in
+          let same : node_seen (get_or places m p) (get_or (map split_off firsts) m s) ≡ v =
           same_node (get_or places m p) (get_or (map split_off firsts) m s) v (first.start ∙ node) (ap (λ (t : Stand Secrets). t.seen) seat ∙ (first.seen ∙ ap (λ (u : NodeView Secrets). u.history) node)) in
-        let other = alike.nodes m in
-        subst (AreAlike (node_at w m)) (sym same) (record { start = sym other.start; rows = sym other.rows });
+          let other = alike.nodes m in
+          subst (AreAlike (node_at w m)) (sym same) (record { start = sym other.start; rows = sym other.rows });
     }
 
 -- nodes that ended so are alike with those that their seats have seen
@@ -97,20 +97,24 @@ module _ (new w : WorldView) (places : List (Place Secrets)) (called : List (Sta
 -- nodes that began as those of one list did
 same_start : (nodes ends : List (NodeView Secrets)) → length ends ≡ length nodes → ((m : ℕ) → m < length ends → (nth_node ends m).start ≡ (nth_node nodes m).start) → AreOfOneList nodes → AreOfOneList ends
 same_start nodes ends long starts of =
-    let each = of.3 in
-    (of.0, of.1, of.2, record {
-      some = omega (arith, each.some, long);
-      count = long ∙ each.count;
-      each = λ m low.
-        let was = each.each m (omega (arith, low, long)) in
-        let same = starts m low in
-        record {
-          own = ap (λ (s : Start Secrets). s.own) same ∙ was.own;
-          members = ap (λ (s : Start Secrets). s.members) same ∙ was.members;
-          coin = ap (λ (s : Start Secrets). s.coin) same ∙ was.coin;
-          keyed = ap (λ (s : Start Secrets). s.keys) same ∙ was.keyed;
-        };
-    })
+    let each = of.3 in (
+      of.0,
+      of.1,
+      of.2,
+      record {
+        some = omega (arith, each.some, long);
+        count = long ∙ each.count;
+        each = λ m low.
+            let was = each.each m (omega (arith, low, long)) in
+            let same = starts m low in
+            record {
+              own = ap (λ (s : Start Secrets). s.own) same ∙ was.own;
+              members = ap (λ (s : Start Secrets). s.members) same ∙ was.members;
+              coin = ap (λ (s : Start Secrets). s.coin) same ∙ was.coin;
+              keyed = ap (λ (s : Start Secrets). s.keys) same ∙ was.keyed;
+            };
+      },
+    )
 
 pub ends_of_one_list : (nodes : List (NodeView Secrets)) (places : List (Place Secrets)) (called : List (Stand Secrets)) (ends : List (NodeView Secrets)) →
     IsRun accepts_by nodes places called ends → AreOfOneList nodes → AreOfOneList ends
@@ -119,9 +123,9 @@ ends_of_one_list nodes places called ends run of =
     let started = run.started in
     let long : length ends ≡ length nodes = omega (arith, ended.places_count, started.places_count) in
     same_start nodes ends long (λ m low.
-      let p : Place Secrets = some_of places m (omega (arith, low, ended.places_count)) in
-      let s : Stand Secrets = some_of called m (omega (arith, low, ended.called_count)) in
-      (ended.each m p s no_node low).start ∙ ap (λ (v : NodeView Secrets). v.start) (started.each m no_node p s (omega (arith, low, long))).start) of
+    let p : Place Secrets = some_of places m (omega (arith, low, ended.places_count)) in
+    let s : Stand Secrets = some_of called m (omega (arith, low, ended.called_count)) in
+    (ended.each m p s no_node low).start ∙ ap (λ (v : NodeView Secrets). v.start) (started.each m no_node p s (omega (arith, low, long))).start) of
 
 -- what comes of a batch
 pub batch_told : (members : MemberList) (lines : List Line) (world new : WorldView) (nodes : List (NodeView Secrets)) (places : List (Place Secrets)) (called : List (Stand Secrets)) (ends : List (NodeView Secrets))
@@ -201,9 +205,9 @@ plays_batch members lines batch rest from count old new labels labels_new printe
   within = omega (arith, few, long);
   count = same;
   told = λ s at.
-    let behind : after_lines members s (take (from + count) lines) ≡ after_lines members (after_lines members s (take from lines)) batch =
+      let behind : after_lines members s (take (from + count) lines) ≡ after_lines members (after_lines members s (take from lines)) batch =
       after_more members s lines from count ∙ ap (λ (ls : List Line). after_lines members (after_lines members s (take from lines)) ls) (sym (is ∙ ap (take count) is_rest)) in
-    subst (IsStageLike members new labels_new printed_new) (sym behind) (told (after_lines members s (take from lines)) at);
+      subst (IsStageLike members new labels_new printed_new) (sym behind) (told (after_lines members s (take from lines)) at);
 }
 
 pub plays_line : (members : MemberList) (lines : List Line) (line : Line) (from : ℕ) (old new : WorldView) (labels labels_new : List (List ℕ)) (printed printed_new : List Printed) →
@@ -214,10 +218,10 @@ plays_line members lines line from old new labels labels_new printed printed_new
   within = omega (arith, low);
   count = same;
   told = λ s at.
-    let before = after_lines members s (take from lines) in
-    let behind : after_lines members s (take (from + 1) lines) ≡ after_line members before line =
+      let before = after_lines members s (take from lines) in
+      let behind : after_lines members s (take (from + 1) lines) ≡ after_line members before line =
       fold_more (after_line members) s lines from line low ∙ ap (after_line members before) (sym is) in
-    subst (IsStageLike members new labels_new printed_new) (sym behind) (line_like members line old new labels labels_new printed printed_new of told before at);
+      subst (IsStageLike members new labels_new printed_new) (sym behind) (line_like members line old new labels labels_new printed printed_new of told before at);
 }
 
 -- lines that may stand in a batch are parts

@@ -126,9 +126,9 @@ ends members lines world last printed before pieces new below played told is_las
     let is_run : run ≡ after_steps (new_world members) all = play-steps members lines run refl in
     let count : length members.entries ≡ length (new_world members).sites = sym (starts_length members (new_world members) (starts-new members)) in
     let may : AllByRecursion (IsStepOf (new_world members)) all =
-      of_world (new_world members) (length members.entries) all count
-      (both (length members.entries) (lines_steps members (first_stage members) lines) tail (steps_below (length members.entries) members (first_stage members) lines below)
-      (ends_below (length members.entries) members (length members.entries) (omega arith))) in
+    of_world (new_world members) (length members.entries) all count
+    (both (length members.entries) (lines_steps members (first_stage members) lines) tail (steps_below (length members.entries) members (first_stage members) lines below)
+    (ends_below (length members.entries) members (length members.entries) (omega arith))) in
     let events : HaveEvents run = λ m low. subst AreEvents (alike.nodes m).rows (worlds_have_events last is_last m (omega (arith, low, alike.count))) in
     let lawful : IsWorld run = subst IsWorld (sym is_run) (steps_lawful (new_world members) all new may (subst HaveEvents is_run events)) in
     let so : IsSafePlay members lines = safe-play members lines run refl (safe run lawful) in

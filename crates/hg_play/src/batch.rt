@@ -51,14 +51,21 @@ fn play_batch<R: Threads + Wait + Sync, C: Crew + Sync, G: Gate + Sync>(
     let places = shared.as_slice();
     let ((own, played), (mut seats, _)) = join(
         rt,
-        move || -> (Vec<Seat<SharedTable>>, Result<(Vec<Bytes>, Vec<Printed>), Memory>)
+        move || -> (
+            Vec<Seat<SharedTable>>,
+            Result<(Vec<Bytes>, Vec<Printed>), Memory>,
+        )
             requires seats { AreSeats accepts_by places.now own.items }
             requires lines { All (IsPartLine (length own.items)) lines.now }
             requires keys { keys.now ≡ secrets_of members.now }
             ensures seats { AreSeats accepts_by places.entry.now result.0.items }
             ensures still { AreStill own.items result.0.items }
             ensures played { IfOk result.1 (λ r. TellsThrough members.entry.now lines.entry.now places.entry.now own.items labels.items printed.items result.0.items r.0.items r.1.items) }
-        { play_through(rt, alloc, members, keys, places, own, labels, printed, lines, gate) },
+        {
+            play_through(
+                rt, alloc, members, keys, places, own, labels, printed, lines, gate,
+            )
+        },
         move || -> (Vec<Seat<SharedTable>>, Result<(), Memory>)
             requires seats { Each (HasMore accepts_by workers) places.now seats.items }
             requires some { 0 < workers }
@@ -122,12 +129,21 @@ fn play_next<R: Threads + Wait + Sync, C: Crew + Sync, G: Gate + Sync>(
     let (_, rest) = lines.split_at(from);
     let count = batch_len(rest);
     if count == 0 {
-        play_line(alloc, members, keys, &mut world, &mut labels, &mut printed, &lines[from])?;
+        play_line(
+            alloc,
+            members,
+            keys,
+            &mut world,
+            &mut labels,
+            &mut printed,
+            &lines[from],
+        )?;
         return Ok((world, labels, printed, from + 1));
     }
     let (batch, _) = rest.split_at(count);
-    let (world, labels, printed) =
-        play_batch(rt, alloc, members, keys, world, labels, printed, batch, workers, crew, gate)?;
+    let (world, labels, printed) = play_batch(
+        rt, alloc, members, keys, world, labels, printed, batch, workers, crew, gate,
+    )?;
     Ok((world, labels, printed, from + count))
 }
 

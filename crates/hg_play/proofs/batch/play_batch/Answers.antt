@@ -15,14 +15,30 @@ split_all-requires g c =
     (seats_started accepts_by 1 c.into_nodes.result.items c.in_ok-shared.shared.items c.in_ok-shared.seats.items (omega arith) c.in_ok-shared.ensures)
 
 pub join-own-requires-after_bounds : goal.join-own-requires-after_bounds
-join-own-requires-after_bounds g c κs within = ?
+join-own-requires-after_bounds g c κs within =
+    let nodes = c.into_nodes.result.items in
+    let shared = c.in_ok-shared.shared.items in
+    let places = c.as_slice-places.result.now in
+    let firsts = c.in_ok-shared.seats.items in
+    let own = c.in_ok-own.own.items in
+    let few = c.requires.few in
+    let long = own_count c.args.world nodes shared firsts own c.into_nodes.ensures.nodes c.in_ok-shared.ensures c.in_ok-own.ensures.new in (
+      (
+        seats_own nodes shared places firsts own c.as_slice-places.ensures.value c.in_ok-shared.ensures c.in_ok-own.ensures.new,
+        (λ k d low. subst (λ n. IsPartLine n (get_or c.args.lines.now k d)) (sym long) (c.requires.lines k d low), c.requires.keys),
+      ),
+      (
+        has_beside c.args.workers nodes shared places firsts c.split_all.new.seats.items c.as_slice-places.ensures.value (omega (arith, few)) c.in_ok-shared.ensures c.in_ok-own.ensures.old,
+        (c.requires.some, (search rules, search rules)),
+      ),
+    )
 
 pub work_beside-seats-requires-clause-seats : goal.work_beside-seats-requires-clause-seats
 work_beside-seats-requires-clause-seats g c κs within =
     let places = c.as_slice-places.result.now in
     let few = c.requires.few in
     let had = has_beside c.args.workers c.into_nodes.result.items c.in_ok-shared.shared.items places c.in_ok-shared.seats.items c.split_all.new.seats.items
-      c.as_slice-places.ensures.value (omega (arith, few)) c.in_ok-shared.ensures c.in_ok-own.ensures.old in
+    c.as_slice-places.ensures.value (omega (arith, few)) c.in_ok-shared.ensures c.in_ok-own.ensures.old in
     has_again accepts_by c.args.workers places c.split_all.new.seats.items c.join-own.result.1.0.items c.join-own.result.0.0.items c.absorb_all.new.seats.items had
     c.join-own.ensures.second.1 c.join-own.ensures.second.0 c.absorb_all.ensures
 
@@ -34,8 +50,8 @@ from_nodes-requires g c =
     let called = c.join-own.result.0.0.items in
     let ends = c.in_ok-nodes.nodes.items in
     let run = the_run nodes shared places c.in_ok-shared.seats.items c.split_all.new.seats.items c.in_ok-own.own.items called c.join-own.result.1.0.items c.absorb_all.new.seats.items
-      c.work_beside-seats.result.0.items ends c.as_slice-places.ensures.value c.in_ok-shared.ensures c.in_ok-own.ensures.old c.in_ok-own.ensures.new c.join-own.ensures.first.0 c.join-own.ensures.first.1.0
-      c.join-own.ensures.second.1 c.absorb_all.ensures c.work_beside-seats.ensures.worked c.in_ok-nodes.ensures in
+    c.work_beside-seats.result.0.items ends c.as_slice-places.ensures.value c.in_ok-shared.ensures c.in_ok-own.ensures.old c.in_ok-own.ensures.new c.join-own.ensures.first.0 c.join-own.ensures.first.1.0
+    c.join-own.ensures.second.1 c.absorb_all.ensures c.work_beside-seats.ensures.worked c.in_ok-nodes.ensures in
     ends_of_one_list nodes places called ends run c.into_nodes.ensures.lawful
 
 pub returns-clause-count : goal.returns-clause-count
@@ -46,8 +62,8 @@ returns-clause-count g c =
     let called = c.join-own.result.0.0.items in
     let ends = c.in_ok-nodes.nodes.items in
     let run = the_run nodes shared places c.in_ok-shared.seats.items c.split_all.new.seats.items c.in_ok-own.own.items called c.join-own.result.1.0.items c.absorb_all.new.seats.items
-      c.work_beside-seats.result.0.items ends c.as_slice-places.ensures.value c.in_ok-shared.ensures c.in_ok-own.ensures.old c.in_ok-own.ensures.new c.join-own.ensures.first.0 c.join-own.ensures.first.1.0
-      c.join-own.ensures.second.1 c.absorb_all.ensures c.work_beside-seats.ensures.worked c.in_ok-nodes.ensures in
+    c.work_beside-seats.result.0.items ends c.as_slice-places.ensures.value c.in_ok-shared.ensures c.in_ok-own.ensures.old c.in_ok-own.ensures.new c.join-own.ensures.first.0 c.join-own.ensures.first.1.0
+    c.join-own.ensures.second.1 c.absorb_all.ensures c.work_beside-seats.ensures.worked c.in_ok-nodes.ensures in
     batch_count c.args.world c.in-Ok.world nodes places called ends c.into_nodes.ensures.nodes run c.in-Ok.ensures.ok
 
 pub returns-clause-told : goal.returns-clause-told
@@ -63,8 +79,8 @@ returns-clause-told g c =
     let labels = c.args.labels.items in
     let printed = c.args.printed.items in
     let run = the_run nodes shared places c.in_ok-shared.seats.items c.split_all.new.seats.items own called c.join-own.result.1.0.items c.absorb_all.new.seats.items
-      c.work_beside-seats.result.0.items ends c.as_slice-places.ensures.value c.in_ok-shared.ensures c.in_ok-own.ensures.old c.in_ok-own.ensures.new c.join-own.ensures.first.0 c.join-own.ensures.first.1.0
-      c.join-own.ensures.second.1 c.absorb_all.ensures c.work_beside-seats.ensures.worked c.in_ok-nodes.ensures in
+    c.work_beside-seats.result.0.items ends c.as_slice-places.ensures.value c.in_ok-shared.ensures c.in_ok-own.ensures.old c.in_ok-own.ensures.new c.join-own.ensures.first.0 c.join-own.ensures.first.1.0
+    c.join-own.ensures.second.1 c.absorb_all.ensures c.work_beside-seats.ensures.worked c.in_ok-nodes.ensures in
     let told = subst (λ r. IfOk r (λ v. TellsThrough members lines places own labels printed called v.0.items v.1.items)) c.in_ok-labels.was c.join-own.ensures.first.1.1 in
     let through = subst (λ l. TellsThrough members lines places l labels printed called c.in_ok-labels.labels.items c.in_ok-labels.printed.items) c.in_ok-own.ensures.new told in
     batch_told members lines c.args.world c.in-Ok.world nodes places called ends labels c.in_ok-labels.labels.items printed c.in_ok-labels.printed.items c.into_nodes.ensures.nodes run c.in-Ok.ensures.ok through

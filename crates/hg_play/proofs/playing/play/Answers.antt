@@ -16,7 +16,7 @@ returns-clause-outcome g c =
     let lines = c.args.lines.now in
     let before = c.in_ok-world.printed.items in
     let e = ends members lines c.in_ok-world.world c.push_blocks.new.world before before c.push_blocks.new.printed.items c.in_ok-world.ensures.new
-      (lines_below members c.args.workers (length members.entries) lines refl c.requires.lines) c.in_ok-world.ensures.played c.in_ok-push_blocks.ensures.told c.members.ensures.world in
+    (lines_below members c.args.workers (length members.entries) lines refl c.requires.lines) c.in_ok-world.ensures.played c.in_ok-push_blocks.ensures.told c.members.ensures.world in
     ap₂ (λ (ns : List (List ℕ)) (ps : List Printed). let o : Outcome = record { names = ns; printed = ps } in o) c.in_ok-names.ensures
     (c.from_vec.ensures ∙ (e.shown ∙ ap (λ (ps : List Printed). ps ++ end_blocks members (after_lines members (first_stage members) lines).world) c.in_ok-world.ensures.played.pieces))
 
@@ -26,7 +26,7 @@ returns-clause-safe g c =
     let lines = c.args.lines.now in
     let before = c.in_ok-world.printed.items in
     let e = ends members lines c.in_ok-world.world c.push_blocks.new.world before before c.push_blocks.new.printed.items c.in_ok-world.ensures.new
-      (lines_below members c.args.workers (length members.entries) lines refl c.requires.lines) c.in_ok-world.ensures.played c.in_ok-push_blocks.ensures.told c.members.ensures.world in
+    (lines_below members c.args.workers (length members.entries) lines refl c.requires.lines) c.in_ok-world.ensures.played c.in_ok-push_blocks.ensures.told c.members.ensures.world in
     e.safely
 
 pub returns-clause-agree : goal.returns-clause-agree
@@ -35,5 +35,5 @@ returns-clause-agree g c =
     let lines = c.args.lines.now in
     let before = c.in_ok-world.printed.items in
     let e = ends members lines c.in_ok-world.world c.push_blocks.new.world before before c.push_blocks.new.printed.items c.in_ok-world.ensures.new
-      (lines_below members c.args.workers (length members.entries) lines refl c.requires.lines) c.in_ok-world.ensures.played c.in_ok-push_blocks.ensures.told c.members.ensures.world in
+    (lines_below members c.args.workers (length members.entries) lines refl c.requires.lines) c.in_ok-world.ensures.played c.in_ok-push_blocks.ensures.told c.members.ensures.world in
     e.agreeing
