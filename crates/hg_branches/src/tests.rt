@@ -60,6 +60,24 @@ fn agree(sight: &BranchSight, bits: &BitSight) -> bool {
     true
 }
 
+// The same of their first `len` rows, and of them with the next row.
+fn agree_at_first(sight: &BranchSight, bits: &BitSight, len: usize) -> Result<bool, Memory> {
+    if sight.rows() <= len || bits.rows() <= len {
+        return Ok(false);
+    }
+    let mut first = sight.prefix(len)?;
+    if !agree(&first, &bits.prefix(len)?) {
+        return Ok(false);
+    }
+    match FORKED.get(len) {
+        None => Ok(false),
+        Some((creator, pair)) => {
+            let fits = add(&mut first, on(*pair), *creator)?;
+            Ok(fits && agree(&first, &bits.prefix(len + 1)?))
+        }
+    }
+}
+
 // The fourth of four members forks on its first row, and the third holds both branches at the end.
 const FORKED: [(Member, Option<(usize, usize)>); 10] = [
     (2, None),
@@ -90,10 +108,7 @@ fn tells_what_bit_rows_tell(rt: HostRuntime) -> Result<(), Memory> {
         assert!(rt; sight.rows() == 10 && bits.rows() == 10);
         assert!(rt; agree(&sight, &bits), "every {every}");
         assert!(rt; sight.strongly_sees(9, 1) && !sight.strongly_sees(9, 0) && !sight.sees(9, 2));
-        let mut first = sight.prefix(7)?;
-        assert!(rt; agree(&first, &bits.prefix(7)?));
-        assert!(rt; add(&mut first, on(FORKED[7].1), 3)? && first.rows() == 8);
-        assert!(rt; agree(&first, &bits.prefix(8)?));
+        assert!(rt; agree_at_first(&sight, &bits, 7)? && agree_at_first(&sight, &bits, 0)?);
     }
     Ok(())
 }
