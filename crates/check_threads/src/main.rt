@@ -1,6 +1,6 @@
-//! Shares nodes between threads: once by hand, once so that two branches have to meet, and then in several hundred plays,
-//! in each of which one branch of a `join` puts and makes events through its seat, while a worker votes in the other. The
-//! node is compared with one that was alone.
+//! Shares nodes between threads: once by hand, once so that two branches have to meet, and then in several hundred
+//! plays, in each of which one branch of a `join` puts and makes events through its seat, while a worker votes in the
+//! other. The node is compared with one that was alone.
 //! It tells how many nodes were shared, and how many of them differ from what they must be.
 #![tactic(auto)]
 

@@ -1,6 +1,6 @@
-//! Two branches that wait for each other: a worker stays between its freeze and its election until the other branch has
-//! made its event, which that does once the worker has frozen. So no wait comes to its limit only where the worker has not
-//! the turn then, and the branches run beside each other.
+//! Two branches that wait for each other: a worker stays between its freeze and its election until the other branch
+//! has made its event, which that does once the worker has frozen. Where the worker has the turn then, or one branch
+//! runs after the other, a wait comes to its limit.
 
 use crate::beside::{AFTER, BEFORE};
 use hg_io::Gate;
