@@ -4,17 +4,22 @@ ghost use Rattle.std.specs.Prelude.{◌<◌, length};
 ghost use Rattle.hg_model.specs.NodeView.{node_rows};
 ghost use Rattle.hg_board.specs.Seats.{IsOf};
 
-use crate::players::{Player, is_same, node_of, played_alone};
-use crate::trouble::Trouble;
+use crate::players::Player;
 use hg_board::{Crew, Seat, Shared};
-use hg_io::{Gate, NoGate};
-use hg_model::{Members, Memory, Share};
+use hg_io::Gate;
+use hg_model::{Memory, Share};
 use hg_node::Node;
 use hg_sign::MacTable;
 use hg_workers::Voters;
 use std::alloc::Global;
 use std::sync::Wait;
 use std::thread::{Threads, join};
+
+/// The point before the first event is replayed.
+pub const BEFORE: u32 = 1000;
+
+/// The point after the last.
+pub const AFTER: u32 = 2000;
 
 /// How many turns the worker has.
 const TURNS: u32 = 4;
@@ -57,43 +62,46 @@ fn replay_rows<R: Wait>(
     Ok(())
 }
 
-/// The same with a seat that comes back.
-fn replay<R: Wait>(
+/// The same between the two points of a gate, with a seat that comes back.
+fn replay<R: Wait, G: Gate>(
     rt: &R,
     shared: &Shared<MacTable>,
     mut seat: Seat<MacTable>,
     alone: &Node<MacTable>,
+    gate: &G,
 ) -> (Seat<MacTable>, Result<(), Memory>)
     requires { IsOf shared.now seat }
     ensures { IsOf shared.now result.0 }
 {
+    gate.reach(BEFORE);
     let replayed = replay_rows(rt, shared, &mut seat, alone);
+    gate.reach(AFTER);
     (seat, replayed)
 }
 
-/// A worker's turns at a gate, with a seat that comes back.
-pub fn vote<R: Wait, G: Gate>(
+/// A worker's turns, with a seat that comes back.
+fn vote<R: Wait, G: Gate>(
     rt: &R,
     alloc: Global,
     shared: &Shared<MacTable>,
     mut seat: Seat<MacTable>,
     gate: &G,
-    turns: u32,
 ) -> (Seat<MacTable>, Result<u32, Memory>)
     requires { IsOf shared.now seat }
     ensures { IsOf shared.now result.0 }
 {
-    let whole = Share::new(0, 1);
-    let marked = Voters::new(gate).work(rt, alloc, shared, &mut seat, whole, turns);
+    let all = Share::new(0, 1);
+    let marked = Voters::new(gate).work(rt, alloc, shared, &mut seat, all, TURNS);
     (seat, marked)
 }
 
 /// One branch replays the events of a node that was alone, the other votes meanwhile.
-fn shared_beside<R: Threads + Wait + Sync>(
+pub fn shared_beside<R: Threads + Wait + Sync, G: Gate + Sync>(
     rt: &R,
     alloc: Global,
     node: Node<MacTable>,
     alone: &Node<MacTable>,
+    gate: &G,
 ) -> Result<Player, Memory> {
     let Ok((shared, mut seat)) = Shared::start(alloc, node) else {
         return Err(Memory);
@@ -105,11 +113,11 @@ fn shared_beside<R: Threads + Wait + Sync>(
         move || -> (Seat<MacTable>, Result<(), Memory>)
             requires { IsOf top.now seat }
             ensures { IsOf top.entry.now result.0 }
-        { replay(rt, top, seat, alone) },
+        { replay(rt, top, seat, alone, gate) },
         move || -> (Seat<MacTable>, Result<u32, Memory>)
             requires { IsOf top.now other }
             ensures { IsOf top.entry.now result.0 }
-        { vote(rt, alloc, top, other, &NoGate, TURNS) },
+        { vote(rt, alloc, top, other, gate) },
     );
     shared.absorb(&mut seat, other);
     let player = Player {
@@ -118,19 +126,4 @@ fn shared_beside<R: Threads + Wait + Sync>(
     replayed?;
     marked?;
     Ok(player)
-}
-
-/// Whether a node that was shared ends as one that was alone.
-pub fn is_as_alone<R: Threads + Wait + Sync>(
-    rt: &R,
-    alloc: Global,
-    members: &Members,
-    first: u64,
-) -> Result<bool, Trouble> {
-    let mut alone = played_alone(alloc, members, first)?;
-    let node = node_of(alloc, members, 0)?;
-    let mut shared = shared_beside(rt, alloc, node, &alone.node)?;
-    alone.node.settle()?;
-    shared.node.settle()?;
-    Ok(is_same(&alone.node, &shared.node) && !alone.node.kept().is_empty())
 }

@@ -2,10 +2,9 @@
 
 ghost use Rattle.hg_board.specs.Seats.{IsOf};
 
-use crate::players::{Player, node_of};
-use crate::trouble::Trouble;
+use crate::players::Player;
 use hg_board::{Seat, Shared};
-use hg_model::{MakeAnswer, Members, Memory, Sight};
+use hg_model::{MakeAnswer, Memory, Row, Sight};
 use hg_node::Node;
 use hg_sign::MacTable;
 use std::alloc::Global;
@@ -25,6 +24,53 @@ fn makes_one<R: Wait>(
     Ok(made == MakeAnswer::Made(0) && frozen.rows() == 1)
 }
 
+/// Whether the names that are held are that of the row.
+fn tells_name<R: Wait>(
+    rt: &R,
+    alloc: Global,
+    shared: &Shared<MacTable>,
+    seat: &mut Seat<MacTable>,
+    row: &Row,
+) -> Result<bool, Memory>
+    requires { IsOf shared.now seat.old }
+    ensures { IsOf shared.now seat.new }
+{
+    let names = shared.held(rt, alloc, seat)?;
+    Ok(names.as_slice() == [row.name].as_slice())
+}
+
+/// Whether one that has nothing lacks just these bytes.
+fn tells_bytes<R: Wait>(
+    rt: &R,
+    alloc: Global,
+    shared: &Shared<MacTable>,
+    seat: &mut Seat<MacTable>,
+    bytes: &[u8],
+) -> Result<bool, Memory>
+    requires { IsOf shared.now seat.old }
+    ensures { IsOf shared.now seat.new }
+{
+    let parcel = shared.missing(rt, alloc, seat, &[])?;
+    Ok(match parcel.rows.as_slice() {
+        [first] => first.as_slice() == bytes,
+        _ => false,
+    })
+}
+
+/// Whether nothing is ordered.
+fn tells_no_order<R: Wait>(
+    rt: &R,
+    alloc: Global,
+    shared: &Shared<MacTable>,
+    seat: &mut Seat<MacTable>,
+) -> Result<bool, Memory>
+    requires { IsOf shared.now seat.old }
+    ensures { IsOf shared.now seat.new }
+{
+    let order = shared.kept_copy(rt, alloc, seat)?;
+    Ok(order.is_empty())
+}
+
 /// Whether what is read through the seat is what a node that was alone has, which made its first event.
 fn tells_one<R: Wait>(
     rt: &R,
@@ -39,19 +85,14 @@ fn tells_one<R: Wait>(
     if alone.rows() != 1 {
         return Ok(false);
     }
-    let names = shared.held(rt, alloc, seat)?;
-    let parcel = shared.missing(rt, alloc, seat, &[])?;
-    let order = shared.kept_copy(rt, alloc, seat)?;
-    let has_name = names.as_slice() == [alone.row(0).name].as_slice();
-    let has_bytes = match parcel.rows.as_slice() {
-        [bytes] => bytes.as_slice() == alone.bytes(0),
-        _ => false,
-    };
-    Ok(has_name && has_bytes && order.is_empty())
+    let has_name = tells_name(rt, alloc, shared, seat, alone.row(0))?;
+    let has_bytes = tells_bytes(rt, alloc, shared, seat, alone.bytes(0))?;
+    let has_no_order = tells_no_order(rt, alloc, shared, seat)?;
+    Ok(has_name && has_bytes && has_no_order)
 }
 
-/// Whether the node has one row in the end, and its seats told what they must.
-fn plays<R: Wait>(
+/// Whether the node has one row in the end, as the one that was alone, and its seats told what they must.
+pub fn is_as_by_hand<R: Wait>(
     rt: &R,
     alloc: Global,
     node: Node<MacTable>,
@@ -68,18 +109,4 @@ fn plays<R: Wait>(
         node: shared.finish(rt, second),
     };
     Ok(makes? && tells? && player.node.rows() == 1)
-}
-
-/// Whether a node that is shared by hand does what one does that is alone.
-pub fn is_as_by_hand<R: Wait>(
-    rt: &R,
-    alloc: Global,
-    members: &Members,
-) -> Result<bool, Trouble> {
-    let mut alone = Player {
-        node: node_of(alloc, members, 0)?,
-    };
-    alone.node.make(None, 1, b"")?;
-    let node = node_of(alloc, members, 0)?;
-    Ok(plays(rt, alloc, node, &alone.node)?)
 }

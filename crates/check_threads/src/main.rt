@@ -1,6 +1,6 @@
-//! Shares nodes between threads: once by hand, once so that two branches have to meet, and then in several hundred plays,
-//! in each of which one branch of a `join` puts and makes events through its seat, while a worker votes in the other. The
-//! node of a play is compared with one that was alone.
+//! Shares nodes between threads: once by hand, once so that two branches have to meet, and then in several hundred
+//! plays, in each of which one branch of a `join` puts and makes events through its seat, while a worker votes in the
+//! other. The node is compared with one that was alone.
 //! It tells how many nodes were shared, and how many of them differ from what they must be.
 #![tactic(auto)]
 
@@ -10,33 +10,77 @@ mod meeting;
 mod players;
 mod trouble;
 
-use crate::beside::is_as_alone;
+use crate::beside::shared_beside;
 use crate::by_hand::is_as_by_hand;
-use crate::meeting::is_meeting;
-use crate::players::two_members;
+use crate::meeting::Meeting;
+use crate::players::{Player, are_same, made_alone, node_of, played_alone, two_members};
 use crate::trouble::Trouble;
 use check_tally::{Tally, exit};
+use hg_io::{Gate, NoGate};
+use hg_model::Members;
+use std::alloc::Global;
 use std::process::ExitCode;
 use std::sync::Wait;
 use std::thread::Threads;
 
-/// How many nodes are shared beside a worker.
+/// How many nodes are shared in plays.
 const PLAYS: u64 = 300;
 
+/// Whether a node that is shared by hand does what one does that is alone.
+fn plays_by_hand<R: Wait>(rt: &R, alloc: Global, members: &Members) -> Result<bool, Trouble> {
+    let alone = made_alone(alloc, members)?;
+    let node = node_of(alloc, members, 0)?;
+    Ok(is_as_by_hand(rt, alloc, node, &alone.node)?)
+}
+
+/// Whether a node that is shared ends as the one that was alone, and has ordered so many events at least.
+fn ends_as_alone<R: Threads + Wait + Sync, G: Gate + Sync>(
+    rt: &R,
+    alloc: Global,
+    members: &Members,
+    alone: Result<Player, Trouble>,
+    least: usize,
+    gate: &G,
+) -> Result<bool, Trouble> {
+    let mut alone = alone?;
+    let node = node_of(alloc, members, 0)?;
+    let mut shared = shared_beside(rt, alloc, node, &alone.node, gate)?;
+    let same = are_same(&mut alone.node, &mut shared.node)?;
+    Ok(same && shared.node.kept().len() >= least)
+}
+
+/// Whether the two branches meet.
+fn meets<R: Threads + Wait + Sync>(
+    rt: &R,
+    alloc: Global,
+    members: &Members,
+) -> Result<bool, Trouble> {
+    let meeting = Meeting::new();
+    let alone = made_alone(alloc, members);
+    let same = ends_as_alone(rt, alloc, members, alone, 0, &meeting)?;
+    Ok(same && !meeting.is_late())
+}
+
 /// Shares all nodes, and tells how many there are, and how many differ from what they must be.
-fn share_all<R: AllocGlobal + Print + Threads + Wait + Sync>(rt: &R) -> Result<Tally, Trouble> {
-    let alloc = rt.alloc();
+fn share_all<R: Threads + Wait + Sync>(rt: &R, alloc: Global) -> Result<Tally, Trouble> {
     let members = two_members(alloc)?;
     let mut nodes = Tally::new()
-        .with(is_as_by_hand(rt, alloc, &members)?)
-        .with(is_meeting(rt, alloc, &members)?);
+        .with(plays_by_hand(rt, alloc, &members)?)
+        .with(meets(rt, alloc, &members)?);
     for first in 0..PLAYS {
-        nodes = nodes.with(is_as_alone(rt, alloc, &members, first)?);
+        let alone = played_alone(alloc, &members, first);
+        nodes = nodes.with(ends_as_alone(rt, alloc, &members, alone, 1, &NoGate)?);
     }
+    Ok(nodes)
+}
+
+/// The same, with its line.
+fn tell_all<R: AllocGlobal + Print + Threads + Wait + Sync>(rt: &R) -> Result<Tally, Trouble> {
+    let nodes = share_all(rt, rt.alloc())?;
     nodes.print(rt, "shared nodes")?;
     Ok(nodes)
 }
 
 fn main(rt: HostRuntime) -> ExitCode {
-    exit(share_all(&rt))
+    exit(tell_all(&rt))
 }

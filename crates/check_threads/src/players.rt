@@ -55,6 +55,12 @@ pub fn node_of(alloc: Global, members: &Members, own: Member) -> Result<Node<Mac
     Ok(Node::new(alloc, members, own, keys)?)
 }
 
+fn player_of(alloc: Global, members: &Members, own: Member) -> Result<Player, Trouble> {
+    Ok(Player {
+        node: node_of(alloc, members, own)?,
+    })
+}
+
 /// Puts all rows of the other node to this one, which then makes an event on the other's last.
 fn sync(node: &mut Node<MacTable>, other: &Node<MacTable>, time: u64) -> Result<(), Memory> {
     for place in 0..other.rows() {
@@ -75,20 +81,29 @@ fn play(a: &mut Node<MacTable>, b: &mut Node<MacTable>, first: u64) -> Result<()
     Ok(())
 }
 
+/// The node of A without rows, and that of B.
+fn two_players(alloc: Global, members: &Members) -> Result<(Player, Player), Trouble> {
+    let a = player_of(alloc, members, 0)?;
+    let b = player_of(alloc, members, 1)?;
+    Ok((a, b))
+}
+
 /// A as it is once it played with B, from this time on.
 pub fn played_alone(alloc: Global, members: &Members, first: u64) -> Result<Player, Trouble> {
-    let mut a = Player {
-        node: node_of(alloc, members, 0)?,
-    };
-    let mut b = Player {
-        node: node_of(alloc, members, 1)?,
-    };
+    let (mut a, mut b) = two_players(alloc, members)?;
     play(&mut a.node, &mut b.node, first)?;
     Ok(a)
 }
 
-/// Whether both nodes have the same rows, and keep the same order.
-pub fn is_same(one: &Node<MacTable>, other: &Node<MacTable>) -> bool {
+/// A as it is once it made its first event.
+pub fn made_alone(alloc: Global, members: &Members) -> Result<Player, Trouble> {
+    let mut a = player_of(alloc, members, 0)?;
+    a.node.make(None, 1, b"")?;
+    Ok(a)
+}
+
+/// Whether both nodes have the same rows.
+fn have_same_rows(one: &Node<MacTable>, other: &Node<MacTable>) -> bool {
     if one.rows() != other.rows() {
         return false;
     }
@@ -97,5 +112,12 @@ pub fn is_same(one: &Node<MacTable>, other: &Node<MacTable>) -> bool {
             return false;
         }
     }
-    one.kept() == other.kept()
+    true
+}
+
+/// Whether both nodes have the same rows and, once they are settled, the same order.
+pub fn are_same(one: &mut Node<MacTable>, other: &mut Node<MacTable>) -> Result<bool, Memory> {
+    one.settle()?;
+    other.settle()?;
+    Ok(have_same_rows(one, other) && one.kept() == other.kept())
 }

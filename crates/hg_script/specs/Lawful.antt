@@ -1,6 +1,6 @@
 -- What each line of a script that was read keeps to
 use Rattle.std.specs.Prelude.{◌≡◌, ◌≢◌, ◌<◌, ◌≤◌, ℕ, List, length, false, true, Option, None, Some, ⊤}
-use Rattle.std.specs.List.{list_any}
+use Rattle.std.specs.List.{All, list_any}
 use Rattle.std.specs.Str.{bytes_eq}
 use Rattle.hg_model.specs.Members.{MemberList, has_node}
 use Rattle.hg_model.specs.Spelling.{payload_limit}
@@ -57,6 +57,10 @@ IsWithWorkers workers _ = ⊤
 
 abbrev pub IsLine : MemberList → ℕ → Line → Type 0
 IsLine members workers line = IsLawful members line.action × IsWithWorkers workers line.action
+
+-- so is each line of these
+abbrev pub HasLawful : MemberList → ℕ → Above → Type 0
+HasLawful members workers above = All (IsLine members workers) above.lines
 
 -- a member that makes a first event has a number below 128
 abbrev pub IsLow : Action → Type 0

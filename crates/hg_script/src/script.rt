@@ -2,7 +2,7 @@ ghost use Rattle.std.specs.Prelude.{◌≡◌, All, IfOk, IfSome, OnOk};
 ghost use Rattle.std.specs.Str.{is_utf8};
 ghost use Rattle.std.specs.Str.Lines.{lines};
 ghost use Rattle.hg_script.specs.Words.{ReadsAs, bytes_in};
-ghost use Rattle.hg_script.specs.Lawful.{IsAllowed, IsLine};
+ghost use Rattle.hg_script.specs.Lawful.{HasLawful, IsAllowed, IsLine};
 ghost use Rattle.hg_model.specs.Results.{Gives};
 ghost use Rattle.hg_script.specs.Script as spec;
 
@@ -74,7 +74,7 @@ fn push_line<'a>(
     line: &'a [u8],
 ) -> Result<(), Stop<ScriptFault>>
     ensures read { Gives (λ _. above.new) result (spec.line_more members.now workers above.old number line.now) }
-    ensures lawful { All (IsLine members.now workers) above.old.lines → OnOk result (All (IsLine members.now workers) above.new.lines) }
+    ensures lawful { HasLawful members.now workers above.old → OnOk result (HasLawful members.now workers above.new) }
 {
     match line_of(alloc, members, workers, above, line) {
         Ok(Some(found)) => above.push(number, found)?,
