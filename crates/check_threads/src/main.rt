@@ -1,6 +1,6 @@
 //! Shares nodes between threads: once by hand, once so that two branches have to meet, and then in several hundred
 //! plays, in each of which one branch of a `join` puts and makes events through its seat, while a worker votes in the
-//! other. The node is compared with one that was alone.
+//! other. The node is compared with one that was alone. Two shared nodes sync through their seats, as two others do.
 //! It tells how many nodes were shared, and how many of them differ from what they must be.
 #![tactic(auto)]
 
@@ -8,12 +8,14 @@ mod beside;
 mod by_hand;
 mod meeting;
 mod players;
+mod seated;
 mod trouble;
 
 use crate::beside::shared_beside;
 use crate::by_hand::is_as_by_hand;
 use crate::meeting::Meeting;
 use crate::players::{Player, are_same, made_alone, node_of, played_alone, two_members};
+use crate::seated::{sync_alone, sync_by_seats};
 use crate::trouble::Trouble;
 use check_tally::{Tally, exit};
 use hg_io::{Gate, NoGate};
@@ -66,7 +68,9 @@ fn share_all<R: Threads + Wait + Sync>(rt: &R, alloc: Global) -> Result<Tally, T
     let members = two_members(alloc)?;
     let mut nodes = Tally::new()
         .with(plays_by_hand(rt, alloc, &members)?)
-        .with(meets(rt, alloc, &members)?);
+        .with(meets(rt, alloc, &members)?)
+        .with(sync_by_seats(rt, alloc, &members)?)
+        .with(sync_alone(alloc, &members)?);
     for first in 0..PLAYS {
         let alone = played_alone(alloc, &members, first);
         nodes = nodes.with(ends_as_alone(rt, alloc, &members, alone, 1, &NoGate)?);

@@ -81,8 +81,8 @@ fn play(a: &mut Node<MacTable>, b: &mut Node<MacTable>, first: u64) -> Result<()
     Ok(())
 }
 
-/// The node of A without rows, and that of B.
-fn two_players(alloc: Global, members: &Members) -> Result<(Player, Player), Trouble> {
+/// The nodes of A and of B, without rows.
+pub fn two_players(alloc: Global, members: &Members) -> Result<(Player, Player), Trouble> {
     let a = player_of(alloc, members, 0)?;
     let b = player_of(alloc, members, 1)?;
     Ok((a, b))
