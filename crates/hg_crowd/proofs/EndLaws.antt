@@ -1,5 +1,5 @@
 -- When all seats have come back: what was not done through the seat of the calls are marks
-use Rattle.std.proofs.Common.{◌≡◌, ℕ, ◌+◌, ◌-◌, ◌<◌, ◌≤◌, List, [], ◌∷◌, ◌++◌, length, map, get_or, refl, sym, ap, ◌∙◌, subst, arith}
+use Rattle.std.proofs.Common.{◌≡◌, ℕ, ◌+◌, ◌-◌, ◌<◌, ◌≤◌, Bool, List, [], ◌∷◌, ◌++◌, length, map, get_or, Some, refl, sym, ap, ap₂, ◌∙◌, subst, arith}
 use mathlib.Core.Logic.{dite}
 use native.Mathlib.Decide.{ℕ_discrete}
 use Rattle.std.proofs.lemmas.List.{get_or-map, length-map}
@@ -7,7 +7,12 @@ use Rattle.hg_model.specs.Orders.{IsPrefix}
 use Rattle.hg_model.specs.Signing.{Accepts}
 use Rattle.hg_model.specs.History.{Change, replay}
 use Rattle.hg_model.specs.NodeView.{NodeView, Start, node_rows}
-use Rattle.hg_history.proofs.StateLaws.{prefix_more}
+use Rattle.hg_model.specs.declared.row.Row.{Row}
+use Rattle.hg_model.specs.Links.{Link}
+use Rattle.hg_model.specs.Fame.{mark_at}
+use Rattle.hg_model.specs.Shares.{share_fame, whole}
+use Rattle.hg_history.proofs.StateLaws.{marks_stay, prefix_more}
+use Rattle.hg_board.specs.Crews.{MarksAll}
 use Rattle.hg_board.specs.Positions.{times, once_from}
 use Rattle.hg_board.specs.Table.{all_parts, node_at}
 use Rattle.hg_board.specs.Seats.{Place, Stand}
@@ -15,60 +20,126 @@ use Rattle.hg_board.specs.Calls.{Absorbs, IsStarted, IsWhole, after_split, split
 use Rattle.hg_board.proofs.PrefixLaws.{prefix_length}
 use Rattle.hg_board.proofs.PositionLaws.{times-append}
 use Rattle.hg_crowd.specs.Crowd.{IsEnded, IsMark, IsSeat, IsStill, OthersMark}
-use Rattle.hg_crowd.specs.Workers.{Worked}
-use Rattle.hg_crowd.specs.Laws.{AreEnded, IsRun, RunsEnd}
-use Rattle.hg_crowd.proofs.MarkLaws.{mark_among, mark_before, mark_later, none_past, once_within, rows_stay}
+use Rattle.hg_crowd.specs.Workers.{AllMark, HasAllMarks, Worked}
+use Rattle.hg_crowd.specs.Laws.{AreEnded, IsRun, RunsEnd, RunsMark}
+use Rattle.hg_crowd.proofs.MarkLaws.{mark_among, mark_before, mark_later, links_stay, none_past, once_within, rows_stay}
+use Rattle.hg_crowd.proofs.ListLaws.{some_of}
 
-module _ {V : Type 0} (accepts : V → Accepts) (p : Place V) where
-  -- one node
-  pub ended : (first called beside back last : Stand V) (begun node : NodeView V) → IsStarted accepts p begun first → IsStill (split_off first) called → IsSeat accepts p called →
-      Worked (after_split first) beside → Absorbs accepts p beside called back → Worked back last → IsWhole accepts p last node → IsEnded p called node
-  ended first called beside back last begun node started still seat worked absorbs again whole =
+module _ {V : Type 0} (accepts : V → Accepts) (p : Place V) (first called beside back last : Stand V) (begun node : NodeView V) (started : IsStarted accepts p begun first)
+    (still : IsStill (split_off first) called) (seat : IsSeat accepts p called) (worked : Worked (after_split first) beside) (absorbs : Absorbs accepts p beside called back)
+    (again : Worked back last) (whole_node : IsWhole accepts p last node) where
+  from_back : IsPrefix back.seen node.history
+  from_back = prefix_more back.seen last.seen node.history again.still.seen whole_node.seen
+
+  from_called : IsPrefix called.seen node.history
+  from_called = prefix_more called.seen back.seen node.history absorbs.ends from_back
+
+  -- what was not done through the seat of the calls are marks
+  marks_beside : (q : ℕ) → length p.start.history ≤ q → q < length node.history → times q called.mine ≡ 0 → IsMark node.history q
+  marks_beside q from below other =
       let h : List Change = node.history in
       let parts : last.parts ≡ all_parts = omega (arith, again.still.parts, absorbs.parts, worked.still.parts, still.parts, started.parts) in
       let beside_mine : beside.mine ≡ worked.more = worked.mine ∙ ap (λ (l : List ℕ). l ++ worked.more) started.mine in
       let mine : last.mine ≡ (worked.more ++ called.mine) ++ again.more =
-      again.mine ∙ ap (λ (l : List ℕ). l ++ again.more) (absorbs.mine ∙ ap (λ (l : List ℕ). l ++ called.mine) beside_mine) in
-      let from_back : IsPrefix back.seen h = prefix_more back.seen last.seen h again.still.seen whole.seen in
+        again.mine ∙ ap (λ (l : List ℕ). l ++ again.more) (absorbs.mine ∙ ap (λ (l : List ℕ). l ++ called.mine) beside_mine) in
       let from_beside : IsPrefix beside.seen h = prefix_more beside.seen back.seen h absorbs.begins from_back in
-      let from_called : IsPrefix called.seen h = prefix_more called.seen back.seen h absorbs.ends from_back in
-      let marks : (q : ℕ) → length p.start.history ≤ q → q < length h → times q called.mine ≡ 0 → IsMark h q = λ q from below other.
       dite (ℕ_discrete (times q worked.more) 0)
-      (λ none.
-      let not_theirs : times q worked.more ≡ 0 = none in
-      let once : times q last.mine ≡ 1 = whole.all parts q ∙ once_within (length p.start.history) (length h) q from below in
-      let split : times q last.mine ≡ (times q worked.more + times q called.mine) + times q again.more =
-      ap (times q) mine ∙ (times-append q (worked.more ++ called.mine) again.more ∙ ap (λ (n : ℕ). n + times q again.more) (times-append q worked.more called.mine)) in
-      mark_later last.seen h q whole.seen (mark_among last.seen again.more q again.marks (omega (arith, once, split, other, not_theirs))))
-      (λ some. mark_later beside.seen h q from_beside (mark_among beside.seen worked.more q worked.marks (omega (arith, some)))) in
-      let longer : length called.seen ≤ length h = prefix_length called.seen h from_called in
-      let begins : length p.start.history ≤ length called.seen = prefix_length p.start.history called.seen seat.begun in
+        (λ none.
+        let not_theirs : times q worked.more ≡ 0 = none in
+        let once : times q last.mine ≡ 1 = whole_node.all parts q ∙ once_within (length p.start.history) (length h) q from below in
+        let split : times q last.mine ≡ (times q worked.more + times q called.mine) + times q again.more =
+          ap (times q) mine ∙ (times-append q (worked.more ++ called.mine) again.more ∙ ap (λ (n : ℕ). n + times q again.more) (times-append q worked.more called.mine)) in
+        mark_later last.seen h q whole_node.seen (mark_among last.seen again.more q again.marks (omega (arith, once, split, other, not_theirs))))
+        (λ some. mark_later beside.seen h q from_beside (mark_among beside.seen worked.more q worked.marks (omega (arith, some))))
+
+  begins : length p.start.history ≤ length called.seen
+  begins = prefix_length p.start.history called.seen seat.begun
+
+  -- so are all behind what that seat has seen
+  marks_behind : (q : ℕ) → length called.seen ≤ q → q < length node.history → IsMark node.history q
+  marks_behind q past below = marks_beside q (omega (arith, begins, past)) below (none_past (length called.seen) q called.mine seat.within past)
+
+  -- one node
+  pub ended : IsEnded p called node
+  ended =
+      let longer : length called.seen ≤ length node.history = prefix_length called.seen node.history from_called in
       record {
-        start = whole.start;
-        others = λ q from below other. mark_before called.seen h q from_called below (marks q from (omega (arith, below, longer)) other);
-        rows = ap (λ (s : Start V). (replay s.members s.coin h).rows) whole.start
-            ∙ rows_stay p.start.start.members p.start.start.coin called.seen h from_called (λ q past below. marks q (omega (arith, begins, past)) below (none_past (length called.seen) q called.mine seat.within past));
+        start = whole_node.start;
+        others = λ q from below other. mark_before called.seen node.history q from_called below (marks_beside q from (omega (arith, below, longer)) other);
+        rows = ap (λ (s : Start V). (replay s.members s.coin node.history).rows) whole_node.start
+          ∙ rows_stay p.start.start.members p.start.start.coin called.seen node.history from_called marks_behind;
       }
+
+  -- its marks are those that the workers' last turn made, of all that its rows decide
+  pub ended_marked : MarksAll p whole back last → HasAllMarks node
+  ended_marked marked x famous decided =
+      let h : List Change = node.history in
+      let n = p.start.start.members in
+      let c = p.start.start.coin in
+      let shorter : length called.seen ≤ length back.seen = prefix_length called.seen back.seen absorbs.ends in
+      let behind : (q : ℕ) → length back.seen ≤ q → q < length h → IsMark h q = λ q past below. marks_behind q (omega (arith, shorter, past)) below in
+      let rows : (replay n c h).rows ≡ (replay n c back.seen).rows = rows_stay n c back.seen h from_back behind in
+      let ties : (replay n c h).links ≡ (replay n c back.seen).links = links_stay n c back.seen h from_back behind in
+      let here : share_fame n c (replay n c h).rows (replay n c h).links whole x ≡ Some famous =
+        subst (λ (s : Start V). share_fame s.members s.coin (replay s.members s.coin h).rows (replay s.members s.coin h).links whole x ≡ Some famous) whole_node.start decided in
+      let there : share_fame n c (replay n c back.seen).rows (replay n c back.seen).links whole x ≡ Some famous =
+        sym (ap₂ (λ (G : List Row) (L : List Link). share_fame n c G L whole x) rows ties) ∙ here in
+      let seen : mark_at (replay n c last.seen).marks x ≡ Some famous = marked x famous there in
+      let rest = whole_node.seen in
+      let all : mark_at (replay n c h).marks x ≡ Some famous =
+        ap (λ (l : List Change). mark_at (replay n c l).marks x) rest.1 ∙ marks_stay n c last.seen rest.0 x famous seen in
+      subst (λ (s : Start V). mark_at (replay s.members s.coin h).marks x ≡ Some famous) (sym whole_node.start) all
+
+-- the parts of a run at one node
+module _ {V : Type 0} (accepts : V → Accepts) (nodes : List (NodeView V)) (places : List (Place V)) (called : List (Stand V)) (ends : List (NodeView V)) (run : IsRun accepts nodes places called ends) (k : ℕ)
+    (p : Place V) (s : Stand V) (node : NodeView V) (inside : k < length ends) where
+  placed : k < length places
+  placed = omega (arith, inside, run.whole.places_count)
+
+  there : k < length run.firsts
+  there = omega (arith, placed, run.started.seats_count, run.started.places_count)
+
+  split_count : length (map split_off run.firsts) ≡ length run.firsts
+  split_count = length-map run.firsts split_off
+
+  after_count : length (map after_split run.firsts) ≡ length run.firsts
+  after_count = length-map run.firsts after_split
+
+  still_at : IsStill (split_off (get_or run.firsts k s)) (get_or called k s)
+  still_at = subst (λ (t : Stand V). IsStill t (get_or called k s)) (get_or-map split_off run.firsts k s s there) (run.still.each k s s (omega (arith, there, split_count)))
+
+  worked_at : Worked (after_split (get_or run.firsts k s)) (get_or run.beside k s)
+  worked_at = subst (λ (t : Stand V). Worked t (get_or run.beside k s)) (get_or-map after_split run.firsts k s s there) (run.worked.each k s s (omega (arith, there, after_count)))
+
+  started_at : IsStarted accepts (get_or places k p) (get_or nodes k node) (get_or run.firsts k s)
+  started_at = run.started.each k node p s (omega (arith, placed, run.started.places_count))
+
+  absorbed_at : Absorbs accepts (get_or places k p) (get_or run.beside k s) (get_or called k s) (get_or run.back k s)
+  absorbed_at = run.absorbed.each k p s s s (omega (arith, there, after_count, run.worked.count))
+
+  back_inside : k < length run.back
+  back_inside = omega (arith, there, after_count, run.worked.count, run.absorbed.count)
+
+  pub ended_at : IsEnded (get_or places k p) (get_or called k s) (get_or ends k node)
+  ended_at =
+      ended accepts (get_or places k p) (get_or run.firsts k s) (get_or called k s) (get_or run.beside k s) (get_or run.back k s) (get_or run.lasts k s) (get_or nodes k node) (get_or ends k node)
+      started_at still_at (run.seats.each k p s placed) worked_at absorbed_at (run.again.each k s s back_inside) (run.whole.each k p s node inside)
+
+  pub marked_at_end : AllMark places whole run.back run.lasts → HasAllMarks (get_or ends k node)
+  marked_at_end marked =
+      ended_marked accepts (get_or places k p) (get_or run.firsts k s) (get_or called k s) (get_or run.beside k s) (get_or run.back k s) (get_or run.lasts k s) (get_or nodes k node) (get_or ends k node)
+      started_at still_at (run.seats.each k p s placed) worked_at absorbed_at (run.again.each k s s back_inside) (run.whole.each k p s node inside) (marked.each k p s s back_inside)
 
 -- all of them
 pub runs_end : (V : Type 0) → RunsEnd V
-runs_end V accepts nodes places called ends run =
-    let started = run.started in
-    let whole = run.whole in
-    let first_count : length run.firsts ≡ length places = omega (arith, started.seats_count, started.places_count) in
-    let split_count : length (map split_off run.firsts) ≡ length run.firsts = length-map run.firsts split_off in
-    let after_count : length (map after_split run.firsts) ≡ length run.firsts = length-map run.firsts after_split in
-    record {
-      places_count = whole.places_count;
-      called_count = omega (arith, run.seats.count, whole.places_count);
-      each = λ k p s node inside.
-          let placed : k < length places = omega (arith, inside, whole.places_count) in
-          let there : k < length run.firsts = omega (arith, placed, first_count) in
-          let still = subst (λ (t : Stand V). IsStill t (get_or called k s)) (get_or-map split_off run.firsts k s s there) (run.still.each k s s (omega (arith, there, split_count))) in
-          let worked = subst (λ (t : Stand V). Worked t (get_or run.beside k s)) (get_or-map after_split run.firsts k s s there) (run.worked.each k s s (omega (arith, there, after_count))) in
-          ended accepts (get_or places k p) (get_or run.firsts k s) (get_or called k s) (get_or run.beside k s) (get_or run.back k s) (get_or run.lasts k s) (get_or nodes k node) (get_or ends k node)
-          (started.each k node p s (omega (arith, placed, started.places_count))) still (run.seats.each k p s placed) worked
-          (run.absorbed.each k p s s s (omega (arith, there, after_count, run.worked.count)))
-          (run.again.each k s s (omega (arith, there, after_count, run.worked.count, run.absorbed.count)))
-          (whole.each k p s node inside);
-    }
+runs_end V accepts nodes places called ends run = record {
+  places_count = run.whole.places_count;
+  called_count = omega (arith, run.seats.count, run.whole.places_count);
+  each = λ k p s node inside. ended_at accepts nodes places called ends run k p s node inside;
+}
+
+pub runs_mark : (V : Type 0) → RunsMark V
+runs_mark V accepts nodes places called ends run marked k node inside =
+    let p : Place V = some_of places k (omega (arith, inside, run.whole.places_count)) in
+    let s : Stand V = some_of called k (omega (arith, inside, run.seats.count, run.whole.places_count)) in
+    marked_at_end accepts nodes places called ends run k p s node inside marked

@@ -2,10 +2,11 @@
 use Rattle.std.specs.Prelude.{◌≡◌, ℕ, ◌<◌, List, length, get_or, map}
 use Rattle.hg_model.specs.Signing.{Accepts}
 use Rattle.hg_model.specs.NodeView.{NodeView}
+use Rattle.hg_model.specs.Shares.{whole}
 use Rattle.hg_board.specs.Seats.{Place, Stand}
 use Rattle.hg_board.specs.Calls.{after_split, split_off}
 use Rattle.hg_crowd.specs.Crowd.{AreSeats, AreStill, Each, IsEnded}
-use Rattle.hg_crowd.specs.Workers.{AllAbsorb, AreStarted, AreWhole, Worked}
+use Rattle.hg_crowd.specs.Workers.{AllAbsorb, AllMark, AreStarted, AreWhole, HasAllMarks, Worked}
 
 module _ {V : Type 0} where
   -- nodes were started; of each first seat one was split off, and calls went through it, beside others that worked with
@@ -33,3 +34,9 @@ module _ {V : Type 0} where
 abbrev pub RunsEnd : Type 0 → Type 0
 RunsEnd V = (accepts : V → Accepts) (nodes : List (NodeView V)) (places : List (Place V)) (called : List (Stand V)) (ends : List (NodeView V)) →
     IsRun accepts nodes places called ends → AreEnded places called ends
+
+-- if the workers' last turn found memory, each witness that the rows of a node decide has its mark
+abbrev pub RunsMark : Type 0 → Type 0
+RunsMark V = (accepts : V → Accepts) (nodes : List (NodeView V)) (places : List (Place V)) (called : List (Stand V)) (ends : List (NodeView V)) →
+    (run : IsRun accepts nodes places called ends) → AllMark places whole run.back run.lasts →
+    (k : ℕ) (node : NodeView V) → k < length ends → HasAllMarks (get_or ends k node)

@@ -4,11 +4,17 @@ use Rattle.std.specs.List.{AllByRecursion}
 use Rattle.hg_model.specs.Shares.{Share, share_fame, whole}
 use Rattle.hg_model.specs.Fame.{mark_at}
 use Rattle.hg_model.specs.Signing.{Accepts}
-use Rattle.hg_model.specs.NodeView.{NodeView}
+use Rattle.hg_model.specs.NodeView.{NodeView, node_links, node_marks, node_rows}
 use Rattle.hg_board.specs.Seats.{Place, Stand}
 use Rattle.hg_board.specs.Calls.{Absorbs, IsStarted, IsWhole}
 use Rattle.hg_board.specs.Crews.{MarksAll}
 use Rattle.hg_crowd.specs.Crowd.{Each, IsMark, IsSeat, IsStill}
+
+-- each witness that the rows of the node decide has its mark
+abbrev pub HasAllMarks : {V : Type 0} → NodeView V → Type 0
+HasAllMarks v =
+    (x : ℕ) (famous : Bool) → share_fame v.start.members v.start.coin (node_rows v) (node_links v) whole x ≡ Some famous →
+    mark_at (node_marks v) x ≡ Some famous
 
 module _ {V : Type 0} where
   -- it is the same seat still, and its own calls added marks alone

@@ -1,7 +1,8 @@
-ghost use Rattle.hg_crowd.specs.Laws.{RunsEnd};
+ghost use Rattle.hg_crowd.specs.Laws.{RunsEnd, RunsMark};
 
 /// A law: where others only marked beside the calls through one seat of each node, each node has in the end the rows that
-/// this seat has seen.
+/// this seat has seen. If the workers' last turn found memory, all witnesses that they decide are marked.
 pub fn runs_end<V>()
-    ensures { RunsEnd V }
+    ensures rows { RunsEnd V }
+    ensures marks { RunsMark V }
 {}

@@ -1,30 +1,30 @@
 -- Nodes of a world that were shared, and are a world again
-use Rattle.std.proofs.Common.{◌≡◌, inl, inr, ℕ, ◌+◌, ◌<◌, ◌≤◌, true, List, [], ◌∷◌, ◌++◌, length, take, drop, map, get_or, replicate, sym, refl, ap, ◌∙◌, subst, arith}
+use Rattle.std.proofs.Common.{◌≡◌, inl, inr, ℕ, ◌+◌, ◌<◌, ◌≤◌, true, List, [], length, take, drop, map, get_or, replicate, sym, refl, ap, ◌∙◌, subst, arith}
 use Rattle.std.specs.Prelude.{All}
 use Rattle.std.proofs.Math.Seq.{take-add}
 use Rattle.std.proofs.lemmas.Bool.{cases_lt, true≢false}
 use Rattle.std.proofs.lemmas.List.Sums.{fold-append, fold_more}
 use Rattle.std.proofs.lemmas.List.{get_or-drop, get_or-map, get_or-take, get_or_past, length-map, length-take-le, take_all}
 use Rattle.hg_model.specs.declared.outcome.Printed.{Printed}
-use Rattle.hg_model.specs.declared.row.Row.{Row}
 use Rattle.hg_model.specs.Members.{MemberList}
+use Rattle.hg_model.specs.Shares.{whole}
 use Rattle.hg_model.specs.Signing.{accepts_by}
-use Rattle.hg_model.specs.NodeView.{NodeView, Start, node_rows}
+use Rattle.hg_model.specs.NodeView.{NodeView, Start}
 use Rattle.hg_script.specs.declared.line.Action.{Action}
 use Rattle.hg_script.specs.declared.line.Action.TheVariants as action
 use Rattle.hg_script.specs.declared.line.Line.{Line}
 use Rattle.hg_world.specs.World.{Secrets, Site, WorldView, no_site, node_at, nodes_of, new_world, site_of, worker_count}
-use Rattle.hg_world.specs.Kept.{AreOfMembers, AreOfOneList, no_node, nth_node, unfrozen}
+use Rattle.hg_world.specs.Kept.{AreOfOneList, no_node, nth_node, unfrozen}
 use Rattle.hg_board.specs.Seats.{Place, Stand}
 use Rattle.hg_board.specs.Calls.{after_split, split_off}
-use Rattle.hg_crowd.specs.Crowd.{AreSeats, AreStill, Each, OthersMark}
-use Rattle.hg_crowd.specs.Workers.{AllAbsorb, AreStarted, AreWhole, HasMore, Worked}
+use Rattle.hg_crowd.specs.Crowd.{AreSeats, AreStill, Each}
+use Rattle.hg_crowd.specs.Workers.{AllAbsorb, AllMark, AreStarted, AreWhole, HasAllMarks, HasMore, Worked}
 use Rattle.hg_crowd.specs.Laws.{AreEnded, IsRun}
 use Rattle.hg_crowd.proofs.CrowdLaws.{after_split_all, seats_of, seats_started, split_off_all}
-use Rattle.hg_crowd.proofs.EndLaws.{runs_end}
+use Rattle.hg_crowd.proofs.EndLaws.{runs_end, runs_mark}
 use Rattle.hg_crowd.proofs.ListLaws.{some_of}
 use Rattle.hg_play.specs.Alike.{AreAlike, WorldsAlike}
-use Rattle.hg_play.specs.Batch.{IsPartBelow, IsPlayed, PlaysNext, TellsBatch, is_part}
+use Rattle.hg_play.specs.Batch.{AllAreMarked, IsPartBelow, IsPlayed, PlaysNext, TellsBatch, is_part}
 use Rattle.hg_play.specs.Lines.{IsBelow, IsLineBelow}
 use Rattle.hg_play.specs.Nodes.{TellsLine, TellsLines, seen_alone}
 use Rattle.hg_play.specs.Play.{Stage, after_line, after_lines, first_stage, stage}
@@ -290,3 +290,13 @@ played_by_one members lines world now printed is told =
       world = subst (λ (w : WorldView). WorldsAlike now (after_lines members (stage w [] []) lines).world) is (subst (WorldsAlike now) first.1 (worlds_alike now));
       pieces = first.0 ∙ ap (λ (w : WorldView). (after_lines members (stage w [] []) lines).printed) is;
     }
+
+-- all is marked in a world of nodes in which all is
+pub batch_marked : (new : WorldView) (nodes : List (NodeView Secrets)) (places : List (Place Secrets)) (called : List (Stand Secrets)) (ends : List (NodeView Secrets)) → (run : IsRun accepts_by nodes places called ends) →
+    new.sites ≡ unfrozen ends → AllMark places whole run.back run.lasts → AllAreMarked new
+batch_marked new nodes places called ends run is marked = λ m low.
+    let long : length new.sites ≡ length ends = ap length is ∙ length-map ends (λ (v : NodeView Secrets). site_of v (replicate worker_count 0)) in
+    let inside : m < length ends = omega (arith, low, long) in
+    let node : node_at new m ≡ nth_node ends m =
+    ap (λ (sites : List Site). (get_or sites m no_site).node) is ∙ ap (λ (s : Site). s.node) (get_or-map (λ (v : NodeView Secrets). site_of v (replicate worker_count 0)) ends m no_node no_site inside) in
+    subst (λ (v : NodeView Secrets). HasAllMarks v) (sym node) (runs_mark Secrets accepts_by nodes places called ends run marked m no_node inside)

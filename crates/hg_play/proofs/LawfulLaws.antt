@@ -1,11 +1,10 @@
 -- The run of a script's steps is lawful, where the rows that were made over other nodes, alike but for marks, are events
-use Rattle.std.proofs.Common.{◌≡◌, ℕ, zero, suc, ◌+◌, ◌<◌, ◌≤◌, Bool, true, false, cond, List, [], ◌∷◌, ◌++◌, length, map, get_or, Option, Some, None, sym, refl, ap, ap₂, ◌∙◌, subst, arith}
+use Rattle.std.proofs.Common.{◌≡◌, ℕ, zero, suc, ◌<◌, ◌≤◌, Bool, true, false, cond, List, [], ◌∷◌, ◌++◌, length, map, get_or, Option, Some, None, sym, refl, ap, ◌∙◌, subst, arith}
 use Rattle.std.specs.Prelude.{All}
 use Rattle.std.specs.List.{AllByRecursion}
 use Rattle.std.proofs.lemmas.List.Elements.{All-head, All-tail}
 use Rattle.hg_graph.specs.Held.{AreEvents}
 use Rattle.hg_model.specs.declared.outcome.Printed.{Printed}
-use Rattle.hg_model.specs.declared.row.Row.{Row}
 use Rattle.hg_model.specs.Members.{MemberList, has_node}
 use Rattle.hg_script.specs.declared.line.Gossip.{Gossip}
 use Rattle.hg_script.specs.declared.line.Gossip.TheVariants.{Create, Sync, Pull, Join, Give}
@@ -14,8 +13,8 @@ use Rattle.hg_script.specs.declared.line.Action.TheVariants as action
 use Rattle.hg_script.specs.declared.line.Line.{Line}
 use Rattle.hg_script.specs.Lawful.{IsLine, IsWithWorkers}
 use Rattle.hg_world.specs.declared.step.Step.{Step}
-use Rattle.hg_world.specs.declared.step.Step.TheVariants.{Make, Deliver, Freeze, Publish}
-use Rattle.hg_world.specs.World.{WorldView, new_world, rows_at, worker_count}
+use Rattle.hg_world.specs.declared.step.Step.TheVariants.{Deliver}
+use Rattle.hg_world.specs.World.{WorldView, new_world}
 use Rattle.hg_world.specs.Steps.{HasWorker, IsStepOf, actor, after_steps, settle_steps}
 use Rattle.hg_world.specs.Syncs.{make_steps, pull_steps}
 use Rattle.hg_world.specs.Kept.{HaveEvents, IsWorld}

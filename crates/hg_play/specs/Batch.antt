@@ -5,7 +5,8 @@ use Rattle.hg_model.specs.Members.{MemberList}
 use Rattle.hg_script.specs.declared.line.Action.{Action}
 use Rattle.hg_script.specs.declared.line.Action.TheVariants as action
 use Rattle.hg_script.specs.declared.line.Line.{Line}
-use Rattle.hg_world.specs.World.{WorldView}
+use Rattle.hg_world.specs.World.{WorldView, node_at}
+use Rattle.hg_crowd.specs.Workers.{HasAllMarks}
 use Rattle.hg_play.specs.Alike.{WorldsAlike}
 use Rattle.hg_play.specs.Play.{Stage, after_lines, first_stage}
 use Rattle.hg_play.specs.Through.{IsOfRows, IsStageLike}
@@ -25,9 +26,21 @@ is_part _ = false
 abbrev pub IsPartBelow : List Line → ℕ → Type 0
 IsPartBelow lines count = (k : ℕ) (line : Line) → k < count → is_part (get_or lines k line).action ≡ true
 
--- the line's number may be put beside marks
+-- what the line prints does not depend on marks
 abbrev pub IsLineOfRows : Line → Type 0
 IsLineOfRows line = IsOfRows line.action
+
+-- at most this many lines are one batch
+abbrev pub most_lines : ℕ
+most_lines = 32
+
+-- a batch of so many is the longest: it has as many as it may, or all lines, or the next one stands in none
+abbrev pub StopsAt : List Line → ℕ → Type 0
+StopsAt lines count = (line : Line) → count < length lines → count < most_lines → is_part (get_or lines count line).action ≡ false
+
+-- each witness that the rows of one of its nodes decide is marked there
+abbrev pub AllAreMarked : WorldView → Type 0
+AllAreMarked w = (m : ℕ) → m < length w.sites → HasAllMarks (node_at w m)
 
 -- the lines from one on up to another were played
 pub record PlaysNext (members : MemberList) (lines : List Line) (from : ℕ) (old : WorldView) (labels : List (List ℕ)) (printed : List Printed) (new : WorldView) (labels_new : List (List ℕ)) (printed_new : List Printed) (to : ℕ) : Type 0 where

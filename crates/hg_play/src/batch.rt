@@ -3,7 +3,7 @@ ghost use Rattle.hg_model.specs.Signing.{accepts_by, secrets_of};
 ghost use Rattle.hg_crowd.specs.Crowd.{AreSeats, AreStill, Each};
 ghost use Rattle.hg_crowd.specs.Workers.{HasMore, Worked};
 ghost use Rattle.hg_world.specs.World.{new_world, worker_count};
-ghost use Rattle.hg_play.specs.Batch.{IsLineOfRows, IsPartBelow, IsPlayed, PlaysNext, TellsBatch, is_part};
+ghost use Rattle.hg_play.specs.Batch.{AllAreMarked, IsLineOfRows, IsPartBelow, IsPlayed, PlaysNext, StopsAt, TellsBatch, is_part, most_lines};
 ghost use Rattle.hg_play.specs.Lines.{IsLineBelow};
 ghost use Rattle.hg_play.specs.Through.{IsPartLine, TellsThrough};
 
@@ -25,7 +25,7 @@ const MOST_LINES: usize = 32;
 
 /// Plays lines of gossip and of labels over a world's nodes: they are shared, one branch plays the lines through a seat of
 /// each, and beside it so many workers work one turn on every node. Once all seats have come back the workers work one
-/// turn more, and the nodes are a world again. Without memory they are dropped.
+/// turn more, so that all that the nodes' rows decide is marked, and the nodes are a world again. Without memory they are dropped.
 fn play_batch<R: Threads + Wait + Sync, C: Crew + Sync, G: Gate + Sync>(
     rt: &R,
     alloc: Global,
@@ -44,6 +44,7 @@ fn play_batch<R: Threads + Wait + Sync, C: Crew + Sync, G: Gate + Sync>(
     requires some { 0 < workers }
     requires few { workers ≤ worker_count }
     ensures count { IfOk result (λ r. length r.0.sites ≡ length world.sites) }
+    ensures marked { IfOk result (λ r. AllAreMarked r.0) }
     ensures told { IfOk result (λ r. TellsBatch members.now lines.now world labels.items printed.items r.0 r.1.items r.2.items) }
 {
     let (shared, mut seats) = start_all(alloc, world.into_nodes())?;
@@ -94,13 +95,17 @@ fn is_part(action: &Action) -> bool
 /// How many of these lines the next batch has: at most 32, and none from a shown node on.
 fn batch_len(lines: &[Line]) -> usize
     ensures few { result ≤ length lines.now }
+    ensures most { result ≤ most_lines }
     ensures parts { IsPartBelow lines.now result }
+    ensures stops { StopsAt lines.now result }
 {
-    let mut count = 0;
-    'lines: while count < lines.len() && count < MOST_LINES && is_part(&lines[count].action) {
-        count += 1;
+    let most = lines.len().min(MOST_LINES);
+    'lines: for i in 0..most {
+        if !is_part(&lines[i].action) {
+            return i;
+        }
     }
-    count
+    most
 }
 
 /// Plays the next batch, or the one line that stands in none, from a place on. Gives the place of the line after it.

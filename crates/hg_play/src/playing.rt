@@ -104,7 +104,6 @@ pub fn summary<R: Threads + Wait + Sync, C: Crew + Sync, G: Gate + Sync>(
     requires lines { All (IsLine members.now workers) lines.now }
     ensures outcome { IfOk result (λ outcome. outcome ≡ summary members.now lines.now) }
     ensures safe { OnOk result (IsSafePlay members.now lines.now) }
-    ensures agree { OnOk result (IsAgreed members.now lines.now) }
 {
     let (mut world, mut printed) = play_all(rt, alloc, members, lines, workers, crew, gate)?;
     printed.clear();

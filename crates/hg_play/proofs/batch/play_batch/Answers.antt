@@ -1,12 +1,12 @@
-use Rattle.std.proofs.Common.{rules, arith, sym, subst, ◌≡◌, ◌∙◌, ap, ◌+◌, map, length, get_or}
-use Rattle.std.specs.Prelude.{IfOk}
+use Rattle.std.proofs.Common.{rules, arith, sym, subst, get_or}
+use Rattle.std.specs.Prelude.{IfOk, OnOk}
 use Rattle.hg_model.specs.Signing.{accepts_by}
-use Rattle.hg_board.specs.Calls.{split_off}
+use Rattle.hg_model.specs.Shares.{whole}
 use Rattle.hg_crowd.specs.Crowd.{Each}
-use Rattle.hg_crowd.specs.Workers.{HasMore}
+use Rattle.hg_crowd.specs.Workers.{AllMark, HasMore}
 use Rattle.hg_crowd.proofs.CrowdLaws.{has_again, seats_started}
 use Rattle.hg_play.specs.Through.{IsPartLine, TellsThrough}
-use Rattle.hg_play.proofs.BatchLaws.{batch_count, batch_told, ends_of_one_list, has_beside, own_count, seats_own, the_run}
+use Rattle.hg_play.proofs.BatchLaws.{batch_count, batch_marked, batch_told, ends_of_one_list, has_beside, own_count, seats_own, the_run}
 use Rattle.hg_play.proofs.batch.play_batch.Goals as goal
 
 pub split_all-requires : goal.split_all-requires
@@ -65,6 +65,19 @@ returns-clause-count g c =
     c.work_beside-seats.result.0.items ends c.as_slice-places.ensures.value c.in_ok-shared.ensures c.in_ok-own.ensures.old c.in_ok-own.ensures.new c.join-own.ensures.first.0 c.join-own.ensures.first.1.0
     c.join-own.ensures.second.1 c.absorb_all.ensures c.work_beside-seats.ensures.worked c.in_ok-nodes.ensures in
     batch_count c.args.world c.in-Ok.world nodes places called ends c.into_nodes.ensures.nodes run c.in-Ok.ensures.ok
+
+pub returns-clause-marked : goal.returns-clause-marked
+returns-clause-marked g c =
+    let nodes = c.into_nodes.result.items in
+    let shared = c.in_ok-shared.shared.items in
+    let places = c.as_slice-places.result.now in
+    let called = c.join-own.result.0.0.items in
+    let ends = c.in_ok-nodes.nodes.items in
+    let run = the_run nodes shared places c.in_ok-shared.seats.items c.split_all.new.seats.items c.in_ok-own.own.items called c.join-own.result.1.0.items c.absorb_all.new.seats.items
+    c.work_beside-seats.result.0.items ends c.as_slice-places.ensures.value c.in_ok-shared.ensures c.in_ok-own.ensures.old c.in_ok-own.ensures.new c.join-own.ensures.first.0 c.join-own.ensures.first.1.0
+    c.join-own.ensures.second.1 c.absorb_all.ensures c.work_beside-seats.ensures.worked c.in_ok-nodes.ensures in
+    let marked = subst (λ r. OnOk r (AllMark places whole c.absorb_all.new.seats.items c.work_beside-seats.result.0.items)) c.in_ok-done.was c.work_beside-seats.ensures.marked in
+    batch_marked c.in-Ok.world nodes places called ends run c.in-Ok.ensures.ok marked
 
 pub returns-clause-told : goal.returns-clause-told
 returns-clause-told g c =

@@ -1,4 +1,3 @@
-use Rattle.std.proofs.Common.{arith}
 use Rattle.hg_play.proofs.BatchLaws.{in_none}
 use Rattle.hg_play.proofs.batch.play_batches.Goals as goal
 

@@ -1,6 +1,5 @@
 use Rattle.std.proofs.Common.{arith, sym, subst}
 use Rattle.hg_play.specs.Batch.{IsLineOfRows}
-use Rattle.hg_play.specs.Lines.{IsLineBelow}
 use Rattle.hg_play.proofs.BatchLaws.{plays_batch, plays_line}
 use Rattle.hg_play.proofs.batch.play_next.Goals as goal
 

@@ -1,4 +1,4 @@
-use Rattle.std.proofs.Common.{◌≡◌, ◌∙◌, ◌++◌, List, ℕ, ap, ap₂, length, refl}
+use Rattle.std.proofs.Common.{◌∙◌, ◌++◌, List, ℕ, ap, ap₂, length, refl}
 use Rattle.hg_model.specs.declared.outcome.Outcome.{Outcome}
 use Rattle.hg_model.specs.declared.outcome.Printed.{Printed}
 use Rattle.hg_play.specs.Play.{after_lines, end_blocks, first_stage, summary}
@@ -28,12 +28,3 @@ returns-clause-safe g c =
     let e = ends members lines c.in_ok-world.world c.push_blocks.new.world before c.clear.new.self.items c.push_blocks.new.printed.items c.in_ok-world.ensures.new
     (lines_below members c.args.workers (length members.entries) lines refl c.requires.lines) c.in_ok-world.ensures.played c.in_ok-push_blocks.ensures.told c.members.ensures.world in
     e.safely
-
-pub returns-clause-agree : goal.returns-clause-agree
-returns-clause-agree g c =
-    let members = c.args.members.now in
-    let lines = c.args.lines.now in
-    let before = c.in_ok-world.printed.items in
-    let e = ends members lines c.in_ok-world.world c.push_blocks.new.world before c.clear.new.self.items c.push_blocks.new.printed.items c.in_ok-world.ensures.new
-    (lines_below members c.args.workers (length members.entries) lines refl c.requires.lines) c.in_ok-world.ensures.played c.in_ok-push_blocks.ensures.told c.members.ensures.world in
-    e.agreeing
