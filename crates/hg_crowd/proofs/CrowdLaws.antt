@@ -1,9 +1,9 @@
 -- The same of a seat of each node: the loops over all of them, and workers beside each other
-use Rattle.std.proofs.Common.{◌≡◌, ◌≢◌, ℕ, zero, suc, ◌+◌, ◌-◌, ◌<◌, ◌≤◌, ◌%◌, ◌&&◌, Bool, true, cond, eqb, eq-eqb, nat_lt, None, List, [], ◌∷◌, ◌++◌, length, take, map, get_or, set, Result, Ok, Err, refl, sym, ap, ◌∙◌, subst, arith, length-set, length-append}
+use Rattle.std.proofs.Common.{◌≡◌, ℕ, suc, ◌+◌, ◌<◌, ◌≤◌, ◌%◌, ◌&&◌, Bool, true, cond, eqb, eq-eqb, nat_lt, None, List, [], ◌∷◌, ◌++◌, length, take, map, get_or, set, Result, Ok, Err, refl, sym, ap, ◌∙◌, subst, arith, length-set, length-append}
 use Rattle.std.specs.Prelude.{OnOk}
 use Rattle.std.specs.Result.{result_and}
 use Rattle.std.proofs.lemmas.Nat.{mod_below}
-use Rattle.std.proofs.lemmas.List.{get_or_append_left, get_or_default, get_or-map, get_or-set_other, get_or-set_same, length-map}
+use Rattle.std.proofs.lemmas.List.{get_or_append_left, get_or_default, get_or-map, get_or-set_other, length-map}
 use mathlib.Core.Logic.{dite}
 use native.Mathlib.Decide.{ℕ_discrete}
 use Rattle.hg_model.specs.Places.{count_below}
@@ -26,7 +26,7 @@ use Rattle.hg_board.specs.Calls.{Absorbs, IsStarted, IsWhole, Stays, after_split
 use Rattle.hg_board.specs.Crews.{MarksAll, OnlyMarks}
 use Rattle.hg_crowd.specs.Crowd.{AreSeats, Each, IsSeat}
 use Rattle.hg_crowd.specs.Workers.{AllAbsorb, AllMark, AllMarkUpTo, AreStarted, AreWhole, HasMore, Worked}
-use Rattle.hg_crowd.proofs.ListLaws.{front_all, front_count, front_get, front_set, get_last, map_front, map_push, map_taken, pair_at, set_at, some_of}
+use Rattle.hg_crowd.proofs.ListLaws.{front_all, front_get, front_set, get_last, map_front, map_push, map_taken, pair_at, set_at, some_of}
 use Rattle.hg_crowd.proofs.WorkLaws.{marked_later, seat_absorbed, seat_after_split, seat_of_call, seat_split_off, worked_beside, worked_by_call, worked_none}
 
 module _ {V : Type 0} (accepts : V → Accepts) (places : List (Place V)) where
@@ -365,17 +365,17 @@ module _ {V : Type 0} (accepts : V → Accepts) where
   seats_started many nodes places seats few so = record {
     count = so.seats_count ∙ sym so.places_count;
     each = λ k p s inside.
-      let started = so.each k p.start p s (omega (arith, inside, so.places_count)) in
-      let same : (get_or seats k s).seen ≡ (get_or places k p).start.history = started.seen ∙ ap (λ (v : NodeView V). v.history) (sym started.start) in
-      record {
-        seat = record {
-          of = started.of;
-          begun = prefix_same (get_or places k p).start.history (get_or seats k s).seen (sym same);
-          within = subst (AreBelow (length (get_or seats k s).seen)) (sym started.mine) tt;
-          node = subst (λ (h : List Change). IsNode accepts (node_at (get_or places k p).start h)) (sym same) (subst (IsNode accepts) (sym started.start) started.lawful);
+        let started = so.each k p.start p s (omega (arith, inside, so.places_count)) in
+        let same : (get_or seats k s).seen ≡ (get_or places k p).start.history = started.seen ∙ ap (λ (v : NodeView V). v.history) (sym started.start) in
+        record {
+          seat = record {
+            of = started.of;
+            begun = prefix_same (get_or places k p).start.history (get_or seats k s).seen (sym same);
+            within = subst (AreBelow (length (get_or seats k s).seen)) (sym started.mine) tt;
+            node = subst (λ (h : List Change). IsNode accepts (node_at (get_or places k p).start h)) (sym same) (subst (IsNode accepts) (sym started.start) started.lawful);
+          };
+          parts = omega (arith, started.parts, few);
         };
-        parts = omega (arith, started.parts, few);
-      };
   }
 
   -- seats that worked and absorbed others have as many parts at least
@@ -386,8 +386,8 @@ module _ {V : Type 0} (accepts : V → Accepts) where
       record {
         count = each.count;
         each = λ k p s inside.
-          let old = had.each k p s inside in
-          let still = (worked.each k s s (omega (arith, inside, had.count))).still in
-          let absorbed = absorbs.each k p s s s (omega (arith, inside, seats.count)) in
-          record { seat = each.each k p s inside; parts = omega (arith, old.parts, still.parts, absorbed.parts) };
+            let old = had.each k p s inside in
+            let still = (worked.each k s s (omega (arith, inside, had.count))).still in
+            let absorbed = absorbs.each k p s s s (omega (arith, inside, seats.count)) in
+            record { seat = each.each k p s inside; parts = omega (arith, old.parts, still.parts, absorbed.parts) };
       }

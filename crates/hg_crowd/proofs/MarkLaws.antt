@@ -1,5 +1,5 @@
 -- Changes of a history that are marks: they stay, and bring no rows
-use Rattle.std.proofs.Common.{◌≡◌, ◌≢◌, ℕ, zero, suc, ◌+◌, ◌<◌, ◌≤◌, eqb, cond, List, [], ◌∷◌, ◌++◌, length, length-append, fold, Some, slice_get, refl, sym, ap, ◌∙◌, subst, arith}
+use Rattle.std.proofs.Common.{◌≡◌, ◌≢◌, ℕ, zero, suc, ◌+◌, ◌<◌, ◌≤◌, eqb, cond, List, [], ◌∷◌, ◌++◌, length, length-append, fold, slice_get, refl, sym, ap, ◌∙◌, subst, arith}
 use Rattle.std.specs.List.{AllByRecursion}
 use Rattle.std.proofs.lemmas.Bool.Decides.{nat_tests}
 use Rattle.std.proofs.lemmas.Option.{slice_get_within}
@@ -109,8 +109,8 @@ module _ (n : Stakes) (c : ℕ) where
       (replay n c history).links ≡ (replay n c seen).links
   links_stay seen history p marks =
       let last : (q : ℕ) → q < length p.0 → IsMark p.0 q = λ q inside.
-        (let there : length seen + q < length history = omega (arith, inside, ap length p.1, length-append seen p.0) in
-        let mark = marks (length seen + q) (omega arith) there in
-        let same : slice_get history (length seen + q) ≡ slice_get p.0 q = ap (λ (h : List Change). slice_get h (length seen + q)) p.1 ∙ get_behind seen p.0 (length seen + q) q refl in
-        (mark.0, mark.1, sym same ∙ mark.2)) in
+      (let there : length seen + q < length history = omega (arith, inside, ap length p.1, length-append seen p.0) in
+      let mark = marks (length seen + q) (omega arith) there in
+      let same : slice_get history (length seen + q) ≡ slice_get p.0 q = ap (λ (h : List Change). slice_get h (length seen + q)) p.1 ∙ get_behind seen p.0 (length seen + q) q refl in
+      (mark.0, mark.1, sym same ∙ mark.2)) in
       ap (λ (h : List Change). (replay n c h).links) p.1 ∙ (ap (λ (s : State). s.links) (replay-append n c seen p.0) ∙ marks_tie_none (replay n c seen) p.0 last)

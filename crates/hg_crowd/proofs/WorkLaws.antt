@@ -1,22 +1,21 @@
 -- What is so of one seat after a worker's call, after a split and after it absorbed another
-use Rattle.std.proofs.Common.{◌≡◌, ℕ, ◌+◌, ◌-◌, ◌<◌, ◌≤◌, ◌%◌, Bool, true, cond, eqb, ◌&&◌, nat_lt, List, [], ◌∷◌, ◌++◌, length, Some, refl, sym, ap, ◌∙◌, subst, arith, append_assoc}
-use Rattle.std.specs.List.{AllByRecursion}
+use Rattle.std.proofs.Common.{ℕ, ◌<◌, ◌≤◌, List, [], ◌++◌, length, refl, sym, ap, ◌∙◌, subst, arith, append_assoc}
 use Rattle.std.proofs.lemmas.List.{append-nil}
 use Rattle.hg_model.specs.Orders.{IsPrefix}
 use Rattle.hg_model.specs.Shares.{Share}
 use Rattle.hg_model.specs.Signing.{Accepts}
 use Rattle.hg_model.specs.History.{Change}
-use Rattle.hg_model.specs.NodeView.{NodeView, node_marks}
+use Rattle.hg_model.specs.NodeView.{node_marks}
 use Rattle.hg_model.specs.Fame.{mark_at}
 use Rattle.hg_history.proofs.StateLaws.{marks_stay, prefix_more}
 use Rattle.hg_board.specs.Positions.{AreBelow}
 use Rattle.hg_board.specs.Table.{node_at}
-use Rattle.hg_board.specs.Seats.{IsOf, Place, Stand}
+use Rattle.hg_board.specs.Seats.{Place, Stand}
 use Rattle.hg_board.specs.Calls.{Absorbs, Stays, after_split, split_off}
 use Rattle.hg_board.specs.Crews.{MarksAll, OnlyMarks}
 use Rattle.hg_board.proofs.PrefixLaws.{prefix_length, prefix_self}
 use Rattle.hg_board.proofs.PositionLaws.{below_append, below_more}
-use Rattle.hg_crowd.specs.Crowd.{IsMark, IsSeat, IsStill}
+use Rattle.hg_crowd.specs.Crowd.{IsSeat, IsStill}
 use Rattle.hg_crowd.specs.Workers.{Worked}
 use Rattle.hg_crowd.proofs.MarkLaws.{marks_later, marks_more, marks_of_share, marks_within}
 

@@ -1,5 +1,5 @@
 -- Many nodes between threads, and a seat of each: what one branch knows of what the others did
-use Rattle.std.specs.Prelude.{◌≡◌, ℕ, ◌+◌, ◌<◌, ◌≤◌, List, length, get_or, Some, slice_get}
+use Rattle.std.specs.Prelude.{◌≡◌, ℕ, ◌<◌, ◌≤◌, List, length, get_or, Some, slice_get}
 use Rattle.hg_model.specs.Orders.{IsPrefix}
 use Rattle.hg_model.specs.Shares.{Share}
 use Rattle.hg_model.specs.Signing.{Accepts}
@@ -9,7 +9,6 @@ use Rattle.hg_model.specs.NodeView.{NodeView, IsNode, node_rows}
 use Rattle.hg_board.specs.Positions.{times, AreBelow}
 use Rattle.hg_board.specs.Table.{node_at}
 use Rattle.hg_board.specs.Seats.{IsOf, Place, Stand}
-use Rattle.hg_board.specs.Calls.{Stays}
 
 -- two lists of one length, pair by pair
 pub record Each {A B : Type 0} (R : A → B → Type 0) (xs : List A) (ys : List B) : Type 0 where

@@ -8,7 +8,7 @@ use Rattle.hg_model.specs.NodeView.{NodeView, node_links, node_marks, node_rows}
 use Rattle.hg_board.specs.Seats.{Place, Stand}
 use Rattle.hg_board.specs.Calls.{Absorbs, IsStarted, IsWhole}
 use Rattle.hg_board.specs.Crews.{MarksAll}
-use Rattle.hg_crowd.specs.Crowd.{Each, IsMark, IsSeat, IsStill}
+use Rattle.hg_crowd.specs.Crowd.{IsMark, IsSeat, IsStill}
 
 -- each witness that the rows of the node decide has its mark
 abbrev pub HasAllMarks : {V : Type 0} → NodeView V → Type 0

@@ -1,5 +1,4 @@
-use Rattle.std.proofs.Common.{rules, ◌≡◌, List, [], ◌∷◌, ◌++◌, ap, ◌∙◌, subst, sym}
-use Rattle.hg_board.specs.Seats.{Place, Stand}
+use Rattle.std.proofs.Common.{rules, [], ◌∷◌, ◌++◌, subst, sym}
 use Rattle.hg_crowd.specs.Crowd.{AreSeats}
 use Rattle.hg_crowd.specs.Workers.{AreWhole}
 use Rattle.hg_crowd.proofs.CrowdLaws.{seats_but_last, whole_one}

@@ -1,4 +1,4 @@
-use Rattle.std.proofs.Common.{◌≡◌, List, [], ◌∷◌, ◌++◌, ap, ◌∙◌, subst, sym}
+use Rattle.std.proofs.Common.{[], ◌∷◌, ◌++◌, subst, sym}
 use Rattle.hg_crowd.specs.Workers.{AreStarted}
 use Rattle.hg_crowd.proofs.CrowdLaws.{started_one}
 use Rattle.hg_crowd.proofs.sharing.+start_all.Goals as goal

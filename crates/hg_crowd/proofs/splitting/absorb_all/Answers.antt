@@ -1,4 +1,4 @@
-use Rattle.std.proofs.Common.{rules, arith, sym, ap, subst, ◌∙◌, ◌++◌, ◌∷◌, [], length}
+use Rattle.std.proofs.Common.{rules, arith, subst}
 use Rattle.hg_crowd.proofs.CrowdLaws.{Absorbing, absorb_asks, absorb_done, absorb_none, absorb_one}
 use Rattle.hg_crowd.proofs.splitting.absorb_all.Goals as goal
 

@@ -1,4 +1,4 @@
-use Rattle.std.proofs.Common.{arith, sym, ap, subst, ◌∙◌, ◌++◌, ◌∷◌, [], ◌+◌, slice_set}
+use Rattle.std.proofs.Common.{arith, sym, subst, ◌++◌, ◌∷◌, [], ◌+◌, slice_set}
 use Rattle.std.specs.Prelude.{vec_capacity}
 use Rattle.hg_crowd.specs.Workers.{HasMore}
 use Rattle.hg_crowd.proofs.ListLaws.{pair_at}

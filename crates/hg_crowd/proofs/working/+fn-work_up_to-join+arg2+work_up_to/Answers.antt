@@ -1,6 +1,6 @@
-use Rattle.std.proofs.Common.{rules, arith, sym, subst, ◌≡◌, ◌+◌, ◌-◌, map}
+use Rattle.std.proofs.Common.{rules, arith, sym, subst, ◌+◌, ◌-◌, map}
 use Rattle.std.specs.Prelude.{OnOk}
-use Rattle.hg_board.specs.Calls.{after_split, split_off}
+use Rattle.hg_board.specs.Calls.{split_off}
 use Rattle.hg_crowd.specs.Crowd.{AreSeats, Each}
 use Rattle.hg_crowd.specs.Workers.{AllMark, AllMarkUpTo, HasMore, Worked}
 use Rattle.hg_crowd.proofs.CrowdLaws.{after_split_all, has_fewer, mark_beside_all, ok_both, ok_map, seats_absorbed, seats_of, split_off_all, up_to_first, worked_beside_all}

@@ -1,4 +1,4 @@
-use Rattle.std.proofs.Common.{arith, ◌+◌, ◌-◌}
+use Rattle.std.proofs.Common.{arith, ◌-◌}
 use Rattle.hg_model.specs.Shares.{whole}
 use Rattle.hg_crowd.specs.Workers.{AllMark, AllMarkUpTo}
 use Rattle.hg_crowd.proofs.CrowdLaws.{all_whole_marked, has_fewer, ok_map}
