@@ -1,0 +1,3 @@
+pub mod GrowthLaws
+pub mod ReadLaws
+pub mod SafeLaws
