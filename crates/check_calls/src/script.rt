@@ -176,7 +176,11 @@ fn whys_are_known(rt: HostRuntime) -> Result<(), Fail> {
             line: *line,
             why: *why,
         };
-        assert_eq!(rt; fault_of(&rt, rt.alloc(), text, 0)?, Some(fault), "{text:?}");
+        assert_eq!(rt;
+            fault_of(&rt, rt.alloc(), text, 0)?,
+            Some(fault),
+            "{text:?}"
+        );
     }
     Ok(())
 }
