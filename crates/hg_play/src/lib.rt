@@ -1,6 +1,7 @@
 //! A gossip script played over the members' nodes.
 //! The layer above uses `play`, whose answer is all that the script prints, as the definitions say it, whose run is
-//! safe, and whose blocks agree. Each line is a list of steps of a run; the nodes are those of `hg_world`.
+//! safe, and whose blocks agree, and `summary`, its last blocks alone. Each line is a list of steps of a run; the nodes
+//! are those of `hg_world`. With workers the lines are played in batches, over nodes between threads.
 #![tactic(auto)]
 
 mod batch;
