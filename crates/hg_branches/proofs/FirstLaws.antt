@@ -1,5 +1,5 @@
 -- The first descendants of the last row, and of earlier rows once one more has come
-use Rattle.std.proofs.Common.{◌≡◌, ◌≢◌, ℕ, ◌+◌, ◌<◌, ◌≤◌, true, false, cond, min, List, [], ◌∷◌, ◌++◌, length, sym, ap, ap₂, ◌∙◌, subst, inl, inr, ◌⊎◌, arith, nat_le}
+use Rattle.std.proofs.Common.{◌≡◌, ◌≢◌, ℕ, ◌+◌, ◌<◌, ◌≤◌, true, false, cond, min, List, [], ◌∷◌, ◌++◌, length, sym, ap, ◌∙◌, subst, inl, inr, ◌⊎◌, arith, nat_le}
 use Rattle.std.proofs.lemmas.Bool.{cases_Bool, cases_lt, cases_eq, leb-true, le-leb, false_from_ne_true, both_ways}
 use Rattle.hg_model.specs.Places.{IsEarlier}
 use Rattle.hg_model.specs.Stakes.{Stakes}

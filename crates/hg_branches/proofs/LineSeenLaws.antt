@@ -1,7 +1,7 @@
 -- Who is seen along branches, where forks are
-use Rattle.std.proofs.Common.{◌≡◌, ℕ, zero, suc, ◌+◌, ◌-◌, ◌<◌, ◌≤◌, lt-ltb, ◌&&◌, eqb, nat_lt, true, false, List, [], ◌∷◌, length, get_or, slice_index, sym, ap, ◌∙◌, subst, inl, inr, arith}
+use Rattle.std.proofs.Common.{◌≡◌, ℕ, zero, suc, ◌+◌, ◌-◌, ◌<◌, ◌≤◌, lt-ltb, ◌&&◌, nat_lt, true, false, List, [], ◌∷◌, length, get_or, slice_index, sym, ap, ◌∙◌, subst, inl, inr, arith}
 use Rattle.std.proofs.lemmas.Bool.{cases_lt, and_parts, and_from, ltb-true, false_from_ne_true, both_ways}
-use Rattle.hg_model.specs.Places.{has_place, some_below, IsEarlier}
+use Rattle.hg_model.specs.Places.{has_place, IsEarlier}
 use Rattle.hg_model.specs.Stakes.{Stakes}
 use Rattle.hg_model.specs.Links.{Link, parents, self_parent, creator}
 use Rattle.hg_model.specs.Ancestry.{is_ancestor, is_self_ancestor}

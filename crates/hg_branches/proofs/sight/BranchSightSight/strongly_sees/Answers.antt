@@ -1,4 +1,4 @@
-use Rattle.std.proofs.Common.{◌≡◌, ◌<◌, ◌≤◌, ◌+◌, ◌∙◌, ℕ, List, [], ap, ap₂, sym, subst, length, get_or, ◌&&◌, eqb, Option, false}
+use Rattle.std.proofs.Common.{◌≡◌, ◌<◌, ◌≤◌, ◌+◌, ◌∙◌, ℕ, List, [], ap, ap₂, sym, subst, length, get_or, Option, false}
 use Rattle.hg_model.specs.Places.{count_below}
 use Rattle.hg_model.specs.Links.{Link, creator}
 use Rattle.hg_model.specs.Forks.{has_fork_below}
