@@ -1,5 +1,5 @@
 -- The events of a node's order only go on
-use Rattle.std.proofs.Common.{◌≡◌, inl, inr, ℕ, ◌+◌, ◌<◌, Bool, true, false, cond, List, [], ◌∷◌, ◌++◌, length, map, get_or, sym, refl, ap, ap₂, ◌∙◌, subst, append_assoc, arith}
+use Rattle.std.proofs.Common.{◌≡◌, inl, inr, ℕ, ◌+◌, ◌<◌, Bool, true, false, cond, List, [], ◌∷◌, ◌++◌, length, map, sym, refl, ap, ap₂, ◌∙◌, subst, append_assoc, arith}
 use Rattle.std.specs.Prelude.{All}
 use Rattle.std.proofs.lemmas.Bool.{cases_eq}
 use Rattle.std.proofs.lemmas.List.{append-nil, get_or_append_left, get_or-set_same, get_or-set_other, map-append}
@@ -9,7 +9,7 @@ use Rattle.hg_model.specs.declared.row.Placed.{Placed}
 use Rattle.hg_model.specs.Stakes.{Stakes}
 use Rattle.hg_model.specs.Links.{no_row}
 use Rattle.hg_model.specs.Kept.{kept}
-use Rattle.hg_model.specs.History.{Change, State, IsHistory, replay}
+use Rattle.hg_model.specs.History.{Change, IsHistory, replay}
 use Rattle.hg_model.specs.Signing.{Accepts, accepts_by}
 use Rattle.hg_model.specs.Orders.{IsPrefix}
 use Rattle.hg_model.proofs.OrderLaws.{ordered_within}
@@ -17,14 +17,14 @@ use Rattle.hg_history.proofs.StateLaws.{even_after, rows_grow}
 use Rattle.hg_history.proofs.KeptLaws.{order_grows}
 use Rattle.hg_world.specs.declared.step.Step.{Step}
 use Rattle.hg_world.specs.declared.step.Step.TheVariants.{Make, Deliver, Freeze, Publish}
-use Rattle.hg_world.specs.World.{Site, WorldView, no_site, node_at, run_of, with_site}
+use Rattle.hg_world.specs.World.{Site, WorldView, no_site, node_at, with_site}
 use Rattle.hg_world.specs.Kept.{IsWorld, KeepsSite}
 use Rattle.hg_world.specs.World.{site_at}
 use Rattle.hg_world.specs.Steps.{after_step, after_steps}
 use Rattle.hg_world.proofs.StepLaws.{steps_sites}
-use Rattle.order_match.specs.Books.{BookView, Event, book_of}
+use Rattle.order_match.specs.Books.{BookView, Event}
 use Rattle.order_book.specs.declared.action.Action.{Action}
-use Rattle.order_book.specs.Market.{AreBehind, HasBooks, IsBehind, action_steps, after_action, event_at, event_in, events_after, events_at, is_action_of}
+use Rattle.order_book.specs.Market.{AreBehind, HasBooks, action_steps, after_action, event_in, events_after, events_at, is_action_of}
 
 -- ---- the history of each node
 

@@ -1,5 +1,5 @@
 -- Of the books of two nodes one is an earlier state of the other
-use Rattle.std.proofs.Common.{◌≡◌, inl, inr, ◌⊎◌, ℕ, ◌+◌, ◌<◌, List, [], ◌∷◌, ◌++◌, length, map, get_or, Some, slice_get, sym, refl, ap, ap₂, ◌∙◌, subst, arith}
+use Rattle.std.proofs.Common.{◌≡◌, inl, inr, ◌⊎◌, ℕ, ◌+◌, ◌<◌, List, [], ◌∷◌, ◌++◌, length, map, get_or, slice_get, sym, refl, ap, ap₂, ◌∙◌, arith}
 use Rattle.std.specs.Prelude.{All}
 use Rattle.std.proofs.lemmas.List.{append-nil}
 use Rattle.std.proofs.lemmas.List.Elements.{All-head, All-tail}
@@ -13,13 +13,11 @@ use Rattle.hg_model.specs.Kept.{kept}
 use Rattle.hg_model.specs.Orders.{IsPrefix}
 use Rattle.hg_model.specs.History.{replay}
 use Rattle.hg_prefix.specs.Chains.{HaveEqualRows}
-use Rattle.hg_runs.specs.Honest.{AreApart}
-use Rattle.hg_runs.specs.Run.{IsMoment}
 use Rattle.hg_runs.specs.Safety.{IsSafe, order_after}
 use Rattle.hg_world.specs.World.{WorldView, run_of}
 use Rattle.hg_world.specs.Kept.{IsWorld}
 use Rattle.order_match.specs.Books.{Event, book_of}
-use Rattle.order_match.specs.Laws.{BooksGoOn, IsEarlier, IsOneEarlier}
+use Rattle.order_match.specs.Laws.{IsEarlier, IsOneEarlier}
 use Rattle.order_match.proofs.BookLaws.{book_more}
 use Rattle.order_book.specs.Market.{AreOneBook, book_at, event_in, events_at}
 use Rattle.order_book.proofs.GrowthLaws.{kept_places}

@@ -10,7 +10,7 @@ use Rattle.hg_model.specs.NodeView.{NodeView}
 use Rattle.hg_runs.specs.Honest.{dishonest, AreApart}
 use Rattle.hg_world.specs.declared.step.Step.{Step}
 use Rattle.hg_world.specs.declared.step.Step.TheVariants as step
-use Rattle.hg_world.specs.World.{Secrets, WorldView, IsMemberOf, node_at, run_of}
+use Rattle.hg_world.specs.World.{Secrets, WorldView, IsMemberOf, run_of}
 use Rattle.hg_world.specs.Steps.{after_steps, settle_steps}
 use Rattle.hg_world.specs.Syncs.{sync_steps}
 use Rattle.order_match.specs.Books.{BookView, Event, book_of, event_of, no_book}
