@@ -10,7 +10,7 @@ use Rattle.order_match.specs.declared.request.Side.TheVariants.{Buy, Sell}
 use Rattle.order_match.specs.declared.request.Request.{Request}
 use Rattle.order_match.specs.declared.request.Request.TheVariants.{Nothing, Place, Cancel}
 use Rattle.order_match.specs.declared.request.RequestFault.{RequestFault}
-use Rattle.order_match.specs.declared.request.RequestFault.TheVariants.{BadLength, BadKind, NoQuantity}
+use Rattle.order_match.specs.declared.request.RequestFault.TheVariants.{NoQuantity}
 use Rattle.order_match.specs.Requests.{side_kind, request_bytes, placing, request_of, read_request}
 use Rattle.order_match.specs.Laws.{IsRequest}
 

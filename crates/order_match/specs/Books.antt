@@ -1,5 +1,5 @@
 -- The book of an order of events: one fold over their members and payloads
-use Rattle.std.specs.Prelude.{ℕ, ◌+◌, ◌==◌, Bool, cond, not, ◌&&◌, List, [], ◌∷◌, ◌++◌, fold, Result, Ok, Err}
+use Rattle.std.specs.Prelude.{ℕ, ◌+◌, ◌==◌, Bool, cond, not, ◌&&◌, List, [], ◌++◌, fold, Result, Ok, Err}
 use Rattle.std.specs.List.{filter}
 use Rattle.order_match.specs.declared.request.Side.{Side}
 use Rattle.order_match.specs.declared.request.Side.TheVariants.{Buy, Sell}
@@ -9,7 +9,7 @@ use Rattle.order_match.specs.declared.request.RequestFault.{RequestFault}
 use Rattle.order_match.specs.declared.orders.Order.{Order}
 use Rattle.order_match.specs.declared.orders.Trade.{Trade}
 use Rattle.order_match.specs.Requests.{read_request}
-use Rattle.order_match.specs.Matching.{insert_order, met, unless_zero, with_quantity}
+use Rattle.order_match.specs.Matching.{insert_order, met, with_quantity}
 
 -- the orders of a side that rest, best first, and what was left of those that were taken back
 pub record SideView : Type 0 where

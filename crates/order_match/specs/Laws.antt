@@ -1,5 +1,5 @@
 -- What holds of every book, as public functions state it
-use Rattle.std.specs.Prelude.{ℕ, zero, ◌+◌, ◌≡◌, ◌<◌, ◌^◌, ◌⊎◌, List, [], ◌∷◌, ◌++◌, get_or, length, Result, Ok, Err}
+use Rattle.std.specs.Prelude.{ℕ, ◌+◌, ◌≡◌, ◌<◌, ◌^◌, ◌⊎◌, List, ◌++◌, get_or, length, Result, Ok, Err}
 use Rattle.std.specs.List.{sum_by}
 use Rattle.order_match.specs.declared.request.Side.{Side}
 use Rattle.order_match.specs.declared.request.Side.TheVariants.{Buy, Sell}

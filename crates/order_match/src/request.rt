@@ -1,4 +1,4 @@
-ghost use Rattle.std.specs.Prelude.{◌≡◌, ◌<◌, ◌∷◌, length, IfOk};
+ghost use Rattle.std.specs.Prelude.{◌≡◌, ◌<◌, length, IfOk};
 ghost use Rattle.order_match.specs.Requests.{placing, read_request, request_bytes, side_kind};
 
 use byteorder::{BigEndian, ByteOrder};

@@ -14,8 +14,13 @@ fn place(side: Side, price: u32, quantity: u32) -> Request {
 /// A member's request goes into the book by its payload.
 fn ask(alloc: Global, book: &mut Book, member: Member, request: Request) -> Result<(), Memory> {
     let payload = write_request(alloc, &request)?;
+    put(book, member, payload.as_slice())
+}
+
+/// A payload goes into a book that has few.
+fn put(book: &mut Book, member: Member, payload: &[u8]) -> Result<(), Memory> {
     if book.events() < 100 {
-        book.add(member, payload.as_slice())?;
+        book.add(member, payload)?;
     }
     Ok(())
 }
@@ -71,7 +76,7 @@ fn matches_by_price_and_time(rt: HostRuntime) -> Result<(), Fail> {
     for (member, request) in REQUESTS {
         ask(rt.alloc(), &mut book, member, request)?;
     }
-    book.add(1, b"?")?;
+    put(&mut book, 1, b"?")?;
     let first = Trade {
         buyer: 3,
         seller: 1,
