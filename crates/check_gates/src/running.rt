@@ -2,6 +2,7 @@
 
 use crate::trouble::Trouble;
 use hg_io::{Gate, ShelfMem, SinkMem};
+use hg_model::Memory;
 use hg_top::{Status, hashgraph};
 use std::alloc::{AllocError, Global};
 use std::sync::Wait;
@@ -29,8 +30,8 @@ fn words(alloc: Global, workers: &str) -> Result<Vec<String>, AllocError> {
     Ok(words)
 }
 
-/// A shelf of the members' file and this script.
-fn shelf(alloc: Global, script: &str) -> Result<ShelfMem, Trouble> {
+/// The members' file and this script, each with its name.
+fn files(alloc: Global, script: &str) -> Result<Vec<(String, Vec<u8>)>, Memory> {
     let mut files = Vec::new(alloc);
     files.push((
         String::from_str(alloc, "members.toml")?,
@@ -40,7 +41,7 @@ fn shelf(alloc: Global, script: &str) -> Result<ShelfMem, Trouble> {
         String::from_str(alloc, "script.txt")?,
         Vec::from_slice(alloc, script.as_bytes())?,
     ))?;
-    Ok(ShelfMem::new(alloc, files, Vec::new(alloc))?)
+    Ok(files)
 }
 
 /// What the program writes at this gate.
@@ -52,7 +53,7 @@ pub fn report<R: Threads + Wait + Sync, G: Gate + Sync>(
     gate: &G,
 ) -> Result<SinkMem, Trouble> {
     let words = words(alloc, workers)?;
-    let mut shelf = shelf(alloc, script)?;
+    let mut shelf = ShelfMem::new(alloc, files(alloc, script)?, Vec::new(alloc))?;
     let mut out = SinkMem::new(alloc, 65_536, 65_536, Vec::new(alloc))?;
     let mut err = SinkMem::new(alloc, 4096, 4096, Vec::new(alloc))?;
     let status = hashgraph(
