@@ -81,6 +81,10 @@ impl<S: Sight, R: Rounds> Sight for Frozen<S, R> {
     fn strongly_sees(&self, x: usize, y: usize) -> bool {
         self.sight.strongly_sees(x, y)
     }
+
+    fn counts(&self, x: usize) -> Option<&[u32]> {
+        self.sight.counts(x)
+    }
 }
 
 impl<S: Sight, R: Rounds> Rounds for Frozen<S, R> {

@@ -11,7 +11,7 @@ ghost use Rattle.hg_graph.specs.RowsWithRoom.{found_place};
 ghost use Rattle.hg_graph.specs.Held.{IsHeld, first_graph, graph_with};
 
 use crate::store::RowStore;
-use hg_ancestry::BitSight;
+use hg_branches::BranchSight;
 use hg_event::Event;
 use hg_forks::Watch;
 use hg_frozen::Frozen;
@@ -22,7 +22,7 @@ use std::marker::Model;
 use std::sync::Arc;
 
 /// What knows the sight in a node's graph. Another one that is `Growing` is a change of this line and of its import.
-type NodeSight = BitSight;
+type NodeSight = BranchSight;
 
 /// The first rows of a node's graph, as a value of its own: what workers read.
 pub type FrozenGraph = Frozen<NodeSight, RoundTable>;
@@ -140,6 +140,7 @@ impl EventGraph {
         self.watch.add(creator, parents.self_parent());
         let (round, witness) = place_round(&self.sight, &self.rounds, parents);
         self.rounds.add(round, witness);
+        keep_witness(&mut self.sight, witness);
         self.store.push(event);
     }
 
@@ -161,6 +162,15 @@ impl EventGraph {
         ensures { IfOk result (λ frozen. frozen ≡ self.now.graph) }
     {
         self.prefix(self.store.len())
+    }
+}
+
+/// Later rows will be asked whether they strongly see the last row, if it is a witness.
+fn keep_witness(sight: &mut NodeSight, witness: bool)
+    ensures { sight.new ≡ sight.old }
+{
+    if witness {
+        sight.keep_last();
     }
 }
 
@@ -193,6 +203,10 @@ impl Sight for EventGraph {
 
     fn strongly_sees(&self, x: usize, y: usize) -> bool {
         self.sight.strongly_sees(x, y)
+    }
+
+    fn counts(&self, x: usize) -> Option<&[u32]> {
+        self.sight.counts(x)
     }
 }
 

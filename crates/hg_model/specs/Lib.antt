@@ -7,6 +7,7 @@ pub mod Forks
 pub mod Seeing
 pub mod Graph
 pub mod Shape
+pub mod Counts
 pub mod Rounds
 pub mod Standings
 pub mod Votes

@@ -1,9 +1,10 @@
-ghost use Rattle.std.specs.Prelude.{◌≡◌, ℕ, ◌<◌, ◌≤◌, ◌+◌, ◌-◌, ◌^◌, length, IfOk, OnOk};
+ghost use Rattle.std.specs.Prelude.{◌≡◌, ℕ, ◌<◌, ◌≤◌, ◌+◌, ◌-◌, ◌^◌, length, IfOk, IfSome, OnOk};
 ghost use Rattle.hg_model.specs.Stakes.{member_count};
 ghost use Rattle.hg_model.specs.Links.{creator, self_parent};
 ghost use Rattle.hg_model.specs.Ancestry.{is_ancestor};
 ghost use Rattle.hg_model.specs.Seeing.{sees, strongly_sees};
 ghost use Rattle.hg_model.specs.Shape.{Shape, FitsLink, first_links, link_of, place_list, with_link};
+ghost use Rattle.hg_model.specs.Counts.{CountsMembersIn};
 ghost use Rattle.hg_model.specs.GraphWords.{strongly_sees_in, IsShapedIn, sees_in};
 
 use crate::memory::Memory;
@@ -55,6 +56,15 @@ pub trait Sight {
         requires left { x < length (shape self.now).links }
         requires right { y < length (shape self.now).links }
         ensures { result ≡ strongly_sees_in (shape self.now) x y };
+
+    /// The ancestors of row `x` by member, where the sight counts them and no member has a fork: for each member one more
+    /// than the place of its last row among them, or 0. A sight that does not count answers `None`.
+    fn counts(&self, x: usize) -> Option<&[u32]>
+        requires { x < length (shape self.now).links }
+        ensures { IfSome result (λ counts. CountsMembersIn (shape self.now) x counts.now) }
+    {
+        None
+    }
 }
 
 /// A graph that takes rows one by one.

@@ -1,4 +1,5 @@
-use Rattle.std.proofs.Common.{◌∙◌}
+use Rattle.std.proofs.Common.{◌∙◌, ap}
+use Rattle.hg_model.specs.Shape.{ShapeWithRoom}
 use Rattle.hg_graph.proofs.HeldLaws.{comes}
 use Rattle.hg_graph.proofs.graph.EventGraph.push.Goals as goal
 
@@ -30,5 +31,5 @@ push-requires-clause-new c =
 pub invariant_of-self : goal.invariant_of-self
 invariant_of-self c =
     let p = comes c.self.view_is c.self.invariant c.row.ensures.value c.deref.ensures c.args.parents c.requires.limit c.row.ensures.spelled c.requires.link c.requires.graph in
-    p.keeps c.self_parent.result c.self_parent.ensures c.push.new.self.rows c.extend.new.self.shape c.add.new.self.shape c.add-2.new.self.standings
-    c.push.ensures c.extend.ensures c.add.ensures (c.add-2.ensures ∙ c.place_round-round.ensures.whole)
+    p.keeps c.self_parent.result c.self_parent.ensures c.push.new.self.rows c.keep_witness.new.sight.shape c.add.new.self.shape c.add-2.new.self.standings
+    c.push.ensures (ap (λ (s : ShapeWithRoom). s.shape) c.keep_witness.ensures ∙ c.extend.ensures) c.add.ensures (c.add-2.ensures ∙ c.place_round-round.ensures.whole)
