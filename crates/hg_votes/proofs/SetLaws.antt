@@ -1,10 +1,10 @@
 -- Sets of slots in one stretch of words: the sets that are there, and one more after them
-use Rattle.std.proofs.Common.{◌≡◌, ℕ, zero, suc, ◌+◌, ◌-◌, ◌*◌, ◌<◌, ◌≤◌, List, [], ◌∷◌, ◌++◌, length, map, take, drop, get_or, replicate, refl, sym, ap, ap₂, ◌∙◌, subst, arith, length-append}
-use Rattle.std.proofs.lemmas.List.{append-nil, map-append, drop-append-le, take-append-le, length-drop, length-replicate, take_all}
+use Rattle.std.proofs.Common.{◌≡◌, ℕ, suc, ◌+◌, ◌-◌, ◌≤◌, List, [], ◌∷◌, ◌++◌, length, map, take, drop, replicate, refl, ap, ap₂, ◌∙◌, arith, length-append}
+use Rattle.std.proofs.lemmas.List.{append-nil, map-append, drop-append-le, take-append-le, length-drop, take_all}
 use Rattle.std.proofs.Math.Seq.{take-append_seam, drop-append_seam, take-length}
 use Rattle.std.proofs.Math.ListN.{drop_of_length-le}
 use Rattle.hg_votes.specs.declared.sets.Span.{Span}
-use Rattle.hg_votes.specs.Slots.{AreWithin, no_span, words_in}
+use Rattle.hg_votes.specs.Slots.{AreWithin, words_in}
 
 -- words that come later leave the sets
 within_later : (old more : List ℕ) (span : Span) → span.start ≤ span.end → span.end ≤ length old → words_in (old ++ more) span ≡ words_in old span

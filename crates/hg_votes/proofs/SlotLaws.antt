@@ -1,5 +1,5 @@
 -- Sets of slots: how many slots they share
-use Rattle.std.proofs.Common.{◌≡◌, ℕ, zero, suc, ◌+◌, ◌-◌, ◌*◌, ◌/◌, ◌^◌, ◌<◌, ◌≤◌, Bool, true, false, cond, not, ◌&&◌, ◌||◌, eqb, ltb, max, List, [], ◌∷◌, length, take, get_or, count_by, replicate, refl, sym, ap, ap₂, ◌∙◌, inl, inr, arith, add-zero, add-suc, add-one, w64}
+use Rattle.std.proofs.Common.{◌≡◌, ℕ, zero, suc, ◌+◌, ◌*◌, ◌^◌, ◌<◌, ◌≤◌, Bool, true, false, not, ◌&&◌, ◌||◌, eqb, ltb, max, List, length, take, get_or, count_by, replicate, refl, sym, ap, ap₂, ◌∙◌, inl, inr, arith, add-zero, add-suc, add-one, w64}
 use Rattle.std.specs.Prelude.{bit_and, count_ones}
 use Rattle.std.specs.Int.{bit_not}
 use Rattle.std.proofs.lemmas.Bool.{cases_Bool, cases_order, and_left, and_parts, eq-eqb, ne_eqb, lt-ltb, le-ltb}

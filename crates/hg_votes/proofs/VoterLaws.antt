@@ -1,15 +1,14 @@
 -- Who the voters of a witness are
-use Rattle.std.proofs.Common.{◌≡◌, ℕ, ◌+◌, ◌-◌, ◌<◌, ◌≤◌, Bool, true, false, ◌&&◌, eqb, List, [], ◌∷◌, ◌++◌, length, get_or, IsTrue, refl, sym, ap, ap₂, ◌∙◌, subst, inl, inr, arith, append_assoc}
-use Rattle.std.specs.List.{AllByRecursion, filter}
+use Rattle.std.proofs.Common.{◌≡◌, ℕ, ◌+◌, ◌-◌, ◌<◌, ◌≤◌, true, false, ◌&&◌, eqb, List, [], ◌∷◌, ◌++◌, length, get_or, IsTrue, sym, ap, ap₂, ◌∙◌, subst, inl, inr, arith, append_assoc}
+use Rattle.std.specs.List.{AllByRecursion}
 use Rattle.std.proofs.lemmas.Bool.{both_ways, cases_lt, cases_order}
 use Rattle.std.proofs.lemmas.List.{get_or_append_left, get_or_push, length_push}
-use Rattle.hg_model.specs.Places.{list_below, IsEarlier}
+use Rattle.hg_model.specs.Places.{IsEarlier}
 use Rattle.hg_model.specs.Stakes.{Stakes}
 use Rattle.hg_model.specs.Links.{Link, parents}
-use Rattle.hg_model.specs.Seeing.{strongly_sees}
 use Rattle.hg_model.specs.Rounds.{round_of, is_witness}
 use Rattle.hg_model.specs.Votes.{is_voter}
-use Rattle.hg_model.specs.Shape.{Shape, shape_of}
+use Rattle.hg_model.specs.Shape.{Shape}
 use Rattle.hg_model.specs.Orders.{IsPrefix}
 use Rattle.hg_model.specs.GraphWords.{is_witness_in, round_in, shape_in, standings_in, strongly_sees_in}
 use Rattle.hg_model.proofs.PlacesLaws.{count_below-le, count_below_fails, count_below_passes, count_below_zero, weight_below_grows}
@@ -17,13 +16,12 @@ use Rattle.hg_model.specs.Standings.{Standing, standings_of, witnesses_in}
 use Rattle.hg_model.specs.Prefix.{Graph, links_of}
 use Rattle.hg_model.proofs.SeenLaws.{seen_witness_is}
 use Rattle.hg_model.proofs.LinkLaws.{length-links}
-use Rattle.hg_model.proofs.ListLaws.{all_list_below, filter-list_below, length-list_below-le}
+use Rattle.hg_model.proofs.ListLaws.{all_list_below, length-list_below-le}
 use Rattle.hg_model.proofs.StandingLaws.{witnesses_in-standings}
 use Rattle.hg_model.proofs.AncestryLaws.{is_ancestor-le}
 use Rattle.hg_model.proofs.RoundLaws.{round_of-pos}
 use Rattle.hg_model.proofs.SightLaws.{strongly_sees-is_ancestor}
 use Rattle.hg_votes.specs.Slots.{IsSetOf}
-use Rattle.hg_votes.specs.Tallies.{voters_of}
 use Rattle.hg_votes.specs.Counting.{Entered, HoldsVoters, IsVotersOf, number_of}
 
 -- the witnesses of a round are places of the graph

@@ -1,5 +1,5 @@
 -- Sets of slots. A slot is an index in a list of places, as in that of the witnesses of a round
-use Rattle.std.specs.Prelude.{ℕ, ◌≡◌, ◌+◌, ◌*◌, ◌<◌, ◌≤◌, Bool, ◌&&◌, not, nat_lt, List, [], ◌∷◌, ◌++◌, length, slice_index, slice_range, map, get_or}
+use Rattle.std.specs.Prelude.{ℕ, ◌≡◌, ◌+◌, ◌*◌, ◌<◌, ◌≤◌, Bool, ◌&&◌, not, nat_lt, List, [], ◌∷◌, ◌++◌, length, slice_index, slice_range, get_or}
 use Rattle.hg_model.specs.Places.{count_below}
 use Rattle.hg_bits.specs.Words.{has_bit}
 use Rattle.hg_votes.specs.declared.sets.Span.{Span}

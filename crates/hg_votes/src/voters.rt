@@ -64,7 +64,8 @@ impl Voters {
         self.numbers.reserve(1)?;
         let number = self.sets.len() as u32;
         if p.is_witness(y) {
-            self.sets.push_seen(p, p.witnesses(p.round(y).saturating_sub(1)), y)?;
+            self.sets
+                .push_seen(p, p.witnesses(p.round(y).saturating_sub(1)), y)?;
         }
         self.numbers.push_reserved(number);
         Ok(())

@@ -1,4 +1,4 @@
-use Rattle.std.proofs.Common.{◌≡◌, ◌∙◌, ◌-◌, ◌<◌, ℕ, Bool, List, [], length, get_or, sym, subst, ap, ap₂, arith, refl, rules, slice_index_or}
+use Rattle.std.proofs.Common.{◌≡◌, ◌∙◌, ◌-◌, ℕ, List, [], length, get_or, sym, subst, ap, ap₂, arith, refl, rules, slice_index_or}
 use Rattle.std.proofs.lemmas.List.{take_all}
 use Rattle.hg_model.specs.declared.ballot.Ballot.{Ballot}
 use Rattle.hg_model.specs.GraphWords.{vote_in}

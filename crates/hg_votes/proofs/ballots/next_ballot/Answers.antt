@@ -1,4 +1,4 @@
-use Rattle.std.proofs.Common.{◌≡◌, ◌≢◌, ◌∙◌, ◌-◌, ℕ, ap, subst, arith, refl}
+use Rattle.std.proofs.Common.{◌∙◌, ap, subst, arith}
 use Rattle.hg_model.specs.Places.{IsEarlier}
 use Rattle.hg_model.specs.Links.{parents}
 use Rattle.hg_model.specs.Seeing.{sees}

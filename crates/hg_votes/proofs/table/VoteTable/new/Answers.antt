@@ -1,4 +1,4 @@
-use Rattle.std.proofs.Common.{◌≡◌, ◌≤◌, ◌*◌, ◌<◌, ◌∙◌, ℕ, List, length, ap, subst, sym, arith}
+use Rattle.std.proofs.Common.{◌≡◌, ℕ, List, length, ap, subst, sym, arith}
 use Rattle.std.proofs.lemmas.Grind.{div_ceil_times}
 use Rattle.hg_votes.specs.Counting.{HasRoom, HoldsVoters}
 use Rattle.hg_votes.proofs.VoterLaws.{entered_none}

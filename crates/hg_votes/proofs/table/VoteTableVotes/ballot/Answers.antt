@@ -1,8 +1,6 @@
 use Rattle.std.proofs.Common.{◌≡◌, ◌∙◌, ◌<◌, ℕ, length, get_or, ap, ap₂, refl, arith}
 use Rattle.std.proofs.lemmas.List.{get_or_read_under}
-use Rattle.hg_model.specs.declared.ballot.Ballot.{Ballot}
-use Rattle.hg_model.specs.Prefix.{Graph, IsCounted}
-use Rattle.hg_votes.specs.Counting.{Counting, Entered, IsMadeFor, number_of}
+use Rattle.hg_votes.specs.Counting.{Counting, number_of}
 use Rattle.hg_votes.specs.Tallies.{no_ballot}
 use Rattle.hg_votes.proofs.VoterLaws.{number-below}
 use Rattle.hg_votes.proofs.table.VoteTableVotes.ballot.Goals as goal
