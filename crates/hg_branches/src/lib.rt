@@ -9,6 +9,8 @@ mod branches;
 mod counts;
 mod forks;
 mod kept;
+#[cfg(test)]
+mod made;
 mod seeing;
 mod sight;
 #[cfg(test)]
