@@ -1,4 +1,4 @@
-//! Tests of public calls of `hg_script` and `hg_node`, each with values from outside.
+//! Tests of public calls of `hg_script` and `hg_node`, and of `hg_votes` and `hg_fame`, with values from outside.
 //! They stand above these crates so that their code is proved once; a crate with tests of its own is proved twice.
 //! There is nothing here but tests.
 //!

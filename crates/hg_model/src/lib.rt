@@ -1,4 +1,4 @@
-//! The hashgraph's types and definitions: what every other crate's contracts speak of.
+//! The hashgraph's types and definitions: what the contracts of the crates above speak of.
 //! `specs/` is the text that a reader must believe; it follows SWIRLDS-TR-2016-01 and computes on written-out graphs.
 //! The layers above use the types below, the words of `specs/` and the lemmas of `proofs/`.
 //!
