@@ -14,4 +14,6 @@
 
 mod laws;
 
-pub use laws::{fork_is_seen_once, quorums_share_an_honest_member, report_is_kept, sight_grows};
+pub use laws::{
+    fork_is_seen_once, quorums_share_a_member_without_fork, report_is_kept, sight_grows,
+};

@@ -6,7 +6,7 @@ use Rattle.hg_model.specs.Links.{links}
 use Rattle.hg_model.specs.Forks.{has_fork, forking}
 use Rattle.hg_quorum.proofs.QuorumLaws.{quorums_meet}
 use Rattle.hg_quorum.specs.Members.{QuorumsMeet}
-use Rattle.hg_quorum.proofs.laws.quorums_share_an_honest_member.Goals as goal
+use Rattle.hg_quorum.proofs.laws.quorums_share_a_member_without_fork.Goals as goal
 
 weighed : QuorumsMeet
 weighed weight n one two few many_one many_two low =
