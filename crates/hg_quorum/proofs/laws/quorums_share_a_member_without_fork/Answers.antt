@@ -17,7 +17,7 @@ weighed weight n one two few many_one many_two low =
 pub returns-clause-weighed : goal.returns-clause-weighed
 returns-clause-weighed c = weighed
 
-pub returns-clause-honest : goal.returns-clause-honest
-returns-clause-honest c = λ n G g one two many_one many_two.
+pub returns-clause-without_fork : goal.returns-clause-honest
+returns-clause-without_fork c = λ n G g one two many_one many_two.
     let low = g.few_forkers in
     weighed (stake_of n) (member_count n) one two (has_fork (links G)) (unfold total in many_one) (unfold total in many_two) (unfold forking total in low)
