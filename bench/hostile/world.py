@@ -40,8 +40,11 @@ class World:
     def some_forgers(self):
         """Mostly so many as the premises of safety bear, and at times one more, or everybody."""
         most = (self.n - 1) // 3
-        count = self.draw.choice((0, most, most, most, most, most + 1, self.n))
+        count = self.draw.choice(self.forger_counts(most))
         return self.draw.sample(range(self.n), count)
+
+    def forger_counts(self, most):
+        return 0, most, most, most, most, most + 1, self.n
 
     def some_kinds(self):
         kinds = {kind: often * self.draw.choice((0.2, 1, 1, 3)) for kind, often in KINDS.items()}
