@@ -1,5 +1,6 @@
 """A run of the built program, or of another that takes the same words, over two files."""
 
+import argparse
 import os
 import subprocess
 from collections import namedtuple
@@ -36,3 +37,15 @@ def play(program, folder, workers=0, environment=None):
     """A run over the files that `put_files` put into the folder."""
     words = ["run", "--members", "members.toml", "--script", "script.txt"]
     return run(program, folder, *words, *(["--workers", str(workers)] if workers else []), environment=environment)
+
+
+def options(text):
+    """A reader of words with what all scripts take; `text` says what the script does."""
+    parser = argparse.ArgumentParser(description=text, formatter_class=argparse.RawDescriptionHelpFormatter)
+    parser.add_argument("--program", default=PROGRAM, type=os.path.abspath, metavar="FILE")
+    return parser
+
+
+def other_outcome(program, folder):
+    """What another program comes to; one that takes more events by itself is told the limit."""
+    return play(program, folder, environment=dict(os.environ, HG_LIMIT="16384"))
