@@ -1,10 +1,12 @@
 ghost use Rattle.std.specs.Prelude.{◌≡◌, ◌<◌, ◌≤◌, All, IfOk, OnErr, OnOk, [], get_or, length, replicate, slice_set};
+ghost use Rattle.std.specs.Option.{option_to_list};
 ghost use Rattle.hg_model.specs.Calls.{IsSettled, publish_answer};
 ghost use Rattle.hg_model.specs.NodeView.{IsNode, node_rows};
 ghost use Rattle.hg_model.specs.Places.{table};
 ghost use Rattle.hg_model.specs.Signing.{accepts_by, secrets_of};
 ghost use Rattle.hg_model.specs.Spelling.{spelling};
 ghost use Rattle.hg_node.specs.ChronicleView.{IsFoundBy};
+ghost use Rattle.hg_gossip.specs.Holding.{WouldSign, WouldTake, rules_alone, seen_whole};
 ghost use Rattle.hg_world.specs.World.{new_node, worker_count};
 ghost use Rattle.hg_world.specs.Steps.{putting_at};
 ghost use Rattle.hg_world.specs.Kept.{nth_node};
@@ -104,6 +106,7 @@ pub(crate) fn make(
     ensures ok { OnOk result (nodes.new.items ≡ nodes_made nodes.old.items m other time payload.now) }
     ensures node { OnOk result (IsNode accepts_by (nth_made nodes.old.items m other time payload.now)) }
     ensures err { OnErr result (nodes.new.items ≡ nodes.old.items) }
+    ensures free { OnErr result (WouldSign (seen_whole (nth_node nodes.old.items m)) (option_to_list other) payload.now) }
 {
     let node = &mut nodes[m];
     let answer = node.make(other, time, payload)?;
@@ -122,6 +125,7 @@ pub(crate) fn put(
     ensures ok { OnOk result (nodes.new.items ≡ nodes_put nodes.old.items m bytes.now) }
     ensures node { OnOk result (IsNode accepts_by (nth_put nodes.old.items m bytes.now)) }
     ensures err { OnErr result (nodes.new.items ≡ nodes.old.items) }
+    ensures free { OnErr result (WouldTake (rules_alone accepts_by) (seen_whole (nth_node nodes.old.items m)) bytes.now) }
 {
     let node = &mut nodes[m];
     let answer = node.put(bytes)?;
