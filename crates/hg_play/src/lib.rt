@@ -25,8 +25,6 @@ mod printing;
 mod seated;
 mod seats;
 mod shared;
-#[cfg(test)]
-mod tests;
 mod through;
 
 pub use laws::{lines_are_steps, lines_need_rows_alone, steps_need_rows_alone};
