@@ -24,3 +24,4 @@ mod words;
 
 pub use masks::{join_masks, mask_has, meet_masks, members_over, with_member};
 pub use row::BitRow;
+pub use words::set_bit;

@@ -1,3 +1,5 @@
+pub mod SlotLaws
+pub mod SetLaws
 pub mod VoterLaws
 pub mod BallotLaws
 pub mod CountLaws

@@ -14,6 +14,8 @@
 #![tactic(auto, using(hg_model::proofs::StandingLaws::standings_known, hg_model::proofs::LinkLaws::link_lengths))]
 
 mod ballots;
+mod sets;
+mod slots;
 mod table;
 mod tally;
 mod voters;
