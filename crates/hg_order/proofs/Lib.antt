@@ -7,3 +7,4 @@ pub mod RowLaws
 pub mod WhiteLaws
 pub mod KeepLaws
 pub mod RoundLaws
+pub mod BoundLaws

@@ -4,6 +4,7 @@
 #![tactic(auto)]
 
 mod famous;
+mod least;
 mod order;
 mod received;
 #[cfg(test)]
@@ -12,7 +13,8 @@ mod time;
 mod white;
 
 pub use famous::unique_famous;
+pub use least::least_counts;
 pub use order::order_round;
-pub use received::received_in;
+pub use received::{received_below, received_in};
 pub use time::time_of;
 pub use white::white_cmp;
