@@ -8,3 +8,8 @@ pub mod WhiteLaws
 pub mod KeepLaws
 pub mod RoundLaws
 pub mod BoundLaws
+pub mod TallyLaws
+pub mod GainLaws
+pub mod EndLaws
+pub mod MedianLaws
+pub mod CountLaws
