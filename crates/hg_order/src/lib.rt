@@ -19,15 +19,22 @@
 #![tactic(auto)]
 
 mod famous;
+mod holders;
+mod least;
+mod memory;
 mod order;
+mod placing;
 mod received;
+mod tally;
 #[cfg(test)]
 mod tests;
 mod time;
 mod white;
 
 pub use famous::unique_famous;
-pub use order::order_round;
-pub use received::received_in;
+pub use least::least_counts;
+pub use memory::RoundMemory;
+pub use order::{order_round, order_round_within};
+pub use received::{received_below, received_in};
 pub use time::time_of;
 pub use white::white_cmp;
