@@ -83,6 +83,15 @@ impl BranchSight {
         }
     }
 
+    /// One more than the place of the last row of the member's own branch, or 0: where to look first for its last row. No
+    /// clause speaks of it.
+    pub fn own_end(&self, member: Member) -> usize {
+        match self.ends.get(usize::from(member)) {
+            None => 0,
+            Some(end) => *end as usize,
+        }
+    }
+
     /// The members with a fork among the ancestors of row `x`.
     pub(crate) fn forked_below(&self, x: usize) -> u128
         requires { x < length self.now.shape.links }

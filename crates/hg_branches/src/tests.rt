@@ -25,7 +25,11 @@ fn fits<S: Sight>(sight: &S, parents: Parents, creator: Member) -> bool
 }
 
 // Adds the row if it fits, and answers whether it does.
-fn add<S: Growing>(sight: &mut S, parents: Parents, creator: Member) -> Result<bool, Memory> {
+pub(crate) fn add<S: Growing>(
+    sight: &mut S,
+    parents: Parents,
+    creator: Member,
+) -> Result<bool, Memory> {
     sight.reserve()?;
     if sight.rows() > 1000 || !fits(&*sight, parents, creator) {
         return Ok(false);
@@ -42,7 +46,7 @@ fn on(pair: Option<(usize, usize)>) -> Parents {
 }
 
 // Whether both answer alike for any two rows.
-fn agree(sight: &BranchSight, bits: &BitSight) -> bool {
+pub(crate) fn agree(sight: &BranchSight, bits: &BitSight) -> bool {
     let rows = sight.rows();
     if bits.rows() != rows {
         return false;

@@ -5,7 +5,7 @@ ghost use Rattle.hg_order.specs.Famous.{AreFamous, all_have};
 ghost use Rattle.hg_kept.specs.Waiting.{places_to, received_of, left_of};
 
 use hg_model::{Memory, Prefix, is_of_graph};
-use hg_order::received_in;
+use hg_order::{least_counts, received_below};
 use std::alloc::Global;
 use std::marker::Model;
 
@@ -127,10 +127,11 @@ fn move_received<P: Prefix>(
     ensures others { take result places.new ≡ left_of (P.graph p.now) famous.now places.old }
     ensures room { vec_capacity fresh.new ≡ vec_capacity fresh.old }
 {
+    let least = least_counts(p, famous);
     let mut kept = 0;
     for i in 0..places.len() {
         let x = places[i];
-        if received_in(p, famous, x) {
+        if received_below(p, famous, &least, x) {
             fresh.push_reserved(x);
         } else {
             places[kept] = x;

@@ -24,7 +24,7 @@ use Rattle.hg_model.proofs.SightLaws.{strongly_sees-is_ancestor}
 use Rattle.hg_model.proofs.StandingLaws.{witnesses_in-standings}
 use Rattle.hg_bits.specs.Words.{has_bit}
 use Rattle.hg_votes.specs.Slots.{HoldsSlots}
-use Rattle.hg_votes.specs.Counting.{Begins, Entered, HoldsVoters, IsVotersOf, number_of, witnesses_of}
+use Rattle.hg_votes.specs.Counting.{Begins, CarriesTo, Counting, Entered, HoldsVoters, IsVotersOf, number_of, witnesses_of}
 
 -- more places, after the first
 list_below-add : (a b : ℕ) (test : ℕ → Bool) → list_below (λ k. k) (a + b) test ≡ list_below (λ k. k) a test ++ list_below (λ k. a + k) b (λ k. test (a + k))
@@ -115,7 +115,7 @@ module _ (n : Stakes) (c : ℕ) (G more : List Row) (shaped : IsShaped n (links 
 
     slots_stay : HoldsSlots set (witnesses_of later r) (strongly_sees n (links (G ++ more)) y)
     slots_stay = record {
-      bits = λ i. elim (cases_lt i (length (witnesses_of first r))) [ inl inside ↦ old_slot i inside | inr past ↦ new_slot i past ];
+      bits = λ i. elim (cases_lt i (length (witnesses_of first r))) [ | inl inside ↦ old_slot i inside | inr past ↦ new_slot i past ];
     }
 
   more_witnesses : (r : ℕ) → length (witnesses_of first r) ≤ length (witnesses_of later r)
@@ -148,3 +148,15 @@ entered_later first g entered begins shaped whole held =
 -- the graph without rows
 pub begins_empty : (g : Graph) → Begins (graph_of g.members g.coin []) g
 begins_empty g = record { members = refl; coin = refl; rows = (g.rows, refl) }
+
+pub begins_itself : (g : Graph) → Begins g g
+begins_itself g = record { members = refl; coin = refl; rows = ([], sym (append-nil g.rows)) }
+
+pub carries_on : (counting : Counting) (g later : Graph) → CarriesTo counting g → Begins g later → CarriesTo counting later
+carries_on counting g later carries two =
+    let one = carries.2 in
+    (carries.0, carries.1, record {
+      members = one.members ∙ two.members;
+      coin = one.coin ∙ two.coin;
+      rows = (one.rows.0 ++ two.rows.0, two.rows.1 ∙ (ap (λ rows. rows ++ two.rows.0) one.rows.1 ∙ append_assoc carries.0.rows one.rows.0 two.rows.0));
+    })

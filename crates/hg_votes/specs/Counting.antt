@@ -76,3 +76,7 @@ pub record IsMadeFor (counting : Counting) (g : Graph) : Type 0 where
   pub ballots : HoldsBallots g counting.candidate counting.counted counting.ballots
   pub voted : HoldsVoted g counting.candidate counting.counted counting.voted
   pub opened : 0 < counting.counted → IsOpened g counting.candidate counting.counted
+
+-- it is made for a graph from which this one goes on
+abbrev pub CarriesTo : Counting → Graph → Type 0
+CarriesTo counting g = (first : Graph) × IsMadeFor counting first × Begins first g

@@ -1,9 +1,17 @@
 //! Votes on the fame of a witness, round by round: a ballot for each later witness, from those of its voters.
-//! The layer above uses `VoteTable` as the `Votes` of `hg_model`. The plain program uses how one ballot is found,
-//! `count_votes` and `weigh`.
-//! Voters are found once, when their witness is entered, and a table is carried from a prefix to one that goes on from it.
-//! A set of voters has a bit for each slot: each index in the list of the witnesses of the round before. A ballot then
-//! costs a word or two for 128 members, and no memory.
+//! The layer above uses `VoteTable` as the `Votes` of `hg_model`; the plain program uses `count_votes` and `weigh`.
+//! Voters are found once, as sets of slots, which are indices among the witnesses of the round before; a table is carried
+//! to a longer prefix, and a ballot costs a word of voters for every 64 slots, and no memory.
+//!
+//! From `found_by` of `hg_world`, what a share of the witnesses decides in the first `len` rows of a node:
+//!
+//! ```text
+//! node.rows();
+//! let frozen = node.prefix(len)?;
+//! let mut votes = VoteTable::new(alloc, &frozen)?;
+//! let found = elect_share(alloc, &frozen, &mut votes, share)?;
+//! Ok(found)
+//! ```
 #![tactic(auto, using(hg_model::proofs::StandingLaws::standings_known, hg_model::proofs::LinkLaws::link_lengths))]
 
 mod ballots;

@@ -1,8 +1,9 @@
-ghost use Rattle.std.specs.Prelude.{ℕ, ◌≡◌, ◌≤◌, length, vec_len, IfOk, OnOk, OnErr};
+ghost use Rattle.std.specs.Prelude.{ℕ, ◌≡◌, ◌≤◌, [], length, vec_len, IfOk, OnOk, OnErr};
 ghost use Rattle.hg_model.specs.Orders.{IsPrefix};
-ghost use Rattle.hg_model.specs.Prefix.{Graph};
+ghost use Rattle.hg_model.specs.Prefix.{graph_of};
+ghost use Rattle.hg_model.specs.Stakes.{Stakes};
 ghost use Rattle.hg_model.specs.GraphWords.{shape_in, IsShapedIn};
-ghost use Rattle.hg_votes.specs.Counting.{Begins, HoldsVoters, IsMadeFor, witnesses_of};
+ghost use Rattle.hg_votes.specs.Counting.{CarriesTo, HoldsVoters, IsMadeFor, witnesses_of};
 
 use crate::ballots::count_round;
 use crate::voters::Voters;
@@ -94,18 +95,25 @@ fn enter_or_leave<P: Prefix>(
 }
 
 impl VoteTable {
-    /// The table of a prefix, without a candidate.
-    pub fn new<P: Prefix>(alloc: Global, p: &P) -> Result<VoteTable, Memory>
-        ensures { IfOk result (λ table. IsMadeFor table (P.graph p.now)) }
+    /// The table of no rows, by whatever members. Takes no memory.
+    pub fn empty(alloc: Global) -> VoteTable
+        ensures { (members : Stakes) (coin : ℕ) → IsMadeFor result (graph_of members coin []) }
     {
-        let mut table = VoteTable {
+        VoteTable {
             voters: Voters::new(alloc),
             ballots: Vec::new(alloc),
             voted: Vec::new(alloc),
             next: Vec::new(alloc),
             candidate: 0,
             counted: 0,
-        };
+        }
+    }
+
+    /// The table of a prefix, without a candidate.
+    pub fn new<P: Prefix>(alloc: Global, p: &P) -> Result<VoteTable, Memory>
+        ensures { IfOk result (λ table. IsMadeFor table (P.graph p.now)) }
+    {
+        let mut table = VoteTable::empty(alloc);
         table.carry(alloc, p)?;
         Ok(table)
     }
@@ -113,7 +121,7 @@ impl VoteTable {
     /// Makes it the table of this prefix, which goes on from the one that it was made for, without a candidate.
     /// An error leaves the table.
     pub fn carry<P: Prefix>(&mut self, alloc: Global, p: &P) -> Result<(), Memory>
-        requires { (first : Graph) × IsMadeFor self.old first × Begins first (P.graph p.now) }
+        requires { CarriesTo self.old (P.graph p.now) }
         ensures ok { OnOk result (IsMadeFor self.new (P.graph p.now)) }
         ensures err { OnErr result (self.new ≡ self.old) }
     {

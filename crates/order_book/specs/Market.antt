@@ -80,9 +80,13 @@ after_action w action = cond (is_action_of w action) (after_steps w (action_step
 abbrev pub after_actions : WorldView → List Action → WorldView
 after_actions w actions = fold after_action w actions
 
--- of the books of any two nodes one is an earlier state of the other, where the dishonest members have less than a third of
--- the stake and names do not collide
+-- the events that the first node has ordered begin those of the second, and so its book is an earlier state
+abbrev pub IsBookBefore : WorldView → ℕ → ℕ → Type 0
+IsBookBefore w j k = IsPrefix (events_at w j) (events_at w k) × IsEarlier (book_at w j) (book_at w k)
+
+-- of the ordered events of any two nodes the ones begin the others, and so do their books, where the dishonest members
+-- have less than a third of the stake and names do not collide
 abbrev pub AreOneBook : WorldView → Type 0
 AreOneBook w =
     3 * dishonest w.members w.coin (run_of w) < total w.members → AreApart w.members w.coin (run_of w) →
-    (j k : ℕ) → IsMemberOf w j → IsMemberOf w k → IsOneEarlier (book_at w j) (book_at w k)
+    (j k : ℕ) → IsMemberOf w j → IsMemberOf w k → IsBookBefore w j k ⊎ IsBookBefore w k j
