@@ -8,7 +8,8 @@
 //! ```text
 //! let graph = self.chronicle.graph();
 //! let mut votes = VoteTable::new(self.alloc, graph)?;
-//! let found = elect_share(self.alloc, graph, &mut votes, Share::new(0, 1))?;
+//! let all = Share::new(0, 1);
+//! let found = elect_unmarked(self.alloc, graph, &mut votes, all, self.chronicle.marks())?;
 //! self.chronicle.publish(&found);
 //! Ok(())
 //! ```
