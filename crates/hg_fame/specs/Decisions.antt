@@ -1,7 +1,6 @@
 -- Who decides the fame of a witness
 use Rattle.std.specs.Prelude.{ℕ, ◌≡◌, ◌<◌, ◌≤◌, Bool, false, length, Option, find, option_map}
 use Rattle.hg_model.specs.Places.{least_below}
-use Rattle.hg_model.specs.Votes.{decides}
 use Rattle.hg_model.specs.Fame.{Marks, is_decider}
 use Rattle.hg_model.specs.Orders.{AreFame}
 use Rattle.hg_model.specs.Order.{coin_at}

@@ -1,17 +1,16 @@
 -- What is entered of a graph is so of every longer one
-use Rattle.std.proofs.Common.{◌≡◌, ℕ, zero, suc, ◌+◌, ◌-◌, ◌*◌, ◌<◌, ◌≤◌, Bool, true, false, cond, ◌&&◌, ltb, eqb, List, [], ◌∷◌, ◌++◌, length, get_or, IsTrue, refl, sym, ap, ap₂, ◌∙◌, subst, inl, inr, arith, add-suc, add-zero, append_assoc, length-append}
+use Rattle.std.proofs.Common.{◌≡◌, ℕ, zero, suc, ◌+◌, ◌-◌, ◌<◌, ◌≤◌, Bool, false, cond, ◌&&◌, ltb, eqb, List, [], ◌∷◌, ◌++◌, length, get_or, refl, sym, ap, ap₂, ◌∙◌, subst, inl, inr, arith, add-suc, add-zero, append_assoc, length-append}
 use Rattle.std.specs.List.{AllByRecursion}
 use Rattle.std.proofs.lemmas.Bool.{cases_lt, and_left, and_right, false_from_ne_true, lt-ltb, le-ltb}
 use Rattle.std.proofs.lemmas.List.{append-nil, get_or_append_left, get_or-append_right}
 use Rattle.std.proofs.lemmas.List.Elements.{All-from_recursion}
 use Rattle.hg_model.specs.declared.row.Row.{Row}
-use Rattle.hg_model.specs.Places.{IsEarlier, list_below}
+use Rattle.hg_model.specs.Places.{list_below}
 use Rattle.hg_model.specs.Stakes.{Stakes}
-use Rattle.hg_model.specs.Links.{Link, links, parents}
+use Rattle.hg_model.specs.Links.{links}
 use Rattle.hg_model.specs.Graph.{IsShaped}
 use Rattle.hg_model.specs.Seeing.{strongly_sees}
-use Rattle.hg_model.specs.Rounds.{is_witness, round_of}
-use Rattle.hg_model.specs.Prefix.{Graph, graph_of, links_of}
+use Rattle.hg_model.specs.Prefix.{Graph, graph_of}
 use Rattle.hg_model.specs.GraphWords.{is_witness_in, round_in, shape_in, IsShapedIn}
 use Rattle.hg_model.proofs.AncestryLaws.{is_ancestor-le}
 use Rattle.hg_model.proofs.LinkLaws.{length-links}
@@ -19,7 +18,6 @@ use Rattle.hg_model.proofs.ListLaws.{all_list_below}
 use Rattle.hg_model.proofs.LongerLaws.{IsLonger, links-longer, is_witness-longer, round_of-longer, strongly_sees-longer}
 use Rattle.hg_model.proofs.PlacesLaws.{list_below-same, weight_below-same}
 use Rattle.hg_model.proofs.PrefixLaws.{IsWitnessOf, witness_read}
-use Rattle.hg_model.proofs.PushLaws.{shaped-none}
 use Rattle.hg_model.proofs.SightLaws.{strongly_sees-is_ancestor}
 use Rattle.hg_model.proofs.StandingLaws.{witnesses_in-standings}
 use Rattle.hg_bits.specs.Words.{has_bit}
@@ -115,7 +113,7 @@ module _ (n : Stakes) (c : ℕ) (G more : List Row) (shaped : IsShaped n (links 
 
     slots_stay : HoldsSlots set (witnesses_of later r) (strongly_sees n (links (G ++ more)) y)
     slots_stay = record {
-      bits = λ i. elim (cases_lt i (length (witnesses_of first r))) [ | inl inside ↦ old_slot i inside | inr past ↦ new_slot i past ];
+      bits = λ i. elim (cases_lt i (length (witnesses_of first r))) [ inl inside ↦ old_slot i inside | inr past ↦ new_slot i past ];
     }
 
   more_witnesses : (r : ℕ) → length (witnesses_of first r) ≤ length (witnesses_of later r)
@@ -154,9 +152,12 @@ begins_itself g = record { members = refl; coin = refl; rows = ([], sym (append-
 
 pub carries_on : (counting : Counting) (g later : Graph) → CarriesTo counting g → Begins g later → CarriesTo counting later
 carries_on counting g later carries two =
-    let one = carries.2 in
-    (carries.0, carries.1, record {
-      members = one.members ∙ two.members;
-      coin = one.coin ∙ two.coin;
-      rows = (one.rows.0 ++ two.rows.0, two.rows.1 ∙ (ap (λ rows. rows ++ two.rows.0) one.rows.1 ∙ append_assoc carries.0.rows one.rows.0 two.rows.0));
-    })
+    let one = carries.2 in (
+      carries.0,
+      carries.1,
+      record {
+        members = one.members ∙ two.members;
+        coin = one.coin ∙ two.coin;
+        rows = (one.rows.0 ++ two.rows.0, two.rows.1 ∙ (ap (λ rows. rows ++ two.rows.0) one.rows.1 ∙ append_assoc carries.0.rows one.rows.0 two.rows.0));
+      },
+    )

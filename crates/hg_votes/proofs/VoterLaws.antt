@@ -1,5 +1,5 @@
 -- Who the voters of a witness are
-use Rattle.std.proofs.Common.{◌≡◌, ℕ, ◌+◌, ◌-◌, ◌<◌, ◌≤◌, true, false, ◌&&◌, eqb, List, [], ◌∷◌, ◌++◌, length, get_or, IsTrue, sym, ap, ap₂, ◌∙◌, subst, inl, inr, arith, append_assoc}
+use Rattle.std.proofs.Common.{◌≡◌, ℕ, ◌+◌, ◌-◌, ◌<◌, ◌≤◌, true, false, ◌&&◌, eqb, List, [], ◌∷◌, ◌++◌, length, get_or, IsTrue, sym, ap, ap₂, ◌∙◌, subst, inl, inr, arith}
 use Rattle.std.specs.List.{AllByRecursion}
 use Rattle.std.proofs.lemmas.Bool.{both_ways, cases_lt, cases_order}
 use Rattle.std.proofs.lemmas.List.{get_or_append_left, get_or_push, length_push}
@@ -9,7 +9,6 @@ use Rattle.hg_model.specs.Links.{Link, parents}
 use Rattle.hg_model.specs.Rounds.{round_of, is_witness}
 use Rattle.hg_model.specs.Votes.{is_voter}
 use Rattle.hg_model.specs.Shape.{Shape}
-use Rattle.hg_model.specs.Orders.{IsPrefix}
 use Rattle.hg_model.specs.GraphWords.{is_witness_in, round_in, shape_in, standings_in, strongly_sees_in}
 use Rattle.hg_model.proofs.PlacesLaws.{count_below-le, count_below_fails, count_below_passes, count_below_zero, weight_below_grows}
 use Rattle.hg_model.specs.Standings.{Standing, standings_of, witnesses_in}

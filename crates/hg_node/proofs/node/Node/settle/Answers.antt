@@ -6,7 +6,7 @@ use Rattle.hg_node.proofs.node.Node.settle.Given as given
 use Rattle.hg_node.proofs.node.Node.settle.Goals as goal
 
 -- what the chronicle has become
-settles : (g : given.Over) (c : goal.After-drop-votes-inside-3 g) → IsSettling g.V.Verifier.accepts (node_view c.self.inside.keys c.self.inside.chronicle)
+settles : (g : given.Over) (c : goal.After-drop-votes-inside-7 g) → IsSettling g.V.Verifier.accepts (node_view c.self.inside.keys c.self.inside.chronicle)
     (node_view c.self.inside.keys c.publish.new.self) c.publish.new.self
 settles g c =
     settling g.V.Verifier.accepts c.self.inside.keys c.self.inside.chronicle c.self.invariant c.publish.new.self

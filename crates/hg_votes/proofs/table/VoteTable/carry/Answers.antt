@@ -1,6 +1,6 @@
-use Rattle.std.proofs.Common.{◌≡◌, ◌≤◌, ◌*◌, ◌<◌, ◌∙◌, ℕ, length, ap, subst, sym, arith, length-append}
+use Rattle.std.proofs.Common.{ℕ, length, ap, subst, sym, arith, length-append}
 use Rattle.std.proofs.lemmas.Grind.{div_ceil_times}
-use Rattle.hg_votes.specs.Counting.{Counting, Entered, HasRoom, HoldsVoters}
+use Rattle.hg_votes.specs.Counting.{Counting, HasRoom, HoldsVoters}
 use Rattle.hg_votes.proofs.MadeLaws.{made_new}
 use Rattle.hg_votes.proofs.CarryLaws.{entered_later}
 use Rattle.hg_votes.proofs.table.VoteTable.carry.Goals as goal
