@@ -11,7 +11,7 @@ use Rattle.std.specs.List.{AllByRecursion}
 use Rattle.hg_model.proofs.ReachLaws.{has_place_first, has_place_later}
 use Rattle.hg_model.proofs.PushLaws.{shape-push}
 use Rattle.hg_branches.specs.Branches.{Branching, CountsAncestors, TakesRow, greatest_count}
-use Rattle.hg_branches.specs.Columns.{branching_of, count_in, next_branch, put_at, with_maker, HoldsBranches, HoldsCounts}
+use Rattle.hg_branches.specs.Columns.{branching_of, count_in, next_branch, put_at, with_branch, HoldsBranches, HoldsCounts}
 use Rattle.hg_branches.proofs.BranchLaws.{lines_grown, counts_kept, counts_new}
 use Rattle.hg_branches.proofs.PutLaws.{put_here, put_other, made_new, made_none, maker_before, maker_last, makers_long, makers_more, makers_over}
 
@@ -62,7 +62,7 @@ module _ (n : Stakes) (L : List Link) (branches makers ends : List ℕ) (held : 
     branches_grown = branches ++ b ∷ []
 
     abbrev pub makers_grown : List ℕ
-    makers_grown = with_maker makers b link.creator
+    makers_grown = with_branch makers b link.creator
 
     abbrev pub ends_grown : List ℕ
     ends_grown = put_at ends b (length L + 1)

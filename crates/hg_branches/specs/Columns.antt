@@ -26,9 +26,9 @@ next_branch branches ends (p ∷ ps) by = cond (get_or ends (get_or branches p 0
 abbrev pub put_at : List ℕ → ℕ → ℕ → List ℕ
 put_at xs b v = cond (b == length xs) (xs ++ v ∷ []) (slice_set xs b v)
 
--- the makers, with that of branch b if it is a new one
-abbrev pub with_maker : List ℕ → ℕ → ℕ → List ℕ
-with_maker makers b by = cond (b == length makers) (makers ++ by ∷ []) makers
+-- the values by branch, with this one for branch b if it is a new one
+abbrev pub with_branch : List ℕ → ℕ → ℕ → List ℕ
+with_branch xs b v = cond (b == length xs) (xs ++ v ∷ []) xs
 
 -- the rows stand on branches, of which the first are the members' own
 pub record HoldsBranches (n : Stakes) (L : List Link) (branches makers ends : List ℕ) : Type 0 where

@@ -3,6 +3,7 @@ ghost use Rattle.hg_model.specs.Shape.{pair_list};
 ghost use Rattle.std.specs.List.{AllByRecursion};
 ghost use Rattle.hg_branches.specs.Branches.{greatest_count};
 ghost use Rattle.hg_branches.specs.Columns.{count_in};
+ghost use Rattle.hg_branches.specs.Kept.{known_in};
 
 use hg_bits::kernels::max_into;
 use hg_model::Memory;
@@ -51,10 +52,7 @@ impl CountRow {
     pub fn at(&self, b: usize) -> u32
         ensures { result ≡ slice_index self.now b }
     {
-        match self.numbers.get(b) {
-            Some(number) => *number,
-            None => 0,
-        }
+        count_at(&self.numbers, b)
     }
 
     /// Gives branch `b` this number.
@@ -89,6 +87,27 @@ fn raise_first(row: &mut [u32], others: &[u32])
     ensures each { (b : ℕ) → slice_index row.new b ≡ max (slice_index row.old b) (slice_index others.now b) }
 {
     max_into(&mut row[..others.len()], others);
+}
+
+/// The number of branch `b`, or 0 where there is none.
+pub fn count_at(row: &[u32], b: usize) -> u32
+    ensures { result ≡ slice_index row.now b }
+{
+    match row.get(b) {
+        Some(number) => *number,
+        None => 0,
+    }
+}
+
+/// The counts of the self-parent, or none where the row has no parents.
+pub fn known_counts(counts: &[CountRow], on: Option<(usize, usize)>) -> &[u32]
+    requires { AllByRecursion (λ p. p < length counts.now) (pair_list on) }
+    ensures { result.now ≡ known_in counts.now (pair_list on) }
+{
+    match on {
+        None => &[],
+        Some((self_place, _)) => counts_of(counts, self_place).as_slice(),
+    }
 }
 
 /// The counts of row `x`.

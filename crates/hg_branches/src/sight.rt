@@ -3,10 +3,10 @@ ghost use Rattle.hg_model.specs.Forks.{has_fork_below};
 ghost use Rattle.hg_model.specs.Shape.{shape_of};
 ghost use Rattle.hg_bits.specs.Masks.{mask_has};
 
-use crate::branches::{branch_for, ends_of, move_end, no_ends};
-use crate::counts::{CountRow, copy_counts, counts_of, fill};
+use crate::branches::{branch_for, ends_of, move_end, open_branch, zeros};
+use crate::counts::{CountRow, copy_counts, counts_of, fill, known_counts};
 use crate::forks::forked_next;
-use crate::kept::{KeptRow, firsts_at, no_rows, note_all, oldest_slot, slot_of};
+use crate::kept::{KeptRow, firsts_at, last_end, note_all};
 use crate::seeing;
 use hg_ancestry::{PlacedLink, copy_links, copy_masks, creator_of, self_parent_of};
 use hg_bits::{mask_has, members_over};
@@ -30,10 +30,16 @@ pub struct BranchSight {
     counts: Vec<CountRow>,
     /// For each row the members with a fork among its ancestors.
     forked: Vec<u128>,
-    /// Slots for first descendants, as many for each member; a prefix has none.
+    /// The rows of which the first descendants are kept, in the order of the graph; a prefix has none.
     kept: Vec<KeptRow>,
+    /// For each branch the number of its last kept row, or 0.
+    newest: Vec<u32>,
+    /// For each row its number among the kept rows, or 0.
+    numbers: Vec<u32>,
     /// The counts of the next row, if there is memory for one.
     spare: Option<CountRow>,
+    /// The next kept row, if there is memory for one.
+    spare_kept: Option<KeptRow>,
 }
 
 impl Model for BranchSight {
@@ -49,7 +55,7 @@ impl Model for BranchSight {
 }
 
 impl BranchSight {
-    /// The graph of no rows by `members` members. Takes the memory of all slots.
+    /// The graph of no rows by `members` members.
     pub fn new(alloc: Global, members: u32) -> Result<BranchSight, Memory>
         requires { members ≤ 128 }
         ensures { IfOk result (λ s. s.shape ≡ shape_of members []) }
@@ -60,27 +66,45 @@ impl BranchSight {
             links: Vec::new(alloc),
             branches: Vec::new(alloc),
             makers: own_branches(alloc, members)?,
-            ends: no_ends(alloc, members as usize)?,
+            ends: zeros(alloc, members as usize)?,
             counts: Vec::new(alloc),
             forked: Vec::new(alloc),
-            kept: no_rows(alloc, members)?,
+            kept: Vec::new(alloc),
+            newest: zeros(alloc, members as usize)?,
+            numbers: Vec::new(alloc),
             spare: None,
+            spare_kept: None,
         })
     }
 
-    /// Gives the last row a slot, that of the earliest row by its creator which has one: its first descendants are kept
-    /// from now on, so that `strongly_sees` of it is quick. It changes no answer, and takes no memory.
+    /// Keeps the first descendants of the last row from now on, so that `strongly_sees` of it is quick. It changes no answer,
+    /// and takes no memory: where `reserve` has taken none for it, it keeps nothing.
     pub fn keep_last(&mut self)
         ensures { self.new ≡ self.old }
     {
         let end = self.links.len();
-        if end > 0 {
-            let member = creator_of(&self.links, self.members, end - 1);
-            let branch = self.branches[end - 1];
-            if let Some(slot) = oldest_slot(&self.kept, member) {
-                self.kept[slot].begin(branch, end as u32);
+        if last_end(&self.kept) < end as u32 {
+            if let Some(mut row) = self.spare_kept.take() {
+                let branch = self.branches[end - 1];
+                row.begin(branch, end as u32, self.newest[branch]);
+                self.kept.push_reserved(row);
+                let number = self.kept.len() as u32;
+                self.newest[branch] = number;
+                self.numbers[end - 1] = number;
             }
         }
+    }
+
+    /// Takes the memory of one more kept row.
+    fn reserve_kept(&mut self) -> Result<(), Memory>
+        ensures { self.new ≡ self.old }
+    {
+        if self.spare_kept.is_none() {
+            self.kept.reserve(1)?;
+            let row = KeptRow::new(self.alloc, self.members as usize)?;
+            self.spare_kept = Some(row);
+        }
+        Ok(())
     }
 
     /// The members with a fork among the ancestors of row `x`.
@@ -141,13 +165,23 @@ impl Sight for BranchSight {
         let counts = counts_of(&self.counts, x);
         let member = self.creator(y);
         if !mask_has(self.forked_below(x), member) {
-            if let Some(slot) = slot_of(&self.kept, member, y) {
-                let firsts = firsts_at(&self.kept, slot);
+            let number = self.numbers[y];
+            if number > 0 {
+                let firsts = firsts_at(&self.kept, number as usize - 1);
                 return seeing::strong_by_firsts(self, &self.makers, counts, firsts, y);
             }
         }
         let seers = seeing::seers(self, &self.makers, counts, y);
         members_over(seers, self.members)
+    }
+
+    fn counts(&self, x: usize) -> Option<&[u32]> {
+        let members = self.members as usize;
+        if self.makers.len() == members {
+            Some(&counts_of(&self.counts, x).as_slice()[..members])
+        } else {
+            None
+        }
     }
 }
 
@@ -155,6 +189,7 @@ impl Growing for BranchSight {
     ghost room = { λ s. s.room };
 
     fn reserve(&mut self) -> Result<(), Memory> {
+        self.reserve_kept()?;
         if self.spare.is_none() {
             self.links.reserve(1)?;
             self.branches.reserve(1)?;
@@ -162,6 +197,8 @@ impl Growing for BranchSight {
             self.ends.reserve(1)?;
             self.counts.reserve(1)?;
             self.forked.reserve(1)?;
+            self.newest.reserve(1)?;
+            self.numbers.reserve(1)?;
             let row = CountRow::new(self.alloc, self.makers.len() + 1)?;
             self.spare = Some(row);
         }
@@ -177,12 +214,15 @@ impl Growing for BranchSight {
         let end = self.links.len() as u32 + 1;
         if let Some(mut row) = self.spare.take() {
             fill(&mut row, &self.counts, on, branch, end);
-            note_all(&mut self.kept, &self.branches, &row, branch, end);
+            let known = known_counts(&self.counts, on);
+            note_all(&mut self.kept, &self.newest, known, row.as_slice(), branch, end);
             self.links.push_reserved(PlacedLink::of(creator, parents));
             self.branches.push_reserved(branch);
             move_end(&mut self.makers, &mut self.ends, branch, creator, end);
             self.counts.push_reserved(row);
             self.forked.push_reserved(forked);
+            open_branch(&mut self.newest, branch);
+            self.numbers.push_reserved(0);
         }
     }
 
@@ -198,7 +238,10 @@ impl Growing for BranchSight {
             counts: copy_counts(self.alloc, &self.counts, len)?,
             forked: copy_masks(self.alloc, &self.forked, len)?,
             kept: Vec::new(self.alloc),
+            newest: zeros(self.alloc, many)?,
+            numbers: zeros(self.alloc, len)?,
             spare: None,
+            spare_kept: None,
         })
     }
 }

@@ -7,10 +7,10 @@ use Rattle.hg_model.specs.Shape.{ShapeWithRoom, FitsLink, link_of, pair_list}
 use Rattle.hg_bits.specs.Masks.{mask_has}
 use Rattle.hg_ancestry.proofs.HeldLaws.{places_fit, places_kept}
 use Rattle.hg_branches.specs.Branches.{greatest_count}
-use Rattle.hg_branches.specs.Columns.{IsSpare, spare_room, next_branch, with_maker, put_at, count_in, forks_next}
+use Rattle.hg_branches.specs.Columns.{IsSpare, spare_room, next_branch, with_branch, put_at, count_in, forks_next}
 use Rattle.hg_branches.proofs.HeldLaws.{Serves, next_serves, branches_hold, counts_hold, counts_last, rows_fit}
-use Rattle.hg_branches.specs.Kept.{Kept, kept_at, noted, HoldsKept}
-use Rattle.hg_branches.proofs.KeptLaws.{kept_inside, kept_more, refilled_kept}
+use Rattle.hg_branches.specs.Kept.{Kept, kept_at, noted, known_in, AreNotedOn, HoldsChains, HoldsNewest, HoldsKept}
+use Rattle.hg_branches.proofs.KeptLaws.{noted_on, kept_more, refilled_kept}
 use Rattle.hg_branches.proofs.NextForkLaws.{forks_told}
 use Rattle.hg_branches.proofs.TakeLaws.{forks_more}
 use Rattle.hg_branches.proofs.sight.BranchSightGrowing.extend.Goals as goal
@@ -53,14 +53,42 @@ fill-requires-clause-long c =
     (subst (λ (on : List ℕ). AllByRecursion (λ p. length (get_or s.counts.items p []) ≤ length s.makers.items + 1) on) (sym c.pair-on.ensures)
     (rows_fit s.members s.links.items s.branches.items s.makers.items s.counts.items c.self.invariant.counts c.args.parents c.args.creator fits))))
 
-pub note_all-requires : goal.note_all-requires
-note_all-requires c = λ i h.
+pub note_all-requires-clause-chains : goal.note_all-requires-clause-chains
+note_all-requires-clause-chains c = subst HoldsChains (sym c.deref_mut.ensures.value) c.self.invariant.kept.chains
+
+pub note_all-requires-clause-newest : goal.note_all-requires-clause-newest
+note_all-requires-clause-newest c =
+    subst (λ (kept : List Kept). HoldsNewest kept c.deref-in-Some-3.result.now) (sym c.deref_mut.ensures.value)
+    (subst (HoldsNewest c.self.inside.kept.items) (sym c.deref-in-Some-3.ensures.value) c.self.invariant.kept.by_branch)
+
+pub note_all-requires-clause-noted : goal.note_all-requires-clause-noted
+note_all-requires-clause-noted c = λ i.
     let s = c.self.inside in
     let held = c.self.invariant in
-    let rows = held.branches.rows in
-    let there = ap length c.deref-in-Some-2.ensures.value in
-    subst (λ (kept : List Kept). (i : ℕ) → i < length kept → (kept_at kept i).end ≤ length c.deref-in-Some-2.result.now) (sym c.deref_mut.ensures.value)
-    (λ j hj. omega (arith, there, rows, kept_inside s.members s.links.items s.branches.items s.makers.items (kept_at s.kept.items j) (held.kept.each j hj))) i h
+    let by = c.args.creator in
+    let on = c.pair-on.result in
+    let on_is : pair_list on ≡ c.args.parents = c.pair-on.ensures in
+    let fits = subst (λ (g : ShapeWithRoom). FitsLink g.shape.members g.shape.links (link_of by c.args.parents)) (sym c.self.view_is) c.requires.fits in
+    let b = c.branch_for-branch.result in
+    let b_is : b ≡ next_branch s.branches.items s.ends.items (pair_list on) by = c.branch_for-branch.ensures
+    ∙ ap₂ (λ (bs es : List ℕ). next_branch bs es (pair_list on) by) c.deref.ensures.value c.deref-2.ensures.value in
+    let known_is : c.known_counts-known.result.now ≡ known_in s.counts.items (pair_list on) = c.known_counts-known.ensures
+    ∙ ap (λ (rows : List (List ℕ)). known_in rows (pair_list on)) c.deref-in-Some-2.ensures.value in
+    let place : length s.links.items + 1 ≡ c.len-2.result + 1 = omega arith in
+    let row = c.as_slice.result.now in
+    subst (AreNotedOn i c.known_counts-known.result.now row b (c.len-2.result + 1)) (sym c.deref_mut.ensures.value)
+    (subst (λ (known : List ℕ). AreNotedOn i known row b (c.len-2.result + 1) s.kept.items) (sym known_is)
+    (subst (λ j. AreNotedOn i (known_in s.counts.items (pair_list on)) row j (c.len-2.result + 1) s.kept.items) (sym b_is)
+    (subst (λ e. AreNotedOn i (known_in s.counts.items (pair_list on)) row (next_branch s.branches.items s.ends.items (pair_list on) by) e s.kept.items) place
+    (noted_on s.members s.links.items s.branches.items s.makers.items s.ends.items held.branches s.counts.items held.counts s.kept.items s.newest.items s.numbers.items held.kept (pair_list on) by
+    (subst (λ (on : List ℕ). FitsLink s.members s.links.items (link_of by on)) (sym on_is) fits) row i))))
+
+pub known_counts-known-requires : goal.known_counts-known-requires
+known_counts-known-requires c =
+    let s = c.self.inside in
+    let fits = subst (λ (g : ShapeWithRoom). FitsLink g.shape.members g.shape.links (link_of c.args.creator c.args.parents)) (sym c.self.view_is) c.requires.fits in
+    subst (λ k. AllByRecursion (λ p. p < k) (pair_list c.pair-on.result)) (sym (ap length c.deref-in-Some-2.ensures.value ∙ c.self.invariant.counts.len))
+    (subst (λ (on : List ℕ). AllByRecursion (λ p. p < length s.links.items) on) (sym c.pair-on.ensures) (places_fit s.members s.links.items c.args.creator c.args.parents fits))
 
 pub of-requires : goal.of-requires
 of-requires c =
@@ -111,10 +139,10 @@ invariant_of-self c =
     let row = c.fill.new.row in
     let counted = counts_last s.members L s.branches.items s.makers.items s.ends.items held.branches link fits b serves s.counts.items row held.counts (c.fill.ensures.end ∙ place) others in
     let kept_long : length c.note_all.new.kept ≡ length s.kept.items = c.note_all.ensures.len ∙ ap length c.deref_mut.ensures.value in
-    let each : (i : ℕ) → i < length s.kept.items → kept_at c.note_all.new.kept i ≡ noted s.branches.items row b (length L + 1) (kept_at s.kept.items i) = λ i h.
+    let each : (i : ℕ) → i < length s.kept.items → kept_at c.note_all.new.kept i ≡ noted row b (length L + 1) (kept_at s.kept.items i) = λ i h.
     c.note_all.ensures.each i (subst (λ (old : List Kept). i < length old) (sym c.deref_mut.ensures.value) h)
-    ∙ (ap (λ (old : List Kept). noted c.deref-in-Some-2.result.now row b (c.len-2.result + 1) (kept_at old i)) c.deref_mut.ensures.value
-    ∙ ap₂ (λ (bs : List ℕ) (e : ℕ). noted bs row b e (kept_at s.kept.items i)) c.deref-in-Some-2.ensures.value place) in
+    ∙ (ap (λ (old : List Kept). noted c.as_slice.result.now b (c.len-2.result + 1) (kept_at old i)) c.deref_mut.ensures.value
+    ∙ ap₂ (λ (counts : List ℕ) (e : ℕ). noted counts b e (kept_at s.kept.items i)) c.as_slice.ensures place) in
     record {
       branches = rw (c.push_reserved.ensures.items, c.push_reserved-in-Some.ensures.items, makers_are, ends_are, c.of.ensures)
           (branches_hold s.members L s.branches.items s.makers.items s.ends.items held.branches link fits b serves short);
@@ -122,10 +150,10 @@ invariant_of-self c =
           (counts_hold s.members L s.branches.items s.makers.items s.ends.items held.branches link fits b serves s.counts.items c.fill.new.row held.counts
           (omega (arith, row_long, all)) (omega (arith, row_long)) (c.fill.ensures.end ∙ place) others);
       forks = rw (c.push_reserved.ensures.items, c.push_reserved-in-Some-3.ensures.items, c.of.ensures) (forks_more L link s.forked.items c.forked_next-forked.result held.forks told);
-      kept = rw (c.push_reserved.ensures.items, c.push_reserved-in-Some.ensures.items, makers_are, c.of.ensures)
-          (subst (HoldsKept s.members (L ++ link ∷ []) (s.branches.items ++ b ∷ []) (with_maker s.makers.items b link.creator))
+      kept = rw (c.push_reserved.ensures.items, c.push_reserved-in-Some.ensures.items, makers_are, c.of.ensures, c.open_branch.ensures, c.push_reserved-in-Some-4.ensures.items)
+          (subst (λ (kept : List Kept). HoldsKept s.members (L ++ link ∷ []) (s.branches.items ++ b ∷ []) (with_branch s.makers.items b by) kept (with_branch s.newest.items b 0) (s.numbers.items ++ 0 ∷ []))
           (sym (refilled_kept s.kept.len c.note_all.new.kept s.kept.items (omega (arith, kept_long))))
-          (kept_more s.members L s.branches.items s.makers.items s.ends.items held.branches link fits b serves row counted short s.kept.items c.note_all.new.kept held.kept kept_long each));
+          (kept_more s.members L s.branches.items s.makers.items s.ends.items held.branches link fits b serves row counted short s.kept.items c.note_all.new.kept s.newest.items s.numbers.items held.kept kept_long each));
       spare = subst (IsSpare (vec_len c.move_end.new.makers)) (sym c.take.ensures.after) tt;
       links_room = omega (arith, none);
       branches_room = omega (arith, none);
@@ -133,4 +161,8 @@ invariant_of-self c =
       ends_room = omega (arith, none);
       counts_room = omega (arith, none);
       forked_room = omega (arith, none);
+      spare_kept = held.spare_kept;
+      newest_room = omega (arith, none);
+      numbers_room = omega (arith, none);
+      kept_room = held.kept_room;
     }

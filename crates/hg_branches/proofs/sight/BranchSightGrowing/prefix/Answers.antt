@@ -1,4 +1,4 @@
-use Rattle.std.proofs.Common.{◌≡◌, ◌<◌, ◌≤◌, ◌∙◌, ◌+◌, ℕ, List, [], sym, ap, subst, take, min, length, get_or, arith}
+use Rattle.std.proofs.Common.{◌≡◌, ◌<◌, ◌≤◌, ◌∙◌, ◌+◌, ℕ, List, [], sym, ap, subst, take, min, length, get_or, replicate, arith}
 use Rattle.std.proofs.lemmas.List.{length-take-le, get_or-take}
 use Rattle.hg_model.specs.Shape.{ShapeWithRoom}
 use Rattle.hg_branches.proofs.TakeLaws.{branches_take, counts_take, forks_take}
@@ -29,12 +29,19 @@ invariant_of-result c =
       branches = rw (links, branches, makers) (branches_take s.members s.links.items s.branches.items s.makers.items s.ends.items held.branches len many le is_many c.in_ok-ends_of.field-0.items ends_len end);
       counts = rw (links, branches, makers, counts) (counts_take s.members s.links.items s.branches.items s.makers.items s.ends.items held.branches len many le is_many s.counts.items held.counts);
       forks = rw (links, masks) (forks_take s.members s.links.items s.branches.items s.makers.items s.ends.items held.branches len many le is_many s.forked.items held.forks);
-      kept = rw c.new.ensures.items (kept_none s.members c.in_ok-copy_links.field-0.items c.in_ok-from_slice.field-0.items c.in_ok-from_slice-2.field-0.items [] (λ i h. absurd (omega arith)));
+      kept = rw (links, branches, makers, c.new.ensures.items)
+          (kept_none s.members (take len s.links.items) (take len s.branches.items) (take many s.makers.items) c.in_ok-zeros.field-0.items c.in_ok-zeros-2.field-0.items
+          (c.in_ok-zeros.ensures ∙ ap (λ k. replicate k 0) (sym (length-take-le many s.makers.items (omega arith))))
+          (c.in_ok-zeros-2.ensures ∙ ap (λ k. replicate k 0) (sym (length-take-le len s.links.items le))));
       spare = tt;
+      spare_kept = tt;
       links_room = omega arith;
       branches_room = omega arith;
       makers_room = omega arith;
       ends_room = omega arith;
       counts_room = omega arith;
       forked_room = omega arith;
+      newest_room = omega arith;
+      numbers_room = omega arith;
+      kept_room = omega arith;
     }
