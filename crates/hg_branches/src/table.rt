@@ -4,6 +4,7 @@ ghost use Rattle.hg_model.specs.Shape.{pair_list};
 ghost use Rattle.hg_branches.specs.Columns.{count_in};
 ghost use Rattle.hg_branches.specs.Table.{AddsCounts};
 
+use crate::next_row::{join_own, join_tails, own_row};
 use crate::tails::Tails;
 use hg_model::Memory;
 use std::alloc::Global;
@@ -25,18 +26,37 @@ pub struct CountTable {
     row: Vec<u32>,
 }
 
+impl Model for CountTable {
+    ghost use Rattle.std.specs.Prelude.{◌-◌, cond, vec_capacity, vec_len};
+    ghost use Rattle.hg_branches.specs.Table.{CountsWithRoom, KeepsNumbers, has_room, rows_of};
+
+    ghost Value = { CountsWithRoom };
+
+    ghost view = { λ s. record { members = s.members; rows = rows_of s.members s.own.items s.tails.rows; room = cond (has_room s.members s.widest (vec_capacity s.own - vec_len s.own) s.tails.room (vec_capacity s.row)) 1 0 } };
+
+    ghost invariant = { λ s. KeepsNumbers s.members s.widest s.own.items s.tails.rows };
+}
+
 impl CountTable {
     /// The table of no rows. Takes no memory.
     pub fn new(alloc: Global, members: usize) -> CountTable
         ensures rows { result.rows ≡ [] }
         ensures members { result.members ≡ members }
     {
+        CountTable {
+            members,
+            own: Vec::new(alloc),
+            tails: Tails::new(alloc),
+            widest: 0,
+            row: Vec::new(alloc),
+        }
     }
 
     /// How many rows there are.
     pub fn len(&self) -> usize
         ensures { result ≡ length self.now.rows }
     {
+        self.tails.len()
     }
 
     /// What row `x` counts of branch `b`.
@@ -44,6 +64,11 @@ impl CountTable {
         requires { x < length self.now.rows }
         ensures { result ≡ count_in self.now.rows x b }
     {
+        if b < self.members {
+            self.own(x)[b]
+        } else {
+            self.tails.at(x, b - self.members)
+        }
     }
 
     /// What row `x` counts of the members' own branches.
@@ -52,6 +77,7 @@ impl CountTable {
         ensures value { result.now ≡ take self.now.members (slice_index_or self.now.rows x []) }
         ensures len { length result.now ≡ self.now.members }
     {
+        own_row(&self.own, self.members, x)
     }
 
     /// Takes the memory of one more row, whatever its branch and its parents.
@@ -60,6 +86,11 @@ impl CountTable {
         ensures rows { self.new.rows ≡ self.old.rows }
         ensures members { self.new.members ≡ self.old.members }
     {
+        self.own.reserve(self.members)?;
+        self.tails.reserve(self.widest)?;
+        self.row.clear();
+        self.row.reserve(self.members.max(self.widest))?;
+        Ok(())
     }
 
     /// One more row, on this branch and on these parents: their greatest numbers, and on its own branch one more than its
@@ -71,6 +102,13 @@ impl CountTable {
         requires fits { branch < 2 ^ 64 - 1 }
         ensures { AddsCounts self.old self.new (pair_list on) branch }
     {
+        let end = self.tails.len() as u32 + 1;
+        join_own(&mut self.row, &self.own, self.members, on, branch, end);
+        self.own.extend_from_slice(&self.row).unwrap();
+        let own = (branch + 1).saturating_sub(self.members);
+        join_tails(&mut self.row, &self.tails, on, own);
+        self.tails.push(own, &self.row);
+        self.widest = self.widest.max(own);
     }
 
     /// The first `len` rows, in memory of their own.
@@ -79,5 +117,12 @@ impl CountTable {
         ensures rows { IfOk result (λ t. t.rows ≡ take len self.now.rows) }
         ensures members { IfOk result (λ t. t.members ≡ self.now.members) }
     {
+        Ok(CountTable {
+            members: self.members,
+            own: Vec::from_slice(alloc, &self.own[..len * self.members])?,
+            tails: self.tails.prefix(alloc, len)?,
+            widest: self.widest,
+            row: Vec::new(alloc),
+        })
     }
 }
