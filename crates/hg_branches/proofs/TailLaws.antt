@@ -1,10 +1,10 @@
 -- Tails: what is read of them, one more, and the first ones
-use Rattle.std.proofs.Common.{◌≡◌, ℕ, ◌+◌, ◌-◌, ◌<◌, ◌≤◌, nat_lt, cond, min, List, [], ◌∷◌, ◌++◌, length, get_or, take, drop, sym, ap, ◌∙◌, inl, inr, arith, refl, slice_range}
+use Rattle.std.proofs.Common.{◌≡◌, ℕ, suc, zero, ◌+◌, ◌-◌, ◌<◌, ◌≤◌, nat_lt, cond, min, List, [], ◌∷◌, ◌++◌, length, get_or, take, drop, sym, ap, ◌∙◌, inl, inr, arith, refl, slice_range}
 use Rattle.std.proofs.Math.Seq.{drop-append_seam, take-length}
 use Rattle.std.proofs.lemmas.Bool.{cases_lt, lt-ltb, le-ltb}
 use Rattle.std.proofs.lemmas.List.{get_or_append_left, get_or_push, length_push, take-append-le, take-append-drop, drop-append-le, append-nil, length-append, length-drop, length-take-le, get_or-take}
 use Rattle.hg_branches.specs.declared.tails.Part.{Part}
-use Rattle.hg_branches.specs.Tails.{Tail, no_part, no_tail, part_at, tail_of, tails_of, tail_at, KeepsParts}
+use Rattle.hg_branches.specs.Tails.{Tail, no_part, no_tail, part_at, end_before, tail_of, tails_of, tail_at, KeepsParts}
 use Rattle.hg_model.specs.Places.{table}
 use Rattle.hg_branches.proofs.TableLaws.{get_or-table, length-table, table_grown, table_cut}
 
@@ -54,6 +54,10 @@ range_cut xs e a b inside h below =
 
 tail_same : (xs ys : List ℕ) (p q : Part) → q ≡ p → slice_range ys p.start p.end ≡ slice_range xs p.start p.end → tail_of ys q ≡ tail_of xs p
 tail_same xs ys p q is same = ap (tail_of ys) is ∙ ap (λ l. record { own = p.own; numbers = l }) same
+
+pub no_items : (xs : List ℕ) → length xs ≡ 0 → xs ≡ []
+no_items [] h = refl
+no_items (x ∷ xs) h = absurd (omega arith)
 
 -- one row more, without numbers, where none has any
 pub tails_plain : (numbers : List ℕ) (parts : List Part) (before : ℕ) → length parts ≡ 0 →
@@ -120,10 +124,28 @@ module _ (numbers more : List ℕ) (parts : List Part) (before own : ℕ) (keeps
         ];
       }
 
+-- where the first parts end
+
+end_holds : (numbers : List ℕ) (parts : List Part) → KeepsParts numbers parts → (many : ℕ) → many ≤ length parts → end_before parts many ≤ length numbers
+end_holds numbers parts keeps zero h = omega arith
+end_holds numbers parts keeps (suc i) h = keeps.end i (omega arith)
+
+end_last : (numbers : List ℕ) (parts : List Part) → KeepsParts numbers parts → (many : ℕ) → many ≤ length parts → (i : ℕ) → i < many → (get_or parts i no_part).end ≤ end_before parts many
+end_last numbers parts keeps zero h i low = absurd (omega arith)
+end_last numbers parts keeps (suc k) h i low = keeps.ordered i k (omega arith) (omega arith)
+
 -- the first rows
 module _ (numbers : List ℕ) (parts : List Part) (before : ℕ) (keeps : KeepsParts numbers parts) (len first many end : ℕ) (inside : len ≤ before + length parts)
-    (is_first : first ≡ min before len) (is_many : many ≡ len - first) (holds : end ≤ length numbers)
-    (ends : (i : ℕ) → i < many → (get_or parts i no_part).end ≤ end) where
+    (is_first : first ≡ min before len) (is_many : many ≡ len - first) (is_end : end ≡ end_before parts many) where
+  within : many ≤ length parts
+  within = omega arith
+
+  pub end_within : end ≤ length numbers
+  end_within = (let low = end_holds numbers parts keeps many within in omega arith)
+
+  ends : (i : ℕ) → i < many → (get_or parts i no_part).end ≤ end
+  ends i h = (let low = end_last numbers parts keeps many within i h in omega arith)
+
   pub tails_cut : tails_of (take end numbers) (take many parts) first ≡ take len (tails_of numbers parts before)
   tails_cut =
       let old : ℕ → Tail = λ x. tail_of numbers (part_at parts before x) in
@@ -143,13 +165,13 @@ module _ (numbers : List ℕ) (parts : List Part) (before : ℕ) (keeps : KeepsP
             let is : part_at parts before x ≡ get_or parts (x - first) no_part = part_after numbers parts before x past ∙ ap (λ b. get_or parts (x - b) no_part) (sym same) in
             let low : (part_at parts before x).end ≤ end = (rw is (ends (x - first) at)) in
             tail_same numbers (take end numbers) (part_at parts before x) (part_at (take many parts) first x) read
-            (range_cut numbers end (part_at parts before x).start (part_at parts before x).end holds (part_start numbers parts before keeps x (omega arith)) low))
+            (range_cut numbers end (part_at parts before x).start (part_at parts before x).end end_within (part_start numbers parts before keeps x (omega arith)) low))
       ])
 
   pub parts_cut : KeepsParts (take end numbers) (take many parts)
   parts_cut =
       let long : length (take many parts) ≡ many = length-take-le many parts (omega arith) in
-      let holds_now : length (take end numbers) ≡ end = length-take-le end numbers holds in
+      let holds_now : length (take end numbers) ≡ end = length-take-le end numbers end_within in
       let read : (i : ℕ) → i < many → get_or (take many parts) i no_part ≡ get_or parts i no_part = λ i h. get_or-take many parts i no_part h in
       record {
         start = λ i h. (let low : i < many = omega arith in let is = read i low in rw is (keeps.start i (omega arith)));

@@ -1,5 +1,5 @@
 -- Tails of rows of counts, cut from one list of numbers
-use Rattle.std.specs.Prelude.{◌≡◌, ℕ, ◌+◌, ◌-◌, ◌<◌, ◌≤◌, ◌==◌, nat_lt, max, Bool, cond, List, [], length, slice_index, slice_index_or, slice_range}
+use Rattle.std.specs.Prelude.{◌≡◌, ℕ, suc, zero, ◌+◌, ◌-◌, ◌<◌, ◌≤◌, ◌==◌, nat_lt, max, Bool, cond, List, [], length, slice_index, slice_index_or, slice_range}
 use Rattle.hg_model.specs.Places.{table}
 use Rattle.hg_branches.specs.declared.tails.Part.{Part}
 
@@ -40,6 +40,11 @@ tail_of numbers part = record { own = part.own; numbers = slice_range numbers pa
 -- where the tail of row x stands: the first rows have none
 abbrev pub part_at : List Part → ℕ → ℕ → Part
 part_at parts before x = cond (nat_lt x before) no_part (slice_index_or parts (x - before) no_part)
+
+-- where the first parts end
+abbrev pub end_before : List Part → ℕ → ℕ
+end_before parts zero = 0
+end_before parts (suc i) = (slice_index_or parts i no_part).end
 
 abbrev pub tails_of : List ℕ → List Part → ℕ → List Tail
 tails_of numbers parts before = table (λ x. tail_of numbers (part_at parts before x)) (before + length parts)

@@ -1,5 +1,5 @@
 ghost use Rattle.std.specs.Prelude.{◌≡◌, ◌<◌, ◌≤◌, ◌+◌, ◌^◌, [], ◌∷◌, ◌++◌, length, slice_index, take, IfOk, OnOk};
-ghost use Rattle.hg_branches.specs.Tails.{part_at, tail_at, tail_count, tail_width};
+ghost use Rattle.hg_branches.specs.Tails.{end_before, part_at, tail_at, tail_count, tail_width};
 
 use hg_model::Memory;
 use std::alloc::Global;
@@ -57,6 +57,14 @@ fn part_of(parts: &[Part], before: usize, x: usize) -> Part
     } else {
         parts[x - before]
     }
+}
+
+/// Where the first parts end.
+fn end_of(parts: &[Part], many: usize) -> usize
+    requires { many ≤ length parts.now }
+    ensures { result ≡ end_before parts.now many }
+{
+    if many == 0 { 0 } else { parts[many - 1].end }
 }
 
 impl Tails {
@@ -154,7 +162,7 @@ impl Tails {
     {
         let before = self.before.min(len);
         let many = len - before;
-        let end = if many == 0 { 0 } else { self.parts[many - 1].end };
+        let end = end_of(&self.parts, many);
         Ok(Tails {
             before,
             parts: Vec::from_slice(alloc, &self.parts[..many])?,
