@@ -3,12 +3,13 @@ use Rattle.std.proofs.Common.{◌≡◌, ◌≢◌, ◌==◌, ℕ, ◌+◌, ◌-
 use Rattle.std.specs.List.{AllByRecursion}
 use Rattle.std.proofs.Math.Nat.{mul-le-mul_right}
 use Rattle.std.proofs.lemmas.Bool.{cases_lt, cases_eq, lt-ltb, le-ltb, eq-eqb, ne_eqb}
+use Rattle.std.proofs.lemmas.Bool.Decides.{nat_tests}
 use Rattle.std.proofs.lemmas.List.{get_or_append_left, get_or-append_right, get_or_push, get_or_past, length_push, length-append, length-take-le, get_or-take, ext_get_or}
 use Rattle.hg_model.specs.Places.{table}
 use Rattle.hg_branches.specs.Branches.{greatest_count}
 use Rattle.hg_branches.specs.Columns.{count_in}
 use Rattle.hg_branches.specs.Tails.{Tail, no_tail, tail_at, tail_count, tail_width}
-use Rattle.hg_branches.specs.Table.{number_of, row_of, rows_of, KeepsNumbers, own_next, tail_next, IsNextCounts}
+use Rattle.hg_branches.specs.Table.{number_of, row_of, rows_of, has_room, KeepsNumbers, own_next, tail_next, IsNextCounts}
 use Rattle.hg_branches.proofs.TableLaws.{get_or-table, length-table, get_or-table_all, table-same, table_grown, table_cut}
 
 module _ (members : ℕ) (own : List ℕ) (tails : List Tail) where
@@ -62,6 +63,9 @@ all_same P Q n (p ∷ on) low held each = (each p low.0 held.0, all_same P Q n o
 pub all_low : (Q : ℕ → Type 0) (n : ℕ) (on : List ℕ) → AllByRecursion (λ p. p < n) on → ((p : ℕ) → p < n → Q p) → AllByRecursion Q on
 all_low Q n on low each = all_same (λ p. p < n) Q n on low low (λ p h _. each p h)
 
+zero-max : (n : ℕ) → max 0 n ≡ n
+zero-max n = omega arith
+
 max-zero : (n : ℕ) → max n 0 ≡ n
 max-zero n = omega arith
 
@@ -69,12 +73,26 @@ greatest_same : (f g : ℕ → ℕ → ℕ) (n : ℕ) (on : List ℕ) (b k : ℕ
 greatest_same f g n [] b k low each = refl
 greatest_same f g n (p ∷ on) b k low each = ap₂ max (each p low.0) (greatest_same f g n on b k low.1 each)
 
+-- the numbers of the next row, of the members' own branches and of the others
+pub record IsMade (members : ℕ) (own : List ℕ) (tails : List Tail) (on : List ℕ) (branch above : ℕ) (row numbers : List ℕ) : Type 0 where
+  pub places : AllByRecursion (λ p. p < length tails) on
+  pub shift : above ≡ branch + 1 - members
+  pub long : length row ≡ members
+  pub each_own : (b : ℕ) → b < members → get_or row b 0 ≡ own_next members own on branch (length tails + 1) b
+  pub each_tail : (k : ℕ) → get_or numbers k 0 ≡ tail_next tails on above k
+  pub narrow : (n : ℕ) → AllByRecursion (λ p. tail_width tails p ≤ n) on → length numbers ≤ n
+
+-- a tail takes no more than there is memory for
+pub numbers_fit : (members widest : ℕ) (own : List ℕ) (tails : List Tail) → KeepsNumbers members widest own tails → (on numbers : List ℕ) → AllByRecursion (λ p. p < length tails) on →
+    ((n : ℕ) → AllByRecursion (λ p. tail_width tails p ≤ n) on → length numbers ≤ n) → length numbers ≤ widest
+numbers_fit members widest own tails keeps on numbers places narrow = narrow widest (all_low (λ p. tail_width tails p ≤ widest) (length tails) on places keeps.narrow)
+
+pub room_parts : (members widest own tails row : ℕ) → 1 ≤ cond (has_room members widest own tails row) 1 0 → widest < tails
+room_parts members widest own tails row h = grind (arith, nat_tests)
+
 -- one row more
-module _ (members widest : ℕ) (own : List ℕ) (tails : List Tail) (keeps : KeepsNumbers members widest own tails) (on : List ℕ) (branch above : ℕ)
-    (places : AllByRecursion (λ p. p < length tails) on) (is_above : above ≡ branch + 1 - members) (row numbers : List ℕ) (long : length row ≡ members)
-    (each_own : (b : ℕ) → b < members → get_or row b 0 ≡ own_next members own on branch (length tails + 1) b)
-    (each_tail : (k : ℕ) → get_or numbers k 0 ≡ tail_next tails on above k)
-    (narrow : (n : ℕ) → AllByRecursion (λ p. tail_width tails p ≤ n) on → length numbers ≤ n) where
+module _ (members widest : ℕ) (own : List ℕ) (tails : List Tail) (keeps : KeepsNumbers members widest own tails) (on : List ℕ) (branch above : ℕ) (row numbers : List ℕ)
+    (made : IsMade members own tails on branch above row numbers) where
   abbrev added : Tail
   added = record { own = above; numbers = numbers }
 
@@ -118,7 +136,7 @@ module _ (members widest : ℕ) (own : List ℕ) (tails : List Tail) (keeps : Ke
 
   last_own : (b : ℕ) → b < members → get_or (row_of members own_more tails_more (length tails)) b 0 ≡ own_next members own on branch (length tails + 1) b
   last_own b h =
-      number_read members own_more tails_more (length tails) b ∙ (number_own members own_more tails_more (length tails) b h ∙ (own_last b ∙ each_own b h))
+      number_read members own_more tails_more (length tails) b ∙ (number_own members own_more tails_more (length tails) b h ∙ (own_last b ∙ made.each_own b h))
 
   last_tail : (b : ℕ) → members ≤ b →
       get_or (row_of members own_more tails_more (length tails)) b 0 ≡ max (tail_next tails on above (b - members)) (cond (eqb (b - members + 1) above) (length tails + 1) 0)
@@ -126,28 +144,28 @@ module _ (members widest : ℕ) (own : List ℕ) (tails : List Tail) (keeps : Ke
       number_read members own_more tails_more (length tails) b
       ∙ (number_tail members own_more tails_more (length tails) b h
       ∙ (ap (λ t. max (get_or t.numbers (b - members) 0) (cond (eqb (b - members + 1) t.own) (length tails + 1) 0)) tail_last
-      ∙ ap (λ c. max c (cond (eqb (b - members + 1) above) (length tails + 1) 0)) (each_tail (b - members))))
+      ∙ ap (λ c. max c (cond (eqb (b - members + 1) above) (length tails + 1) 0)) (made.each_tail (b - members))))
 
   last_end : get_or (row_of members own_more tails_more (length tails)) branch 0 ≡ length tails + 1
   last_end = elim (cases_lt branch members) [
     | inl low ↦
         last_own branch low ∙ ap (λ c. cond c (length tails + 1) (greatest_count (λ p c. get_or own (p * members + c) 0) on branch)) (eq-eqb branch branch refl)
     | inr past ↦
-        (let is : eqb (branch - members + 1) above ≡ true = eq-eqb (branch - members + 1) above (omega arith) in
-        last_tail branch past ∙ ap (λ c. max (cond c 0 (greatest_count (tail_count tails) on (branch - members))) (cond c (length tails + 1) 0)) is)
+        (let is : eqb (branch - members + 1) above ≡ true = (let is_above = made.shift in eq-eqb (branch - members + 1) above (omega arith)) in
+        last_tail branch past ∙ ap (λ c. max (cond c 0 (greatest_count (tail_count tails) on (branch - members))) (cond c (length tails + 1) 0)) is ∙ zero-max (length tails + 1))
   ]
 
   last_others : (b : ℕ) → b ≢ branch → get_or (row_of members own_more tails_more (length tails)) b 0 ≡ greatest_count (count_in (rows_of members own tails)) on b
   last_others b other = elim (cases_lt b members) [
     | inl low ↦
         last_own b low ∙ (ap (λ c. cond c (length tails + 1) (greatest_count (λ p c. get_or own (p * members + c) 0) on b)) (ne_eqb b branch other)
-        ∙ greatest_same (λ p c. get_or own (p * members + c) 0) (count_in (rows_of members own tails)) (length tails) on b b places
+        ∙ greatest_same (λ p c. get_or own (p * members + c) 0) (count_in (rows_of members own tails)) (length tails) on b b made.places
             (λ p h. sym (count_read members own tails p b h ∙ number_own members own tails p b low)))
     | inr past ↦
-        (let off : eqb (b - members + 1) above ≡ false = ne_eqb (b - members + 1) above (omega arith) in
+        (let off : eqb (b - members + 1) above ≡ false = (let is_above = made.shift in ne_eqb (b - members + 1) above (omega arith)) in
         last_tail b past ∙ (ap (λ c. max (cond c 0 (greatest_count (tail_count tails) on (b - members))) (cond c (length tails + 1) 0)) off
         ∙ (max-zero (greatest_count (tail_count tails) on (b - members))
-        ∙ greatest_same (tail_count tails) (count_in (rows_of members own tails)) (length tails) on (b - members) b places
+        ∙ greatest_same (tail_count tails) (count_in (rows_of members own tails)) (length tails) on (b - members) b made.places
             (λ p h. sym (count_read members own tails p b h ∙ number_tail members own tails p b past)))))
   ]
 
@@ -161,27 +179,21 @@ module _ (members widest : ℕ) (own : List ℕ) (tails : List Tail) (keeps : Ke
     others = last_others;
     wide = omega (arith, last_long);
     narrow = λ k wide past fit.
-        let low = narrow (k - members) (all_same (λ p. length (get_or (rows_of members own tails) p []) ≤ k) (λ p. tail_width tails p ≤ k - members) (length tails) on places fit
+        let low = made.narrow (k - members) (all_same (λ p. length (get_or (rows_of members own tails) p []) ≤ k) (λ p. tail_width tails p ≤ k - members) (length tails) on made.places fit
             (λ p h within. let is : length (get_or (rows_of members own tails) p []) ≡ members + tail_width tails p = ap length (row_known members own tails p h) ∙ row_long members own tails p in omega arith)) in
+        let is_above = made.shift in
         omega (arith, last_long);
   }
-
-  all_narrow : AllByRecursion (λ p. tail_width tails p ≤ widest) on
-  all_narrow = all_low (λ p. tail_width tails p ≤ widest) (length tails) on places keeps.narrow
-
-  -- it takes no more than there is memory for
-  pub numbers_fit : length numbers ≤ widest
-  numbers_fit = narrow widest all_narrow
 
   pub keeps_more : length tails + 1 < 2 ^ 32 → KeepsNumbers members (max widest above) own_more tails_more
   keeps_more short =
       let many = length_push tails added in
       record {
-        long = length-append own row ∙ (let was = keeps.long in (let is : length own + length row ≡ (length tails + 1) * members = omega arith in is) ∙ ap (λ k. k * members) (sym many));
+        long = length-append own row ∙ (let was = keeps.long in let same = made.long in (let is : length own + length row ≡ (length tails + 1) * members = omega arith in is) ∙ ap (λ k. k * members) (sym many));
         short = omega arith;
         narrow = λ x h. elim (cases_lt x (length tails)) [
           | inl low ↦ (let is = tail_before x low in let was = keeps.narrow x low in rw is (omega arith))
-          | inr past ↦ (let same : x ≡ length tails = omega arith in let is : tail_at tails_more x ≡ added = ap (tail_at tails_more) same ∙ tail_last in let low = numbers_fit in rw is (omega arith))
+          | inr past ↦ (let same : x ≡ length tails = omega arith in let is : tail_at tails_more x ≡ added = ap (tail_at tails_more) same ∙ tail_last in let low = numbers_fit members widest own tails keeps on numbers made.places made.narrow in let is_above = made.shift in rw is (omega arith))
         ];
       }
 

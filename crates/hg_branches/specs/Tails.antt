@@ -17,9 +17,13 @@ no_tail = record { own = 0; numbers = [] }
 abbrev pub tail_at : List Tail → ℕ → Tail
 tail_at tails x = slice_index_or tails x no_tail
 
+-- what row x counts of its own branch, where that is the one at place k, and else 0
+abbrev pub own_count : List Tail → ℕ → ℕ → ℕ
+own_count tails x k = cond (k + 1 == (tail_at tails x).own) (x + 1) 0
+
 -- what the tail of row x counts of the branch at place k
 abbrev pub tail_count : List Tail → ℕ → ℕ → ℕ
-tail_count tails x k = max (slice_index (tail_at tails x).numbers k) (cond (k + 1 == (tail_at tails x).own) (x + 1) 0)
+tail_count tails x k = max (slice_index (tail_at tails x).numbers k) (own_count tails x k)
 
 -- how many branches the tail of row x tells of
 abbrev pub tail_width : List Tail → ℕ → ℕ

@@ -4,7 +4,7 @@ ghost use Rattle.std.specs.Prelude.{◌≡◌, ◌<◌, ◌≤◌, ◌+◌, ◌*
 ghost use Rattle.std.specs.List.{AllByRecursion};
 ghost use Rattle.hg_model.specs.Shape.{pair_list};
 ghost use Rattle.hg_branches.specs.Table.{own_next, tail_next};
-ghost use Rattle.hg_branches.specs.Tails.{tail_width};
+ghost use Rattle.hg_branches.specs.Tails.{own_count, tail_at, tail_width};
 
 use crate::counts::raise_first;
 use crate::tails::Tails;
@@ -61,12 +61,25 @@ pub fn join_tails(row: &mut Vec<u32>, tails: &Tails, on: Option<(usize, usize)>,
         Some((self_place, other)) => {
             let width = tails.width(self_place).max(tails.width(other));
             join(row, tails.numbers(self_place), tails.numbers(other), width);
-            raise_at(row, tails.own(self_place), self_place as u32 + 1);
-            raise_at(row, tails.own(other), other as u32 + 1);
-            clear_at(row, own);
+            set_own(row, tails, self_place, other, own);
             row.truncate(len_of(row));
         }
     }
+}
+
+/// Raises the numbers of the parents' own branches to their ends, and makes that of the row's own branch 0.
+fn set_own(row: &mut [u32], tails: &Tails, self_place: usize, other: usize, own: usize)
+    requires short { length tails.now.rows < 2 ^ 32 }
+    requires first { self_place < length tails.now.rows }
+    requires second { other < length tails.now.rows }
+    requires first_width { (tail_at tails.now.rows self_place).own ≤ length row.old }
+    requires second_width { (tail_at tails.now.rows other).own ≤ length row.old }
+    ensures len { length row.new ≡ length row.old }
+    ensures each { (k : ℕ) → slice_index row.new k ≡ cond (k + 1 == own) 0 (max (max (slice_index row.old k) (own_count tails.now.rows self_place k)) (own_count tails.now.rows other k)) }
+{
+    raise_at(row, tails.own(self_place), self_place as u32 + 1);
+    raise_at(row, tails.own(other), other as u32 + 1);
+    clear_at(row, own);
 }
 
 /// Makes the row the greatest of these two, with so many numbers.
