@@ -3,3 +3,5 @@ pub mod Columns
 pub mod Kept
 pub mod Lines
 pub mod Sight
+pub mod Table
+pub mod Tails

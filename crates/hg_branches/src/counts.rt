@@ -81,7 +81,7 @@ impl CountRow {
 }
 
 /// Raises as many of the first numbers as there are others.
-fn raise_first(row: &mut [u32], others: &[u32])
+pub fn raise_first(row: &mut [u32], others: &[u32])
     requires { length others.now ≤ length row.old }
     ensures len { length row.new ≡ length row.old }
     ensures each { (b : ℕ) → slice_index row.new b ≡ max (slice_index row.old b) (slice_index others.now b) }

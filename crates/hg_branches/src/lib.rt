@@ -9,8 +9,11 @@ mod branches;
 mod counts;
 mod forks;
 mod kept;
+mod next_row;
 mod seeing;
 mod sight;
+mod table;
+mod tails;
 #[cfg(test)]
 mod tests;
 
