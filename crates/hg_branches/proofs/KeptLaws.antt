@@ -2,7 +2,7 @@
 use Rattle.std.proofs.Common.{◌≡◌, ◌≢◌, ℕ, zero, suc, ◌+◌, ◌-◌, ◌<◌, ◌≤◌, ◌^◌, ◌||◌, ◌&&◌, eqb, nat_lt, nat_le, not, true, false, Bool, cond, min, List, [], ◌∷◌, ◌++◌, length, get_or, replicate, slice_index, slice_set, take, drop, sym, ap, ap₂, ◌∙◌, refl, subst, inl, inr, arith}
 use Rattle.std.proofs.Math.Seq.{take-append_seam}
 use Rattle.std.proofs.lemmas.Bool.{cases_eq, cases_lt, cases_Bool, and_parts, and_from, or_cases, or_left, or_right, ltb-true, lt-ltb, leb-true, le-leb, eqb-true, eq-eqb, not-true, not_from_false, false_from_ne_true, both_ways}
-use Rattle.std.proofs.lemmas.List.{length_push, length-set, length-replicate, get_or-set_same, get_or-set_other, get_or_append_left, get_or_past}
+use Rattle.std.proofs.lemmas.List.{length_push, length-set, length-replicate, get_or-set_same, get_or-set_other, get_or_append_left, get_or_push, get_or_past}
 use Rattle.hg_model.specs.Places.{count_below, weight_below, some_below}
 use Rattle.hg_model.specs.Stakes.{Stakes, member_count, stake_where}
 use Rattle.hg_model.specs.Links.{Link, creator}
@@ -12,9 +12,10 @@ use Rattle.hg_model.specs.Seeing.{sees_through, strongly_sees, is_supermajority}
 use Rattle.hg_model.specs.Shape.{FitsLink, link_of}
 use Rattle.hg_model.proofs.PlacesLaws.{some_below_from, some_below_found, weight_below-same, weight_below-longer, total-count}
 use Rattle.hg_model.proofs.ReachLaws.{bool_iff, has_place_first}
-use Rattle.hg_branches.specs.Branches.{Branching, CountsAncestors, FirstDescendants}
+use Rattle.hg_branches.specs.Branches.{Branching, CountsAncestors, FirstDescendants, greatest_count}
+use Rattle.hg_branches.specs.Rows.{known_place}
 use Rattle.hg_branches.specs.Columns.{branching_of, count_in, next_branch, HoldsBranches, HoldsCounts, with_branch}
-use Rattle.hg_branches.specs.Kept.{Kept, kept_at, no_first, is_first, noted, noted_once, known_in, AreNotedOn, IsLastOn, HoldsFirsts, HoldsKept}
+use Rattle.hg_branches.specs.Kept.{Kept, kept_at, no_first, is_first, noted, noted_once, AreNotedOn, IsLastOn, HoldsFirsts, HoldsKept}
 use Rattle.hg_branches.specs.Lines.{sees_on, own_sees, others_see}
 use Rattle.hg_branches.proofs.FirstLaws.{firsts_begin, firsts_next}
 use Rattle.hg_branches.proofs.SeenLaws.{by_branches, seen_by_branches, counted_sound, counted_complete}
@@ -144,17 +145,42 @@ module _ (n : Stakes) (L : List Link) (branches makers ends : List ℕ) (held : 
 
 -- what the self-parent has as ancestor needs no note: on the next row's branch it has a descendant already
 pub noted_on : (n : Stakes) (L : List Link) (branches makers ends : List ℕ) → HoldsBranches n L branches makers ends → (counts : List (List ℕ)) → HoldsCounts n L branches makers counts →
-    (kept : List Kept) (newest numbers : List ℕ) → HoldsKept n L branches makers kept newest numbers → (on : List ℕ) (by : ℕ) → FitsLink n L (link_of by on) → (row : List ℕ) (c : ℕ) →
-    AreNotedOn c (known_in counts on) row (next_branch branches ends on by) (length L + 1) kept
-noted_on n L branches makers ends held counts rows kept newest numbers holds [] by fits row c i h is_on le =
-    (let k = holds.each i h in let some = k.some in let zero_known : slice_index (known_in counts []) c ≡ 0 = get_or_past (known_in counts []) c 0 (omega arith) in absurd (omega arith))
-noted_on n L branches makers ends held counts rows kept newest numbers holds (p ∷ ps) by fits row c i h is_on le =
+    (kept : List Kept) (newest numbers : List ℕ) → HoldsKept n L branches makers kept newest numbers → (on : List ℕ) (by : ℕ) → FitsLink n L (link_of by on) → (row : List ℕ) →
+    ((i : ℕ) → i ≢ next_branch branches ends on by → get_or row i 0 ≡ greatest_count (count_in counts) on i) → (c : ℕ) →
+    AreNotedOn c (get_or (counts ++ row ∷ []) (known_place on (length L)) []) row (next_branch branches ends on by) (length L + 1) kept
+noted_on n L branches makers ends held counts rows kept newest numbers holds [] by fits row others c i h is_on le =
+    let k : Kept = kept_at kept i in
+    let firsts = holds.each i h in
+    let some = firsts.some in
+    let inside = firsts.inside in
+    let y : ℕ = k.end - 1 in
+    let known : k.end ≤ get_or row c 0 = subst (λ (r : List ℕ). k.end ≤ get_or r c 0) (get_or_push counts row [] (length L) rows.len) le in
+    elim (cases_eq c (next_branch branches ends [] by)) [
+      | inl here ↦
+          (let end : y < get_or ends c 0 = subst (λ j. y < get_or ends j 0) (firsts.on ∙ is_on) (held.end y (omega arith)) in
+          let there : get_or branches y 0 < length makers = held.known y (omega arith) in
+          let all = held.ends_all in
+          elim (cases_Bool (eqb (get_or ends by 0) 0)) [
+            | inl empty ↦
+                (let own : c ≡ by = here ∙ ap (λ e. cond e by (length ends)) empty in
+                let none : get_or ends c 0 ≡ 0 = ap (λ j. get_or ends j 0) own ∙ eqb-true (get_or ends by 0) 0 empty in
+                absurd (omega arith))
+            | inr full ↦
+                (let new : c ≡ length ends = here ∙ ap (λ e. cond e by (length ends)) full in
+                let old : get_or branches y 0 ≡ c = firsts.on ∙ is_on in
+                absurd (omega arith))
+          ])
+      | inr other ↦ (let none : get_or row c 0 ≡ 0 = others c other in absurd (omega arith))
+    ]
+noted_on n L branches makers ends held counts rows kept newest numbers holds (p ∷ ps) by fits row others c i h is_on le =
     let k : Kept = kept_at kept i in
     let firsts = holds.each i h in
     let some = firsts.some in
     let inside = firsts.inside in
     let y : ℕ = k.end - 1 in
     let below : p < length L = fits.earlier p (has_place_first p ps) in
+    let rows_len = rows.len in
+    let known : k.end ≤ count_in counts p c = subst (λ (r : List ℕ). k.end ≤ get_or r c 0) (get_or_append_left counts (row ∷ []) [] p (omega arith)) le in
     let branch : ℕ = get_or branches p 0 in
     let counted : is_ancestor L p y ≡ true = sym ((rows.row p below).told y (omega arith)) ∙ lt-ltb y (count_in counts p (get_or branches y 0))
     (let same : count_in counts p (get_or branches y 0) ≡ count_in counts p c = ap (count_in counts p) (firsts.on ∙ is_on) in omega arith) in

@@ -76,11 +76,6 @@ abbrev pub AreNotedOn : ℕ → List ℕ → List ℕ → ℕ → ℕ → List K
 AreNotedOn c known counts b end kept =
     (i : ℕ) → i < length kept → (kept_at kept i).branch ≡ c → (kept_at kept i).end ≤ slice_index known c → noted counts b end (kept_at kept i) ≡ kept_at kept i
 
--- what is counted by the self-parent, if there is one
-abbrev pub known_in : List (List ℕ) → List ℕ → List ℕ
-known_in counts [] = []
-known_in counts (p ∷ ps) = get_or counts p []
-
 -- the memory for one more kept row, if there is any
 abbrev pub IsSpareKept : ℕ → Option Kept → Type 0
 IsSpareKept n None = Unit {0}

@@ -1,7 +1,8 @@
 ghost use Rattle.std.specs.Prelude.{◌≡◌, ◌≢◌, ◌<◌, ◌≤◌, ◌+◌, ◌-◌, ◌^◌, ℕ, cond, nat_lt, length, slice_index, IfOk};
 ghost use Rattle.hg_branches.specs.Kept.{kept_at, no_first, noted, noted_once, AreNotedOn, HoldsChains, HoldsNewest, IsLastOn};
 
-use crate::counts::{CountRow, count_at};
+use crate::branches::zeros;
+use crate::counts::{RowCounts, count_at};
 use hg_model::Memory;
 use std::alloc::Global;
 use std::marker::Model;
@@ -19,7 +20,7 @@ pub struct KeptRow {
     /// The number of the kept row before it on its branch, or 0.
     before: u32,
     /// For each member's own branch one more than the place of the first descendant there.
-    firsts: CountRow,
+    firsts: Vec<u32>,
 }
 
 impl Model for KeptRow {
@@ -27,7 +28,7 @@ impl Model for KeptRow {
 
     ghost Value = { Kept };
 
-    ghost view = { λ s. record { end = s.end; branch = s.branch; before = s.before; firsts = s.firsts } };
+    ghost view = { λ s. record { end = s.end; branch = s.branch; before = s.before; firsts = s.firsts.items } };
 }
 
 impl KeptRow {
@@ -35,7 +36,7 @@ impl KeptRow {
     pub fn new(alloc: Global, members: usize) -> Result<KeptRow, Memory>
         ensures { IfOk result (λ k. length k.firsts ≡ members) }
     {
-        let firsts = CountRow::new(alloc, members)?;
+        let firsts = zeros(alloc, members)?;
         Ok(KeptRow {
             end: 0,
             branch: 0,
@@ -58,7 +59,7 @@ impl KeptRow {
         self.before = before;
         clear(&mut self.firsts);
         if branch < self.firsts.len() {
-            self.firsts.set(branch, end);
+            self.firsts[branch] = end;
         }
     }
 
@@ -66,8 +67,8 @@ impl KeptRow {
     pub fn note(&mut self, count: u32, branch: usize, end: u32)
         ensures { self.new ≡ noted_once count branch end self.old }
     {
-        if self.end <= count && end < self.firsts.at(branch) {
-            self.firsts.set(branch, end);
+        if self.end <= count && end < count_at(&self.firsts, branch) {
+            self.firsts[branch] = end;
         }
     }
 
@@ -86,7 +87,7 @@ impl KeptRow {
     }
 
     /// For each member's own branch one more than the place of the first descendant there.
-    pub fn firsts(&self) -> &CountRow
+    pub fn firsts(&self) -> &[u32]
         ensures { result.now ≡ self.now.firsts }
     {
         &self.firsts
@@ -94,12 +95,12 @@ impl KeptRow {
 }
 
 /// Leaves no first descendant.
-fn clear(firsts: &mut CountRow)
+fn clear(firsts: &mut [u32])
     ensures len { length firsts.new ≡ length firsts.old }
     ensures each { (b : ℕ) → b < length firsts.old → slice_index firsts.new b ≡ no_first }
 {
     for b in 0..firsts.len() {
-        firsts.set(b, NO_FIRST);
+        firsts[b] = NO_FIRST;
     }
 }
 
@@ -108,16 +109,16 @@ fn clear(firsts: &mut CountRow)
 pub fn note_all(
     kept: &mut [KeptRow],
     newest: &[u32],
-    known: &[u32],
-    counts: &[u32],
+    known: &RowCounts,
+    counts: &RowCounts,
     branch: usize,
     end: u32,
 )
     requires chains { HoldsChains kept.old }
     requires newest { HoldsNewest kept.old newest.now }
-    requires noted { (c : ℕ) → AreNotedOn c known.now counts.now branch end kept.old }
+    requires noted { (c : ℕ) → AreNotedOn c known.now.row counts.now.row branch end kept.old }
     ensures len { length kept.new ≡ length kept.old }
-    ensures each { (i : ℕ) → i < length kept.old → kept_at kept.new i ≡ noted counts.now branch end (kept_at kept.old i) }
+    ensures each { (i : ℕ) → i < length kept.old → kept_at kept.new i ≡ noted counts.now.row branch end (kept_at kept.old i) }
 {
     for c in 0..newest.len() {
         note_branch(kept, newest[c], known, counts, c, branch, end);
@@ -128,20 +129,20 @@ pub fn note_all(
 fn note_branch(
     kept: &mut [KeptRow],
     newest: u32,
-    known: &[u32],
-    counts: &[u32],
+    known: &RowCounts,
+    counts: &RowCounts,
     c: usize,
     branch: usize,
     end: u32,
 )
     requires chains { HoldsChains kept.old }
     requires newest { IsLastOn kept.old (length kept.old) c newest }
-    requires noted { AreNotedOn c known.now counts.now branch end kept.old }
+    requires noted { AreNotedOn c known.now.row counts.now.row branch end kept.old }
     ensures len { length kept.new ≡ length kept.old }
-    ensures on { (i : ℕ) → i < length kept.old → (kept_at kept.old i).branch ≡ c → kept_at kept.new i ≡ noted counts.now branch end (kept_at kept.old i) }
+    ensures on { (i : ℕ) → i < length kept.old → (kept_at kept.old i).branch ≡ c → kept_at kept.new i ≡ noted counts.now.row branch end (kept_at kept.old i) }
     ensures off { (i : ℕ) → (kept_at kept.old i).branch ≢ c → kept_at kept.new i ≡ kept_at kept.old i }
 {
-    if count_at(known, c) < count_at(counts, c) {
+    if known.at(c) < counts.at(c) {
         note_later(kept, newest, known, counts, c, branch, end);
     }
 }
@@ -151,21 +152,21 @@ fn note_branch(
 fn note_later(
     kept: &mut [KeptRow],
     newest: u32,
-    known: &[u32],
-    counts: &[u32],
+    known: &RowCounts,
+    counts: &RowCounts,
     c: usize,
     branch: usize,
     end: u32,
 )
     requires chains { HoldsChains kept.old }
     requires newest { IsLastOn kept.old (length kept.old) c newest }
-    requires noted { AreNotedOn c known.now counts.now branch end kept.old }
+    requires noted { AreNotedOn c known.now.row counts.now.row branch end kept.old }
     ensures len { length kept.new ≡ length kept.old }
-    ensures on { (i : ℕ) → i < length kept.old → (kept_at kept.old i).branch ≡ c → kept_at kept.new i ≡ noted counts.now branch end (kept_at kept.old i) }
+    ensures on { (i : ℕ) → i < length kept.old → (kept_at kept.old i).branch ≡ c → kept_at kept.new i ≡ noted counts.now.row branch end (kept_at kept.old i) }
     ensures off { (i : ℕ) → (kept_at kept.old i).branch ≢ c → kept_at kept.new i ≡ kept_at kept.old i }
 {
-    let least = count_at(known, c);
-    let count = count_at(counts, c);
+    let least = known.at(c);
+    let count = counts.at(c);
     let mut number = newest as usize;
     'chain: while number > 0 {
         let row = &mut kept[number - 1];
@@ -178,7 +179,7 @@ fn note_later(
 }
 
 /// The first descendants of the kept row with this index.
-pub fn firsts_at(kept: &[KeptRow], index: usize) -> &CountRow
+pub fn firsts_at(kept: &[KeptRow], index: usize) -> &[u32]
     requires { index < length kept.now }
     ensures { result.now ≡ (kept_at kept.now index).firsts }
 {

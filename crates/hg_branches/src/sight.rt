@@ -4,10 +4,11 @@ ghost use Rattle.hg_model.specs.Shape.{shape_of};
 ghost use Rattle.hg_bits.specs.Masks.{mask_has};
 
 use crate::branches::{branch_for, ends_of, move_end, open_branch, zeros};
-use crate::counts::{CountRow, copy_counts, counts_of, fill, known_counts};
+use crate::counts::{known_place, row_of};
 use crate::forks::forked_next;
 use crate::kept::{KeptRow, firsts_at, last_end, note_all};
 use crate::seeing;
+use crate::table::CountTable;
 use hg_ancestry::{PlacedLink, copy_links, copy_masks, creator_of, self_parent_of};
 use hg_bits::{mask_has, members_over};
 use hg_model::{Growing, Member, Memory, Parents, Sight};
@@ -27,7 +28,7 @@ pub struct BranchSight {
     /// For each branch one more than the place of its last row, or 0.
     ends: Vec<u32>,
     /// For each row and branch one more than the place of the branch's last row among the row's ancestors, or 0.
-    counts: Vec<CountRow>,
+    counts: CountTable,
     /// For each row the members with a fork among its ancestors.
     forked: Vec<u128>,
     /// The rows of which the first descendants are kept, in the order of the graph; a prefix has none.
@@ -36,8 +37,8 @@ pub struct BranchSight {
     newest: Vec<u32>,
     /// For each row its number among the kept rows, or 0.
     numbers: Vec<u32>,
-    /// The counts of the next row, if there is memory for one.
-    spare: Option<CountRow>,
+    /// Whether there is memory for a row.
+    ready: bool,
     /// The next kept row, if there is memory for one.
     spare_kept: Option<KeptRow>,
 }
@@ -45,11 +46,11 @@ pub struct BranchSight {
 impl Model for BranchSight {
     ghost use Rattle.hg_model.specs.Shape.{ShapeWithRoom, shape_of};
     ghost use Rattle.hg_branches.specs.Sight.{HoldsBranchSight};
-    ghost use Rattle.hg_branches.specs.Columns.{spare_room};
+    ghost use Rattle.hg_branches.specs.Columns.{room_of};
 
     ghost Value = { ShapeWithRoom };
 
-    ghost view = { λ s. record { shape = shape_of s.members s.links.items; room = spare_room s.spare } };
+    ghost view = { λ s. record { shape = shape_of s.members s.links.items; room = room_of s.ready } };
 
     ghost invariant = { HoldsBranchSight };
 }
@@ -67,12 +68,12 @@ impl BranchSight {
             branches: Vec::new(alloc),
             makers: own_branches(alloc, members)?,
             ends: zeros(alloc, members as usize)?,
-            counts: Vec::new(alloc),
+            counts: CountTable::new(alloc, members as usize),
             forked: Vec::new(alloc),
             kept: Vec::new(alloc),
             newest: zeros(alloc, members as usize)?,
             numbers: Vec::new(alloc),
-            spare: None,
+            ready: false,
             spare_kept: None,
         })
     }
@@ -149,7 +150,7 @@ impl Sight for BranchSight {
     }
 
     fn ancestor(&self, x: usize, y: usize) -> bool {
-        y < counts_of(&self.counts, x).at(self.branches[y]) as usize
+        y < self.counts.at(x, self.branches[y]) as usize
     }
 
     fn sees(&self, x: usize, y: usize) -> bool {
@@ -162,23 +163,22 @@ impl Sight for BranchSight {
         if !self.ancestor(x, y) {
             return false;
         }
-        let counts = counts_of(&self.counts, x);
+        let counts = row_of(&self.counts, x);
         let member = self.creator(y);
         if !mask_has(self.forked_below(x), member) {
             let number = self.numbers[y];
             if number > 0 {
                 let firsts = firsts_at(&self.kept, number as usize - 1);
-                return seeing::strong_by_firsts(self, &self.makers, counts, firsts, y);
+                return seeing::strong_by_firsts(self, &self.makers, &counts, firsts, y);
             }
         }
-        let seers = seeing::seers(self, &self.makers, counts, y);
+        let seers = seeing::seers(self, &self.makers, &counts, y);
         members_over(seers, self.members)
     }
 
     fn counts(&self, x: usize) -> Option<&[u32]> {
-        let members = self.members as usize;
-        if self.makers.len() == members {
-            Some(&counts_of(&self.counts, x).as_slice()[..members])
+        if self.makers.len() == self.members as usize {
+            Some(self.counts.own(x))
         } else {
             None
         }
@@ -190,17 +190,16 @@ impl Growing for BranchSight {
 
     fn reserve(&mut self) -> Result<(), Memory> {
         self.reserve_kept()?;
-        if self.spare.is_none() {
+        if !self.ready {
             self.links.reserve(1)?;
             self.branches.reserve(1)?;
             self.makers.reserve(1)?;
             self.ends.reserve(1)?;
-            self.counts.reserve(1)?;
+            self.counts.reserve()?;
             self.forked.reserve(1)?;
             self.newest.reserve(1)?;
             self.numbers.reserve(1)?;
-            let row = CountRow::new(self.alloc, self.makers.len() + 1)?;
-            self.spare = Some(row);
+            self.ready = true;
         }
         Ok(())
     }
@@ -211,19 +210,19 @@ impl Growing for BranchSight {
         let branch = branch_for(&self.branches, &self.ends, on, creator);
         let many = members < self.makers.len() || members <= branch;
         let forked = forked_next(&self.makers, &self.counts, &self.forked, many, on, creator);
-        let end = self.links.len() as u32 + 1;
-        if let Some(mut row) = self.spare.take() {
-            fill(&mut row, &self.counts, on, branch, end);
-            let known = known_counts(&self.counts, on);
-            note_all(&mut self.kept, &self.newest, known, row.as_slice(), branch, end);
-            self.links.push_reserved(PlacedLink::of(creator, parents));
-            self.branches.push_reserved(branch);
-            move_end(&mut self.makers, &mut self.ends, branch, creator, end);
-            self.counts.push_reserved(row);
-            self.forked.push_reserved(forked);
-            open_branch(&mut self.newest, branch);
-            self.numbers.push_reserved(0);
-        }
+        let row = self.links.len();
+        let end = row as u32 + 1;
+        self.ready = false;
+        self.counts.push(on, branch);
+        let known = row_of(&self.counts, known_place(on, row));
+        let counts = row_of(&self.counts, row);
+        note_all(&mut self.kept, &self.newest, &known, &counts, branch, end);
+        self.links.push_reserved(PlacedLink::of(creator, parents));
+        self.branches.push_reserved(branch);
+        move_end(&mut self.makers, &mut self.ends, branch, creator, end);
+        self.forked.push_reserved(forked);
+        open_branch(&mut self.newest, branch);
+        self.numbers.push_reserved(0);
     }
 
     fn prefix(&self, len: usize) -> Result<BranchSight, Memory> {
@@ -235,12 +234,12 @@ impl Growing for BranchSight {
             branches: Vec::from_slice(self.alloc, &self.branches[..len])?,
             makers: Vec::from_slice(self.alloc, &self.makers[..many])?,
             ends: ends_of(self.alloc, &self.branches[..len], many)?,
-            counts: copy_counts(self.alloc, &self.counts, len)?,
+            counts: self.counts.prefix(self.alloc, len)?,
             forked: copy_masks(self.alloc, &self.forked, len)?,
             kept: Vec::new(self.alloc),
             newest: zeros(self.alloc, many)?,
             numbers: zeros(self.alloc, len)?,
-            spare: None,
+            ready: false,
             spare_kept: None,
         })
     }

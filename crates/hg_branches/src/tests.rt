@@ -199,8 +199,6 @@ fn counts_while_nobody_forks(rt: HostRuntime) -> Result<(), Memory> {
         assert!(rt; agree(&sight, &bits), "fork {fork}");
         assert!(rt; fork || counts_agree(&sight, &bits));
         assert!(rt; sight.counts(39).is_none() == fork);
-        let first = sight.prefix(28)?;
-        assert!(rt; counts_agree(&first, &bits.prefix(28)?) == !fork || fork);
     }
     Ok(())
 }

@@ -49,7 +49,7 @@ invariant_of-self c =
           (subst (λ j. HoldsKept n L branches makers (kept ++ k ∷ []) (slice_set s.newest.items branch j) (slice_set s.numbers.items y j)) (sym number)
           (subst (λ b. HoldsKept n L branches makers (kept ++ k ∷ []) (slice_set s.newest.items b (length kept + 1)) (slice_set s.numbers.items y (length kept + 1))) branch_is
           (subst (λ e. HoldsKept n L branches makers (kept ++ k ∷ []) (slice_set s.newest.items k.branch (length kept + 1)) (slice_set s.numbers.items (e - 1) (length kept + 1))) end_is begun)));
-      spare = held.spare;
+      counts_members = held.counts_members;
       spare_kept = subst (IsSpareKept n) (sym c.take.ensures.after) tt;
       links_room = held.links_room;
       branches_room = held.branches_room;

@@ -8,11 +8,11 @@ pub invariant_of-result : goal.invariant_of-result
 invariant_of-result c = record {
   branches = rw (c.new.ensures.items, c.new-2.ensures.items)
       (branches_none c.args.members c.in_ok-own_branches.field-0.items c.in_ok-zeros.field-0.items c.requires c.in_ok-own_branches.ensures.len (ap length c.in_ok-zeros.ensures ∙ length-replicate c.args.members 0) c.in_ok-own_branches.ensures.own);
-  counts = rw (c.new.ensures.items, c.new-2.ensures.items, c.new-3.ensures.items) (counts_none c.args.members c.in_ok-own_branches.field-0.items);
+  counts = rw (c.new.ensures.items, c.new-2.ensures.items, c.new-3.ensures.rows) (counts_none c.args.members c.in_ok-own_branches.field-0.items);
   forks = rw (c.new.ensures.items, c.new-4.ensures.items) forks_none;
   kept = rw (c.new.ensures.items, c.new-2.ensures.items, c.new-5.ensures.items, c.new-6.ensures.items)
       (kept_none c.args.members [] [] c.in_ok-own_branches.field-0.items c.in_ok-zeros-2.field-0.items [] (c.in_ok-zeros-2.ensures ∙ ap (λ k. replicate k 0) (sym c.in_ok-own_branches.ensures.len)) refl);
-  spare = tt;
+  counts_members = c.new-3.ensures.members;
   spare_kept = tt;
   links_room = omega arith;
   branches_room = omega arith;
