@@ -95,9 +95,9 @@ module _ (numbers more : List ℕ) (parts : List Part) (before own : ℕ) (keeps
       part_after numbers (parts ++ p ∷ []) before n (omega arith) ∙ get_or_push parts p no_part (n - before) (omega arith) in
       ap (table new) many
       ∙ (table_grown no_tail old new n (λ x h. tail_same numbers (numbers ++ more) (part_at parts before x) (part_at (parts ++ p ∷ []) before x) (earlier x h)
-          (range_left numbers more (part_at parts before x).start (part_at parts before x).end (part_start numbers parts before keeps x h) (part_end numbers parts before keeps x h)))
+      (range_left numbers more (part_at parts before x).start (part_at parts before x).end (part_start numbers parts before keeps x h) (part_end numbers parts before keeps x h)))
       ∙ ap (λ t. tails_of numbers parts before ++ t ∷ []) (ap (tail_of (numbers ++ more)) last
-          ∙ ap (λ l. record { own = own; numbers = l }) (range_right numbers more start end is_start (omega (arith, length-append numbers more)))))
+      ∙ ap (λ l. record { own = own; numbers = l }) (range_right numbers more start end is_start (omega (arith, length-append numbers more)))))
 
   pub parts_more : (start end : ℕ) → start ≡ length numbers → end ≡ length (numbers ++ more) → KeepsParts (numbers ++ more) (parts ++ part_new start end ∷ [])
   parts_more start end is_start is_end =

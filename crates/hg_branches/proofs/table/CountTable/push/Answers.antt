@@ -64,10 +64,11 @@ invariant_of-self c =
 pub returns : goal.returns
 returns c =
     let s = c.self.inside in
-    let row : List ℕ = row_of s.members (s.own.items ++ c.join_own.new.row.items) (s.tails.rows ++ record { own = c.saturating_sub-own.result; numbers = c.join_tails.new.row.items } ∷ []) (length s.tails.rows) in
-    (row,
-        ap₂ (λ (o : List ℕ) (t : List Tail). rows_of s.members o t) (own_grown c) (tails_grown c)
-        ∙ (rows_more s.members s.widest s.own.items s.tails.rows c.self.invariant _ _ _ _ _ (made c) ∙ ap (λ (t : CountsWithRoom). t.rows ++ row ∷ []) c.self.view_is),
-        ap (λ (t : CountsWithRoom). t.members) c.self.view_is,
-        subst (λ (t : CountsWithRoom). IsNextCounts t.members t.rows (pair_list c.args.on) c.args.branch row) c.self.view_is
-        (next_counts s.members s.widest s.own.items s.tails.rows c.self.invariant _ _ _ _ _ (made c)))
+    let row : List ℕ = row_of s.members (s.own.items ++ c.join_own.new.row.items) (s.tails.rows ++ record { own = c.saturating_sub-own.result; numbers = c.join_tails.new.row.items } ∷ []) (length s.tails.rows) in (
+      row,
+      ap₂ (λ (o : List ℕ) (t : List Tail). rows_of s.members o t) (own_grown c) (tails_grown c)
+          ∙ (rows_more s.members s.widest s.own.items s.tails.rows c.self.invariant _ _ _ _ _ (made c) ∙ ap (λ (t : CountsWithRoom). t.rows ++ row ∷ []) c.self.view_is),
+      ap (λ (t : CountsWithRoom). t.members) c.self.view_is,
+      subst (λ (t : CountsWithRoom). IsNextCounts t.members t.rows (pair_list c.args.on) c.args.branch row) c.self.view_is
+          (next_counts s.members s.widest s.own.items s.tails.rows c.self.invariant _ _ _ _ _ (made c)),
+    )
