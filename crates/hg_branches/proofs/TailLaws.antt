@@ -1,8 +1,8 @@
 -- Tails: what is read of them, one more, and the first ones
-use Rattle.std.proofs.Common.{◌≡◌, ℕ, suc, zero, ◌+◌, ◌-◌, ◌<◌, ◌≤◌, nat_lt, cond, min, List, [], ◌∷◌, ◌++◌, length, get_or, take, drop, sym, ap, ◌∙◌, inl, inr, arith, refl, slice_range}
+use Rattle.std.proofs.Common.{◌≡◌, ℕ, suc, zero, ◌+◌, ◌-◌, ◌<◌, ◌≤◌, cond, min, List, [], ◌∷◌, ◌++◌, length, get_or, take, drop, sym, ap, ◌∙◌, inl, inr, arith, refl, slice_range}
 use Rattle.std.proofs.Math.Seq.{drop-append_seam, take-length}
 use Rattle.std.proofs.lemmas.Bool.{cases_lt, lt-ltb, le-ltb}
-use Rattle.std.proofs.lemmas.List.{get_or_append_left, get_or_push, length_push, take-append-le, take-append-drop, drop-append-le, append-nil, length-append, length-drop, length-take-le, get_or-take}
+use Rattle.std.proofs.lemmas.List.{get_or_append_left, get_or_push, length_push, take-append-le, take-append-drop, drop-append-le, length-append, length-drop, length-take-le, get_or-take}
 use Rattle.hg_branches.specs.declared.tails.Part.{Part}
 use Rattle.hg_branches.specs.Tails.{Tail, no_part, no_tail, part_at, end_before, tail_of, tails_of, tail_at, KeepsParts}
 use Rattle.hg_model.specs.Places.{table}

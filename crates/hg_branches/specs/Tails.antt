@@ -1,5 +1,5 @@
 -- Tails of rows of counts, cut from one list of numbers
-use Rattle.std.specs.Prelude.{◌≡◌, ℕ, suc, zero, ◌+◌, ◌-◌, ◌<◌, ◌≤◌, ◌==◌, nat_lt, max, Bool, cond, List, [], length, slice_index, slice_index_or, slice_range}
+use Rattle.std.specs.Prelude.{ℕ, suc, zero, ◌+◌, ◌-◌, ◌<◌, ◌≤◌, ◌==◌, nat_lt, max, cond, List, [], length, slice_index, slice_index_or, slice_range}
 use Rattle.hg_model.specs.Places.{table}
 use Rattle.hg_branches.specs.declared.tails.Part.{Part}
 

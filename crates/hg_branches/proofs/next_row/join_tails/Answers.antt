@@ -1,4 +1,4 @@
-use Rattle.std.proofs.Common.{◌≡◌, ◌∙◌, ◌++◌, ◌≤◌, List, ℕ, max, length, get_or, take, drop, sym, ap, ap₂}
+use Rattle.std.proofs.Common.{◌≡◌, ◌∙◌, ◌≤◌, List, ℕ, max, length, get_or, take, drop, sym, ap, ap₂}
 use Rattle.std.proofs.lemmas.List.{take_at}
 use Rattle.hg_branches.proofs.JoinLaws.{cut_read, tails_joined}
 use Rattle.hg_branches.proofs.next_row.join_tails.Goals as goal

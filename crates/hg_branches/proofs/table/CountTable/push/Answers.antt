@@ -1,9 +1,9 @@
-use Rattle.std.proofs.Common.{◌≡◌, ◌<◌, ◌≤◌, ◌∙◌, ◌+◌, ◌-◌, ◌*◌, ◌^◌, ◌++◌, ◌∷◌, [], List, ℕ, length, max, get_or, sym, ap, ap₂, subst, arith}
+use Rattle.std.proofs.Common.{◌≡◌, ◌<◌, ◌≤◌, ◌∙◌, ◌+◌, ◌-◌, ◌*◌, ◌^◌, ◌++◌, ◌∷◌, [], List, ℕ, length, sym, ap, ap₂, subst, arith}
 use Rattle.std.specs.Prelude.{vec_capacity, vec_len}
 use Rattle.std.specs.List.{AllByRecursion}
 use Rattle.hg_model.specs.Shape.{pair_list}
 use Rattle.hg_branches.specs.Tails.{Tail}
-use Rattle.hg_branches.specs.Table.{CountsWithRoom, IsNextCounts, KeepsNumbers, rows_of, row_of, own_next}
+use Rattle.hg_branches.specs.Table.{CountsWithRoom, IsNextCounts, rows_of, row_of, own_next}
 use Rattle.hg_branches.proofs.NumberLaws.{IsMade, rows_many, row_fits, all_low, numbers_fit, room_parts, rows_more, next_counts, keeps_more}
 use Rattle.hg_branches.proofs.table.CountTable.push.Goals as goal
 use Rattle.hg_branches.proofs.table.CountTable.push.Goals.{After-self-1}

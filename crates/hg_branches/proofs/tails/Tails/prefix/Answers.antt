@@ -1,7 +1,7 @@
-use Rattle.std.proofs.Common.{◌≡◌, ◌≤◌, ◌∙◌, ◌+◌, ◌-◌, List, length, take, ap, ap₂, sym, arith, refl}
+use Rattle.std.proofs.Common.{◌≡◌, ◌≤◌, ◌∙◌, ◌+◌, ◌-◌, List, length, take, ap, sym, arith, refl}
 use Rattle.std.proofs.lemmas.List.{length-take-le}
 use Rattle.hg_branches.specs.declared.tails.Part.{Part}
-use Rattle.hg_branches.specs.Tails.{TailsWithRoom, end_before, tails_of, KeepsParts}
+use Rattle.hg_branches.specs.Tails.{TailsWithRoom, end_before}
 use Rattle.hg_branches.proofs.TailLaws.{tails_many, tails_cut, parts_cut, end_within}
 use Rattle.hg_branches.proofs.tails.Tails.prefix.Goals as goal
 
