@@ -29,6 +29,10 @@ tail_count tails x k = max (slice_index (tail_at tails x).numbers k) (own_count 
 abbrev pub tail_width : List Tail → ℕ → ℕ
 tail_width tails x = max (length (tail_at tails x).numbers) (tail_at tails x).own
 
+-- what becomes of number n at place k on parents p and q: their own branches count too, and that of the row does not
+abbrev pub tail_made : List Tail → ℕ → ℕ → ℕ → ℕ → ℕ → ℕ
+tail_made tails p q own k n = cond (k + 1 == own) 0 (max (max n (own_count tails p k)) (own_count tails q k))
+
 -- for each row its tail, and memory for one more with fewer numbers than `room`
 pub record TailsWithRoom : Type 0 where
   pub rows : List Tail
