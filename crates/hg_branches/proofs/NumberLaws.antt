@@ -1,8 +1,8 @@
 -- The numbers of a table of counts: what is read of them, one row more, and the first rows
-use Rattle.std.proofs.Common.{◌≡◌, ◌≢◌, ◌==◌, ℕ, ◌+◌, ◌-◌, ◌*◌, ◌<◌, ◌≤◌, ◌^◌, nat_lt, true, false, eqb, cond, max, List, [], ◌∷◌, ◌++◌, length, get_or, take, sym, ap, ap₂, ◌∙◌, inl, inr, arith, refl}
+use Rattle.std.proofs.Common.{◌≡◌, ◌≢◌, ℕ, ◌+◌, ◌-◌, ◌*◌, ◌<◌, ◌≤◌, ◌^◌, true, false, eqb, cond, max, List, [], ◌∷◌, ◌++◌, length, get_or, take, sym, ap, ap₂, ◌∙◌, inl, inr, arith, refl}
 use Rattle.std.specs.List.{AllByRecursion}
 use Rattle.std.proofs.Math.Nat.{mul-le-mul_right}
-use Rattle.std.proofs.lemmas.Bool.{cases_lt, cases_eq, lt-ltb, le-ltb, eq-eqb, ne_eqb}
+use Rattle.std.proofs.lemmas.Bool.{cases_lt, lt-ltb, le-ltb, eq-eqb, ne_eqb}
 use Rattle.std.proofs.lemmas.Bool.Decides.{nat_tests}
 use Rattle.std.proofs.lemmas.List.{get_or_append_left, get_or-append_right, get_or_push, get_or_past, length_push, length-append, length-take-le, get_or-take, ext_get_or}
 use Rattle.hg_model.specs.Places.{table}
@@ -52,7 +52,7 @@ module _ (members : ℕ) (own : List ℕ) (tails : List Tail) where
         let is : length (take members row) ≡ members = length-take-le members row (omega (arith, row_long x)) in
         ext_get_or 0 part (take members row) (long ∙ sym is)
         (λ b low. let here : b < members = omega (arith, long) in
-            each b here ∙ (sym (number_own x b here) ∙ (sym (number_read x b) ∙ sym (get_or-take members row b 0 here))))
+        each b here ∙ (sym (number_own x b here) ∙ (sym (number_read x b) ∙ sym (get_or-take members row b 0 here))))
         ∙ ap (take members) (sym (row_known x h))
 
 -- what holds of each parent holds of all
@@ -160,13 +160,13 @@ module _ (members widest : ℕ) (own : List ℕ) (tails : List Tail) (keeps : Ke
     | inl low ↦
         last_own b low ∙ (ap (λ c. cond c (length tails + 1) (greatest_count (λ p c. get_or own (p * members + c) 0) on b)) (ne_eqb b branch other)
         ∙ greatest_same (λ p c. get_or own (p * members + c) 0) (count_in (rows_of members own tails)) (length tails) on b b made.places
-            (λ p h. sym (count_read members own tails p b h ∙ number_own members own tails p b low)))
+        (λ p h. sym (count_read members own tails p b h ∙ number_own members own tails p b low)))
     | inr past ↦
         (let off : eqb (b - members + 1) above ≡ false = (let is_above = made.shift in ne_eqb (b - members + 1) above (omega arith)) in
         last_tail b past ∙ (ap (λ c. max (cond c 0 (greatest_count (tail_count tails) on (b - members))) (cond c (length tails + 1) 0)) off
         ∙ (max-zero (greatest_count (tail_count tails) on (b - members))
         ∙ greatest_same (tail_count tails) (count_in (rows_of members own tails)) (length tails) on (b - members) b made.places
-            (λ p h. sym (count_read members own tails p b h ∙ number_tail members own tails p b past)))))
+        (λ p h. sym (count_read members own tails p b h ∙ number_tail members own tails p b past)))))
   ]
 
   last_long : length (row_of members own_more tails_more (length tails)) ≡ members + max (length numbers) above
@@ -180,7 +180,7 @@ module _ (members widest : ℕ) (own : List ℕ) (tails : List Tail) (keeps : Ke
     wide = omega (arith, last_long);
     narrow = λ k wide past fit.
         let low = made.narrow (k - members) (all_same (λ p. length (get_or (rows_of members own tails) p []) ≤ k) (λ p. tail_width tails p ≤ k - members) (length tails) on made.places fit
-            (λ p h within. let is : length (get_or (rows_of members own tails) p []) ≡ members + tail_width tails p = ap length (row_known members own tails p h) ∙ row_long members own tails p in omega arith)) in
+        (λ p h within. let is : length (get_or (rows_of members own tails) p []) ≡ members + tail_width tails p = ap length (row_known members own tails p h) ∙ row_long members own tails p in omega arith)) in
         let is_above = made.shift in
         omega (arith, last_long);
   }

@@ -1,8 +1,8 @@
 -- Tails: what is read of them, one more, and the first ones
-use Rattle.std.proofs.Common.{◌≡◌, ℕ, suc, zero, ◌+◌, ◌-◌, ◌<◌, ◌≤◌, nat_lt, cond, min, List, [], ◌∷◌, ◌++◌, length, get_or, take, drop, sym, ap, ◌∙◌, inl, inr, arith, refl, slice_range}
+use Rattle.std.proofs.Common.{◌≡◌, ℕ, suc, zero, ◌+◌, ◌-◌, ◌<◌, ◌≤◌, cond, min, List, [], ◌∷◌, ◌++◌, length, get_or, take, drop, sym, ap, ◌∙◌, inl, inr, arith, refl, slice_range}
 use Rattle.std.proofs.Math.Seq.{drop-append_seam, take-length}
 use Rattle.std.proofs.lemmas.Bool.{cases_lt, lt-ltb, le-ltb}
-use Rattle.std.proofs.lemmas.List.{get_or_append_left, get_or_push, length_push, take-append-le, take-append-drop, drop-append-le, append-nil, length-append, length-drop, length-take-le, get_or-take}
+use Rattle.std.proofs.lemmas.List.{get_or_append_left, get_or_push, length_push, take-append-le, take-append-drop, drop-append-le, length-append, length-drop, length-take-le, get_or-take}
 use Rattle.hg_branches.specs.declared.tails.Part.{Part}
 use Rattle.hg_branches.specs.Tails.{Tail, no_part, no_tail, part_at, end_before, tail_of, tails_of, tail_at, KeepsParts}
 use Rattle.hg_model.specs.Places.{table}
@@ -95,9 +95,9 @@ module _ (numbers more : List ℕ) (parts : List Part) (before own : ℕ) (keeps
       part_after numbers (parts ++ p ∷ []) before n (omega arith) ∙ get_or_push parts p no_part (n - before) (omega arith) in
       ap (table new) many
       ∙ (table_grown no_tail old new n (λ x h. tail_same numbers (numbers ++ more) (part_at parts before x) (part_at (parts ++ p ∷ []) before x) (earlier x h)
-          (range_left numbers more (part_at parts before x).start (part_at parts before x).end (part_start numbers parts before keeps x h) (part_end numbers parts before keeps x h)))
+      (range_left numbers more (part_at parts before x).start (part_at parts before x).end (part_start numbers parts before keeps x h) (part_end numbers parts before keeps x h)))
       ∙ ap (λ t. tails_of numbers parts before ++ t ∷ []) (ap (tail_of (numbers ++ more)) last
-          ∙ ap (λ l. record { own = own; numbers = l }) (range_right numbers more start end is_start (omega (arith, length-append numbers more)))))
+      ∙ ap (λ l. record { own = own; numbers = l }) (range_right numbers more start end is_start (omega (arith, length-append numbers more)))))
 
   pub parts_more : (start end : ℕ) → start ≡ length numbers → end ≡ length (numbers ++ more) → KeepsParts (numbers ++ more) (parts ++ part_new start end ∷ [])
   parts_more start end is_start is_end =

@@ -1,5 +1,5 @@
 -- Tails of rows of counts, cut from one list of numbers
-use Rattle.std.specs.Prelude.{◌≡◌, ℕ, suc, zero, ◌+◌, ◌-◌, ◌<◌, ◌≤◌, ◌==◌, nat_lt, max, Bool, cond, List, [], length, slice_index, slice_index_or, slice_range}
+use Rattle.std.specs.Prelude.{ℕ, suc, zero, ◌+◌, ◌-◌, ◌<◌, ◌≤◌, ◌==◌, nat_lt, max, cond, List, [], length, slice_index, slice_index_or, slice_range}
 use Rattle.hg_model.specs.Places.{table}
 use Rattle.hg_branches.specs.declared.tails.Part.{Part}
 
@@ -28,6 +28,10 @@ tail_count tails x k = max (slice_index (tail_at tails x).numbers k) (own_count 
 -- how many branches the tail of row x tells of
 abbrev pub tail_width : List Tail → ℕ → ℕ
 tail_width tails x = max (length (tail_at tails x).numbers) (tail_at tails x).own
+
+-- what becomes of number n at place k on parents p and q: their own branches count too, and that of the row does not
+abbrev pub tail_made : List Tail → ℕ → ℕ → ℕ → ℕ → ℕ → ℕ
+tail_made tails p q own k n = cond (k + 1 == own) 0 (max (max n (own_count tails p k)) (own_count tails q k))
 
 -- for each row its tail, and memory for one more with fewer numbers than `room`
 pub record TailsWithRoom : Type 0 where

@@ -4,7 +4,7 @@ ghost use Rattle.std.specs.Prelude.{◌≡◌, ◌<◌, ◌≤◌, ◌+◌, ◌*
 ghost use Rattle.std.specs.List.{AllByRecursion};
 ghost use Rattle.hg_model.specs.Shape.{pair_list};
 ghost use Rattle.hg_branches.specs.Table.{own_next, tail_next};
-ghost use Rattle.hg_branches.specs.Tails.{own_count, tail_at, tail_width};
+ghost use Rattle.hg_branches.specs.Tails.{tail_at, tail_made, tail_width};
 
 use crate::counts::raise_first;
 use crate::tails::Tails;
@@ -75,7 +75,7 @@ fn set_own(row: &mut [u32], tails: &Tails, self_place: usize, other: usize, own:
     requires first_width { (tail_at tails.now.rows self_place).own ≤ length row.old }
     requires second_width { (tail_at tails.now.rows other).own ≤ length row.old }
     ensures len { length row.new ≡ length row.old }
-    ensures each { (k : ℕ) → slice_index row.new k ≡ cond (k + 1 == own) 0 (max (max (slice_index row.old k) (own_count tails.now.rows self_place k)) (own_count tails.now.rows other k)) }
+    ensures each { (k : ℕ) → slice_index row.new k ≡ tail_made tails.now.rows self_place other own k (slice_index row.old k) }
 {
     raise_at(row, tails.own(self_place), self_place as u32 + 1);
     raise_at(row, tails.own(other), other as u32 + 1);

@@ -1,4 +1,4 @@
-use Rattle.std.proofs.Common.{◌≡◌, ◌<◌, ◌∙◌, ◌+◌, ◌*◌, [], length, get_or, take, ap, arith}
+use Rattle.std.proofs.Common.{◌<◌, ◌∙◌, ◌+◌, ◌*◌, [], length, get_or, take, ap, arith}
 use Rattle.hg_branches.specs.Table.{CountsWithRoom}
 use Rattle.hg_branches.proofs.NumberLaws.{rows_many, row_fits, own_known}
 use Rattle.hg_branches.proofs.table.CountTable.own.Goals as goal

@@ -1,4 +1,4 @@
-use Rattle.std.proofs.Common.{◌≡◌, ◌≤◌, ◌∙◌, ◌*◌, List, ℕ, length, take, sym, ap, ap₂, arith}
+use Rattle.std.proofs.Common.{◌≤◌, ◌∙◌, ◌*◌, List, ℕ, length, take, sym, ap, ap₂, arith}
 use Rattle.std.proofs.lemmas.List.{length-take-le}
 use Rattle.hg_branches.specs.Tails.{Tail}
 use Rattle.hg_branches.specs.Table.{CountsWithRoom, rows_of}

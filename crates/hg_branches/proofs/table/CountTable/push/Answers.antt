@@ -1,9 +1,9 @@
-use Rattle.std.proofs.Common.{◌≡◌, ◌<◌, ◌≤◌, ◌∙◌, ◌+◌, ◌-◌, ◌*◌, ◌^◌, ◌++◌, ◌∷◌, [], List, ℕ, length, max, get_or, sym, ap, ap₂, subst, arith}
+use Rattle.std.proofs.Common.{◌≡◌, ◌<◌, ◌≤◌, ◌∙◌, ◌+◌, ◌-◌, ◌*◌, ◌^◌, ◌++◌, ◌∷◌, [], List, ℕ, length, sym, ap, ap₂, subst, arith}
 use Rattle.std.specs.Prelude.{vec_capacity, vec_len}
 use Rattle.std.specs.List.{AllByRecursion}
 use Rattle.hg_model.specs.Shape.{pair_list}
 use Rattle.hg_branches.specs.Tails.{Tail}
-use Rattle.hg_branches.specs.Table.{CountsWithRoom, IsNextCounts, KeepsNumbers, rows_of, row_of, own_next}
+use Rattle.hg_branches.specs.Table.{CountsWithRoom, IsNextCounts, rows_of, row_of, own_next}
 use Rattle.hg_branches.proofs.NumberLaws.{IsMade, rows_many, row_fits, all_low, numbers_fit, room_parts, rows_more, next_counts, keeps_more}
 use Rattle.hg_branches.proofs.table.CountTable.push.Goals as goal
 use Rattle.hg_branches.proofs.table.CountTable.push.Goals.{After-self-1}
@@ -64,10 +64,11 @@ invariant_of-self c =
 pub returns : goal.returns
 returns c =
     let s = c.self.inside in
-    let row : List ℕ = row_of s.members (s.own.items ++ c.join_own.new.row.items) (s.tails.rows ++ record { own = c.saturating_sub-own.result; numbers = c.join_tails.new.row.items } ∷ []) (length s.tails.rows) in
-    (row,
-        ap₂ (λ (o : List ℕ) (t : List Tail). rows_of s.members o t) (own_grown c) (tails_grown c)
-        ∙ (rows_more s.members s.widest s.own.items s.tails.rows c.self.invariant _ _ _ _ _ (made c) ∙ ap (λ (t : CountsWithRoom). t.rows ++ row ∷ []) c.self.view_is),
-        ap (λ (t : CountsWithRoom). t.members) c.self.view_is,
-        subst (λ (t : CountsWithRoom). IsNextCounts t.members t.rows (pair_list c.args.on) c.args.branch row) c.self.view_is
-        (next_counts s.members s.widest s.own.items s.tails.rows c.self.invariant _ _ _ _ _ (made c)))
+    let row : List ℕ = row_of s.members (s.own.items ++ c.join_own.new.row.items) (s.tails.rows ++ record { own = c.saturating_sub-own.result; numbers = c.join_tails.new.row.items } ∷ []) (length s.tails.rows) in (
+      row,
+      ap₂ (λ (o : List ℕ) (t : List Tail). rows_of s.members o t) (own_grown c) (tails_grown c)
+          ∙ (rows_more s.members s.widest s.own.items s.tails.rows c.self.invariant _ _ _ _ _ (made c) ∙ ap (λ (t : CountsWithRoom). t.rows ++ row ∷ []) c.self.view_is),
+      ap (λ (t : CountsWithRoom). t.members) c.self.view_is,
+      subst (λ (t : CountsWithRoom). IsNextCounts t.members t.rows (pair_list c.args.on) c.args.branch row) c.self.view_is
+          (next_counts s.members s.widest s.own.items s.tails.rows c.self.invariant _ _ _ _ _ (made c)),
+    )

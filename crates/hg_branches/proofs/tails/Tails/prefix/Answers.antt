@@ -1,7 +1,7 @@
-use Rattle.std.proofs.Common.{◌≡◌, ◌≤◌, ◌∙◌, ◌+◌, ◌-◌, List, length, take, ap, ap₂, sym, arith, refl}
+use Rattle.std.proofs.Common.{◌≡◌, ◌≤◌, ◌∙◌, ◌+◌, ◌-◌, List, length, take, ap, sym, arith, refl}
 use Rattle.std.proofs.lemmas.List.{length-take-le}
 use Rattle.hg_branches.specs.declared.tails.Part.{Part}
-use Rattle.hg_branches.specs.Tails.{TailsWithRoom, end_before, tails_of, KeepsParts}
+use Rattle.hg_branches.specs.Tails.{TailsWithRoom, end_before}
 use Rattle.hg_branches.proofs.TailLaws.{tails_many, tails_cut, parts_cut, end_within}
 use Rattle.hg_branches.proofs.tails.Tails.prefix.Goals as goal
 
@@ -14,7 +14,7 @@ pub slice_bounds-from_slice-end : goal.slice_bounds-from_slice-end
 slice_bounds-from_slice-end c =
     let parts : length c.deref-2.result.now ≡ length c.self.inside.parts.items = ap length c.deref-2.ensures.value in
     sym (length-take-le (c.args.len - c.min-before.result) c.deref-2.result.now
-        (omega (arith, ap (λ (t : TailsWithRoom). length t.rows) c.self.view_is, tails_many c.self.inside.numbers.items c.self.inside.parts.items c.self.inside.before, c.requires)))
+    (omega (arith, ap (λ (t : TailsWithRoom). length t.rows) c.self.view_is, tails_many c.self.inside.numbers.items c.self.inside.parts.items c.self.inside.before, c.requires)))
 
 pub slice_bounds-from_slice-end-2 : goal.slice_bounds-from_slice-end-2
 slice_bounds-from_slice-end-2 c =
@@ -30,7 +30,7 @@ invariant_of-result c =
     omega (arith, ap (λ (t : TailsWithRoom). length t.rows) c.self.view_is, tails_many c.self.inside.numbers.items c.self.inside.parts.items c.self.inside.before, c.requires) in
     let end = c.end_of-end.ensures ∙ ap (λ (p : List Part). end_before p (c.args.len - c.min-before.result)) c.deref.ensures.value in
     rw (c.in_ok-from_slice-2.ensures.items, c.in_ok-from_slice.ensures.items, c.deref-2.ensures.value, c.deref-3.ensures.value)
-        (parts_cut _ _ _ c.self.invariant c.args.len c.min-before.result _ c.end_of-end.result inside c.min-before.ensures refl end)
+    (parts_cut _ _ _ c.self.invariant c.args.len c.min-before.result _ c.end_of-end.result inside c.min-before.ensures refl end)
 
 pub returns : goal.returns
 returns c =
@@ -38,5 +38,5 @@ returns c =
     omega (arith, ap (λ (t : TailsWithRoom). length t.rows) c.self.view_is, tails_many c.self.inside.numbers.items c.self.inside.parts.items c.self.inside.before, c.requires) in
     let end = c.end_of-end.ensures ∙ ap (λ (p : List Part). end_before p (c.args.len - c.min-before.result)) c.deref.ensures.value in
     rw (c.in_ok-from_slice-2.ensures.items, c.in_ok-from_slice.ensures.items, c.deref-2.ensures.value, c.deref-3.ensures.value)
-        (tails_cut _ _ _ c.self.invariant c.args.len c.min-before.result _ c.end_of-end.result inside c.min-before.ensures refl end
-        ∙ ap (λ (t : TailsWithRoom). take c.args.len t.rows) c.self.view_is)
+    (tails_cut _ _ _ c.self.invariant c.args.len c.min-before.result _ c.end_of-end.result inside c.min-before.ensures refl end
+    ∙ ap (λ (t : TailsWithRoom). take c.args.len t.rows) c.self.view_is)

@@ -1,4 +1,4 @@
-use Rattle.std.proofs.Common.{◌≡◌, ◌∙◌, ◌++◌, ◌∷◌, [], List, ℕ, length, sym, ap, ap₂, refl, arith, rules}
+use Rattle.std.proofs.Common.{◌≡◌, ◌∙◌, ◌++◌, ◌∷◌, [], List, ℕ, length, sym, ap, ap₂, arith, rules}
 use Rattle.std.proofs.lemmas.Bool.{eqb-true}
 use Rattle.hg_branches.specs.Tails.{Tail, TailsWithRoom}
 use Rattle.hg_branches.proofs.TailLaws.{tails_many, tails_plain, tails_more, parts_more, no_items}
@@ -14,7 +14,7 @@ returns-then-is_empty-2 c =
     let plain : c.args.numbers.now ≡ [] = no_items c.args.numbers.now (eqb-true _ _ (sym c.is_empty.ensures ∙ c.if-is_empty.true)) in
     tails_plain c.self.inside.numbers.items c.self.inside.parts.items c.self.inside.before none
     ∙ ap₂ (λ (r : List Tail) (t : Tail). r ++ t ∷ []) (ap (λ (t : TailsWithRoom). t.rows) c.self.view_is)
-        (ap₂ (λ (o : ℕ) (l : List ℕ). record { own = o; numbers = l }) (sym c.if-own-eq0.true) (sym plain))
+    (ap₂ (λ (o : ℕ) (l : List ℕ). record { own = o; numbers = l }) (sym c.if-own-eq0.true) (sym plain))
 
 pub invariant_of-self-2 : goal.invariant_of-self-2
 invariant_of-self-2 c =
@@ -22,7 +22,7 @@ invariant_of-self-2 c =
     let start : c.len-start.result ≡ length c.self.inside.numbers.items = search rules in
     let end : c.len-end.result ≡ length c.extend_from_slice.new.self.items = search rules in
     rw (c.push_reserved.ensures.items, grown)
-        (parts_more c.self.inside.numbers.items c.args.numbers.now c.self.inside.parts.items c.self.inside.before c.args.own c.self.invariant c.len-start.result c.len-end.result start (end ∙ ap length grown))
+    (parts_more c.self.inside.numbers.items c.args.numbers.now c.self.inside.parts.items c.self.inside.before c.args.own c.self.invariant c.len-start.result c.len-end.result start (end ∙ ap length grown))
 
 pub returns : goal.returns
 returns c =
@@ -30,5 +30,5 @@ returns c =
     let start : c.len-start.result ≡ length c.self.inside.numbers.items = search rules in
     let end : c.len-end.result ≡ length c.extend_from_slice.new.self.items = search rules in
     rw (c.push_reserved.ensures.items, grown)
-        (tails_more c.self.inside.numbers.items c.args.numbers.now c.self.inside.parts.items c.self.inside.before c.args.own c.self.invariant c.len-start.result c.len-end.result start (end ∙ ap length grown)
-        ∙ ap (λ (t : TailsWithRoom). t.rows ++ record { own = c.args.own; numbers = c.args.numbers.now } ∷ []) c.self.view_is)
+    (tails_more c.self.inside.numbers.items c.args.numbers.now c.self.inside.parts.items c.self.inside.before c.args.own c.self.invariant c.len-start.result c.len-end.result start (end ∙ ap length grown)
+    ∙ ap (λ (t : TailsWithRoom). t.rows ++ record { own = c.args.own; numbers = c.args.numbers.now } ∷ []) c.self.view_is)
