@@ -21,7 +21,7 @@ pub struct BranchSight {
     alloc: Global,
     members: u32,
     links: Vec<PlacedLink>,
-    /// For each row its branch.
+    /// For each row its branch. There may be more branches than a `u32` counts: one for each member and each row.
     branches: Vec<usize>,
     /// For each branch the member whose rows it has. The first branches are the members' own.
     makers: Vec<Member>,

@@ -125,31 +125,60 @@ fn tells_what_bit_rows_tell(rt: HostRuntime) -> Result<(), Memory> {
     Ok(())
 }
 
-// The last row has both branches as ancestors. It does not see the row below them, yet strongly sees it, through the
-// members' first rows that do. Of the first rows it strongly sees that of the first member too, and no other.
+// The last row has both branches as ancestors, and does not see the row below them.
+fn has_both_branches(sight: &BranchSight) -> bool {
+    if sight.rows() != 10 {
+        return false;
+    }
+    for y in 0..10 {
+        if !sight.ancestor(9, y) || sight.sees(9, y) != (y != 2 && y != 3 && y != 7) {
+            return false;
+        }
+    }
+    true
+}
+
+// Yet it strongly sees that row, through the first rows of the others that do, and the first member's first row, and no other
+// first row.
+fn strongly_sees_two(sight: &BranchSight) -> bool {
+    sight.rows() == 10
+        && sight.sees(4, 2)
+        && sight.sees(8, 2)
+        && sight.sees(5, 2)
+        && sight.strongly_sees(9, 2)
+        && sight.strongly_sees(9, 1)
+        && !sight.strongly_sees(9, 0)
+        && !sight.strongly_sees(9, 6)
+}
+
 #[test]
 fn sees_none_by_who_forked(rt: HostRuntime) -> Result<(), Memory> {
     for every in 0..2 {
         let mut sight = BranchSight::new(rt.alloc(), 4)?;
         let mut bits = BitSight::new(rt.alloc(), 4)?;
-        assert!(rt; add_all(&mut sight, &mut bits, &FORKED, every)? && sight.rows() == 10);
-        for y in 0..10 {
-            assert!(rt; sight.ancestor(9, y), "ancestor {y}");
-            assert_eq!(rt; sight.sees(9, y), y != 2 && y != 3 && y != 7, "sees {y}");
-        }
-        assert!(rt; sight.sees(4, 2) && sight.sees(8, 2) && sight.sees(5, 2));
-        assert!(rt; sight.strongly_sees(9, 2) && sight.strongly_sees(9, 1));
-        assert!(rt; !sight.strongly_sees(9, 0) && !sight.strongly_sees(9, 6));
-        assert!(rt; sight.counts(9).is_none());
+        assert!(rt; add_all(&mut sight, &mut bits, &FORKED, every)?);
+        assert!(rt; has_both_branches(&sight), "every {every}");
+        assert!(rt; strongly_sees_two(&sight), "every {every}");
+        assert!(rt; !has_counts(&sight, 9));
     }
     Ok(())
+}
+
+fn has_counts(sight: &BranchSight, x: usize) -> bool {
+    x < sight.rows() && sight.counts(x).is_some()
 }
 
 // Three members sync in turn, and a fourth now and then. Each row but the first four has the row before it as other-parent.
 fn add_turns(sight: &mut BranchSight, bits: &mut BitSight, fork: bool) -> Result<bool, Memory> {
     let mut last = [0, 1, 2, 3];
     for i in 0..40 {
-        let member = if i < 4 { i } else if i % 7 == 0 { 3 } else { i % 3 };
+        let member = if i < 4 {
+            i
+        } else if i % 7 == 0 {
+            3
+        } else {
+            i % 3
+        };
         let parents = if i < 4 {
             Parents::none()
         } else if fork && i == 28 {
@@ -180,7 +209,9 @@ fn counts_agree(sight: &BranchSight, bits: &BitSight) -> bool {
             match sight.counts(x) {
                 None => return false,
                 Some(counts) => {
-                    if member >= counts.len() || (y < counts[member] as usize) != bits.ancestor(x, y) {
+                    if member >= counts.len()
+                        || (y < counts[member] as usize) != bits.ancestor(x, y)
+                    {
                         return false;
                     }
                 }
@@ -198,7 +229,7 @@ fn counts_while_nobody_forks(rt: HostRuntime) -> Result<(), Memory> {
         assert!(rt; add_turns(&mut sight, &mut bits, fork)? && sight.rows() == 40);
         assert!(rt; agree(&sight, &bits), "fork {fork}");
         assert!(rt; fork || counts_agree(&sight, &bits));
-        assert!(rt; sight.counts(39).is_none() == fork);
+        assert!(rt; has_counts(&sight, 39) != fork);
     }
     Ok(())
 }
