@@ -105,7 +105,7 @@ module _ (g : Graph) (x y : ℕ) (counted : IsCounted g x (round_of g.members (l
 
 -- the words of the voters are among those of the round
 pub words_fit : (g : Graph) (y words : ℕ) (voters : List ℕ) → IsVotersOf g y voters → HasRoom g words → length voters ≤ words
-words_fit g y words voters made room = omega (arith, made.wide.few, room.room (round_in g y - 1))
+words_fit g y words voters made room = omega (arith, made.few, room.room (round_in g y - 1))
 
 -- there are no more voters than rows
 pub voters_few : (g : Graph) (y : ℕ) (voters : List ℕ) → IsVotersOf g y voters → count_below (64 * length voters) (has_bit voters) ≤ length g.rows

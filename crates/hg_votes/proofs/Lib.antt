@@ -5,3 +5,4 @@ pub mod BallotLaws
 pub mod CountLaws
 pub mod LastLaws
 pub mod MadeLaws
+pub mod CarryLaws

@@ -1,10 +1,14 @@
 -- A table without a candidate
-use Rattle.std.proofs.Common.{◌≡◌, ℕ, ◌+◌, ◌-◌, ◌<◌, ◌≤◌, ◌^◌, ◌&&◌, eqb, List, length, ap, ◌∙◌, inl, inr, arith}
+use Rattle.std.proofs.Common.{◌≡◌, ℕ, ◌+◌, ◌-◌, ◌<◌, ◌≤◌, ◌^◌, ◌&&◌, eqb, List, [], length, sym, ap, ◌∙◌, inl, inr, arith}
 use Rattle.std.proofs.lemmas.Bool.{and_right, cases_lt, ne_eqb}
 use Rattle.hg_model.specs.declared.ballot.Ballot.{Ballot}
 use Rattle.hg_model.specs.Rounds.{is_witness, last_round, round_of}
 use Rattle.hg_model.specs.Standings.{Standing, greatest_in, witnesses_in}
-use Rattle.hg_model.specs.Prefix.{Graph, links_of}
+use Rattle.hg_model.specs.Prefix.{Graph, graph_of, links_of}
+use Rattle.hg_model.specs.Stakes.{Stakes}
+use Rattle.hg_model.proofs.LinkLaws.{length-links}
+use Rattle.hg_model.proofs.PushLaws.{shaped-none}
+use Rattle.hg_votes.proofs.VoterLaws.{entered_none}
 use Rattle.hg_model.specs.GraphWords.{shape_in, standings_in, IsShapedIn}
 use Rattle.hg_model.proofs.PlacesLaws.{list_below_none, maximum_below_bounds}
 use Rattle.hg_model.proofs.RoundLaws.{round_of-pos}
@@ -59,3 +63,12 @@ made_new g entered ballots voted shaped short held long room = record {
   voted = record { slots = λ above. absurd (omega arith) };
   opened = λ some. absurd (omega arith);
 }
+
+-- the table of no rows
+pub made_empty : (n : Stakes) (c : ℕ) (entered : Entered) (ballots : List Ballot) (voted : List ℕ) → entered.numbers ≡ [] → entered.sets ≡ [] → ballots ≡ [] → voted ≡ [] →
+    IsMadeFor (record { voters = entered; ballots = ballots; voted = voted; candidate = 0; counted = 0 }) (graph_of n c [])
+made_empty n c entered ballots voted numbers sets no_ballots no_votes =
+    let empty : Graph = graph_of n c [] in
+    made_new empty entered ballots voted (shaped-none n) (omega arith) (entered_none empty entered numbers sets)
+    (ap (λ (xs : List Ballot). length xs) no_ballots ∙ sym (ap (λ (xs : List (List ℕ)). length xs) sets))
+    (record { room = λ r. omega (arith, none_listed empty r (λ x h is. absurd (omega (arith, length-links empty.rows)))) })

@@ -116,6 +116,3 @@ module _ (g : Graph) (y : ℕ) (entered grown : Entered) (number : ℕ) (held : 
               (subst (IsVotersOf g y) (sym (ap (λ (xs : List (List ℕ)). get_or xs (number_of g y) []) sets ∙ get_or_push entered.sets set [] (number_of g y) many)) voters))
         ];
       }
-
-pub prefix_on : {A : Type 0} (xs ys zs : List A) → IsPrefix xs ys → IsPrefix ys zs → IsPrefix xs zs
-prefix_on xs ys zs one two = (one.0 ++ two.0, two.1 ∙ (ap (λ l. l ++ two.0) one.1 ∙ append_assoc xs one.0 two.0))

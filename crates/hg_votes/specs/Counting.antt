@@ -2,6 +2,7 @@
 use Rattle.std.specs.Prelude.{ℕ, ◌≡◌, ◌-◌, ◌*◌, ◌<◌, ◌≤◌, ◌^◌, IsTrue, List, [], length, get_or}
 use Rattle.hg_model.specs.declared.ballot.Ballot.{Ballot}
 use Rattle.hg_model.specs.Places.{count_below}
+use Rattle.hg_model.specs.Orders.{IsPrefix}
 use Rattle.hg_model.specs.Standings.{witnesses_in}
 use Rattle.hg_model.specs.Prefix.{Graph, IsCounted, ballot_of}
 use Rattle.hg_model.specs.GraphWords.{round_in, is_witness_in, shape_in, standings_in, strongly_sees_in, vote_in, IsShapedIn}
@@ -60,6 +61,12 @@ pub record IsOpened (g : Graph) (x last : ℕ) : Type 0 where
   pub witness : IsTrue (is_witness_in g x)
   pub round : round_in g x ≤ last
 
+-- the second graph goes on from the first: of the same members and coin period, and with the first one's rows before others
+pub record Begins (first later : Graph) : Type 0 where
+  pub members : first.members ≡ later.members
+  pub coin : first.coin ≡ later.coin
+  pub rows : IsPrefix first.rows later.rows
+
 -- all of it is the graph's, which is shaped and has few enough rows to count them
 pub record IsMadeFor (counting : Counting) (g : Graph) : Type 0 where
   pub shaped : IsShapedIn (shape_in g)
@@ -69,3 +76,7 @@ pub record IsMadeFor (counting : Counting) (g : Graph) : Type 0 where
   pub ballots : HoldsBallots g counting.candidate counting.counted counting.ballots
   pub voted : HoldsVoted g counting.candidate counting.counted counting.voted
   pub opened : 0 < counting.counted → IsOpened g counting.candidate counting.counted
+
+-- it is made for a graph from which this one goes on
+abbrev pub CarriesTo : Counting → Graph → Type 0
+CarriesTo counting g = (first : Graph) × IsMadeFor counting first × Begins first g

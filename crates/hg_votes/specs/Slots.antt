@@ -9,11 +9,6 @@ use Rattle.hg_votes.specs.declared.tally.Tally.{Tally}
 pub record HoldsSlots (words places : List ℕ) (test : ℕ → Bool) : Type 0 where
   pub bits : (i : ℕ) → has_bit words i ≡ (nat_lt i (length places) && test (slice_index places i))
 
--- as many words as hold so many slots
-pub record IsWideFor (words slots : ℕ) : Type 0 where
-  pub all : slots ≤ 64 * words
-  pub few : 64 * words < slots + 64
-
 -- how many slots of the first set are in the other, and how many are not
 abbrev pub slot_tally : List ℕ → List ℕ → Tally
 slot_tally voters voted = record {
@@ -34,10 +29,10 @@ pub record AreWithin (len : ℕ) (spans : List Span) : Type 0 where
   pub ordered : (k : ℕ) → k < length spans → (get_or spans k no_span).start ≤ (get_or spans k no_span).end
   pub inside : (k : ℕ) → k < length spans → (get_or spans k no_span).end ≤ len
 
--- the set is that of the places that pass the test, in as many words as its slots need
+-- the set is that of the places that pass the test, in no more words than slots need
 pub record IsSetOf (set places : List ℕ) (test : ℕ → Bool) : Type 0 where
   pub slots : HoldsSlots set places test
-  pub wide : IsWideFor (length set) (length places)
+  pub few : 64 * length set < length places + 64
 
 -- the sets with that one more
 pub record AddsSet (old new : List (List ℕ)) (places : List ℕ) (test : ℕ → Bool) : Type 0 where

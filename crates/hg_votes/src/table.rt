@@ -1,6 +1,9 @@
-ghost use Rattle.std.specs.Prelude.{ℕ, ◌≤◌, length, IfOk};
+ghost use Rattle.std.specs.Prelude.{ℕ, ◌≡◌, ◌≤◌, [], length, vec_len, IfOk, OnOk, OnErr};
+ghost use Rattle.hg_model.specs.Orders.{IsPrefix};
+ghost use Rattle.hg_model.specs.Prefix.{graph_of};
+ghost use Rattle.hg_model.specs.Stakes.{Stakes};
 ghost use Rattle.hg_model.specs.GraphWords.{shape_in, IsShapedIn};
-ghost use Rattle.hg_votes.specs.Counting.{IsMadeFor, witnesses_of};
+ghost use Rattle.hg_votes.specs.Counting.{CarriesTo, HoldsVoters, IsMadeFor, witnesses_of};
 
 use crate::ballots::count_round;
 use crate::voters::Voters;
@@ -47,27 +50,91 @@ fn most_witnesses<P: Prefix>(p: &P) -> usize
     most
 }
 
+/// Enters the rows that are not entered yet, and takes the memory of a ballot for each witness. After an error some of
+/// the rows are entered, and the ballots are as they were.
+fn enter<P: Prefix>(voters: &mut Voters, ballots: &mut Vec<Ballot>, p: &P) -> Result<(), Memory>
+    requires few { length voters.old.numbers ≤ length (P.graph p.now).rows }
+    requires before { HoldsVoters (P.graph p.now) (length voters.old.numbers) voters.old }
+    ensures voters { OnOk result (HoldsVoters (P.graph p.now) (length (P.graph p.now).rows) voters.new) }
+    ensures ballots { OnOk result (vec_len ballots.new ≡ length voters.new.sets) }
+    ensures same { OnErr result (ballots.new.items ≡ ballots.old.items) }
+    ensures numbers { IsPrefix voters.old.numbers voters.new.numbers }
+    ensures sets { IsPrefix voters.old.sets voters.new.sets }
+{
+    voters.enter(p)?;
+    let none = Ballot {
+        vote: false,
+        decides: false,
+    };
+    ballots.resize(voters.witnesses(), none)?;
+    Ok(())
+}
+
+/// Enters the rows that are not entered yet, and takes the memory of a ballot for each witness. An error leaves both.
+fn enter_or_leave<P: Prefix>(
+    voters: &mut Voters,
+    ballots: &mut Vec<Ballot>,
+    p: &P,
+) -> Result<(), Memory>
+    requires few { length voters.old.numbers ≤ length (P.graph p.now).rows }
+    requires before { HoldsVoters (P.graph p.now) (length voters.old.numbers) voters.old }
+    ensures voters { OnOk result (HoldsVoters (P.graph p.now) (length (P.graph p.now).rows) voters.new) }
+    ensures ballots { OnOk result (vec_len ballots.new ≡ length voters.new.sets) }
+    ensures same_voters { OnErr result (voters.new ≡ voters.old) }
+    ensures same_ballots { OnErr result (ballots.new.items ≡ ballots.old.items) }
+{
+    let rows = voters.rows();
+    let witnesses = voters.witnesses();
+    match enter(voters, ballots, p) {
+        Ok(()) => Ok(()),
+        Err(memory) => {
+            voters.truncate(rows, witnesses);
+            Err(memory)
+        }
+    }
+}
+
 impl VoteTable {
+    /// The table of no rows, by whatever members. Takes no memory.
+    pub fn empty(alloc: Global) -> VoteTable
+        ensures { (members : Stakes) (coin : ℕ) → IsMadeFor result (graph_of members coin []) }
+    {
+        VoteTable {
+            voters: Voters::new(alloc),
+            ballots: Vec::new(alloc),
+            voted: Vec::new(alloc),
+            next: Vec::new(alloc),
+            candidate: 0,
+            counted: 0,
+        }
+    }
+
     /// The table of a prefix, without a candidate.
     pub fn new<P: Prefix>(alloc: Global, p: &P) -> Result<VoteTable, Memory>
         ensures { IfOk result (λ table. IsMadeFor table (P.graph p.now)) }
     {
+        let mut table = VoteTable::empty(alloc);
+        table.carry(alloc, p)?;
+        Ok(table)
+    }
+
+    /// Makes it the table of this prefix, which goes on from the one that it was made for, without a candidate.
+    /// An error leaves the table.
+    pub fn carry<P: Prefix>(&mut self, alloc: Global, p: &P) -> Result<(), Memory>
+        requires { CarriesTo self.old (P.graph p.now) }
+        ensures ok { OnOk result (IsMadeFor self.new (P.graph p.now)) }
+        ensures err { OnErr result (self.new ≡ self.old) }
+    {
         is_of_graph(p);
-        let mut voters = Voters::new(alloc);
-        voters.enter(p)?;
-        let none = Ballot {
-            vote: false,
-            decides: false,
-        };
         let words = most_witnesses(p).div_ceil(64);
-        Ok(VoteTable {
-            ballots: vec![in alloc; none; voters.witnesses()]?,
-            voted: vec![in alloc; 0u64; words]?,
-            next: vec![in alloc; 0u64; words]?,
-            voters,
-            candidate: 0,
-            counted: 0,
-        })
+        let voted = vec![in alloc; 0u64; words]?;
+        let next = vec![in alloc; 0u64; words]?;
+        enter_or_leave(&mut self.voters, &mut self.ballots, p)?;
+        self.voted = voted;
+        self.next = next;
+        self.candidate = 0;
+        self.counted = 0;
+        Ok(())
     }
 }
 

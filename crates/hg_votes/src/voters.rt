@@ -1,4 +1,4 @@
-ghost use Rattle.std.specs.Prelude.{◌≡◌, ◌<◌, ◌≤◌, ◌+◌, ◌-◌, ◌^◌, [], length, slice_index, slice_index_or, OnOk};
+ghost use Rattle.std.specs.Prelude.{◌≡◌, ◌<◌, ◌≤◌, ◌+◌, ◌-◌, ◌^◌, [], length, slice_index, slice_index_or, take, OnOk};
 ghost use Rattle.hg_model.specs.Orders.{IsPrefix};
 ghost use Rattle.hg_votes.specs.Counting.{HoldsVoters};
 
@@ -71,6 +71,13 @@ impl Voters {
         Ok(())
     }
 
+    /// How many rows are entered.
+    pub fn rows(&self) -> usize
+        ensures { result ≡ length self.now.numbers }
+    {
+        self.numbers.len()
+    }
+
     /// How many witnesses are entered.
     pub fn witnesses(&self) -> usize
         ensures { result ≡ length self.now.sets }
@@ -90,5 +97,14 @@ impl Voters {
             self.enter_row(p, y)?;
         }
         Ok(())
+    }
+
+    /// The first rows and witnesses alone.
+    pub fn truncate(&mut self, rows: usize, witnesses: usize)
+        ensures numbers { self.new.numbers ≡ take rows self.old.numbers }
+        ensures sets { self.new.sets ≡ take witnesses self.old.sets }
+    {
+        self.numbers.truncate(rows);
+        self.sets.truncate(witnesses);
     }
 }

@@ -17,7 +17,7 @@ weighed weight n one two few many_one many_two low =
 pub returns-clause-weighed : goal.returns-clause-weighed
 returns-clause-weighed c = weighed
 
-pub returns-clause-without_fork : goal.returns-clause-honest
+pub returns-clause-without_fork : goal.returns-clause-without_fork
 returns-clause-without_fork c = λ n G g one two many_one many_two.
     let low = g.few_forkers in
     weighed (stake_of n) (member_count n) one two (has_fork (links G)) (unfold total in many_one) (unfold total in many_two) (unfold forking total in low)

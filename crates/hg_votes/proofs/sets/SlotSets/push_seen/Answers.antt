@@ -33,6 +33,6 @@ returns-clause-ok g c =
           ∙ ap (λ (sets : List (List ℕ)). sets ++ marked ∷ []) c.self.view_is);
       is_set = record {
         slots = c.mark_seen.ensures.seen;
-        wide = record { all = omega (arith, times.0); few = omega (arith, times.1) };
+        few = omega (arith, times.1);
       };
     }

@@ -5,7 +5,7 @@ use Rattle.hg_model.specs.Prefix.{links_of}
 use Rattle.hg_model.proofs.LinkLaws.{length-links}
 use Rattle.hg_model.proofs.PlacesLaws.{count_below-le}
 use Rattle.hg_fame.proofs.ShareLaws.{found_below, speaks_of}
-use Rattle.hg_fame.proofs.sharing.elect_share.Goals as goal
+use Rattle.hg_fame.proofs.sharing.elect_unmarked.Goals as goal
 
 pub overflow_add-witnesses : goal.overflow_add-witnesses
 overflow_add-witnesses g c =
@@ -18,4 +18,4 @@ returns-clause-speaks g c =
     let whole : c.loop-x.x ≡ c.rows.result = omega (arith, c.loop-x-test.false, c.loop-x.auto.x-end, c.rows-x-end.ensures.value, c.rows.ensures.value) in
     let long : c.rows.result ≡ length graph.rows =
     c.rows.ensures.value ∙ (ap (λ (s : Shape). length s.links) (g.met.P.Prefix.sees_graph c.args.p.now) ∙ length-links graph.rows) in
-    speaks_of graph c.args.share c.rows.result c.from_vec.result (c.from_vec.ensures ∙ (c.loop-x.invariant.marks ∙ ap (found_below graph c.args.share) whole)) long
+    speaks_of graph c.args.share c.rows.result c.from_vec.result (c.from_vec.ensures ∙ (c.loop-x.invariant.found ∙ ap (found_below graph c.args.share) whole)) long
