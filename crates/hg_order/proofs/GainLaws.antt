@@ -1,10 +1,10 @@
 -- What one holder tallies: the rows that it has as ancestor and its self-parent has not; and what several do
-use Rattle.std.proofs.Common.{◌≡◌, ℕ, ◌+◌, ◌-◌, ◌<◌, ◌≤◌, Bool, true, false, cond, not, ◌&&◌, ltb, leb, min, List, [], ◌∷◌, length, get_or, take, fold, replicate, refl, sym, ap, ap₂, ◌∙◌, inl, inr, arith}
+use Rattle.std.proofs.Common.{◌≡◌, ℕ, ◌+◌, ◌-◌, ◌<◌, ◌≤◌, Bool, true, cond, not, ◌&&◌, ltb, leb, min, List, [], ◌∷◌, length, get_or, take, replicate, refl, sym, ap, ap₂, ◌∙◌, inl, inr, arith}
 use Rattle.std.specs.List.{list_all}
-use Rattle.std.proofs.lemmas.Bool.{cases_lt, lt-ltb, le-leb, leb-true}
+use Rattle.std.proofs.lemmas.Bool.{cases_lt, lt-ltb, le-leb}
 use Rattle.std.proofs.Math.Bool.{and_comm, and-true}
 use Rattle.std.proofs.lemmas.Bool.Decides.{nat_tests}
-use Rattle.std.proofs.lemmas.List.{get_or-replicate, get_or_past, length-replicate}
+use Rattle.std.proofs.lemmas.List.{get_or_past}
 use Rattle.std.proofs.lemmas.List.Sums.{fold_more}
 use Rattle.hg_model.specs.Stakes.{Stakes, member_count}
 use Rattle.hg_model.specs.Links.{Link, creator, self_parent}
@@ -14,7 +14,7 @@ use Rattle.hg_model.specs.Graph.{IsShaped}
 use Rattle.hg_order.specs.declared.tally.Tally.{Tally}
 use Rattle.hg_order.specs.declared.tally.Holder.{Holder}
 use Rattle.hg_order.specs.Counted.{IsBelow, EndAtRows}
-use Rattle.hg_order.specs.Tallied.{tally_at, tallied, tally_by, tally_of, is_gained_by, is_between, AreEnds, AreTallied, AreTalliedBy, AreTalliedByAll, ReachAll}
+use Rattle.hg_order.specs.Tallied.{tally_at, tallied, tally_by, is_gained_by, is_between, AreEnds, AreTallied, AreTalliedBy, AreTalliedByAll, ReachAll}
 use Rattle.hg_order.proofs.BoundLaws.{no_number, ltb_min, min_cases, counts_end}
 
 -- the rows that are not ancestors of the self-parent of z are those not below these numbers

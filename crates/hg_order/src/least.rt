@@ -30,7 +30,7 @@ fn no_bounds() -> [u32; 128]
 }
 
 /// Lowers as many of the first numbers as there are others to these.
-fn lower_to(numbers: &mut [u32], others: &[u32])
+pub fn lower_to(numbers: &mut [u32], others: &[u32])
     requires { length others.now ≤ length numbers.old }
     ensures { (m : ℕ) → m < length others.now → slice_index numbers.new m ≡ min (slice_index numbers.old m) (slice_index others.now m) }
 {

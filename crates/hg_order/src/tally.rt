@@ -22,7 +22,7 @@ pub struct Tally {
 }
 
 /// The tally with one time more.
-fn tallied(tally: Tally, time: u64) -> Tally
+pub fn tallied(tally: Tally, time: u64) -> Tally
     ensures { result ≡ tallied time tally }
 {
     Tally {
@@ -119,7 +119,15 @@ fn tally_holder<S: Sight>(
         return false;
     };
     match sight.self_parent(holder.place) {
-        None => tally_between(sight, &no_counts(), counts, least, low, holder.time, tallies),
+        None => tally_between(
+            sight,
+            &no_counts(),
+            counts,
+            least,
+            low,
+            holder.time,
+            tallies,
+        ),
         Some(parent) => {
             let Some(before) = sight.counts(parent) else {
                 return false;

@@ -1,9 +1,5 @@
-use Rattle.std.proofs.Common.{◌∙◌, ap, sym, subst, length, List, ℕ, arith}
+use Rattle.std.proofs.Common.{◌∙◌, ap, length, arith}
 use Rattle.std.proofs.lemmas.List.{length-replicate}
-use Rattle.hg_model.specs.Order.{sort_by}
-use Rattle.hg_model.specs.Prefix.{links_of}
-use Rattle.hg_order.specs.declared.tally.Holder.{Holder}
-use Rattle.hg_order.specs.Tallied.{is_earlier}
 use Rattle.hg_order.proofs.FamousLaws.{famous_within, famous_at_most}
 use Rattle.hg_order.proofs.CountLaws.{holders_inside, window_reaches, have_medians}
 use Rattle.hg_order.proofs.memory.count_times.Goals as goal
