@@ -48,12 +48,7 @@ fn make_places(order: &mut Vec<Placed>, count: usize)
 }
 
 /// Appends the rows that a round receives, in order.
-fn append_round<P: Prefix>(
-    p: &P,
-    famous: &[usize],
-    pending: &mut Pending,
-    order: &mut Vec<Placed>,
-)
+fn append_round<P: Prefix>(p: &P, famous: &[usize], pending: &mut Pending, order: &mut Vec<Placed>)
     requires famous { AreFamous (P.graph p.now) famous.now }
     requires some { 0 < length famous.now }
     requires received { AllByRecursion (IsBelowAll (P.graph p.now) famous.now) pending.old.fresh }

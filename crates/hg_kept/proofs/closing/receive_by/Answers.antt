@@ -1,8 +1,6 @@
-use Rattle.std.proofs.Common.{◌∙◌, ◌+◌, length, ap, sym, subst, arith}
-use Rattle.std.specs.List.{AllByRecursion}
+use Rattle.std.proofs.Common.{◌∙◌, ◌+◌, length, ap, sym, arith}
 use Rattle.std.proofs.lemmas.Bool.{eqb-true, eqb-false}
 use Rattle.hg_model.proofs.LinkLaws.{length-links}
-use Rattle.hg_order.specs.Famous.{IsBelowAll}
 use Rattle.hg_kept.proofs.ReceiveLaws.{places_inside, places_few, looked_inside, keeps_none, fresh_are, fresh_below, order_fits, keeps_next}
 use Rattle.hg_kept.proofs.closing.receive_by.Goals as goal
 
