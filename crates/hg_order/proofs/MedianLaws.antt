@@ -24,7 +24,7 @@ use Rattle.hg_model.proofs.SortLaws.{HasSameSums, IsAscending, one_ascending, so
 use Rattle.hg_order.specs.declared.tally.Tally.{Tally}
 use Rattle.hg_order.specs.declared.tally.Holder.{Holder}
 use Rattle.hg_order.specs.Famous.{all_have, first_holder, times_of}
-use Rattle.hg_order.specs.Counted.{Tells}
+use Rattle.hg_order.specs.Counted.{JustBelow}
 use Rattle.hg_order.proofs.HolderLaws.{same_times, all_have_is}
 use Rattle.hg_order.specs.Tallied.{tallied, tally_of, is_gained_by, holder_at, holders_below, is_holder, is_on_some_line, holder_cmp, is_earlier, untallied}
 
@@ -158,7 +158,7 @@ module _ (g : Graph) (s : IsShaped g.members (links_of g)) (marks : Marks) (r : 
   unfolding famous_places
   below_is z = rw are (list_any-list_below (λ w. is_self_ancestor (links_of g) w z) (length (links_of g)) (is_unique_famous g.members (links_of g) marks r))
 
-  module _ (ends : List ℕ) (low «end» x : ℕ) (told : Tells (links_of g) ends (is_on_some_line (links_of g) famous)) (within : (m : ℕ) → get_or ends m 0 ≤ «end»)
+  module _ (ends : List ℕ) (low «end» x : ℕ) (just : JustBelow (links_of g) ends (is_on_some_line (links_of g) famous)) (within : (m : ℕ) → get_or ends m 0 ≤ «end»)
       (inside : «end» ≤ length (links_of g)) (from : low ≤ x) where
     first_is : (z : ℕ) → z < length (links_of g) → (is_holder (links_of g) ends low z && is_gained_by (links_of g) z x) ≡ is_first_holder g.members (links_of g) marks r x z
     first_is z h =
@@ -172,7 +172,7 @@ module _ (g : Graph) (s : IsShaped g.members (links_of g)) (marks : Marks) (r : 
               and_left (leb low z && ltb z last) (up && news) (and_left (leb low z) (ltb z last) (lt-leb low z under)) ∙ sym (and_left (below && up) news (and_right below up no)))
           | inr over ↦
               ap (λ (b : Bool). (b && ltb z last) && (up && news)) (le-leb low z over)
-              ∙ (ap (λ (b : Bool). b && (up && news)) (told z h ∙ below_is z) ∙ sym (and_assoc below up news))
+              ∙ (ap (λ (b : Bool). b && (up && news)) (just z h ∙ below_is z) ∙ sym (and_assoc below up news))
         ]
 
     times_are : times_where (λ h. is_gained_by (links_of g) h.place x) (holders_below g ends low «end»)
