@@ -26,8 +26,11 @@ mod forks;
 mod kept;
 #[cfg(test)]
 mod made;
+mod next_row;
 mod seeing;
 mod sight;
+mod table;
+mod tails;
 #[cfg(test)]
 mod tests;
 

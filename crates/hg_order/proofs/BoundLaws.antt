@@ -27,7 +27,7 @@ module _ (n : Stakes) (L : List Link) (s : IsShaped n L) where
   -- all rows stand below a number that is greater than how many there are
   pub bounds_none : (wide v : ℕ) → member_count n ≤ wide → length L < v → AreBounds n L (replicate wide v) (all_have L [])
   bounds_none wide v few great = record {
-    told = λ y h. let m = s.members y h in rw (get_or-replicate wide (creator L y) v 0 (omega arith)) (below y v (omega arith));
+    just = λ y h. let m = s.members y h in rw (get_or-replicate wide (creator L y) v 0 (omega arith)) (below y v (omega arith));
     last = λ m h some fits. let is = get_or-replicate wide m v 0 (omega arith) in absurd (omega arith);
   }
     where
@@ -45,8 +45,8 @@ module _ (n : Stakes) (L : List Link) (s : IsShaped n L) where
   bounds_both : (one two least : List ℕ) (test other : ℕ → Bool) → AreBounds n L one test → AreBounds n L two other →
       ((m : ℕ) → m < member_count n → get_or least m 0 ≡ min (get_or one m 0) (get_or two m 0)) → AreBounds n L least (λ y. test y && other y)
   bounds_both one two least test other a b each = record {
-    told = λ y h.
-        ap (ltb y) (each (creator L y) (s.members y h)) ∙ (ltb_min y _ _ ∙ ap₂ (λ p q. p && q) (a.told y h) (b.told y h));
+    just = λ y h.
+        ap (ltb y) (each (creator L y) (s.members y h)) ∙ (ltb_min y _ _ ∙ ap₂ (λ p q. p && q) (a.just y h) (b.just y h));
     last = λ m h some fits. elim (min_cases (get_or one m 0) (get_or two m 0)) [
       | inl first ↦ (let is = each m h ∙ first in rw is (a.last m h (omega arith) (omega arith)))
       | inr second ↦ (let is = each m h ∙ second in rw is (b.last m h (omega arith) (omega arith)))
@@ -59,8 +59,8 @@ module _ (n : Stakes) (L : List Link) (s : IsShaped n L) where
       AreBounds n L lower (all_have L (take (i + 1) places))
   bounds_lowered places least counts lower i d h bounds c each =
       let both = bounds_both least counts lower (all_have L (take i places)) (is_ancestor L (get_or places i d)) bounds
-      (record { told = c.told; last = λ m few some fits. (counts_end (get_or places i d) counts c m some).1 })
+      (record { just = c.told; last = λ m few some fits. (counts_end (get_or places i d) counts c m some).1 })
       (λ m few. each m (rw c.wide few)) in record {
-        told = λ y low. both.told y low ∙ sym (list_all_more (λ w. is_ancestor L w y) places i d h);
+        just = λ y low. both.just y low ∙ sym (list_all_more (λ w. is_ancestor L w y) places i d h);
         last = both.last;
       }

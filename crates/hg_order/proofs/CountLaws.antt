@@ -1,6 +1,6 @@
 -- The tallies of a round once all its holders are tallied
 use Rattle.std.proofs.Common.{◌≡◌, ℕ, ◌+◌, ◌-◌, ◌/◌, ◌<◌, ◌≤◌, true, List, [], ◌∷◌, length, get_or, map, replicate, All, refl, sym, ap, ap₂, ◌∙◌, arith}
-use Rattle.std.specs.List.{AllByRecursion, list_all}
+use Rattle.std.specs.List.{AllByRecursion}
 use Rattle.std.proofs.lemmas.Bool.{and_parts, lt-ltb, ltb-true}
 use Rattle.std.proofs.lemmas.List.{get_or-replicate, length-replicate}
 use Rattle.std.proofs.lemmas.List.Elements.{All-from_recursion}
@@ -18,7 +18,7 @@ use Rattle.hg_order.specs.declared.tally.Tally.{Tally}
 use Rattle.hg_order.specs.declared.tally.Holder.{Holder}
 use Rattle.hg_order.specs.Famous.{AreFamous, IsBelowAll, all_have}
 use Rattle.hg_order.specs.Round.{placed_below}
-use Rattle.hg_order.specs.Counted.{IsBelow, Tells, AreShared}
+use Rattle.hg_order.specs.Counted.{IsBelow, JustBelow, AreShared}
 use Rattle.hg_order.specs.Tallied.{no_tally, tally_at, tally_of, holder_at, is_holder, is_on_some_line, holders_below, is_earlier, untallied, placed_with, AreTalliedByAll, ReachAll, HaveMedians}
 use Rattle.hg_order.proofs.MedianLaws.{median_counted}
 
@@ -41,20 +41,20 @@ module _ (g : Graph) (s : IsShaped g.members (links_of g)) (famous least ends : 
 
     pub window_reaches : (tallies : List Tally) → length tallies ≡ «end» - low → ReachAll (links_of g) least low tallies
     window_reaches tallies long x h under =
-        let last = under_end x (sym (shared.bounds.told x h) ∙ lt-ltb x (get_or least (creator (links_of g) x) 0) under) in
+        let last = under_end x (sym (shared.bounds.just x h) ∙ lt-ltb x (get_or least (creator (links_of g) x) 0) under) in
         omega arith
 
-    pub have_medians : AreFamous g famous → Tells (links_of g) ends (is_on_some_line (links_of g) famous) → ((m : ℕ) → get_or ends m 0 ≤ «end») → «end» ≤ length (links_of g) →
+    pub have_medians : AreFamous g famous → JustBelow (links_of g) ends (is_on_some_line (links_of g) famous) → ((m : ℕ) → get_or ends m 0 ≤ «end») → «end» ≤ length (links_of g) →
         (new : List Tally) → AreTalliedByAll (links_of g) least low (sort_by is_earlier (holders_below g ends low «end»)) (replicate («end» - low) (untallied ((length famous + 1) / 2))) new →
         HaveMedians g famous low new
-    have_medians f told within inside new t = record {
+    have_medians f just within inside new t = record {
       median = λ k received.
           let last = under_end (low + k) received.1 in
-          let under : IsBelow (links_of g) least (low + k) = ltb-true (low + k) (get_or least (creator (links_of g) (low + k)) 0) (shared.bounds.told (low + k) received.0 ∙ received.1) in
+          let under : IsBelow (links_of g) least (low + k) = ltb-true (low + k) (get_or least (creator (links_of g) (low + k)) 0) (shared.bounds.just (low + k) received.0 ∙ received.1) in
           let holders = sort_by is_earlier (holders_below g ends low «end») in
           let fresh = untallied ((length famous + 1) / 2) in
           ap (λ (t : Tally). t.time) (t.each k received.0 under ∙ ap (λ (t : Tally). tally_of (links_of g) (low + k) t holders) (get_or-replicate («end» - low) k fresh no_tally (omega arith)))
-          ∙ median_counted g s f.marks f.round famous f.are ends low «end» (low + k) told within inside (omega arith) some received.1;
+          ∙ median_counted g s f.marks f.round famous f.are ends low «end» (low + k) just within inside (omega arith) some received.1;
       reach = λ x received.
           let last = under_end x received.1 in
           let long = t.long ∙ length-replicate («end» - low) (untallied ((length famous + 1) / 2)) in

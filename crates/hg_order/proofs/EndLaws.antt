@@ -1,11 +1,9 @@
 -- The ends of the lines of several rows, and the rows that stand below them
-use Rattle.std.proofs.Common.{◌≡◌, ℕ, ◌+◌, ◌<◌, ◌≤◌, Bool, true, false, ◌&&◌, ◌||◌, ltb, leb, max, List, [], ◌∷◌, ◌++◌, length, get_or, set, take, replicate, refl, sym, ap, ap₂, ◌∙◌, inl, inr, arith}
-use Rattle.std.specs.List.{list_any}
-use Rattle.std.proofs.lemmas.Bool.{cases_eq, cases_lt, and_from, and_left, and_right, eqb-true, leb-true, le-leb, lt-leb, lt-ltb, le-ltb, false_from_ne_true}
+use Rattle.std.proofs.Common.{◌≡◌, ℕ, ◌+◌, ◌<◌, ◌≤◌, Bool, true, false, ◌||◌, ltb, leb, max, List, [], ◌∷◌, ◌++◌, length, get_or, set, take, replicate, refl, sym, ap, ap₂, ◌∙◌, inl, inr, arith}
+use Rattle.std.proofs.lemmas.Bool.{cases_eq, and_from, and_left, and_right, leb-true, le-leb, lt-leb, lt-ltb, le-ltb, false_from_ne_true}
 use Rattle.std.proofs.lemmas.Bool.Decides.{nat_tests}
-use Rattle.std.proofs.lemmas.List.{get_or-set_same, get_or-set_other, get_or-replicate, get_or_past, length-replicate}
+use Rattle.std.proofs.lemmas.List.{get_or-set_same, get_or-set_other}
 use Rattle.std.proofs.lemmas.List.Folds.{list_any_more}
-use Rattle.hg_model.specs.Places.{list_below}
 use Rattle.hg_model.specs.Stakes.{Stakes}
 use Rattle.hg_model.specs.Links.{Link, creator}
 use Rattle.hg_model.specs.Ancestry.{is_self_ancestor}
@@ -13,7 +11,7 @@ use Rattle.hg_model.specs.Graph.{IsShaped}
 use Rattle.hg_model.specs.Prefix.{Graph, links_of}
 use Rattle.hg_model.proofs.AncestryLaws.{is_self_ancestor-le}
 use Rattle.hg_model.proofs.PlacesLaws.{list_below_passes, list_below_fails, list_below_none}
-use Rattle.hg_order.specs.Counted.{AreLines, Tells}
+use Rattle.hg_order.specs.Counted.{AreLines, JustBelow}
 use Rattle.hg_order.specs.Tallied.{holder_at, holders_below, is_holder, is_on_some_line}
 use Rattle.hg_order.proofs.BoundLaws.{no_number}
 use Rattle.hg_order.proofs.LineLaws.{creator_of_line}
@@ -26,13 +24,13 @@ or_false : (b : Bool) → b ≡ (b || false)
 or_false true = refl
 or_false false = refl
 
-pub ends_none : (L : List Link) (wide : ℕ) → Tells L (replicate wide 0) (is_on_some_line L [])
+pub ends_none : (L : List Link) (wide : ℕ) → JustBelow L (replicate wide 0) (is_on_some_line L [])
 ends_none L wide z h = le-ltb z (get_or (replicate wide 0) (creator L z) 0) (rw (no_number wide (creator L z)) (omega arith))
 
 pub ends_next : (n : Stakes) (L : List Link) (s : IsShaped n L) (lines : AreLines L) (places ends : List ℕ) (i : ℕ) → i < length places → get_or places i 0 < length L →
-    creator L (get_or places i 0) < length ends → Tells L ends (is_on_some_line L (take i places)) →
-    Tells L (set ends (creator L (get_or places i 0)) (max (get_or ends (creator L (get_or places i 0)) 0) (get_or places i 0 + 1))) (is_on_some_line L (take (i + 1) places))
-ends_next n L s lines places ends i h inside room told z low =
+    creator L (get_or places i 0) < length ends → JustBelow L ends (is_on_some_line L (take i places)) →
+    JustBelow L (set ends (creator L (get_or places i 0)) (max (get_or ends (creator L (get_or places i 0)) 0) (get_or places i 0 + 1))) (is_on_some_line L (take (i + 1) places))
+ends_next n L s lines places ends i h inside room just z low =
     let w = get_or places i 0 in
     let m = creator L w in
     let raised = max (get_or ends m 0) (w + 1) in
@@ -40,13 +38,13 @@ ends_next n L s lines places ends i h inside room told z low =
     elim (cases_eq (creator L z) m) [
       | inl same ↦
           (let at = get_or-set_same ends m raised 0 room in
-          let before = rw same at (told z low) in
+          let before = rw same at (just z low) in
           let on : leb z w ≡ is_self_ancestor L w z = same_tests (leb z w) (is_self_ancestor L w z) (λ e. lines.line w z inside (leb-true z w e) (sym same)) (λ e. le-leb z w (is_self_ancestor-le L s.earlier w z e)) in
           rw same (ap (ltb z) at ∙ (ltb_max z (get_or ends m 0) w ∙ (ap₂ (λ (p q : Bool). p || q) before on ∙ sym more))))
       | inr other ↦
           (let off : is_self_ancestor L w z ≡ false = false_from_ne_true (is_self_ancestor L w z) (λ e. other (creator_of_line n L s w z e)) in
           ap (ltb z) (get_or-set_other ends m (creator L z) raised 0 other)
-          ∙ (told z low ∙ (or_false (is_on_some_line L (take i places) z) ∙ (ap (λ (b : Bool). is_on_some_line L (take i places) z || b) (sym off) ∙ sym more))))
+          ∙ (just z low ∙ (or_false (is_on_some_line L (take i places) z) ∙ (ap (λ (b : Bool). is_on_some_line L (take i places) z || b) (sym off) ∙ sym more))))
     ]
 
 pub ends_within : (ends : List ℕ) (k v last m : ℕ) → k < length ends → ((m : ℕ) → get_or ends m 0 ≤ last) → get_or (set ends k (max (get_or ends k 0) v)) m 0 ≤ max last v

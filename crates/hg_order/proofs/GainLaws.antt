@@ -1,10 +1,10 @@
 -- What one holder tallies: the rows that it has as ancestor and its self-parent has not; and what several do
-use Rattle.std.proofs.Common.{◌≡◌, ℕ, ◌+◌, ◌-◌, ◌<◌, ◌≤◌, Bool, true, false, cond, not, ◌&&◌, ltb, leb, min, List, [], ◌∷◌, length, get_or, take, fold, replicate, refl, sym, ap, ap₂, ◌∙◌, inl, inr, arith}
+use Rattle.std.proofs.Common.{◌≡◌, ℕ, ◌+◌, ◌-◌, ◌<◌, ◌≤◌, Bool, true, cond, not, ◌&&◌, ltb, leb, min, List, [], ◌∷◌, length, get_or, take, replicate, refl, sym, ap, ap₂, ◌∙◌, inl, inr, arith}
 use Rattle.std.specs.List.{list_all}
-use Rattle.std.proofs.lemmas.Bool.{cases_lt, lt-ltb, le-leb, leb-true}
+use Rattle.std.proofs.lemmas.Bool.{cases_lt, lt-ltb, le-leb}
 use Rattle.std.proofs.Math.Bool.{and_comm, and-true}
 use Rattle.std.proofs.lemmas.Bool.Decides.{nat_tests}
-use Rattle.std.proofs.lemmas.List.{get_or-replicate, get_or_past, length-replicate}
+use Rattle.std.proofs.lemmas.List.{get_or_past}
 use Rattle.std.proofs.lemmas.List.Sums.{fold_more}
 use Rattle.hg_model.specs.Stakes.{Stakes, member_count}
 use Rattle.hg_model.specs.Links.{Link, creator, self_parent}
@@ -14,17 +14,17 @@ use Rattle.hg_model.specs.Graph.{IsShaped}
 use Rattle.hg_order.specs.declared.tally.Tally.{Tally}
 use Rattle.hg_order.specs.declared.tally.Holder.{Holder}
 use Rattle.hg_order.specs.Counted.{IsBelow, EndAtRows}
-use Rattle.hg_order.specs.Tallied.{tally_at, tallied, tally_by, tally_of, is_gained_by, is_between, AreEnds, AreTallied, AreTalliedBy, AreTalliedByAll, ReachAll}
+use Rattle.hg_order.specs.Tallied.{tally_at, tallied, tally_by, is_gained_by, is_between, AreEnds, AreTallied, AreTalliedBy, AreTalliedByAll, ReachAll}
 use Rattle.hg_order.proofs.BoundLaws.{no_number, ltb_min, min_cases, counts_end}
 
 -- the rows that are not ancestors of the self-parent of z are those not below these numbers
-pub record TellNew (L : List Link) (z : ℕ) (before : List ℕ) : Type 0 where
+pub record AreNewFrom (L : List Link) (z : ℕ) (before : List ℕ) : Type 0 where
   pub news : (x : ℕ) → x < length L → leb (get_or before (creator L x) 0) x ≡ list_all (λ p. not (is_ancestor L p x)) (self_parent L z)
 
-pub new_of_first : (L : List Link) (z wide : ℕ) → [] ≡ self_parent L z → TellNew L z (replicate wide 0)
+pub new_of_first : (L : List Link) (z wide : ℕ) → [] ≡ self_parent L z → AreNewFrom L z (replicate wide 0)
 new_of_first L z wide none = record { news = λ x h. rw (← none) (le-leb (get_or (replicate wide 0) (creator L x) 0) x (rw (no_number wide (creator L x)) (omega arith))) }
 
-pub new_of_next : (n : Stakes) (L : List Link) (z p : ℕ) (before : List ℕ) → p ∷ [] ≡ self_parent L z → CountsMembers n L p before → TellNew L z before
+pub new_of_next : (n : Stakes) (L : List Link) (z p : ℕ) (before : List ℕ) → p ∷ [] ≡ self_parent L z → CountsMembers n L p before → AreNewFrom L z before
 new_of_next n L z p before is c = record { news = λ x h. rw (← is, ← c.told x h) (tests (get_or before (creator L x) 0) x) }
   where
     tests : (a x : ℕ) → leb a x ≡ (not (ltb x a) && true)
@@ -60,7 +60,7 @@ module _ (n : Stakes) (L : List Link) (s : IsShaped n L) (z : ℕ) (counts : Lis
     | inr none ↦ omega arith
   ]
 
-  pub tallied_by : (h : Holder) → h.place ≡ z → (before least : List ℕ) (low : ℕ) (old after : List Tally) → TellNew L z before →
+  pub tallied_by : (h : Holder) → h.place ≡ z → (before least : List ℕ) (low : ℕ) (old after : List Tally) → AreNewFrom L z before →
       AreTallied low h.time (is_between L before counts least) old after → AreTalliedBy L least low h old after
   tallied_by h at before least low old after new a = record {
     each = λ k inside below. a.each k ∙ ap (λ (b : Bool). cond b (tallied h.time (tally_at old k)) (tally_at old k)) (gained (low + k) inside below);
@@ -70,8 +70,8 @@ module _ (n : Stakes) (L : List Link) (s : IsShaped n L) (z : ℕ) (counts : Lis
       gained : (x : ℕ) → x < length L → IsBelow L least x → is_between L before counts least x ≡ is_gained_by L h.place x
       gained x inside below =
           let m = creator L x in
-          let told = ltb_min x (get_or counts m 0) (get_or least m 0) ∙ (ap₂ (λ (p q : Bool). p && q) (c.told x inside) (lt-ltb x (get_or least m 0) below) ∙ and-true (is_ancestor L z x)) in
-          rw at (ap₂ (λ (p q : Bool). p && q) (new.news x inside) told ∙ and_comm (list_all (λ p. not (is_ancestor L p x)) (self_parent L z)) (is_ancestor L z x))
+          let just = ltb_min x (get_or counts m 0) (get_or least m 0) ∙ (ap₂ (λ (p q : Bool). p && q) (c.told x inside) (lt-ltb x (get_or least m 0) below) ∙ and-true (is_ancestor L z x)) in
+          rw at (ap₂ (λ (p q : Bool). p && q) (new.news x inside) just ∙ and_comm (list_all (λ p. not (is_ancestor L p x)) (self_parent L z)) (is_ancestor L z x))
 
 pub holders_none : (L : List Link) (least : List ℕ) (low : ℕ) (ts : List Tally) → AreTalliedByAll L least low [] ts ts
 holders_none L least low ts = record { each = λ k inside below. refl; long = refl }

@@ -1,18 +1,15 @@
 -- Medians by counting: of holders in the order of their times that which leaves no more to count has the median
-use Rattle.std.proofs.Common.{◌≡◌, ℕ, zero, suc, ◌+◌, ◌-◌, ◌/◌, ◌<◌, ◌≤◌, Bool, true, false, cond, not, ◌&&◌, ltb, leb, eqb, List, [], ◌∷◌, length, get_or, map, filter, fold, sum_by, count_by, IsPermutation, IsSortedBy, nat_cmp, is_lt, is_eq, refl, sym, ap, ap₂, ◌∙◌, inl, inr, arith}
-use Rattle.std.specs.List.{AllByRecursion, list_any, list_all}
+use Rattle.std.proofs.Common.{◌≡◌, ℕ, zero, suc, ◌+◌, ◌-◌, ◌/◌, ◌<◌, ◌≤◌, Bool, true, false, cond, not, ◌&&◌, ltb, leb, eqb, List, [], ◌∷◌, length, get_or, map, filter, fold, sum_by, count_by, IsPermutation, IsSortedBy, nat_cmp, is_eq, refl, sym, ap, ap₂, ◌∙◌, inl, inr, arith}
+use Rattle.std.specs.List.{AllByRecursion, list_all}
 use Rattle.std.specs.Cmp.{IsTotalOrder, IsStrictWeakOrder}
-use Rattle.std.specs.Ordering.{ordering_then}
 use Rattle.std.proofs.lemmas.Bool.{cases_Bool, cases_lt, le-leb, lt-leb, le-ltb, ne_eqb, and_left, and_right, both_ways, ltb-false, false_from_ne_true}
 use Rattle.std.proofs.Math.Bool.{and_assoc}
 use Rattle.std.proofs.lemmas.Cmp.{nat_cmp_total, on_total, then_total}
 use Rattle.std.proofs.lemmas.List.{length-map}
 use Rattle.std.proofs.lemmas.List.Sums.{sum_by-cons, length-filter}
 use Rattle.std.proofs.lemmas.List.Sorted.{ranks_by, IsStrictWeakOrder-by_number}
-use Rattle.hg_model.specs.declared.row.Row.{Row}
 use Rattle.hg_model.specs.Places.{list_below}
-use Rattle.hg_model.specs.Stakes.{Stakes}
-use Rattle.hg_model.specs.Links.{Link, creator, self_parent}
+use Rattle.hg_model.specs.Links.{creator, self_parent}
 use Rattle.hg_model.specs.Ancestry.{is_ancestor, is_self_ancestor}
 use Rattle.hg_model.specs.Graph.{IsShaped}
 use Rattle.hg_model.specs.Fame.{Marks, is_unique_famous}
@@ -27,9 +24,9 @@ use Rattle.hg_model.proofs.SortLaws.{HasSameSums, IsAscending, one_ascending, so
 use Rattle.hg_order.specs.declared.tally.Tally.{Tally}
 use Rattle.hg_order.specs.declared.tally.Holder.{Holder}
 use Rattle.hg_order.specs.Famous.{all_have, first_holder, times_of}
-use Rattle.hg_order.specs.Counted.{Tells}
+use Rattle.hg_order.specs.Counted.{JustBelow}
 use Rattle.hg_order.proofs.HolderLaws.{same_times, all_have_is}
-use Rattle.hg_order.specs.Tallied.{tallied, tally_by, tally_of, is_gained_by, holder_at, holders_below, is_holder, is_on_some_line, holder_cmp, is_earlier, untallied}
+use Rattle.hg_order.specs.Tallied.{tallied, tally_of, is_gained_by, holder_at, holders_below, is_holder, is_on_some_line, holder_cmp, is_earlier, untallied}
 
 -- plain lists: holders that pass a test, and what their times leave of a tally
 
@@ -145,7 +142,7 @@ counted_median test holders times some same =
     let sorted = sort_by is_earlier holders in
     let kept = times_where test sorted in
     let again : HasSameSums times kept = λ weight.
-        same weight ∙ (sum_where weight test holders ∙ (sym (sort_by-sums is_earlier holders (λ (h : Holder). cond (test h) (weight h.time) 0)) ∙ sym (sum_where weight test sorted))) in
+    same weight ∙ (sum_where weight test holders ∙ (sym (sort_by-sums is_earlier holders (λ (h : Holder). cond (test h) (weight h.time) 0)) ∙ sym (sum_where weight test sorted))) in
     let up : sort_by ltb kept ≡ kept = sorted_again kept (times_ascend test sorted (sort_by-ascending is_earlier holders_rank holders)) in
     let long : length times ≡ length kept = same_length times kept again in
     let counted : length kept ≡ count_by test sorted = length-map (filter test sorted) (λ (h : Holder). h.time) ∙ length-filter test sorted in
@@ -161,8 +158,8 @@ module _ (g : Graph) (s : IsShaped g.members (links_of g)) (marks : Marks) (r : 
   unfolding famous_places
   below_is z = rw are (list_any-list_below (λ w. is_self_ancestor (links_of g) w z) (length (links_of g)) (is_unique_famous g.members (links_of g) marks r))
 
-  module _ (ends : List ℕ) (low «end» x : ℕ) (told : Tells (links_of g) ends (is_on_some_line (links_of g) famous)) (within : (m : ℕ) → get_or ends m 0 ≤ «end»)
-    (inside : «end» ≤ length (links_of g)) (from : low ≤ x) where
+  module _ (ends : List ℕ) (low «end» x : ℕ) (just : JustBelow (links_of g) ends (is_on_some_line (links_of g) famous)) (within : (m : ℕ) → get_or ends m 0 ≤ «end»)
+      (inside : «end» ≤ length (links_of g)) (from : low ≤ x) where
     first_is : (z : ℕ) → z < length (links_of g) → (is_holder (links_of g) ends low z && is_gained_by (links_of g) z x) ≡ is_first_holder g.members (links_of g) marks r x z
     first_is z h =
         let last = get_or ends (creator (links_of g) z) 0 in
@@ -175,7 +172,7 @@ module _ (g : Graph) (s : IsShaped g.members (links_of g)) (marks : Marks) (r : 
               and_left (leb low z && ltb z last) (up && news) (and_left (leb low z) (ltb z last) (lt-leb low z under)) ∙ sym (and_left (below && up) news (and_right below up no)))
           | inr over ↦
               ap (λ (b : Bool). (b && ltb z last) && (up && news)) (le-leb low z over)
-              ∙ (ap (λ (b : Bool). b && (up && news)) (told z h ∙ below_is z) ∙ sym (and_assoc below up news))
+              ∙ (ap (λ (b : Bool). b && (up && news)) (just z h ∙ below_is z) ∙ sym (and_assoc below up news))
         ]
 
     times_are : times_where (λ h. is_gained_by (links_of g) h.place x) (holders_below g ends low «end»)

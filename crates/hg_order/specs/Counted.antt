@@ -12,8 +12,8 @@ abbrev pub IsBelow : List Link → List ℕ → ℕ → Type 0
 IsBelow L bounds x = x < slice_index bounds (creator L x)
 
 -- just the rows below the number of their creator pass the test
-abbrev pub Tells : List Link → List ℕ → (ℕ → Bool) → Type 0
-Tells L bounds test = (x : ℕ) → x < length L → nat_lt x (slice_index bounds (creator L x)) ≡ test x
+abbrev pub JustBelow : List Link → List ℕ → (ℕ → Bool) → Type 0
+JustBelow L bounds test = (x : ℕ) → x < length L → nat_lt x (slice_index bounds (creator L x)) ≡ test x
 
 -- a member's number is 0, or one more than the place of a row by that member, or more than there are rows
 abbrev pub EndAtRows : Stakes → List Link → List ℕ → Type 0
@@ -21,7 +21,7 @@ EndAtRows n L bounds =
     (m : ℕ) → m < member_count n → 0 < slice_index bounds m → slice_index bounds m ≤ length L → creator L (slice_index bounds m - 1) ≡ m
 
 pub record AreBounds (n : Stakes) (L : List Link) (bounds : List ℕ) (test : ℕ → Bool) : Type 0 where
-  pub told : Tells L bounds test
+  pub just : JustBelow L bounds test
   pub last : EndAtRows n L bounds
 
 -- of two rows by one member the later has the earlier on its line
@@ -39,5 +39,5 @@ pub record AreShared (g : Graph) (places least : List ℕ) : Type 0 where
   pub bounds : AreBounds g.members (links_of g) least (all_have (links_of g) places)
   pub lines : 0 < length places → AreLines (links_of g)
 
-abbrev pub TellsShared : Graph → List ℕ → Option (List ℕ) → Type 0
-TellsShared g places told = IfSome told (AreShared g places)
+abbrev pub IfShared : Graph → List ℕ → Option (List ℕ) → Type 0
+IfShared g places least = IfSome least (AreShared g places)

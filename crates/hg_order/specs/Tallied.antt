@@ -41,6 +41,10 @@ tally_of L x t holders = fold (tally_by L x) t holders
 abbrev pub is_in_line : List Link → ℕ → ℕ → ℕ → ℕ → Bool
 is_in_line L m bottom top x = creator L x == m && (nat_le bottom x && nat_lt x top)
 
+-- row x is by the member whose row stands just below `top`
+abbrev pub is_in_line_below : List Link → ℕ → ℕ → ℕ → Bool
+is_in_line_below L bottom top x = is_in_line L (creator L (top - 1)) bottom top x
+
 -- row x is not below the number `before` of its creator, and below both others
 abbrev pub is_between : List Link → List ℕ → List ℕ → List ℕ → ℕ → Bool
 is_between L before counts least x =

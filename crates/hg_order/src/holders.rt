@@ -1,7 +1,7 @@
 ghost use Rattle.std.specs.Prelude.{◌≡◌, ◌<◌, ◌≤◌, ℕ, [], All, length, replicate, slice_index, vec_capacity};
 ghost use Rattle.hg_model.specs.Prefix.{links_of};
 ghost use Rattle.hg_model.specs.Order.{sort_by};
-ghost use Rattle.hg_order.specs.Counted.{AreLines, Tells};
+ghost use Rattle.hg_order.specs.Counted.{AreLines, JustBelow};
 ghost use Rattle.hg_order.specs.Tallied.{holder_cmp, holders_below, is_earlier, is_on_some_line};
 
 use crate::tally::Holder;
@@ -14,7 +14,7 @@ pub fn raise_ends<S: Sight>(sight: &S, places: &[usize], ends: &mut [usize]) -> 
     requires places { All (λ w. w < length (S.shape sight.now).links) places.now }
     requires lines { AreLines (S.shape sight.now).links }
     requires none { ends.old ≡ replicate 128 0 }
-    ensures told { Tells (S.shape sight.now).links ends.new (is_on_some_line (S.shape sight.now).links places.now) }
+    ensures just { JustBelow (S.shape sight.now).links ends.new (is_on_some_line (S.shape sight.now).links places.now) }
     ensures below { All (λ w. w < result) places.now }
     ensures within { (m : ℕ) → slice_index ends.new m ≤ result }
     ensures end { result ≤ length (S.shape sight.now).links }

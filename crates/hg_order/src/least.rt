@@ -1,7 +1,7 @@
 ghost use Rattle.std.specs.Prelude.{◌≡◌, ◌<◌, ◌≤◌, ℕ, ◌-◌, ◌^◌, All, length, min, replicate, slice_index};
 ghost use Rattle.hg_model.specs.Prefix.{links_of};
 ghost use Rattle.hg_order.specs.Famous.{AreFamous};
-ghost use Rattle.hg_order.specs.Counted.{TellsShared};
+ghost use Rattle.hg_order.specs.Counted.{IfShared};
 
 use hg_model::{Prefix, Sight, is_of_graph};
 
@@ -9,7 +9,7 @@ use hg_model::{Prefix, Sight, is_of_graph};
 /// ancestor, or 0; `None` where their ancestors are not counted. A row by the member is received where it stands below.
 pub fn least_counts<P: Prefix>(p: &P, famous: &[usize]) -> Option<[u32; 128]>
     requires { AreFamous (P.graph p.now) famous.now }
-    ensures { TellsShared (P.graph p.now) famous.now result }
+    ensures { IfShared (P.graph p.now) famous.now result }
 {
     is_of_graph(p);
     let mut least = no_bounds();
@@ -30,7 +30,7 @@ fn no_bounds() -> [u32; 128]
 }
 
 /// Lowers as many of the first numbers as there are others to these.
-fn lower_to(numbers: &mut [u32], others: &[u32])
+pub fn lower_to(numbers: &mut [u32], others: &[u32])
     requires { length others.now ≤ length numbers.old }
     ensures { (m : ℕ) → m < length others.now → slice_index numbers.new m ≡ min (slice_index numbers.old m) (slice_index others.now m) }
 {

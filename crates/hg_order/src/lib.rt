@@ -1,6 +1,8 @@
 //! The order of one round: its unique famous witnesses, what they receive, and how that is ordered.
-//! The layer above uses `order_round`, which gives what the definitions order in a round, and the calls up to it.
-//! No call takes memory. A round is ordered by one sort, and each received row walks down one line for each witness.
+//! The layer above uses `order_round`, which gives what the definitions order in a round, and the calls that lead to it.
+//! No call takes memory but `RoundMemory::reserve`. A round is ordered by one sort. In `order_round` each received row
+//! walks down one line for each witness; `order_round_within` goes over the lines of the witnesses once for all received
+//! rows, where the ancestors of rows are counted.
 //!
 //! From `place_fresh` of `hg_plain`:
 //!

@@ -74,7 +74,13 @@ fn round_of<P: Prefix>(p: &P, famous: &[usize]) -> u32
 }
 
 /// The rows at the places `fresh` as the round places them, in their order.
-pub fn place_rows<P: Prefix>(p: &P, famous: &[usize], round: u32, fresh: &[usize], out: &mut [Placed])
+pub fn place_rows<P: Prefix>(
+    p: &P,
+    famous: &[usize],
+    round: u32,
+    fresh: &[usize],
+    out: &mut [Placed],
+)
     requires famous { AreFamous (P.graph p.now) famous.now }
     requires received { AllByRecursion (IsBelowAll (P.graph p.now) famous.now) fresh.now }
     requires same { length out.old ≡ length fresh.now }

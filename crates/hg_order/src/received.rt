@@ -1,6 +1,6 @@
 ghost use Rattle.std.specs.Prelude.{◌≡◌, ◌<◌, All, length};
 ghost use Rattle.hg_model.specs.Prefix.{links_of};
-ghost use Rattle.hg_order.specs.Counted.{TellsShared};
+ghost use Rattle.hg_order.specs.Counted.{IfShared};
 ghost use Rattle.hg_order.specs.Famous.{AreFamous, all_have, SaysReceived};
 
 use hg_model::{Prefix, Sight, is_of_graph};
@@ -18,8 +18,8 @@ pub fn received_in<P: Prefix>(p: &P, famous: &[usize], x: usize) -> bool
     have_all(p, famous, x)
 }
 
-/// Whether all unique famous witnesses of a round have row `x` as ancestor: one comparison, where their least counts
-/// are told.
+/// Whether all unique famous witnesses of a round have row `x` as ancestor: by one comparison, if there are their least
+/// counts.
 pub fn received_below<P: Prefix>(
     p: &P,
     famous: &[usize],
@@ -28,7 +28,7 @@ pub fn received_below<P: Prefix>(
 ) -> bool
     requires famous { AreFamous (P.graph p.now) famous.now }
     requires some { 0 < length famous.now }
-    requires least { TellsShared (P.graph p.now) famous.now least.now }
+    requires least { IfShared (P.graph p.now) famous.now least.now }
     requires place { x < length (links_of (P.graph p.now)) }
     ensures { result ≡ all_have (links_of (P.graph p.now)) famous.now x }
 {

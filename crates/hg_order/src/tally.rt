@@ -1,8 +1,7 @@
-ghost use Rattle.std.specs.Prelude.{◌≡◌, ◌<◌, ◌≤◌, ◌+◌, ◌-◌, ℕ, true, All, length, min, replicate, slice_index, vec_capacity};
-ghost use Rattle.hg_model.specs.Links.{creator};
+ghost use Rattle.std.specs.Prelude.{◌≡◌, ◌<◌, ◌≤◌, ◌+◌, ℕ, true, All, length, min, replicate, slice_index, vec_capacity};
 ghost use Rattle.hg_model.specs.GraphWords.{IsShapedIn};
 ghost use Rattle.hg_order.specs.Counted.{AreLines, EndAtRows, EndsBefore};
-ghost use Rattle.hg_order.specs.Tallied.{tallied, is_in_line, is_between, AreEnds, AreTallied, AreTalliedBy, AreTalliedByAll, ReachAll};
+ghost use Rattle.hg_order.specs.Tallied.{tallied, is_in_line_below, is_between, AreEnds, AreTallied, AreTalliedBy, AreTalliedByAll, ReachAll};
 
 use hg_model::Sight;
 
@@ -22,7 +21,7 @@ pub struct Tally {
 }
 
 /// The tally with one time more.
-fn tallied(tally: Tally, time: u64) -> Tally
+pub fn tallied(tally: Tally, time: u64) -> Tally
     ensures { result ≡ tallied time tally }
 {
     Tally {
@@ -58,7 +57,7 @@ fn tally_line<S: Sight>(
     requires top { top ≤ length (S.shape sight.now).links }
     requires low { low ≤ bottom }
     requires reach { top ≤ low + length tallies.old }
-    ensures { AreTallied low time (is_in_line (S.shape sight.now).links (creator (S.shape sight.now).links (top - 1)) bottom top) tallies.old tallies.new }
+    ensures { AreTallied low time (is_in_line_below (S.shape sight.now).links bottom top) tallies.old tallies.new }
 {
     let mut end = top;
     while bottom < end {
@@ -119,7 +118,15 @@ fn tally_holder<S: Sight>(
         return false;
     };
     match sight.self_parent(holder.place) {
-        None => tally_between(sight, &no_counts(), counts, least, low, holder.time, tallies),
+        None => tally_between(
+            sight,
+            &no_counts(),
+            counts,
+            least,
+            low,
+            holder.time,
+            tallies,
+        ),
         Some(parent) => {
             let Some(before) = sight.counts(parent) else {
                 return false;

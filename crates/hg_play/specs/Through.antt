@@ -149,8 +149,8 @@ TellsTaken old new m events counts =
     Told old new (λ w. deliver_steps m events) (λ w. HasTaken w m events counts (after_steps w (deliver_steps m events)))
 
 -- of an event that was made on this other-parent, or refused; none where there is no name
-abbrev pub TellsMadeAfter : {N : Type 0} → NodesView N → NodesView N → ℕ → Option (List ℕ) → ℕ → List ℕ → SyncMade → Type 0
-TellsMadeAfter old new m other time payload made =
+abbrev pub TellsMade : {N : Type 0} → NodesView N → NodesView N → ℕ → Option (List ℕ) → ℕ → List ℕ → SyncMade → Type 0
+TellsMade old new m other time payload made =
     Told old new (λ w. make_steps m other time payload) (λ w. made ≡ made_after (node_at w m) other time payload)
 
 -- the same where the nodes are seen through seats

@@ -6,7 +6,7 @@ use Rattle.hg_order.proofs.holders.raise_ends.Goals as goal
 
 pub loop-w-init : goal.loop-w-init
 loop-w-init g c = rw c.requires.none (record {
-  told = ends_none _ 128;
+  just = ends_none _ 128;
   below = λ k none. absurd (omega arith);
   within = λ m. rw (no_number 128 m) (omega arith);
   end = omega arith;
@@ -25,7 +25,7 @@ loop-w-preserved g c =
     let top : c.max-last.result ≡ max c.loop-w.last (w + 1) = c.max-last.ensures in
     let by = c.creator-member.ensures.value in
     record {
-      told = rw (raised, by) (ends_next _ _ c.rows.ensures.shaped c.requires.lines c.args.places.now c.loop-w.ends c.loop-w.w-index c.loop-w-test.true place (rw by at room) c.loop-w.invariant.told);
+      just = rw (raised, by) (ends_next _ _ c.rows.ensures.shaped c.requires.lines c.args.places.now c.loop-w.ends c.loop-w.w-index c.loop-w-test.true place (rw by at room) c.loop-w.invariant.just);
       below = λ k h. rw top (below_next c.args.places.now c.loop-w.last c.loop-w.w-index k h c.loop-w.invariant.below);
       within = λ m. rw (top, raised) (ends_within c.loop-w.ends c.creator-member.result (w + 1) c.loop-w.last m room c.loop-w.invariant.within);
       end = (let old = c.loop-w.invariant.end in rw top (omega arith));

@@ -1,9 +1,5 @@
-use Rattle.std.proofs.Common.{◌∙◌, ap, sym, subst, length, List, ℕ, arith}
+use Rattle.std.proofs.Common.{◌∙◌, ap, length, arith}
 use Rattle.std.proofs.lemmas.List.{length-replicate}
-use Rattle.hg_model.specs.Order.{sort_by}
-use Rattle.hg_model.specs.Prefix.{links_of}
-use Rattle.hg_order.specs.declared.tally.Holder.{Holder}
-use Rattle.hg_order.specs.Tallied.{is_earlier}
 use Rattle.hg_order.proofs.FamousLaws.{famous_within, famous_at_most}
 use Rattle.hg_order.proofs.CountLaws.{holders_inside, window_reaches, have_medians}
 use Rattle.hg_order.proofs.memory.count_times.Goals as goal
@@ -35,8 +31,8 @@ pub returns-clause-medians : goal.returns-clause-medians
 returns-clause-medians g c = λ done.
     let graph = g.P.Prefix.graph c.args.p.now in
     let matches = c.is_of_graph.ensures.matches in
-    let told = rw matches.shaped at c.raise_ends-end.ensures.told in
+    let just = rw matches.shaped at c.raise_ends-end.ensures.just in
     let end = rw matches.shaped at c.raise_ends-end.ensures.end in
     let all = rw (matches.shaped, c.deref.ensures.value, c.sort_holders.ensures.sorted, c.list_holders.ensures.listed, c.clear_tallies.ensures.cleared) at (c.tally_holders.ensures.tallied done) in
     have_medians graph c.is_of_graph.ensures.shaped c.args.famous.now c.args.least.now c.raise_ends-end.new.ends c.args.low c.raise_ends-end.result c.requires.some c.requires.least c.raise_ends-end.ensures.below
-    c.requires.famous told c.raise_ends-end.ensures.within end _ all
+    c.requires.famous just c.raise_ends-end.ensures.within end _ all

@@ -1,4 +1,4 @@
-use Rattle.std.proofs.Common.{arith, [], sym}
+use Rattle.std.proofs.Common.{arith, []}
 use Rattle.hg_model.proofs.ReachLaws.{has_place_first}
 use Rattle.hg_order.proofs.LineLaws.{self_parent_before}
 use Rattle.hg_order.proofs.TallyLaws.{none_before, parent_before}

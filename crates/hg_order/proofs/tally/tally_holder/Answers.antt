@@ -1,6 +1,6 @@
 use Rattle.std.proofs.Common.{arith, refl}
 use Rattle.hg_order.proofs.LineLaws.{self_parent_before}
-use Rattle.hg_order.proofs.GainLaws.{new_of_first, new_of_next, ends_both, reach_ends, tallied_by}
+use Rattle.hg_order.proofs.GainLaws.{new_of_first, tallied_by}
 use Rattle.hg_order.proofs.tally.tally_holder.Goals as goal
 
 pub counts-requires-in-Some-self_parent : goal.counts-requires-in-Some-self_parent
