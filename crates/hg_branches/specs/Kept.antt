@@ -1,5 +1,5 @@
 -- Rows of which the first descendants are kept
-use Rattle.std.specs.Prelude.{◌≡◌, ◌≢◌, ℕ, ◌+◌, ◌-◌, ◌<◌, ◌≤◌, ◌&&◌, nat_lt, nat_le, Bool, cond, List, [], ◌∷◌, length, get_or, slice_index, slice_set, Option, Some, None}
+use Rattle.std.specs.Prelude.{◌≡◌, ◌≢◌, ℕ, ◌+◌, ◌-◌, ◌<◌, ◌≤◌, ◌&&◌, nat_lt, nat_le, Bool, cond, List, [], length, get_or, slice_index, slice_set, Option, Some, None}
 use Rattle.hg_model.specs.Stakes.{Stakes, member_count}
 use Rattle.hg_model.specs.Links.{Link}
 use Rattle.hg_branches.specs.Branches.{FirstDescendants}
