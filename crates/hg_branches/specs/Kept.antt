@@ -76,6 +76,10 @@ abbrev pub AreNotedOn : ℕ → List ℕ → List ℕ → ℕ → ℕ → List K
 AreNotedOn c known counts b end kept =
     (i : ℕ) → i < length kept → (kept_at kept i).branch ≡ c → (kept_at kept i).end ≤ slice_index known c → noted counts b end (kept_at kept i) ≡ kept_at kept i
 
+-- the kept rows of branch c are noted
+abbrev pub NotesOn : ℕ → List ℕ → ℕ → ℕ → List Kept → List Kept → Type 0
+NotesOn c counts b end old new = (i : ℕ) → i < length old → (kept_at old i).branch ≡ c → kept_at new i ≡ noted counts b end (kept_at old i)
+
 -- the memory for one more kept row, if there is any
 abbrev pub IsSpareKept : ℕ → Option Kept → Type 0
 IsSpareKept n None = Unit {0}
