@@ -7,8 +7,7 @@ use Rattle.hg_model.specs.Links.{Link, first_place}
 use Rattle.hg_model.specs.Ancestry.{is_self_ancestor}
 use Rattle.hg_model.specs.Shape.{FitsLink, link_of}
 use Rattle.hg_model.specs.Stakes.{Stakes, member_count}
-use Rattle.std.specs.List.{AllByRecursion}
-use Rattle.hg_model.proofs.ReachLaws.{has_place_first, has_place_later}
+use Rattle.hg_model.proofs.ReachLaws.{has_place_first}
 use Rattle.hg_model.proofs.PushLaws.{shape-push}
 use Rattle.hg_branches.specs.Branches.{Branching, CountsAncestors, TakesRow, greatest_count}
 use Rattle.hg_branches.specs.Columns.{branching_of, count_in, next_branch, put_at, with_branch, HoldsBranches, HoldsCounts}

@@ -1,5 +1,5 @@
 -- Rows of which the first descendants are kept
-use Rattle.std.specs.Prelude.{◌≡◌, ◌≢◌, ℕ, ◌+◌, ◌-◌, ◌<◌, ◌≤◌, ◌&&◌, nat_lt, nat_le, Bool, cond, List, [], ◌∷◌, length, get_or, slice_index, slice_set, Option, Some, None}
+use Rattle.std.specs.Prelude.{◌≡◌, ◌≢◌, ℕ, ◌+◌, ◌-◌, ◌<◌, ◌≤◌, ◌&&◌, nat_lt, nat_le, Bool, cond, List, [], length, get_or, slice_index, slice_set, Option, Some, None}
 use Rattle.hg_model.specs.Stakes.{Stakes, member_count}
 use Rattle.hg_model.specs.Links.{Link}
 use Rattle.hg_branches.specs.Branches.{FirstDescendants}
@@ -75,6 +75,10 @@ noted counts b end k = noted_once (slice_index counts k.branch) b end k
 abbrev pub AreNotedOn : ℕ → List ℕ → List ℕ → ℕ → ℕ → List Kept → Type 0
 AreNotedOn c known counts b end kept =
     (i : ℕ) → i < length kept → (kept_at kept i).branch ≡ c → (kept_at kept i).end ≤ slice_index known c → noted counts b end (kept_at kept i) ≡ kept_at kept i
+
+-- the kept rows of branch c are noted
+abbrev pub NotesOn : ℕ → List ℕ → ℕ → ℕ → List Kept → List Kept → Type 0
+NotesOn c counts b end old new = (i : ℕ) → i < length old → (kept_at old i).branch ≡ c → kept_at new i ≡ noted counts b end (kept_at old i)
 
 -- the memory for one more kept row, if there is any
 abbrev pub IsSpareKept : ℕ → Option Kept → Type 0

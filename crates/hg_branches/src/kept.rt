@@ -1,5 +1,5 @@
-ghost use Rattle.std.specs.Prelude.{◌≡◌, ◌≢◌, ◌<◌, ◌≤◌, ◌+◌, ◌-◌, ◌^◌, ℕ, cond, nat_lt, length, slice_index, IfOk};
-ghost use Rattle.hg_branches.specs.Kept.{kept_at, no_first, noted, noted_once, AreNotedOn, HoldsChains, HoldsNewest, IsLastOn};
+ghost use Rattle.std.specs.Prelude.{◌≡◌, ◌≢◌, ◌<◌, ◌-◌, ℕ, length, slice_index, IfOk};
+ghost use Rattle.hg_branches.specs.Kept.{kept_at, no_first, noted, noted_once, AreNotedOn, HoldsChains, HoldsNewest, IsLastOn, NotesOn};
 
 use crate::branches::zeros;
 use crate::counts::{RowCounts, count_at};
@@ -139,7 +139,7 @@ fn note_branch(
     requires newest { IsLastOn kept.old (length kept.old) c newest }
     requires noted { AreNotedOn c known.now.row counts.now.row branch end kept.old }
     ensures len { length kept.new ≡ length kept.old }
-    ensures on { (i : ℕ) → i < length kept.old → (kept_at kept.old i).branch ≡ c → kept_at kept.new i ≡ noted counts.now.row branch end (kept_at kept.old i) }
+    ensures on { NotesOn c counts.now.row branch end kept.old kept.new }
     ensures off { (i : ℕ) → (kept_at kept.old i).branch ≢ c → kept_at kept.new i ≡ kept_at kept.old i }
 {
     if known.at(c) < counts.at(c) {
@@ -162,7 +162,7 @@ fn note_later(
     requires newest { IsLastOn kept.old (length kept.old) c newest }
     requires noted { AreNotedOn c known.now.row counts.now.row branch end kept.old }
     ensures len { length kept.new ≡ length kept.old }
-    ensures on { (i : ℕ) → i < length kept.old → (kept_at kept.old i).branch ≡ c → kept_at kept.new i ≡ noted counts.now.row branch end (kept_at kept.old i) }
+    ensures on { NotesOn c counts.now.row branch end kept.old kept.new }
     ensures off { (i : ℕ) → (kept_at kept.old i).branch ≢ c → kept_at kept.new i ≡ kept_at kept.old i }
 {
     let least = known.at(c);

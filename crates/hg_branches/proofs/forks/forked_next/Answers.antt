@@ -1,4 +1,4 @@
-use Rattle.std.proofs.Common.{◌≡◌, ◌∙◌, ℕ, ap, ap₂, sym, subst, ◌||◌, ◌&&◌, Bool, List, Option, slice_index, get_or, []}
+use Rattle.std.proofs.Common.{◌≡◌, ◌∙◌, ℕ, ap, ap₂, sym, subst, ◌||◌, ◌&&◌, Bool, Option, slice_index, get_or, []}
 use Rattle.hg_bits.specs.Masks.{mask_has}
 use Rattle.hg_bits.proofs.MaskLaws.{mask_none}
 use Rattle.hg_branches.specs.Columns.{forks_anew, forks_next}

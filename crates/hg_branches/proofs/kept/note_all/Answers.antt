@@ -1,4 +1,4 @@
-use Rattle.std.proofs.Common.{◌≡◌, ◌<◌, ◌≤◌, ◌∙◌, ℕ, inl, inr, length, slice_index, refl, arith}
+use Rattle.std.proofs.Common.{◌≡◌, inl, inr, slice_index, refl, arith}
 use Rattle.std.proofs.lemmas.Bool.{cases_lt}
 use Rattle.std.proofs.lemmas.List.{get_or_past}
 use Rattle.hg_branches.specs.Kept.{kept_at}

@@ -9,7 +9,7 @@ use Rattle.hg_model.specs.Shape.{ShapeWithRoom, FitsLink, link_of, pair_list}
 use Rattle.hg_bits.specs.Masks.{mask_has}
 use Rattle.hg_ancestry.proofs.HeldLaws.{places_fit, places_kept}
 use Rattle.hg_branches.specs.Branches.{greatest_count}
-use Rattle.hg_branches.specs.Columns.{HoldsBranches, room_of, next_branch, with_branch, put_at, count_in, forks_next}
+use Rattle.hg_branches.specs.Columns.{HoldsBranches, next_branch, with_branch, put_at, count_in, forks_next}
 use Rattle.hg_branches.proofs.HeldLaws.{Serves, next_serves, in_reach, branches_hold, counts_hold, counts_last}
 use Rattle.hg_branches.specs.Rows.{RowView, known_place}
 use Rattle.hg_branches.specs.Kept.{Kept, kept_at, noted, AreNotedOn, HoldsChains, HoldsNewest, HoldsKept}

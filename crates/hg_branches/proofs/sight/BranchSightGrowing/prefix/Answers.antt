@@ -1,4 +1,4 @@
-use Rattle.std.proofs.Common.{◌≡◌, ◌<◌, ◌≤◌, ◌∙◌, ◌+◌, ℕ, List, [], sym, ap, subst, take, min, length, get_or, replicate, arith}
+use Rattle.std.proofs.Common.{◌≡◌, ◌<◌, ◌≤◌, ◌∙◌, ◌+◌, ℕ, List, sym, ap, subst, take, min, length, get_or, replicate, arith}
 use Rattle.std.proofs.lemmas.List.{length-take-le, get_or-take}
 use Rattle.hg_model.specs.Shape.{ShapeWithRoom}
 use Rattle.hg_branches.proofs.TakeLaws.{branches_take, counts_take, forks_take}

@@ -1,4 +1,4 @@
-use Rattle.std.proofs.Common.{◌≡◌, ◌<◌, ◌≤◌, ◌+◌, ◌-◌, ◌∙◌, ℕ, List, [], ap, ap₂, sym, subst, length, get_or, slice_index, Option, false, arith}
+use Rattle.std.proofs.Common.{◌≡◌, ◌<◌, ◌≤◌, ◌+◌, ◌-◌, ◌∙◌, ℕ, List, [], ap, ap₂, sym, subst, length, get_or, slice_index, false, arith}
 use Rattle.std.proofs.lemmas.List.{get_or_read}
 use Rattle.hg_model.specs.Places.{count_below}
 use Rattle.hg_model.specs.Links.{Link, creator}
