@@ -23,20 +23,20 @@ def put_files(folder, members, script):
     put_file(folder, "script.txt", script)
 
 
-def run(program, folder, *words, environment=None):
-    """What the program comes to with these words behind its name."""
+def run(program, folder, *words, environment=None, seconds=SECONDS_MOST):
+    """What the program comes to with these words behind its name, in so many seconds."""
     try:
         done = subprocess.run([program, *words], cwd=folder, stdin=subprocess.DEVNULL, capture_output=True, check=False,
-                              timeout=SECONDS_MOST, env=environment)
+                              timeout=seconds, env=environment)
     except subprocess.TimeoutExpired:
         return Outcome(-1, b"", b"no end in time")
     return Outcome(done.returncode, done.stdout, done.stderr)
 
 
-def play(program, folder, workers=0, environment=None):
+def play(program, folder, workers=0, **how):
     """A run over the files that `put_files` put into the folder."""
     words = ["run", "--members", "members.toml", "--script", "script.txt"]
-    return run(program, folder, *words, *(["--workers", str(workers)] if workers else []), environment=environment)
+    return run(program, folder, *words, *(["--workers", str(workers)] if workers else []), **how)
 
 
 def options(text):
