@@ -17,7 +17,7 @@ use Rattle.hg_runs.specs.Safety.{IsSafe, order_after}
 use Rattle.hg_world.specs.World.{WorldView, run_of}
 use Rattle.hg_world.specs.Kept.{IsWorld}
 use Rattle.order_match.specs.Books.{Event, book_of}
-use Rattle.order_match.specs.Laws.{IsEarlier, IsOneEarlier}
+use Rattle.order_match.specs.Laws.{IsEarlier}
 use Rattle.order_match.proofs.BookLaws.{book_more}
 use Rattle.order_book.specs.Market.{AreOneBook, IsBookBefore, event_in, events_at}
 use Rattle.order_book.proofs.GrowthLaws.{kept_places}

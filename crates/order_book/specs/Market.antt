@@ -1,5 +1,5 @@
 -- The books of the members' nodes: each is a function of the order that its node keeps
-use Rattle.std.specs.Prelude.{ℕ, ◌≡◌, ◌<◌, ◌*◌, Bool, cond, ◌&&◌, nat_lt, List, [], ◌∷◌, ◌++◌, fold, get_or, length, map}
+use Rattle.std.specs.Prelude.{ℕ, ◌≡◌, ◌<◌, ◌*◌, ◌⊎◌, Bool, cond, ◌&&◌, nat_lt, List, [], ◌∷◌, ◌++◌, fold, get_or, length, map}
 use Rattle.hg_model.specs.declared.row.Row.{Row}
 use Rattle.hg_model.specs.declared.row.Placed.{Placed}
 use Rattle.hg_model.specs.Stakes.{Stakes, total}
@@ -7,6 +7,7 @@ use Rattle.hg_model.specs.Links.{no_row}
 use Rattle.hg_model.specs.History.{Change, State, replay}
 use Rattle.hg_model.specs.Kept.{kept}
 use Rattle.hg_model.specs.NodeView.{NodeView}
+use Rattle.hg_model.specs.Orders.{IsPrefix}
 use Rattle.hg_runs.specs.Honest.{dishonest, AreApart}
 use Rattle.hg_world.specs.declared.step.Step.{Step}
 use Rattle.hg_world.specs.declared.step.Step.TheVariants as step
@@ -14,7 +15,7 @@ use Rattle.hg_world.specs.World.{Secrets, WorldView, IsMemberOf, run_of}
 use Rattle.hg_world.specs.Steps.{after_steps, settle_steps}
 use Rattle.hg_world.specs.Syncs.{sync_steps}
 use Rattle.order_match.specs.Books.{BookView, Event, book_of, event_of, no_book}
-use Rattle.order_match.specs.Laws.{IsOneEarlier}
+use Rattle.order_match.specs.Laws.{IsEarlier}
 use Rattle.order_book.specs.declared.action.Action.{Action}
 use Rattle.order_book.specs.declared.action.Action.TheVariants.{Make, Sync, Deliver, Settle}
 
