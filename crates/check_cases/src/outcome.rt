@@ -1,4 +1,5 @@
 ghost use Rattle.std.specs.Prelude.{◌≡◌, ◌↔◌, None};
+ghost use Rattle.check_cases.specs.Outcomes.{AreSame};
 
 /// What a run of the program wrote and ended with.
 #[derive(Clone, Copy)]
@@ -18,7 +19,7 @@ pub enum Part {
 
 /// The first part that differs, if one does.
 pub fn difference(wanted: &Outcome<'_>, got: &Outcome<'_>) -> Option<Part>
-    ensures { (result ≡ None) ↔ (wanted.now.status ≡ got.now.status) × (wanted.now.stdout.now ≡ got.now.stdout.now) × (wanted.now.stderr.now ≡ got.now.stderr.now) }
+    ensures { (result ≡ None) ↔ AreSame wanted.now got.now }
 {
     if wanted.status != got.status {
         Some(Part::Status)

@@ -111,10 +111,12 @@ other_makes_add_none V accepts p old new others time payload fault makes =
     let sig = makes.making.sig in
     let es : List Change = make_changes r.node others time payload sig in
     let none_new : es ≡ [] = node.other_makes_add_none V r.node others time payload sig (λ place e. refused_made fault place (makes.making.answers ∙ e)) in
-    let seen : new.seen ≡ r.node.history ++ es = ap (λ (v : NodeView V). v.history) makes.making.grown in (
+    let seen : new.seen ≡ r.node.history ++ es = ap (λ (v : NodeView V). v.history) makes.making.grown in
+    let is = node_none accepts p old new r makes.waits es seen makes.positions none_new in (
       adds_none accepts p old new r makes.waits es seen makes.positions none_new,
       sig,
-      ap (λ (v : NodeView V). make_answer v others time payload sig) (sym (node_none accepts p old new r makes.waits es seen makes.positions none_new)) ∙ sym makes.making.answers,
+      subst (λ (v : NodeView V). make_draft v others payload ≡ None → IsSignedBy accepts v others time payload sig) is makes.making.signed,
+      ap (λ (v : NodeView V). make_answer v others time payload sig) (sym is) ∙ sym makes.making.answers,
     )
 
 -- what is published, where it marks some witnesses, and where it marks none

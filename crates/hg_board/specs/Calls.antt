@@ -1,12 +1,11 @@
 -- What each call of a shared node promises its seat
-use Rattle.std.specs.Prelude.{◌≡◌, ℕ, ◌+◌, ◌-◌, ◌≤◌, true, List, [], ◌++◌, length, None}
+use Rattle.std.specs.Prelude.{◌≡◌, ℕ, ◌+◌, ◌-◌, ◌≤◌, true, List, [], ◌++◌, length}
 use Rattle.hg_model.specs.declared.answers.PutAnswer.{PutAnswer}
-use Rattle.hg_model.specs.declared.answers.PutAnswer.TheVariants.{Accepted}
 use Rattle.hg_model.specs.declared.answers.MakeAnswer.{MakeAnswer}
 use Rattle.hg_model.specs.Shares.{Share}
 use Rattle.hg_model.specs.Orders.{IsPrefix}
-use Rattle.hg_model.specs.NodeView.{NodeView, IsNode, node_rows}
-use Rattle.hg_model.specs.Calls.{make_draft, publish_answer, publish_changes, put_answer}
+use Rattle.hg_model.specs.NodeView.{NodeView, IsNode}
+use Rattle.hg_model.specs.Calls.{publish_answer, publish_changes}
 use Rattle.hg_model.specs.Signing.{Accepts}
 use Rattle.hg_gossip.specs.Holding.{Makes, PutsBytes, Rules, Seen, Waits, with_own}
 use Rattle.hg_board.specs.Positions.{times, once_from, AreBelow}
@@ -41,17 +40,9 @@ module _ {V : Type 0} (accepts : V → Accepts) (p : Place V) where
   abbrev pub SeatPuts : Stand V → List ℕ → Stand V → PutAnswer → Type 0
   SeatPuts old bytes new answer = PutsBytes (rules_shared accepts) (seen_by p old) bytes (seen_by p new) answer
 
-  -- the node that the seat has seen takes the bytes, so that memory is needed for them
-  abbrev pub WouldTake : Stand V → List ℕ → Type 0
-  WouldTake s bytes = let v = (seen_by p s).node in put_answer accepts v bytes ≡ Accepted (length (node_rows v))
-
   -- so was the event made
   abbrev pub SeatMakes : Stand V → List (List ℕ) → ℕ → List ℕ → Stand V → MakeAnswer → Type 0
   SeatMakes old others time payload new answer = Makes (rules_shared accepts) (seen_by p old) others time payload (seen_by p new) answer
-
-  -- the node that the seat has seen signs such an event
-  abbrev pub WouldSign : Stand V → List (List ℕ) → List ℕ → Type 0
-  WouldSign s others payload = make_draft (seen_by p s).node others payload ≡ None
 
   -- so was published what the share found
   abbrev pub SeatPublishes : Stand V → ℕ → Share → Stand V → ℕ → Type 0

@@ -1,5 +1,5 @@
 -- The calls that may change a shared node, in the plain words of a history and one change more
-use Rattle.std.specs.Prelude.{ℕ, ◌≡◌, ◌<◌, true, List, [], ◌∷◌, ◌++◌, length, Ok}
+use Rattle.std.specs.Prelude.{ℕ, ◌≡◌, ◌<◌, true, List, [], ◌∷◌, ◌++◌, length, None, Ok}
 use Rattle.hg_model.specs.declared.row.Row.{Row}
 use Rattle.hg_model.specs.declared.answers.PutAnswer.{PutAnswer}
 use Rattle.hg_model.specs.declared.answers.PutAnswer.TheVariants.{Accepted}
@@ -12,7 +12,7 @@ use Rattle.hg_model.specs.Verdict.{made_row}
 use Rattle.hg_model.specs.History.{Change}
 use Rattle.hg_model.specs.History.Change.{Took, Made, Marked}
 use Rattle.hg_model.specs.NodeView.{NodeView, node_rows}
-use Rattle.hg_model.specs.Calls.{make_answer, make_body, publish_answer, put_answer}
+use Rattle.hg_model.specs.Calls.{make_answer, make_body, make_draft, publish_answer, put_answer}
 use Rattle.hg_model.specs.Signing.{Accepts}
 use Rattle.hg_board.specs.Table.{node_at}
 use Rattle.hg_board.specs.Seats.{Place, Stand}
@@ -54,7 +54,9 @@ MakesAddOne V = (accepts : V → Accepts) (p : Place V) (old new : Stand V) (oth
 abbrev pub OtherMakesAddNone : (V : Type 0) → Type 0
 OtherMakesAddNone V = (accepts : V → Accepts) (p : Place V) (old new : Stand V) (others : List (List ℕ)) (time : ℕ) (payload : List ℕ) (fault : MakeFault) →
     SeatMakes accepts p old others time payload new (made.Refused fault) →
-    AddsNone old new × (sig : List ℕ) × (make_answer (node_at p.start new.seen) others time payload sig ≡ made.Refused fault)
+    AddsNone old new × (sig : List ℕ)
+    × (make_draft (node_at p.start new.seen) others payload ≡ None → IsSignedBy accepts (node_at p.start new.seen) others time payload sig)
+    × (make_answer (node_at p.start new.seen) others time payload sig ≡ made.Refused fault)
 
 -- a publication that marked some witnesses is one change more, with as many as the node marks in the history before it
 abbrev pub PublishesAddOne : (V : Type 0) → Type 0

@@ -4,7 +4,8 @@ ghost use Rattle.hg_model.specs.NodeView.{kept_of};
 ghost use Rattle.hg_node.specs.ChronicleView.{IsFoundBy, graph_in};
 ghost use Rattle.hg_gossip.specs.Holding.{names_in, parcel_beyond};
 ghost use Rattle.hg_board.specs.Seats.{IsOf, seen_by};
-ghost use Rattle.hg_board.specs.Calls.{Absorbs, IsStarted, IsWhole, SeatMakes, SeatPublishes, SeatPuts, SeatWaits, Stays, WouldSign, WouldTake, after_split, split_off};
+ghost use Rattle.hg_board.specs.Calls.{Absorbs, IsStarted, IsWhole, SeatMakes, SeatPublishes, SeatPuts, SeatWaits, Stays, after_split, rules_shared, split_off};
+ghost use Rattle.hg_gossip.specs.Holding.{WouldSign, WouldTake};
 
 use crate::rule::{Board, Both, Compare, OnePart};
 use crate::seat::Seat;
@@ -77,7 +78,7 @@ impl<V: Signer + Drop> Shared<V> {
         ensures stays { Stays V.accepts self.now seat.old seat.new }
         ensures ok { IfOk result (SeatPuts V.accepts self.now seat.old bytes.now seat.new) }
         ensures err { OnErr result (SeatWaits V.accepts self.now seat.old seat.new) }
-        ensures free { OnErr result (WouldTake V.accepts self.now seat.new bytes.now) }
+        ensures free { OnErr result (WouldTake (rules_shared V.accepts) (seen_by self.now seat.new) bytes.now) }
     {
         let steps = &self.table.shared;
         let raw = &mut seat.raw;
@@ -101,7 +102,7 @@ impl<V: Signer + Drop> Shared<V> {
         ensures stays { Stays V.accepts self.now seat.old seat.new }
         ensures ok { IfOk result (SeatMakes V.accepts self.now seat.old (option_to_list other) time payload.now seat.new) }
         ensures err { OnErr result (SeatWaits V.accepts self.now seat.old seat.new) }
-        ensures free { OnErr result (WouldSign V.accepts self.now seat.new (option_to_list other) payload.now) }
+        ensures free { OnErr result (WouldSign (seen_by self.now seat.new) (option_to_list other) payload.now) }
     {
         let steps = &self.table.shared;
         let raw = &mut seat.raw;

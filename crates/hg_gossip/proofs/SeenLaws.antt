@@ -29,6 +29,11 @@ module _ {K : Type 0} where
   pub waits_none : (rules : Rules K) (s : Seen K) → Waits rules s s
   waits_none rules s = waits_same rules s s refl
 
+-- what a call that failed left as it was, of which this is so
+pub still_so : {K A E : Type 0} (IsSo : NodeView K → Type 0) (old new : NodeView K) (result : Result A E) → OnErr result (new ≡ old) → OnErr result (IsSo old) → OnErr result (IsSo new)
+still_so IsSo old new (Ok a) same so = tt
+still_so IsSo old new (Err e) same so = subst IsSo (sym same) so
+
 positions_past : (p : ℕ) (h es : List Change) → positions_from p (h ++ es) ≡ positions_from p h ++ positions_from (p + length h) es
 positions_past p [] es = ap (λ (q : ℕ). positions_from q es) (omega arith)
 positions_past p (e ∷ h) es =

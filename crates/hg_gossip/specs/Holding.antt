@@ -1,9 +1,10 @@
 -- A holder of a node: the node that it has seen, and which of the node's changes its own calls added
-use Rattle.std.specs.Prelude.{ℕ, suc, ◌≡◌, Bool, false, not, cond, List, [], ◌∷◌, ◌++◌, length, map, filter, Option, option_map, slice_get}
+use Rattle.std.specs.Prelude.{ℕ, suc, ◌≡◌, Bool, false, not, cond, List, [], ◌∷◌, ◌++◌, length, map, filter, Option, None, option_map, slice_get}
 use Rattle.std.specs.List.{list_any}
 use Rattle.std.specs.Str.{bytes_eq}
 use Rattle.hg_model.specs.declared.row.Row.{Row}
 use Rattle.hg_model.specs.declared.answers.PutAnswer.{PutAnswer}
+use Rattle.hg_model.specs.declared.answers.PutAnswer.TheVariants.{Accepted}
 use Rattle.hg_model.specs.declared.answers.MakeAnswer.{MakeAnswer}
 use Rattle.hg_model.specs.declared.gossip.Parcel.{Parcel}
 use Rattle.hg_model.specs.Spelling.{spelling}
@@ -11,7 +12,7 @@ use Rattle.hg_model.specs.Verdict.{last_name}
 use Rattle.hg_model.specs.Signing.{Accepts}
 use Rattle.hg_model.specs.History.{Change}
 use Rattle.hg_model.specs.NodeView.{IsNode, NodeView, node_rows, with_changes}
-use Rattle.hg_model.specs.Calls.{IsMaking, make_changes, put_answer, put_changes}
+use Rattle.hg_model.specs.Calls.{IsMaking, make_changes, make_draft, put_answer, put_changes}
 
 -- what a holder has seen of its node, and the positions in the history of the changes that its own calls added
 pub record Seen (K : Type 0) : Type 0 where
@@ -63,6 +64,14 @@ pub record Makes {K : Type 0} (rules : Rules K) (old : Seen K) (others : List (L
   pub waits : Waits rules old reached
   pub making : IsMaking rules.accepts reached.node others time payload answer new.node
   pub positions : new.positions ≡ reached.positions ++ positions_from (length reached.node.history) (make_changes reached.node others time payload making.sig)
+
+-- the node that is seen takes the bytes, so that memory is needed for them
+abbrev pub WouldTake : {K : Type 0} → Rules K → Seen K → List ℕ → Type 0
+WouldTake rules s bytes = put_answer rules.accepts s.node bytes ≡ Accepted (length (node_rows s.node))
+
+-- it signs such an event, so that memory is needed for it
+abbrev pub WouldSign : {K : Type 0} → Seen K → List (List ℕ) → List ℕ → Type 0
+WouldSign s others payload = make_draft s.node others payload ≡ None
 
 -- the names of rows
 abbrev pub row_names : List Row → List (List ℕ)

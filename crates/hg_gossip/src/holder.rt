@@ -1,6 +1,6 @@
 ghost use Rattle.std.specs.Prelude.{◌≡◌, IfOk, OnErr};
 ghost use Rattle.std.specs.Option.{option_to_list};
-ghost use Rattle.hg_gossip.specs.Holding.{Makes, PutsBytes, Rules, Seen, Waits, names_in, parcel_beyond};
+ghost use Rattle.hg_gossip.specs.Holding.{Makes, PutsBytes, Rules, Seen, Waits, WouldSign, WouldTake, names_in, parcel_beyond};
 
 use hg_model::{MakeAnswer, Memory, Name, Parcel, PutAnswer};
 use std::alloc::Global;
@@ -26,14 +26,16 @@ pub trait Holder {
         ensures waits { Waits rules (seen self.old) (seen self.new) }
         ensures parcel { IfOk result (λ parcel. parcel ≡ parcel_beyond names.now (seen self.new)) };
 
-    /// Puts the bytes of an event.
+    /// Puts the bytes of an event. Only to accept it takes memory.
     fn put(&mut self, bytes: &[u8]) -> Result<PutAnswer, Memory>
         ensures ok { IfOk result (PutsBytes rules (seen self.old) bytes.now (seen self.new)) }
-        ensures err { OnErr result (Waits rules (seen self.old) (seen self.new)) };
+        ensures err { OnErr result (Waits rules (seen self.old) (seen self.new)) }
+        ensures free { OnErr result (WouldTake rules (seen self.new) bytes.now) };
 
     /// Makes an event of the node's member on its last one, with this other-parent, or its first one without parents.
-    /// The time is any, in no unit of ours.
+    /// The time is any, in no unit of ours. To tell that the event is refused before it is signed takes no memory.
     fn make(&mut self, other: Option<Name>, time: u64, payload: &[u8]) -> Result<MakeAnswer, Memory>
         ensures ok { IfOk result (Makes rules (seen self.old) (option_to_list other) time payload.now (seen self.new)) }
-        ensures err { OnErr result (Waits rules (seen self.old) (seen self.new)) };
+        ensures err { OnErr result (Waits rules (seen self.old) (seen self.new)) }
+        ensures free { OnErr result (WouldSign (seen self.new) (option_to_list other) payload.now) };
 }

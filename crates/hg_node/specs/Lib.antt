@@ -2,3 +2,4 @@ pub mod ChronicleView
 pub mod Arrival
 pub mod Draft
 pub mod Laws
+pub mod Puts

@@ -117,7 +117,7 @@ pub fn signed_event<V: Signer>(
 ) -> Result<Arc<Event>, Memory>
     requires { length payload.now ≤ payload_limit }
     ensures row { IfOk result (λ event. event.value ≡ signed_row creator parents time payload.now event.value.sig) }
-    ensures accepted { IfOk result (λ event. IsSigned (V.accepts keys.now) creator parents time payload.now event.value.sig) }
+    ensures accepted { IfOk result (λ e. IsSigned (V.accepts keys.now) creator parents time payload.now e.value.sig) }
     ensures sized { IfOk result (λ event. length event.value.sig ≡ 64) }
 {
     let mut bytes = encode_body(alloc, creator, &parents, time, payload)?;

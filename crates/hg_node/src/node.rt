@@ -5,22 +5,23 @@ ghost use Rattle.hg_event.specs.View.{row_of};
 ghost use Rattle.hg_model.specs.Forks.{forkers};
 ghost use Rattle.hg_model.specs.Rounds.{last_round};
 ghost use Rattle.hg_model.specs.Stakes.{member_count};
-ghost use Rattle.hg_model.specs.Spelling.{Spells, body_of, spelling};
+ghost use Rattle.hg_model.specs.Spelling.{Spells, spelling};
 ghost use Rattle.hg_model.specs.Graph.{IsGraph};
 ghost use Rattle.hg_model.specs.Verdict.{last_name, row_limit};
 ghost use Rattle.hg_graph.specs.Held.{first_graph};
 ghost use Rattle.hg_node.specs.Arrival.{StandsOn};
 ghost use Rattle.hg_node.specs.ChronicleView.{IsFoundBy, chronicle_took, graph_in};
+ghost use Rattle.hg_node.specs.Puts.{WouldAccept, after_put, is_signed};
 ghost use Rattle.hg_model.specs.declared.answers.PutAnswer.TheVariants.{Accepted};
 ghost use Rattle.hg_model.specs.Fame.{mark_at};
 ghost use Rattle.hg_model.specs.NodeView.{book_kept, node_rows, kept_of, last_closed_of, node_links, log, node_marks, start_of, with_changes, IsNode};
-ghost use Rattle.hg_model.specs.Calls.{IsMaking, make_draft, publish_answer, publish_changes, put_answer, put_changes, settle_changes, IsSettled};
+ghost use Rattle.hg_model.specs.Calls.{IsMaking, make_draft, publish_answer, publish_changes, put_answer, settle_changes, IsSettled};
 
 use crate::arrival::{parents_of_arrival, parents_of_signed};
 use crate::chronicle::Chronicle;
 use crate::draft::{draft_of, row_rule, signed_event};
 use hg_event::{Event, EventView, decode};
-use hg_fame::elect_share;
+use hg_fame::elect_unmarked;
 use hg_graph::{EventGraph, FrozenGraph};
 use hg_model::{
     Effect, Entry, Fault, Found, MakeAnswer, Member, Members, Memory, Name, Parents, Placed,
@@ -78,9 +79,9 @@ impl<V: Signer> Node<V> {
     /// Puts the bytes of an event. Only to accept it takes memory.
     pub fn put(&mut self, bytes: &[u8]) -> Result<PutAnswer, Memory>
         ensures answer { IfOk result (λ answer. answer ≡ put_answer V.accepts self.old bytes.now) }
-        ensures ok { OnOk result (self.new ≡ with_changes self.old (put_changes V.accepts self.old bytes.now)) }
+        ensures ok { OnOk result (self.new ≡ after_put V.accepts self.old bytes.now) }
         ensures err { OnErr result (self.new ≡ self.old) }
-        ensures free { OnErr result (put_answer V.accepts self.old bytes.now ≡ Accepted (length (node_rows self.old))) }
+        ensures free { OnErr result (WouldAccept V.accepts self.old bytes.now) }
     {
         let view = match decode(bytes) {
             Ok(view) => view,
@@ -99,11 +100,11 @@ impl<V: Signer> Node<V> {
     /// is what comes of its bytes, but it is not read, named, checked or copied again.
     pub fn put_event(&mut self, event: &Arc<Event>) -> Result<PutAnswer, Memory>
         requires fits { event.now.value.creator < member_count self.old.start.members }
-        requires signed { V.accepts self.old.start.keys event.now.value.creator (body_of event.now.value) event.now.value.sig ≡ true }
+        requires signed { is_signed V.accepts self.old.start event.now.value ≡ true }
         ensures answer { IfOk result (λ answer. answer ≡ put_answer V.accepts self.old (spelling event.now.value)) }
-        ensures ok { OnOk result (self.new ≡ with_changes self.old (put_changes V.accepts self.old (spelling event.now.value))) }
+        ensures ok { OnOk result (self.new ≡ after_put V.accepts self.old (spelling event.now.value)) }
         ensures err { OnErr result (self.new ≡ self.old) }
-        ensures free { OnErr result (put_answer V.accepts self.old (spelling event.now.value) ≡ Accepted (length (node_rows self.old))) }
+        ensures free { OnErr result (WouldAccept V.accepts self.old (spelling event.now.value)) }
     {
         // That its bytes are bytes, and those of an event.
         event.row();
@@ -162,7 +163,8 @@ impl<V: Signer> Node<V> {
     {
         let graph = self.chronicle.graph();
         let mut votes = VoteTable::new(self.alloc, graph)?;
-        let found = elect_share(self.alloc, graph, &mut votes, Share::new(0, 1))?;
+        let all = Share::new(0, 1);
+        let found = elect_unmarked(self.alloc, graph, &mut votes, all, self.chronicle.marks())?;
         self.chronicle.publish(&found);
         Ok(())
     }

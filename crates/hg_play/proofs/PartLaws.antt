@@ -30,7 +30,7 @@ use Rattle.hg_model.specs.Members.{MemberList}
 use Rattle.hg_crowd.specs.Crowd.{AreStill}
 use Rattle.hg_play.proofs.SharedLaws.{still_all}
 use Rattle.hg_play.specs.Nodes.{IsKept, NodesView, TellsLast, TellsMaking, TellsPulling, TellsPutting, TellsSyncing}
-use Rattle.hg_play.specs.Through.{SharedView, TellsLacked, TellsMadeAfter, TellsNames, TellsParcel, TellsParts, TellsTaken, TellsThrough, seen_shared, seen_through, shared_view}
+use Rattle.hg_play.specs.Through.{SharedView, TellsLacked, TellsMade, TellsNames, TellsParcel, TellsParts, TellsTaken, TellsThrough, seen_shared, seen_through, shared_view}
 
 -- the first place that passes, or the length, by `position`
 position_unwrapped : {A : Type 0} (test : A → Bool) (xs : List A) → unwrap_or (position test xs) (length xs) ≡ position_or_len test xs
@@ -122,7 +122,7 @@ pull_told {N} {E} old mid new taker peer parcel events (Ok counts) same back fou
 
 -- what a sync leaves and reports
 pub sync_told : {N : Type 0} (old mid full new : NodesView N) (taker peer : ℕ) (parcel : Parcel) (events : List (List ℕ)) (time : ℕ) (payload : List ℕ) (counts : Taken) (made : SyncMade) → events ≡ parcel.rows → (full.Alone → mid.Alone) →
-    (new.Alone → full.Alone) → TellsLacked old mid taker peer parcel → TellsTaken mid full taker events counts → TellsMadeAfter full new taker parcel.last time payload made →
+    (new.Alone → full.Alone) → TellsLacked old mid taker peer parcel → TellsTaken mid full taker events counts → TellsMade full new taker parcel.last time payload made →
     TellsSyncing old new taker peer time payload (record { taken = counts.taken; refused = counts.refused; made = made })
 sync_told old mid full new taker peer parcel events time payload counts made same back last found took makes = λ alone w agrees.
     let a = found (back (last alone)) w agrees in
@@ -137,7 +137,7 @@ sync_told old mid full new taker peer parcel events time payload counts made sam
 
 -- what came of an event
 pub made_told : {N : Type 0} (old new : NodesView N) (m : ℕ) (name : List ℕ) (time : ℕ) (payload : List ℕ) (answer : MakeAnswer) (made : SyncMade) → made ≡ made_in_sync answer →
-    TellsMaking old new m (Some name) time payload answer → TellsMadeAfter old new m (Some name) time payload made
+    TellsMaking old new m (Some name) time payload answer → TellsMade old new m (Some name) time payload made
 made_told old new m name time payload answer made is makes = λ alone w agrees.
     let a = makes alone w agrees in
     (is ∙ ap made_in_sync a.0, a.1)

@@ -1,5 +1,6 @@
 -- Lines that are played over a world whose nodes are those of a stage but for marks, some of them between threads
 use Rattle.std.specs.Prelude.{ℕ, ◌≡◌, ◌<◌, ◌≤◌, Bool, true, false, List, length, take, get_or}
+use Rattle.std.specs.Global.{Vec}
 use Rattle.hg_model.specs.declared.outcome.Printed.{Printed}
 use Rattle.hg_model.specs.Members.{MemberList}
 use Rattle.hg_script.specs.declared.line.Action.{Action}
@@ -16,6 +17,10 @@ use Rattle.hg_play.specs.Through.{IsOfRows, IsStageLike}
 abbrev pub TellsBatch : MemberList → List Line → WorldView → List (List ℕ) → List Printed → WorldView → List (List ℕ) → List Printed → Type 0
 TellsBatch members lines old labels printed new labels_new printed_new =
     (s : Stage) → IsStageLike members old labels printed s → IsStageLike members new labels_new printed_new (after_lines members s lines)
+
+abbrev pub PlaysBatch : MemberList → List Line → WorldView → Vec (List ℕ) → Vec Printed → WorldView → Vec (List ℕ) → Vec Printed → Type 0
+PlaysBatch members lines old labels printed new labels_new printed_new =
+    TellsBatch members lines old labels.items printed.items new labels_new.items printed_new.items
 
 -- the line may stand in a batch: it is of gossip, or makes a label
 abbrev pub is_part : Action → Bool
@@ -49,6 +54,10 @@ pub record PlaysNext (members : MemberList) (lines : List Line) (from : ℕ) (ol
   pub count : length new.sites ≡ length old.sites
   pub told : (s : Stage) → IsStageLike members old labels printed (after_lines members s (take from lines)) →
       IsStageLike members new labels_new printed_new (after_lines members s (take to lines))
+
+abbrev pub GoesOn : MemberList → List Line → ℕ → WorldView → Vec (List ℕ) → Vec Printed → WorldView → Vec (List ℕ) → Vec Printed → ℕ → Type 0
+GoesOn members lines from old labels printed new labels_new printed_new to =
+    PlaysNext members lines from old labels.items printed.items new labels_new.items printed_new.items to
 
 -- all lines were played over the members' nodes: what they print, and the nodes but for marks
 pub record IsPlayed (members : MemberList) (lines : List Line) (new : WorldView) (printed : List Printed) : Type 0 where

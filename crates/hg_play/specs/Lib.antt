@@ -5,5 +5,6 @@ pub mod Labels
 pub mod Lines
 pub mod Nodes
 pub mod Play
+pub mod Printing
 pub mod Sites
 pub mod Through

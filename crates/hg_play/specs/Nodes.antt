@@ -1,6 +1,7 @@
 -- Many nodes that lines are played over: of one thread, or shared with others who add nothing but marks. What a call
 -- answers is told once it is known that others did no more. Lines that need the marks are played over a world
 use Rattle.std.specs.Prelude.{ℕ, ◌≡◌, ⊤, cond, List, [], ◌∷◌, ◌++◌, length, Option}
+use Rattle.std.specs.Global.{Vec}
 use Rattle.std.specs.Option.{option_to_list}
 use Rattle.hg_model.specs.declared.answers.PutAnswer.{PutAnswer}
 use Rattle.hg_model.specs.declared.answers.MakeAnswer.{MakeAnswer}
@@ -9,6 +10,7 @@ use Rattle.hg_model.specs.declared.outcome.Block.{Block}
 use Rattle.hg_model.specs.declared.outcome.Printed.{Printed}
 use Rattle.hg_model.specs.Members.{MemberList, has_node}
 use Rattle.hg_model.specs.Ledger.{block_of}
+use Rattle.hg_model.specs.NodeView.{NodeView}
 use Rattle.hg_gossip.specs.declared.gossip.Taken.{Taken}
 use Rattle.hg_script.specs.declared.line.Gossip.{Gossip}
 use Rattle.hg_script.specs.declared.line.Source.{Source}
@@ -21,7 +23,7 @@ use Rattle.hg_world.specs.Syncs.{pull_steps, pulled, sync_report, sync_steps}
 use Rattle.hg_play.specs.Labels.{last_bytes, source_bytes}
 use Rattle.hg_play.specs.Lines.{gossip_printed, gossip_steps, kept_block}
 use Rattle.hg_play.specs.Play.{Stage, after_line, after_lines, block_at, end_blocks, end_steps, stage}
-use Rattle.hg_play.specs.Sites.{starts, starts_of}
+use Rattle.hg_play.specs.Sites.{start_in, starts, starts_of}
 
 -- many nodes at a moment, as their caller sees them: how many they are; that all that others did since the beginning are
 -- marks; of which worlds they are the nodes, but for what others marked; and since which moments
@@ -75,6 +77,10 @@ IsShownBlock members w m block = starts_of w ≡ starts members → block ≡ bl
 abbrev pub IsKeptBlock : MemberList → WorldView → ℕ → Block → Type 0
 IsKeptBlock members w m block = starts_of w ≡ starts members → block ≡ kept_block members m (node_at w m)
 
+-- so it is of this node, where that began as member m's
+abbrev pub IsBlockOf : MemberList → ℕ → NodeView Secrets → Block → Type 0
+IsBlockOf members m v block = v.start ≡ start_in members m → block ≡ kept_block members m v
+
 -- of a line of gossip, under its number
 abbrev pub TellsGossip : {N : Type 0} → NodesView N → NodesView N → List (List ℕ) → ℕ → Gossip → Printed → Type 0
 TellsGossip old new labels number gossip p =
@@ -96,12 +102,21 @@ abbrev pub TellsLine : {N : Type 0} → MemberList → Line → NodesView N → 
 TellsLine members line old labels printed new labels_new printed_new =
     new.Alone → (s : Stage) → IsStage members old labels printed s → IsStage members new labels_new printed_new (after_line members s line)
 
+-- a line was played, behind these labels and what was printed
+abbrev pub PlaysLine : {N : Type 0} → (N → NodesView N) → MemberList → Line → N → Vec (List ℕ) → Vec Printed → N → Vec (List ℕ) → Vec Printed → Type 0
+PlaysLine seen members line old labels printed new labels_new printed_new =
+    TellsLine members line (seen old) labels.items printed.items (seen new) labels_new.items printed_new.items
+
 -- what is told of lines that were played over nodes that began as those of these members: all that they print, and that the
 -- nodes are those of the world after them
 abbrev pub TellsLines : {N : Type 0} → NodesView N → NodesView N → MemberList → List Line → List Printed → Type 0
 TellsLines old new members lines printed =
     new.Alone → (w : WorldView) → old.Agrees w → starts_of w ≡ starts members →
     (let s = after_lines members (stage w [] []) lines in (printed ≡ s.printed) × new.Agrees s.world)
+
+-- lines were played over a world
+abbrev pub PlaysLines : MemberList → List Line → WorldView → WorldView → Vec Printed → Type 0
+PlaysLines members lines old new printed = TellsLines (seen_alone old) (seen_alone new) members lines printed.items
 
 -- of the block of a node behind what was printed, if the member has one
 abbrev pub TellsBlock : {N : Type 0} → NodesView N → NodesView N → MemberList → ℕ → List Printed → List Printed → Type 0
@@ -113,3 +128,11 @@ TellsBlock old new members m before after =
 abbrev pub TellsBlocks : {N : Type 0} → NodesView N → NodesView N → MemberList → List Printed → List Printed → Type 0
 TellsBlocks old new members before after =
     Told old new (λ w. end_steps members (length members.entries)) (λ w. starts_of w ≡ starts members → after ≡ before ++ end_blocks members w)
+
+-- over a world a block was printed, if the member has one
+abbrev pub PrintsBlock : MemberList → ℕ → WorldView → Vec Printed → WorldView → Vec Printed → Type 0
+PrintsBlock members m old before new after = TellsBlock (seen_alone old) (seen_alone new) members m before.items after.items
+
+-- so were the blocks of all nodes
+abbrev pub PrintsBlocks : MemberList → WorldView → Vec Printed → WorldView → Vec Printed → Type 0
+PrintsBlocks members old before new after = TellsBlocks (seen_alone old) (seen_alone new) members before.items after.items

@@ -1,6 +1,9 @@
 -- Lines that are played over nodes between threads, while others mark: what they print is that of the rows alone
 use Rattle.std.specs.Prelude.{ℕ, ◌≡◌, ◌<◌, ⊤, List, [], length, map, get_or, Option, Some, None}
+use Rattle.std.specs.Global.{Vec}
 use Rattle.hg_model.specs.declared.outcome.Printed.{Printed}
+use Rattle.hg_model.specs.declared.answers.MakeAnswer.{MakeAnswer}
+use Rattle.hg_model.specs.declared.answers.PutAnswer.{PutAnswer}
 use Rattle.hg_model.specs.declared.answers.SyncMade.{SyncMade}
 use Rattle.hg_model.specs.declared.gossip.Parcel.{Parcel}
 use Rattle.hg_model.specs.Members.{MemberList}
@@ -22,7 +25,7 @@ use Rattle.hg_board.specs.Seats.{Place, Stand}
 use Rattle.hg_crowd.specs.Crowd.{AreStill, Each, OthersMark}
 use Rattle.hg_play.specs.Alike.{AreAlike, WorldsAlike}
 use Rattle.hg_play.specs.Lines.{IsBelow}
-use Rattle.hg_play.specs.Nodes.{IsStage, NodesView, Told}
+use Rattle.hg_play.specs.Nodes.{IsStage, NodesView, TellsMaking, TellsPutting, Told}
 use Rattle.hg_play.specs.Play.{Stage, after_line, after_lines}
 
 -- nodes between threads, and a seat of each
@@ -109,11 +112,19 @@ abbrev pub TellsParts : {N : Type 0} → MemberList → List Line → NodesView 
 TellsParts members lines old labels printed new labels_new printed_new =
     new.Alone → (s : Stage) → IsStage members old labels printed s → IsStage members new labels_new printed_new (after_lines members s lines)
 
+abbrev pub PlaysParts : {N : Type 0} → (N → NodesView N) → MemberList → List Line → N → Vec (List ℕ) → Vec Printed → N → Vec (List ℕ) → Vec Printed → Type 0
+PlaysParts seen members lines old labels printed new labels_new printed_new =
+    TellsParts members lines (seen old) labels.items printed.items (seen new) labels_new.items printed_new.items
+
 -- the same of nodes between threads
 abbrev pub TellsThrough : MemberList → List Line → List (Place Secrets) → List (Stand Secrets) → List (List ℕ) → List Printed → List (Stand Secrets) → List (List ℕ) → List Printed → Type 0
 TellsThrough members lines places seats labels printed seats_new labels_new printed_new =
     AllOthersMark places seats_new → (s : Stage) → IsStageOf members places seats labels printed s →
     IsStageOf members places seats_new labels_new printed_new (after_lines members s lines)
+
+abbrev pub PlaysThrough : MemberList → List Line → List (Place Secrets) → Vec (Stand Secrets) → Vec (List ℕ) → Vec Printed → Vec (Stand Secrets) → Vec (List ℕ) × Vec Printed → Type 0
+PlaysThrough members lines places seats labels printed seats_new played =
+    TellsThrough members lines places seats.items labels.items printed.items seats_new.items played.0.items played.1.items
 
 abbrev pub seen_through : List (Place Secrets) → List (Stand Secrets) → NodesView SharedView
 seen_through places seats = seen_shared (shared_view places seats)
@@ -138,6 +149,19 @@ TellsTaken old new m events counts =
     Told old new (λ w. deliver_steps m events) (λ w. HasTaken w m events counts (after_steps w (deliver_steps m events)))
 
 -- of an event that was made on this other-parent, or refused; none where there is no name
-abbrev pub TellsMadeAfter : {N : Type 0} → NodesView N → NodesView N → ℕ → Option (List ℕ) → ℕ → List ℕ → SyncMade → Type 0
-TellsMadeAfter old new m other time payload made =
+abbrev pub TellsMade : {N : Type 0} → NodesView N → NodesView N → ℕ → Option (List ℕ) → ℕ → List ℕ → SyncMade → Type 0
+TellsMade old new m other time payload made =
     Told old new (λ w. make_steps m other time payload) (λ w. made ≡ made_after (node_at w m) other time payload)
+
+-- the same where the nodes are seen through seats
+abbrev pub SeatsTellMaking : List (Place Secrets) → List (Stand Secrets) → List (Stand Secrets) → ℕ → Option (List ℕ) → ℕ → List ℕ → MakeAnswer → Type 0
+SeatsTellMaking places old new m other time payload answer = TellsMaking (seen_through places old) (seen_through places new) m other time payload answer
+
+abbrev pub SeatsTellPutting : List (Place Secrets) → List (Stand Secrets) → List (Stand Secrets) → ℕ → List ℕ → PutAnswer → Type 0
+SeatsTellPutting places old new m bytes answer = TellsPutting (seen_through places old) (seen_through places new) m bytes answer
+
+abbrev pub SeatsTellNames : List (Place Secrets) → List (Stand Secrets) → List (Stand Secrets) → ℕ → Vec (List ℕ) → Type 0
+SeatsTellNames places old new m names = TellsNames (seen_through places old) (seen_through places new) m names.items
+
+abbrev pub SeatsTellParcel : List (Place Secrets) → List (Stand Secrets) → List (Stand Secrets) → ℕ → List (List ℕ) → Parcel → Type 0
+SeatsTellParcel places old new m names parcel = TellsParcel (seen_through places old) (seen_through places new) m names parcel

@@ -3,9 +3,9 @@ ghost use Rattle.hg_model.specs.Signing.{accepts_by, secrets_of};
 ghost use Rattle.hg_crowd.specs.Crowd.{AreSeats, AreStill, Each};
 ghost use Rattle.hg_crowd.specs.Workers.{HasMore, Worked};
 ghost use Rattle.hg_world.specs.World.{new_world, worker_count};
-ghost use Rattle.hg_play.specs.Batch.{AllAreMarked, IsLineOfRows, IsPartBelow, IsPlayed, PlaysNext, StopsAt, TellsBatch, is_part, most_lines};
+ghost use Rattle.hg_play.specs.Batch.{AllAreMarked, IsLineOfRows, IsPartBelow, GoesOn, IsPlayed, PlaysBatch, StopsAt, is_part, most_lines};
 ghost use Rattle.hg_play.specs.Lines.{IsLineBelow};
-ghost use Rattle.hg_play.specs.Through.{IsPartLine, TellsThrough};
+ghost use Rattle.hg_play.specs.Through.{IsPartLine, PlaysThrough};
 
 use crate::lines::play_line;
 use crate::through::play_through;
@@ -45,7 +45,7 @@ fn play_batch<R: Threads + Wait + Sync, C: Crew + Sync, G: Gate + Sync>(
     requires few { workers ≤ worker_count }
     ensures count { IfOk result (λ r. length r.0.sites ≡ length world.sites) }
     ensures marked { IfOk result (λ r. AllAreMarked r.0) }
-    ensures told { IfOk result (λ r. TellsBatch members.now lines.now world labels.items printed.items r.0 r.1.items r.2.items) }
+    ensures told { IfOk result (λ r. PlaysBatch members.now lines.now world labels printed r.0 r.1 r.2) }
 {
     let (shared, mut seats) = start_all(alloc, world.into_nodes())?;
     let own = split_all(alloc, shared.as_slice(), &mut seats)?;
@@ -61,7 +61,7 @@ fn play_batch<R: Threads + Wait + Sync, C: Crew + Sync, G: Gate + Sync>(
             requires keys { keys.now ≡ secrets_of members.now }
             ensures seats { AreSeats accepts_by places.entry.now result.0.items }
             ensures still { AreStill own.items result.0.items }
-            ensures played { IfOk result.1 (λ r. TellsThrough members.entry.now lines.entry.now places.entry.now own.items labels.items printed.items result.0.items r.0.items r.1.items) }
+            ensures played { IfOk result.1 (PlaysThrough members.entry.now lines.entry.now places.entry.now own labels printed result.0) }
         {
             play_through(
                 rt, alloc, members, keys, places, own, labels, printed, lines, gate,
@@ -129,7 +129,7 @@ fn play_next<R: Threads + Wait + Sync, C: Crew + Sync, G: Gate + Sync>(
     requires keys { keys.now ≡ secrets_of members.now }
     requires some { 0 < workers }
     requires few { workers ≤ worker_count }
-    ensures { IfOk result (λ r. PlaysNext members.now lines.now from world labels.items printed.items r.0 r.1.items r.2.items r.3) }
+    ensures { IfOk result (λ r. GoesOn members.now lines.now from world labels printed r.0 r.1 r.2 r.3) }
 {
     let (_, rest) = lines.split_at(from);
     let count = batch_len(rest);

@@ -1,9 +1,7 @@
 ghost use Rattle.std.specs.Prelude.{◌≡◌, ◌<◌, ◌^◌, IfOk, OnOk, length};
 ghost use Rattle.hg_world.specs.World.{IsMemberOf};
 ghost use Rattle.hg_world.specs.Steps.{after_steps, settle_steps};
-ghost use Rattle.hg_play.specs.Lines.{kept_block};
-ghost use Rattle.hg_play.specs.Nodes.{IsKept, IsKeptBlock, IsShownBlock, TellsBlock, TellsBlocks, seen_alone};
-ghost use Rattle.hg_play.specs.Sites.{start_in};
+ghost use Rattle.hg_play.specs.Nodes.{IsBlockOf, IsKept, IsKeptBlock, IsShownBlock, PrintsBlock, PrintsBlocks, seen_alone};
 
 use crate::printing::order_lines;
 use hg_model::{Block, Items, Member, Members, Memory, Printed};
@@ -19,7 +17,7 @@ fn kept_block(
     member: Member,
     node: &Node<SharedTable>,
 ) -> Result<Block, Memory>
-    ensures { IfOk result (λ b. node.now.start ≡ start_in members.now member → b ≡ kept_block members.now member node.now) }
+    ensures { IfOk result (IsBlockOf members.now member node.now) }
 {
     // That it is a node, whose links are those of its rows.
     let events = node.rows() as u64;
@@ -78,7 +76,7 @@ fn push_block(
     requires below { IsMemberOf world.old member }
     requires few { member < 2 ^ 16 }
     ensures kept { IsKept (seen_alone world.old) (seen_alone world.new) }
-    ensures told { OnOk result (TellsBlock (seen_alone world.old) (seen_alone world.new) members.now member printed.old.items printed.new.items) }
+    ensures told { OnOk result (PrintsBlock members.now member world.old printed.old world.new printed.new) }
 {
     if members.has_node(member as Member) {
         let block = settled_at(alloc, members, world, member as Member)?;
@@ -96,7 +94,7 @@ pub(crate) fn push_blocks(
 ) -> Result<(), Memory>
     requires { length world.old.sites ≡ length members.now.entries }
     ensures kept { IsKept (seen_alone world.old) (seen_alone world.new) }
-    ensures told { OnOk result (TellsBlocks (seen_alone world.old) (seen_alone world.new) members.now printed.old.items printed.new.items) }
+    ensures told { OnOk result (PrintsBlocks members.now world.old printed.old world.new printed.new) }
 {
     for member in 0..members.count() as usize {
         push_block(alloc, members, world, member, printed)?;

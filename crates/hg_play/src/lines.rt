@@ -2,7 +2,7 @@ ghost use Rattle.std.specs.Prelude.{◌≡◌, All, IfOk, OnOk, length};
 ghost use Rattle.hg_model.specs.Signing.{secrets_of};
 ghost use Rattle.hg_script.specs.declared.line.Action.{Action};
 ghost use Rattle.hg_play.specs.Lines.{IsBelow, IsLineBelow};
-ghost use Rattle.hg_play.specs.Nodes.{IsKept, TellsLine, TellsLines, TellsSource, seen_alone};
+ghost use Rattle.hg_play.specs.Nodes.{IsKept, PlaysLine, PlaysLines, TellsSource, seen_alone};
 ghost use Rattle.hg_play.specs.Through.{IsPart};
 
 use crate::blocks::{kept_at, settled_at};
@@ -57,7 +57,7 @@ pub(crate) fn play_part<N: Nodes>(
     requires part { IsPart (N.seen nodes.old).count line.now.action }
     requires keys { keys.now ≡ secrets_of members.now }
     ensures kept { IsKept (N.seen nodes.old) (N.seen nodes.new) }
-    ensures told { OnOk result (TellsLine members.now line.now (N.seen nodes.old) labels.old.items printed.old.items (N.seen nodes.new) labels.new.items printed.new.items) }
+    ensures told { OnOk result (PlaysLine N.seen members.now line.now nodes.old labels.old printed.old nodes.new labels.new printed.new) }
 {
     match &line.action {
         Action::Gossip(gossip) => {
@@ -87,7 +87,7 @@ pub(crate) fn play_line(
     requires below { IsBelow (length world.old.sites) line.now.action }
     requires keys { keys.now ≡ secrets_of members.now }
     ensures kept { IsKept (seen_alone world.old) (seen_alone world.new) }
-    ensures told { OnOk result (TellsLine members.now line.now (seen_alone world.old) labels.old.items printed.old.items (seen_alone world.new) labels.new.items printed.new.items) }
+    ensures told { OnOk result (PlaysLine seen_alone members.now line.now world.old labels.old printed.old world.new labels.new printed.new) }
 {
     match &line.action {
         Action::Gossip(_) | Action::Label(_) => {
@@ -134,7 +134,7 @@ pub(crate) fn play_lines(
     requires lines { All (IsLineBelow (length world.old.sites)) lines.now }
     requires keys { keys.now ≡ secrets_of members.now }
     ensures kept { IsKept (seen_alone world.old) (seen_alone world.new) }
-    ensures told { IfOk result (λ v. TellsLines (seen_alone world.old) (seen_alone world.new) members.now lines.now v.items) }
+    ensures told { IfOk result (PlaysLines members.now lines.now world.old world.new) }
 {
     let mut labels = Vec::new(alloc);
     let mut printed = Vec::new(alloc);

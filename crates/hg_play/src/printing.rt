@@ -3,8 +3,9 @@ ghost use Rattle.hg_model.specs.declared.row.Placed.{Placed};
 ghost use Rattle.hg_model.specs.Places.{table};
 ghost use Rattle.hg_model.specs.Links.{self_parent};
 ghost use Rattle.hg_model.specs.Order.{sequence_of};
-ghost use Rattle.hg_model.specs.Ledger.{order_line, order_lines};
+ghost use Rattle.hg_model.specs.Ledger.{order_line};
 ghost use Rattle.hg_model.specs.Prefix.{links_of};
+ghost use Rattle.hg_play.specs.Printing.{lines_of, sequences};
 
 use hg_model::{Effect, Items, Memory, OrderLine, Placed, Prefix, Sight, is_of_graph};
 use std::alloc::Global;
@@ -26,7 +27,7 @@ fn next_sequence<S: Sight>(sight: &S, sequences: &[u64], x: usize) -> u64
 
 /// How many self-ancestors each row has, other than itself.
 fn sequences<S: Sight>(alloc: Global, sight: &S) -> Result<Vec<u64>, Memory>
-    ensures { IfOk result (λ v. v.items ≡ table (sequence_of (S.shape sight.now).links) (length (S.shape sight.now).links)) }
+    ensures { IfOk result (λ v. v.items ≡ sequences (S.shape sight.now).links) }
 {
     let mut sequences = Vec::new(alloc);
     for x in 0..sight.rows() {
@@ -62,7 +63,7 @@ pub fn order_lines<P: Prefix>(
 ) -> Result<Items<OrderLine>, Memory>
     requires places { All (λ (x : Placed). x.place < length (P.graph p.now).rows) order.now }
     requires each { length effects.now ≡ length order.now }
-    ensures { IfOk result (λ lines. lines ≡ order_lines (P.graph p.now).rows (links_of (P.graph p.now)) order.now effects.now) }
+    ensures { IfOk result (λ lines. lines ≡ lines_of (P.graph p.now) order.now effects.now) }
 {
     is_of_graph(p);
     let sequences = sequences(alloc, p)?;

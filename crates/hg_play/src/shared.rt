@@ -2,7 +2,7 @@ ghost use Rattle.std.specs.Prelude.{◌≡◌, ◌<◌, IfOk, length};
 ghost use Rattle.hg_model.specs.Signing.{accepts_by};
 ghost use Rattle.hg_crowd.specs.Crowd.{AreSeats};
 ghost use Rattle.hg_play.specs.Nodes.{IsKept};
-ghost use Rattle.hg_play.specs.Through.{TellsLacked, TellsMadeAfter, TellsNames, TellsParcel, TellsTaken, seen_shared, shared_view};
+ghost use Rattle.hg_play.specs.Through.{TellsLacked, TellsMade, TellsNames, TellsParcel, TellsTaken, seen_shared, shared_view};
 
 use crate::labels::last_beside;
 use crate::nodes::Nodes;
@@ -133,7 +133,7 @@ impl<'a, R: Wait> SharedNodes<'a, R> {
     ) -> Result<SyncMade, Memory>
         requires { member < length self.old.seats }
         ensures kept { IsKept (seen_shared self.old) (seen_shared self.new) }
-        ensures told { IfOk result (TellsMadeAfter (seen_shared self.old) (seen_shared self.new) member other time payload.now) }
+        ensures told { IfOk result (TellsMade (seen_shared self.old) (seen_shared self.new) member other time payload.now) }
     {
         match other {
             None => Ok(SyncMade::PeerBare),

@@ -1,8 +1,8 @@
 ghost use Rattle.std.specs.Prelude.{◌≡◌, ◌≤◌, All, IfOk, OnOk, length};
 ghost use Rattle.hg_model.specs.Signing.{accepts_by, secrets_of};
 ghost use Rattle.hg_crowd.specs.Crowd.{AreSeats, AreStill};
-ghost use Rattle.hg_play.specs.Nodes.{IsKept, TellsLine};
-ghost use Rattle.hg_play.specs.Through.{IsPart, IsPartLine, TellsParts, TellsThrough, worked_on};
+ghost use Rattle.hg_play.specs.Nodes.{IsKept, PlaysLine};
+ghost use Rattle.hg_play.specs.Through.{IsPart, IsPartLine, PlaysParts, PlaysThrough, worked_on};
 
 use crate::lines::play_part;
 use crate::nodes::Nodes;
@@ -53,7 +53,7 @@ fn play_watched<N: Nodes, G: Gate>(
     requires part { IsPart (N.seen nodes.old).count line.now.action }
     requires keys { keys.now ≡ secrets_of members.now }
     ensures kept { IsKept (N.seen nodes.old) (N.seen nodes.new) }
-    ensures told { OnOk result (TellsLine members.now line.now (N.seen nodes.old) labels.old.items printed.old.items (N.seen nodes.new) labels.new.items printed.new.items) }
+    ensures told { OnOk result (PlaysLine N.seen members.now line.now nodes.old labels.old printed.old nodes.new labels.new printed.new) }
 {
     let member = worked_on(&line.action);
     reach(gate, 1000, member);
@@ -76,7 +76,7 @@ fn play_parts<N: Nodes, G: Gate>(
     requires lines { All (IsPartLine (N.seen nodes.old).count) lines.now }
     requires keys { keys.now ≡ secrets_of members.now }
     ensures kept { IsKept (N.seen nodes.old) (N.seen nodes.new) }
-    ensures told { IfOk result (λ r. TellsParts members.now lines.now (N.seen nodes.old) labels.items printed.items (N.seen nodes.new) r.0.items r.1.items) }
+    ensures told { IfOk result (λ r. PlaysParts N.seen members.now lines.now nodes.old labels printed nodes.new r.0 r.1) }
 {
     for line in lines {
         play_watched(
@@ -115,7 +115,7 @@ pub(crate) fn play_through<R: Wait, G: Gate>(
     requires keys { keys.now ≡ secrets_of members.now }
     ensures seats { AreSeats accepts_by shared.now result.0.items }
     ensures still { AreStill seats.items result.0.items }
-    ensures played { IfOk result.1 (λ r. TellsThrough members.now lines.now shared.now seats.items labels.items printed.items result.0.items r.0.items r.1.items) }
+    ensures played { IfOk result.1 (PlaysThrough members.now lines.now shared.now seats labels printed result.0) }
 {
     let mut nodes = SharedNodes::new(rt, alloc, shared, seats);
     let played = play_parts(

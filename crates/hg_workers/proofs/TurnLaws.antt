@@ -14,7 +14,7 @@ use Rattle.hg_model.specs.History.Change.{Marked}
 use Rattle.hg_model.specs.NodeView.{NodeView, IsNode, node_links, node_marks, node_rows, node_state, with_changes}
 use Rattle.hg_model.specs.Calls.{publish_answer, publish_changes}
 use Rattle.hg_model.specs.Signing.{Accepts}
-use Rattle.hg_model.specs.Prefix.{Graph}
+use Rattle.hg_model.specs.Prefix.{Graph, graph_of}
 use Rattle.hg_model.specs.declared.share.Found.{Found}
 use Rattle.hg_history.proofs.StateLaws.{even_after, links_grow, marks_stay, rows_grow}
 use Rattle.hg_fame.specs.Decisions.{SpeaksFor}
@@ -26,7 +26,9 @@ use Rattle.hg_board.specs.Calls.{SeatPublishes}
 use Rattle.hg_board.specs.Crews.{MarksAll, MarksOf, marked_by}
 use Rattle.hg_board.specs.Laws.{AddsNone}
 use Rattle.hg_board.proofs.ChangeLaws.{other_publishes_add_none, publishes_add_one}
-use Rattle.hg_workers.specs.Turns.{marks_seen}
+use Rattle.hg_votes.specs.Counting.{Counting, IsMadeFor}
+use Rattle.hg_votes.proofs.CarryLaws.{begins_empty, carries_on}
+use Rattle.hg_workers.specs.Turns.{CarriesToSeat, marks_seen}
 use Rattle.hg_workers.proofs.StateLaws.{marked_later, node_sound, nothing_published, published_later, published_marks, published_more, share_later}
 
 pub get_push : (h : List Change) (e : Change) → slice_get (h ++ e ∷ []) (length h) ≡ Some e
@@ -56,6 +58,15 @@ module _ {V : Type 0} (p : Place V) where
 
   links_later : (a b : List Change) → IsPrefix a b → IsPrefix (replay n coin a).links (replay n coin b).links
   links_later a b first = subst (λ (h : List Change). IsPrefix (replay n coin a).links (replay n coin h).links) (sym first.1) (links_grow n coin a first.0)
+
+  -- a table that could be carried to what was seen can be carried to what is seen later
+  pub carries_later : (a b : Stand V) (counting : Counting) → IsPrefix a.seen b.seen → CarriesToSeat p a counting → CarriesToSeat p b counting
+  carries_later a b counting first carries =
+      carries_on counting (graph_in (seen_by p a).node) (graph_in (seen_by p b).node) carries (record { members = refl; coin = refl; rows = rows_later a.seen b.seen first })
+
+  -- the table of no rows too
+  pub carries_first : (a : Stand V) (counting : Counting) → ((n : Stakes) (c : ℕ) → IsMadeFor counting (graph_of n c [])) → CarriesToSeat p a counting
+  carries_first a counting empty = let g : Graph = graph_in (seen_by p a).node in (graph_of g.members g.coin [], empty g.members g.coin, begins_empty g)
 
   module _ (accepts : V → Accepts) where
     -- what the graph decided before, a later one decides

@@ -4,7 +4,8 @@ ghost use Rattle.hg_board.specs.Seats.{IsOf};
 ghost use Rattle.hg_board.specs.Calls.{Stays};
 ghost use Rattle.hg_board.specs.Crews.{MarksAll, MarksOf, OnlyMarks};
 ghost use Rattle.hg_board.specs.Laws.{AddsNone};
-ghost use Rattle.hg_workers.specs.Turns.{marks_seen};
+ghost use Rattle.hg_votes.specs.Counting.{CarriesTo};
+ghost use Rattle.hg_workers.specs.Turns.{CarriesToSeat, marks_seen};
 
 use hg_board::{Crew, Seat, Shared};
 use hg_fame::elect_share;
@@ -29,16 +30,20 @@ impl<'a, G: Gate> Voters<'a, G> {
         Voters { gate }
     }
 
-    /// One turn: the graph that the seat then sees, the share's fame in it, and what of that is news.
+    /// One turn: the graph that the seat then sees, to which the table is carried, the share's fame in it, and what of
+    /// that is news.
     fn take_turn<V: Signer + Drop, R: Wait>(
         &self,
         rt: &R,
         alloc: Global,
         shared: &Shared<V>,
         seat: &mut Seat<V>,
+        votes: &mut VoteTable,
         share: Share,
     ) -> Result<u32, Memory>
-        requires { IsOf shared.now seat.old }
+        requires seat { IsOf shared.now seat.old }
+        requires votes { CarriesToSeat shared.now seat.old votes.old }
+        ensures votes { CarriesToSeat shared.now seat.new votes.new }
         ensures stays { Stays V.accepts shared.now seat.old seat.new }
         ensures marks { OnlyMarks share seat.old seat.new }
         ensures counted { IfOk result (MarksOf shared.now share seat.old seat.new) }
@@ -48,29 +53,43 @@ impl<'a, G: Gate> Voters<'a, G> {
         let first = share.k().wrapping_mul(2);
         let frozen = shared.freeze(rt, seat)?;
         self.gate.reach(first);
-        let found = elected(alloc, frozen, share)?;
+        let found = elected(alloc, votes, frozen, share)?;
         self.gate.reach(first.wrapping_add(1));
         Ok(shared.publish(rt, seat, &found))
     }
 }
 
-/// What the share decides in the graph, which ends here.
-fn elected(alloc: Global, graph: FrozenGraph, share: Share) -> Result<Found, Memory>
+/// What the share decides in the graph, to which the table is carried. The graph ends here.
+fn elected(
+    alloc: Global,
+    votes: &mut VoteTable,
+    graph: FrozenGraph,
+    share: Share,
+) -> Result<Found, Memory>
+    requires { CarriesTo votes.old graph }
+    ensures votes { CarriesTo votes.new graph }
     ensures share { IfOk result (λ found. found.share ≡ share) }
     ensures len { IfOk result (λ found. found.len ≡ length graph.rows) }
     ensures speaks { IfOk result (λ found. SpeaksFor graph share found) }
 {
-    elected_in(alloc, &graph, share)
+    elected_in(alloc, votes, &graph, share)
 }
 
-/// What the share decides in the graph.
-fn elected_in(alloc: Global, graph: &FrozenGraph, share: Share) -> Result<Found, Memory>
+/// What the share decides in the graph, to which the table is carried.
+fn elected_in(
+    alloc: Global,
+    votes: &mut VoteTable,
+    graph: &FrozenGraph,
+    share: Share,
+) -> Result<Found, Memory>
+    requires { CarriesTo votes.old graph.now }
+    ensures votes { CarriesTo votes.new graph.now }
     ensures share { IfOk result (λ found. found.share ≡ share) }
     ensures len { IfOk result (λ found. found.len ≡ length graph.now.rows) }
     ensures speaks { IfOk result (λ found. SpeaksFor graph.now share found) }
 {
-    let mut votes = VoteTable::new(alloc, graph)?;
-    elect_share(alloc, graph, &mut votes, share)
+    votes.carry(alloc, graph)?;
+    elect_share(alloc, graph, votes, share)
 }
 
 /// Publishes nothing: the seat then has seen a history of the node.
@@ -105,9 +124,10 @@ impl<'a, G: Gate> Crew for Voters<'a, G> {
     ) -> Result<u32, Memory> {
         // A look, so that the seat is known to have seen a node's history also where there are no turns.
         look(rt, alloc, shared, seat, share);
+        let mut votes = VoteTable::empty(alloc);
         let mut count = 0;
         for _turn in 0..turns {
-            count += self.take_turn(rt, alloc, shared, seat, share)?;
+            count += self.take_turn(rt, alloc, shared, seat, &mut votes, share)?;
         }
         Ok(count)
     }

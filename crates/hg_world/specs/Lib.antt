@@ -3,3 +3,4 @@ pub mod Kept
 pub mod Steps
 pub mod Syncs
 pub mod Laws
+pub mod Nodes

@@ -37,6 +37,10 @@ node_put v bytes = with_changes v (put_changes accepts_by v bytes)
 abbrev pub node_published : NodeView Secrets → ℕ → Share → NodeView Secrets
 node_published v len share = with_changes v (publish_changes v len share)
 
+-- how many witnesses a worker of member m's node marks when it publishes what a share decides in the rows that it froze last
+abbrev pub publishing_by : WorldView → ℕ → ℕ → Share → ℕ
+publishing_by w m worker share = publish_answer (node_at w m) (frozen_by w m worker) share
+
 -- an event is made, or bytes come, or a worker freezes the rows, or publishes what a share decides in those that it froze
 abbrev pub after_step : WorldView → Step → WorldView
 after_step w (Make m other time payload) = with_node_at w m (node_made (node_at w m) (option_to_list other) time payload)
@@ -48,7 +52,7 @@ abbrev pub reply_to : WorldView → Step → Reply
 reply_to w (Make m other time payload) = reply.Make (making_at (node_at w m) (option_to_list other) time payload)
 reply_to w (Deliver m bytes) = reply.Put (putting_at (node_at w m) bytes)
 reply_to w (Freeze m worker) = reply.Frozen (length (node_rows (node_at w m)))
-reply_to w (Publish m worker share) = reply.Published (publish_answer (node_at w m) (frozen_by w m worker) share)
+reply_to w (Publish m worker share) = reply.Published (publishing_by w m worker share)
 
 -- the world after these steps, one after the other, and what they answer
 abbrev pub after_steps : WorldView → List Step → WorldView

@@ -3,7 +3,7 @@ ghost use Rattle.hg_model.specs.Gossip.{lacking};
 ghost use Rattle.hg_model.specs.NodeView.{node_rows};
 ghost use Rattle.hg_graph.specs.RowsWithRoom.{rows_of};
 ghost use Rattle.hg_world.specs.Kept.{KnowsFirst};
-ghost use Rattle.hg_world.specs.Syncs.{with_lacked};
+ghost use Rattle.hg_world.specs.Nodes.{PushesLacked};
 
 use hg_event::Event;
 use hg_model::Memory;
@@ -28,7 +28,7 @@ fn push_unless_held(
     place: usize,
 ) -> Result<(), Memory>
     requires { place < length (node_rows peer.now) }
-    ensures { OnOk result (with_lacked (node_rows taker.now) (node_rows peer.now) place (rows_of events.old.items) ≡ Some (rows_of events.new.items)) }
+    ensures { OnOk result (PushesLacked taker.now peer.now place (rows_of events.old.items) (rows_of events.new.items)) }
 {
     if taker.place_of(&peer.row(place).name).is_none() {
         events.push(event_at(peer, place)?)?;

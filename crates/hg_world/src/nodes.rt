@@ -4,12 +4,13 @@ ghost use Rattle.hg_model.specs.Calls.{IsSettled, publish_answer};
 ghost use Rattle.hg_model.specs.NodeView.{IsNode, node_rows};
 ghost use Rattle.hg_model.specs.Places.{table};
 ghost use Rattle.hg_model.specs.Signing.{accepts_by, secrets_of};
-ghost use Rattle.hg_model.specs.Shares.{whole};
 ghost use Rattle.hg_model.specs.Spelling.{spelling};
 ghost use Rattle.hg_node.specs.ChronicleView.{IsFoundBy};
+ghost use Rattle.hg_gossip.specs.Holding.{WouldSign, WouldTake, rules_alone, seen_whole};
 ghost use Rattle.hg_world.specs.World.{new_node, worker_count};
-ghost use Rattle.hg_world.specs.Steps.{making_at, node_made, node_put, node_published, putting_at};
+ghost use Rattle.hg_world.specs.Steps.{putting_at};
 ghost use Rattle.hg_world.specs.Kept.{nth_node};
+ghost use Rattle.hg_world.specs.Nodes.{nodes_made, nodes_published, nodes_put, nodes_settled, nth_made, nth_making, nth_published, nth_put, nth_settled};
 ghost use Rattle.hg_world.specs.Syncs.{IsSigned};
 
 use hg_event::Event;
@@ -101,10 +102,11 @@ pub(crate) fn make(
     payload: &[u8],
 ) -> Result<MakeAnswer, Memory>
     requires { m < length nodes.old.items }
-    ensures answer { IfOk result (λ a. a ≡ making_at (nth_node nodes.old.items m) (option_to_list other) time payload.now) }
-    ensures ok { OnOk result (nodes.new.items ≡ slice_set nodes.old.items m (node_made (nth_node nodes.old.items m) (option_to_list other) time payload.now)) }
-    ensures node { OnOk result (IsNode accepts_by (node_made (nth_node nodes.old.items m) (option_to_list other) time payload.now)) }
+    ensures answer { IfOk result (λ a. a ≡ nth_making nodes.old.items m other time payload.now) }
+    ensures ok { OnOk result (nodes.new.items ≡ nodes_made nodes.old.items m other time payload.now) }
+    ensures node { OnOk result (IsNode accepts_by (nth_made nodes.old.items m other time payload.now)) }
     ensures err { OnErr result (nodes.new.items ≡ nodes.old.items) }
+    ensures free { OnErr result (WouldSign (seen_whole (nth_node nodes.old.items m)) (option_to_list other) payload.now) }
 {
     let node = &mut nodes[m];
     let answer = node.make(other, time, payload)?;
@@ -120,9 +122,10 @@ pub(crate) fn put(
 ) -> Result<PutAnswer, Memory>
     requires { m < length nodes.old.items }
     ensures answer { IfOk result (λ a. a ≡ putting_at (nth_node nodes.old.items m) bytes.now) }
-    ensures ok { OnOk result (nodes.new.items ≡ slice_set nodes.old.items m (node_put (nth_node nodes.old.items m) bytes.now)) }
-    ensures node { OnOk result (IsNode accepts_by (node_put (nth_node nodes.old.items m) bytes.now)) }
+    ensures ok { OnOk result (nodes.new.items ≡ nodes_put nodes.old.items m bytes.now) }
+    ensures node { OnOk result (IsNode accepts_by (nth_put nodes.old.items m bytes.now)) }
     ensures err { OnErr result (nodes.new.items ≡ nodes.old.items) }
+    ensures free { OnErr result (WouldTake (rules_alone accepts_by) (seen_whole (nth_node nodes.old.items m)) bytes.now) }
 {
     let node = &mut nodes[m];
     let answer = node.put(bytes)?;
@@ -139,8 +142,8 @@ pub(crate) fn put_event(
     requires place { m < length nodes.old.items }
     requires signed { IsSigned (nth_node nodes.old.items m).start event.now.value }
     ensures answer { IfOk result (λ a. a ≡ putting_at (nth_node nodes.old.items m) (spelling event.now.value)) }
-    ensures ok { OnOk result (nodes.new.items ≡ slice_set nodes.old.items m (node_put (nth_node nodes.old.items m) (spelling event.now.value))) }
-    ensures node { OnOk result (IsNode accepts_by (node_put (nth_node nodes.old.items m) (spelling event.now.value))) }
+    ensures ok { OnOk result (nodes.new.items ≡ nodes_put nodes.old.items m (spelling event.now.value)) }
+    ensures node { OnOk result (IsNode accepts_by (nth_put nodes.old.items m (spelling event.now.value))) }
     ensures err { OnErr result (nodes.new.items ≡ nodes.old.items) }
 {
     let node = &mut nodes[m];
@@ -153,8 +156,8 @@ pub(crate) fn put_event(
 pub(crate) fn settle(nodes: &mut Vec<Node<SharedTable>>, m: usize) -> Result<usize, Memory>
     requires { m < length nodes.old.items }
     ensures rows { IfOk result (λ len. len ≡ length (node_rows (nth_node nodes.old.items m))) }
-    ensures ok { OnOk result (nodes.new.items ≡ slice_set nodes.old.items m (node_published (nth_node nodes.old.items m) (length (node_rows (nth_node nodes.old.items m))) whole)) }
-    ensures node { OnOk result (IsNode accepts_by (node_published (nth_node nodes.old.items m) (length (node_rows (nth_node nodes.old.items m))) whole)) }
+    ensures ok { OnOk result (nodes.new.items ≡ nodes_settled nodes.old.items m) }
+    ensures node { OnOk result (IsNode accepts_by (nth_settled nodes.old.items m)) }
     ensures settled { OnOk result (IsSettled (nth_node nodes.old.items m) (nth_node nodes.new.items m)) }
     ensures err { OnErr result (nodes.new.items ≡ nodes.old.items) }
 {
@@ -177,8 +180,8 @@ pub(crate) fn publish(
     requires place { m < length nodes.old.items }
     requires len { len ≤ length (node_rows (nth_node nodes.old.items m)) }
     ensures answer { IfOk result (λ count. count ≡ publish_answer (nth_node nodes.old.items m) len share) }
-    ensures ok { OnOk result (nodes.new.items ≡ slice_set nodes.old.items m (node_published (nth_node nodes.old.items m) len share)) }
-    ensures node { OnOk result (IsNode accepts_by (node_published (nth_node nodes.old.items m) len share)) }
+    ensures ok { OnOk result (nodes.new.items ≡ nodes_published nodes.old.items m len share) }
+    ensures node { OnOk result (IsNode accepts_by (nth_published nodes.old.items m len share)) }
     ensures err { OnErr result (nodes.new.items ≡ nodes.old.items) }
 {
     let node = &mut nodes[m];

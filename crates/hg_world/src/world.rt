@@ -1,14 +1,16 @@
 ghost use Rattle.std.specs.Prelude.{◌≡◌, ◌<◌, All, IfErr, IfOk, OnErr, OnOk, length, replicate};
 ghost use Rattle.std.specs.Option.{option_to_list};
-ghost use Rattle.hg_model.specs.Calls.{IsSettled, publish_answer};
+ghost use Rattle.hg_model.specs.Calls.{IsSettled};
+ghost use Rattle.hg_model.specs.Signing.{accepts_by};
 ghost use Rattle.hg_runs.specs.Safety.{IsSafe};
+ghost use Rattle.hg_gossip.specs.Holding.{WouldSign, WouldTake, rules_alone, seen_whole};
 ghost use Rattle.hg_world.specs.declared.step.Step.TheVariants.{Make, Deliver, Freeze, Publish};
 ghost use Rattle.hg_graph.specs.RowsWithRoom.{rows_of};
 ghost use Rattle.hg_world.specs.Kept.{AreKnown, AreOfOneList, IsWorld, nth_node, unfrozen};
 ghost use Rattle.hg_model.specs.Gossip.{lacking};
 ghost use Rattle.hg_model.specs.Spelling.{spelling};
-ghost use Rattle.hg_world.specs.World.{IsMemberOf, IsSiteOf, frozen_by, new_world, node_at, nodes_of, rows_at, run_of, site_at, worker_count};
-ghost use Rattle.hg_world.specs.Steps.{HasRun, HasStepped, IsStepOf, RanSome, after_step, after_steps, making_at, putting_at, settle_steps};
+ghost use Rattle.hg_world.specs.World.{IsMemberOf, IsSiteOf, new_world, node_at, nodes_of, rows_at, run_of, site_at, worker_count};
+ghost use Rattle.hg_world.specs.Steps.{HasRun, HasStepped, IsStepOf, RanSome, after_step, after_steps, making_at, publishing_by, putting_at, settle_steps};
 ghost use Rattle.hg_world.specs.Syncs.{AreSigned, HasMadeAfter, HasPulled, HasSynced, HasTaken, IsSigned, bytes_of, deliver_steps, pull_steps};
 
 use crate::events::lacked_from;
@@ -87,7 +89,7 @@ impl World {
     }
 
     /// A member's node makes an event on its last one, with this other-parent, or its first one without parents. The time
-    /// is any, in no unit of ours.
+    /// is any, in no unit of ours. To tell that the event is refused before it is signed takes no memory.
     pub fn make(
         &mut self,
         member: Member,
@@ -99,16 +101,18 @@ impl World {
         ensures answer { IfOk result (λ a. a ≡ making_at (node_at self.old member) (option_to_list other) time payload.now) }
         ensures ok { OnOk result (self.new ≡ after_step self.old (Make member other time payload.now)) }
         ensures err { OnErr result (self.new ≡ self.old) }
+        ensures free { OnErr result (WouldSign (seen_whole (node_at self.old member)) (option_to_list other) payload.now) }
     {
         nodes::make(&mut self.nodes, member as usize, other, time, payload)
     }
 
-    /// Bytes come to a member's node.
+    /// Bytes come to a member's node. Only to accept an event takes memory.
     pub fn put(&mut self, member: Member, bytes: &[u8]) -> Result<PutAnswer, Memory>
         requires { IsMemberOf self.old member }
         ensures answer { IfOk result (λ a. a ≡ putting_at (node_at self.old member) bytes.now) }
         ensures ok { OnOk result (self.new ≡ after_step self.old (Deliver member bytes.now)) }
         ensures err { OnErr result (self.new ≡ self.old) }
+        ensures free { OnErr result (WouldTake (rules_alone accepts_by) (seen_whole (node_at self.old member)) bytes.now) }
     {
         nodes::put(&mut self.nodes, member as usize, bytes)
     }
@@ -130,7 +134,7 @@ impl World {
     pub fn publish(&mut self, member: Member, worker: u32, share: Share) -> Result<u32, Memory>
         requires member { IsMemberOf self.old member }
         requires worker { worker < worker_count }
-        ensures answer { IfOk result (λ count. count ≡ publish_answer (node_at self.old member) (frozen_by self.old member worker) share) }
+        ensures answer { IfOk result (λ count. count ≡ publishing_by self.old member worker share) }
         ensures ok { OnOk result (self.new ≡ after_step self.old (Publish member worker share)) }
         ensures err { OnErr result (self.new ≡ self.old) }
     {

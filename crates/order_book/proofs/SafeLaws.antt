@@ -17,9 +17,9 @@ use Rattle.hg_runs.specs.Safety.{IsSafe, order_after}
 use Rattle.hg_world.specs.World.{WorldView, run_of}
 use Rattle.hg_world.specs.Kept.{IsWorld}
 use Rattle.order_match.specs.Books.{Event, book_of}
-use Rattle.order_match.specs.Laws.{IsEarlier, IsOneEarlier}
+use Rattle.order_match.specs.Laws.{IsEarlier}
 use Rattle.order_match.proofs.BookLaws.{book_more}
-use Rattle.order_book.specs.Market.{AreOneBook, book_at, event_in, events_at}
+use Rattle.order_book.specs.Market.{AreOneBook, IsBookBefore, event_in, events_at}
 use Rattle.order_book.proofs.GrowthLaws.{kept_places}
 
 -- rows of one name are one event
@@ -53,15 +53,16 @@ one_book w is safe few apart j k low high =
     (record { member = omega (arith, low, is.count); later = []; whole = sym (append-nil (run_of w j)) })
     (record { member = omega (arith, high, is.count); later = []; whole = sym (append-nil (run_of w k)) }))
   where
-    prefix : (i m : ℕ) → i < length w.sites → m < length w.sites → IsPrefix (order_after w.members w.coin (run_of w i)) (order_after w.members w.coin (run_of w m)) → IsEarlier (book_at w i) (book_at w m)
+    prefix : (i m : ℕ) → i < length w.sites → m < length w.sites → IsPrefix (order_after w.members w.coin (run_of w i)) (order_after w.members w.coin (run_of w m)) → IsBookBefore w i m
     prefix i m inside within begins =
         let s = replay w.members w.coin (run_of w i) in
         let t = replay w.members w.coin (run_of w m) in
-        earlier (events_at w i) (events_at w m)
-        (events_prefix s.rows t.rows (kept w.members s) (kept w.members t) (apart.equal i m (omega (arith, inside, is.count)) (omega (arith, within, is.count)))
-        (kept_places w.members w.coin (run_of w i)) (kept_places w.members w.coin (run_of w m)) begins.0 begins.1)
+        let front : IsPrefix (events_at w i) (events_at w m) =
+            events_prefix s.rows t.rows (kept w.members s) (kept w.members t) (apart.equal i m (omega (arith, inside, is.count)) (omega (arith, within, is.count)))
+            (kept_places w.members w.coin (run_of w i)) (kept_places w.members w.coin (run_of w m)) begins.0 begins.1 in
+        (front, earlier (events_at w i) (events_at w m) front)
 
     by : IsPrefix (order_after w.members w.coin (run_of w j)) (order_after w.members w.coin (run_of w k)) ⊎ IsPrefix (order_after w.members w.coin (run_of w k)) (order_after w.members w.coin (run_of w j)) →
-        IsOneEarlier (book_at w j) (book_at w k)
+        IsBookBefore w j k ⊎ IsBookBefore w k j
     by (inl first) = inl (prefix j k low high first)
     by (inr second) = inr (prefix k j high low second)

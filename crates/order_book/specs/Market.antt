@@ -1,5 +1,5 @@
 -- The books of the members' nodes: each is a function of the order that its node keeps
-use Rattle.std.specs.Prelude.{ℕ, ◌≡◌, ◌<◌, ◌*◌, Bool, cond, ◌&&◌, nat_lt, List, [], ◌∷◌, ◌++◌, fold, get_or, length, map}
+use Rattle.std.specs.Prelude.{ℕ, ◌≡◌, ◌<◌, ◌*◌, ◌⊎◌, Bool, cond, ◌&&◌, nat_lt, List, [], ◌∷◌, ◌++◌, fold, get_or, length, map}
 use Rattle.hg_model.specs.declared.row.Row.{Row}
 use Rattle.hg_model.specs.declared.row.Placed.{Placed}
 use Rattle.hg_model.specs.Stakes.{Stakes, total}
@@ -7,6 +7,7 @@ use Rattle.hg_model.specs.Links.{no_row}
 use Rattle.hg_model.specs.History.{Change, State, replay}
 use Rattle.hg_model.specs.Kept.{kept}
 use Rattle.hg_model.specs.NodeView.{NodeView}
+use Rattle.hg_model.specs.Orders.{IsPrefix}
 use Rattle.hg_runs.specs.Honest.{dishonest, AreApart}
 use Rattle.hg_world.specs.declared.step.Step.{Step}
 use Rattle.hg_world.specs.declared.step.Step.TheVariants as step
@@ -14,7 +15,7 @@ use Rattle.hg_world.specs.World.{Secrets, WorldView, IsMemberOf, run_of}
 use Rattle.hg_world.specs.Steps.{after_steps, settle_steps}
 use Rattle.hg_world.specs.Syncs.{sync_steps}
 use Rattle.order_match.specs.Books.{BookView, Event, book_of, event_of, no_book}
-use Rattle.order_match.specs.Laws.{IsOneEarlier}
+use Rattle.order_match.specs.Laws.{IsEarlier}
 use Rattle.order_book.specs.declared.action.Action.{Action}
 use Rattle.order_book.specs.declared.action.Action.TheVariants.{Make, Sync, Deliver, Settle}
 
@@ -80,9 +81,13 @@ after_action w action = cond (is_action_of w action) (after_steps w (action_step
 abbrev pub after_actions : WorldView → List Action → WorldView
 after_actions w actions = fold after_action w actions
 
--- of the books of any two nodes one is an earlier state of the other, where the dishonest members have less than a third of
--- the stake and names do not collide
+-- the events that the first node has ordered begin those of the second, and so its book is an earlier state
+abbrev pub IsBookBefore : WorldView → ℕ → ℕ → Type 0
+IsBookBefore w j k = IsPrefix (events_at w j) (events_at w k) × IsEarlier (book_at w j) (book_at w k)
+
+-- of the ordered events of any two nodes the ones begin the others, and so do their books, where the dishonest members
+-- have less than a third of the stake and names do not collide
 abbrev pub AreOneBook : WorldView → Type 0
 AreOneBook w =
     3 * dishonest w.members w.coin (run_of w) < total w.members → AreApart w.members w.coin (run_of w) →
-    (j k : ℕ) → IsMemberOf w j → IsMemberOf w k → IsOneEarlier (book_at w j) (book_at w k)
+    (j k : ℕ) → IsMemberOf w j → IsMemberOf w k → IsBookBefore w j k ⊎ IsBookBefore w k j

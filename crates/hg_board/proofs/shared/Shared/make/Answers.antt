@@ -3,7 +3,9 @@ use Rattle.std.specs.Prelude.{IfOk, OnErr}
 use Rattle.std.specs.Option.{option_to_list}
 use Rattle.hg_model.specs.Calls.{make_draft}
 use Rattle.hg_board.specs.Seats.{stand_of}
-use Rattle.hg_board.specs.Calls.{SeatMakes, SeatWaits, Stays, WouldSign}
+use Rattle.hg_gossip.specs.Holding.{WouldSign}
+use Rattle.hg_board.specs.Seats.{seen_by}
+use Rattle.hg_board.specs.Calls.{SeatMakes, SeatWaits, Stays}
 use Rattle.hg_board.proofs.SeatLaws.{as_seen, failed_at, failed_waits, grown_inside, grown_stays, make_grown, makes, of_inside}
 use Rattle.hg_board.proofs.shared.Shared.make.Goals as goal
 
@@ -50,6 +52,6 @@ returns-clause-free g c =
     let raw = c.seat.inside.raw in
     let of = of_inside top.table_id raw.table_id top.key.value raw.me.0 c.args.self.now c.args.seat.now c.self.view_is c.seat.view_is c.requires in
     as_seen top.table_id raw.table_id top.key.value raw.me.0 c.args.self.now c.args.seat.now c.self.view_is c.seat.view_is
-    (λ p s. OnErr c.make-answer.result (WouldSign g.V.Verifier.accepts p (stand_of c.leave_changed.new.raw.table_id c.leave_changed.new.raw.me.0) (option_to_list c.args.other) c.args.payload.now))
+    (λ p s. OnErr c.make-answer.result (WouldSign (seen_by p (stand_of c.leave_changed.new.raw.table_id c.leave_changed.new.raw.me.0)) (option_to_list c.args.other) c.args.payload.now))
     (failed_at g.V.Verifier.accepts top.key.value raw.me c.enter-node.new.raw.me c.enter-node.result.0 c.enter-node.result.1 c.enter-node.ensures.seat top.table_id raw.table_id c.leave_changed.new.raw.table_id of (c.leave_changed.ensures.table ∙ c.enter-node.ensures.table) c.leave_changed.new.raw.me c.make-answer.new.self c.leave_changed.ensures.seat
     (λ v. make_draft v (option_to_list c.args.other) c.args.payload.now ≡ None) c.make-answer.result c.make-answer.ensures.err c.make-answer.ensures.free)

@@ -4,7 +4,9 @@ use Rattle.hg_model.specs.declared.answers.PutAnswer.TheVariants.{Accepted}
 use Rattle.hg_model.specs.NodeView.{node_rows}
 use Rattle.hg_model.specs.Calls.{put_answer}
 use Rattle.hg_board.specs.Seats.{stand_of}
-use Rattle.hg_board.specs.Calls.{SeatPuts, SeatWaits, Stays, WouldTake}
+use Rattle.hg_gossip.specs.Holding.{WouldTake}
+use Rattle.hg_board.specs.Seats.{seen_by}
+use Rattle.hg_board.specs.Calls.{SeatPuts, SeatWaits, Stays, rules_shared}
 use Rattle.hg_board.proofs.SeatLaws.{as_seen, failed_at, failed_waits, grown_inside, grown_stays, of_inside, put_grown, puts}
 use Rattle.hg_board.proofs.shared.Shared.put.Goals as goal
 
@@ -51,6 +53,6 @@ returns-clause-free g c =
     let raw = c.seat.inside.raw in
     let of = of_inside top.table_id raw.table_id top.key.value raw.me.0 c.args.self.now c.args.seat.now c.self.view_is c.seat.view_is c.requires in
     as_seen top.table_id raw.table_id top.key.value raw.me.0 c.args.self.now c.args.seat.now c.self.view_is c.seat.view_is
-    (λ p s. OnErr c.put-answer.result (WouldTake g.V.Verifier.accepts p (stand_of c.leave_changed.new.raw.table_id c.leave_changed.new.raw.me.0) c.args.bytes.now))
+    (λ p s. OnErr c.put-answer.result (WouldTake (rules_shared g.V.Verifier.accepts) (seen_by p (stand_of c.leave_changed.new.raw.table_id c.leave_changed.new.raw.me.0)) c.args.bytes.now))
     (failed_at g.V.Verifier.accepts top.key.value raw.me c.enter-node.new.raw.me c.enter-node.result.0 c.enter-node.result.1 c.enter-node.ensures.seat top.table_id raw.table_id c.leave_changed.new.raw.table_id of (c.leave_changed.ensures.table ∙ c.enter-node.ensures.table) c.leave_changed.new.raw.me c.put-answer.new.self c.leave_changed.ensures.seat
     (λ v. put_answer g.V.Verifier.accepts v c.args.bytes.now ≡ Accepted (length (node_rows v))) c.put-answer.result c.put-answer.ensures.err c.put-answer.ensures.free)

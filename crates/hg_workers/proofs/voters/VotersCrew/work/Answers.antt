@@ -27,5 +27,6 @@ loop-turn-preserved g c =
       stays = stays_on g.V.Verifier.accepts p a b d i.stays c.take_turn.ensures.stays;
       counted = next_of g.V.Verifier.accepts p c.args.share a b d c.loop-turn.count c.in_ok-count.field-0 i.stays c.take_turn.ensures.stays i.counted turn.counted;
       all = λ _. next_all g.V.Verifier.accepts p c.args.share a b d c.loop-turn.count c.in_ok-count.field-0 i.stays c.take_turn.ensures.stays turn.all;
+      votes = c.take_turn.ensures.votes;
       small = omega (arith, i.small, turn.few);
     }

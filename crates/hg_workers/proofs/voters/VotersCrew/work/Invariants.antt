@@ -1,7 +1,7 @@
 use Rattle.std.proofs.Common.{◌<◌, ◌≤◌}
 use Rattle.hg_board.specs.Calls.{Stays}
 use Rattle.hg_board.specs.Crews.{MarksAll, MarksOf}
-use Rattle.hg_workers.specs.Turns.{marks_seen}
+use Rattle.hg_workers.specs.Turns.{CarriesToSeat, marks_seen}
 use Rattle.hg_workers.proofs.voters.VotersCrew.work.Given as goal
 
 abbrev pub invariant-loop-turn : goal.invariant-loop-turn
@@ -9,5 +9,6 @@ invariant-loop-turn g l = record {
   stays : Stays g.V.Verifier.accepts l.shared l.fn.seat l.seat;
   counted : MarksOf l.shared l.share l.fn.seat l.seat l.count;
   all : 0 < l._turn → MarksAll l.shared l.share l.fn.seat l.seat;
+  votes : CarriesToSeat l.shared l.seat l.votes;
   small : l.count ≤ marks_seen l.shared l.seat;
 }

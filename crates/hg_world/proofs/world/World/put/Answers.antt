@@ -1,8 +1,9 @@
 use Rattle.std.proofs.Common.{◌≡◌, subst}
-use Rattle.std.specs.Prelude.{IfOk}
+use Rattle.std.specs.Prelude.{IfOk, OnErr}
 use Rattle.hg_model.specs.Signing.{accepts_by}
 use Rattle.hg_model.specs.Calls.{put_changes}
 use Rattle.hg_model.specs.NodeView.{NodeView}
+use Rattle.hg_gossip.specs.Holding.{WouldTake, rules_alone, seen_whole}
 use Rattle.hg_world.specs.World.{Secrets}
 use Rattle.hg_world.specs.Steps.{putting_at}
 use Rattle.hg_world.specs.Kept.{nth_node}
@@ -25,3 +26,7 @@ returns-clause-answer c =
 
 pub returns-clause-ok : goal.returns-clause-ok
 returns-clause-ok c = (changed c.self.inside.members c.self.inside.coin c.self.inside.nodes.items c.self.inside.frozen.items c.args.self.now c.args.member c.self.invariant.0 c.self.view_is c.requires c.put.new.nodes.items (λ v. put_changes accepts_by v c.args.bytes.now) c.put.result c.put.ensures.ok c.put.ensures.node c.put.ensures.err).ok
+
+pub returns-clause-free : goal.returns-clause-free
+returns-clause-free c =
+    subst (λ (v : NodeView Secrets). OnErr c.put.result (WouldTake (rules_alone accepts_by) (seen_whole v) c.args.bytes.now)) (node_in c.self.inside.members c.self.inside.coin c.self.inside.nodes.items c.self.inside.frozen.items c.args.self.now c.args.member c.self.invariant.0 c.self.view_is c.requires) c.put.ensures.free
