@@ -4,7 +4,7 @@
 //! The first branches are the members' own, so that a branch's number is its member; the others are opened by forks. A row
 //! keeps a number for each branch, and an ancestor is told by one comparison.
 //!
-//! From `tells_what_bit_rows_tell` in the tests of this crate, shortened:
+//! From the tests of this crate (`add_all`, `strongly_sees_two`), shortened:
 //!
 //! ```text
 //! let mut sight = BranchSight::new(rt.alloc(), 4)?;
