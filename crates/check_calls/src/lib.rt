@@ -10,8 +10,6 @@
 #![tactic(auto)]
 
 #[cfg(test)]
-mod carrying;
-#[cfg(test)]
 mod damaged;
 #[cfg(test)]
 mod full_node;
