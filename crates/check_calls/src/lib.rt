@@ -1,8 +1,18 @@
-//! Tests of public calls of `hg_script` and `hg_node`, each with values from outside.
+//! Tests of public calls of `hg_script` and `hg_node`, and of `hg_votes` and `hg_fame`, with values from outside.
 //! They stand above these crates so that their code is proved once; a crate with tests of its own is proved twice.
 //! There is nothing here but tests.
+//!
+//! `rt ci check_calls` proves and runs them, and then says:
+//!
+//! ```text
+//! rt: check_calls: its tests passed
+//! ```
 #![tactic(auto)]
 
+#[cfg(test)]
+mod carrying;
+#[cfg(test)]
+mod damaged;
 #[cfg(test)]
 mod full_node;
 #[cfg(test)]

@@ -56,7 +56,7 @@ pub(crate) fn two_players(rt: &impl Abort, alloc: Global) -> Result<(Player, Pla
     Ok((a, b))
 }
 
-fn bytes_of<'a>(rt: &impl Abort, node: &'a Node<MacTable>, place: usize) -> &'a [u8] {
+pub(crate) fn bytes_of<'a>(rt: &impl Abort, node: &'a Node<MacTable>, place: usize) -> &'a [u8] {
     assert!(rt; place < node.rows());
     node.bytes(place)
 }

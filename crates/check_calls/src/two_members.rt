@@ -28,28 +28,3 @@ fn plays_two_members(rt: HostRuntime) -> Result<(), Memory> {
     let (mut a, mut b) = two_players(&rt, rt.alloc())?;
     play(&rt, &mut a.node, &mut b.node)
 }
-
-/// The shortest event there is, by a creator who is no member of two.
-fn by_the_third() -> [u8; 81] {
-    let mut bytes = [0; 81];
-    bytes[0] = 0x48;
-    bytes[1] = 0x47;
-    bytes[2] = 0x45;
-    bytes[3] = 0x31;
-    bytes[5] = 2;
-    bytes[14] = 1;
-    bytes
-}
-
-fn knows_two(rt: &impl Abort, a: &mut Node<MacTable>) -> Result<(), Memory> {
-    let refused = PutAnswer::Refused(Fault::Member(2));
-    equal(rt, a.put(&by_the_third())?, refused);
-    equal(rt, a.rows(), 0);
-    Ok(())
-}
-
-#[test]
-fn knows_no_third_member(rt: HostRuntime) -> Result<(), Memory> {
-    let (mut a, _b) = two_players(&rt, rt.alloc())?;
-    knows_two(&rt, &mut a.node)
-}

@@ -1,6 +1,12 @@
 //! Plays stored cases: for each, words and files, and what the program must write and end with.
 //! Each is run through `hashgraph` of hg_top over a shelf and two sinks in memory, and compared byte for byte.
 //! `difference` says that no part differs just where all parts are the same.
+//!
+//! `rt ci check_cases` proves it and runs it in its `data/`; it prints (`stdout`), N being the number of stored cases:
+//!
+//! ```text
+//! N cases, 0 differ
+//! ```
 #![tactic(auto)]
 
 mod case;

@@ -1,7 +1,7 @@
 //! Gates at which two threads wait for each other.
 
 use hg_io::Gate;
-use std::sync::atomic::{AtomicBool, Ordering};
+use std::sync::atomic::{AtomicBool, AtomicU32, Ordering};
 use std::thread;
 
 /// A wait ends after so many looks at its flag.
@@ -101,6 +101,42 @@ impl Gate for WorkersMeet {
                 self.flags.two.store(true, Ordering::SeqCst);
                 self.flags.wait(&self.flags.one);
             }
+            _ => (),
+        }
+    }
+}
+
+/// The worker publishes what it has decided once eight lines have their answers.
+#[derive(Drop)]
+pub struct WorkerHeld {
+    flags: Flags,
+    answers: AtomicU32,
+}
+
+impl WorkerHeld {
+    pub fn new() -> WorkerHeld {
+        WorkerHeld {
+            flags: Flags::new(),
+            answers: AtomicU32::new(0),
+        }
+    }
+
+    pub fn is_late(&self) -> bool {
+        self.flags.is_late()
+    }
+
+    fn count_answer(&self) {
+        if self.answers.fetch_add(1, Ordering::SeqCst) == 7 {
+            self.flags.one.store(true, Ordering::SeqCst);
+        }
+    }
+}
+
+impl Gate for WorkerHeld {
+    fn reach(&self, point: u32) {
+        match point {
+            1 => self.flags.wait(&self.flags.one),
+            2000 | 2001 => self.count_answer(),
             _ => (),
         }
     }

@@ -1,6 +1,12 @@
 //! Plays made graphs: a node takes and makes rows, some of them forks, and publishes fame from earlier prefixes, while
 //! the plain program says what its rows must come to. It tells how many graphs differ from that.
 //! `Watched` says that what is elected in an earlier prefix may be published; the comparisons say what is alike.
+//!
+//! `rt run` in its folder proves and runs it; it prints (`stdout`):
+//!
+//! ```text
+//! 50 graphs, 0 differ
+//! ```
 #![tactic(auto)]
 
 mod comparing;

@@ -1,7 +1,12 @@
-//! Shares nodes between threads: once by hand, once so that two branches have to meet, and then in several hundred
-//! plays, in each of which one branch of a `join` puts and makes events through its seat, while a worker votes in the
-//! other. The node is compared with one that was alone. Two shared nodes sync through their seats, as two others do.
-//! It tells how many nodes were shared, and how many of them differ from what they must be.
+//! Shares nodes between threads: once by hand, once so that two branches have to meet, and in 300 plays, in which one
+//! branch of a `join` puts and makes events through its seat, while a worker votes in the other. Each is compared with
+//! one that was alone; two shared nodes sync through their seats. It tells how many differ from what they must be.
+//!
+//! `rt run` in its folder proves and runs it; it prints (`stdout`):
+//!
+//! ```text
+//! 304 shared nodes, 0 differ
+//! ```
 #![tactic(auto)]
 
 mod beside;

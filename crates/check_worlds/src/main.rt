@@ -1,8 +1,12 @@
-//! Plays made worlds: the members' nodes gossip and publish fame from what their workers froze, while members of less
-//! than a third of all fork, and damaged and repeated bytes come. After each step the orders that the nodes keep are
-//! compared: of any two one must be a prefix of the other, and each must begin with what it was.
-//! It tells how many worlds there are, how many pairs of orders were compared, and how many worlds differ from that.
-//! `compare` says what is compared: the word of the law of safety, `IsOnePrefix`.
+//! Plays made worlds: nodes gossip and publish late, members of less than a third of all fork, and damaged bytes come.
+//! After each step, of any two orders that nodes keep one must be a prefix of the other (`IsOnePrefix`), and each begin
+//! with what it was. It tells how many worlds there are, how many pairs were compared, and how many worlds differ.
+//!
+//! `rt run` in its folder proves and runs it; it prints (`stdout`):
+//!
+//! ```text
+//! 100 worlds, 185000 comparisons, 0 differ
+//! ```
 #![tactic(auto)]
 
 mod comparing;

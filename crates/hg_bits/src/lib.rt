@@ -1,6 +1,20 @@
 //! Rows of bits by words of 64, sets of members as masks, and kernels over rows of numbers.
 //! The layers above see a `BitRow` as the list of its truth values, and a mask by the members that it has.
 //! A row keeps no bit past its end, so that whole words can be compared.
+//!
+//! From `add_parents` and then `fill` of `hg_ancestry`, shortened:
+//!
+//! ```text
+//! match on.pair() {
+//!     None => {}
+//!     Some((self_place, other)) => {
+//!         row.union(row_of(rows, self_place));
+//!         row.union(row_of(rows, other));
+//!     }
+//! }
+//!
+//! row.set(links.len());
+//! ```
 #![tactic(auto)]
 
 pub mod kernels;
@@ -10,3 +24,4 @@ mod words;
 
 pub use masks::{join_masks, mask_has, meet_masks, members_over, with_member};
 pub use row::BitRow;
+pub use words::set_bit;

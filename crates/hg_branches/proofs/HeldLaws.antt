@@ -7,11 +7,10 @@ use Rattle.hg_model.specs.Links.{Link, first_place}
 use Rattle.hg_model.specs.Ancestry.{is_self_ancestor}
 use Rattle.hg_model.specs.Shape.{FitsLink, link_of}
 use Rattle.hg_model.specs.Stakes.{Stakes, member_count}
-use Rattle.std.specs.List.{AllByRecursion}
-use Rattle.hg_model.proofs.ReachLaws.{has_place_first, has_place_later}
+use Rattle.hg_model.proofs.ReachLaws.{has_place_first}
 use Rattle.hg_model.proofs.PushLaws.{shape-push}
 use Rattle.hg_branches.specs.Branches.{Branching, CountsAncestors, TakesRow, greatest_count}
-use Rattle.hg_branches.specs.Columns.{branching_of, count_in, next_branch, put_at, with_maker, HoldsBranches, HoldsCounts}
+use Rattle.hg_branches.specs.Columns.{branching_of, count_in, next_branch, put_at, with_branch, HoldsBranches, HoldsCounts}
 use Rattle.hg_branches.proofs.BranchLaws.{lines_grown, counts_kept, counts_new}
 use Rattle.hg_branches.proofs.PutLaws.{put_here, put_other, made_new, made_none, maker_before, maker_last, makers_long, makers_more, makers_over}
 
@@ -62,7 +61,7 @@ module _ (n : Stakes) (L : List Link) (branches makers ends : List ℕ) (held : 
     branches_grown = branches ++ b ∷ []
 
     abbrev pub makers_grown : List ℕ
-    makers_grown = with_maker makers b link.creator
+    makers_grown = with_branch makers b link.creator
 
     abbrev pub ends_grown : List ℕ
     ends_grown = put_at ends b (length L + 1)
@@ -154,14 +153,13 @@ module _ (n : Stakes) (L : List Link) (branches makers ends : List ℕ) (held : 
         counts_new n L link held.shaped fits (branching_of branches makers) (branching_of branches_grown makers_grown) held.lines row_taken (count_in counts) (λ i. get_or row i 0) rows.row
         (ap (λ k. get_or row k 0) branch_last ∙ own) (λ i off. others i (λ e. off (e ∙ sym branch_last)))
 
-    pub counts_hold : (counts : List (List ℕ)) (row : List ℕ) → HoldsCounts n L branches makers counts → member_count n ≤ length row → length row ≤ length makers + 1 →
+    pub counts_hold : (counts : List (List ℕ)) (row : List ℕ) → HoldsCounts n L branches makers counts → member_count n ≤ length row →
         get_or row b 0 ≡ length L + 1 → ((i : ℕ) → i ≢ b → get_or row i 0 ≡ greatest_count (count_in counts) link.parents i) →
         HoldsCounts n grown branches_grown makers_grown (counts ++ row ∷ [])
-    counts_hold counts row rows wide narrow own others =
+    counts_hold counts row rows wide own others =
         let B : Branching = branching_of branches makers in
         let C : Branching = branching_of branches_grown makers_grown in
         let len : length grown ≡ length L + 1 = length_push L link in
-        let more = makers_more makers b link.creator in_reach in
         let before : (x : ℕ) → x < length L → get_or (counts ++ row ∷ []) x [] ≡ get_or counts x [] =
         λ x h. (let rows_len = rows.len in get_or_append_left counts (row ∷ []) [] x (omega arith)) in
         let last : get_or (counts ++ row ∷ []) (length L) [] ≡ row = get_or_push counts row [] (length L) rows.len in
@@ -180,22 +178,4 @@ module _ (n : Stakes) (L : List Link) (branches makers ends : List ℕ) (held : 
             | inl earlier ↦ subst (λ r. member_count n ≤ length r) (sym (before x earlier)) (rows.wide x earlier)
             | inr past ↦ (let same : x ≡ length L = omega arith in subst (λ r. member_count n ≤ length r) (sym (ap (λ k. get_or (counts ++ row ∷ []) k []) same ∙ last)) wide)
           ];
-          narrow = λ x h. elim (cases_lt x (length L)) [
-            | inl earlier ↦ subst (λ r. length r ≤ length makers_grown + 1) (sym (before x earlier)) (let low = rows.narrow x earlier in omega arith)
-            | inr past ↦ (let same : x ≡ length L = omega arith in subst (λ r. length r ≤ length makers_grown + 1) (sym (ap (λ k. get_or (counts ++ row ∷ []) k []) same ∙ last)) (omega arith))
-          ];
-          early = λ x h. elim (cases_lt x (length L)) [
-            | inl earlier ↦ subst (λ r. length r ≤ member_count n + x + 1) (sym (before x earlier)) (rows.early x earlier)
-            | inr past ↦ (let same : x ≡ length L = omega arith in let was = held.sparse in subst (λ r. length r ≤ member_count n + x + 1) (sym (ap (λ k. get_or (counts ++ row ∷ []) k []) same ∙ last)) (omega arith))
-          ];
         }
-
--- what is so of each place below a bound is so of the places of a link that fits
-all_of : (test : ℕ → Type 0) (on : List ℕ) → ((p : ℕ) → has_place on p ≡ true → test p) → AllByRecursion test on
-all_of test [] each = tt
-all_of test (p ∷ ps) each = (each p (has_place_first p ps), all_of test ps (λ q h. each q (has_place_later p q ps h)))
-
--- parents have no more counts than there are branches and one
-pub rows_fit : (n : Stakes) (L : List Link) (branches makers : List ℕ) (counts : List (List ℕ)) → HoldsCounts n L branches makers counts → (on : List ℕ) (by : ℕ) → FitsLink n L (link_of by on) →
-    AllByRecursion (λ p. length (get_or counts p []) ≤ length makers + 1) on
-rows_fit n L branches makers counts rows on by fits = all_of (λ p. length (get_or counts p []) ≤ length makers + 1) on (λ p h. rows.narrow p (fits.earlier p h))

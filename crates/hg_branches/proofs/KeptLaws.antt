@@ -1,54 +1,92 @@
 -- The first descendants that are kept once a row has come, and what they tell
-use Rattle.std.proofs.Common.{◌≡◌, ◌≢◌, ℕ, zero, suc, ◌+◌, ◌-◌, ◌<◌, ◌≤◌, ◌^◌, ◌||◌, ◌&&◌, eqb, nat_lt, nat_le, not, true, false, Bool, cond, min, List, [], ◌∷◌, ◌++◌, length, get_or, slice_index, slice_set, take, drop, sym, ap, ap₂, ◌∙◌, refl, subst, inl, inr, arith}
+use Rattle.std.proofs.Common.{◌≡◌, ◌≢◌, ℕ, zero, suc, ◌+◌, ◌-◌, ◌<◌, ◌≤◌, ◌^◌, ◌||◌, ◌&&◌, eqb, nat_lt, nat_le, not, true, false, Bool, cond, min, List, [], ◌∷◌, ◌++◌, length, get_or, replicate, slice_index, slice_set, take, drop, sym, ap, ap₂, ◌∙◌, refl, subst, inl, inr, arith}
 use Rattle.std.proofs.Math.Seq.{take-append_seam}
 use Rattle.std.proofs.lemmas.Bool.{cases_eq, cases_lt, cases_Bool, and_parts, and_from, or_cases, or_left, or_right, ltb-true, lt-ltb, leb-true, le-leb, eqb-true, eq-eqb, not-true, not_from_false, false_from_ne_true, both_ways}
-use Rattle.std.proofs.lemmas.List.{length_push, length-set, get_or-set_same, get_or-set_other, get_or_append_left}
+use Rattle.std.proofs.lemmas.List.{length_push, length-set, length-replicate, get_or-set_same, get_or-set_other, get_or_append_left, get_or_push, get_or_past}
 use Rattle.hg_model.specs.Places.{count_below, weight_below, some_below}
 use Rattle.hg_model.specs.Stakes.{Stakes, member_count, stake_where}
 use Rattle.hg_model.specs.Links.{Link, creator}
 use Rattle.hg_model.specs.Ancestry.{is_ancestor}
 use Rattle.hg_model.specs.Forks.{has_fork_below}
 use Rattle.hg_model.specs.Seeing.{sees_through, strongly_sees, is_supermajority}
-use Rattle.hg_model.specs.Shape.{FitsLink}
+use Rattle.hg_model.specs.Shape.{FitsLink, link_of}
 use Rattle.hg_model.proofs.PlacesLaws.{some_below_from, some_below_found, weight_below-same, weight_below-longer, total-count}
-use Rattle.hg_model.proofs.ReachLaws.{bool_iff}
-use Rattle.hg_branches.specs.Branches.{Branching, CountsAncestors, FirstDescendants}
-use Rattle.hg_branches.specs.Columns.{branching_of, count_in, HoldsBranches, HoldsCounts, with_maker}
-use Rattle.hg_branches.specs.Kept.{Kept, kept_at, no_first, is_first, noted, HoldsFirsts, HoldsKept}
+use Rattle.hg_model.proofs.ReachLaws.{bool_iff, has_place_first}
+use Rattle.hg_branches.specs.Branches.{Branching, CountsAncestors, FirstDescendants, greatest_count}
+use Rattle.hg_branches.specs.Rows.{known_place}
+use Rattle.hg_branches.specs.Columns.{branching_of, count_in, next_branch, HoldsBranches, HoldsCounts, with_branch}
+use Rattle.hg_branches.specs.Kept.{Kept, kept_at, no_first, is_first, noted, noted_once, AreNotedOn, IsLastOn, HoldsFirsts, HoldsKept}
 use Rattle.hg_branches.specs.Lines.{sees_on, own_sees, others_see}
 use Rattle.hg_branches.proofs.FirstLaws.{firsts_begin, firsts_next}
 use Rattle.hg_branches.proofs.SeenLaws.{by_branches, seen_by_branches, counted_sound, counted_complete}
 use Rattle.hg_branches.proofs.LineSeenLaws.{sound_on, complete_on}
-use Rattle.hg_branches.proofs.HeldLaws.{Serves, row_taken, branch_last}
+use Rattle.hg_branches.proofs.HeldLaws.{Serves, row_taken, branch_last, in_reach}
+use Rattle.hg_branches.proofs.PutLaws.{opened_reads, opened_long}
+use Rattle.hg_branches.proofs.ChainLaws.{zero_behind, read_zeros, StandsAs, chains_noted, newest_noted, numbers_noted, begun_last, chains_begun, newest_begun, numbers_begun}
 
--- an end that is not 0 is that of a place
-ends_some : (e : ℕ) → 0 < e → e ≡ (e - 1) + 1
-ends_some e h = omega arith
+-- what a note changes
 
--- what is kept is a row of the graph
-pub kept_inside : (n : Stakes) (L : List Link) (branches makers : List ℕ) (k : Kept) → HoldsFirsts n L branches makers k → k.end ≤ length L
-kept_inside n L branches makers k holds = elim (cases_lt 0 k.end) [
-  | inl some ↦ (let y = holds.told (k.end - 1) (ends_some k.end some) in let low : k.end - 1 < length L = y.0 in omega arith)
-  | inr nothing ↦ omega arith
-]
+le_is_lt : (e count : ℕ) → 0 < e → nat_le e count ≡ nat_lt (e - 1) count
+le_is_lt e count some = bool_iff (nat_le e count) (nat_lt (e - 1) count)
+    (λ h. (let le : e ≤ count = leb-true e count h in lt-ltb (e - 1) count (omega arith)))
+    (λ h. (let less : e - 1 < count = ltb-true (e - 1) count h in le-leb e count (omega arith)))
 
--- another row in a slot
-pub kept_set : (n : Stakes) (L : List Link) (branches makers : List ℕ) (old : List Kept) (slot : ℕ) (k : Kept) → HoldsKept n L branches makers old → slot < length old → HoldsFirsts n L branches makers k →
-    HoldsKept n L branches makers (slice_set old slot k)
-kept_set n L branches makers old slot k kept inside holds = record {
-  each = λ i h. elim (cases_eq i slot) [
-    | inl here ↦ subst (λ j. HoldsFirsts n L branches makers (kept_at (slice_set old slot k) j)) (sym here)
-        (subst (HoldsFirsts n L branches makers) (sym (get_or-set_same old slot k (record { end = 0; firsts = [] }) inside)) holds)
-    | inr other ↦ subst (HoldsFirsts n L branches makers) (sym (get_or-set_other old slot i k (record { end = 0; firsts = [] }) other))
-        (kept.each i (omega (arith, length-set old slot k)))
-  ];
-}
+module _ (count b end : ℕ) (k : Kept) where
+  first_set : is_first count b end k ≡ true → (noted_once count b end k).firsts ≡ slice_set k.firsts b end
+  first_set h = ap (λ c. cond c (slice_set k.firsts b end) k.firsts) h
+
+  first_left : is_first count b end k ≡ false → (noted_once count b end k).firsts ≡ k.firsts
+  first_left h = ap (λ c. cond c (slice_set k.firsts b end) k.firsts) h
+
+  -- nothing, where the row is no first descendant there
+  pub noted_same : is_first count b end k ≡ false → noted_once count b end k ≡ k
+  noted_same h = ap (λ (f : List ℕ). record { end = k.end; branch = k.branch; before = k.before; firsts = f }) (first_left h)
+
+  pub not_counted : count < k.end → noted_once count b end k ≡ k
+  not_counted less = noted_same (false_from_ne_true (is_first count b end k) (λ h.
+      let le : k.end ≤ count = leb-true k.end count (and_parts (nat_le k.end count) (nat_lt end (slice_index k.firsts b)) h).0 in absurd (omega arith)))
+
+  pub not_later : slice_index k.firsts b ≤ end → noted_once count b end k ≡ k
+  not_later le = noted_same (false_from_ne_true (is_first count b end k) (λ h.
+      let less : end < slice_index k.firsts b = ltb-true end (slice_index k.firsts b) (and_parts (nat_le k.end count) (nat_lt end (slice_index k.firsts b)) h).1 in absurd (omega arith)))
+
+  noted_long : length (noted_once count b end k).firsts ≡ length k.firsts
+  noted_long = elim (cases_Bool (is_first count b end k)) [
+    | inl first ↦ ap length (first_set first) ∙ length-set k.firsts b end
+    | inr not_first ↦ ap length (first_left not_first)
+  ]
+
+  noted_other : (i : ℕ) → i ≢ b → slice_index (noted_once count b end k).firsts i ≡ slice_index k.firsts i
+  noted_other i other = elim (cases_Bool (is_first count b end k)) [
+    | inl first ↦ ap (λ (f : List ℕ). slice_index f i) (first_set first) ∙ get_or-set_other k.firsts b i end 0 other
+    | inr not_first ↦ ap (λ (f : List ℕ). slice_index f i) (first_left not_first)
+  ]
+
+  noted_here : b < length k.firsts → slice_index (noted_once count b end k).firsts b ≡ cond (nat_le k.end count) (min (slice_index k.firsts b) end) (slice_index k.firsts b)
+  noted_here inside = elim (cases_lt count k.end) [
+    | inl less ↦ ap (λ (k : Kept). slice_index k.firsts b) (not_counted less)
+        ∙ ap (λ c. cond c (min (slice_index k.firsts b) end) (slice_index k.firsts b)) (sym (false_from_ne_true (nat_le k.end count) (λ h. (let le : k.end ≤ count = leb-true k.end count h in absurd (omega arith)))))
+    | inr counted ↦ elim (cases_lt end (slice_index k.firsts b)) [
+      | inl later ↦ ap (λ (f : List ℕ). slice_index f b) (first_set (and_from (nat_le k.end count) (nat_lt end (slice_index k.firsts b)) (le-leb k.end count counted) (lt-ltb end (slice_index k.firsts b) later)))
+          ∙ (get_or-set_same k.firsts b end 0 inside ∙ (lesser later ∙ by_count counted))
+      | inr no_later ↦ ap (λ (k : Kept). slice_index k.firsts b) (not_later no_later) ∙ (greater no_later ∙ by_count counted)
+    ]
+  ]
+    where
+      lesser : {a c : ℕ} → a < c → a ≡ min c a
+      lesser h = omega arith
+
+      greater : {a c : ℕ} → c ≤ a → c ≡ min c a
+      greater h = omega arith
+
+      by_count : k.end ≤ count → min (slice_index k.firsts b) end ≡ cond (nat_le k.end count) (min (slice_index k.firsts b) end) (slice_index k.firsts b)
+      by_count le = ap (λ c. cond c (min (slice_index k.firsts b) end) (slice_index k.firsts b)) (sym (le-leb k.end count le))
 
 module _ (n : Stakes) (L : List Link) (branches makers ends : List ℕ) (held : HoldsBranches n L branches makers ends) (link : Link) (fits : FitsLink n L link)
-    (b : ℕ) (serves : Serves L branches makers link b) (row : List ℕ) (counted : CountsAncestors (L ++ link ∷ []) (branching_of (branches ++ b ∷ []) (with_maker makers b link.creator)) (length L) (slice_index row))
+    (b : ℕ) (serves : Serves L branches makers link b) (row : List ℕ) (counted : CountsAncestors (L ++ link ∷ []) (branching_of (branches ++ b ∷ []) (with_branch makers b link.creator)) (length L) (slice_index row))
     (short : length L + 1 < 2 ^ 32 - 1) where
   abbrev C : Branching
-  C = branching_of (branches ++ b ∷ []) (with_maker makers b link.creator)
+  C = branching_of (branches ++ b ∷ []) (with_branch makers b link.creator)
 
   abbrev end : ℕ
   end = length L + 1
@@ -60,80 +98,115 @@ module _ (n : Stakes) (L : List Link) (branches makers ends : List ℕ) (held : 
       ap (λ k. nat_lt y (slice_index row k)) (sym (get_or_append_left branches (b ∷ []) 0 y (omega arith)))
       ∙ counted.told y (omega (arith, length_push L link))
 
-  pub holds_noted : (k : Kept) → HoldsFirsts n L branches makers k → HoldsFirsts n (L ++ link ∷ []) (branches ++ b ∷ []) (with_maker makers b link.creator) (noted branches row b end k)
+  pub holds_noted : (k : Kept) → HoldsFirsts n L branches makers k → HoldsFirsts n (L ++ link ∷ []) (branches ++ b ∷ []) (with_branch makers b link.creator) (noted row b end k)
   holds_noted k holds =
-      let new : Kept = record { end = k.end; firsts = slice_set k.firsts b end } in
-      elim (cases_Bool (is_first branches row b end k)) [
-        | inl first ↦ subst (λ (c : Bool). HoldsFirsts n (L ++ link ∷ []) (branches ++ b ∷ []) (with_maker makers b link.creator) (cond c new k)) (sym first) (record {
-          long = length-set k.firsts b end ∙ holds.long;
-          told = λ y is.
-              let was = holds.told y is in
-              let below : y < length L = was.0 in
-              let two = and_parts (nat_lt 0 k.end && nat_lt (k.end - 1) (slice_index row (slice_index branches (k.end - 1)))) (nat_lt end (slice_index k.firsts b)) first in
-              let one = and_parts (nat_lt 0 k.end) (nat_lt (k.end - 1) (slice_index row (slice_index branches (k.end - 1)))) two.0 in
-              let same : k.end - 1 ≡ y = omega arith in
-              let up : is_ancestor (L ++ link ∷ []) (length L) y ≡ true = sym (above_is y below) ∙ subst (λ z. nat_lt z (slice_index row (slice_index branches z)) ≡ true) same one.1 in
-              let later : end < slice_index k.firsts b = ltb-true end (slice_index k.firsts b) two.1 in (
-                omega (arith, length_push L link),
-                next y (slice_index (slice_set k.firsts b end)) below was.1
-                    (λ i hi off. get_or-set_other k.firsts b i end 0 off)
-                    (λ hb. let long = holds.long in
-                    get_or-set_same k.firsts b end 0 (omega arith) ∙ (lesser later ∙ ap (λ c. cond c (min (slice_index k.firsts b) end) (slice_index k.firsts b)) (sym up))),
-              );
-        })
-        | inr not_first ↦ subst (λ (c : Bool). HoldsFirsts n (L ++ link ∷ []) (branches ++ b ∷ []) (with_maker makers b link.creator) (cond c new k)) (sym not_first) (record {
-          long = holds.long;
-          told = λ y is.
-              let was = holds.told y is in
-              let below : y < length L = was.0 in (
-                omega (arith, length_push L link),
-                next y (slice_index k.firsts) below was.1 (λ i hi off. refl)
-                    (λ hb. elim (cases_Bool (is_ancestor (L ++ link ∷ []) (length L) y)) [
-                      | inl up ↦ elim (cases_lt end (slice_index k.firsts b)) [
-                        | inl later ↦
-                            (let same : y ≡ k.end - 1 = omega arith in
-                            let here : nat_lt (k.end - 1) (slice_index row (slice_index branches (k.end - 1))) ≡ true =
-                            subst (λ z. nat_lt z (slice_index row (slice_index branches z)) ≡ true) same (above_is y below ∙ up) in
-                            absurd (both_ways (is_first branches row b end k) not_first
-                            (and_from (nat_lt 0 k.end && nat_lt (k.end - 1) (slice_index row (slice_index branches (k.end - 1)))) (nat_lt end (slice_index k.firsts b))
-                            (and_from (nat_lt 0 k.end) (nat_lt (k.end - 1) (slice_index row (slice_index branches (k.end - 1)))) (lt-ltb 0 k.end (omega arith)) here)
-                            (lt-ltb end (slice_index k.firsts b) later))))
-                        | inr no_later ↦ greater no_later ∙ ap (λ c. cond c (min (slice_index k.firsts b) end) (slice_index k.firsts b)) (sym up)
-                      ]
-                      | inr not_up ↦ ap (λ c. cond c (min (slice_index k.firsts b) end) (slice_index k.firsts b)) (sym not_up)
-                    ]),
-              );
-        })
+      let some = holds.some in
+      let inside = holds.inside in
+      let rows = held.rows in
+      let long = holds.long in
+      let y : ℕ = k.end - 1 in
+      let below : y < length L = omega arith in
+      let count : ℕ = slice_index row k.branch in
+      let last = branch_last n L branches makers ends held link fits b serves in
+      let up : nat_le k.end count ≡ is_ancestor (L ++ link ∷ []) (length L) y =
+      le_is_lt k.end count some ∙ (ap (λ c. nat_lt y (slice_index row c)) (sym holds.on) ∙ above_is y below) in
+      record {
+        some = some;
+        inside = omega (arith, length_push L link);
+        long = noted_long count b end k ∙ long;
+        on = get_or_append_left branches (b ∷ []) 0 y (omega arith) ∙ holds.on;
+        told = firsts_next n L link held.shaped fits (branching_of branches makers) C held.lines (row_taken n L branches makers ends held link fits b serves) n no_first y
+            (slice_index k.firsts) (slice_index (noted row b end k).firsts) below (omega arith) holds.told
+            (λ i hi off. noted_other count b end k i (λ e. off (e ∙ sym last)))
+            (λ hb. ap (slice_index (noted row b end k).firsts) last
+            ∙ (noted_here count b end k (let low = subst (λ k. k < n) last hb in omega arith)
+            ∙ (ap (λ c. cond c (min (slice_index k.firsts b) end) (slice_index k.firsts b)) up
+            ∙ ap (λ j. cond (is_ancestor (L ++ link ∷ []) (length L) y) (min (slice_index k.firsts j) end) (slice_index k.firsts j)) (sym last))));
+      }
+
+  pub kept_more : (old new : List Kept) (newest numbers : List ℕ) → HoldsKept n L branches makers old newest numbers → length new ≡ length old →
+      ((i : ℕ) → i < length old → kept_at new i ≡ noted row b (length L + 1) (kept_at old i)) →
+      HoldsKept n (L ++ link ∷ []) (branches ++ b ∷ []) (with_branch makers b link.creator) new (with_branch newest b 0) (numbers ++ 0 ∷ [])
+  kept_more old new newest numbers kept long each =
+      let reach = in_reach n L branches makers ends held link fits b serves in
+      let same : (i : ℕ) → i < length old → StandsAs (kept_at new i) (kept_at old i) =
+      λ i h. (ap (λ (k : Kept). k.end) (each i h), ap (λ (k : Kept). k.branch) (each i h), ap (λ (k : Kept). k.before) (each i h)) in
+      record {
+        each = λ i h. (let low : i < length old = omega arith in
+            subst (HoldsFirsts n (L ++ link ∷ []) (branches ++ b ∷ []) (with_branch makers b link.creator)) (sym (each i low)) (holds_noted (kept_at old i) (kept.each i low)));
+        chains = chains_noted old new same long kept.chains;
+        by_branch = λ c. subst (IsLastOn new (length new) c) (sym (opened_reads newest b c)) (newest_noted old new same long newest kept.by_branch c);
+        newest_all = opened_long makers newest b link.creator reach kept.newest_all;
+        by_place = λ y some. (let is = zero_behind numbers y in
+            let was = numbers_noted old new same (omega arith) numbers kept.by_place y (subst (λ j. 0 < j) is some) in
+            (subst (λ j. j ≤ length new) (sym is) was.0, subst (λ j. (kept_at new (j - 1)).end ≡ y + 1) (sym is) was.1));
+        numbers_all = length_push numbers 0 ∙ (ap (λ (j : ℕ). j + 1) kept.numbers_all ∙ sym (length_push L link));
+      }
+
+-- what the self-parent has as ancestor needs no note: on the next row's branch it has a descendant already
+pub noted_on : (n : Stakes) (L : List Link) (branches makers ends : List ℕ) → HoldsBranches n L branches makers ends → (counts : List (List ℕ)) → HoldsCounts n L branches makers counts →
+    (kept : List Kept) (newest numbers : List ℕ) → HoldsKept n L branches makers kept newest numbers → (on : List ℕ) (by : ℕ) → FitsLink n L (link_of by on) → (row : List ℕ) →
+    ((i : ℕ) → i ≢ next_branch branches ends on by → get_or row i 0 ≡ greatest_count (count_in counts) on i) → (c : ℕ) →
+    AreNotedOn c (get_or (counts ++ row ∷ []) (known_place on (length L)) []) row (next_branch branches ends on by) (length L + 1) kept
+noted_on n L branches makers ends held counts rows kept newest numbers holds [] by fits row others c i h is_on le =
+    let k : Kept = kept_at kept i in
+    let firsts = holds.each i h in
+    let some = firsts.some in
+    let inside = firsts.inside in
+    let y : ℕ = k.end - 1 in
+    let known : k.end ≤ get_or row c 0 = subst (λ (r : List ℕ). k.end ≤ get_or r c 0) (get_or_push counts row [] (length L) rows.len) le in
+    elim (cases_eq c (next_branch branches ends [] by)) [
+      | inl here ↦
+          (let end : y < get_or ends c 0 = subst (λ j. y < get_or ends j 0) (firsts.on ∙ is_on) (held.end y (omega arith)) in
+          let there : get_or branches y 0 < length makers = held.known y (omega arith) in
+          let all = held.ends_all in
+          elim (cases_Bool (eqb (get_or ends by 0) 0)) [
+            | inl empty ↦
+                (let own : c ≡ by = here ∙ ap (λ e. cond e by (length ends)) empty in
+                let none : get_or ends c 0 ≡ 0 = ap (λ j. get_or ends j 0) own ∙ eqb-true (get_or ends by 0) 0 empty in
+                absurd (omega arith))
+            | inr full ↦
+                (let new : c ≡ length ends = here ∙ ap (λ e. cond e by (length ends)) full in
+                let old : get_or branches y 0 ≡ c = firsts.on ∙ is_on in
+                absurd (omega arith))
+          ])
+      | inr other ↦ (let none : get_or row c 0 ≡ 0 = others c other in absurd (omega arith))
+    ]
+noted_on n L branches makers ends held counts rows kept newest numbers holds (p ∷ ps) by fits row others c i h is_on le =
+    let k : Kept = kept_at kept i in
+    let firsts = holds.each i h in
+    let some = firsts.some in
+    let inside = firsts.inside in
+    let y : ℕ = k.end - 1 in
+    let below : p < length L = fits.earlier p (has_place_first p ps) in
+    let rows_len = rows.len in
+    let known : k.end ≤ count_in counts p c = subst (λ (r : List ℕ). k.end ≤ get_or r c 0) (get_or_append_left counts (row ∷ []) [] p (omega arith)) le in
+    let branch : ℕ = get_or branches p 0 in
+    let counted : is_ancestor L p y ≡ true = sym ((rows.row p below).told y (omega arith)) ∙ lt-ltb y (count_in counts p (get_or branches y 0))
+    (let same : count_in counts p (get_or branches y 0) ≡ count_in counts p c = ap (count_in counts p) (firsts.on ∙ is_on) in omega arith) in
+    let all = held.ends_all in
+    let wide = held.all in
+    not_later (slice_index row k.branch) (next_branch branches ends (p ∷ ps) by) (length L + 1) k
+    (elim (cases_lt (next_branch branches ends (p ∷ ps) by) n) [
+      | inl own ↦ elim (cases_Bool (eqb (get_or ends branch 0) (p + 1))) [
+        | inl last ↦
+            (let is : next_branch branches ends (p ∷ ps) by ≡ branch = ap (λ c. cond c branch (length ends)) last in
+            let first : slice_index k.firsts branch ≤ p + 1 = leb-true (slice_index k.firsts branch) (p + 1) (firsts.told.told p below (omega arith) ∙ counted) in
+            subst (λ j. slice_index k.firsts j ≤ length L + 1) (sym is) (omega arith))
+        | inr not_last ↦ (let is : next_branch branches ends (p ∷ ps) by ≡ length ends = ap (λ c. cond c branch (length ends)) not_last in absurd (omega arith))
       ]
-    where
-      lesser : {a c : ℕ} → a < c → a ≡ min c a
-      lesser h = omega arith
+      | inr other ↦ (let long = firsts.long in let none = get_or_past k.firsts (next_branch branches ends (p ∷ ps) by) 0 (omega arith) in omega arith)
+    ])
 
-      greater : {a c : ℕ} → c ≤ a → c ≡ min c a
-      greater h = omega arith
-
-      next : (y : ℕ) (new_first : ℕ → ℕ) → y < length L → FirstDescendants n no_first L (branching_of branches makers) y (slice_index k.firsts) →
-          ((i : ℕ) → i < n → i ≢ b → new_first i ≡ slice_index k.firsts i) →
-          (b < n → new_first b ≡ cond (is_ancestor (L ++ link ∷ []) (length L) y) (min (slice_index k.firsts b) end) (slice_index k.firsts b)) →
-          FirstDescendants n no_first (L ++ link ∷ []) C y new_first
-      next y new_first below was others own =
-          let last = branch_last n L branches makers ends held link fits b serves in
-          firsts_next n L link held.shaped fits (branching_of branches makers) C held.lines (row_taken n L branches makers ends held link fits b serves) n no_first y (slice_index k.firsts) new_first
-          below (omega arith) was
-          (λ i hi off. others i hi (λ e. off (e ∙ sym last)))
-          (λ hb. ap new_first last ∙ (own (subst (λ k. k < n) last hb)
-          ∙ ap (λ j. cond (is_ancestor (L ++ link ∷ []) (length L) y) (min (slice_index k.firsts j) end) (slice_index k.firsts j)) (sym last)))
-
-  pub kept_more : (old new : List Kept) → HoldsKept n L branches makers old → length new ≡ length old → ((i : ℕ) → i < length old → kept_at new i ≡ noted branches row b (length L + 1) (kept_at old i)) →
-      HoldsKept n (L ++ link ∷ []) (branches ++ b ∷ []) (with_maker makers b link.creator) new
-  kept_more old new kept long each = record {
-    each = λ i h. (let low : i < length old = omega arith in
-        subst (HoldsFirsts n (L ++ link ∷ []) (branches ++ b ∷ []) (with_maker makers b link.creator)) (sym (each i low)) (holds_noted (kept_at old i) (kept.each i low)));
-  }
-
-pub kept_none : (n : Stakes) (L : List Link) (branches makers : List ℕ) (kept : List Kept) → ((i : ℕ) → i < length kept → ((kept_at kept i).end ≡ 0) × (length (kept_at kept i).firsts ≡ n)) → HoldsKept n L branches makers kept
-kept_none n L branches makers kept empty = record {
-  each = λ i h. record { long = (empty i h).1; told = λ y is. (let nothing = (empty i h).0 in absurd (omega arith)) };
+-- nothing is kept
+pub kept_none : (n : Stakes) (L : List Link) (branches makers : List ℕ) (newest numbers : List ℕ) → newest ≡ replicate (length makers) 0 → numbers ≡ replicate (length L) 0 → HoldsKept n L branches makers [] newest numbers
+kept_none n L branches makers newest numbers newest_are numbers_are = record {
+  each = λ i h. absurd (omega arith);
+  chains = record { low = λ i h. absurd (omega arith); rise = λ i j le h. absurd (omega arith); before = λ j h. absurd (omega arith) };
+  by_branch = λ c. (let is = read_zeros newest (length makers) c newest_are in record { inside = omega arith; on = λ some. absurd (omega arith); none_later = λ i from below on. absurd (omega arith) });
+  newest_all = ap length newest_are ∙ length-replicate (length makers) 0;
+  by_place = λ y some. (let is = read_zeros numbers (length L) y numbers_are in absurd (omega arith));
+  numbers_all = ap length numbers_are ∙ length-replicate (length L) 0;
 }
 
 -- a list of which each place was written
@@ -141,18 +214,40 @@ pub refilled_kept : (n : ℕ) (new old : List Kept) → length new ≡ n → tak
 refilled_kept n new old long = ap (λ k. take k (new ++ drop (length new) old)) (sym long) ∙ take-append_seam new (drop (length new) old)
 
 -- the last row, when it begins to be kept
-pub holds_begun : (n : Stakes) (L : List Link) (branches makers ends : List ℕ) → HoldsBranches n L branches makers ends → (y : ℕ) → length L ≡ y + 1 → (k : Kept) → k.end ≡ y + 1 → length k.firsts ≡ n →
-    (slice_index branches y < n → slice_index k.firsts (slice_index branches y) ≡ y + 1) → ((b : ℕ) → b < n → b ≢ slice_index branches y → slice_index k.firsts b ≡ no_first) →
+pub holds_begun : (n : Stakes) (L : List Link) (branches makers ends : List ℕ) → HoldsBranches n L branches makers ends → (k : Kept) → 0 < k.end → length L ≡ k.end → length k.firsts ≡ n →
+    slice_index branches (k.end - 1) ≡ k.branch → (k.branch < n → slice_index k.firsts k.branch ≡ k.end) → ((b : ℕ) → b < n → b ≢ k.branch → slice_index k.firsts b ≡ no_first) →
     HoldsFirsts n L branches makers k
-holds_begun n L branches makers ends held y last k is long own others = record {
+holds_begun n L branches makers ends held k some last long on own others = record {
+  some = some;
+  inside = omega arith;
   long = long;
-  told = λ z z_is.
-      let same : y ≡ z = omega arith in (
-        omega arith,
-        subst (λ j. FirstDescendants n no_first L (branching_of branches makers) j (slice_index k.firsts)) same
-            (firsts_begin n no_first L (branching_of branches makers) y (slice_index k.firsts) held.shaped.earlier held.lines last (let short = held.short in omega arith) own others),
-      );
+  on = on;
+  told = firsts_begin n no_first L (branching_of branches makers) (k.end - 1) (slice_index k.firsts) held.shaped.earlier held.lines (omega arith) (let short = held.short in omega arith)
+      (λ low. ap (slice_index k.firsts) on ∙ (own (subst (λ c. c < n) on low) ∙ ends_some k.end some))
+      (λ b low other. others b low (λ e. other (e ∙ sym on)));
 }
+  where
+    ends_some : (e : ℕ) → 0 < e → e ≡ (e - 1) + 1
+    ends_some e h = omega arith
+
+pub kept_begun : (n : Stakes) (L : List Link) (branches makers : List ℕ) (kept : List Kept) (newest numbers : List ℕ) → HoldsKept n L branches makers kept newest numbers → (k : Kept) → HoldsFirsts n L branches makers k →
+    length L ≡ k.end → k.branch < length makers → (0 < length kept → (kept_at kept (length kept - 1)).end < k.end) → k.before ≡ slice_index newest k.branch →
+    HoldsKept n L branches makers (kept ++ k ∷ []) (slice_set newest k.branch (length kept + 1)) (slice_set numbers (k.end - 1) (length kept + 1))
+kept_begun n L branches makers kept newest numbers holds k first last known later before =
+    let all = holds.newest_all in
+    let numbers_all = holds.numbers_all in
+    let some = first.some in
+    record {
+      each = λ i h. elim (cases_lt i (length kept)) [
+        | inl earlier ↦ subst (HoldsFirsts n L branches makers) (sym (get_or_append_left kept (k ∷ []) (record { end = 0; branch = 0; before = 0; firsts = [] }) i earlier)) (holds.each i earlier)
+        | inr past ↦ subst (HoldsFirsts n L branches makers) (sym (begun_last kept k holds.chains i (omega (arith, length_push kept k)))) first
+      ];
+      chains = chains_begun kept k holds.chains some later (subst (IsLastOn kept (length kept) k.branch) (sym before) (holds.by_branch k.branch));
+      by_branch = newest_begun kept k holds.chains newest holds.by_branch (omega arith);
+      newest_all = length-set newest k.branch (length kept + 1) ∙ all;
+      by_place = numbers_begun kept k holds.chains numbers (k.end - 1) holds.by_place (omega arith) (omega arith);
+      numbers_all = length-set numbers (k.end - 1) (length kept + 1) ∙ numbers_all;
+    }
 
 -- where no place passes both of two tests, those that pass either are counted one after the other
 pub count_apart : (n : ℕ) (one two : ℕ → Bool) → ((m : ℕ) → m < n → one m ≡ true → two m ≡ false) → count_below n (λ m. one m || two m) ≡ count_below n one + count_below n two
@@ -192,7 +287,8 @@ module _ (n : Stakes) (L : List Link) (branches makers ends : List ℕ) (held : 
 
   through_passes : (m : ℕ) → by_branches (length makers) (branching_of branches makers) passes m ≡ sees_through L x y m
   through_passes m =
-      let firsts = (holds.told y is).1 in
+      let same : k.end - 1 ≡ y = omega arith in
+      let firsts = subst (λ z. FirstDescendants n no_first L (branching_of branches makers) z (slice_index k.firsts)) same holds.told in
       seen_by_branches L held.shaped.earlier (branching_of branches makers) held.lines (length makers) held.known x y hx passes
       (λ b h p. elim (cases_lt b n) [
         | inl own ↦ counted_sound L held.shaped.earlier (branching_of branches makers) held.lines (length makers) held.known n no_first x y count (slice_index k.firsts) hx (rows.row x hx) firsts low

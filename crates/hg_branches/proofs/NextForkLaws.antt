@@ -11,7 +11,7 @@ use Rattle.hg_model.proofs.ReachLaws.{has_place_first, has_place_later}
 use Rattle.hg_bits.specs.Masks.{mask_has}
 use Rattle.hg_ancestry.specs.Held.{HoldsForks, is_apart}
 use Rattle.hg_ancestry.proofs.NewForkLaws.{no_fork_alone, forks_are}
-use Rattle.hg_branches.specs.Columns.{branching_of, count_in, counts_more, forks_anew, forks_next, put_at, with_maker, HoldsBranches, HoldsCounts}
+use Rattle.hg_branches.specs.Columns.{branching_of, count_in, counts_more, forks_anew, forks_next, put_at, with_branch, HoldsBranches, HoldsCounts}
 use Rattle.hg_branches.proofs.HeldLaws.{Serves, branches_hold, in_reach}
 use Rattle.hg_branches.proofs.PutLaws.{made_none}
 use Rattle.hg_branches.proofs.SeenLaws.{apart_told, no_fork_on_one}
@@ -49,9 +49,9 @@ module _ (n : Stakes) (L : List Link) (branches makers ends : List ℕ) (held : 
         | inl is ↦ ap (λ c. known || (c && anew)) is ∙ all
         | inr is_not ↦
             (let parts = one is_not in
-            let same : with_maker makers b by ≡ makers = made_none makers b by (in_reach n L branches makers ends held link fits b serves) parts.1 in
+            let same : with_branch makers b by ≡ makers = made_none makers b by (in_reach n L branches makers ends held link fits b serves) parts.1 in
             let after = branches_hold n L branches makers ends held link fits b serves short in
-            let free : fork_there ≡ false = no_fork_on_own n (L ++ link ∷ []) (branches ++ b ∷ []) (with_maker makers b by) (put_at ends b (length L + 1)) after
+            let free : fork_there ≡ false = no_fork_on_own n (L ++ link ∷ []) (branches ++ b ∷ []) (with_branch makers b by) (put_at ends b (length L + 1)) after
             (ap length same ∙ parts.0) (length L) m (omega (arith, length_push L link)) in
             let unknown : known ≡ false = false_from_ne_true known (λ h. true≢false (sym (or_left known anew h) ∙ (all ∙ free))) in
             ap (λ c. known || (c && anew)) is_not ∙ (or-false known ∙ (unknown ∙ sym free)))

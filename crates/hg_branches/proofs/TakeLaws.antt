@@ -40,8 +40,6 @@ counts_none n makers = record {
   len = refl;
   row = λ x h. absurd (omega arith);
   wide = λ x h. absurd (omega arith);
-  narrow = λ x h. absurd (omega arith);
-  early = λ x h. absurd (omega arith);
 }
 
 pub forks_none : HoldsForks [] []
@@ -119,7 +117,6 @@ module _ (n : Stakes) (L : List Link) (branches makers ends : List ℕ) (held : 
   counts_take counts rows =
       let rows_len = rows.len in
       let last = long in
-      let cut = makers_long in
       let same : (x : ℕ) → x < len → get_or (take len counts) x [] ≡ get_or counts x [] = λ x h. get_or-take len counts x [] h in
       record {
         len = length-take-le len counts (omega arith) ∙ sym long;
@@ -127,9 +124,6 @@ module _ (n : Stakes) (L : List Link) (branches makers ends : List ℕ) (held : 
             subst (λ r. CountsAncestors (take len L) (branching_of (take len branches) (take many makers)) x (λ b. get_or r b 0)) (sym (same x low))
             (counts_first x (count_in counts x) low (rows.row x (omega arith))));
         wide = λ x h. (let low : x < len = omega arith in subst (λ r. member_count n ≤ length r) (sym (same x low)) (rows.wide x (omega arith)));
-        narrow = λ x h. (let low : x < len = omega arith in let one = rows.narrow x (omega arith) in let two = rows.early x (omega arith) in
-            subst (λ r. length r ≤ length (take many makers) + 1) (sym (same x low)) (omega arith));
-        early = λ x h. (let low : x < len = omega arith in subst (λ r. length r ≤ member_count n + x + 1) (sym (same x low)) (rows.early x (omega arith)));
       }
 
   pub forks_take : (masks : List ℕ) → HoldsForks L masks → HoldsForks (take len L) (take len masks)

@@ -1,6 +1,6 @@
 -- What a graph keeps of its branches: for each row its branch, its counts and who has a fork below it; for each branch its
 -- maker and its end, which is one more than the place of its last row, or 0
-use Rattle.std.specs.Prelude.{◌≡◌, ℕ, ◌+◌, ◌-◌, ◌<◌, ◌≤◌, ◌^◌, ◌==◌, ◌&&◌, ◌||◌, nat_lt, Bool, false, cond, List, [], ◌∷◌, ◌++◌, length, get_or, replicate, slice_set, Option, Some, None}
+use Rattle.std.specs.Prelude.{◌≡◌, ℕ, ◌+◌, ◌-◌, ◌<◌, ◌≤◌, ◌^◌, ◌==◌, ◌&&◌, ◌||◌, nat_lt, Bool, false, cond, List, [], ◌∷◌, ◌++◌, length, get_or, slice_set, Option, Some, None}
 use Rattle.hg_model.specs.Stakes.{Stakes, member_count}
 use Rattle.hg_model.specs.Links.{Link}
 use Rattle.hg_model.specs.Graph.{IsShaped}
@@ -26,9 +26,9 @@ next_branch branches ends (p ∷ ps) by = cond (get_or ends (get_or branches p 0
 abbrev pub put_at : List ℕ → ℕ → ℕ → List ℕ
 put_at xs b v = cond (b == length xs) (xs ++ v ∷ []) (slice_set xs b v)
 
--- the makers, with that of branch b if it is a new one
-abbrev pub with_maker : List ℕ → ℕ → ℕ → List ℕ
-with_maker makers b by = cond (b == length makers) (makers ++ by ∷ []) makers
+-- the values by branch, with this one for branch b if it is a new one
+abbrev pub with_branch : List ℕ → ℕ → ℕ → List ℕ
+with_branch xs b v = cond (b == length xs) (xs ++ v ∷ []) xs
 
 -- the rows stand on branches, of which the first are the members' own
 pub record HoldsBranches (n : Stakes) (L : List Link) (branches makers ends : List ℕ) : Type 0 where
@@ -46,13 +46,11 @@ pub record HoldsBranches (n : Stakes) (L : List Link) (branches makers ends : Li
   pub sparse : length makers ≤ member_count n + length L
   pub early : (x : ℕ) → x < length L → get_or branches x 0 ≤ member_count n + x
 
--- each row has its counts: of the members' own branches, and of no more branches than there were
+-- each row has its counts, of the members' own branches at least
 pub record HoldsCounts (n : Stakes) (L : List Link) (branches makers : List ℕ) (counts : List (List ℕ)) : Type 0 where
   pub len : length counts ≡ length L
   pub row : (x : ℕ) → x < length L → CountsAncestors L (branching_of branches makers) x (count_in counts x)
   pub wide : (x : ℕ) → x < length L → member_count n ≤ length (get_or counts x [])
-  pub narrow : (x : ℕ) → x < length L → length (get_or counts x []) ≤ length makers + 1
-  pub early : (x : ℕ) → x < length L → length (get_or counts x []) ≤ member_count n + x + 1
 
 -- of some branch by member m the first counts more than the second
 abbrev pub counts_more : List ℕ → (ℕ → ℕ) → (ℕ → ℕ) → ℕ → Bool
@@ -70,12 +68,6 @@ forks_next makers counts masks many (Some on) by m =
     (mask_has (get_or masks on.0 0) m || mask_has (get_or masks on.1 0) m)
     || (many && forks_anew makers (count_in counts on.0) (count_in counts on.1) by m)
 
--- the memory of the next row's counts, if there is any: a zero for each branch and for one more
-abbrev pub IsSpare : ℕ → Option (List ℕ) → Type 0
-IsSpare branches None = Unit {0}
-IsSpare branches (Some row) = row ≡ replicate (branches + 1) 0
-
--- for how many rows that serves
-abbrev pub spare_room : Option (List ℕ) → ℕ
-spare_room None = 0
-spare_room (Some row) = 1
+-- for how many rows there is memory, where it was taken
+abbrev pub room_of : Bool → ℕ
+room_of ready = cond ready 1 0

@@ -1,5 +1,5 @@
 -- Rows of which the first descendants are kept
-use Rattle.std.specs.Prelude.{◌≡◌, ℕ, ◌+◌, ◌-◌, ◌<◌, ◌&&◌, nat_lt, Bool, cond, List, [], length, get_or, slice_index, slice_set, Option, Some, None}
+use Rattle.std.specs.Prelude.{◌≡◌, ◌≢◌, ℕ, ◌+◌, ◌-◌, ◌<◌, ◌≤◌, ◌&&◌, nat_lt, nat_le, Bool, cond, List, [], length, get_or, slice_index, slice_set, Option, Some, None}
 use Rattle.hg_model.specs.Stakes.{Stakes, member_count}
 use Rattle.hg_model.specs.Links.{Link}
 use Rattle.hg_branches.specs.Branches.{FirstDescendants}
@@ -9,37 +9,83 @@ use Rattle.hg_branches.specs.Columns.{branching_of}
 abbrev pub no_first : ℕ
 no_first = 4294967295
 
--- one more than the place of the row, or 0 for no row; and for each member's own branch its first descendant
+-- one more than the place of the row; its branch; the number of the kept row before it on that branch, or 0; and for each
+-- member's own branch its first descendant. The number of a kept row is one more than its index
 pub record Kept : Type 0 where
   pub end : ℕ
+  pub branch : ℕ
+  pub before : ℕ
   pub firsts : List ℕ
 
--- what the slot keeps
+-- the kept row at this index
 abbrev pub kept_at : List Kept → ℕ → Kept
-kept_at kept i = get_or kept i (record { end = 0; firsts = [] })
+kept_at kept i = get_or kept i (record { end = 0; branch = 0; before = 0; firsts = [] })
 
--- the slot has the first descendants of its row, if it has a row
+-- a kept row has the first descendants of a row of the graph
 pub record HoldsFirsts (n : Stakes) (L : List Link) (branches makers : List ℕ) (k : Kept) : Type 0 where
+  pub some : 0 < k.end
+  pub inside : k.end ≤ length L
   pub long : length k.firsts ≡ member_count n
-  pub told : (y : ℕ) → k.end ≡ y + 1 → (y < length L) × FirstDescendants (member_count n) no_first L (branching_of branches makers) y (slice_index k.firsts)
+  pub on : slice_index branches (k.end - 1) ≡ k.branch
+  pub told : FirstDescendants (member_count n) no_first L (branching_of branches makers) (k.end - 1) (slice_index k.firsts)
 
--- there is no row in any slot
-abbrev pub AreEmpty : ℕ → List Kept → Type 0
-AreEmpty n kept = (i : ℕ) → i < length kept → ((kept_at kept i).end ≡ 0) × (length (kept_at kept i).firsts ≡ n)
+-- of the first `many` kept rows the last on branch c has this number, or it is 0 where none is on c
+pub record IsLastOn (kept : List Kept) (many c number : ℕ) : Type 0 where
+  pub inside : number ≤ many
+  pub on : 0 < number → (kept_at kept (number - 1)).branch ≡ c
+  pub none_later : (i : ℕ) → number ≤ i → i < many → (kept_at kept i).branch ≢ c
 
--- each slot has those of its row
-pub record HoldsKept (n : Stakes) (L : List Link) (branches makers : List ℕ) (kept : List Kept) : Type 0 where
+-- the kept rows stand in the order of the graph, and each names the one before it on its branch
+pub record HoldsChains (kept : List Kept) : Type 0 where
+  pub low : (i : ℕ) → i < length kept → i < (kept_at kept i).end
+  pub rise : (i j : ℕ) → i ≤ j → j < length kept → (kept_at kept i).end ≤ (kept_at kept j).end
+  pub before : (j : ℕ) → j < length kept → IsLastOn kept j (kept_at kept j).branch (kept_at kept j).before
+
+-- the number of the last kept row of each branch
+abbrev pub HoldsNewest : List Kept → List ℕ → Type 0
+HoldsNewest kept newest = (c : ℕ) → IsLastOn kept (length kept) c (slice_index newest c)
+
+-- where row y has a number, it is that of its kept row
+abbrev pub HoldsNumbers : List Kept → List ℕ → Type 0
+HoldsNumbers kept numbers = (y : ℕ) → 0 < slice_index numbers y → (slice_index numbers y ≤ length kept) × ((kept_at kept (slice_index numbers y - 1)).end ≡ y + 1)
+
+-- each kept row has its first descendants, and is found by its branch and by its place
+pub record HoldsKept (n : Stakes) (L : List Link) (branches makers : List ℕ) (kept : List Kept) (newest numbers : List ℕ) : Type 0 where
   pub each : (i : ℕ) → i < length kept → HoldsFirsts n L branches makers (kept_at kept i)
+  pub chains : HoldsChains kept
+  pub by_branch : HoldsNewest kept newest
+  pub newest_all : length newest ≡ length makers
+  pub by_place : HoldsNumbers kept numbers
+  pub numbers_all : length numbers ≡ length L
 
--- the kept row is an ancestor of the next one, with these counts and this end of its branch b, and of none before it there
-abbrev pub is_first : List ℕ → List ℕ → ℕ → ℕ → Kept → Bool
-is_first branches counts b end k = nat_lt 0 k.end && nat_lt (k.end - 1) (slice_index counts (slice_index branches (k.end - 1))) && nat_lt end (slice_index k.firsts b)
+-- the kept row is an ancestor of the next one, which counts so much of its branch and has this end of branch b, and of none
+-- before it there
+abbrev pub is_first : ℕ → ℕ → ℕ → Kept → Bool
+is_first count b end k = nat_le k.end count && nat_lt end (slice_index k.firsts b)
 
--- what the slot keeps once that row has come
-abbrev pub noted : List ℕ → List ℕ → ℕ → ℕ → Kept → Kept
-noted branches counts b end k = cond (is_first branches counts b end k) (record { end = k.end; firsts = slice_set k.firsts b end }) k
+-- what is kept once that row has come
+abbrev pub noted_once : ℕ → ℕ → ℕ → Kept → Kept
+noted_once count b end k = record { end = k.end; branch = k.branch; before = k.before; firsts = cond (is_first count b end k) (slice_set k.firsts b end) k.firsts }
 
--- the slot keeps row y
-abbrev pub IsSlotOf : List Kept → ℕ → Option ℕ → Type 0
-IsSlotOf kept y None = Unit {0}
-IsSlotOf kept y (Some i) = (i < length kept) × ((kept_at kept i).end ≡ y + 1)
+-- the same by what the row counts of each branch
+abbrev pub noted : List ℕ → ℕ → ℕ → Kept → Kept
+noted counts b end k = noted_once (slice_index counts k.branch) b end k
+
+-- the kept rows of branch c that the self-parent has as ancestors need no note
+abbrev pub AreNotedOn : ℕ → List ℕ → List ℕ → ℕ → ℕ → List Kept → Type 0
+AreNotedOn c known counts b end kept =
+    (i : ℕ) → i < length kept → (kept_at kept i).branch ≡ c → (kept_at kept i).end ≤ slice_index known c → noted counts b end (kept_at kept i) ≡ kept_at kept i
+
+-- the kept rows of branch c are noted
+abbrev pub NotesOn : ℕ → List ℕ → ℕ → ℕ → List Kept → List Kept → Type 0
+NotesOn c counts b end old new = (i : ℕ) → i < length old → (kept_at old i).branch ≡ c → kept_at new i ≡ noted counts b end (kept_at old i)
+
+-- the memory for one more kept row, if there is any
+abbrev pub IsSpareKept : ℕ → Option Kept → Type 0
+IsSpareKept n None = Unit {0}
+IsSpareKept n (Some k) = length k.firsts ≡ n
+
+-- for how many more that serves
+abbrev pub spare_kept_room : Option Kept → ℕ
+spare_kept_room None = 0
+spare_kept_room (Some k) = 1

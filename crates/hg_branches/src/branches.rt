@@ -1,7 +1,7 @@
 ghost use Rattle.std.specs.Prelude.{◌≡◌, ◌<◌, ◌≤◌, ◌+◌, ◌-◌, ◌^◌, ℕ, replicate, length, slice_index, slice_index_or, take, IfOk, vec_len, vec_capacity};
 ghost use Rattle.hg_model.specs.Shape.{pair_list};
 ghost use Rattle.std.specs.List.{AllByRecursion, range_with_len};
-ghost use Rattle.hg_branches.specs.Columns.{next_branch, put_at, with_maker};
+ghost use Rattle.hg_branches.specs.Columns.{next_branch, put_at, with_branch};
 
 use hg_model::{Member, Memory};
 use std::alloc::Global;
@@ -37,7 +37,7 @@ pub fn move_end(makers: &mut Vec<Member>, ends: &mut Vec<u32>, branch: usize, by
     requires there { branch ≤ length ends.old.items }
     requires makers_room { vec_len makers.old < vec_capacity makers.old }
     requires ends_room { vec_len ends.old < vec_capacity ends.old }
-    ensures makers { makers.new.items ≡ with_maker makers.old.items branch by }
+    ensures makers { makers.new.items ≡ with_branch makers.old.items branch by }
     ensures ends { ends.new.items ≡ put_at ends.old.items branch end }
 {
     if branch == ends.len() {
@@ -48,6 +48,17 @@ pub fn move_end(makers: &mut Vec<Member>, ends: &mut Vec<u32>, branch: usize, by
     }
 }
 
+/// Opens the branch for kept rows, of which it has none, if it is a new one.
+pub fn open_branch(newest: &mut Vec<u32>, branch: usize)
+    requires there { branch ≤ length newest.old.items }
+    requires room { vec_len newest.old < vec_capacity newest.old }
+    ensures { newest.new.items ≡ with_branch newest.old.items branch 0 }
+{
+    if branch == newest.len() {
+        newest.push_reserved(0);
+    }
+}
+
 /// The ends of so many branches, by the branches of all rows.
 pub fn ends_of(alloc: Global, branches: &[usize], many: usize) -> Result<Vec<u32>, Memory>
     requires known { (x : ℕ) → x < length branches.now → slice_index branches.now x < many }
@@ -55,14 +66,14 @@ pub fn ends_of(alloc: Global, branches: &[usize], many: usize) -> Result<Vec<u32
     ensures len { IfOk result (λ v. length v.items ≡ many) }
     ensures end { IfOk result (λ v. (x : ℕ) → x < length branches.now → x < slice_index v.items (slice_index branches.now x)) }
 {
-    let mut ends = no_ends(alloc, many)?;
+    let mut ends = zeros(alloc, many)?;
     mark_ends(&mut ends, branches);
     Ok(ends)
 }
 
-/// The ends of so many empty branches.
-pub fn no_ends(alloc: Global, many: usize) -> Result<Vec<u32>, Memory>
-    ensures { IfOk result (λ v. length v.items ≡ many) }
+/// So many zeros: the ends of empty branches.
+pub fn zeros(alloc: Global, many: usize) -> Result<Vec<u32>, Memory>
+    ensures { IfOk result (λ v. v.items ≡ replicate many 0) }
 {
     Ok(vec![in alloc; 0u32; many]?)
 }

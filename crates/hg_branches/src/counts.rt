@@ -1,149 +1,87 @@
-ghost use Rattle.std.specs.Prelude.{◌≡◌, ◌≢◌, ◌<◌, ◌≤◌, ◌+◌, ℕ, [], max, length, replicate, slice_index, slice_index_or, slice_set, take, IfOk};
+ghost use Rattle.std.specs.Prelude.{◌≡◌, ◌<◌, ◌≤◌, ℕ, max, length, slice_index, take};
 ghost use Rattle.hg_model.specs.Shape.{pair_list};
-ghost use Rattle.std.specs.List.{AllByRecursion};
-ghost use Rattle.hg_branches.specs.Branches.{greatest_count};
-ghost use Rattle.hg_branches.specs.Columns.{count_in};
+ghost use Rattle.hg_branches.specs.Rows.{row_in, known_place};
 
+use crate::table::CountTable;
 use hg_bits::kernels::max_into;
-use hg_model::Memory;
-use std::alloc::Global;
 use std::marker::Model;
 
-/// A number for each branch. Branches past its end have 0.
-#[derive(Debug, Drop)]
-pub struct CountRow {
-    numbers: Vec<u32>,
+/// What a row counts of each branch.
+#[derive(Drop)]
+pub struct RowCounts<'a> {
+    table: &'a CountTable,
+    row: usize,
+    /// The numbers of the members' own branches.
+    own: &'a [u32],
 }
 
-impl Model for CountRow {
-    ghost use Rattle.std.specs.Prelude.{ℕ, List};
+impl<'a> Model for RowCounts<'a> {
+    ghost use Rattle.hg_branches.specs.Rows.{HoldsRow, RowView, row_in};
 
-    ghost Value = { List ℕ };
+    ghost Value = { RowView };
 
-    ghost view = { λ s. s.numbers.items };
+    ghost view = { λ s. row_in s.table.now s.row };
+
+    ghost invariant = { λ s. HoldsRow s.table.now s.row s.own.now };
 }
 
-impl CountRow {
-    /// So many zeros.
-    pub fn new(alloc: Global, len: usize) -> Result<CountRow, Memory>
-        ensures { IfOk result (λ row. row ≡ replicate len 0) }
-    {
-        let numbers = vec![in alloc; 0u32; len]?;
-        Ok(CountRow { numbers })
-    }
-
-    /// The same numbers, in memory of their own.
-    pub fn copy(&self, alloc: Global) -> Result<CountRow, Memory>
-        ensures { IfOk result (λ row. row ≡ self.now) }
-    {
-        let numbers = Vec::from_slice(alloc, &self.numbers)?;
-        Ok(CountRow { numbers })
-    }
-
-    /// For how many branches it has a number.
-    pub fn len(&self) -> usize
-        ensures { result ≡ length self.now }
-    {
-        self.numbers.len()
-    }
-
+impl<'a> RowCounts<'a> {
     /// The number of branch `b`.
     pub fn at(&self, b: usize) -> u32
-        ensures { result ≡ slice_index self.now b }
+        ensures { result ≡ slice_index self.now.row b }
     {
-        match self.numbers.get(b) {
+        match self.own.get(b) {
             Some(number) => *number,
-            None => 0,
+            None => self.table.at(self.row, b),
         }
     }
 
-    /// Gives branch `b` this number.
-    pub fn set(&mut self, b: usize, number: u32)
-        requires { b < length self.old }
-        ensures { self.new ≡ slice_set self.old b number }
+    /// The numbers of the members' own branches.
+    pub fn own(&self) -> &[u32]
+        ensures value { result.now ≡ take self.now.members self.now.row }
+        ensures len { length result.now ≡ self.now.members }
     {
-        self.numbers[b] = number;
+        self.own
     }
+}
 
-    /// Raises each number to that of the other row, which is not longer.
-    pub fn raise(&mut self, other: &CountRow)
-        requires { length other.now ≤ length self.old }
-        ensures len { length self.new ≡ length self.old }
-        ensures each { (b : ℕ) → slice_index self.new b ≡ max (slice_index self.old b) (slice_index other.now b) }
-    {
-        raise_first(&mut self.numbers, &other.numbers);
+/// The counts of row `x`.
+pub fn row_of(table: &CountTable, x: usize) -> RowCounts<'_>
+    requires { x < length table.now.rows }
+    ensures { result ≡ row_in table.now x }
+{
+    RowCounts {
+        table,
+        row: x,
+        own: table.own(x),
     }
+}
 
-    /// The numbers, in the order of the branches.
-    pub fn as_slice(&self) -> &[u32]
-        ensures { result.now ≡ self.now }
-    {
-        &self.numbers
+/// The place of the self-parent of row `x`, or `x` where it has no parents.
+pub fn known_place(on: Option<(usize, usize)>, x: usize) -> usize
+    ensures { result ≡ known_place (pair_list on) x }
+{
+    match on {
+        None => x,
+        Some((self_place, _)) => self_place,
+    }
+}
+
+/// The number of branch `b`, or 0 where there is none.
+pub fn count_at(row: &[u32], b: usize) -> u32
+    ensures { result ≡ slice_index row.now b }
+{
+    match row.get(b) {
+        Some(number) => *number,
+        None => 0,
     }
 }
 
 /// Raises as many of the first numbers as there are others.
-fn raise_first(row: &mut [u32], others: &[u32])
+pub fn raise_first(row: &mut [u32], others: &[u32])
     requires { length others.now ≤ length row.old }
     ensures len { length row.new ≡ length row.old }
     ensures each { (b : ℕ) → slice_index row.new b ≡ max (slice_index row.old b) (slice_index others.now b) }
 {
     max_into(&mut row[..others.len()], others);
-}
-
-/// The counts of row `x`.
-pub fn counts_of(counts: &[CountRow], x: usize) -> &CountRow
-    requires { x < length counts.now }
-    ensures { result.now ≡ slice_index_or counts.now x [] }
-{
-    &counts[x]
-}
-
-/// Makes zeros the counts of the next row, on these parents: their greatest, and on the row's own branch its end.
-pub fn fill(
-    row: &mut CountRow,
-    counts: &[CountRow],
-    on: Option<(usize, usize)>,
-    branch: usize,
-    end: u32,
-)
-    requires places { AllByRecursion (λ p. p < length counts.now) (pair_list on) }
-    requires long { AllByRecursion (λ p. length (slice_index_or counts.now p []) ≤ length row.old) (pair_list on) }
-    requires empty { (b : ℕ) → slice_index row.old b ≡ 0 }
-    requires there { branch < length row.old }
-    ensures len { length row.new ≡ length row.old }
-    ensures end { slice_index row.new branch ≡ end }
-    ensures others { (b : ℕ) → b ≢ branch → slice_index row.new b ≡ greatest_count (count_in counts.now) (pair_list on) b }
-{
-    add_parents(row, counts, on);
-    row.set(branch, end);
-}
-
-/// Raises zeros to the counts of these parents.
-fn add_parents(row: &mut CountRow, counts: &[CountRow], on: Option<(usize, usize)>)
-    requires places { AllByRecursion (λ p. p < length counts.now) (pair_list on) }
-    requires long { AllByRecursion (λ p. length (slice_index_or counts.now p []) ≤ length row.old) (pair_list on) }
-    requires empty { (b : ℕ) → slice_index row.old b ≡ 0 }
-    ensures len { length row.new ≡ length row.old }
-    ensures each { (b : ℕ) → slice_index row.new b ≡ greatest_count (count_in counts.now) (pair_list on) b }
-{
-    match on {
-        None => {}
-        Some((self_place, other)) => {
-            row.raise(counts_of(counts, self_place));
-            row.raise(counts_of(counts, other));
-        }
-    }
-}
-
-/// The counts of the first `len` rows, in memory of their own.
-pub fn copy_counts(alloc: Global, counts: &[CountRow], len: usize) -> Result<Vec<CountRow>, Memory>
-    requires { len ≤ length counts.now }
-    ensures { IfOk result (λ v. v.items ≡ take len counts.now) }
-{
-    let mut copy = Vec::with_capacity(alloc, len)?;
-    for row in &counts[..len] {
-        copy.push(row.copy(alloc)?)?;
-    }
-    Ok(copy)
 }

@@ -4,7 +4,8 @@ ghost use Rattle.std.specs.List.{AllByRecursion};
 ghost use Rattle.hg_bits.specs.Masks.{mask_has};
 ghost use Rattle.hg_branches.specs.Columns.{count_in, counts_more, forks_anew, forks_next};
 
-use crate::counts::{CountRow, counts_of};
+use crate::counts::{RowCounts, row_of};
+use crate::table::CountTable;
 use hg_bits::{join_masks, meet_masks, with_member};
 use hg_model::Member;
 
@@ -12,7 +13,7 @@ use hg_model::Member;
 /// where `many` says that some member has a second branch.
 pub fn forked_next(
     makers: &[Member],
-    counts: &[CountRow],
+    counts: &CountTable,
     forked: &[u128],
     many: bool,
     on: Option<(usize, usize)>,
@@ -20,18 +21,18 @@ pub fn forked_next(
 ) -> u128
     requires member { by < 128 }
     requires members { (b : ℕ) → b < length makers.now → slice_index makers.now b < 128 }
-    requires rows { length counts.now ≡ length forked.now }
+    requires rows { length counts.now.rows ≡ length forked.now }
     requires places { AllByRecursion (λ p. p < length forked.now) (pair_list on) }
-    ensures { (m : ℕ) → mask_has result m ≡ forks_next makers.now counts.now forked.now many on by m }
+    ensures { (m : ℕ) → mask_has result m ≡ forks_next makers.now counts.now.rows forked.now many on by m }
 {
     match on {
         None => 0,
         Some((self_place, other)) => {
             let known = join_masks(forked[self_place], forked[other]);
             if many {
-                let here = counts_of(counts, self_place);
-                let there = counts_of(counts, other);
-                join_masks(known, new_forks(makers, here, there, by))
+                let here = row_of(counts, self_place);
+                let there = row_of(counts, other);
+                join_masks(known, new_forks(makers, &here, &there, by))
             } else {
                 known
             }
@@ -41,10 +42,10 @@ pub fn forked_next(
 
 /// The members that have rows which the self-parent alone counts, or are the creator, and have rows which the other-parent
 /// alone counts.
-fn new_forks(makers: &[Member], counts: &CountRow, other: &CountRow, by: Member) -> u128
+fn new_forks(makers: &[Member], counts: &RowCounts, other: &RowCounts, by: Member) -> u128
     requires member { by < 128 }
     requires members { (b : ℕ) → b < length makers.now → slice_index makers.now b < 128 }
-    ensures { (m : ℕ) → mask_has result m ≡ forks_anew makers.now (slice_index counts.now) (slice_index other.now) by m }
+    ensures { (m : ℕ) → mask_has result m ≡ forks_anew makers.now (slice_index counts.now.row) (slice_index other.now.row) by m }
 {
     let here = with_member(members_apart(makers, counts, other), by);
     meet_masks(here, members_apart(makers, other, counts))
@@ -52,9 +53,9 @@ fn new_forks(makers: &[Member], counts: &CountRow, other: &CountRow, by: Member)
 
 /// The members with a branch of which the first row counts more than the other.
 #[tactic(auto, using(hg_model::proofs::PlacesLaws::some_steps))]
-fn members_apart(makers: &[Member], counts: &CountRow, other: &CountRow) -> u128
+fn members_apart(makers: &[Member], counts: &RowCounts, other: &RowCounts) -> u128
     requires { (b : ℕ) → b < length makers.now → slice_index makers.now b < 128 }
-    ensures { (m : ℕ) → mask_has result m ≡ counts_more makers.now (slice_index counts.now) (slice_index other.now) m }
+    ensures { (m : ℕ) → mask_has result m ≡ counts_more makers.now (slice_index counts.now.row) (slice_index other.now.row) m }
 {
     let mut mask = 0;
     for b in 0..makers.len() {

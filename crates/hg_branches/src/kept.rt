@@ -1,24 +1,26 @@
-ghost use Rattle.std.specs.Prelude.{◌≡◌, ◌≢◌, ◌<◌, ◌≤◌, ◌+◌, ◌-◌, ◌^◌, ℕ, cond, nat_lt, length, slice_index, IfOk};
-ghost use Rattle.hg_branches.specs.Kept.{kept_at, no_first, noted, AreEmpty, IsSlotOf};
+ghost use Rattle.std.specs.Prelude.{◌≡◌, ◌≢◌, ◌<◌, ◌-◌, ℕ, length, slice_index, IfOk};
+ghost use Rattle.hg_branches.specs.Kept.{kept_at, no_first, noted, noted_once, AreNotedOn, HoldsChains, HoldsNewest, IsLastOn, NotesOn};
 
-use crate::counts::CountRow;
-use hg_model::{Member, Memory};
+use crate::branches::zeros;
+use crate::counts::{RowCounts, count_at};
+use hg_model::Memory;
 use std::alloc::Global;
 use std::marker::Model;
-
-/// How many rows of a member have a slot.
-const SLOTS: usize = 4;
 
 /// In place of a first descendant where there is none. A graph's ends are lower.
 const NO_FIRST: u32 = 4_294_967_295;
 
-/// A slot for the first descendants of a row. It may be empty.
+/// The first descendants of a row, one on each member's own branch. The number of a kept row is one more than its index.
 #[derive(Drop)]
 pub struct KeptRow {
-    /// One more than the place of the row, or 0 in an empty slot.
+    /// One more than the place of the row.
     end: u32,
+    /// The row's branch.
+    branch: usize,
+    /// The number of the kept row before it on its branch, or 0.
+    before: u32,
     /// For each member's own branch one more than the place of the first descendant there.
-    firsts: CountRow,
+    firsts: Vec<u32>,
 }
 
 impl Model for KeptRow {
@@ -26,55 +28,66 @@ impl Model for KeptRow {
 
     ghost Value = { Kept };
 
-    ghost view = { λ s. record { end = s.end; firsts = s.firsts } };
+    ghost view = { λ s. record { end = s.end; branch = s.branch; before = s.before; firsts = s.firsts.items } };
 }
 
 impl KeptRow {
-    /// An empty slot for a graph of so many members.
+    /// The memory of a kept row, for a graph of so many members.
     pub fn new(alloc: Global, members: usize) -> Result<KeptRow, Memory>
-        ensures none { IfOk result (λ k. k.end ≡ 0) }
-        ensures long { IfOk result (λ k. length k.firsts ≡ members) }
+        ensures { IfOk result (λ k. length k.firsts ≡ members) }
     {
-        let firsts = CountRow::new(alloc, members)?;
-        Ok(KeptRow { end: 0, firsts })
+        let firsts = zeros(alloc, members)?;
+        Ok(KeptRow {
+            end: 0,
+            branch: 0,
+            before: 0,
+            firsts,
+        })
     }
 
-    /// Takes the last row of the graph, on this branch, in place of what it has.
-    pub fn begin(&mut self, branch: usize, end: u32)
+    /// Takes the last row of the graph, on this branch, behind the kept row of this number.
+    pub fn begin(&mut self, branch: usize, end: u32, before: u32)
         ensures end { self.new.end ≡ end }
+        ensures branch { self.new.branch ≡ branch }
+        ensures before { self.new.before ≡ before }
         ensures long { length self.new.firsts ≡ length self.old.firsts }
         ensures itself { branch < length self.old.firsts → slice_index self.new.firsts branch ≡ end }
         ensures others { (b : ℕ) → b < length self.old.firsts → b ≢ branch → slice_index self.new.firsts b ≡ no_first }
     {
         self.end = end;
+        self.branch = branch;
+        self.before = before;
         clear(&mut self.firsts);
         if branch < self.firsts.len() {
-            self.firsts.set(branch, end);
+            self.firsts[branch] = end;
         }
     }
 
-    /// Notes that the next row has come, with these counts, on this branch.
-    pub fn note(&mut self, branches: &[usize], counts: &CountRow, branch: usize, end: u32)
-        requires { self.old.end ≤ length branches.now }
-        ensures { self.new ≡ noted branches.now counts.now branch end self.old }
+    /// Notes that the next row has come, which counts so much of this row's branch, on this branch.
+    pub fn note(&mut self, count: u32, branch: usize, end: u32)
+        ensures { self.new ≡ noted_once count branch end self.old }
     {
-        if self.end > 0 {
-            let row = self.end as usize - 1;
-            if row < counts.at(branches[row]) as usize && end < self.firsts.at(branch) {
-                self.firsts.set(branch, end);
-            }
+        if self.end <= count && end < count_at(&self.firsts, branch) {
+            self.firsts[branch] = end;
         }
     }
 
-    /// One more than the place of the row, or 0 in an empty slot.
+    /// One more than the place of the row.
     pub fn end(&self) -> u32
         ensures { result ≡ self.now.end }
     {
         self.end
     }
 
+    /// The number of the kept row before it on its branch, or 0.
+    pub fn before(&self) -> u32
+        ensures { result ≡ self.now.before }
+    {
+        self.before
+    }
+
     /// For each member's own branch one more than the place of the first descendant there.
-    pub fn firsts(&self) -> &CountRow
+    pub fn firsts(&self) -> &[u32]
         ensures { result.now ≡ self.now.firsts }
     {
         &self.firsts
@@ -82,80 +95,105 @@ impl KeptRow {
 }
 
 /// Leaves no first descendant.
-fn clear(firsts: &mut CountRow)
+fn clear(firsts: &mut [u32])
     ensures len { length firsts.new ≡ length firsts.old }
     ensures each { (b : ℕ) → b < length firsts.old → slice_index firsts.new b ≡ no_first }
 {
     for b in 0..firsts.len() {
-        firsts.set(b, NO_FIRST);
+        firsts[b] = NO_FIRST;
     }
 }
 
-/// Notes in each slot that the next row has come.
+/// Notes in all kept rows that the next row has come, with these counts, on this branch. A branch is looked at only where the
+/// row counts more than its self-parent, which counts what is `known`.
 pub fn note_all(
     kept: &mut [KeptRow],
-    branches: &[usize],
-    counts: &CountRow,
+    newest: &[u32],
+    known: &RowCounts,
+    counts: &RowCounts,
     branch: usize,
     end: u32,
 )
-    requires { (i : ℕ) → i < length kept.old → (kept_at kept.old i).end ≤ length branches.now }
+    requires chains { HoldsChains kept.old }
+    requires newest { HoldsNewest kept.old newest.now }
+    requires noted { (c : ℕ) → AreNotedOn c known.now.row counts.now.row branch end kept.old }
     ensures len { length kept.new ≡ length kept.old }
-    ensures each { (i : ℕ) → i < length kept.old → kept_at kept.new i ≡ noted branches.now counts.now branch end (kept_at kept.old i) }
+    ensures each { (i : ℕ) → i < length kept.old → kept_at kept.new i ≡ noted counts.now.row branch end (kept_at kept.old i) }
 {
-    for i in 0..kept.len() {
-        let slot = &mut kept[i];
-        slot.note(branches, counts, branch, end);
+    for c in 0..newest.len() {
+        note_branch(kept, newest[c], known, counts, c, branch, end);
     }
 }
 
-/// The slot of row `y`, which is by this member, if it has one.
-pub fn slot_of(kept: &[KeptRow], member: Member, y: usize) -> Option<usize>
-    requires { y < 2 ^ 32 - 1 }
-    ensures { IsSlotOf kept.now y result }
+/// Notes it in the kept rows of branch `c`, of which the last has this number.
+fn note_branch(
+    kept: &mut [KeptRow],
+    newest: u32,
+    known: &RowCounts,
+    counts: &RowCounts,
+    c: usize,
+    branch: usize,
+    end: u32,
+)
+    requires chains { HoldsChains kept.old }
+    requires newest { IsLastOn kept.old (length kept.old) c newest }
+    requires noted { AreNotedOn c known.now.row counts.now.row branch end kept.old }
+    ensures len { length kept.new ≡ length kept.old }
+    ensures on { NotesOn c counts.now.row branch end kept.old kept.new }
+    ensures off { (i : ℕ) → (kept_at kept.old i).branch ≢ c → kept_at kept.new i ≡ kept_at kept.old i }
 {
-    let from = usize::from(member) * SLOTS;
-    for i in from..from + SLOTS {
-        if i < kept.len() && kept[i].end() as usize == y + 1 {
-            return Some(i);
+    if known.at(c) < counts.at(c) {
+        note_later(kept, newest, known, counts, c, branch, end);
+    }
+}
+
+/// Notes it in the kept rows of branch `c`, from the last, which has this number, down to the first that the self-parent has as
+/// ancestor.
+fn note_later(
+    kept: &mut [KeptRow],
+    newest: u32,
+    known: &RowCounts,
+    counts: &RowCounts,
+    c: usize,
+    branch: usize,
+    end: u32,
+)
+    requires chains { HoldsChains kept.old }
+    requires newest { IsLastOn kept.old (length kept.old) c newest }
+    requires noted { AreNotedOn c known.now.row counts.now.row branch end kept.old }
+    ensures len { length kept.new ≡ length kept.old }
+    ensures on { NotesOn c counts.now.row branch end kept.old kept.new }
+    ensures off { (i : ℕ) → (kept_at kept.old i).branch ≢ c → kept_at kept.new i ≡ kept_at kept.old i }
+{
+    let least = known.at(c);
+    let count = counts.at(c);
+    let mut number = newest as usize;
+    'chain: while number > 0 {
+        let row = &mut kept[number - 1];
+        if row.end() <= least {
+            return;
         }
+        row.note(count, branch, end);
+        number = row.before() as usize;
     }
-    None
 }
 
-/// The first descendants in the slot.
-pub fn firsts_at(kept: &[KeptRow], slot: usize) -> &CountRow
-    requires { slot < length kept.now }
-    ensures { result.now ≡ (kept_at kept.now slot).firsts }
+/// The first descendants of the kept row with this index.
+pub fn firsts_at(kept: &[KeptRow], index: usize) -> &[u32]
+    requires { index < length kept.now }
+    ensures { result.now ≡ (kept_at kept.now index).firsts }
 {
-    kept[slot].firsts()
+    kept[index].firsts()
 }
 
-/// Of the member's slots that with the earliest row, or an empty one; none where no slot is there.
-pub fn oldest_slot(kept: &[KeptRow], member: Member) -> Option<usize>
-    ensures { (i : ℕ) → result ≡ Some i → i < length kept.now }
+/// One more than the place of the last kept row, or 0 where none is kept.
+pub fn last_end(kept: &[KeptRow]) -> u32
+    ensures none { length kept.now ≡ 0 → result ≡ 0 }
+    ensures last { 0 < length kept.now → result ≡ (kept_at kept.now (length kept.now - 1)).end }
 {
-    let from = usize::from(member) * SLOTS;
-    let mut oldest = None;
-    let mut least = NO_FIRST;
-    for i in from..from + SLOTS {
-        if i < kept.len() && kept[i].end() < least {
-            oldest = Some(i);
-            least = kept[i].end();
-        }
+    if kept.is_empty() {
+        0
+    } else {
+        kept[kept.len() - 1].end()
     }
-    oldest
-}
-
-/// Empty slots for all members.
-pub fn no_rows(alloc: Global, members: u32) -> Result<Vec<KeptRow>, Memory>
-    requires { members ≤ 128 }
-    ensures { IfOk result (λ v. AreEmpty members v.items) }
-{
-    let slots = members as usize * SLOTS;
-    let mut kept = Vec::with_capacity(alloc, slots)?;
-    for _ in 0..slots {
-        kept.push(KeptRow::new(alloc, members as usize)?)?;
-    }
-    Ok(kept)
 }

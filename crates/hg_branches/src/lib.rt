@@ -3,14 +3,34 @@
 //! will ask of often (`keep_last`), which changes no answer.
 //! The first branches are the members' own, so that a branch's number is its member; the others are opened by forks. A row
 //! keeps a number for each branch, and an ancestor is told by one comparison.
+//!
+//! From the tests of this crate (`add_all`, `strongly_sees_two`), shortened:
+//!
+//! ```text
+//! let mut sight = BranchSight::new(rt.alloc(), 4)?;
+//! let mut bits = BitSight::new(rt.alloc(), 4)?;
+//! for (i, (creator, pair)) in FORKED.iter().enumerate() {
+//!     let parents = on(*pair);
+//!     assert!(rt; add(&mut sight, parents, *creator)? && add(&mut bits, parents, *creator)?);
+//!     if every > 0 && i % every == 0 {
+//!         sight.keep_last();
+//!     }
+//! }
+//! assert!(rt; sight.strongly_sees(9, 1) && !sight.strongly_sees(9, 0) && !sight.sees(9, 2));
+//! ```
 #![tactic(auto)]
 
 mod branches;
 mod counts;
 mod forks;
 mod kept;
+#[cfg(test)]
+mod made;
+mod next_row;
 mod seeing;
 mod sight;
+mod table;
+mod tails;
 #[cfg(test)]
 mod tests;
 

@@ -5,7 +5,7 @@ ghost use Rattle.hg_model.specs.GraphWords.{sees_in};
 ghost use Rattle.hg_bits.specs.Masks.{mask_has};
 ghost use Rattle.hg_branches.specs.Lines.{line_sees, sees_on, own_sees, others_see, seen_on, AddsOther, is_strong_by_firsts};
 
-use crate::counts::CountRow;
+use crate::counts::{RowCounts, count_at};
 use crate::sight::BranchSight;
 use hg_bits::kernels::count_ge;
 use hg_bits::{mask_has, with_member};
@@ -25,11 +25,11 @@ pub fn sees(sight: &BranchSight, x: usize, y: usize) -> bool
 
 /// The members with a branch that sees row `y`: a look at the last counted row of each branch.
 #[tactic(auto, using(hg_model::proofs::PlacesLaws::some_steps))]
-pub fn seers(sight: &BranchSight, makers: &[Member], counts: &CountRow, y: usize) -> u128
+pub fn seers(sight: &BranchSight, makers: &[Member], counts: &RowCounts, y: usize) -> u128
     requires place { y < length sight.now.shape.links }
     requires members { (b : ℕ) → b < length makers.now → slice_index makers.now b < 128 }
-    requires places { (b : ℕ) → slice_index counts.now b ≤ length sight.now.shape.links }
-    ensures { (m : ℕ) → mask_has result m ≡ seen_on sight.now.shape.links makers.now counts.now y m }
+    requires places { (b : ℕ) → slice_index counts.now.row b ≤ length sight.now.shape.links }
+    ensures { (m : ℕ) → mask_has result m ≡ seen_on sight.now.shape.links makers.now counts.now.row y m }
 {
     let mut mask = 0;
     for b in 0..makers.len() {
@@ -43,17 +43,17 @@ pub fn seers(sight: &BranchSight, makers: &[Member], counts: &CountRow, y: usize
 pub fn strong_by_firsts(
     sight: &BranchSight,
     makers: &[Member],
-    counts: &CountRow,
-    firsts: &CountRow,
+    counts: &RowCounts,
+    firsts: &[u32],
     y: usize,
 ) -> bool
     requires place { y < length sight.now.shape.links }
     requires members { (b : ℕ) → b < length makers.now → slice_index makers.now b < 128 }
-    requires places { (b : ℕ) → slice_index counts.now b ≤ length sight.now.shape.links }
+    requires places { (b : ℕ) → slice_index counts.now.row b ≤ length sight.now.shape.links }
     requires few { length firsts.now ≤ 128 }
     requires own { length firsts.now ≤ length makers.now }
-    requires wide { length firsts.now ≤ length counts.now }
-    ensures { result ≡ is_strong_by_firsts sight.now.shape makers.now firsts.now counts.now y }
+    requires wide { length firsts.now ≡ counts.now.members }
+    ensures { result ≡ is_strong_by_firsts sight.now.shape makers.now firsts.now counts.now.row y }
 {
     let own = count_own(counts, firsts);
     let others = members_in(others(sight, makers, counts, firsts, y));
@@ -62,13 +62,13 @@ pub fn strong_by_firsts(
 
 /// How many members' own branches have their first descendant counted.
 #[tactic(auto, using(hg_model::proofs::PlacesLaws::count_steps))]
-fn count_own(counts: &CountRow, firsts: &CountRow) -> u32
+fn count_own(counts: &RowCounts, firsts: &[u32]) -> u32
     requires few { length firsts.now ≤ 128 }
-    requires wide { length firsts.now ≤ length counts.now }
-    ensures value { result ≡ count_below (length firsts.now) (own_sees firsts.now counts.now) }
+    requires wide { length firsts.now ≡ counts.now.members }
+    ensures value { result ≡ count_below (length firsts.now) (own_sees firsts.now counts.now.row) }
     ensures few { result ≤ 128 }
 {
-    count_ge(&counts.as_slice()[..firsts.len()], firsts.as_slice())
+    count_ge(counts.own(), firsts)
 }
 
 /// How many members are in the set.
@@ -84,15 +84,15 @@ fn members_in(mask: u128) -> u32
 fn others(
     sight: &BranchSight,
     makers: &[Member],
-    counts: &CountRow,
-    firsts: &CountRow,
+    counts: &RowCounts,
+    firsts: &[u32],
     y: usize,
 ) -> u128
     requires place { y < length sight.now.shape.links }
     requires members { (b : ℕ) → b < length makers.now → slice_index makers.now b < 128 }
-    requires places { (b : ℕ) → slice_index counts.now b ≤ length sight.now.shape.links }
+    requires places { (b : ℕ) → slice_index counts.now.row b ≤ length sight.now.shape.links }
     requires few { length firsts.now ≤ length makers.now }
-    ensures { (m : ℕ) → mask_has result m ≡ others_see sight.now.shape.links makers.now firsts.now counts.now y m }
+    ensures { (m : ℕ) → mask_has result m ≡ others_see sight.now.shape.links makers.now firsts.now counts.now.row y m }
 {
     let mut mask = 0;
     for b in firsts.len()..makers.len() {
@@ -106,8 +106,8 @@ fn with_other(
     mask: u128,
     sight: &BranchSight,
     makers: &[Member],
-    counts: &CountRow,
-    firsts: &CountRow,
+    counts: &RowCounts,
+    firsts: &[u32],
     b: usize,
     y: usize,
 ) -> u128
@@ -115,12 +115,12 @@ fn with_other(
     requires branch { b < length makers.now }
     requires other { length firsts.now ≤ b }
     requires member { slice_index makers.now b < 128 }
-    requires there { slice_index counts.now b ≤ length sight.now.shape.links }
-    ensures { AddsOther sight.now.shape.links makers.now firsts.now counts.now y b mask result }
+    requires there { slice_index counts.now.row b ≤ length sight.now.shape.links }
+    ensures { AddsOther sight.now.shape.links makers.now firsts.now counts.now.row y b mask result }
 {
     let maker = makers[b];
     let own = usize::from(maker);
-    if firsts.at(own) <= counts.at(own) {
+    if count_at(firsts, own) <= counts.at(own) {
         return mask;
     }
     with_seer(mask, sight, counts, b, maker, y)
@@ -130,15 +130,15 @@ fn with_other(
 fn with_seer(
     mask: u128,
     sight: &BranchSight,
-    counts: &CountRow,
+    counts: &RowCounts,
     b: usize,
     maker: Member,
     y: usize,
 ) -> u128
     requires place { y < length sight.now.shape.links }
     requires member { maker < 128 }
-    requires there { slice_index counts.now b ≤ length sight.now.shape.links }
-    ensures { (m : ℕ) → mask_has result m ≡ (mask_has mask m || (sees_on sight.now.shape.links counts.now y b && maker == m)) }
+    requires there { slice_index counts.now.row b ≤ length sight.now.shape.links }
+    ensures { (m : ℕ) → mask_has result m ≡ (mask_has mask m || (sees_on sight.now.shape.links counts.now.row y b && maker == m)) }
 {
     if mask_has(mask, maker) {
         return mask;

@@ -3,11 +3,12 @@ ghost use Rattle.hg_model.specs.Forks.{has_fork_below};
 ghost use Rattle.hg_model.specs.Shape.{shape_of};
 ghost use Rattle.hg_bits.specs.Masks.{mask_has};
 
-use crate::branches::{branch_for, ends_of, move_end, no_ends};
-use crate::counts::{CountRow, copy_counts, counts_of, fill};
+use crate::branches::{branch_for, ends_of, move_end, open_branch, zeros};
+use crate::counts::{known_place, row_of};
 use crate::forks::forked_next;
-use crate::kept::{KeptRow, firsts_at, no_rows, note_all, oldest_slot, slot_of};
+use crate::kept::{KeptRow, firsts_at, last_end, note_all};
 use crate::seeing;
+use crate::table::CountTable;
 use hg_ancestry::{PlacedLink, copy_links, copy_masks, creator_of, self_parent_of};
 use hg_bits::{mask_has, members_over};
 use hg_model::{Growing, Member, Memory, Parents, Sight};
@@ -20,36 +21,42 @@ pub struct BranchSight {
     alloc: Global,
     members: u32,
     links: Vec<PlacedLink>,
-    /// For each row its branch.
+    /// For each row its branch. There may be more branches than a `u32` counts: one for each member and each row.
     branches: Vec<usize>,
     /// For each branch the member whose rows it has. The first branches are the members' own.
     makers: Vec<Member>,
     /// For each branch one more than the place of its last row, or 0.
     ends: Vec<u32>,
     /// For each row and branch one more than the place of the branch's last row among the row's ancestors, or 0.
-    counts: Vec<CountRow>,
+    counts: CountTable,
     /// For each row the members with a fork among its ancestors.
     forked: Vec<u128>,
-    /// Slots for first descendants, as many for each member; a prefix has none.
+    /// The rows of which the first descendants are kept, in the order of the graph; a prefix has none.
     kept: Vec<KeptRow>,
-    /// The counts of the next row, if there is memory for one.
-    spare: Option<CountRow>,
+    /// For each branch the number of its last kept row, or 0.
+    newest: Vec<u32>,
+    /// For each row its number among the kept rows, or 0.
+    numbers: Vec<u32>,
+    /// Whether there is memory for a row.
+    ready: bool,
+    /// The next kept row, if there is memory for one.
+    spare_kept: Option<KeptRow>,
 }
 
 impl Model for BranchSight {
     ghost use Rattle.hg_model.specs.Shape.{ShapeWithRoom, shape_of};
     ghost use Rattle.hg_branches.specs.Sight.{HoldsBranchSight};
-    ghost use Rattle.hg_branches.specs.Columns.{spare_room};
+    ghost use Rattle.hg_branches.specs.Columns.{room_of};
 
     ghost Value = { ShapeWithRoom };
 
-    ghost view = { λ s. record { shape = shape_of s.members s.links.items; room = spare_room s.spare } };
+    ghost view = { λ s. record { shape = shape_of s.members s.links.items; room = room_of s.ready } };
 
     ghost invariant = { HoldsBranchSight };
 }
 
 impl BranchSight {
-    /// The graph of no rows by `members` members. Takes the memory of all slots.
+    /// The graph of no rows by `members` members.
     pub fn new(alloc: Global, members: u32) -> Result<BranchSight, Memory>
         requires { members ≤ 128 }
         ensures { IfOk result (λ s. s.shape ≡ shape_of members []) }
@@ -60,27 +67,54 @@ impl BranchSight {
             links: Vec::new(alloc),
             branches: Vec::new(alloc),
             makers: own_branches(alloc, members)?,
-            ends: no_ends(alloc, members as usize)?,
-            counts: Vec::new(alloc),
+            ends: zeros(alloc, members as usize)?,
+            counts: CountTable::new(alloc, members as usize),
             forked: Vec::new(alloc),
-            kept: no_rows(alloc, members)?,
-            spare: None,
+            kept: Vec::new(alloc),
+            newest: zeros(alloc, members as usize)?,
+            numbers: Vec::new(alloc),
+            ready: false,
+            spare_kept: None,
         })
     }
 
-    /// Gives the last row a slot, that of the earliest row by its creator which has one: its first descendants are kept
-    /// from now on, so that `strongly_sees` of it is quick. It changes no answer, and takes no memory.
+    /// Keeps the first descendants of the last row from now on, so that `strongly_sees` of it is quick. It changes no answer,
+    /// and takes no memory: where `reserve` has taken none for it, it keeps nothing.
     pub fn keep_last(&mut self)
         ensures { self.new ≡ self.old }
     {
         let end = self.links.len();
-        if end > 0 {
-            let member = creator_of(&self.links, self.members, end - 1);
-            let branch = self.branches[end - 1];
-            if let Some(slot) = oldest_slot(&self.kept, member) {
-                self.kept[slot].begin(branch, end as u32);
+        if last_end(&self.kept) < end as u32 {
+            if let Some(mut row) = self.spare_kept.take() {
+                let branch = self.branches[end - 1];
+                row.begin(branch, end as u32, self.newest[branch]);
+                self.kept.push_reserved(row);
+                let number = self.kept.len() as u32;
+                self.newest[branch] = number;
+                self.numbers[end - 1] = number;
             }
         }
+    }
+
+    /// One more than the place of the last row of the member's own branch, or 0: where to look first for its last row. No
+    /// clause speaks of it.
+    pub fn own_end(&self, member: Member) -> usize {
+        match self.ends.get(usize::from(member)) {
+            None => 0,
+            Some(end) => *end as usize,
+        }
+    }
+
+    /// Takes the memory of one more kept row.
+    fn reserve_kept(&mut self) -> Result<(), Memory>
+        ensures { self.new ≡ self.old }
+    {
+        if self.spare_kept.is_none() {
+            self.kept.reserve(1)?;
+            let row = KeptRow::new(self.alloc, self.members as usize)?;
+            self.spare_kept = Some(row);
+        }
+        Ok(())
     }
 
     /// The members with a fork among the ancestors of row `x`.
@@ -125,7 +159,7 @@ impl Sight for BranchSight {
     }
 
     fn ancestor(&self, x: usize, y: usize) -> bool {
-        y < counts_of(&self.counts, x).at(self.branches[y]) as usize
+        y < self.counts.at(x, self.branches[y]) as usize
     }
 
     fn sees(&self, x: usize, y: usize) -> bool {
@@ -138,16 +172,25 @@ impl Sight for BranchSight {
         if !self.ancestor(x, y) {
             return false;
         }
-        let counts = counts_of(&self.counts, x);
+        let counts = row_of(&self.counts, x);
         let member = self.creator(y);
         if !mask_has(self.forked_below(x), member) {
-            if let Some(slot) = slot_of(&self.kept, member, y) {
-                let firsts = firsts_at(&self.kept, slot);
-                return seeing::strong_by_firsts(self, &self.makers, counts, firsts, y);
+            let number = self.numbers[y];
+            if number > 0 {
+                let firsts = firsts_at(&self.kept, number as usize - 1);
+                return seeing::strong_by_firsts(self, &self.makers, &counts, firsts, y);
             }
         }
-        let seers = seeing::seers(self, &self.makers, counts, y);
+        let seers = seeing::seers(self, &self.makers, &counts, y);
         members_over(seers, self.members)
+    }
+
+    fn counts(&self, x: usize) -> Option<&[u32]> {
+        if self.makers.len() == self.members as usize {
+            Some(self.counts.own(x))
+        } else {
+            None
+        }
     }
 }
 
@@ -155,15 +198,17 @@ impl Growing for BranchSight {
     ghost room = { λ s. s.room };
 
     fn reserve(&mut self) -> Result<(), Memory> {
-        if self.spare.is_none() {
+        self.reserve_kept()?;
+        if !self.ready {
             self.links.reserve(1)?;
             self.branches.reserve(1)?;
             self.makers.reserve(1)?;
             self.ends.reserve(1)?;
-            self.counts.reserve(1)?;
+            self.counts.reserve()?;
             self.forked.reserve(1)?;
-            let row = CountRow::new(self.alloc, self.makers.len() + 1)?;
-            self.spare = Some(row);
+            self.newest.reserve(1)?;
+            self.numbers.reserve(1)?;
+            self.ready = true;
         }
         Ok(())
     }
@@ -174,16 +219,19 @@ impl Growing for BranchSight {
         let branch = branch_for(&self.branches, &self.ends, on, creator);
         let many = members < self.makers.len() || members <= branch;
         let forked = forked_next(&self.makers, &self.counts, &self.forked, many, on, creator);
-        let end = self.links.len() as u32 + 1;
-        if let Some(mut row) = self.spare.take() {
-            fill(&mut row, &self.counts, on, branch, end);
-            note_all(&mut self.kept, &self.branches, &row, branch, end);
-            self.links.push_reserved(PlacedLink::of(creator, parents));
-            self.branches.push_reserved(branch);
-            move_end(&mut self.makers, &mut self.ends, branch, creator, end);
-            self.counts.push_reserved(row);
-            self.forked.push_reserved(forked);
-        }
+        let row = self.links.len();
+        let end = row as u32 + 1;
+        self.ready = false;
+        self.counts.push(on, branch);
+        let known = row_of(&self.counts, known_place(on, row));
+        let counts = row_of(&self.counts, row);
+        note_all(&mut self.kept, &self.newest, &known, &counts, branch, end);
+        self.links.push_reserved(PlacedLink::of(creator, parents));
+        self.branches.push_reserved(branch);
+        move_end(&mut self.makers, &mut self.ends, branch, creator, end);
+        self.forked.push_reserved(forked);
+        open_branch(&mut self.newest, branch);
+        self.numbers.push_reserved(0);
     }
 
     fn prefix(&self, len: usize) -> Result<BranchSight, Memory> {
@@ -195,10 +243,13 @@ impl Growing for BranchSight {
             branches: Vec::from_slice(self.alloc, &self.branches[..len])?,
             makers: Vec::from_slice(self.alloc, &self.makers[..many])?,
             ends: ends_of(self.alloc, &self.branches[..len], many)?,
-            counts: copy_counts(self.alloc, &self.counts, len)?,
+            counts: self.counts.prefix(self.alloc, len)?,
             forked: copy_masks(self.alloc, &self.forked, len)?,
             kept: Vec::new(self.alloc),
-            spare: None,
+            newest: zeros(self.alloc, many)?,
+            numbers: zeros(self.alloc, len)?,
+            ready: false,
+            spare_kept: None,
         })
     }
 }

@@ -25,7 +25,11 @@ fn fits<S: Sight>(sight: &S, parents: Parents, creator: Member) -> bool
 }
 
 // Adds the row if it fits, and answers whether it does.
-fn add<S: Growing>(sight: &mut S, parents: Parents, creator: Member) -> Result<bool, Memory> {
+pub(crate) fn add<S: Growing>(
+    sight: &mut S,
+    parents: Parents,
+    creator: Member,
+) -> Result<bool, Memory> {
     sight.reserve()?;
     if sight.rows() > 1000 || !fits(&*sight, parents, creator) {
         return Ok(false);
@@ -42,7 +46,7 @@ fn on(pair: Option<(usize, usize)>) -> Parents {
 }
 
 // Whether both answer alike for any two rows.
-fn agree(sight: &BranchSight, bits: &BitSight) -> bool {
+pub(crate) fn agree(sight: &BranchSight, bits: &BitSight) -> bool {
     let rows = sight.rows();
     if bits.rows() != rows {
         return false;
@@ -92,23 +96,144 @@ const FORKED: [(Member, Option<(usize, usize)>); 10] = [
     (2, Some((5, 8))),
 ];
 
-// Every row, every second or every third one has a slot, or none.
+// Adds the rows to both, and keeps each of so many rows, or none.
+fn add_all(
+    sight: &mut BranchSight,
+    bits: &mut BitSight,
+    rows: &[(Member, Option<(usize, usize)>)],
+    every: usize,
+) -> Result<bool, Memory> {
+    for (i, (creator, pair)) in rows.iter().enumerate() {
+        let parents = on(*pair);
+        if !add(&mut *sight, parents, *creator)? || !add(&mut *bits, parents, *creator)? {
+            return Ok(false);
+        }
+        if every > 0 && i % every == 0 {
+            sight.keep_last();
+        }
+    }
+    Ok(true)
+}
+
+// No row, every row, every second or every third one is kept.
 #[test]
 fn tells_what_bit_rows_tell(rt: HostRuntime) -> Result<(), Memory> {
     for every in 0..4 {
         let mut sight = BranchSight::new(rt.alloc(), 4)?;
         let mut bits = BitSight::new(rt.alloc(), 4)?;
-        for (i, (creator, pair)) in FORKED.iter().enumerate() {
-            let parents = on(*pair);
-            assert!(rt; add(&mut sight, parents, *creator)? && add(&mut bits, parents, *creator)?);
-            if every > 0 && i % every == 0 {
-                sight.keep_last();
-            }
-        }
+        assert!(rt; add_all(&mut sight, &mut bits, &FORKED, every)?);
         assert!(rt; sight.rows() == 10 && bits.rows() == 10);
         assert!(rt; agree(&sight, &bits), "every {every}");
-        assert!(rt; sight.strongly_sees(9, 1) && !sight.strongly_sees(9, 0) && !sight.sees(9, 2));
         assert!(rt; agree_at_first(&sight, &bits, 7)? && agree_at_first(&sight, &bits, 0)?);
+    }
+    Ok(())
+}
+
+// The last row has both branches as ancestors, and does not see the row below them.
+fn has_both_branches(sight: &BranchSight) -> bool {
+    if sight.rows() != 10 {
+        return false;
+    }
+    for y in 0..10 {
+        if !sight.ancestor(9, y) || sight.sees(9, y) != (y != 2 && y != 3 && y != 7) {
+            return false;
+        }
+    }
+    true
+}
+
+// Yet it strongly sees that row, through the first rows of the others that do, and the first member's first row, and no other
+// first row.
+fn strongly_sees_two(sight: &BranchSight) -> bool {
+    sight.rows() == 10
+        && sight.sees(4, 2)
+        && sight.sees(8, 2)
+        && sight.sees(5, 2)
+        && sight.strongly_sees(9, 2)
+        && sight.strongly_sees(9, 1)
+        && !sight.strongly_sees(9, 0)
+        && !sight.strongly_sees(9, 6)
+}
+
+#[test]
+fn sees_none_by_who_forked(rt: HostRuntime) -> Result<(), Memory> {
+    for every in 0..2 {
+        let mut sight = BranchSight::new(rt.alloc(), 4)?;
+        let mut bits = BitSight::new(rt.alloc(), 4)?;
+        assert!(rt; add_all(&mut sight, &mut bits, &FORKED, every)?);
+        assert!(rt; has_both_branches(&sight), "every {every}");
+        assert!(rt; strongly_sees_two(&sight), "every {every}");
+        assert!(rt; !has_counts(&sight, 9));
+    }
+    Ok(())
+}
+
+fn has_counts(sight: &BranchSight, x: usize) -> bool {
+    x < sight.rows() && sight.counts(x).is_some()
+}
+
+// Three members sync in turn, and a fourth now and then. Each row but the first four has the row before it as other-parent.
+fn add_turns(sight: &mut BranchSight, bits: &mut BitSight, fork: bool) -> Result<bool, Memory> {
+    let mut last = [0, 1, 2, 3];
+    for i in 0..40 {
+        let member = if i < 4 {
+            i
+        } else if i % 7 == 0 {
+            3
+        } else {
+            i % 3
+        };
+        let parents = if i < 4 {
+            Parents::none()
+        } else if fork && i == 28 {
+            Parents::of(3, i - 1)
+        } else {
+            Parents::of(last[member], i - 1)
+        };
+        if !add(&mut *sight, parents, member as Member)?
+            || !add(&mut *bits, parents, member as Member)?
+        {
+            return Ok(false);
+        }
+        sight.keep_last();
+        last[member] = i;
+    }
+    Ok(true)
+}
+
+// Whether the counts of each row tell its ancestors.
+fn counts_agree(sight: &BranchSight, bits: &BitSight) -> bool {
+    let rows = sight.rows();
+    if bits.rows() != rows {
+        return false;
+    }
+    for x in 0..rows {
+        for y in 0..rows {
+            let member = usize::from(sight.creator(y));
+            match sight.counts(x) {
+                None => return false,
+                Some(counts) => {
+                    if member >= counts.len()
+                        || (y < counts[member] as usize) != bits.ancestor(x, y)
+                    {
+                        return false;
+                    }
+                }
+            }
+        }
+    }
+    true
+}
+
+#[test]
+fn counts_while_nobody_forks(rt: HostRuntime) -> Result<(), Memory> {
+    for fork in [false, true] {
+        let mut sight = BranchSight::new(rt.alloc(), 4)?;
+        let mut bits = BitSight::new(rt.alloc(), 4)?;
+        assert!(rt; add_turns(&mut sight, &mut bits, fork)? && sight.rows() == 40);
+        assert!(rt; agree(&sight, &bits), "fork {fork}");
+        assert!(rt; fork || counts_agree(&sight, &bits));
+        assert!(rt; has_counts(&sight, 39) != fork);
     }
     Ok(())
 }

@@ -1,6 +1,16 @@
 //! The program `hashgraph` over the files and the standard streams of the machine.
 //! It adds nothing to `hashgraph` of hg_top but a shelf and two sinks, each a few lines, whose faults are counted.
 //! What a real file or stream holds no clause tells.
+//!
+//! Run at the top of the repository; of what it prints (`examples/two-members/expected.txt`), three lines:
+//!
+//! ```text
+//! bin/hashgraph run --members examples/two-members/members.toml --script examples/two-members/script.txt
+//!
+//! 8 sync taken 1 refused 0 made 7
+//! node B events 8 forkers 0 round 4 closed 2 ordered 4
+//! 1 A 0 round 2 time 1 -
+//! ```
 #![tactic(auto)]
 
 mod disk;

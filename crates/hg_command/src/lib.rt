@@ -1,6 +1,19 @@
 //! The command line, read by the kit's `clap`: what the words ask for, if they are accepted.
 //! The layer above uses `read_words`, which answers `request_of` the words, a definition over clap's own.
 //! A command is a function of `line`, a definition of the same name in `specs/Line.antt`, and a case of `Request`.
+//!
+//! From `names_are_handed_over` in the tests of this crate, where bars part the words:
+//!
+//! ```text
+//! let words = words_of(rt.alloc(), "run|--script=a b|--workers|0|--members|m.toml")?;
+//! let request = read_words(rt.alloc(), words.as_slice())?;
+//! let wanted = Request::Run {
+//!     members: "m.toml",
+//!     script: "a b",
+//!     workers: 0,
+//! };
+//! assert_eq!(rt; request, Some(wanted));
+//! ```
 #![tactic(auto)]
 
 mod line;

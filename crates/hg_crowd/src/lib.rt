@@ -1,6 +1,21 @@
 //! Many nodes between threads: a seat of each, workers beside each other over all of them, and the nodes again.
-//! The layer above uses these calls, and `runs_end`: where all that others did beside the calls through one seat of each
-//! node are marks, the nodes have the rows that those seats have seen.
+//! The layer above uses these calls, and `runs_end`: where all that others did beside the calls through one seat of
+//! each node are marks, the nodes have the rows that those seats have seen.
+//!
+//! From `play_batch` of `hg_play`, shortened:
+//!
+//! ```text
+//! let (shared, mut seats) = start_all(alloc, world.into_nodes())?;
+//! let own = split_all(alloc, shared.as_slice(), &mut seats)?;
+//! let places = shared.as_slice();
+//! let ((own, played), (mut seats, _)) = join(rt,
+//!     move || ... { play_through(rt, alloc, members, keys, places, own, labels, printed, lines, gate) },
+//!     move || ... { work_beside(rt, alloc, places, seats, workers, crew) },
+//! );
+//! absorb_all(places, &mut seats, own);
+//! let (seats, done) = work_beside(rt, alloc, places, seats, workers, crew);
+//! let nodes = finish_all(rt, alloc, shared, seats)?;
+//! ```
 #![tactic(auto)]
 
 mod laws;

@@ -1,7 +1,17 @@
-//! Events in bytes: their one spelling, written for a maker and read for a node.
-//! What is read is borrowed, and reading takes no memory.
+//! Events in bytes: their one spelling, written for a maker and read for a node, which borrows and takes no memory.
 //! The layers above use that `decode` is `read_event`, the row that the bytes spell or their first fault, and that an
 //! `Event` is a row whose bytes spell it.
+//!
+//! From `keeps_an_event_as_it_was_read` in the tests of this crate, shortened:
+//!
+//! ```text
+//! let Ok(view) = decode(&bytes) else {
+//!     return Err("a fault".into());
+//! };
+//! let event = Event::copied(rt.alloc(), &view, Sha384::digest(&bytes), &bytes)?;
+//! assert_eq!(rt; event.row().time, 1);
+//! assert_eq!(rt; event.bytes(), bytes.as_slice());
+//! ```
 #![tactic(auto)]
 
 mod event;

@@ -1,8 +1,8 @@
 -- Who decides the fame of a witness
 use Rattle.std.specs.Prelude.{ℕ, ◌≡◌, ◌<◌, ◌≤◌, Bool, false, length, Option, find, option_map}
 use Rattle.hg_model.specs.Places.{least_below}
-use Rattle.hg_model.specs.Votes.{decides}
-use Rattle.hg_model.specs.Fame.{is_decider}
+use Rattle.hg_model.specs.Fame.{Marks, is_decider}
+use Rattle.hg_model.specs.Orders.{AreFame}
 use Rattle.hg_model.specs.Order.{coin_at}
 use Rattle.hg_model.specs.Standings.{witnesses_in}
 use Rattle.hg_model.specs.Prefix.{Graph, links_of}
@@ -34,3 +34,7 @@ decision_of g x r = option_map (decision_by g x) (decider_in g x r)
 -- what was found is what this share finds in so many first rows
 abbrev pub SpeaksFor : Graph → Share → Found → Type 0
 SpeaksFor g share found = Speaks g.members g.coin g.rows (links_of g) found.len share found.marks
+
+-- the marks are the fame of the graph, where there are some
+abbrev pub AreFameIn : Graph → Marks → Type 0
+AreFameIn g marks = AreFame g.members g.coin g.rows marks

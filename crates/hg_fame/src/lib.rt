@@ -1,10 +1,22 @@
 //! Fame: the decision on a witness, and those on a share of all witnesses.
-//! The layer above uses `elect_share`, whose answer speaks of a prefix, and `elect` for one witness.
+//! The layer above uses `elect_share`, whose answer speaks of a prefix, `elect_unmarked`, which has the same answer where
+//! some fame is known, and `elect` for one witness.
 //! An election opens rounds one by one and ends at the first that decides; it takes no memory.
+//!
+//! From `settle` of the `Node` of `hg_node`:
+//!
+//! ```text
+//! let graph = self.chronicle.graph();
+//! let mut votes = VoteTable::new(self.alloc, graph)?;
+//! let all = Share::new(0, 1);
+//! let found = elect_unmarked(self.alloc, graph, &mut votes, all, self.chronicle.marks())?;
+//! self.chronicle.publish(&found);
+//! Ok(())
+//! ```
 #![tactic(auto, using(hg_model::proofs::StandingLaws::standings_known, hg_model::proofs::LinkLaws::link_lengths))]
 
 mod electing;
 mod sharing;
 
 pub use electing::elect;
-pub use sharing::elect_share;
+pub use sharing::{elect_share, elect_unmarked};

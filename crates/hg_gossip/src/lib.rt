@@ -1,8 +1,8 @@
-//! Gossip: who holds a node takes from another what the node lacks, and makes an event on it.
-//! The layers above use that `pull` and `sync` put the peer's rows whose names the taker lacks, in the peer's order, each
-//! at the history then reached. A holder's meaning is the node that it has seen, and the positions of the changes of its
-//! own calls; others may change a node that is shared, and then each answer speaks of what was reached. Of a `Node` nobody
-//! else is a holder, and `pulling_alone` and `syncing_alone` say what is left as a function of both nodes.
+//! Gossip: who holds a node takes from another what the node lacks (`pull`), and then makes an event on it (`sync`).
+//! The layers above use that the peer's rows whose names the taker lacks are put, in the peer's order, each at what was
+//! reached then, for others may change a shared node; of a `Node` alone `pulling_alone` and `syncing_alone` tell all.
+//!
+//! From `meet` in the tests of this crate:
 //!
 //! ```text
 //! /// Both learn what the other has, and each adds an event on the other's last one. Whether B did.

@@ -1,3 +1,4 @@
 pub mod StoredLaws
 pub mod NextLaws
 pub mod HeldLaws
+mod NamedLaws

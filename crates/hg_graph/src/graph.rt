@@ -1,4 +1,4 @@
-ghost use Rattle.std.specs.Prelude.{◌≡◌, ◌<◌, ◌≤◌, ◌++◌, ◌∷◌, [], Some, length, option_map, slice_get, IfOk, OnOk, refl};
+ghost use Rattle.std.specs.Prelude.{◌≡◌, ◌<◌, ◌≤◌, ◌++◌, ◌∷◌, [], Some, length, option_map, slice_get, IfOk, IfSome, OnOk, refl};
 ghost use Rattle.hg_model.specs.Links.{link_in, links};
 ghost use Rattle.hg_model.specs.Forks.{forkers};
 ghost use Rattle.hg_model.specs.Graph.{IsGraph};
@@ -98,6 +98,29 @@ impl EventGraph {
         ensures { result ≡ found_place self.now.graph.rows name.now }
     {
         self.store.place_of(name)
+    }
+
+    /// The same of a name that may well be that of the last row by this member, whose name is compared first: only where it
+    /// is another one the name is looked up.
+    pub fn place_by(&self, name: &Name, member: Member) -> Option<usize>
+        ensures { result ≡ found_place self.now.graph.rows name.now }
+    {
+        let last = self.last_named(name, member);
+        if last.is_some() {
+            return last;
+        }
+        self.store.place_of(name)
+    }
+
+    /// The place of the last row of the member's own branch, if it has this name.
+    fn last_named(&self, name: &Name, member: Member) -> Option<usize>
+        ensures { IfSome result (λ x. found_place self.now.graph.rows name.now ≡ Some x) }
+    {
+        let end = self.sight.own_end(member);
+        if end == 0 || self.store.len() < end || self.store.row(end - 1).name != *name {
+            return None;
+        }
+        Some(end - 1)
     }
 
     /// How many members have a fork once the member has made one row more, on these parents.

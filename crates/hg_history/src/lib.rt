@@ -1,7 +1,17 @@
 //! Laws of histories: what the rows, links, marks and kept order of a node are after any changes that may come.
-//! Each law is the contract of a function without a body; its statement stands in `specs/`.
-//! The layers above use that a kept order only grows, and that each mark is the fame of the graph: `order_grows`.
-//! Its must-fail edits change definitions, since there is no code here that an edit could change.
+//! Each law is the contract of a function without a body, so that the must-fail edits change definitions.
+//! The layers above use that a kept order only grows, `order_grows`, and that each mark is the fame of the graph.
+//!
+//! From `events_grow` in `GrowthLaws.antt` of `order_book`, shortened:
+//!
+//! ```text
+//! use Rattle.hg_history.proofs.KeptLaws.{order_grows}
+//!
+//! events_grow accepts n c own a b three is =
+//!     let s = replay n c a in
+//!     let t = replay n c (a ++ b) in
+//!     let order = order_grows accepts n c own a b three is in
+//! ```
 #![tactic(auto)]
 
 mod laws;

@@ -9,7 +9,7 @@ ghost use Rattle.hg_kept.specs.Waiting.{published_as, AppendsRound};
 
 use crate::pending::Pending;
 use hg_model::{Placed, Prefix, is_of_graph};
-use hg_order::{order_round, unique_famous};
+use hg_order::unique_famous;
 
 /// Whether all of these witnesses have a mark.
 fn are_marked(marks: &[Option<bool>], witnesses: &[usize]) -> bool
@@ -48,17 +48,19 @@ fn make_places(order: &mut Vec<Placed>, count: usize)
 }
 
 /// Appends the rows that a round receives, in order.
-fn append_round<P: Prefix>(p: &P, famous: &[usize], fresh: &[usize], order: &mut Vec<Placed>)
+fn append_round<P: Prefix>(p: &P, famous: &[usize], pending: &mut Pending, order: &mut Vec<Placed>)
     requires famous { AreFamous (P.graph p.now) famous.now }
     requires some { 0 < length famous.now }
-    requires received { AllByRecursion (IsBelowAll (P.graph p.now) famous.now) fresh.now }
-    requires room { vec_len order.old + length fresh.now ≤ vec_capacity order.old }
-    ensures order { AppendsRound (P.graph p.now) famous.now fresh.now order.old.items order.new.items }
+    requires received { AllByRecursion (IsBelowAll (P.graph p.now) famous.now) pending.old.fresh }
+    requires pending_room { length (P.graph p.now).rows ≤ pending.old.room }
+    requires room { vec_len order.old + length pending.old.fresh ≤ vec_capacity order.old }
+    ensures order { AppendsRound (P.graph p.now) famous.now pending.old.fresh order.old.items order.new.items }
     ensures room { vec_capacity order.new ≡ vec_capacity order.old }
+    ensures same { pending.new ≡ pending.old }
 {
     let before = order.len();
-    make_places(order, fresh.len());
-    order_round(p, famous, fresh, &mut order[before..]);
+    make_places(order, pending.fresh().len());
+    pending.order(p, famous, &mut order[before..]);
 }
 
 /// The unique famous witnesses of round `r`, to the front of `places`; tells how many.
@@ -94,7 +96,7 @@ fn receive_by<P: Prefix>(
         return;
     }
     pending.receive(p, famous);
-    append_round(p, famous, pending.fresh(), order);
+    append_round(p, famous, pending, order);
 }
 
 /// Orders what the round after `closed` receives, which is closed too.

@@ -105,6 +105,13 @@ impl Kept {
         self.marks[x]
     }
 
+    /// The mark of each row.
+    pub fn marks(&self) -> &[Option<bool>]
+        ensures { result.now ≡ self.now.published.marks }
+    {
+        &self.marks
+    }
+
     /// What the closed rounds have received, in order.
     pub fn order(&self) -> &[Placed]
         ensures { result.now ≡ self.now.published.order }

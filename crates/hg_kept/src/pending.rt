@@ -1,11 +1,12 @@
 ghost use Rattle.std.specs.Prelude.{◌≡◌, ◌<◌, ◌≤◌, ◌+◌, ◌-◌, All, max, [], ◌++◌, length, take, filter, slice_index, OnOk, vec_len, vec_capacity};
-ghost use Rattle.std.specs.List.{range_with_len};
+ghost use Rattle.std.specs.List.{AllByRecursion, range_with_len};
 ghost use Rattle.hg_model.specs.Prefix.{links_of};
-ghost use Rattle.hg_order.specs.Famous.{AreFamous, all_have};
+ghost use Rattle.hg_order.specs.Famous.{AreFamous, IsBelowAll, all_have};
+ghost use Rattle.hg_order.specs.Round.{ArePlacedBy, AreOrderedBy};
 ghost use Rattle.hg_kept.specs.Waiting.{places_to, received_of, left_of};
 
-use hg_model::{Memory, Prefix, is_of_graph};
-use hg_order::received_in;
+use hg_model::{Memory, Placed, Prefix, is_of_graph};
+use hg_order::{RoundMemory, least_counts, order_round_within, received_below};
 use std::alloc::Global;
 use std::marker::Model;
 
@@ -17,6 +18,8 @@ pub struct Pending {
     /// Each row from here on waits.
     looked: usize,
     fresh: Vec<usize>,
+    /// In which the round at hand is ordered.
+    memory: RoundMemory,
 }
 
 impl Model for Pending {
@@ -25,7 +28,7 @@ impl Model for Pending {
 
     ghost Value = { Waiting };
 
-    ghost view = { λ s. record { places = s.places.items; looked = s.looked; fresh = s.fresh.items; room = min (vec_capacity s.places) (vec_capacity s.fresh) } };
+    ghost view = { λ s. record { places = s.places.items; looked = s.looked; fresh = s.fresh.items; room = min (min (vec_capacity s.places) (vec_capacity s.fresh)) s.memory } };
 }
 
 impl Pending {
@@ -38,6 +41,7 @@ impl Pending {
             places: Vec::new(alloc),
             looked: 0,
             fresh: Vec::new(alloc),
+            memory: RoundMemory::new(alloc),
         }
     }
 
@@ -50,6 +54,7 @@ impl Pending {
     {
         self.places.reserve(rows.saturating_sub(self.places.len()))?;
         self.fresh.reserve(rows.saturating_sub(self.fresh.len()))?;
+        self.memory.reserve(rows)?;
         Ok(())
     }
 
@@ -79,6 +84,20 @@ impl Pending {
         ensures { result.now ≡ self.now.fresh }
     {
         &self.fresh
+    }
+
+    /// These rows as the round of these unique famous witnesses places them, in order.
+    pub fn order<P: Prefix>(&mut self, p: &P, famous: &[usize], out: &mut [Placed])
+        requires famous { AreFamous (P.graph p.now) famous.now }
+        requires some { 0 < length famous.now }
+        requires received { AllByRecursion (IsBelowAll (P.graph p.now) famous.now) self.old.fresh }
+        requires same { length out.old ≡ length self.old.fresh }
+        requires room { length (P.graph p.now).rows ≤ self.old.room }
+        ensures placed { ArePlacedBy (P.graph p.now) famous.now self.old.fresh out.new }
+        ensures whole { AreOrderedBy (P.graph p.now) famous.now self.old.fresh out.new }
+        ensures same { self.new ≡ self.old }
+    {
+        order_round_within(p, famous, &self.fresh, &mut self.memory, out);
     }
 }
 
@@ -127,10 +146,11 @@ fn move_received<P: Prefix>(
     ensures others { take result places.new ≡ left_of (P.graph p.now) famous.now places.old }
     ensures room { vec_capacity fresh.new ≡ vec_capacity fresh.old }
 {
+    let least = least_counts(p, famous);
     let mut kept = 0;
     for i in 0..places.len() {
         let x = places[i];
-        if received_in(p, famous, x) {
+        if received_below(p, famous, &least, x) {
             fresh.push_reserved(x);
         } else {
             places[kept] = x;

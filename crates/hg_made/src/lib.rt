@@ -1,6 +1,20 @@
 //! Members and the lines of a script, made from a number, for a large run without files.
-//! The layer above uses `generate`, whose answer is the definition of the same name in `specs/Made.antt`, and whose lines are
-//! lawful for its members.
+//! The layer above uses `generate`, whose answer is the definition of the same name in `specs/Made.antt`, and whose
+//! lines are lawful for its members. Drawn are the members of the syncs and their transfers, and nothing else.
+//!
+//! From `make` of `hg_top`:
+//!
+//! ```text
+//! let (list, lines) = match generate(alloc, seed, members, lines) {
+//!     Ok(made) => made,
+//!     Err(Memory) => return Status::Memory,
+//! };
+//! let voters = Voters::new(gate);
+//! match summary(rt, alloc, &list, lines.as_slice(), workers, &voters, gate) {
+//!     Ok(outcome) => write_summary(out, &outcome),
+//!     Err(Memory) => Status::Memory,
+//! }
+//! ```
 #![tactic(auto)]
 
 mod draws;

@@ -8,8 +8,10 @@ use hg_model::{Members, Memory};
 use hg_script::Line;
 use std::alloc::Global;
 
-/// So many members, named m0, m1 and so on, each with a node, and so many lines for them: first each member's first event,
-/// then syncs with a transfer. All is drawn from the seed, and is the same for the same numbers.
+/// So many members, and so many lines for them: first each member's first event, then syncs with a transfer. Of a sync
+/// the taker, the peer, the amount, below 20, and the receiver are drawn from the seed, in this order. A secret is the
+/// seed and the member's number. The rest is fixed: the names m0, m1 and so on, a node and a balance of 1000 for each
+/// member, the coin period 10, first events without a payload, and as times the lines' numbers, from 1.
 #[tactic(auto, unfolding(crate::specs::Made::generate))]
 pub fn generate(
     alloc: Global,

@@ -1,6 +1,21 @@
-//! The hashgraph's types and definitions: what every other crate's contracts speak of.
+//! The hashgraph's types and definitions: what the contracts of the crates above speak of.
 //! `specs/` is the text that a reader must believe; it follows SWIRLDS-TR-2016-01 and computes on written-out graphs.
 //! The layers above use the types below, the words of `specs/` and the lemmas of `proofs/`.
+//!
+//! From `holder_time` of `hg_order`, over a `Prefix` and in the words of this crate:
+//!
+//! ```text
+//! fn holder_time<P: Prefix>(p: &P, w: usize, x: usize) -> u64
+//!     requires shaped { IsShapedIn (shape_in (P.graph p.now)) }
+//!     requires line { w < length (links_of (P.graph p.now)) }
+//!     requires place { x < length (links_of (P.graph p.now)) }
+//!     requires has { is_ancestor (links_of (P.graph p.now)) w x ≡ true }
+//!     ensures { result ≡ time_at (P.graph p.now).rows (first_holder (links_of (P.graph p.now)) x w) }
+//! {
+//!     is_of_graph(p);
+//!     p.row(first_holder(p, x, w)).time
+//! }
+//! ```
 #![tactic(auto)]
 
 mod answers;

@@ -1,6 +1,16 @@
 //! The names of events: SHA-384 (FIPS 180-4, section 6.5) of all of an event's bytes.
 //! A name can be written out as text and compared byte by byte; no call takes memory.
 //! The layers above use that `name_of` is `sha384`, the word by which `Spells` of hg_model names a row.
+//!
+//! From `names_abc` in the tests of this crate:
+//!
+//! ```text
+//! let text = name_hex(&name_of(b"abc"));
+//! assert_eq!(rt;
+//!     text.as_slice(),
+//!     b"cb00753f45a35e8bb5a03d699ac65007272c32ab0eded1631a8b605a43ff5bed8086072ba1e7cc2358baeca134c825a7".as_slice()
+//! );
+//! ```
 #![tactic(auto)]
 
 ghost use Rattle.std.specs.Prelude.{◌≡◌};

@@ -127,7 +127,7 @@ fn parent_places(graph: &EventGraph, view: &EventView<'_>) -> Result<Parents, Pu
     let Some((own_name, other_name)) = view.parents else {
         return Ok(Parents::none());
     };
-    let Some(own) = graph.place_of(own_name) else {
+    let Some(own) = graph.place_by(own_name, view.creator) else {
         return Err(PutAnswer::Refused(Fault::MissingSelf(*own_name)));
     };
     let Some(other) = graph.place_of(other_name) else {

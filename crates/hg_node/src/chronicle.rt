@@ -4,6 +4,7 @@ ghost use Rattle.hg_model.specs.declared.row.Placed.{Placed};
 ghost use Rattle.hg_model.specs.Graph.{IsGraph};
 ghost use Rattle.hg_model.specs.Verdict.{last_name, row_limit};
 ghost use Rattle.hg_model.specs.Fame.{mark_at};
+ghost use Rattle.hg_fame.specs.Decisions.{AreFameIn};
 ghost use Rattle.hg_model.specs.Kept.{kept};
 ghost use Rattle.hg_model.specs.GraphWords.{last_closed_in, SpeaksOf};
 ghost use Rattle.hg_node.specs.ChronicleView.{book_in, last_own_place, news_in, no_chronicle, chronicle_news, chronicle_with, chronicle_state};
@@ -137,6 +138,14 @@ impl Chronicle {
         ensures { result ≡ mark_at self.now.marks place }
     {
         self.kept.fame(place)
+    }
+
+    /// The mark of each row: its fame in the graph, if that is published.
+    pub fn marks(&self) -> &[Option<bool>]
+        ensures marks { result.now ≡ self.now.marks }
+        ensures fame { AreFameIn self.now.graph result.now }
+    {
+        self.kept.marks()
     }
 
     /// What the closed rounds have received, in order.

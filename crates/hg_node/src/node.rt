@@ -21,7 +21,7 @@ use crate::arrival::{parents_of_arrival, parents_of_signed};
 use crate::chronicle::Chronicle;
 use crate::draft::{draft_of, row_rule, signed_event};
 use hg_event::{Event, EventView, decode};
-use hg_fame::elect_share;
+use hg_fame::elect_unmarked;
 use hg_graph::{EventGraph, FrozenGraph};
 use hg_model::{
     Effect, Entry, Fault, Found, MakeAnswer, Member, Members, Memory, Name, Parents, Placed,
@@ -163,7 +163,8 @@ impl<V: Signer> Node<V> {
     {
         let graph = self.chronicle.graph();
         let mut votes = VoteTable::new(self.alloc, graph)?;
-        let found = elect_share(self.alloc, graph, &mut votes, Share::new(0, 1))?;
+        let all = Share::new(0, 1);
+        let found = elect_unmarked(self.alloc, graph, &mut votes, all, self.chronicle.marks())?;
         self.chronicle.publish(&found);
         Ok(())
     }

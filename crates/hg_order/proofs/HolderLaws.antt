@@ -22,7 +22,7 @@ module _ (n : Stakes) (L : List Link) (s : IsShaped n L) (marks : Marks) (r x : 
   abbrev pub AllHave : Type 0
   AllHave = (w : ℕ) → w < length L → is_unique_famous n L marks r w ≡ true → is_ancestor L w x ≡ true
 
-  all_have_is : all_have L (famous_places n L marks r) x ≡ true → AllHave
+  pub all_have_is : all_have L (famous_places n L marks r) x ≡ true → AllHave
   unfolding famous_places
   all_have_is all w h e =
       let none = not-true (some_below (length L) (is_without n L marks r x)) (sym (list_all-list_below (λ w. is_ancestor L w x) (length L) (is_unique_famous n L marks r)) ∙ all) in
@@ -60,7 +60,7 @@ module _ (n : Stakes) (L : List Link) (s : IsShaped n L) (marks : Marks) (r x : 
         );
   }
 
-  same_times : (G : List Row) → AllHave → HasSameSums (times_of G L x (famous_places n L marks r)) (list_below (time_at G) (length L) (is_first_holder n L marks r x))
+  pub same_times : (G : List Row) → AllHave → HasSameSums (times_of G L x (famous_places n L marks r)) (list_below (time_at G) (length L) (is_first_holder n L marks r x))
   unfolding famous_places
   same_times G all weight =
       ap (sum_by weight) (map-list_below (λ w. time_at G (first_holder L x w)) (λ w. w) (length L) (is_unique_famous n L marks r))

@@ -7,3 +7,9 @@ pub mod RowLaws
 pub mod WhiteLaws
 pub mod KeepLaws
 pub mod RoundLaws
+pub mod BoundLaws
+pub mod TallyLaws
+pub mod GainLaws
+pub mod EndLaws
+pub mod MedianLaws
+pub mod CountLaws

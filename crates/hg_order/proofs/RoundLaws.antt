@@ -24,7 +24,7 @@ use Rattle.hg_model.proofs.SortLaws.{IsPairwise, sort_by_cmp_is, sort_by-same, s
 use Rattle.hg_model.proofs.CompareLaws.{then_assoc, slice_cmp-append, is_lt-then, is_eq-then, nat_cmp-same}
 use Rattle.hg_model.proofs.LinkLaws.{length-links}
 use Rattle.hg_order.specs.Famous.{IsBelowAll, times_of, whitening_of}
-use Rattle.hg_order.specs.Round.{placed_by, is_placed_before, placed_in, received_places, placed_below, sig_or_zeros, name_or_zeros, rows_cmp, placed_cmp, placed_less, IsWide}
+use Rattle.hg_order.specs.Round.{placed_by, is_placed_before, placed_in, received_places, placed_below, sig_or_zeros, name_or_zeros, rows_cmp, placed_cmp, placed_less, IsWide, IsRoundOf, ArePlacedBy, AreOrderedBy}
 use Rattle.hg_order.proofs.FamousLaws.{whitening_is}
 use Rattle.hg_order.proofs.HolderLaws.{median_is_consensus}
 
@@ -181,3 +181,16 @@ module _ (g : Graph) (s : IsShaped g.members (links_of g)) (marks : Marks) (r : 
       seconds : (ps : List Placed) → map (λ (k : List ℕ × Placed). k.1) (map (λ (p : Placed). (order_key g.members g.rows (links_of g) marks p, p)) ps) ≡ ps
       seconds [] = refl
       seconds (p ∷ ps) = ap (λ (qs : List Placed). p ∷ qs) (seconds ps)
+
+-- what a round makes of its rows, once they are placed and sorted
+
+pub round_placed : (g : Graph) → IsShaped g.members (links_of g) → (famous fresh : List ℕ) (placed out : List Placed) (k : ℕ) →
+    IsRoundOf g famous k → (0 < length fresh → 0 < length famous) → AllByRecursion (IsBelowAll g famous) fresh → placed ≡ map (placed_below g.rows (links_of g) famous k) fresh → All (IsWide g.rows) fresh →
+    out ≡ sort_by (placed_less g.rows (whitening_of g.rows famous)) placed → length (whitening_of g.rows famous) ≡ 64 → ArePlacedBy g famous fresh out
+round_placed g s famous fresh placed out k round some below is wide sorted long marks r are =
+    sorted
+    ∙ (ap (sort_by (placed_less g.rows (whitening_of g.rows famous))) is
+    ∙ sorted_is_placed g s marks r famous fresh (whitening_of g.rows famous) k (λ h. round marks r are (some h)) are below wide refl long)
+
+pub round_ordered : (g : Graph) → IsShaped g.members (links_of g) → (famous fresh : List ℕ) (out : List Placed) → ArePlacedBy g famous fresh out → AreOrderedBy g famous fresh out
+round_ordered g s famous fresh out placed marks r are whole = placed marks r are ∙ (ap (placed_in g marks r) whole ∙ placed_is_ordered g s marks r)

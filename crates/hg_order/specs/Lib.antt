@@ -1,2 +1,4 @@
+pub mod Counted
 pub mod Famous
 pub mod Round
+pub mod Tallied

@@ -1,18 +1,42 @@
 //! The order of one round: its unique famous witnesses, what they receive, and how that is ordered.
 //! The layer above uses `order_round`, which gives what the definitions order in a round, and the calls that lead to it.
-//! No call takes memory. A round is ordered by one sort, and each received row walks down one line for each witness.
+//! No call takes memory but `RoundMemory::reserve`. A round is ordered by one sort. In `order_round` each received row
+//! walks down one line for each witness; `order_round_within` goes over the lines of the witnesses once for all received
+//! rows, where the ancestors of rows are counted.
+//!
+//! From `place_fresh` of `hg_plain`:
+//!
+//! ```text
+//! fn place_fresh(p: &PlainPrefix<'_>, marks: &[Option<bool>], r: u32, fresh: &[usize], places: &mut [usize],
+//!     placed: &mut [Placed])
+//!     requires fresh { fresh.now ≡ received_places p.now marks.now r }
+//!     requires room { member_count p.now.members ≤ length places.old }
+//!     requires same { length placed.old ≡ length fresh.now }
+//!     ensures { placed.new ≡ received_order p.now marks.now r }
+//! {
+//!     let count = unique_famous(p, marks, r, places);
+//!     order_round(p, &places[..count], fresh, placed);
+//! }
+//! ```
 #![tactic(auto)]
 
 mod famous;
+mod holders;
+mod least;
+mod memory;
 mod order;
+mod placing;
 mod received;
+mod tally;
 #[cfg(test)]
 mod tests;
 mod time;
 mod white;
 
 pub use famous::unique_famous;
-pub use order::order_round;
-pub use received::received_in;
+pub use least::least_counts;
+pub use memory::RoundMemory;
+pub use order::{order_round, order_round_within};
+pub use received::{received_below, received_in};
 pub use time::time_of;
 pub use white::white_cmp;

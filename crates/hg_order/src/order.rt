@@ -1,10 +1,12 @@
-ghost use Rattle.std.specs.Prelude.{◌≡◌, ◌<◌, All, length, map, replicate, slice_get};
+ghost use Rattle.std.specs.Prelude.{◌≡◌, ◌<◌, ◌≤◌, All, length, map, replicate, slice_get};
 ghost use Rattle.std.specs.List.{AllByRecursion};
 ghost use Rattle.hg_model.specs.Prefix.{links_of};
 ghost use Rattle.hg_model.specs.Order.{sort_by};
-ghost use Rattle.hg_order.specs.Famous.{AreFamous, IsBelowAll};
+ghost use Rattle.hg_order.specs.Famous.{AreFamous, IsBelowAll, whitening_of};
 ghost use Rattle.hg_order.specs.Round.{placed_below, rows_cmp, sig_or_zeros, name_or_zeros, placed_cmp, placed_less, IsWide, ArePlacedBy, AreOrderedBy, IsRoundOf};
 
+use crate::memory::RoundMemory;
+use crate::placing::place_within;
 use crate::time::median_time;
 use crate::white::{no_signature, white_cmp, whitening};
 use hg_model::{Name, Placed, Prefix, Sig, is_of_graph};
@@ -23,7 +25,40 @@ pub fn order_round<P: Prefix>(p: &P, famous: &[usize], fresh: &[usize], out: &mu
 {
     is_of_graph(p);
     place_rows(p, famous, round_of(p, famous), fresh, out);
-    sort_placed(p, &whitening(p, famous), out);
+    sort_round(p, famous, out);
+}
+
+/// The same, with the consensus timestamps counted in this memory, which is for as many rows as there are: in time of
+/// the rows and the witnesses, where the ancestors of rows are counted.
+pub fn order_round_within<P: Prefix>(
+    p: &P,
+    famous: &[usize],
+    fresh: &[usize],
+    memory: &mut RoundMemory,
+    out: &mut [Placed],
+)
+    requires famous { AreFamous (P.graph p.now) famous.now }
+    requires some { 0 < length fresh.now → 0 < length famous.now }
+    requires received { AllByRecursion (IsBelowAll (P.graph p.now) famous.now) fresh.now }
+    requires same { length out.old ≡ length fresh.now }
+    requires room { length (P.graph p.now).rows ≤ memory.old }
+    ensures placed { ArePlacedBy (P.graph p.now) famous.now fresh.now out.new }
+    ensures whole { AreOrderedBy (P.graph p.now) famous.now fresh.now out.new }
+    ensures room { memory.new ≡ memory.old }
+{
+    is_of_graph(p);
+    place_within(p, famous, round_of(p, famous), fresh, memory, out);
+    sort_round(p, famous, out);
+}
+
+/// Sorts rows that the round of these unique famous witnesses places.
+fn sort_round<P: Prefix>(p: &P, famous: &[usize], placed: &mut [Placed])
+    requires { AreFamous (P.graph p.now) famous.now }
+    ensures sorted { placed.new ≡ sort_by (placed_less (P.graph p.now).rows (whitening_of (P.graph p.now).rows famous.now)) placed.old }
+    ensures long { length (whitening_of (P.graph p.now).rows famous.now) ≡ 64 }
+{
+    is_of_graph(p);
+    sort_placed(p, &whitening(p, famous), placed);
 }
 
 /// The round of these unique famous witnesses, or 0 if there is none.
@@ -39,7 +74,13 @@ fn round_of<P: Prefix>(p: &P, famous: &[usize]) -> u32
 }
 
 /// The rows at the places `fresh` as the round places them, in their order.
-fn place_rows<P: Prefix>(p: &P, famous: &[usize], round: u32, fresh: &[usize], out: &mut [Placed])
+pub fn place_rows<P: Prefix>(
+    p: &P,
+    famous: &[usize],
+    round: u32,
+    fresh: &[usize],
+    out: &mut [Placed],
+)
     requires famous { AreFamous (P.graph p.now) famous.now }
     requires received { AllByRecursion (IsBelowAll (P.graph p.now) famous.now) fresh.now }
     requires same { length out.old ≡ length fresh.now }
@@ -68,7 +109,7 @@ fn place_row<P: Prefix>(p: &P, famous: &[usize], round: u32, x: usize) -> Placed
 
 /// A law: the signature of a row has 64 bytes.
 #[tactic(auto, using(crate::proofs::RowLaws::row_known))]
-fn is_wide<P: Prefix>(p: &P, x: usize)
+pub fn is_wide<P: Prefix>(p: &P, x: usize)
     requires { x < length (links_of (P.graph p.now)) }
     ensures { IsWide (P.graph p.now).rows x }
 {

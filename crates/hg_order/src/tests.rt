@@ -1,5 +1,8 @@
+use crate::holders::sort_holders;
+use crate::least::lower_to;
+use crate::tally::{Holder, Tally, tallied};
 use crate::white_cmp;
-use hg_model::{Name, Sig};
+use hg_model::{Memory, Name, Sig};
 use std::cmp::Ordering;
 
 fn sig_of(first: u8) -> Sig {
@@ -41,4 +44,43 @@ fn breaks_ties_by_names(rt: HostRuntime) {
         white_cmp(&sig, &name_of(5), &sig, &name_of(5), &white),
         Ordering::Equal
     );
+}
+
+/// The time at which so many of these times have come, the earliest first.
+fn tally_times(rt: &HostRuntime, need: u32, times: &[u64]) -> Result<u64, Memory> {
+    let mut holders = Vec::with_capacity(rt.alloc(), 8)?;
+    for (i, time) in times.iter().enumerate() {
+        holders.push(Holder {
+            time: *time,
+            place: i,
+        })?;
+    }
+    sort_holders(&mut holders);
+    let mut tally = Tally {
+        left: need,
+        time: 0,
+    };
+    for holder in &holders {
+        tally = tallied(tally, holder.time);
+    }
+    Ok(tally.time)
+}
+
+// Of five times the third, of four the lower of the middle two.
+#[test]
+fn counts_to_the_median(rt: HostRuntime) -> Result<(), Memory> {
+    assert_eq!(rt; tally_times(&rt, 3, &[50, 10, 40, 30, 20])?, 30);
+    assert_eq!(rt; tally_times(&rt, 2, &[40, 10, 30, 20])?, 20);
+    assert_eq!(rt; tally_times(&rt, 1, &[7])?, 7);
+    assert_eq!(rt; tally_times(&rt, 1, &[9, 8])?, 8);
+    assert_eq!(rt; tally_times(&rt, 2, &[5, 5, 1, 5])?, 5);
+    Ok(())
+}
+
+// The least of 4 and 7, and of 9 and 2; the third number has no other.
+#[test]
+fn lowers_number_by_number(rt: HostRuntime) {
+    let mut numbers = [4, 9, 6];
+    lower_to(&mut numbers, &[7, 2]);
+    assert_eq!(rt; numbers, [4, 2, 6]);
 }

@@ -1,7 +1,15 @@
-//! Payloads of transfers, and the balances that they leave.
-//! The layers above use that a ledger's `pay` makes its book that of the order, whose first events it has paid before; of
-//! one event that is a book's `apply_payload`, whatever the payload's bytes are.
-//! Only `new`, `reserve` and `write_pay` take memory: a payload is read where it lies, ten bytes for each transfer.
+//! Payloads of transfers, read where they lie, and the balances that they leave.
+//! The layers above use that a ledger's `pay` makes its book that of the order, whose first events are paid before: of
+//! one event a book's `apply_payload`, whatever its bytes are. Only `new`, `reserve` and `write_pay` take memory.
+//!
+//! From `add` and `publish` of the `Chronicle` of `hg_node`, whose `ledger` is a `Ledger`, shortened:
+//!
+//! ```text
+//! self.ledger.reserve(place + 1)?;
+//!
+//! let count = self.kept.publish(&self.graph, found);
+//! self.ledger.pay(&self.graph, self.kept.order());
+//! ```
 #![tactic(auto)]
 
 mod book;

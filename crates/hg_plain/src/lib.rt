@@ -1,8 +1,21 @@
-//! The report's procedures computed whole from a list of rows: the yardstick for every faster form.
-//! The layer above uses `plain_whole` and `plain_forkers`, which are the definitions, and `PlainPrefix`, which gives a
-//! graph with its tables, `PlainSight`, to calls that take any `Prefix`.
-//! A ballot is counted and weighed as in the fast form, by `hg_votes`.
-//! Each relation is filled into a table once, so that time grows with the cube of the rows.
+//! The report's procedures computed whole from a list of rows, in time by the cube of the rows: the yardstick for every
+//! faster form. Ballots are counted and weighed as there, by `hg_votes`. The layer above uses `plain_whole` and
+//! `plain_forkers`, which are the definitions, and `PlainPrefix`, a graph with its tables, for what takes any `Prefix`.
+//!
+//! From `whole_of` of `check_graphs`:
+//!
+//! ```text
+//! fn whole_of(alloc: Global, node: &Node<&MacTable>) -> Result<PlainWhole, Memory>
+//!     ensures { IfOk result (λ whole. whole.order ≡
+//!         order_of node.now.start.members node.now.start.coin (node_rows node.now)) }
+//! {
+//!     let rows = rows_of(alloc, node)?;
+//!     let graph = node.graph();
+//!     // A graph has few rows.
+//!     graph.rows();
+//!     plain_whole(alloc, &rows, graph.members(), graph.coin())
+//! }
+//! ```
 #![tactic(auto)]
 
 mod ancestry;

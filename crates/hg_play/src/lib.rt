@@ -1,7 +1,16 @@
-//! A gossip script played over the members' nodes.
-//! The layer above uses `play`, whose answer is all that the script prints, as the definitions say it, whose run is
-//! safe, and whose blocks agree, and `summary`, its last blocks alone. Each line is a list of steps of a run; the nodes
-//! are those of `hg_world`. With workers the lines are played in batches, over nodes between threads.
+//! A gossip script played over the members' nodes, each line some steps of a run; with workers it is played in batches.
+//! The layer above uses `play`, whose answer is all that the script prints, as the definitions say it, and whose run is
+//! safe and its blocks agree (premises: `IsSafe` of `hg_runs`); and `summary`, its last blocks alone.
+//!
+//! From `run` of `hg_top`:
+//!
+//! ```text
+//! let voters = Voters::new(gate);
+//! match play(rt, alloc, &list, lines.as_slice(), workers, &voters, gate) {
+//!     Ok(outcome) => write_report(out, &outcome),
+//!     Err(Memory) => Status::Memory,
+//! }
+//! ```
 #![tactic(auto)]
 
 mod batch;

@@ -1,7 +1,18 @@
-//! Laws of two graphs: what they have in common they see, judge and order alike.
-//! Each law is the contract of a function without a body; its statement stands in `specs/`.
-//! The layers above use that of the orders of two graphs one is a prefix of the other: `orders_of_chains`.
-//! Its must-fail edits change definitions, since there is no code here that an edit could change.
+//! Laws of two graphs, contracts of functions without bodies: what they have in common they see, judge and order alike.
+//! The layers above use `orders_of_chains`: where each member, but for less than a third of the stake, has one chain in
+//! both, and names do not collide, of their orders one is a prefix of the other. Must-fail edits change definitions.
+//!
+//! From `honest_agree` in `SafetyLaws.antt` of `hg_runs`, shortened:
+//!
+//! ```text
+//! use Rattle.hg_prefix.proofs.CoreLaws.{chain_no_fork, chain_orders, stand_in_one}
+//!
+//! let orders = chain_orders n c 48 (rows_after n c a) (rows_after n c b)
+//!     (replay n c a).marks (replay n c b).marks faulty is.coin first.graph second.graph
+//!     (moment_fame accepts n c run is j a at_a) (moment_fame accepts n c run is k b at_b)
+//!     (equal_rows n c run j k a b apart at_a at_b) first.sizes second.sizes few ... in
+//! rw (order_is accepts n c run is j a at_a, order_is accepts n c run is k b at_b) orders
+//! ```
 #![tactic(auto)]
 
 mod laws;

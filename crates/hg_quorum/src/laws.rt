@@ -8,9 +8,9 @@ pub fn fork_is_seen_once()
 {}
 
 /// A law: two sets of members, each with more than two thirds of the stake, share a member that does not fork.
-pub fn quorums_share_an_honest_member()
+pub fn quorums_share_a_member_without_fork()
     ensures weighed { QuorumsMeet }
-    ensures honest { QuorumsShareAMember }
+    ensures without_fork { QuorumsShareAMember }
 {}
 
 /// A law: what a row strongly sees, each row above it strongly sees.

@@ -11,7 +11,7 @@ use Rattle.hg_model.specs.Rounds.{parent_round, is_seen_witness, round_of, is_wi
 use Rattle.hg_model.specs.Graph.{IsShaped}
 use Rattle.hg_model.specs.Standings.{Standing, standings_of, round_at, witnesses_in, greatest_in}
 use Rattle.hg_model.proofs.PlacesLaws.{list_below-same, maximum_below_bounds, total-count}
-use Rattle.hg_model.proofs.ListLaws.{count_by-list_below, length-list_below-le, all_list_below}
+use Rattle.hg_model.proofs.ListLaws.{count_by-list_below, all_list_below}
 use Rattle.hg_model.proofs.LinkLaws.{parents_below}
 use Rattle.hg_model.proofs.RoundLaws.{greatest_round-same, greatest_round_found, list_all-same, round_of-at, round_of_cases, round_of-pos, round_of-le}
 use Rattle.hg_model.proofs.ShapeLaws.{shaped-take}
@@ -62,10 +62,6 @@ module _ (n : Stakes) (L : List Link) (shaped : IsShaped n L) (some : 0 < length
   pub witnesses_below : (r : ℕ) → AllByRecursion (λ y. y < last) (witnesses_in S r)
   witnesses_below r = subst (AllByRecursion (λ y. y < last)) (sym (witnesses_known r))
       (all_list_below (λ y. y < last) (λ x. x) last (λ x. is_witness n L x && eqb (round_of n L x) r) (λ k h t. h))
-
-  pub witnesses_few : (r : ℕ) → length (witnesses_in S r) ≤ last
-  witnesses_few r =
-      omega (arith, ap (λ (xs : List ℕ). length xs) (witnesses_known r), length-list_below-le (λ (x : ℕ). x) last (λ x. is_witness n L x && eqb (round_of n L x) r))
 
   -- what those weigh that the last row strongly sees: each 1
   pub seen_known : (r : ℕ) → count_by (strongly_sees n L last) (witnesses_in S r) ≡ weight_of n L last (is_seen_witness (round_of n L) n L r last)

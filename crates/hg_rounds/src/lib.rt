@@ -1,6 +1,14 @@
 //! Rounds and witnesses as rows come one by one: each row's are found from a table of those before it.
 //! The layer above uses that a table which follows a graph row by row has the `standings_of` that graph.
 //! A row asks what it strongly sees of the witnesses of one round alone: the greatest of its parents' rounds.
+//!
+//! From `push` of the `EventGraph` of `hg_graph`, whose `rounds` is a `RoundTable`, shortened:
+//!
+//! ```text
+//! self.sight.extend(parents, creator);
+//! let (round, witness) = place_round(&self.sight, &self.rounds, parents);
+//! self.rounds.add(round, witness);
+//! ```
 #![tactic(auto)]
 
 mod laws;

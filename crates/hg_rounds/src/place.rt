@@ -1,14 +1,14 @@
-ghost use Rattle.std.specs.Prelude.{◌≡◌, ◌<◌, ◌≤◌, ◌+◌, ◌-◌, ◌^◌, [], ◌∷◌, ◌++◌, cond, length, count_by, nat_lt};
+ghost use Rattle.std.specs.Prelude.{◌≡◌, ℕ, ◌<◌, ◌≤◌, ◌+◌, ◌-◌, ◌^◌, [], ◌∷◌, ◌++◌, cond, length, count_by, nat_le, nat_lt};
 ghost use Rattle.hg_model.specs.Links.{first_place};
 ghost use Rattle.hg_model.specs.Rounds.{parent_round};
-ghost use Rattle.hg_model.specs.Seeing.{is_supermajority, strongly_sees};
+ghost use Rattle.hg_model.specs.Seeing.{is_supermajority};
 ghost use Rattle.hg_model.specs.Standings.{greatest_in, round_at};
 ghost use Rattle.hg_model.specs.GraphWords.{standings_in, strongly_sees_in};
 ghost use Rattle.std.specs.List.{AllByRecursion, list_all};
 ghost use Rattle.hg_rounds.specs.Tabled.{before_last, last_parents, standing, last_row_round, is_last_row_witness};
 
 use crate::table::RoundTable;
-use hg_model::{Parents, Rounds, Sight, is_supermajority};
+use hg_model::{Parents, Rounds, Sight};
 
 /// The round of the sight's last row, and whether that row is a witness, from the table of the rows before it.
 /// It asks what the row strongly sees of the witnesses of one round alone. Takes no memory.
@@ -25,8 +25,9 @@ pub fn place_round<S: Sight>(sight: &S, table: &RoundTable, parents: Parents) ->
 {
     let last = sight.rows() - 1;
     let greatest = parent_round(table, parents);
-    let seen = count_seen(sight, table.witnesses(greatest), last);
-    let round = next_round(sight.members(), greatest, seen);
+    let wanted = least_supermajority(sight.members());
+    let many = sees_many(sight, table.witnesses(greatest), last, wanted);
+    let round = next_round(greatest, many);
     (round, is_first(table, parents, round))
 }
 
@@ -41,33 +42,37 @@ fn parent_round(table: &RoundTable, parents: Parents) -> u32
     }
 }
 
-/// How many of these rows row `x` strongly sees.
-fn count_seen<S: Sight>(sight: &S, rows: &[usize], x: usize) -> u32
-    requires place { x < length (S.shape sight.now).links }
-    requires places { AllByRecursion (λ y. y < x) rows.now }
-    requires few { length rows.now ≤ x }
-    requires short { x < 2 ^ 32 - 1 }
-    ensures { result ≡ count_by (strongly_sees_in (S.shape sight.now) x) rows.now }
+/// The least number that is more than two thirds of the members.
+fn least_supermajority(members: u32) -> usize
+    requires { members < 2 ^ 31 }
+    ensures { (count : ℕ) → is_supermajority members count ≡ nat_le result count }
 {
-    let mut count = 0;
-    for y in rows {
-        if sight.strongly_sees(x, *y) {
-            count += 1;
-        }
-    }
-    count
+    2 * members as usize / 3 + 1
 }
 
-/// The round after this one where so many of the witnesses are seen, or this one.
-fn next_round(members: u32, round: u32, seen: u32) -> u32
-    requires { round < 2 ^ 32 - 1 }
-    ensures { result ≡ cond (is_supermajority members seen) (round + 1) round }
+/// Whether row `x` strongly sees so many of these rows. Asks the last ones first, and stops at those that settle it.
+fn sees_many<S: Sight>(sight: &S, rows: &[usize], x: usize, wanted: usize) -> bool
+    requires place { x < length (S.shape sight.now).links }
+    requires places { AllByRecursion (λ y. y < x) rows.now }
+    ensures { result ≡ nat_le wanted (count_by (strongly_sees_in (S.shape sight.now) x) rows.now) }
 {
-    if is_supermajority(members, seen) {
-        round + 1
-    } else {
-        round
+    let mut missing = wanted;
+    let mut left = rows.len();
+    while 0 < missing && missing <= left {
+        left -= 1;
+        if sight.strongly_sees(x, rows[left]) {
+            missing -= 1;
+        }
     }
+    missing == 0
+}
+
+/// The round after this one where a row strongly sees that many of its witnesses, or this one.
+fn next_round(round: u32, many: bool) -> u32
+    requires { round < 2 ^ 32 - 1 }
+    ensures { result ≡ cond many (round + 1) round }
+{
+    if many { round + 1 } else { round }
 }
 
 /// Whether a row of this round has no self-parent, or one of an earlier round.

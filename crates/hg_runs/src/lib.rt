@@ -1,7 +1,18 @@
-//! Laws of runs: several nodes, each with its history, of members that may cheat.
-//! Each law is the contract of a function without a body; its statement stands in `specs/`.
-//! The layers above use that every run is safe: `runs_are_safe`.
-//! Its must-fail edits change definitions, since there is no code here that an edit could change.
+//! Laws of runs: several nodes, each with its history, of members that may cheat. Must-fail edits change definitions.
+//! Each law is the contract of a function without a body. The layers above use `runs_are_safe`: if the dishonest have
+//! less than a third of the stake and names do not collide, of any two nodes' orders one is a prefix of the other.
+//!
+//! From `safe` in `WorldLaws.antt` of `hg_world`, shortened:
+//!
+//! ```text
+//! use Rattle.hg_runs.proofs.SafetyLaws.{runs_safe}
+//!
+//! safe : (w : WorldView) → IsWorld w → IsSafe w.members w.coin (run_of w)
+//! safe w is = runs_safe (λ m. accepts_by (node_at w m).start.keys) w.members w.coin (run_of w) (record {
+//!   coin = is.coin;
+//!   histories = ...
+//! })
+//! ```
 #![tactic(auto)]
 
 mod laws;

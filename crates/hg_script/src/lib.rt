@@ -1,6 +1,17 @@
-//! The gossip script: its lines, read from bytes.
-//! The layer above uses `read_script`, which gives just the lines that the bytes are in a run with so many workers, or the first line that is refused.
-//! The table of lines stands in `specs/Table.antt`, and its Rust form in `table.rt`, with `argument.rt` and `payload.rt` for what a word can have to be.
+//! The gossip script: its lines, read from bytes. `specs/Table.antt` has the table of lines, `table.rt` its Rust form.
+//! The layer above uses `read_script`, which gives just the lines that the bytes are in a run with so many workers, or
+//! the first line that is refused. What a word of a line can be stands in `argument.rt` and `payload.rt`.
+//!
+//! From `lines_of` of `check_calls`:
+//!
+//! ```text
+//! fn lines_of(rt: &impl Abort, alloc: Global, bytes: &[u8]) -> Result<Items<Line>, Fail> {
+//!     match read_script(alloc, bytes, &three_members(rt, alloc)?, 0)? {
+//!         Ok(lines) => Ok(lines),
+//!         Err(_) => Err("refused".into()),
+//!     }
+//! }
+//! ```
 #![tactic(auto)]
 
 mod above;

@@ -1,6 +1,16 @@
 //! Signatures: what checks them, what makes them, and the program's own, by the members' secrets.
-//! A signer is told by the test `accepts`, of which nothing else is supposed, so that any scheme can stand in its place.
+//! A signer is told by the test `accepts`, of which nothing else is supposed, so that any scheme can take its place.
 //! The layers above use that `check` is `accepts`, and that `accepts` takes what `sign` gives.
+//!
+//! From `signs_for_members` in the tests of this crate, shortened:
+//!
+//! ```text
+//! let table = MacTable::new(rt.alloc(), &two_members(&rt, rt.alloc())?)?;
+//! let sig = table.sign(0, b"Hi There");
+//! assert_eq!(rt; sig.as_slice(), FIRST_MAC.as_slice());
+//! assert!(rt; table.check(0, b"Hi There", &sig));
+//! assert!(rt; !table.check(1, b"Hi There", &sig));
+//! ```
 #![tactic(auto)]
 
 mod key;

@@ -42,8 +42,8 @@ report_of workers member_bytes script_bytes =
     option_and_then (λ members. option_map (λ lines. report_text (play members lines)) (result_ok (accepted_lines members workers script_bytes)))
     (result_ok (accepted_members member_bytes))
 
--- if both are accepted, the run of the steps of the script is safe, and so is what the report shows: no two of its orders
--- part ways
+-- if both are accepted, the run of the steps of the script is safe, and so is what the report shows: no two of its
+-- orders part ways, where the dishonest members have less than a third of the stake and names do not collide
 abbrev pub IsSafeReport : ℕ → List ℕ → List ℕ → Type 0
 IsSafeReport workers member_bytes script_bytes =
     (members : MemberList) (lines : List Line) →

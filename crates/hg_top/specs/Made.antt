@@ -23,11 +23,13 @@ made_by m = generate m.seed m.members m.lines
 abbrev pub made_text : MadeRun → List ℕ
 made_text m = summary_text (summary (made_by m).0 (made_by m).1)
 
--- the run of the lines' steps is safe
+-- the run of the lines' steps is safe: where the dishonest members have less than a third of the stake and names do not
+-- collide, of the orders that any two nodes keep at any two moments one is a prefix of the other
 abbrev pub IsSafeMade : MadeRun → Type 0
 IsSafeMade m = IsSafePlay (made_by m).0 (made_by m).1
 
--- what it came to: standard output was written so much before and after, and failed so often
+-- what it came to: standard output was written so much before and after, and failed so often. What is written is of a
+-- run that is safe under these premises: less than a third of the stake is dishonest, and names do not collide
 abbrev pub EndsMade : MadeRun → Option (List ℕ) → Option (List ℕ) → ℕ → ℕ → Status → Type 0
 EndsMade m before after faults_before faults_after Done = Appends before after (made_text m) × IsSafeMade m
 EndsMade m before after faults_before faults_after WriteFault =

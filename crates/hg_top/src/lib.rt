@@ -1,6 +1,15 @@
 //! The program in one call: words, files, nodes, report.
 //! `main` uses `hashgraph`, whose clauses say what it writes for which files, and the cause of each status.
-//! What the script does is `hg_play`'s, and what is written is told by `report_text` and `status_line`.
+//! What the script does is `hg_play`'s; what is written `report_text`, `summary_text` and `status_line` tell.
+//!
+//! From `main` of `hg_cli`, shortened:
+//!
+//! ```text
+//! let mut disk = Disk::new(&rt);
+//! let mut out = Stream::new(rt.stdout());
+//! let words = words.as_slice();
+//! hashgraph(&rt, rt.alloc(), words, &mut disk, &mut out, &mut err, &NoGate)
+//! ```
 #![tactic(auto)]
 
 mod printing;

@@ -175,8 +175,8 @@ pub fn hashgraph<R: Threads + Wait + Sync, F: Shelf, K: Sink, E: Sink, G: Gate +
     err: &mut E,
     gate: &G,
 ) -> Status
-    // The report or the summary at `Done`, of a run in which no two nodes' orders part ways, and the cause of each other
-    // status.
+    // The report or the summary at `Done`, and the cause of each other status. In that run no two nodes' orders part
+    // ways, where the dishonest members have less than a third of the stake and names do not collide.
     ensures ends { EndsBy (asks words.now) (course F.Shelf K.Sink shelf.old shelf.new out.old out.new) result }
     ensures usage { IsUsage (asks words.now) result }
     ensures refused { IsRefused (asks words.now) (course F.Shelf K.Sink shelf.old shelf.new out.old out.new) result }

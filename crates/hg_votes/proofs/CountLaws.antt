@@ -1,5 +1,5 @@
 -- Counting the votes of one round more
-use Rattle.std.proofs.Common.{◌≡◌, ◌≢◌, ℕ, ◌+◌, ◌-◌, ◌<◌, ◌≤◌, Bool, true, false, ◌⊎◌, ◌&&◌, eqb, List, [], ◌∷◌, ◌++◌, length, take, get_or, slice_set, refl, sym, ap, subst, ◌∙◌, inl, inr, arith}
+use Rattle.std.proofs.Common.{◌≡◌, ◌≢◌, ℕ, ◌+◌, ◌-◌, ◌<◌, ◌≤◌, Bool, true, false, ◌⊎◌, ◌&&◌, eqb, List, [], ◌∷◌, ◌++◌, length, take, get_or, slice_set, IsTrue, refl, sym, ap, subst, ◌∙◌, inl, inr, arith}
 use Rattle.std.proofs.lemmas.Bool.{cases_eq, cases_lt, eq-eqb, eqb-true, or_cases, or_left, or_right, and_from, true≢false}
 use Rattle.std.proofs.lemmas.List.{take_more, length-set, get_or-set_same, get_or-set_other}
 use Rattle.hg_model.specs.declared.ballot.Ballot.{Ballot}
@@ -13,7 +13,8 @@ use Rattle.hg_model.proofs.LinkLaws.{length-links}
 use Rattle.hg_model.proofs.PrefixLaws.{IsWitnessOf}
 use Rattle.hg_model.proofs.StandingLaws.{witnesses_in-standings}
 use Rattle.hg_votes.specs.Tallies.{no_ballot}
-use Rattle.hg_votes.specs.Counting.{HoldsBallots}
+use Rattle.hg_votes.specs.Counting.{HoldsBallots, number_of}
+use Rattle.hg_votes.proofs.VoterLaws.{number-below, number-same}
 
 -- the list of a round's witnesses has each of them
 pub witness_listed : (g : Graph) (r y : ℕ) (S : List Standing) (ws : List ℕ) → S ≡ standings_of g.members (links_of g) → ws ≡ witnesses_in S r → IsWitnessOf g r y → has_place ws y ≡ true
@@ -40,30 +41,33 @@ has_place-append (x ∷ xs) z y h = elim (or_cases (eqb x y) (has_place (xs ++ z
 -- the ballots of the rounds before r, and those of the listed witnesses of round r
 pub record HoldsRound (g : Graph) (x r : ℕ) (listed : List ℕ) (ballots : List Ballot) : Type 0 where
   pub before : HoldsBallots g x (r - 1) ballots
-  pub listed_at : (y : ℕ) → IsCounted g x r y → has_place listed y ≡ true → get_or ballots y no_ballot ≡ ballot_of g x y
+  pub listed_at : (y : ℕ) → IsCounted g x r y → has_place listed y ≡ true → get_or ballots (number_of g y) no_ballot ≡ ballot_of g x y
 
 pub round_begun : (g : Graph) (x r : ℕ) (ballots : List Ballot) → HoldsBallots g x (r - 1) ballots → HoldsRound g x r [] ballots
 round_begun g x r ballots before = record { before = before; listed_at = λ y h there. absurd (true≢false (sym there)) }
 
 module _ (g : Graph) (x r : ℕ) (ws : List ℕ) (below : 0 < r) where
   -- one ballot more
-  pub round_more : (i y d : ℕ) (ballots : List Ballot) (ballot : Ballot) → i < length ws → get_or ws i d ≡ y → IsWitnessOf g r y → ballot ≡ ballot_of g x y →
-      HoldsRound g x r (take i ws) ballots → HoldsRound g x r (take (i + 1) ws) (slice_set ballots y ballot)
-  round_more i y d ballots ballot h here w ballot_is held =
-      let long : length ballots ≡ length g.rows = held.before.len in
-      let place : y < length g.rows = w.place in
-      let inside : y < length ballots = omega arith in
+  pub round_more : (i y d number : ℕ) (ballots : List Ballot) (ballot : Ballot) → i < length ws → get_or ws i d ≡ y → IsWitnessOf g r y → number ≡ number_of g y → ballot ≡ ballot_of g x y →
+      HoldsRound g x r (take i ws) ballots → HoldsRound g x r (take (i + 1) ws) (slice_set ballots number ballot)
+  round_more i y d number ballots ballot h here w number_is ballot_is held =
+      let long : length ballots ≡ number_of g (length g.rows) = held.before.len in
+      let inside : number_of g y < length ballots = omega (arith, number-below g y (length g.rows) w.place w.witness) in
+      let other : (z : ℕ) → IsTrue (is_witness g.members (links_of g) z) → z ≢ y → get_or (slice_set ballots number ballot) (number_of g z) no_ballot ≡ get_or ballots (number_of g z) no_ballot =
+      λ z witness apart. get_or-set_other ballots number (number_of g z) ballot no_ballot (λ same. apart (number-same g z y witness w.witness (same ∙ number_is))) in
       record {
         before = record {
-          len = length-set ballots y ballot ∙ long;
+          len = length-set ballots number ballot ∙ long;
           at = λ z known.
               let low : round_of g.members (links_of g) z ≤ r - 1 = known.counted in
               let apart : z ≢ y = λ same. absurd (omega (arith, w.round, ap (round_of g.members (links_of g)) same)) in
-              get_or-set_other ballots y z ballot no_ballot apart ∙ held.before.at z known;
+              other z known.witness apart ∙ held.before.at z known;
         };
         listed_at = λ z known there. elim (cases_eq z y) [
-          | inl same ↦ ap (λ k. get_or (slice_set ballots y ballot) k no_ballot) same ∙ (get_or-set_same ballots y ballot no_ballot inside ∙ (ballot_is ∙ ap (ballot_of g x) (sym same)))
-          | inr apart ↦ get_or-set_other ballots y z ballot no_ballot apart
+          | inl same ↦ ap (λ k. get_or (slice_set ballots number ballot) (number_of g k) no_ballot) same
+              ∙ (ap (λ k. get_or (slice_set ballots k ballot) (number_of g y) no_ballot) number_is
+              ∙ (get_or-set_same ballots (number_of g y) ballot no_ballot inside ∙ (ballot_is ∙ ap (ballot_of g x) (sym same))))
+          | inr apart ↦ other z known.witness apart
               ∙ held.listed_at z known (elim (has_place-append (take i ws) y z (subst (λ k. has_place (take i ws ++ k ∷ []) z ≡ true) here (subst (λ l. has_place l z ≡ true) (take_more ws i d h) there))) [
                 | inl earlier ↦ earlier
                 | inr last ↦ absurd (apart (sym last))

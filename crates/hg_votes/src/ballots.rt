@@ -1,50 +1,39 @@
-ghost use Rattle.std.specs.Prelude.{◌≡◌, ◌<◌, ◌-◌, ◌^◌, length, IfOk};
+ghost use Rattle.std.specs.Prelude.{◌≡◌, ◌<◌, ◌≤◌, ◌-◌, ◌^◌, length, replicate};
 ghost use Rattle.hg_model.specs.Prefix.{IsCounted, ballot_of};
 ghost use Rattle.hg_model.specs.GraphWords.{round_in};
-ghost use Rattle.hg_votes.specs.Counting.{HoldsBallots, HoldsVoters, IsOpened};
+ghost use Rattle.hg_votes.specs.Counting.{HasRoom, HoldsBallots, HoldsVoted, HoldsVoters, IsOpened, IsVotersOf};
 
-use crate::tally::count_votes;
+use crate::slots::mark;
+use crate::tally::count_slots;
+use crate::voters::Voters;
 use crate::weighing::weigh;
-use hg_model::{Ballot, Items, Memory, Prefix};
-use std::alloc::Global;
+use hg_model::{Ballot, Prefix};
 
-/// A ballot by place, none of which is counted.
-pub fn no_ballots(alloc: Global, len: usize) -> Result<Vec<Ballot>, Memory>
-    ensures { IfOk result (λ ballots. length ballots.items ≡ len) }
-{
-    let mut ballots = Vec::new(alloc);
-    for _ in 0..len {
-        ballots.push(Ballot {
-            vote: false,
-            decides: false,
-        })?;
-    }
-    Ok(ballots)
-}
-
-/// The ballot of witness `y` on `x`, from the ballots of the rounds before it.
+/// The ballot of witness `y` on `x`, so many rounds below it, from the votes of its voters.
 fn next_ballot<P: Prefix>(
     p: &P,
-    voters: &[Items<usize>],
-    ballots: &[Ballot],
+    voters: &[u64],
+    voted: &[u64],
     x: usize,
     y: usize,
+    above: u32,
 ) -> Ballot
     requires counted { IsCounted (P.graph p.now) x (round_in (P.graph p.now) y) y }
     requires candidate { x < length (P.graph p.now).rows }
     requires short { length (P.graph p.now).rows < 2 ^ 32 - 1 }
-    requires voters { HoldsVoters (P.graph p.now) (length (P.graph p.now).rows) voters.now }
-    requires before { HoldsBallots (P.graph p.now) x (round_in (P.graph p.now) y - 1) ballots.now }
+    requires above { above ≡ round_in (P.graph p.now) y - round_in (P.graph p.now) x }
+    requires voters { IsVotersOf (P.graph p.now) y voters.now }
+    requires wide { length voters.now ≤ length voted.now }
+    requires before { HoldsVoted (P.graph p.now) x (round_in (P.graph p.now) y - 1) voted.now }
     ensures { result ≡ ballot_of (P.graph p.now) x y }
 {
-    let above = p.round(y) - p.round(x);
     if above == 1 {
         return Ballot {
             vote: p.sees(y, x),
             decides: false,
         };
     }
-    let tally = count_votes(voters[y].as_slice(), ballots);
+    let tally = count_slots(voters, voted);
     weigh(
         above,
         p.coin(),
@@ -55,11 +44,14 @@ fn next_ballot<P: Prefix>(
     )
 }
 
-/// Counts the votes on `x` of the witnesses of round `r`, where those of the rounds before are counted.
+/// Counts the votes on `x` of the witnesses of round `r`, where those of the rounds before are counted: their ballots,
+/// and as a set those who vote yes.
 pub fn count_round<P: Prefix>(
     p: &P,
-    voters: &[Items<usize>],
+    voters: &Voters,
+    voted: &[u64],
     ballots: &mut [Ballot],
+    next: &mut [u64],
     x: usize,
     r: u32,
 )
@@ -67,10 +59,21 @@ pub fn count_round<P: Prefix>(
     requires opened { IsOpened (P.graph p.now) x (r - 1) }
     requires short { length (P.graph p.now).rows < 2 ^ 32 - 1 }
     requires voters { HoldsVoters (P.graph p.now) (length (P.graph p.now).rows) voters.now }
+    requires room { HasRoom (P.graph p.now) (length voted.now) }
+    requires same { length next.old ≡ length voted.now }
+    requires voted { HoldsVoted (P.graph p.now) x (r - 1) voted.now }
     requires before { HoldsBallots (P.graph p.now) x (r - 1) ballots.old }
-    ensures { HoldsBallots (P.graph p.now) x r ballots.new }
+    ensures ballots { HoldsBallots (P.graph p.now) x r ballots.new }
+    ensures next { HoldsVoted (P.graph p.now) x r next.new }
 {
-    for y in p.witnesses(r) {
-        ballots[*y] = next_ballot(p, voters, ballots, x, *y);
+    next.fill(0);
+    let above = r - p.round(x);
+    let witnesses = p.witnesses(r);
+    for slot in 0..witnesses.len() {
+        let y = witnesses[slot];
+        let number = voters.number(y);
+        let ballot = next_ballot(p, voters.voters(number), voted, x, y, above);
+        mark(next, slot, ballot.vote);
+        ballots[number] = ballot;
     }
 }

@@ -1,10 +1,22 @@
 //! Votes on the fame of a witness, round by round: a ballot for each later witness, from those of its voters.
-//! The layer above uses `VoteTable` as the `Votes` of `hg_model`. The plain program uses how one ballot is found,
-//! `count_votes` and `weigh`.
-//! Voters are found once, in `new`; a round then costs its witnesses times their voters, and no memory.
+//! The layer above uses `VoteTable` as the `Votes` of `hg_model`; the plain program uses `count_votes` and `weigh`.
+//! Voters are found once, as sets of slots, which are indices among the witnesses of the round before; a table is carried
+//! to a longer prefix, and a ballot costs a word of voters for every 64 slots, and no memory.
+//!
+//! From `found_by` of `hg_world`, what a share of the witnesses decides in the first `len` rows of a node:
+//!
+//! ```text
+//! node.rows();
+//! let frozen = node.prefix(len)?;
+//! let mut votes = VoteTable::new(alloc, &frozen)?;
+//! let found = elect_share(alloc, &frozen, &mut votes, share)?;
+//! Ok(found)
+//! ```
 #![tactic(auto, using(hg_model::proofs::StandingLaws::standings_known, hg_model::proofs::LinkLaws::link_lengths))]
 
 mod ballots;
+mod sets;
+mod slots;
 mod table;
 mod tally;
 mod voters;

@@ -1,43 +1,140 @@
-ghost use Rattle.std.specs.Prelude.{IfOk};
-ghost use Rattle.hg_votes.specs.Counting.{IsMadeFor};
+ghost use Rattle.std.specs.Prelude.{ℕ, ◌≡◌, ◌≤◌, [], length, vec_len, IfOk, OnOk, OnErr};
+ghost use Rattle.hg_model.specs.Orders.{IsPrefix};
+ghost use Rattle.hg_model.specs.Prefix.{graph_of};
+ghost use Rattle.hg_model.specs.Stakes.{Stakes};
+ghost use Rattle.hg_model.specs.GraphWords.{shape_in, IsShapedIn};
+ghost use Rattle.hg_votes.specs.Counting.{CarriesTo, HoldsVoters, IsMadeFor, witnesses_of};
 
-use crate::ballots::{count_round, no_ballots};
-use crate::voters::voters_by_place;
-use hg_model::{Ballot, Items, Memory, Prefix, Votes};
+use crate::ballots::count_round;
+use crate::voters::Voters;
+use hg_model::{Ballot, Memory, Prefix, Votes, is_of_graph};
 use std::alloc::Global;
 use std::marker::Model;
+use std::mem;
 
-/// The votes of a prefix's witnesses, by place.
+/// The votes of a prefix's witnesses.
 #[derive(Drop)]
 pub struct VoteTable {
-    /// The voters of each witness, in order.
-    voters: Vec<Items<usize>>,
-    /// The ballots on the candidate, of the witnesses whose votes are counted.
+    voters: Voters,
+    /// The ballots on the candidate by witness, of those witnesses whose votes are counted.
     ballots: Vec<Ballot>,
+    /// The witnesses of the last counted round who vote yes, as a set of slots.
+    voted: Vec<u64>,
+    /// As many words, for the next round.
+    next: Vec<u64>,
     candidate: usize,
     /// The round up to which votes are counted, 0 without a candidate.
     counted: u32,
 }
 
 impl Model for VoteTable {
+    ghost use Rattle.std.specs.Prelude.{◌≡◌, length};
     ghost use Rattle.hg_votes.specs.Counting.{Counting};
 
     ghost Value = { Counting };
 
-    ghost view = { λ s. record { voters = s.voters.items; ballots = s.ballots.items; candidate = s.candidate; counted = s.counted } };
+    ghost view = { λ s. record { voters = s.voters; ballots = s.ballots.items; voted = s.voted.items; candidate = s.candidate; counted = s.counted } };
+
+    ghost invariant = { λ s. length s.next.items ≡ length s.voted.items };
+}
+
+/// How many witnesses the round has that has most.
+fn most_witnesses<P: Prefix>(p: &P) -> usize
+    requires { IsShapedIn (shape_in (P.graph p.now)) }
+    ensures { (r : ℕ) → length (witnesses_of (P.graph p.now) r) ≤ result }
+{
+    let mut most = 0;
+    for before in 0..p.greatest() {
+        most = most.max(p.witnesses(before + 1).len());
+    }
+    most
+}
+
+/// Enters the rows that are not entered yet, and takes the memory of a ballot for each witness. After an error some of
+/// the rows are entered, and the ballots are as they were.
+fn enter<P: Prefix>(voters: &mut Voters, ballots: &mut Vec<Ballot>, p: &P) -> Result<(), Memory>
+    requires few { length voters.old.numbers ≤ length (P.graph p.now).rows }
+    requires before { HoldsVoters (P.graph p.now) (length voters.old.numbers) voters.old }
+    ensures voters { OnOk result (HoldsVoters (P.graph p.now) (length (P.graph p.now).rows) voters.new) }
+    ensures ballots { OnOk result (vec_len ballots.new ≡ length voters.new.sets) }
+    ensures same { OnErr result (ballots.new.items ≡ ballots.old.items) }
+    ensures numbers { IsPrefix voters.old.numbers voters.new.numbers }
+    ensures sets { IsPrefix voters.old.sets voters.new.sets }
+{
+    voters.enter(p)?;
+    let none = Ballot {
+        vote: false,
+        decides: false,
+    };
+    ballots.resize(voters.witnesses(), none)?;
+    Ok(())
+}
+
+/// Enters the rows that are not entered yet, and takes the memory of a ballot for each witness. An error leaves both.
+fn enter_or_leave<P: Prefix>(
+    voters: &mut Voters,
+    ballots: &mut Vec<Ballot>,
+    p: &P,
+) -> Result<(), Memory>
+    requires few { length voters.old.numbers ≤ length (P.graph p.now).rows }
+    requires before { HoldsVoters (P.graph p.now) (length voters.old.numbers) voters.old }
+    ensures voters { OnOk result (HoldsVoters (P.graph p.now) (length (P.graph p.now).rows) voters.new) }
+    ensures ballots { OnOk result (vec_len ballots.new ≡ length voters.new.sets) }
+    ensures same_voters { OnErr result (voters.new ≡ voters.old) }
+    ensures same_ballots { OnErr result (ballots.new.items ≡ ballots.old.items) }
+{
+    let rows = voters.rows();
+    let witnesses = voters.witnesses();
+    match enter(voters, ballots, p) {
+        Ok(()) => Ok(()),
+        Err(memory) => {
+            voters.truncate(rows, witnesses);
+            Err(memory)
+        }
+    }
 }
 
 impl VoteTable {
+    /// The table of no rows, by whatever members. Takes no memory.
+    pub fn empty(alloc: Global) -> VoteTable
+        ensures { (members : Stakes) (coin : ℕ) → IsMadeFor result (graph_of members coin []) }
+    {
+        VoteTable {
+            voters: Voters::new(alloc),
+            ballots: Vec::new(alloc),
+            voted: Vec::new(alloc),
+            next: Vec::new(alloc),
+            candidate: 0,
+            counted: 0,
+        }
+    }
+
     /// The table of a prefix, without a candidate.
     pub fn new<P: Prefix>(alloc: Global, p: &P) -> Result<VoteTable, Memory>
         ensures { IfOk result (λ table. IsMadeFor table (P.graph p.now)) }
     {
-        Ok(VoteTable {
-            voters: voters_by_place(alloc, p)?,
-            ballots: no_ballots(alloc, p.rows())?,
-            candidate: 0,
-            counted: 0,
-        })
+        let mut table = VoteTable::empty(alloc);
+        table.carry(alloc, p)?;
+        Ok(table)
+    }
+
+    /// Makes it the table of this prefix, which goes on from the one that it was made for, without a candidate.
+    /// An error leaves the table.
+    pub fn carry<P: Prefix>(&mut self, alloc: Global, p: &P) -> Result<(), Memory>
+        requires { CarriesTo self.old (P.graph p.now) }
+        ensures ok { OnOk result (IsMadeFor self.new (P.graph p.now)) }
+        ensures err { OnErr result (self.new ≡ self.old) }
+    {
+        is_of_graph(p);
+        let words = most_witnesses(p).div_ceil(64);
+        let voted = vec![in alloc; 0u64; words]?;
+        let next = vec![in alloc; 0u64; words]?;
+        enter_or_leave(&mut self.voters, &mut self.ballots, p)?;
+        self.voted = voted;
+        self.next = next;
+        self.candidate = 0;
+        self.counted = 0;
+        Ok(())
     }
 }
 
@@ -58,10 +155,13 @@ impl Votes for VoteTable {
         count_round(
             p,
             &self.voters,
+            &self.voted,
             &mut self.ballots,
+            &mut self.next,
             self.candidate,
             self.counted,
         );
+        mem::swap(&mut self.voted, &mut self.next);
     }
 
     fn fill<P: Prefix>(&mut self, p: &P, x: usize) {
@@ -72,6 +172,6 @@ impl Votes for VoteTable {
     }
 
     fn ballot(&self, y: usize) -> Ballot {
-        self.ballots[y]
+        self.ballots[self.voters.number(y)]
     }
 }

@@ -1,52 +1,110 @@
-ghost use Rattle.std.specs.Prelude.{◌≡◌, ◌<◌, ◌-◌, length, IfOk};
-ghost use Rattle.std.specs.List.{AllByRecursion, filter};
-ghost use Rattle.hg_model.specs.Seeing.{strongly_sees};
-ghost use Rattle.hg_model.specs.GraphWords.{strongly_sees_in};
-ghost use Rattle.hg_votes.specs.Tallies.{voters_of};
+ghost use Rattle.std.specs.Prelude.{◌≡◌, ◌<◌, ◌≤◌, ◌+◌, ◌-◌, ◌^◌, [], length, slice_index, slice_index_or, take, OnOk};
+ghost use Rattle.hg_model.specs.Orders.{IsPrefix};
 ghost use Rattle.hg_votes.specs.Counting.{HoldsVoters};
 
-use hg_model::{Items, Memory, Prefix, Sight};
+use crate::sets::SlotSets;
+use hg_model::{Memory, Prefix};
 use std::alloc::Global;
+use std::marker::Model;
 
-/// Those of the rows that row `y` strongly sees, in order.
-fn seen_among<S: Sight>(
-    alloc: Global,
-    sight: &S,
-    rows: &[usize],
-    y: usize,
-) -> Result<Items<usize>, Memory>
-    requires place { y < length (S.shape sight.now).links }
-    requires places { AllByRecursion (λ w. w < length (S.shape sight.now).links) rows.now }
-    ensures { IfOk result (λ seen. seen ≡ filter (strongly_sees_in (S.shape sight.now) y) rows.now) }
-{
-    let mut seen = Vec::new(alloc);
-    for w in rows {
-        if sight.strongly_sees(y, *w) {
-            seen.push(*w)?;
+/// By row its number among the witnesses, and by number the voters of each witness.
+#[derive(Drop)]
+pub struct Voters {
+    /// How many witnesses come before each row.
+    numbers: Vec<u32>,
+    /// The voters of each witness, as a set of slots: of indices in the list of the round's witnesses before.
+    sets: SlotSets,
+}
+
+impl Model for Voters {
+    ghost use Rattle.hg_votes.specs.Counting.{Entered};
+
+    ghost Value = { Entered };
+
+    ghost view = { λ s. record { numbers = s.numbers.items; sets = s.sets } };
+}
+
+impl Voters {
+    /// Of no rows. Takes no memory.
+    pub fn new(alloc: Global) -> Voters
+        ensures numbers { result.numbers ≡ [] }
+        ensures sets { result.sets ≡ [] }
+    {
+        Voters {
+            numbers: Vec::new(alloc),
+            sets: SlotSets::new(alloc),
         }
     }
-    Ok(Items::from_vec(seen))
-}
 
-/// The voters of row `y`: the witnesses of the round before its own that it strongly sees.
-fn voters_of<P: Prefix>(alloc: Global, p: &P, y: usize) -> Result<Items<usize>, Memory>
-    requires { y < length (P.graph p.now).rows }
-    ensures { IfOk result (λ v. v ≡ voters_of (P.graph p.now) y) }
-{
-    seen_among(alloc, p, p.witnesses(p.round(y).saturating_sub(1)), y)
-}
+    /// How many witnesses come before row `y`.
+    pub fn number(&self, y: usize) -> usize
+        requires { y < length self.now.numbers }
+        ensures { result ≡ slice_index self.now.numbers y }
+    {
+        self.numbers[y] as usize
+    }
 
-/// By place the voters of each witness, and none of other rows.
-pub fn voters_by_place<P: Prefix>(alloc: Global, p: &P) -> Result<Vec<Items<usize>>, Memory>
-    ensures { IfOk result (λ v. HoldsVoters (P.graph p.now) (length (P.graph p.now).rows) v.items) }
-{
-    let mut voters = Vec::new(alloc);
-    for y in 0..p.rows() {
+    /// The voters of the witness of this number.
+    pub fn voters(&self, number: usize) -> &[u64]
+        requires { number < length self.now.sets }
+        ensures { result.now ≡ slice_index_or self.now.sets number [] }
+    {
+        self.sets.set(number)
+    }
+
+    /// Enters row `y`, where those before it are entered.
+    fn enter_row<P: Prefix>(&mut self, p: &P, y: usize) -> Result<(), Memory>
+        requires row { y < length (P.graph p.now).rows }
+        requires short { length (P.graph p.now).rows < 2 ^ 32 - 1 }
+        requires before { HoldsVoters (P.graph p.now) y self.old }
+        ensures ok { OnOk result (HoldsVoters (P.graph p.now) (y + 1) self.new) }
+        ensures numbers { IsPrefix self.old.numbers self.new.numbers }
+        ensures sets { IsPrefix self.old.sets self.new.sets }
+    {
+        self.numbers.reserve(1)?;
+        let number = self.sets.len() as u32;
         if p.is_witness(y) {
-            voters.push(voters_of(alloc, p, y)?)?;
-        } else {
-            voters.push(Items::new(alloc))?;
+            self.sets
+                .push_seen(p, p.witnesses(p.round(y).saturating_sub(1)), y)?;
         }
+        self.numbers.push_reserved(number);
+        Ok(())
     }
-    Ok(voters)
+
+    /// How many rows are entered.
+    pub fn rows(&self) -> usize
+        ensures { result ≡ length self.now.numbers }
+    {
+        self.numbers.len()
+    }
+
+    /// How many witnesses are entered.
+    pub fn witnesses(&self) -> usize
+        ensures { result ≡ length self.now.sets }
+    {
+        self.sets.len()
+    }
+
+    /// Enters the rows that are not entered yet. After an error some of them are.
+    pub fn enter<P: Prefix>(&mut self, p: &P) -> Result<(), Memory>
+        requires few { length self.old.numbers ≤ length (P.graph p.now).rows }
+        requires before { HoldsVoters (P.graph p.now) (length self.old.numbers) self.old }
+        ensures ok { OnOk result (HoldsVoters (P.graph p.now) (length (P.graph p.now).rows) self.new) }
+        ensures numbers { IsPrefix self.old.numbers self.new.numbers }
+        ensures sets { IsPrefix self.old.sets self.new.sets }
+    {
+        for y in self.numbers.len()..p.rows() {
+            self.enter_row(p, y)?;
+        }
+        Ok(())
+    }
+
+    /// The first rows and witnesses alone.
+    pub fn truncate(&mut self, rows: usize, witnesses: usize)
+        ensures numbers { self.new.numbers ≡ take rows self.old.numbers }
+        ensures sets { self.new.sets ≡ take witnesses self.old.sets }
+    {
+        self.numbers.truncate(rows);
+        self.sets.truncate(witnesses);
+    }
 }

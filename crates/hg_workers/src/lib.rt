@@ -2,24 +2,19 @@
 //! turn, and publishes what it found.
 //! The layer above uses `Voters` as a `Crew` of `hg_board`, whose clauses say what a worker may do and what it owes.
 //!
+//! From `vote` of `check_threads`:
+//!
 //! ```text
-//! /// One branch replays the events of a node that was alone, the other votes meanwhile.
-//! fn shared_beside<R: Threads + Wait + Sync, G: Gate + Sync>(rt: &R, alloc: Global, node: Node<MacTable>,
-//!     alone: &Node<MacTable>, gate: &G) -> Result<Player, Memory> {
-//!     let Ok((shared, mut seat)) = Shared::start(alloc, node) else { return Err(Memory); };
-//!     let other = shared.split(&mut seat);
-//!     let top = &shared;
-//!     let ((mut seat, replayed), (other, marked)) =
-//!         join(rt, move || replay(rt, top, seat, alone, gate), move || vote(rt, alloc, top, other, gate));
-//!     shared.absorb(&mut seat, other);
-//!     let player = Player { node: shared.finish(rt, seat) };
-//!     replayed?;
-//!     marked?;
-//!     Ok(player)
+//! fn vote<R: Wait, G: Gate>(rt: &R, alloc: Global, shared: &Shared<MacTable>, mut seat: Seat<MacTable>, gate: &G)
+//!     -> (Seat<MacTable>, Result<u32, Memory>)
+//!     requires { IsOf shared.now seat }
+//!     ensures { IsOf shared.now result.0 }
+//! {
+//!     let all = Share::new(0, 1);
+//!     let marked = Voters::new(gate).work(rt, alloc, shared, &mut seat, all, TURNS);
+//!     (seat, marked)
 //! }
 //! ```
-//! There `vote` answers the seat and `Voters::new(gate).work(rt, alloc, shared, &mut seat, all, TURNS)`, and `replay`
-//! the seat and whether memory sufficed.
 #![tactic(auto)]
 
 mod voters;

@@ -48,14 +48,23 @@ impl<'a, G: Gate> Voters<'a, G> {
         let first = share.k().wrapping_mul(2);
         let frozen = shared.freeze(rt, seat)?;
         self.gate.reach(first);
-        let found = elected(alloc, &frozen, share)?;
+        let found = elected(alloc, frozen, share)?;
         self.gate.reach(first.wrapping_add(1));
         Ok(shared.publish(rt, seat, &found))
     }
 }
 
+/// What the share decides in the graph, which ends here.
+fn elected(alloc: Global, graph: FrozenGraph, share: Share) -> Result<Found, Memory>
+    ensures share { IfOk result (λ found. found.share ≡ share) }
+    ensures len { IfOk result (λ found. found.len ≡ length graph.rows) }
+    ensures speaks { IfOk result (λ found. SpeaksFor graph share found) }
+{
+    elected_in(alloc, &graph, share)
+}
+
 /// What the share decides in the graph.
-fn elected(alloc: Global, graph: &FrozenGraph, share: Share) -> Result<Found, Memory>
+fn elected_in(alloc: Global, graph: &FrozenGraph, share: Share) -> Result<Found, Memory>
     ensures share { IfOk result (λ found. found.share ≡ share) }
     ensures len { IfOk result (λ found. found.len ≡ length graph.now.rows) }
     ensures speaks { IfOk result (λ found. SpeaksFor graph.now share found) }

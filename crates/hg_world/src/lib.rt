@@ -1,9 +1,8 @@
-//! The members' nodes in one process: a run, step by step.
-//! The layers above use that each call leaves the world after the steps that it names (`after_steps`), and that of the
-//! orders that any two nodes keep at any two moments one is a prefix of the other, where the premises of `IsSafe` hold.
-//! Nodes share events: what one hands to another was read, named and checked once, under the keys that all have, and the
-//! taker judges only what depends on its own rows. Of what it has of each other node it keeps a number, so that a pull
-//! looks at no row twice.
+//! The members' nodes in one process: a run, step by step. An event that one hands to another was checked before, once.
+//! The layers above use that each call leaves the world after the steps that it names (`after_steps`), and that of any
+//! two nodes' orders one is a prefix of the other, where under a third of the stake is dishonest and no names collide.
+//!
+//! From `ordered` in the tests of this crate:
 //!
 //! ```text
 //! /// A member's node settles: how many events its order has then.

@@ -1,7 +1,14 @@
-//! Four members trade through an order that no one of them rules: a node for each, and of each node the book of the order
-//! that it keeps. Each event of the gossip may ask to buy, to sell, or to take back an order. D cheats: it signs two
-//! events on one self-parent, and shows one to B and the other to the rest.
-//! It prints the book of each node. Of two nodes' books one is an earlier state of the other (clause `safe` of `run`).
+//! Four members trade by an order that none of them rules: each node has the book of its order. D cheats: it signs two
+//! events on one self-parent, for B and for the rest. It prints each node's book. Of two books one is an earlier state
+//! of the other (`safe` of `run`), if the dishonest have less than a third of the stake and names do not collide.
+//!
+//! `rt run` in its folder proves and runs it; of what it prints (`stdout`), the first lines:
+//!
+//! ```text
+//! A: 48 events, 1 unread
+//!   D buys 4 of B at 10
+//!   D buys 2 of C at 11
+//! ```
 #![tactic(auto)]
 
 mod action;

@@ -2,13 +2,16 @@
 //! The layers above use that `add` leaves the book `with_event`, so that the book of an order is
 //! one fold over its events and their payloads alone.
 //!
+//! From `read_at` of `order_book`:
+//!
 //! ```text
-//! /// A member's event comes to the book of an order.
-//! fn follow(book: &mut Book, member: Member, payload: &[u8]) -> Result<(), Memory>
-//!     requires { book.old.events < 2 ^ 63 }
-//!     ensures { OnOk result (book.new ≡ with_event book.old (event_of member payload.now)) }
+//! fn read_at(book: &mut Book, node: &Node<SharedTable>, place: usize) -> Result<(), Memory>
+//!     requires place { place < length (node_rows node.now) }
+//!     requires few { book.old.events + 1 < 2 ^ 64 }
+//!     ensures { OnOk result (book.new ≡ with_event book.old (event_at (node_rows node.now) place)) }
 //! {
-//!     book.add(member, payload)
+//!     let row = node.row(place);
+//!     book.add(row.creator, row.payload.as_slice())
 //! }
 //! ```
 #![tactic(auto)]

@@ -4,4 +4,4 @@ use Rattle.hg_bits.specs.Masks.{mask_has}
 use Rattle.hg_branches.proofs.forks.members_apart.Given as goal
 
 abbrev pub invariant-loop-b : goal.invariant-loop-b
-invariant-loop-b l = (m : ℕ) → mask_has l.mask m ≡ some_below l.b (λ b. nat_lt (slice_index l.other b) (slice_index l.counts b) && eqb (slice_index l.makers b) m)
+invariant-loop-b l = (m : ℕ) → mask_has l.mask m ≡ some_below l.b (λ b. nat_lt (slice_index l.other.row b) (slice_index l.counts.row b) && eqb (slice_index l.makers b) m)

@@ -10,8 +10,8 @@ loop-b-init c = λ m.
     let L = c.args.sight.now.shape.links in
     let makers = c.args.makers.now in
     let firsts = c.args.firsts.now in
-    let counts = c.args.counts.now in
-    mask_none m ∙ sym (some_below_none c.len-b.result (λ b. other_sees L makers firsts counts c.args.y b && eqb (slice_index makers b) m) (λ b h passes.
+    let counts = c.args.counts.now.row in
+    mask_none m ∙ sym (some_below_none (length firsts) (λ b. other_sees L makers firsts counts c.args.y b && eqb (slice_index makers b) m) (λ b h passes.
     let one = and_parts (other_sees L makers firsts counts c.args.y b) (eqb (slice_index makers b) m) passes in
     let two = and_parts (nat_le (length firsts) b && not (own_sees firsts counts (slice_index makers b))) (sees_on L counts c.args.y b) one.0 in
     let three = and_parts (nat_le (length firsts) b) (not (own_sees firsts counts (slice_index makers b))) two.0 in

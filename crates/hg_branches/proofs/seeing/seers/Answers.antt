@@ -5,4 +5,4 @@ use Rattle.hg_branches.specs.Lines.{sees_on}
 use Rattle.hg_branches.proofs.seeing.seers.Goals as goal
 
 pub loop-b-init : goal.loop-b-init
-loop-b-init c = λ m. mask_none m ∙ sym (some_below_zero (λ b. sees_on c.args.sight.now.shape.links c.args.counts.now c.args.y b && eqb (slice_index c.args.makers.now b) m))
+loop-b-init c = λ m. mask_none m ∙ sym (some_below_zero (λ b. sees_on c.args.sight.now.shape.links c.args.counts.now.row c.args.y b && eqb (slice_index c.args.makers.now b) m))

@@ -5,4 +5,4 @@ use Rattle.hg_branches.specs.Lines.{sees_on}
 use Rattle.hg_branches.proofs.seeing.seers.Given as goal
 
 abbrev pub invariant-loop-b : goal.invariant-loop-b
-invariant-loop-b l = (m : ℕ) → mask_has l.mask m ≡ some_below l.b (λ b. sees_on l.sight.shape.links l.counts l.y b && eqb (slice_index l.makers b) m)
+invariant-loop-b l = (m : ℕ) → mask_has l.mask m ≡ some_below l.b (λ b. sees_on l.sight.shape.links l.counts.row l.y b && eqb (slice_index l.makers b) m)

@@ -1,8 +1,6 @@
-use Rattle.std.proofs.Common.{◌∙◌, ◌+◌, length, ap, sym, subst, arith}
-use Rattle.std.specs.List.{AllByRecursion}
+use Rattle.std.proofs.Common.{◌∙◌, ◌+◌, length, ap, sym, arith}
 use Rattle.std.proofs.lemmas.Bool.{eqb-true, eqb-false}
 use Rattle.hg_model.proofs.LinkLaws.{length-links}
-use Rattle.hg_order.specs.Famous.{IsBelowAll}
 use Rattle.hg_kept.proofs.ReceiveLaws.{places_inside, places_few, looked_inside, keeps_none, fresh_are, fresh_below, order_fits, keeps_next}
 use Rattle.hg_kept.proofs.closing.receive_by.Goals as goal
 
@@ -27,9 +25,8 @@ pub append_round-requires-clause-received : goal.append_round-requires-clause-re
 append_round-requires-clause-received g c =
     let graph = g.P.Prefix.graph c.args.p.now in
     let ne = eqb-false (length c.args.famous.now) 0 (sym c.is_empty.ensures ∙ c.if-is_empty.false) in
-    subst (AllByRecursion (IsBelowAll graph c.args.famous.now)) (sym c.fresh.ensures)
-    (fresh_below graph c.args.marks.now c.args.closed c.args.order.now.items c.args.pending.now c.requires.keeps c.requires.next c.args.famous.now c.requires.famous (omega (arith, ne))
-    c.receive.new.self c.receive.ensures.looked c.receive.ensures.fresh c.receive.ensures.places)
+    fresh_below graph c.args.marks.now c.args.closed c.args.order.now.items c.args.pending.now c.requires.keeps c.requires.next c.args.famous.now c.requires.famous (omega (arith, ne))
+    c.receive.new.self c.receive.ensures.looked c.receive.ensures.fresh c.receive.ensures.places
 
 pub append_round-requires-clause-room : goal.append_round-requires-clause-room
 append_round-requires-clause-room g c =
@@ -37,7 +34,6 @@ append_round-requires-clause-room g c =
     let ne = eqb-false (length c.args.famous.now) 0 (sym c.is_empty.ensures ∙ c.if-is_empty.false) in
     let fits = order_fits graph c.args.marks.now c.args.closed c.args.order.now.items c.args.pending.now c.requires.keeps c.requires.next c.args.famous.now c.requires.famous (omega (arith, ne))
     c.receive.new.self c.receive.ensures.looked c.receive.ensures.fresh c.receive.ensures.places in
-    let same = ap length c.fresh.ensures in
     omega (arith, length-links graph.rows, c.requires.order_room)
 
 pub returns-clause-keeps : goal.returns-clause-keeps
@@ -46,6 +42,7 @@ returns-clause-keeps g c =
     let ne = eqb-false (length c.args.famous.now) 0 (sym c.is_empty.ensures ∙ c.if-is_empty.false) in
     let fresh = fresh_are graph c.args.marks.now c.args.closed c.args.order.now.items c.args.pending.now c.requires.keeps c.requires.next c.args.famous.now c.requires.famous (omega (arith, ne))
     c.receive.new.self c.receive.ensures.looked c.receive.ensures.fresh c.receive.ensures.places in
-    keeps_next graph c.args.marks.now c.args.closed c.args.order.now.items c.args.pending.now c.requires.keeps c.requires.next c.args.famous.now c.requires.famous (omega (arith, ne))
+    rw c.append_round.ensures.same
+    (keeps_next graph c.args.marks.now c.args.closed c.args.order.now.items c.args.pending.now c.requires.keeps c.requires.next c.args.famous.now c.requires.famous (omega (arith, ne))
     c.receive.new.self c.receive.ensures.looked c.receive.ensures.fresh c.receive.ensures.places c.append_round.new.order.items
-    (c.append_round.ensures.order c.args.marks.now (c.args.closed + 1) c.requires.famous (c.fresh.ensures ∙ fresh))
+    (c.append_round.ensures.order c.args.marks.now (c.args.closed + 1) c.requires.famous fresh))

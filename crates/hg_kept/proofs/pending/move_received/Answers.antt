@@ -5,13 +5,13 @@ use Rattle.hg_model.specs.Prefix.{links_of}
 use Rattle.hg_order.specs.Famous.{all_have}
 use Rattle.hg_kept.proofs.StepLaws.{parted_none, parted_passes, parted_fails}
 use Rattle.hg_kept.proofs.pending.move_received.Goals as goal
-use Rattle.hg_kept.proofs.pending.move_received.Goals.{then-received_in, else-received_in}
+use Rattle.hg_kept.proofs.pending.move_received.Goals.{then-received_below, else-received_below}
 
 pub loop-i-init : goal.loop-i-init
 loop-i-init g c = rw c.requires.none (parted_none _ _, refl)
 
-pub received_in-requires-clause-place : goal.received_in-requires-clause-place
-received_in-requires-clause-place g c = rw (c.loop-i.invariant.0.later c.loop-i.i (omega arith)) (c.requires.places c.loop-i.i 0 c.loop-i-test.true)
+pub received_below-requires-clause-place : goal.received_below-requires-clause-place
+received_below-requires-clause-place g c = rw (c.loop-i.invariant.0.later c.loop-i.i (omega arith)) (c.requires.places c.loop-i.i 0 c.loop-i-test.true)
 
 pub push_reserved-requires : goal.push_reserved-requires
 push_reserved-requires g c = omega (arith, c.loop-i.invariant.0.few, c.loop-i.invariant.1, c.requires.room, c.loop-i-test.true)
@@ -20,13 +20,13 @@ pub bounds-places-kept : goal.bounds-places-kept
 bounds-places-kept g c = omega (arith, c.loop-i.invariant.0.low, c.loop-i.auto.places)
 
 pub loop-i-preserved : goal.loop-i-preserved
-loop-i-preserved g c = elim c.if-received_in.branch [
-  | then-received_in w ↦ rw (w.places-is, w.kept-is, w.fresh-is, w.push_reserved.ensures.items) (
-    parted_passes _ c.loop-i.i _ _ _ _ _ c.loop-i.invariant.0 c.loop-i-test.true refl (sym c.received_in.ensures.all ∙ w.if-received_in.true),
+loop-i-preserved g c = elim c.if-received_below.branch [
+  | then-received_below w ↦ rw (w.places-is, w.kept-is, w.fresh-is, w.push_reserved.ensures.items) (
+    parted_passes _ c.loop-i.i _ _ _ _ _ c.loop-i.invariant.0 c.loop-i-test.true refl (sym c.received_below.ensures ∙ w.if-received_below.true),
     w.push_reserved.ensures.capacity ∙ c.loop-i.invariant.1,
   )
-  | else-received_in w ↦ rw (w.places-is, w.kept-is, w.fresh-is) (
-    parted_fails _ c.loop-i.i _ _ _ _ _ c.loop-i.invariant.0 c.loop-i-test.true refl (sym c.received_in.ensures.all ∙ w.if-received_in.false),
+  | else-received_below w ↦ rw (w.places-is, w.kept-is, w.fresh-is) (
+    parted_fails _ c.loop-i.i _ _ _ _ _ c.loop-i.invariant.0 c.loop-i-test.true refl (sym c.received_below.ensures ∙ w.if-received_below.false),
     c.loop-i.invariant.1,
   )
 ]

@@ -1,35 +1,63 @@
-use Rattle.std.proofs.Common.{◌≡◌, ◌<◌, ◌-◌, ◌+◌, ◌∙◌, ℕ, List, [], sym, ap, subst, length, slice_index, arith}
+use Rattle.std.proofs.Common.{◌≡◌, ◌<◌, ◌-◌, ◌+◌, ◌∙◌, ℕ, List, [], ◌∷◌, ◌++◌, sym, ap, subst, length, slice_index, slice_set, arith}
 use Rattle.std.proofs.lemmas.List.{get_or_read}
-use Rattle.hg_branches.specs.Kept.{Kept, kept_at, HoldsFirsts}
-use Rattle.hg_branches.proofs.KeptLaws.{kept_set, holds_begun}
+use Rattle.hg_branches.specs.Kept.{Kept, kept_at, HoldsFirsts, HoldsKept, IsSpareKept, spare_kept_room}
+use Rattle.hg_branches.proofs.KeptLaws.{kept_begun, holds_begun}
 use Rattle.hg_branches.proofs.sight.BranchSight.keep_last.Goals as goal
 
 pub invariant_of-self : goal.invariant_of-self
 invariant_of-self c =
     let s = c.self.inside in
+    let n = s.members in
+    let L = s.links.items in
+    let branches = s.branches.items in
+    let makers = s.makers.items in
+    let kept = s.kept.items in
     let held = c.self.invariant in
-    let slot = c.in-Some.slot in
-    let y : ℕ = c.len-end.result - 1 in
-    let last : length s.links.items ≡ y + 1 = omega arith in
-    let there : slot < length s.kept.items = subst (λ (kept : List Kept). slot < length kept) c.deref-then-end-gt0.ensures.value (c.oldest_slot.ensures slot c.in-Some.is) in
-    let was : c.index_mut.result.now ≡ kept_at s.kept.items slot = get_or_read s.kept.items slot c.index_mut.result.now there c.index_mut.ensures.value (record { end = 0; firsts = [] }) in
-    let long : length c.index_mut.result.now.firsts ≡ s.members = ap (λ (k : Kept). length k.firsts) was ∙ (held.kept.each slot there).long in
+    let end : ℕ = c.len-end.result in
+    let y : ℕ = end - 1 in
+    let k = c.begin.new.self in
+    let some : 0 < end = (let less = c.if-last_end-end.true in omega arith) in
+    let last : length L ≡ end = omega arith in
+    let end_is : k.end ≡ end = c.begin.ensures.end in
     let rows = held.branches.rows in
-    let branch : c.index-branch.result.now ≡ slice_index s.branches.items y = get_or_read s.branches.items y c.index-branch.result.now (omega arith) c.index-branch.ensures 0 in
-    let begun : HoldsFirsts s.members s.links.items s.branches.items s.makers.items c.begin.new.self =
-    holds_begun s.members s.links.items s.branches.items s.makers.items s.ends.items held.branches y last c.begin.new.self (c.begin.ensures.end ∙ omega arith) (c.begin.ensures.long ∙ long)
-    (λ low. ap (slice_index c.begin.new.self.firsts) (sym branch) ∙ (c.begin.ensures.itself (omega (arith, long, branch, low)) ∙ omega arith))
-    (λ b low other. c.begin.ensures.others b (omega (arith, long, low)) (λ e. other (e ∙ branch))) in
+    let branch : ℕ = c.index-branch.result.now in
+    let branch_is : k.branch ≡ branch = c.begin.ensures.branch in
+    let on : branch ≡ slice_index branches y = get_or_read branches y branch (omega arith) c.index-branch.ensures 0 in
+    let known : slice_index branches y < length makers = held.branches.known y (omega arith) in
+    let newest_all = held.kept.newest_all in
+    let before : c.index.result.now ≡ slice_index s.newest.items branch = get_or_read s.newest.items branch c.index.result.now (omega arith) c.index.ensures 0 in
+    let row_long : length c.in-Some.row.firsts ≡ n = subst (IsSpareKept n) (sym c.take.ensures.value ∙ c.in-Some.is) held.spare_kept in
+    let one : spare_kept_room s.spare_kept ≡ 1 = ap spare_kept_room (sym c.take.ensures.value ∙ c.in-Some.is) in
+    let none : spare_kept_room c.take.new.self ≡ 0 = ap spare_kept_room c.take.ensures.after in
+    let number : c.len-number.result ≡ length kept + 1 = omega arith in
+    let first : HoldsFirsts n L branches makers k = holds_begun n L branches makers s.ends.items held.branches k (omega arith) (omega arith) (c.begin.ensures.long ∙ row_long)
+    (ap (λ e. slice_index branches (e - 1)) end_is ∙ (sym on ∙ sym branch_is))
+    (λ low. ap (slice_index k.firsts) branch_is ∙ (c.begin.ensures.itself (omega (arith, row_long, branch_is, low)) ∙ sym end_is))
+    (λ b low other. c.begin.ensures.others b (omega (arith, row_long, low)) (λ e. other (e ∙ sym branch_is))) in
+    let later : 0 < length kept → (kept_at kept (length kept - 1)).end < k.end = λ some.
+    let kept_is = c.deref.ensures.value in
+    let less = c.if-last_end-end.true in
+    let is : c.last_end.result ≡ (kept_at kept (length kept - 1)).end = subst (λ (ks : List Kept). 0 < length ks → c.last_end.result ≡ (kept_at ks (length ks - 1)).end) kept_is c.last_end.ensures.last some in
+    omega arith in
+    let begun = kept_begun n L branches makers kept s.newest.items s.numbers.items held.kept k first (omega arith) (omega arith) later
+    (c.begin.ensures.before ∙ (before ∙ ap (slice_index s.newest.items) (sym branch_is))) in
     record {
       branches = held.branches;
       counts = held.counts;
       forks = held.forks;
-      kept = kept_set s.members s.links.items s.branches.items s.makers.items s.kept.items slot c.begin.new.self held.kept there begun;
-      spare = held.spare;
+      kept = subst (λ (items : List Kept). HoldsKept n L branches makers items (slice_set s.newest.items branch c.len-number.result) (slice_set s.numbers.items y c.len-number.result)) (sym c.push_reserved.ensures.items)
+          (subst (λ j. HoldsKept n L branches makers (kept ++ k ∷ []) (slice_set s.newest.items branch j) (slice_set s.numbers.items y j)) (sym number)
+          (subst (λ b. HoldsKept n L branches makers (kept ++ k ∷ []) (slice_set s.newest.items b (length kept + 1)) (slice_set s.numbers.items y (length kept + 1))) branch_is
+          (subst (λ e. HoldsKept n L branches makers (kept ++ k ∷ []) (slice_set s.newest.items k.branch (length kept + 1)) (slice_set s.numbers.items (e - 1) (length kept + 1))) end_is begun)));
+      counts_members = held.counts_members;
+      spare_kept = subst (IsSpareKept n) (sym c.take.ensures.after) tt;
       links_room = held.links_room;
       branches_room = held.branches_room;
       makers_room = held.makers_room;
       ends_room = held.ends_room;
       counts_room = held.counts_room;
       forked_room = held.forked_room;
+      newest_room = held.newest_room;
+      numbers_room = held.numbers_room;
+      kept_room = omega (arith, none, one);
     }

@@ -1,16 +1,19 @@
-use Rattle.std.proofs.Common.{◌≡◌, ◌<◌, ◌≤◌, ◌+◌, ◌∙◌, ℕ, sym, ap, ap₂, subst, List, ◌++◌, ◌∷◌, [], length, get_or, replicate, vec_len, nat_le, false, inl, inr, arith}
+use Rattle.std.proofs.Common.{◌≡◌, ◌<◌, ◌≤◌, ◌+◌, ◌∙◌, ℕ, sym, ap, ap₂, subst, List, ◌++◌, ◌∷◌, [], length, get_or, nat_le, Option, false, inl, inr, arith}
 use Rattle.std.proofs.lemmas.Bool.{true≢false, cases_lt, le-leb, lt-ltb}
-use Rattle.std.proofs.lemmas.List.{length-replicate}
+use Rattle.std.proofs.lemmas.List.{length_push, get_or_push}
 use Rattle.std.specs.List.{AllByRecursion}
+use Rattle.hg_model.specs.Stakes.{Stakes}
+use Rattle.hg_model.specs.Links.{Link}
 use Rattle.hg_model.specs.Forks.{has_fork_below}
 use Rattle.hg_model.specs.Shape.{ShapeWithRoom, FitsLink, link_of, pair_list}
 use Rattle.hg_bits.specs.Masks.{mask_has}
 use Rattle.hg_ancestry.proofs.HeldLaws.{places_fit, places_kept}
 use Rattle.hg_branches.specs.Branches.{greatest_count}
-use Rattle.hg_branches.specs.Columns.{IsSpare, spare_room, next_branch, with_maker, put_at, count_in, forks_next}
-use Rattle.hg_branches.proofs.HeldLaws.{Serves, next_serves, branches_hold, counts_hold, counts_last, rows_fit}
-use Rattle.hg_branches.specs.Kept.{Kept, kept_at, noted, HoldsKept}
-use Rattle.hg_branches.proofs.KeptLaws.{kept_inside, kept_more, refilled_kept}
+use Rattle.hg_branches.specs.Columns.{HoldsBranches, next_branch, with_branch, put_at, count_in, forks_next}
+use Rattle.hg_branches.proofs.HeldLaws.{Serves, next_serves, in_reach, branches_hold, counts_hold, counts_last}
+use Rattle.hg_branches.specs.Rows.{RowView, known_place}
+use Rattle.hg_branches.specs.Kept.{Kept, kept_at, noted, AreNotedOn, HoldsChains, HoldsNewest, HoldsKept}
+use Rattle.hg_branches.proofs.KeptLaws.{noted_on, kept_more, refilled_kept}
 use Rattle.hg_branches.proofs.NextForkLaws.{forks_told}
 use Rattle.hg_branches.proofs.TakeLaws.{forks_more}
 use Rattle.hg_branches.proofs.sight.BranchSightGrowing.extend.Goals as goal
@@ -18,6 +21,21 @@ use Rattle.hg_branches.proofs.sight.BranchSightGrowing.extend.Goals.{then-member
 
 lower : (n b : ℕ) → nat_le n b ≡ false → b < n
 lower n b not_le = elim (cases_lt b n) [ inl less ↦ less | inr more ↦ absurd (true≢false (sym (le-leb n b more) ∙ not_le)) ]
+
+-- the branch, by the parents and the columns
+branch_is : (branches ends : List ℕ) (by : ℕ) (on : Option (ℕ × ℕ)) (parents bs es : List ℕ) (b : ℕ) → b ≡ next_branch bs es (pair_list on) by → bs ≡ branches → es ≡ ends → pair_list on ≡ parents →
+    b ≡ next_branch branches ends parents by
+branch_is branches ends by on parents bs es b is same_branches same_ends on_is =
+    is ∙ (ap₂ (λ (bs es : List ℕ). next_branch bs es (pair_list on) by) same_branches same_ends ∙ ap (λ (ps : List ℕ). next_branch branches ends ps by) on_is)
+
+reach : (n : Stakes) (L : List Link) (branches makers ends : List ℕ) → HoldsBranches n L branches makers ends → (parents : List ℕ) (by : ℕ) → FitsLink n L (link_of by parents) →
+    (b : ℕ) → b ≡ next_branch branches ends parents by → b ≤ length makers
+reach n L branches makers ends held parents by fits b is =
+    subst (λ j. j ≤ length makers) (sym is) (in_reach n L branches makers ends held (link_of by parents) fits (next_branch branches ends parents by) (next_serves n L branches makers ends held parents by fits))
+
+known_below : (on : List ℕ) (x : ℕ) → AllByRecursion (λ p. p < x) on → known_place on x < x + 1
+known_below [] x all = omega arith
+known_below (p ∷ ps) x all = (let low : p < x = all.0 in omega arith)
 
 pub branch_for-branch-requires-clause-places : goal.branch_for-branch-requires-clause-places
 branch_for-branch-requires-clause-places c =
@@ -30,37 +48,104 @@ pub forked_next-forked-requires-clause-places : goal.forked_next-forked-requires
 forked_next-forked-requires-clause-places c =
     let s = c.self.inside in
     let fits = subst (λ (g : ShapeWithRoom). FitsLink g.shape.members g.shape.links (link_of c.args.creator c.args.parents)) (sym c.self.view_is) c.requires.fits in
-    subst (λ k. AllByRecursion (λ p. p < k) (pair_list c.pair-on.result)) (sym (ap length c.deref-5.ensures.value ∙ c.self.invariant.forks.len))
+    subst (λ k. AllByRecursion (λ p. p < k) (pair_list c.pair-on.result)) (sym (ap length c.deref-4.ensures.value ∙ c.self.invariant.forks.len))
     (subst (λ (on : List ℕ). AllByRecursion (λ p. p < length s.links.items) on) (sym c.pair-on.ensures) (places_fit s.members s.links.items c.args.creator c.args.parents fits))
 
-pub fill-requires-clause-places : goal.fill-requires-clause-places
-fill-requires-clause-places c =
+pub push-requires-clause-places : goal.push-requires-clause-places
+push-requires-clause-places c =
     let s = c.self.inside in
     let fits = subst (λ (g : ShapeWithRoom). FitsLink g.shape.members g.shape.links (link_of c.args.creator c.args.parents)) (sym c.self.view_is) c.requires.fits in
-    subst (λ k. AllByRecursion (λ p. p < k) (pair_list c.pair-on.result)) (sym (ap length c.deref-in-Some.ensures.value ∙ c.self.invariant.counts.len))
+    subst (λ k. AllByRecursion (λ p. p < k) (pair_list c.pair-on.result)) (sym c.self.invariant.counts.len)
     (subst (λ (on : List ℕ). AllByRecursion (λ p. p < length s.links.items) on) (sym c.pair-on.ensures) (places_fit s.members s.links.items c.args.creator c.args.parents fits))
 
-pub fill-requires-clause-long : goal.fill-requires-clause-long
-fill-requires-clause-long c =
+pub push-requires-clause-fits : goal.push-requires-clause-fits
+push-requires-clause-fits c =
     let s = c.self.inside in
-    let fits = subst (λ (g : ShapeWithRoom). FitsLink g.shape.members g.shape.links (link_of c.args.creator c.args.parents)) (sym c.self.view_is) c.requires.fits in
-    let row_was : c.in-Some.row ≡ replicate (vec_len s.makers + 1) 0 = subst (IsSpare (vec_len s.makers)) (sym c.take.ensures.value ∙ c.in-Some.is) c.self.invariant.spare in
-    let row_long : length c.in-Some.row ≡ vec_len s.makers + 1 = ap length row_was ∙ length-replicate (vec_len s.makers + 1) 0 in
-    let same : length s.makers.items ≡ vec_len s.makers = omega arith in
-    subst (λ (rows : List (List ℕ)). AllByRecursion (λ p. length (get_or rows p []) ≤ length c.in-Some.row) (pair_list c.pair-on.result)) (sym c.deref-in-Some.ensures.value)
-    (subst (λ k. AllByRecursion (λ p. length (get_or s.counts.items p []) ≤ k) (pair_list c.pair-on.result)) (sym row_long)
-    (subst (λ k. AllByRecursion (λ p. length (get_or s.counts.items p []) ≤ k + 1) (pair_list c.pair-on.result)) same
-    (subst (λ (on : List ℕ). AllByRecursion (λ p. length (get_or s.counts.items p []) ≤ length s.makers.items + 1) on) (sym c.pair-on.ensures)
-    (rows_fit s.members s.links.items s.branches.items s.makers.items s.counts.items c.self.invariant.counts c.args.parents c.args.creator fits))))
+    let held = c.self.invariant.branches in
+    let by = c.args.creator in
+    let link = link_of by c.args.parents in
+    let fits = subst (λ (g : ShapeWithRoom). FitsLink g.shape.members g.shape.links link) (sym c.self.view_is) c.requires.fits in
+    let b_is = branch_is s.branches.items s.ends.items by c.pair-on.result c.args.parents c.deref.result.now c.deref-2.result.now c.branch_for-branch.result c.branch_for-branch.ensures c.deref.ensures.value c.deref-2.ensures.value c.pair-on.ensures in
+    let low = reach s.members s.links.items s.branches.items s.makers.items s.ends.items held c.args.parents by fits c.branch_for-branch.result b_is in
+    let sparse = held.sparse in
+    let few = held.few in
+    let short = held.short in
+    omega arith
 
-pub note_all-requires : goal.note_all-requires
-note_all-requires c = λ i h.
+pub row_of-known-requires : goal.row_of-known-requires
+row_of-known-requires c =
+    let s = c.self.inside in
+    let rows_len = c.self.invariant.counts.len in
+    let fits = subst (λ (g : ShapeWithRoom). FitsLink g.shape.members g.shape.links (link_of c.args.creator c.args.parents)) (sym c.self.view_is) c.requires.fits in
+    let places = subst (λ (on : List ℕ). AllByRecursion (λ p. p < length s.links.items) on) (sym c.pair-on.ensures) (places_fit s.members s.links.items c.args.creator c.args.parents fits) in
+    let place : c.len-row.result ≡ length s.links.items = omega arith in
+    let low : c.known_place.result < length s.links.items + 1 = subst (λ j. j < length s.links.items + 1) (sym c.known_place.ensures)
+    (subst (λ x. known_place (pair_list c.pair-on.result) x < length s.links.items + 1) (sym place) (known_below (pair_list c.pair-on.result) (length s.links.items) places)) in
+    let longer = ap length c.push.ensures.1 ∙ length_push s.counts.rows c.push.ensures.0 in
+    omega arith
+
+pub row_of-counts-requires : goal.row_of-counts-requires
+row_of-counts-requires c =
+    let s = c.self.inside in
+    let rows_len = c.self.invariant.counts.len in
+    let longer = ap length c.push.ensures.1 ∙ length_push s.counts.rows c.push.ensures.0 in
+    omega arith
+
+pub note_all-requires-clause-chains : goal.note_all-requires-clause-chains
+note_all-requires-clause-chains c = subst HoldsChains (sym c.deref_mut.ensures.value) c.self.invariant.kept.chains
+
+pub note_all-requires-clause-newest : goal.note_all-requires-clause-newest
+note_all-requires-clause-newest c =
+    subst (λ (kept : List Kept). HoldsNewest kept c.deref-5.result.now) (sym c.deref_mut.ensures.value)
+    (subst (HoldsNewest c.self.inside.kept.items) (sym c.deref-5.ensures.value) c.self.invariant.kept.by_branch)
+
+pub note_all-requires-clause-noted : goal.note_all-requires-clause-noted
+note_all-requires-clause-noted c = λ i.
     let s = c.self.inside in
     let held = c.self.invariant in
-    let rows = held.branches.rows in
-    let there = ap length c.deref-in-Some-2.ensures.value in
-    subst (λ (kept : List Kept). (i : ℕ) → i < length kept → (kept_at kept i).end ≤ length c.deref-in-Some-2.result.now) (sym c.deref_mut.ensures.value)
-    (λ j hj. omega (arith, there, rows, kept_inside s.members s.links.items s.branches.items s.makers.items (kept_at s.kept.items j) (held.kept.each j hj))) i h
+    let L = s.links.items in
+    let by = c.args.creator in
+    let on = c.args.parents in
+    let row = c.push.ensures.0 in
+    let rows_are = c.push.ensures.1 in
+    let rows_len = held.counts.len in
+    let fits = subst (λ (g : ShapeWithRoom). FitsLink g.shape.members g.shape.links (link_of by on)) (sym c.self.view_is) c.requires.fits in
+    let b = c.branch_for-branch.result in
+    let b_is = branch_is s.branches.items s.ends.items by c.pair-on.result on c.deref.result.now c.deref-2.result.now b c.branch_for-branch.ensures c.deref.ensures.value c.deref-2.ensures.value c.pair-on.ensures in
+    let place : c.len-row.result ≡ length L = omega arith in
+    let known : List ℕ = get_or (s.counts.rows ++ row ∷ []) (known_place on (length L)) [] in
+    let known_is : c.row_of-known.result.row ≡ known = ap (λ (r : RowView). r.row) c.row_of-known.ensures
+    ∙ ap₂ (λ (rows : List (List ℕ)) (j : ℕ). get_or rows j []) rows_are (c.known_place.ensures ∙ ap₂ (λ (ps : List ℕ) (x : ℕ). known_place ps x) c.pair-on.ensures place) in
+    let row_is : c.row_of-counts.result.row ≡ row = ap (λ (r : RowView). r.row) c.row_of-counts.ensures
+    ∙ (ap (λ (rows : List (List ℕ)). get_or rows c.len-row.result []) rows_are ∙ get_or_push s.counts.rows row [] c.len-row.result (rows_len ∙ sym place)) in
+    let others : (i : ℕ) → (i ≡ next_branch s.branches.items s.ends.items on by → ⊥) → get_or row i 0 ≡ greatest_count (count_in s.counts.rows) on i =
+    λ i off. c.push.ensures.3.others i (λ e. off (e ∙ b_is)) ∙ ap (λ (ps : List ℕ). greatest_count (count_in s.counts.rows) ps i) c.pair-on.ensures in
+    subst (AreNotedOn i c.row_of-known.result.row c.row_of-counts.result.row b (c.len-row.result + 1)) (sym c.deref_mut.ensures.value)
+    (subst (λ (k : List ℕ). AreNotedOn i k c.row_of-counts.result.row b (c.len-row.result + 1) s.kept.items) (sym known_is)
+    (subst (λ (r : List ℕ). AreNotedOn i known r b (c.len-row.result + 1) s.kept.items) (sym row_is)
+    (subst (λ j. AreNotedOn i known row j (c.len-row.result + 1) s.kept.items) (sym b_is)
+    (subst (λ x. AreNotedOn i known row (next_branch s.branches.items s.ends.items on by) (x + 1) s.kept.items) (sym place)
+    (noted_on s.members L s.branches.items s.makers.items s.ends.items held.branches s.counts.rows held.counts s.kept.items s.newest.items s.numbers.items held.kept on by fits row others i)))))
+
+pub move_end-requires-clause-there : goal.move_end-requires-clause-there
+move_end-requires-clause-there c =
+    let s = c.self.inside in
+    let held = c.self.invariant.branches in
+    let fits = subst (λ (g : ShapeWithRoom). FitsLink g.shape.members g.shape.links (link_of c.args.creator c.args.parents)) (sym c.self.view_is) c.requires.fits in
+    let b_is = branch_is s.branches.items s.ends.items c.args.creator c.pair-on.result c.args.parents c.deref.result.now c.deref-2.result.now c.branch_for-branch.result c.branch_for-branch.ensures c.deref.ensures.value c.deref-2.ensures.value c.pair-on.ensures in
+    let low = reach s.members s.links.items s.branches.items s.makers.items s.ends.items held c.args.parents c.args.creator fits c.branch_for-branch.result b_is in
+    let all = held.ends_all in
+    omega arith
+
+pub open_branch-requires-clause-there : goal.open_branch-requires-clause-there
+open_branch-requires-clause-there c =
+    let s = c.self.inside in
+    let held = c.self.invariant.branches in
+    let fits = subst (λ (g : ShapeWithRoom). FitsLink g.shape.members g.shape.links (link_of c.args.creator c.args.parents)) (sym c.self.view_is) c.requires.fits in
+    let b_is = branch_is s.branches.items s.ends.items c.args.creator c.pair-on.result c.args.parents c.deref.result.now c.deref-2.result.now c.branch_for-branch.result c.branch_for-branch.ensures c.deref.ensures.value c.deref-2.ensures.value c.pair-on.ensures in
+    let low = reach s.members s.links.items s.branches.items s.makers.items s.ends.items held c.args.parents c.args.creator fits c.branch_for-branch.result b_is in
+    let all = c.self.invariant.kept.newest_all in
+    omega arith
 
 pub of-requires : goal.of-requires
 of-requires c =
@@ -80,26 +165,28 @@ invariant_of-self c =
     let fits = subst (λ (g : ShapeWithRoom). FitsLink g.shape.members g.shape.links link) (sym c.self.view_is) c.requires.fits in
     let short = subst (λ (g : ShapeWithRoom). length g.shape.links + 1 < 4294967295) (sym c.self.view_is) c.requires.short in
     let b = c.branch_for-branch.result in
-    let b_is : b ≡ next_branch s.branches.items s.ends.items c.args.parents by =
-    c.branch_for-branch.ensures ∙ (ap₂ (λ (bs es : List ℕ). next_branch bs es (pair_list on) by) c.deref.ensures.value c.deref-2.ensures.value
-    ∙ ap (λ (on : List ℕ). next_branch s.branches.items s.ends.items on by) on_is) in
+    let b_is = branch_is s.branches.items s.ends.items by on c.args.parents c.deref.result.now c.deref-2.result.now b c.branch_for-branch.ensures c.deref.ensures.value c.deref-2.ensures.value on_is in
     let serves : Serves L s.branches.items s.makers.items link b = subst (λ k. Serves L s.branches.items s.makers.items link k) (sym b_is)
     (next_serves s.members L s.branches.items s.makers.items s.ends.items held.branches c.args.parents by fits) in
-    let none : spare_room c.take.new.self ≡ 0 = ap spare_room c.take.ensures.after in
-    let place : c.len-2.result + 1 ≡ length L + 1 = omega arith in
+    let place : c.len-row.result ≡ length L = omega arith in
+    let end_place : c.len-row.result + 1 ≡ length L + 1 = ap (λ (j : ℕ). j + 1) place in
     let makers_are = c.move_end.ensures.makers in
-    let ends_are : c.move_end.new.ends.items ≡ put_at s.ends.items b (length L + 1) = c.move_end.ensures.ends ∙ ap (λ k. put_at s.ends.items b k) place in
-    let row_was : c.in-Some.row ≡ replicate (vec_len s.makers + 1) 0 = subst (IsSpare (vec_len s.makers)) (sym c.take.ensures.value ∙ c.in-Some.is) held.spare in
-    let row_long : length c.fill.new.row ≡ vec_len s.makers + 1 = c.fill.ensures.len ∙ (ap length row_was ∙ length-replicate (vec_len s.makers + 1) 0) in
+    let ends_are : c.move_end.new.ends.items ≡ put_at s.ends.items b (length L + 1) = c.move_end.ensures.ends ∙ ap (λ k. put_at s.ends.items b k) end_place in
     let all = held.branches.all in
-    let others : (i : ℕ) → (i ≡ b → ⊥) → get_or c.fill.new.row i 0 ≡ greatest_count (count_in s.counts.items) link.parents i =
-    λ i off. c.fill.ensures.others i off ∙ ap₂ (λ (rows : List (List ℕ)) (on : List ℕ). greatest_count (count_in rows) on i) c.deref-in-Some.ensures.value on_is in
+    let row = c.push.ensures.0 in
+    let rows_are = c.push.ensures.1 in
+    let next = c.push.ensures.3 in
+    let rows_len = held.counts.len in
+    let end : get_or row b 0 ≡ length L + 1 = next.end ∙ ap (λ (j : ℕ). j + 1) rows_len in
+    let wide : s.members ≤ length row = subst (λ n. n ≤ length row) held.counts_members next.wide in
+    let others : (i : ℕ) → (i ≡ b → ⊥) → get_or row i 0 ≡ greatest_count (count_in s.counts.rows) link.parents i =
+    λ i off. next.others i off ∙ ap (λ (ps : List ℕ). greatest_count (count_in s.counts.rows) ps i) on_is in
+    let row_is : c.row_of-counts.result.row ≡ row = ap (λ (r : RowView). r.row) c.row_of-counts.ensures
+    ∙ (ap (λ (rows : List (List ℕ)). get_or rows c.len-row.result []) rows_are ∙ get_or_push s.counts.rows row [] c.len-row.result (rows_len ∙ sym place)) in
     let told : (m : ℕ) → mask_has c.forked_next-forked.result m ≡ has_fork_below (L ++ link ∷ []) (length L) m = λ m.
     c.forked_next-forked.ensures m
-    ∙ (ap (λ (ms : List ℕ). forks_next ms c.deref-4.result.now c.deref-5.result.now c.if-members-len.many on by m) c.deref-3.ensures.value
-    ∙ (ap (λ (rows : List (List ℕ)). forks_next s.makers.items rows c.deref-5.result.now c.if-members-len.many on by m) c.deref-4.ensures.value
-    ∙ (ap (λ (ms : List ℕ). forks_next s.makers.items s.counts.items ms c.if-members-len.many on by m) c.deref-5.ensures.value
-    ∙ (forks_told s.members L s.branches.items s.makers.items s.ends.items held.branches s.counts.items held.counts s.forked.items held.forks short on by
+    ∙ (ap₂ (λ (ms fs : List ℕ). forks_next ms s.counts.rows fs c.if-members-len.many on by m) c.deref-3.ensures.value c.deref-4.ensures.value
+    ∙ (forks_told s.members L s.branches.items s.makers.items s.ends.items held.branches s.counts.rows held.counts s.forked.items held.forks short on by
     (subst (λ (on : List ℕ). FitsLink s.members L (link_of by on)) (sym on_is) fits) b (subst (λ (on : List ℕ). Serves L s.branches.items s.makers.items (link_of by on) b) (sym on_is) serves)
     c.if-members-len.many
     (λ one. elim c.if-members-len.branch [
@@ -107,30 +194,32 @@ invariant_of-self c =
       | else-members-len w ↦ (let low : b < s.members = lower s.members b (sym w.many-is ∙ one) in (omega (arith, all), λ same. omega (arith, all)))
     ])
     m
-    ∙ ap (λ (on : List ℕ). has_fork_below (L ++ link_of by on ∷ []) (length L) m) on_is)))) in
-    let row = c.fill.new.row in
-    let counted = counts_last s.members L s.branches.items s.makers.items s.ends.items held.branches link fits b serves s.counts.items row held.counts (c.fill.ensures.end ∙ place) others in
+    ∙ ap (λ (on : List ℕ). has_fork_below (L ++ link_of by on ∷ []) (length L) m) on_is)) in
+    let counted = counts_last s.members L s.branches.items s.makers.items s.ends.items held.branches link fits b serves s.counts.rows row held.counts end others in
     let kept_long : length c.note_all.new.kept ≡ length s.kept.items = c.note_all.ensures.len ∙ ap length c.deref_mut.ensures.value in
-    let each : (i : ℕ) → i < length s.kept.items → kept_at c.note_all.new.kept i ≡ noted s.branches.items row b (length L + 1) (kept_at s.kept.items i) = λ i h.
+    let each : (i : ℕ) → i < length s.kept.items → kept_at c.note_all.new.kept i ≡ noted row b (length L + 1) (kept_at s.kept.items i) = λ i h.
     c.note_all.ensures.each i (subst (λ (old : List Kept). i < length old) (sym c.deref_mut.ensures.value) h)
-    ∙ (ap (λ (old : List Kept). noted c.deref-in-Some-2.result.now row b (c.len-2.result + 1) (kept_at old i)) c.deref_mut.ensures.value
-    ∙ ap₂ (λ (bs : List ℕ) (e : ℕ). noted bs row b e (kept_at s.kept.items i)) c.deref-in-Some-2.ensures.value place) in
+    ∙ (ap (λ (old : List Kept). noted c.row_of-counts.result.row b (c.len-row.result + 1) (kept_at old i)) c.deref_mut.ensures.value
+    ∙ ap₂ (λ (counts : List ℕ) (e : ℕ). noted counts b e (kept_at s.kept.items i)) row_is end_place) in
     record {
-      branches = rw (c.push_reserved.ensures.items, c.push_reserved-in-Some.ensures.items, makers_are, ends_are, c.of.ensures)
+      branches = rw (c.push_reserved.ensures.items, c.push_reserved-2.ensures.items, makers_are, ends_are, c.of.ensures)
           (branches_hold s.members L s.branches.items s.makers.items s.ends.items held.branches link fits b serves short);
-      counts = rw (c.push_reserved.ensures.items, c.push_reserved-in-Some.ensures.items, makers_are, c.push_reserved-in-Some-2.ensures.items, c.of.ensures)
-          (counts_hold s.members L s.branches.items s.makers.items s.ends.items held.branches link fits b serves s.counts.items c.fill.new.row held.counts
-          (omega (arith, row_long, all)) (omega (arith, row_long)) (c.fill.ensures.end ∙ place) others);
-      forks = rw (c.push_reserved.ensures.items, c.push_reserved-in-Some-3.ensures.items, c.of.ensures) (forks_more L link s.forked.items c.forked_next-forked.result held.forks told);
-      kept = rw (c.push_reserved.ensures.items, c.push_reserved-in-Some.ensures.items, makers_are, c.of.ensures)
-          (subst (HoldsKept s.members (L ++ link ∷ []) (s.branches.items ++ b ∷ []) (with_maker s.makers.items b link.creator))
+      counts = rw (c.push_reserved.ensures.items, c.push_reserved-2.ensures.items, makers_are, c.of.ensures, rows_are)
+          (counts_hold s.members L s.branches.items s.makers.items s.ends.items held.branches link fits b serves s.counts.rows row held.counts wide end others);
+      counts_members = c.push.ensures.2 ∙ held.counts_members;
+      forks = rw (c.push_reserved.ensures.items, c.push_reserved-3.ensures.items, c.of.ensures) (forks_more L link s.forked.items c.forked_next-forked.result held.forks told);
+      kept = rw (c.push_reserved.ensures.items, c.push_reserved-2.ensures.items, makers_are, c.of.ensures, c.open_branch.ensures, c.push_reserved-4.ensures.items)
+          (subst (λ (kept : List Kept). HoldsKept s.members (L ++ link ∷ []) (s.branches.items ++ b ∷ []) (with_branch s.makers.items b by) kept (with_branch s.newest.items b 0) (s.numbers.items ++ 0 ∷ []))
           (sym (refilled_kept s.kept.len c.note_all.new.kept s.kept.items (omega (arith, kept_long))))
-          (kept_more s.members L s.branches.items s.makers.items s.ends.items held.branches link fits b serves row counted short s.kept.items c.note_all.new.kept held.kept kept_long each));
-      spare = subst (IsSpare (vec_len c.move_end.new.makers)) (sym c.take.ensures.after) tt;
-      links_room = omega (arith, none);
-      branches_room = omega (arith, none);
-      makers_room = omega (arith, none);
-      ends_room = omega (arith, none);
-      counts_room = omega (arith, none);
-      forked_room = omega (arith, none);
+          (kept_more s.members L s.branches.items s.makers.items s.ends.items held.branches link fits b serves row counted short s.kept.items c.note_all.new.kept s.newest.items s.numbers.items held.kept kept_long each));
+      spare_kept = held.spare_kept;
+      links_room = omega arith;
+      branches_room = omega arith;
+      makers_room = omega arith;
+      ends_room = omega arith;
+      counts_room = omega arith;
+      forked_room = omega arith;
+      newest_room = omega arith;
+      numbers_room = omega arith;
+      kept_room = held.kept_room;
     }

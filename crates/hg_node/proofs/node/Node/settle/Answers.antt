@@ -6,12 +6,12 @@ use Rattle.hg_node.proofs.node.Node.settle.Given as given
 use Rattle.hg_node.proofs.node.Node.settle.Goals as goal
 
 -- what the chronicle has become
-settles : (g : given.Over) (c : goal.After-drop-votes-inside-3 g) → IsSettling g.V.Verifier.accepts (node_view c.self.inside.keys c.self.inside.chronicle)
+settles : (g : given.Over) (c : goal.After-drop-votes-inside-7 g) → IsSettling g.V.Verifier.accepts (node_view c.self.inside.keys c.self.inside.chronicle)
     (node_view c.self.inside.keys c.publish.new.self) c.publish.new.self
 settles g c =
     settling g.V.Verifier.accepts c.self.inside.keys c.self.inside.chronicle c.self.invariant c.publish.new.self
     c.in_ok-found.found.len c.in_ok-found.found.share (c.in_ok-found.ensures.len ∙ ap (λ (h : Graph). length h.rows) c.graph-graph.ensures)
-    (c.in_ok-found.ensures.share ∙ c.new-2.ensures) c.publish.ensures.grown
+    (c.in_ok-found.ensures.share ∙ c.new-all.ensures) c.publish.ensures.grown
 
 pub invariant_of-self : goal.invariant_of-self
 invariant_of-self g c = (settles g c).recorded

@@ -1,7 +1,9 @@
-use Rattle.hg_votes.proofs.MadeLaws.{made_new}
+use Rattle.std.proofs.Common.{[]}
+use Rattle.hg_model.specs.Prefix.{graph_of}
+use Rattle.hg_votes.proofs.CarryLaws.{begins_empty}
 use Rattle.hg_votes.proofs.table.VoteTable.new.Goals as goal
 
-pub returns : goal.returns
-returns g c =
-    made_new (g.P.Prefix.graph c.args.p.now) (g.P.Sight.shape c.args.p.now) c.rows.result _ _ (g.met.P.Prefix.sees_graph c.args.p.now) c.rows.ensures.value
-    c.rows.ensures.short c.rows.ensures.shaped c.in_ok-voters_by_place.ensures c.in_ok-no_ballots.ensures
+pub carry-requires : goal.carry-requires
+carry-requires g c =
+    let graph = g.P.Prefix.graph c.args.p.now in
+    (graph_of graph.members graph.coin [], c.empty-table.ensures graph.members graph.coin, begins_empty graph)

@@ -1,0 +1,76 @@
+-- The tallies of a round once all its holders are tallied
+use Rattle.std.proofs.Common.{◌≡◌, ℕ, ◌+◌, ◌-◌, ◌/◌, ◌<◌, ◌≤◌, true, List, [], ◌∷◌, length, get_or, map, replicate, All, refl, sym, ap, ap₂, ◌∙◌, arith}
+use Rattle.std.specs.List.{AllByRecursion}
+use Rattle.std.proofs.lemmas.Bool.{and_parts, lt-ltb, ltb-true}
+use Rattle.std.proofs.lemmas.List.{get_or-replicate, length-replicate}
+use Rattle.std.proofs.lemmas.List.Elements.{All-from_recursion}
+use Rattle.hg_model.specs.declared.row.Placed.{Placed}
+use Rattle.hg_model.specs.Places.{IsEarlier}
+use Rattle.hg_model.specs.Links.{Link, creator, parents}
+use Rattle.hg_model.specs.Ancestry.{is_ancestor}
+use Rattle.hg_model.specs.Graph.{IsShaped}
+use Rattle.hg_model.specs.Prefix.{Graph, links_of}
+use Rattle.hg_model.specs.Order.{sort_by}
+use Rattle.hg_model.proofs.AncestryLaws.{is_ancestor-le}
+use Rattle.hg_model.proofs.ListLaws.{all_list_below}
+use Rattle.hg_model.proofs.SortLaws.{all_sorted}
+use Rattle.hg_order.specs.declared.tally.Tally.{Tally}
+use Rattle.hg_order.specs.declared.tally.Holder.{Holder}
+use Rattle.hg_order.specs.Famous.{AreFamous, IsBelowAll, all_have}
+use Rattle.hg_order.specs.Round.{placed_below}
+use Rattle.hg_order.specs.Counted.{IsBelow, JustBelow, AreShared}
+use Rattle.hg_order.specs.Tallied.{no_tally, tally_at, tally_of, holder_at, is_holder, is_on_some_line, holders_below, is_earlier, untallied, placed_with, AreTalliedByAll, ReachAll, HaveMedians}
+use Rattle.hg_order.proofs.MedianLaws.{median_counted}
+
+-- what all of these have as ancestor stands no later than the first of them
+below_first : (L : List Link) → IsEarlier (parents L) → (places : List ℕ) (x : ℕ) → 0 < length places → all_have L places x ≡ true → x ≤ get_or places 0 0
+below_first L e [] x some all = absurd (omega arith)
+below_first L e (w ∷ places) x some all = is_ancestor-le L e w x (and_parts (is_ancestor L w x) (all_have L places x) all).0
+
+module _ (g : Graph) (s : IsShaped g.members (links_of g)) (famous least ends : List ℕ) (low «end» : ℕ) where
+  pub holders_inside : «end» ≤ length (links_of g) → All (λ h. h.place < length (links_of g)) (sort_by is_earlier (holders_below g ends low «end»))
+  holders_inside inside =
+      let P : Holder → Type 0 = λ h. h.place < length (links_of g) in
+      let holders = holders_below g ends low «end» in
+      All-from_recursion P (sort_by is_earlier holders)
+      (all_sorted P is_earlier holders (all_list_below P (holder_at g.rows) «end» (is_holder (links_of g) ends low) (λ z h passes. omega arith)))
+
+  module _ (some : 0 < length famous) (shared : AreShared g famous least) (below : All (λ w. w < «end») famous) where
+    under_end : (x : ℕ) → all_have (links_of g) famous x ≡ true → x < «end»
+    under_end x all = (let first = below 0 0 some in let le = below_first (links_of g) s.earlier famous x some all in omega arith)
+
+    pub window_reaches : (tallies : List Tally) → length tallies ≡ «end» - low → ReachAll (links_of g) least low tallies
+    window_reaches tallies long x h under =
+        let last = under_end x (sym (shared.bounds.just x h) ∙ lt-ltb x (get_or least (creator (links_of g) x) 0) under) in
+        omega arith
+
+    pub have_medians : AreFamous g famous → JustBelow (links_of g) ends (is_on_some_line (links_of g) famous) → ((m : ℕ) → get_or ends m 0 ≤ «end») → «end» ≤ length (links_of g) →
+        (new : List Tally) → AreTalliedByAll (links_of g) least low (sort_by is_earlier (holders_below g ends low «end»)) (replicate («end» - low) (untallied ((length famous + 1) / 2))) new →
+        HaveMedians g famous low new
+    have_medians f just within inside new t = record {
+      median = λ k received.
+          let last = under_end (low + k) received.1 in
+          let under : IsBelow (links_of g) least (low + k) = ltb-true (low + k) (get_or least (creator (links_of g) (low + k)) 0) (shared.bounds.just (low + k) received.0 ∙ received.1) in
+          let holders = sort_by is_earlier (holders_below g ends low «end») in
+          let fresh = untallied ((length famous + 1) / 2) in
+          ap (λ (t : Tally). t.time) (t.each k received.0 under ∙ ap (λ (t : Tally). tally_of (links_of g) (low + k) t holders) (get_or-replicate («end» - low) k fresh no_tally (omega arith)))
+          ∙ median_counted g s f.marks f.round famous f.are ends low «end» (low + k) just within inside (omega arith) some received.1;
+      reach = λ x received.
+          let last = under_end x received.1 in
+          let long = t.long ∙ length-replicate («end» - low) (untallied ((length famous + 1) / 2)) in
+          omega arith;
+    }
+
+-- the rows that these tallies place are those that the round places
+
+pub placed_alike : (g : Graph) (famous : List ℕ) (low round : ℕ) (tallies : List Tally) (fresh : List ℕ) → HaveMedians g famous low tallies → AllByRecursion (IsBelowAll g famous) fresh → AllByRecursion (λ x. low ≤ x) fresh →
+    map (placed_with low round tallies) fresh ≡ map (placed_below g.rows (links_of g) famous round) fresh
+placed_alike g famous low round tallies [] have received from = refl
+placed_alike g famous low round tallies (x ∷ fresh) have received from =
+    ap₂ (λ (t : ℕ) (ps : List Placed). record { place = x; received = round; time = t } ∷ ps) time (placed_alike g famous low round tallies fresh have received.1 from.1)
+  where
+    time : (tally_at tallies (x - low)).time ≡ (placed_below g.rows (links_of g) famous round x).time
+    time =
+        let above = from.0 in
+        let at : low + (x - low) ≡ x = omega arith in
+        rw at at (have.median (x - low) (rw at received.0))

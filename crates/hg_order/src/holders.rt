@@ -1,0 +1,80 @@
+ghost use Rattle.std.specs.Prelude.{◌≡◌, ◌<◌, ◌≤◌, ℕ, [], All, length, replicate, slice_index, vec_capacity};
+ghost use Rattle.hg_model.specs.Prefix.{links_of};
+ghost use Rattle.hg_model.specs.Order.{sort_by};
+ghost use Rattle.hg_order.specs.Counted.{AreLines, JustBelow};
+ghost use Rattle.hg_order.specs.Tallied.{holder_cmp, holders_below, is_earlier, is_on_some_line};
+
+use crate::tally::Holder;
+use hg_model::{Prefix, Sight, is_of_graph};
+use std::cmp::Ordering;
+
+/// Makes zeros the ends of the lines of these rows: for each creator one more than the place of the last of them. It
+/// answers the greatest end.
+pub fn raise_ends<S: Sight>(sight: &S, places: &[usize], ends: &mut [usize]) -> usize
+    requires places { All (λ w. w < length (S.shape sight.now).links) places.now }
+    requires lines { AreLines (S.shape sight.now).links }
+    requires none { ends.old ≡ replicate 128 0 }
+    ensures just { JustBelow (S.shape sight.now).links ends.new (is_on_some_line (S.shape sight.now).links places.now) }
+    ensures below { All (λ w. w < result) places.now }
+    ensures within { (m : ℕ) → slice_index ends.new m ≤ result }
+    ensures end { result ≤ length (S.shape sight.now).links }
+{
+    sight.rows();
+    sight.members();
+    let mut last: usize = 0;
+    for w in places {
+        let member = sight.creator(*w) as usize;
+        ends[member] = ends[member].max(*w + 1);
+        last = last.max(*w + 1);
+    }
+    last
+}
+
+/// The rows from `low` up to below `end` that stand below the end of the line of their creator.
+#[tactic(auto, using(crate::proofs::RowLaws::row_known))]
+pub fn list_holders<P: Prefix>(
+    p: &P,
+    ends: &[usize; 128],
+    low: usize,
+    end: usize,
+    holders: &mut Vec<Holder>,
+)
+    requires order { low ≤ end }
+    requires end { end ≤ length (links_of (P.graph p.now)) }
+    requires none { holders.old.items ≡ [] }
+    requires room { end ≤ vec_capacity holders.old }
+    ensures listed { holders.new.items ≡ holders_below (P.graph p.now) ends.now low end }
+    ensures room { vec_capacity holders.new ≡ vec_capacity holders.old }
+{
+    is_of_graph(p);
+    for z in low..end {
+        if z < ends[p.creator(z) as usize] {
+            holders.push_reserved(Holder {
+                time: p.row(z).time,
+                place: z,
+            });
+        }
+    }
+}
+
+/// How holders compare.
+fn holder_cmp(a: &Holder, b: &Holder) -> Ordering
+    ensures { result ≡ holder_cmp a.now b.now }
+{
+    a.time.cmp(&b.time).then(a.place.cmp(&b.place))
+}
+
+/// Sorts holders by their times.
+fn sort_slice(holders: &mut [Holder])
+    ensures { holders.new ≡ sort_by is_earlier holders.old }
+{
+    holders.sort_unstable_by(|a, b| holder_cmp(a, b));
+}
+
+/// The same of a list that owns its memory.
+pub fn sort_holders(holders: &mut Vec<Holder>)
+    ensures sorted { holders.new.items ≡ sort_by is_earlier holders.old.items }
+    ensures room { vec_capacity holders.new ≡ vec_capacity holders.old }
+{
+    sort_slice(holders);
+}

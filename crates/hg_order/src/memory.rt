@@ -1,0 +1,104 @@
+ghost use Rattle.std.specs.Prelude.{◌≡◌, ◌<◌, ◌≤◌, true, All, length, replicate, slice_index, OnOk, vec_capacity};
+ghost use Rattle.hg_order.specs.Famous.{AreFamous};
+ghost use Rattle.hg_order.specs.Counted.{AreShared};
+ghost use Rattle.hg_order.specs.Tallied.{untallied, HaveMedians};
+
+use crate::holders::{list_holders, raise_ends, sort_holders};
+use crate::tally::{Holder, Tally, tally_holders};
+use hg_model::{Memory, Prefix, is_of_graph};
+use std::alloc::Global;
+use std::marker::Model;
+
+/// The memory in which consensus timestamps are counted.
+#[derive(Drop)]
+pub struct RoundMemory {
+    pub holders: Vec<Holder>,
+    pub tallies: Vec<Tally>,
+}
+
+impl Model for RoundMemory {
+    ghost use Rattle.std.specs.Prelude.{ℕ, min, vec_capacity};
+
+    ghost Value = { ℕ };
+
+    ghost view = { λ s. min (vec_capacity s.holders) (vec_capacity s.tallies) };
+}
+
+impl RoundMemory {
+    /// For no rows. Takes no memory.
+    pub fn new(alloc: Global) -> RoundMemory {
+        RoundMemory {
+            holders: Vec::new(alloc),
+            tallies: Vec::new(alloc),
+        }
+    }
+
+    /// Takes the memory for so many rows.
+    pub fn reserve(&mut self, rows: usize) -> Result<(), Memory>
+        ensures room { OnOk result (rows ≤ self.new) }
+        ensures more { self.old ≤ self.new }
+    {
+        self.holders
+            .reserve(rows.saturating_sub(self.holders.len()))?;
+        self.tallies
+            .reserve(rows.saturating_sub(self.tallies.len()))?;
+        Ok(())
+    }
+}
+
+/// The least of the places, and of `first`.
+pub fn lowest(places: &[usize], first: usize) -> usize
+    ensures first { result ≤ first }
+    ensures all { All (λ x. result ≤ x) places.now }
+{
+    let mut low = first;
+    for x in places {
+        low = low.min(*x);
+    }
+    low
+}
+
+/// So many tallies without a time.
+fn clear_tallies(tallies: &mut Vec<Tally>, count: usize, need: u32)
+    requires { count ≤ vec_capacity tallies.old }
+    ensures cleared { tallies.new.items ≡ replicate count (untallied need) }
+    ensures room { vec_capacity tallies.new ≡ vec_capacity tallies.old }
+{
+    tallies.clear();
+    for _ in 0..count {
+        tallies.push_reserved(Tally {
+            left: need,
+            time: 0,
+        });
+    }
+}
+
+/// Counts the consensus timestamps of all rows from `low` on that these unique famous witnesses have as ancestor; tells
+/// whether their ancestors are counted.
+pub fn count_times<P: Prefix>(
+    p: &P,
+    famous: &[usize],
+    least: &[u32; 128],
+    low: usize,
+    holders: &mut Vec<Holder>,
+    tallies: &mut Vec<Tally>,
+) -> bool
+    requires famous { AreFamous (P.graph p.now) famous.now }
+    requires some { 0 < length famous.now }
+    requires least { AreShared (P.graph p.now) famous.now least.now }
+    requires low { low ≤ slice_index famous.now 0 }
+    requires holders_room { length (P.graph p.now).rows ≤ vec_capacity holders.old }
+    requires tallies_room { length (P.graph p.now).rows ≤ vec_capacity tallies.old }
+    ensures medians { result ≡ true → HaveMedians (P.graph p.now) famous.now low tallies.new.items }
+    ensures holders_room { vec_capacity holders.new ≡ vec_capacity holders.old }
+    ensures tallies_room { vec_capacity tallies.new ≡ vec_capacity tallies.old }
+{
+    is_of_graph(p);
+    let mut ends = [0; 128];
+    let end = raise_ends(p, famous, &mut ends);
+    holders.clear();
+    list_holders(p, &ends, low, end, holders);
+    sort_holders(holders);
+    clear_tallies(tallies, end - low, (famous.len() as u32 + 1) / 2);
+    tally_holders(p, holders, least, low, tallies)
+}

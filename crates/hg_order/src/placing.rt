@@ -1,0 +1,103 @@
+ghost use Rattle.std.specs.Prelude.{◌≡◌, ◌<◌, ◌≤◌, ◌+◌, true, All, length, map, vec_capacity};
+ghost use Rattle.std.specs.List.{AllByRecursion};
+ghost use Rattle.hg_model.specs.Prefix.{links_of};
+ghost use Rattle.hg_order.specs.Famous.{AreFamous, IsBelowAll};
+ghost use Rattle.hg_order.specs.Round.{placed_below, IsWide};
+ghost use Rattle.hg_order.specs.Tallied.{placed_with};
+
+use crate::least::least_counts;
+use crate::memory::{RoundMemory, count_times, lowest};
+use crate::order::{is_wide, place_rows};
+use crate::tally::{Holder, Tally};
+use hg_model::{Placed, Prefix};
+
+/// The rows at the places `fresh`, with the times of their tallies.
+fn place_tallied<P: Prefix>(
+    p: &P,
+    round: u32,
+    low: usize,
+    tallies: &[Tally],
+    fresh: &[usize],
+    out: &mut [Placed],
+)
+    requires places { All (λ x. x < length (links_of (P.graph p.now))) fresh.now }
+    requires low { All (λ x. low ≤ x) fresh.now }
+    requires reach { All (λ x. x < low + length tallies.now) fresh.now }
+    requires same { length out.old ≡ length fresh.now }
+    ensures placed { out.new ≡ map (placed_with low round tallies.now) fresh.now }
+    ensures wide { All (IsWide (P.graph p.now).rows) fresh.now }
+{
+    for (i, x) in fresh.iter().enumerate() {
+        is_wide(p, *x);
+        out[i] = Placed {
+            place: *x,
+            received: round,
+            time: tallies[*x - low].time,
+        };
+    }
+}
+
+/// The rows at the places `fresh` as the round places them, by counting; tells whether ancestors are counted.
+fn place_by_counts<P: Prefix>(
+    p: &P,
+    famous: &[usize],
+    round: u32,
+    fresh: &[usize],
+    holders: &mut Vec<Holder>,
+    tallies: &mut Vec<Tally>,
+    out: &mut [Placed],
+) -> bool
+    requires famous { AreFamous (P.graph p.now) famous.now }
+    requires some { 0 < length famous.now }
+    requires received { AllByRecursion (IsBelowAll (P.graph p.now) famous.now) fresh.now }
+    requires same { length out.old ≡ length fresh.now }
+    requires holders_room { length (P.graph p.now).rows ≤ vec_capacity holders.old }
+    requires tallies_room { length (P.graph p.now).rows ≤ vec_capacity tallies.old }
+    ensures placed { result ≡ true → out.new ≡ map (placed_below (P.graph p.now).rows (links_of (P.graph p.now)) famous.now round) fresh.now }
+    ensures wide { result ≡ true → All (IsWide (P.graph p.now).rows) fresh.now }
+    ensures holders_room { vec_capacity holders.new ≡ vec_capacity holders.old }
+    ensures tallies_room { vec_capacity tallies.new ≡ vec_capacity tallies.old }
+{
+    let Some(least) = least_counts(p, famous) else {
+        return false;
+    };
+    let low = lowest(fresh, famous[0]);
+    if !count_times(p, famous, &least, low, holders, tallies) {
+        return false;
+    }
+    place_tallied(p, round, low, tallies, fresh, out);
+    true
+}
+
+/// The rows at the places `fresh` as the round places them, in their order: by counting where ancestors are counted.
+pub fn place_within<P: Prefix>(
+    p: &P,
+    famous: &[usize],
+    round: u32,
+    fresh: &[usize],
+    memory: &mut RoundMemory,
+    out: &mut [Placed],
+)
+    requires famous { AreFamous (P.graph p.now) famous.now }
+    requires received { AllByRecursion (IsBelowAll (P.graph p.now) famous.now) fresh.now }
+    requires same { length out.old ≡ length fresh.now }
+    requires room { length (P.graph p.now).rows ≤ memory.old }
+    ensures placed { out.new ≡ map (placed_below (P.graph p.now).rows (links_of (P.graph p.now)) famous.now round) fresh.now }
+    ensures wide { All (IsWide (P.graph p.now).rows) fresh.now }
+    ensures room { memory.new ≡ memory.old }
+{
+    if !famous.is_empty()
+        && place_by_counts(
+            p,
+            famous,
+            round,
+            fresh,
+            &mut memory.holders,
+            &mut memory.tallies,
+            out,
+        )
+    {
+        return;
+    }
+    place_rows(p, famous, round, fresh, out);
+}

@@ -1,0 +1,29 @@
+use Rattle.std.proofs.Common.{ℕ, length, ap, subst, sym, arith, length-append}
+use Rattle.std.proofs.lemmas.Grind.{div_ceil_times}
+use Rattle.hg_votes.specs.Counting.{Counting, HasRoom, HoldsVoters}
+use Rattle.hg_votes.proofs.MadeLaws.{made_new}
+use Rattle.hg_votes.proofs.CarryLaws.{entered_later}
+use Rattle.hg_votes.proofs.table.VoteTable.carry.Goals as goal
+
+pub enter_or_leave-requires-clause-few : goal.enter_or_leave-requires-clause-few
+enter_or_leave-requires-clause-few g c =
+    let made = c.requires.1 in
+    let begins = c.requires.2 in
+    omega (arith, ap (λ (t : Counting). length t.voters.numbers) c.self.view_is, made.voters.long, ap length begins.rows.1, length-append c.requires.0.rows begins.rows.0)
+
+pub enter_or_leave-requires-clause-before : goal.enter_or_leave-requires-clause-before
+enter_or_leave-requires-clause-before g c =
+    let graph = g.P.Prefix.graph c.args.p.now in
+    let first = c.requires.0 in
+    let made = c.requires.1 in
+    let held : HoldsVoters graph (length first.rows) c.args.self.now.voters = entered_later first graph c.args.self.now.voters c.requires.2 made.shaped c.is_of_graph.ensures.shaped made.voters in
+    let entered : HoldsVoters graph (length c.args.self.now.voters.numbers) c.args.self.now.voters = subst (λ (k : ℕ). HoldsVoters graph k c.args.self.now.voters) (sym made.voters.long) held in
+    subst (λ (t : Counting). HoldsVoters graph (length t.voters.numbers) t.voters) (sym c.self.view_is) entered
+
+pub returns-clause-ok : goal.returns-clause-ok
+returns-clause-ok g c =
+    let graph = g.P.Prefix.graph c.args.p.now in
+    let times = div_ceil_times c.most_witnesses.result 64 (omega arith) in
+    let room : HasRoom graph (length c.in_ok-voted.voted.items) = record { room = λ r. omega (arith, c.most_witnesses.ensures r, times.0, c.div_ceil-words.ensures, c.in_ok-voted.ensures.len) } in
+    made_new graph _ c.enter_or_leave.new.ballots.items c.in_ok-voted.voted.items c.is_of_graph.ensures.shaped c.is_of_graph.ensures.short c.in_ok-enter_or_leave.ensures.voters
+    (omega (arith, c.in_ok-enter_or_leave.ensures.ballots)) room
