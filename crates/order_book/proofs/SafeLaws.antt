@@ -58,8 +58,8 @@ one_book w is safe few apart j k low high =
         let s = replay w.members w.coin (run_of w i) in
         let t = replay w.members w.coin (run_of w m) in
         let front : IsPrefix (events_at w i) (events_at w m) =
-            events_prefix s.rows t.rows (kept w.members s) (kept w.members t) (apart.equal i m (omega (arith, inside, is.count)) (omega (arith, within, is.count)))
-            (kept_places w.members w.coin (run_of w i)) (kept_places w.members w.coin (run_of w m)) begins.0 begins.1 in
+        events_prefix s.rows t.rows (kept w.members s) (kept w.members t) (apart.equal i m (omega (arith, inside, is.count)) (omega (arith, within, is.count)))
+        (kept_places w.members w.coin (run_of w i)) (kept_places w.members w.coin (run_of w m)) begins.0 begins.1 in
         (front, earlier (events_at w i) (events_at w m) front)
 
     by : IsPrefix (order_after w.members w.coin (run_of w j)) (order_after w.members w.coin (run_of w k)) ⊎ IsPrefix (order_after w.members w.coin (run_of w k)) (order_after w.members w.coin (run_of w j)) →
