@@ -48,12 +48,11 @@ fn parents_by(sight: &BranchSight, state: u64, member: Member, early: bool) -> P
 }
 
 // A made graph in both sights: how many rows they took, whether a row has a fork below it, and whether they agree.
-fn play(alloc: Global, number: u32) -> Result<(u32, bool, bool), Memory> {
+fn play(alloc: Global, number: u32) -> Result<(usize, bool, bool), Memory> {
     let members = 3 + number % 7;
     let mut sight = BranchSight::new(alloc, members)?;
     let mut bits = BitSight::new(alloc, members)?;
     let mut state = next(next(u64::from(number)));
-    let mut taken = 0;
     let mut alike = true;
     for turn in 0..ROWS {
         state = next(state);
@@ -63,16 +62,19 @@ fn play(alloc: Global, number: u32) -> Result<(u32, bool, bool), Memory> {
         let parents = parents_by(&sight, state, member, early);
         if add(&mut sight, parents, member)? {
             alike = add(&mut bits, parents, member)? && alike;
-            taken += 1;
             if below(state, 3) > 0 {
                 sight.keep_last();
             }
         }
         if turn % 24 == 23 && alike {
-            alike = agree_at(&sight, &bits, below(state, taken as usize))?;
+            alike = agree_at(&sight, &bits, below(state, sight.rows()))?;
         }
     }
-    Ok((taken, has_fork(&sight), alike && agree(&sight, &bits)))
+    Ok((
+        sight.rows(),
+        has_fork(&sight),
+        alike && agree(&sight, &bits),
+    ))
 }
 
 // Whether the first rows of both agree.
