@@ -99,12 +99,12 @@ fn has_fork(sight: &BranchSight) -> bool {
 
 #[test]
 fn agree_on_made_graphs(rt: HostRuntime) -> Result<(), Memory> {
-    let mut forked = 0;
+    let mut forked = 0u32;
     for number in 0..GRAPHS {
         let (taken, has_fork, alike) = play(rt.alloc(), number)?;
         assert!(rt; alike && taken > 40, "graph {number}: {taken} rows");
         if has_fork {
-            forked += 1;
+            forked = forked.saturating_add(1);
         }
     }
     assert!(rt; forked >= 30, "{forked} graphs with a fork");
