@@ -89,10 +89,11 @@ fn expect(rt: &impl Abort, ran: &Ran, status: Status, out: &str, err: &str) {
     assert!(rt; ran.err.bytes() == err.as_bytes());
 }
 
+// The last row of the table of failing reads: both files take six calls of the shelf, so that the seventh is none of them.
 #[test]
 fn two_members(rt: HostRuntime) -> Result<(), Fail> {
     let alloc = rt.alloc();
-    let ran = run(&rt, alloc, RUN, MEMBERS, SCRIPT, &[], ample(alloc)?)?;
+    let ran = run(&rt, alloc, RUN, MEMBERS, SCRIPT, &[6], ample(alloc)?)?;
     expect(&rt, &ran, Status::Done, REPORT, "");
     for line in [
         "hashgraph run --members members.toml --script script.txt --workers 1",
