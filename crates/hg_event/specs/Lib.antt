@@ -1,2 +1,4 @@
+pub mod Names
+pub mod Signed
 pub mod View
 pub mod Laws

@@ -1,5 +1,6 @@
-ghost use Rattle.std.specs.Prelude.{◌≡◌, IfOk, option_map};
+ghost use Rattle.std.specs.Prelude.{◌≡◌, IfOk};
 ghost use Rattle.hg_model.specs.Spelling.{Spells, spelling};
+ghost use Rattle.hg_event.specs.Names.{names_lent};
 ghost use Rattle.hg_event.specs.View.{row_of};
 
 use crate::view::EventView;
@@ -91,7 +92,7 @@ impl Event {
 
 /// The parents' names, borrowed.
 fn names_of(parents: &Option<(Name, Name)>) -> Option<(&Name, &Name)>
-    ensures { option_map (λ names. (names.0.now, names.1.now)) result ≡ parents.now }
+    ensures { names_lent result ≡ parents.now }
 {
     match parents {
         None => None,

@@ -1,7 +1,8 @@
-ghost use Rattle.std.specs.Prelude.{◌≡◌, option_map};
+ghost use Rattle.std.specs.Prelude.{◌≡◌};
 ghost use Rattle.std.specs.Int.{w16, w64};
 ghost use Rattle.hg_model.specs.Reading.{after_magic, bytes_field, number_field, parents_field, payload_field};
 ghost use Rattle.hg_model.specs.Results.{Reads};
+ghost use Rattle.hg_event.specs.Names.{names_lent};
 
 use hg_model::{ByteFault, Name};
 
@@ -63,7 +64,7 @@ pub(crate) fn parents_of(
     bytes: &[u8],
     size: usize,
 ) -> Result<(Option<(&Name, &Name)>, &[u8]), ByteFault>
-    ensures { Reads (λ field. (option_map (λ names. (names.0.now, names.1.now)) field.0, field.1.now)) result (parents_field size bytes.now) }
+    ensures { Reads (λ field. (names_lent field.0, field.1.now)) result (parents_field size bytes.now) }
 {
     match bytes {
         [] => Err(ByteFault::Short(size)),

@@ -1,5 +1,6 @@
-ghost use Rattle.std.specs.Prelude.{◌≡◌, option_map};
+ghost use Rattle.std.specs.Prelude.{◌≡◌};
 ghost use Rattle.hg_model.specs.Spelling.{body_bytes};
+ghost use Rattle.hg_event.specs.Names.{names_lent};
 
 use hg_model::{Member, Name, Sig};
 
@@ -16,5 +17,5 @@ pub struct EventView<'a> {
     pub sig: &'a Sig,
     pub(crate) body: &'a [u8],
     // The body is what the creator signed of these fields.
-    pub ghost spelled: { body.now ≡ body_bytes creator (option_map (λ names. (names.0.now, names.1.now)) parents) time payload.now },
+    pub ghost spelled: { body.now ≡ body_bytes creator (names_lent parents) time payload.now },
 }

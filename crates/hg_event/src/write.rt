@@ -1,7 +1,7 @@
-ghost use Rattle.std.specs.Prelude.{◌≡◌, ℕ, List, ◌+◌, ◌++◌, ◌≤◌, IfOk, IfSome, OnOk, length, vec_capacity, vec_len};
+ghost use Rattle.std.specs.Prelude.{◌≡◌, ◌+◌, ◌++◌, ◌≤◌, IfOk, IfSome, OnOk, length, vec_capacity, vec_len};
 ghost use Rattle.sha2.specs.Sha512.{sha384};
 ghost use Rattle.hg_model.specs.Spelling.{body_bytes, Spells, parent_bytes, payload_limit, spelling};
-ghost use Rattle.hg_model.specs.Verdict.{signed_row};
+ghost use Rattle.hg_event.specs.Signed.{SpellsSigned};
 
 use crate::fields::MAGIC;
 use hg_model::{Member, Memory, Name, Row};
@@ -40,7 +40,7 @@ pub fn encode_body(
 ) -> Result<Vec<u8>, Memory>
     requires { length payload.now ≤ payload_limit }
     ensures bytes { IfOk result (λ body. body.items ≡ body_bytes creator parents.now time payload.now) }
-    ensures spells { IfOk result (λ body. (sig : List ℕ) → length sig ≡ 64 → Spells (body.items ++ sig) (signed_row creator parents.now time payload.now sig)) }
+    ensures spells { IfOk result (λ body. SpellsSigned body.items creator parents.now time payload.now) }
     ensures room { IfOk result (λ body. vec_len body + 64 ≤ vec_capacity body) }
 {
     let mut body = Vec::with_capacity(alloc, SIZE_WITH_PARENTS + payload.len())?;

@@ -1,6 +1,6 @@
 ghost use Rattle.std.specs.Prelude.{◌≡◌, ◌≤◌, ◌++◌, IfOk, length, drop};
-ghost use Rattle.sha2.specs.Hashers.{Holds512};
 ghost use Rattle.hg_model.specs.Signing.{hmac_sha512, masked, padded_secret};
+ghost use Rattle.hg_sign.specs.Masked.{HoldsMasked};
 
 use hg_model::{Memory, Sig};
 use sha2::{Digest, Sha512};
@@ -19,14 +19,13 @@ pub(crate) struct Key {
 
 impl Model for Key {
     ghost use Rattle.std.specs.Prelude.{ℕ, List};
-    ghost use Rattle.sha2.specs.Hashers.{Holds512};
-    ghost use Rattle.hg_model.specs.Signing.{masked, padded_secret};
+    ghost use Rattle.hg_sign.specs.Masked.{HoldsMasked};
 
     ghost Value = { List ℕ };
 
     ghost view = { λ s. s.secret.items };
 
-    ghost invariant = { λ s. Holds512 s.inner (masked 0x36 (padded_secret s.secret.items)) × Holds512 s.outer (masked 0x5c (padded_secret s.secret.items)) };
+    ghost invariant = { λ s. HoldsMasked s.inner 0x36 s.secret.items × HoldsMasked s.outer 0x5c s.secret.items };
 }
 
 impl Key {
@@ -62,7 +61,7 @@ impl Key {
 /// A hasher that has taken in the secret, filled up with zero bytes and masked.
 fn hasher_after(secret: &[u8], mask: u8) -> Sha512
     requires { length secret.now ≤ 128 }
-    ensures { Holds512 result (masked mask (padded_secret secret.now)) }
+    ensures { HoldsMasked result mask secret.now }
 {
     let mut block = padded_block(secret);
     mask_all(&mut block, mask);
