@@ -9,3 +9,4 @@ pub mod OneLaws
 pub mod KeepLaws
 pub mod NewsLaws
 pub mod PublishLaws
+pub mod TableLaws

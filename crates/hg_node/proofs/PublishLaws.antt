@@ -86,19 +86,18 @@ pub record IsSettling {K : Type 0} (accepts : K → Accepts) (v w : NodeView K) 
   pub grown : w ≡ with_changes v (settle_changes v)
   pub settled : IsSettled v w
 
-module _ {K : Type 0} (accepts : K → Accepts) (keys : K) (r : ChronicleView) (is : IsRecorded accepts (node_view keys r) r) (s : ChronicleView) where
-  -- what was found is that of the whole graph
-  pub settling : (len : ℕ) (share : Share) → len ≡ length r.graph.rows → share ≡ whole → s ≡ chronicle_news r len share → IsSettling accepts (node_view keys r) (node_view keys s) s
-  settling len share all one grown =
-      let v : NodeView K = node_view keys r in
-      let first : s ≡ chronicle_news r (length r.graph.rows) whole = grown ∙ ap₂ (chronicle_news r) all one in
-      let is_published : IsPublishing accepts v (node_view keys s) s (length r.graph.rows) whole =
-      subst (λ (t : ChronicleView). IsPublishing accepts v (node_view keys t) t (length r.graph.rows) whole) (sym first)
-      (publishing_by accepts keys r is (length r.graph.rows) whole (eqb (news_in r (length r.graph.rows) whole) 0) refl (omega arith)) in
-      let grown' : node_view keys s ≡ with_changes v (settle_changes v) =
-      is_published.grown ∙ ap (λ (G : List Row). with_changes v (publish_changes v (length G) whole)) (sym is.rows) in
-      record {
-        recorded = is_published.recorded;
-        grown = grown';
-        settled = subst (IsSettled v) (sym grown') (settles_all K accepts v is.node);
-      }
+-- what it finds is that of the whole graph
+pub settling : {K : Type 0} (accepts : K → Accepts) (keys : K) (r : ChronicleView) → IsRecorded accepts (node_view keys r) r → (s : ChronicleView) →
+    s ≡ chronicle_news r (length r.graph.rows) whole → IsSettling accepts (node_view keys r) (node_view keys s) s
+settling {K} accepts keys r is s grown =
+    let v : NodeView K = node_view keys r in
+    let is_published : IsPublishing accepts v (node_view keys s) s (length r.graph.rows) whole =
+    subst (λ (t : ChronicleView). IsPublishing accepts v (node_view keys t) t (length r.graph.rows) whole) (sym grown)
+    (publishing_by accepts keys r is (length r.graph.rows) whole (eqb (news_in r (length r.graph.rows) whole) 0) refl (omega arith)) in
+    let grown' : node_view keys s ≡ with_changes v (settle_changes v) =
+    is_published.grown ∙ ap (λ (G : List Row). with_changes v (publish_changes v (length G) whole)) (sym is.rows) in
+    record {
+      recorded = is_published.recorded;
+      grown = grown';
+      settled = subst (IsSettled v) (sym grown') (settles_all K accepts v is.node);
+    }

@@ -21,6 +21,7 @@ use Rattle.hg_model.specs.Signing.{Accepts}
 use Rattle.hg_model.specs.GraphWords.{state_by}
 use Rattle.hg_kept.specs.Published.{Published, Keeps}
 use Rattle.hg_pay.specs.Account.{Account}
+use Rattle.hg_votes.specs.Counting.{CarriesTo, Counting}
 
 -- whose node it is, the balances that it began with, its rows as a graph, the log, and the published marks
 pub record ChronicleView : Type 0 where
@@ -87,9 +88,10 @@ pub record KeepsBook (G : List Row) (order : List Placed) (a : Account) : Type 0
   pub book : a.book ≡ book_of a.opening G order
   pub memory : length G ≤ a.room
 
--- both
-abbrev pub KeepsAll : ℕ → Graph → List Entry → Published → Option ℕ → ℕ → Account → Type 0
-KeepsAll own graph log v last_own capacity a = KeepsRecord own graph log v last_own capacity × KeepsBook graph.rows v.order a
+-- both, and the table of votes is that of first rows of the graph
+abbrev pub KeepsAll : ℕ → Graph → List Entry → Published → Option ℕ → ℕ → Account → Counting → Type 0
+KeepsAll own graph log v last_own capacity a votes =
+    KeepsRecord own graph log v last_own capacity × KeepsBook graph.rows v.order a × CarriesTo votes graph
 
 -- the node with these keys of which this is the record
 abbrev pub node_view : {K : Type 0} → K → ChronicleView → NodeView K

@@ -4,17 +4,21 @@ ghost use Rattle.hg_model.specs.declared.row.Placed.{Placed};
 ghost use Rattle.hg_model.specs.Graph.{IsGraph};
 ghost use Rattle.hg_model.specs.Verdict.{last_name, row_limit};
 ghost use Rattle.hg_model.specs.Fame.{mark_at};
-ghost use Rattle.hg_fame.specs.Decisions.{AreFameIn};
 ghost use Rattle.hg_model.specs.Kept.{kept};
+ghost use Rattle.hg_model.specs.Shares.{whole};
 ghost use Rattle.hg_model.specs.GraphWords.{last_closed_in, SpeaksOf};
 ghost use Rattle.hg_node.specs.ChronicleView.{book_in, last_own_place, news_in, no_chronicle, chronicle_news, chronicle_with, chronicle_state};
 ghost use Rattle.hg_node.specs.Arrival.{StandsOn};
 
 use hg_event::Event;
+use hg_fame::elect_unmarked;
 use hg_graph::EventGraph;
 use hg_kept::Kept;
-use hg_model::{Effect, Entry, Found, Member, Members, Memory, Name, Parents, Placed, Prefix};
+use hg_model::{
+    Effect, Entry, Found, Member, Members, Memory, Name, Parents, Placed, Prefix, Share,
+};
 use hg_pay::{Book, Ledger};
+use hg_votes::VoteTable;
 use std::alloc::Global;
 use std::marker::Model;
 use std::sync::Arc;
@@ -30,6 +34,8 @@ pub struct Chronicle {
     ledger: Ledger,
     last_own: Option<usize>,
     log: Vec<Entry>,
+    /// Of as many first rows as there were when the fame was last decided.
+    votes: VoteTable,
 }
 
 impl Model for Chronicle {
@@ -40,7 +46,7 @@ impl Model for Chronicle {
 
     ghost view = { λ s. chronicle_view s.own s.ledger.opening s.graph.graph s.log.items s.kept.published.marks };
 
-    ghost invariant = { λ s. KeepsAll s.own s.graph.graph s.log.items s.kept.published s.last_own (vec_capacity s.log) s.ledger };
+    ghost invariant = { λ s. KeepsAll s.own s.graph.graph s.log.items s.kept.published s.last_own (vec_capacity s.log) s.ledger s.votes };
 }
 
 impl Chronicle {
@@ -55,6 +61,7 @@ impl Chronicle {
             ledger: Ledger::new(alloc, members)?,
             last_own: None,
             log: Vec::new(alloc),
+            votes: VoteTable::empty(alloc),
         })
     }
 
@@ -132,20 +139,24 @@ impl Chronicle {
         count
     }
 
+    /// Publishes all fame that the graph decides. Of the votes only those of new rows are looked for.
+    pub fn settle(&mut self, alloc: Global) -> Result<(), Memory>
+        ensures ok { OnOk result (self.new ≡ chronicle_news self.old (length self.old.graph.rows) whole) }
+        ensures err { OnErr result (self.new ≡ self.old) }
+    {
+        self.votes.carry(alloc, &self.graph)?;
+        let all = Share::new(0, 1);
+        let found = elect_unmarked(alloc, &self.graph, &mut self.votes, all, self.kept.marks())?;
+        self.publish(&found);
+        Ok(())
+    }
+
     /// The mark of the row at a place below the number of rows.
     pub fn fame(&self, place: usize) -> Option<bool>
         requires { place < length self.now.graph.rows }
         ensures { result ≡ mark_at self.now.marks place }
     {
         self.kept.fame(place)
-    }
-
-    /// The mark of each row: its fame in the graph, if that is published.
-    pub fn marks(&self) -> &[Option<bool>]
-        ensures marks { result.now ≡ self.now.marks }
-        ensures fame { AreFameIn self.now.graph result.now }
-    {
-        self.kept.marks()
     }
 
     /// What the closed rounds have received, in order.

@@ -21,16 +21,14 @@ use crate::arrival::{parents_of_arrival, parents_of_signed};
 use crate::chronicle::Chronicle;
 use crate::draft::{draft_of, row_rule, signed_event};
 use hg_event::{Event, EventView, decode};
-use hg_fame::elect_unmarked;
 use hg_graph::{EventGraph, FrozenGraph};
 use hg_model::{
     Effect, Entry, Fault, Found, MakeAnswer, Member, Members, Memory, Name, Parents, Placed,
-    Prefix, PutAnswer, Rounds, Row, Share,
+    Prefix, PutAnswer, Rounds, Row,
 };
 use hg_name::name_of;
 use hg_pay::Book;
 use hg_sign::Signer;
-use hg_votes::VoteTable;
 use std::alloc::Global;
 use std::marker::Model;
 use std::sync::Arc;
@@ -161,11 +159,7 @@ impl<V: Signer> Node<V> {
         ensures settled { OnOk result (IsSettled self.old self.new) }
         ensures err { OnErr result (self.new ≡ self.old) }
     {
-        let graph = self.chronicle.graph();
-        let mut votes = VoteTable::new(self.alloc, graph)?;
-        let all = Share::new(0, 1);
-        let found = elect_unmarked(self.alloc, graph, &mut votes, all, self.chronicle.marks())?;
-        self.chronicle.publish(&found);
+        self.chronicle.settle(self.alloc)?;
         Ok(())
     }
 

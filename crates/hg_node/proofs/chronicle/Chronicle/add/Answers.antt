@@ -11,6 +11,7 @@ use Rattle.hg_pay.specs.Account.{Account}
 use Rattle.hg_node.specs.ChronicleView.{ChronicleView, KeepsBook}
 use Rattle.hg_node.proofs.BookLaws.{book_with_row}
 use Rattle.hg_node.proofs.KeepLaws.{few_in_log, record_with}
+use Rattle.hg_node.proofs.TableLaws.{carries_with_row}
 use Rattle.hg_node.proofs.chronicle.Chronicle.add.Goals as goal
 
 pub overflow_sub-place : goal.overflow_sub-place
@@ -49,4 +50,5 @@ invariant_of-self-2 c =
       record_with c.self.inside.own g c.self.inside.log.items c.self.inside.kept.published c.self.inside.last_own (vec_capacity c.self.inside.log) c.self.invariant.0
           c.args.event.value c.args.entry c.add.new.self.published c.later_place-self-inside.result (vec_capacity c.push_reserved.new.self) graph marks keeps is memory,
       paid,
+      carries_with_row c.self.inside.votes g c.args.event.value c.self.invariant.2,
     )

@@ -38,6 +38,7 @@ invariant_of-self c =
           _ (vec_capacity c.push_reserved.new.self) (omega (arith, c.if-count-gt0.true, c.publish-count.ensures.count)) (omega (arith, c.push_reserved.ensures.capacity)),
       book_paid c.self.inside.graph.graph.rows c.self.inside.kept.published.order c.publish-count.new.self.published.order c.order.result.now c.self.inside.ledger c.pay.new.self
           c.self.invariant.1 c.publish-count.ensures.grows c.order.ensures c.pay.ensures,
+      c.self.invariant.2,
     )
 
 pub invariant_of-self-else-count-gt0 : goal.invariant_of-self-else-count-gt0
@@ -47,4 +48,5 @@ invariant_of-self-else-count-gt0 c =
           c.args.found.now.len c.args.found.now.share within c.publish-count.new.self.published c.publish-count.ensures.marks c.publish-count.ensures.keeps,
       book_paid c.self.inside.graph.graph.rows c.self.inside.kept.published.order c.publish-count.new.self.published.order c.order.result.now c.self.inside.ledger c.pay.new.self
           c.self.invariant.1 c.publish-count.ensures.grows c.order.ensures c.pay.ensures,
+      c.self.invariant.2,
     )
