@@ -14,7 +14,7 @@ use Rattle.hg_model.specs.History.Change.{Marked}
 use Rattle.hg_model.specs.NodeView.{NodeView, IsNode, node_links, node_marks, node_rows, node_state, with_changes}
 use Rattle.hg_model.specs.Calls.{publish_answer, publish_changes}
 use Rattle.hg_model.specs.Signing.{Accepts}
-use Rattle.hg_model.specs.Prefix.{Graph}
+use Rattle.hg_model.specs.Prefix.{Graph, graph_of}
 use Rattle.hg_model.specs.declared.share.Found.{Found}
 use Rattle.hg_history.proofs.StateLaws.{even_after, links_grow, marks_stay, rows_grow}
 use Rattle.hg_fame.specs.Decisions.{SpeaksFor}
@@ -26,7 +26,9 @@ use Rattle.hg_board.specs.Calls.{SeatPublishes}
 use Rattle.hg_board.specs.Crews.{MarksAll, MarksOf, marked_by}
 use Rattle.hg_board.specs.Laws.{AddsNone}
 use Rattle.hg_board.proofs.ChangeLaws.{other_publishes_add_none, publishes_add_one}
-use Rattle.hg_workers.specs.Turns.{marks_seen}
+use Rattle.hg_votes.specs.Counting.{CarriesTo, Counting, IsMadeFor}
+use Rattle.hg_votes.proofs.CarryLaws.{begins_empty, begins_itself, carries_on}
+use Rattle.hg_workers.specs.Turns.{graph_seen, marks_seen}
 use Rattle.hg_workers.proofs.StateLaws.{marked_later, node_sound, nothing_published, published_later, published_marks, published_more, share_later}
 
 pub get_push : (h : List Change) (e : Change) → slice_get (h ++ e ∷ []) (length h) ≡ Some e
@@ -56,6 +58,17 @@ module _ {V : Type 0} (p : Place V) where
 
   links_later : (a b : List Change) → IsPrefix a b → IsPrefix (replay n coin a).links (replay n coin b).links
   links_later a b first = subst (λ (h : List Change). IsPrefix (replay n coin a).links (replay n coin h).links) (sym first.1) (links_grow n coin a first.0)
+
+  -- votes on the graph that the seat saw go on to the one that it sees
+  pub carries_later : (votes : Counting) (a b : Stand V) → IsPrefix a.seen b.seen → CarriesTo votes (graph_seen p a) → CarriesTo votes (graph_seen p b)
+  carries_later votes a b first carries =
+      carries_on votes (graph_seen p a) (graph_seen p b) carries (record { members = refl; coin = refl; rows = rows_later a.seen b.seen first })
+
+  pub carries_none : (a : Stand V) (votes : Counting) → ((members : Stakes) (c : ℕ) → IsMadeFor votes (graph_of members c [])) → CarriesTo votes (graph_seen p a)
+  carries_none a votes made = (graph_of n coin [], made n coin, begins_empty (graph_seen p a))
+
+  pub carries_made : (votes : Counting) (g : Graph) (a b : Stand V) → g ≡ graph_seen p a → IsPrefix a.seen b.seen → IsMadeFor votes g → CarriesTo votes (graph_seen p b)
+  carries_made votes g a b frozen first made = carries_later votes a b first (subst (CarriesTo votes) frozen (g, made, begins_itself g))
 
   module _ (accepts : V → Accepts) where
     -- what the graph decided before, a later one decides

@@ -1,10 +1,11 @@
-ghost use Rattle.std.specs.Prelude.{◌≡◌, ◌+◌, ◌≤◌, length, IfOk, OnOk};
+ghost use Rattle.std.specs.Prelude.{◌≡◌, ◌<◌, ◌+◌, ◌≤◌, length, IfOk, OnOk};
 ghost use Rattle.hg_fame.specs.Decisions.{SpeaksFor};
 ghost use Rattle.hg_board.specs.Seats.{IsOf};
 ghost use Rattle.hg_board.specs.Calls.{Stays};
 ghost use Rattle.hg_board.specs.Crews.{MarksAll, MarksOf, OnlyMarks};
 ghost use Rattle.hg_board.specs.Laws.{AddsNone};
-ghost use Rattle.hg_workers.specs.Turns.{marks_seen};
+ghost use Rattle.hg_votes.specs.Counting.{CarriesTo, IsMadeFor};
+ghost use Rattle.hg_workers.specs.Turns.{graph_seen, marks_seen};
 
 use hg_board::{Crew, Seat, Shared};
 use hg_fame::elect_share;
@@ -29,7 +30,8 @@ impl<'a, G: Gate> Voters<'a, G> {
         Voters { gate }
     }
 
-    /// One turn: the graph that the seat then sees, the share's fame in it, and what of that is news.
+    /// One turn: the graph that the seat then sees, the share's fame in it by votes that go on from those of an earlier
+    /// one, and what of that is news.
     fn take_turn<V: Signer + Drop, R: Wait>(
         &self,
         rt: &R,
@@ -37,9 +39,12 @@ impl<'a, G: Gate> Voters<'a, G> {
         shared: &Shared<V>,
         seat: &mut Seat<V>,
         share: Share,
+        votes: &mut VoteTable,
     ) -> Result<u32, Memory>
-        requires { IsOf shared.now seat.old }
+        requires seat { IsOf shared.now seat.old }
+        requires votes { CarriesTo votes.old (graph_seen shared.now seat.old) }
         ensures stays { Stays V.accepts shared.now seat.old seat.new }
+        ensures votes { OnOk result (CarriesTo votes.new (graph_seen shared.now seat.new)) }
         ensures marks { OnlyMarks share seat.old seat.new }
         ensures counted { IfOk result (MarksOf shared.now share seat.old seat.new) }
         ensures all { OnOk result (MarksAll shared.now share seat.old seat.new) }
@@ -48,29 +53,70 @@ impl<'a, G: Gate> Voters<'a, G> {
         let first = share.k().wrapping_mul(2);
         let frozen = shared.freeze(rt, seat)?;
         self.gate.reach(first);
-        let found = elected(alloc, frozen, share)?;
+        let found = elected(alloc, frozen, share, votes)?;
         self.gate.reach(first.wrapping_add(1));
         Ok(shared.publish(rt, seat, &found))
     }
+
+    /// So many turns, behind a look, with one table of votes.
+    fn take_turns<V: Signer + Drop, R: Wait>(
+        &self,
+        rt: &R,
+        alloc: Global,
+        shared: &Shared<V>,
+        seat: &mut Seat<V>,
+        share: Share,
+        turns: u32,
+        votes: &mut VoteTable,
+    ) -> Result<u32, Memory>
+        requires seat { IsOf shared.now seat.old }
+        requires votes { CarriesTo votes.old (graph_seen shared.now seat.old) }
+        ensures stays { Stays V.accepts shared.now seat.old seat.new }
+        ensures marks { OnlyMarks share seat.old seat.new }
+        ensures counted { IfOk result (MarksOf shared.now share seat.old seat.new) }
+        ensures all { OnOk result (0 < turns → MarksAll shared.now share seat.old seat.new) }
+    {
+        // A look, so that the seat is known to have seen a node's history also where there are no turns.
+        look(rt, alloc, shared, seat, share);
+        let mut count = 0;
+        for _turn in 0..turns {
+            count += self.take_turn(rt, alloc, shared, seat, share, votes)?;
+        }
+        Ok(count)
+    }
 }
 
-/// What the share decides in the graph, which ends here.
-fn elected(alloc: Global, graph: FrozenGraph, share: Share) -> Result<Found, Memory>
+/// What the share decides in the graph, which ends here; the votes are carried to it.
+fn elected(
+    alloc: Global,
+    graph: FrozenGraph,
+    share: Share,
+    votes: &mut VoteTable,
+) -> Result<Found, Memory>
+    requires { CarriesTo votes.old graph }
+    ensures votes { OnOk result (IsMadeFor votes.new graph) }
     ensures share { IfOk result (λ found. found.share ≡ share) }
     ensures len { IfOk result (λ found. found.len ≡ length graph.rows) }
     ensures speaks { IfOk result (λ found. SpeaksFor graph share found) }
 {
-    elected_in(alloc, &graph, share)
+    elected_in(alloc, &graph, share, votes)
 }
 
-/// What the share decides in the graph.
-fn elected_in(alloc: Global, graph: &FrozenGraph, share: Share) -> Result<Found, Memory>
+/// What the share decides in the graph, to which the votes are carried.
+fn elected_in(
+    alloc: Global,
+    graph: &FrozenGraph,
+    share: Share,
+    votes: &mut VoteTable,
+) -> Result<Found, Memory>
+    requires { CarriesTo votes.old graph.now }
+    ensures votes { OnOk result (IsMadeFor votes.new graph.now) }
     ensures share { IfOk result (λ found. found.share ≡ share) }
     ensures len { IfOk result (λ found. found.len ≡ length graph.now.rows) }
     ensures speaks { IfOk result (λ found. SpeaksFor graph.now share found) }
 {
-    let mut votes = VoteTable::new(alloc, graph)?;
-    elect_share(alloc, graph, &mut votes, share)
+    votes.carry(alloc, graph)?;
+    elect_share(alloc, graph, votes, share)
 }
 
 /// Publishes nothing: the seat then has seen a history of the node.
@@ -103,12 +149,7 @@ impl<'a, G: Gate> Crew for Voters<'a, G> {
         share: Share,
         turns: u32,
     ) -> Result<u32, Memory> {
-        // A look, so that the seat is known to have seen a node's history also where there are no turns.
-        look(rt, alloc, shared, seat, share);
-        let mut count = 0;
-        for _turn in 0..turns {
-            count += self.take_turn(rt, alloc, shared, seat, share)?;
-        }
-        Ok(count)
+        let mut votes = VoteTable::empty(alloc);
+        self.take_turns(rt, alloc, shared, seat, share, turns, &mut votes)
     }
 }
