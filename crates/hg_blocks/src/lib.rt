@@ -3,8 +3,10 @@
 
 mod block;
 mod blocks;
+mod rows;
 mod tail;
 
 pub use block::Block;
 pub use blocks::Blocks;
+pub use rows::RowBlocks;
 pub use tail::Tail;

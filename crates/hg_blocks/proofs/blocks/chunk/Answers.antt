@@ -1,4 +1,4 @@
-use Rattle.std.proofs.Common.{sym, ◌∙◌, ap, take, drop, ◌*◌, ◌≡◌, length, arith}
+use Rattle.std.proofs.Common.{sym, ◌∙◌, ap, ◌≡◌, length, arith}
 use Rattle.hg_blocks.specs.Joined.{items_of}
 use Rattle.hg_blocks.proofs.JoinedLaws.{block_at, tail_at}
 use Rattle.hg_blocks.proofs.blocks.chunk.Goals as goal

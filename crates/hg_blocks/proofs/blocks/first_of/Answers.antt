@@ -1,4 +1,4 @@
-use Rattle.std.proofs.Common.{sym, ◌∙◌, ap, ap₂, take, ◌++◌, arith, length}
+use Rattle.std.proofs.Common.{sym}
 use Rattle.std.proofs.lemmas.List.{length-take-le}
 use Rattle.hg_blocks.proofs.JoinedLaws.{whole_within, open_within, first_joined}
 use Rattle.hg_blocks.proofs.blocks.first_of.Goals as goal
