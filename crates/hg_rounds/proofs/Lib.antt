@@ -2,3 +2,4 @@ pub mod StandingLaws
 pub mod KeepLaws
 pub mod PlaceLaws
 pub mod ByRowLaws
+pub mod CutLaws

@@ -1,3 +1,4 @@
 pub mod Listed
 pub mod Tabled
 pub mod ByRow
+pub mod Cut

@@ -48,6 +48,16 @@ pub record KeepsLists (S : List Standing) (lists : List Listed) (top full : ℕ)
   pub one : full < length lists
   pub spare : (r : ℕ) → r < length lists → r ≢ full → r ≢ top + 1 → 1 ≤ (list_at lists r).room
 
+-- of each row the greatest round up to it
+pub record HasTops (S : List Standing) (tops : List ℕ) : Type 0 where
+  pub long : length tops ≡ length S
+  pub each : (x : ℕ) → x < length S → get_or tops x 0 ≡ greatest_in (take (x + 1) S)
+
+-- all that a table keeps
+pub record KeepsTable (S : List Standing) (tops : List ℕ) (lists : List Listed) (top full : ℕ) : Type 0 where
+  pub lists_kept : KeepsLists S lists top full
+  pub tops_kept : HasTops S tops
+
 -- for how many more rows there is memory at least, by the room of the rows and of the lists, and of the two lists that
 -- may be full
 abbrev pub room_by : ℕ → ℕ → Listed → Listed → ℕ

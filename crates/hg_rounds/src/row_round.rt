@@ -1,7 +1,7 @@
 use std::marker::Model;
 
 /// A row's round, and whether the row is a witness.
-#[derive(Drop)]
+#[derive(Clone, Copy)]
 pub struct RowRound {
     pub round: u32,
     pub witness: bool,
@@ -13,4 +13,6 @@ impl Model for RowRound {
     ghost Value = { Standing };
 
     ghost view = { λ s. record { round = s.round; witness = s.witness } };
+
+    ghost inverse = { λ v. record { round = v.round; witness = v.witness } };
 }

@@ -1,9 +1,11 @@
-ghost use Rattle.std.specs.Prelude.{◌≡◌, ◌<◌, ◌≤◌, ◌+◌, ◌-◌, [], ◌∷◌, ◌++◌, length, take, IfOk, OnOk};
-ghost use Rattle.hg_model.specs.Standings.{greatest_in, round_at, witness_at, witnesses_in};
-ghost use Rattle.hg_rounds.specs.Tabled.{standing};
+ghost use Rattle.std.specs.Prelude.{◌≡◌, ◌<◌, ◌≤◌, ◌+◌, ◌-◌, List, [], ◌∷◌, ◌++◌, ℕ, length, take, IfOk, OnOk};
+ghost use Rattle.hg_model.specs.Standings.{Standing, greatest_in, round_at, witness_at, witnesses_in};
+ghost use Rattle.hg_rounds.specs.Cut.{IsCutList};
+ghost use Rattle.hg_rounds.specs.Tabled.{HasTops, list_at, standing};
 
 use crate::row_round::RowRound;
 use crate::witnesses::Witnesses;
+use hg_blocks::Blocks;
 use hg_model::{Memory, Rounds};
 use std::alloc::Global;
 use std::marker::Model;
@@ -12,7 +14,9 @@ use std::marker::Model;
 #[derive(Drop)]
 pub struct RoundTable {
     alloc: Global,
-    rows: Vec<RowRound>,
+    rows: Blocks<RowRound>,
+    /// For each row the greatest round up to it.
+    tops: Blocks<u32>,
     /// The witnesses of each round from 0 to the next one; those of round 0 and of the next one are none.
     lists: Vec<Witnesses>,
     greatest: u32,
@@ -21,14 +25,14 @@ pub struct RoundTable {
 }
 
 impl Model for RoundTable {
-    ghost use Rattle.std.specs.Prelude.{◌+◌, ◌-◌, vec_capacity, vec_len};
-    ghost use Rattle.hg_rounds.specs.Tabled.{KeepsLists, Tabled, list_at, room_by};
+    ghost use Rattle.std.specs.Prelude.{◌+◌, ◌-◌, min, vec_capacity, vec_len};
+    ghost use Rattle.hg_rounds.specs.Tabled.{KeepsTable, Tabled, list_at, room_by};
 
     ghost Value = { Tabled };
 
-    ghost view = { λ s. record { standings = s.rows.items; room = room_by (vec_capacity s.rows - vec_len s.rows) (vec_capacity s.lists - vec_len s.lists) (list_at s.lists.items s.full) (list_at s.lists.items (s.greatest + 1)) } };
+    ghost view = { λ s. record { standings = s.rows.items; room = room_by (min s.rows.room s.tops.room) (vec_capacity s.lists - vec_len s.lists) (list_at s.lists.items s.full) (list_at s.lists.items (s.greatest + 1)) } };
 
-    ghost invariant = { λ s. KeepsLists s.rows.items s.lists.items s.greatest s.full };
+    ghost invariant = { λ s. KeepsTable s.rows.items s.tops.items s.lists.items s.greatest s.full };
 }
 
 impl RoundTable {
@@ -41,7 +45,8 @@ impl RoundTable {
         lists.push(Witnesses::new(alloc))?;
         Ok(RoundTable {
             alloc,
-            rows: Vec::new(alloc),
+            rows: Blocks::new(alloc),
+            tops: Blocks::new(alloc),
             lists,
             greatest: 0,
             full: 0,
@@ -53,7 +58,8 @@ impl RoundTable {
         ensures room { OnOk result (1 ≤ self.new.room) }
         ensures same { self.new.standings ≡ self.old.standings }
     {
-        self.rows.reserve(1)?;
+        self.rows.reserve()?;
+        self.tops.reserve()?;
         self.lists.reserve(1)?;
         let next = self.greatest as usize + 1;
         self.lists[next].reserve()?;
@@ -76,22 +82,51 @@ impl RoundTable {
             self.greatest = round;
             self.lists.push_reserved(Witnesses::new(self.alloc));
         }
-        self.rows.push_reserved(RowRound { round, witness });
+        self.rows.push(RowRound { round, witness });
+        self.tops.push(self.greatest);
     }
 
-    /// The table of the first `len` rows, as a value of its own.
+    /// The table of the first `len` rows, as a value of its own. It shares what is sealed of the rows, and copies the lists.
     pub fn prefix(&self, len: usize) -> Result<RoundTable, Memory>
         requires { len ≤ length self.now.standings }
         ensures { IfOk result (λ t. t.standings ≡ take len self.now.standings) }
     {
-        let mut table = RoundTable::new(self.alloc)?;
-        for x in 0..len {
-            table.reserve()?;
-            let standing = &self.rows[x];
-            table.add(standing.round, standing.witness);
-        }
-        Ok(table)
+        let greatest = greatest_first(&self.tops, len);
+        Ok(RoundTable {
+            alloc: self.alloc,
+            rows: self.rows.prefix(len)?,
+            tops: self.tops.prefix(len)?,
+            lists: first_lists(self.alloc, &self.lists, greatest as usize + 2, len)?,
+            greatest,
+            full: 0,
+        })
     }
+}
+
+/// The greatest round of the first `len` rows, from the greatest rounds up to each row.
+fn greatest_first(tops: &Blocks<u32>, len: usize) -> u32
+    requires { len ≤ length tops.now.items }
+    ensures { (S : List Standing) → HasTops S tops.now.items → result ≡ greatest_in (take len S) }
+{
+    if len == 0 { 0 } else { tops[len - 1] }
+}
+
+/// The first so many lists, each with its places below `len`, and with memory for one more.
+fn first_lists(
+    alloc: Global,
+    lists: &[Witnesses],
+    count: usize,
+    len: usize,
+) -> Result<Vec<Witnesses>, Memory>
+    requires { count ≤ length lists.now }
+    ensures count { IfOk result (λ first. length first.items ≡ count) }
+    ensures each { IfOk result (λ first. (r : ℕ) → r < count → IsCutList len (list_at lists.now r) (list_at first.items r)) }
+{
+    let mut first = Vec::with_capacity(alloc, count)?;
+    for list in &lists[..count] {
+        first.push(list.first(alloc, len)?)?;
+    }
+    Ok(first)
 }
 
 impl Rounds for RoundTable {

@@ -1,4 +1,5 @@
-ghost use Rattle.std.specs.Prelude.{◌≡◌, ◌≤◌, [], ◌∷◌, ◌++◌, OnOk};
+ghost use Rattle.std.specs.Prelude.{◌≡◌, ◌<◌, ◌≤◌, ◌-◌, ℕ, [], ◌∷◌, ◌++◌, length, slice_index, IfOk, OnOk};
+ghost use Rattle.hg_rounds.specs.Cut.{IsCut};
 
 use hg_model::Memory;
 use std::alloc::Global;
@@ -53,4 +54,28 @@ impl Witnesses {
     {
         &self.places
     }
+
+    /// The places below `len`, with memory for one more.
+    pub fn first(&self, alloc: Global, len: usize) -> Result<Witnesses, Memory>
+        ensures places { IfOk result (λ first. IsCut self.now.places len first.places) }
+        ensures room { IfOk result (λ first. 1 ≤ first.room) }
+    {
+        let count = count_below(&self.places, len);
+        let mut places = Vec::with_capacity(alloc, count + 1)?;
+        places.extend_from_slice(&self.places[..count])?;
+        Ok(Witnesses { places })
+    }
+}
+
+/// How many of these places come before the last one that is below `len`, with it. They are in order.
+fn count_below(places: &[usize], len: usize) -> usize
+    ensures within { result ≤ length places.now }
+    ensures last { 0 < result → slice_index places.now (result - 1) < len }
+    ensures later { (i : ℕ) → result ≤ i → i < length places.now → len ≤ slice_index places.now i }
+{
+    let mut count = places.len();
+    while count > 0 && places[count - 1] >= len {
+        count -= 1;
+    }
+    count
 }

@@ -1,6 +1,7 @@
+use Rattle.hg_rounds.proofs.CutLaws.{no_tops}
 use Rattle.hg_rounds.proofs.KeepLaws.{keeps_none}
 use Rattle.hg_rounds.proofs.table.RoundTable.new.Goals as goal
 
 pub invariant_of-result : goal.invariant_of-result
 invariant_of-result c =
-    rw (c.new-3.ensures.items, c.in_ok-push-2.ensures.items, c.in_ok-push.ensures.items, c.new-lists.ensures.items) (keeps_none _ _ c.new.ensures c.new-2.ensures)
+    rw (c.new-3.ensures, c.new-4.ensures, c.in_ok-push-2.ensures.items, c.in_ok-push.ensures.items, c.new-lists.ensures.items) (record { lists_kept = keeps_none _ _ c.new.ensures c.new-2.ensures; tops_kept = no_tops })

@@ -1,20 +1,21 @@
-use Rattle.std.proofs.Common.{◌∙◌, ◌<◌, ap, sym, take, arith, length}
-use Rattle.hg_model.specs.Standings.{Standing}
+use Rattle.std.proofs.Common.{◌≤◌, ap, arith, length}
 use Rattle.hg_rounds.specs.Tabled.{Tabled}
-use Rattle.hg_rounds.proofs.StandingLaws.{round_read}
+use Rattle.hg_rounds.proofs.CutLaws.{greatest_first, table_first}
 use Rattle.hg_rounds.proofs.table.RoundTable.prefix.Goals as goal
 
-pub add-requires-clause-first : goal.add-requires-clause-first
-add-requires-clause-first c =
-    let rows = c.self.inside.rows.items in
-    let inside : c.loop-x.x < length rows = omega (arith, ap (λ (t : Tabled). length t.standings) c.self.view_is) in
-    let read = ap (λ (s : Standing). s.round) c.standing.view_is ∙ round_read _ _ _ inside c.index-standing.ensures in
-    rw read (c.self.invariant.by_row.first c.loop-x.x inside)
+pub greatest_first-greatest-requires : goal.greatest_first-greatest-requires
+greatest_first-greatest-requires c = omega (arith, ap (λ (t : Tabled). length t.standings) c.self.view_is, c.self.invariant.tops_kept.long)
 
-pub add-requires-clause-next : goal.add-requires-clause-next
-add-requires-clause-next c =
+pub first_lists-requires : goal.first_lists-requires
+first_lists-requires c =
     let rows = c.self.inside.rows.items in
-    let inside : c.loop-x.x < length rows = omega (arith, ap (λ (t : Tabled). length t.standings) c.self.view_is) in
-    let read = ap (λ (s : Standing). s.round) c.standing.view_is ∙ round_read _ _ _ inside c.index-standing.ensures in
-    let known = c.in_ok-reserve.ensures.same ∙ (c.loop-x.invariant ∙ ap (λ (t : Tabled). take c.loop-x.x t.standings) (sym c.self.view_is)) in
-    rw (read, known) (c.self.invariant.by_row.next c.loop-x.x inside)
+    let le : c.args.len ≤ length rows = omega (arith, ap (λ (t : Tabled). length t.standings) c.self.view_is) in
+    omega (arith, ap length c.deref.ensures.value, c.self.invariant.lists_kept.long, c.self.invariant.lists_kept.greatest, greatest_first rows c.args.len le, c.greatest_first-greatest.ensures rows c.self.invariant.tops_kept)
+
+pub invariant_of-result : goal.invariant_of-result
+invariant_of-result c =
+    let rows = c.self.inside.rows.items in
+    let le : c.args.len ≤ length rows = omega (arith, ap (λ (t : Tabled). length t.standings) c.self.view_is) in
+    rw (c.in_ok-prefix.ensures, c.in_ok-prefix-2.ensures)
+    (table_first rows c.self.inside.tops.items c.self.inside.lists.items c.in_ok-first_lists.field-0.items _ _ _ c.args.len c.self.invariant le
+    (c.greatest_first-greatest.ensures rows c.self.invariant.tops_kept) c.in_ok-first_lists.ensures.count (rw (← c.deref.ensures.value) c.in_ok-first_lists.ensures.each))
