@@ -1,6 +1,6 @@
 //! What the rows of a graph see of each other, by a row of bits for each: its ancestors, found by whole words.
-//! A layer above uses `BitSight` as a graph that grows (`Growing` of `hg_model`); another sight takes the links and the
-//! masks of forks from here, with their laws. A row takes the memory of its bits and of one mask of members.
+//! A layer above uses `BitSight` as a graph that grows (`Growing` of `hg_model`); another sight takes the links from here,
+//! and the laws of forks. A row takes the memory of its bits and of one mask of members.
 //!
 //! From `tells_what_bit_rows_tell` in the tests of `hg_branches`, shortened:
 //!
@@ -24,6 +24,5 @@ mod links;
 mod seeing;
 mod sight;
 
-pub use forks::copy_masks;
-pub use links::{PlacedLink, copy_links, creator_of, self_parent_of};
+pub use links::PlacedLink;
 pub use sight::BitSight;

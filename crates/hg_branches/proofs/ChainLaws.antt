@@ -1,8 +1,8 @@
 -- The kept rows of each branch, when one more is kept, and when the next row is noted
-use Rattle.std.proofs.Common.{◌≡◌, ℕ, ◌+◌, ◌-◌, ◌<◌, ◌≤◌, List, [], ◌∷◌, ◌++◌, length, get_or, replicate, slice_index, slice_set, sym, ap, ◌∙◌, subst, inl, inr, arith}
+use Rattle.std.proofs.Common.{◌≡◌, ℕ, ◌+◌, ◌-◌, ◌<◌, ◌≤◌, List, [], ◌∷◌, ◌++◌, length, get_or, replicate, slice_index, slice_set, sym, ap, ◌∙◌, subst, refl, inl, inr, arith}
 use Rattle.std.proofs.lemmas.Bool.{cases_eq, cases_lt}
 use Rattle.std.proofs.lemmas.List.{length_push, length-replicate, get_or-replicate, get_or-set_same, get_or-set_other, get_or_append_left, get_or_push, get_or_past}
-use Rattle.hg_branches.specs.Kept.{Kept, kept_at, IsLastOn, HoldsChains, HoldsNewest, HoldsNumbers}
+use Rattle.hg_branches.specs.Kept.{Kept, kept_at, noted_once, AreNotedOn, NotesBy, IsLastOn, HoldsChains, HoldsNewest, HoldsTops, HoldsNumbers}
 
 -- a zero behind a list changes nothing that is read
 pub zero_behind : (xs : List ℕ) (i : ℕ) → get_or (xs ++ 0 ∷ []) i 0 ≡ get_or xs i 0
@@ -56,6 +56,23 @@ module _ (old new : List Kept) (same : (i : ℕ) → i < length old → StandsAs
       let le : slice_index numbers y ≤ length old = was.0 in
       (omega arith, (same (slice_index numbers y - 1) (omega arith)).0 ∙ was.1))
 
+-- kept rows of which those of the first branches are noted stand as they stood
+pub stands_noted : (counts : List ℕ) (b end : ℕ) (old new : List Kept) → ((c : ℕ) → c < length counts → NotesBy counts b end old new c) →
+    ((i : ℕ) → length counts ≤ (kept_at old i).branch → kept_at new i ≡ kept_at old i) → (i : ℕ) → i < length old → StandsAs (kept_at new i) (kept_at old i)
+stands_noted counts b end old new done left i h = elim (cases_lt (kept_at old i).branch (length counts)) [
+  | inl own ↦ (let is = done (kept_at old i).branch own i h refl in (ap (λ (k : Kept). k.end) is, ap (λ (k : Kept). k.branch) is, ap (λ (k : Kept). k.before) is))
+  | inr other ↦ (let is = left i other in (ap (λ (k : Kept). k.end) is, ap (λ (k : Kept). k.branch) is, ap (λ (k : Kept). k.before) is))
+]
+
+-- what needed no note needs none while it stands
+pub left_noted : (known count b end c : ℕ) (old new : List Kept) → ((i : ℕ) → i < length old → StandsAs (kept_at new i) (kept_at old i)) → length new ≡ length old →
+    ((i : ℕ) → (kept_at old i).branch ≡ c → kept_at new i ≡ kept_at old i) → AreNotedOn c known count b end old → AreNotedOn c known count b end new
+left_noted known count b end c old new same long left noted i h on le =
+    let low : i < length old = omega arith in
+    let was : (kept_at old i).branch ≡ c = sym (same i low).1 ∙ on in
+    let end_is = (same i low).0 in
+    subst (λ (k : Kept). noted_once count b end k ≡ k) (sym (left i was)) (noted i low was (omega arith))
+
 -- one more kept row, later than the others
 module _ (old : List Kept) (k : Kept) (chains : HoldsChains old) where
   stays : (i : ℕ) → i < length old → StandsAs (kept_at (old ++ k ∷ []) i) (kept_at old i)
@@ -102,6 +119,26 @@ module _ (old : List Kept) (k : Kept) (chains : HoldsChains old) where
             (last_same old (old ++ k ∷ []) stays (length old) k.branch k.before (omega arith) last)))
       ];
     }
+
+    pub tops_begun : (tops : List ℕ) → HoldsTops old tops → k.branch < length tops → HoldsTops (old ++ k ∷ []) (slice_set tops k.branch k.end)
+    tops_begun tops holds inside i h =
+        let c : ℕ = (kept_at (old ++ k ∷ []) i).branch in
+        let end_low : (kept_at (old ++ k ∷ []) i).end ≤ k.end = elim (cases_lt i (length old)) [
+          | inl before ↦ (let is = (stays i before).0 in let less = all_before i before in omega arith)
+          | inr past ↦ (let is : (kept_at (old ++ k ∷ []) i).end ≡ k.end = ap (λ (k : Kept). k.end) (begun_last i (omega (arith, length_push old k))) in omega arith)
+        ] in
+        elim (cases_eq c k.branch) [
+          | inl here ↦ (let top : slice_index (slice_set tops k.branch k.end) c ≡ k.end =
+              ap (slice_index (slice_set tops k.branch k.end)) here ∙ get_or-set_same tops k.branch k.end 0 inside in omega arith)
+          | inr other ↦ elim (cases_lt i (length old)) [
+            | inl before ↦ (let is = (stays i before).0 in
+                let branch_is : slice_index tops c ≡ slice_index tops (kept_at old i).branch = ap (slice_index tops) (stays i before).1 in
+                let top : slice_index (slice_set tops k.branch k.end) c ≡ slice_index tops c = get_or-set_other tops k.branch c k.end 0 other in
+                let was = holds i before in
+                omega arith)
+            | inr past ↦ absurd (other (ap (λ (k : Kept). k.branch) (begun_last i (omega (arith, length_push old k)))))
+          ]
+        ]
 
   pub newest_begun : (newest : List ℕ) → HoldsNewest old newest → k.branch < length newest → HoldsNewest (old ++ k ∷ []) (slice_set newest k.branch (length old + 1))
   newest_begun newest last inside c = elim (cases_eq c k.branch) [

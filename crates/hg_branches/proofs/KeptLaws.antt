@@ -10,12 +10,12 @@ use Rattle.hg_model.specs.Ancestry.{is_ancestor}
 use Rattle.hg_model.specs.Forks.{has_fork_below}
 use Rattle.hg_model.specs.Seeing.{sees_through, strongly_sees, is_supermajority}
 use Rattle.hg_model.specs.Shape.{FitsLink, link_of}
-use Rattle.hg_model.proofs.PlacesLaws.{some_below_from, some_below_found, weight_below-same, weight_below-longer, total-count}
+use Rattle.hg_model.proofs.PlacesLaws.{some_below_from, some_below_found, weight_below-same, weight_below_none, weight_below-longer, total-count}
 use Rattle.hg_model.proofs.ReachLaws.{bool_iff, has_place_first}
 use Rattle.hg_branches.specs.Branches.{Branching, CountsAncestors, FirstDescendants, greatest_count}
 use Rattle.hg_branches.specs.Rows.{known_place}
 use Rattle.hg_branches.specs.Columns.{branching_of, count_in, next_branch, HoldsBranches, HoldsCounts, with_branch}
-use Rattle.hg_branches.specs.Kept.{Kept, kept_at, no_first, is_first, noted, noted_once, AreNotedOn, IsLastOn, HoldsFirsts, HoldsKept}
+use Rattle.hg_branches.specs.Kept.{Kept, kept_at, no_first, is_first, noted, noted_once, AreNotedOn, IsLastOn, HoldsFirsts, HoldsKept, HoldsTops}
 use Rattle.hg_branches.specs.Lines.{sees_on, own_sees, others_see}
 use Rattle.hg_branches.proofs.FirstLaws.{firsts_begin, firsts_next}
 use Rattle.hg_branches.proofs.SeenLaws.{by_branches, seen_by_branches, counted_sound, counted_complete}
@@ -140,14 +140,14 @@ module _ (n : Stakes) (L : List Link) (branches makers ends : List ℕ) (held : 
         by_place = λ y some. (let is = zero_behind numbers y in
             let was = numbers_noted old new same (omega arith) numbers kept.by_place y (subst (λ j. 0 < j) is some) in
             (subst (λ j. j ≤ length new) (sym is) was.0, subst (λ j. (kept_at new (j - 1)).end ≡ y + 1) (sym is) was.1));
-        numbers_all = length_push numbers 0 ∙ (ap (λ (j : ℕ). j + 1) kept.numbers_all ∙ sym (length_push L link));
+        numbers_all = (let all = kept.numbers_all in omega (arith, length_push numbers 0, length_push L link));
       }
 
 -- what the self-parent has as ancestor needs no note: on the next row's branch it has a descendant already
 pub noted_on : (n : Stakes) (L : List Link) (branches makers ends : List ℕ) → HoldsBranches n L branches makers ends → (counts : List (List ℕ)) → HoldsCounts n L branches makers counts →
     (kept : List Kept) (newest numbers : List ℕ) → HoldsKept n L branches makers kept newest numbers → (on : List ℕ) (by : ℕ) → FitsLink n L (link_of by on) → (row : List ℕ) →
     ((i : ℕ) → i ≢ next_branch branches ends on by → get_or row i 0 ≡ greatest_count (count_in counts) on i) → (c : ℕ) →
-    AreNotedOn c (get_or (counts ++ row ∷ []) (known_place on (length L)) []) row (next_branch branches ends on by) (length L + 1) kept
+    AreNotedOn c (get_or (get_or (counts ++ row ∷ []) (known_place on (length L)) []) c 0) (get_or row c 0) (next_branch branches ends on by) (length L + 1) kept
 noted_on n L branches makers ends held counts rows kept newest numbers holds [] by fits row others c i h is_on le =
     let k : Kept = kept_at kept i in
     let firsts = holds.each i h in
@@ -186,7 +186,7 @@ noted_on n L branches makers ends held counts rows kept newest numbers holds (p 
     (let same : count_in counts p (get_or branches y 0) ≡ count_in counts p c = ap (count_in counts p) (firsts.on ∙ is_on) in omega arith) in
     let all = held.ends_all in
     let wide = held.all in
-    not_later (slice_index row k.branch) (next_branch branches ends (p ∷ ps) by) (length L + 1) k
+    not_later (get_or row c 0) (next_branch branches ends (p ∷ ps) by) (length L + 1) k
     (elim (cases_lt (next_branch branches ends (p ∷ ps) by) n) [
       | inl own ↦ elim (cases_Bool (eqb (get_or ends branch 0) (p + 1))) [
         | inl last ↦
@@ -198,15 +198,26 @@ noted_on n L branches makers ends held counts rows kept newest numbers holds (p 
       | inr other ↦ (let long = firsts.long in let none = get_or_past k.firsts (next_branch branches ends (p ∷ ps) by) 0 (omega arith) in omega arith)
     ])
 
+-- the tops stay, and a new branch has none
+pub tops_noted : (old new : List Kept) → ((i : ℕ) → i < length old → StandsAs (kept_at new i) (kept_at old i)) → length new ≡ length old → (tops : List ℕ) (b : ℕ) → HoldsTops old tops →
+    HoldsTops new (with_branch tops b 0)
+tops_noted old new same long tops b holds i h =
+    let low : i < length old = omega arith in
+    let is = (same i low).0 in
+    let was = holds i low in
+    let branch_is : slice_index tops (kept_at new i).branch ≡ slice_index tops (kept_at old i).branch = ap (slice_index tops) (same i low).1 in
+    let reads : slice_index (with_branch tops b 0) (kept_at new i).branch ≡ slice_index tops (kept_at new i).branch = opened_reads tops b (kept_at new i).branch in
+    omega arith
+
 -- nothing is kept
-pub kept_none : (n : Stakes) (L : List Link) (branches makers : List ℕ) (newest numbers : List ℕ) → newest ≡ replicate (length makers) 0 → numbers ≡ replicate (length L) 0 → HoldsKept n L branches makers [] newest numbers
-kept_none n L branches makers newest numbers newest_are numbers_are = record {
+pub kept_none : (n : Stakes) (L : List Link) (branches makers newest : List ℕ) → newest ≡ replicate (length makers) 0 → HoldsKept n L branches makers [] newest []
+kept_none n L branches makers newest newest_are = record {
   each = λ i h. absurd (omega arith);
   chains = record { low = λ i h. absurd (omega arith); rise = λ i j le h. absurd (omega arith); before = λ j h. absurd (omega arith) };
   by_branch = λ c. (let is = read_zeros newest (length makers) c newest_are in record { inside = omega arith; on = λ some. absurd (omega arith); none_later = λ i from below on. absurd (omega arith) });
   newest_all = ap length newest_are ∙ length-replicate (length makers) 0;
-  by_place = λ y some. (let is = read_zeros numbers (length L) y numbers_are in absurd (omega arith));
-  numbers_all = ap length numbers_are ∙ length-replicate (length L) 0;
+  by_place = λ y some. (let none = get_or_past {X = ℕ} [] y 0 (omega arith) in absurd (omega arith));
+  numbers_all = omega arith;
 }
 
 -- a list of which each place was written
@@ -231,9 +242,9 @@ holds_begun n L branches makers ends held k some last long on own others = recor
     ends_some e h = omega arith
 
 pub kept_begun : (n : Stakes) (L : List Link) (branches makers : List ℕ) (kept : List Kept) (newest numbers : List ℕ) → HoldsKept n L branches makers kept newest numbers → (k : Kept) → HoldsFirsts n L branches makers k →
-    length L ≡ k.end → k.branch < length makers → (0 < length kept → (kept_at kept (length kept - 1)).end < k.end) → k.before ≡ slice_index newest k.branch →
+    length L ≡ k.end → length numbers ≡ k.end → k.branch < length makers → (0 < length kept → (kept_at kept (length kept - 1)).end < k.end) → k.before ≡ slice_index newest k.branch →
     HoldsKept n L branches makers (kept ++ k ∷ []) (slice_set newest k.branch (length kept + 1)) (slice_set numbers (k.end - 1) (length kept + 1))
-kept_begun n L branches makers kept newest numbers holds k first last known later before =
+kept_begun n L branches makers kept newest numbers holds k first last entries known later before =
     let all = holds.newest_all in
     let numbers_all = holds.numbers_all in
     let some = first.some in
@@ -246,7 +257,7 @@ kept_begun n L branches makers kept newest numbers holds k first last known late
       by_branch = newest_begun kept k holds.chains newest holds.by_branch (omega arith);
       newest_all = length-set newest k.branch (length kept + 1) ∙ all;
       by_place = numbers_begun kept k holds.chains numbers (k.end - 1) holds.by_place (omega arith) (omega arith);
-      numbers_all = length-set numbers (k.end - 1) (length kept + 1) ∙ numbers_all;
+      numbers_all = omega (arith, length-set numbers (k.end - 1) (length kept + 1), numbers_all);
     }
 
 -- where no place passes both of two tests, those that pass either are counted one after the other
@@ -366,3 +377,15 @@ module _ (n : Stakes) (L : List Link) (branches makers ends : List ℕ) (held : 
 
   pub on_other_is : (m : ℕ) → others_see L makers k.firsts (get_or counts x []) y m ≡ on_other m
   on_other_is m = ap (λ j. some_below (length makers) (λ b. (nat_le j b && not (on_own (get_or makers b 0)) && sees_on L (get_or counts x []) y b) && eqb (get_or makers b 0) m)) holds.long
+
+  -- the members' own branches alone tell it, where there are no others
+  pub strong_alone : length makers ≡ member_count n → is_supermajority (member_count n) (count_below (member_count n) on_own) ≡ strongly_sees n L x y
+  strong_alone one =
+      let none : count_below 128 on_other ≡ 0 = weight_below_none (λ _. 1) 128 on_other (λ m below h. (let b = other_found m h in
+      let there = b.1 in
+      let past = b.2 in
+      absurd (omega arith))) in
+      ap (is_supermajority (member_count n)) (add_zero (count_below (member_count n) on_own)) ∙ strong_by_firsts (count_below (member_count n) on_own) 0 refl (sym none)
+    where
+      add_zero : (k : ℕ) → k ≡ k + 0
+      add_zero k = omega arith

@@ -1,5 +1,6 @@
 -- Rows of which the first descendants are kept
 use Rattle.std.specs.Prelude.{◌≡◌, ◌≢◌, ℕ, ◌+◌, ◌-◌, ◌<◌, ◌≤◌, ◌&&◌, nat_lt, nat_le, Bool, cond, List, [], length, get_or, slice_index, slice_set, Option, Some, None}
+use Rattle.hg_model.specs.Places.{count_below}
 use Rattle.hg_model.specs.Stakes.{Stakes, member_count}
 use Rattle.hg_model.specs.Links.{Link}
 use Rattle.hg_branches.specs.Branches.{FirstDescendants}
@@ -56,7 +57,7 @@ pub record HoldsKept (n : Stakes) (L : List Link) (branches makers : List ℕ) (
   pub by_branch : HoldsNewest kept newest
   pub newest_all : length newest ≡ length makers
   pub by_place : HoldsNumbers kept numbers
-  pub numbers_all : length numbers ≡ length L
+  pub numbers_all : length numbers ≤ length L
 
 -- the kept row is an ancestor of the next one, which counts so much of its branch and has this end of branch b, and of none
 -- before it there
@@ -71,14 +72,35 @@ noted_once count b end k = record { end = k.end; branch = k.branch; before = k.b
 abbrev pub noted : List ℕ → ℕ → ℕ → Kept → Kept
 noted counts b end k = noted_once (slice_index counts k.branch) b end k
 
--- the kept rows of branch c that the self-parent has as ancestors need no note
-abbrev pub AreNotedOn : ℕ → List ℕ → List ℕ → ℕ → ℕ → List Kept → Type 0
-AreNotedOn c known counts b end kept =
-    (i : ℕ) → i < length kept → (kept_at kept i).branch ≡ c → (kept_at kept i).end ≤ slice_index known c → noted counts b end (kept_at kept i) ≡ kept_at kept i
+-- the kept rows of branch c up to this end need no note
+abbrev pub AreNotedOn : ℕ → ℕ → ℕ → ℕ → ℕ → List Kept → Type 0
+AreNotedOn c known count b end kept =
+    (i : ℕ) → i < length kept → (kept_at kept i).branch ≡ c → (kept_at kept i).end ≤ known → noted_once count b end (kept_at kept i) ≡ kept_at kept i
+
+-- the same where these are the counts of the self-parent and of the row
+abbrev pub AreNotedBy : List ℕ → List ℕ → ℕ → ℕ → List Kept → ℕ → Type 0
+AreNotedBy known counts b end kept c = AreNotedOn c (slice_index known c) (slice_index counts c) b end kept
 
 -- the kept rows of branch c are noted
-abbrev pub NotesOn : ℕ → List ℕ → ℕ → ℕ → List Kept → List Kept → Type 0
-NotesOn c counts b end old new = (i : ℕ) → i < length old → (kept_at old i).branch ≡ c → kept_at new i ≡ noted counts b end (kept_at old i)
+abbrev pub NotesOn : ℕ → ℕ → ℕ → ℕ → List Kept → List Kept → Type 0
+NotesOn c count b end old new = (i : ℕ) → i < length old → (kept_at old i).branch ≡ c → kept_at new i ≡ noted_once count b end (kept_at old i)
+
+-- the same by the counts of the row
+abbrev pub NotesBy : List ℕ → ℕ → ℕ → List Kept → List Kept → ℕ → Type 0
+NotesBy counts b end old new c = NotesOn c (slice_index counts c) b end old new
+
+-- no kept row of a branch is later than its top
+abbrev pub HoldsTops : List Kept → List ℕ → Type 0
+HoldsTops kept tops = (i : ℕ) → i < length kept → (kept_at kept i).end ≤ slice_index tops (kept_at kept i).branch
+
+-- member m has a descendant on its own branch
+abbrev pub is_reached : List ℕ → ℕ → Bool
+is_reached firsts m = nat_lt (slice_index firsts m) no_first
+
+-- no more members than these have one
+pub record ReachesFew (firsts : List ℕ) (reached : ℕ) : Type 0 where
+  pub few : length firsts ≤ 128
+  pub most : count_below (length firsts) (is_reached firsts) ≤ reached
 
 -- the memory for one more kept row, if there is any
 abbrev pub IsSpareKept : ℕ → Option Kept → Type 0

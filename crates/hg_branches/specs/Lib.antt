@@ -5,4 +5,5 @@ pub mod Lines
 pub mod Rows
 pub mod Sight
 pub mod Table
+pub mod TailBlocks
 pub mod Tails

@@ -20,6 +20,10 @@ sees_on L counts y b = nat_lt 0 (slice_index counts b) && line_sees L (slice_ind
 abbrev pub own_sees : List ℕ → List ℕ → ℕ → Bool
 own_sees firsts counts m = nat_le (slice_index firsts m) (slice_index counts m)
 
+-- more than two thirds of the members are so by their own branches
+abbrev pub is_strong_by_own : List ℕ → List ℕ → Bool
+is_strong_by_own firsts counts = is_supermajority (length firsts) (count_below (length firsts) (own_sees firsts counts))
+
 -- a row counted of branch b, which is no member's own, sees y, and the first descendant on its maker's own is not counted
 abbrev pub other_sees : List Link → List ℕ → List ℕ → List ℕ → ℕ → ℕ → Bool
 other_sees L makers firsts counts y b = nat_le (length firsts) b && not (own_sees firsts counts (slice_index makers b)) && sees_on L counts y b

@@ -1,9 +1,9 @@
 -- What a graph of branches keeps to
-use Rattle.std.specs.Prelude.{◌≡◌, ◌+◌, ◌≤◌, vec_len, vec_capacity}
+use Rattle.std.specs.Prelude.{◌≡◌, ◌+◌, ◌≤◌, length, vec_len, vec_capacity}
 use Rattle.hg_ancestry.specs.Held.{HoldsForks}
 use Rattle.hg_branches.specs.declared.sight.BranchSight.TheInside.{Inside}
 use Rattle.hg_branches.specs.Columns.{HoldsBranches, HoldsCounts, room_of}
-use Rattle.hg_branches.specs.Kept.{HoldsKept, IsSpareKept, spare_kept_room}
+use Rattle.hg_branches.specs.Kept.{HoldsKept, HoldsTops, IsSpareKept, spare_kept_room}
 
 -- each column holds what it is to hold, and has memory for a row where that was taken
 pub record HoldsBranchSight (s : Inside) : Type 0 where
@@ -12,13 +12,16 @@ pub record HoldsBranchSight (s : Inside) : Type 0 where
   pub counts_members : s.counts.members ≡ s.members
   pub forks : HoldsForks s.links.items s.forked.items
   pub kept : HoldsKept s.members s.links.items s.branches.items s.makers.items s.kept.items s.newest.items s.numbers.items
+  pub tops : HoldsTops s.kept.items s.tops.items
+  pub tops_all : length s.tops.items ≡ length s.makers.items
   pub spare_kept : IsSpareKept s.members s.spare_kept
-  pub links_room : vec_len s.links + room_of s.ready ≤ vec_capacity s.links
-  pub branches_room : vec_len s.branches + room_of s.ready ≤ vec_capacity s.branches
+  pub links_room : room_of s.ready ≤ s.links.room
+  pub branches_room : room_of s.ready ≤ s.branches.room
   pub makers_room : vec_len s.makers + room_of s.ready ≤ vec_capacity s.makers
   pub ends_room : vec_len s.ends + room_of s.ready ≤ vec_capacity s.ends
   pub counts_room : room_of s.ready ≤ s.counts.room
-  pub forked_room : vec_len s.forked + room_of s.ready ≤ vec_capacity s.forked
+  pub forked_room : room_of s.ready ≤ s.forked.room
   pub newest_room : vec_len s.newest + room_of s.ready ≤ vec_capacity s.newest
+  pub tops_room : vec_len s.tops + room_of s.ready ≤ vec_capacity s.tops
   pub numbers_room : vec_len s.numbers + room_of s.ready ≤ vec_capacity s.numbers
   pub kept_room : vec_len s.kept + spare_kept_room s.spare_kept ≤ vec_capacity s.kept

@@ -1,19 +1,25 @@
-ghost use Rattle.std.specs.Prelude.{◌≡◌, ◌<◌, ◌≤◌, ◌+◌, ◌-◌, ◌^◌, ℕ, replicate, length, slice_index, slice_index_or, take, IfOk, vec_len, vec_capacity};
+ghost use Rattle.std.specs.Prelude.{◌≡◌, ◌<◌, ◌≤◌, ◌+◌, ◌-◌, ◌^◌, ℕ, min, replicate, length, slice_index, IfOk, vec_len, vec_capacity};
 ghost use Rattle.hg_model.specs.Shape.{pair_list};
-ghost use Rattle.std.specs.List.{AllByRecursion, range_with_len};
+ghost use Rattle.std.specs.List.{AllByRecursion};
 ghost use Rattle.hg_branches.specs.Columns.{next_branch, put_at, with_branch};
 
+use hg_blocks::Blocks;
 use hg_model::{Member, Memory};
 use std::alloc::Global;
 
 /// The branch of the next row, by this member on parents at these places. It goes on where its self-parent is the last row
 /// of a branch, and without parents where its member's own branch is empty. Any other row opens a branch.
-pub fn branch_for(branches: &[usize], ends: &[u32], on: Option<(usize, usize)>, by: Member) -> usize
-    requires places { AllByRecursion (λ p. p < length branches.now) (pair_list on) }
-    requires known { AllByRecursion (λ p. slice_index branches.now p < length ends.now) (pair_list on) }
-    requires short { length branches.now < 2 ^ 32 - 1 }
+pub fn branch_for(
+    branches: &Blocks<usize>,
+    ends: &[u32],
+    on: Option<(usize, usize)>,
+    by: Member,
+) -> usize
+    requires places { AllByRecursion (λ p. p < length branches.now.items) (pair_list on) }
+    requires known { AllByRecursion (λ p. slice_index branches.now.items p < length ends.now) (pair_list on) }
+    requires short { length branches.now.items < 2 ^ 32 - 1 }
     requires member { by < length ends.now }
-    ensures { result ≡ next_branch branches.now ends.now (pair_list on) by }
+    ensures { result ≡ next_branch branches.now.items ends.now (pair_list on) by }
 {
     match on {
         None => {
@@ -59,16 +65,24 @@ pub fn open_branch(newest: &mut Vec<u32>, branch: usize)
     }
 }
 
-/// The ends of so many branches, by the branches of all rows.
-pub fn ends_of(alloc: Global, branches: &[usize], many: usize) -> Result<Vec<u32>, Memory>
-    requires known { (x : ℕ) → x < length branches.now → slice_index branches.now x < many }
-    requires short { length branches.now < 2 ^ 32 - 1 }
-    ensures len { IfOk result (λ v. length v.items ≡ many) }
-    ensures end { IfOk result (λ v. (x : ℕ) → x < length branches.now → x < slice_index v.items (slice_index branches.now x)) }
+/// The ends, none past `len`.
+pub fn ends_within(alloc: Global, ends: &[u32], len: u32) -> Result<Vec<u32>, Memory>
+    ensures len { IfOk result (λ v. length v.items ≡ length ends.now) }
+    ensures each { IfOk result (λ v. (b : ℕ) → slice_index v.items b ≡ min (slice_index ends.now b) len) }
 {
-    let mut ends = zeros(alloc, many)?;
-    mark_ends(&mut ends, branches);
-    Ok(ends)
+    let mut within = Vec::from_slice(alloc, ends)?;
+    cut_ends(&mut within, len);
+    Ok(within)
+}
+
+/// Lowers each end to `len`, if it is past that.
+fn cut_ends(ends: &mut [u32], len: u32)
+    ensures len { length ends.new ≡ length ends.old }
+    ensures each { (b : ℕ) → slice_index ends.new b ≡ min (slice_index ends.old b) len }
+{
+    for b in 0..ends.len() {
+        ends[b] = ends[b].min(len);
+    }
 }
 
 /// So many zeros: the ends of empty branches.
@@ -76,17 +90,4 @@ pub fn zeros(alloc: Global, many: usize) -> Result<Vec<u32>, Memory>
     ensures { IfOk result (λ v. v.items ≡ replicate many 0) }
 {
     Ok(vec![in alloc; 0u32; many]?)
-}
-
-/// Moves the ends row by row.
-fn mark_ends(ends: &mut [u32], branches: &[usize])
-    requires known { (x : ℕ) → x < length branches.now → slice_index branches.now x < length ends.old }
-    requires short { length branches.now < 2 ^ 32 - 1 }
-    ensures len { length ends.new ≡ length ends.old }
-    ensures end { (x : ℕ) → x < length branches.now → x < slice_index ends.new (slice_index branches.now x) }
-{
-    for x in 0..branches.len() {
-        let branch = branches[x];
-        ends[branch] = x as u32 + 1;
-    }
 }

@@ -7,6 +7,7 @@ ghost use Rattle.hg_branches.specs.Columns.{count_in, counts_more, forks_anew, f
 use crate::counts::{RowCounts, row_of};
 use crate::table::CountTable;
 use hg_bits::{join_masks, meet_masks, with_member};
+use hg_blocks::Blocks;
 use hg_model::Member;
 
 /// The members with a fork among the ancestors of the next row, by this member on these parents. Counts are compared only
@@ -14,16 +15,16 @@ use hg_model::Member;
 pub fn forked_next(
     makers: &[Member],
     counts: &CountTable,
-    forked: &[u128],
+    forked: &Blocks<u128>,
     many: bool,
     on: Option<(usize, usize)>,
     by: Member,
 ) -> u128
     requires member { by < 128 }
     requires members { (b : ℕ) → b < length makers.now → slice_index makers.now b < 128 }
-    requires rows { length counts.now.rows ≡ length forked.now }
-    requires places { AllByRecursion (λ p. p < length forked.now) (pair_list on) }
-    ensures { (m : ℕ) → mask_has result m ≡ forks_next makers.now counts.now.rows forked.now many on by m }
+    requires rows { length counts.now.rows ≡ length forked.now.items }
+    requires places { AllByRecursion (λ p. p < length forked.now.items) (pair_list on) }
+    ensures { (m : ℕ) → mask_has result m ≡ forks_next makers.now counts.now.rows forked.now.items many on by m }
 {
     match on {
         None => 0,

@@ -1,9 +1,11 @@
-ghost use Rattle.std.specs.Prelude.{◌≡◌, ◌≢◌, ◌<◌, ◌-◌, ℕ, length, slice_index, IfOk};
-ghost use Rattle.hg_branches.specs.Kept.{kept_at, no_first, noted, noted_once, AreNotedOn, HoldsChains, HoldsNewest, IsLastOn, NotesOn};
+ghost use Rattle.std.specs.Prelude.{◌≡◌, ◌≢◌, ◌<◌, ◌≤◌, ◌-◌, ℕ, length, slice_index, IfOk};
+ghost use Rattle.hg_branches.specs.Kept.{kept_at, no_first, noted, noted_once, AreNotedBy, AreNotedOn, HoldsChains, HoldsNewest, HoldsTops, IsLastOn, NotesBy, NotesOn};
+ghost use Rattle.hg_branches.specs.Lines.{is_strong_by_own};
 
 use crate::branches::zeros;
 use crate::counts::{RowCounts, count_at};
-use hg_model::Memory;
+use hg_bits::kernels::count_ge;
+use hg_model::{Memory, is_supermajority};
 use std::alloc::Global;
 use std::marker::Model;
 
@@ -21,19 +23,24 @@ pub struct KeptRow {
     before: u32,
     /// For each member's own branch one more than the place of the first descendant there.
     firsts: Vec<u32>,
+    /// How many of those there are, at most.
+    reached: u32,
 }
 
 impl Model for KeptRow {
-    ghost use Rattle.hg_branches.specs.Kept.{Kept};
+    ghost use Rattle.hg_branches.specs.Kept.{Kept, ReachesFew};
 
     ghost Value = { Kept };
 
     ghost view = { λ s. record { end = s.end; branch = s.branch; before = s.before; firsts = s.firsts.items } };
+
+    ghost invariant = { λ s. ReachesFew s.firsts.items s.reached };
 }
 
 impl KeptRow {
     /// The memory of a kept row, for a graph of so many members.
     pub fn new(alloc: Global, members: usize) -> Result<KeptRow, Memory>
+        requires { members ≤ 128 }
         ensures { IfOk result (λ k. length k.firsts ≡ members) }
     {
         let firsts = zeros(alloc, members)?;
@@ -42,6 +49,7 @@ impl KeptRow {
             branch: 0,
             before: 0,
             firsts,
+            reached: members as u32,
         })
     }
 
@@ -58,8 +66,10 @@ impl KeptRow {
         self.branch = branch;
         self.before = before;
         clear(&mut self.firsts);
+        self.reached = 0;
         if branch < self.firsts.len() {
             self.firsts[branch] = end;
+            self.reached = 1;
         }
     }
 
@@ -69,7 +79,22 @@ impl KeptRow {
     {
         if self.end <= count && end < count_at(&self.firsts, branch) {
             self.firsts[branch] = end;
+            self.reached = self.reached.saturating_add(1);
         }
+    }
+
+    /// Whether these counts tell of the first descendants on more than two thirds of the members' own branches. They are not
+    /// looked at where there are not so many first descendants.
+    pub fn is_strong_by(&self, counts: &[u32]) -> bool
+        requires same { length counts.now ≡ length self.now.firsts }
+        requires low { (b : ℕ) → b < length counts.now → slice_index counts.now b < no_first }
+        ensures { result ≡ is_strong_by_own self.now.firsts counts.now }
+    {
+        let members = self.firsts.len() as u32;
+        if !is_supermajority(members, self.reached) {
+            return false;
+        }
+        is_supermajority(members, count_ge(counts, &self.firsts))
     }
 
     /// One more than the place of the row.
@@ -109,6 +134,58 @@ fn clear(firsts: &mut [u32])
 pub fn note_all(
     kept: &mut [KeptRow],
     newest: &[u32],
+    tops: &[u32],
+    known: &RowCounts,
+    counts: &RowCounts,
+    branch: usize,
+    end: u32,
+)
+    requires same { known.now.members ≡ counts.now.members }
+    requires newest_all { counts.now.members ≤ length newest.now }
+    requires tops_all { counts.now.members ≤ length tops.now }
+    requires chains { HoldsChains kept.old }
+    requires newest { HoldsNewest kept.old newest.now }
+    requires tops { HoldsTops kept.old tops.now }
+    requires noted { (c : ℕ) → AreNotedBy known.now.row counts.now.row branch end kept.old c }
+    ensures len { length kept.new ≡ length kept.old }
+    ensures each { (i : ℕ) → i < length kept.old → kept_at kept.new i ≡ noted counts.now.row branch end (kept_at kept.old i) }
+{
+    note_own(kept, newest, tops, known.own(), counts.own(), branch, end);
+    note_others(kept, newest, known, counts, branch, end);
+}
+
+/// Notes it in the kept rows of the members' own branches, of which these are the counts.
+fn note_own(
+    kept: &mut [KeptRow],
+    newest: &[u32],
+    tops: &[u32],
+    known: &[u32],
+    counts: &[u32],
+    branch: usize,
+    end: u32,
+)
+    requires same { length known.now ≡ length counts.now }
+    requires newest_all { length counts.now ≤ length newest.now }
+    requires tops_all { length counts.now ≤ length tops.now }
+    requires chains { HoldsChains kept.old }
+    requires newest { HoldsNewest kept.old newest.now }
+    requires tops { HoldsTops kept.old tops.now }
+    requires noted { (c : ℕ) → c < length counts.now → AreNotedBy known.now counts.now branch end kept.old c }
+    ensures len { length kept.new ≡ length kept.old }
+    ensures done { (c : ℕ) → c < length counts.now → NotesBy counts.now branch end kept.old kept.new c }
+    ensures left { (i : ℕ) → length counts.now ≤ (kept_at kept.old i).branch → kept_at kept.new i ≡ kept_at kept.old i }
+{
+    for c in 0..counts.len() {
+        if known[c] < tops[c].min(counts[c]) {
+            note_branch(kept, newest, c, known[c], counts[c], branch, end);
+        }
+    }
+}
+
+/// Notes it in the kept rows of the other branches.
+fn note_others(
+    kept: &mut [KeptRow],
+    newest: &[u32],
     known: &RowCounts,
     counts: &RowCounts,
     branch: usize,
@@ -116,58 +193,40 @@ pub fn note_all(
 )
     requires chains { HoldsChains kept.old }
     requires newest { HoldsNewest kept.old newest.now }
-    requires noted { (c : ℕ) → AreNotedOn c known.now.row counts.now.row branch end kept.old }
+    requires noted { (c : ℕ) → counts.now.members ≤ c → AreNotedBy known.now.row counts.now.row branch end kept.old c }
     ensures len { length kept.new ≡ length kept.old }
-    ensures each { (i : ℕ) → i < length kept.old → kept_at kept.new i ≡ noted counts.now.row branch end (kept_at kept.old i) }
+    ensures done { (c : ℕ) → counts.now.members ≤ c → NotesBy counts.now.row branch end kept.old kept.new c }
+    ensures left { (i : ℕ) → (kept_at kept.old i).branch < counts.now.members → kept_at kept.new i ≡ kept_at kept.old i }
 {
-    for c in 0..newest.len() {
-        note_branch(kept, newest[c], known, counts, c, branch, end);
+    for c in counts.own().len()..newest.len() {
+        let least = known.at(c);
+        let count = counts.at(c);
+        if least < count {
+            note_branch(kept, newest, c, least, count, branch, end);
+        }
     }
 }
 
-/// Notes it in the kept rows of branch `c`, of which the last has this number.
+/// Notes it in the kept rows of branch `c`, of which the next row counts so much, from the last down to the first that the
+/// self-parent has as ancestor, which ends at `least` or before.
 fn note_branch(
     kept: &mut [KeptRow],
-    newest: u32,
-    known: &RowCounts,
-    counts: &RowCounts,
+    newest: &[u32],
     c: usize,
+    least: u32,
+    count: u32,
     branch: usize,
     end: u32,
 )
+    requires there { c < length newest.now }
     requires chains { HoldsChains kept.old }
-    requires newest { IsLastOn kept.old (length kept.old) c newest }
-    requires noted { AreNotedOn c known.now.row counts.now.row branch end kept.old }
+    requires newest { IsLastOn kept.old (length kept.old) c (slice_index newest.now c) }
+    requires noted { AreNotedOn c least count branch end kept.old }
     ensures len { length kept.new ≡ length kept.old }
-    ensures on { NotesOn c counts.now.row branch end kept.old kept.new }
+    ensures on { NotesOn c count branch end kept.old kept.new }
     ensures off { (i : ℕ) → (kept_at kept.old i).branch ≢ c → kept_at kept.new i ≡ kept_at kept.old i }
 {
-    if known.at(c) < counts.at(c) {
-        note_later(kept, newest, known, counts, c, branch, end);
-    }
-}
-
-/// Notes it in the kept rows of branch `c`, from the last, which has this number, down to the first that the self-parent has as
-/// ancestor.
-fn note_later(
-    kept: &mut [KeptRow],
-    newest: u32,
-    known: &RowCounts,
-    counts: &RowCounts,
-    c: usize,
-    branch: usize,
-    end: u32,
-)
-    requires chains { HoldsChains kept.old }
-    requires newest { IsLastOn kept.old (length kept.old) c newest }
-    requires noted { AreNotedOn c known.now.row counts.now.row branch end kept.old }
-    ensures len { length kept.new ≡ length kept.old }
-    ensures on { NotesOn c counts.now.row branch end kept.old kept.new }
-    ensures off { (i : ℕ) → (kept_at kept.old i).branch ≢ c → kept_at kept.new i ≡ kept_at kept.old i }
-{
-    let least = known.at(c);
-    let count = counts.at(c);
-    let mut number = newest as usize;
+    let mut number = newest[c] as usize;
     'chain: while number > 0 {
         let row = &mut kept[number - 1];
         if row.end() <= least {
@@ -176,6 +235,14 @@ fn note_later(
         row.note(count, branch, end);
         number = row.before() as usize;
     }
+}
+
+/// The kept row with this index.
+pub fn kept_row(kept: &[KeptRow], index: usize) -> &KeptRow
+    requires { index < length kept.now }
+    ensures { result.now ≡ kept_at kept.now index }
+{
+    &kept[index]
 }
 
 /// The first descendants of the kept row with this index.

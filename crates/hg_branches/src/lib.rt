@@ -24,12 +24,14 @@ mod branches;
 mod counts;
 mod forks;
 mod kept;
+mod links;
 #[cfg(test)]
 mod made;
 mod next_row;
 mod seeing;
 mod sight;
 mod table;
+mod tail_blocks;
 mod tails;
 #[cfg(test)]
 mod tests;

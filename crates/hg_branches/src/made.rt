@@ -2,9 +2,8 @@
 //! to answer alike for any two of their rows, and of their first rows.
 
 use crate::sight::BranchSight;
-use crate::tests::{add, agree};
-use hg_ancestry::BitSight;
-use hg_model::{Growing, Member, Memory, Parents, Sight};
+use crate::tests::Both;
+use hg_model::{Member, Memory, Parents, Sight};
 use std::alloc::Global;
 
 // How many graphs are made, and of how many rows.
@@ -47,42 +46,50 @@ fn parents_by(sight: &BranchSight, state: u64, member: Member, early: bool) -> P
     }
 }
 
-// A made graph in both sights: how many rows they took, whether a row has a fork below it, and whether they agree.
-fn play(alloc: Global, number: u32) -> Result<(usize, bool, bool), Memory> {
-    let members = 3 + number % 7;
-    let mut sight = BranchSight::new(alloc, members)?;
-    let mut bits = BitSight::new(alloc, members)?;
+// Adds made rows to both sights, as the number tells.
+fn play(both: &mut Both, number: u32, turns: u32) -> Result<(), Memory> {
+    let members = both.sight.members();
     let mut state = next(next(u64::from(number)));
-    let mut alike = true;
-    for turn in 0..ROWS {
+    for _ in 0..turns {
         state = next(state);
         let member = (below(state, members as usize) % 16) as Member;
         state = next(state);
         let early = number % 3 > 0 && u32::from(member) < members / 3 && below(state, 4) == 0;
-        let parents = parents_by(&sight, state, member, early);
-        if add(&mut sight, parents, member)? {
-            alike = add(&mut bits, parents, member)? && alike;
-            if below(state, 3) > 0 {
-                sight.keep_last();
-            }
-        }
-        if turn % 24 == 23 && alike {
-            alike = agree_at(&sight, &bits, below(state, sight.rows()))?;
+        let parents = parents_by(&both.sight, state, member, early);
+        if both.add(parents, member)? && below(state, 3) > 0 {
+            both.sight.keep_last();
         }
     }
-    Ok((
-        sight.rows(),
-        has_fork(&sight),
-        alike && agree(&sight, &bits),
-    ))
+    Ok(())
 }
 
-// Whether the first rows of both agree.
-fn agree_at(sight: &BranchSight, bits: &BitSight, len: usize) -> Result<bool, Memory> {
-    if sight.rows() < len || bits.rows() < len {
-        return Ok(false);
+// A made graph in both sights: how many rows they took, whether a row has a fork below it, and whether they agree.
+fn made(alloc: Global, number: u32) -> Result<(usize, bool, bool), Memory> {
+    let mut both = Both::new(alloc, 3 + number % 7)?;
+    play(&mut both, number, ROWS)?;
+    let len = below(u64::from(number) << 33, both.sight.rows());
+    let alike = both.first(len)?.agree() && both.agree();
+    Ok((both.sight.rows(), has_fork(&both.sight), alike))
+}
+
+// Whether the first rows agree, also with made rows added to them.
+fn grows_from(both: &Both, len: usize) -> Result<bool, Memory> {
+    let mut first = both.first(len)?;
+    let alike = first.sight.rows() == len && first.agree();
+    play(&mut first, 1, 6)?;
+    Ok(alike && first.agree())
+}
+
+// A graph past two whole blocks, cut at each place about their ends.
+fn agrees_at_seams(alloc: Global) -> Result<bool, Memory> {
+    let mut both = Both::new(alloc, 7)?;
+    play(&mut both, 1, 240)?;
+    let mut alike = has_fork(&both.sight) && both.agree();
+    for len in 62..67 {
+        alike = alike && grows_from(&both, len)?;
+        alike = alike && grows_from(&both, len + 64)?;
     }
-    Ok(agree(&sight.prefix(len)?, &bits.prefix(len)?))
+    Ok(alike)
 }
 
 // Whether some row has an ancestor that it does not see, whose creator has a fork below it.
@@ -101,12 +108,19 @@ fn has_fork(sight: &BranchSight) -> bool {
 fn agree_on_made_graphs(rt: HostRuntime) -> Result<(), Memory> {
     let mut forked = 0u32;
     for number in 0..GRAPHS {
-        let (taken, has_fork, alike) = play(rt.alloc(), number)?;
+        let (taken, has_fork, alike) = made(rt.alloc(), number)?;
         assert!(rt; alike && taken > 40, "graph {number}: {taken} rows");
         if has_fork {
             forked = forked.saturating_add(1);
         }
     }
     assert!(rt; forked >= 30, "{forked} graphs with a fork");
+    Ok(())
+}
+
+#[test]
+fn agree_at_the_ends_of_blocks(rt: HostRuntime) -> Result<(), Memory> {
+    let alike = agrees_at_seams(rt.alloc())?;
+    assert!(rt; alike);
     Ok(())
 }

@@ -1,45 +1,33 @@
 //! The numbers of a row of counts, made from those of its parents.
 
-ghost use Rattle.std.specs.Prelude.{◌≡◌, ◌<◌, ◌≤◌, ◌+◌, ◌*◌, ◌==◌, ◌^◌, ℕ, cond, max, length, slice_index, slice_range, take, vec_capacity};
+ghost use Rattle.std.specs.Prelude.{◌≡◌, ◌<◌, ◌≤◌, ◌+◌, ◌==◌, ◌^◌, ℕ, cond, max, length, slice_index, vec_capacity};
 ghost use Rattle.std.specs.List.{AllByRecursion};
 ghost use Rattle.hg_model.specs.Shape.{pair_list};
-ghost use Rattle.hg_branches.specs.Table.{own_next, tail_next};
+ghost use Rattle.hg_branches.specs.Table.{has_own_row, own_in, tail_next};
 ghost use Rattle.hg_branches.specs.Tails.{tail_at, tail_made, tail_width};
 
 use crate::counts::raise_first;
-use crate::tails::Tails;
-
-/// Row `x` of rows of so many numbers, one after the other.
-pub fn own_row(own: &[u32], members: usize, x: usize) -> &[u32]
-    requires { x * members + members ≤ length own.now }
-    ensures value { (b : ℕ) → b < members → slice_index result.now b ≡ slice_index own.now (x * members + b) }
-    ensures len { length result.now ≡ members }
-{
-    let start = x * members;
-    &own[start..start + members]
-}
+use crate::tail_blocks::TailBlocks;
+use hg_blocks::RowBlocks;
 
 /// Makes the row the greatest of its parents' rows, and on its own branch its end.
 pub fn join_own(
     row: &mut Vec<u32>,
-    own: &[u32],
-    members: usize,
+    own: &RowBlocks,
     on: Option<(usize, usize)>,
     branch: usize,
     end: u32,
 )
-    requires room { members ≤ vec_capacity row.old }
-    requires places { AllByRecursion (λ p. p * members + members ≤ length own.now) (pair_list on) }
-    ensures len { length row.new.items ≡ members }
-    ensures each { (b : ℕ) → b < members → slice_index row.new.items b ≡ own_next members own.now (pair_list on) branch end b }
+    requires room { own.now.width ≤ vec_capacity row.old }
+    requires places { AllByRecursion (has_own_row own.now) (pair_list on) }
+    ensures len { length row.new.items ≡ own.now.width }
+    ensures each { (b : ℕ) → b < own.now.width → slice_index row.new.items b ≡ own_in own.now (pair_list on) branch end b }
     ensures capacity { vec_capacity row.old ≤ vec_capacity row.new }
 {
+    let members = own.width();
     match on {
         None => join(row, &[], &[], members),
-        Some((self_place, other)) => {
-            let one = own_row(own, members, self_place);
-            join(row, one, own_row(own, members, other), members);
-        }
+        Some((self_place, other)) => join(row, own.row(self_place), own.row(other), members),
     }
     if branch < members {
         row[branch] = end;
@@ -48,7 +36,7 @@ pub fn join_own(
 
 /// Makes the row the greatest of its parents' tails, without the number of its own branch and cut behind its last one that
 /// is not 0.
-pub fn join_tails(row: &mut Vec<u32>, tails: &Tails, on: Option<(usize, usize)>, own: usize)
+pub fn join_tails(row: &mut Vec<u32>, tails: &TailBlocks, on: Option<(usize, usize)>, own: usize)
     requires short { length tails.now.rows < 2 ^ 32 }
     requires places { AllByRecursion (λ p. p < length tails.now.rows) (pair_list on) }
     requires room { AllByRecursion (λ p. tail_width tails.now.rows p ≤ vec_capacity row.old) (pair_list on) }
@@ -68,7 +56,7 @@ pub fn join_tails(row: &mut Vec<u32>, tails: &Tails, on: Option<(usize, usize)>,
 }
 
 /// Raises the numbers of the parents' own branches to their ends, and makes that of the row's own branch 0.
-fn set_own(row: &mut [u32], tails: &Tails, self_place: usize, other: usize, own: usize)
+fn set_own(row: &mut [u32], tails: &TailBlocks, self_place: usize, other: usize, own: usize)
     requires short { length tails.now.rows < 2 ^ 32 }
     requires first { self_place < length tails.now.rows }
     requires second { other < length tails.now.rows }

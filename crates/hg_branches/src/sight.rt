@@ -3,39 +3,44 @@ ghost use Rattle.hg_model.specs.Forks.{has_fork_below};
 ghost use Rattle.hg_model.specs.Shape.{shape_of};
 ghost use Rattle.hg_bits.specs.Masks.{mask_has};
 
-use crate::branches::{branch_for, ends_of, move_end, open_branch, zeros};
-use crate::counts::{known_place, row_of};
+use crate::branches::{branch_for, ends_within, move_end, open_branch, zeros};
+use crate::counts::{count_at, known_place, row_of};
 use crate::forks::forked_next;
-use crate::kept::{KeptRow, firsts_at, last_end, note_all};
+use crate::kept::{KeptRow, firsts_at, kept_row, last_end, note_all};
+use crate::links::{creator_at, self_parent_at};
 use crate::seeing;
 use crate::table::CountTable;
-use hg_ancestry::{PlacedLink, copy_links, copy_masks, creator_of, self_parent_of};
+use hg_ancestry::PlacedLink;
 use hg_bits::{mask_has, members_over};
+use hg_blocks::Blocks;
 use hg_model::{Growing, Member, Memory, Parents, Sight};
 use std::alloc::Global;
 use std::marker::Model;
 
-/// A graph that tells its ancestry by branches.
+/// A graph that tells its ancestry by branches. A prefix shares its sealed blocks of 64 rows.
 #[derive(Drop)]
 pub struct BranchSight {
     alloc: Global,
     members: u32,
-    links: Vec<PlacedLink>,
+    links: Blocks<PlacedLink>,
     /// For each row its branch. There may be more branches than a `u32` counts: one for each member and each row.
-    branches: Vec<usize>,
+    branches: Blocks<usize>,
     /// For each branch the member whose rows it has. The first branches are the members' own.
     makers: Vec<Member>,
-    /// For each branch one more than the place of its last row, or 0.
+    /// For each branch one more than the place of its last row, or 0. In a prefix it may be more, which tells nothing false of
+    /// the rows that are there: a graph that is grown from it may open a branch more than it need.
     ends: Vec<u32>,
     /// For each row and branch one more than the place of the branch's last row among the row's ancestors, or 0.
     counts: CountTable,
     /// For each row the members with a fork among its ancestors.
-    forked: Vec<u128>,
+    forked: Blocks<u128>,
     /// The rows of which the first descendants are kept, in the order of the graph; a prefix has none.
     kept: Vec<KeptRow>,
     /// For each branch the number of its last kept row, or 0.
     newest: Vec<u32>,
-    /// For each row its number among the kept rows, or 0.
+    /// For each branch the end of its last kept row, or 0.
+    tops: Vec<u32>,
+    /// For each row its number among the kept rows, or 0. Rows past its end have 0 too: a prefix has no entries.
     numbers: Vec<u32>,
     /// Whether there is memory for a row.
     ready: bool,
@@ -64,14 +69,15 @@ impl BranchSight {
         Ok(BranchSight {
             alloc,
             members,
-            links: Vec::new(alloc),
-            branches: Vec::new(alloc),
+            links: Blocks::new(alloc),
+            branches: Blocks::new(alloc),
             makers: own_branches(alloc, members)?,
             ends: zeros(alloc, members as usize)?,
             counts: CountTable::new(alloc, members as usize),
-            forked: Vec::new(alloc),
+            forked: Blocks::new(alloc),
             kept: Vec::new(alloc),
             newest: zeros(alloc, members as usize)?,
+            tops: zeros(alloc, members as usize)?,
             numbers: Vec::new(alloc),
             ready: false,
             spare_kept: None,
@@ -79,18 +85,19 @@ impl BranchSight {
     }
 
     /// Keeps the first descendants of the last row from now on, so that `strongly_sees` of it is quick. It changes no answer,
-    /// and takes no memory: where `reserve` has taken none for it, it keeps nothing.
+    /// and takes no memory: where `reserve` has taken none for it, it keeps nothing, and a prefix keeps nothing.
     pub fn keep_last(&mut self)
         ensures { self.new ≡ self.old }
     {
         let end = self.links.len();
-        if last_end(&self.kept) < end as u32 {
+        if self.numbers.len() == end && last_end(&self.kept) < end as u32 {
             if let Some(mut row) = self.spare_kept.take() {
                 let branch = self.branches[end - 1];
                 row.begin(branch, end as u32, self.newest[branch]);
                 self.kept.push_reserved(row);
                 let number = self.kept.len() as u32;
                 self.newest[branch] = number;
+                self.tops[branch] = end as u32;
                 self.numbers[end - 1] = number;
             }
         }
@@ -151,11 +158,11 @@ impl Sight for BranchSight {
     }
 
     fn creator(&self, x: usize) -> Member {
-        creator_of(&self.links, self.members, x)
+        creator_at(&self.links, self.members, x)
     }
 
     fn self_parent(&self, x: usize) -> Option<usize> {
-        self_parent_of(&self.links, x)
+        self_parent_at(&self.links, x)
     }
 
     fn ancestor(&self, x: usize, y: usize) -> bool {
@@ -169,15 +176,19 @@ impl Sight for BranchSight {
     fn strongly_sees(&self, x: usize, y: usize) -> bool {
         // That the graph is shaped.
         self.members();
+        let number = count_at(&self.numbers, y);
+        if number > 0 && self.makers.len() == self.members as usize {
+            return kept_row(&self.kept, number as usize - 1).is_strong_by(self.counts.own(x));
+        }
         if !self.ancestor(x, y) {
             return false;
         }
         let counts = row_of(&self.counts, x);
         let member = self.creator(y);
         if !mask_has(self.forked_below(x), member) {
-            let number = self.numbers[y];
-            if number > 0 {
-                let firsts = firsts_at(&self.kept, number as usize - 1);
+            let slot = number as usize;
+            if slot > 0 {
+                let firsts = firsts_at(&self.kept, slot - 1);
                 return seeing::strong_by_firsts(self, &self.makers, &counts, firsts, y);
             }
         }
@@ -200,13 +211,14 @@ impl Growing for BranchSight {
     fn reserve(&mut self) -> Result<(), Memory> {
         self.reserve_kept()?;
         if !self.ready {
-            self.links.reserve(1)?;
-            self.branches.reserve(1)?;
+            self.links.reserve()?;
+            self.branches.reserve()?;
             self.makers.reserve(1)?;
             self.ends.reserve(1)?;
             self.counts.reserve()?;
-            self.forked.reserve(1)?;
+            self.forked.reserve()?;
             self.newest.reserve(1)?;
+            self.tops.reserve(1)?;
             self.numbers.reserve(1)?;
             self.ready = true;
         }
@@ -225,12 +237,21 @@ impl Growing for BranchSight {
         self.counts.push(on, branch);
         let known = row_of(&self.counts, known_place(on, row));
         let counts = row_of(&self.counts, row);
-        note_all(&mut self.kept, &self.newest, &known, &counts, branch, end);
-        self.links.push_reserved(PlacedLink::of(creator, parents));
-        self.branches.push_reserved(branch);
+        note_all(
+            &mut self.kept,
+            &self.newest,
+            &self.tops,
+            &known,
+            &counts,
+            branch,
+            end,
+        );
+        self.links.push(PlacedLink::of(creator, parents));
+        self.branches.push(branch);
         move_end(&mut self.makers, &mut self.ends, branch, creator, end);
-        self.forked.push_reserved(forked);
+        self.forked.push(forked);
         open_branch(&mut self.newest, branch);
+        open_branch(&mut self.tops, branch);
         self.numbers.push_reserved(0);
     }
 
@@ -239,15 +260,16 @@ impl Growing for BranchSight {
         Ok(BranchSight {
             alloc: self.alloc,
             members: self.members,
-            links: copy_links(self.alloc, &self.links, len)?,
-            branches: Vec::from_slice(self.alloc, &self.branches[..len])?,
+            links: self.links.cloned_prefix(len)?,
+            branches: self.branches.prefix(len)?,
             makers: Vec::from_slice(self.alloc, &self.makers[..many])?,
-            ends: ends_of(self.alloc, &self.branches[..len], many)?,
+            ends: ends_within(self.alloc, &self.ends[..many], len as u32)?,
             counts: self.counts.prefix(self.alloc, len)?,
-            forked: copy_masks(self.alloc, &self.forked, len)?,
+            forked: self.forked.prefix(len)?,
             kept: Vec::new(self.alloc),
             newest: zeros(self.alloc, many)?,
-            numbers: zeros(self.alloc, len)?,
+            tops: zeros(self.alloc, many)?,
+            numbers: Vec::new(self.alloc),
             ready: false,
             spare_kept: None,
         })

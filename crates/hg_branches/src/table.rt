@@ -4,8 +4,9 @@ ghost use Rattle.hg_model.specs.Shape.{pair_list};
 ghost use Rattle.hg_branches.specs.Columns.{count_in};
 ghost use Rattle.hg_branches.specs.Table.{AddsCounts};
 
-use crate::next_row::{join_own, join_tails, own_row};
-use crate::tails::Tails;
+use crate::next_row::{join_own, join_tails};
+use crate::tail_blocks::TailBlocks;
+use hg_blocks::RowBlocks;
 use hg_model::Memory;
 use std::alloc::Global;
 use std::marker::Model;
@@ -15,14 +16,13 @@ mod tests;
 
 /// For each row and branch one more than the place of the branch's last row among the row's ancestors, or 0. The first
 /// branches are the members' own.
-/// Where no row stands on another branch, a row costs four bytes for each member.
+/// Where no row stands on another branch, a row costs four bytes for each member. Prefixes share the sealed blocks.
 #[derive(Drop)]
 pub struct CountTable {
-    members: usize,
-    /// Of each row the numbers of the members' own branches, one row after the other.
-    own: Vec<u32>,
+    /// Of each row the numbers of the members' own branches, in the width of the members.
+    own: RowBlocks,
     /// Of each row the numbers of the other branches.
-    tails: Tails,
+    tails: TailBlocks,
     /// How many numbers a tail may have.
     widest: usize,
     /// Memory in which the next row is made.
@@ -30,14 +30,14 @@ pub struct CountTable {
 }
 
 impl Model for CountTable {
-    ghost use Rattle.std.specs.Prelude.{◌-◌, cond, vec_capacity, vec_len};
+    ghost use Rattle.std.specs.Prelude.{cond, vec_capacity};
     ghost use Rattle.hg_branches.specs.Table.{CountsWithRoom, KeepsNumbers, has_room, rows_of};
 
     ghost Value = { CountsWithRoom };
 
-    ghost view = { λ s. record { members = s.members; rows = rows_of s.members s.own.items s.tails.rows; room = cond (has_room s.members s.widest (vec_capacity s.own - vec_len s.own) s.tails.room (vec_capacity s.row)) 1 0 } };
+    ghost view = { λ s. record { members = s.own.width; rows = rows_of s.own.width s.own.numbers s.tails.rows; room = cond (has_room s.own.width s.widest s.own.room s.tails.room (vec_capacity s.row)) 1 0 } };
 
-    ghost invariant = { λ s. KeepsNumbers s.members s.widest s.own.items s.tails.rows };
+    ghost invariant = { λ s. KeepsNumbers s.own.width s.widest s.own.numbers s.tails.rows };
 }
 
 impl CountTable {
@@ -47,9 +47,8 @@ impl CountTable {
         ensures members { result.members ≡ members }
     {
         CountTable {
-            members,
-            own: Vec::new(alloc),
-            tails: Tails::new(alloc),
+            own: RowBlocks::new(alloc, members),
+            tails: TailBlocks::new(alloc),
             widest: 0,
             row: Vec::new(alloc),
         }
@@ -67,10 +66,11 @@ impl CountTable {
         requires { x < length self.now.rows }
         ensures { result ≡ count_in self.now.rows x b }
     {
-        if b < self.members {
+        let members = self.own.width();
+        if b < members {
             self.own(x)[b]
         } else {
-            self.tails.at(x, b - self.members)
+            self.tails.at(x, b - members)
         }
     }
 
@@ -80,7 +80,7 @@ impl CountTable {
         ensures value { result.now ≡ take self.now.members (slice_index_or self.now.rows x []) }
         ensures len { length result.now ≡ self.now.members }
     {
-        own_row(&self.own, self.members, x)
+        self.own.row(x)
     }
 
     /// Takes the memory of one more row, whatever its branch and its parents.
@@ -89,10 +89,10 @@ impl CountTable {
         ensures rows { self.new.rows ≡ self.old.rows }
         ensures members { self.new.members ≡ self.old.members }
     {
-        self.own.reserve(self.members)?;
+        self.own.reserve()?;
         self.tails.reserve(self.widest)?;
         self.row.clear();
-        self.row.reserve(self.members.max(self.widest))?;
+        self.row.reserve(self.own.width().max(self.widest))?;
         Ok(())
     }
 
@@ -106,23 +106,22 @@ impl CountTable {
         ensures { AddsCounts self.old self.new (pair_list on) branch }
     {
         let end = self.tails.len() as u32 + 1;
-        join_own(&mut self.row, &self.own, self.members, on, branch, end);
-        self.own.extend_from_slice(&self.row).unwrap();
-        let own = (branch + 1).saturating_sub(self.members);
+        join_own(&mut self.row, &self.own, on, branch, end);
+        self.own.push(&self.row);
+        let own = (branch + 1).saturating_sub(self.own.width());
         join_tails(&mut self.row, &self.tails, on, own);
         self.tails.push(own, &self.row);
         self.widest = self.widest.max(own);
     }
 
-    /// The first `len` rows, in memory of their own.
+    /// The first `len` rows, as a value of its own: it shares the sealed blocks, and copies at most 64 rows.
     pub fn prefix(&self, alloc: Global, len: usize) -> Result<CountTable, Memory>
         requires { len ≤ length self.now.rows }
         ensures rows { IfOk result (λ t. t.rows ≡ take len self.now.rows) }
         ensures members { IfOk result (λ t. t.members ≡ self.now.members) }
     {
         Ok(CountTable {
-            members: self.members,
-            own: Vec::from_slice(alloc, &self.own[..len * self.members])?,
+            own: self.own.prefix(len)?,
             tails: self.tails.prefix(alloc, len)?,
             widest: self.widest,
             row: Vec::new(alloc),

@@ -1,5 +1,5 @@
-ghost use Rattle.std.specs.Prelude.{◌≡◌, ◌<◌, ◌≤◌, ◌+◌, ◌^◌, [], ◌∷◌, ◌++◌, length, slice_index, take, IfOk, OnOk};
-ghost use Rattle.hg_branches.specs.Tails.{end_before, part_at, tail_at, tail_count, tail_width};
+ghost use Rattle.std.specs.Prelude.{◌≡◌, ◌<◌, ◌≤◌, ◌+◌, ◌^◌, [], ◌∷◌, ◌++◌, length, take, IfOk, OnOk};
+ghost use Rattle.hg_branches.specs.Tails.{end_before, part_at, tail_at};
 
 use hg_model::Memory;
 use std::alloc::Global;
@@ -34,13 +34,6 @@ impl Model for Tails {
     ghost view = { λ s. record { rows = tails_of s.numbers.items s.parts.items s.before; room = tail_room (vec_capacity s.parts - vec_len s.parts) (vec_capacity s.numbers - vec_len s.numbers) } };
 
     ghost invariant = { λ s. KeepsParts s.numbers.items s.parts.items };
-}
-
-/// The number at place `k`, 0 past the end.
-fn number_at(numbers: &[u32], k: usize) -> u32
-    ensures { result ≡ slice_index numbers.now k }
-{
-    if k < numbers.len() { numbers[k] } else { 0 }
 }
 
 /// The part of row `x`, where rows before the first of these parts have none.
@@ -105,28 +98,6 @@ impl Tails {
     {
         let part = part_of(&self.parts, self.before, x);
         &self.numbers[part.start..part.end]
-    }
-
-    /// Of how many branches row `x` tells.
-    pub fn width(&self, x: usize) -> usize
-        requires { x < length self.now.rows }
-        ensures { result ≡ tail_width self.now.rows x }
-    {
-        self.numbers(x).len().max(self.own(x))
-    }
-
-    /// What row `x` counts of the branch at place `k`.
-    pub fn at(&self, x: usize, k: usize) -> u32
-        requires place { x < length self.now.rows }
-        requires short { length self.now.rows < 2 ^ 32 }
-        ensures { result ≡ tail_count self.now.rows x k }
-    {
-        let number = number_at(self.numbers(x), k);
-        let own = self.own(x);
-        if own > 0 && own - 1 == k {
-            return number.max(x as u32 + 1);
-        }
-        number
     }
 
     /// Takes the memory of one more row, with so many numbers.

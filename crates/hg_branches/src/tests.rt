@@ -1,9 +1,10 @@
-ghost use Rattle.std.specs.Prelude.{IsTrue};
+ghost use Rattle.std.specs.Prelude.{IsTrue, ◌<◌, ◌≤◌, ◌×◌, length};
 ghost use Rattle.hg_model.specs.Shape.{FitsLink, link_of};
 
 use crate::sight::BranchSight;
 use hg_ancestry::BitSight;
 use hg_model::{Growing, Member, Memory, Parents, Sight};
+use std::alloc::Global;
 
 // Whether a row by the member on these parents may come next.
 #[tactic(auto, using(hg_model::proofs::ShapeLaws::fits_links))]
@@ -25,11 +26,7 @@ fn fits<S: Sight>(sight: &S, parents: Parents, creator: Member) -> bool
 }
 
 // Adds the row if it fits, and answers whether it does.
-pub(crate) fn add<S: Growing>(
-    sight: &mut S,
-    parents: Parents,
-    creator: Member,
-) -> Result<bool, Memory> {
+fn add<S: Growing>(sight: &mut S, parents: Parents, creator: Member) -> Result<bool, Memory> {
     sight.reserve()?;
     if sight.rows() > 1000 || !fits(&*sight, parents, creator) {
         return Ok(false);
@@ -45,41 +42,63 @@ fn on(pair: Option<(usize, usize)>) -> Parents {
     }
 }
 
-// Whether both answer alike for any two rows.
-pub(crate) fn agree(sight: &BranchSight, bits: &BitSight) -> bool {
-    let rows = sight.rows();
-    if bits.rows() != rows {
-        return false;
-    }
-    for x in 0..rows {
-        for y in 0..rows {
-            if sight.ancestor(x, y) != bits.ancestor(x, y)
-                || sight.sees(x, y) != bits.sees(x, y)
-                || sight.strongly_sees(x, y) != bits.strongly_sees(x, y)
-            {
-                return false;
-            }
-        }
-    }
-    true
+// Both sights of one graph.
+#[derive(Drop)]
+pub(crate) struct Both {
+    pub(crate) sight: BranchSight,
+    bits: BitSight,
 }
 
-// The same of their first `len` rows, and of them with the next row.
-fn agree_at_first(sight: &BranchSight, bits: &BitSight, len: usize) -> Result<bool, Memory> {
-    if sight.rows() <= len || bits.rows() <= len {
-        return Ok(false);
+impl Both {
+    pub(crate) fn new(alloc: Global, members: u32) -> Result<Both, Memory>
+        requires { members ≤ 128 }
+    {
+        Ok(Both {
+            sight: BranchSight::new(alloc, members)?,
+            bits: BitSight::new(alloc, members)?,
+        })
     }
-    let mut first = sight.prefix(len)?;
-    if !agree(&first, &bits.prefix(len)?) {
-        return Ok(false);
+
+    // Adds the row to both, if it fits.
+    pub(crate) fn add(&mut self, parents: Parents, creator: Member) -> Result<bool, Memory> {
+        let fits = add(&mut self.sight, parents, creator)?;
+        Ok(add(&mut self.bits, parents, creator)? == fits && fits)
     }
-    match FORKED.get(len) {
-        None => Ok(false),
-        Some((creator, pair)) => {
-            let fits = add(&mut first, on(*pair), *creator)?;
-            Ok(fits && agree(&first, &bits.prefix(len + 1)?))
+
+    // The first rows of both, or of a graph without any, where there are not so many.
+    pub(crate) fn first(&self, len: usize) -> Result<Both, Memory> {
+        let len = len.min(self.sight.rows()).min(self.bits.rows());
+        Ok(Both {
+            sight: self.sight.prefix(len)?,
+            bits: self.bits.prefix(len)?,
+        })
+    }
+
+    // Whether both answer alike for any two rows.
+    pub(crate) fn agree(&self) -> bool {
+        let rows = self.sight.rows();
+        if self.bits.rows() != rows {
+            return false;
         }
+        for x in 0..rows {
+            for y in 0..rows {
+                if !alike(&self.sight, &self.bits, x, y) {
+                    return false;
+                }
+            }
+        }
+        true
     }
+}
+
+// Whether both answer alike for these two rows.
+fn alike(sight: &BranchSight, bits: &BitSight, x: usize, y: usize) -> bool
+    requires branches { x < length sight.now.shape.links × y < length sight.now.shape.links }
+    requires bits { x < length bits.now.shape.links × y < length bits.now.shape.links }
+{
+    sight.ancestor(x, y) == bits.ancestor(x, y)
+        && sight.sees(x, y) == bits.sees(x, y)
+        && sight.strongly_sees(x, y) == bits.strongly_sees(x, y)
 }
 
 // The fourth of four members forks on its first row, and the third holds both branches at the end.
@@ -96,35 +115,44 @@ const FORKED: [(Member, Option<(usize, usize)>); 10] = [
     (2, Some((5, 8))),
 ];
 
-// Adds the rows to both, and keeps each of so many rows, or none.
-fn add_all(
-    sight: &mut BranchSight,
-    bits: &mut BitSight,
-    rows: &[(Member, Option<(usize, usize)>)],
-    every: usize,
-) -> Result<bool, Memory> {
-    for (i, (creator, pair)) in rows.iter().enumerate() {
-        let parents = on(*pair);
-        if !add(&mut *sight, parents, *creator)? || !add(&mut *bits, parents, *creator)? {
+// Adds the rows from this place on, and keeps each of so many rows, or none.
+fn add_forked(both: &mut Both, from: usize, every: usize) -> Result<bool, Memory> {
+    for i in from..10 {
+        let (creator, pair) = FORKED[i];
+        if !both.add(on(pair), creator)? {
             return Ok(false);
         }
         if every > 0 && i % every == 0 {
-            sight.keep_last();
+            both.sight.keep_last();
         }
     }
     Ok(true)
+}
+
+// The rows in both sights, if they fit.
+fn forked(alloc: Global, every: usize) -> Result<Both, Memory> {
+    let mut both = Both::new(alloc, 4)?;
+    add_forked(&mut both, 0, every)?;
+    Ok(both)
+}
+
+// Both agree on all rows, on the first `len` of them, and on those with the others added again.
+fn agree_on_forked(both: &Both, len: usize) -> Result<bool, Memory> {
+    let mut first = both.first(len)?;
+    Ok(both.agree() && first.agree() && add_forked(&mut first, len, 1)? && first.agree())
+}
+
+fn tells_forked(alloc: Global, every: usize) -> Result<bool, Memory> {
+    let both = forked(alloc, every)?;
+    Ok(both.sight.rows() == 10 && agree_on_forked(&both, 7)? && agree_on_forked(&both, 0)?)
 }
 
 // No row, every row, every second or every third one is kept.
 #[test]
 fn tells_what_bit_rows_tell(rt: HostRuntime) -> Result<(), Memory> {
     for every in 0..4 {
-        let mut sight = BranchSight::new(rt.alloc(), 4)?;
-        let mut bits = BitSight::new(rt.alloc(), 4)?;
-        assert!(rt; add_all(&mut sight, &mut bits, &FORKED, every)?);
-        assert!(rt; sight.rows() == 10 && bits.rows() == 10);
-        assert!(rt; agree(&sight, &bits), "every {every}");
-        assert!(rt; agree_at_first(&sight, &bits, 7)? && agree_at_first(&sight, &bits, 0)?);
+        let alike = tells_forked(rt.alloc(), every)?;
+        assert!(rt; alike, "every {every}");
     }
     Ok(())
 }
@@ -155,15 +183,21 @@ fn strongly_sees_two(sight: &BranchSight) -> bool {
         && !sight.strongly_sees(9, 6)
 }
 
+fn sees_forked(alloc: Global, every: usize) -> Result<(bool, bool, bool), Memory> {
+    let both = forked(alloc, every)?;
+    let sight = &both.sight;
+    Ok((
+        has_both_branches(sight),
+        strongly_sees_two(sight),
+        has_counts(sight, 9),
+    ))
+}
+
 #[test]
 fn sees_none_by_who_forked(rt: HostRuntime) -> Result<(), Memory> {
     for every in 0..2 {
-        let mut sight = BranchSight::new(rt.alloc(), 4)?;
-        let mut bits = BitSight::new(rt.alloc(), 4)?;
-        assert!(rt; add_all(&mut sight, &mut bits, &FORKED, every)?);
-        assert!(rt; has_both_branches(&sight), "every {every}");
-        assert!(rt; strongly_sees_two(&sight), "every {every}");
-        assert!(rt; !has_counts(&sight, 9));
+        let (branches, strong, counts) = sees_forked(rt.alloc(), every)?;
+        assert!(rt; branches && strong && !counts, "every {every}");
     }
     Ok(())
 }
@@ -173,7 +207,7 @@ fn has_counts(sight: &BranchSight, x: usize) -> bool {
 }
 
 // Three members sync in turn, and a fourth now and then. Each row but the first four has the row before it as other-parent.
-fn add_turns(sight: &mut BranchSight, bits: &mut BitSight, fork: bool) -> Result<bool, Memory> {
+fn add_turns(both: &mut Both, fork: bool) -> Result<bool, Memory> {
     let mut last = [0, 1, 2, 3];
     for i in 0..40 {
         let member = if i < 4 {
@@ -190,50 +224,61 @@ fn add_turns(sight: &mut BranchSight, bits: &mut BitSight, fork: bool) -> Result
         } else {
             Parents::of(last[member], i - 1)
         };
-        if !add(&mut *sight, parents, member as Member)?
-            || !add(&mut *bits, parents, member as Member)?
-        {
+        if !both.add(parents, member as Member)? {
             return Ok(false);
         }
-        sight.keep_last();
+        both.sight.keep_last();
         last[member] = i;
     }
     Ok(true)
 }
 
-// Whether the counts of each row tell its ancestors.
-fn counts_agree(sight: &BranchSight, bits: &BitSight) -> bool {
-    let rows = sight.rows();
-    if bits.rows() != rows {
+// Whether the counts of row `x` tell whether row `y` is an ancestor.
+fn counts_tell(both: &Both, x: usize, y: usize) -> bool {
+    if x >= both.sight.rows()
+        || y >= both.sight.rows()
+        || x >= both.bits.rows()
+        || y >= both.bits.rows()
+    {
         return false;
     }
-    for x in 0..rows {
-        for y in 0..rows {
-            let member = usize::from(sight.creator(y));
-            match sight.counts(x) {
-                None => return false,
-                Some(counts) => {
-                    if member >= counts.len()
-                        || (y < counts[member] as usize) != bits.ancestor(x, y)
-                    {
-                        return false;
-                    }
-                }
+    let member = usize::from(both.sight.creator(y));
+    match both.sight.counts(x) {
+        None => false,
+        Some(counts) => {
+            member < counts.len() && (y < counts[member] as usize) == both.bits.ancestor(x, y)
+        }
+    }
+}
+
+// Whether the counts of each row tell its ancestors.
+fn counts_agree(both: &Both) -> bool {
+    for x in 0..both.sight.rows() {
+        for y in 0..both.sight.rows() {
+            if !counts_tell(both, x, y) {
+                return false;
             }
         }
     }
     true
 }
 
+fn counts_turns(alloc: Global, fork: bool) -> Result<(bool, bool), Memory> {
+    let mut both = Both::new(alloc, 4)?;
+    let added = add_turns(&mut both, fork)?;
+    let told = if fork {
+        !has_counts(&both.sight, 39)
+    } else {
+        counts_agree(&both)
+    };
+    Ok((added && both.sight.rows() == 40 && both.agree(), told))
+}
+
 #[test]
 fn counts_while_nobody_forks(rt: HostRuntime) -> Result<(), Memory> {
     for fork in [false, true] {
-        let mut sight = BranchSight::new(rt.alloc(), 4)?;
-        let mut bits = BitSight::new(rt.alloc(), 4)?;
-        assert!(rt; add_turns(&mut sight, &mut bits, fork)? && sight.rows() == 40);
-        assert!(rt; agree(&sight, &bits), "fork {fork}");
-        assert!(rt; fork || counts_agree(&sight, &bits));
-        assert!(rt; has_counts(&sight, 39) != fork);
+        let (alike, told) = counts_turns(rt.alloc(), fork)?;
+        assert!(rt; alike && told, "fork {fork}");
     }
     Ok(())
 }

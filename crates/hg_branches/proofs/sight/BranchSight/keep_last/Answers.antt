@@ -1,7 +1,8 @@
 use Rattle.std.proofs.Common.{◌≡◌, ◌<◌, ◌-◌, ◌+◌, ◌∙◌, ℕ, List, [], ◌∷◌, ◌++◌, sym, ap, subst, length, slice_index, slice_set, arith}
-use Rattle.std.proofs.lemmas.List.{get_or_read}
-use Rattle.hg_branches.specs.Kept.{Kept, kept_at, HoldsFirsts, HoldsKept, IsSpareKept, spare_kept_room}
+use Rattle.std.proofs.lemmas.List.{get_or_read, length-set}
+use Rattle.hg_branches.specs.Kept.{Kept, kept_at, HoldsFirsts, HoldsKept, HoldsTops, IsSpareKept, spare_kept_room}
 use Rattle.hg_branches.proofs.KeptLaws.{kept_begun, holds_begun}
+use Rattle.hg_branches.proofs.ChainLaws.{tops_begun}
 use Rattle.hg_branches.proofs.sight.BranchSight.keep_last.Goals as goal
 
 pub invariant_of-self : goal.invariant_of-self
@@ -29,6 +30,7 @@ invariant_of-self c =
     let row_long : length c.in-Some.row.firsts ≡ n = subst (IsSpareKept n) (sym c.take.ensures.value ∙ c.in-Some.is) held.spare_kept in
     let one : spare_kept_room s.spare_kept ≡ 1 = ap spare_kept_room (sym c.take.ensures.value ∙ c.in-Some.is) in
     let none : spare_kept_room c.take.new.self ≡ 0 = ap spare_kept_room c.take.ensures.after in
+    let entries : length s.numbers.items ≡ k.end = omega arith in
     let number : c.len-number.result ≡ length kept + 1 = omega arith in
     let first : HoldsFirsts n L branches makers k = holds_begun n L branches makers s.ends.items held.branches k (omega arith) (omega arith) (c.begin.ensures.long ∙ row_long)
     (ap (λ e. slice_index branches (e - 1)) end_is ∙ (sym on ∙ sym branch_is))
@@ -39,7 +41,7 @@ invariant_of-self c =
     let less = c.if-last_end-end.true in
     let is : c.last_end.result ≡ (kept_at kept (length kept - 1)).end = subst (λ (ks : List Kept). 0 < length ks → c.last_end.result ≡ (kept_at ks (length ks - 1)).end) kept_is c.last_end.ensures.last some in
     omega arith in
-    let begun = kept_begun n L branches makers kept s.newest.items s.numbers.items held.kept k first (omega arith) (omega arith) later
+    let begun = kept_begun n L branches makers kept s.newest.items s.numbers.items held.kept k first (omega arith) entries (omega arith) later
     (c.begin.ensures.before ∙ (before ∙ ap (slice_index s.newest.items) (sym branch_is))) in
     record {
       branches = held.branches;
@@ -49,6 +51,11 @@ invariant_of-self c =
           (subst (λ j. HoldsKept n L branches makers (kept ++ k ∷ []) (slice_set s.newest.items branch j) (slice_set s.numbers.items y j)) (sym number)
           (subst (λ b. HoldsKept n L branches makers (kept ++ k ∷ []) (slice_set s.newest.items b (length kept + 1)) (slice_set s.numbers.items y (length kept + 1))) branch_is
           (subst (λ e. HoldsKept n L branches makers (kept ++ k ∷ []) (slice_set s.newest.items k.branch (length kept + 1)) (slice_set s.numbers.items (e - 1) (length kept + 1))) end_is begun)));
+      tops = subst (λ (items : List Kept). HoldsTops items (slice_set s.tops.items branch end)) (sym c.push_reserved.ensures.items)
+          (subst (λ b. HoldsTops (kept ++ k ∷ []) (slice_set s.tops.items b end)) branch_is
+          (subst (λ e. HoldsTops (kept ++ k ∷ []) (slice_set s.tops.items k.branch e)) end_is
+          (tops_begun kept k held.kept.chains first.some later s.tops.items held.tops (let tops_all = held.tops_all in omega arith))));
+      tops_all = length-set s.tops.items branch end ∙ held.tops_all;
       counts_members = held.counts_members;
       spare_kept = subst (IsSpareKept n) (sym c.take.ensures.after) tt;
       links_room = held.links_room;
@@ -58,6 +65,7 @@ invariant_of-self c =
       counts_room = held.counts_room;
       forked_room = held.forked_room;
       newest_room = held.newest_room;
+      tops_room = held.tops_room;
       numbers_room = held.numbers_room;
       kept_room = omega (arith, none, one);
     }

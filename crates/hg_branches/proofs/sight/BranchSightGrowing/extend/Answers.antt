@@ -1,4 +1,4 @@
-use Rattle.std.proofs.Common.{◌≡◌, ◌<◌, ◌≤◌, ◌+◌, ◌∙◌, ℕ, sym, ap, ap₂, subst, List, ◌++◌, ◌∷◌, [], length, get_or, nat_le, Option, false, inl, inr, arith}
+use Rattle.std.proofs.Common.{◌≡◌, ◌<◌, ◌≤◌, ◌+◌, ◌∙◌, ℕ, sym, ap, ap₂, subst, List, ◌++◌, ◌∷◌, [], length, get_or, nat_le, Option, false, refl, inl, inr, arith}
 use Rattle.std.proofs.lemmas.Bool.{true≢false, cases_lt, le-leb, lt-ltb}
 use Rattle.std.proofs.lemmas.List.{length_push, get_or_push}
 use Rattle.std.specs.List.{AllByRecursion}
@@ -12,8 +12,9 @@ use Rattle.hg_branches.specs.Branches.{greatest_count}
 use Rattle.hg_branches.specs.Columns.{HoldsBranches, next_branch, with_branch, put_at, count_in, forks_next}
 use Rattle.hg_branches.proofs.HeldLaws.{Serves, next_serves, in_reach, branches_hold, counts_hold, counts_last}
 use Rattle.hg_branches.specs.Rows.{RowView, known_place}
-use Rattle.hg_branches.specs.Kept.{Kept, kept_at, noted, AreNotedOn, HoldsChains, HoldsNewest, HoldsKept}
-use Rattle.hg_branches.proofs.KeptLaws.{noted_on, kept_more, refilled_kept}
+use Rattle.hg_branches.specs.Kept.{Kept, kept_at, noted, AreNotedOn, HoldsChains, HoldsNewest, HoldsTops, HoldsKept}
+use Rattle.hg_branches.proofs.KeptLaws.{noted_on, kept_more, refilled_kept, tops_noted}
+use Rattle.hg_branches.proofs.PutLaws.{opened_long}
 use Rattle.hg_branches.proofs.NextForkLaws.{forks_told}
 use Rattle.hg_branches.proofs.TakeLaws.{forks_more}
 use Rattle.hg_branches.proofs.sight.BranchSightGrowing.extend.Goals as goal
@@ -41,14 +42,14 @@ pub branch_for-branch-requires-clause-places : goal.branch_for-branch-requires-c
 branch_for-branch-requires-clause-places c =
     let s = c.self.inside in
     let fits = subst (λ (g : ShapeWithRoom). FitsLink g.shape.members g.shape.links (link_of c.args.creator c.args.parents)) (sym c.self.view_is) c.requires.fits in
-    subst (λ k. AllByRecursion (λ p. p < k) (pair_list c.pair-on.result)) (sym (ap length c.deref.ensures.value ∙ c.self.invariant.branches.rows))
+    subst (λ k. AllByRecursion (λ p. p < k) (pair_list c.pair-on.result)) (sym c.self.invariant.branches.rows)
     (subst (λ (on : List ℕ). AllByRecursion (λ p. p < length s.links.items) on) (sym c.pair-on.ensures) (places_fit s.members s.links.items c.args.creator c.args.parents fits))
 
 pub forked_next-forked-requires-clause-places : goal.forked_next-forked-requires-clause-places
 forked_next-forked-requires-clause-places c =
     let s = c.self.inside in
     let fits = subst (λ (g : ShapeWithRoom). FitsLink g.shape.members g.shape.links (link_of c.args.creator c.args.parents)) (sym c.self.view_is) c.requires.fits in
-    subst (λ k. AllByRecursion (λ p. p < k) (pair_list c.pair-on.result)) (sym (ap length c.deref-4.ensures.value ∙ c.self.invariant.forks.len))
+    subst (λ k. AllByRecursion (λ p. p < k) (pair_list c.pair-on.result)) (sym c.self.invariant.forks.len)
     (subst (λ (on : List ℕ). AllByRecursion (λ p. p < length s.links.items) on) (sym c.pair-on.ensures) (places_fit s.members s.links.items c.args.creator c.args.parents fits))
 
 pub push-requires-clause-places : goal.push-requires-clause-places
@@ -65,7 +66,7 @@ push-requires-clause-fits c =
     let by = c.args.creator in
     let link = link_of by c.args.parents in
     let fits = subst (λ (g : ShapeWithRoom). FitsLink g.shape.members g.shape.links link) (sym c.self.view_is) c.requires.fits in
-    let b_is = branch_is s.branches.items s.ends.items by c.pair-on.result c.args.parents c.deref.result.now c.deref-2.result.now c.branch_for-branch.result c.branch_for-branch.ensures c.deref.ensures.value c.deref-2.ensures.value c.pair-on.ensures in
+    let b_is = branch_is s.branches.items s.ends.items by c.pair-on.result c.args.parents s.branches.items c.deref.result.now c.branch_for-branch.result c.branch_for-branch.ensures refl c.deref.ensures.value c.pair-on.ensures in
     let low = reach s.members s.links.items s.branches.items s.makers.items s.ends.items held c.args.parents by fits c.branch_for-branch.result b_is in
     let sparse = held.sparse in
     let few = held.few in
@@ -96,8 +97,13 @@ note_all-requires-clause-chains c = subst HoldsChains (sym c.deref_mut.ensures.v
 
 pub note_all-requires-clause-newest : goal.note_all-requires-clause-newest
 note_all-requires-clause-newest c =
-    subst (λ (kept : List Kept). HoldsNewest kept c.deref-5.result.now) (sym c.deref_mut.ensures.value)
-    (subst (HoldsNewest c.self.inside.kept.items) (sym c.deref-5.ensures.value) c.self.invariant.kept.by_branch)
+    subst (λ (kept : List Kept). HoldsNewest kept c.deref-3.result.now) (sym c.deref_mut.ensures.value)
+    (subst (HoldsNewest c.self.inside.kept.items) (sym c.deref-3.ensures.value) c.self.invariant.kept.by_branch)
+
+pub note_all-requires-clause-tops : goal.note_all-requires-clause-tops
+note_all-requires-clause-tops c =
+    subst (λ (kept : List Kept). HoldsTops kept c.deref-4.result.now) (sym c.deref_mut.ensures.value)
+    (subst (HoldsTops c.self.inside.kept.items) (sym c.deref-4.ensures.value) c.self.invariant.tops)
 
 pub note_all-requires-clause-noted : goal.note_all-requires-clause-noted
 note_all-requires-clause-noted c = λ i.
@@ -111,7 +117,7 @@ note_all-requires-clause-noted c = λ i.
     let rows_len = held.counts.len in
     let fits = subst (λ (g : ShapeWithRoom). FitsLink g.shape.members g.shape.links (link_of by on)) (sym c.self.view_is) c.requires.fits in
     let b = c.branch_for-branch.result in
-    let b_is = branch_is s.branches.items s.ends.items by c.pair-on.result on c.deref.result.now c.deref-2.result.now b c.branch_for-branch.ensures c.deref.ensures.value c.deref-2.ensures.value c.pair-on.ensures in
+    let b_is = branch_is s.branches.items s.ends.items by c.pair-on.result on s.branches.items c.deref.result.now b c.branch_for-branch.ensures refl c.deref.ensures.value c.pair-on.ensures in
     let place : c.len-row.result ≡ length L = omega arith in
     let known : List ℕ = get_or (s.counts.rows ++ row ∷ []) (known_place on (length L)) [] in
     let known_is : c.row_of-known.result.row ≡ known = ap (λ (r : RowView). r.row) c.row_of-known.ensures
@@ -120,11 +126,11 @@ note_all-requires-clause-noted c = λ i.
     ∙ (ap (λ (rows : List (List ℕ)). get_or rows c.len-row.result []) rows_are ∙ get_or_push s.counts.rows row [] c.len-row.result (rows_len ∙ sym place)) in
     let others : (i : ℕ) → (i ≡ next_branch s.branches.items s.ends.items on by → ⊥) → get_or row i 0 ≡ greatest_count (count_in s.counts.rows) on i =
     λ i off. c.push.ensures.3.others i (λ e. off (e ∙ b_is)) ∙ ap (λ (ps : List ℕ). greatest_count (count_in s.counts.rows) ps i) c.pair-on.ensures in
-    subst (AreNotedOn i c.row_of-known.result.row c.row_of-counts.result.row b (c.len-row.result + 1)) (sym c.deref_mut.ensures.value)
-    (subst (λ (k : List ℕ). AreNotedOn i k c.row_of-counts.result.row b (c.len-row.result + 1) s.kept.items) (sym known_is)
-    (subst (λ (r : List ℕ). AreNotedOn i known r b (c.len-row.result + 1) s.kept.items) (sym row_is)
-    (subst (λ j. AreNotedOn i known row j (c.len-row.result + 1) s.kept.items) (sym b_is)
-    (subst (λ x. AreNotedOn i known row (next_branch s.branches.items s.ends.items on by) (x + 1) s.kept.items) (sym place)
+    subst (AreNotedOn i (get_or c.row_of-known.result.row i 0) (get_or c.row_of-counts.result.row i 0) b (c.len-row.result + 1)) (sym c.deref_mut.ensures.value)
+    (subst (λ (k : List ℕ). AreNotedOn i (get_or k i 0) (get_or c.row_of-counts.result.row i 0) b (c.len-row.result + 1) s.kept.items) (sym known_is)
+    (subst (λ (r : List ℕ). AreNotedOn i (get_or known i 0) (get_or r i 0) b (c.len-row.result + 1) s.kept.items) (sym row_is)
+    (subst (λ j. AreNotedOn i (get_or known i 0) (get_or row i 0) j (c.len-row.result + 1) s.kept.items) (sym b_is)
+    (subst (λ x. AreNotedOn i (get_or known i 0) (get_or row i 0) (next_branch s.branches.items s.ends.items on by) (x + 1) s.kept.items) (sym place)
     (noted_on s.members L s.branches.items s.makers.items s.ends.items held.branches s.counts.rows held.counts s.kept.items s.newest.items s.numbers.items held.kept on by fits row others i)))))
 
 pub move_end-requires-clause-there : goal.move_end-requires-clause-there
@@ -132,7 +138,7 @@ move_end-requires-clause-there c =
     let s = c.self.inside in
     let held = c.self.invariant.branches in
     let fits = subst (λ (g : ShapeWithRoom). FitsLink g.shape.members g.shape.links (link_of c.args.creator c.args.parents)) (sym c.self.view_is) c.requires.fits in
-    let b_is = branch_is s.branches.items s.ends.items c.args.creator c.pair-on.result c.args.parents c.deref.result.now c.deref-2.result.now c.branch_for-branch.result c.branch_for-branch.ensures c.deref.ensures.value c.deref-2.ensures.value c.pair-on.ensures in
+    let b_is = branch_is s.branches.items s.ends.items c.args.creator c.pair-on.result c.args.parents s.branches.items c.deref.result.now c.branch_for-branch.result c.branch_for-branch.ensures refl c.deref.ensures.value c.pair-on.ensures in
     let low = reach s.members s.links.items s.branches.items s.makers.items s.ends.items held c.args.parents c.args.creator fits c.branch_for-branch.result b_is in
     let all = held.ends_all in
     omega arith
@@ -142,9 +148,19 @@ open_branch-requires-clause-there c =
     let s = c.self.inside in
     let held = c.self.invariant.branches in
     let fits = subst (λ (g : ShapeWithRoom). FitsLink g.shape.members g.shape.links (link_of c.args.creator c.args.parents)) (sym c.self.view_is) c.requires.fits in
-    let b_is = branch_is s.branches.items s.ends.items c.args.creator c.pair-on.result c.args.parents c.deref.result.now c.deref-2.result.now c.branch_for-branch.result c.branch_for-branch.ensures c.deref.ensures.value c.deref-2.ensures.value c.pair-on.ensures in
+    let b_is = branch_is s.branches.items s.ends.items c.args.creator c.pair-on.result c.args.parents s.branches.items c.deref.result.now c.branch_for-branch.result c.branch_for-branch.ensures refl c.deref.ensures.value c.pair-on.ensures in
     let low = reach s.members s.links.items s.branches.items s.makers.items s.ends.items held c.args.parents c.args.creator fits c.branch_for-branch.result b_is in
     let all = c.self.invariant.kept.newest_all in
+    omega arith
+
+pub open_branch-requires-2-clause-there : goal.open_branch-requires-2-clause-there
+open_branch-requires-2-clause-there c =
+    let s = c.self.inside in
+    let held = c.self.invariant.branches in
+    let fits = subst (λ (g : ShapeWithRoom). FitsLink g.shape.members g.shape.links (link_of c.args.creator c.args.parents)) (sym c.self.view_is) c.requires.fits in
+    let b_is = branch_is s.branches.items s.ends.items c.args.creator c.pair-on.result c.args.parents s.branches.items c.deref.result.now c.branch_for-branch.result c.branch_for-branch.ensures refl c.deref.ensures.value c.pair-on.ensures in
+    let low = reach s.members s.links.items s.branches.items s.makers.items s.ends.items held c.args.parents c.args.creator fits c.branch_for-branch.result b_is in
+    let all = c.self.invariant.tops_all in
     omega arith
 
 pub of-requires : goal.of-requires
@@ -165,7 +181,7 @@ invariant_of-self c =
     let fits = subst (λ (g : ShapeWithRoom). FitsLink g.shape.members g.shape.links link) (sym c.self.view_is) c.requires.fits in
     let short = subst (λ (g : ShapeWithRoom). length g.shape.links + 1 < 4294967295) (sym c.self.view_is) c.requires.short in
     let b = c.branch_for-branch.result in
-    let b_is = branch_is s.branches.items s.ends.items by on c.args.parents c.deref.result.now c.deref-2.result.now b c.branch_for-branch.ensures c.deref.ensures.value c.deref-2.ensures.value on_is in
+    let b_is = branch_is s.branches.items s.ends.items by on c.args.parents s.branches.items c.deref.result.now b c.branch_for-branch.ensures refl c.deref.ensures.value on_is in
     let serves : Serves L s.branches.items s.makers.items link b = subst (λ k. Serves L s.branches.items s.makers.items link k) (sym b_is)
     (next_serves s.members L s.branches.items s.makers.items s.ends.items held.branches c.args.parents by fits) in
     let place : c.len-row.result ≡ length L = omega arith in
@@ -185,7 +201,7 @@ invariant_of-self c =
     ∙ (ap (λ (rows : List (List ℕ)). get_or rows c.len-row.result []) rows_are ∙ get_or_push s.counts.rows row [] c.len-row.result (rows_len ∙ sym place)) in
     let told : (m : ℕ) → mask_has c.forked_next-forked.result m ≡ has_fork_below (L ++ link ∷ []) (length L) m = λ m.
     c.forked_next-forked.ensures m
-    ∙ (ap₂ (λ (ms fs : List ℕ). forks_next ms s.counts.rows fs c.if-members-len.many on by m) c.deref-3.ensures.value c.deref-4.ensures.value
+    ∙ (ap (λ (ms : List ℕ). forks_next ms s.counts.rows s.forked.items c.if-members-len.many on by m) c.deref-2.ensures.value
     ∙ (forks_told s.members L s.branches.items s.makers.items s.ends.items held.branches s.counts.rows held.counts s.forked.items held.forks short on by
     (subst (λ (on : List ℕ). FitsLink s.members L (link_of by on)) (sym on_is) fits) b (subst (λ (on : List ℕ). Serves L s.branches.items s.makers.items (link_of by on) b) (sym on_is) serves)
     c.if-members-len.many
@@ -202,16 +218,21 @@ invariant_of-self c =
     ∙ (ap (λ (old : List Kept). noted c.row_of-counts.result.row b (c.len-row.result + 1) (kept_at old i)) c.deref_mut.ensures.value
     ∙ ap₂ (λ (counts : List ℕ) (e : ℕ). noted counts b e (kept_at s.kept.items i)) row_is end_place) in
     record {
-      branches = rw (c.push_reserved.ensures.items, c.push_reserved-2.ensures.items, makers_are, ends_are, c.of.ensures)
+      branches = rw (c.push-2.ensures, c.push-3.ensures, makers_are, ends_are, c.of.ensures)
           (branches_hold s.members L s.branches.items s.makers.items s.ends.items held.branches link fits b serves short);
-      counts = rw (c.push_reserved.ensures.items, c.push_reserved-2.ensures.items, makers_are, c.of.ensures, rows_are)
+      counts = rw (c.push-2.ensures, c.push-3.ensures, makers_are, c.of.ensures, rows_are)
           (counts_hold s.members L s.branches.items s.makers.items s.ends.items held.branches link fits b serves s.counts.rows row held.counts wide end others);
       counts_members = c.push.ensures.2 ∙ held.counts_members;
-      forks = rw (c.push_reserved.ensures.items, c.push_reserved-3.ensures.items, c.of.ensures) (forks_more L link s.forked.items c.forked_next-forked.result held.forks told);
-      kept = rw (c.push_reserved.ensures.items, c.push_reserved-2.ensures.items, makers_are, c.of.ensures, c.open_branch.ensures, c.push_reserved-4.ensures.items)
+      forks = rw (c.push-2.ensures, c.push-4.ensures, c.of.ensures) (forks_more L link s.forked.items c.forked_next-forked.result held.forks told);
+      kept = rw (c.push-2.ensures, c.push-3.ensures, makers_are, c.of.ensures, c.open_branch.ensures, c.push_reserved.ensures.items)
           (subst (λ (kept : List Kept). HoldsKept s.members (L ++ link ∷ []) (s.branches.items ++ b ∷ []) (with_branch s.makers.items b by) kept (with_branch s.newest.items b 0) (s.numbers.items ++ 0 ∷ []))
           (sym (refilled_kept s.kept.len c.note_all.new.kept s.kept.items (omega (arith, kept_long))))
           (kept_more s.members L s.branches.items s.makers.items s.ends.items held.branches link fits b serves row counted short s.kept.items c.note_all.new.kept s.newest.items s.numbers.items held.kept kept_long each));
+      tops = rw c.open_branch-2.ensures
+          (subst (λ (kept : List Kept). HoldsTops kept (with_branch s.tops.items b 0)) (sym (refilled_kept s.kept.len c.note_all.new.kept s.kept.items (omega (arith, kept_long))))
+          (tops_noted s.kept.items c.note_all.new.kept (λ i h. (ap (λ (k : Kept). k.end) (each i h), ap (λ (k : Kept). k.branch) (each i h), ap (λ (k : Kept). k.before) (each i h))) kept_long s.tops.items b held.tops));
+      tops_all = rw (c.open_branch-2.ensures, makers_are)
+          (opened_long s.makers.items s.tops.items b by (reach s.members L s.branches.items s.makers.items s.ends.items held.branches c.args.parents by fits b b_is) held.tops_all);
       spare_kept = held.spare_kept;
       links_room = omega arith;
       branches_room = omega arith;
@@ -220,6 +241,7 @@ invariant_of-self c =
       counts_room = omega arith;
       forked_room = omega arith;
       newest_room = omega arith;
+      tops_room = omega arith;
       numbers_room = omega arith;
       kept_room = held.kept_room;
     }

@@ -1,5 +1,5 @@
-use Rattle.std.proofs.Common.{◌≡◌, ◌<◌, ◌≤◌, ◌+◌, ◌-◌, ◌∙◌, ℕ, List, [], ap, ap₂, sym, subst, length, get_or, slice_index, false, arith}
-use Rattle.std.proofs.lemmas.List.{get_or_read}
+use Rattle.std.proofs.Common.{◌≡◌, ◌<◌, ◌≤◌, ◌+◌, ◌-◌, ◌∙◌, ℕ, List, [], ap, ap₂, sym, subst, length, take, get_or, slice_index, false, arith}
+use Rattle.std.proofs.lemmas.List.{get_or-take}
 use Rattle.hg_model.specs.Places.{count_below}
 use Rattle.hg_model.specs.Links.{Link, creator}
 use Rattle.hg_model.specs.Forks.{has_fork_below}
@@ -10,10 +10,45 @@ use Rattle.hg_bits.specs.Masks.{mask_has}
 use Rattle.hg_ancestry.proofs.SeerLaws.{strong_by_members, strong_above}
 use Rattle.hg_branches.specs.Rows.{RowView}
 use Rattle.hg_branches.specs.Kept.{Kept, kept_at}
-use Rattle.hg_branches.specs.Lines.{own_sees, others_see, seen_on}
-use Rattle.hg_branches.proofs.KeptLaws.{strong_by_firsts, on_other, on_other_is}
+use Rattle.hg_branches.specs.Lines.{own_sees, others_see, seen_on, is_strong_by_own}
+use Rattle.hg_branches.proofs.KeptLaws.{strong_by_firsts, strong_alone, on_other, on_other_is}
+use Rattle.hg_branches.proofs.NextForkLaws.{no_fork_on_own}
+use Rattle.hg_branches.proofs.ReachedLaws.{strong_by_taken}
 use Rattle.hg_branches.proofs.LineSeenLaws.{count_small, seen_by_lines}
 use Rattle.hg_branches.proofs.sight.BranchSightSight.strongly_sees.Goals as goal
+
+pub is_strong_by-requires-clause-low : goal.is_strong_by-requires-clause-low
+is_strong_by-requires-clause-low c = λ b h.
+    let s = c.self.inside in
+    let held = c.self.invariant in
+    let left : c.args.x < length s.links.items = subst (λ (g : ShapeWithRoom). c.args.x < length g.shape.links) (sym c.self.view_is) c.requires.left in
+    let small = count_small s.members s.links.items s.branches.items s.makers.items s.ends.items held.branches s.counts.rows held.counts c.args.x b left in
+    let taken : get_or c.own.result.now b 0 ≡ get_or (get_or s.counts.rows c.args.x []) b 0 =
+    ap (λ (r : List ℕ). get_or r b 0) c.own.ensures.value ∙ get_or-take s.counts.members (get_or s.counts.rows c.args.x []) b 0 (let long = c.own.ensures.len in omega arith) in
+    let short = held.branches.short in
+    omega arith
+
+pub returns-then-len-self : goal.returns-then-len-self
+returns-then-len-self c =
+    let s = c.self.inside in
+    let held = c.self.invariant in
+    let x = c.args.x in
+    let y = c.args.y in
+    let left : x < length s.links.items = subst (λ (g : ShapeWithRoom). x < length g.shape.links) (sym c.self.view_is) c.requires.left in
+    let one : length s.makers.items ≡ s.members = (let same = c.if-len-self.true in omega arith) in
+    let number = c.count_at-number.ensures ∙ ap (λ (ns : List ℕ). slice_index ns y) c.deref.ensures.value in
+    let found = held.kept.by_place y (let some = c.if-number-gt0.true in omega arith) in
+    let slot : ℕ = slice_index s.numbers.items y - 1 in
+    let k = kept_at s.kept.items slot in
+    let holds = held.kept.each slot (let le : slice_index s.numbers.items y ≤ length s.kept.items = found.0 in let some = c.if-number-gt0.true in omega arith) in
+    let k_is : c.kept_row.result.now ≡ k = c.kept_row.ensures ∙ ap₂ (λ (kept : List Kept) (j : ℕ). kept_at kept (j - 1)) c.deref-then-len-self.ensures.value number in
+    let own : c.own.result.now ≡ take s.members (get_or s.counts.rows x []) = c.own.ensures.value ∙ ap (λ j. take j (get_or s.counts.rows x [])) held.counts_members in
+    let free = no_fork_on_own s.members s.links.items s.branches.items s.makers.items s.ends.items held.branches one x (creator s.links.items y) left in
+    let told = strong_alone s.members s.links.items s.branches.items s.makers.items s.ends.items held.branches s.counts.rows held.counts x y left free k holds found.1 one in
+    subst (λ (g : ShapeWithRoom). c.is_strong_by.result ≡ strongly_sees g.shape.members g.shape.links x y) c.self.view_is
+    (c.is_strong_by.ensures
+    ∙ (ap₂ (λ (k : Kept) (r : List ℕ). is_strong_by_own k.firsts r) k_is own
+    ∙ (strong_by_taken s.members k.firsts (get_or s.counts.rows x []) holds.long ∙ told)))
 
 pub returns-then-not-ancestor : goal.returns-then-not-ancestor
 returns-then-not-ancestor c =
@@ -39,20 +74,19 @@ strong_by_firsts-requires-clause-places c = λ b.
     (subst (λ (g : ShapeWithRoom). get_or (get_or s.counts.rows c.args.x []) b 0 ≤ length g.shape.links) c.self.view_is
     (count_small s.members s.links.items s.branches.items s.makers.items s.ends.items held.branches s.counts.rows held.counts c.args.x b left))
 
-pub returns-then-number-gt0 : goal.returns-then-number-gt0
-returns-then-number-gt0 c =
+pub returns-then-slot-gt0 : goal.returns-then-slot-gt0
+returns-then-slot-gt0 c =
     let s = c.self.inside in
     let held = c.self.invariant in
     let x = c.args.x in
     let y = c.args.y in
     let left : x < length s.links.items = subst (λ (g : ShapeWithRoom). x < length g.shape.links) (sym c.self.view_is) c.requires.left in
     let row : c.row_of-counts.result.row ≡ get_or s.counts.rows x [] = ap (λ (r : RowView). r.row) c.row_of-counts.ensures in
-    let number : c.index-number.result.now ≡ slice_index s.numbers.items y = get_or_read s.numbers.items y c.index-number.result.now
-    (let all = held.kept.numbers_all in let right = subst (λ (g : ShapeWithRoom). y < length g.shape.links) (sym c.self.view_is) c.requires.right in omega arith) c.index-number.ensures 0 in
-    let found = held.kept.by_place y (let some = c.if-number-gt0.true in omega arith) in
+    let number : c.count_at-number.result ≡ slice_index s.numbers.items y = c.count_at-number.ensures ∙ ap (λ (ns : List ℕ). slice_index ns y) c.deref.ensures.value in
+    let found = held.kept.by_place y (let some = c.if-slot-gt0.true in omega arith) in
     let slot : ℕ = slice_index s.numbers.items y - 1 in
     let k = kept_at s.kept.items slot in
-    let firsts : c.firsts_at-firsts.result.now ≡ k.firsts = c.firsts_at-firsts.ensures ∙ ap₂ (λ (kept : List Kept) (j : ℕ). (kept_at kept (j - 1)).firsts) c.deref.ensures.value number in
+    let firsts : c.firsts_at-firsts.result.now ≡ k.firsts = c.firsts_at-firsts.ensures ∙ ap₂ (λ (kept : List Kept) (j : ℕ). (kept_at kept (j - 1)).firsts) c.deref-then-slot-gt0.ensures.value number in
     let free : has_fork_below s.links.items x (creator s.links.items y) ≡ false =
     subst (λ (g : ShapeWithRoom). has_fork_below g.shape.links x (creator g.shape.links y) ≡ false) (sym c.self.view_is)
     (ap (has_fork_below c.args.self.now.shape.links x) (sym c.creator-member.ensures.value) ∙ (sym (c.forked_below.ensures c.creator-member.result) ∙ (sym c.mask_has.ensures ∙ c.if-not-mask_has.true))) in
@@ -71,7 +105,7 @@ returns-then-number-gt0 c =
     subst (λ (g : ShapeWithRoom). c.strong_by_firsts.result ≡ strongly_sees g.shape.members g.shape.links x y) c.self.view_is
     (value
     ∙ (ap (λ (ms : List ℕ). is_supermajority c.args.self.now.shape.members (count_below (length c.firsts_at-firsts.result.now) (own_sees c.firsts_at-firsts.result.now c.row_of-counts.result.row)
-    + count_below 128 (others_see c.args.self.now.shape.links ms c.firsts_at-firsts.result.now c.row_of-counts.result.row y))) c.deref-then-number-gt0.ensures.value
+    + count_below 128 (others_see c.args.self.now.shape.links ms c.firsts_at-firsts.result.now c.row_of-counts.result.row y))) c.deref-then-slot-gt0-2.ensures.value
     ∙ (ap₂ (λ (f r : List ℕ). is_supermajority c.args.self.now.shape.members (count_below (length f) (own_sees f r) + count_below 128 (others_see c.args.self.now.shape.links s.makers.items f r y))) firsts row
     ∙ (ap₂ (λ (n : ℕ) (L : List Link). is_supermajority n (count_below (length k.firsts) (own_sees k.firsts (get_or s.counts.rows x [])) + count_below 128 (others_see L s.makers.items k.firsts (get_or s.counts.rows x []) y))) n_is L_is
     ∙ told))))

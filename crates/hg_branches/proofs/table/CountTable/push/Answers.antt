@@ -1,5 +1,5 @@
 use Rattle.std.proofs.Common.{◌≡◌, ◌<◌, ◌≤◌, ◌∙◌, ◌+◌, ◌-◌, ◌*◌, ◌^◌, ◌++◌, ◌∷◌, [], List, ℕ, length, sym, ap, ap₂, subst, arith}
-use Rattle.std.specs.Prelude.{vec_capacity, vec_len}
+use Rattle.std.specs.Prelude.{vec_capacity}
 use Rattle.std.specs.List.{AllByRecursion}
 use Rattle.hg_model.specs.Shape.{pair_list}
 use Rattle.hg_branches.specs.Tails.{Tail}
@@ -11,64 +11,65 @@ use Rattle.hg_branches.proofs.table.CountTable.push.Goals.{After-self-1}
 pub overflow_add-end : goal.overflow_add-end
 overflow_add-end c =
     let s = c.self.inside in
-    omega (arith, c.len.ensures, ap (λ (t : CountsWithRoom). length t.rows) c.self.view_is, rows_many s.members s.own.items s.tails.rows, c.requires.short)
+    omega (arith, c.len.ensures, ap (λ (t : CountsWithRoom). length t.rows) c.self.view_is, rows_many s.own.width s.own.numbers s.tails.rows, c.requires.short)
 
 pub join_own-requires-clause-places : goal.join_own-requires-clause-places
 join_own-requires-clause-places c =
     let s = c.self.inside in
-    let many : length c.args.self.now.rows ≡ length s.tails.rows = sym (ap (λ (t : CountsWithRoom). length t.rows) c.self.view_is) ∙ rows_many s.members s.own.items s.tails.rows in
+    let many : length c.args.self.now.rows ≡ length s.tails.rows = sym (ap (λ (t : CountsWithRoom). length t.rows) c.self.view_is) ∙ rows_many s.own.width s.own.numbers s.tails.rows in
     let places = subst (λ n. AllByRecursion (λ p. p < n) (pair_list c.args.on)) many c.requires.places in
-    rw c.deref.ensures.value (all_low (λ p. p * s.members + s.members ≤ length s.own.items) _ _ places (row_fits s.members s.own.items s.tails.rows s.widest c.self.invariant))
+    all_low (λ p. p * s.own.width + s.own.width ≤ length s.own.numbers) _ _ places (row_fits s.own.width s.own.numbers s.tails.rows s.widest c.self.invariant)
 
 pub join_tails-requires-clause-places : goal.join_tails-requires-clause-places
 join_tails-requires-clause-places c =
     let s = c.self.inside in
-    let many : length c.args.self.now.rows ≡ length s.tails.rows = sym (ap (λ (t : CountsWithRoom). length t.rows) c.self.view_is) ∙ rows_many s.members s.own.items s.tails.rows in
+    let many : length c.args.self.now.rows ≡ length s.tails.rows = sym (ap (λ (t : CountsWithRoom). length t.rows) c.self.view_is) ∙ rows_many s.own.width s.own.numbers s.tails.rows in
     subst (λ n. AllByRecursion (λ p. p < n) (pair_list c.args.on)) many c.requires.places
 
-pub push-requires-clause-room : goal.push-requires-clause-room
-push-requires-clause-room c =
+pub push-requires-2 : goal.push-requires-2
+push-requires-2 c =
     let s = c.self.inside in
-    let many : length c.args.self.now.rows ≡ length s.tails.rows = sym (ap (λ (t : CountsWithRoom). length t.rows) c.self.view_is) ∙ rows_many s.members s.own.items s.tails.rows in
+    let many : length c.args.self.now.rows ≡ length s.tails.rows = sym (ap (λ (t : CountsWithRoom). length t.rows) c.self.view_is) ∙ rows_many s.own.width s.own.numbers s.tails.rows in
     let places = subst (λ n. AllByRecursion (λ p. p < n) (pair_list c.args.on)) many c.requires.places in
-    let fit = numbers_fit s.members s.widest s.own.items s.tails.rows c.self.invariant _ c.join_tails.new.row.items places c.join_tails.ensures.narrow in
-    let room = room_parts s.members s.widest (vec_capacity s.own - vec_len s.own) s.tails.room (vec_capacity s.row) (subst (λ (t : CountsWithRoom). 1 ≤ t.room) (sym c.self.view_is) c.requires.room) in
-    omega (arith, fit, room, ap length c.deref-3.ensures.value)
+    let fit = numbers_fit s.own.width s.widest s.own.numbers s.tails.rows c.self.invariant _ c.join_tails.new.row.items places c.join_tails.ensures.narrow in
+    let room = room_parts s.own.width s.widest s.own.room s.tails.room (vec_capacity s.row) (subst (λ (t : CountsWithRoom). 1 ≤ t.room) (sym c.self.view_is) c.requires.room) in
+    omega (arith, fit, room, ap length c.deref-2.ensures.value)
 
 -- that the numbers of the row are made right
-made : (c : After-self-1) → IsMade c.self.inside.members c.self.inside.own.items c.self.inside.tails.rows (pair_list c.args.on) c.args.branch c.saturating_sub-own.result c.join_own.new.row.items c.join_tails.new.row.items
+made : (c : After-self-1) → IsMade c.self.inside.own.width c.self.inside.own.numbers c.self.inside.tails.rows (pair_list c.args.on) c.args.branch c.saturating_sub-own.result c.join_own.new.row.items c.join_tails.new.row.items
 made c =
     let s = c.self.inside in
-    let many : length c.args.self.now.rows ≡ length s.tails.rows = sym (ap (λ (t : CountsWithRoom). length t.rows) c.self.view_is) ∙ rows_many s.members s.own.items s.tails.rows in
+    let many : length c.args.self.now.rows ≡ length s.tails.rows = sym (ap (λ (t : CountsWithRoom). length t.rows) c.self.view_is) ∙ rows_many s.own.width s.own.numbers s.tails.rows in
     record {
       places = subst (λ n. AllByRecursion (λ p. p < n) (pair_list c.args.on)) many c.requires.places;
-      shift = c.saturating_sub-own.ensures;
+      shift = c.saturating_sub-own.ensures ∙ ap (λ n. c.args.branch + 1 - n) (c.width.ensures ∙ c.push.ensures.width);
       long = c.join_own.ensures.len;
-      each_own = λ b h. c.join_own.ensures.each b h ∙ ap₂ (λ (o : List ℕ) (n : ℕ). own_next s.members o (pair_list c.args.on) c.args.branch (n + 1) b) c.deref.ensures.value c.len.ensures;
+      each_own = λ b h. c.join_own.ensures.each b h ∙ ap (λ (n : ℕ). own_next s.own.width s.own.numbers (pair_list c.args.on) c.args.branch (n + 1) b) c.len.ensures;
       each_tail = c.join_tails.ensures.each;
       narrow = c.join_tails.ensures.narrow;
     }
 
-own_grown : (c : After-self-1) → c.extend_from_slice.new.self.items ≡ c.self.inside.own.items ++ c.join_own.new.row.items
-own_grown c = (rw c.unwrap.ensures at c.extend_from_slice.ensures.items) ∙ ap (λ (l : List ℕ). c.self.inside.own.items ++ l) c.deref-2.ensures.value
+own_grown : (c : After-self-1) → c.push.new.self.numbers ≡ c.self.inside.own.numbers ++ c.join_own.new.row.items
+own_grown c = c.push.ensures.numbers ∙ ap (λ (l : List ℕ). c.self.inside.own.numbers ++ l) c.deref.ensures.value
 
-tails_grown : (c : After-self-1) → c.push.new.self.rows ≡ c.self.inside.tails.rows ++ record { own = c.saturating_sub-own.result; numbers = c.join_tails.new.row.items } ∷ []
-tails_grown c = c.push.ensures ∙ ap (λ (l : List ℕ). c.self.inside.tails.rows ++ record { own = c.saturating_sub-own.result; numbers = l } ∷ []) c.deref-3.ensures.value
+tails_grown : (c : After-self-1) → c.push-2.new.self.rows ≡ c.self.inside.tails.rows ++ record { own = c.saturating_sub-own.result; numbers = c.join_tails.new.row.items } ∷ []
+tails_grown c = c.push-2.ensures ∙ ap (λ (l : List ℕ). c.self.inside.tails.rows ++ record { own = c.saturating_sub-own.result; numbers = l } ∷ []) c.deref-2.ensures.value
 
 pub invariant_of-self : goal.invariant_of-self
 invariant_of-self c =
     let s = c.self.inside in
-    let short : length s.tails.rows + 1 < 2 ^ 32 = omega (arith, ap (λ (t : CountsWithRoom). length t.rows) c.self.view_is, rows_many s.members s.own.items s.tails.rows, c.requires.short) in
-    rw (own_grown c, tails_grown c, c.max-self-inside.ensures) (keeps_more s.members s.widest s.own.items s.tails.rows c.self.invariant _ _ _ _ _ (made c) short)
+    let short : length s.tails.rows + 1 < 2 ^ 32 = omega (arith, ap (λ (t : CountsWithRoom). length t.rows) c.self.view_is, rows_many s.own.width s.own.numbers s.tails.rows, c.requires.short) in
+    rw (c.push.ensures.width, own_grown c, tails_grown c, c.max-self-inside.ensures) (keeps_more s.own.width s.widest s.own.numbers s.tails.rows c.self.invariant _ _ _ _ _ (made c) short)
 
 pub returns : goal.returns
 returns c =
     let s = c.self.inside in
-    let row : List ℕ = row_of s.members (s.own.items ++ c.join_own.new.row.items) (s.tails.rows ++ record { own = c.saturating_sub-own.result; numbers = c.join_tails.new.row.items } ∷ []) (length s.tails.rows) in (
+    let row : List ℕ = row_of s.own.width (s.own.numbers ++ c.join_own.new.row.items) (s.tails.rows ++ record { own = c.saturating_sub-own.result; numbers = c.join_tails.new.row.items } ∷ []) (length s.tails.rows) in (
       row,
-      ap₂ (λ (o : List ℕ) (t : List Tail). rows_of s.members o t) (own_grown c) (tails_grown c)
-          ∙ (rows_more s.members s.widest s.own.items s.tails.rows c.self.invariant _ _ _ _ _ (made c) ∙ ap (λ (t : CountsWithRoom). t.rows ++ row ∷ []) c.self.view_is),
-      ap (λ (t : CountsWithRoom). t.members) c.self.view_is,
+      ap (λ n. rows_of n c.push.new.self.numbers c.push-2.new.self.rows) c.push.ensures.width
+          ∙ (ap₂ (λ (o : List ℕ) (t : List Tail). rows_of s.own.width o t) (own_grown c) (tails_grown c)
+          ∙ (rows_more s.own.width s.widest s.own.numbers s.tails.rows c.self.invariant _ _ _ _ _ (made c) ∙ ap (λ (t : CountsWithRoom). t.rows ++ row ∷ []) c.self.view_is)),
+      c.push.ensures.width ∙ ap (λ (t : CountsWithRoom). t.members) c.self.view_is,
       subst (λ (t : CountsWithRoom). IsNextCounts t.members t.rows (pair_list c.args.on) c.args.branch row) c.self.view_is
-          (next_counts s.members s.widest s.own.items s.tails.rows c.self.invariant _ _ _ _ _ (made c)),
+          (next_counts s.own.width s.widest s.own.numbers s.tails.rows c.self.invariant _ _ _ _ _ (made c)),
     )
