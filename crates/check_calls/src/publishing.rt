@@ -1,19 +1,27 @@
+ghost use Rattle.std.specs.Prelude.{◌≡◌};
+ghost use Rattle.hg_graph.specs.Held.{first_graph};
+ghost use Rattle.hg_node.specs.ChronicleView.{graph_in};
+ghost use Rattle.hg_votes.specs.Counting.{CarriesTo, Counting, IsMadeFor};
+
 use crate::members::{entry, members_of};
 use crate::playing::{Player, begin, equal, give, player_of, sync, two_players};
 use hg_fame::elect_share;
+use hg_graph::FrozenGraph;
 use hg_model::{Members, Memory, Placed, PutAnswer, Share};
-use hg_node::Node;
+use hg_node::{Node, tables_last};
 use hg_sign::MacTable;
 use hg_votes::VoteTable;
 use std::alloc::Global;
 use std::process::Abort;
 
-fn four_members(rt: &impl Abort, alloc: Global) -> Result<Members, Memory> {
+/// Of the members A, B, C and D so many.
+fn first_members(rt: &impl Abort, alloc: Global, count: usize) -> Result<Members, Memory> {
     let mut entries = Vec::new(alloc);
     entries.push(entry(alloc, b"A", 1, 0, true)?)?;
     entries.push(entry(alloc, b"B", 2, 0, true)?)?;
     entries.push(entry(alloc, b"C", 3, 0, true)?)?;
     entries.push(entry(alloc, b"D", 4, 0, true)?)?;
+    entries.truncate(count);
     Ok(members_of(rt, entries))
 }
 
@@ -74,10 +82,64 @@ fn play_two(
     Ok(())
 }
 
+/// The first six rows decide two witnesses, and all eight by the same votes four.
+fn carry_votes(
+    rt: &impl Abort,
+    alloc: Global,
+    six: &FrozenGraph,
+    all: &FrozenGraph,
+    votes: &mut VoteTable,
+) -> Result<(), Memory>
+    requires made { IsMadeFor votes.old six.now }
+    requires later { (table : Counting) → IsMadeFor table six.now → CarriesTo table all.now }
+{
+    let share = Share::new(0, 1);
+    let early = elect_share(alloc, six, votes, share)?;
+    equal(rt, early.marks.as_slice(), &[(0, true), (1, true)]);
+    votes.carry(alloc, all)?;
+    let found = elect_share(alloc, all, votes, share)?;
+    let four = [(0, true), (1, true), (3, true), (4, true)];
+    equal(rt, found.marks.as_slice(), &four);
+    Ok(())
+}
+
+fn carry_to(
+    rt: &impl Abort,
+    alloc: Global,
+    six: &FrozenGraph,
+    all: &FrozenGraph,
+) -> Result<(), Memory>
+    requires { (table : Counting) → IsMadeFor table six.now → CarriesTo table all.now }
+{
+    let mut votes = VoteTable::new(alloc, six)?;
+    carry_votes(rt, alloc, six, all, &mut votes)
+}
+
+/// With the first six of the node's eight rows.
+fn carry_from(
+    rt: &impl Abort,
+    alloc: Global,
+    node: &Node<MacTable>,
+    six: &FrozenGraph,
+) -> Result<(), Memory>
+    requires { six.now ≡ first_graph (graph_in node.now) 6 }
+{
+    tables_last();
+    let all = node.freeze()?;
+    carry_to(rt, alloc, six, &all)
+}
+
+fn carry(rt: &impl Abort, alloc: Global, node: &Node<MacTable>) -> Result<(), Memory> {
+    assert!(rt; node.rows() == 8);
+    let six = node.prefix(6)?;
+    carry_from(rt, alloc, node, &six)
+}
+
 #[test]
 fn publishes_what_is_decided(rt: HostRuntime) -> Result<(), Memory> {
     let (mut a, mut b) = two_players(&rt, rt.alloc())?;
-    play_two(&rt, rt.alloc(), &mut a.node, &mut b.node)
+    play_two(&rt, rt.alloc(), &mut a.node, &mut b.node)?;
+    carry(&rt, rt.alloc(), &b.node)
 }
 
 /// Three members make their first events, and sync in a ring, four times each.
@@ -130,7 +192,7 @@ fn four_players(
     rt: &impl Abort,
     alloc: Global,
 ) -> Result<(Player, Player, Player, Player), Memory> {
-    let members = four_members(rt, alloc)?;
+    let members = first_members(rt, alloc, 4)?;
     let a = player_of(rt, alloc, &members, 0)?;
     let b = player_of(rt, alloc, &members, 1)?;
     let c = player_of(rt, alloc, &members, 2)?;
@@ -143,4 +205,21 @@ fn a_late_witness_changes_no_order(rt: HostRuntime) -> Result<(), Memory> {
     let (mut a, mut b, mut c, mut d) = four_players(&rt, rt.alloc())?;
     play_ring(&mut a.node, &mut b.node, &mut c.node)?;
     come_late(&rt, rt.alloc(), &mut a.node, &mut d.node)
+}
+
+fn three_players(rt: &impl Abort, alloc: Global) -> Result<(Player, Player, Player), Memory> {
+    let members = first_members(rt, alloc, 3)?;
+    let a = player_of(rt, alloc, &members, 0)?;
+    let b = player_of(rt, alloc, &members, 1)?;
+    let c = player_of(rt, alloc, &members, 2)?;
+    Ok((a, b, c))
+}
+
+// With no fourth member more than two thirds are the same three. Each member has one line of events, so that the graph
+// counts its rows by member.
+#[test]
+fn a_ring_of_all_members_has_the_same_order(rt: HostRuntime) -> Result<(), Memory> {
+    let (mut a, mut b, mut c) = three_players(&rt, rt.alloc())?;
+    play_ring(&mut a.node, &mut b.node, &mut c.node)?;
+    publish(&rt, rt.alloc(), &mut a.node, 6, &ring_order())
 }

@@ -3,14 +3,13 @@
 //! some fame is known, and `elect` for one witness.
 //! An election opens rounds one by one and ends at the first that decides; it takes no memory.
 //!
-//! From `settle` of the `Node` of `hg_node`:
+//! From `settle` of the `Chronicle` of `hg_node`:
 //!
 //! ```text
-//! let graph = self.chronicle.graph();
-//! let mut votes = VoteTable::new(self.alloc, graph)?;
+//! self.votes.carry(alloc, &self.graph)?;
 //! let all = Share::new(0, 1);
-//! let found = elect_unmarked(self.alloc, graph, &mut votes, all, self.chronicle.marks())?;
-//! self.chronicle.publish(&found);
+//! let found = elect_unmarked(alloc, &self.graph, &mut self.votes, all, self.kept.marks())?;
+//! self.publish(&found);
 //! Ok(())
 //! ```
 #![tactic(auto, using(hg_model::proofs::StandingLaws::standings_known, hg_model::proofs::LinkLaws::link_lengths))]
