@@ -64,12 +64,12 @@ module _ (g : Graph) (s : IsShaped g.members (links_of g)) (famous least ends : 
 -- the rows that these tallies place are those that the round places
 
 pub placed_alike : (g : Graph) (famous : List ℕ) (low round : ℕ) (tallies : List Tally) (fresh : List ℕ) → HaveMedians g famous low tallies → AllByRecursion (IsBelowAll g famous) fresh → AllByRecursion (λ x. low ≤ x) fresh →
-    map (placed_with low round tallies) fresh ≡ map (placed_below g.rows (links_of g) famous round) fresh
+    map (placed_with low round tallies) fresh ≡ map (placed_below g famous round) fresh
 placed_alike g famous low round tallies [] have received from = refl
 placed_alike g famous low round tallies (x ∷ fresh) have received from =
     ap₂ (λ (t : ℕ) (ps : List Placed). record { place = x; received = round; time = t } ∷ ps) time (placed_alike g famous low round tallies fresh have received.1 from.1)
   where
-    time : (tally_at tallies (x - low)).time ≡ (placed_below g.rows (links_of g) famous round x).time
+    time : (tally_at tallies (x - low)).time ≡ (placed_below g famous round x).time
     time =
         let above = from.0 in
         let at : low + (x - low) ≡ x = omega arith in

@@ -121,7 +121,7 @@ module _ (g : Graph) (s : IsShaped g.members (links_of g)) (marks : Marks) (r : 
     of_round places inside.1 wide.1 long,
   )
 
-  same_rows : (famous fresh : List ℕ) → famous ≡ famous_of g marks r → AllByRecursion (IsBelowAll g famous) fresh → map (placed_below g.rows (links_of g) famous r) fresh ≡ map (placed_by g marks r) fresh
+  same_rows : (famous fresh : List ℕ) → famous ≡ famous_of g marks r → AllByRecursion (IsBelowAll g famous) fresh → map (placed_below g famous r) fresh ≡ map (placed_by g marks r) fresh
   same_rows famous [] are below = refl
   same_rows famous (x ∷ fresh) are below =
       let time : median (times_of g.rows (links_of g) x famous) ≡ consensus_time g.members g.rows (links_of g) marks r x =
@@ -133,14 +133,14 @@ module _ (g : Graph) (s : IsShaped g.members (links_of g)) (marks : Marks) (r : 
   all_inside famous (x ∷ fresh) below = (below.0.0, all_inside famous fresh below.1)
 
   -- rows placed by a round that is this one, if there are any
-  same_round : (famous fresh : List ℕ) (k : ℕ) → (0 < length fresh → k ≡ r) → map (placed_below g.rows (links_of g) famous k) fresh ≡ map (placed_below g.rows (links_of g) famous r) fresh
+  same_round : (famous fresh : List ℕ) (k : ℕ) → (0 < length fresh → k ≡ r) → map (placed_below g famous k) fresh ≡ map (placed_below g famous r) fresh
   same_round famous [] k same = refl
-  same_round famous (x ∷ fresh) k same = ap (λ (j : ℕ). map (placed_below g.rows (links_of g) famous j) (x ∷ fresh)) (same (omega arith))
+  same_round famous (x ∷ fresh) k same = ap (λ (j : ℕ). map (placed_below g famous j) (x ∷ fresh)) (same (omega arith))
 
   -- the sorted rows of the round
   pub sorted_is_placed : (famous fresh whitened : List ℕ) (k : ℕ) → (0 < length fresh → k ≡ r) → famous ≡ famous_of g marks r → AllByRecursion (IsBelowAll g famous) fresh → All (IsWide g.rows) fresh →
       whitened ≡ whitening_of g.rows famous → length whitened ≡ 64 →
-      sort_by (placed_less g.rows whitened) (map (placed_below g.rows (links_of g) famous k) fresh) ≡ placed_in g marks r fresh
+      sort_by (placed_less g.rows whitened) (map (placed_below g famous k) fresh) ≡ placed_in g marks r fresh
   unfolding white
   sorted_is_placed famous fresh whitened k same are below wide is long =
       let white_is : whitened ≡ whitening g.members g.rows (links_of g) marks r = is ∙ (ap (whitening_of g.rows) are ∙ whitening_is g.members (links_of g) marks r g.rows) in
@@ -185,7 +185,7 @@ module _ (g : Graph) (s : IsShaped g.members (links_of g)) (marks : Marks) (r : 
 -- what a round makes of its rows, once they are placed and sorted
 
 pub round_placed : (g : Graph) → IsShaped g.members (links_of g) → (famous fresh : List ℕ) (placed out : List Placed) (k : ℕ) →
-    IsRoundOf g famous k → (0 < length fresh → 0 < length famous) → AllByRecursion (IsBelowAll g famous) fresh → placed ≡ map (placed_below g.rows (links_of g) famous k) fresh → All (IsWide g.rows) fresh →
+    IsRoundOf g famous k → (0 < length fresh → 0 < length famous) → AllByRecursion (IsBelowAll g famous) fresh → placed ≡ map (placed_below g famous k) fresh → All (IsWide g.rows) fresh →
     out ≡ sort_by (placed_less g.rows (whitening_of g.rows famous)) placed → length (whitening_of g.rows famous) ≡ 64 → ArePlacedBy g famous fresh out
 round_placed g s famous fresh placed out k round some below is wide sorted long marks r are =
     sorted

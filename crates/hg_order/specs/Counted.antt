@@ -1,11 +1,15 @@
 -- Rows that a number for each member tells. SWIRLDS-TR-2016-01, section 5, where no member has a fork: the ancestors of an
 -- event by one member are then the first of that member's events, and so are those that several events share
-use Rattle.std.specs.Prelude.{ℕ, ◌≡◌, ◌<◌, ◌≤◌, ◌-◌, Bool, true, nat_lt, List, length, slice_index, Option, IfSome}
+use Rattle.std.specs.Prelude.{ℕ, ◌≡◌, ◌<◌, ◌≤◌, ◌-◌, Bool, true, min, nat_lt, List, length, slice_index, Option, IfSome}
 use Rattle.hg_model.specs.Stakes.{Stakes, member_count}
 use Rattle.hg_model.specs.Links.{Link, creator}
 use Rattle.hg_model.specs.Ancestry.{is_self_ancestor}
 use Rattle.hg_model.specs.Prefix.{Graph, links_of}
 use Rattle.hg_order.specs.Famous.{all_have}
+
+-- each of the first numbers is lowered to the other in its place
+abbrev pub AreLowered : List ℕ → List ℕ → List ℕ → Type 0
+AreLowered old others new = (m : ℕ) → m < length others → slice_index new m ≡ min (slice_index old m) (slice_index others m)
 
 -- row x stands below the number of its creator
 abbrev pub IsBelow : List Link → List ℕ → ℕ → Type 0

@@ -6,12 +6,11 @@ use Rattle.std.specs.Cmp.Lexicographic.{slice_cmp}
 use Rattle.hg_model.specs.declared.row.Row.{Row}
 use Rattle.hg_model.specs.declared.row.Placed.{Placed}
 use Rattle.hg_model.specs.Places.{list_below}
-use Rattle.hg_model.specs.Links.{Link}
 use Rattle.hg_model.specs.Fame.{Marks}
 use Rattle.hg_model.specs.Prefix.{Graph, links_of}
 use Rattle.hg_model.specs.Order.{median, order_key, sig_at, sort_by, xor_bytes}
 use Rattle.hg_model.specs.GraphWords.{is_received_by, consensus_time_in, famous_of, received_order}
-use Rattle.hg_order.specs.Famous.{times_of}
+use Rattle.hg_order.specs.Famous.{times_of, whitening_of}
 
 -- x as round r places it
 abbrev pub placed_by : Graph → Marks → ℕ → ℕ → Placed
@@ -37,8 +36,8 @@ whitened_cmp white a a_name b b_name =
     ordering_then (slice_cmp nat_cmp (xor_bytes a white) (xor_bytes b white)) (slice_cmp nat_cmp a_name b_name)
 
 -- x as a round places it whose unique famous witnesses are these
-abbrev pub placed_below : List Row → List Link → List ℕ → ℕ → ℕ → Placed
-placed_below G L famous r x = record { place = x; received = r; time = median (times_of G L x famous) }
+abbrev pub placed_below : Graph → List ℕ → ℕ → ℕ → Placed
+placed_below g famous r x = record { place = x; received = r; time = median (times_of g.rows (links_of g) x famous) }
 
 abbrev pub sig_or_zeros : Option Row → List ℕ
 sig_or_zeros None = replicate 64 0
@@ -62,6 +61,10 @@ placed_cmp G white a b =
 
 abbrev pub placed_less : List Row → List ℕ → Placed → Placed → Bool
 placed_less G white a b = is_lt (placed_cmp G white a b)
+
+-- these in the order of a round whose unique famous witnesses are those of `famous`
+abbrev pub sorted_below : List Row → List ℕ → List Placed → List Placed
+sorted_below G famous placed = sort_by (placed_less G (whitening_of G famous)) placed
 
 -- the row at x has a signature of 64 bytes
 abbrev pub IsWide : List Row → ℕ → Type 0

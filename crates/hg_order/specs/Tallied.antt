@@ -1,6 +1,6 @@
 -- Medians by counting: the rows on the lines of the unique famous witnesses, in the order of their times, each tallied at
 -- the rows that it has as ancestor and its self-parent has not
-use Rattle.std.specs.Prelude.{ℕ, ◌≡◌, ◌<◌, ◌≤◌, ◌+◌, ◌-◌, Bool, cond, not, ◌&&◌, ◌==◌, nat_le, nat_lt, min, List, length, fold, slice_index, slice_index_or}
+use Rattle.std.specs.Prelude.{ℕ, ◌≡◌, ◌<◌, ◌≤◌, ◌+◌, ◌-◌, Bool, true, cond, not, ◌&&◌, ◌==◌, nat_le, nat_lt, min, List, length, fold, slice_index, slice_index_or}
 use Rattle.std.specs.declared.cmp.Ordering.{Ordering}
 use Rattle.std.specs.List.{list_all, list_any}
 use Rattle.std.specs.Ordering.{nat_cmp, ordering_then, is_lt}
@@ -11,6 +11,7 @@ use Rattle.hg_order.specs.declared.tally.Tally.{Tally}
 use Rattle.hg_order.specs.declared.tally.Holder.{Holder}
 use Rattle.hg_model.specs.Links.{Link, creator, self_parent}
 use Rattle.hg_model.specs.Ancestry.{is_ancestor, is_self_ancestor}
+use Rattle.hg_model.specs.Shape.{Shape}
 use Rattle.hg_model.specs.Prefix.{Graph, links_of}
 use Rattle.hg_model.specs.Order.{median, time_at}
 use Rattle.hg_order.specs.Famous.{times_of, IsBelowAll}
@@ -69,6 +70,14 @@ pub record AreTalliedBy (L : List Link) (least : List ℕ) (low : ℕ) (h : Hold
 pub record AreTalliedByAll (L : List Link) (least : List ℕ) (low : ℕ) (holders : List Holder) (old new : List Tally) : Type 0 where
   pub each : (k : ℕ) → low + k < length L → IsBelow L least (low + k) → tally_at new k ≡ tally_of L (low + k) (tally_at old k) holders
   pub long : length new ≡ length old
+
+-- the rows that are not below the first number of their creator, and below both others, have one time more
+abbrev pub TalliesBetween : Shape → List ℕ → List ℕ → List ℕ → ℕ → ℕ → List Tally → List Tally → Type 0
+TalliesBetween s before counts least low time old new = AreTallied low time (is_between s.links before counts least) old new
+
+-- if all ancestors are counted, these holders are tallied
+abbrev pub TalliesAll : Bool → Shape → List ℕ → ℕ → List Holder → List Tally → List Tally → Type 0
+TalliesAll counted s least low holders old new = counted ≡ true → AreTalliedByAll s.links least low holders old new
 
 -- there is a tally for each row below these numbers
 abbrev pub ReachAll : List Link → List ℕ → ℕ → List Tally → Type 0

@@ -1,7 +1,7 @@
-ghost use Rattle.std.specs.Prelude.{◌≡◌, ◌<◌, ◌≤◌, ℕ, ◌-◌, ◌^◌, All, length, min, replicate, slice_index};
+ghost use Rattle.std.specs.Prelude.{◌≡◌, ◌<◌, ◌≤◌, ◌-◌, ◌^◌, All, length, replicate};
 ghost use Rattle.hg_model.specs.Prefix.{links_of};
 ghost use Rattle.hg_order.specs.Famous.{AreFamous};
-ghost use Rattle.hg_order.specs.Counted.{IfShared};
+ghost use Rattle.hg_order.specs.Counted.{AreLowered, IfShared};
 
 use hg_model::{Prefix, Sight, is_of_graph};
 
@@ -32,7 +32,7 @@ fn no_bounds() -> [u32; 128]
 /// Lowers as many of the first numbers as there are others to these.
 pub fn lower_to(numbers: &mut [u32], others: &[u32])
     requires { length others.now ≤ length numbers.old }
-    ensures { (m : ℕ) → m < length others.now → slice_index numbers.new m ≡ min (slice_index numbers.old m) (slice_index others.now m) }
+    ensures { AreLowered numbers.old others.now numbers.new }
 {
     for i in 0..others.len() {
         numbers[i] = numbers[i].min(others[i]);

@@ -3,7 +3,7 @@ ghost use Rattle.std.specs.List.{AllByRecursion};
 ghost use Rattle.hg_model.specs.Prefix.{links_of};
 ghost use Rattle.hg_model.specs.Order.{sort_by};
 ghost use Rattle.hg_order.specs.Famous.{AreFamous, IsBelowAll, whitening_of};
-ghost use Rattle.hg_order.specs.Round.{placed_below, rows_cmp, sig_or_zeros, name_or_zeros, placed_cmp, placed_less, IsWide, ArePlacedBy, AreOrderedBy, IsRoundOf};
+ghost use Rattle.hg_order.specs.Round.{placed_below, rows_cmp, sig_or_zeros, name_or_zeros, placed_cmp, placed_less, sorted_below, IsWide, ArePlacedBy, AreOrderedBy, IsRoundOf};
 
 use crate::memory::RoundMemory;
 use crate::placing::place_within;
@@ -54,7 +54,7 @@ pub fn order_round_within<P: Prefix>(
 /// Sorts rows that the round of these unique famous witnesses places.
 fn sort_round<P: Prefix>(p: &P, famous: &[usize], placed: &mut [Placed])
     requires { AreFamous (P.graph p.now) famous.now }
-    ensures sorted { placed.new ≡ sort_by (placed_less (P.graph p.now).rows (whitening_of (P.graph p.now).rows famous.now)) placed.old }
+    ensures sorted { placed.new ≡ sorted_below (P.graph p.now).rows famous.now placed.old }
     ensures long { length (whitening_of (P.graph p.now).rows famous.now) ≡ 64 }
 {
     is_of_graph(p);
@@ -84,7 +84,7 @@ pub fn place_rows<P: Prefix>(
     requires famous { AreFamous (P.graph p.now) famous.now }
     requires received { AllByRecursion (IsBelowAll (P.graph p.now) famous.now) fresh.now }
     requires same { length out.old ≡ length fresh.now }
-    ensures placed { out.new ≡ map (placed_below (P.graph p.now).rows (links_of (P.graph p.now)) famous.now round) fresh.now }
+    ensures placed { out.new ≡ map (placed_below (P.graph p.now) famous.now round) fresh.now }
     ensures wide { All (IsWide (P.graph p.now).rows) fresh.now }
 {
     for (i, x) in fresh.iter().enumerate() {
@@ -96,7 +96,7 @@ pub fn place_rows<P: Prefix>(
 fn place_row<P: Prefix>(p: &P, famous: &[usize], round: u32, x: usize) -> Placed
     requires famous { AreFamous (P.graph p.now) famous.now }
     requires received { IsBelowAll (P.graph p.now) famous.now x }
-    ensures placed { result ≡ placed_below (P.graph p.now).rows (links_of (P.graph p.now)) famous.now round x }
+    ensures placed { result ≡ placed_below (P.graph p.now) famous.now round x }
     ensures wide { IsWide (P.graph p.now).rows x }
 {
     is_wide(p, x);

@@ -53,7 +53,7 @@ fn place_by_counts<P: Prefix>(
     requires same { length out.old ≡ length fresh.now }
     requires holders_room { length (P.graph p.now).rows ≤ vec_capacity holders.old }
     requires tallies_room { length (P.graph p.now).rows ≤ vec_capacity tallies.old }
-    ensures placed { result ≡ true → out.new ≡ map (placed_below (P.graph p.now).rows (links_of (P.graph p.now)) famous.now round) fresh.now }
+    ensures placed { result ≡ true → out.new ≡ map (placed_below (P.graph p.now) famous.now round) fresh.now }
     ensures wide { result ≡ true → All (IsWide (P.graph p.now).rows) fresh.now }
     ensures holders_room { vec_capacity holders.new ≡ vec_capacity holders.old }
     ensures tallies_room { vec_capacity tallies.new ≡ vec_capacity tallies.old }
@@ -82,7 +82,7 @@ pub fn place_within<P: Prefix>(
     requires received { AllByRecursion (IsBelowAll (P.graph p.now) famous.now) fresh.now }
     requires same { length out.old ≡ length fresh.now }
     requires room { length (P.graph p.now).rows ≤ memory.old }
-    ensures placed { out.new ≡ map (placed_below (P.graph p.now).rows (links_of (P.graph p.now)) famous.now round) fresh.now }
+    ensures placed { out.new ≡ map (placed_below (P.graph p.now) famous.now round) fresh.now }
     ensures wide { All (IsWide (P.graph p.now).rows) fresh.now }
     ensures room { memory.new ≡ memory.old }
 {

@@ -1,7 +1,7 @@
 ghost use Rattle.std.specs.Prelude.{◌≡◌, ◌<◌, ◌≤◌, ◌+◌, ℕ, true, All, length, min, replicate, slice_index, vec_capacity};
 ghost use Rattle.hg_model.specs.GraphWords.{IsShapedIn};
 ghost use Rattle.hg_order.specs.Counted.{AreLines, EndAtRows, EndsBefore};
-ghost use Rattle.hg_order.specs.Tallied.{tallied, is_in_line_below, is_between, AreEnds, AreTallied, AreTalliedBy, AreTalliedByAll, ReachAll};
+ghost use Rattle.hg_order.specs.Tallied.{tallied, is_in_line_below, AreEnds, AreTallied, AreTalliedBy, ReachAll, TalliesAll, TalliesBetween};
 
 use hg_model::Sight;
 
@@ -83,7 +83,7 @@ fn tally_between<S: Sight>(
     requires before { length counts.now ≤ length before.now }
     requires ends { AreEnds (S.shape sight.now).links counts.now least.now }
     requires reach { (m : ℕ) → min (slice_index counts.now m) (slice_index least.now m) ≤ low + length tallies.old }
-    ensures { AreTallied low time (is_between (S.shape sight.now).links before.now counts.now least.now) tallies.old tallies.new }
+    ensures { TalliesBetween (S.shape sight.now) before.now counts.now least.now low time tallies.old tallies.new }
 {
     for m in 0..counts.len() {
         let top = counts[m].min(least[m]) as usize;
@@ -148,7 +148,7 @@ fn tally_slice<S: Sight>(
     requires places { All (λ h. h.place < length (S.shape sight.now).links) holders.now }
     requires last { EndAtRows (S.shape sight.now).members (S.shape sight.now).links least.now }
     requires reach { ReachAll (S.shape sight.now).links least.now low tallies.old }
-    ensures { result ≡ true → AreTalliedByAll (S.shape sight.now).links least.now low holders.now tallies.old tallies.new }
+    ensures { TalliesAll result (S.shape sight.now) least.now low holders.now tallies.old tallies.new }
 {
     for holder in holders {
         if !tally_holder(sight, *holder, least, low, tallies) {
@@ -169,7 +169,7 @@ pub fn tally_holders<S: Sight>(
     requires places { All (λ h. h.place < length (S.shape sight.now).links) holders.now }
     requires last { EndAtRows (S.shape sight.now).members (S.shape sight.now).links least.now }
     requires reach { ReachAll (S.shape sight.now).links least.now low tallies.old.items }
-    ensures tallied { result ≡ true → AreTalliedByAll (S.shape sight.now).links least.now low holders.now tallies.old.items tallies.new.items }
+    ensures tallied { TalliesAll result (S.shape sight.now) least.now low holders.now tallies.old.items tallies.new.items }
     ensures room { vec_capacity tallies.new ≡ vec_capacity tallies.old }
 {
     tally_slice(sight, holders, least, low, tallies)
