@@ -1,18 +1,22 @@
-ghost use Rattle.std.specs.Prelude.{◌≡◌, ◌<◌, length, refl};
+ghost use Rattle.std.specs.Prelude.{◌≡◌, ◌<◌, ℕ, length, refl};
+ghost use Rattle.hg_blocks.specs.Joined.{IsSplit, joined};
 ghost use Rattle.hg_model.specs.Links.{links};
 ghost use Rattle.hg_model.specs.Prefix.{graph_of};
 ghost use Rattle.hg_model.specs.Shape.{shape_of};
 ghost use Rattle.hg_model.specs.Standings.{standings_of};
 ghost use Rattle.hg_model.specs.GraphWords.{standings_in, shape_in};
 
+use crate::shared::{RowBlock, RowTail, SharedEvent};
+use hg_blocks::Blocks;
 use hg_model::{Member, Prefix, Rounds, Row, Sight};
 use std::marker::Model;
+use std::sync::Arc;
 
 /// Rows of a graph, with their sight and their rounds.
 #[derive(Drop)]
 pub struct Frozen<S: Sight, R: Rounds> {
     coin: u32,
-    rows: Vec<Row>,
+    rows: Blocks<SharedEvent>,
     sight: S,
     rounds: R,
 }
@@ -28,16 +32,24 @@ impl<S: Sight, R: Rounds> Model for Frozen<S, R> {
 }
 
 impl<S: Sight, R: Rounds> Frozen<S, R> {
-    /// These rows, with the sight and the rounds of just them, and the coin period in rounds. Takes no memory.
-    pub fn of(rows: Vec<Row>, sight: S, rounds: R, coin: u32) -> Frozen<S, R>
-        requires sight { S.shape sight ≡ shape_of (S.shape sight).members (links rows.items) }
-        requires rounds { R.standings rounds ≡ standings_of (S.shape sight).members (links rows.items) }
+    /// The rows of these blocks and then those of the tail, with the sight and the rounds of just them, and the coin period in
+    /// rounds. Takes no memory.
+    pub fn of(
+        blocks: Vec<Arc<RowBlock>>,
+        tail: RowTail,
+        sight: S,
+        rounds: R,
+        coin: u32,
+    ) -> Frozen<S, R>
+        requires sight { S.shape sight ≡ shape_of (S.shape sight).members (links (joined blocks.items tail)) }
+        requires rounds { R.standings rounds ≡ standings_of (S.shape sight).members (links (joined blocks.items tail)) }
         requires coin { 2 < coin }
-        ensures { result ≡ graph_of (S.shape sight).members coin rows.items }
+        ensures { result ≡ graph_of (S.shape sight).members coin (joined blocks.items tail) }
     {
+        let len = sight.rows();
         Frozen {
             coin,
-            rows,
+            rows: Blocks::of(blocks, tail, len),
             sight,
             rounds,
         }
@@ -48,6 +60,20 @@ impl<S: Sight, R: Rounds> Frozen<S, R> {
         ensures { result ≡ length self.now.rows }
     {
         self.rows.len()
+    }
+
+    /// How many blocks of 64 rows are shared.
+    pub fn sealed(&self) -> usize
+        ensures { (tail : ℕ) × IsSplit (length self.now.rows) result tail }
+    {
+        self.rows.sealed()
+    }
+
+    /// How many rows stand behind those blocks.
+    pub fn tail_len(&self) -> usize
+        ensures { (sealed : ℕ) × IsSplit (length self.now.rows) sealed result }
+    {
+        self.rows.tail_len()
     }
 }
 
@@ -115,7 +141,7 @@ impl<S: Sight, R: Rounds> Prefix for Frozen<S, R> {
     ghost has_rounds = { λ g. refl };
 
     fn row(&self, x: usize) -> &Row {
-        &self.rows[x]
+        self.rows[x].row()
     }
 
     fn coin(&self) -> u32 {

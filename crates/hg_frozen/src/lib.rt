@@ -1,6 +1,7 @@
 //! The first rows of a graph as one value, with what they see of each other and their rounds: a frozen prefix.
 //! The layer above uses `Frozen` as a `Prefix` of `hg_model` that a thread can take along, and nothing else.
-//! It owns its rows and takes no memory of its own; each call is the sight's, the table's, or one look at a row.
+//! Its rows are events that other graphs share, in blocks that other prefixes share. It takes no memory of its own; each call is
+//! the sight's, the table's, or one look at a row.
 //!
 //! From `prefix` of the `EventGraph` of `hg_graph`:
 //!
@@ -9,13 +10,16 @@
 //!     requires { len ≤ length self.now.graph.rows }
 //!     ensures { IfOk result (λ frozen. frozen ≡ first_graph self.now.graph len) }
 //! {
+//!     let (blocks, tail) = self.store.prefix(len)?.into_parts();
 //!     Ok(Frozen::of(
-//!         self.store.first_rows(len)?, self.sight.prefix(len)?, self.rounds.prefix(len)?, self.coin,
+//!         blocks, tail, self.sight.prefix(len)?, self.rounds.prefix(len)?, self.coin,
 //!     ))
 //! }
 //! ```
 #![tactic(auto)]
 
 mod frozen;
+mod shared;
 
 pub use frozen::Frozen;
+pub use shared::{RowBlock, RowTail, SharedEvent};

@@ -172,8 +172,10 @@ impl EventGraph {
         requires { len ≤ length self.now.graph.rows }
         ensures { IfOk result (λ frozen. frozen ≡ first_graph self.now.graph len) }
     {
+        let (blocks, tail) = self.store.prefix(len)?.into_parts();
         Ok(Frozen::of(
-            self.store.first_rows(len)?,
+            blocks,
+            tail,
             self.sight.prefix(len)?,
             self.rounds.prefix(len)?,
             self.coin,

@@ -6,9 +6,11 @@ ghost use Rattle.std.specs.Str.{bytes_eq};
 ghost use Rattle.indexmap.specs.IndexSet.{spare};
 ghost use Rattle.hg_model.specs.Links.{place_of};
 ghost use Rattle.hg_model.specs.Spelling.{spelling};
-ghost use Rattle.hg_graph.specs.RowsWithRoom.{found_place, rows_of};
+ghost use Rattle.hg_graph.specs.RowsWithRoom.{found_place};
 
+use hg_blocks::Blocks;
 use hg_event::Event;
+use hg_frozen::SharedEvent;
 use hg_model::{Memory, Name, Row};
 use indexmap::IndexSet;
 use std::alloc::Global;
@@ -59,22 +61,21 @@ impl Hash for Key {
 /// Events in the order in which they came, each shared with whoever else holds it, and found by its name.
 #[derive(Drop)]
 pub struct RowStore {
-    alloc: Global,
-    events: Vec<Arc<Event>>,
+    events: Blocks<SharedEvent>,
     names: IndexSet<Key>,
 }
 
 impl Model for RowStore {
-    ghost use Rattle.std.specs.Prelude.{◌≡◌, ◌-◌, map, min, vec_capacity, vec_len};
+    ghost use Rattle.std.specs.Prelude.{◌≡◌, map, min};
     ghost use Rattle.indexmap.specs.IndexSet.{spare};
-    ghost use Rattle.hg_graph.specs.RowsWithRoom.{RowsWithRoom, row_name, rows_of};
+    ghost use Rattle.hg_graph.specs.RowsWithRoom.{RowsWithRoom, row_name};
 
     ghost Value = { RowsWithRoom };
 
-    ghost view = { λ s. record { rows = rows_of s.events.items; room = min (vec_capacity s.events - vec_len s.events) (spare s.names) } };
+    ghost view = { λ s. record { rows = s.events.items; room = min s.events.room (spare s.names) } };
 
     // each row's name, in the same order
-    ghost invariant = { λ s. s.names.keys ≡ map row_name (rows_of s.events.items) };
+    ghost invariant = { λ s. s.names.keys ≡ map row_name s.events.items };
 }
 
 impl RowStore {
@@ -83,8 +84,7 @@ impl RowStore {
         ensures { result.rows ≡ [] }
     {
         RowStore {
-            alloc,
-            events: Vec::new(alloc),
+            events: Blocks::new(alloc),
             names: IndexSet::new(alloc),
         }
     }
@@ -101,7 +101,7 @@ impl RowStore {
         requires { x < length self.now.rows }
         ensures { slice_get self.now.rows x ≡ Some result.now.value }
     {
-        &self.events[x]
+        self.events[x].event()
     }
 
     /// The row at a place.
@@ -109,7 +109,7 @@ impl RowStore {
         requires { x < length self.now.rows }
         ensures { slice_get self.now.rows x ≡ Some result.now }
     {
-        self.event(x).row()
+        self.events[x].row()
     }
 
     /// The bytes of the row at a place.
@@ -132,7 +132,7 @@ impl RowStore {
         ensures room { OnOk result (1 ≤ self.new.room) }
         ensures same { self.new.rows ≡ self.old.rows }
     {
-        self.events.reserve(1)?;
+        self.events.reserve()?;
         self.names.reserve(1)?;
         Ok(())
     }
@@ -144,32 +144,16 @@ impl RowStore {
         ensures { self.new.rows ≡ self.old.rows ++ event.value ∷ [] }
     {
         add_name(&mut self.names, event.row().name);
-        self.events.push_reserved(event);
+        self.events.push(SharedEvent::of(event));
     }
 
-    /// The first `len` rows, in memory of their own.
-    pub fn first_rows(&self, len: usize) -> Result<Vec<Row>, Memory>
+    /// The first `len` rows, as a value of its own: it shares the sealed blocks, and points to at most 64 events more.
+    pub fn prefix(&self, len: usize) -> Result<Blocks<SharedEvent>, Memory>
         requires { len ≤ length self.now.rows }
-        ensures { IfOk result (λ rows. rows.items ≡ take len self.now.rows) }
+        ensures { IfOk result (λ first. first.items ≡ take len self.now.rows) }
     {
-        copy_rows(self.alloc, &self.events[..len])
+        self.events.cloned_prefix(len)
     }
-}
-
-fn copy_rows(alloc: Global, events: &[Arc<Event>]) -> Result<Vec<Row>, Memory>
-    ensures { IfOk result (λ rows. rows.items ≡ rows_of events.now) }
-{
-    let mut rows = Vec::with_capacity(alloc, events.len())?;
-    for event in events {
-        rows.push(copy_of(event.row())?)?;
-    }
-    Ok(rows)
-}
-
-fn copy_of(row: &Row) -> Result<Row, Memory>
-    ensures { IfOk result (λ copy. copy ≡ row.now) }
-{
-    Ok(row.clone()?)
 }
 
 /// Enters a name for which there is room.
