@@ -5,7 +5,11 @@ use hg_sign::MacTable;
 use std::process::Abort;
 
 /// Makes so many events more on the other's first one, or fewer where one is refused.
-fn make_rows(node: &mut Node<MacTable>, other: Name, count: usize) -> Result<(), Memory> {
+pub(crate) fn make_rows(
+    node: &mut Node<MacTable>,
+    other: Name,
+    count: usize,
+) -> Result<(), Memory> {
     for _ in 0..count {
         node.make(Some(other), 1, b"")?;
     }

@@ -12,6 +12,8 @@
 #[cfg(test)]
 mod damaged;
 #[cfg(test)]
+mod freezing;
+#[cfg(test)]
 mod full_node;
 #[cfg(test)]
 mod members;

@@ -10,3 +10,6 @@ pub use block::Block;
 pub use blocks::Blocks;
 pub use rows::RowBlocks;
 pub use tail::Tail;
+
+#[cfg(test)]
+mod tests;
