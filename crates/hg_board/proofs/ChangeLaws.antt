@@ -16,11 +16,11 @@ use Rattle.hg_history.proofs.CallLaws as node
 use Rattle.hg_history.proofs.RuleLaws.{made_draft}
 use Rattle.hg_gossip.specs.Holding.{Seen, Waits, positions_from, with_own}
 use Rattle.hg_board.specs.Table.{node_at}
-use Rattle.hg_board.specs.Seats.{Place, Stand, seen_by}
+use Rattle.hg_board.specs.Seats.{SharedNode, SeatView, seen_by}
 use Rattle.hg_board.specs.Calls.{rules_shared}
 use Rattle.hg_board.specs.Laws.{AddsNone, AddsOne, IsSignedBy, MakesAddOne, OtherMakesAddNone, OtherPublishesAddNone, OtherPutsAddNone, PublishesAddOne, PutsAddOne}
 
-module _ {V : Type 0} (accepts : V → Accepts) (p : Place V) (old new : Stand V) (reached : Seen V) (waits : Waits (rules_shared accepts) (seen_by p old) reached) where
+module _ {V : Type 0} (accepts : V → Accepts) (p : SharedNode V) (old new : SeatView V) (reached : Seen V) (waits : Waits (rules_shared accepts) (seen_by p old) reached) where
   node_reached : reached.node ≡ node_at p.start reached.node.history
   node_reached = ap at (ap (λ (s : Seen V). s.node.start) waits.later)
     where

@@ -12,7 +12,7 @@ use Rattle.hg_board.specs.Positions.{times, AreBelow}
 use Rattle.hg_board.specs.declared.view.View.{View}
 use Rattle.hg_board.specs.Table.{Orderly, node_at}
 use Rattle.hg_board.specs.Steps.{Hand, HasCompared, joined, longer}
-use Rattle.hg_board.specs.Seats.{IsOf, place, stand_of}
+use Rattle.hg_board.specs.Seats.{IsOf, shared_node, seat_view_of}
 use Rattle.hg_board.specs.Turns.{Enters, inside_at}
 use Rattle.hg_board.specs.Calls.{Absorbs, IsWhole}
 use Rattle.hg_board.proofs.PrefixLaws.{longest, prefix_self}
@@ -27,8 +27,8 @@ module _ {V : Type 0} (accepts : V → Accepts) (start : NodeView V) where
   abbrev Joined : View V → View V → Hand V → Type 0
   Joined v w n = n.0 ≡ joined v w
 
-  pub absorbs : (table old other new : TableId) (v w : View V) (n o : Hand V) → IsOf (place table start) (stand_of old v) → new ≡ old → Joined v w n → HasCompared accepts n o →
-      Absorbs accepts (place table start) (stand_of old v) (stand_of other w) (stand_of new o.0)
+  pub absorbs : (table old other new : TableId) (v w : View V) (n o : Hand V) → IsOf (shared_node table start) (seat_view_of old v) → new ≡ old → Joined v w n → HasCompared accepts n o →
+      Absorbs accepts (shared_node table start) (seat_view_of old v) (seat_view_of other w) (seat_view_of new o.0)
   absorbs table old other new v w n o of same is told =
       let size = longest v.seen w.seen in
       let t : HasCompared accepts (joined v w, n.1) o = subst (λ (x : View V). HasCompared accepts (x, n.1) o) is told in
@@ -50,11 +50,11 @@ module _ {V : Type 0} (accepts : V → Accepts) (start : NodeView V) where
       }
 
   pub whole : (m n : Hand V) (node : NodeView V) (count : ℕ) → Enters accepts start m n node count → (table old : TableId) (s : State (Option (NodeView V)) (View V)) → Orderly accepts start s → (id : ℕ) →
-      get_elem? s.views id ≡ some n.0 → IsWhole accepts (place table start) (stand_of old m.0) node
+      get_elem? s.views id ≡ some n.0 → IsWhole accepts (shared_node table start) (seat_view_of old m.0) node
   whole m n node count inside table old s o id at =
       let here : Ends accepts start n.0 = ends accepts start s o id n.0 at (ap (λ (x : Hand V). x.0.hold) inside.inside) in
       let e : Ends accepts start (inside_at m.0 inside.history m.0.mine).0 = subst (λ (x : Hand V). Ends accepts start x.0) inside.inside here in
-      subst (λ (v : NodeView V). IsWhole accepts (place table start) (stand_of old m.0) v) (sym inside.found) record {
+      subst (λ (v : NodeView V). IsWhole accepts (shared_node table start) (seat_view_of old m.0) v) (sym inside.found) record {
         start = refl;
         later = e.later;
         seen = inside.seen;

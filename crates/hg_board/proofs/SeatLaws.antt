@@ -28,7 +28,7 @@ use Rattle.hg_gossip.proofs.AloneLaws.{waits_alone}
 use Rattle.hg_board.specs.declared.view.View.{View}
 use Rattle.hg_board.specs.Table.{node_at}
 use Rattle.hg_board.specs.Steps.{Hand}
-use Rattle.hg_board.specs.Seats.{IsOf, Place, Stand, place, seen_by, stand_of}
+use Rattle.hg_board.specs.Seats.{IsOf, SharedNode, SeatView, shared_node, seen_by, seat_view_of}
 use Rattle.hg_board.specs.Turns.{Enters, IsGrown, IsInside, inside_at, mine_with, outside_at}
 use Rattle.hg_board.specs.Calls.{SeatMakes, SeatPublishes, SeatPuts, SeatWaits, Stays, rules_shared}
 use Rattle.hg_board.proofs.PrefixLaws.{prefix_front}
@@ -117,14 +117,14 @@ module _ {V : Type 0} (accepts : V → Accepts) where
         (subst (λ (h : List Change). IsFoundBy (node_at start h) found) (sym inside.seen.1)
         (found_lasts start.start.members start.start.coin m.0.seen inside.seen.0 found.len found.share found.marks speaks))
 
-    module _ (table old new : TableId) (of : IsOf (place table start) (stand_of old m.0)) (same : new ≡ old) (o : Hand V) where
+    module _ (table old new : TableId) (of : IsOf (shared_node table start) (seat_view_of old m.0)) (same : new ≡ old) (o : Hand V) where
       abbrev known : List Change → List ℕ → Seen V
       known h positions = record { node = node_at start h; positions = positions }
 
       abbrev reached : Seen V
       reached = known inside.history m.0.mine
 
-      others_came : Waits (rules_shared accepts) (seen_by (place table start) (stand_of old m.0)) reached
+      others_came : Waits (rules_shared accepts) (seen_by (shared_node table start) (seat_view_of old m.0)) reached
       others_came = record {
         others = inside.seen.0;
         alone = λ e. absurd (true≢false e);
@@ -137,10 +137,10 @@ module _ {V : Type 0} (accepts : V → Accepts) where
         own_seen : o.0.seen ≡ inside.history ++ es
         own_seen = ap (λ (x : Hand V). x.0.seen) left
 
-        own_new : seen_by (place table start) (stand_of new o.0) ≡ with_own reached es
-        own_new = ap (λ (x : Hand V). seen_by (place table start) (stand_of new x.0)) left
+        own_new : seen_by (shared_node table start) (seat_view_of new o.0) ≡ with_own reached es
+        own_new = ap (λ (x : Hand V). seen_by (shared_node table start) (seat_view_of new x.0)) left
 
-        own_stays : IsNode accepts (node_at start (inside.history ++ es)) → Stays accepts (place table start) (stand_of old m.0) (stand_of new o.0)
+        own_stays : IsNode accepts (node_at start (inside.history ++ es)) → Stays accepts (shared_node table start) (seat_view_of old m.0) (seat_view_of new o.0)
         own_stays lawful = record {
           of = record { table = same ∙ of.table; start = ap (λ (x : Hand V). x.0.start) left ∙ of.start };
           parts = ap (λ (x : Hand V). x.0.parts) left;
@@ -153,7 +153,7 @@ module _ {V : Type 0} (accepts : V → Accepts) where
         read_left : o ≡ outside_at m.0 inside.history m.0.mine
         read_left = left ∙ ap (λ (x : Hand V). outside_at x.0 x.0.seen x.0.mine) inside.inside
 
-        pub read_stays : Stays accepts (place table start) (stand_of old m.0) (stand_of new o.0)
+        pub read_stays : Stays accepts (shared_node table start) (seat_view_of old m.0) (seat_view_of new o.0)
         read_stays = record {
           of = record { table = same ∙ of.table; start = ap (λ (x : Hand V). x.0.start) read_left ∙ of.start };
           parts = ap (λ (x : Hand V). x.0.parts) read_left;
@@ -161,15 +161,15 @@ module _ {V : Type 0} (accepts : V → Accepts) where
           node = subst (λ (h : List Change). IsNode accepts (node_at start h)) (sym (ap (λ (x : Hand V). x.0.seen) read_left)) inside.lawful;
         }
 
-        pub read_waits : SeatWaits accepts (place table start) (stand_of old m.0) (stand_of new o.0)
-        read_waits = subst (Waits (rules_shared accepts) (seen_by (place table start) (stand_of old m.0)))
-            (sym (ap (λ (x : Hand V). seen_by (place table start) (stand_of new x.0)) read_left)) others_came
+        pub read_waits : SeatWaits accepts (shared_node table start) (seat_view_of old m.0) (seat_view_of new o.0)
+        read_waits = subst (Waits (rules_shared accepts) (seen_by (shared_node table start) (seat_view_of old m.0)))
+            (sym (ap (λ (x : Hand V). seen_by (shared_node table start) (seat_view_of new x.0)) read_left)) others_came
 
         pub read_node : node ≡ node_at start o.0.seen
         read_node = inside.found ∙ ap (λ (h : List Change). node_at start h) (sym (ap (λ (x : Hand V). x.0.seen) read_left))
 
-        pub read_seen : (p : Place V) → place table start ≡ p → node ≡ (seen_by p (stand_of new o.0)).node
-        read_seen p is = read_node ∙ ap (λ (q : Place V). node_at q.start o.0.seen) is
+        pub read_seen : (p : SharedNode V) → shared_node table start ≡ p → node ≡ (seen_by p (seat_view_of new o.0)).node
+        read_seen p is = read_node ∙ ap (λ (q : SharedNode V). node_at q.start o.0.seen) is
 
       -- a call that may have changed the node to w
       module _ (w : NodeView V) (left : o ≡ outside_at n.0 w.history (mine_with n.0 w.history)) where
@@ -185,32 +185,32 @@ module _ {V : Type 0} (accepts : V → Accepts) where
         grown_node es grown lawful =
             subst (IsNode accepts) (grown ∙ ap (λ (v : NodeView V). with_changes v es) inside.found) lawful
 
-        pub grown_stays : IsGrown node w → IsNode accepts w → Stays accepts (place table start) (stand_of old m.0) (stand_of new o.0)
+        pub grown_stays : IsGrown node w → IsNode accepts w → Stays accepts (shared_node table start) (seat_view_of old m.0) (seat_view_of new o.0)
         grown_stays g lawful = own_stays g.changes (grown_left g.changes g.grown) (grown_node g.changes g.grown lawful)
 
-        same_waits : w ≡ node → SeatWaits accepts (place table start) (stand_of old m.0) (stand_of new o.0)
+        same_waits : w ≡ node → SeatWaits accepts (shared_node table start) (seat_view_of old m.0) (seat_view_of new o.0)
         same_waits is =
             let none : w ≡ with_changes node [] = with_no_change node w is in
             let is_new = own_new [] (grown_left [] none) in
-            subst (Waits (rules_shared accepts) (seen_by (place table start) (stand_of old m.0)))
+            subst (Waits (rules_shared accepts) (seen_by (shared_node table start) (seat_view_of old m.0)))
             (sym (is_new ∙ (λ i. known (append-nil inside.history i) (append-nil m.0.mine i)))) others_came
 
-        pub failed_waits : {A E : Type 0} (result : Result A E) → OnErr result (w ≡ node) → OnErr result (SeatWaits accepts (place table start) (stand_of old m.0) (stand_of new o.0))
+        pub failed_waits : {A E : Type 0} (result : Result A E) → OnErr result (w ≡ node) → OnErr result (SeatWaits accepts (shared_node table start) (seat_view_of old m.0) (seat_view_of new o.0))
         failed_waits (Ok a) is = tt
         failed_waits (Err e) is = same_waits is
 
         -- what is so of the node where memory ran out is so of what the seat then has seen
         pub failed_at : {A E : Type 0} (P : NodeView V → Type 0) (result : Result A E) → OnErr result (w ≡ node) → OnErr result (P node) →
-            OnErr result (P (seen_by (place table start) (stand_of new o.0)).node)
+            OnErr result (P (seen_by (shared_node table start) (seat_view_of new o.0)).node)
         failed_at P (Ok a) is so = tt
         failed_at P (Err e) is so =
             let is_new = own_new [] (grown_left [] (with_no_change node w is)) in
-            let same_node : (seen_by (place table start) (stand_of new o.0)).node ≡ node =
+            let same_node : (seen_by (shared_node table start) (seat_view_of new o.0)).node ≡ node =
             ap (λ (s : Seen V). s.node) is_new ∙ (ap (λ (h : List Change). node_at start h) (append-nil inside.history) ∙ sym inside.found) in
             subst P (sym same_node) so
 
         pub puts : {E : Type 0} (bytes : List ℕ) (result : Result PutAnswer E) → IfOk result (λ a. a ≡ put_answer accepts node bytes) → OnOk result (w ≡ with_changes node (put_changes accepts node bytes)) →
-            IfOk result (SeatPuts accepts (place table start) (stand_of old m.0) bytes (stand_of new o.0))
+            IfOk result (SeatPuts accepts (shared_node table start) (seat_view_of old m.0) bytes (seat_view_of new o.0))
         puts bytes (Ok a) answer grown = record {
           reached = reached;
           waits = others_came;
@@ -221,7 +221,7 @@ module _ {V : Type 0} (accepts : V → Accepts) where
         puts bytes (Err e) answer grown = tt
 
         pub makes : {E : Type 0} (others : List (List ℕ)) (time : ℕ) (payload : List ℕ) (result : Result MakeAnswer E) → IfOk result (λ a. IsMaking accepts node others time payload a w) →
-            IfOk result (SeatMakes accepts (place table start) (stand_of old m.0) others time payload (stand_of new o.0))
+            IfOk result (SeatMakes accepts (shared_node table start) (seat_view_of old m.0) others time payload (seat_view_of new o.0))
         makes others time payload (Ok a) made_one =
             let making : IsMaking accepts reached.node others time payload a w = subst (λ (v : NodeView V). IsMaking accepts v others time payload a w) inside.found made_one in
             let es : List Change = make_changes reached.node others time payload making.sig in
@@ -242,7 +242,7 @@ module _ {V : Type 0} (accepts : V → Accepts) where
         makes others time payload (Err e) made_one = tt
 
         pub publishes : (len : ℕ) (share : Share) (marked : ℕ) → marked ≡ publish_answer node len share → w ≡ with_changes node (publish_changes node len share) →
-            SeatPublishes accepts (place table start) (stand_of old m.0) len share (stand_of new o.0) marked
+            SeatPublishes accepts (shared_node table start) (seat_view_of old m.0) len share (seat_view_of new o.0) marked
         publishes len share marked answer grown = record {
           reached = reached;
           waits = others_came;
@@ -255,10 +255,10 @@ module _ {V : Type 0} (accepts : V → Accepts) where
   pub looked_at : (v w : NodeView V) → Waits (rules_alone accepts) (seen_whole v) (seen_whole w) → w ≡ v
   looked_at v w waits = waits_alone V accepts v w waits
 
-module _ {V : Type 0} (table old : TableId) (start : NodeView V) (v : View V) (p : Place V) (s : Stand V) (place_is : place table start ≡ p) (stand_is : stand_of old v ≡ s) where
+module _ {V : Type 0} (table old : TableId) (start : NodeView V) (v : View V) (p : SharedNode V) (s : SeatView V) (place_is : shared_node table start ≡ p) (stand_is : seat_view_of old v ≡ s) where
   -- a seat of a shared node, by what they are inside
-  pub of_inside : IsOf p s → IsOf (place table start) (stand_of old v)
-  of_inside of = subst (λ (q : Place V). IsOf q (stand_of old v)) (sym place_is) (subst (IsOf p) (sym stand_is) of)
+  pub of_inside : IsOf p s → IsOf (shared_node table start) (seat_view_of old v)
+  of_inside of = subst (λ (q : SharedNode V). IsOf q (seat_view_of old v)) (sym place_is) (subst (IsOf p) (sym stand_is) of)
 
   pub same_table : IsOf p s → old ≡ table
   same_table of = (of_inside of).table
@@ -267,10 +267,10 @@ module _ {V : Type 0} (table old : TableId) (start : NodeView V) (v : View V) (p
   same_start of = (of_inside of).start
 
   -- and what is so of them inside, as callers see them
-  pub as_seen : (R : Place V → Stand V → Type 0) → R (place table start) (stand_of old v) → R p s
-  as_seen R is = subst (λ (q : Place V). R q s) place_is (subst (R (place table start)) stand_is is)
+  pub as_seen : (R : SharedNode V → SeatView V → Type 0) → R (shared_node table start) (seat_view_of old v) → R p s
+  as_seen R is = subst (λ (q : SharedNode V). R q s) place_is (subst (R (shared_node table start)) stand_is is)
 
   -- what was found in what the seat had seen
   pub found_seen : (found : Found) → IsFoundBy (seen_by p s).node found → IsFoundBy (node_at start v.seen) found
   found_seen found speaks =
-      subst (λ (q : Place V). IsFoundBy (seen_by q (stand_of old v)).node found) (sym place_is) (subst (λ (x : Stand V). IsFoundBy (seen_by p x).node found) (sym stand_is) speaks)
+      subst (λ (q : SharedNode V). IsFoundBy (seen_by q (seat_view_of old v)).node found) (sym place_is) (subst (λ (x : SeatView V). IsFoundBy (seen_by p x).node found) (sym stand_is) speaks)

@@ -11,7 +11,7 @@ use Rattle.hg_gossip.specs.Holding.{Makes, PutsBytes, Rules, Seen, Waits, with_o
 use Rattle.hg_board.specs.Positions.{times, once_from, AreBelow}
 use Rattle.hg_board.specs.Table.{all_parts, node_at}
 use Rattle.hg_board.specs.Steps.{longer}
-use Rattle.hg_board.specs.Seats.{IsOf, Place, Stand, seen_by, stand}
+use Rattle.hg_board.specs.Seats.{IsOf, SharedNode, SeatView, seen_by, seat_view}
 
 -- others may change the node too
 abbrev pub rules_shared : {V : Type 0} → (V → Accepts) → Rules V
@@ -24,32 +24,32 @@ pub record Publishes {V : Type 0} (rules : Rules V) (old : Seen V) (len : ℕ) (
   pub answers : count ≡ publish_answer reached.node len share
   pub grown : new ≡ with_own reached (publish_changes reached.node len share)
 
-module _ {V : Type 0} (accepts : V → Accepts) (p : Place V) where
+module _ {V : Type 0} (accepts : V → Accepts) (p : SharedNode V) where
   -- it is a seat of the node still, with as many parts; it has seen more, which is a history of the node
-  pub record Stays (old new : Stand V) : Type 0 where
+  pub record Stays (old new : SeatView V) : Type 0 where
     pub of : IsOf p new
     pub parts : new.parts ≡ old.parts
     pub seen : IsPrefix old.seen new.seen
     pub node : IsNode accepts (node_at p.start new.seen)
 
   -- its call added nothing: others' changes alone are new
-  abbrev pub SeatWaits : Stand V → Stand V → Type 0
+  abbrev pub SeatWaits : SeatView V → SeatView V → Type 0
   SeatWaits old new = Waits (rules_shared accepts) (seen_by p old) (seen_by p new)
 
   -- the bytes were put to the node at a history of which the seat had seen a prefix
-  abbrev pub SeatPuts : Stand V → List ℕ → Stand V → PutAnswer → Type 0
+  abbrev pub SeatPuts : SeatView V → List ℕ → SeatView V → PutAnswer → Type 0
   SeatPuts old bytes new answer = PutsBytes (rules_shared accepts) (seen_by p old) bytes (seen_by p new) answer
 
   -- so was the event made
-  abbrev pub SeatMakes : Stand V → List (List ℕ) → ℕ → List ℕ → Stand V → MakeAnswer → Type 0
+  abbrev pub SeatMakes : SeatView V → List (List ℕ) → ℕ → List ℕ → SeatView V → MakeAnswer → Type 0
   SeatMakes old others time payload new answer = Makes (rules_shared accepts) (seen_by p old) others time payload (seen_by p new) answer
 
   -- so was published what the share found
-  abbrev pub SeatPublishes : Stand V → ℕ → Share → Stand V → ℕ → Type 0
+  abbrev pub SeatPublishes : SeatView V → ℕ → Share → SeatView V → ℕ → Type 0
   SeatPublishes old len share new count = Publishes (rules_shared accepts) (seen_by p old) len share (seen_by p new) count
 
   -- the first seat of a node: it has seen the whole history and added nothing, and has all parts
-  pub record IsStarted (node : NodeView V) (s : Stand V) : Type 0 where
+  pub record IsStarted (node : NodeView V) (s : SeatView V) : Type 0 where
     pub of : IsOf p s
     pub start : p.start ≡ node
     pub seen : s.seen ≡ node.history
@@ -58,7 +58,7 @@ module _ {V : Type 0} (accepts : V → Accepts) (p : Place V) where
     pub lawful : IsNode accepts node
 
   -- both seats in one: of what they had seen the shorter is a prefix of the longer, which is kept
-  pub record Absorbs (old other new : Stand V) : Type 0 where
+  pub record Absorbs (old other new : SeatView V) : Type 0 where
     pub of : IsOf p new
     pub parts : new.parts ≡ old.parts + other.parts
     pub mine : new.mine ≡ old.mine ++ other.mine
@@ -71,7 +71,7 @@ module _ {V : Type 0} (accepts : V → Accepts) (p : Place V) where
 
   -- the node of the whole history: all else of it is as at the start, and the changes of the seat are there; where the
   -- seat has all parts, they are all since the start, each once
-  pub record IsWhole (s : Stand V) (node : NodeView V) : Type 0 where
+  pub record IsWhole (s : SeatView V) (node : NodeView V) : Type 0 where
     pub start : node.start ≡ p.start.start
     pub later : IsPrefix p.start.history node.history
     pub seen : IsPrefix s.seen node.history
@@ -81,8 +81,8 @@ module _ {V : Type 0} (accepts : V → Accepts) (p : Place V) where
 
 module _ {V : Type 0} where
   -- a split moves one part to a new seat, which has seen as much and added nothing
-  abbrev pub after_split : Stand V → Stand V
-  after_split s = stand s.table s.start s.seen s.mine (s.parts - 1)
+  abbrev pub after_split : SeatView V → SeatView V
+  after_split s = seat_view s.table s.start s.seen s.mine (s.parts - 1)
 
-  abbrev pub split_off : Stand V → Stand V
-  split_off s = stand s.table s.start s.seen [] 1
+  abbrev pub split_off : SeatView V → SeatView V
+  split_off s = seat_view s.table s.start s.seen [] 1

@@ -15,28 +15,28 @@ use Rattle.hg_model.specs.NodeView.{NodeView, node_rows}
 use Rattle.hg_model.specs.Calls.{make_answer, make_body, make_draft, publish_answer, put_answer}
 use Rattle.hg_model.specs.Signing.{Accepts}
 use Rattle.hg_board.specs.Table.{node_at}
-use Rattle.hg_board.specs.Seats.{Place, Stand}
+use Rattle.hg_board.specs.Seats.{SharedNode, SeatView}
 use Rattle.hg_board.specs.Calls.{SeatMakes, SeatPublishes, SeatPuts}
 
 -- what the seat then has seen is a history of which it had seen a prefix, and this change, at whose position it is its own
-pub record AddsOne {V : Type 0} (old new : Stand V) (history : List Change) (change : Change) : Type 0 where
+pub record AddsOne {V : Type 0} (old new : SeatView V) (history : List Change) (change : Change) : Type 0 where
   pub begins : IsPrefix old.seen history
   pub grown : new.seen ≡ history ++ change ∷ []
   pub mine : new.mine ≡ old.mine ++ length history ∷ []
 
 -- it has seen more, and added nothing
-pub record AddsNone {V : Type 0} (old new : Stand V) : Type 0 where
+pub record AddsNone {V : Type 0} (old new : SeatView V) : Type 0 where
   pub begins : IsPrefix old.seen new.seen
   pub mine : new.mine ≡ old.mine
 
 -- a put that was accepted adds the row that the bytes spell, as the node does in the history before it
 abbrev pub PutsAddOne : (V : Type 0) → Type 0
-PutsAddOne V = (accepts : V → Accepts) (p : Place V) (old new : Stand V) (bytes : List ℕ) (place : ℕ) → SeatPuts accepts p old bytes new (Accepted place) →
+PutsAddOne V = (accepts : V → Accepts) (p : SharedNode V) (old new : SeatView V) (bytes : List ℕ) (place : ℕ) → SeatPuts accepts p old bytes new (Accepted place) →
     (h : List Change) × (row : Row) × AddsOne old new h (Took row) × (read_event bytes ≡ Ok row) × (put_answer accepts (node_at p.start h) bytes ≡ Accepted place)
 
 -- any other put answers as the node does in what the seat then has seen
 abbrev pub OtherPutsAddNone : (V : Type 0) → Type 0
-OtherPutsAddNone V = (accepts : V → Accepts) (p : Place V) (old new : Stand V) (bytes : List ℕ) (answer : PutAnswer) → SeatPuts accepts p old bytes new answer →
+OtherPutsAddNone V = (accepts : V → Accepts) (p : SharedNode V) (old new : SeatView V) (bytes : List ℕ) (answer : PutAnswer) → SeatPuts accepts p old bytes new answer →
     ((place : ℕ) → answer ≡ Accepted place → ⊥) → AddsNone old new × (answer ≡ put_answer accepts (node_at p.start new.seen) bytes)
 
 -- the node's member signed such an event so
@@ -45,14 +45,14 @@ IsSignedBy accepts v others time payload sig = accepts v.start.keys v.start.own 
 
 -- an event that was made is one change more: the row that the node makes in the history before it, signed by its member
 abbrev pub MakesAddOne : (V : Type 0) → Type 0
-MakesAddOne V = (accepts : V → Accepts) (p : Place V) (old new : Stand V) (others : List (List ℕ)) (time : ℕ) (payload : List ℕ) (place : ℕ) →
+MakesAddOne V = (accepts : V → Accepts) (p : SharedNode V) (old new : SeatView V) (others : List (List ℕ)) (time : ℕ) (payload : List ℕ) (place : ℕ) →
     SeatMakes accepts p old others time payload new (made.Made place) →
     (h : List Change) × (sig : List ℕ) × AddsOne old new h (Made (made_row p.start.start.own (node_rows (node_at p.start h)) others time payload sig))
     × IsSignedBy accepts (node_at p.start h) others time payload sig × (make_answer (node_at p.start h) others time payload sig ≡ made.Made place)
 
 -- one that was refused adds nothing, and is refused by what the seat then has seen
 abbrev pub OtherMakesAddNone : (V : Type 0) → Type 0
-OtherMakesAddNone V = (accepts : V → Accepts) (p : Place V) (old new : Stand V) (others : List (List ℕ)) (time : ℕ) (payload : List ℕ) (fault : MakeFault) →
+OtherMakesAddNone V = (accepts : V → Accepts) (p : SharedNode V) (old new : SeatView V) (others : List (List ℕ)) (time : ℕ) (payload : List ℕ) (fault : MakeFault) →
     SeatMakes accepts p old others time payload new (made.Refused fault) →
     AddsNone old new × (sig : List ℕ)
     × (make_draft (node_at p.start new.seen) others payload ≡ None → IsSignedBy accepts (node_at p.start new.seen) others time payload sig)
@@ -60,10 +60,10 @@ OtherMakesAddNone V = (accepts : V → Accepts) (p : Place V) (old new : Stand V
 
 -- a publication that marked some witnesses is one change more, with as many as the node marks in the history before it
 abbrev pub PublishesAddOne : (V : Type 0) → Type 0
-PublishesAddOne V = (accepts : V → Accepts) (p : Place V) (old new : Stand V) (len : ℕ) (share : Share) (count : ℕ) → 0 < count → SeatPublishes accepts p old len share new count →
+PublishesAddOne V = (accepts : V → Accepts) (p : SharedNode V) (old new : SeatView V) (len : ℕ) (share : Share) (count : ℕ) → 0 < count → SeatPublishes accepts p old len share new count →
     (h : List Change) × AddsOne old new h (Marked len share) × (count ≡ publish_answer (node_at p.start h) len share)
 
 -- one that marked none adds nothing
 abbrev pub OtherPublishesAddNone : (V : Type 0) → Type 0
-OtherPublishesAddNone V = (accepts : V → Accepts) (p : Place V) (old new : Stand V) (len : ℕ) (share : Share) → SeatPublishes accepts p old len share new 0 →
+OtherPublishesAddNone V = (accepts : V → Accepts) (p : SharedNode V) (old new : SeatView V) (len : ℕ) (share : Share) → SeatPublishes accepts p old len share new 0 →
     AddsNone old new × (publish_answer (node_at p.start new.seen) len share ≡ 0)

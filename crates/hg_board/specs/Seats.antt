@@ -8,13 +8,13 @@ use Rattle.hg_board.specs.Table.{node_at}
 use Rattle.hg_board.specs.declared.view.View.{View}
 
 -- a shared node: its table, and the node that it was started with
-pub record Place (V : Type 0) : Type 0 where
+pub record SharedNode (V : Type 0) : Type 0 where
   pub table : TableId
   pub start : NodeView V
 
 -- a seat: its table and the node that this was started with, the history that it has seen, the positions of the changes
 -- that its own calls added, and its parts
-pub record Stand (V : Type 0) : Type 0 where
+pub record SeatView (V : Type 0) : Type 0 where
   pub table : TableId
   pub start : Option (NodeView V)
   pub seen : List Change
@@ -22,20 +22,20 @@ pub record Stand (V : Type 0) : Type 0 where
   pub parts : ℕ
 
 module _ {V : Type 0} where
-  abbrev pub place : TableId → NodeView V → Place V
-  place table start = record { table = table; start = start }
+  abbrev pub shared_node : TableId → NodeView V → SharedNode V
+  shared_node table start = record { table = table; start = start }
 
-  abbrev pub stand : TableId → Option (NodeView V) → List Change → List ℕ → ℕ → Stand V
-  stand table start seen mine parts = record { table = table; start = start; seen = seen; mine = mine; parts = parts }
+  abbrev pub seat_view : TableId → Option (NodeView V) → List Change → List ℕ → ℕ → SeatView V
+  seat_view table start seen mine parts = record { table = table; start = start; seen = seen; mine = mine; parts = parts }
 
-  abbrev pub stand_of : TableId → View V → Stand V
-  stand_of table v = stand table v.start v.seen v.mine v.parts
+  abbrev pub seat_view_of : TableId → View V → SeatView V
+  seat_view_of table v = seat_view table v.start v.seen v.mine v.parts
 
   -- the seat is one of this shared node
-  pub record IsOf (p : Place V) (s : Stand V) : Type 0 where
+  pub record IsOf (p : SharedNode V) (s : SeatView V) : Type 0 where
     pub table : s.table ≡ p.table
     pub start : s.start ≡ Some p.start
 
   -- the node as the seat has seen it, and the seat's own positions
-  abbrev pub seen_by : Place V → Stand V → Seen V
+  abbrev pub seen_by : SharedNode V → SeatView V → Seen V
   seen_by p s = record { node = node_at p.start s.seen; positions = s.mine }

@@ -23,8 +23,8 @@ abbrev pub Hand : Type 0 → Type 0
 Hand V = Me (Option (NodeView V)) (View V)
 
 -- what a step tells, of the seat before, the number that it found and the seat after
-abbrev pub Tells : Type 0 → Type 1
-Tells V = Step (Option (NodeView V)) → Hand V → ℕ → Hand V → Type 0
+abbrev pub StepMeaning : Type 0 → Type 1
+StepMeaning V = Step (Option (NodeView V)) → Hand V → ℕ → Hand V → Type 0
 
 module _ {V : Type 0} where
   abbrev pub with_hold : View V → Hold → View V
@@ -40,21 +40,21 @@ module _ {V : Type 0} where
     pub taken : n ≡ (with_hold m.0 (Taken history), (0, Some (node_at start history)) ∷ [])
 
   -- 1, take the turn: where it was free
-  abbrev pub taken : (V → Accepts) → Tells V
+  abbrev pub taken : (V → Accepts) → StepMeaning V
   taken accepts step m found n = (found ≡ 0 → HasTaken accepts m n) × (found ≢ 0 → n ≡ m)
 
   -- 4, raise the count, for the change that this step adds; the node may be out
-  abbrev pub raised : Change → Tells V
+  abbrev pub raised : Change → StepMeaning V
   raised change step m found n =
       n ≡ (view m.0.start (m.0.seen ++ change ∷ []) m.0.told (m.0.mine ++ length m.0.seen ∷ []) m.0.parts Loaded, m.1)
 
   -- 5, load the count: it is the length of the history, which then is seen
-  abbrev pub loaded : Tells V
+  abbrev pub loaded : StepMeaning V
   loaded step m found n = (history : List Change) → m.0.hold ≡ Taken history →
       (found ≡ length history) × (n ≡ (view m.0.start history m.0.told m.0.mine m.0.parts Loaded, m.1))
 
   -- 6, give the turn
-  abbrev pub given : Tells V
+  abbrev pub given : StepMeaning V
   given step m found n = n ≡ (with_hold m.0 Free, [])
 
   -- what was told is a prefix of what was seen, where it is not longer; the seen history is a node's; of the seat's
@@ -70,7 +70,7 @@ module _ {V : Type 0} where
     pub cleared : n ≡ (view m.0.start m.0.seen [] m.0.mine m.0.parts m.0.hold, m.1)
 
   -- 5 after 8, load the count, and compare
-  abbrev pub compared : (V → Accepts) → Tells V
+  abbrev pub compared : (V → Accepts) → StepMeaning V
   compared accepts step m found n = HasCompared accepts m n
 
   -- 7, split a seat

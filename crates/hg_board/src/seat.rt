@@ -15,12 +15,12 @@ pub struct Seat<V: Signer> {
 
 impl<V: Signer> Model for Seat<V> {
     ghost use Rattle.std.specs.Prelude.{◌≡◌};
-    ghost use Rattle.hg_board.specs.Seats.{Stand, stand_of};
+    ghost use Rattle.hg_board.specs.Seats.{SeatView, seat_view_of};
     ghost use Rattle.hg_board.specs.Steps.{IsAtRest};
 
-    ghost Value = { Stand V };
+    ghost Value = { SeatView V };
 
-    ghost view = { λ s. stand_of s.raw.table_id s.raw.me.0 };
+    ghost view = { λ s. seat_view_of s.raw.table_id s.raw.me.0 };
 
     ghost invariant = { λ s. IsAtRest s.raw.me × (s.raw.me.0.parts ≡ s.parts) };
 }

@@ -29,12 +29,12 @@ pub struct Shared<V: Signer> {
 }
 
 impl<V: Signer> Model for Shared<V> {
-    ghost use Rattle.hg_board.specs.Seats.{Place, place};
+    ghost use Rattle.hg_board.specs.Seats.{SharedNode, shared_node};
     ghost use Rattle.hg_board.specs.Turns.{IsSized};
 
-    ghost Value = { Place V };
+    ghost Value = { SharedNode V };
 
-    ghost view = { λ s. place s.table.shared.table_id s.table.shared.key.value };
+    ghost view = { λ s. shared_node s.table.shared.table_id s.table.shared.key.value };
 
     ghost invariant = { λ s. IsSized s.table.shared.table_id };
 }

@@ -15,17 +15,17 @@ use Rattle.hg_history.proofs.StateLaws.{marks_stay, prefix_more}
 use Rattle.hg_board.specs.Crews.{MarksAll}
 use Rattle.hg_board.specs.Positions.{times}
 use Rattle.hg_board.specs.Table.{all_parts}
-use Rattle.hg_board.specs.Seats.{Place, Stand}
+use Rattle.hg_board.specs.Seats.{SharedNode, SeatView}
 use Rattle.hg_board.specs.Calls.{Absorbs, IsStarted, IsWhole, after_split, split_off}
 use Rattle.hg_board.proofs.PrefixLaws.{prefix_length}
 use Rattle.hg_board.proofs.PositionLaws.{times-append}
 use Rattle.hg_crowd.specs.Crowd.{IsEnded, IsMark, IsSeat, IsStill}
 use Rattle.hg_crowd.specs.Workers.{AllMark, HasAllMarks, Worked}
-use Rattle.hg_crowd.specs.Laws.{IsRun, RunsEnd, RunsMark}
+use Rattle.hg_crowd.specs.Laws.{IsSession, SessionsEnd, SessionsMark}
 use Rattle.hg_crowd.proofs.MarkLaws.{mark_among, mark_before, mark_later, links_stay, none_past, once_within, rows_stay}
 use Rattle.hg_crowd.proofs.ListLaws.{some_of}
 
-module _ {V : Type 0} (accepts : V → Accepts) (p : Place V) (first called beside back last : Stand V) (begun node : NodeView V) (started : IsStarted accepts p begun first)
+module _ {V : Type 0} (accepts : V → Accepts) (p : SharedNode V) (first called beside back last : SeatView V) (begun node : NodeView V) (started : IsStarted accepts p begun first)
     (still : IsStill (split_off first) called) (seat : IsSeat accepts p called) (worked : Worked (after_split first) beside) (absorbs : Absorbs accepts p beside called back)
     (again : Worked back last) (whole_node : IsWhole accepts p last node) where
   from_back : IsPrefix back.seen node.history
@@ -91,13 +91,13 @@ module _ {V : Type 0} (accepts : V → Accepts) (p : Place V) (first called besi
       subst (λ (s : Start V). mark_at (replay s.members s.coin h).marks x ≡ Some famous) (sym whole_node.start) all
 
 -- the parts of a run at one node
-module _ {V : Type 0} (accepts : V → Accepts) (nodes : List (NodeView V)) (places : List (Place V)) (called : List (Stand V)) (ends : List (NodeView V)) (run : IsRun accepts nodes places called ends) (k : ℕ)
-    (p : Place V) (s : Stand V) (node : NodeView V) (inside : k < length ends) where
-  placed : k < length places
-  placed = omega (arith, inside, run.whole.places_count)
+module _ {V : Type 0} (accepts : V → Accepts) (nodes : List (NodeView V)) (shared : List (SharedNode V)) (called : List (SeatView V)) (ends : List (NodeView V)) (run : IsSession accepts nodes shared called ends) (k : ℕ)
+    (p : SharedNode V) (s : SeatView V) (node : NodeView V) (inside : k < length ends) where
+  placed : k < length shared
+  placed = omega (arith, inside, run.whole.shared_count)
 
   there : k < length run.firsts
-  there = omega (arith, placed, run.started.seats_count, run.started.places_count)
+  there = omega (arith, placed, run.started.seats_count, run.started.shared_count)
 
   split_count : length (map split_off run.firsts) ≡ length run.firsts
   split_count = length-map run.firsts split_off
@@ -106,40 +106,40 @@ module _ {V : Type 0} (accepts : V → Accepts) (nodes : List (NodeView V)) (pla
   after_count = length-map run.firsts after_split
 
   still_at : IsStill (split_off (get_or run.firsts k s)) (get_or called k s)
-  still_at = subst (λ (t : Stand V). IsStill t (get_or called k s)) (get_or-map split_off run.firsts k s s there) (run.still.each k s s (omega (arith, there, split_count)))
+  still_at = subst (λ (t : SeatView V). IsStill t (get_or called k s)) (get_or-map split_off run.firsts k s s there) (run.still.each k s s (omega (arith, there, split_count)))
 
   worked_at : Worked (after_split (get_or run.firsts k s)) (get_or run.beside k s)
-  worked_at = subst (λ (t : Stand V). Worked t (get_or run.beside k s)) (get_or-map after_split run.firsts k s s there) (run.worked.each k s s (omega (arith, there, after_count)))
+  worked_at = subst (λ (t : SeatView V). Worked t (get_or run.beside k s)) (get_or-map after_split run.firsts k s s there) (run.worked.each k s s (omega (arith, there, after_count)))
 
-  started_at : IsStarted accepts (get_or places k p) (get_or nodes k node) (get_or run.firsts k s)
-  started_at = run.started.each k node p s (omega (arith, placed, run.started.places_count))
+  started_at : IsStarted accepts (get_or shared k p) (get_or nodes k node) (get_or run.firsts k s)
+  started_at = run.started.each k node p s (omega (arith, placed, run.started.shared_count))
 
-  absorbed_at : Absorbs accepts (get_or places k p) (get_or run.beside k s) (get_or called k s) (get_or run.back k s)
+  absorbed_at : Absorbs accepts (get_or shared k p) (get_or run.beside k s) (get_or called k s) (get_or run.back k s)
   absorbed_at = run.absorbed.each k p s s s (omega (arith, there, after_count, run.worked.count))
 
   back_inside : k < length run.back
   back_inside = omega (arith, there, after_count, run.worked.count, run.absorbed.count)
 
-  pub ended_at : IsEnded (get_or places k p) (get_or called k s) (get_or ends k node)
+  pub ended_at : IsEnded (get_or shared k p) (get_or called k s) (get_or ends k node)
   ended_at =
-      ended accepts (get_or places k p) (get_or run.firsts k s) (get_or called k s) (get_or run.beside k s) (get_or run.back k s) (get_or run.lasts k s) (get_or nodes k node) (get_or ends k node)
+      ended accepts (get_or shared k p) (get_or run.firsts k s) (get_or called k s) (get_or run.beside k s) (get_or run.back k s) (get_or run.lasts k s) (get_or nodes k node) (get_or ends k node)
       started_at still_at (run.seats.each k p s placed) worked_at absorbed_at (run.again.each k s s back_inside) (run.whole.each k p s node inside)
 
-  pub marked_at_end : AllMark places whole run.back run.lasts → HasAllMarks (get_or ends k node)
+  pub marked_at_end : AllMark shared whole run.back run.lasts → HasAllMarks (get_or ends k node)
   marked_at_end marked =
-      ended_marked accepts (get_or places k p) (get_or run.firsts k s) (get_or called k s) (get_or run.beside k s) (get_or run.back k s) (get_or run.lasts k s) (get_or nodes k node) (get_or ends k node)
+      ended_marked accepts (get_or shared k p) (get_or run.firsts k s) (get_or called k s) (get_or run.beside k s) (get_or run.back k s) (get_or run.lasts k s) (get_or nodes k node) (get_or ends k node)
       started_at still_at (run.seats.each k p s placed) worked_at absorbed_at (run.again.each k s s back_inside) (run.whole.each k p s node inside) (marked.each k p s s back_inside)
 
 -- all of them
-pub runs_end : (V : Type 0) → RunsEnd V
-runs_end V accepts nodes places called ends run = record {
-  places_count = run.whole.places_count;
-  called_count = omega (arith, run.seats.count, run.whole.places_count);
-  each = λ k p s node inside. ended_at accepts nodes places called ends run k p s node inside;
+pub sessions_end : (V : Type 0) → SessionsEnd V
+sessions_end V accepts nodes shared called ends run = record {
+  shared_count = run.whole.shared_count;
+  called_count = omega (arith, run.seats.count, run.whole.shared_count);
+  each = λ k p s node inside. ended_at accepts nodes shared called ends run k p s node inside;
 }
 
-pub runs_mark : (V : Type 0) → RunsMark V
-runs_mark V accepts nodes places called ends run marked k node inside =
-    let p : Place V = some_of places k (omega (arith, inside, run.whole.places_count)) in
-    let s : Stand V = some_of called k (omega (arith, inside, run.seats.count, run.whole.places_count)) in
-    marked_at_end accepts nodes places called ends run k p s node inside marked
+pub sessions_mark : (V : Type 0) → SessionsMark V
+sessions_mark V accepts nodes shared called ends run marked k node inside =
+    let p : SharedNode V = some_of shared k (omega (arith, inside, run.whole.shared_count)) in
+    let s : SeatView V = some_of called k (omega (arith, inside, run.seats.count, run.whole.shared_count)) in
+    marked_at_end accepts nodes shared called ends run k p s node inside marked

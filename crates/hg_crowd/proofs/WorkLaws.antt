@@ -10,7 +10,7 @@ use Rattle.hg_model.specs.Fame.{mark_at}
 use Rattle.hg_history.proofs.StateLaws.{marks_stay, prefix_more}
 use Rattle.hg_board.specs.Positions.{AreBelow}
 use Rattle.hg_board.specs.Table.{node_at}
-use Rattle.hg_board.specs.Seats.{Place, Stand}
+use Rattle.hg_board.specs.Seats.{SharedNode, SeatView}
 use Rattle.hg_board.specs.Calls.{Absorbs, Stays, after_split, split_off}
 use Rattle.hg_board.specs.Crews.{MarksAll, OnlyMarks}
 use Rattle.hg_board.proofs.PrefixLaws.{prefix_length, prefix_self}
@@ -20,14 +20,14 @@ use Rattle.hg_crowd.specs.Workers.{Worked}
 use Rattle.hg_crowd.proofs.MarkLaws.{marks_later, marks_more, marks_of_share, marks_within}
 
 module _ {V : Type 0} where
-  pub still_self : (s : Stand V) → IsStill s s
+  pub still_self : (s : SeatView V) → IsStill s s
   still_self s = record { same = refl; start = refl; parts = refl; seen = prefix_self s.seen }
 
-  pub worked_none : (s : Stand V) → Worked s s
+  pub worked_none : (s : SeatView V) → Worked s s
   worked_none s = record { still = still_self s; more = []; mine = sym (append-nil s.mine); marks = tt }
 
-module _ {V : Type 0} (accepts : V → Accepts) (p : Place V) where
-  pub seat_of_call : (s t : Stand V) (share : Share) → IsSeat accepts p s → Stays accepts p s t → OnlyMarks share s t → IsSeat accepts p t
+module _ {V : Type 0} (accepts : V → Accepts) (p : SharedNode V) where
+  pub seat_of_call : (s t : SeatView V) (share : Share) → IsSeat accepts p s → Stays accepts p s t → OnlyMarks share s t → IsSeat accepts p t
   seat_of_call s t share seat stays marks =
       let longer : length s.seen ≤ length t.seen = prefix_length s.seen t.seen stays.seen in
       let new : AreBelow (length t.seen) marks.more = marks_within t.seen marks.more (marks_of_share share t.seen marks.more marks.marks) in
@@ -38,7 +38,7 @@ module _ {V : Type 0} (accepts : V → Accepts) (p : Place V) where
         node = stays.node;
       }
 
-  pub worked_by_call : (s t : Stand V) (share : Share) → IsSeat accepts p s → Stays accepts p s t → OnlyMarks share s t → Worked s t
+  pub worked_by_call : (s t : SeatView V) (share : Share) → IsSeat accepts p s → Stays accepts p s t → OnlyMarks share s t → Worked s t
   worked_by_call s t share seat stays marks = record {
     still = record { same = stays.of.table ∙ sym seat.of.table; start = stays.of.start ∙ sym seat.of.start; parts = stays.parts; seen = stays.seen };
     more = marks.more;
@@ -46,13 +46,13 @@ module _ {V : Type 0} (accepts : V → Accepts) (p : Place V) where
     marks = marks_of_share share t.seen marks.more marks.marks;
   }
 
-  pub seat_after_split : (s : Stand V) → IsSeat accepts p s → IsSeat accepts p (after_split s)
+  pub seat_after_split : (s : SeatView V) → IsSeat accepts p s → IsSeat accepts p (after_split s)
   seat_after_split s seat = record { of = record { table = seat.of.table; start = seat.of.start }; begun = seat.begun; within = seat.within; node = seat.node }
 
-  pub seat_split_off : (s : Stand V) → IsSeat accepts p s → IsSeat accepts p (split_off s)
+  pub seat_split_off : (s : SeatView V) → IsSeat accepts p s → IsSeat accepts p (split_off s)
   seat_split_off s seat = record { of = record { table = seat.of.table; start = seat.of.start }; begun = seat.begun; within = tt; node = seat.node }
 
-  pub seat_absorbed : (s other t : Stand V) → IsSeat accepts p s → Absorbs accepts p s other t → IsSeat accepts p t
+  pub seat_absorbed : (s other t : SeatView V) → IsSeat accepts p s → Absorbs accepts p s other t → IsSeat accepts p t
   seat_absorbed s other t seat absorbs = record {
     of = absorbs.of;
     begun = prefix_more p.start.history s.seen t.seen seat.begun absorbs.begins;
@@ -61,7 +61,7 @@ module _ {V : Type 0} (accepts : V → Accepts) (p : Place V) where
   }
 
   -- those who worked beside each other, with a seat and one that was split off it, worked as one
-  pub worked_beside : (s t other u : Stand V) → IsSeat accepts p s → 1 < s.parts → Worked (after_split s) t → Worked (split_off s) other → Absorbs accepts p t other u → Worked s u
+  pub worked_beside : (s t other u : SeatView V) → IsSeat accepts p s → 1 < s.parts → Worked (after_split s) t → Worked (split_off s) other → Absorbs accepts p t other u → Worked s u
   worked_beside s t other u seat parts first second absorbs = record {
     still = record {
       same = absorbs.of.table ∙ sym seat.of.table;
@@ -75,7 +75,7 @@ module _ {V : Type 0} (accepts : V → Accepts) (p : Place V) where
   }
 
   -- marks that a seat knows are known by one that has seen more
-  pub marked_later : (s t u : Stand V) (share : Share) → MarksAll p share s t → IsPrefix t.seen u.seen → MarksAll p share s u
+  pub marked_later : (s t u : SeatView V) (share : Share) → MarksAll p share s t → IsPrefix t.seen u.seen → MarksAll p share s u
   marked_later s t u share marked more x famous decided =
       let start = p.start.start in
       ap (λ (h : List Change). mark_at (node_marks (node_at p.start h)) x) more.1

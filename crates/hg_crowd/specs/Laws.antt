@@ -3,7 +3,7 @@ use Rattle.std.specs.Prelude.{◌≡◌, ℕ, ◌<◌, List, length, get_or, map
 use Rattle.hg_model.specs.Signing.{Accepts}
 use Rattle.hg_model.specs.NodeView.{NodeView}
 use Rattle.hg_model.specs.Shares.{whole}
-use Rattle.hg_board.specs.Seats.{Place, Stand}
+use Rattle.hg_board.specs.Seats.{SharedNode, SeatView}
 use Rattle.hg_board.specs.Calls.{after_split, split_off}
 use Rattle.hg_crowd.specs.Crowd.{AreSeats, AreStill, Each, IsEnded}
 use Rattle.hg_crowd.specs.Workers.{AllAbsorb, AllMark, AreStarted, AreWhole, HasAllMarks, Worked}
@@ -11,32 +11,32 @@ use Rattle.hg_crowd.specs.Workers.{AllAbsorb, AllMark, AreStarted, AreWhole, Has
 module _ {V : Type 0} where
   -- nodes were started; of each first seat one was split off, and calls went through it, beside others that worked with
   -- the first ones; all seats came back, worked again, and the nodes were finished
-  pub record IsRun (accepts : V → Accepts) (nodes : List (NodeView V)) (places : List (Place V)) (called : List (Stand V)) (ends : List (NodeView V)) : Type 0 where
-    pub firsts : List (Stand V)
-    pub beside : List (Stand V)
-    pub back : List (Stand V)
-    pub lasts : List (Stand V)
-    pub started : AreStarted accepts nodes places firsts
+  pub record IsSession (accepts : V → Accepts) (nodes : List (NodeView V)) (shared : List (SharedNode V)) (called : List (SeatView V)) (ends : List (NodeView V)) : Type 0 where
+    pub firsts : List (SeatView V)
+    pub beside : List (SeatView V)
+    pub back : List (SeatView V)
+    pub lasts : List (SeatView V)
+    pub started : AreStarted accepts nodes shared firsts
     pub still : AreStill (map split_off firsts) called
-    pub seats : AreSeats accepts places called
+    pub seats : AreSeats accepts shared called
     pub worked : Each Worked (map after_split firsts) beside
-    pub absorbed : AllAbsorb accepts places beside called back
+    pub absorbed : AllAbsorb accepts shared beside called back
     pub again : Each Worked back lasts
-    pub whole : AreWhole accepts places lasts ends
+    pub whole : AreWhole accepts shared lasts ends
 
   -- each node of the list was ended so
-  pub record AreEnded (places : List (Place V)) (called : List (Stand V)) (ends : List (NodeView V)) : Type 0 where
-    pub places_count : length places ≡ length ends
+  pub record AreEnded (shared : List (SharedNode V)) (called : List (SeatView V)) (ends : List (NodeView V)) : Type 0 where
+    pub shared_count : length shared ≡ length ends
     pub called_count : length called ≡ length ends
-    pub each : (k : ℕ) (p : Place V) (s : Stand V) (node : NodeView V) → k < length ends → IsEnded (get_or places k p) (get_or called k s) (get_or ends k node)
+    pub each : (k : ℕ) (p : SharedNode V) (s : SeatView V) (node : NodeView V) → k < length ends → IsEnded (get_or shared k p) (get_or called k s) (get_or ends k node)
 
 -- then others only marked, and each node has the rows that its seat has seen
-abbrev pub RunsEnd : Type 0 → Type 0
-RunsEnd V = (accepts : V → Accepts) (nodes : List (NodeView V)) (places : List (Place V)) (called : List (Stand V)) (ends : List (NodeView V)) →
-    IsRun accepts nodes places called ends → AreEnded places called ends
+abbrev pub SessionsEnd : Type 0 → Type 0
+SessionsEnd V = (accepts : V → Accepts) (nodes : List (NodeView V)) (shared : List (SharedNode V)) (called : List (SeatView V)) (ends : List (NodeView V)) →
+    IsSession accepts nodes shared called ends → AreEnded shared called ends
 
 -- if the workers' last turn found memory, each witness that the rows of a node decide has its mark
-abbrev pub RunsMark : Type 0 → Type 0
-RunsMark V = (accepts : V → Accepts) (nodes : List (NodeView V)) (places : List (Place V)) (called : List (Stand V)) (ends : List (NodeView V)) →
-    (run : IsRun accepts nodes places called ends) → AllMark places whole run.back run.lasts →
+abbrev pub SessionsMark : Type 0 → Type 0
+SessionsMark V = (accepts : V → Accepts) (nodes : List (NodeView V)) (shared : List (SharedNode V)) (called : List (SeatView V)) (ends : List (NodeView V)) →
+    (run : IsSession accepts nodes shared called ends) → AllMark shared whole run.back run.lasts →
     (k : ℕ) (node : NodeView V) → k < length ends → HasAllMarks (get_or ends k node)

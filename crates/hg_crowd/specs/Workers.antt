@@ -5,7 +5,7 @@ use Rattle.hg_model.specs.Shares.{Share, share_fame, whole}
 use Rattle.hg_model.specs.Fame.{mark_at}
 use Rattle.hg_model.specs.Signing.{Accepts}
 use Rattle.hg_model.specs.NodeView.{NodeView, node_links, node_marks, node_rows}
-use Rattle.hg_board.specs.Seats.{Place, Stand}
+use Rattle.hg_board.specs.Seats.{SharedNode, SeatView}
 use Rattle.hg_board.specs.Calls.{Absorbs, IsStarted, IsWhole}
 use Rattle.hg_board.specs.Crews.{MarksAll}
 use Rattle.hg_crowd.specs.Crowd.{IsMark, IsSeat, IsStill}
@@ -18,41 +18,41 @@ HasAllMarks v =
 
 module _ {V : Type 0} where
   -- it is the same seat still, and its own calls added marks alone
-  pub record Worked (old new : Stand V) : Type 0 where
+  pub record Worked (old new : SeatView V) : Type 0 where
     pub still : IsStill old new
     pub more : List ℕ
     pub mine : new.mine ≡ old.mine ++ more
     pub marks : AllByRecursion (IsMark new.seen) more
 
   -- a seat of this node, with more parts than so many
-  pub record HasMore (accepts : V → Accepts) (many : ℕ) (p : Place V) (s : Stand V) : Type 0 where
+  pub record HasMore (accepts : V → Accepts) (many : ℕ) (p : SharedNode V) (s : SeatView V) : Type 0 where
     pub seat : IsSeat accepts p s
     pub parts : many < s.parts
 
   -- each node was started, in order, with its first seat
-  pub record AreStarted (accepts : V → Accepts) (nodes : List (NodeView V)) (places : List (Place V)) (seats : List (Stand V)) : Type 0 where
-    pub places_count : length places ≡ length nodes
+  pub record AreStarted (accepts : V → Accepts) (nodes : List (NodeView V)) (shared : List (SharedNode V)) (seats : List (SeatView V)) : Type 0 where
+    pub shared_count : length shared ≡ length nodes
     pub seats_count : length seats ≡ length nodes
-    pub each : (k : ℕ) (node : NodeView V) (p : Place V) (s : Stand V) → k < length nodes →
-        IsStarted accepts (get_or places k p) (get_or nodes k node) (get_or seats k s)
+    pub each : (k : ℕ) (node : NodeView V) (p : SharedNode V) (s : SeatView V) → k < length nodes →
+        IsStarted accepts (get_or shared k p) (get_or nodes k node) (get_or seats k s)
 
   -- these are the nodes again, in order
-  pub record AreWhole (accepts : V → Accepts) (places : List (Place V)) (seats : List (Stand V)) (nodes : List (NodeView V)) : Type 0 where
-    pub places_count : length places ≡ length nodes
+  pub record AreWhole (accepts : V → Accepts) (shared : List (SharedNode V)) (seats : List (SeatView V)) (nodes : List (NodeView V)) : Type 0 where
+    pub shared_count : length shared ≡ length nodes
     pub seats_count : length seats ≡ length nodes
-    pub each : (k : ℕ) (p : Place V) (s : Stand V) (node : NodeView V) → k < length nodes →
-        IsWhole accepts (get_or places k p) (get_or seats k s) (get_or nodes k node)
+    pub each : (k : ℕ) (p : SharedNode V) (s : SeatView V) (node : NodeView V) → k < length nodes →
+        IsWhole accepts (get_or shared k p) (get_or seats k s) (get_or nodes k node)
 
   -- each seat was absorbed by that of the same node
-  pub record AllAbsorb (accepts : V → Accepts) (places : List (Place V)) (olds others news : List (Stand V)) : Type 0 where
+  pub record AllAbsorb (accepts : V → Accepts) (shared : List (SharedNode V)) (olds others news : List (SeatView V)) : Type 0 where
     pub count : length news ≡ length olds
-    pub each : (k : ℕ) (p : Place V) (s other t : Stand V) → k < length olds →
-        Absorbs accepts (get_or places k p) (get_or olds k s) (get_or others k other) (get_or news k t)
+    pub each : (k : ℕ) (p : SharedNode V) (s other t : SeatView V) → k < length olds →
+        Absorbs accepts (get_or shared k p) (get_or olds k s) (get_or others k other) (get_or news k t)
 
   -- of each node, each witness of the share that the graph of the old history decides has its mark in the new one
-  pub record AllMark (places : List (Place V)) (share : Share) (olds news : List (Stand V)) : Type 0 where
-    pub each : (k : ℕ) (p : Place V) (s t : Stand V) → k < length olds → MarksAll (get_or places k p) share (get_or olds k s) (get_or news k t)
+  pub record AllMark (shared : List (SharedNode V)) (share : Share) (olds news : List (SeatView V)) : Type 0 where
+    pub each : (k : ℕ) (p : SharedNode V) (s t : SeatView V) → k < length olds → MarksAll (get_or shared k p) share (get_or olds k s) (get_or news k t)
 
   -- so do those of the first shares of so many, up to this one
-  abbrev pub AllMarkUpTo : List (Place V) → ℕ → ℕ → List (Stand V) → List (Stand V) → Type 0
-  AllMarkUpTo places last shares olds news = (k : ℕ) → k ≤ last → AllMark places (record { k = k; «of» = shares }) olds news
+  abbrev pub AllMarkUpTo : List (SharedNode V) → ℕ → ℕ → List (SeatView V) → List (SeatView V) → Type 0
+  AllMarkUpTo shared last shares olds news = (k : ℕ) → k ≤ last → AllMark shared (record { k = k; «of» = shares }) olds news

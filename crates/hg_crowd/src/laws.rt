@@ -1,8 +1,8 @@
-ghost use Rattle.hg_crowd.specs.Laws.{RunsEnd, RunsMark};
+ghost use Rattle.hg_crowd.specs.Laws.{SessionsEnd, SessionsMark};
 
 /// A law: where others only marked beside the calls through one seat of each node, each node has in the end the rows that
 /// this seat has seen. If the workers' last turn found memory, all witnesses that they decide are marked.
-pub fn runs_end<V>()
-    ensures rows { RunsEnd V }
-    ensures marks { RunsMark V }
+pub fn sessions_end<V>()
+    ensures rows { SessionsEnd V }
+    ensures marks { SessionsMark V }
 {}

@@ -20,10 +20,10 @@ pub fn start_all<V: Signer + Drop>(
         return Ok((Vec::new(alloc), Vec::new(alloc)));
     };
     let (mut shared, mut seats) = start_all(alloc, nodes)?;
-    let Ok((place, seat)) = Shared::start(alloc, node) else {
+    let Ok((shared_node, seat)) = Shared::start(alloc, node) else {
         return Err(Memory);
     };
-    shared.push(place)?;
+    shared.push(shared_node)?;
     seats.push(seat)?;
     Ok((shared, seats))
 }
@@ -38,13 +38,13 @@ pub fn finish_all<V: Signer + Drop, R: Wait>(
     requires { AreSeats V.accepts shared.items seats.items }
     ensures { IfOk result (λ nodes. AreWhole V.accepts shared.items seats.items nodes.items) }
 {
-    let Some(place) = shared.pop() else {
+    let Some(shared_node) = shared.pop() else {
         return Ok(Vec::new(alloc));
     };
     let Some(seat) = seats.pop() else {
         return Ok(Vec::new(alloc));
     };
     let mut nodes = finish_all(rt, alloc, shared, seats)?;
-    nodes.push(place.finish(rt, seat))?;
+    nodes.push(shared_node.finish(rt, seat))?;
     Ok(nodes)
 }

@@ -13,28 +13,28 @@ use Rattle.hg_model.specs.NodeView.{NodeView, Start}
 use Rattle.hg_script.specs.declared.line.Action.{Action}
 use Rattle.hg_script.specs.declared.line.Action.TheVariants as action
 use Rattle.hg_script.specs.declared.line.Line.{Line}
-use Rattle.hg_world.specs.World.{Secrets, Site, WorldView, no_site, node_at, nodes_of, new_world, site_of, worker_count}
-use Rattle.hg_world.specs.Kept.{AreOfOneList, no_node, nth_node, unfrozen}
-use Rattle.hg_board.specs.Seats.{Place, Stand}
+use Rattle.hg_world.specs.World.{Secrets, Site, WorldView, no_site, node_at, nodes_of, new_world, site_of, worker_limit}
+use Rattle.hg_world.specs.Parts.{AreOfOneList, no_node, nth_node, unfrozen}
+use Rattle.hg_board.specs.Seats.{SharedNode, SeatView}
 use Rattle.hg_board.specs.Calls.{after_split, split_off}
 use Rattle.hg_crowd.specs.Crowd.{AreSeats, AreStill, Each}
 use Rattle.hg_crowd.specs.Workers.{AllAbsorb, AllMark, AreStarted, AreWhole, HasAllMarks, HasMore, Worked}
-use Rattle.hg_crowd.specs.Laws.{AreEnded, IsRun}
+use Rattle.hg_crowd.specs.Laws.{AreEnded, IsSession}
 use Rattle.hg_crowd.proofs.CrowdLaws.{after_split_all, seats_of, seats_started, split_off_all}
-use Rattle.hg_crowd.proofs.EndLaws.{runs_end, runs_mark}
+use Rattle.hg_crowd.proofs.EndLaws.{sessions_end, sessions_mark}
 use Rattle.hg_crowd.proofs.ListLaws.{some_of}
 use Rattle.hg_play.specs.Alike.{AreAlike, WorldsAlike}
-use Rattle.hg_play.specs.Batch.{AllAreMarked, IsPartBelow, IsPlayed, PlaysNext, TellsBatch, is_part}
+use Rattle.hg_play.specs.Batch.{AllAreMarked, IsPartBelow, IsPlayed, PlaysNext, MatchesBatch, is_part}
 use Rattle.hg_play.specs.Lines.{IsBelow, IsLineBelow}
-use Rattle.hg_play.specs.Nodes.{TellsLine, TellsLines, seen_alone}
+use Rattle.hg_play.specs.Nodes.{MatchesLine, MatchesLines, seen_alone}
 use Rattle.hg_play.specs.Play.{Stage, after_line, after_lines, first_stage, stage}
 use Rattle.hg_play.proofs.LikeLaws.{line_like, worlds_alike}
 use Rattle.hg_play.proofs.WorldLaws.{starts-new}
 use Rattle.hg_play.specs.Sites.{starts_of}
-use Rattle.hg_play.specs.Through.{AllOthersMark, AreSeen, IsOfRows, IsPart, IsPartLine, IsStageLike, IsStageOf, TellsThrough, node_seen}
+use Rattle.hg_play.specs.Through.{AllOthersMark, AreSeen, IsOfRows, IsPart, IsPartLine, IsStageLike, IsStageOf, MatchesThrough, node_seen}
 
 -- the node of a place that was started with it is the node
-same_node : (p : Place Secrets) (s : Stand Secrets) (v : NodeView Secrets) → p.start ≡ v → s.seen ≡ v.history → node_seen p s ≡ v
+same_node : (p : SharedNode Secrets) (s : SeatView Secrets) (v : NodeView Secrets) → p.start ≡ v → s.seen ≡ v.history → node_seen p s ≡ v
 same_node p s v start seen = λ i. record { start = (start i).start; history = seen i }
 
 -- the nodes of a world, by place
@@ -42,7 +42,7 @@ node_of : (w : WorldView) (m : ℕ) (d : NodeView Secrets) → m < length w.site
 node_of w m d low = get_or-map (λ (site : Site). site.node) w.sites m no_site d low
 
 -- the seats that were split off have seen the nodes with which the places were started
-pub seen_first : (world w : WorldView) (nodes : List (NodeView Secrets)) (places : List (Place Secrets)) (firsts : List (Stand Secrets)) → nodes ≡ nodes_of world →
+pub seen_first : (world w : WorldView) (nodes : List (NodeView Secrets)) (places : List (SharedNode Secrets)) (firsts : List (SeatView Secrets)) → nodes ≡ nodes_of world →
     AreStarted accepts_by nodes places firsts → WorldsAlike world w → AreSeen places (map split_off firsts) w
 seen_first world w nodes places firsts is started alike =
     let long : length nodes ≡ length world.sites = ap length is ∙ length-map world.sites (λ (site : Site). site.node) in
@@ -58,26 +58,26 @@ seen_first world w nodes places firsts is started alike =
           let node : get_or nodes m v ≡ v = ap (λ (ns : List (NodeView Secrets)). get_or ns m v) is ∙ node_of world m v here in
           let seat : get_or (map split_off firsts) m s ≡ split_off (get_or firsts m s) = get_or-map split_off firsts m s s there in
           let same : node_seen (get_or places m p) (get_or (map split_off firsts) m s) ≡ v =
-          same_node (get_or places m p) (get_or (map split_off firsts) m s) v (first.start ∙ node) (ap (λ (t : Stand Secrets). t.seen) seat ∙ (first.seen ∙ ap (λ (u : NodeView Secrets). u.history) node)) in
+          same_node (get_or places m p) (get_or (map split_off firsts) m s) v (first.start ∙ node) (ap (λ (t : SeatView Secrets). t.seen) seat ∙ (first.seen ∙ ap (λ (u : NodeView Secrets). u.history) node)) in
           let other = alike.nodes m in
           subst (AreAlike (node_at w m)) (sym same) (record { start = sym other.start; rows = sym other.rows });
     }
 
 -- nodes that ended so are alike with those that their seats have seen
-module _ (new w : WorldView) (places : List (Place Secrets)) (called : List (Stand Secrets)) (ends : List (NodeView Secrets)) (is : new.sites ≡ unfrozen ends)
+module _ (new w : WorldView) (places : List (SharedNode Secrets)) (called : List (SeatView Secrets)) (ends : List (NodeView Secrets)) (is : new.sites ≡ unfrozen ends)
     (ended : AreEnded places called ends) (seen : AreSeen places called w) where
   long_new : length new.sites ≡ length ends
-  long_new = ap length is ∙ length-map ends (λ (v : NodeView Secrets). site_of v (replicate worker_count 0))
+  long_new = ap length is ∙ length-map ends (λ (v : NodeView Secrets). site_of v (replicate worker_limit 0))
 
   node_new : (m : ℕ) → m < length ends → node_at new m ≡ nth_node ends m
   node_new m low =
       ap (λ (sites : List Site). (get_or sites m no_site).node) is
-      ∙ ap (λ (s : Site). s.node) (get_or-map (λ (v : NodeView Secrets). site_of v (replicate worker_count 0)) ends m no_node no_site low)
+      ∙ ap (λ (s : Site). s.node) (get_or-map (λ (v : NodeView Secrets). site_of v (replicate worker_limit 0)) ends m no_node no_site low)
 
   ended_node : (m : ℕ) → m < length ends → AreAlike (node_at new m) (node_at w m)
   ended_node m low =
-      let p : Place Secrets = some_of places m (omega (arith, low, ended.places_count)) in
-      let s : Stand Secrets = some_of called m (omega (arith, low, ended.called_count)) in
+      let p : SharedNode Secrets = some_of places m (omega (arith, low, ended.shared_count)) in
+      let s : SeatView Secrets = some_of called m (omega (arith, low, ended.called_count)) in
       let end = ended.each m p s no_node low in
       let other = seen.nodes m p s (omega (arith, low, ended.called_count)) in
       subst (λ (v : NodeView Secrets). AreAlike v (node_at w m)) (sym (node_new m low)) (record { start = end.start ∙ sym other.start; rows = end.rows ∙ sym other.rows })
@@ -116,26 +116,26 @@ same_start nodes ends long starts of =
       },
     )
 
-pub ends_of_one_list : (nodes : List (NodeView Secrets)) (places : List (Place Secrets)) (called : List (Stand Secrets)) (ends : List (NodeView Secrets)) →
-    IsRun accepts_by nodes places called ends → AreOfOneList nodes → AreOfOneList ends
+pub ends_of_one_list : (nodes : List (NodeView Secrets)) (places : List (SharedNode Secrets)) (called : List (SeatView Secrets)) (ends : List (NodeView Secrets)) →
+    IsSession accepts_by nodes places called ends → AreOfOneList nodes → AreOfOneList ends
 ends_of_one_list nodes places called ends run of =
-    let ended = runs_end Secrets accepts_by nodes places called ends run in
+    let ended = sessions_end Secrets accepts_by nodes places called ends run in
     let started = run.started in
-    let long : length ends ≡ length nodes = omega (arith, ended.places_count, started.places_count) in
+    let long : length ends ≡ length nodes = omega (arith, ended.shared_count, started.shared_count) in
     same_start nodes ends long (λ m low.
-    let p : Place Secrets = some_of places m (omega (arith, low, ended.places_count)) in
-    let s : Stand Secrets = some_of called m (omega (arith, low, ended.called_count)) in
+    let p : SharedNode Secrets = some_of places m (omega (arith, low, ended.shared_count)) in
+    let s : SeatView Secrets = some_of called m (omega (arith, low, ended.called_count)) in
     (ended.each m p s no_node low).start ∙ ap (λ (v : NodeView Secrets). v.start) (started.each m no_node p s (omega (arith, low, long))).start) of
 
 -- what comes of a batch
-pub batch_told : (members : MemberList) (lines : List Line) (world new : WorldView) (nodes : List (NodeView Secrets)) (places : List (Place Secrets)) (called : List (Stand Secrets)) (ends : List (NodeView Secrets))
-    (labels labels_new : List (List ℕ)) (printed printed_new : List Printed) → nodes ≡ nodes_of world → (run : IsRun accepts_by nodes places called ends) → new.sites ≡ unfrozen ends →
-    TellsThrough members lines places (map split_off run.firsts) labels printed called labels_new printed_new → TellsBatch members lines world labels printed new labels_new printed_new
+pub batch_told : (members : MemberList) (lines : List Line) (world new : WorldView) (nodes : List (NodeView Secrets)) (places : List (SharedNode Secrets)) (called : List (SeatView Secrets)) (ends : List (NodeView Secrets))
+    (labels labels_new : List (List ℕ)) (printed printed_new : List Printed) → nodes ≡ nodes_of world → (run : IsSession accepts_by nodes places called ends) → new.sites ≡ unfrozen ends →
+    MatchesThrough members lines places (map split_off run.firsts) labels printed called labels_new printed_new → MatchesBatch members lines world labels printed new labels_new printed_new
 batch_told members lines world new nodes places called ends labels labels_new printed printed_new is run sites told = λ s at.
-    let ended = runs_end Secrets accepts_by nodes places called ends run in
+    let ended = sessions_end Secrets accepts_by nodes places called ends run in
     let alone : AllOthersMark places called = record {
-      count = omega (arith, ended.places_count, ended.called_count);
-      each = λ m p t low. (ended.each m p t no_node (omega (arith, low, ended.places_count))).others;
+      count = omega (arith, ended.shared_count, ended.called_count);
+      each = λ m p t low. (ended.each m p t no_node (omega (arith, low, ended.shared_count))).others;
     } in
     let here : IsStageOf members places (map split_off run.firsts) labels printed s = record {
       agrees = seen_first world s.world nodes places run.firsts is run.started at.agrees;
@@ -151,13 +151,13 @@ batch_told members lines world new nodes places called ends labels labels_new pr
       shown = after.shown;
     }
 
-pub batch_count : (world new : WorldView) (nodes : List (NodeView Secrets)) (places : List (Place Secrets)) (called : List (Stand Secrets)) (ends : List (NodeView Secrets)) → nodes ≡ nodes_of world →
-    IsRun accepts_by nodes places called ends → new.sites ≡ unfrozen ends → length new.sites ≡ length world.sites
+pub batch_count : (world new : WorldView) (nodes : List (NodeView Secrets)) (places : List (SharedNode Secrets)) (called : List (SeatView Secrets)) (ends : List (NodeView Secrets)) → nodes ≡ nodes_of world →
+    IsSession accepts_by nodes places called ends → new.sites ≡ unfrozen ends → length new.sites ≡ length world.sites
 batch_count world new nodes places called ends is run sites =
-    let ended = runs_end Secrets accepts_by nodes places called ends run in
+    let ended = sessions_end Secrets accepts_by nodes places called ends run in
     let long : length nodes ≡ length world.sites = ap length is ∙ length-map world.sites (λ (site : Site). site.node) in
-    let last : length new.sites ≡ length ends = ap length sites ∙ length-map ends (λ (v : NodeView Secrets). site_of v (replicate worker_count 0)) in
-    omega (arith, last, long, ended.places_count, run.started.places_count)
+    let last : length new.sites ≡ length ends = ap length sites ∙ length-map ends (λ (v : NodeView Secrets). site_of v (replicate worker_limit 0)) in
+    omega (arith, last, long, ended.shared_count, run.started.shared_count)
 
 -- batches, one after the other, up to a line
 pub record InBatches (members : MemberList) (lines : List Line) (first now : WorldView) (labels : List (List ℕ)) (printed : List Printed) (next : ℕ) : Type 0 where
@@ -199,7 +199,7 @@ after_more members s lines from count = ap (λ (ls : List Line). after_lines mem
 
 pub plays_batch : (members : MemberList) (lines batch rest : List Line) (from count : ℕ) (old new : WorldView) (labels labels_new : List (List ℕ)) (printed printed_new : List Printed) →
     rest ≡ drop from lines → batch ≡ take count rest → 0 < count → count ≤ length rest → length rest + from ≡ length lines → length new.sites ≡ length old.sites →
-    TellsBatch members batch old labels printed new labels_new printed_new → PlaysNext members lines from old labels printed new labels_new printed_new (from + count)
+    MatchesBatch members batch old labels printed new labels_new printed_new → PlaysNext members lines from old labels printed new labels_new printed_new (from + count)
 plays_batch members lines batch rest from count old new labels labels_new printed printed_new is_rest is some few long same told = record {
   further = omega (arith, some);
   within = omega (arith, few, long);
@@ -212,7 +212,7 @@ plays_batch members lines batch rest from count old new labels labels_new printe
 
 pub plays_line : (members : MemberList) (lines : List Line) (line : Line) (from : ℕ) (old new : WorldView) (labels labels_new : List (List ℕ)) (printed printed_new : List Printed) →
     from < length lines → line ≡ get_or lines from line → IsOfRows line.action → length new.sites ≡ length old.sites →
-    TellsLine members line (seen_alone old) labels printed (seen_alone new) labels_new printed_new → PlaysNext members lines from old labels printed new labels_new printed_new (from + 1)
+    MatchesLine members line (seen_alone old) labels printed (seen_alone new) labels_new printed_new → PlaysNext members lines from old labels printed new labels_new printed_new (from + 1)
 plays_line members lines line from old new labels labels_new printed printed_new low is of same told = record {
   further = omega arith;
   within = omega (arith, low);
@@ -243,38 +243,38 @@ batch_parts n from count lines rest batch is_rest is few long below parts = λ k
     subst (IsPartLine n) (sym here) (part_of n (get_or rest k d).action (parts k d early) (subst (IsLineBelow n) (sym there) (below (from + k) d (omega (arith, early, few, long)))))
 
 -- the run that a batch is
-abbrev pub the_run : (nodes : List (NodeView Secrets)) (shared places : List (Place Secrets)) (firsts split own called beside back lasts : List (Stand Secrets)) (ends : List (NodeView Secrets)) → places ≡ shared →
+abbrev pub the_run : (nodes : List (NodeView Secrets)) (shared places : List (SharedNode Secrets)) (firsts split own called beside back lasts : List (SeatView Secrets)) (ends : List (NodeView Secrets)) → places ≡ shared →
     AreStarted accepts_by nodes shared firsts → split ≡ map after_split firsts → own ≡ map split_off firsts → AreSeats accepts_by places called → AreStill own called → Each Worked split beside →
-    AllAbsorb accepts_by places beside called back → Each Worked back lasts → AreWhole accepts_by shared lasts ends → IsRun accepts_by nodes places called ends
+    AllAbsorb accepts_by places beside called back → Each Worked back lasts → AreWhole accepts_by shared lasts ends → IsSession accepts_by nodes places called ends
 the_run nodes shared places firsts split own called beside back lasts ends same started split_is own_is seats still worked absorbed again whole = record {
   firsts = firsts;
   beside = beside;
   back = back;
   lasts = lasts;
-  started = subst (λ (l : List (Place Secrets)). AreStarted accepts_by nodes l firsts) (sym same) started;
-  still = subst (λ (l : List (Stand Secrets)). AreStill l called) own_is still;
+  started = subst (λ (l : List (SharedNode Secrets)). AreStarted accepts_by nodes l firsts) (sym same) started;
+  still = subst (λ (l : List (SeatView Secrets)). AreStill l called) own_is still;
   seats = seats;
-  worked = subst (λ (l : List (Stand Secrets)). Each Worked l beside) split_is worked;
+  worked = subst (λ (l : List (SeatView Secrets)). Each Worked l beside) split_is worked;
   absorbed = absorbed;
   again = again;
-  whole = subst (λ (l : List (Place Secrets)). AreWhole accepts_by l lasts ends) (sym same) whole;
+  whole = subst (λ (l : List (SharedNode Secrets)). AreWhole accepts_by l lasts ends) (sym same) whole;
 }
 
 -- what the seats beside the calls have
-pub has_beside : (workers : ℕ) (nodes : List (NodeView Secrets)) (shared places : List (Place Secrets)) (firsts split : List (Stand Secrets)) → places ≡ shared → workers + 1 < 65536 →
+pub has_beside : (workers : ℕ) (nodes : List (NodeView Secrets)) (shared places : List (SharedNode Secrets)) (firsts split : List (SeatView Secrets)) → places ≡ shared → workers + 1 < 65536 →
     AreStarted accepts_by nodes shared firsts → split ≡ map after_split firsts → Each (HasMore accepts_by workers) places split
 has_beside workers nodes shared places firsts split same few started is =
-    subst (λ (l : List (Place Secrets)). Each (HasMore accepts_by workers) l split) (sym same)
+    subst (λ (l : List (SharedNode Secrets)). Each (HasMore accepts_by workers) l split) (sym same)
     (subst (Each (HasMore accepts_by workers) shared) (sym is) (after_split_all accepts_by shared workers firsts (seats_started accepts_by (workers + 1) nodes shared firsts few started)))
 
 -- what the seats of the calls are
-pub seats_own : (nodes : List (NodeView Secrets)) (shared places : List (Place Secrets)) (firsts own : List (Stand Secrets)) → places ≡ shared →
+pub seats_own : (nodes : List (NodeView Secrets)) (shared places : List (SharedNode Secrets)) (firsts own : List (SeatView Secrets)) → places ≡ shared →
     AreStarted accepts_by nodes shared firsts → own ≡ map split_off firsts → AreSeats accepts_by places own
 seats_own nodes shared places firsts own same started is =
-    subst (λ (l : List (Place Secrets)). AreSeats accepts_by l own) (sym same)
+    subst (λ (l : List (SharedNode Secrets)). AreSeats accepts_by l own) (sym same)
     (subst (AreSeats accepts_by shared) (sym is) (split_off_all accepts_by shared firsts (seats_of accepts_by shared 1 firsts (seats_started accepts_by 1 nodes shared firsts (omega arith) started))))
 
-pub own_count : (world : WorldView) (nodes : List (NodeView Secrets)) (shared : List (Place Secrets)) (firsts own : List (Stand Secrets)) → nodes ≡ nodes_of world → AreStarted accepts_by nodes shared firsts → own ≡ map split_off firsts →
+pub own_count : (world : WorldView) (nodes : List (NodeView Secrets)) (shared : List (SharedNode Secrets)) (firsts own : List (SeatView Secrets)) → nodes ≡ nodes_of world → AreStarted accepts_by nodes shared firsts → own ≡ map split_off firsts →
     length own ≡ length world.sites
 own_count world nodes shared firsts own is started own_is =
     let long : length nodes ≡ length world.sites = ap length is ∙ length-map world.sites (λ (site : Site). site.node) in
@@ -282,7 +282,7 @@ own_count world nodes shared firsts own is started own_is =
     omega (arith, long, split, started.seats_count)
 
 -- lines that were played by one thread
-pub played_by_one : (members : MemberList) (lines : List Line) (world now : WorldView) (printed : List Printed) → world ≡ new_world members → TellsLines (seen_alone world) (seen_alone now) members lines printed →
+pub played_by_one : (members : MemberList) (lines : List Line) (world now : WorldView) (printed : List Printed) → world ≡ new_world members → MatchesLines (seen_alone world) (seen_alone now) members lines printed →
     IsPlayed members lines now printed
 played_by_one members lines world now printed is told =
     let first = told tt world refl (ap starts_of is ∙ starts-new members) in
@@ -292,11 +292,11 @@ played_by_one members lines world now printed is told =
     }
 
 -- all is marked in a world of nodes in which all is
-pub batch_marked : (new : WorldView) (nodes : List (NodeView Secrets)) (places : List (Place Secrets)) (called : List (Stand Secrets)) (ends : List (NodeView Secrets)) → (run : IsRun accepts_by nodes places called ends) →
+pub batch_marked : (new : WorldView) (nodes : List (NodeView Secrets)) (places : List (SharedNode Secrets)) (called : List (SeatView Secrets)) (ends : List (NodeView Secrets)) → (run : IsSession accepts_by nodes places called ends) →
     new.sites ≡ unfrozen ends → AllMark places whole run.back run.lasts → AllAreMarked new
 batch_marked new nodes places called ends run is marked = λ m low.
-    let long : length new.sites ≡ length ends = ap length is ∙ length-map ends (λ (v : NodeView Secrets). site_of v (replicate worker_count 0)) in
+    let long : length new.sites ≡ length ends = ap length is ∙ length-map ends (λ (v : NodeView Secrets). site_of v (replicate worker_limit 0)) in
     let inside : m < length ends = omega (arith, low, long) in
     let node : node_at new m ≡ nth_node ends m =
-    ap (λ (sites : List Site). (get_or sites m no_site).node) is ∙ ap (λ (s : Site). s.node) (get_or-map (λ (v : NodeView Secrets). site_of v (replicate worker_count 0)) ends m no_node no_site inside) in
-    subst (λ (v : NodeView Secrets). HasAllMarks v) (sym node) (runs_mark Secrets accepts_by nodes places called ends run marked m no_node inside)
+    ap (λ (sites : List Site). (get_or sites m no_site).node) is ∙ ap (λ (s : Site). s.node) (get_or-map (λ (v : NodeView Secrets). site_of v (replicate worker_limit 0)) ends m no_node no_site inside) in
+    subst (λ (v : NodeView Secrets). HasAllMarks v) (sym node) (sessions_mark Secrets accepts_by nodes places called ends run marked m no_node inside)

@@ -11,36 +11,36 @@ use Rattle.hg_model.specs.Spelling.{spelling}
 use Rattle.hg_model.specs.Verdict.{last_name}
 use Rattle.hg_model.specs.NodeView.{node_rows}
 use Rattle.hg_gossip.specs.Holding.{names_in, parcel_beyond, row_names, unnamed}
-use Rattle.hg_board.specs.Seats.{Place, Stand, seen_by}
+use Rattle.hg_board.specs.Seats.{SharedNode, SeatView, seen_by}
 use Rattle.hg_board.specs.Calls.{SeatMakes, SeatPuts, SeatWaits, Stays}
 use Rattle.hg_world.specs.declared.step.Step.TheVariants.{Deliver, Make}
 use Rattle.hg_world.specs.World.{Secrets, WorldView, node_at}
 use Rattle.hg_world.specs.Steps.{making_at, node_made, node_put, putting_at}
 use Rattle.hg_crowd.specs.Crowd.{AreSeats}
 use Rattle.hg_play.specs.Alike.{AreAlike}
-use Rattle.hg_play.specs.Nodes.{IsKept, TellsMaking, TellsPutting}
-use Rattle.hg_play.specs.Through.{TellsNames, TellsParcel, node_seen, seen_through}
+use Rattle.hg_play.specs.Nodes.{IsKept, MatchesMaking, MatchesPutting}
+use Rattle.hg_play.specs.Through.{MatchesNames, MatchesParcel, node_seen, seen_through}
 use Rattle.hg_play.proofs.AlikeLaws.{same_of, stay_alike}
 use Rattle.hg_play.proofs.OthersLaws.{IsAfter, alike_back, alike_both, make_after, make_told, put_after, put_told, wait_after, wait_told}
 use Rattle.hg_play.proofs.SharedLaws.{kept_after, seat_of, seats_after, told_change, told_same}
 
 -- what a call owes, whatever it answers
-pub record IsDone {A E : Type 0} (places : List (Place Secrets)) (olds news : List (Stand Secrets)) (result : Result A E) (Tells : A → Type 0) : Type 0 where
+pub record IsDone {A E : Type 0} (places : List (SharedNode Secrets)) (olds news : List (SeatView Secrets)) (result : Result A E) (Matches : A → Type 0) : Type 0 where
   pub seats : AreSeats accepts_by places news
   pub kept : IsKept (seen_through places olds) (seen_through places news)
-  pub told : IfOk result Tells
+  pub told : IfOk result Matches
 
-module _ (places : List (Place Secrets)) (seats : List (Stand Secrets)) (x : ℕ) (p : Place Secrets) (m n : Stand Secrets)
+module _ (places : List (SharedNode Secrets)) (seats : List (SeatView Secrets)) (x : ℕ) (p : SharedNode Secrets) (m n : SeatView Secrets)
     (are : AreSeats accepts_by places seats) (low : x < length seats) (p_is : p ≡ get_or places x p) (m_is : m ≡ get_or seats x m) (stays : Stays accepts_by p m n) where
-  done : {A E : Type 0} (result : Result A E) (Tells : A → Type 0) → IsAfter p m n → IfOk result Tells → IsDone places seats (set seats x n) result Tells
-  done result Tells call told = record {
+  done : {A E : Type 0} (result : Result A E) (Matches : A → Type 0) → IsAfter p m n → IfOk result Matches → IsDone places seats (set seats x n) result Matches
+  done result Matches call told = record {
     seats = seats_after places seats x p m n are low p_is m_is call;
     kept = kept_after places seats x p m n are low p_is m_is call;
     told = told;
   }
 
   pub put_done : {E : Type 0} (bytes : List ℕ) (result : Result PutAnswer E) → IfOk result (SeatPuts accepts_by p m bytes n) → OnErr result (SeatWaits accepts_by p m n) →
-      IsDone places seats (set seats x n) result (TellsPutting (seen_through places seats) (seen_through places (set seats x n)) x bytes)
+      IsDone places seats (set seats x n) result (MatchesPutting (seen_through places seats) (seen_through places (set seats x n)) x bytes)
   put_done bytes (Err e) puts waits = done (Err e) _ (wait_after p m n waits (seat_of places seats x p m n are low p_is m_is) stays) tt
   put_done bytes (Ok answer) puts waits =
       let seat = seat_of places seats x p m n are low p_is m_is in
@@ -55,7 +55,7 @@ module _ (places : List (Place Secrets)) (seats : List (Stand Secrets)) (x : ℕ
       )))
 
   pub make_done : {E : Type 0} (other : Option (List ℕ)) (time : ℕ) (payload : List ℕ) (result : Result MakeAnswer E) → IfOk result (SeatMakes accepts_by p m (option_to_list other) time payload n) →
-      OnErr result (SeatWaits accepts_by p m n) → IsDone places seats (set seats x n) result (TellsMaking (seen_through places seats) (seen_through places (set seats x n)) x other time payload)
+      OnErr result (SeatWaits accepts_by p m n) → IsDone places seats (set seats x n) result (MatchesMaking (seen_through places seats) (seen_through places (set seats x n)) x other time payload)
   make_done other time payload (Err e) made waits = done (Err e) _ (wait_after p m n waits (seat_of places seats x p m n are low p_is m_is) stays) tt
   make_done other time payload (Ok answer) made waits =
       let seat = seat_of places seats x p m n are low p_is m_is in
@@ -76,7 +76,7 @@ module _ (places : List (Place Secrets)) (seats : List (Stand Secrets)) (x : ℕ
   read_alike waits w alike told = alike_both (node_at w x) (node_seen p m) (node_seen p n) alike (alike_back (node_seen p n) (node_seen p m) told)
 
   pub held_done : {B E : Type 0} (items : B → List (List ℕ)) (result : Result B E) → SeatWaits accepts_by p m n → IfOk result (λ b. items b ≡ names_in (seen_by p n)) →
-      IsDone places seats (set seats x n) result (λ b. TellsNames (seen_through places seats) (seen_through places (set seats x n)) x (items b))
+      IsDone places seats (set seats x n) result (λ b. MatchesNames (seen_through places seats) (seen_through places (set seats x n)) x (items b))
   held_done items (Err e) waits is = done (Err e) _ (wait_after p m n waits (seat_of places seats x p m n are low p_is m_is) stays) tt
   held_done items (Ok b) waits is =
       let seat = seat_of places seats x p m n are low p_is m_is in
@@ -88,7 +88,7 @@ module _ (places : List (Place Secrets)) (seats : List (Stand Secrets)) (x : ℕ
       (is ∙ ap row_names (sym same.rows), same)))
 
   pub missing_done : {E : Type 0} (names : List (List ℕ)) (result : Result Parcel E) → SeatWaits accepts_by p m n → IfOk result (λ parcel. parcel ≡ parcel_beyond names (seen_by p n)) →
-      IsDone places seats (set seats x n) result (TellsParcel (seen_through places seats) (seen_through places (set seats x n)) x names)
+      IsDone places seats (set seats x n) result (MatchesParcel (seen_through places seats) (seen_through places (set seats x n)) x names)
   missing_done names (Err e) waits is = done (Err e) _ (wait_after p m n waits (seat_of places seats x p m n are low p_is m_is) stays) tt
   missing_done names (Ok parcel) waits is =
       let seat = seat_of places seats x p m n are low p_is m_is in

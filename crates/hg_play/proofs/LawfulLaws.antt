@@ -17,14 +17,14 @@ use Rattle.hg_world.specs.declared.step.Step.TheVariants.{Deliver}
 use Rattle.hg_world.specs.World.{WorldView, new_world}
 use Rattle.hg_world.specs.Steps.{HasWorker, IsStepOf, actor, after_steps, settle_steps}
 use Rattle.hg_world.specs.Syncs.{make_steps, pull_steps}
-use Rattle.hg_world.specs.Kept.{HaveEvents, IsWorld}
+use Rattle.hg_world.specs.Parts.{HaveEvents, IsWorld}
 use Rattle.hg_world.proofs.LawfulLaws.{steps_lawful, worlds_have_events}
 use Rattle.hg_world.proofs.WorldLaws.{safe}
 use Rattle.hg_play.specs.Agree.{IsAgreed}
 use Rattle.hg_play.specs.Alike.{WorldsAlike}
 use Rattle.hg_play.specs.Batch.{IsLineOfRows, IsPlayed}
 use Rattle.hg_play.specs.Lines.{IsBelow, IsLineBelow, action_steps, gossip_steps}
-use Rattle.hg_play.specs.Nodes.{TellsBlocks, seen_alone}
+use Rattle.hg_play.specs.Nodes.{MatchesBlocks, seen_alone}
 use Rattle.hg_play.specs.Play.{IsSafePlay, Stage, after_line, after_lines, end_blocks, end_steps, first_stage, lines_steps, play_steps}
 use Rattle.hg_play.specs.Sites.{starts, starts_of}
 use Rattle.hg_play.specs.Through.{IsOfRows}
@@ -112,7 +112,7 @@ pub record Ends (members : MemberList) (lines : List Line) (before pieces : List
   pub agreeing : IsAgreed members lines
 
 pub ends : (members : MemberList) (lines : List Line) (world last : WorldView) (printed before pieces : List Printed) → IsWorld (new_world members) → All (IsLineBelow (length members.entries)) lines →
-    IsPlayed members lines world printed → TellsBlocks (seen_alone world) (seen_alone last) members before pieces → IsWorld last → Ends members lines before pieces
+    IsPlayed members lines world printed → MatchesBlocks (seen_alone world) (seen_alone last) members before pieces → IsWorld last → Ends members lines before pieces
 ends members lines world last printed before pieces new below played told is_last =
     let s = after_lines members (first_stage members) lines in
     let tail = end_steps members (length members.entries) in

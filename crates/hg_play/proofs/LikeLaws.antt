@@ -27,7 +27,7 @@ use Rattle.hg_world.specs.Steps.{after_step, after_steps}
 use Rattle.hg_play.specs.Alike.{WorldsAlike}
 use Rattle.hg_play.specs.Labels.{bytes_named, name_of_label, source_bytes}
 use Rattle.hg_play.specs.Lines.{action_labels, action_printed, action_steps, gossip_printed, gossip_steps}
-use Rattle.hg_play.specs.Nodes.{IsStage, TellsLine, seen_alone}
+use Rattle.hg_play.specs.Nodes.{IsStage, MatchesLine, seen_alone}
 use Rattle.hg_play.specs.Play.{Stage, after_line, end_blocks, stage}
 use Rattle.hg_play.specs.Sites.{starts_of}
 use Rattle.hg_play.specs.Through.{IsOfRows, IsStageLike, LinesNeedRowsAlone, StagesAlike}
@@ -127,7 +127,7 @@ stage_alike members s t line of like =
 
 -- a line that was played over a world whose nodes are those of a stage, but for marks
 pub line_like : (members : MemberList) (line : Line) (old new : WorldView) (labels labels_new : List (List ℕ)) (before after : List Printed) → IsOfRows line.action →
-    TellsLine members line (seen_alone old) labels before (seen_alone new) labels_new after → (s : Stage) → IsStageLike members old labels before s →
+    MatchesLine members line (seen_alone old) labels before (seen_alone new) labels_new after → (s : Stage) → IsStageLike members old labels before s →
     IsStageLike members new labels_new after (after_line members s line)
 line_like members line old new labels labels_new before after of told s is =
     let own : Stage = stage old labels before in

@@ -11,10 +11,10 @@ use Rattle.hg_world.specs.declared.step.Step.{Step}
 use Rattle.hg_world.specs.World.{WorldView, new_world}
 use Rattle.hg_world.specs.Steps.{RanSome, after_steps, settle_steps}
 use Rattle.hg_play.specs.Lines.{action_labels, action_printed, action_steps}
-use Rattle.hg_play.specs.Nodes.{IsKept, IsStage, NodesView, TellsBlock, TellsBlocks, TellsLine, TellsLines, Told, seen_alone}
+use Rattle.hg_play.specs.Nodes.{IsKept, IsStage, NodesView, MatchesBlock, MatchesBlocks, MatchesLine, MatchesLines, Matched, seen_alone}
 use Rattle.hg_play.specs.Play.{Stage, after_line, after_lines, all_printed, block_at, end_blocks, end_steps, first_stage, stage}
 use Rattle.hg_play.specs.Sites.{starts, starts_of}
-use Rattle.hg_play.specs.Through.{TellsParts}
+use Rattle.hg_play.specs.Through.{MatchesParts}
 use Rattle.hg_play.proofs.PlayLaws.{block_more, no_blocks}
 use Rattle.hg_play.proofs.WorldLaws.{block_same, sites_length, starts-lines, starts-new, starts-steps, starts_length, steps-append}
 
@@ -32,7 +32,7 @@ kept_both a b = record {
 -- what is told of two calls, one after the other
 pub told_both : {N : Type 0} (old now new : NodesView N) (first rest all : WorldView → List Step) (P Q R : WorldView → Type 0) → (new.Alone → now.Alone) →
     ((w : WorldView) → all w ≡ first w ++ rest (after_steps w (first w))) → ((w : WorldView) → P w → Q (after_steps w (first w)) → R w) →
-    Told old now first P → Told now new rest Q → Told old new all R
+    Matched old now first P → Matched now new rest Q → Matched old new all R
 told_both old now new first rest all P Q R back steps is one two = λ alone w agrees.
     let a = one (back alone) w agrees in
     let b = two alone (after_steps w (first w)) a.1 in
@@ -50,14 +50,14 @@ pub kept_or_same : {A E : Type 0} (result : Result A E) (old new : WorldView) (s
 kept_or_same (Ok a) old new steps ok err = kept_steps old new steps ok
 kept_or_same (Err e) old new steps ok err = kept_steps old new [] err
 
-pub told_alone : (old new : WorldView) (steps : WorldView → List Step) (IsSo : WorldView → Type 0) → IsSo old → new ≡ after_steps old (steps old) → Told (seen_alone old) (seen_alone new) steps IsSo
+pub told_alone : (old new : WorldView) (steps : WorldView → List Step) (IsSo : WorldView → Type 0) → IsSo old → new ≡ after_steps old (steps old) → Matched (seen_alone old) (seen_alone new) steps IsSo
 told_alone old new steps IsSo so is = λ alone w same. subst (λ (v : WorldView). IsSo v × (new ≡ after_steps v (steps v))) same (so, is)
 
 -- a line by what is told of its call
 pub line_told : {N : Type 0} (old new : NodesView N) (members : MemberList) (line : Line) (a : Action) (labels labels_new : List (List ℕ)) (printed printed_new : List Printed) → line.action ≡ a →
-    Told old new (λ w. action_steps w labels a)
+    Matched old new (λ w. action_steps w labels a)
     (λ w. starts_of w ≡ starts members → (labels_new ≡ action_labels members w labels a) × (printed_new ≡ printed ++ action_printed members w labels line.number a)) →
-    TellsLine members line old labels printed new labels_new printed_new
+    MatchesLine members line old labels printed new labels_new printed_new
 line_told old new members line a labels labels_new printed printed_new action told = λ alone s is.
     let w = s.world in
     let t = told alone w is.agrees in
@@ -75,7 +75,7 @@ line_told old new members line a labels labels_new printed printed_new action to
 
 -- no lines so far
 pub parts_none : {N : Type 0} (members : MemberList) (v : NodesView N) (labels labels_now : List (List ℕ)) (printed printed_now : List Printed) → labels_now ≡ labels → printed_now ≡ printed →
-    TellsParts members [] v labels printed v labels_now printed_now
+    MatchesParts members [] v labels printed v labels_now printed_now
 parts_none members v labels labels_now printed printed_now same shown = λ alone s at. record {
   agrees = at.agrees;
   begun = at.begun;
@@ -85,8 +85,8 @@ parts_none members v labels labels_now printed printed_now same shown = λ alone
 
 -- one line more
 pub parts_more : {N : Type 0} (old now new : NodesView N) (members : MemberList) (lines : List Line) (i : ℕ) (line : Line) (labels_old labels labels_new : List (List ℕ)) (printed_old printed printed_new : List Printed) →
-    i < length lines → line ≡ get_or lines i line → (new.Alone → now.Alone) → TellsParts members (take i lines) old labels_old printed_old now labels printed →
-    TellsLine members line now labels printed new labels_new printed_new → TellsParts members (take (i + 1) lines) old labels_old printed_old new labels_new printed_new
+    i < length lines → line ≡ get_or lines i line → (new.Alone → now.Alone) → MatchesParts members (take i lines) old labels_old printed_old now labels printed →
+    MatchesLine members line now labels printed new labels_new printed_new → MatchesParts members (take (i + 1) lines) old labels_old printed_old new labels_new printed_new
 parts_more old now new members lines i line labels_old labels labels_new printed_old printed printed_new within is back so_far told = λ alone s at.
     let before = after_lines members s (take i lines) in
     let next : after_lines members s (take (i + 1) lines) ≡ after_line members before line =
@@ -95,12 +95,12 @@ parts_more old now new members lines i line labels_old labels labels_new printed
 
 -- what is told of a call that answers
 pub told_by : {A E : Type 0} (result : Result A E) (old new : WorldView) (steps : WorldView → List Step) (IsSo : A → WorldView → Type 0) (P : A → Type 0) →
-    ((a : A) → P a → IsSo a old × (new ≡ after_steps old (steps old))) → IfOk result P → IfOk result (λ a. Told (seen_alone old) (seen_alone new) steps (IsSo a))
+    ((a : A) → P a → IsSo a old × (new ≡ after_steps old (steps old))) → IfOk result P → IfOk result (λ a. Matched (seen_alone old) (seen_alone new) steps (IsSo a))
 told_by (Ok a) old new steps IsSo P says is = let so = says a is in told_alone old new steps (IsSo a) so.0 so.1
 told_by (Err e) old new steps IsSo P says is = tt
 
 pub told_call : {A E : Type 0} (result : Result A E) (old new : WorldView) (steps : WorldView → List Step) (IsSo : A → WorldView → Type 0) →
-    IfOk result (λ a. IsSo a old) → OnOk result (new ≡ after_steps old (steps old)) → IfOk result (λ a. Told (seen_alone old) (seen_alone new) steps (IsSo a))
+    IfOk result (λ a. IsSo a old) → OnOk result (new ≡ after_steps old (steps old)) → IfOk result (λ a. Matched (seen_alone old) (seen_alone new) steps (IsSo a))
 told_call (Ok a) old new steps IsSo so is = told_alone old new steps (IsSo a) so is
 told_call (Err e) old new steps IsSo so is = tt
 
@@ -113,14 +113,14 @@ kept_some (Err e) old new steps P says some is err = kept_steps old new err.firs
 -- the blocks of the first so many nodes
 abbrev pub BlocksSoFar : {N : Type 0} → MemberList → ℕ → NodesView N → NodesView N → List Printed → List Printed → Type 0
 BlocksSoFar members m old now before printed =
-    Told old now (λ w. end_steps members m) (λ w. starts_of w ≡ starts members → printed ≡ before ++ list_below (block_at members w) m (has_node members))
+    Matched old now (λ w. end_steps members m) (λ w. starts_of w ≡ starts members → printed ≡ before ++ list_below (block_at members w) m (has_node members))
 
 pub blocks_none : {N : Type 0} (members : MemberList) (v : NodesView N) (printed : List Printed) → BlocksSoFar members 0 v v printed printed
 blocks_none members v printed = λ alone w agrees. ((λ begun. no_blocks members w printed), agrees)
 
 -- and of one more
 pub blocks_more : {N : Type 0} (old now new : NodesView N) (members : MemberList) (m : ℕ) (before printed printed_new : List Printed) → m < length members.entries → (new.Alone → now.Alone) →
-    BlocksSoFar members m old now before printed → TellsBlock now new members m printed printed_new → BlocksSoFar members (m + 1) old new before printed_new
+    BlocksSoFar members m old now before printed → MatchesBlock now new members m printed printed_new → BlocksSoFar members (m + 1) old new before printed_new
 blocks_more old now new members m before printed printed_new low back so_far told =
     told_both old now new (λ w. end_steps members m) (λ w. cond (has_node members m) (settle_steps m) []) (λ w. end_steps members (m + 1))
     (λ w. starts_of w ≡ starts members → printed ≡ before ++ list_below (block_at members w) m (has_node members))
@@ -136,7 +136,7 @@ blocks_more old now new members m before printed printed_new low back so_far tol
 
 -- all of them, over a world
 pub lines_told : {N : Type 0} (old now : NodesView N) (members : MemberList) (lines : List Line) (labels : List (List ℕ)) (printed : List Printed) →
-    TellsParts members lines old [] [] now labels printed → TellsLines old now members lines printed
+    MatchesParts members lines old [] [] now labels printed → MatchesLines old now members lines printed
 lines_told old now members lines labels printed told = λ alone w agrees begun.
     let at = told alone (stage w [] []) (record { agrees = agrees; begun = begun; labelled = refl; shown = refl }) in
     (at.shown, at.agrees)
@@ -148,7 +148,7 @@ lines_still Is old now kept lines i line low is each = subst (λ (n : ℕ). Is n
 
 -- what the nodes of one thread come to, and all that they print
 pub played_alone : (members : MemberList) (lines : List Line) (world now last : WorldView) (pieces printed : List Printed) → world ≡ new_world members →
-    TellsLines (seen_alone world) (seen_alone now) members lines pieces → TellsBlocks (seen_alone now) (seen_alone last) members pieces printed →
+    MatchesLines (seen_alone world) (seen_alone now) members lines pieces → MatchesBlocks (seen_alone now) (seen_alone last) members pieces printed →
     (printed ≡ all_printed members lines) × (last ≡ after_steps (after_lines members (first_stage members) lines).world (end_steps members (length members.entries)))
 played_alone members lines world now last pieces printed is lines_told blocks_told =
     let played : WorldView → Stage = λ w. after_lines members (stage w [] []) lines in

@@ -12,7 +12,7 @@ use Rattle.hg_model.specs.NodeView.{NodeView, node_rows, with_changes}
 use Rattle.hg_model.specs.Calls.{make_changes, put_answer, put_changes}
 use Rattle.hg_gossip.specs.Holding.{Seen, positions_from, with_others, with_own}
 use Rattle.hg_board.specs.Positions.{times, AreBelow}
-use Rattle.hg_board.specs.Seats.{Place, Stand, seen_by}
+use Rattle.hg_board.specs.Seats.{SharedNode, SeatView, seen_by}
 use Rattle.hg_board.specs.Calls.{SeatMakes, SeatPuts, SeatWaits, Stays}
 use Rattle.hg_board.proofs.PositionLaws as positions
 use Rattle.hg_board.proofs.PrefixLaws.{prefix_length}
@@ -75,17 +75,17 @@ marks_add_none (Made row ∷ es) marks = absurd (let m = marks 0 (omega arith) i
 marks_add_none (Marked len share ∷ es) marks = marks_add_none es (λ k low. marks (suc k) (omega arith))
 
 -- through a seat: others' changes, and then those of its own call
-record IsCalled (old new : Stand Secrets) (others own : List Change) : Type 0 where
+record IsCalled (old new : SeatView Secrets) (others own : List Change) : Type 0 where
   pub seen : new.seen ≡ old.seen ++ others ++ own
   pub mine : new.mine ≡ old.mine ++ positions_from (length (old.seen ++ others)) own
 
 -- after a call: the seat, which is the same still; and that others only marked is known of before where it is known of after
-pub record IsAfter (p : Place Secrets) (old new : Stand Secrets) : Type 0 where
+pub record IsAfter (p : SharedNode Secrets) (old new : SeatView Secrets) : Type 0 where
   pub seat : IsSeat accepts_by p new
   pub still : IsStill old new
   pub back : OthersMark p new → OthersMark p old
 
-module _ (p : Place Secrets) (old new : Stand Secrets) (others own : List Change) (called : IsCalled old new others own) where
+module _ (p : SharedNode Secrets) (old new : SeatView Secrets) (others own : List Change) (called : IsCalled old new others own) where
   whole : new.seen ≡ old.seen ++ (others ++ own)
   whole = called.seen ∙ append_assoc old.seen others own
 
@@ -138,7 +138,7 @@ module _ (p : Place Secrets) (old new : Stand Secrets) (others own : List Change
   }
 
 -- bytes were put through a seat
-module _ (p : Place Secrets) (old new : Stand Secrets) (bytes : List ℕ) (answer : PutAnswer) (puts : SeatPuts accepts_by p old bytes new answer) where
+module _ (p : SharedNode Secrets) (old new : SeatView Secrets) (bytes : List ℕ) (answer : PutAnswer) (puts : SeatPuts accepts_by p old bytes new answer) where
   abbrev put_others : List Change
   put_others = puts.waits.others
 
@@ -161,7 +161,7 @@ module _ (p : Place Secrets) (old new : Stand Secrets) (bytes : List ℕ) (answe
       )
 
 -- an event was made through a seat, or refused
-module _ (p : Place Secrets) (old new : Stand Secrets) (names : List (List ℕ)) (time : ℕ) (payload : List ℕ) (answer : MakeAnswer) (made : SeatMakes accepts_by p old names time payload new answer) where
+module _ (p : SharedNode Secrets) (old new : SeatView Secrets) (names : List (List ℕ)) (time : ℕ) (payload : List ℕ) (answer : MakeAnswer) (made : SeatMakes accepts_by p old names time payload new answer) where
   abbrev make_others : List Change
   make_others = made.waits.others
 
@@ -189,7 +189,7 @@ module _ (p : Place Secrets) (old new : Stand Secrets) (names : List (List ℕ))
       )
 
 -- a call through a seat added nothing
-module _ (p : Place Secrets) (old new : Stand Secrets) (waits : SeatWaits accepts_by p old new) where
+module _ (p : SharedNode Secrets) (old new : SeatView Secrets) (waits : SeatWaits accepts_by p old new) where
   wait_called : IsCalled old new waits.others []
   wait_called = record {
     seen = ap (λ (s : Seen Secrets). s.node.history) waits.later ∙ sym (append-nil (old.seen ++ waits.others));

@@ -23,14 +23,14 @@ use Rattle.hg_world.specs.Steps.{after_step, after_steps}
 use Rattle.hg_world.specs.Syncs.{HasPulled, HasTaken, deliver_steps, make_steps}
 use Rattle.hg_world.proofs.PullLaws.{pull_ended, syncs, takes_more, takes_none}
 use Rattle.hg_play.specs.Labels.{bytes_at, bytes_beside, bytes_named}
-use Rattle.hg_board.specs.Seats.{Place, Stand}
+use Rattle.hg_board.specs.Seats.{SharedNode, SeatView}
 use Rattle.hg_script.specs.declared.line.Line.{Line}
 use Rattle.hg_model.specs.declared.outcome.Printed.{Printed}
 use Rattle.hg_model.specs.Members.{MemberList}
 use Rattle.hg_crowd.specs.Crowd.{AreStill}
 use Rattle.hg_play.proofs.SharedLaws.{still_all}
-use Rattle.hg_play.specs.Nodes.{IsKept, NodesView, TellsLast, TellsMaking, TellsPulling, TellsPutting, TellsSyncing}
-use Rattle.hg_play.specs.Through.{SharedView, TellsLacked, TellsMade, TellsNames, TellsParcel, TellsParts, TellsTaken, TellsThrough, seen_shared, seen_through, shared_view}
+use Rattle.hg_play.specs.Nodes.{IsKept, NodesView, MatchesLast, MatchesMaking, MatchesPulling, MatchesPutting, MatchesSyncing}
+use Rattle.hg_play.specs.Through.{SharedView, MatchesLacked, MatchesMade, MatchesNames, MatchesParcel, MatchesParts, MatchesTaken, MatchesThrough, seen_shared, seen_through, shared_view}
 
 -- the first place that passes, or the length, by `position`
 position_unwrapped : {A : Type 0} (test : A → Bool) (xs : List A) → unwrap_or (position test xs) (length xs) ≡ position_or_len test xs
@@ -61,7 +61,7 @@ beside_named G name =
 
 -- the names were read, and then what the peer has beyond them
 pub lacked_told : {N E : Type 0} (old mid new : NodesView N) (taker peer : ℕ) (names given : List (List ℕ)) (result : Result Parcel E) → given ≡ names → (new.Alone → mid.Alone) →
-    TellsNames old mid taker names → IfOk result (TellsParcel mid new peer given) → IfOk result (TellsLacked old new taker peer)
+    MatchesNames old mid taker names → IfOk result (MatchesParcel mid new peer given) → IfOk result (MatchesLacked old new taker peer)
 lacked_told old mid new taker peer names given (Err e) same back held missing = tt
 lacked_told old mid new taker peer names given (Ok parcel) same back held missing = λ alone w agrees.
     let a = held (back alone) w agrees in
@@ -75,7 +75,7 @@ lacked_told old mid new taker peer names given (Ok parcel) same back held missin
 
 -- of the row with the name that the parcel tells
 pub last_told : {N : Type 0} (old mid new : NodesView N) (m : ℕ) (names none given rows : List (List ℕ)) (name : Option (List ℕ)) (parcel : Parcel) (bytes : List ℕ) → none ≡ [] → given ≡ names → rows ≡ parcel.rows → name ≡ parcel.last →
-    bytes ≡ unwrap_or (option_map (bytes_beside given rows) name) [] → (new.Alone → mid.Alone) → TellsParcel old mid m none parcel → TellsNames mid new m names → TellsLast old new m bytes
+    bytes ≡ unwrap_or (option_map (bytes_beside given rows) name) [] → (new.Alone → mid.Alone) → MatchesParcel old mid m none parcel → MatchesNames mid new m names → MatchesLast old new m bytes
 last_told old mid new m names none given rows name parcel bytes is_none is_given is_rows is_name is back missing held = λ alone w agrees.
     let a = missing (back alone) w agrees in
     let b = held alone w a.1 in
@@ -86,19 +86,19 @@ last_told old mid new m names none given rows name parcel bytes is_none is_given
     (is ∙ ap₂ (λ (f : List ℕ → List ℕ) (o : Option (List ℕ)). unwrap_or (option_map f o) []) (λ i n. each n i) (is_name ∙ a.0.1), b.1)
 
 pub last_ended : {N E : Type 0} (old mid new : NodesView N) (m : ℕ) (names none given rows : List (List ℕ)) (name : Option (List ℕ)) (parcel : Parcel) (result : Result (List ℕ) E) → none ≡ [] → given ≡ names → rows ≡ parcel.rows → name ≡ parcel.last →
-    IfOk result (λ bytes. bytes ≡ unwrap_or (option_map (bytes_beside given rows) name) []) → (new.Alone → mid.Alone) → TellsParcel old mid m none parcel → TellsNames mid new m names → IfOk result (TellsLast old new m)
+    IfOk result (λ bytes. bytes ≡ unwrap_or (option_map (bytes_beside given rows) name) []) → (new.Alone → mid.Alone) → MatchesParcel old mid m none parcel → MatchesNames mid new m names → IfOk result (MatchesLast old new m)
 last_ended old mid new m names none given rows name parcel (Err e) is_none is_given is_rows is_name is back missing held = tt
 last_ended old mid new m names none given rows name parcel (Ok bytes) is_none is_given is_rows is_name is back missing held =
     last_told old mid new m names none given rows name parcel bytes is_none is_given is_rows is_name is back missing held
 
 -- no events so far
-pub taken_none : {N : Type 0} (v : NodesView N) (m : ℕ) → TellsTaken v v m [] none_taken
+pub taken_none : {N : Type 0} (v : NodesView N) (m : ℕ) → MatchesTaken v v m [] none_taken
 taken_none v m = λ alone w agrees. (takes_none w m, agrees)
 
 -- and one more
 pub taken_more : (old now new : SharedView) (m : ℕ) (events : List (List ℕ)) (i : ℕ) (event bytes : List ℕ) (before after : Taken) (answer : PutAnswer) → m < length old.seats → i < length events → event ≡ get_or events i event → bytes ≡ event →
-    ((seen_shared new).Alone → (seen_shared now).Alone) → TellsTaken (seen_shared old) (seen_shared now) m (take i events) before → TellsPutting (seen_shared now) (seen_shared new) m bytes answer → after ≡ with_answer before answer →
-    TellsTaken (seen_shared old) (seen_shared new) m (take (i + 1) events) after
+    ((seen_shared new).Alone → (seen_shared now).Alone) → MatchesTaken (seen_shared old) (seen_shared now) m (take i events) before → MatchesPutting (seen_shared now) (seen_shared new) m bytes answer → after ≡ with_answer before answer →
+    MatchesTaken (seen_shared old) (seen_shared new) m (take (i + 1) events) after
 taken_more old now new m events i event bytes before after answer inside low is same back so_far put counted = λ alone w agrees.
     let a = so_far (back alone) w agrees in
     let u : WorldView = after_steps w (deliver_steps m (take i events)) in
@@ -110,7 +110,7 @@ taken_more old now new m events i event bytes before after answer inside low is 
 
 -- what a pull leaves and counts
 pub pull_told : {N E : Type 0} (old mid new : NodesView N) (taker peer : ℕ) (parcel : Parcel) (events : List (List ℕ)) (result : Result Taken E) → events ≡ parcel.rows → (new.Alone → mid.Alone) →
-    TellsLacked old mid taker peer parcel → IfOk result (TellsTaken mid new taker events) → IfOk result (TellsPulling old new taker peer)
+    MatchesLacked old mid taker peer parcel → IfOk result (MatchesTaken mid new taker events) → IfOk result (MatchesPulling old new taker peer)
 pull_told old mid new taker peer parcel events (Err e) same back found took = tt
 pull_told {N} {E} old mid new taker peer parcel events (Ok counts) same back found took = λ alone w agrees.
     let a = found (back alone) w agrees in
@@ -122,8 +122,8 @@ pull_told {N} {E} old mid new taker peer parcel events (Ok counts) same back fou
 
 -- what a sync leaves and reports
 pub sync_told : {N : Type 0} (old mid full new : NodesView N) (taker peer : ℕ) (parcel : Parcel) (events : List (List ℕ)) (time : ℕ) (payload : List ℕ) (counts : Taken) (made : SyncMade) → events ≡ parcel.rows → (full.Alone → mid.Alone) →
-    (new.Alone → full.Alone) → TellsLacked old mid taker peer parcel → TellsTaken mid full taker events counts → TellsMade full new taker parcel.last time payload made →
-    TellsSyncing old new taker peer time payload (record { taken = counts.taken; refused = counts.refused; made = made })
+    (new.Alone → full.Alone) → MatchesLacked old mid taker peer parcel → MatchesTaken mid full taker events counts → MatchesMade full new taker parcel.last time payload made →
+    MatchesSyncing old new taker peer time payload (record { taken = counts.taken; refused = counts.refused; made = made })
 sync_told old mid full new taker peer parcel events time payload counts made same back last found took makes = λ alone w agrees.
     let a = found (back (last alone)) w agrees in
     let b = took (last alone) w a.1 in
@@ -137,21 +137,21 @@ sync_told old mid full new taker peer parcel events time payload counts made sam
 
 -- what came of an event
 pub made_told : {N : Type 0} (old new : NodesView N) (m : ℕ) (name : List ℕ) (time : ℕ) (payload : List ℕ) (answer : MakeAnswer) (made : SyncMade) → made ≡ made_in_sync answer →
-    TellsMaking old new m (Some name) time payload answer → TellsMade old new m (Some name) time payload made
+    MatchesMaking old new m (Some name) time payload answer → MatchesMade old new m (Some name) time payload made
 made_told old new m name time payload answer made is makes = λ alone w agrees.
     let a = makes alone w agrees in
     (is ∙ ap made_in_sync a.0, a.1)
 
 -- what is known of the seats in the end, since lines were played from these on
-pub through_since : (places : List (Place Secrets)) (seats : List (Stand Secrets)) (old new : SharedView) → old ≡ shared_view places seats → IsKept (seen_shared old) (seen_shared new) →
+pub through_since : (places : List (SharedNode Secrets)) (seats : List (SeatView Secrets)) (old new : SharedView) → old ≡ shared_view places seats → IsKept (seen_shared old) (seen_shared new) →
     (new.places ≡ places) × AreStill seats new.seats
 through_since places seats old new is kept = kept.since (shared_view places seats) (subst (λ (v : SharedView). (seen_shared v).Since (shared_view places seats)) (sym is) (refl, still_all seats))
 
-pub through_told : {A E : Type 0} (members : MemberList) (lines : List Line) (places : List (Place Secrets)) (seats seats_new : List (Stand Secrets)) (old new : SharedView) (labels : List (List ℕ)) (printed : List Printed)
+pub through_told : {A E : Type 0} (members : MemberList) (lines : List Line) (places : List (SharedNode Secrets)) (seats seats_new : List (SeatView Secrets)) (old new : SharedView) (labels : List (List ℕ)) (printed : List Printed)
     (labels_of : A → List (List ℕ)) (printed_of : A → List Printed) (result : Result A E) → old ≡ shared_view places seats → new ≡ shared_view places seats_new →
-    IfOk result (λ r. TellsParts members lines (seen_shared old) labels printed (seen_shared new) (labels_of r) (printed_of r)) →
-    IfOk result (λ r. TellsThrough members lines places seats labels printed seats_new (labels_of r) (printed_of r))
+    IfOk result (λ r. MatchesParts members lines (seen_shared old) labels printed (seen_shared new) (labels_of r) (printed_of r)) →
+    IfOk result (λ r. MatchesThrough members lines places seats labels printed seats_new (labels_of r) (printed_of r))
 through_told members lines places seats seats_new old new labels printed labels_of printed_of (Err e) is was told = tt
 through_told members lines places seats seats_new old new labels printed labels_of printed_of (Ok r) is was told =
-    subst (λ (v : SharedView). TellsParts members lines (seen_shared v) labels printed (seen_through places seats_new) (labels_of r) (printed_of r)) is
-    (subst (λ (v : SharedView). TellsParts members lines (seen_shared old) labels printed (seen_shared v) (labels_of r) (printed_of r)) was told)
+    subst (λ (v : SharedView). MatchesParts members lines (seen_shared v) labels printed (seen_through places seats_new) (labels_of r) (printed_of r)) is
+    (subst (λ (v : SharedView). MatchesParts members lines (seen_shared old) labels printed (seen_shared v) (labels_of r) (printed_of r)) was told)

@@ -5,13 +5,13 @@ use Rattle.std.proofs.lemmas.List.{length-set, get_or-set_same, get_or-set_other
 use Rattle.hg_model.specs.Signing.{accepts_by}
 use Rattle.hg_model.specs.NodeView.{NodeView}
 use Rattle.hg_history.proofs.StateLaws.{prefix_more, prefix_same}
-use Rattle.hg_board.specs.Seats.{Place, Stand}
+use Rattle.hg_board.specs.Seats.{SharedNode, SeatView}
 use Rattle.hg_world.specs.declared.step.Step.{Step}
 use Rattle.hg_world.specs.World.{Secrets, Site, WorldView, no_site, node_at, site_at, site_of, with_node_at}
 use Rattle.hg_world.specs.Steps.{after_steps}
 use Rattle.hg_crowd.specs.Crowd.{AreSeats, AreStill, IsSeat, IsStill, OthersMark}
 use Rattle.hg_play.specs.Alike.{AreAlike}
-use Rattle.hg_play.specs.Nodes.{IsKept, Told}
+use Rattle.hg_play.specs.Nodes.{IsKept, Matched}
 use Rattle.hg_play.specs.Through.{AllOthersMark, AreSeen, node_seen, seen_shared, shared_view}
 use Rattle.hg_play.proofs.OthersLaws.{IsAfter}
 
@@ -25,7 +25,7 @@ module _ {A : Type 0} where
   pub here_is : (xs : List A) (x k : ℕ) (a d : A) → x < length xs → k ≡ x → get_or (set xs x a) k d ≡ a
   here_is xs x k a d low here = ap (λ (j : ℕ). get_or (set xs x a) j d) here ∙ get_or-set_same xs x a d low
 
-pub still_both : (a b c : Stand Secrets) → IsStill a b → IsStill b c → IsStill a c
+pub still_both : (a b c : SeatView Secrets) → IsStill a b → IsStill b c → IsStill a c
 still_both a b c p q = record {
   same = q.same ∙ p.same;
   start = q.start ∙ p.start;
@@ -33,61 +33,61 @@ still_both a b c p q = record {
   seen = prefix_more a.seen b.seen c.seen p.seen q.seen;
 }
 
-pub still_all : (seats : List (Stand Secrets)) → AreStill seats seats
+pub still_all : (seats : List (SeatView Secrets)) → AreStill seats seats
 still_all seats = record {
   count = refl;
   each = λ k a b low. subst (IsStill (get_or seats k a)) (same_at seats k a b low) (record { same = refl; start = refl; parts = refl; seen = prefix_same (get_or seats k a).seen (get_or seats k a).seen refl });
 }
 
 -- after a call through the seat at x, which left the seat n
-module _ (places : List (Place Secrets)) (seats : List (Stand Secrets)) (x : ℕ) (p : Place Secrets) (m n : Stand Secrets)
+module _ (places : List (SharedNode Secrets)) (seats : List (SeatView Secrets)) (x : ℕ) (p : SharedNode Secrets) (m n : SeatView Secrets)
     (are : AreSeats accepts_by places seats) (low : x < length seats) (p_is : p ≡ get_or places x p) (m_is : m ≡ get_or seats x m) where
   within : x < length places
   within = omega (arith, low, are.count)
 
-  place_here : (k : ℕ) (d : Place Secrets) → k ≡ x → get_or places k d ≡ p
+  place_here : (k : ℕ) (d : SharedNode Secrets) → k ≡ x → get_or places k d ≡ p
   place_here k d here = ap (λ (j : ℕ). get_or places j d) here ∙ (same_at places x d p within ∙ sym p_is)
 
-  seat_here : (k : ℕ) (d : Stand Secrets) → k ≡ x → get_or seats k d ≡ m
+  seat_here : (k : ℕ) (d : SeatView Secrets) → k ≡ x → get_or seats k d ≡ m
   seat_here k d here = ap (λ (j : ℕ). get_or seats j d) here ∙ (same_at seats x d m low ∙ sym m_is)
 
   pub seat_of : IsSeat accepts_by p m
-  seat_of = subst (λ (s : Stand Secrets). IsSeat accepts_by p s) (sym m_is) (subst (λ (q : Place Secrets). IsSeat accepts_by q (get_or seats x m)) (sym p_is) (are.each x p m within))
+  seat_of = subst (λ (s : SeatView Secrets). IsSeat accepts_by p s) (sym m_is) (subst (λ (q : SharedNode Secrets). IsSeat accepts_by q (get_or seats x m)) (sym p_is) (are.each x p m within))
 
   module _ (call : IsAfter p m n) where
     pub seats_after : AreSeats accepts_by places (set seats x n)
     seats_after = record {
       count = length-set seats x n ∙ are.count;
       each = λ k a b lower. elim (cases_eq k x) [
-        | inl here ↦ subst (λ (s : Stand Secrets). IsSeat accepts_by (get_or places k a) s) (sym (here_is seats x k n b low here))
-            (subst (λ (q : Place Secrets). IsSeat accepts_by q n) (sym (place_here k a here)) call.seat)
-        | inr other ↦ subst (λ (s : Stand Secrets). IsSeat accepts_by (get_or places k a) s) (sym (get_or-set_other seats x k n b other)) (are.each k a b lower)
+        | inl here ↦ subst (λ (s : SeatView Secrets). IsSeat accepts_by (get_or places k a) s) (sym (here_is seats x k n b low here))
+            (subst (λ (q : SharedNode Secrets). IsSeat accepts_by q n) (sym (place_here k a here)) call.seat)
+        | inr other ↦ subst (λ (s : SeatView Secrets). IsSeat accepts_by (get_or places k a) s) (sym (get_or-set_other seats x k n b other)) (are.each k a b lower)
       ];
     }
 
     -- of the seat, the others only marked
     pub mark_here : AllOthersMark places (set seats x n) → OthersMark p n
     mark_here alone =
-        subst (λ (s : Stand Secrets). OthersMark p s) (here_is seats x x n m low refl)
-        (subst (λ (q : Place Secrets). OthersMark q (get_or (set seats x n) x m)) (place_here x p refl) (alone.each x p m within))
+        subst (λ (s : SeatView Secrets). OthersMark p s) (here_is seats x x n m low refl)
+        (subst (λ (q : SharedNode Secrets). OthersMark q (get_or (set seats x n) x m)) (place_here x p refl) (alone.each x p m within))
 
     back : AllOthersMark places (set seats x n) → AllOthersMark places seats
     back alone = record {
       count = are.count;
       each = λ k a b lower. elim (cases_eq k x) [
-        | inl here ↦ subst (λ (s : Stand Secrets). OthersMark (get_or places k a) s) (sym (seat_here k b here))
-            (subst (λ (q : Place Secrets). OthersMark q m) (sym (place_here k a here)) (call.back (mark_here alone)))
-        | inr other ↦ subst (λ (s : Stand Secrets). OthersMark (get_or places k a) s) (get_or-set_other seats x k n b other) (alone.each k a b lower)
+        | inl here ↦ subst (λ (s : SeatView Secrets). OthersMark (get_or places k a) s) (sym (seat_here k b here))
+            (subst (λ (q : SharedNode Secrets). OthersMark q m) (sym (place_here k a here)) (call.back (mark_here alone)))
+        | inr other ↦ subst (λ (s : SeatView Secrets). OthersMark (get_or places k a) s) (get_or-set_other seats x k n b other) (alone.each k a b lower)
       ];
     }
 
-    still_after : (olds : List (Stand Secrets)) → AreStill olds seats → AreStill olds (set seats x n)
+    still_after : (olds : List (SeatView Secrets)) → AreStill olds seats → AreStill olds (set seats x n)
     still_after olds still = record {
       count = length-set seats x n ∙ still.count;
       each = λ k a b lower. elim (cases_eq k x) [
-        | inl here ↦ subst (λ (s : Stand Secrets). IsStill (get_or olds k a) s) (sym (here_is seats x k n b low here))
-            (still_both (get_or olds k a) m n (subst (λ (s : Stand Secrets). IsStill (get_or olds k a) s) (seat_here k b here) (still.each k a b lower)) call.still)
-        | inr other ↦ subst (λ (s : Stand Secrets). IsStill (get_or olds k a) s) (sym (get_or-set_other seats x k n b other)) (still.each k a b lower)
+        | inl here ↦ subst (λ (s : SeatView Secrets). IsStill (get_or olds k a) s) (sym (here_is seats x k n b low here))
+            (still_both (get_or olds k a) m n (subst (λ (s : SeatView Secrets). IsStill (get_or olds k a) s) (seat_here k b here) (still.each k a b lower)) call.still)
+        | inr other ↦ subst (λ (s : SeatView Secrets). IsStill (get_or olds k a) s) (sym (get_or-set_other seats x k n b other)) (still.each k a b lower)
       ];
     }
 
@@ -101,8 +101,8 @@ module _ (places : List (Place Secrets)) (seats : List (Stand Secrets)) (x : ℕ
   -- the node of the seat in a world
   node_alike : (w : WorldView) → AreSeen places seats w → AreAlike (node_at w x) (node_seen p m)
   node_alike w agrees =
-      subst (λ (s : Stand Secrets). AreAlike (node_at w x) (node_seen p s)) (sym m_is)
-      (subst (λ (q : Place Secrets). AreAlike (node_at w x) (node_seen q (get_or seats x m))) (sym p_is) (agrees.nodes x p m low))
+      subst (λ (s : SeatView Secrets). AreAlike (node_at w x) (node_seen p s)) (sym m_is)
+      (subst (λ (q : SharedNode Secrets). AreAlike (node_at w x) (node_seen q (get_or seats x m))) (sym p_is) (agrees.nodes x p m low))
 
   -- another node in the world, alike with what the seat has seen then
   agrees_changed : (w : WorldView) (v : NodeView Secrets) → AreSeen places seats w → AreAlike v (node_seen p n) → AreSeen places (set seats x n) (with_node_at w x v)
@@ -141,7 +141,7 @@ module _ (places : List (Place Secrets)) (seats : List (Stand Secrets)) (x : ℕ
   pub told_change : (step : WorldView → Step) (change : NodeView Secrets → NodeView Secrets) (IsSo : WorldView → Type 0) → IsAfter p m n →
       ((w : WorldView) → after_steps w (step w ∷ []) ≡ with_node_at w x (change (node_at w x))) →
       (OthersMark p n → (w : WorldView) → AreAlike (node_at w x) (node_seen p m) → IsSo w × AreAlike (change (node_at w x)) (node_seen p n)) →
-      Told (seen_shared (shared_view places seats)) (seen_shared (shared_view places (set seats x n))) (λ w. step w ∷ []) IsSo
+      Matched (seen_shared (shared_view places seats)) (seen_shared (shared_view places (set seats x n))) (λ w. step w ∷ []) IsSo
   told_change step change IsSo call after so = λ alone w agrees.
       let is = so (mark_here call alone) w (node_alike w agrees) in
       (is.0, subst (AreSeen places (set seats x n)) (sym (after w)) (agrees_changed w (change (node_at w x)) agrees is.1))
@@ -149,7 +149,7 @@ module _ (places : List (Place Secrets)) (seats : List (Stand Secrets)) (x : ℕ
   -- of one that reads it
   pub told_same : (IsSo : WorldView → Type 0) → IsAfter p m n →
       (OthersMark p n → (w : WorldView) → AreAlike (node_at w x) (node_seen p m) → IsSo w × AreAlike (node_at w x) (node_seen p n)) →
-      Told (seen_shared (shared_view places seats)) (seen_shared (shared_view places (set seats x n))) (λ w. []) IsSo
+      Matched (seen_shared (shared_view places seats)) (seen_shared (shared_view places (set seats x n))) (λ w. []) IsSo
   told_same IsSo call so = λ alone w agrees.
       let is = so (mark_here call alone) w (node_alike w agrees) in
       (is.0, agrees_same w agrees is.1)

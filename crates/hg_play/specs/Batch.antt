@@ -14,13 +14,13 @@ use Rattle.hg_play.specs.Through.{IsOfRows, IsStageLike}
 
 -- the world's nodes, the labels and what was printed are those of the stage after these lines, where they were those of a
 -- stage before
-abbrev pub TellsBatch : MemberList → List Line → WorldView → List (List ℕ) → List Printed → WorldView → List (List ℕ) → List Printed → Type 0
-TellsBatch members lines old labels printed new labels_new printed_new =
+abbrev pub MatchesBatch : MemberList → List Line → WorldView → List (List ℕ) → List Printed → WorldView → List (List ℕ) → List Printed → Type 0
+MatchesBatch members lines old labels printed new labels_new printed_new =
     (s : Stage) → IsStageLike members old labels printed s → IsStageLike members new labels_new printed_new (after_lines members s lines)
 
 abbrev pub PlaysBatch : MemberList → List Line → WorldView → Vec (List ℕ) → Vec Printed → WorldView → Vec (List ℕ) → Vec Printed → Type 0
 PlaysBatch members lines old labels printed new labels_new printed_new =
-    TellsBatch members lines old labels.items printed.items new labels_new.items printed_new.items
+    MatchesBatch members lines old labels.items printed.items new labels_new.items printed_new.items
 
 -- the line may stand in a batch: it is of gossip, or makes a label
 abbrev pub is_part : Action → Bool
@@ -38,6 +38,10 @@ IsLineOfRows line = IsOfRows line.action
 -- at most this many lines are one batch
 abbrev pub most_lines : ℕ
 most_lines = 32
+
+-- at most this many workers are beside each other
+abbrev pub most_workers : ℕ
+most_workers = 16
 
 -- a batch of so many is the longest: it has as many as it may, or all lines, or the next one stands in none
 abbrev pub StopsAt : List Line → ℕ → Type 0

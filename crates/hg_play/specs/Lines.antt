@@ -18,7 +18,7 @@ use Rattle.hg_script.specs.declared.line.Action.TheVariants as action
 use Rattle.hg_script.specs.declared.line.Line.{Line}
 use Rattle.hg_world.specs.declared.step.Step.{Step}
 use Rattle.hg_world.specs.declared.step.Step.TheVariants as step
-use Rattle.hg_world.specs.World.{Secrets, WorldView, worker_count, node_at, rows_at, frozen_by}
+use Rattle.hg_world.specs.World.{Secrets, WorldView, worker_limit, node_at, rows_at, frozen_by}
 use Rattle.hg_world.specs.Steps.{making_at, putting_at, settle_steps}
 use Rattle.hg_world.specs.Syncs.{pull_steps, pulled, sync_report, sync_steps}
 use Rattle.hg_play.specs.Labels.{bytes_at, name_of_label, source_bytes}
@@ -84,8 +84,8 @@ IsBelow n (action.Gossip g) = IsGossipBelow n g
 IsBelow n (action.Label (Last m)) = m < n
 IsBelow n (action.Label (Forged m parents time payload)) = length payload ≤ payload_limit
 IsBelow n (action.Label _) = ⊤
-IsBelow n (action.Freeze m worker) = (m < n) × (worker < worker_count)
-IsBelow n (action.Publish m worker) = (m < n) × (worker < worker_count)
+IsBelow n (action.Freeze m worker) = (m < n) × (worker < worker_limit)
+IsBelow n (action.Publish m worker) = (m < n) × (worker < worker_limit)
 IsBelow n (action.Kept m) = m < n
 IsBelow n (action.Show m) = m < n
 IsBelow n (action.Names m) = m < n

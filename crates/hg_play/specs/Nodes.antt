@@ -44,30 +44,30 @@ pub record IsKept {N : Type 0} (old new : NodesView N) : Type 0 where
   pub count : new.count ≡ old.count
 
 -- if others only mark, then of each world whose nodes they were this is so, and they are now those after these steps
-abbrev pub Told : {N : Type 0} → NodesView N → NodesView N → (WorldView → List Step) → (WorldView → Type 0) → Type 0
-Told old new steps IsSo = new.Alone → (w : WorldView) → old.Agrees w → IsSo w × new.Agrees (after_steps w (steps w))
+abbrev pub Matched : {N : Type 0} → NodesView N → NodesView N → (WorldView → List Step) → (WorldView → Type 0) → Type 0
+Matched old new steps IsSo = new.Alone → (w : WorldView) → old.Agrees w → IsSo w × new.Agrees (after_steps w (steps w))
 
 -- what is told of an event that a node made, or refused to make
-abbrev pub TellsMaking : {N : Type 0} → NodesView N → NodesView N → ℕ → Option (List ℕ) → ℕ → List ℕ → MakeAnswer → Type 0
-TellsMaking old new m other time payload answer =
-    Told old new (λ w. Make m other time payload ∷ []) (λ w. answer ≡ making_at (node_at w m) (option_to_list other) time payload)
+abbrev pub MatchesMaking : {N : Type 0} → NodesView N → NodesView N → ℕ → Option (List ℕ) → ℕ → List ℕ → MakeAnswer → Type 0
+MatchesMaking old new m other time payload answer =
+    Matched old new (λ w. Make m other time payload ∷ []) (λ w. answer ≡ making_at (node_at w m) (option_to_list other) time payload)
 
 -- of bytes that came to a node
-abbrev pub TellsPutting : {N : Type 0} → NodesView N → NodesView N → ℕ → List ℕ → PutAnswer → Type 0
-TellsPutting old new m bytes answer = Told old new (λ w. Deliver m bytes ∷ []) (λ w. answer ≡ putting_at (node_at w m) bytes)
+abbrev pub MatchesPutting : {N : Type 0} → NodesView N → NodesView N → ℕ → List ℕ → PutAnswer → Type 0
+MatchesPutting old new m bytes answer = Matched old new (λ w. Deliver m bytes ∷ []) (λ w. answer ≡ putting_at (node_at w m) bytes)
 
 -- of a pull
-abbrev pub TellsPulling : {N : Type 0} → NodesView N → NodesView N → ℕ → ℕ → Taken → Type 0
-TellsPulling old new taker peer counts = Told old new (λ w. pull_steps w taker peer) (λ w. counts ≡ (pulled w taker peer).counts)
+abbrev pub MatchesPulling : {N : Type 0} → NodesView N → NodesView N → ℕ → ℕ → Taken → Type 0
+MatchesPulling old new taker peer counts = Matched old new (λ w. pull_steps w taker peer) (λ w. counts ≡ (pulled w taker peer).counts)
 
 -- of a sync
-abbrev pub TellsSyncing : {N : Type 0} → NodesView N → NodesView N → ℕ → ℕ → ℕ → List ℕ → SyncReport → Type 0
-TellsSyncing old new taker peer time payload report =
-    Told old new (λ w. sync_steps w taker peer time payload) (λ w. report ≡ sync_report w taker peer time payload)
+abbrev pub MatchesSyncing : {N : Type 0} → NodesView N → NodesView N → ℕ → ℕ → ℕ → List ℕ → SyncReport → Type 0
+MatchesSyncing old new taker peer time payload report =
+    Matched old new (λ w. sync_steps w taker peer time payload) (λ w. report ≡ sync_report w taker peer time payload)
 
 -- of the bytes of the last event that a node made
-abbrev pub TellsLast : {N : Type 0} → NodesView N → NodesView N → ℕ → List ℕ → Type 0
-TellsLast old new m bytes = Told old new (λ w. []) (λ w. bytes ≡ last_bytes (node_at w m))
+abbrev pub MatchesLast : {N : Type 0} → NodesView N → NodesView N → ℕ → List ℕ → Type 0
+MatchesLast old new m bytes = Matched old new (λ w. []) (λ w. bytes ≡ last_bytes (node_at w m))
 
 -- the block is that of the rows of member m's node, where the nodes began as those of these members
 abbrev pub IsShownBlock : MemberList → WorldView → ℕ → Block → Type 0
@@ -82,13 +82,13 @@ abbrev pub IsBlockOf : MemberList → ℕ → NodeView Secrets → Block → Typ
 IsBlockOf members m v block = v.start ≡ start_in members m → block ≡ kept_block members m v
 
 -- of a line of gossip, under its number
-abbrev pub TellsGossip : {N : Type 0} → NodesView N → NodesView N → List (List ℕ) → ℕ → Gossip → Printed → Type 0
-TellsGossip old new labels number gossip p =
-    Told old new (λ w. gossip_steps w labels gossip) (λ w. p ≡ gossip_printed w labels number gossip)
+abbrev pub MatchesGossip : {N : Type 0} → NodesView N → NodesView N → List (List ℕ) → ℕ → Gossip → Printed → Type 0
+MatchesGossip old new labels number gossip p =
+    Matched old new (λ w. gossip_steps w labels gossip) (λ w. p ≡ gossip_printed w labels number gossip)
 
 -- of the bytes from a source
-abbrev pub TellsSource : {N : Type 0} → NodesView N → NodesView N → Secrets → List (List ℕ) → Source → List ℕ → Type 0
-TellsSource old new secrets labels source bytes = Told old new (λ w. []) (λ w. bytes ≡ source_bytes secrets w labels source)
+abbrev pub MatchesSource : {N : Type 0} → NodesView N → NodesView N → Secrets → List (List ℕ) → Source → List ℕ → Type 0
+MatchesSource old new secrets labels source bytes = Matched old new (λ w. []) (λ w. bytes ≡ source_bytes secrets w labels source)
 
 -- the nodes, which began as those of these members, the labels, and what was printed are those of a stage
 pub record IsStage {N : Type 0} (members : MemberList) (v : NodesView N) (labels : List (List ℕ)) (printed : List Printed) (s : Stage) : Type 0 where
@@ -98,41 +98,41 @@ pub record IsStage {N : Type 0} (members : MemberList) (v : NodesView N) (labels
   pub shown : printed ≡ s.printed
 
 -- if others only mark, then after the line they are those of the stage after it
-abbrev pub TellsLine : {N : Type 0} → MemberList → Line → NodesView N → List (List ℕ) → List Printed → NodesView N → List (List ℕ) → List Printed → Type 0
-TellsLine members line old labels printed new labels_new printed_new =
+abbrev pub MatchesLine : {N : Type 0} → MemberList → Line → NodesView N → List (List ℕ) → List Printed → NodesView N → List (List ℕ) → List Printed → Type 0
+MatchesLine members line old labels printed new labels_new printed_new =
     new.Alone → (s : Stage) → IsStage members old labels printed s → IsStage members new labels_new printed_new (after_line members s line)
 
 -- a line was played, behind these labels and what was printed
 abbrev pub PlaysLine : {N : Type 0} → (N → NodesView N) → MemberList → Line → N → Vec (List ℕ) → Vec Printed → N → Vec (List ℕ) → Vec Printed → Type 0
 PlaysLine seen members line old labels printed new labels_new printed_new =
-    TellsLine members line (seen old) labels.items printed.items (seen new) labels_new.items printed_new.items
+    MatchesLine members line (seen old) labels.items printed.items (seen new) labels_new.items printed_new.items
 
 -- what is told of lines that were played over nodes that began as those of these members: all that they print, and that the
 -- nodes are those of the world after them
-abbrev pub TellsLines : {N : Type 0} → NodesView N → NodesView N → MemberList → List Line → List Printed → Type 0
-TellsLines old new members lines printed =
+abbrev pub MatchesLines : {N : Type 0} → NodesView N → NodesView N → MemberList → List Line → List Printed → Type 0
+MatchesLines old new members lines printed =
     new.Alone → (w : WorldView) → old.Agrees w → starts_of w ≡ starts members →
     (let s = after_lines members (stage w [] []) lines in (printed ≡ s.printed) × new.Agrees s.world)
 
 -- lines were played over a world
 abbrev pub PlaysLines : MemberList → List Line → WorldView → WorldView → Vec Printed → Type 0
-PlaysLines members lines old new printed = TellsLines (seen_alone old) (seen_alone new) members lines printed.items
+PlaysLines members lines old new printed = MatchesLines (seen_alone old) (seen_alone new) members lines printed.items
 
 -- of the block of a node behind what was printed, if the member has one
-abbrev pub TellsBlock : {N : Type 0} → NodesView N → NodesView N → MemberList → ℕ → List Printed → List Printed → Type 0
-TellsBlock old new members m before after =
-    Told old new (λ w. cond (has_node members m) (settle_steps m) [])
+abbrev pub MatchesBlock : {N : Type 0} → NodesView N → NodesView N → MemberList → ℕ → List Printed → List Printed → Type 0
+MatchesBlock old new members m before after =
+    Matched old new (λ w. cond (has_node members m) (settle_steps m) [])
     (λ w. starts_of w ≡ starts members → after ≡ before ++ cond (has_node members m) (block_at members w m ∷ []) [])
 
 -- of the blocks of all nodes
-abbrev pub TellsBlocks : {N : Type 0} → NodesView N → NodesView N → MemberList → List Printed → List Printed → Type 0
-TellsBlocks old new members before after =
-    Told old new (λ w. end_steps members (length members.entries)) (λ w. starts_of w ≡ starts members → after ≡ before ++ end_blocks members w)
+abbrev pub MatchesBlocks : {N : Type 0} → NodesView N → NodesView N → MemberList → List Printed → List Printed → Type 0
+MatchesBlocks old new members before after =
+    Matched old new (λ w. end_steps members (length members.entries)) (λ w. starts_of w ≡ starts members → after ≡ before ++ end_blocks members w)
 
 -- over a world a block was printed, if the member has one
 abbrev pub PrintsBlock : MemberList → ℕ → WorldView → Vec Printed → WorldView → Vec Printed → Type 0
-PrintsBlock members m old before new after = TellsBlock (seen_alone old) (seen_alone new) members m before.items after.items
+PrintsBlock members m old before new after = MatchesBlock (seen_alone old) (seen_alone new) members m before.items after.items
 
 -- so were the blocks of all nodes
 abbrev pub PrintsBlocks : MemberList → WorldView → Vec Printed → WorldView → Vec Printed → Type 0
-PrintsBlocks members old before new after = TellsBlocks (seen_alone old) (seen_alone new) members before.items after.items
+PrintsBlocks members old before new after = MatchesBlocks (seen_alone old) (seen_alone new) members before.items after.items

@@ -21,32 +21,32 @@ use Rattle.hg_world.specs.World.{Secrets, WorldView, node_at, rows_at}
 use Rattle.hg_world.specs.Steps.{after_steps}
 use Rattle.hg_world.specs.Syncs.{HasTaken, deliver_steps, last_made, made_after, make_steps}
 use Rattle.hg_board.specs.Table as board
-use Rattle.hg_board.specs.Seats.{Place, Stand}
+use Rattle.hg_board.specs.Seats.{SharedNode, SeatView}
 use Rattle.hg_crowd.specs.Crowd.{AreStill, Each, OthersMark}
 use Rattle.hg_play.specs.Alike.{AreAlike, WorldsAlike}
 use Rattle.hg_play.specs.Lines.{IsBelow}
-use Rattle.hg_play.specs.Nodes.{IsStage, NodesView, TellsMaking, TellsPutting, Told}
+use Rattle.hg_play.specs.Nodes.{IsStage, NodesView, MatchesMaking, MatchesPutting, Matched}
 use Rattle.hg_play.specs.Play.{Stage, after_line, after_lines}
 
 -- nodes between threads, and a seat of each
 pub record SharedView : Type 0 where
-  pub places : List (Place Secrets)
-  pub seats : List (Stand Secrets)
+  pub places : List (SharedNode Secrets)
+  pub seats : List (SeatView Secrets)
 
-abbrev pub shared_view : List (Place Secrets) → List (Stand Secrets) → SharedView
+abbrev pub shared_view : List (SharedNode Secrets) → List (SeatView Secrets) → SharedView
 shared_view places seats = record { places = places; seats = seats }
 
 -- the node as the seat has seen it
-abbrev pub node_seen : Place Secrets → Stand Secrets → NodeView Secrets
+abbrev pub node_seen : SharedNode Secrets → SeatView Secrets → NodeView Secrets
 node_seen p s = board.node_at p.start s.seen
 
 -- the nodes that the seats have seen are those of the world, but for marks
-pub record AreSeen (places : List (Place Secrets)) (seats : List (Stand Secrets)) (w : WorldView) : Type 0 where
+pub record AreSeen (places : List (SharedNode Secrets)) (seats : List (SeatView Secrets)) (w : WorldView) : Type 0 where
   pub count : length w.sites ≡ length seats
-  pub nodes : (m : ℕ) (p : Place Secrets) (s : Stand Secrets) → m < length seats → AreAlike (node_at w m) (node_seen (get_or places m p) (get_or seats m s))
+  pub nodes : (m : ℕ) (p : SharedNode Secrets) (s : SeatView Secrets) → m < length seats → AreAlike (node_at w m) (node_seen (get_or places m p) (get_or seats m s))
 
 -- of no node others did more than mark
-abbrev pub AllOthersMark : List (Place Secrets) → List (Stand Secrets) → Type 0
+abbrev pub AllOthersMark : List (SharedNode Secrets) → List (SeatView Secrets) → Type 0
 AllOthersMark places seats = Each OthersMark places seats
 
 -- nodes between threads, as the caller who has these seats sees them
@@ -63,7 +63,7 @@ abbrev pub seen_alike : WorldView → NodesView WorldView
 seen_alike w = record { count = length w.sites; Alone = ⊤; Agrees = WorldsAlike w; Since = λ earlier. ⊤ }
 
 -- what the seats have seen, the labels, and what was printed are those of a stage, but for marks
-abbrev pub IsStageOf : MemberList → List (Place Secrets) → List (Stand Secrets) → List (List ℕ) → List Printed → Stage → Type 0
+abbrev pub IsStageOf : MemberList → List (SharedNode Secrets) → List (SeatView Secrets) → List (List ℕ) → List Printed → Stage → Type 0
 IsStageOf members places seats labels printed s = IsStage members (seen_shared (shared_view places seats)) labels printed s
 
 -- so are the nodes of this world
@@ -108,60 +108,60 @@ LinesNeedRowsAlone =
     (members : MemberList) (s t : Stage) (line : Line) → IsOfRows line.action → StagesAlike s t → StagesAlike (after_line members s line) (after_line members t line)
 
 -- if others only mark, then after the lines they are those of the stage after them
-abbrev pub TellsParts : {N : Type 0} → MemberList → List Line → NodesView N → List (List ℕ) → List Printed → NodesView N → List (List ℕ) → List Printed → Type 0
-TellsParts members lines old labels printed new labels_new printed_new =
+abbrev pub MatchesParts : {N : Type 0} → MemberList → List Line → NodesView N → List (List ℕ) → List Printed → NodesView N → List (List ℕ) → List Printed → Type 0
+MatchesParts members lines old labels printed new labels_new printed_new =
     new.Alone → (s : Stage) → IsStage members old labels printed s → IsStage members new labels_new printed_new (after_lines members s lines)
 
 abbrev pub PlaysParts : {N : Type 0} → (N → NodesView N) → MemberList → List Line → N → Vec (List ℕ) → Vec Printed → N → Vec (List ℕ) → Vec Printed → Type 0
 PlaysParts seen members lines old labels printed new labels_new printed_new =
-    TellsParts members lines (seen old) labels.items printed.items (seen new) labels_new.items printed_new.items
+    MatchesParts members lines (seen old) labels.items printed.items (seen new) labels_new.items printed_new.items
 
 -- the same of nodes between threads
-abbrev pub TellsThrough : MemberList → List Line → List (Place Secrets) → List (Stand Secrets) → List (List ℕ) → List Printed → List (Stand Secrets) → List (List ℕ) → List Printed → Type 0
-TellsThrough members lines places seats labels printed seats_new labels_new printed_new =
+abbrev pub MatchesThrough : MemberList → List Line → List (SharedNode Secrets) → List (SeatView Secrets) → List (List ℕ) → List Printed → List (SeatView Secrets) → List (List ℕ) → List Printed → Type 0
+MatchesThrough members lines places seats labels printed seats_new labels_new printed_new =
     AllOthersMark places seats_new → (s : Stage) → IsStageOf members places seats labels printed s →
     IsStageOf members places seats_new labels_new printed_new (after_lines members s lines)
 
-abbrev pub PlaysThrough : MemberList → List Line → List (Place Secrets) → Vec (Stand Secrets) → Vec (List ℕ) → Vec Printed → Vec (Stand Secrets) → Vec (List ℕ) × Vec Printed → Type 0
+abbrev pub PlaysThrough : MemberList → List Line → List (SharedNode Secrets) → Vec (SeatView Secrets) → Vec (List ℕ) → Vec Printed → Vec (SeatView Secrets) → Vec (List ℕ) × Vec Printed → Type 0
 PlaysThrough members lines places seats labels printed seats_new played =
-    TellsThrough members lines places seats.items labels.items printed.items seats_new.items played.0.items played.1.items
+    MatchesThrough members lines places seats.items labels.items printed.items seats_new.items played.0.items played.1.items
 
-abbrev pub seen_through : List (Place Secrets) → List (Stand Secrets) → NodesView SharedView
+abbrev pub seen_through : List (SharedNode Secrets) → List (SeatView Secrets) → NodesView SharedView
 seen_through places seats = seen_shared (shared_view places seats)
 
 -- of the names of the rows of member m's node
-abbrev pub TellsNames : {N : Type 0} → NodesView N → NodesView N → ℕ → List (List ℕ) → Type 0
-TellsNames old new m names = Told old new (λ w. []) (λ w. names ≡ row_names (rows_at w m))
+abbrev pub MatchesNames : {N : Type 0} → NodesView N → NodesView N → ℕ → List (List ℕ) → Type 0
+MatchesNames old new m names = Matched old new (λ w. []) (λ w. names ≡ row_names (rows_at w m))
 
 -- of what it hands over to one that has rows of these names
-abbrev pub TellsParcel : {N : Type 0} → NodesView N → NodesView N → ℕ → List (List ℕ) → Parcel → Type 0
-TellsParcel old new m names parcel =
-    Told old new (λ w. []) (λ w. (parcel.rows ≡ map spelling (unnamed names (rows_at w m))) × (parcel.last ≡ last_made (node_at w m)))
+abbrev pub MatchesParcel : {N : Type 0} → NodesView N → NodesView N → ℕ → List (List ℕ) → Parcel → Type 0
+MatchesParcel old new m names parcel =
+    Matched old new (λ w. []) (λ w. (parcel.rows ≡ map spelling (unnamed names (rows_at w m))) × (parcel.last ≡ last_made (node_at w m)))
 
 -- of what the peer has that the taker lacks
-abbrev pub TellsLacked : {N : Type 0} → NodesView N → NodesView N → ℕ → ℕ → Parcel → Type 0
-TellsLacked old new taker peer parcel =
-    Told old new (λ w. []) (λ w. (parcel.rows ≡ lacked (node_at w taker) (node_at w peer)) × (parcel.last ≡ last_made (node_at w peer)))
+abbrev pub MatchesLacked : {N : Type 0} → NodesView N → NodesView N → ℕ → ℕ → Parcel → Type 0
+MatchesLacked old new taker peer parcel =
+    Matched old new (λ w. []) (λ w. (parcel.rows ≡ lacked (node_at w taker) (node_at w peer)) × (parcel.last ≡ last_made (node_at w peer)))
 
 -- of bytes that came to a node, one after the other
-abbrev pub TellsTaken : {N : Type 0} → NodesView N → NodesView N → ℕ → List (List ℕ) → Taken → Type 0
-TellsTaken old new m events counts =
-    Told old new (λ w. deliver_steps m events) (λ w. HasTaken w m events counts (after_steps w (deliver_steps m events)))
+abbrev pub MatchesTaken : {N : Type 0} → NodesView N → NodesView N → ℕ → List (List ℕ) → Taken → Type 0
+MatchesTaken old new m events counts =
+    Matched old new (λ w. deliver_steps m events) (λ w. HasTaken w m events counts (after_steps w (deliver_steps m events)))
 
 -- of an event that was made on this other-parent, or refused; none where there is no name
-abbrev pub TellsMade : {N : Type 0} → NodesView N → NodesView N → ℕ → Option (List ℕ) → ℕ → List ℕ → SyncMade → Type 0
-TellsMade old new m other time payload made =
-    Told old new (λ w. make_steps m other time payload) (λ w. made ≡ made_after (node_at w m) other time payload)
+abbrev pub MatchesMade : {N : Type 0} → NodesView N → NodesView N → ℕ → Option (List ℕ) → ℕ → List ℕ → SyncMade → Type 0
+MatchesMade old new m other time payload made =
+    Matched old new (λ w. make_steps m other time payload) (λ w. made ≡ made_after (node_at w m) other time payload)
 
 -- the same where the nodes are seen through seats
-abbrev pub SeatsTellMaking : List (Place Secrets) → List (Stand Secrets) → List (Stand Secrets) → ℕ → Option (List ℕ) → ℕ → List ℕ → MakeAnswer → Type 0
-SeatsTellMaking places old new m other time payload answer = TellsMaking (seen_through places old) (seen_through places new) m other time payload answer
+abbrev pub SeatsMatchMaking : List (SharedNode Secrets) → List (SeatView Secrets) → List (SeatView Secrets) → ℕ → Option (List ℕ) → ℕ → List ℕ → MakeAnswer → Type 0
+SeatsMatchMaking places old new m other time payload answer = MatchesMaking (seen_through places old) (seen_through places new) m other time payload answer
 
-abbrev pub SeatsTellPutting : List (Place Secrets) → List (Stand Secrets) → List (Stand Secrets) → ℕ → List ℕ → PutAnswer → Type 0
-SeatsTellPutting places old new m bytes answer = TellsPutting (seen_through places old) (seen_through places new) m bytes answer
+abbrev pub SeatsMatchPutting : List (SharedNode Secrets) → List (SeatView Secrets) → List (SeatView Secrets) → ℕ → List ℕ → PutAnswer → Type 0
+SeatsMatchPutting places old new m bytes answer = MatchesPutting (seen_through places old) (seen_through places new) m bytes answer
 
-abbrev pub SeatsTellNames : List (Place Secrets) → List (Stand Secrets) → List (Stand Secrets) → ℕ → Vec (List ℕ) → Type 0
-SeatsTellNames places old new m names = TellsNames (seen_through places old) (seen_through places new) m names.items
+abbrev pub SeatsMatchNames : List (SharedNode Secrets) → List (SeatView Secrets) → List (SeatView Secrets) → ℕ → Vec (List ℕ) → Type 0
+SeatsMatchNames places old new m names = MatchesNames (seen_through places old) (seen_through places new) m names.items
 
-abbrev pub SeatsTellParcel : List (Place Secrets) → List (Stand Secrets) → List (Stand Secrets) → ℕ → List (List ℕ) → Parcel → Type 0
-SeatsTellParcel places old new m names parcel = TellsParcel (seen_through places old) (seen_through places new) m names parcel
+abbrev pub SeatsMatchParcel : List (SharedNode Secrets) → List (SeatView Secrets) → List (SeatView Secrets) → ℕ → List (List ℕ) → Parcel → Type 0
+SeatsMatchParcel places old new m names parcel = MatchesParcel (seen_through places old) (seen_through places new) m names parcel

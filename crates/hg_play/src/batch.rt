@@ -2,8 +2,8 @@ ghost use Rattle.std.specs.Prelude.{◌≡◌, ◌<◌, ◌≤◌, All, IfOk, le
 ghost use Rattle.hg_model.specs.Signing.{accepts_by, secrets_of};
 ghost use Rattle.hg_crowd.specs.Crowd.{AreSeats, AreStill, Each};
 ghost use Rattle.hg_crowd.specs.Workers.{HasMore, Worked};
-ghost use Rattle.hg_world.specs.World.{new_world, worker_count};
-ghost use Rattle.hg_play.specs.Batch.{AllAreMarked, IsLineOfRows, IsPartBelow, GoesOn, IsPlayed, PlaysBatch, StopsAt, is_part, most_lines};
+ghost use Rattle.hg_world.specs.World.{new_world};
+ghost use Rattle.hg_play.specs.Batch.{AllAreMarked, IsLineOfRows, IsPartBelow, GoesOn, IsPlayed, PlaysBatch, StopsAt, is_part, most_lines, most_workers};
 ghost use Rattle.hg_play.specs.Lines.{IsLineBelow};
 ghost use Rattle.hg_play.specs.Through.{IsPartLine, PlaysThrough};
 
@@ -42,7 +42,7 @@ fn play_batch<R: Threads + Wait + Sync, C: Crew + Sync, G: Gate + Sync>(
     requires lines { All (IsPartLine (length world.sites)) lines.now }
     requires keys { keys.now ≡ secrets_of members.now }
     requires some { 0 < workers }
-    requires few { workers ≤ worker_count }
+    requires few { workers ≤ most_workers }
     ensures count { IfOk result (λ r. length r.0.sites ≡ length world.sites) }
     ensures marked { IfOk result (λ r. AllAreMarked r.0) }
     ensures told { IfOk result (λ r. PlaysBatch members.now lines.now world labels printed r.0 r.1 r.2) }
@@ -128,7 +128,7 @@ fn play_next<R: Threads + Wait + Sync, C: Crew + Sync, G: Gate + Sync>(
     requires rows { All IsLineOfRows lines.now }
     requires keys { keys.now ≡ secrets_of members.now }
     requires some { 0 < workers }
-    requires few { workers ≤ worker_count }
+    requires few { workers ≤ most_workers }
     ensures { IfOk result (λ r. GoesOn members.now lines.now from world labels printed r.0 r.1 r.2 r.3) }
 {
     let (_, rest) = lines.split_at(from);
@@ -169,7 +169,7 @@ pub(crate) fn play_batches<R: Threads + Wait + Sync, C: Crew + Sync, G: Gate + S
     requires rows { All IsLineOfRows lines.now }
     requires keys { keys.now ≡ secrets_of members.now }
     requires some { 0 < workers }
-    requires few { workers ≤ worker_count }
+    requires few { workers ≤ most_workers }
     ensures { IfOk result (λ r. IsPlayed members.now lines.now r.0 r.1.items) }
 {
     let mut world = world;

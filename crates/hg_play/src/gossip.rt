@@ -1,6 +1,6 @@
 ghost use Rattle.std.specs.Prelude.{IfOk};
 ghost use Rattle.hg_play.specs.Lines.{IsGossipBelow};
-ghost use Rattle.hg_play.specs.Nodes.{IsKept, TellsGossip};
+ghost use Rattle.hg_play.specs.Nodes.{IsKept, MatchesGossip};
 
 use crate::labels::{bytes_at, name_of_label};
 use crate::nodes::Nodes;
@@ -16,7 +16,7 @@ pub(crate) fn play_gossip<N: Nodes>(
 ) -> Result<Printed, Memory>
     requires { IsGossipBelow (N.seen nodes.old).count gossip.now }
     ensures kept { IsKept (N.seen nodes.old) (N.seen nodes.new) }
-    ensures told { IfOk result (TellsGossip (N.seen nodes.old) (N.seen nodes.new) labels.now line gossip.now) }
+    ensures told { IfOk result (MatchesGossip (N.seen nodes.old) (N.seen nodes.new) labels.now line gossip.now) }
 {
     match gossip {
         Gossip::Create {

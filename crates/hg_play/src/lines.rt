@@ -2,7 +2,7 @@ ghost use Rattle.std.specs.Prelude.{◌≡◌, All, IfOk, OnOk, length};
 ghost use Rattle.hg_model.specs.Signing.{secrets_of};
 ghost use Rattle.hg_script.specs.declared.line.Action.{Action};
 ghost use Rattle.hg_play.specs.Lines.{IsBelow, IsLineBelow};
-ghost use Rattle.hg_play.specs.Nodes.{IsKept, PlaysLine, PlaysLines, TellsSource, seen_alone};
+ghost use Rattle.hg_play.specs.Nodes.{IsKept, PlaysLine, PlaysLines, MatchesSource, seen_alone};
 ghost use Rattle.hg_play.specs.Through.{IsPart};
 
 use crate::blocks::{kept_at, settled_at};
@@ -25,7 +25,7 @@ fn source_bytes<N: Nodes>(
 ) -> Result<Bytes, Memory>
     requires { IsBelow (N.seen nodes.old).count (Action.Label source.now) }
     ensures kept { IsKept (N.seen nodes.old) (N.seen nodes.new) }
-    ensures told { IfOk result (TellsSource (N.seen nodes.old) (N.seen nodes.new) keys.now labels.now source.now) }
+    ensures told { IfOk result (MatchesSource (N.seen nodes.old) (N.seen nodes.new) keys.now labels.now source.now) }
 {
     match source {
         Source::Last { member } => nodes.last_bytes(alloc, *member),

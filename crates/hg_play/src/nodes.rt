@@ -1,5 +1,5 @@
 ghost use Rattle.std.specs.Prelude.{◌≡◌, ◌<◌, IfOk};
-ghost use Rattle.hg_play.specs.Nodes.{IsKept, NodesView, TellsLast, TellsMaking, TellsPulling, TellsPutting, TellsSyncing};
+ghost use Rattle.hg_play.specs.Nodes.{IsKept, NodesView, MatchesLast, MatchesMaking, MatchesPulling, MatchesPutting, MatchesSyncing};
 
 use crate::labels;
 use hg_gossip::Taken;
@@ -23,20 +23,20 @@ pub trait Nodes {
     ) -> Result<MakeAnswer, Memory>
         requires { member < (seen self.old).count }
         ensures kept { IsKept (seen self.old) (seen self.new) }
-        ensures told { IfOk result (TellsMaking (seen self.old) (seen self.new) member other time payload.now) };
+        ensures told { IfOk result (MatchesMaking (seen self.old) (seen self.new) member other time payload.now) };
 
     /// Bytes come to a member's node.
     fn put(&mut self, member: Member, bytes: &[u8]) -> Result<PutAnswer, Memory>
         requires { member < (seen self.old).count }
         ensures kept { IsKept (seen self.old) (seen self.new) }
-        ensures told { IfOk result (TellsPutting (seen self.old) (seen self.new) member bytes.now) };
+        ensures told { IfOk result (MatchesPutting (seen self.old) (seen self.new) member bytes.now) };
 
     /// The taker's node takes from the peer's the rows that it lacks, by their names, in the peer's order.
     fn pull(&mut self, taker: Member, peer: Member) -> Result<Taken, Memory>
         requires taker { taker < (seen self.old).count }
         requires peer { peer < (seen self.old).count }
         ensures kept { IsKept (seen self.old) (seen self.new) }
-        ensures told { IfOk result (TellsPulling (seen self.old) (seen self.new) taker peer) };
+        ensures told { IfOk result (MatchesPulling (seen self.old) (seen self.new) taker peer) };
 
     /// Pulls from the peer, and makes an event whose other-parent is the peer's last own row, if it has one. The time is
     /// any, in no unit of ours.
@@ -50,13 +50,13 @@ pub trait Nodes {
         requires taker { taker < (seen self.old).count }
         requires peer { peer < (seen self.old).count }
         ensures kept { IsKept (seen self.old) (seen self.new) }
-        ensures told { IfOk result (TellsSyncing (seen self.old) (seen self.new) taker peer time payload.now) };
+        ensures told { IfOk result (MatchesSyncing (seen self.old) (seen self.new) taker peer time payload.now) };
 
     /// The bytes of the last event that a member's node made, or none.
     fn last_bytes(&mut self, alloc: Global, member: Member) -> Result<Bytes, Memory>
         requires { member < (seen self.old).count }
         ensures kept { IsKept (seen self.old) (seen self.new) }
-        ensures told { IfOk result (TellsLast (seen self.old) (seen self.new) member) };
+        ensures told { IfOk result (MatchesLast (seen self.old) (seen self.new) member) };
 }
 
 impl Nodes for World {

@@ -2,10 +2,10 @@ ghost use Rattle.std.specs.Prelude.{◌≡◌, ◌≤◌, All, IfOk, OnOk};
 ghost use Rattle.hg_model.specs.Members.{names_of};
 ghost use Rattle.hg_model.specs.Signing.{secrets_of};
 ghost use Rattle.hg_script.specs.Lawful.{IsLine};
-ghost use Rattle.hg_world.specs.Kept.{IsWorld};
-ghost use Rattle.hg_world.specs.World.{new_world, worker_count};
+ghost use Rattle.hg_world.specs.Parts.{IsWorld};
+ghost use Rattle.hg_world.specs.World.{new_world};
 ghost use Rattle.hg_play.specs.Agree.{IsAgreed};
-ghost use Rattle.hg_play.specs.Batch.{IsPlayed};
+ghost use Rattle.hg_play.specs.Batch.{IsPlayed, most_workers};
 ghost use Rattle.hg_play.specs.Play.{IsSafePlay, play, summary};
 
 use crate::batch::play_batches;
@@ -42,7 +42,7 @@ fn play_all<R: Threads + Wait + Sync, C: Crew + Sync, G: Gate + Sync>(
     crew: &C,
     gate: &G,
 ) -> Result<(World, Vec<Printed>), Memory>
-    requires workers { workers ≤ worker_count }
+    requires workers { workers ≤ most_workers }
     requires lines { All (IsLine members.now workers) lines.now }
     ensures new { OnOk result (IsWorld (new_world members.now)) }
     ensures played { IfOk result (λ r. IsPlayed members.now lines.now r.0 r.1.items) }
@@ -73,7 +73,7 @@ pub fn play<R: Threads + Wait + Sync, C: Crew + Sync, G: Gate + Sync>(
     crew: &C,
     gate: &G,
 ) -> Result<Outcome, Memory>
-    requires workers { workers ≤ worker_count }
+    requires workers { workers ≤ most_workers }
     requires lines { All (IsLine members.now workers) lines.now }
     ensures outcome { IfOk result (λ outcome. outcome ≡ play members.now lines.now) }
     ensures safe { OnOk result (IsSafePlay members.now lines.now) }
@@ -100,7 +100,7 @@ pub fn summary<R: Threads + Wait + Sync, C: Crew + Sync, G: Gate + Sync>(
     crew: &C,
     gate: &G,
 ) -> Result<Outcome, Memory>
-    requires workers { workers ≤ worker_count }
+    requires workers { workers ≤ most_workers }
     requires lines { All (IsLine members.now workers) lines.now }
     ensures outcome { IfOk result (λ outcome. outcome ≡ summary members.now lines.now) }
     ensures safe { OnOk result (IsSafePlay members.now lines.now) }

@@ -2,7 +2,7 @@ ghost use Rattle.std.specs.Prelude.{◌≡◌, ◌<◌, IfOk, length};
 ghost use Rattle.hg_model.specs.Signing.{accepts_by};
 ghost use Rattle.hg_crowd.specs.Crowd.{AreSeats};
 ghost use Rattle.hg_play.specs.Nodes.{IsKept};
-ghost use Rattle.hg_play.specs.Through.{SeatsTellMaking, SeatsTellNames, SeatsTellParcel, SeatsTellPutting, seen_through};
+ghost use Rattle.hg_play.specs.Through.{SeatsMatchMaking, SeatsMatchNames, SeatsMatchParcel, SeatsMatchPutting, seen_through};
 
 use hg_board::{Seat, Shared};
 use hg_model::{MakeAnswer, Memory, Name, Parcel, PutAnswer};
@@ -22,7 +22,7 @@ pub(crate) fn put_at<R: Wait>(
     requires place { x < length seats.old }
     ensures seats { AreSeats accepts_by shared.now seats.new }
     ensures kept { IsKept (seen_through shared.now seats.old) (seen_through shared.now seats.new) }
-    ensures told { IfOk result (SeatsTellPutting shared.now seats.old seats.new x bytes.now) }
+    ensures told { IfOk result (SeatsMatchPutting shared.now seats.old seats.new x bytes.now) }
 {
     shared[x].put(rt, &mut seats[x], bytes)
 }
@@ -41,7 +41,7 @@ pub(crate) fn make_at<R: Wait>(
     requires place { x < length seats.old }
     ensures seats { AreSeats accepts_by shared.now seats.new }
     ensures kept { IsKept (seen_through shared.now seats.old) (seen_through shared.now seats.new) }
-    ensures told { IfOk result (SeatsTellMaking shared.now seats.old seats.new x other time payload.now) }
+    ensures told { IfOk result (SeatsMatchMaking shared.now seats.old seats.new x other time payload.now) }
 {
     shared[x].make(rt, &mut seats[x], other, time, payload)
 }
@@ -58,7 +58,7 @@ pub(crate) fn held_at<R: Wait>(
     requires place { x < length seats.old }
     ensures seats { AreSeats accepts_by shared.now seats.new }
     ensures kept { IsKept (seen_through shared.now seats.old) (seen_through shared.now seats.new) }
-    ensures told { IfOk result (SeatsTellNames shared.now seats.old seats.new x) }
+    ensures told { IfOk result (SeatsMatchNames shared.now seats.old seats.new x) }
 {
     shared[x].held(rt, alloc, &mut seats[x])
 }
@@ -76,7 +76,7 @@ pub(crate) fn missing_at<R: Wait>(
     requires place { x < length seats.old }
     ensures seats { AreSeats accepts_by shared.now seats.new }
     ensures kept { IsKept (seen_through shared.now seats.old) (seen_through shared.now seats.new) }
-    ensures told { IfOk result (SeatsTellParcel shared.now seats.old seats.new x names.now) }
+    ensures told { IfOk result (SeatsMatchParcel shared.now seats.old seats.new x names.now) }
 {
     shared[x].missing(rt, alloc, &mut seats[x], names)
 }

@@ -2,7 +2,7 @@ ghost use Rattle.std.specs.Prelude.{◌≡◌, ◌<◌, IfOk, length};
 ghost use Rattle.hg_model.specs.Signing.{accepts_by};
 ghost use Rattle.hg_crowd.specs.Crowd.{AreSeats};
 ghost use Rattle.hg_play.specs.Nodes.{IsKept};
-ghost use Rattle.hg_play.specs.Through.{TellsLacked, TellsMade, TellsNames, TellsParcel, TellsTaken, seen_shared, shared_view};
+ghost use Rattle.hg_play.specs.Through.{MatchesLacked, MatchesMade, MatchesNames, MatchesParcel, MatchesTaken, seen_shared, shared_view};
 
 use crate::labels::last_beside;
 use crate::nodes::Nodes;
@@ -67,7 +67,7 @@ impl<'a, R: Wait> SharedNodes<'a, R> {
     fn held(&mut self, member: Member) -> Result<Vec<Name>, Memory>
         requires { member < length self.old.seats }
         ensures kept { IsKept (seen_shared self.old) (seen_shared self.new) }
-        ensures told { IfOk result (λ v. TellsNames (seen_shared self.old) (seen_shared self.new) member v.items) }
+        ensures told { IfOk result (λ v. MatchesNames (seen_shared self.old) (seen_shared self.new) member v.items) }
     {
         held_at(
             self.rt,
@@ -82,7 +82,7 @@ impl<'a, R: Wait> SharedNodes<'a, R> {
     fn missing(&mut self, member: Member, names: &[Name]) -> Result<Parcel, Memory>
         requires { member < length self.old.seats }
         ensures kept { IsKept (seen_shared self.old) (seen_shared self.new) }
-        ensures told { IfOk result (TellsParcel (seen_shared self.old) (seen_shared self.new) member names.now) }
+        ensures told { IfOk result (MatchesParcel (seen_shared self.old) (seen_shared self.new) member names.now) }
     {
         missing_at(
             self.rt,
@@ -99,7 +99,7 @@ impl<'a, R: Wait> SharedNodes<'a, R> {
         requires taker { taker < length self.old.seats }
         requires peer { peer < length self.old.seats }
         ensures kept { IsKept (seen_shared self.old) (seen_shared self.new) }
-        ensures told { IfOk result (TellsLacked (seen_shared self.old) (seen_shared self.new) taker peer) }
+        ensures told { IfOk result (MatchesLacked (seen_shared self.old) (seen_shared self.new) taker peer) }
     {
         let names = self.held(taker)?;
         self.missing(peer, names.as_slice())
@@ -109,7 +109,7 @@ impl<'a, R: Wait> SharedNodes<'a, R> {
     fn take(&mut self, member: Member, events: &[Bytes]) -> Result<Taken, Memory>
         requires { member < length self.old.seats }
         ensures kept { IsKept (seen_shared self.old) (seen_shared self.new) }
-        ensures told { IfOk result (TellsTaken (seen_shared self.old) (seen_shared self.new) member events.now) }
+        ensures told { IfOk result (MatchesTaken (seen_shared self.old) (seen_shared self.new) member events.now) }
     {
         let _count = events.len();
         let mut counts = Taken {
@@ -133,7 +133,7 @@ impl<'a, R: Wait> SharedNodes<'a, R> {
     ) -> Result<SyncMade, Memory>
         requires { member < length self.old.seats }
         ensures kept { IsKept (seen_shared self.old) (seen_shared self.new) }
-        ensures told { IfOk result (TellsMade (seen_shared self.old) (seen_shared self.new) member other time payload.now) }
+        ensures told { IfOk result (MatchesMade (seen_shared self.old) (seen_shared self.new) member other time payload.now) }
     {
         match other {
             None => Ok(SyncMade::PeerBare),

@@ -14,7 +14,7 @@ use Rattle.hg_model.specs.declared.share.Found.{Found}
 use Rattle.hg_node.specs.ChronicleView.{graph_in}
 use Rattle.hg_gossip.specs.Holding.{Seen}
 use Rattle.hg_board.specs.Table.{node_at}
-use Rattle.hg_board.specs.Seats.{Place, Stand, seen_by}
+use Rattle.hg_board.specs.Seats.{SharedNode, SeatView, seen_by}
 use Rattle.hg_board.specs.Calls.{SeatPublishes, SeatWaits, Stays}
 use Rattle.hg_board.specs.Crews.{AreMarks, MarksAll, MarksOf, OnlyMarks, marked_at, marked_by}
 use Rattle.hg_workers.specs.Turns.{marks_seen}
@@ -42,7 +42,7 @@ marks_both share h [] qs one two = two
 marks_both share h (p ∷ ps) qs one two = (one.0, marks_both share h ps qs one.1 two)
 
 module _ {V : Type 0} where
-  pub stays_on : (accepts : V → Accepts) (p : Place V) (a b c : Stand V) → Stays accepts p a b → Stays accepts p b c → Stays accepts p a c
+  pub stays_on : (accepts : V → Accepts) (p : SharedNode V) (a b c : SeatView V) → Stays accepts p a b → Stays accepts p b c → Stays accepts p a c
   stays_on accepts p a b c one two = record {
     of = two.of;
     parts = two.parts ∙ one.parts;
@@ -52,28 +52,28 @@ module _ {V : Type 0} where
 
   -- a seat whose calls added nothing
 
-  pub waits_mine : (accepts : V → Accepts) (p : Place V) (a b : Stand V) → SeatWaits accepts p a b → b.mine ≡ a.mine
+  pub waits_mine : (accepts : V → Accepts) (p : SharedNode V) (a b : SeatView V) → SeatWaits accepts p a b → b.mine ≡ a.mine
   waits_mine accepts p a b waits = ap (λ (s : Seen V). s.positions) waits.later
 
-  pub only_none : (share : Share) (a b : Stand V) → b.mine ≡ a.mine → OnlyMarks share a b
+  pub only_none : (share : Share) (a b : SeatView V) → b.mine ≡ a.mine → OnlyMarks share a b
   only_none share a b same = record { more = []; mine = same ∙ sym (append-nil a.mine); marks = tt }
 
-  pub of_none : (p : Place V) (share : Share) (a b : Stand V) → b.mine ≡ a.mine → MarksOf p share a b 0
+  pub of_none : (p : SharedNode V) (share : Share) (a b : SeatView V) → b.mine ≡ a.mine → MarksOf p share a b 0
   of_none p share a b same = record { more = []; mine = same ∙ sym (append-nil a.mine); marks = tt; counted = refl }
 
   -- and one whose calls published
 
-  pub only_of : (p : Place V) (share : Share) (a b : Stand V) (k : ℕ) → MarksOf p share a b k → OnlyMarks share a b
+  pub only_of : (p : SharedNode V) (share : Share) (a b : SeatView V) (k : ℕ) → MarksOf p share a b k → OnlyMarks share a b
   only_of p share a b k is = record { more = is.more; mine = is.mine; marks = is.marks }
 
-  pub only_on : (share : Share) (a b c : Stand V) → IsPrefix b.seen c.seen → OnlyMarks share a b → OnlyMarks share b c → OnlyMarks share a c
+  pub only_on : (share : Share) (a b c : SeatView V) → IsPrefix b.seen c.seen → OnlyMarks share a b → OnlyMarks share b c → OnlyMarks share a c
   only_on share a b c first one two = record {
     more = one.more ++ two.more;
     mine = two.mine ∙ (ap (λ (xs : List ℕ). xs ++ two.more) one.mine ∙ append_assoc a.mine one.more two.more);
     marks = marks_both share c.seen one.more two.more (marks_later share b.seen c.seen one.more first one.marks) two.marks;
   }
 
-  module _ (p : Place V) where
+  module _ (p : SharedNode V) where
     -- a history that goes on leaves what its marks counted
     one_counted : (h later : List Change) (q : ℕ) (e : Change) → IsPrefix h later → slice_get h q ≡ Some e →
         marked_by (node_at p.start (take q later)) (slice_get later q) ≡ marked_by (node_at p.start (take q h)) (slice_get h q)
@@ -96,7 +96,7 @@ module _ {V : Type 0} where
           rest,
         )
 
-    pub of_on : (share : Share) (a b c : Stand V) (j k : ℕ) → IsPrefix b.seen c.seen → MarksOf p share a b j → MarksOf p share b c k → MarksOf p share a c (j + k)
+    pub of_on : (share : Share) (a b c : SeatView V) (j k : ℕ) → IsPrefix b.seen c.seen → MarksOf p share a b j → MarksOf p share b c k → MarksOf p share a c (j + k)
     unfolding only_on only_of
     of_on share a b c j k first one two =
         let only = only_on share a b c first (only_of p share a b j one) (only_of p share b c k two) in
@@ -112,18 +112,18 @@ module _ {V : Type 0} where
               omega (arith, kept, both, a_is, b_is);
         }
 
-    pub all_on : (share : Share) (a b c : Stand V) → IsPrefix b.seen c.seen → MarksAll p share a b → MarksAll p share a c
+    pub all_on : (share : Share) (a b c : SeatView V) → IsPrefix b.seen c.seen → MarksAll p share a b → MarksAll p share a c
     all_on share a b c first all x v is = mark_stays p b c first x v (all x v is)
 
 -- what a turn owes: the seat's own changes since are publications of the share, which marked so many witnesses, and all
 -- that the graph decided before is marked
-pub record IsTurn {V : Type 0} (p : Place V) (share : Share) (a d : Stand V) (count : ℕ) : Type 0 where
+pub record IsTurn {V : Type 0} (p : SharedNode V) (share : Share) (a d : SeatView V) (count : ℕ) : Type 0 where
   pub of : MarksOf p share a d count
   pub all : MarksAll p share a d
   pub few : marks_seen p a + count ≤ marks_seen p d
 
 -- a seat saw the graph, and then what was found in it was published
-pub is_turn : {V : Type 0} (accepts : V → Accepts) (p : Place V) (a c d : Stand V) (g : Graph) (found : Found) (share : Share) (count : ℕ) →
+pub is_turn : {V : Type 0} (accepts : V → Accepts) (p : SharedNode V) (a c d : SeatView V) (g : Graph) (found : Found) (share : Share) (count : ℕ) →
     Stays accepts p a c → SeatWaits accepts p a c → g ≡ graph_in (seen_by p c).node → found.share ≡ share → found.len ≡ length g.rows →
     Stays accepts p c d → SeatPublishes accepts p c found.len found.share d count → IsTurn p share a d count
 is_turn {V} accepts p a c d g found share count saw waits frozen same len stays publishes =
@@ -139,7 +139,7 @@ is_turn {V} accepts p a c d g found share count saw waits frozen same len stays 
     }
 
 -- the next turn
-module _ {V : Type 0} (accepts : V → Accepts) (p : Place V) (share : Share) (a b c : Stand V) (j k : ℕ) (stays : Stays accepts p a b) (next : Stays accepts p b c) where
+module _ {V : Type 0} (accepts : V → Accepts) (p : SharedNode V) (share : Share) (a b c : SeatView V) (j k : ℕ) (stays : Stays accepts p a b) (next : Stays accepts p b c) where
   pub next_all : MarksAll p share b c → MarksAll p share a c
   next_all all = marks_all_before p accepts a b c share stays.seen stays.node all
 

@@ -21,7 +21,7 @@ use Rattle.hg_fame.specs.Decisions.{SpeaksFor}
 use Rattle.hg_node.specs.ChronicleView.{IsFoundBy, graph_in, marked}
 use Rattle.hg_gossip.specs.Holding.{Seen}
 use Rattle.hg_board.specs.Table.{node_at}
-use Rattle.hg_board.specs.Seats.{Place, Stand, seen_by}
+use Rattle.hg_board.specs.Seats.{SharedNode, SeatView, seen_by}
 use Rattle.hg_board.specs.Calls.{SeatPublishes}
 use Rattle.hg_board.specs.Crews.{MarksAll, MarksOf, marked_by}
 use Rattle.hg_board.specs.Laws.{AddsNone}
@@ -38,7 +38,7 @@ get_push (d ∷ h) e = get_push h e
 pub take_push : (h : List Change) (e : Change) → take (length h) (h ++ e ∷ []) ≡ h
 take_push h e = take-append-le (length h) h (e ∷ []) (omega arith) ∙ take-length h
 
-module _ {V : Type 0} (p : Place V) where
+module _ {V : Type 0} (p : SharedNode V) where
   abbrev n : Stakes
   n = p.start.start.members
 
@@ -47,10 +47,10 @@ module _ {V : Type 0} (p : Place V) where
 
   -- of two moments the rows, the links and the marks of the later
 
-  pub more_marks : (a b : Stand V) → IsPrefix a.seen b.seen → marks_seen p a ≤ marks_seen p b
+  pub more_marks : (a b : SeatView V) → IsPrefix a.seen b.seen → marks_seen p a ≤ marks_seen p b
   more_marks a b first = subst (λ (h : List Change). marks_seen p a ≤ marked (replay n coin h).marks) (sym first.1) (marked_later n coin a.seen first.0)
 
-  pub mark_stays : (a b : Stand V) → IsPrefix a.seen b.seen → (x : ℕ) (v : Bool) → mark_at (node_marks (node_at p.start a.seen)) x ≡ Some v → mark_at (node_marks (node_at p.start b.seen)) x ≡ Some v
+  pub mark_stays : (a b : SeatView V) → IsPrefix a.seen b.seen → (x : ℕ) (v : Bool) → mark_at (node_marks (node_at p.start a.seen)) x ≡ Some v → mark_at (node_marks (node_at p.start b.seen)) x ≡ Some v
   mark_stays a b first x v is = subst (λ (h : List Change). mark_at (replay n coin h).marks x ≡ Some v) (sym first.1) (marks_stay n coin a.seen first.0 x v is)
 
   rows_later : (a b : List Change) → IsPrefix a b → IsPrefix (replay n coin a).rows (replay n coin b).rows
@@ -60,30 +60,30 @@ module _ {V : Type 0} (p : Place V) where
   links_later a b first = subst (λ (h : List Change). IsPrefix (replay n coin a).links (replay n coin h).links) (sym first.1) (links_grow n coin a first.0)
 
   -- votes on the graph that the seat saw go on to the one that it sees
-  pub carries_later : (votes : Counting) (a b : Stand V) → IsPrefix a.seen b.seen → CarriesTo votes (graph_seen p a) → CarriesTo votes (graph_seen p b)
+  pub carries_later : (votes : Counting) (a b : SeatView V) → IsPrefix a.seen b.seen → CarriesTo votes (graph_seen p a) → CarriesTo votes (graph_seen p b)
   carries_later votes a b first carries =
       carries_on votes (graph_seen p a) (graph_seen p b) carries (record { members = refl; coin = refl; rows = rows_later a.seen b.seen first })
 
-  pub carries_none : (a : Stand V) (votes : Counting) → ((members : Stakes) (c : ℕ) → IsMadeFor votes (graph_of members c [])) → CarriesTo votes (graph_seen p a)
+  pub carries_none : (a : SeatView V) (votes : Counting) → ((members : Stakes) (c : ℕ) → IsMadeFor votes (graph_of members c [])) → CarriesTo votes (graph_seen p a)
   carries_none a votes made = (graph_of n coin [], made n coin, begins_empty (graph_seen p a))
 
-  pub carries_made : (votes : Counting) (g : Graph) (a b : Stand V) → g ≡ graph_seen p a → IsPrefix a.seen b.seen → IsMadeFor votes g → CarriesTo votes (graph_seen p b)
+  pub carries_made : (votes : Counting) (g : Graph) (a b : SeatView V) → g ≡ graph_seen p a → IsPrefix a.seen b.seen → IsMadeFor votes g → CarriesTo votes (graph_seen p b)
   carries_made votes g a b frozen first made = carries_later votes a b first (subst (CarriesTo votes) frozen (g, made, begins_itself g))
 
   module _ (accepts : V → Accepts) where
     -- what the graph decided before, a later one decides
-    pub decided_later : (a b : Stand V) → IsPrefix a.seen b.seen → IsNode accepts (node_at p.start b.seen) → (share : Share) (x : ℕ) (v : Bool) →
+    pub decided_later : (a b : SeatView V) → IsPrefix a.seen b.seen → IsNode accepts (node_at p.start b.seen) → (share : Share) (x : ℕ) (v : Bool) →
         share_fame n coin (replay n coin a.seen).rows (replay n coin a.seen).links share x ≡ Some v → share_fame n coin (replay n coin b.seen).rows (replay n coin b.seen).links share x ≡ Some v
     decided_later a b first node share x v is =
         let s = node_sound accepts (node_at p.start b.seen) node in
         share_later n coin (replay n coin a.seen) (replay n coin b.seen) (even_after n coin a.seen) (even_after n coin b.seen) (rows_later a.seen b.seen first) (links_later a.seen b.seen first) s.graph s.linked share x v is
 
     -- so what marks all that the later graph decides marks all that the earlier does
-    pub marks_all_before : (a b c : Stand V) (share : Share) → IsPrefix a.seen b.seen → IsNode accepts (node_at p.start b.seen) → MarksAll p share b c → MarksAll p share a c
+    pub marks_all_before : (a b c : SeatView V) (share : Share) → IsPrefix a.seen b.seen → IsNode accepts (node_at p.start b.seen) → MarksAll p share b c → MarksAll p share a c
     marks_all_before a b c share first node all x v is = all x v (decided_later a b first node share x v is)
 
     -- what was found in a frozen graph was found in the rows that the seat has seen
-    pub found_by_seat : (c : Stand V) (g : Graph) (found : Found) → IsNode accepts (node_at p.start c.seen) → g ≡ graph_in (seen_by p c).node → (share : Share) → found.share ≡ share → SpeaksFor g share found →
+    pub found_by_seat : (c : SeatView V) (g : Graph) (found : Found) → IsNode accepts (node_at p.start c.seen) → g ≡ graph_in (seen_by p c).node → (share : Share) → found.share ≡ share → SpeaksFor g share found →
         IsFoundBy (seen_by p c).node found
     found_by_seat c g found node frozen share same speaks =
         let v = node_at p.start c.seen in
@@ -93,7 +93,7 @@ module _ {V : Type 0} (p : Place V) where
         subst (λ (k : Share). Speaks n coin (node_rows v) (node_links v) found.len k found.marks) (sym same) tied
 
     -- a publication by a seat
-    module _ (c d : Stand V) (len : ℕ) (share : Share) (count : ℕ) (publishes : SeatPublishes accepts p c len share d count) where
+    module _ (c d : SeatView V) (len : ℕ) (share : Share) (count : ℕ) (publishes : SeatPublishes accepts p c len share d count) where
       reached : List Change
       reached = c.seen ++ publishes.waits.others
 
@@ -170,6 +170,6 @@ module _ {V : Type 0} (p : Place V) where
       marks_of_turn = dite (ℕ_discrete count 0) marks_none (λ some. marks_one (omega arith))
 
     -- one of nothing adds nothing
-    pub nothing_added : (c d : Stand V) (share : Share) (count : ℕ) → SeatPublishes accepts p c 0 share d count → AddsNone c d
+    pub nothing_added : (c d : SeatView V) (share : Share) (count : ℕ) → SeatPublishes accepts p c 0 share d count → AddsNone c d
     nothing_added c d share count publishes =
         (other_publishes_add_none V accepts p c d 0 share (subst (SeatPublishes accepts p c 0 share d) (publishes.answers ∙ nothing_published publishes.reached.node share) publishes)).0

@@ -17,7 +17,7 @@ use Rattle.hg_model.specs.Verdict.{is_held}
 use Rattle.hg_graph.specs.RowsWithRoom.{found_place}
 use Rattle.hg_gossip.specs.Holding.{row_names}
 use Rattle.hg_gossip.proofs.RowLaws.{unnamed_lacks}
-use Rattle.hg_world.specs.Kept.{AreKnown, KnowsFirst}
+use Rattle.hg_world.specs.KnownRows.{AreKnown, KnowsFirst}
 
 -- a name is held that is among the names
 abbrev one_named : List ℕ → Row

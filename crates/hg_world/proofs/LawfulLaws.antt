@@ -35,7 +35,7 @@ use Rattle.hg_world.specs.declared.step.Step.{Step}
 use Rattle.hg_world.specs.declared.step.Step.TheVariants.{Make, Deliver, Freeze, Publish}
 use Rattle.hg_world.specs.World.{Secrets, Site, WorldView, no_site, node_at, rows_at, site_at, site_of, with_site}
 use Rattle.hg_world.specs.Steps.{IsStepOf, after_step, after_steps, node_made, node_put, own_signature}
-use Rattle.hg_world.specs.Kept.{HaveEvents, IsWorld, KeepsSite}
+use Rattle.hg_world.specs.Parts.{HaveEvents, IsWorld, KeepsSite}
 use Rattle.hg_world.proofs.StepLaws.{step_sites, steps_sites}
 use Rattle.hg_world.proofs.WorldLaws.{changed_site, frozen_site, set_site}
 

@@ -10,8 +10,8 @@ use Rattle.hg_model.specs.Places.{table}
 use Rattle.hg_model.specs.Stakes.{Stakes, member_count}
 use Rattle.hg_model.specs.Signing.{accepts_by, secrets_of}
 use Rattle.hg_model.specs.NodeView.{NodeView, IsNode}
-use Rattle.hg_world.specs.World.{Secrets, Site, WorldView, new_node, new_site, new_world, no_site, site_of, worker_count}
-use Rattle.hg_world.specs.Kept.{AreOfOneList, IsWorld, KeepsSite, KeepsWorld, no_node, nth_node, sites_of, unfrozen, world_of}
+use Rattle.hg_world.specs.World.{Secrets, Site, WorldView, new_node, new_site, new_world, no_site, site_of, worker_limit}
+use Rattle.hg_world.specs.Parts.{AreOfOneList, IsWorld, KeepsSite, KeepsWorld, no_node, nth_node, sites_of, unfrozen, world_of}
 use Rattle.hg_world.proofs.WorldLaws.{site_read, sites_length}
 
 -- nodes of whose rows none is frozen
@@ -22,12 +22,12 @@ none_sites node (x ∷ places) lens = ap (λ (rest : List Site). site_of (node x
 
 -- no worker froze any
 abbrev pub none_frozen : List ℕ
-none_frozen = replicate worker_count 0
+none_frozen = replicate worker_limit 0
 
 pub no_lens : (k : ℕ) → get_or none_frozen k 0 ≡ 0
-no_lens k = elim (cases_lt k worker_count) [
-  | inl low ↦ get_or-replicate worker_count k 0 0 low
-  | inr past ↦ get_or_past none_frozen k 0 (omega (arith, past, length-replicate {A = ℕ} worker_count 0))
+no_lens k = elim (cases_lt k worker_limit) [
+  | inl low ↦ get_or-replicate worker_limit k 0 0 low
+  | inr past ↦ get_or_past none_frozen k 0 (omega (arith, past, length-replicate {A = ℕ} worker_limit 0))
 ]
 
 -- the new world over its parts, and that it is one
@@ -36,11 +36,11 @@ pub record IsNew (members : MemberList) (nodes : List (NodeView Secrets)) (froze
   pub keeps : KeepsWorld (length members.entries) members.coin nodes frozen
 
 pub is_new : (members : MemberList) (nodes : List (NodeView Secrets)) (frozen : List (List ℕ)) → IsMemberList members → nodes ≡ table (new_node members) (length members.entries) →
-    All (IsNode accepts_by) nodes → frozen ≡ replicate (length nodes) (replicate worker_count 0) → IsNew members nodes frozen
+    All (IsNode accepts_by) nodes → frozen ≡ replicate (length nodes) (replicate worker_limit 0) → IsNew members nodes frozen
 is_new members nodes frozen lawful nodes_are all frozen_are = record {
   is = world_is;
   keeps = record {
-    long = ap length frozen_are ∙ length-replicate (length nodes) (replicate worker_count 0);
+    long = ap length frozen_are ∙ length-replicate (length nodes) (replicate worker_limit 0);
     few = omega (arith, lawful.few, many);
     world = subst IsWorld (sym world_is) new_is;
   };
@@ -55,13 +55,13 @@ is_new members nodes frozen lawful nodes_are all frozen_are = record {
     many : length nodes ≡ n
     many = ap length nodes_are ∙ length-map-range_with_len (new_node members) 0 n
 
-    frozen_for : frozen ≡ replicate (length places) (replicate worker_count 0)
-    frozen_for = frozen_are ∙ ap (λ (k : ℕ). replicate k (replicate worker_count 0)) (many ∙ sym (length-range_with_len 0 n))
+    frozen_for : frozen ≡ replicate (length places) (replicate worker_limit 0)
+    frozen_for = frozen_are ∙ ap (λ (k : ℕ). replicate k (replicate worker_limit 0)) (many ∙ sym (length-range_with_len 0 n))
 
     world_is : world_of n members.coin nodes frozen ≡ new_world members
     world_is =
         ap (λ (sites : List Site). let w : WorldView = record { members = n; coin = members.coin; sites = sites } in w)
-        (ap₂ sites_of nodes_are frozen_for ∙ none_sites (new_node members) places (replicate worker_count 0))
+        (ap₂ sites_of nodes_are frozen_for ∙ none_sites (new_node members) places (replicate worker_limit 0))
 
     sites_many : length (new_world members).sites ≡ n
     sites_many = length-map-range_with_len (new_site members) 0 n
@@ -74,7 +74,7 @@ is_new members nodes frozen lawful nodes_are all frozen_are = record {
 
     site_is : (m : ℕ) → m < n → KeepsSite (new_world members) (secrets_of members) m (new_site members m)
     site_is m low = record {
-      is = record { own = refl; members = refl; coin = refl; workers = length-replicate {A = ℕ} worker_count 0 };
+      is = record { own = refl; members = refl; coin = refl; workers = length-replicate {A = ℕ} worker_limit 0 };
       keyed = refl;
       node = node_is m low;
       frozen = λ k. omega (arith, no_lens k);
@@ -126,7 +126,7 @@ of_nodes n c nodes frozen are all n_is c_is frozen_are =
               let lens : get_or frozen m [] ≡ none_frozen = ap (λ (f : List (List ℕ)). get_or f m []) frozen_are ∙ get_or-replicate (length nodes) m none_frozen [] inside in
               subst (KeepsSite (world_of n c nodes frozen) are.2 m) (sym (site_read nodes frozen m long inside))
               (subst (λ (f : List ℕ). KeepsSite (world_of n c nodes frozen) are.2 m (site_of (nth_node nodes m) f)) (sym lens) (record {
-                is = record { own = start.own; members = start.members ∙ stakes; coin = start.coin ∙ sym (c_is ∙ first.coin); workers = length-replicate {A = ℕ} worker_count 0 };
+                is = record { own = start.own; members = start.members ∙ stakes; coin = start.coin ∙ sym (c_is ∙ first.coin); workers = length-replicate {A = ℕ} worker_limit 0 };
                 keyed = start.keyed;
                 node = all m no_node inside;
                 frozen = λ k. omega (arith, no_lens k);

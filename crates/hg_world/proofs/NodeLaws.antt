@@ -19,7 +19,7 @@ use Rattle.hg_node.specs.ChronicleView.{graph_in}
 use Rattle.hg_node.proofs.OneLaws.{making_is_one}
 use Rattle.hg_world.specs.World.{Secrets}
 use Rattle.hg_world.specs.Steps.{making_at, node_made}
-use Rattle.hg_world.specs.Kept.{no_node, nth_node}
+use Rattle.hg_world.specs.Parts.{no_node, nth_node}
 
 -- a node that was read
 pub node_here : (nodes : List (NodeView Secrets)) (m : ℕ) (d : NodeView Secrets) → m < length nodes → get_or nodes m d ≡ nth_node nodes m

@@ -29,7 +29,8 @@ use Rattle.hg_world.specs.declared.step.Step.TheVariants.{Deliver}
 use Rattle.hg_world.specs.World.{Secrets, Site, WorldView, no_site, node_at, rows_at, site_at, site_of}
 use Rattle.hg_world.specs.Steps.{after_step, after_steps, node_put}
 use Rattle.hg_world.specs.Syncs.{HasTaken, deliver_steps}
-use Rattle.hg_world.specs.Kept.{AreKnown, IsWorld}
+use Rattle.hg_world.specs.Parts.{IsWorld}
+use Rattle.hg_world.specs.KnownRows.{AreKnown}
 use Rattle.hg_world.proofs.KnownLaws.{held_last, held_more, known_all, known_own}
 use Rattle.hg_world.proofs.SignedLaws.{all_filtered}
 

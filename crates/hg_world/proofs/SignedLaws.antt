@@ -20,7 +20,7 @@ use Rattle.hg_gossip.specs.Nodes.{Taking, take_event, taking_of}
 use Rattle.hg_world.specs.World.{Secrets, WorldView, node_at, rows_at}
 use Rattle.hg_graph.specs.RowsWithRoom.{rows_of}
 use Rattle.hg_world.specs.Syncs.{AreSigned, HasTaken, IsSigned, bytes_of}
-use Rattle.hg_world.specs.Kept.{IsWorld}
+use Rattle.hg_world.specs.Parts.{IsWorld}
 
 pub all_filtered : (P : Row → Type 0) (keeps : Row → Bool) (rows : List Row) → AllByRecursion P rows → AllByRecursion P (filter keeps rows)
 all_filtered P keeps [] all = tt

@@ -9,7 +9,8 @@ use Rattle.hg_model.specs.Orders.{IsPrefix}
 use Rattle.hg_model.specs.NodeView.{NodeView, node_rows, with_changes}
 use Rattle.hg_history.proofs.StateLaws.{prefix_same, rows_grow}
 use Rattle.hg_world.specs.World.{Secrets}
-use Rattle.hg_world.specs.Kept.{AreKnown, HandsOn, KeepsKnown, KnowsFirst, known_by, no_node, nth_node}
+use Rattle.hg_world.specs.Parts.{no_node, nth_node}
+use Rattle.hg_world.specs.KnownRows.{AreKnown, HandsOn, KeepsKnown, KnowsFirst, known_by}
 use Rattle.hg_world.proofs.KnownLaws.{first_all, first_more, first_none, first_through}
 
 abbrev rows_of : List (NodeView Secrets) → ℕ → List Row

@@ -14,7 +14,7 @@ use Rattle.hg_runs.specs.Safety.{IsSafe}
 use Rattle.hg_runs.proofs.SafetyLaws.{runs_safe}
 use Rattle.hg_world.specs.World.{Secrets, Site, WorldView, no_site, site_of, site_at, node_at, with_site, with_node_at, with_frozen, frozen_by, run_of}
 use Rattle.hg_world.specs.Steps.{after_steps, node_published, settle_steps}
-use Rattle.hg_world.specs.Kept.{KeepsSite, IsWorld, KeepsWorld, sites_of, world_of, no_node, nth_node}
+use Rattle.hg_world.specs.Parts.{KeepsSite, IsWorld, KeepsWorld, sites_of, world_of, no_node, nth_node}
 
 -- of the orders that any two of the nodes keep at any two moments one is a prefix of the other, under the premises
 pub safe : (w : WorldView) → IsWorld w → IsSafe w.members w.coin (run_of w)

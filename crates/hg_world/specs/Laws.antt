@@ -5,7 +5,7 @@ use Rattle.hg_runs.specs.Safety.{IsSafe}
 use Rattle.hg_world.specs.declared.step.Step.{Step}
 use Rattle.hg_world.specs.World.{WorldView, IsMemberOf, run_of, with_node_at}
 use Rattle.hg_world.specs.Steps.{IsStepOf, after_steps}
-use Rattle.hg_world.specs.Kept.{HaveEvents, IsWorld}
+use Rattle.hg_world.specs.Parts.{HaveEvents, IsWorld}
 use Rattle.hg_world.specs.Syncs.{pull_steps, pulled}
 
 -- there are as many sites as before

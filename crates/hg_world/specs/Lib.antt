@@ -1,5 +1,6 @@
 pub mod World
-pub mod Kept
+pub mod Parts
+pub mod KnownRows
 pub mod Steps
 pub mod Syncs
 pub mod Laws

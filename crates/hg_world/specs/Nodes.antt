@@ -7,7 +7,7 @@ use Rattle.hg_model.specs.Shares.{Share, whole}
 use Rattle.hg_model.specs.NodeView.{NodeView, node_rows}
 use Rattle.hg_world.specs.World.{Secrets}
 use Rattle.hg_world.specs.Steps.{making_at, node_made, node_put, node_published}
-use Rattle.hg_world.specs.Kept.{nth_node}
+use Rattle.hg_world.specs.Parts.{nth_node}
 use Rattle.hg_world.specs.Syncs.{with_lacked}
 
 -- it makes an event

@@ -13,7 +13,7 @@ use Rattle.hg_world.specs.declared.step.Step.{Step}
 use Rattle.hg_world.specs.declared.step.Step.TheVariants.{Make, Deliver, Freeze, Publish}
 use Rattle.hg_world.specs.declared.step.Reply.{Reply}
 use Rattle.hg_world.specs.declared.step.Reply.TheVariants as reply
-use Rattle.hg_world.specs.World.{Secrets, WorldView, worker_count, node_at, frozen_by, with_node_at, with_frozen, IsMemberOf}
+use Rattle.hg_world.specs.World.{Secrets, WorldView, worker_limit, node_at, frozen_by, with_node_at, with_frozen, IsMemberOf}
 
 -- the signature under which the node makes such an event
 abbrev pub own_signature : NodeView Secrets → List (List ℕ) → ℕ → List ℕ → List ℕ
@@ -72,8 +72,8 @@ actor (Publish m worker share) = m
 abbrev pub HasWorker : Step → Type 0
 HasWorker (Make m other time payload) = Unit {0}
 HasWorker (Deliver m bytes) = Unit {0}
-HasWorker (Freeze m worker) = worker < worker_count
-HasWorker (Publish m worker share) = worker < worker_count
+HasWorker (Freeze m worker) = worker < worker_limit
+HasWorker (Publish m worker share) = worker < worker_limit
 
 -- the step's node and worker are there
 abbrev pub IsStepOf : WorldView → Step → Type 0

@@ -13,8 +13,8 @@ abbrev pub Secrets : Type 0
 Secrets = List (List ℕ)
 
 -- how many workers each node has
-abbrev pub worker_count : ℕ
-worker_count = 16
+abbrev pub worker_limit : ℕ
+worker_limit = 16
 
 -- a member's node, and of each of its workers how many rows it froze last, or 0
 pub record Site : Type 0 where
@@ -35,7 +35,7 @@ abbrev pub new_node : MemberList → ℕ → NodeView Secrets
 new_node members m = record { start = start_of members m (secrets_of members); history = [] }
 
 abbrev pub new_site : MemberList → ℕ → Site
-new_site members m = site_of (new_node members m) (replicate worker_count 0)
+new_site members m = site_of (new_node members m) (replicate worker_limit 0)
 
 -- the world before the first step
 abbrev pub new_world : MemberList → WorldView
@@ -88,4 +88,4 @@ pub record IsSiteOf (w : WorldView) (m : ℕ) (site : Site) : Type 0 where
   pub own : site.node.start.own ≡ m
   pub members : site.node.start.members ≡ w.members
   pub coin : site.node.start.coin ≡ w.coin
-  pub workers : length site.frozen ≡ worker_count
+  pub workers : length site.frozen ≡ worker_limit

@@ -2,7 +2,7 @@ ghost use Rattle.std.specs.Prelude.{◌≡◌, ◌<◌, IfOk, OnOk, Some, length
 ghost use Rattle.hg_model.specs.Gossip.{lacking};
 ghost use Rattle.hg_model.specs.NodeView.{node_rows};
 ghost use Rattle.hg_graph.specs.RowsWithRoom.{rows_of};
-ghost use Rattle.hg_world.specs.Kept.{KnowsFirst};
+ghost use Rattle.hg_world.specs.KnownRows.{KnowsFirst};
 ghost use Rattle.hg_world.specs.Nodes.{PushesLacked};
 
 use hg_event::Event;

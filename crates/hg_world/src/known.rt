@@ -1,6 +1,6 @@
 ghost use Rattle.std.specs.Prelude.{◌≡◌, ℕ, ◌<◌, [], IfOk, get_or, length, max, replicate, slice_set};
 ghost use Rattle.hg_model.specs.NodeView.{node_rows};
-ghost use Rattle.hg_world.specs.Kept.{HandsOn, KnowsFirst, known_by};
+ghost use Rattle.hg_world.specs.KnownRows.{HandsOn, KnowsFirst, known_by};
 
 use hg_model::Memory;
 use hg_node::Node;

@@ -21,7 +21,9 @@ mod events;
 mod known;
 mod laws;
 mod nodes;
+mod running;
 mod step;
+mod syncing;
 #[cfg(test)]
 mod tests;
 mod world;

@@ -7,9 +7,9 @@ ghost use Rattle.hg_model.specs.Signing.{accepts_by, secrets_of};
 ghost use Rattle.hg_model.specs.Spelling.{spelling};
 ghost use Rattle.hg_node.specs.ChronicleView.{IsFoundBy};
 ghost use Rattle.hg_gossip.specs.Holding.{WouldSign, WouldTake, rules_alone, seen_whole};
-ghost use Rattle.hg_world.specs.World.{new_node, worker_count};
+ghost use Rattle.hg_world.specs.World.{new_node, worker_limit};
 ghost use Rattle.hg_world.specs.Steps.{putting_at};
-ghost use Rattle.hg_world.specs.Kept.{nth_node};
+ghost use Rattle.hg_world.specs.Parts.{nth_node};
 ghost use Rattle.hg_world.specs.Nodes.{nodes_made, nodes_published, nodes_put, nodes_settled, nth_made, nth_making, nth_published, nth_put, nth_settled};
 ghost use Rattle.hg_world.specs.Syncs.{IsSigned};
 
@@ -66,7 +66,7 @@ pub(crate) fn see_all(nodes: &Vec<Node<SharedTable>>)
 
 /// So many nodes of which no worker froze any rows.
 pub(crate) fn none_frozen(alloc: Global, count: usize) -> Result<Vec<Frozen>, Memory>
-    ensures { IfOk result (λ frozen. frozen.items ≡ replicate count (replicate worker_count 0)) }
+    ensures { IfOk result (λ frozen. frozen.items ≡ replicate count (replicate worker_limit 0)) }
 {
     let mut frozen = Vec::with_capacity(alloc, count)?;
     for _ in 0..count {
@@ -78,7 +78,7 @@ pub(crate) fn none_frozen(alloc: Global, count: usize) -> Result<Vec<Frozen>, Me
 /// The worker of the node at a place has frozen so many rows.
 pub(crate) fn set_frozen(frozen: &mut Vec<Frozen>, m: usize, worker: usize, len: usize)
     requires place { m < length frozen.old.items }
-    requires worker { worker < worker_count }
+    requires worker { worker < worker_limit }
     ensures { frozen.new.items ≡ slice_set frozen.old.items m (slice_set (get_or frozen.old.items m []) worker len) }
 {
     frozen[m][worker] = len;
@@ -87,7 +87,7 @@ pub(crate) fn set_frozen(frozen: &mut Vec<Frozen>, m: usize, worker: usize, len:
 /// How many rows the worker of the node at a place froze last, or 0.
 pub(crate) fn frozen_at(frozen: &Vec<Frozen>, m: usize, worker: usize) -> usize
     requires place { m < length frozen.now.items }
-    requires worker { worker < worker_count }
+    requires worker { worker < worker_limit }
     ensures { result ≡ get_or (get_or frozen.now.items m []) worker 0 }
 {
     frozen[m][worker]

@@ -1,6 +1,6 @@
 ghost use Rattle.std.specs.Prelude.{◌≡◌, IfOk, length};
 ghost use Rattle.hg_model.specs.NodeView.{kept_of};
-ghost use Rattle.hg_world.specs.Kept.{AreOfOneList};
+ghost use Rattle.hg_world.specs.Parts.{AreOfOneList};
 ghost use Rattle.hg_world.specs.World.{IsMemberOf, node_at};
 
 use crate::{Reply, Step, World, steps_keep_sites};

@@ -1,4 +1,4 @@
-ghost use Rattle.std.specs.Prelude.{◌≡◌, ◌<◌, All, IfErr, IfOk, OnErr, OnOk, length, replicate};
+ghost use Rattle.std.specs.Prelude.{◌≡◌, ◌<◌, IfErr, IfOk, OnErr, OnOk, length, replicate};
 ghost use Rattle.std.specs.Option.{option_to_list};
 ghost use Rattle.hg_model.specs.Calls.{IsSettled};
 ghost use Rattle.hg_model.specs.Signing.{accepts_by};
@@ -6,23 +6,19 @@ ghost use Rattle.hg_runs.specs.Safety.{IsSafe};
 ghost use Rattle.hg_gossip.specs.Holding.{WouldSign, WouldTake, rules_alone, seen_whole};
 ghost use Rattle.hg_world.specs.declared.step.Step.TheVariants.{Make, Deliver, Freeze, Publish};
 ghost use Rattle.hg_graph.specs.RowsWithRoom.{rows_of};
-ghost use Rattle.hg_world.specs.Kept.{AreKnown, AreOfOneList, IsWorld, nth_node, unfrozen};
+ghost use Rattle.hg_world.specs.Parts.{AreOfOneList, IsWorld, nth_node, unfrozen};
+ghost use Rattle.hg_world.specs.KnownRows.{AreKnown};
 ghost use Rattle.hg_model.specs.Gossip.{lacking};
 ghost use Rattle.hg_model.specs.Spelling.{spelling};
-ghost use Rattle.hg_world.specs.World.{IsMemberOf, IsSiteOf, new_world, node_at, nodes_of, rows_at, run_of, site_at, worker_count};
-ghost use Rattle.hg_world.specs.Steps.{HasRun, HasStepped, IsStepOf, RanSome, after_step, after_steps, making_at, publishing_by, putting_at, settle_steps};
-ghost use Rattle.hg_world.specs.Syncs.{AreSigned, HasMadeAfter, HasPulled, HasSynced, HasTaken, IsSigned, bytes_of, deliver_steps, pull_steps};
+ghost use Rattle.hg_world.specs.World.{IsMemberOf, IsSiteOf, new_world, node_at, nodes_of, rows_at, run_of, site_at, worker_limit};
+ghost use Rattle.hg_world.specs.Steps.{after_step, after_steps, making_at, publishing_by, putting_at, settle_steps};
+ghost use Rattle.hg_world.specs.Syncs.{IsSigned};
 
 use crate::events::lacked_from;
 use crate::known::{self, Known};
 use crate::nodes::{self, Frozen};
-use crate::step::{Reply, Step};
 use hg_event::Event;
-use hg_gossip::{Taken, sync_made, with_answer};
-use hg_model::{
-    MakeAnswer, Member, Members, Memory, Name, Prefix, PutAnswer, Share, Sight, SyncMade,
-    SyncReport,
-};
+use hg_model::{MakeAnswer, Member, Members, Memory, Name, Prefix, PutAnswer, Share, Sight};
 use hg_node::Node;
 use hg_sign::SharedTable;
 use std::alloc::Global;
@@ -43,13 +39,14 @@ pub struct World {
 
 impl Model for World {
     ghost use Rattle.hg_world.specs.World.{WorldView};
-    ghost use Rattle.hg_world.specs.Kept.{KeepsKnown, KeepsWorld, world_of};
+    ghost use Rattle.hg_world.specs.Parts.{world_of};
+    ghost use Rattle.hg_world.specs.KnownRows.{KeepsParts};
 
     ghost Value = { WorldView };
 
     ghost view = { λ s. world_of s.members s.coin s.nodes.items s.frozen.items };
 
-    ghost invariant = { λ s. KeepsWorld s.members s.coin s.nodes.items s.frozen.items × KeepsKnown s.nodes.items s.known.items };
+    ghost invariant = { λ s. KeepsParts s.members s.coin s.nodes.items s.frozen.items s.known.items };
 }
 
 impl World {
@@ -120,7 +117,7 @@ impl World {
     /// A worker, of a number below 16, freezes the rows of a member's node; tells how many they are.
     pub fn freeze(&mut self, member: Member, worker: u32) -> usize
         requires member { IsMemberOf self.old member }
-        requires worker { worker < worker_count }
+        requires worker { worker < worker_limit }
         ensures len { result ≡ length (rows_at self.old member) }
         ensures after { self.new ≡ after_step self.old (Freeze member worker) }
     {
@@ -133,7 +130,7 @@ impl World {
     /// tells how many were marked.
     pub fn publish(&mut self, member: Member, worker: u32, share: Share) -> Result<u32, Memory>
         requires member { IsMemberOf self.old member }
-        requires worker { worker < worker_count }
+        requires worker { worker < worker_limit }
         ensures answer { IfOk result (λ count. count ≡ publishing_by self.old member worker share) }
         ensures ok { OnOk result (self.new ≡ after_step self.old (Publish member worker share)) }
         ensures err { OnErr result (self.new ≡ self.old) }
@@ -143,77 +140,12 @@ impl World {
         nodes::publish(self.alloc, &mut self.nodes, m, len, share)
     }
 
-    fn apply(&mut self, step: &Step) -> Result<Reply, Memory>
-        requires { IsStepOf self.old step.now }
-        ensures ok { IfOk result (λ reply. HasStepped self.old step.now reply self.new) }
-        ensures err { OnErr result (self.new ≡ self.old) }
-    {
-        match step {
-            Step::Make {
-                node,
-                other,
-                time,
-                payload,
-            } => {
-                let answer = self.make(*node, *other, *time, payload.as_slice())?;
-                Ok(Reply::Make(answer))
-            }
-            Step::Deliver { node, bytes } => {
-                let answer = self.put(*node, bytes.as_slice())?;
-                Ok(Reply::Put(answer))
-            }
-            Step::Freeze { node, worker } => Ok(Reply::Frozen(self.freeze(*node, *worker))),
-            Step::Publish {
-                node,
-                worker,
-                share,
-            } => {
-                let count = self.publish(*node, *worker, *share)?;
-                Ok(Reply::Published(count))
-            }
-        }
-    }
-
-    /// One step of a run.
-    pub fn step(&mut self, step: &Step) -> Result<Reply, Memory>
-        requires { IsStepOf self.old step.now }
-        ensures ok { IfOk result (λ reply. HasStepped self.old step.now reply self.new) }
-        ensures err { OnErr result (self.new ≡ self.old) }
-        ensures safe { IsSafe self.new.members self.new.coin (run_of self.new) }
-    {
-        let reply = self.apply(step);
-        // That it is safe.
-        self.members();
-        reply
-    }
-
-    fn apply_all(&mut self, alloc: Global, steps: &[Step]) -> Result<Vec<Reply>, Memory>
-        requires { All (IsStepOf self.old) steps.now }
-        ensures ok { IfOk result (λ replies. HasRun self.old steps.now replies.items self.new) }
-        ensures err { OnErr result (RanSome self.old steps.now self.new) }
-    {
-        let mut replies = Vec::new(alloc);
-        for step in steps {
-            let reply = self.apply(step)?;
-            replies.push(reply)?;
-        }
-        Ok(replies)
-    }
-
-    /// The steps, one after the other, and what they answer. After `Memory` the first of them are done.
-    pub fn run(&mut self, alloc: Global, steps: &[Step]) -> Result<Vec<Reply>, Memory>
-        requires { All (IsStepOf self.old) steps.now }
-        ensures ok { IfOk result (λ replies. HasRun self.old steps.now replies.items self.new) }
-        ensures err { OnErr result (RanSome self.old steps.now self.new) }
-        ensures safe { IsSafe self.new.members self.new.coin (run_of self.new) }
-    {
-        let replies = self.apply_all(alloc, steps);
-        self.members();
-        replies
-    }
-
     /// An event that a member's node accepts as signed comes to it.
-    fn put_event(&mut self, member: Member, event: &Arc<Event>) -> Result<PutAnswer, Memory>
+    pub(crate) fn put_event(
+        &mut self,
+        member: Member,
+        event: &Arc<Event>,
+    ) -> Result<PutAnswer, Memory>
         requires member { IsMemberOf self.old member }
         requires signed { IsSigned (node_at self.old member).start event.now.value }
         ensures answer { IfOk result (λ a. a ≡ putting_at (node_at self.old member) (spelling event.now.value)) }
@@ -223,27 +155,8 @@ impl World {
         nodes::put_event(&mut self.nodes, member as usize, event)
     }
 
-    /// Puts these events, which a member's node accepts as signed, to it, one after the other.
-    fn take(&mut self, member: Member, events: &[Arc<Event>]) -> Result<Taken, Memory>
-        requires member { IsMemberOf self.old member }
-        requires signed { AreSigned (node_at self.old member).start (rows_of events.now) }
-        ensures ok { IfOk result (λ counts. HasTaken self.old member (bytes_of events.now) counts self.new) }
-        ensures err { OnErr result (RanSome self.old (deliver_steps member (bytes_of events.now)) self.new) }
-    {
-        let _count = events.len();
-        let mut counts = Taken {
-            taken: 0,
-            refused: 0,
-        };
-        for event in events {
-            let answer = self.put_event(member, event)?;
-            counts = with_answer(counts, answer);
-        }
-        Ok(counts)
-    }
-
     /// The peer's events whose names the taker lacks. Looks at no row whose name it is known to have.
-    fn lacked(&self, taker: Member, peer: Member) -> Result<Vec<Arc<Event>>, Memory>
+    pub(crate) fn lacked(&self, taker: Member, peer: Member) -> Result<Vec<Arc<Event>>, Memory>
         requires taker { IsMemberOf self.now taker }
         requires peer { IsMemberOf self.now peer }
         ensures { IfOk result (λ events. rows_of events.items ≡ lacking (rows_at self.now taker) (rows_at self.now peer)) }
@@ -254,7 +167,7 @@ impl World {
     }
 
     /// The taker has the names of all rows of the peer, and so those that the peer is known to have.
-    fn note_all(&mut self, taker: Member, peer: Member)
+    pub(crate) fn note_all(&mut self, taker: Member, peer: Member)
         requires taker { IsMemberOf self.old taker }
         requires peer { IsMemberOf self.old peer }
         requires all { AreKnown (rows_at self.old taker) (rows_at self.old peer) }
@@ -267,7 +180,7 @@ impl World {
     }
 
     /// The taker has the names of the peer's rows before the first one that it lacks.
-    fn note_first(&mut self, taker: Member, peer: Member)
+    pub(crate) fn note_first(&mut self, taker: Member, peer: Member)
         requires taker { IsMemberOf self.old taker }
         requires peer { IsMemberOf self.old peer }
         ensures { self.new ≡ self.old }
@@ -276,102 +189,6 @@ impl World {
         let from = known::known_at(&self.known, x, y);
         let first = known::first_unknown(&self.nodes[x], &self.nodes[y], from);
         known::set_known(&mut self.known, x, y, first);
-    }
-
-    fn pull_rows(&mut self, taker: Member, peer: Member) -> Result<Taken, Memory>
-        requires taker { IsMemberOf self.old taker }
-        requires peer { IsMemberOf self.old peer }
-        ensures ok { IfOk result (λ counts. HasPulled self.old taker peer counts self.new) }
-        ensures err { OnErr result (RanSome self.old (pull_steps self.old taker peer) self.new) }
-    {
-        let events = self.lacked(taker, peer)?;
-        let number = events.len() as u64;
-        // That the peer's node is one, and has the taker's members and keys.
-        self.members();
-        let counts = self.take(taker, events.as_slice())?;
-        if counts.taken == number {
-            self.note_all(taker, peer);
-        } else {
-            self.note_first(taker, peer);
-        }
-        Ok(counts)
-    }
-
-    /// The taker's node takes from the peer's the rows that it lacks, by their names, in the peer's order. After
-    /// `Memory` some of the first of them are put.
-    pub fn pull(&mut self, taker: Member, peer: Member) -> Result<Taken, Memory>
-        requires taker { IsMemberOf self.old taker }
-        requires peer { IsMemberOf self.old peer }
-        ensures ok { IfOk result (λ counts. HasPulled self.old taker peer counts self.new) }
-        ensures err { OnErr result (RanSome self.old (pull_steps self.old taker peer) self.new) }
-        ensures safe { IsSafe self.new.members self.new.coin (run_of self.new) }
-    {
-        let counts = self.pull_rows(taker, peer);
-        self.members();
-        counts
-    }
-
-    /// Makes an event with this other-parent, if there is one.
-    fn make_after(
-        &mut self,
-        member: Member,
-        other: Option<Name>,
-        time: u64,
-        payload: &[u8],
-    ) -> Result<SyncMade, Memory>
-        requires { IsMemberOf self.old member }
-        ensures ok { IfOk result (λ made. HasMadeAfter self.old member other time payload.now made self.new) }
-        ensures err { OnErr result (self.new ≡ self.old) }
-    {
-        match other {
-            None => Ok(SyncMade::PeerBare),
-            Some(name) => {
-                let answer = self.make(member, Some(name), time, payload)?;
-                Ok(sync_made(answer))
-            }
-        }
-    }
-
-    fn sync_rows(
-        &mut self,
-        taker: Member,
-        peer: Member,
-        time: u64,
-        payload: &[u8],
-    ) -> Result<SyncReport, Memory>
-        requires taker { IsMemberOf self.old taker }
-        requires peer { IsMemberOf self.old peer }
-        ensures ok { IfOk result (λ report. HasSynced self.old taker peer time payload.now report self.new) }
-        ensures err { OnErr result (RanSome self.old (pull_steps self.old taker peer) self.new) }
-    {
-        let last = self.node(peer).last_name();
-        let counts = self.pull_rows(taker, peer)?;
-        let made = self.make_after(taker, last, time, payload)?;
-        Ok(SyncReport {
-            taken: counts.taken,
-            refused: counts.refused,
-            made,
-        })
-    }
-
-    /// Pulls from the peer, and makes an event whose other-parent is the peer's last own row, if it has one. The time
-    /// is any, in no unit of ours. After `Memory` some of the first of the rows are put, and no event is made.
-    pub fn sync(
-        &mut self,
-        taker: Member,
-        peer: Member,
-        time: u64,
-        payload: &[u8],
-    ) -> Result<SyncReport, Memory>
-        requires taker { IsMemberOf self.old taker }
-        requires peer { IsMemberOf self.old peer }
-        ensures ok { IfOk result (λ report. HasSynced self.old taker peer time payload.now report self.new) }
-        ensures err { OnErr result (RanSome self.old (pull_steps self.old taker peer) self.new) }
-        ensures safe { IsSafe self.new.members self.new.coin (run_of self.new) }
-    {
-        let report = self.sync_rows(taker, peer, time, payload);
-        self.members();
-        report
     }
 
     /// Worker 0 of a member's node freezes all rows and publishes all fame that they decide. It copies no row.
@@ -436,7 +253,7 @@ impl World {
 
 /// So many nodes of which no rows are frozen or known.
 fn nothing_done(alloc: Global, count: usize) -> Result<(Vec<Frozen>, Vec<Known>), Memory>
-    ensures frozen { IfOk result (λ parts. parts.0.items ≡ replicate count (replicate worker_count 0)) }
+    ensures frozen { IfOk result (λ parts. parts.0.items ≡ replicate count (replicate worker_limit 0)) }
     ensures known { IfOk result (λ parts. parts.1.items ≡ replicate count (replicate 128 0)) }
 {
     let frozen = nodes::none_frozen(alloc, count)?;

@@ -18,7 +18,7 @@ use Rattle.hg_history.proofs.KeptLaws.{order_grows}
 use Rattle.hg_world.specs.declared.step.Step.{Step}
 use Rattle.hg_world.specs.declared.step.Step.TheVariants.{Make, Deliver, Freeze, Publish}
 use Rattle.hg_world.specs.World.{Site, WorldView, no_site, node_at, with_site}
-use Rattle.hg_world.specs.Kept.{IsWorld, KeepsSite}
+use Rattle.hg_world.specs.Parts.{IsWorld, KeepsSite}
 use Rattle.hg_world.specs.World.{site_at}
 use Rattle.hg_world.specs.Steps.{after_step, after_steps}
 use Rattle.hg_world.proofs.StepLaws.{steps_sites}

@@ -15,7 +15,7 @@ use Rattle.hg_model.specs.History.{replay}
 use Rattle.hg_prefix.specs.Chains.{HaveEqualRows}
 use Rattle.hg_runs.specs.Safety.{IsSafe, order_after}
 use Rattle.hg_world.specs.World.{WorldView, run_of}
-use Rattle.hg_world.specs.Kept.{IsWorld}
+use Rattle.hg_world.specs.Parts.{IsWorld}
 use Rattle.order_match.specs.Books.{Event, book_of}
 use Rattle.order_match.specs.Laws.{IsEarlier}
 use Rattle.order_match.proofs.BookLaws.{book_more}

@@ -5,7 +5,7 @@ use Rattle.hg_model.specs.Shares.{whole}
 use Rattle.hg_crowd.specs.Crowd.{Each}
 use Rattle.hg_crowd.specs.Workers.{AllMark, HasMore}
 use Rattle.hg_crowd.proofs.CrowdLaws.{has_again, seats_started}
-use Rattle.hg_play.specs.Through.{IsPartLine, TellsThrough}
+use Rattle.hg_play.specs.Through.{IsPartLine, MatchesThrough}
 use Rattle.hg_play.proofs.BatchLaws.{batch_count, batch_marked, batch_told, ends_of_one_list, has_beside, own_count, seats_own, the_run}
 use Rattle.hg_play.proofs.batch.play_batch.Goals as goal
 
@@ -94,6 +94,6 @@ returns-clause-told g c =
     let run = the_run nodes shared places c.in_ok-shared.seats.items c.split_all.new.seats.items own called c.join-own.result.1.0.items c.absorb_all.new.seats.items
     c.work_beside-seats.result.0.items ends c.as_slice-places.ensures.value c.in_ok-shared.ensures c.in_ok-own.ensures.old c.in_ok-own.ensures.new c.join-own.ensures.first.0 c.join-own.ensures.first.1.0
     c.join-own.ensures.second.1 c.absorb_all.ensures c.work_beside-seats.ensures.worked c.in_ok-nodes.ensures in
-    let told = subst (λ r. IfOk r (λ v. TellsThrough members lines places own labels printed called v.0.items v.1.items)) c.in_ok-labels.was c.join-own.ensures.first.1.1 in
-    let through = subst (λ l. TellsThrough members lines places l labels printed called c.in_ok-labels.labels.items c.in_ok-labels.printed.items) c.in_ok-own.ensures.new told in
+    let told = subst (λ r. IfOk r (λ v. MatchesThrough members lines places own labels printed called v.0.items v.1.items)) c.in_ok-labels.was c.join-own.ensures.first.1.1 in
+    let through = subst (λ l. MatchesThrough members lines places l labels printed called c.in_ok-labels.labels.items c.in_ok-labels.printed.items) c.in_ok-own.ensures.new told in
     batch_told members lines c.args.world c.in-Ok.world nodes places called ends labels c.in_ok-labels.labels.items printed c.in_ok-labels.printed.items c.into_nodes.ensures.nodes run c.in-Ok.ensures.ok through

@@ -3,7 +3,7 @@ use Rattle.std.proofs.lemmas.List.{take_all}
 use Rattle.hg_script.specs.declared.line.Line.{Line}
 use Rattle.hg_play.specs.Lines.{IsLineBelow}
 use Rattle.hg_play.specs.Nodes.{seen_alone}
-use Rattle.hg_play.specs.Through.{TellsParts}
+use Rattle.hg_play.specs.Through.{MatchesParts}
 use Rattle.hg_play.proofs.NodesLaws.{kept_both, kept_same, lines_still, lines_told, parts_more, parts_none}
 use Rattle.hg_play.proofs.lines.play_lines.Goals as goal
 
@@ -29,5 +29,5 @@ returns-clause-told c =
     let at = seen_alone c.args.world.now in
     let now = seen_alone c.loop-line.world in
     lines_told at now c.args.members.now c.args.lines.now c.loop-line.labels.items c.loop-line.printed.items
-    (subst (λ (ls : List Line). TellsParts c.args.members.now ls at [] [] now c.loop-line.labels.items c.loop-line.printed.items)
+    (subst (λ (ls : List Line). MatchesParts c.args.members.now ls at [] [] now c.loop-line.labels.items c.loop-line.printed.items)
     (take_all c.loop-line.line-index c.args.lines.now c.loop-line-test.false) c.loop-line.invariant.told)

@@ -1,7 +1,7 @@
 use Rattle.std.proofs.Common.{List, refl, subst}
 use Rattle.std.proofs.lemmas.List.{take_all}
 use Rattle.hg_script.specs.declared.line.Line.{Line}
-use Rattle.hg_play.specs.Through.{IsPartLine, TellsParts}
+use Rattle.hg_play.specs.Through.{IsPartLine, MatchesParts}
 use Rattle.hg_play.proofs.NodesLaws.{kept_both, kept_same, lines_still, parts_more, parts_none}
 use Rattle.hg_play.proofs.through.play_parts.Goals as goal
 
@@ -28,5 +28,5 @@ loop-line-preserved g c = record {
 
 pub returns-clause-told : goal.returns-clause-told
 returns-clause-told g c =
-    subst (λ (ls : List Line). TellsParts c.args.members.now ls (g.N.Nodes.seen c.args.nodes.now) c.args.labels.items c.args.printed.items (g.N.Nodes.seen c.loop-line.nodes) c.loop-line.labels.items c.loop-line.printed.items)
+    subst (λ (ls : List Line). MatchesParts c.args.members.now ls (g.N.Nodes.seen c.args.nodes.now) c.args.labels.items c.args.printed.items (g.N.Nodes.seen c.loop-line.nodes) c.loop-line.labels.items c.loop-line.printed.items)
     (take_all c.loop-line.line-index c.args.lines.now c.loop-line-test.false) c.loop-line.invariant.told

@@ -1,7 +1,7 @@
 use Rattle.std.proofs.Common.{◌≡◌, List, ap₂, sym, subst}
 use Rattle.std.specs.Prelude.{All, length}
 use Rattle.hg_model.specs.Signing.{accepts_by}
-use Rattle.hg_board.specs.Seats.{Place, Stand}
+use Rattle.hg_board.specs.Seats.{SharedNode, SeatView}
 use Rattle.hg_world.specs.World.{Secrets}
 use Rattle.hg_crowd.specs.Crowd.{AreSeats, AreStill}
 use Rattle.hg_play.specs.Through.{IsPartLine, SharedView, shared_view}
@@ -15,12 +15,12 @@ play_parts-played-requires-clause-lines g c =
 pub returns-clause-seats : goal.returns-clause-seats
 returns-clause-seats g c =
     let since = through_since c.args.shared.now c.args.seats.items c.new-nodes.result c.play_parts-played.new.nodes c.new-nodes.ensures c.play_parts-played.ensures.kept in
-    subst (λ (places : List (Place Secrets)). AreSeats accepts_by places c.into_seats.result.items) since.0 c.into_seats.ensures.seats
+    subst (λ (places : List (SharedNode Secrets)). AreSeats accepts_by places c.into_seats.result.items) since.0 c.into_seats.ensures.seats
 
 pub returns-clause-still : goal.returns-clause-still
 returns-clause-still g c =
     let since = through_since c.args.shared.now c.args.seats.items c.new-nodes.result c.play_parts-played.new.nodes c.new-nodes.ensures c.play_parts-played.ensures.kept in
-    subst (λ (seats : List (Stand Secrets)). AreStill c.args.seats.items seats) (sym c.into_seats.ensures.same) since.1
+    subst (λ (seats : List (SeatView Secrets)). AreStill c.args.seats.items seats) (sym c.into_seats.ensures.same) since.1
 
 pub returns-clause-played : goal.returns-clause-played
 returns-clause-played g c =

@@ -1,6 +1,6 @@
 use Rattle.std.proofs.Common.{◌-◌, length}
 use Rattle.hg_model.specs.NodeView.{node_rows}
-use Rattle.hg_world.specs.Kept.{KnowsFirst}
+use Rattle.hg_world.specs.KnownRows.{KnowsFirst}
 use Rattle.hg_world.proofs.known.first_unknown.Given as goal
 
 abbrev pub invariant-places : goal.invariant-places

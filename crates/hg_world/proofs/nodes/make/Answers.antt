@@ -2,7 +2,7 @@ use Rattle.std.proofs.Common.{◌∙◌, ap, slice_set, subst}
 use Rattle.std.specs.Option.{option_to_list}
 use Rattle.hg_model.specs.NodeView.{IsNode}
 use Rattle.hg_model.specs.Signing.{accepts_by}
-use Rattle.hg_world.specs.Kept.{nth_node}
+use Rattle.hg_world.specs.Parts.{nth_node}
 use Rattle.hg_world.proofs.NodeLaws.{makes, node_here}
 use Rattle.hg_world.proofs.nodes.make.Goals as goal
 

@@ -1,5 +1,5 @@
 use Rattle.std.proofs.Common.{◌≡◌, ◌+◌, ap, ◌∙◌, subst, arith}
-use Rattle.hg_board.specs.Seats.{place, stand_of}
+use Rattle.hg_board.specs.Seats.{shared_node, seat_view_of}
 use Rattle.hg_board.specs.Calls.{Absorbs}
 use Rattle.hg_board.proofs.MoveLaws.{compares, joins}
 use Rattle.hg_board.proofs.SeatLaws.{as_seen, of_inside, same_table}
@@ -41,9 +41,9 @@ returns g c =
     let raw = c.seat.inside.raw in
     let other = c.other.inside.raw in
     let of = of_inside top.table_id raw.table_id top.key.value raw.me.0 c.args.self.now c.args.seat.now c.self.view_is c.seat.view_is c.requires.seat in
-    let new = stand_of c.load.new.seat.table_id c.load.new.seat.me.0 in
+    let new = seat_view_of c.load.new.seat.table_id c.load.new.seat.me.0 in
     as_seen top.table_id raw.table_id top.key.value raw.me.0 c.args.self.now c.args.seat.now c.self.view_is c.seat.view_is
     (λ p s. Absorbs g.V.Verifier.accepts p s c.args.other new)
-    (subst (λ o. Absorbs g.V.Verifier.accepts (place top.table_id top.key.value) (stand_of raw.table_id raw.me.0) o new) c.other.view_is
+    (subst (λ o. Absorbs g.V.Verifier.accepts (shared_node top.table_id top.key.value) (seat_view_of raw.table_id raw.me.0) o new) c.other.view_is
     (absorbs g.V.Verifier.accepts top.key.value top.table_id raw.table_id other.table_id c.load.new.seat.table_id raw.me.0 other.me.0 c.join_seat.new.seat.me c.load.new.seat.me of
     (c.load.ensures.0 ∙ c.join_seat.ensures.0) (ap (λ m. m.0) c.join_seat.ensures.2) c.load.ensures.2))

@@ -1,5 +1,5 @@
 use Rattle.std.proofs.Common.{subst}
-use Rattle.hg_board.specs.Seats.{place}
+use Rattle.hg_board.specs.Seats.{shared_node}
 use Rattle.hg_board.specs.Calls.{IsWhole}
 use Rattle.hg_board.proofs.JoinLaws.{whole}
 use Rattle.hg_board.proofs.shared.Shared.finish.Goals as goal
@@ -10,4 +10,4 @@ returns g c =
     let top = c.self.inside.table.shared in
     let w = whole g.V.Verifier.accepts top.key.value c.seat.inside.raw.me c.enter-node.new.raw.me c.enter-node.result.0 c.enter-node.result.1 c.enter-node.ensures.seat top.table_id c.seat.inside.raw.table_id t.0 t.1.0 _ t.1.1 in
     subst (λ p. IsWhole g.V.Verifier.accepts p c.args.seat c.enter-node.result.0) c.self.view_is
-    (subst (λ s. IsWhole g.V.Verifier.accepts (place top.table_id top.key.value) s c.enter-node.result.0) c.seat.view_is w)
+    (subst (λ s. IsWhole g.V.Verifier.accepts (shared_node top.table_id top.key.value) s c.enter-node.result.0) c.seat.view_is w)

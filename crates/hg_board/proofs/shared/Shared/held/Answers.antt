@@ -2,7 +2,7 @@ use Rattle.std.proofs.Common.{◌≡◌, ◌∙◌, subst}
 use Rattle.std.specs.Prelude.{IfOk}
 use Rattle.hg_model.specs.NodeView.{node_rows}
 use Rattle.hg_gossip.specs.Holding.{row_names}
-use Rattle.hg_board.specs.Seats.{stand_of}
+use Rattle.hg_board.specs.Seats.{seat_view_of}
 use Rattle.hg_board.specs.Calls.{SeatWaits, Stays}
 use Rattle.hg_board.proofs.SeatLaws.{node_inside, of_inside, as_seen, read_seen, read_stays, read_waits, looked_at}
 use Rattle.hg_board.proofs.shared.Shared.held.Goals as goal
@@ -19,7 +19,7 @@ returns-clause-stays g c =
     let raw = c.seat.inside.raw in
     let of = of_inside top.table_id raw.table_id top.key.value raw.me.0 c.args.self.now c.args.seat.now c.self.view_is c.seat.view_is c.requires in
     as_seen top.table_id raw.table_id top.key.value raw.me.0 c.args.self.now c.args.seat.now c.self.view_is c.seat.view_is
-    (λ p s. Stays g.V.Verifier.accepts p s (stand_of c.leave.new.raw.table_id c.leave.new.raw.me.0))
+    (λ p s. Stays g.V.Verifier.accepts p s (seat_view_of c.leave.new.raw.table_id c.leave.new.raw.me.0))
     (read_stays g.V.Verifier.accepts top.key.value raw.me c.enter-node.new.raw.me c.enter-node.result.0 c.enter-node.result.1 c.enter-node.ensures.seat top.table_id raw.table_id c.leave.new.raw.table_id of (c.leave.ensures.table ∙ c.enter-node.ensures.table) c.leave.new.raw.me c.leave.ensures.seat)
 
 pub returns-clause-waits : goal.returns-clause-waits
@@ -28,7 +28,7 @@ returns-clause-waits g c =
     let raw = c.seat.inside.raw in
     let of = of_inside top.table_id raw.table_id top.key.value raw.me.0 c.args.self.now c.args.seat.now c.self.view_is c.seat.view_is c.requires in
     as_seen top.table_id raw.table_id top.key.value raw.me.0 c.args.self.now c.args.seat.now c.self.view_is c.seat.view_is
-    (λ p s. SeatWaits g.V.Verifier.accepts p s (stand_of c.leave.new.raw.table_id c.leave.new.raw.me.0))
+    (λ p s. SeatWaits g.V.Verifier.accepts p s (seat_view_of c.leave.new.raw.table_id c.leave.new.raw.me.0))
     (read_waits g.V.Verifier.accepts top.key.value raw.me c.enter-node.new.raw.me c.enter-node.result.0 c.enter-node.result.1 c.enter-node.ensures.seat top.table_id raw.table_id c.leave.new.raw.table_id of (c.leave.ensures.table ∙ c.enter-node.ensures.table) c.leave.new.raw.me c.leave.ensures.seat)
 
 pub returns-clause-names : goal.returns-clause-names

@@ -1,7 +1,7 @@
 use Rattle.std.proofs.Common.{List, ℕ, arith, subst}
 use Rattle.std.proofs.lemmas.List.{take_all}
 use Rattle.hg_gossip.proofs.TakeLaws.{few_more}
-use Rattle.hg_play.specs.Through.{TellsTaken, seen_shared}
+use Rattle.hg_play.specs.Through.{MatchesTaken, seen_shared}
 use Rattle.hg_play.proofs.NodesLaws.{kept_both, kept_same}
 use Rattle.hg_play.proofs.PartLaws.{taken_more, taken_none}
 use Rattle.hg_play.proofs.shared.SharedNodes.take.Goals as goal
@@ -27,5 +27,5 @@ loop-event-preserved g c = record {
 
 pub returns-clause-told : goal.returns-clause-told
 returns-clause-told g c =
-    subst (λ (events : List (List ℕ)). TellsTaken (seen_shared c.args.self.now) (seen_shared c.loop-event.self) c.args.member events c.loop-event.counts)
+    subst (λ (events : List (List ℕ)). MatchesTaken (seen_shared c.args.self.now) (seen_shared c.loop-event.self) c.args.member events c.loop-event.counts)
     (take_all c.loop-event.event-index c.args.events.now c.loop-event-test.false) c.loop-event.invariant.told

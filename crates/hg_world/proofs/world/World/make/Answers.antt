@@ -6,7 +6,7 @@ use Rattle.hg_model.specs.NodeView.{NodeView}
 use Rattle.hg_gossip.specs.Holding.{WouldSign, seen_whole}
 use Rattle.hg_world.specs.World.{Secrets}
 use Rattle.hg_world.specs.Steps.{making_at, own_signature}
-use Rattle.hg_world.specs.Kept.{nth_node}
+use Rattle.hg_world.specs.Parts.{nth_node}
 use Rattle.hg_world.proofs.TableLaws.{still_known}
 use Rattle.hg_world.proofs.WorldLaws.{changed, low_in, node_in}
 use Rattle.hg_world.proofs.world.World.make.Goals as goal

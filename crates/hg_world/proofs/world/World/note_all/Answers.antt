@@ -2,7 +2,8 @@ use Rattle.std.proofs.Common.{◌∙◌, ap, length, subst, sym, arith}
 use Rattle.std.proofs.lemmas.List.{length-set}
 use Rattle.hg_model.specs.NodeView.{NodeView, node_rows}
 use Rattle.hg_world.specs.World.{Secrets, rows_at}
-use Rattle.hg_world.specs.Kept.{AreKnown, nth_node}
+use Rattle.hg_world.specs.Parts.{nth_node}
+use Rattle.hg_world.specs.KnownRows.{AreKnown}
 use Rattle.hg_world.proofs.NodeLaws.{node_here}
 use Rattle.hg_world.proofs.TableLaws.{notes_all}
 use Rattle.hg_world.proofs.WorldLaws.{low_in, node_in}

@@ -4,8 +4,8 @@ use Rattle.hg_model.specs.Calls.{publish_answer, publish_changes}
 use Rattle.hg_model.specs.NodeView.{NodeView}
 use Rattle.hg_world.specs.World.{Secrets, node_at, with_node_at}
 use Rattle.hg_world.specs.Steps.{node_published}
-use Rattle.hg_world.specs.Kept.{world_of}
-use Rattle.hg_world.specs.Kept.{nth_node}
+use Rattle.hg_world.specs.Parts.{world_of}
+use Rattle.hg_world.specs.Parts.{nth_node}
 use Rattle.hg_world.proofs.TableLaws.{still_known}
 use Rattle.hg_world.proofs.WorldLaws.{changed, few_frozen, len_in, low_in, node_in}
 use Rattle.hg_world.proofs.world.World.publish.Goals as goal

@@ -3,7 +3,7 @@ use Rattle.hg_model.specs.Calls.{IsSettled, publish_changes}
 use Rattle.hg_model.specs.Shares.{whole}
 use Rattle.hg_model.specs.NodeView.{NodeView, node_rows}
 use Rattle.hg_world.specs.World.{Secrets, node_at}
-use Rattle.hg_world.specs.Kept.{nth_node}
+use Rattle.hg_world.specs.Parts.{nth_node}
 use Rattle.hg_world.proofs.TableLaws.{still_known}
 use Rattle.hg_world.proofs.WorldLaws.{low_in, node_in, settled}
 use Rattle.hg_world.proofs.world.World.settle_node.Goals as goal

@@ -1,13 +1,10 @@
 -- What every world keeps to, over its parts
-use Rattle.std.specs.Prelude.{ℕ, ◌≡◌, ◌<◌, ◌≤◌, true, List, [], ◌∷◌, length, map, max, get_or, slice_set, take, replicate}
-use Rattle.std.specs.List.{AllByRecursion}
-use Rattle.hg_model.specs.declared.row.Row.{Row}
+use Rattle.std.specs.Prelude.{ℕ, ◌≡◌, ◌<◌, ◌≤◌, List, [], ◌∷◌, length, map, get_or, replicate}
 use Rattle.hg_model.specs.Stakes.{Stakes, member_count}
 use Rattle.hg_model.specs.Signing.{accepts_by}
-use Rattle.hg_model.specs.Verdict.{is_held}
 use Rattle.hg_model.specs.NodeView.{NodeView, IsNode, node_rows}
 use Rattle.hg_graph.specs.Held.{AreEvents}
-use Rattle.hg_world.specs.World.{Secrets, Site, WorldView, IsSiteOf, no_site, rows_at, site_at, site_of, worker_count}
+use Rattle.hg_world.specs.World.{Secrets, Site, WorldView, IsSiteOf, no_site, rows_at, site_at, site_of, worker_limit}
 
 -- what these nodes are with what their workers have frozen
 abbrev pub sites_of : List (NodeView Secrets) → List (List ℕ) → List Site
@@ -68,27 +65,4 @@ AreOfOneList nodes = (n : Stakes) × (c : ℕ) × (keys : Secrets) × AreOfMembe
 
 -- the nodes as a world of which no worker has frozen any rows
 abbrev pub unfrozen : List (NodeView Secrets) → List Site
-unfrozen nodes = map (λ (v : NodeView Secrets). site_of v (replicate worker_count 0)) nodes
-
--- G has the names of all these rows
-abbrev pub AreKnown : List Row → List Row → Type 0
-AreKnown G rows = AllByRecursion (λ (row : Row). is_held G row.name ≡ true) rows
-
--- H has so many rows, and G has their names
-pub record KnowsFirst (G H : List Row) (k : ℕ) : Type 0 where
-  pub within : k ≤ length H
-  pub known : AreKnown G (take k H)
-
--- of how many first rows of node y the node x has the names, by x and y; there is a list of these numbers for each node
-abbrev pub known_by : List (List ℕ) → ℕ → ℕ → ℕ
-known_by known x y = get_or (get_or known x []) y 0
-
-pub record KeepsKnown (nodes : List (NodeView Secrets)) (known : List (List ℕ)) : Type 0 where
-  pub long : length known ≡ length nodes
-  pub wide : (x : ℕ) → x < length nodes → length (get_or known x []) ≡ 128
-  pub each : (x y : ℕ) → x < length nodes → y < length nodes → KnowsFirst (node_rows (nth_node nodes x)) (node_rows (nth_node nodes y)) (known_by known x y)
-
--- node x has become one that knows what it knew and what y knew
-abbrev pub HandsOn : List (List ℕ) → ℕ → ℕ → List (List ℕ) → Type 0
-HandsOn old x y new =
-    (row : List ℕ) × ((z : ℕ) → get_or row z 0 ≡ max (known_by old x z) (known_by old y z)) × (length row ≡ 128) × (new ≡ slice_set old x row)
+unfrozen nodes = map (λ (v : NodeView Secrets). site_of v (replicate worker_limit 0)) nodes

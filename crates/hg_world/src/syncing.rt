@@ -1,0 +1,129 @@
+ghost use Rattle.std.specs.Prelude.{◌≡◌, IfOk, OnErr};
+ghost use Rattle.hg_runs.specs.Safety.{IsSafe};
+ghost use Rattle.hg_graph.specs.RowsWithRoom.{rows_of};
+ghost use Rattle.hg_world.specs.World.{IsMemberOf, node_at, run_of};
+ghost use Rattle.hg_world.specs.Steps.{RanSome};
+ghost use Rattle.hg_world.specs.Syncs.{AreSigned, HasMadeAfter, HasPulled, HasSynced, HasTaken, bytes_of, deliver_steps, pull_steps};
+
+use crate::world::World;
+use hg_event::Event;
+use hg_gossip::{Taken, sync_made, with_answer};
+use hg_model::{Member, Memory, Name, SyncMade, SyncReport};
+use std::sync::Arc;
+
+impl World {
+    /// Puts these events, which a member's node accepts as signed, to it, one after the other.
+    fn take(&mut self, member: Member, events: &[Arc<Event>]) -> Result<Taken, Memory>
+        requires member { IsMemberOf self.old member }
+        requires signed { AreSigned (node_at self.old member).start (rows_of events.now) }
+        ensures ok { IfOk result (λ counts. HasTaken self.old member (bytes_of events.now) counts self.new) }
+        ensures err { OnErr result (RanSome self.old (deliver_steps member (bytes_of events.now)) self.new) }
+    {
+        let _count = events.len();
+        let mut counts = Taken {
+            taken: 0,
+            refused: 0,
+        };
+        for event in events {
+            let answer = self.put_event(member, event)?;
+            counts = with_answer(counts, answer);
+        }
+        Ok(counts)
+    }
+
+    fn pull_rows(&mut self, taker: Member, peer: Member) -> Result<Taken, Memory>
+        requires taker { IsMemberOf self.old taker }
+        requires peer { IsMemberOf self.old peer }
+        ensures ok { IfOk result (λ counts. HasPulled self.old taker peer counts self.new) }
+        ensures err { OnErr result (RanSome self.old (pull_steps self.old taker peer) self.new) }
+    {
+        let events = self.lacked(taker, peer)?;
+        let number = events.len() as u64;
+        // That the peer's node is one, and has the taker's members and keys.
+        self.members();
+        let counts = self.take(taker, events.as_slice())?;
+        if counts.taken == number {
+            self.note_all(taker, peer);
+        } else {
+            self.note_first(taker, peer);
+        }
+        Ok(counts)
+    }
+
+    /// The taker's node takes from the peer's the rows that it lacks, by their names, in the peer's order. After
+    /// `Memory` some of the first of them are put.
+    pub fn pull(&mut self, taker: Member, peer: Member) -> Result<Taken, Memory>
+        requires taker { IsMemberOf self.old taker }
+        requires peer { IsMemberOf self.old peer }
+        ensures ok { IfOk result (λ counts. HasPulled self.old taker peer counts self.new) }
+        ensures err { OnErr result (RanSome self.old (pull_steps self.old taker peer) self.new) }
+        ensures safe { IsSafe self.new.members self.new.coin (run_of self.new) }
+    {
+        let counts = self.pull_rows(taker, peer);
+        self.members();
+        counts
+    }
+
+    /// Makes an event with this other-parent, if there is one.
+    fn make_after(
+        &mut self,
+        member: Member,
+        other: Option<Name>,
+        time: u64,
+        payload: &[u8],
+    ) -> Result<SyncMade, Memory>
+        requires { IsMemberOf self.old member }
+        ensures ok { IfOk result (λ made. HasMadeAfter self.old member other time payload.now made self.new) }
+        ensures err { OnErr result (self.new ≡ self.old) }
+    {
+        match other {
+            None => Ok(SyncMade::PeerBare),
+            Some(name) => {
+                let answer = self.make(member, Some(name), time, payload)?;
+                Ok(sync_made(answer))
+            }
+        }
+    }
+
+    fn sync_rows(
+        &mut self,
+        taker: Member,
+        peer: Member,
+        time: u64,
+        payload: &[u8],
+    ) -> Result<SyncReport, Memory>
+        requires taker { IsMemberOf self.old taker }
+        requires peer { IsMemberOf self.old peer }
+        ensures ok { IfOk result (λ report. HasSynced self.old taker peer time payload.now report self.new) }
+        ensures err { OnErr result (RanSome self.old (pull_steps self.old taker peer) self.new) }
+    {
+        let last = self.node(peer).last_name();
+        let counts = self.pull_rows(taker, peer)?;
+        let made = self.make_after(taker, last, time, payload)?;
+        Ok(SyncReport {
+            taken: counts.taken,
+            refused: counts.refused,
+            made,
+        })
+    }
+
+    /// Pulls from the peer, and makes an event whose other-parent is the peer's last own row, if it has one. The time
+    /// is any, in no unit of ours. After `Memory` some of the first of the rows are put, and no event is made.
+    pub fn sync(
+        &mut self,
+        taker: Member,
+        peer: Member,
+        time: u64,
+        payload: &[u8],
+    ) -> Result<SyncReport, Memory>
+        requires taker { IsMemberOf self.old taker }
+        requires peer { IsMemberOf self.old peer }
+        ensures ok { IfOk result (λ report. HasSynced self.old taker peer time payload.now report self.new) }
+        ensures err { OnErr result (RanSome self.old (pull_steps self.old taker peer) self.new) }
+        ensures safe { IsSafe self.new.members self.new.coin (run_of self.new) }
+    {
+        let report = self.sync_rows(taker, peer, time, payload);
+        self.members();
+        report
+    }
+}
