@@ -1,4 +1,4 @@
-ghost use Rattle.std.specs.Prelude.{IsTrue, ◌<◌, ◌≤◌, ◌×◌, length};
+ghost use Rattle.std.specs.Prelude.{IsTrue, ◌<◌, ◌≤◌, length};
 ghost use Rattle.hg_model.specs.Shape.{FitsLink, link_of};
 
 use crate::sight::BranchSight;
