@@ -1,3 +1,4 @@
+mod CarryLaws
 mod MadeLaws
 mod MomentLaws
 mod TakeLaws

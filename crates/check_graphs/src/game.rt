@@ -1,3 +1,4 @@
+use crate::carried::is_carried;
 use crate::comparing::{is_alike, is_front};
 use crate::dice::Dice;
 use crate::drafting::{Draft, next_draft, signed_event};
@@ -116,7 +117,16 @@ impl<'a> Game<'a> {
         Ok(alike)
     }
 
-    /// Publishes all that is left, all at once or share by share, and compares with the plain program.
+    /// All of it, from the node without rows to the end.
+    fn play(&mut self, number: u32) -> Result<bool, Memory> {
+        let mut alike = self.is_plain()?;
+        alike = self.play_events()? && alike;
+        alike = self.play_more(number)? && alike;
+        Ok(self.end(number)? && alike)
+    }
+
+    /// Publishes all that is left, all at once or share by share, and compares with the plain program; and a table of votes that
+    /// is carried from row to row with new ones.
     fn end(&mut self, number: u32) -> Result<bool, Memory> {
         let mut alike = true;
         if number % 2 == 0 {
@@ -124,7 +134,8 @@ impl<'a> Game<'a> {
         } else {
             alike = self.publish_all(1 + number % 3)?;
         }
-        Ok(self.is_plain()? && self.is_worth(number) && alike)
+        let carried = is_carried(self.alloc, self.watched.node())?;
+        Ok(self.is_plain()? && carried && self.is_worth(number) && alike)
     }
 
     /// Publishes all that the whole graph decides, share by share.
@@ -185,8 +196,5 @@ fn play_plan(
         keys,
         watched,
     };
-    let mut alike = game.is_plain()?;
-    alike = game.play_events()? && alike;
-    alike = game.play_more(number)? && alike;
-    Ok(game.end(number)? && alike)
+    game.play(number)
 }

@@ -1,6 +1,7 @@
 //! Plays made graphs: a node takes and makes rows, some of them forks, and publishes fame from earlier prefixes, while
 //! the plain program says what its rows must come to. It tells how many graphs differ from that.
-//! `Watched` says that what is elected in an earlier prefix may be published; the comparisons say what is alike.
+//! `Watched` says that what is elected in an earlier prefix may be published; the comparisons say what is alike. In each
+//! prefix of a graph a table of votes that is carried from row to row is compared with a new one.
 //!
 //! `rt run` in its folder proves and runs it; it prints (`stdout`):
 //!
@@ -9,6 +10,7 @@
 //! ```
 #![tactic(auto)]
 
+mod carried;
 mod comparing;
 mod dice;
 mod drafting;

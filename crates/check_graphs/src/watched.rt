@@ -93,7 +93,7 @@ impl<'a> Watched<'a> {
 }
 
 /// What the share finds in a held graph.
-fn elect_in(alloc: Global, held: &FrozenGraph, share: Share) -> Result<Found, Memory>
+pub fn elect_in(alloc: Global, held: &FrozenGraph, share: Share) -> Result<Found, Memory>
     ensures { IfOk result (λ found. SpeaksOf held.now found) }
 {
     let mut votes = VoteTable::new(alloc, held)?;
