@@ -48,11 +48,7 @@ fn finds_in(alloc: Global, graph: FrozenGraph, votes: &mut VoteTable) -> Result<
 }
 
 /// Whether the table, carried to the graph, finds there what a new one finds.
-fn is_found_alike(
-    alloc: Global,
-    graph: &FrozenGraph,
-    votes: &mut VoteTable,
-) -> Result<bool, Memory>
+fn is_found_alike(alloc: Global, graph: &FrozenGraph, votes: &mut VoteTable) -> Result<bool, Memory>
     requires { CarriesTo votes.old graph.now }
     ensures { OnOk result (IsMadeFor votes.new graph.now) }
 {
