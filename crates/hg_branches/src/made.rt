@@ -66,28 +66,44 @@ fn play(both: &mut Both, number: u32, turns: u32) -> Result<(), Memory> {
 // A made graph in both sights: how many rows they took, whether a row has a fork below it, and whether they agree.
 fn made(alloc: Global, number: u32) -> Result<(usize, bool, bool), Memory> {
     let mut both = Both::new(alloc, 3 + number % 7)?;
-    play(&mut both, number, ROWS)?;
+    made_in(&mut both, number)
+}
+
+fn made_in(both: &mut Both, number: u32) -> Result<(usize, bool, bool), Memory> {
+    play(both, number, ROWS)?;
     let len = below(u64::from(number) << 33, both.sight.rows());
-    let alike = both.first(len)?.agree() && both.agree();
+    let alike = first_agrees(both, len)? && both.agree();
     Ok((both.sight.rows(), has_fork(&both.sight), alike))
+}
+
+fn first_agrees(both: &Both, len: usize) -> Result<bool, Memory> {
+    let first = both.first(len)?;
+    Ok(first.agree())
 }
 
 // Whether the first rows agree, also with made rows added to them.
 fn grows_from(both: &Both, len: usize) -> Result<bool, Memory> {
     let mut first = both.first(len)?;
+    grows(&mut first, len)
+}
+
+fn grows(first: &mut Both, len: usize) -> Result<bool, Memory> {
     let alike = first.sight.rows() == len && first.agree();
-    play(&mut first, 1, 6)?;
+    play(first, 1, 6)?;
     Ok(alike && first.agree())
 }
 
 // A graph past two whole blocks, cut at each place about their ends.
 fn agrees_at_seams(alloc: Global) -> Result<bool, Memory> {
     let mut both = Both::new(alloc, 7)?;
-    play(&mut both, 1, 240)?;
+    agrees_at_seams_in(&mut both)
+}
+
+fn agrees_at_seams_in(both: &mut Both) -> Result<bool, Memory> {
+    play(both, 1, 240)?;
     let mut alike = has_fork(&both.sight) && both.agree();
     for len in 62..67 {
-        alike = alike && grows_from(&both, len)?;
-        alike = alike && grows_from(&both, len + 64)?;
+        alike = grows_from(both, len)? && grows_from(both, len + 64)? && alike;
     }
     Ok(alike)
 }

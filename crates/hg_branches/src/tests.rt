@@ -136,15 +136,24 @@ fn forked(alloc: Global, every: usize) -> Result<Both, Memory> {
     Ok(both)
 }
 
-// Both agree on all rows, on the first `len` of them, and on those with the others added again.
-fn agree_on_forked(both: &Both, len: usize) -> Result<bool, Memory> {
+// The first `len` rows agree, also with the others added again.
+fn goes_on(first: &mut Both, len: usize) -> Result<bool, Memory> {
+    Ok(first.agree() && add_forked(first, len, 1)? && first.agree())
+}
+
+fn first_goes_on(both: &Both, len: usize) -> Result<bool, Memory> {
     let mut first = both.first(len)?;
-    Ok(both.agree() && first.agree() && add_forked(&mut first, len, 1)? && first.agree())
+    goes_on(&mut first, len)
+}
+
+// Both agree on all rows, on the first ones, and on those with the others added again.
+fn agree_on_forked(both: &Both) -> Result<bool, Memory> {
+    Ok(both.agree() && first_goes_on(both, 7)? && first_goes_on(both, 0)?)
 }
 
 fn tells_forked(alloc: Global, every: usize) -> Result<bool, Memory> {
     let both = forked(alloc, every)?;
-    Ok(both.sight.rows() == 10 && agree_on_forked(&both, 7)? && agree_on_forked(&both, 0)?)
+    agree_on_forked(&both)
 }
 
 // No row, every row, every second or every third one is kept.
@@ -263,15 +272,19 @@ fn counts_agree(both: &Both) -> bool {
     true
 }
 
-fn counts_turns(alloc: Global, fork: bool) -> Result<(bool, bool), Memory> {
-    let mut both = Both::new(alloc, 4)?;
-    let added = add_turns(&mut both, fork)?;
+fn counts_turns_in(both: &mut Both, fork: bool) -> Result<(bool, bool), Memory> {
+    let added = add_turns(both, fork)?;
     let told = if fork {
         !has_counts(&both.sight, 39)
     } else {
-        counts_agree(&both)
+        counts_agree(both)
     };
     Ok((added && both.sight.rows() == 40 && both.agree(), told))
+}
+
+fn counts_turns(alloc: Global, fork: bool) -> Result<(bool, bool), Memory> {
+    let mut both = Both::new(alloc, 4)?;
+    counts_turns_in(&mut both, fork)
 }
 
 #[test]
