@@ -1,4 +1,4 @@
-ghost use Rattle.std.specs.Prelude.{◌<◌, IsTrue};
+ghost use Rattle.std.specs.Prelude.{◌<◌, IsTrue, length};
 ghost use Rattle.std.specs.List.{AllByRecursion};
 ghost use Rattle.hg_model.specs.Shape.{pair_list};
 
@@ -38,10 +38,11 @@ const COUNTS: [[u32; 5]; 12] = [
     [8, 11, 5, 12, 0],
 ];
 
-/// Whether the parents come before so many rows.
-fn are_before(on: Option<(usize, usize)>, len: usize) -> bool
-    ensures { IsTrue result → AllByRecursion (λ p. p < len) (pair_list on) }
+/// Whether the parents are rows of the table.
+fn has_parents(table: &CountTable, on: Option<(usize, usize)>) -> bool
+    ensures { IsTrue result → AllByRecursion (λ p. p < length table.now.rows) (pair_list on) }
 {
+    let len = table.len();
     match on {
         None => true,
         Some((self_place, other)) => self_place < len && other < len,
@@ -52,7 +53,7 @@ fn forked(rt: &impl Abort, alloc: Global) -> Result<CountTable, Memory> {
     let mut table = CountTable::new(alloc, 2);
     for (on, branch) in &ROWS {
         table.reserve()?;
-        assert!(rt; table.len() < 12 && *branch < 4 && are_before(*on, table.len()));
+        assert!(rt; table.len() < 12 && *branch < 4 && has_parents(&table, *on));
         table.push(*on, *branch);
     }
     Ok(table)
