@@ -25,9 +25,8 @@ pub struct ShelfMem {
 }
 
 impl Model for ShelfMem {
-    ghost use Rattle.std.specs.Prelude.{◌≡◌, ◌+◌, ◌<◌, ◌≤◌, drop, length, vec_len};
-    ghost use Rattle.std.specs.Option.{ForSome};
-    ghost use Rattle.hg_io.specs.FilesOf.{files_of};
+    ghost use Rattle.std.specs.Prelude.{◌≡◌, ◌+◌, drop, vec_len};
+    ghost use Rattle.hg_io.specs.FilesOf.{IsReadTo, files_of};
     ghost use Rattle.hg_io.specs.ShelfState.{ShelfState, started_bytes};
 
     ghost Value = { ShelfState };
@@ -42,9 +41,7 @@ impl Model for ShelfMem {
       faults = s.faults.items;
     } };
 
-    ghost invariant = { λ s. ForSome s.started (λ place. place < vec_len s.files)
-        × (s.at ≤ length (started_bytes (files_of s.files.items) s.started))
-        × (vec_len s.faults ≡ vec_len s.files + 1) };
+    ghost invariant = { λ s. IsReadTo s.files.items s.started s.at × (vec_len s.faults ≡ vec_len s.files + 1) };
 }
 
 impl ShelfMem {
