@@ -12,4 +12,4 @@ files_of files = map (λ file. (string_bytes file.0, file.1.items)) files
 -- one of these files is started, or none, and so many of its bytes are read
 abbrev pub IsReadTo : List (String Global × Vec ℕ) → Option ℕ → ℕ → Type 0
 IsReadTo files started at = ForSome started (λ place. place < length files)
-  × (at ≤ length (started_bytes (files_of files) started))
+    × (at ≤ length (started_bytes (files_of files) started))

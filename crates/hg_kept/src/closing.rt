@@ -52,7 +52,6 @@ fn append_round<P: Prefix>(p: &P, famous: &[usize], pending: &mut Pending, order
     requires famous { AreFamous (P.graph p.now) famous.now }
     requires some { 0 < length famous.now }
     requires received { AllByRecursion (IsBelowAll (P.graph p.now) famous.now) pending.old.fresh }
-    requires pending_room { length (P.graph p.now).rows ≤ pending.old.room }
     requires room { vec_len order.old + length pending.old.fresh ≤ vec_capacity order.old }
     ensures order { AppendsRound (P.graph p.now) famous.now pending.old.fresh order.old.items order.new.items }
     ensures room { vec_capacity order.new ≡ vec_capacity order.old }

@@ -10,6 +10,9 @@ use hg_order::{RoundMemory, least_counts, order_round_within, received_below};
 use std::alloc::Global;
 use std::marker::Model;
 
+/// From how many rows a round's consensus timestamps are counted at most; of more each row's is found by itself.
+const MOST_TALLIED: usize = 4_096;
+
 /// The rows that no closed round has received, and those of them that the round at hand receives.
 #[derive(Drop)]
 pub struct Pending {
@@ -28,7 +31,7 @@ impl Model for Pending {
 
     ghost Value = { Waiting };
 
-    ghost view = { λ s. record { places = s.places.items; looked = s.looked; fresh = s.fresh.items; room = min (min (vec_capacity s.places) (vec_capacity s.fresh)) s.memory } };
+    ghost view = { λ s. record { places = s.places.items; looked = s.looked; fresh = s.fresh.items; room = min (vec_capacity s.places) (vec_capacity s.fresh) } };
 }
 
 impl Pending {
@@ -54,7 +57,7 @@ impl Pending {
     {
         self.places.reserve(rows.saturating_sub(self.places.len()))?;
         self.fresh.reserve(rows.saturating_sub(self.fresh.len()))?;
-        self.memory.reserve(rows)?;
+        self.memory.reserve(rows.min(MOST_TALLIED))?;
         Ok(())
     }
 
@@ -92,7 +95,6 @@ impl Pending {
         requires some { 0 < length famous.now }
         requires received { AllByRecursion (IsBelowAll (P.graph p.now) famous.now) self.old.fresh }
         requires same { length out.old ≡ length self.old.fresh }
-        requires room { length (P.graph p.now).rows ≤ self.old.room }
         ensures placed { ArePlacedBy (P.graph p.now) famous.now self.old.fresh out.new }
         ensures whole { AreOrderedBy (P.graph p.now) famous.now self.old.fresh out.new }
         ensures same { self.new ≡ self.old }

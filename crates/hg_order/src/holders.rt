@@ -1,4 +1,4 @@
-ghost use Rattle.std.specs.Prelude.{◌≡◌, ◌<◌, ◌≤◌, ℕ, [], All, length, replicate, slice_index, vec_capacity};
+ghost use Rattle.std.specs.Prelude.{◌≡◌, ◌<◌, ◌≤◌, ◌-◌, ℕ, [], All, length, replicate, slice_index, vec_capacity};
 ghost use Rattle.hg_model.specs.Prefix.{links_of};
 ghost use Rattle.hg_model.specs.Order.{sort_by};
 ghost use Rattle.hg_order.specs.Counted.{AreLines, JustBelow};
@@ -42,7 +42,7 @@ pub fn list_holders<P: Prefix>(
     requires order { low ≤ end }
     requires end { end ≤ length (links_of (P.graph p.now)) }
     requires none { holders.old.items ≡ [] }
-    requires room { end ≤ vec_capacity holders.old }
+    requires room { end - low ≤ vec_capacity holders.old }
     ensures listed { holders.new.items ≡ holders_below (P.graph p.now) ends.now low end }
     ensures room { vec_capacity holders.new ≡ vec_capacity holders.old }
 {

@@ -74,7 +74,7 @@ fn clear_tallies(tallies: &mut Vec<Tally>, count: usize, need: u32)
 }
 
 /// Counts the consensus timestamps of all rows from `low` on that these unique famous witnesses have as ancestor; tells
-/// whether their ancestors are counted.
+/// whether it could: their ancestors are counted, and there is room for the rows up to the last of the witnesses.
 pub fn count_times<P: Prefix>(
     p: &P,
     famous: &[usize],
@@ -87,8 +87,6 @@ pub fn count_times<P: Prefix>(
     requires some { 0 < length famous.now }
     requires least { AreShared (P.graph p.now) famous.now least.now }
     requires low { low ≤ slice_index famous.now 0 }
-    requires holders_room { length (P.graph p.now).rows ≤ vec_capacity holders.old }
-    requires tallies_room { length (P.graph p.now).rows ≤ vec_capacity tallies.old }
     ensures medians { result ≡ true → HaveMedians (P.graph p.now) famous.now low tallies.new.items }
     ensures holders_room { vec_capacity holders.new ≡ vec_capacity holders.old }
     ensures tallies_room { vec_capacity tallies.new ≡ vec_capacity tallies.old }
@@ -96,6 +94,9 @@ pub fn count_times<P: Prefix>(
     is_of_graph(p);
     let mut ends = [0; 128];
     let end = raise_ends(p, famous, &mut ends);
+    if holders.capacity().min(tallies.capacity()) < end - low {
+        return false;
+    }
     holders.clear();
     list_holders(p, &ends, low, end, holders);
     sort_holders(holders);

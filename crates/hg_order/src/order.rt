@@ -28,8 +28,8 @@ pub fn order_round<P: Prefix>(p: &P, famous: &[usize], fresh: &[usize], out: &mu
     sort_round(p, famous, out);
 }
 
-/// The same, with the consensus timestamps counted in this memory, which is for as many rows as there are: in time of
-/// the rows and the witnesses, where the ancestors of rows are counted.
+/// The same, with the consensus timestamps counted in this memory: in time of the rows and the witnesses, where the
+/// ancestors of rows are counted and the memory is for the rows from the first of `fresh` to the last of the witnesses.
 pub fn order_round_within<P: Prefix>(
     p: &P,
     famous: &[usize],
@@ -41,7 +41,6 @@ pub fn order_round_within<P: Prefix>(
     requires some { 0 < length fresh.now → 0 < length famous.now }
     requires received { AllByRecursion (IsBelowAll (P.graph p.now) famous.now) fresh.now }
     requires same { length out.old ≡ length fresh.now }
-    requires room { length (P.graph p.now).rows ≤ memory.old }
     ensures placed { ArePlacedBy (P.graph p.now) famous.now fresh.now out.new }
     ensures whole { AreOrderedBy (P.graph p.now) famous.now fresh.now out.new }
     ensures room { memory.new ≡ memory.old }

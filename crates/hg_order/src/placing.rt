@@ -37,7 +37,7 @@ fn place_tallied<P: Prefix>(
     }
 }
 
-/// The rows at the places `fresh` as the round places them, by counting; tells whether ancestors are counted.
+/// The rows at the places `fresh` as the round places them, by counting; tells whether it could count them.
 fn place_by_counts<P: Prefix>(
     p: &P,
     famous: &[usize],
@@ -51,8 +51,6 @@ fn place_by_counts<P: Prefix>(
     requires some { 0 < length famous.now }
     requires received { AllByRecursion (IsBelowAll (P.graph p.now) famous.now) fresh.now }
     requires same { length out.old ≡ length fresh.now }
-    requires holders_room { length (P.graph p.now).rows ≤ vec_capacity holders.old }
-    requires tallies_room { length (P.graph p.now).rows ≤ vec_capacity tallies.old }
     ensures placed { result ≡ true → out.new ≡ map (placed_below (P.graph p.now) famous.now round) fresh.now }
     ensures wide { result ≡ true → All (IsWide (P.graph p.now).rows) fresh.now }
     ensures holders_room { vec_capacity holders.new ≡ vec_capacity holders.old }
@@ -69,7 +67,8 @@ fn place_by_counts<P: Prefix>(
     true
 }
 
-/// The rows at the places `fresh` as the round places them, in their order: by counting where ancestors are counted.
+/// The rows at the places `fresh` as the round places them, in their order: by counting where ancestors are counted
+/// and the memory suffices.
 pub fn place_within<P: Prefix>(
     p: &P,
     famous: &[usize],
@@ -81,7 +80,6 @@ pub fn place_within<P: Prefix>(
     requires famous { AreFamous (P.graph p.now) famous.now }
     requires received { AllByRecursion (IsBelowAll (P.graph p.now) famous.now) fresh.now }
     requires same { length out.old ≡ length fresh.now }
-    requires room { length (P.graph p.now).rows ≤ memory.old }
     ensures placed { out.new ≡ map (placed_below (P.graph p.now) famous.now round) fresh.now }
     ensures wide { All (IsWide (P.graph p.now).rows) fresh.now }
     ensures room { memory.new ≡ memory.old }
