@@ -1,5 +1,5 @@
 -- Many nodes as they are started, worked on by callers beside each other, and finished
-use Rattle.std.specs.Prelude.{◌≡◌, ℕ, ◌<◌, ◌≤◌, Bool, List, ◌++◌, length, get_or, Some}
+use Rattle.std.specs.Prelude.{◌≡◌, ℕ, ◌<◌, ◌≤◌, Bool, List, [], ◌∷◌, ◌++◌, length, get_or, Some}
 use Rattle.std.specs.List.{AllByRecursion}
 use Rattle.hg_model.specs.Shares.{Share, share_fame, whole}
 use Rattle.hg_model.specs.Fame.{mark_at}
@@ -35,6 +35,11 @@ module _ {V : Type 0} where
     pub seats_count : length seats ≡ length nodes
     pub each : (k : ℕ) (node : NodeView V) (p : SharedNode V) (s : SeatView V) → k < length nodes →
         IsStarted accepts (get_or shared k p) (get_or nodes k node) (get_or seats k s)
+
+  -- one node more is started, behind those that were
+  abbrev pub StartsBehind : (V → Accepts) → NodeView V → List (SharedNode V) → List (SeatView V) → List (SharedNode V) → List (SeatView V) → Type 0
+  StartsBehind accepts node shared seats more_shared more_seats =
+      (nodes : List (NodeView V)) → AreStarted accepts nodes shared seats → AreStarted accepts (nodes ++ node ∷ []) more_shared more_seats
 
   -- these are the nodes again, in order
   pub record AreWhole (accepts : V → Accepts) (shared : List (SharedNode V)) (seats : List (SeatView V)) (nodes : List (NodeView V)) : Type 0 where

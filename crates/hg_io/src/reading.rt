@@ -1,6 +1,8 @@
-ghost use Rattle.std.specs.Prelude.{◌≡◌, ◌≤◌, ℕ, List, Ok, IfOk};
+ghost use Rattle.std.specs.Prelude.{◌≡◌, ◌≤◌, ℕ, List, Ok, IfOk, IfSome};
 ghost use Rattle.hg_io.specs.Answers.{Answers, AnswersLeft};
+ghost use Rattle.hg_io.specs.Bytes.{IsLeftBy, IsReadOn};
 ghost use Rattle.hg_io.specs.Faults.{Rose, raised};
+ghost use Rattle.hg_io.specs.Files.{content_of};
 
 use crate::failed::Failed;
 use crate::shelf::Shelf;
@@ -31,6 +33,7 @@ pub fn read_file<F: Shelf>(
 ) -> Result<FileAnswer, Memory>
     ensures answers { IfOk result (Answers (F.holds shelf.old) name.now limit) }
     ensures cause { result ≡ Ok FileAnswer.Failed → Rose (F.faults shelf.old name.now) (F.faults shelf.new name.now) }
+    ensures left { IfSome (F.holds shelf.old) (λ files. IsLeftBy (content_of files name.now) (F.left shelf.old) (F.left shelf.new)) }
     ensures same { F.holds shelf.new ≡ F.holds shelf.old }
     ensures counts { (other : List ℕ) → F.faults shelf.old other ≤ F.faults shelf.new other }
     ensures begun { F.starts shelf.new ≡ raised (F.starts shelf.old) }
@@ -51,6 +54,7 @@ fn read_left<F: Shelf>(
     requires { F.At shelf.old name.now }
     ensures answers { IfOk result (AnswersLeft (F.left shelf.old) limit) }
     ensures cause { result ≡ Ok FileAnswer.Failed → Rose (F.faults shelf.old name.now) (F.faults shelf.new name.now) }
+    ensures left { IsReadOn (F.left shelf.old) (F.left shelf.new) }
     ensures same { F.holds shelf.new ≡ F.holds shelf.old }
     ensures counts { (other : List ℕ) → F.faults shelf.old other ≤ F.faults shelf.new other }
     ensures begun { F.starts shelf.new ≡ F.starts shelf.old }

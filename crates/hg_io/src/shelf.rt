@@ -23,11 +23,13 @@ pub trait Shelf {
     ghost starts: { Self → ℕ };
 
     /// Starts the file of this name from its first byte, whatever was started before. A name that is not there is a
-    /// fault of that name.
+    /// fault of that name. At `Failed` what was started stays so.
     fn start(&mut self, name: &str) -> Result<(), Failed>
         ensures there { OnOk result (IfSome (holds self.old) (λ files. IsSome (content_of files name.now))) }
         ensures whole { OnOk result (IfSome (holds self.old) (λ files. left self.new ≡ content_of files name.now)) }
         ensures started { OnOk result (At self.new name.now) }
+        ensures none { OnErr result (left self.new ≡ left self.old) }
+        ensures kept { OnErr result ((other : List ℕ) → At self.old other → At self.new other) }
         ensures same { holds self.new ≡ holds self.old }
         ensures cause { OnErr result (Rose (faults self.old name.now) (faults self.new name.now)) }
         ensures counts { (other : List ℕ) → faults self.old other ≤ faults self.new other }

@@ -176,6 +176,7 @@ impl Shelf for ShelfMem {
         ensures after { self.new ≡ after_start self.old name.now result }
         // With these, all that the trait ensures.
         ensures started { OnOk result (IsAt self.new name.now) }
+        ensures kept { OnErr result ((other : List ℕ) → IsAt self.old other → IsAt self.new other) }
         ensures cause { OnErr result (Rose (faults_at self.old name.now) (faults_at self.new name.now)) }
         ensures counts { (other : List ℕ) → faults_at self.old other ≤ faults_at self.new other }
         ensures begun { self.new.starts ≡ raised self.old.starts }
