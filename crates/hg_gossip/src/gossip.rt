@@ -34,6 +34,7 @@ pub fn with_answer(counts: Taken, answer: PutAnswer) -> Taken
 
 /// Puts these events, one after the other.
 fn take<H: Holder>(taker: &mut H, events: &[Bytes]) -> Result<Taken, Memory>
+    ensures lent { H.lent taker.new ≡ H.lent taker.old }
     ensures ok { IfOk result (TakesAll H.rules (H.seen taker.old) events.now (H.seen taker.new)) }
     ensures err { OnErr result (TakesSome H.rules (H.seen taker.old) events.now (H.seen taker.new)) }
 {
@@ -66,6 +67,7 @@ fn make_after<H: Holder>(
     time: u64,
     payload: &[u8],
 ) -> Result<SyncMade, Memory>
+    ensures lent { H.lent taker.new ≡ H.lent taker.old }
     ensures ok { IfOk result (MakesAfter H.rules (H.seen taker.old) other time payload.now (H.seen taker.new)) }
     ensures err { OnErr result (Waits H.rules (H.seen taker.old) (H.seen taker.new)) }
 {
@@ -84,6 +86,8 @@ fn parcel_for<T: Holder, P: Holder>(
     taker: &mut T,
     peer: &mut P,
 ) -> Result<Parcel, Memory>
+    ensures taker_lent { T.lent taker.new ≡ T.lent taker.old }
+    ensures peer_lent { P.lent peer.new ≡ P.lent peer.old }
     ensures taker { Waits T.rules (T.seen taker.old) (T.seen taker.new) }
     ensures peer { Waits P.rules (P.seen peer.old) (P.seen peer.new) }
     ensures ok { IfOk result (λ p. p ≡ parcel_beyond (names_in (T.seen taker.new)) (P.seen peer.new)) }
@@ -99,6 +103,8 @@ pub fn pull<T: Holder, P: Holder>(
     taker: &mut T,
     peer: &mut P,
 ) -> Result<Taken, Memory>
+    ensures taker_lent { T.lent taker.new ≡ T.lent taker.old }
+    ensures peer_lent { P.lent peer.new ≡ P.lent peer.old }
     ensures peer { Waits P.rules (P.seen peer.old) (P.seen peer.new) }
     ensures ok { IfOk result (Pulls T.rules (T.seen taker.old) (P.seen peer.new) (T.seen taker.new)) }
     ensures err { OnErr result (PullsSome T.rules (T.seen taker.old) (P.seen peer.new) (T.seen taker.new)) }
@@ -116,6 +122,8 @@ pub fn sync<T: Holder, P: Holder>(
     time: u64,
     payload: &[u8],
 ) -> Result<SyncReport, Memory>
+    ensures taker_lent { T.lent taker.new ≡ T.lent taker.old }
+    ensures peer_lent { P.lent peer.new ≡ P.lent peer.old }
     ensures peer { Waits P.rules (P.seen peer.old) (P.seen peer.new) }
     ensures ok { IfOk result (Syncs T.rules (T.seen taker.old) (P.seen peer.new) time payload.now (T.seen taker.new)) }
     ensures err { OnErr result (PullsSome T.rules (T.seen taker.old) (P.seen peer.new) (T.seen taker.new)) }

@@ -15,19 +15,28 @@ pub trait Holder {
 
     ghost seen: { Self → Seen Self.Keys };
 
+    /// A loan by which it may hold its node: what was lent, and what of that no call changes.
+    ghost Loan: { Type 0 };
+
+    /// Its loan. By it the lender knows what comes back.
+    ghost lent: { Self → Loan };
+
     /// The names of the node's rows, in the order in which they came.
     fn held(&mut self, alloc: Global) -> Result<Vec<Name>, Memory>
+        ensures lent { lent self.new ≡ lent self.old }
         ensures waits { Waits rules (seen self.old) (seen self.new) }
         ensures names { IfOk result (λ names. names.items ≡ names_in (seen self.new)) };
 
     /// The bytes of the rows that have none of the names, in the order in which they came, and the name of the last
     /// row that the node made, if it made any.
     fn missing(&mut self, alloc: Global, names: &[Name]) -> Result<Parcel, Memory>
+        ensures lent { lent self.new ≡ lent self.old }
         ensures waits { Waits rules (seen self.old) (seen self.new) }
         ensures parcel { IfOk result (λ parcel. parcel ≡ parcel_beyond names.now (seen self.new)) };
 
     /// Puts the bytes of an event. Only to accept it takes memory.
     fn put(&mut self, bytes: &[u8]) -> Result<PutAnswer, Memory>
+        ensures lent { lent self.new ≡ lent self.old }
         ensures ok { IfOk result (PutsBytes rules (seen self.old) bytes.now (seen self.new)) }
         ensures err { OnErr result (Waits rules (seen self.old) (seen self.new)) }
         ensures free { OnErr result (WouldTake rules (seen self.new) bytes.now) };
@@ -35,6 +44,7 @@ pub trait Holder {
     /// Makes an event of the node's member on its last one, with this other-parent, or its first one without parents.
     /// The time is any, in no unit of ours. To tell that the event is refused before it is signed takes no memory.
     fn make(&mut self, other: Option<Name>, time: u64, payload: &[u8]) -> Result<MakeAnswer, Memory>
+        ensures lent { lent self.new ≡ lent self.old }
         ensures ok { IfOk result (Makes rules (seen self.old) (option_to_list other) time payload.now (seen self.new)) }
         ensures err { OnErr result (Waits rules (seen self.old) (seen self.new)) }
         ensures free { OnErr result (WouldSign (seen self.new) (option_to_list other) payload.now) };

@@ -99,6 +99,10 @@ impl<V: Signer> Holder for Node<V> {
 
     ghost seen = { λ v. seen_whole v };
 
+    ghost Loan = { Unit {0} };
+
+    ghost lent = { λ _. tt };
+
     fn held(&mut self, alloc: Global) -> Result<Vec<Name>, Memory> {
         names(alloc, self)
     }
