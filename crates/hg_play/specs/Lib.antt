@@ -3,6 +3,7 @@ pub mod Alike
 pub mod Batch
 pub mod Labels
 pub mod Lines
+pub mod Loans
 pub mod Nodes
 pub mod Play
 pub mod Printing

@@ -33,12 +33,17 @@ impl<'a, V: Signer, R: Wait> Seated<'a, V, R> {
 impl<'a, V: Signer + Drop, R: Wait> Holder for Seated<'a, V, R> {
     ghost use Rattle.hg_board.specs.Seats.{seen_by};
     ghost use Rattle.hg_board.specs.Calls.{rules_shared};
+    ghost use Rattle.hg_play.specs.Loans.{SeatLoan, seat_loan};
 
     type Keys = V;
 
     ghost rules = { rules_shared V.accepts };
 
     ghost seen = { λ s. seen_by s.shared.now s.seat.now };
+
+    ghost Loan = { SeatLoan V };
+
+    ghost lent = { λ s. seat_loan s.shared.now s.seat.ghost_name s.seat.now.parts };
 
     fn held(&mut self, alloc: Global) -> Result<Vec<Name>, Memory> {
         self.shared.held(self.rt, alloc, self.seat)
