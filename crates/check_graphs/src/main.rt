@@ -1,12 +1,13 @@
 //! Plays made graphs: a node takes and makes rows, some of them forks, and publishes fame from earlier prefixes, while
-//! the plain program says what its rows must come to. It tells how many graphs differ from that.
+//! the plain program says what its rows must come to. Of one more graph the order was worked by hand, and is what the
+//! plain program must say. It tells how many graphs differ.
 //! `Watched` says that what is elected in an earlier prefix may be published; the comparisons say what is alike. In each
 //! prefix of a graph a table of votes that is carried from row to row is compared with a new one.
 //!
 //! `rt run` in its folder proves and runs it; it prints (`stdout`):
 //!
 //! ```text
-//! 50 graphs, 0 differ
+//! 51 graphs, 0 differ
 //! ```
 #![tactic(auto)]
 
@@ -20,18 +21,20 @@ mod plain;
 mod plan;
 mod trouble;
 mod watched;
+mod worked;
 
 use crate::game::play;
 use crate::trouble::Trouble;
+use crate::worked::play_worked;
 use check_tally::{Tally, exit};
 use std::process::ExitCode;
 
-/// How many graphs are played.
+/// How many graphs are made.
 const GRAPHS: u32 = 50;
 
-/// Plays all graphs, and tells how many there are and how many of them differ.
+/// Plays the worked graph and all that are made, and tells how many there are and how many of them differ.
 fn play_all<R: AllocGlobal + Print>(rt: &R) -> Result<Tally, Trouble> {
-    let mut tally = Tally::new();
+    let mut tally = Tally::new().with(play_worked(rt.alloc())?);
     for number in 0..GRAPHS {
         tally = tally.with(play(rt.alloc(), number)?);
     }

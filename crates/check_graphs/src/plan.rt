@@ -56,7 +56,7 @@ pub fn members_of(alloc: Global, plan: &Plan) -> Result<Members, Memory>
 }
 
 /// The member of this number.
-fn entry_of(alloc: Global, number: u8) -> Result<MemberEntry, Memory>
+pub fn entry_of(alloc: Global, number: u8) -> Result<MemberEntry, Memory>
     requires { number < 7 }
     ensures { IfOk result (λ entry. entry ≡ made_entry number) }
 {
