@@ -1,7 +1,8 @@
 ghost use Rattle.std.specs.Prelude.{◌≡◌, ◌<◌, ◌≤◌, ◌++◌, ◌∷◌, [], Some, length, option_map, slice_get, take, IfOk, OnOk, false};
 ghost use Rattle.std.specs.List.{list_any};
-ghost use Rattle.std.proofs.Common.{rules};
+ghost use Rattle.std.proofs.Common.{rules, ap};
 ghost use Rattle.std.specs.Cmp.Rules.{comparing, hashing};
+ghost use Rattle.std.specs.Cmp.Lexicographic.{bytes_decides, nat_list_eq_equiv};
 ghost use Rattle.std.specs.Str.{bytes_eq};
 ghost use Rattle.indexmap.specs.IndexSet.{spare};
 ghost use Rattle.hg_model.specs.Links.{place_of};
@@ -12,13 +13,54 @@ use hg_blocks::Blocks;
 use hg_event::Event;
 use hg_frozen::SharedEvent;
 use hg_model::{Memory, Name, Row};
-use indexmap::IndexSet;
+use indexmap::{Equivalent, IndexSet};
 use std::alloc::Global;
 use std::hash::{Hash, Hasher};
 use std::marker::Model;
 use std::sync::Arc;
 
-/// A name to be looked up, hashed by its first eight bytes: names are digests, so these spread as well as all 48.
+/// An event that is found by its name. It is hashed by the first eight bytes: names are digests, so these spread as well
+/// as all 48. The index points to the event, and keeps no name of its own.
+#[derive(Drop)]
+struct Named {
+    event: Arc<Event>,
+}
+
+impl Model for Named {
+    ghost use Rattle.std.specs.Prelude.{List, ℕ};
+
+    ghost Value = { List ℕ };
+
+    ghost view = { λ s. s.event.value.name };
+}
+
+impl PartialEq for Named {
+    ghost eq = { bytes_eq };
+
+    ghost laws = { Prim.search (comparing, rules) };
+
+    fn eq(&self, other: &Named) -> bool {
+        self.event.row().name == other.event.row().name
+    }
+}
+
+impl Eq for Named {
+    ghost laws = { Prim.search (comparing, rules) };
+}
+
+impl Hash for Named {
+    ghost use Rattle.std.specs.Prelude.{[], ◌∷◌, take};
+
+    ghost hash_input = { λ k. take 8 k ∷ [] };
+
+    ghost respects_eq = { Prim.search (hashing, rules) };
+
+    fn hash<H: Hasher>(&self, state: &mut H) {
+        state.write(&self.event.row().name[..8]);
+    }
+}
+
+/// A name that is looked up.
 #[derive(Drop)]
 struct Key {
     name: Name,
@@ -58,11 +100,25 @@ impl Hash for Key {
     }
 }
 
+impl Equivalent<Named> for &Key {
+    ghost use Rattle.std.specs.Prelude.{[], ◌∷◌, take};
+
+    ghost equivalent = { λ q k. bytes_eq q.now k };
+
+    ghost respects_hash = { λ q k h. ap (λ name. take 8 name ∷ []) ((bytes_decides q.now k).0 h) };
+
+    ghost respects_eq = { λ q x y. nat_list_eq_equiv.congr q.now x y };
+
+    fn equivalent(&self, key: &Named) -> bool {
+        self.name == key.event.row().name
+    }
+}
+
 /// Events in the order in which they came, each shared with whoever else holds it, and found by its name.
 #[derive(Drop)]
 pub struct RowStore {
     events: Blocks<SharedEvent>,
-    names: IndexSet<Key>,
+    names: IndexSet<Named>,
 }
 
 impl Model for RowStore {
@@ -137,13 +193,14 @@ impl RowStore {
         Ok(())
     }
 
-    /// One more event, under a name that no other has. Takes no memory.
-    pub fn push(&mut self, event: Arc<Event>)
+    /// One more event, under a name that no other has, and the same once more, by which it is found. Takes no memory.
+    pub fn push(&mut self, event: Arc<Event>, named: Arc<Event>)
         requires room { 1 ≤ self.old.room }
+        requires same { named.value ≡ event.value }
         requires new { place_of self.old.rows event.value.name ≡ length self.old.rows }
         ensures { self.new.rows ≡ self.old.rows ++ event.value ∷ [] }
     {
-        add_name(&mut self.names, event.row().name);
+        add_name(&mut self.names, named);
         self.events.push(SharedEvent::of(event));
     }
 
@@ -156,11 +213,11 @@ impl RowStore {
     }
 }
 
-/// Enters a name for which there is room.
-fn add_name(names: &mut IndexSet<Key>, name: Name)
+/// Enters an event under its name, for which there is room.
+fn add_name(names: &mut IndexSet<Named>, event: Arc<Event>)
     requires room { 1 ≤ spare names.old }
-    requires new { list_any (bytes_eq name) names.old.keys ≡ false }
-    ensures { names.new.keys ≡ names.old.keys ++ name ∷ [] }
+    requires new { list_any (bytes_eq event.value.name) names.old.keys ≡ false }
+    ensures { names.new.keys ≡ names.old.keys ++ event.value.name ∷ [] }
 {
-    names.insert(Key { name }).unwrap();
+    names.insert(Named { event }).unwrap();
 }

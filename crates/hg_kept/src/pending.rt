@@ -1,4 +1,4 @@
-ghost use Rattle.std.specs.Prelude.{◌≡◌, ◌<◌, ◌≤◌, ◌+◌, ◌-◌, All, max, [], ◌++◌, length, take, filter, slice_index, OnOk, vec_len, vec_capacity};
+ghost use Rattle.std.specs.Prelude.{◌≡◌, ◌<◌, ◌≤◌, ◌+◌, ◌-◌, ◌^◌, All, max, [], ◌++◌, length, take, filter, slice_index, OnOk, vec_len, vec_capacity};
 ghost use Rattle.std.specs.List.{AllByRecursion, range_with_len};
 ghost use Rattle.hg_model.specs.Prefix.{links_of};
 ghost use Rattle.hg_order.specs.Famous.{AreFamous, IsBelowAll, all_have};
@@ -17,10 +17,10 @@ const MOST_TALLIED: usize = 4_096;
 #[derive(Drop)]
 pub struct Pending {
     /// The places below `looked`, in order.
-    places: Vec<usize>,
+    places: Vec<u32>,
     /// Each row from here on waits.
     looked: usize,
-    fresh: Vec<usize>,
+    fresh: Vec<u32>,
     /// In which the round at hand is ordered.
     memory: RoundMemory,
 }
@@ -83,7 +83,7 @@ impl Pending {
     }
 
     /// What the last round that received rows has received, by place, in order.
-    pub fn fresh(&self) -> &[usize]
+    pub fn fresh(&self) -> &[u32]
         ensures { result.now ≡ self.now.fresh }
     {
         &self.fresh
@@ -104,7 +104,8 @@ impl Pending {
 }
 
 /// The places from `looked` up to below `end` too.
-fn list_to(places: &mut Vec<usize>, looked: usize, end: usize)
+fn list_to(places: &mut Vec<u32>, looked: usize, end: usize)
+    requires short { end < 2 ^ 32 }
     requires looked { looked ≤ end }
     requires few { vec_len places.old ≤ looked }
     requires room { end ≤ vec_capacity places.old }
@@ -112,12 +113,12 @@ fn list_to(places: &mut Vec<usize>, looked: usize, end: usize)
     ensures room { vec_capacity places.new ≡ vec_capacity places.old }
 {
     for x in looked..end {
-        places.push_reserved(x);
+        places.push_reserved(x as u32);
     }
 }
 
 /// Moves to `fresh` the rows that these unique famous witnesses all have as ancestor.
-fn part<P: Prefix>(p: &P, famous: &[usize], places: &mut Vec<usize>, fresh: &mut Vec<usize>)
+fn part<P: Prefix>(p: &P, famous: &[usize], places: &mut Vec<u32>, fresh: &mut Vec<u32>)
     requires famous { AreFamous (P.graph p.now) famous.now }
     requires some { 0 < length famous.now }
     requires places { All (λ x. x < length (links_of (P.graph p.now))) places.old.items }
@@ -136,8 +137,8 @@ fn part<P: Prefix>(p: &P, famous: &[usize], places: &mut Vec<usize>, fresh: &mut
 fn move_received<P: Prefix>(
     p: &P,
     famous: &[usize],
-    places: &mut [usize],
-    fresh: &mut Vec<usize>,
+    places: &mut [u32],
+    fresh: &mut Vec<u32>,
 ) -> usize
     requires famous { AreFamous (P.graph p.now) famous.now }
     requires some { 0 < length famous.now }
@@ -152,7 +153,7 @@ fn move_received<P: Prefix>(
     let mut kept = 0;
     for i in 0..places.len() {
         let x = places[i];
-        if received_below(p, famous, &least, x) {
+        if received_below(p, famous, &least, x as usize) {
             fresh.push_reserved(x);
         } else {
             places[kept] = x;

@@ -7,7 +7,7 @@
 //! From `place_fresh` of `hg_plain`:
 //!
 //! ```text
-//! fn place_fresh(p: &PlainPrefix<'_>, marks: &[Option<bool>], r: u32, fresh: &[usize], places: &mut [usize],
+//! fn place_fresh(p: &PlainPrefix<'_>, marks: &[Option<bool>], r: u32, fresh: &[u32], places: &mut [usize],
 //!     placed: &mut [Placed])
 //!     requires fresh { fresh.now ≡ received_places p.now marks.now r }
 //!     requires room { member_count p.now.members ≤ length places.old }

@@ -47,13 +47,13 @@ impl RoundMemory {
 }
 
 /// The least of the places, and of `first`.
-pub fn lowest(places: &[usize], first: usize) -> usize
+pub fn lowest(places: &[u32], first: usize) -> usize
     ensures first { result ≤ first }
     ensures all { All (λ x. result ≤ x) places.now }
 {
     let mut low = first;
     for x in places {
-        low = low.min(*x);
+        low = low.min(*x as usize);
     }
     low
 }

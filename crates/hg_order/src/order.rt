@@ -15,7 +15,7 @@ use std::cmp::Ordering;
 /// The rows at the places `fresh`, as the round of these unique famous witnesses places them, in order: `out` is as
 /// long as `fresh`. Where `fresh` has just what the round receives, in the order of the places, this is the order of
 /// the round.
-pub fn order_round<P: Prefix>(p: &P, famous: &[usize], fresh: &[usize], out: &mut [Placed])
+pub fn order_round<P: Prefix>(p: &P, famous: &[usize], fresh: &[u32], out: &mut [Placed])
     requires famous { AreFamous (P.graph p.now) famous.now }
     requires some { 0 < length fresh.now → 0 < length famous.now }
     requires received { AllByRecursion (IsBelowAll (P.graph p.now) famous.now) fresh.now }
@@ -33,7 +33,7 @@ pub fn order_round<P: Prefix>(p: &P, famous: &[usize], fresh: &[usize], out: &mu
 pub fn order_round_within<P: Prefix>(
     p: &P,
     famous: &[usize],
-    fresh: &[usize],
+    fresh: &[u32],
     memory: &mut RoundMemory,
     out: &mut [Placed],
 )
@@ -73,13 +73,7 @@ fn round_of<P: Prefix>(p: &P, famous: &[usize]) -> u32
 }
 
 /// The rows at the places `fresh` as the round places them, in their order.
-pub fn place_rows<P: Prefix>(
-    p: &P,
-    famous: &[usize],
-    round: u32,
-    fresh: &[usize],
-    out: &mut [Placed],
-)
+pub fn place_rows<P: Prefix>(p: &P, famous: &[usize], round: u32, fresh: &[u32], out: &mut [Placed])
     requires famous { AreFamous (P.graph p.now) famous.now }
     requires received { AllByRecursion (IsBelowAll (P.graph p.now) famous.now) fresh.now }
     requires same { length out.old ≡ length fresh.now }
@@ -87,7 +81,7 @@ pub fn place_rows<P: Prefix>(
     ensures wide { All (IsWide (P.graph p.now).rows) fresh.now }
 {
     for (i, x) in fresh.iter().enumerate() {
-        out[i] = place_row(p, famous, round, *x);
+        out[i] = place_row(p, famous, round, *x as usize);
     }
 }
 

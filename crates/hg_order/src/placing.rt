@@ -17,7 +17,7 @@ fn place_tallied<P: Prefix>(
     round: u32,
     low: usize,
     tallies: &[Tally],
-    fresh: &[usize],
+    fresh: &[u32],
     out: &mut [Placed],
 )
     requires places { All (λ x. x < length (links_of (P.graph p.now))) fresh.now }
@@ -28,11 +28,12 @@ fn place_tallied<P: Prefix>(
     ensures wide { All (IsWide (P.graph p.now).rows) fresh.now }
 {
     for (i, x) in fresh.iter().enumerate() {
-        is_wide(p, *x);
+        let place = *x as usize;
+        is_wide(p, place);
         out[i] = Placed {
-            place: *x,
+            place,
             received: round,
-            time: tallies[*x - low].time,
+            time: tallies[place - low].time,
         };
     }
 }
@@ -42,7 +43,7 @@ fn place_by_counts<P: Prefix>(
     p: &P,
     famous: &[usize],
     round: u32,
-    fresh: &[usize],
+    fresh: &[u32],
     holders: &mut Vec<Holder>,
     tallies: &mut Vec<Tally>,
     out: &mut [Placed],
@@ -73,7 +74,7 @@ pub fn place_within<P: Prefix>(
     p: &P,
     famous: &[usize],
     round: u32,
-    fresh: &[usize],
+    fresh: &[u32],
     memory: &mut RoundMemory,
     out: &mut [Placed],
 )

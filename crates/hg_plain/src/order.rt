@@ -7,7 +7,7 @@ ghost use Rattle.hg_model.specs.Stakes.{member_count};
 
 use crate::prefix::PlainPrefix;
 use crate::received::rounds_received;
-use hg_model::{Memory, Placed, Sight};
+use hg_model::{Memory, Placed, Sight, is_of_graph};
 use hg_order::{order_round, unique_famous};
 use std::alloc::Global;
 
@@ -43,6 +43,7 @@ fn push_round(
     requires received { IsReceivedTable (shape_in p.now) marks.now received.now }
     ensures { OnOk result (order.new.items ≡ order.old.items ++ received_order p.now marks.now r) }
 {
+    is_of_graph(p);
     let fresh = received_places(alloc, received, r)?;
     let round = round_order(alloc, p, marks, r, &fresh)?;
     order.extend_from_slice(&round)?;
@@ -51,13 +52,14 @@ fn push_round(
 
 /// The places of the rows that round `r` receives.
 #[tactic(auto, using(hg_model::proofs::PlacesLaws::list_steps))]
-fn received_places(alloc: Global, received: &[Option<u32>], r: u32) -> Result<Vec<usize>, Memory>
+fn received_places(alloc: Global, received: &[Option<u32>], r: u32) -> Result<Vec<u32>, Memory>
+    requires { length received.now < 2 ^ 32 }
     ensures { IfOk result (λ v. v.items ≡ places_received received.now r) }
 {
     let mut places = Vec::new(alloc);
     for x in 0..received.len() {
         if is_round(r, received[x]) {
-            places.push(x)?;
+            places.push(x as u32)?;
         }
     }
     Ok(places)
@@ -78,7 +80,7 @@ fn round_order(
     p: &PlainPrefix<'_>,
     marks: &[Option<bool>],
     r: u32,
-    fresh: &[usize],
+    fresh: &[u32],
 ) -> Result<Vec<Placed>, Memory>
     requires { fresh.now ≡ received_places p.now marks.now r }
     ensures { IfOk result (λ v. v.items ≡ received_order p.now marks.now r) }
@@ -101,7 +103,7 @@ fn place_fresh(
     p: &PlainPrefix<'_>,
     marks: &[Option<bool>],
     r: u32,
-    fresh: &[usize],
+    fresh: &[u32],
     places: &mut [usize],
     placed: &mut [Placed],
 )

@@ -13,6 +13,12 @@ overflow_add-famous g c =
     let graph = g.P.Prefix.graph c.args.p.now in
     omega (arith, famous_first graph c.args.famous.now c.requires.famous c.requires.some, length-links graph.rows, c.is_of_graph.ensures.short)
 
+pub list_to-requires-clause-short : goal.list_to-requires-clause-short
+list_to-requires-clause-short g c =
+    let graph = g.P.Prefix.graph c.args.p.now in
+    let looked = subst (λ (w : Waiting). w.looked ≤ length (links_of graph)) (sym c.self.view_is) c.requires.looked in
+    omega (arith, c.max-end.ensures, famous_first graph c.args.famous.now c.requires.famous c.requires.some, length-links graph.rows, c.is_of_graph.ensures.short)
+
 pub list_to-requires-clause-room : goal.list_to-requires-clause-room
 list_to-requires-clause-room g c =
     let graph = g.P.Prefix.graph c.args.p.now in
