@@ -1,3 +1,4 @@
 pub mod RowsWithRoom
 pub mod Held
 pub mod Added
+pub mod Keys

@@ -1,8 +1,7 @@
 ghost use Rattle.std.specs.Prelude.{◌≡◌, ◌<◌, ◌≤◌, ◌++◌, ◌∷◌, [], Some, length, option_map, slice_get, take, IfOk, OnOk, false};
 ghost use Rattle.std.specs.List.{list_any};
-ghost use Rattle.std.proofs.Common.{rules, ap};
+ghost use Rattle.std.proofs.Common.{rules};
 ghost use Rattle.std.specs.Cmp.Rules.{comparing, hashing};
-ghost use Rattle.std.specs.Cmp.Lexicographic.{bytes_decides, nat_list_eq_equiv};
 ghost use Rattle.std.specs.Str.{bytes_eq};
 ghost use Rattle.indexmap.specs.IndexSet.{spare};
 ghost use Rattle.hg_model.specs.Links.{place_of};
@@ -13,42 +12,63 @@ use hg_blocks::Blocks;
 use hg_event::Event;
 use hg_frozen::SharedEvent;
 use hg_model::{Memory, Name, Row};
-use indexmap::{Equivalent, IndexSet};
+use indexmap::IndexSet;
 use std::alloc::Global;
 use std::hash::{Hash, Hasher};
 use std::marker::Model;
 use std::sync::Arc;
 
-/// An event that is found by its name. It is hashed by the first eight bytes: names are digests, so these spread as well
-/// as all 48. The index points to the event, and keeps no name of its own.
+/// What has a name: an event, or the name itself, which is looked up.
 #[derive(Drop)]
-struct Named {
-    event: Arc<Event>,
+enum Named<'n> {
+    Event(Arc<Event>),
+    Name(&'n Name),
 }
 
-impl Model for Named {
+/// What stands in the index, and what is looked up there. It is hashed by the first eight bytes of its name: names are
+/// digests, so these spread as well as all 48. The index points to events, and keeps no name of its own.
+#[derive(Drop)]
+struct Key<'n> {
+    named: Named<'n>,
+}
+
+const _: () = prove!(size_of::<Key>() == 16);
+
+impl<'n> Model for Key<'n> {
     ghost use Rattle.std.specs.Prelude.{List, ℕ};
+    ghost use Rattle.hg_graph.specs.Keys.{name_in};
 
     ghost Value = { List ℕ };
 
-    ghost view = { λ s. s.event.value.name };
+    ghost view = { λ s. name_in s.named };
 }
 
-impl PartialEq for Named {
+impl<'n> Key<'n> {
+    fn name(&self) -> &Name
+        ensures { result.now ≡ self.now }
+    {
+        match &self.named {
+            Named::Event(event) => &event.row().name,
+            Named::Name(name) => name,
+        }
+    }
+}
+
+impl<'n> PartialEq for Key<'n> {
     ghost eq = { bytes_eq };
 
     ghost laws = { Prim.search (comparing, rules) };
 
-    fn eq(&self, other: &Named) -> bool {
-        self.event.row().name == other.event.row().name
+    fn eq(&self, other: &Self) -> bool {
+        self.name() == other.name()
     }
 }
 
-impl Eq for Named {
+impl<'n> Eq for Key<'n> {
     ghost laws = { Prim.search (comparing, rules) };
 }
 
-impl Hash for Named {
+impl<'n> Hash for Key<'n> {
     ghost use Rattle.std.specs.Prelude.{[], ◌∷◌, take};
 
     ghost hash_input = { λ k. take 8 k ∷ [] };
@@ -56,61 +76,7 @@ impl Hash for Named {
     ghost respects_eq = { Prim.search (hashing, rules) };
 
     fn hash<H: Hasher>(&self, state: &mut H) {
-        state.write(&self.event.row().name[..8]);
-    }
-}
-
-/// A name that is looked up.
-#[derive(Drop)]
-struct Key {
-    name: Name,
-}
-
-impl Model for Key {
-    ghost use Rattle.std.specs.Prelude.{List, ℕ};
-
-    ghost Value = { List ℕ };
-
-    ghost view = { λ s. s.name };
-}
-
-impl PartialEq for Key {
-    ghost eq = { bytes_eq };
-
-    ghost laws = { Prim.search (comparing, rules) };
-
-    fn eq(&self, other: &Key) -> bool {
-        self.name == other.name
-    }
-}
-
-impl Eq for Key {
-    ghost laws = { Prim.search (comparing, rules) };
-}
-
-impl Hash for Key {
-    ghost use Rattle.std.specs.Prelude.{[], ◌∷◌, take};
-
-    ghost hash_input = { λ k. take 8 k ∷ [] };
-
-    ghost respects_eq = { Prim.search (hashing, rules) };
-
-    fn hash<H: Hasher>(&self, state: &mut H) {
-        state.write(&self.name[..8]);
-    }
-}
-
-impl Equivalent<Named> for &Key {
-    ghost use Rattle.std.specs.Prelude.{[], ◌∷◌, take};
-
-    ghost equivalent = { λ q k. bytes_eq q.now k };
-
-    ghost respects_hash = { λ q k h. ap (λ name. take 8 name ∷ []) ((bytes_decides q.now k).0 h) };
-
-    ghost respects_eq = { λ q x y. nat_list_eq_equiv.congr q.now x y };
-
-    fn equivalent(&self, key: &Named) -> bool {
-        self.name == key.event.row().name
+        state.write(&self.name()[..8]);
     }
 }
 
@@ -118,7 +84,7 @@ impl Equivalent<Named> for &Key {
 #[derive(Drop)]
 pub struct RowStore {
     events: Blocks<SharedEvent>,
-    names: IndexSet<Named>,
+    names: IndexSet<Key<'static>>,
 }
 
 impl Model for RowStore {
@@ -180,7 +146,10 @@ impl RowStore {
     pub fn place_of(&self, name: &Name) -> Option<usize>
         ensures { result ≡ found_place self.now.rows name.now }
     {
-        self.names.get_index_of(&Key { name: *name })
+        let key = Key {
+            named: Named::Name(name),
+        };
+        self.names.get_index_of(&key)
     }
 
     /// Takes the memory of one more row.
@@ -214,10 +183,13 @@ impl RowStore {
 }
 
 /// Enters an event under its name, for which there is room.
-fn add_name(names: &mut IndexSet<Named>, event: Arc<Event>)
+fn add_name(names: &mut IndexSet<Key<'static>>, event: Arc<Event>)
     requires room { 1 ≤ spare names.old }
     requires new { list_any (bytes_eq event.value.name) names.old.keys ≡ false }
     ensures { names.new.keys ≡ names.old.keys ++ event.value.name ∷ [] }
 {
-    names.insert(Named { event }).unwrap();
+    let key = Key {
+        named: Named::Event(event),
+    };
+    names.insert(key).unwrap();
 }
