@@ -1,4 +1,5 @@
-//! Tests of public calls of `hg_script` and `hg_node`, and of `hg_votes` and `hg_fame`, with values from outside.
+//! Tests of public calls of `hg_script`, `hg_votes`, `hg_fame`, `hg_node`, `hg_gossip`, `hg_world`, `hg_report` and
+//! `order_match`, with values from outside.
 //! They stand above these crates so that their code is proved once; a crate with tests of its own is proved twice.
 //! There is nothing here but tests.
 //!
@@ -16,6 +17,10 @@ mod freezing;
 #[cfg(test)]
 mod full_node;
 #[cfg(test)]
+mod gossiping;
+#[cfg(test)]
+mod matching;
+#[cfg(test)]
 mod members;
 #[cfg(test)]
 mod paying;
@@ -24,6 +29,10 @@ mod playing;
 #[cfg(test)]
 mod publishing;
 #[cfg(test)]
+mod reporting;
+#[cfg(test)]
 mod script;
 #[cfg(test)]
 mod two_members;
+#[cfg(test)]
+mod worlds;

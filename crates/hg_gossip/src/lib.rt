@@ -2,7 +2,7 @@
 //! The layers above use that the peer's rows whose names the taker lacks are put, in the peer's order, each at what was
 //! reached then, for others may change a shared node; of a `Node` alone `pulling_alone` and `syncing_alone` tell all.
 //!
-//! From `meet` in the tests of this crate:
+//! From `meet` in the tests of `check_calls`:
 //!
 //! ```text
 //! /// Both learn what the other has, and each adds an event on the other's last one. Whether B did.
@@ -21,8 +21,6 @@ mod gossip;
 mod holder;
 mod laws;
 mod node;
-#[cfg(test)]
-mod tests;
 
 pub use gossip::{Taken, pull, sync, sync_made, with_answer};
 pub use holder::Holder;

@@ -21,8 +21,6 @@ mod phrases;
 mod pieces;
 mod printed;
 mod summary;
-#[cfg(test)]
-mod tests;
 
 pub use pieces::{Piece, print_pieces};
 pub use printed::text_of;

@@ -150,3 +150,11 @@ found_held G name found = by (is_held G name) found
     by : (b : Bool) → is_some (cond b (Some (place_of G name)) None) ≡ true → b ≡ true
     by true some = refl
     by false some = absurd (true≢false (sym some))
+
+-- a row is held under its own name
+pub held_at : (G : List Row) (x : ℕ) (row : Row) (name : List ℕ) → slice_get G x ≡ Some row → row.name ≡ name → is_held G name ≡ true
+held_at G x row name at named =
+    let low : x < length G = slice_get_within G x row at in
+    let front : take (suc x) G ≡ take x G ++ row ∷ [] = take-suc G x row low ∙ ap (λ (r : Row). take x G ++ r ∷ []) (get_or_from_slice_get G x row row at) in
+    let all : G ≡ (take x G ++ row ∷ []) ++ drop (suc x) G = sym (take-append-drop (suc x) G) ∙ ap (λ (rows : List Row). rows ++ drop (suc x) G) front in
+    subst (λ (k : List ℕ). is_held G k ≡ true) named (held_more (take x G ++ row ∷ []) G row.name (drop (suc x) G, all) (held_last (take x G) row))

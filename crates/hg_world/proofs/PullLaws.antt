@@ -1,7 +1,9 @@
 -- Pulls and syncs as steps
 use Rattle.std.proofs.Common.{◌≡◌, ℕ, suc, ◌+◌, ◌<◌, Bool, true, false, not, cond, List, [], ◌∷◌, ◌++◌, length, fold, take, drop, get_or, slice_get, Option, Some, option_map, Result, Ok, Err, sym, refl, ap, ap₂, ◌∙◌, subst, add-one, append_assoc, arith}
-use Rattle.std.specs.Prelude.{OnErr, IfOk}
-use Rattle.std.proofs.lemmas.List.{append-nil, get_or-set_same, map-append, take-append-drop, length-set, set-get_or, set-set}
+use Rattle.std.specs.Prelude.{OnErr, IfOk, reverse}
+use Rattle.std.specs.declared.sync.Arc.{Arc}
+use Rattle.std.proofs.lemmas.Grind.{reverse_onto}
+use Rattle.std.proofs.lemmas.List.{append-nil, reverse-append, get_or-set_same, map-append, take-append-drop, length-set, set-get_or, set-set}
 use Rattle.std.proofs.lemmas.List.Sums.{fold-append}
 use Rattle.std.proofs.lemmas.Option.{slice_get-get_or}
 use Rattle.std.proofs.Math.Seq.{drop-cons}
@@ -14,6 +16,7 @@ use Rattle.hg_model.specs.Gossip.{lacking}
 use Rattle.hg_model.specs.Signing.{accepts_by}
 use Rattle.hg_model.specs.Verdict.{is_held}
 use Rattle.hg_model.specs.NodeView.{NodeView}
+use Rattle.hg_graph.specs.RowsWithRoom.{rows_of}
 use Rattle.hg_gossip.specs.declared.gossip.Taken.{Taken}
 use Rattle.hg_gossip.specs.Gossip.{none_taken, with_answer}
 use Rattle.hg_gossip.specs.Nodes.{Taking, lacked, take_event, taking, taking_of}
@@ -115,16 +118,32 @@ lacked_at held rows k d inside = rw (add-one, drop-cons rows k d inside) (one (i
     one true row rest = refl
     one false row rest = refl
 
-pub lacked_more : (held rows : List Row) (k : ℕ) (before after all : List Row) → k < length rows → option_map (λ (row : Row). before ++ unheld held row) (slice_get rows k) ≡ Some after →
-    before ++ lacking held (drop k rows) ≡ all → after ++ lacking held (drop (k + 1) rows) ≡ all
-lacked_more held rows k before after all inside grown is =
+-- the rows of events in turned order
+pub rows_reversed : {A : Type 0} (events : List (Arc Row A)) → rows_of (reverse events) ≡ reverse (rows_of events)
+rows_reversed [] = refl
+rows_reversed (event ∷ events) =
+    ap rows_of (reverse_onto events event [])
+    ∙ (map-append (λ e. e.value) (reverse events) (event ∷ [])
+    ∙ (ap (λ (rows : List Row). rows ++ event.value ∷ []) (rows_reversed events) ∙ sym (reverse_onto (rows_of events) event.value [])))
+
+one_reversed : (held : List Row) (row : Row) → reverse (unheld held row) ≡ unheld held row
+one_reversed held row = one (is_held held row.name)
+  where
+    one : (b : Bool) → reverse (cond b [] (row ∷ [])) ≡ cond b [] (row ∷ [])
+    one true = refl
+    one false = refl
+
+-- with the row before those that were walked, the last one first
+pub lacked_before : (held rows : List Row) (k : ℕ) (before after : List Row) → k < length rows → option_map (λ (row : Row). before ++ unheld held row) (slice_get rows k) ≡ Some after →
+    before ≡ reverse (lacking held (drop (k + 1) rows)) → after ≡ reverse (lacking held (drop k rows))
+lacked_before held rows k before after inside grown is =
     let row : Row = get_or rows k no_row in
     let rest : List Row = lacking held (drop (k + 1) rows) in
     let some : Some (before ++ unheld held row) ≡ Some after = sym (ap (option_map (λ (r : Row). before ++ unheld held r)) (slice_get-get_or rows k no_row inside)) ∙ grown in
     let same : before ++ unheld held row ≡ after = cc in
-    ap (λ (xs : List Row). xs ++ rest) (sym same)
-    ∙ (append_assoc before (unheld held row) rest
-    ∙ (ap (λ (xs : List Row). before ++ xs) (lacked_at held rows k no_row inside) ∙ is))
+    sym same
+    ∙ (ap₂ (λ (xs ys : List Row). xs ++ ys) is (sym (one_reversed held row))
+    ∙ (sym (reverse-append (unheld held row) rest) ∙ ap (λ (xs : List Row). reverse xs) (lacked_at held rows k no_row inside)))
 
 -- events that come to one node set that node
 puts_set : (events : List (List ℕ)) (w : WorldView) (m : ℕ) (counts : Taken) → m < length w.sites →

@@ -1,12 +1,13 @@
-ghost use Rattle.std.specs.Prelude.{◌≡◌, ◌<◌, IfOk, OnOk, Some, length, slice_get};
+ghost use Rattle.std.specs.Prelude.{◌≡◌, ◌<◌, ◌≤◌, IfOk, OnOk, Some, drop, is_some, length, reverse, slice_get};
 ghost use Rattle.hg_model.specs.Gossip.{lacking};
 ghost use Rattle.hg_model.specs.NodeView.{node_rows};
+ghost use Rattle.hg_model.specs.Verdict.{is_held};
 ghost use Rattle.hg_graph.specs.RowsWithRoom.{rows_of};
 ghost use Rattle.hg_world.specs.KnownRows.{KnowsFirst};
 ghost use Rattle.hg_world.specs.Nodes.{PushesLacked};
 
 use hg_event::Event;
-use hg_model::Memory;
+use hg_model::{Member, Memory, Name, Row, Sight};
 use hg_node::Node;
 use hg_sign::SharedTable;
 use std::alloc::Global;
@@ -20,20 +21,86 @@ fn event_at(node: &Node<SharedTable>, place: usize) -> Result<Arc<Event>, Memory
     Ok(Arc::clone(node.event(place))?)
 }
 
+/// Of each member where the taker's row stands that is compared first, while the peer's rows are walked from the last one
+/// down: behind a row by the member that the taker has, its self-parent. From `usize::MAX` on there is none.
+type Marks = [usize; 128];
+
+/// The self-parent of a row, or none: where to look for the row by its member that comes before it. No clause speaks of it.
+fn before(taker: &Node<SharedTable>, place: usize) -> usize {
+    let graph = taker.graph();
+    if place < graph.rows() {
+        return graph.self_parent(place).unwrap_or(usize::MAX);
+    }
+    usize::MAX
+}
+
+/// The place of the taker's row with this name by the member, which may well be the one that is marked: only where that has
+/// another name the name is looked up.
+fn place_near(
+    taker: &Node<SharedTable>,
+    name: &Name,
+    member: Member,
+    marked: usize,
+) -> Option<usize>
+    ensures { is_some result ≡ is_held (node_rows taker.now) name.now }
+{
+    if marked < taker.rows() && taker.row(marked).name == *name {
+        return Some(marked);
+    }
+    taker.graph().place_by(name, member)
+}
+
+/// Whether the taker has the name of a row of the peer, with the marks as they are behind it.
+fn is_held_near(taker: &Node<SharedTable>, row: &Row, marks: &mut Marks) -> bool
+    ensures { result ≡ is_held (node_rows taker.now) row.now.name }
+{
+    let member = usize::from(row.creator);
+    if member >= marks.len() {
+        return taker.place_of(&row.name).is_some();
+    }
+    let place = place_near(taker, &row.name, row.creator, marks[member]);
+    if let Some(place) = place {
+        marks[member] = before(taker, place);
+    }
+    place.is_some()
+}
+
 /// The event of a row of the peer behind the others, unless the taker has its name.
 fn push_unless_held(
     events: &mut Vec<Arc<Event>>,
     taker: &Node<SharedTable>,
     peer: &Node<SharedTable>,
     place: usize,
+    marks: &mut Marks,
 ) -> Result<(), Memory>
     requires { place < length (node_rows peer.now) }
     ensures { OnOk result (PushesLacked taker.now peer.now place (rows_of events.old.items) (rows_of events.new.items)) }
 {
-    if taker.place_of(&peer.row(place).name).is_none() {
+    if !is_held_near(taker, peer.row(place), marks) {
         events.push(event_at(peer, place)?)?;
     }
     Ok(())
+}
+
+/// The events of the peer from this place on whose names the taker lacks, the last one first: so each member's line is
+/// walked down in both graphs, and of what the taker has hardly a name is looked up.
+fn lacked_backwards(
+    alloc: Global,
+    taker: &Node<SharedTable>,
+    peer: &Node<SharedTable>,
+    from: usize,
+) -> Result<Vec<Arc<Event>>, Memory>
+    requires { from ≤ length (node_rows peer.now) }
+    ensures { IfOk result (λ events. rows_of events.items ≡ reverse (lacking (node_rows taker.now) (drop from (node_rows peer.now)))) }
+{
+    let mut events = Vec::new(alloc);
+    let mut marks = [usize::MAX; 128];
+    let mut place = peer.rows();
+    'places: while from < place {
+        place -= 1;
+        push_unless_held(&mut events, taker, peer, place, &mut marks)?;
+    }
+    Ok(events)
 }
 
 /// The events of the peer whose names the taker lacks, who has those of the rows before this place.
@@ -46,9 +113,7 @@ pub(crate) fn lacked_from(
     requires { KnowsFirst (node_rows taker.now) (node_rows peer.now) from }
     ensures { IfOk result (λ events. rows_of events.items ≡ lacking (node_rows taker.now) (node_rows peer.now)) }
 {
-    let mut events = Vec::new(alloc);
-    for place in from..peer.rows() {
-        push_unless_held(&mut events, taker, peer, place)?;
-    }
+    let mut events = lacked_backwards(alloc, taker, peer, from)?;
+    events.reverse();
     Ok(events)
 }

@@ -2,7 +2,7 @@
 //! The layers above use that each call leaves the world after the steps that it names (`after_steps`), and that of any
 //! two nodes' orders one is a prefix of the other, where under a third of the stake is dishonest and no names collide.
 //!
-//! From `ordered` in the tests of this crate:
+//! From `ordered` in the tests of `check_calls`:
 //!
 //! ```text
 //! /// A member's node settles: how many events its order has then.
@@ -24,8 +24,6 @@ mod nodes;
 mod running;
 mod step;
 mod syncing;
-#[cfg(test)]
-mod tests;
 mod world;
 
 pub use laws::{pulls_set_one_node, steps_keep_sites, steps_stay_lawful};

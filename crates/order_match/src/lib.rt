@@ -22,8 +22,6 @@ mod matching;
 mod orders;
 mod request;
 mod side;
-#[cfg(test)]
-mod tests;
 
 pub use book::Book;
 pub use laws::{books_go_on, nothing_is_lost, requests_are_spelled};

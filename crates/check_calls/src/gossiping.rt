@@ -1,7 +1,7 @@
 ghost use Rattle.std.specs.Prelude.{◌≡◌, IfOk};
 ghost use Rattle.hg_gossip.specs.Nodes.{pulling, taking_of};
 
-use crate::{Holder, Taken, pull, sync};
+use hg_gossip::{Holder, Taken, pull, sync};
 use hg_model::{Bytes, MakeAnswer, MemberEntry, Members, Memory, SyncMade, SyncReport};
 use hg_node::Node;
 use hg_sign::{MacTable, Signer};

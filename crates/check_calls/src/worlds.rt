@@ -3,7 +3,6 @@ ghost use Rattle.hg_model.specs.NodeView.{kept_of};
 ghost use Rattle.hg_world.specs.Parts.{AreOfOneList};
 ghost use Rattle.hg_world.specs.World.{IsMemberOf, node_at};
 
-use crate::{Reply, Step, World, steps_keep_sites};
 use hg_gossip::Taken;
 use hg_model::{
     ByteFault, Bytes, Fault, MakeAnswer, Member, MemberEntry, Members, Memory, Placed, PutAnswer,
@@ -11,6 +10,7 @@ use hg_model::{
 };
 use hg_node::Node;
 use hg_sign::SharedTable;
+use hg_world::{Reply, Step, World, steps_keep_sites};
 use std::alloc::Global;
 use std::fmt::Debug;
 use std::process::Abort;

@@ -1,9 +1,9 @@
-use super::*;
 use hg_io::{Failed, SinkMem};
 use hg_model::{
     Block, Bytes, Effect, Items, MakeAnswer, MakeFault, OrderLine, Outcome, Printed, SyncMade,
     SyncReport,
 };
+use hg_report::{summary_of, text_of};
 use std::alloc::Global;
 use std::test::Fail;
 

@@ -1,5 +1,5 @@
-use crate::{Book, Order, Request, RequestFault, Side, Trade, read_request, write_request};
 use hg_model::{Member, Memory};
+use order_match::{Book, Order, Request, RequestFault, Side, Trade, read_request, write_request};
 use std::alloc::Global;
 use std::test::Fail;
 

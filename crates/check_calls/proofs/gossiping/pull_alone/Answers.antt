@@ -1,5 +1,5 @@
 use Rattle.hg_gossip.proofs.AloneLaws.{pull_is_alone, waits_alone}
-use Rattle.hg_gossip.proofs.tests.pull_alone.Goals as goal
+use Rattle.check_calls.proofs.gossiping.pull_alone.Goals as goal
 
 pub returns-clause-peer : goal.returns-clause-peer
 returns-clause-peer g c = waits_alone g.row.W.Denot g.W.Verifier.accepts c.args.peer.now c.pull.new.peer c.pull.ensures.peer
