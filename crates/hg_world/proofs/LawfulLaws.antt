@@ -1,6 +1,6 @@
 -- Steps leave a lawful world, once it is known that all rows of its nodes are events: of what the steps bring nothing
 -- else need be known
-use Rattle.std.proofs.Common.{◌≡◌, zero, suc, inl, inr, ℕ, ◌<◌, ◌≤◌, true, List, [], ◌∷◌, ◌++◌, length, Option, None, Some, slice_get, Result, Ok, Err, sym, refl, ap, ◌∙◌, subst, arith}
+use Rattle.std.proofs.Common.{◌≡◌, zero, suc, inl, inr, ℕ, ◌<◌, true, List, [], ◌∷◌, ◌++◌, length, Some, slice_get, Result, Ok, Err, sym, refl, ap, ◌∙◌, subst, arith}
 use Rattle.std.specs.List.{AllByRecursion}
 use Rattle.std.specs.Option.{option_to_list}
 use Rattle.std.proofs.lemmas.Bool.{cases_eq}
@@ -17,7 +17,6 @@ use Rattle.hg_model.specs.Orders.{IsPrefix}
 use Rattle.hg_model.specs.Reading.{read_event}
 use Rattle.hg_model.specs.Spelling.{Spells, body_of, spelling}
 use Rattle.hg_model.specs.Signing.{Accepts, accepts_by}
-use Rattle.hg_model.specs.Shares.{Share}
 use Rattle.hg_model.specs.Verdict.{made_row, row_verdict}
 use Rattle.hg_model.specs.History.{Change}
 use Rattle.hg_model.specs.History.Change.{Took, Made}

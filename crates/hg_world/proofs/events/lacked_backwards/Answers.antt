@@ -17,8 +17,7 @@ places-init c = (
 
 pub places-preserved : goal.places-preserved
 places-preserved c =
-    let back : c.places.place ≡ c.places.place - 1 + 1 = omega (arith, c.places-test.true) in
-    (
+    let back : c.places.place ≡ c.places.place - 1 + 1 = omega (arith, c.places-test.true) in (
       omega (arith, c.places-test.true),
       omega (arith, c.places.invariant.1),
       lacked_before (node_rows c.args.taker.now) (node_rows c.args.peer.now) (c.places.place - 1) _ _ (omega (arith, c.places-test.true, c.places.invariant.1)) c.in_ok-push_unless_held.ensures

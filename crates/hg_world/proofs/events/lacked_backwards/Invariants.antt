@@ -1,4 +1,4 @@
-use Rattle.std.proofs.Common.{◌≡◌, ◌≤◌, ◌-◌, drop, length}
+use Rattle.std.proofs.Common.{◌≡◌, ◌≤◌, drop, length}
 use Rattle.std.specs.Prelude.{reverse}
 use Rattle.hg_model.specs.Gossip.{lacking}
 use Rattle.hg_model.specs.NodeView.{node_rows}
