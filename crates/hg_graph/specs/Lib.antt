@@ -1,4 +1,3 @@
 pub mod RowsWithRoom
 pub mod Held
 pub mod Added
-pub mod Keys

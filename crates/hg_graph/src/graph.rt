@@ -150,11 +150,9 @@ impl EventGraph {
         Ok(())
     }
 
-    /// One more row, an event with its parents' places, and the same event once more, by which it is found under its name.
-    /// Takes no memory.
-    pub fn push(&mut self, event: Arc<Event>, named: Arc<Event>, parents: Parents)
+    /// One more row, an event with its parents' places. Takes no memory.
+    pub fn push(&mut self, event: Arc<Event>, parents: Parents)
         requires room { 1 ≤ self.old.room }
-        requires same { named.value ≡ event.value }
         requires limit { length self.old.graph.rows < row_limit }
         requires link { link_in self.old.graph.rows event.value ≡ link_of event.value.creator parents }
         requires graph { IsGraph self.old.graph.members (self.old.graph.rows ++ event.value ∷ []) }
@@ -166,7 +164,7 @@ impl EventGraph {
         let (round, witness) = place_round(&self.sight, &self.rounds, parents);
         self.rounds.add(round, witness);
         keep_witness(&mut self.sight, witness);
-        self.store.push(event, named);
+        self.store.push(event);
     }
 
     /// The first `len` rows as a value of its own, with their sight and their rounds.

@@ -8,7 +8,7 @@
 //! let place = self.graph.len();
 //! self.graph.reserve()?;
 //! self.kept.reserve()?;
-//! self.graph.push(event, named, parents);
+//! self.graph.push(event, parents);
 //! self.kept.add(&self.graph);
 //! ```
 #![tactic(auto)]

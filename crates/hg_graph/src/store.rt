@@ -18,57 +18,35 @@ use std::hash::{Hash, Hasher};
 use std::marker::Model;
 use std::sync::Arc;
 
-/// What has a name: an event, or the name itself, which is looked up.
+/// A name to be looked up, hashed by its first eight bytes: names are digests, so these spread as well as all 48.
 #[derive(Drop)]
-enum Named<'n> {
-    Event(Arc<Event>),
-    Name(&'n Name),
+struct Key {
+    name: Name,
 }
 
-/// What stands in the index, and what is looked up there. It is hashed by the first eight bytes of its name: names are
-/// digests, so these spread as well as all 48. The index points to events, and keeps no name of its own.
-#[derive(Drop)]
-struct Key<'n> {
-    named: Named<'n>,
-}
-
-const _: () = prove!(size_of::<Key>() == 16);
-
-impl<'n> Model for Key<'n> {
+impl Model for Key {
     ghost use Rattle.std.specs.Prelude.{List, ℕ};
-    ghost use Rattle.hg_graph.specs.Keys.{name_in};
 
     ghost Value = { List ℕ };
 
-    ghost view = { λ s. name_in s.named };
+    ghost view = { λ s. s.name };
 }
 
-impl<'n> Key<'n> {
-    fn name(&self) -> &Name
-        ensures { result.now ≡ self.now }
-    {
-        match &self.named {
-            Named::Event(event) => &event.row().name,
-            Named::Name(name) => name,
-        }
-    }
-}
-
-impl<'n> PartialEq for Key<'n> {
+impl PartialEq for Key {
     ghost eq = { bytes_eq };
 
     ghost laws = { Prim.search (comparing, rules) };
 
-    fn eq(&self, other: &Self) -> bool {
-        self.name() == other.name()
+    fn eq(&self, other: &Key) -> bool {
+        self.name == other.name
     }
 }
 
-impl<'n> Eq for Key<'n> {
+impl Eq for Key {
     ghost laws = { Prim.search (comparing, rules) };
 }
 
-impl<'n> Hash for Key<'n> {
+impl Hash for Key {
     ghost use Rattle.std.specs.Prelude.{[], ◌∷◌, take};
 
     ghost hash_input = { λ k. take 8 k ∷ [] };
@@ -76,7 +54,7 @@ impl<'n> Hash for Key<'n> {
     ghost respects_eq = { Prim.search (hashing, rules) };
 
     fn hash<H: Hasher>(&self, state: &mut H) {
-        state.write(&self.name()[..8]);
+        state.write(&self.name[..8]);
     }
 }
 
@@ -84,7 +62,7 @@ impl<'n> Hash for Key<'n> {
 #[derive(Drop)]
 pub struct RowStore {
     events: Blocks<SharedEvent>,
-    names: IndexSet<Key<'static>>,
+    names: IndexSet<Key>,
 }
 
 impl Model for RowStore {
@@ -146,10 +124,7 @@ impl RowStore {
     pub fn place_of(&self, name: &Name) -> Option<usize>
         ensures { result ≡ found_place self.now.rows name.now }
     {
-        let key = Key {
-            named: Named::Name(name),
-        };
-        self.names.get_index_of(&key)
+        self.names.get_index_of(&Key { name: *name })
     }
 
     /// Takes the memory of one more row.
@@ -162,14 +137,13 @@ impl RowStore {
         Ok(())
     }
 
-    /// One more event, under a name that no other has, and the same once more, by which it is found. Takes no memory.
-    pub fn push(&mut self, event: Arc<Event>, named: Arc<Event>)
+    /// One more event, under a name that no other has. Takes no memory.
+    pub fn push(&mut self, event: Arc<Event>)
         requires room { 1 ≤ self.old.room }
-        requires same { named.value ≡ event.value }
         requires new { place_of self.old.rows event.value.name ≡ length self.old.rows }
         ensures { self.new.rows ≡ self.old.rows ++ event.value ∷ [] }
     {
-        add_name(&mut self.names, named);
+        add_name(&mut self.names, event.row().name);
         self.events.push(SharedEvent::of(event));
     }
 
@@ -182,14 +156,11 @@ impl RowStore {
     }
 }
 
-/// Enters an event under its name, for which there is room.
-fn add_name(names: &mut IndexSet<Key<'static>>, event: Arc<Event>)
+/// Enters a name for which there is room.
+fn add_name(names: &mut IndexSet<Key>, name: Name)
     requires room { 1 ≤ spare names.old }
-    requires new { list_any (bytes_eq event.value.name) names.old.keys ≡ false }
-    ensures { names.new.keys ≡ names.old.keys ++ event.value.name ∷ [] }
+    requires new { list_any (bytes_eq name) names.old.keys ≡ false }
+    ensures { names.new.keys ≡ names.old.keys ++ name ∷ [] }
 {
-    let key = Key {
-        named: Named::Event(event),
-    };
-    names.insert(key).unwrap();
+    names.insert(Key { name }).unwrap();
 }

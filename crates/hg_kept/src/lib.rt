@@ -6,7 +6,7 @@
 //!
 //! ```text
 //! self.kept.reserve()?;
-//! self.graph.push(event, named, parents);
+//! self.graph.push(event, parents);
 //! self.kept.add(&self.graph);
 //!
 //! let count = self.kept.publish(&self.graph, found);

@@ -110,13 +110,12 @@ impl Chronicle {
         ensures err { OnErr result (self.new ≡ self.old) }
     {
         let place = self.graph.len();
-        let named = Arc::try_clone(&event)?;
         self.graph.reserve()?;
         self.kept.reserve()?;
         self.ledger.reserve(place + 1)?;
         self.log.reserve(2 * (place + 1) - self.log.len())?;
         self.last_own = later_place(self.last_own, self.own, event.row().creator, place);
-        self.graph.push(event, named, parents);
+        self.graph.push(event, parents);
         self.kept.add(&self.graph);
         self.log.push_reserved(entry);
         Ok(())
