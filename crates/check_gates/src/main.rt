@@ -1,19 +1,22 @@
 //! Runs the program beside workers at gates where a worker and the lines, or two workers, wait for each other. So it
 //! ends with no wait at its limit only where they work beside each other, and a worker decides without the turn.
-//! It tells how many runs there were, and how many of them waited in vain or wrote another report.
+//! Another gate notes each point that two workers and the lines pass. It tells how many runs there were, and how many
+//! of them waited in vain, passed other points or wrote another report.
 //!
 //! `rt run` in its folder proves and runs it; it prints (`stdout`):
 //!
 //! ```text
-//! 3 runs at gates, 0 differ
+//! 5 runs at gates, 0 differ
 //! ```
 #![tactic(auto)]
 
 mod gates;
+mod noted;
 mod running;
 mod trouble;
 
 use crate::gates::{LinesMeet, WorkerHeld, WorkersMeet};
+use crate::noted::{Noted, noted_script};
 use crate::running::report;
 use crate::trouble::Trouble;
 use check_tally::{Tally, exit};
@@ -22,7 +25,7 @@ use std::process::ExitCode;
 use std::sync::Wait;
 use std::thread::Threads;
 
-/// The script of each run but the last.
+/// The script of the first three runs.
 const SCRIPT: &str = "create A 1\n";
 
 /// What each of them writes.
@@ -64,13 +67,23 @@ fn lines_pass<R: AllocGlobal + Threads + Wait + Sync>(rt: &R) -> Result<bool, Tr
     Ok(written.bytes() == EIGHT_LINES_REPORT.as_bytes() && !gate.is_late())
 }
 
+/// Whether two workers and the lines pass the points that they have to, and write what is written without workers.
+fn points_are_passed<R: AllocGlobal + Threads + Wait + Sync>(rt: &R) -> Result<bool, Trouble> {
+    let script = noted_script(rt.alloc())?;
+    let gate = Noted::new();
+    let written = report(rt, rt.alloc(), "2", script.as_str(), &gate)?;
+    let alone = report(rt, rt.alloc(), "0", script.as_str(), &NoGate)?;
+    Ok(written.bytes() == alone.bytes() && gate.is_complete())
+}
+
 /// Runs the program at each gate.
 fn run_all<R: AllocGlobal + Print + Threads + Wait + Sync>(rt: &R) -> Result<Tally, Trouble> {
     let runs = Tally::new()
         .with(lines_meet(rt)?)
         .with(workers_meet(rt)?)
         .with(many_write(rt)?)
-        .with(lines_pass(rt)?);
+        .with(lines_pass(rt)?)
+        .with(points_are_passed(rt)?);
     runs.print(rt, "runs at gates")?;
     Ok(runs)
 }

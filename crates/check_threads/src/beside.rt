@@ -22,7 +22,7 @@ pub const BEFORE: u32 = 1000;
 pub const AFTER: u32 = 2000;
 
 /// How many turns the worker has.
-const TURNS: u32 = 4;
+pub const TURNS: u32 = 4;
 
 /// Makes the event at this place of a node that was alone, if it is the node's own, or puts it.
 fn replay_row<R: Wait>(

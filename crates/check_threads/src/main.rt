@@ -16,7 +16,7 @@ mod players;
 mod seated;
 mod trouble;
 
-use crate::beside::shared_beside;
+use crate::beside::{TURNS, shared_beside};
 use crate::by_hand::is_as_by_hand;
 use crate::meeting::Meeting;
 use crate::players::{Player, are_same, made_alone, node_of, played_alone, two_members};
@@ -56,7 +56,7 @@ fn ends_as_alone<R: Threads + Wait + Sync, G: Gate + Sync>(
     Ok(same && shared.node.kept().len() >= least)
 }
 
-/// Whether the two branches meet.
+/// Whether the two branches meet, and the worker has its turns.
 fn meets<R: Threads + Wait + Sync>(
     rt: &R,
     alloc: Global,
@@ -65,7 +65,7 @@ fn meets<R: Threads + Wait + Sync>(
     let meeting = Meeting::new();
     let alone = made_alone(alloc, members);
     let same = ends_as_alone(rt, alloc, members, alone, 0, &meeting)?;
-    Ok(same && !meeting.is_late())
+    Ok(same && !meeting.is_late() && meeting.has_turns(TURNS))
 }
 
 /// Shares all nodes, and tells how many there are, and how many differ from what they must be.
