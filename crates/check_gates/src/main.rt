@@ -1,12 +1,12 @@
 //! Runs the program beside workers at gates where a worker and the lines, or two workers, wait for each other. So it
 //! ends with no wait at its limit only where they work beside each other, and a worker decides without the turn.
-//! Another gate notes each point that two workers and the lines pass. It tells how many runs there were, and how many
+//! Another gate notes each point that workers and the lines pass. It tells how many runs there were, and how many
 //! of them waited in vain, passed other points or wrote another report.
 //!
 //! `rt run` in its folder proves and runs it; it prints (`stdout`):
 //!
 //! ```text
-//! 5 runs at gates, 0 differ
+//! 6 runs at gates, 0 differ
 //! ```
 #![tactic(auto)]
 
@@ -67,13 +67,18 @@ fn lines_pass<R: AllocGlobal + Threads + Wait + Sync>(rt: &R) -> Result<bool, Tr
     Ok(written.bytes() == EIGHT_LINES_REPORT.as_bytes() && !gate.is_late())
 }
 
-/// Whether two workers and the lines pass the points that they have to, and write what is written without workers.
-fn points_are_passed<R: AllocGlobal + Threads + Wait + Sync>(rt: &R) -> Result<bool, Trouble> {
+/// Whether one worker, or two, and the lines pass the points that they have to, and write what is written without
+/// workers.
+fn points_are_passed<R: AllocGlobal + Threads + Wait + Sync>(
+    rt: &R,
+    has_second: bool,
+) -> Result<bool, Trouble> {
     let script = noted_script(rt.alloc())?;
     let gate = Noted::new();
-    let written = report(rt, rt.alloc(), "2", script.as_str(), &gate)?;
+    let workers = if has_second { "2" } else { "1" };
+    let written = report(rt, rt.alloc(), workers, script.as_str(), &gate)?;
     let alone = report(rt, rt.alloc(), "0", script.as_str(), &NoGate)?;
-    Ok(written.bytes() == alone.bytes() && gate.is_complete())
+    Ok(written.bytes() == alone.bytes() && gate.is_complete(has_second))
 }
 
 /// Runs the program at each gate.
@@ -83,7 +88,8 @@ fn run_all<R: AllocGlobal + Print + Threads + Wait + Sync>(rt: &R) -> Result<Tal
         .with(workers_meet(rt)?)
         .with(many_write(rt)?)
         .with(lines_pass(rt)?)
-        .with(points_are_passed(rt)?);
+        .with(points_are_passed(rt, false)?)
+        .with(points_are_passed(rt, true)?);
     runs.print(rt, "runs at gates")?;
     Ok(runs)
 }

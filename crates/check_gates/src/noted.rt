@@ -14,19 +14,20 @@ const SYNCS: &str = "sync A B 4\nsync B A 5\n";
 /// How often these two follow.
 const TIMES: usize = 14;
 
-/// A shown node, and three lines more: two work on B's node, and `cut` on none.
-const LAST_LINES: &str = "show A\ncut c a 9\ngive B c\npull B A\n";
+/// A shown node, and three lines more: two work on B's node, and `cut` on none. Then another, and one line on A's node.
+const LAST_LINES: &str = "show A\ncut c a 9\ngive B c\npull B A\nshow B\npull A B\n";
 
-/// How many lines work on A's node: 4 of the first, and 14 syncs. A shown node stands in no batch, and passes no point.
-const LINES_ON_A: u32 = 4 + 14;
+/// How many lines work on A's node: 4 of the first, 14 syncs, and the last line. A shown node stands in no batch, and
+/// passes no point.
+const LINES_ON_A: u32 = 4 + 14 + 1;
 
 /// How many lines work on B's node: 3 of the first, 14 syncs, and 2 of the last.
 const LINES_ON_B: u32 = 3 + 14 + 2;
 
-/// How many turns each worker has. A batch has at most 32 lines and ends at a shown node, so the 36 lines above it are
-/// two batches, and the three below it a third. In each a worker works one turn on each of the two nodes beside the
-/// lines, and one more once they have ended.
-const TURNS: u32 = 3 * 2 * 2;
+/// How many turns each worker has. A batch has at most 32 lines and ends at a shown node, so the 36 lines above the first
+/// are two batches, the three below it a third, and the last line is one by itself. In each a worker works one turn on
+/// each of the two nodes beside the lines, and one more once they have ended.
+const TURNS: u32 = 4 * 2 * 2;
 
 /// These lines, one after the other.
 pub fn noted_script(alloc: Global) -> Result<String, AllocError> {
@@ -89,10 +90,11 @@ impl Noted {
         }
     }
 
-    /// Whether each point was passed as often as it has to be in that script, in turn, and no other one.
-    pub fn is_complete(&self) -> bool {
+    /// Whether each point was passed as often as it has to be in that script beside one worker or two, in turn, and no
+    /// other one.
+    pub fn is_complete(&self, has_second: bool) -> bool {
         self.first.are(TURNS)
-            && self.second.are(TURNS)
+            && self.second.are(if has_second { TURNS } else { 0 })
             && self.lines_on_a.are(LINES_ON_A)
             && self.lines_on_b.are(LINES_ON_B)
             && !self.is_astray.load(Ordering::SeqCst)
