@@ -6,9 +6,9 @@ ghost use Rattle.hg_bits.specs.Lanes.{is_at_least, IsMaximum};
 
 /// In how many lanes the row is at least the other.
 #[tactic(auto, using(hg_model::proofs::PlacesLaws::count_steps))]
-pub fn count_ge(row: &[u32], other: &[u32]) -> u32
+pub fn count_ge(row: &[u16], other: &[u16]) -> u16
     requires same { length row.now ≡ length other.now }
-    requires short { length row.now < 2 ^ 32 }
+    requires short { length row.now < 2 ^ 16 }
     ensures { result ≡ count_below (length row.now) (is_at_least row.now other.now) }
 {
     let mut count = 0;
@@ -21,7 +21,7 @@ pub fn count_ge(row: &[u32], other: &[u32]) -> u32
 }
 
 /// Raises each lane of the row to that of the other.
-pub fn max_into(row: &mut [u32], other: &[u32])
+pub fn max_into(row: &mut [u16], other: &[u16])
     requires { length row.old ≡ length other.now }
     ensures { IsMaximum row.old other.now row.new }
 {
@@ -35,7 +35,7 @@ mod tests {
     use super::*;
 
     // For so many lanes, in how many of them 0, 1, 2, 0, .. is at least 1.
-    const LANES: [(usize, u32); 6] = [(0, 0), (1, 0), (7, 4), (8, 5), (9, 6), (128, 85)];
+    const LANES: [(usize, u16); 6] = [(0, 0), (1, 0), (7, 4), (8, 5), (9, 6), (128, 85)];
 
     #[test]
     fn each_lane_counts(rt: HostRuntime) {
@@ -43,7 +43,7 @@ mod tests {
         for (len, count) in &LANES {
             let mut row = [0; 128];
             for i in 0..128 {
-                row[i] = (i % 3) as u32;
+                row[i] = (i % 3) as u16;
             }
             assert_eq!(rt; count_ge(&row[..*len], &ones[..*len]), *count, "{len}");
             max_into(&mut row[..*len], &ones[..*len]);

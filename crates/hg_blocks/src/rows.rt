@@ -13,8 +13,8 @@ use std::sync::Arc;
 #[derive(Drop)]
 pub struct RowBlocks {
     width: usize,
-    sealed: Vec<Arc<Vec<u32>>>,
-    tail: Vec<u32>,
+    sealed: Vec<Arc<Vec<u16>>>,
+    tail: Vec<u16>,
 }
 
 impl Model for RowBlocks {
@@ -49,7 +49,7 @@ impl RowBlocks {
     }
 
     /// Row `x`.
-    pub fn row(&self, x: usize) -> &[u32]
+    pub fn row(&self, x: usize) -> &[u16]
         requires { x * self.now.width + self.now.width ≤ length self.now.numbers }
         ensures value { (b : ℕ) → b < self.now.width → slice_index result.now b ≡ slice_index self.now.numbers (x * self.now.width + b) }
         ensures len { length result.now ≡ self.now.width }
@@ -78,7 +78,7 @@ impl RowBlocks {
     }
 
     /// One more row. Takes no memory.
-    pub fn push(&mut self, row: &[u32])
+    pub fn push(&mut self, row: &[u16])
         requires room { 1 ≤ self.old.room }
         requires whole { length row.now ≡ self.old.width }
         ensures numbers { self.new.numbers ≡ self.old.numbers ++ row.now }
@@ -106,7 +106,7 @@ impl RowBlocks {
 }
 
 /// The numbers of sealed block number `block`, or those of the tail behind the last one.
-fn chunk<'a>(sealed: &'a [Arc<Vec<u32>>], tail: &'a [u32], width: usize, block: usize) -> &'a [u32]
+fn chunk<'a>(sealed: &'a [Arc<Vec<u16>>], tail: &'a [u16], width: usize, block: usize) -> &'a [u16]
     requires full { AllByRecursion (HasRows width) sealed.now }
     requires few { length tail.now ≤ 64 * width }
     requires place { 0 < width → block ≤ length sealed.now }
@@ -120,7 +120,7 @@ fn chunk<'a>(sealed: &'a [Arc<Vec<u32>>], tail: &'a [u32], width: usize, block: 
 }
 
 /// Row `i` of these numbers.
-fn row_in(numbers: &[u32], width: usize, i: usize) -> &[u32]
+fn row_in(numbers: &[u16], width: usize, i: usize) -> &[u16]
     requires { i * width + width ≤ length numbers.now }
     ensures { result.now ≡ take width (drop (i * width) numbers.now) }
 {
@@ -129,7 +129,7 @@ fn row_in(numbers: &[u32], width: usize, i: usize) -> &[u32]
 }
 
 /// The first rows of these numbers.
-fn first_rows(numbers: &[u32], width: usize, count: usize) -> &[u32]
+fn first_rows(numbers: &[u16], width: usize, count: usize) -> &[u16]
     requires { count * width ≤ length numbers.now }
     ensures { result.now ≡ take (count * width) numbers.now }
 {
@@ -137,7 +137,7 @@ fn first_rows(numbers: &[u32], width: usize, count: usize) -> &[u32]
 }
 
 /// Seals a full tail: a block more, and an empty tail without memory. After want of memory it is as it was.
-fn seal(sealed: &mut Vec<Arc<Vec<u32>>>, tail: &mut Vec<u32>) -> Result<(), Memory>
+fn seal(sealed: &mut Vec<Arc<Vec<u16>>>, tail: &mut Vec<u16>) -> Result<(), Memory>
     ensures same { joined_rows sealed.new.items tail.new.items ≡ joined_rows sealed.old.items tail.old.items }
     ensures sealed { OnOk result (SealsRows sealed.old.items sealed.new.items tail.old.items) }
     ensures empty { OnOk result (tail.new.items ≡ []) }

@@ -89,7 +89,7 @@ fn keeps_rows_of_numbers(rt: HostRuntime) -> Result<(), Memory> {
     rows.reserve()?;
     for x in 0..130 {
         let row = rows.row(x);
-        assert!(rt; row == [x as u32, x as u32 + 1000].as_slice(), "row {x}");
+        assert!(rt; row == [x as u16, x as u16 + 1000].as_slice(), "row {x}");
     }
     Ok(())
 }

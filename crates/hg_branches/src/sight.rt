@@ -196,7 +196,7 @@ impl Sight for BranchSight {
         members_over(seers, self.members)
     }
 
-    fn counts(&self, x: usize) -> Option<&[u32]> {
+    fn counts(&self, x: usize) -> Option<&[u16]> {
         if self.makers.len() == self.members as usize {
             Some(self.counts.own(x))
         } else {

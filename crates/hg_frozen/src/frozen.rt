@@ -108,7 +108,7 @@ impl<S: Sight, R: Rounds> Sight for Frozen<S, R> {
         self.sight.strongly_sees(x, y)
     }
 
-    fn counts(&self, x: usize) -> Option<&[u32]> {
+    fn counts(&self, x: usize) -> Option<&[u16]> {
         self.sight.counts(x)
     }
 }

@@ -230,7 +230,7 @@ impl Sight for EventGraph {
         self.sight.strongly_sees(x, y)
     }
 
-    fn counts(&self, x: usize) -> Option<&[u32]> {
+    fn counts(&self, x: usize) -> Option<&[u16]> {
         self.sight.counts(x)
     }
 }

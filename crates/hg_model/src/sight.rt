@@ -58,8 +58,9 @@ pub trait Sight {
         ensures { result ≡ strongly_sees_in (shape self.now) x y };
 
     /// The ancestors of row `x` by member, where the sight counts them and no member has a fork: for each member one more
-    /// than the place of its last row among them, or 0. A sight that does not count answers `None`.
-    fn counts(&self, x: usize) -> Option<&[u32]>
+    /// than the place of its last row among them, or 0, in 16 bits, since a graph grows to fewer than 65,535 rows. A sight
+    /// that does not count answers `None`.
+    fn counts(&self, x: usize) -> Option<&[u16]>
         requires { x < length (shape self.now).links }
         ensures { IfSome result (λ counts. CountsMembersIn (shape self.now) x counts.now) }
     {
@@ -77,12 +78,12 @@ pub trait Growing: Sight {
         ensures room { OnOk result (1 ≤ room self.new) }
         ensures same { Self.shape self.new ≡ Self.shape self.old };
 
-    /// One more row, by the member, on parents at these places, the self-parent's first, or on none.
+    /// One more row, by the member, on parents at these places, the self-parent's first, or on none, of fewer than 65,535.
     /// Takes no memory; `reserve` comes before it.
     fn extend(&mut self, parents: Parents, creator: Member)
         requires room { 1 ≤ room self.old }
         requires fits { FitsLink (Self.shape self.old).members (Self.shape self.old).links (link_of creator parents) }
-        requires short { length (Self.shape self.old).links + 1 < 2 ^ 32 - 1 }
+        requires short { length (Self.shape self.old).links + 1 < 2 ^ 16 - 1 }
         ensures { Self.shape self.new ≡ with_link (Self.shape self.old) (link_of creator parents) };
 
     /// The graph of the first `len` rows, as a value of its own.
