@@ -84,7 +84,7 @@ module _ (count b end : ℕ) (k : Kept) where
 
 module _ (n : Stakes) (L : List Link) (branches makers ends : List ℕ) (held : HoldsBranches n L branches makers ends) (link : Link) (fits : FitsLink n L link)
     (b : ℕ) (serves : Serves L branches makers link b) (row : List ℕ) (counted : CountsAncestors (L ++ link ∷ []) (branching_of (branches ++ b ∷ []) (with_branch makers b link.creator)) (length L) (slice_index row))
-    (short : length L + 1 < 2 ^ 32 - 1) where
+    (short : length L + 1 < 2 ^ 16 - 1) where
   abbrev C : Branching
   C = branching_of (branches ++ b ∷ []) (with_branch makers b link.creator)
 

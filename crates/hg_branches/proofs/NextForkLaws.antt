@@ -24,7 +24,7 @@ no_fork_on_own n L branches makers ends held one x m hx =
     sym (held.own (get_or branches a 0) (omega arith)) ∙ (sym (held.lines.made a ha) ∙ by_m))
 
 module _ (n : Stakes) (L : List Link) (branches makers ends : List ℕ) (held : HoldsBranches n L branches makers ends) (counts : List (List ℕ)) (rows : HoldsCounts n L branches makers counts)
-    (masks : List ℕ) (forks : HoldsForks L masks) (short : length L + 1 < 2 ^ 32 - 1) where
+    (masks : List ℕ) (forks : HoldsForks L masks) (short : length L + 1 < 2 ^ 16 - 1) where
   more_told : (x z : ℕ) → x < length L → z < length L → (m : ℕ) → counts_more makers (count_in counts x) (count_in counts z) m ≡ is_apart L x z m
   more_told x z hx hz m =
       apart_told L held.shaped.earlier (branching_of branches makers) held.lines (length makers) held.known x z (count_in counts x) (count_in counts z) hx (rows.row x hx) (rows.row z hz) m

@@ -185,7 +185,7 @@ module _ (members widest : ℕ) (own : List ℕ) (tails : List Tail) (keeps : Ke
         omega (arith, last_long);
   }
 
-  pub keeps_more : length tails + 1 < 2 ^ 32 → KeepsNumbers members (max widest above) own_more tails_more
+  pub keeps_more : length tails + 1 < 2 ^ 16 → KeepsNumbers members (max widest above) own_more tails_more
   keeps_more short =
       let many = length_push tails added in
       record {

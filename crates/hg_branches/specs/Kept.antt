@@ -8,7 +8,7 @@ use Rattle.hg_branches.specs.Columns.{branching_of}
 
 -- what stands where a branch has no descendant
 abbrev pub no_first : ℕ
-no_first = 4294967295
+no_first = 65535
 
 -- one more than the place of the row; its branch; the number of the kept row before it on that branch, or 0; and for each
 -- member's own branch its first descendant. The number of a kept row is one more than its index

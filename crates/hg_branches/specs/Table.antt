@@ -39,7 +39,7 @@ rows_of members own tails = table (row_of members own tails) (length tails)
 -- there are as many numbers as that takes, and no tail has more than `widest`
 pub record KeepsNumbers (members widest : ℕ) (own : List ℕ) (tails : List Tail) : Type 0 where
   pub long : length own ≡ length tails * members
-  pub short : length tails < 2 ^ 32
+  pub short : length tails < 2 ^ 16
   pub narrow : (x : ℕ) → x < length tails → tail_width tails x ≤ widest
 
 -- there is memory for a row of the members' own branches, and for so many numbers of the others and in the making

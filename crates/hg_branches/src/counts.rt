@@ -12,7 +12,7 @@ pub struct RowCounts<'a> {
     table: &'a CountTable,
     row: usize,
     /// The numbers of the members' own branches.
-    own: &'a [u32],
+    own: &'a [u16],
 }
 
 impl<'a> Model for RowCounts<'a> {
@@ -27,7 +27,7 @@ impl<'a> Model for RowCounts<'a> {
 
 impl<'a> RowCounts<'a> {
     /// The number of branch `b`.
-    pub fn at(&self, b: usize) -> u32
+    pub fn at(&self, b: usize) -> u16
         ensures { result ≡ slice_index self.now.row b }
     {
         match self.own.get(b) {
@@ -37,7 +37,7 @@ impl<'a> RowCounts<'a> {
     }
 
     /// The numbers of the members' own branches.
-    pub fn own(&self) -> &[u32]
+    pub fn own(&self) -> &[u16]
         ensures value { result.now ≡ take self.now.members self.now.row }
         ensures len { length result.now ≡ self.now.members }
     {
@@ -68,7 +68,7 @@ pub fn known_place(on: Option<(usize, usize)>, x: usize) -> usize
 }
 
 /// The number of branch `b`, or 0 where there is none.
-pub fn count_at(row: &[u32], b: usize) -> u32
+pub fn count_at(row: &[u16], b: usize) -> u16
     ensures { result ≡ slice_index row.now b }
 {
     match row.get(b) {
@@ -78,7 +78,7 @@ pub fn count_at(row: &[u32], b: usize) -> u32
 }
 
 /// Raises as many of the first numbers as there are others.
-pub fn raise_first(row: &mut [u32], others: &[u32])
+pub fn raise_first(row: &mut [u16], others: &[u16])
     requires { length others.now ≤ length row.old }
     ensures len { length row.new ≡ length row.old }
     ensures each { (b : ℕ) → slice_index row.new b ≡ max (slice_index row.old b) (slice_index others.now b) }

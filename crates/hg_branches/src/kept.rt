@@ -10,19 +10,19 @@ use std::alloc::Global;
 use std::marker::Model;
 
 /// In place of a first descendant where there is none. A graph's ends are lower.
-const NO_FIRST: u32 = 4_294_967_295;
+const NO_FIRST: u16 = 65_535;
 
 /// The first descendants of a row, one on each member's own branch. The number of a kept row is one more than its index.
 #[derive(Drop)]
 pub struct KeptRow {
     /// One more than the place of the row.
-    end: u32,
+    end: u16,
     /// The row's branch.
     branch: usize,
     /// The number of the kept row before it on its branch, or 0.
-    before: u32,
+    before: u16,
     /// For each member's own branch one more than the place of the first descendant there.
-    firsts: Vec<u32>,
+    firsts: Vec<u16>,
     /// How many of those there are, at most.
     reached: u32,
 }
@@ -54,7 +54,7 @@ impl KeptRow {
     }
 
     /// Takes the last row of the graph, on this branch, behind the kept row of this number.
-    pub fn begin(&mut self, branch: usize, end: u32, before: u32)
+    pub fn begin(&mut self, branch: usize, end: u16, before: u16)
         ensures end { self.new.end ≡ end }
         ensures branch { self.new.branch ≡ branch }
         ensures before { self.new.before ≡ before }
@@ -74,7 +74,7 @@ impl KeptRow {
     }
 
     /// Notes that the next row has come, which counts so much of this row's branch, on this branch.
-    pub fn note(&mut self, count: u32, branch: usize, end: u32)
+    pub fn note(&mut self, count: u16, branch: usize, end: u16)
         ensures { self.new ≡ noted_once count branch end self.old }
     {
         if self.end <= count && end < count_at(&self.firsts, branch) {
@@ -85,7 +85,7 @@ impl KeptRow {
 
     /// Whether these counts tell of the first descendants on more than two thirds of the members' own branches. They are not
     /// looked at where there are not so many first descendants.
-    pub fn is_strong_by(&self, counts: &[u32]) -> bool
+    pub fn is_strong_by(&self, counts: &[u16]) -> bool
         requires same { length counts.now ≡ length self.now.firsts }
         requires low { (b : ℕ) → b < length counts.now → slice_index counts.now b < no_first }
         ensures { result ≡ is_strong_by_own self.now.firsts counts.now }
@@ -94,25 +94,25 @@ impl KeptRow {
         if !is_supermajority(members, self.reached) {
             return false;
         }
-        is_supermajority(members, count_ge(counts, &self.firsts))
+        is_supermajority(members, u32::from(count_ge(counts, &self.firsts)))
     }
 
     /// One more than the place of the row.
-    pub fn end(&self) -> u32
+    pub fn end(&self) -> u16
         ensures { result ≡ self.now.end }
     {
         self.end
     }
 
     /// The number of the kept row before it on its branch, or 0.
-    pub fn before(&self) -> u32
+    pub fn before(&self) -> u16
         ensures { result ≡ self.now.before }
     {
         self.before
     }
 
     /// For each member's own branch one more than the place of the first descendant there.
-    pub fn firsts(&self) -> &[u32]
+    pub fn firsts(&self) -> &[u16]
         ensures { result.now ≡ self.now.firsts }
     {
         &self.firsts
@@ -120,7 +120,7 @@ impl KeptRow {
 }
 
 /// Leaves no first descendant.
-fn clear(firsts: &mut [u32])
+fn clear(firsts: &mut [u16])
     ensures len { length firsts.new ≡ length firsts.old }
     ensures each { (b : ℕ) → b < length firsts.old → slice_index firsts.new b ≡ no_first }
 {
@@ -133,12 +133,12 @@ fn clear(firsts: &mut [u32])
 /// row counts more than its self-parent, which counts what is `known`.
 pub fn note_all(
     kept: &mut [KeptRow],
-    newest: &[u32],
-    tops: &[u32],
+    newest: &[u16],
+    tops: &[u16],
     known: &RowCounts,
     counts: &RowCounts,
     branch: usize,
-    end: u32,
+    end: u16,
 )
     requires same { known.now.members ≡ counts.now.members }
     requires newest_all { counts.now.members ≤ length newest.now }
@@ -157,12 +157,12 @@ pub fn note_all(
 /// Notes it in the kept rows of the members' own branches, of which these are the counts.
 fn note_own(
     kept: &mut [KeptRow],
-    newest: &[u32],
-    tops: &[u32],
-    known: &[u32],
-    counts: &[u32],
+    newest: &[u16],
+    tops: &[u16],
+    known: &[u16],
+    counts: &[u16],
     branch: usize,
-    end: u32,
+    end: u16,
 )
     requires same { length known.now ≡ length counts.now }
     requires newest_all { length counts.now ≤ length newest.now }
@@ -185,11 +185,11 @@ fn note_own(
 /// Notes it in the kept rows of the other branches.
 fn note_others(
     kept: &mut [KeptRow],
-    newest: &[u32],
+    newest: &[u16],
     known: &RowCounts,
     counts: &RowCounts,
     branch: usize,
-    end: u32,
+    end: u16,
 )
     requires chains { HoldsChains kept.old }
     requires newest { HoldsNewest kept.old newest.now }
@@ -211,12 +211,12 @@ fn note_others(
 /// self-parent has as ancestor, which ends at `least` or before.
 fn note_branch(
     kept: &mut [KeptRow],
-    newest: &[u32],
+    newest: &[u16],
     c: usize,
-    least: u32,
-    count: u32,
+    least: u16,
+    count: u16,
     branch: usize,
-    end: u32,
+    end: u16,
 )
     requires there { c < length newest.now }
     requires chains { HoldsChains kept.old }
@@ -246,7 +246,7 @@ pub fn kept_row(kept: &[KeptRow], index: usize) -> &KeptRow
 }
 
 /// The first descendants of the kept row with this index.
-pub fn firsts_at(kept: &[KeptRow], index: usize) -> &[u32]
+pub fn firsts_at(kept: &[KeptRow], index: usize) -> &[u16]
     requires { index < length kept.now }
     ensures { result.now ≡ (kept_at kept.now index).firsts }
 {
@@ -254,7 +254,7 @@ pub fn firsts_at(kept: &[KeptRow], index: usize) -> &[u32]
 }
 
 /// One more than the place of the last kept row, or 0 where none is kept.
-pub fn last_end(kept: &[KeptRow]) -> u32
+pub fn last_end(kept: &[KeptRow]) -> u16
     ensures none { length kept.now ≡ 0 → result ≡ 0 }
     ensures last { 0 < length kept.now → result ≡ (kept_at kept.now (length kept.now - 1)).end }
 {

@@ -12,11 +12,11 @@ use hg_blocks::RowBlocks;
 
 /// Makes the row the greatest of its parents' rows, and on its own branch its end.
 pub fn join_own(
-    row: &mut Vec<u32>,
+    row: &mut Vec<u16>,
     own: &RowBlocks,
     on: Option<(usize, usize)>,
     branch: usize,
-    end: u32,
+    end: u16,
 )
     requires room { own.now.width ≤ vec_capacity row.old }
     requires places { AllByRecursion (has_own_row own.now) (pair_list on) }
@@ -36,8 +36,8 @@ pub fn join_own(
 
 /// Makes the row the greatest of its parents' tails, without the number of its own branch and cut behind its last one that
 /// is not 0.
-pub fn join_tails(row: &mut Vec<u32>, tails: &TailBlocks, on: Option<(usize, usize)>, own: usize)
-    requires short { length tails.now.rows < 2 ^ 32 }
+pub fn join_tails(row: &mut Vec<u16>, tails: &TailBlocks, on: Option<(usize, usize)>, own: usize)
+    requires short { length tails.now.rows < 2 ^ 16 }
     requires places { AllByRecursion (λ p. p < length tails.now.rows) (pair_list on) }
     requires room { AllByRecursion (λ p. tail_width tails.now.rows p ≤ vec_capacity row.old) (pair_list on) }
     ensures each { (k : ℕ) → slice_index row.new.items k ≡ tail_next tails.now.rows (pair_list on) own k }
@@ -56,8 +56,8 @@ pub fn join_tails(row: &mut Vec<u32>, tails: &TailBlocks, on: Option<(usize, usi
 }
 
 /// Raises the numbers of the parents' own branches to their ends, and makes that of the row's own branch 0.
-fn set_own(row: &mut [u32], tails: &TailBlocks, self_place: usize, other: usize, own: usize)
-    requires short { length tails.now.rows < 2 ^ 32 }
+fn set_own(row: &mut [u16], tails: &TailBlocks, self_place: usize, other: usize, own: usize)
+    requires short { length tails.now.rows < 2 ^ 16 }
     requires first { self_place < length tails.now.rows }
     requires second { other < length tails.now.rows }
     requires first_width { (tail_at tails.now.rows self_place).own ≤ length row.old }
@@ -65,13 +65,13 @@ fn set_own(row: &mut [u32], tails: &TailBlocks, self_place: usize, other: usize,
     ensures len { length row.new ≡ length row.old }
     ensures each { (k : ℕ) → slice_index row.new k ≡ tail_made tails.now.rows self_place other own k (slice_index row.old k) }
 {
-    raise_at(row, tails.own(self_place), self_place as u32 + 1);
-    raise_at(row, tails.own(other), other as u32 + 1);
+    raise_at(row, tails.own(self_place), self_place as u16 + 1);
+    raise_at(row, tails.own(other), other as u16 + 1);
     clear_at(row, own);
 }
 
 /// Makes the row the greatest of these two, with so many numbers.
-fn join(row: &mut Vec<u32>, one: &[u32], other: &[u32], len: usize)
+fn join(row: &mut Vec<u16>, one: &[u16], other: &[u16], len: usize)
     requires one { length one.now ≤ len }
     requires other { length other.now ≤ len }
     requires room { len ≤ vec_capacity row.old }
@@ -86,7 +86,7 @@ fn join(row: &mut Vec<u32>, one: &[u32], other: &[u32], len: usize)
 }
 
 /// Raises the number before place `above`, if there is one, to `end`.
-fn raise_at(row: &mut [u32], above: usize, end: u32)
+fn raise_at(row: &mut [u16], above: usize, end: u16)
     requires { above ≤ length row.old }
     ensures len { length row.new ≡ length row.old }
     ensures each { (k : ℕ) → slice_index row.new k ≡ max (slice_index row.old k) (cond (k + 1 == above) end 0) }
@@ -97,7 +97,7 @@ fn raise_at(row: &mut [u32], above: usize, end: u32)
 }
 
 /// Makes the number before place `above` 0, if there is one.
-fn clear_at(row: &mut [u32], above: usize)
+fn clear_at(row: &mut [u16], above: usize)
     ensures len { length row.new ≡ length row.old }
     ensures each { (k : ℕ) → slice_index row.new k ≡ cond (k + 1 == above) 0 (slice_index row.old k) }
 {
@@ -107,7 +107,7 @@ fn clear_at(row: &mut [u32], above: usize)
 }
 
 /// How many numbers there are up to the last one that is not 0.
-fn len_of(row: &[u32]) -> usize
+fn len_of(row: &[u16]) -> usize
     ensures within { result ≤ length row.now }
     ensures rest { (k : ℕ) → result ≤ k → slice_index row.now k ≡ 0 }
 {

@@ -44,7 +44,7 @@ pub fn strong_by_firsts(
     sight: &BranchSight,
     makers: &[Member],
     counts: &RowCounts,
-    firsts: &[u32],
+    firsts: &[u16],
     y: usize,
 ) -> bool
     requires place { y < length sight.now.shape.links }
@@ -62,13 +62,13 @@ pub fn strong_by_firsts(
 
 /// How many members' own branches have their first descendant counted.
 #[tactic(auto, using(hg_model::proofs::PlacesLaws::count_steps))]
-fn count_own(counts: &RowCounts, firsts: &[u32]) -> u32
+fn count_own(counts: &RowCounts, firsts: &[u16]) -> u32
     requires few { length firsts.now ≤ 128 }
     requires wide { length firsts.now ≡ counts.now.members }
     ensures value { result ≡ count_below (length firsts.now) (own_sees firsts.now counts.now.row) }
     ensures few { result ≤ 128 }
 {
-    count_ge(counts.own(), firsts)
+    u32::from(count_ge(counts.own(), firsts))
 }
 
 /// How many members are in the set.
@@ -85,7 +85,7 @@ fn others(
     sight: &BranchSight,
     makers: &[Member],
     counts: &RowCounts,
-    firsts: &[u32],
+    firsts: &[u16],
     y: usize,
 ) -> u128
     requires place { y < length sight.now.shape.links }
@@ -107,7 +107,7 @@ fn with_other(
     sight: &BranchSight,
     makers: &[Member],
     counts: &RowCounts,
-    firsts: &[u32],
+    firsts: &[u16],
     b: usize,
     y: usize,
 ) -> u128

@@ -23,13 +23,13 @@ pub struct BranchSight {
     alloc: Global,
     members: u32,
     links: Blocks<PlacedLink>,
-    /// For each row its branch. There may be more branches than a `u32` counts: one for each member and each row.
+    /// For each row its branch. There may be more branches than 16 bits count: one for each member and each row.
     branches: Blocks<usize>,
     /// For each branch the member whose rows it has. The first branches are the members' own.
     makers: Vec<Member>,
     /// For each branch one more than the place of its last row, or 0. In a prefix it may be more, which tells nothing false of
     /// the rows that are there: a graph that is grown from it may open a branch more than it need.
-    ends: Vec<u32>,
+    ends: Vec<u16>,
     /// For each row and branch one more than the place of the branch's last row among the row's ancestors, or 0.
     counts: CountTable,
     /// For each row the members with a fork among its ancestors.
@@ -37,11 +37,11 @@ pub struct BranchSight {
     /// The rows of which the first descendants are kept, in the order of the graph; a prefix has none.
     kept: Vec<KeptRow>,
     /// For each branch the number of its last kept row, or 0.
-    newest: Vec<u32>,
+    newest: Vec<u16>,
     /// For each branch the end of its last kept row, or 0.
-    tops: Vec<u32>,
+    tops: Vec<u16>,
     /// For each row its number among the kept rows, or 0. Rows past its end have 0 too: a prefix has no entries.
-    numbers: Vec<u32>,
+    numbers: Vec<u16>,
     /// Whether there is memory for a row.
     ready: bool,
     /// The next kept row, if there is memory for one.
@@ -90,14 +90,14 @@ impl BranchSight {
         ensures { self.new ≡ self.old }
     {
         let end = self.links.len();
-        if self.numbers.len() == end && last_end(&self.kept) < end as u32 {
+        if self.numbers.len() == end && last_end(&self.kept) < end as u16 {
             if let Some(mut row) = self.spare_kept.take() {
                 let branch = self.branches[end - 1];
-                row.begin(branch, end as u32, self.newest[branch]);
+                row.begin(branch, end as u16, self.newest[branch]);
                 self.kept.push_reserved(row);
-                let number = self.kept.len() as u32;
+                let number = self.kept.len() as u16;
                 self.newest[branch] = number;
-                self.tops[branch] = end as u32;
+                self.tops[branch] = end as u16;
                 self.numbers[end - 1] = number;
             }
         }
@@ -232,7 +232,7 @@ impl Growing for BranchSight {
         let many = members < self.makers.len() || members <= branch;
         let forked = forked_next(&self.makers, &self.counts, &self.forked, many, on, creator);
         let row = self.links.len();
-        let end = row as u32 + 1;
+        let end = row as u16 + 1;
         self.ready = false;
         self.counts.push(on, branch);
         let known = row_of(&self.counts, known_place(on, row));
@@ -263,7 +263,7 @@ impl Growing for BranchSight {
             links: self.links.cloned_prefix(len)?,
             branches: self.branches.prefix(len)?,
             makers: Vec::from_slice(self.alloc, &self.makers[..many])?,
-            ends: ends_within(self.alloc, &self.ends[..many], len as u32)?,
+            ends: ends_within(self.alloc, &self.ends[..many], len as u16)?,
             counts: self.counts.prefix(self.alloc, len)?,
             forked: self.forked.prefix(len)?,
             kept: Vec::new(self.alloc),

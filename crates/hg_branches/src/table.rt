@@ -16,7 +16,7 @@ mod tests;
 
 /// For each row and branch one more than the place of the branch's last row among the row's ancestors, or 0. The first
 /// branches are the members' own.
-/// Where no row stands on another branch, a row costs four bytes for each member. Prefixes share the sealed blocks.
+/// Where no row stands on another branch, a row costs two bytes for each member. Prefixes share the sealed blocks.
 #[derive(Drop)]
 pub struct CountTable {
     /// Of each row the numbers of the members' own branches, in the width of the members.
@@ -26,7 +26,7 @@ pub struct CountTable {
     /// How many numbers a tail may have.
     widest: usize,
     /// Memory in which the next row is made.
-    row: Vec<u32>,
+    row: Vec<u16>,
 }
 
 impl Model for CountTable {
@@ -62,7 +62,7 @@ impl CountTable {
     }
 
     /// What row `x` counts of branch `b`.
-    pub fn at(&self, x: usize, b: usize) -> u32
+    pub fn at(&self, x: usize, b: usize) -> u16
         requires { x < length self.now.rows }
         ensures { result ≡ count_in self.now.rows x b }
     {
@@ -75,7 +75,7 @@ impl CountTable {
     }
 
     /// What row `x` counts of the members' own branches.
-    pub fn own(&self, x: usize) -> &[u32]
+    pub fn own(&self, x: usize) -> &[u16]
         requires { x < length self.now.rows }
         ensures value { result.now ≡ take self.now.members (slice_index_or self.now.rows x []) }
         ensures len { length result.now ≡ self.now.members }
@@ -101,11 +101,11 @@ impl CountTable {
     pub fn push(&mut self, on: Option<(usize, usize)>, branch: usize)
         requires room { 1 ≤ self.old.room }
         requires places { AllByRecursion (λ p. p < length self.old.rows) (pair_list on) }
-        requires short { length self.old.rows < 2 ^ 32 - 1 }
+        requires short { length self.old.rows < 2 ^ 16 - 1 }
         requires fits { branch < 2 ^ 64 - 1 }
         ensures { AddsCounts self.old self.new (pair_list on) branch }
     {
-        let end = self.tails.len() as u32 + 1;
+        let end = self.tails.len() as u16 + 1;
         join_own(&mut self.row, &self.own, on, branch, end);
         self.own.push(&self.row);
         let own = (branch + 1).saturating_sub(self.own.width());

@@ -44,7 +44,7 @@ impl TailBlocks {
 
     /// How many rows there are, where that is a number of the machine.
     pub fn len(&self) -> usize
-        requires { length self.now.rows < 2 ^ 32 }
+        requires { length self.now.rows < 2 ^ 16 }
         ensures { result ≡ length self.now.rows }
     {
         64 * self.sealed.len() + self.last.len()
@@ -59,7 +59,7 @@ impl TailBlocks {
     }
 
     /// What row `x` counts of the others of these branches.
-    pub fn numbers(&self, x: usize) -> &[u32]
+    pub fn numbers(&self, x: usize) -> &[u16]
         requires { x < length self.now.rows }
         ensures { result.now ≡ (tail_at self.now.rows x).numbers }
     {
@@ -75,15 +75,15 @@ impl TailBlocks {
     }
 
     /// What row `x` counts of the branch at place `k`.
-    pub fn at(&self, x: usize, k: usize) -> u32
+    pub fn at(&self, x: usize, k: usize) -> u16
         requires place { x < length self.now.rows }
-        requires short { length self.now.rows < 2 ^ 32 }
+        requires short { length self.now.rows < 2 ^ 16 }
         ensures { result ≡ tail_count self.now.rows x k }
     {
         let number = count_at(self.numbers(x), k);
         let own = self.own(x);
         if own > 0 && own - 1 == k {
-            return number.max(x as u32 + 1);
+            return number.max(x as u16 + 1);
         }
         number
     }
@@ -100,7 +100,7 @@ impl TailBlocks {
     }
 
     /// One more row. Takes no memory.
-    pub fn push(&mut self, own: usize, numbers: &[u32])
+    pub fn push(&mut self, own: usize, numbers: &[u16])
         requires { length numbers.now < self.old.room }
         ensures { self.new.rows ≡ self.old.rows ++ record { own = own; numbers = numbers.now } ∷ [] }
     {

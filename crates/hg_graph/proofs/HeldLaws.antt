@@ -90,7 +90,7 @@ self_forkers n L m parents self_place is = ap (forkers n) (self_push n L m paren
 -- what a row needs, and does, that may come into a graph with these parents; it is read of a shared event
 pub record Comes (g : Graph) (row shared : Row) (parents : List ℕ) (sight watched : Shape) : Type 0 where
   pub fits : FitsLink sight.members sight.links (link_of row.creator parents)
-  pub short : length sight.links + 1 < 4294967295
+  pub short : length sight.links + 1 < 65535
   pub self_fits : (self_place : Option ℕ) → place_list self_place ≡ first_place parents → FitsLink watched.members watched.links (self_link_of row.creator self_place)
   pub fresh : place_of g.rows shared.name ≡ length g.rows
   pub last : (after : Shape) → after ≡ with_link sight (link_of row.creator parents) → parents ≡ last_parents after

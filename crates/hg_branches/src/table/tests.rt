@@ -23,7 +23,7 @@ const ROWS: [(Option<(usize, usize)>, usize); 12] = [
 ];
 
 /// One more than the last place that each row has among its ancestors on branches 0 to 4.
-const COUNTS: [[u32; 5]; 12] = [
+const COUNTS: [[u16; 5]; 12] = [
     [1, 0, 0, 0, 0],
     [0, 2, 0, 0, 0],
     [3, 2, 0, 0, 0],

@@ -19,14 +19,16 @@ fill-requires-clause-places c =
 pub of-requires : goal.of-requires
 of-requires c =
     let fits = subst (λ (g : ShapeWithRoom). FitsLink g.shape.members g.shape.links (link_of c.args.creator c.args.parents)) (sym c.self.view_is) c.requires.fits in
-    let short = subst (λ (g : ShapeWithRoom). length g.shape.links + 1 < 4294967295) (sym c.self.view_is) c.requires.short in
+    let few = subst (λ (g : ShapeWithRoom). length g.shape.links + 1 < 65535) (sym c.self.view_is) c.requires.short in
+    let short : length c.self.inside.links.items + 1 < 4294967295 = omega (arith, few) in
     places_kept c.self.inside.members c.self.inside.links.items c.args.creator c.args.parents fits short
 
 pub invariant_of-self : goal.invariant_of-self
 invariant_of-self c =
     let L = c.self.inside.links.items in
     let fits = subst (λ (g : ShapeWithRoom). FitsLink g.shape.members g.shape.links (link_of c.args.creator c.args.parents)) (sym c.self.view_is) c.requires.fits in
-    let short = subst (λ (g : ShapeWithRoom). length g.shape.links + 1 < 4294967295) (sym c.self.view_is) c.requires.short in
+    let few = subst (λ (g : ShapeWithRoom). length g.shape.links + 1 < 65535) (sym c.self.view_is) c.requires.short in
+    let short : length L + 1 < 4294967295 = omega (arith, few) in
     let row_is : c.fill.new.row ≡ table (λ k. eqb k (length L) || is_above L c.args.parents k) (length L + 1) =
     subst (λ (L : List Link). c.fill.new.row ≡ table (λ k. eqb k (length L) || is_above L c.args.parents k) (length L + 1)) c.deref.ensures.value c.fill.ensures in
     let mask_is : (m : ℕ) → mask_has c.forked_below_next-forked.result m ≡ has_fork_below (L ++ link_of c.args.creator c.args.parents ∷ []) (length L) m =

@@ -166,7 +166,7 @@ open_branch-requires-2-clause-there c =
 pub of-requires : goal.of-requires
 of-requires c =
     let fits = subst (λ (g : ShapeWithRoom). FitsLink g.shape.members g.shape.links (link_of c.args.creator c.args.parents)) (sym c.self.view_is) c.requires.fits in
-    let short = subst (λ (g : ShapeWithRoom). length g.shape.links + 1 < 4294967295) (sym c.self.view_is) c.requires.short in
+    let short = subst (λ (g : ShapeWithRoom). length g.shape.links + 1 < 65535) (sym c.self.view_is) c.requires.short in
     places_kept c.self.inside.members c.self.inside.links.items c.args.creator c.args.parents fits short
 
 pub invariant_of-self : goal.invariant_of-self
@@ -179,7 +179,7 @@ invariant_of-self c =
     let on = c.pair-on.result in
     let on_is : pair_list on ≡ c.args.parents = c.pair-on.ensures in
     let fits = subst (λ (g : ShapeWithRoom). FitsLink g.shape.members g.shape.links link) (sym c.self.view_is) c.requires.fits in
-    let short = subst (λ (g : ShapeWithRoom). length g.shape.links + 1 < 4294967295) (sym c.self.view_is) c.requires.short in
+    let short = subst (λ (g : ShapeWithRoom). length g.shape.links + 1 < 65535) (sym c.self.view_is) c.requires.short in
     let b = c.branch_for-branch.result in
     let b_is = branch_is s.branches.items s.ends.items by on c.args.parents s.branches.items c.deref.result.now b c.branch_for-branch.ensures refl c.deref.ensures.value on_is in
     let serves : Serves L s.branches.items s.makers.items link b = subst (λ k. Serves L s.branches.items s.makers.items link k) (sym b_is)

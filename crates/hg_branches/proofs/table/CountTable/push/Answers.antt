@@ -58,7 +58,7 @@ tails_grown c = c.push-2.ensures ∙ ap (λ (l : List ℕ). c.self.inside.tails.
 pub invariant_of-self : goal.invariant_of-self
 invariant_of-self c =
     let s = c.self.inside in
-    let short : length s.tails.rows + 1 < 2 ^ 32 = omega (arith, ap (λ (t : CountsWithRoom). length t.rows) c.self.view_is, rows_many s.own.width s.own.numbers s.tails.rows, c.requires.short) in
+    let short : length s.tails.rows + 1 < 2 ^ 16 = omega (arith, ap (λ (t : CountsWithRoom). length t.rows) c.self.view_is, rows_many s.own.width s.own.numbers s.tails.rows, c.requires.short) in
     rw (c.push.ensures.width, own_grown c, tails_grown c, c.max-self-inside.ensures) (keeps_more s.own.width s.widest s.own.numbers s.tails.rows c.self.invariant _ _ _ _ _ (made c) short)
 
 pub returns : goal.returns
