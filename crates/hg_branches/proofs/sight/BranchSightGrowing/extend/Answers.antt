@@ -166,7 +166,8 @@ open_branch-requires-2-clause-there c =
 pub of-requires : goal.of-requires
 of-requires c =
     let fits = subst (λ (g : ShapeWithRoom). FitsLink g.shape.members g.shape.links (link_of c.args.creator c.args.parents)) (sym c.self.view_is) c.requires.fits in
-    let short = subst (λ (g : ShapeWithRoom). length g.shape.links + 1 < 65535) (sym c.self.view_is) c.requires.short in
+    let few = subst (λ (g : ShapeWithRoom). length g.shape.links + 1 < 65535) (sym c.self.view_is) c.requires.short in
+    let short : length c.self.inside.links.items + 1 < 4294967295 = omega (arith, few) in
     places_kept c.self.inside.members c.self.inside.links.items c.args.creator c.args.parents fits short
 
 pub invariant_of-self : goal.invariant_of-self
