@@ -1,4 +1,4 @@
-ghost use Rattle.std.specs.Prelude.{◌≡◌, ◌<◌, ◌≤◌, ◌-◌, ◌^◌, All, length, replicate};
+ghost use Rattle.std.specs.Prelude.{◌≡◌, ℕ, ◌<◌, ◌≤◌, ◌-◌, ◌^◌, All, length, replicate, slice_index};
 ghost use Rattle.hg_model.specs.Prefix.{links_of};
 ghost use Rattle.hg_order.specs.Famous.{AreFamous};
 ghost use Rattle.hg_order.specs.Counted.{AreLowered, IfShared};
@@ -6,12 +6,16 @@ ghost use Rattle.hg_order.specs.Counted.{AreLowered, IfShared};
 use hg_model::{Prefix, Sight, is_of_graph};
 
 /// For each member one more than the place of the last of its rows that all unique famous witnesses of a round have as
-/// ancestor, or 0; `None` where their ancestors are not counted. A row by the member is received where it stands below.
-pub fn least_counts<P: Prefix>(p: &P, famous: &[usize]) -> Option<[u32; 128]>
+/// ancestor, or 0; `None` where their ancestors are not counted, or there are no witnesses. A row by the member is
+/// received where it stands below.
+pub fn least_counts<P: Prefix>(p: &P, famous: &[usize]) -> Option<[u16; 128]>
     requires { AreFamous (P.graph p.now) famous.now }
     ensures { IfShared (P.graph p.now) famous.now result }
 {
     is_of_graph(p);
+    if famous.is_empty() {
+        return None;
+    }
     let mut least = no_bounds();
     for w in famous {
         match p.counts(*w) {
@@ -22,17 +26,18 @@ pub fn least_counts<P: Prefix>(p: &P, famous: &[usize]) -> Option<[u32; 128]>
     Some(least)
 }
 
-/// Numbers below which all rows stand.
-fn no_bounds() -> [u32; 128]
-    ensures { result ≡ replicate 128 (2 ^ 32 - 1) }
+/// Numbers that each count in 16 bits lowers to itself.
+fn no_bounds() -> [u16; 128]
+    ensures { result ≡ replicate 128 (2 ^ 16 - 1) }
 {
-    [u32::MAX; 128]
+    [u16::MAX; 128]
 }
 
 /// Lowers as many of the first numbers as there are others to these.
-pub fn lower_to(numbers: &mut [u32], others: &[u32])
+pub fn lower_to(numbers: &mut [u16], others: &[u16])
     requires { length others.now ≤ length numbers.old }
-    ensures { AreLowered numbers.old others.now numbers.new }
+    ensures lowered { AreLowered numbers.old others.now numbers.new }
+    ensures short { (m : ℕ) → m < length others.now → slice_index others.now m ≤ 2 ^ 16 - 1 }
 {
     for i in 0..others.len() {
         numbers[i] = numbers[i].min(others[i]);

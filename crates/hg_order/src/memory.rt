@@ -78,7 +78,7 @@ fn clear_tallies(tallies: &mut Vec<Tally>, count: usize, need: u32)
 pub fn count_times<P: Prefix>(
     p: &P,
     famous: &[usize],
-    least: &[u32; 128],
+    least: &[u16; 128],
     low: usize,
     holders: &mut Vec<Holder>,
     tallies: &mut Vec<Tally>,

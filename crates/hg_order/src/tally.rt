@@ -70,9 +70,9 @@ fn tally_line<S: Sight>(
 /// Tallies the rows that are not below `before`, and below `counts` and `least`, member by member.
 fn tally_between<S: Sight>(
     sight: &S,
-    before: &[u32],
-    counts: &[u32],
-    least: &[u32],
+    before: &[u16],
+    counts: &[u16],
+    least: &[u16],
     low: usize,
     time: u64,
     tallies: &mut [Tally],
@@ -93,7 +93,7 @@ fn tally_between<S: Sight>(
 }
 
 /// The counts of no row.
-fn no_counts() -> [u32; 128]
+fn no_counts() -> [u16; 128]
     ensures { result ≡ replicate 128 0 }
 {
     [0; 128]
@@ -104,7 +104,7 @@ fn no_counts() -> [u32; 128]
 fn tally_holder<S: Sight>(
     sight: &S,
     holder: Holder,
-    least: &[u32; 128],
+    least: &[u16; 128],
     low: usize,
     tallies: &mut [Tally],
 ) -> bool
@@ -141,7 +141,7 @@ fn tally_holder<S: Sight>(
 fn tally_slice<S: Sight>(
     sight: &S,
     holders: &[Holder],
-    least: &[u32; 128],
+    least: &[u16; 128],
     low: usize,
     tallies: &mut [Tally],
 ) -> bool
@@ -162,7 +162,7 @@ fn tally_slice<S: Sight>(
 pub fn tally_holders<S: Sight>(
     sight: &S,
     holders: &[Holder],
-    least: &[u32; 128],
+    least: &[u16; 128],
     low: usize,
     tallies: &mut Vec<Tally>,
 ) -> bool
