@@ -7,7 +7,7 @@ ghost use Rattle.hg_world.specs.KnownRows.{KnowsFirst};
 ghost use Rattle.hg_world.specs.Nodes.{PushesLacked};
 
 use hg_event::Event;
-use hg_model::{Member, Memory, Name, Row, Sight};
+use hg_model::{Member, Memory, Name, Sight};
 use hg_node::Node;
 use hg_sign::SharedTable;
 use std::alloc::Global;
@@ -50,17 +50,26 @@ fn place_near(
     taker.graph().place_by(name, member)
 }
 
-/// Whether the taker has the name of a row of the peer, with the marks as they are behind it.
-fn is_held_near(taker: &Node<SharedTable>, row: &Row, marks: &mut Marks) -> bool
-    ensures { result ≡ is_held (node_rows taker.now) row.now.name }
-{
-    let member = usize::from(row.creator);
-    if member >= marks.len() {
-        return taker.place_of(&row.name).is_some();
+/// Who made the row at a place, as the graph's links tell, so that its event need not be touched. No clause speaks of it.
+fn maker(node: &Node<SharedTable>, place: usize) -> Member {
+    let graph = node.graph();
+    if place < graph.rows() {
+        return graph.creator(place);
     }
-    let place = place_near(taker, &row.name, row.creator, marks[member]);
+    Member::MAX
+}
+
+/// Whether the taker has this name of a row that the member made, with the marks as they are behind it.
+fn is_held_near(taker: &Node<SharedTable>, name: &Name, member: Member, marks: &mut Marks) -> bool
+    ensures { result ≡ is_held (node_rows taker.now) name.now }
+{
+    let line = usize::from(member);
+    if line >= marks.len() {
+        return taker.place_of(name).is_some();
+    }
+    let place = place_near(taker, name, member, marks[line]);
     if let Some(place) = place {
-        marks[member] = before(taker, place);
+        marks[line] = before(taker, place);
     }
     place.is_some()
 }
@@ -76,7 +85,7 @@ fn push_unless_held(
     requires { place < length (node_rows peer.now) }
     ensures { OnOk result (PushesLacked taker.now peer.now place (rows_of events.old.items) (rows_of events.new.items)) }
 {
-    if !is_held_near(taker, peer.row(place), marks) {
+    if !is_held_near(taker, &peer.row(place).name, maker(peer, place), marks) {
         events.push(event_at(peer, place)?)?;
     }
     Ok(())
