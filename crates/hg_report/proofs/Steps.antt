@@ -1,6 +1,9 @@
 -- The first of what is left of a text, and the others
-use Rattle.std.proofs.Common.{◌≡◌, ◌∙◌, ◌+◌, ◌<◌, ◌++◌, ℕ, zero, suc, take, append-nil, Bool, List, [], ◌∷◌, length, drop, get_or, sym, ap, add-one, append_assoc, arith}
+use Rattle.std.proofs.Common.{inl, inr, true, false, not, ◌≡◌, ◌∙◌, ◌+◌, ◌<◌, ◌++◌, ℕ, zero, suc, take, append-nil, Bool, List, [], ◌∷◌, length, drop, get_or, sym, ap, add-one, append_assoc, arith}
 use Rattle.std.proofs.Math.Seq.{drop-cons}
+use Rattle.std.proofs.lemmas.Bool.{cases_Bool, true≢false}
+use Rattle.std.proofs.lemmas.Slice.Eq.{bytes_eq-Decides}
+use Rattle.std.specs.Str.{bytes_eq}
 use Rattle.hg_model.specs.Report.{balance_text, balances_text, order_line_text, order_text, printed_text, printed_texts}
 use Rattle.hg_model.specs.declared.outcome.OrderLine.{OrderLine}
 use Rattle.hg_model.specs.declared.outcome.Printed.{Printed}
@@ -57,3 +60,10 @@ names_next (line ∷ lines) (suc i) d lt =
 pub names_more : (lines : List OrderLine) (i : ℕ) (d : OrderLine) → i < length lines
     → names_together (take (i + 1) lines) ≡ names_together (take i lines) ++ (get_or lines i d).name
 names_more lines i d lt = ap (λ k. names_together (take k lines)) (add-one i) ∙ names_next lines i d lt
+
+-- names that are told not to differ are one
+pub same_name : (a b : List ℕ) (differ : Bool) → differ ≡ not (bytes_eq a b) → differ ≡ false → a ≡ b
+same_name a b differ told same = elim (cases_Bool (bytes_eq a b)) [
+  | inl one ↦ (bytes_eq-Decides a b).0 one
+  | inr other ↦ (let apart : not (bytes_eq a b) ≡ true = ap not other in absurd (true≢false (sym apart ∙ (sym told ∙ same))))
+]
