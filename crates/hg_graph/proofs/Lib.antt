@@ -1,4 +1,6 @@
-pub mod StoredLaws
+mod ChainLaws
+mod EntryLaws
+mod FoundLaws
 pub mod NextLaws
 pub mod HeldLaws
 mod NamedLaws

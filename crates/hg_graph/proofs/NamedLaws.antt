@@ -1,7 +1,7 @@
 -- Rows of distinct names, found at their places
-use Rattle.std.proofs.Common.{◌≡◌, ◌∙◌, ◌<◌, ap, refl, ℕ, List, length, Option, Some, true, Bool, if◌then◌else◌, None}
+use Rattle.std.proofs.Common.{◌≡◌, ◌∙◌, ◌<◌, ap, sym, get_or, refl, ℕ, List, length, Some, true}
 use Rattle.std.proofs.lemmas.Bool.{lt-ltb}
-use Rattle.std.proofs.lemmas.Option.{slice_get_within}
+use Rattle.std.proofs.lemmas.Option.{slice_get_within, slice_get-get_or}
 use Rattle.std.specs.Prelude.{slice_get, nat_lt}
 use Rattle.hg_model.specs.declared.row.Row.{Row}
 use Rattle.hg_model.specs.Links.{place_of}
@@ -9,9 +9,13 @@ use Rattle.hg_model.specs.Graph.{HasDistinctNames, name_at, name_in}
 use Rattle.hg_model.proofs.NameLaws.{place_of_at}
 use Rattle.hg_graph.specs.RowsWithRoom.{found_place}
 
-name_read : (G : List Row) (x : ℕ) (row : Row) → slice_get G x ≡ Some row → name_at G x ≡ row.name
+pub name_read : (G : List Row) (x : ℕ) (row : Row) → slice_get G x ≡ Some row → name_at G x ≡ row.name
 unfolding name_at
 name_read G x row at = ap name_in at
+
+-- the row that is read there
+pub row_read : (G : List Row) (x : ℕ) (item row : Row) → x < length G → item ≡ get_or G x item → row ≡ item → slice_get G x ≡ Some row
+row_read G x item row low read is = slice_get-get_or G x item low ∙ ap Some (sym (is ∙ read))
 
 -- a row is found by its name
 pub named_found : (G : List Row) → HasDistinctNames G → (x : ℕ) (row : Row) (name : List ℕ) → slice_get G x ≡ Some row → row.name ≡ name → found_place G name ≡ Some x

@@ -1,3 +1,4 @@
+pub mod Names
 pub mod RowsWithRoom
 pub mod Held
 pub mod Added

@@ -10,9 +10,6 @@ pub record RowsWithRoom : Type 0 where
   pub rows : List Row
   pub room : ℕ
 
-abbrev pub row_name : Row → List ℕ
-row_name row = row.name
-
 -- the place of the row with this name, if there is one
 abbrev pub found_place : List Row → List ℕ → Option ℕ
 found_place G name = if is_held G name then Some (place_of G name) else None

@@ -15,6 +15,7 @@
 
 mod graph;
 mod laws;
+mod names;
 mod store;
 
 pub use graph::{EventGraph, FrozenGraph};

@@ -1,81 +1,34 @@
-ghost use Rattle.std.specs.Prelude.{◌≡◌, ◌<◌, ◌≤◌, ◌++◌, ◌∷◌, [], Some, length, option_map, slice_get, take, IfOk, OnOk, false};
-ghost use Rattle.std.specs.List.{list_any};
-ghost use Rattle.std.proofs.Common.{rules};
-ghost use Rattle.std.specs.Cmp.Rules.{comparing, hashing};
-ghost use Rattle.std.specs.Str.{bytes_eq};
-ghost use Rattle.indexmap.specs.IndexSet.{spare};
+ghost use Rattle.std.specs.Prelude.{◌≡◌, ◌<◌, ◌≤◌, ◌++◌, ◌∷◌, [], Some, length, option_map, slice_get, take, IfOk, OnOk};
 ghost use Rattle.hg_model.specs.Links.{place_of};
 ghost use Rattle.hg_model.specs.Spelling.{spelling};
 ghost use Rattle.hg_graph.specs.RowsWithRoom.{found_place};
 
+use crate::names::NameIndex;
 use hg_blocks::Blocks;
 use hg_event::Event;
 use hg_frozen::SharedEvent;
 use hg_model::{Memory, Name, Row};
-use indexmap::IndexSet;
 use std::alloc::Global;
-use std::hash::{Hash, Hasher};
 use std::marker::Model;
 use std::sync::Arc;
-
-/// A name to be looked up, hashed by its first eight bytes: names are digests, so these spread as well as all 48.
-#[derive(Drop)]
-struct Key {
-    name: Name,
-}
-
-impl Model for Key {
-    ghost use Rattle.std.specs.Prelude.{List, ℕ};
-
-    ghost Value = { List ℕ };
-
-    ghost view = { λ s. s.name };
-}
-
-impl PartialEq for Key {
-    ghost eq = { bytes_eq };
-
-    ghost laws = { Prim.search (comparing, rules) };
-
-    fn eq(&self, other: &Key) -> bool {
-        self.name == other.name
-    }
-}
-
-impl Eq for Key {
-    ghost laws = { Prim.search (comparing, rules) };
-}
-
-impl Hash for Key {
-    ghost use Rattle.std.specs.Prelude.{[], ◌∷◌, take};
-
-    ghost hash_input = { λ k. take 8 k ∷ [] };
-
-    ghost respects_eq = { Prim.search (hashing, rules) };
-
-    fn hash<H: Hasher>(&self, state: &mut H) {
-        state.write(&self.name[..8]);
-    }
-}
 
 /// Events in the order in which they came, each shared with whoever else holds it, and found by its name.
 #[derive(Drop)]
 pub struct RowStore {
     events: Blocks<SharedEvent>,
-    names: IndexSet<Key>,
+    names: NameIndex,
 }
 
 impl Model for RowStore {
-    ghost use Rattle.std.specs.Prelude.{◌≡◌, map, min};
-    ghost use Rattle.indexmap.specs.IndexSet.{spare};
-    ghost use Rattle.hg_graph.specs.RowsWithRoom.{RowsWithRoom, row_name};
+    ghost use Rattle.std.specs.Prelude.{min};
+    ghost use Rattle.hg_graph.specs.RowsWithRoom.{RowsWithRoom};
+    ghost use Rattle.hg_graph.specs.Names.{HoldsNames};
 
     ghost Value = { RowsWithRoom };
 
-    ghost view = { λ s. record { rows = s.events.items; room = min s.events.room (spare s.names) } };
+    ghost view = { λ s. record { rows = s.events.items; room = min s.events.room s.names.room } };
 
-    // each row's name, in the same order
-    ghost invariant = { λ s. s.names.keys ≡ map row_name s.events.items };
+    ghost invariant = { λ s. HoldsNames s.events.items s.names.hashes };
 }
 
 impl RowStore {
@@ -85,7 +38,7 @@ impl RowStore {
     {
         RowStore {
             events: Blocks::new(alloc),
-            names: IndexSet::new(alloc),
+            names: NameIndex::new(alloc),
         }
     }
 
@@ -124,7 +77,7 @@ impl RowStore {
     pub fn place_of(&self, name: &Name) -> Option<usize>
         ensures { result ≡ found_place self.now.rows name.now }
     {
-        self.names.get_index_of(&Key { name: *name })
+        self.names.place_of(&self.events, name)
     }
 
     /// Takes the memory of one more row.
@@ -133,7 +86,7 @@ impl RowStore {
         ensures same { self.new.rows ≡ self.old.rows }
     {
         self.events.reserve()?;
-        self.names.reserve(1)?;
+        self.names.reserve()?;
         Ok(())
     }
 
@@ -143,7 +96,7 @@ impl RowStore {
         requires new { place_of self.old.rows event.value.name ≡ length self.old.rows }
         ensures { self.new.rows ≡ self.old.rows ++ event.value ∷ [] }
     {
-        add_name(&mut self.names, event.row().name);
+        self.names.push(&event.row().name);
         self.events.push(SharedEvent::of(event));
     }
 
@@ -154,13 +107,4 @@ impl RowStore {
     {
         self.events.cloned_prefix(len)
     }
-}
-
-/// Enters a name for which there is room.
-fn add_name(names: &mut IndexSet<Key>, name: Name)
-    requires room { 1 ≤ spare names.old }
-    requires new { list_any (bytes_eq name) names.old.keys ≡ false }
-    ensures { names.new.keys ≡ names.old.keys ++ name ∷ [] }
-{
-    names.insert(Key { name }).unwrap();
 }

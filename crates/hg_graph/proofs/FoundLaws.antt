@@ -1,0 +1,65 @@
+-- Rows of an index, looked for by a name from the last of its bucket to the first
+use Rattle.std.proofs.Common.{◌≡◌, ◌≢◌, ℕ, ◌-◌, ◌<◌, ◌≤◌, false, None, List, [], ◌∷◌, ◌++◌, length, get_or, sym, ap, ◌∙◌, refl, inl, inr, arith}
+use Rattle.std.specs.Prelude.{nat_lt}
+use Rattle.std.proofs.lemmas.Bool.{cases_lt, le-ltb, false_from_ne_true}
+use Rattle.std.proofs.lemmas.List.Sums.{position_or_len_is}
+use Rattle.std.proofs.lemmas.List.{length-map, map-append, get_or-map}
+use Rattle.std.proofs.Math.ListN.{get_or-map as map_read}
+use Rattle.hg_model.specs.declared.row.Row.{Row}
+use Rattle.hg_model.specs.Links.{is_named, place_of, no_row}
+use Rattle.hg_model.specs.Graph.{name_at}
+use Rattle.hg_model.proofs.NameLaws.{bytes_same, distinct-push, name-at}
+use Rattle.hg_graph.specs.declared.names.Entry.{Entry}
+use Rattle.hg_graph.specs.Names.{HoldsNames, IsLastIn, bucket_at, bucket_of, entry_at, hash_of, hashes_of, row_hash}
+use Rattle.hg_graph.specs.RowsWithRoom.{found_place}
+
+-- one more row, with a name that no other has
+pub names_pushed : (G : List Row) (hashes : List ℕ) (row : Row) → HoldsNames G hashes → place_of G row.name ≡ length G → HoldsNames (G ++ row ∷ []) (hashes ++ hash_of row.name ∷ [])
+names_pushed G hashes row names new = record {
+  same = ap (λ (hs : List ℕ). hs ++ hash_of row.name ∷ []) names.same ∙ sym (map-append row_hash G (row ∷ []));
+  distinct = distinct-push G row names.distinct (omega arith);
+}
+
+module _ (G : List Row) (entries : List Entry) (names : HoldsNames G (hashes_of entries)) where
+  pub many_rows : length entries ≡ length G
+  many_rows = sym (length-map entries (λ (e : Entry). e.hash)) ∙ (ap length names.same ∙ length-map G row_hash)
+
+  hash_at : (x : ℕ) → x < length G → (entry_at entries x).hash ≡ hash_of (name_at G x)
+  hash_at x low =
+      sym (map_read (λ (e : Entry). e.hash) entries x (record { hash = 0; before = 0 }))
+      ∙ (ap (λ (hs : List ℕ). get_or hs x 0) names.same ∙ (get_or-map row_hash G x no_row 0 low ∙ ap hash_of (sym (name-at G x low))))
+
+  module _ (buckets : ℕ) (name : List ℕ) where
+    -- a row of this name stands in the bucket of its hash
+    in_bucket : (x : ℕ) → x < length G → name_at G x ≡ name → bucket_at buckets entries x ≡ bucket_of buckets (hash_of name)
+    in_bucket x low is = ap (bucket_of buckets) (hash_at x low ∙ ap hash_of is)
+
+    pub none_first : (number : ℕ) → IsLastIn (bucket_at buckets entries) (length entries) (bucket_of buckets (hash_of name)) number →
+        (x : ℕ) → number ≤ x → x < length G → name_at G x ≢ name
+    none_first number last x from low is = last.none_later x from (omega (arith, many_rows)) (in_bucket x low is)
+
+    -- where the row at hand has another name, none has it down to the row before it in the bucket
+    pub none_next : (number : ℕ) → 0 < number → bucket_at buckets entries (number - 1) ≡ bucket_of buckets (hash_of name) →
+        IsLastIn (bucket_at buckets entries) (number - 1) (bucket_at buckets entries (number - 1)) (entry_at entries (number - 1)).before →
+        ((x : ℕ) → number ≤ x → x < length G → name_at G x ≢ name) → (name_at G (number - 1) ≢ name) →
+        (x : ℕ) → (entry_at entries (number - 1)).before ≤ x → x < length G → name_at G x ≢ name
+    none_next number some on last none other x from low is = elim (cases_lt x (number - 1)) [
+      | inl below ↦ last.none_later x from below (in_bucket x low is ∙ sym on)
+      | inr above ↦ elim (cases_lt (number - 1) x) [
+        | inl past ↦ none x (omega arith) low is
+        | inr here ↦ other (ap (name_at G) (omega arith) ∙ is)
+      ]
+    ]
+
+  -- another hash is that of another name
+  pub other_hash : (x : ℕ) (name : List ℕ) → x < length G → (entry_at entries x).hash ≢ hash_of name → name_at G x ≢ name
+  other_hash x name low other is = other (hash_at x low ∙ ap hash_of is)
+
+-- where no row has the name, none is found
+pub found_none : (G : List Row) (name : List ℕ) → ((x : ℕ) → x < length G → name_at G x ≢ name) → found_place G name ≡ None
+found_none G name none =
+    let place : place_of G name ≡ length G = position_or_len_is (is_named name) G (length G) no_row (omega arith)
+    (λ k low. false_from_ne_true (is_named name (get_or G k no_row)) (λ same. none k low (name-at G k low ∙ bytes_same (get_or G k no_row).name name same)))
+    (λ low. absurd (omega arith)) in
+    let past : nat_lt (length G) (length G) ≡ false = le-ltb (length G) (length G) (omega arith) in
+    rw (place, past) refl

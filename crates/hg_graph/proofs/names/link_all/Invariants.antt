@@ -1,0 +1,10 @@
+use Rattle.std.proofs.Common.{◌≡◌, length}
+use Rattle.hg_graph.specs.Names.{AreLinked, hashes_of}
+use Rattle.hg_graph.proofs.names.link_all.Given as goal
+
+abbrev pub invariant-loop-x : goal.invariant-loop-x
+invariant-loop-x l = record {
+  same : hashes_of l.entries ≡ hashes_of l.initial.entries;
+  len : length l.heads ≡ length l.initial.heads;
+  linked : AreLinked l.heads l.entries l.x;
+}
