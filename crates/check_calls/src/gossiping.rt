@@ -1,60 +1,14 @@
 ghost use Rattle.std.specs.Prelude.{◌≡◌, IfOk};
 ghost use Rattle.hg_gossip.specs.Nodes.{pulling, taking_of};
 
+use crate::members::two_members;
+use crate::playing::{equal, player_of, two_players};
 use hg_gossip::{Holder, Taken, pull, sync};
-use hg_model::{Bytes, MakeAnswer, MemberEntry, Members, Memory, SyncMade, SyncReport};
+use hg_model::{MakeAnswer, Memory, SyncMade, SyncReport};
 use hg_node::Node;
 use hg_sign::{MacTable, Signer};
 use std::alloc::Global;
-use std::fmt::Debug;
 use std::process::Abort;
-
-/// What the tests find is to be what they want.
-fn equal<T: Copy + Debug + PartialEq>(rt: &impl Abort, found: T, wanted: T) {
-    assert_eq!(rt; found, wanted);
-}
-
-fn entry(alloc: Global, name: &[u8]) -> Result<MemberEntry, Memory> {
-    Ok(MemberEntry {
-        name: Bytes::from_vec(Vec::from_slice(alloc, name)?),
-        secret: Bytes::from_vec(Vec::from_slice(alloc, name)?),
-        balance: 1,
-        has_node: true,
-    })
-}
-
-/// A and B.
-fn two_members(rt: &impl Abort, alloc: Global) -> Result<Members, Memory> {
-    let mut entries = Vec::new(alloc);
-    entries.push(entry(alloc, b"A")?)?;
-    entries.push(entry(alloc, b"B")?)?;
-    Ok(
-        Members::try_new(entries, 10)
-            .ok()
-            .expect(rt, "lawful members"),
-    )
-}
-
-/// The node of a member. The tests hold nodes in this alone: it goes in a call, which is proved once.
-struct Player {
-    node: Node<MacTable>,
-}
-
-impl Drop for Player {
-    fn drop(self) {
-        let Player { node } = self;
-        drop(node);
-    }
-}
-
-fn player_of(rt: &impl Abort, alloc: Global, own: u16) -> Result<Player, Memory> {
-    let members = two_members(rt, alloc)?;
-    assert!(rt; u32::from(own) < members.count());
-    let keys = MacTable::new(alloc, &members)?;
-    Ok(Player {
-        node: Node::new(alloc, &members, own, keys)?,
-    })
-}
 
 fn begins(rt: &impl Abort, node: &mut Node<MacTable>, place: usize) -> Result<(), Memory> {
     equal(rt, Node::make(node, None, 1, b"")?, MakeAnswer::Made(place));
@@ -142,8 +96,7 @@ fn play(
 
 #[test]
 fn plays_two_members(rt: HostRuntime) -> Result<(), Memory> {
-    let mut a = player_of(&rt, rt.alloc(), 0)?;
-    let mut b = player_of(&rt, rt.alloc(), 1)?;
+    let (mut a, mut b) = two_players(&rt, rt.alloc())?;
     play(&rt, rt.alloc(), &mut a.node, &mut b.node)
 }
 
@@ -164,8 +117,7 @@ fn syncs_with_a_bare_peer(
 
 #[test]
 fn makes_nothing_on_a_bare_peer(rt: HostRuntime) -> Result<(), Memory> {
-    let mut a = player_of(&rt, rt.alloc(), 0)?;
-    let mut b = player_of(&rt, rt.alloc(), 1)?;
+    let (mut a, mut b) = two_players(&rt, rt.alloc())?;
     syncs_with_a_bare_peer(&rt, rt.alloc(), &mut a.node, &mut b.node)
 }
 
@@ -189,8 +141,8 @@ fn takes_after_an_impostor(
 
 #[test]
 fn takes_what_follows_a_refused_row(rt: HostRuntime) -> Result<(), Memory> {
-    let mut a = player_of(&rt, rt.alloc(), 0)?;
-    let mut b = player_of(&rt, rt.alloc(), 1)?;
-    let mut other = player_of(&rt, rt.alloc(), 0)?;
+    let (mut a, mut b) = two_players(&rt, rt.alloc())?;
+    let members = two_members(&rt, rt.alloc())?;
+    let mut other = player_of(&rt, rt.alloc(), &members, 0)?;
     takes_after_an_impostor(&rt, rt.alloc(), &mut a.node, &mut b.node, &mut other.node)
 }

@@ -24,3 +24,11 @@ pub(crate) fn members_of(rt: &impl Abort, entries: Vec<MemberEntry>) -> Members 
         .ok()
         .expect(rt, "lawful members")
 }
+
+/// A, who has 100, and B, who has nothing.
+pub(crate) fn two_members(rt: &impl Abort, alloc: Global) -> Result<Members, Memory> {
+    let mut entries = Vec::new(alloc);
+    entries.push(entry(alloc, b"A", 1, 100, true)?)?;
+    entries.push(entry(alloc, b"B", 2, 0, true)?)?;
+    Ok(members_of(rt, entries))
+}

@@ -1,7 +1,7 @@
 //! What the tests of nodes share: players, and what they do.
 
-use crate::members::{entry, members_of};
-use hg_model::{MakeAnswer, Members, Memory, Name, PutAnswer};
+use crate::members::two_members;
+use hg_model::{MakeAnswer, Members, Memory, Name, Placed, PutAnswer};
 use hg_node::Node;
 use hg_sign::MacTable;
 use std::alloc::Global;
@@ -13,12 +13,13 @@ pub(crate) fn equal<T: Copy + Debug + PartialEq>(rt: &impl Abort, found: T, want
     assert_eq!(rt; found, wanted);
 }
 
-/// A, who has 100, and B, who has nothing.
-fn two_members(rt: &impl Abort, alloc: Global) -> Result<Members, Memory> {
-    let mut entries = Vec::new(alloc);
-    entries.push(entry(alloc, b"A", 1, 100, true)?)?;
-    entries.push(entry(alloc, b"B", 2, 0, true)?)?;
-    Ok(members_of(rt, entries))
+/// An event that round 2 receives, with its consensus timestamp.
+pub(crate) fn placed(place: usize, time: u64) -> Placed {
+    Placed {
+        place,
+        received: 2,
+        time,
+    }
 }
 
 /// The node of a member. The tests hold nodes in this alone: it goes in a call, which is proved once, where each place

@@ -4,7 +4,7 @@ ghost use Rattle.hg_node.specs.ChronicleView.{graph_in};
 ghost use Rattle.hg_votes.specs.Counting.{CarriesTo, Counting, IsMadeFor};
 
 use crate::members::{entry, members_of};
-use crate::playing::{Player, begin, equal, give, player_of, sync, two_players};
+use crate::playing::{Player, begin, equal, give, placed, player_of, sync, two_players};
 use hg_fame::elect_share;
 use hg_graph::FrozenGraph;
 use hg_model::{Members, Memory, Placed, PutAnswer, Share};
@@ -36,14 +36,6 @@ fn publish_all(alloc: Global, node: &mut Node<MacTable>) -> Result<u32, Memory> 
     } else {
         0
     })
-}
-
-fn placed(place: usize, time: u64) -> Placed {
-    Placed {
-        place,
-        received: 2,
-        time,
-    }
 }
 
 /// A node finds and publishes all fame: so many marks are new, and what it has ordered then.

@@ -1,3 +1,4 @@
+use crate::files::ample;
 use hg_io::{Failed, SinkMem};
 use hg_model::{
     Block, Bytes, Effect, Items, MakeAnswer, MakeFault, OrderLine, Outcome, Printed, SyncMade,
@@ -90,10 +91,10 @@ fn outcome(alloc: Global) -> Result<Outcome, Fail> {
 #[test]
 fn the_text_is_written(rt: HostRuntime) -> Result<(), Fail> {
     let outcome = outcome(rt.alloc())?;
-    let mut sink = SinkMem::new(rt.alloc(), 1000, 1000, Vec::new(rt.alloc()))?;
+    let mut sink = ample(rt.alloc())?;
     assert_eq!(rt; text_of(&outcome, &mut sink), Ok(()));
     assert!(rt; sink.bytes() == TEXT.as_bytes());
-    let mut sink = SinkMem::new(rt.alloc(), 1000, 1000, Vec::new(rt.alloc()))?;
+    let mut sink = ample(rt.alloc())?;
     assert_eq!(rt; summary_of(&outcome, &mut sink), Ok(()));
     assert!(rt; sink.bytes() == SUMMARY.as_bytes());
     Ok(())

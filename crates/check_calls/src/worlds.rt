@@ -3,43 +3,18 @@ ghost use Rattle.hg_model.specs.NodeView.{kept_of};
 ghost use Rattle.hg_world.specs.Parts.{AreOfOneList};
 ghost use Rattle.hg_world.specs.World.{IsMemberOf, node_at};
 
+use crate::members::two_members;
+use crate::playing::{equal, placed};
 use hg_gossip::Taken;
 use hg_model::{
-    ByteFault, Bytes, Fault, MakeAnswer, Member, MemberEntry, Members, Memory, Placed, PutAnswer,
-    Share, SyncMade, SyncReport,
+    ByteFault, Bytes, Fault, MakeAnswer, Member, Memory, Placed, PutAnswer, Share, SyncMade,
+    SyncReport,
 };
 use hg_node::Node;
 use hg_sign::SharedTable;
 use hg_world::{Reply, Step, World, steps_keep_sites};
 use std::alloc::Global;
-use std::fmt::Debug;
 use std::process::Abort;
-
-/// What the tests find is to be what they want.
-fn equal<T: Copy + Debug + PartialEq>(rt: &impl Abort, found: T, wanted: T) {
-    assert_eq!(rt; found, wanted);
-}
-
-fn entry(alloc: Global, name: &[u8], balance: u64) -> Result<MemberEntry, Memory> {
-    Ok(MemberEntry {
-        name: Bytes::from_vec(Vec::from_slice(alloc, name)?),
-        secret: Bytes::from_vec(Vec::from_slice(alloc, name)?),
-        balance,
-        has_node: true,
-    })
-}
-
-/// A and B.
-fn two_members(rt: &impl Abort, alloc: Global) -> Result<Members, Memory> {
-    let mut entries = Vec::new(alloc);
-    entries.push(entry(alloc, b"A", 100)?)?;
-    entries.push(entry(alloc, b"B", 0)?)?;
-    Ok(
-        Members::try_new(entries, 10)
-            .ok()
-            .expect(rt, "lawful members"),
-    )
-}
 
 /// The tests hold a world in this alone: it goes in a call, which is proved once.
 struct Held {
@@ -175,14 +150,6 @@ fn play(rt: &impl Abort, world: &mut World) -> Result<(), Memory> {
     syncs(rt, world, (0, 1), 7, 1, 6)?;
     syncs(rt, world, (1, 0), 8, 1, 7)?;
     Ok(())
-}
-
-fn placed(place: usize, time: u64) -> Placed {
-    Placed {
-        place,
-        received: 2,
-        time,
-    }
 }
 
 /// An old prefix is published late, once. Another worker has frozen none.

@@ -37,6 +37,3 @@ pub use shelf_mem::ShelfMem;
 pub use sink::Sink;
 pub use sink_mem::SinkMem;
 pub use writing::write_all;
-
-#[cfg(test)]
-mod tests;

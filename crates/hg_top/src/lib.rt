@@ -14,8 +14,6 @@
 
 mod printing;
 mod status;
-#[cfg(test)]
-mod tests;
 mod top;
 
 pub use printing::without_words;

@@ -1,8 +1,9 @@
 -- The nodes of a world after a step of the one at a place: that node, all of them, and what it answers
-use Rattle.std.specs.Prelude.{ℕ, ◌≡◌, List, Option, Some, length, slice_set}
+use Rattle.std.specs.Prelude.{ℕ, ◌≡◌, List, Option, Some, drop, length, reverse, slice_set}
 use Rattle.std.specs.Option.{option_to_list}
 use Rattle.hg_model.specs.declared.row.Row.{Row}
 use Rattle.hg_model.specs.declared.answers.MakeAnswer.{MakeAnswer}
+use Rattle.hg_model.specs.Gossip.{lacking}
 use Rattle.hg_model.specs.Shares.{Share, whole}
 use Rattle.hg_model.specs.NodeView.{NodeView, node_rows}
 use Rattle.hg_world.specs.World.{Secrets}
@@ -44,3 +45,7 @@ nodes_settled nodes m = slice_set nodes m (nth_settled nodes m)
 -- the peer's row at a place was pushed behind these, unless the taker has its name
 abbrev pub PushesLacked : NodeView Secrets → NodeView Secrets → ℕ → List Row → List Row → Type 0
 PushesLacked taker peer place old new = with_lacked (node_rows taker) (node_rows peer) place old ≡ Some new
+
+-- the peer's rows from a place on whose names the taker lacks, the last one first
+abbrev pub lacked_backwards : NodeView Secrets → NodeView Secrets → ℕ → List Row
+lacked_backwards taker peer from = reverse (lacking (node_rows taker) (drop from (node_rows peer)))

@@ -1,10 +1,10 @@
-ghost use Rattle.std.specs.Prelude.{◌≡◌, ◌<◌, ◌≤◌, IfOk, OnOk, Some, drop, is_some, length, reverse, slice_get};
+ghost use Rattle.std.specs.Prelude.{◌≡◌, ◌<◌, ◌≤◌, IfOk, OnOk, Some, is_some, length, slice_get};
 ghost use Rattle.hg_model.specs.Gossip.{lacking};
 ghost use Rattle.hg_model.specs.NodeView.{node_rows};
 ghost use Rattle.hg_model.specs.Verdict.{is_held};
 ghost use Rattle.hg_graph.specs.RowsWithRoom.{rows_of};
 ghost use Rattle.hg_world.specs.KnownRows.{KnowsFirst};
-ghost use Rattle.hg_world.specs.Nodes.{PushesLacked};
+ghost use Rattle.hg_world.specs.Nodes.{PushesLacked, lacked_backwards};
 
 use hg_event::Event;
 use hg_model::{Member, Memory, Name, Sight};
@@ -100,7 +100,7 @@ fn lacked_backwards(
     from: usize,
 ) -> Result<Vec<Arc<Event>>, Memory>
     requires { from ≤ length (node_rows peer.now) }
-    ensures { IfOk result (λ events. rows_of events.items ≡ reverse (lacking (node_rows taker.now) (drop from (node_rows peer.now)))) }
+    ensures { IfOk result (λ events. rows_of events.items ≡ lacked_backwards taker.now peer.now from) }
 {
     let mut events = Vec::new(alloc);
     let mut marks = [usize::MAX; 128];

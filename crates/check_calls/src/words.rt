@@ -1,4 +1,4 @@
-use super::*;
+use hg_command::{Request, read_words};
 use std::alloc::Global;
 use std::test::Fail;
 

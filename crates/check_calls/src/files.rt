@@ -1,5 +1,6 @@
-// The forms in memory, the two calls over them, and faults in mid-stream.
-use super::*;
+//! Shelves and sinks in memory, the two calls over them, pages, and faults in mid-stream.
+
+use hg_io::{Failed, FileAnswer, Gate, NoGate, Page, ShelfMem, SinkMem, read_file, write_all};
 use hg_model::Memory;
 use std::alloc::Global;
 use std::test::Fail;
@@ -7,13 +8,37 @@ use std::test::Fail;
 // As many bytes as two whole pieces of a read and some more.
 const LONG: usize = 20_000;
 
-fn shelf(alloc: Global, fails: Vec<u64>) -> Result<ShelfMem, Memory> {
+/// A shelf of two files, each with its name, whose calls with these numbers fail.
+pub(crate) fn shelf_of(
+    alloc: Global,
+    first: (&str, &[u8]),
+    second: (&str, &[u8]),
+    fails: Vec<u64>,
+) -> Result<ShelfMem, Memory> {
     let mut files = Vec::new(alloc);
-    let short = Vec::from_slice(alloc, b"two members")?;
-    files.push((String::from_str(alloc, "members")?, short))?;
-    let long = vec![in alloc; 7; LONG]?;
-    files.push((String::from_str(alloc, "script")?, long))?;
+    for (name, bytes) in [first, second] {
+        files.push((
+            String::from_str(alloc, name)?,
+            Vec::from_slice(alloc, bytes)?,
+        ))?;
+    }
     ShelfMem::new(alloc, files, fails)
+}
+
+/// A sink with room for all that a test writes to it, of which no call fails.
+pub(crate) fn ample(alloc: Global) -> Result<SinkMem, Memory> {
+    SinkMem::new(alloc, 65_536, 65_536, Vec::new(alloc))
+}
+
+/// A short file and a long one.
+fn shelf(alloc: Global, fails: Vec<u64>) -> Result<ShelfMem, Memory> {
+    let long = vec![in alloc; 7; LONG]?;
+    shelf_of(
+        alloc,
+        ("members", b"two members"),
+        ("script", long.as_slice()),
+        fails,
+    )
 }
 
 fn is_bytes(answer: &FileAnswer, bytes: &[u8]) -> bool {
@@ -131,7 +156,7 @@ fn a_page_goes_out_in_order(rt: HostRuntime) -> Result<(), Fail> {
     want.extend_from_slice(long.as_slice())?;
     want.extend_from_slice(b"the end")?;
     let mut page = Page::new();
-    let mut sink = SinkMem::new(alloc, 20_000, 20_000, Vec::new(alloc))?;
+    let mut sink = ample(alloc)?;
     assert_eq!(rt; put_pieces(&mut page, &mut sink, long.as_slice()), Ok(()));
     assert!(rt; sink.bytes() == want.as_slice());
     // Pages of 4,000, 4,000 and 2,000 bytes, the long piece and the last page go out in 16 calls of at most 1,000 bytes.

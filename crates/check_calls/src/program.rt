@@ -1,9 +1,8 @@
-use crate::printing::without_words;
-use crate::status::{File, NoWords, Refusal, Status};
-use crate::top::hashgraph;
-use hg_io::{NoGate, ShelfMem, SinkMem};
+use crate::files::{ample, shelf_of};
+use hg_io::{NoGate, SinkMem};
 use hg_members::MemberFault;
 use hg_script::{ScriptFault, Why};
+use hg_top::{File, NoWords, Refusal, Status, hashgraph, without_words};
 use std::alloc::Global;
 use std::process::Abort;
 use std::sync::Wait;
@@ -40,19 +39,6 @@ fn words_of(alloc: Global, line: &str) -> Result<Vec<String>, Fail> {
     Ok(owned)
 }
 
-fn shelf_of(alloc: Global, members: &str, script: &str, fails: &[u64]) -> Result<ShelfMem, Fail> {
-    let mut files = Vec::new(alloc);
-    files.push((
-        String::from_str(alloc, "members.toml")?,
-        Vec::from_slice(alloc, members.as_bytes())?,
-    ))?;
-    files.push((
-        String::from_str(alloc, "script.txt")?,
-        Vec::from_slice(alloc, script.as_bytes())?,
-    ))?;
-    Ok(ShelfMem::new(alloc, files, Vec::from_slice(alloc, fails)?)?)
-}
-
 /// Runs the program over two files, with calls of the shelf that fail, and with a sink for the report.
 fn run<R: Threads + Wait + Sync>(
     rt: &R,
@@ -64,8 +50,13 @@ fn run<R: Threads + Wait + Sync>(
     mut out: SinkMem,
 ) -> Result<Ran, Fail> {
     let words = words_of(alloc, line)?;
-    let mut shelf = shelf_of(alloc, members, script, fails)?;
-    let mut err = SinkMem::new(alloc, 4096, 4096, Vec::new(alloc))?;
+    let mut shelf = shelf_of(
+        alloc,
+        ("members.toml", members.as_bytes()),
+        ("script.txt", script.as_bytes()),
+        Vec::from_slice(alloc, fails)?,
+    )?;
+    let mut err = ample(alloc)?;
     let status = hashgraph(
         rt,
         alloc,
@@ -76,10 +67,6 @@ fn run<R: Threads + Wait + Sync>(
         &NoGate,
     );
     Ok(Ran { status, out, err })
-}
-
-fn ample(alloc: Global) -> Result<SinkMem, Fail> {
-    Ok(SinkMem::new(alloc, 65_536, 65_536, Vec::new(alloc))?)
 }
 
 /// The run came to this, and wrote just these.
