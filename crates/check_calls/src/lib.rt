@@ -1,5 +1,5 @@
-//! Tests of public calls of `hg_io`, `hg_command`, `hg_script`, `hg_votes`, `hg_fame`, `hg_node`, `hg_gossip`, `hg_world`,
-//! `hg_report`, `hg_top` and `order_match`, with values from outside.
+//! Tests of public calls of `hg_script`, `hg_votes`, `hg_fame`, `hg_node`, `hg_gossip`, `hg_world`, `hg_report` and
+//! `order_match`, with values from outside.
 //! They stand above these crates so that their code is proved once; a crate with tests of its own is proved twice.
 //! There is nothing here but tests.
 //!
@@ -12,8 +12,6 @@
 
 #[cfg(test)]
 mod damaged;
-#[cfg(test)]
-mod files;
 #[cfg(test)]
 mod freezing;
 #[cfg(test)]
@@ -29,8 +27,6 @@ mod paying;
 #[cfg(test)]
 mod playing;
 #[cfg(test)]
-mod program;
-#[cfg(test)]
 mod publishing;
 #[cfg(test)]
 mod reporting;
@@ -38,7 +34,5 @@ mod reporting;
 mod script;
 #[cfg(test)]
 mod two_members;
-#[cfg(test)]
-mod words;
 #[cfg(test)]
 mod worlds;

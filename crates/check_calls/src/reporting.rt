@@ -1,8 +1,7 @@
-use crate::files::ample;
 use hg_io::{Failed, SinkMem};
 use hg_model::{
-    Block, Bytes, Effect, Items, MakeAnswer, MakeFault, OrderLine, Outcome, Printed, SyncMade,
-    SyncReport,
+    Block, Bytes, Effect, Items, MakeAnswer, MakeFault, Memory, OrderLine, Outcome, Printed,
+    SyncMade, SyncReport,
 };
 use hg_report::{summary_of, text_of};
 use std::alloc::Global;
@@ -15,6 +14,11 @@ const TEXT: &str =
 // The digest is that of another implementation.
 const SUMMARY: &str =
     "node B events 20 forkers 1 round 4 closed 2 ordered 3\norder be9102e3314a9220c06d1ad479b298cb8928b470f3234e72dbc1a021c2f80fd9bff3208f94952ef479a293e0e6c839c6\ntotal 100\n";
+
+// A sink with room for each of these texts, of which no call fails.
+fn ample(alloc: Global) -> Result<SinkMem, Memory> {
+    SinkMem::new(alloc, 65_536, 65_536, Vec::new(alloc))
+}
 
 fn outcome(alloc: Global) -> Result<Outcome, Fail> {
     let mut names = Vec::new(alloc);

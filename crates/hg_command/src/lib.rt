@@ -2,7 +2,7 @@
 //! The layer above uses `read_words`, which answers `request_of` the words, a definition over clap's own.
 //! A command is a function of `line`, a definition of the same name in `specs/Line.antt`, and a case of `Request`.
 //!
-//! From `names_are_handed_over` in the tests of `check_calls`, where bars part the words:
+//! From `names_are_handed_over` in the tests of `check_program`, where bars part the words:
 //!
 //! ```text
 //! let words = words_of(rt.alloc(), "run|--script=a b|--workers|0|--members|m.toml")?;

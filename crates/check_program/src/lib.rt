@@ -1,0 +1,18 @@
+//! Tests of public calls of `hg_io`, `hg_command` and `hg_top`: files and words, and the program in one call, with values
+//! from outside.
+//! They stand above these crates so that their code is proved once; a crate with tests of its own is proved twice.
+//! There is nothing here but tests.
+//!
+//! `rt ci check_program` proves and runs them, and then says:
+//!
+//! ```text
+//! rt: check_program: its tests passed
+//! ```
+#![tactic(auto)]
+
+#[cfg(test)]
+mod files;
+#[cfg(test)]
+mod program;
+#[cfg(test)]
+mod words;
