@@ -45,15 +45,14 @@ module _ (g : Graph) (s : IsShaped g.members (links_of g)) (famous least ends : 
         omega arith
 
     pub have_medians : AreFamous g famous → JustBelow (links_of g) ends (is_on_some_line (links_of g) famous) → ((m : ℕ) → get_or ends m 0 ≤ «end») → «end» ≤ length (links_of g) →
-        (ts : List Tally) → AreTimed (links_of g) least low ((length famous + 1) / 2) (sort_by is_earlier (holders_below g ends low «end»)) («end» - low) ts → HaveMedians g famous low ts
-    have_medians f just within inside ts t = record {
+        (ts : List Tally) → AreTimed (links_of g) least low ((length famous + 1) / 2) (sort_by is_earlier (holders_below g ends low «end»)) ts → length ts ≡ «end» - low → HaveMedians g famous low ts
+    have_medians f just within inside ts t long = record {
       median = λ k received.
           let last = under_end (low + k) received.1 in
           let under : IsBelow (links_of g) least (low + k) = ltb-true (low + k) (get_or least (creator (links_of g) (low + k)) 0) (shared.bounds.just (low + k) received.0 ∙ received.1) in
-          t.each k received.0 under ∙ median_counted g s f.marks f.round famous f.are ends low «end» (low + k) just within inside (omega arith) some received.1;
+          t k received.0 under ∙ median_counted g s f.marks f.round famous f.are ends low «end» (low + k) just within inside (omega arith) some received.1;
       reach = λ x received.
           let last = under_end x received.1 in
-          let long = t.long in
           omega arith;
     }
 

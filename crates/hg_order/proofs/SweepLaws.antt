@@ -4,7 +4,7 @@ use Rattle.std.specs.List.{list_all}
 use Rattle.std.proofs.lemmas.Bool.{false≢true, and_parts, and_from, cases_Bool, cases_eq, cases_lt, lt-ltb, le-ltb, le-leb, false_from_ne_true}
 use Rattle.std.proofs.Math.Bool.{and-true, and_comm}
 use Rattle.std.proofs.lemmas.Bool.Decides.{nat_tests}
-use Rattle.std.proofs.lemmas.List.{get_or-set_same, get_or-set_other, length-set, get_or-replicate, length-replicate}
+use Rattle.std.proofs.lemmas.List.{get_or-set_same, get_or-set_other, length-set}
 use Rattle.std.proofs.lemmas.List.Sums.{sum_by-set, sum_by-cons, sum_by-append, sum_by-le-sum_by, fold-append}
 use Rattle.std.proofs.lemmas.List.Folds.{sum_by-replicate}
 use Rattle.hg_model.specs.Places.{IsEarlier}
@@ -20,8 +20,8 @@ use Rattle.hg_model.proofs.ForkLaws.{self_parent_cases}
 use Rattle.hg_order.specs.declared.tally.Tally.{Tally}
 use Rattle.hg_order.specs.declared.tally.Holder.{Holder}
 use Rattle.hg_order.specs.Counted.{AreLines, IsBelow}
-use Rattle.hg_order.specs.Tallied.{no_tally, tally_at, tallied, tally_by, tally_of, is_gained_by, untallied, AreTalliedByAll, ReachAll}
-use Rattle.hg_order.specs.Swept.{has_reached, reached, parent_end, IsNextFrom, AreLinked, IsLane, AreLanes, IsPast, IsAdvanced, IsLaneFrom, AreAdvanced, AreFew, AreGained, AreGainedBy, IsSwept, AreTimed, ArePast, ReachTo}
+use Rattle.hg_order.specs.Tallied.{no_tally, tally_at, tallied, tally_by, tally_of, is_gained_by, untallied, ReachAll}
+use Rattle.hg_order.specs.Swept.{has_reached, reached, parent_end, IsNextFrom, AreLinked, IsLane, AreLanes, IsPast, IsAdvanced, IsLaneFrom, AreAdvanced, AreFew, AreGained, AreGainedBy, IsSwept, AreTimed, ArePast}
 use Rattle.hg_order.proofs.BoundLaws.{no_number}
 use Rattle.hg_order.proofs.GainLaws.{AreNewFrom}
 use Rattle.hg_order.proofs.MedianLaws.{tally_where}
@@ -484,12 +484,9 @@ module _ (L : List Link) (least : List ℕ) (low need : ℕ) (next : List ℕ) (
       not_past k inside (inl none) = (let first = (firsts (creator L (low + k))).first (low + k) refl (omega arith) inside in let some = first.0 in absurd (omega arith))
       not_past k inside (inr later) = (let first = (firsts (creator L (low + k))).first (low + k) refl (omega arith) inside in let some = first.1 in absurd (omega arith))
 
-  pub times_swept : (holders : List Holder) (ends above : List ℕ) (rows : ℕ) → length ts ≡ rows → IsSwept L least low need holders ends next above ts → ArePast next least →
-      AreTimed L least low need holders rows ts
-  times_swept holders ends above rows long swept past = record {
-    each = λ k inside below. sym (ap (λ (t : Tally). t.time) (swept.done k below (reach (low + k) inside below) (past_row k below (past (creator L (low + k))))));
-    long = long;
-  }
+  pub times_swept : (holders : List Holder) (ends above : List ℕ) → IsSwept L least low need holders ends next above ts → ArePast next least → AreTimed L least low need holders ts
+  times_swept holders ends above swept past k inside below =
+      sym (ap (λ (t : Tally). t.time) (swept.done k below (reach (low + k) inside below) (past_row k below (past (creator L (low + k))))))
     where
       past_row : (k : ℕ) → IsBelow L least (low + k) → (get_or next (creator L (low + k)) 0 ≡ 0) ⊎ (get_or least (creator L (low + k)) 0 < get_or next (creator L (low + k)) 0) → IsPast (get_or next (creator L (low + k)) 0) (low + k)
       past_row k below (inl none) = inl none
@@ -497,13 +494,3 @@ module _ (L : List Link) (least : List ℕ) (low need : ℕ) (next : List ℕ) (
 
 pub reach_same : (L : List Link) (least : List ℕ) (low : ℕ) (old new : List Tally) → length new ≡ length old → ReachAll L least low old → ReachAll L least low new
 reach_same L least low old new long reach x inside below = (let room = reach x inside below in omega arith)
-
--- tallies leave the same times
-pub timed_tallied : (L : List Link) (least : List ℕ) (low need rows : ℕ) (holders : List Holder) (new : List Tally) → ReachTo L least (low + rows) →
-    AreTalliedByAll L least low holders (replicate rows (untallied need)) new → AreTimed L least low need holders rows new
-timed_tallied L least low need rows holders new reach t = record {
-  each = λ k inside below.
-      let room = reach (low + k) inside below in
-      ap (λ (t : Tally). t.time) (t.each k inside below ∙ ap (λ (t : Tally). tally_of L (low + k) t holders) (get_or-replicate rows k (untallied need) no_tally (omega arith)));
-  long = t.long ∙ length-replicate rows (untallied need);
-}

@@ -1,7 +1,7 @@
 ghost use Rattle.std.specs.Prelude.{◌≡◌, ◌<◌, ◌≤◌, ◌+◌, true, All, length, replicate, slice_index, OnOk, vec_capacity};
 ghost use Rattle.hg_order.specs.Famous.{AreFamous};
 ghost use Rattle.hg_order.specs.Counted.{AreShared, EndAtRows};
-ghost use Rattle.hg_order.specs.Swept.{AreTimed, ReachTo};
+ghost use Rattle.hg_order.specs.Swept.{FindsTimes, ReachTo};
 ghost use Rattle.hg_order.specs.Tallied.{untallied, HaveMedians};
 
 use crate::holders::{list_holders, raise_ends, sort_holders};
@@ -92,7 +92,8 @@ fn find_times<S: Sight>(
     requires reach { ReachTo (S.shape sight.now).links least.now (low + rows) }
     requires some { 0 < need }
     requires room { rows ≤ vec_capacity tallies.old }
-    ensures times { result ≡ true → AreTimed (S.shape sight.now).links least.now low need holders.now rows tallies.new.items }
+    ensures times { FindsTimes result (S.shape sight.now) least.now low need holders.now tallies.new.items }
+    ensures long { result ≡ true → length tallies.new.items ≡ rows }
     ensures room { vec_capacity tallies.new ≡ vec_capacity tallies.old }
 {
     clear_tallies(tallies, rows, u32::from(need));

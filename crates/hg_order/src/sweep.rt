@@ -1,7 +1,7 @@
 ghost use Rattle.std.specs.Prelude.{◌≡◌, ◌<◌, ◌≤◌, ◌+◌, ◌-◌, ◌^◌, ℕ, true, cond, nat_le, All, length, replicate, slice_index, vec_capacity, IfSome};
 ghost use Rattle.hg_model.specs.Links.{self_parent};
 ghost use Rattle.hg_order.specs.Tallied.{ReachAll};
-ghost use Rattle.hg_order.specs.Swept.{reached, parent_end, AreAdvanced, AreFew, AreGained, AreGainedBy, AreLanes, AreLinked, ArePast, AreTimed, IsAdvancedFrom, IsLaneFrom, IsNextFrom, IsSweptBySome, KeepsSwept};
+ghost use Rattle.hg_order.specs.Swept.{reached, parent_end, no_lanes, AdvancesLane, AdvancesLanes, AreFew, AreFirsts, AreGained, AreLanesOver, AreLinked, ArePast, FindsTimes, GainsRow, IsLaneFrom, IsSweptBySome, Sweeps};
 
 use crate::tally::{Holder, Tally, no_counts};
 use hg_model::Sight;
@@ -14,6 +14,26 @@ struct Lane {
     above: u16,
 }
 
+/// Of each member, one more than the place of the last holder on its line that was gone through, or 0, and its lane: the
+/// two numbers apart, so that a holder is one pass over numbers of 16 bits.
+#[derive(Drop)]
+struct Lanes {
+    ends: [usize; 128],
+    next: [u16; 128],
+    above: [u16; 128],
+}
+
+/// Before the first holder.
+fn no_lanes() -> Lanes
+    ensures { result ≡ no_lanes }
+{
+    Lanes {
+        ends: [0; 128],
+        next: [0; 128],
+        above: [0; 128],
+    }
+}
+
 /// Of the rows that the tallies stand for each is linked to the next by its member, by one more than the place of that,
 /// or 0; and each member to the first of its rows.
 fn link_rows<S: Sight>(sight: &S, low: usize, tallies: &mut [Tally], next: &mut [u16])
@@ -21,7 +41,7 @@ fn link_rows<S: Sight>(sight: &S, low: usize, tallies: &mut [Tally], next: &mut 
     requires short { low + length tallies.old ≤ 2 ^ 16 - 1 }
     requires none { next.old ≡ replicate 128 0 }
     ensures linked { AreLinked (S.shape sight.now).links low tallies.new }
-    ensures first { (m : ℕ) → IsNextFrom (S.shape sight.now).links (low + length tallies.new) m low (slice_index next.new m) }
+    ensures first { AreFirsts (S.shape sight.now).links low (low + length tallies.new) next.new }
     ensures long { length tallies.new ≡ length tallies.old }
 {
     sight.members();
@@ -50,7 +70,7 @@ fn reached<S: Sight>(sight: &S, ends: &[usize], x: usize) -> usize
 
 /// Counts one line more at each lane whose row is not below `before`, and is below `counts`. It answers the greatest of
 /// the numbers then. One loop over 16 bits with no branch, of which the compiler makes vectors.
-fn count_gains(before: &[u16], counts: &[u16], next: &[u16], above: &mut [u16]) -> u16
+pub fn count_gains(before: &[u16], counts: &[u16], next: &[u16], above: &mut [u16]) -> u16
     requires before { length counts.now ≤ length before.now }
     requires next { length counts.now ≤ length next.now }
     requires above { length counts.now ≤ length above.old }
@@ -112,7 +132,7 @@ fn advance<S: Sight>(
     requires linked { AreLinked (S.shape sight.now).links low tallies.old }
     requires lane { IsLaneFrom (S.shape sight.now).links ends.now low tallies.old start.next start.above }
     requires some { 0 < need }
-    ensures advanced { IsAdvancedFrom (S.shape sight.now).links bound ends.now low need time start.next result.next result.above tallies.old tallies.new }
+    ensures advanced { AdvancesLane (S.shape sight.now) ends.now bound low need time start result tallies.old tallies.new }
     ensures few { result.above < need }
 {
     let mut lane = start;
@@ -128,34 +148,42 @@ fn advance<S: Sight>(
 /// Goes on with each lane whose row enough lines have as ancestor.
 fn advance_lanes<S: Sight>(
     sight: &S,
-    ends: &[usize; 128],
     least: &[u16; 128],
     low: usize,
     need: u16,
     time: u64,
-    next: &mut [u16; 128],
-    above: &mut [u16; 128],
+    lanes: &mut Lanes,
     tallies: &mut [Tally],
 )
-    requires places { All (λ e. e ≤ length (S.shape sight.now).links) ends.now }
+    requires places { All (λ e. e ≤ length (S.shape sight.now).links) lanes.old.ends }
     requires inside { low + length tallies.old ≤ length (S.shape sight.now).links }
     requires linked { AreLinked (S.shape sight.now).links low tallies.old }
-    requires lanes { AreLanes (S.shape sight.now).links ends.now low (low + length tallies.old) next.old above.old }
+    requires lanes { AreLanesOver (S.shape sight.now) low lanes.old tallies.old }
     requires some { 0 < need }
-    ensures advanced { AreAdvanced (S.shape sight.now).links least.now ends.now low need time next.old next.new above.new tallies.old tallies.new }
-    ensures few { AreFew need above.new }
+    ensures advanced { AdvancesLanes (S.shape sight.now) least.now low need time lanes.old lanes.new tallies.old tallies.new }
+    ensures few { AreFew need lanes.new.above }
+    ensures ends { lanes.new.ends ≡ lanes.old.ends }
 {
     for m in 0..128 {
-        if above[m] < need {
+        if lanes.above[m] < need {
             continue;
         }
         let start = Lane {
-            next: next[m],
-            above: above[m],
+            next: lanes.next[m],
+            above: lanes.above[m],
         };
-        let lane = advance(sight, ends, least[m], low, need, time, start, tallies);
-        next[m] = lane.next;
-        above[m] = lane.above;
+        let lane = advance(
+            sight,
+            &lanes.ends,
+            least[m],
+            low,
+            need,
+            time,
+            start,
+            tallies,
+        );
+        lanes.next[m] = lane.next;
+        lanes.above[m] = lane.above;
     }
 }
 
@@ -176,7 +204,7 @@ fn parent_end<S: Sight>(sight: &S, low: usize, z: usize) -> usize
 fn gain<S: Sight>(sight: &S, z: usize, next: &[u16; 128], above: &mut [u16; 128]) -> Option<u16>
     requires place { z < length (S.shape sight.now).links }
     requires short { (m : ℕ) → slice_index above.old m < 2 ^ 16 - 1 }
-    ensures { IfSome result (AreGainedBy (S.shape sight.now).members (S.shape sight.now).links z next.now above.old above.new) }
+    ensures { IfSome result (GainsRow (S.shape sight.now) z next.now above.old above.new) }
 {
     sight.members();
     let counts = sight.counts(z)?;
@@ -197,41 +225,29 @@ fn sweep_holder<S: Sight>(
     least: &[u16; 128],
     low: usize,
     need: u16,
-    ends: &mut [usize; 128],
-    next: &mut [u16; 128],
-    above: &mut [u16; 128],
+    lanes: &mut Lanes,
     tallies: &mut [Tally],
 ) -> bool
     requires place { holder.place < length (S.shape sight.now).links }
-    requires places { All (λ e. e ≤ length (S.shape sight.now).links) ends.old }
+    requires places { All (λ e. e ≤ length (S.shape sight.now).links) lanes.old.ends }
     requires inside { low + length tallies.old ≤ length (S.shape sight.now).links }
-    requires swept { IsSweptBySome (S.shape sight.now).links least.now low need ends.old next.old above.old tallies.old }
-    ensures swept { result ≡ true → KeepsSwept (S.shape sight.now).links least.now low need holder ends.old next.old above.old tallies.old ends.new next.new above.new tallies.new }
-    ensures places { result ≡ true → All (λ e. e ≤ length (S.shape sight.now).links) ends.new }
+    requires swept { IsSweptBySome (S.shape sight.now) least.now low need lanes.old tallies.old }
+    ensures swept { Sweeps result (S.shape sight.now) least.now low need holder lanes.old lanes.new tallies.old tallies.new }
+    ensures places { result ≡ true → All (λ e. e ≤ length (S.shape sight.now).links) lanes.new.ends }
     ensures long { result ≡ true → length tallies.new ≡ length tallies.old }
 {
     sight.rows();
     sight.members();
     let member = sight.creator(holder.place) as usize;
-    if ends[member] != parent_end(sight, low, holder.place) {
+    if lanes.ends[member] != parent_end(sight, low, holder.place) {
         return false;
     }
-    let Some(most) = gain(sight, holder.place, next, above) else {
+    let Some(most) = gain(sight, holder.place, &lanes.next, &mut lanes.above) else {
         return false;
     };
-    ends[member] = holder.place + 1;
+    lanes.ends[member] = holder.place + 1;
     if most >= need {
-        advance_lanes(
-            sight,
-            ends,
-            least,
-            low,
-            need,
-            holder.time,
-            next,
-            above,
-            tallies,
-        );
+        advance_lanes(sight, least, low, need, holder.time, lanes, tallies);
     }
     true
 }
@@ -248,38 +264,34 @@ fn are_past(next: &[u16; 128], least: &[u16; 128]) -> bool
     true
 }
 
-/// Finds the times that these holders leave of all rows below the numbers, in arrays of zeros; tells whether it could.
+/// The same from lanes that have no row yet.
 fn sweep_lanes<S: Sight>(
     sight: &S,
     holders: &[Holder],
     least: &[u16; 128],
     low: usize,
     need: u16,
-    ends: &mut [usize; 128],
-    next: &mut [u16; 128],
-    above: &mut [u16; 128],
+    lanes: &mut Lanes,
     tallies: &mut [Tally],
 ) -> bool
     requires places { All (λ h. h.place < length (S.shape sight.now).links) holders.now }
     requires inside { low + length tallies.old ≤ length (S.shape sight.now).links }
     requires reach { ReachAll (S.shape sight.now).links least.now low tallies.old }
     requires some { 0 < need }
-    requires no_ends { ends.old ≡ replicate 128 0 }
-    requires no_next { next.old ≡ replicate 128 0 }
-    requires no_above { above.old ≡ replicate 128 0 }
-    ensures { result ≡ true → AreTimed (S.shape sight.now).links least.now low need holders.now (length tallies.old) tallies.new }
+    requires none { lanes.old ≡ no_lanes }
+    ensures { FindsTimes result (S.shape sight.now) least.now low need holders.now tallies.new }
 {
     sight.rows();
     if low + tallies.len() > u16::MAX as usize {
         return false;
     }
-    link_rows(sight, low, tallies, next);
+    link_rows(sight, low, tallies, &mut lanes.next);
     for holder in holders {
-        if !sweep_holder(sight, *holder, least, low, need, ends, next, above, tallies) {
+        if !sweep_holder(sight, *holder, least, low, need, lanes, tallies) {
             return false;
         }
     }
-    are_past(next, least)
+    are_past(&lanes.next, least)
 }
 
 /// Finds the times that these holders leave of all rows below the numbers; tells whether it could: ancestors are counted,
@@ -297,11 +309,9 @@ pub fn sweep_holders<S: Sight>(
     requires inside { low + length tallies.old.items ≤ length (S.shape sight.now).links }
     requires reach { ReachAll (S.shape sight.now).links least.now low tallies.old.items }
     requires some { 0 < need }
-    ensures times { result ≡ true → AreTimed (S.shape sight.now).links least.now low need holders.now (length tallies.old.items) tallies.new.items }
+    ensures times { FindsTimes result (S.shape sight.now) least.now low need holders.now tallies.new.items }
+    ensures long { length tallies.new.items ≡ length tallies.old.items }
     ensures room { vec_capacity tallies.new ≡ vec_capacity tallies.old }
 {
-    let (mut ends, mut next, mut above) = ([0; 128], [0; 128], [0; 128]);
-    sweep_lanes(
-        sight, holders, least, low, need, &mut ends, &mut next, &mut above, tallies,
-    )
+    sweep_lanes(sight, holders, least, low, need, &mut no_lanes(), tallies)
 }

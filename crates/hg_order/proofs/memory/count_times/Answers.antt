@@ -33,4 +33,4 @@ returns-clause-medians g c = λ done.
     let end = rw matches.shaped at c.raise_ends-end.ensures.end in
     let all = rw (matches.shaped, c.deref.ensures.value, c.sort_holders.ensures.sorted, c.list_holders.ensures.listed) at (c.find_times.ensures.times done) in
     have_medians graph c.is_of_graph.ensures.shaped c.args.famous.now c.args.least.now c.raise_ends-end.new.ends c.args.low c.raise_ends-end.result c.requires.some c.requires.least c.raise_ends-end.ensures.below
-    c.requires.famous just c.raise_ends-end.ensures.within end _ all
+    c.requires.famous just c.raise_ends-end.ensures.within end _ all (c.find_times.ensures.long done)

@@ -6,7 +6,7 @@ use Rattle.hg_order.proofs.sweep.sweep_lanes.Goals as goal
 pub loop-holder-init : goal.loop-holder-init
 loop-holder-init g c =
     let reach = reach_same _ _ c.args.low _ c.link_rows.new.tallies c.link_rows.ensures.long c.requires.reach in
-    rw (c.requires.no_ends, c.requires.no_above) (record {
+    rw c.requires.none (record {
       swept = swept_none _ c.args.least.now c.args.low c.args.need c.link_rows.new.next c.link_rows.new.tallies reach c.link_rows.ensures.linked c.link_rows.ensures.first c.requires.some;
       places = λ k d h. rw (get_or-replicate 128 k 0 d (omega arith)) (omega arith);
       long = c.link_rows.ensures.long;
