@@ -6,16 +6,16 @@ ghost use Rattle.hg_order.specs.Swept.{reached, parent_end, no_lanes, AdvancesLa
 use crate::tally::{Holder, Tally, no_counts};
 use hg_model::Sight;
 
-/// Of a member, one more than the place of the row whose time is to be found next, or 0 where none is left, and how many
-/// lines have that row as ancestor.
+/// Of a member, one more than the place of the row whose time is to be found next, or 0 where none is left, and how
+/// many lines have that row as ancestor.
 #[derive(Clone, Copy)]
 struct Lane {
     next: u16,
     above: u16,
 }
 
-/// Of each member, one more than the place of the last holder on its line that was gone through, or 0, and its lane: the
-/// two numbers apart, so that a holder is one pass over numbers of 16 bits.
+/// Of each member, one more than the place of the last holder on its line that was gone through, or 0, and its lane.
+/// The numbers of the lanes stand apart, so that a holder is one pass over rows of 16 bits.
 #[derive(Drop)]
 struct Lanes {
     ends: [usize; 128],
@@ -87,7 +87,7 @@ pub fn count_gains(before: &[u16], counts: &[u16], next: &[u16], above: &mut [u1
     most
 }
 
-/// What is said of it, if it stands below the bound, else 0.
+/// One more than the place of a row, if the row stands below the bound, else 0.
 fn next_below(left: u32, bound: u16) -> u16
     ensures { result ≡ cond (nat_le left bound) left 0 }
 {
@@ -115,8 +115,8 @@ fn lane_at<S: Sight>(sight: &S, ends: &[usize; 128], next: u16) -> Lane
     }
 }
 
-/// Goes on with the lane of a member whose row enough lines have as ancestor: the row has the time, and so has each that
-/// follows and that enough lines have as ancestor too, up to the last that stands below the bound.
+/// Goes on with the lane of a member whose row enough lines have as ancestor: that row has the time, and so has each
+/// row that follows while enough lines have it as ancestor, up to the last that stands below the bound.
 fn advance<S: Sight>(
     sight: &S,
     ends: &[usize; 128],
@@ -132,7 +132,7 @@ fn advance<S: Sight>(
     requires linked { AreLinked (S.shape sight.now).links low tallies.old }
     requires lane { IsLaneFrom (S.shape sight.now).links ends.now low tallies.old start.next start.above }
     requires some { 0 < need }
-    ensures advanced { AdvancesLane (S.shape sight.now) ends.now bound low need time start result tallies.old tallies.new }
+    ensures moved { AdvancesLane (S.shape sight.now) ends.now bound low need time start result tallies.old tallies.new }
     ensures few { result.above < need }
 {
     let mut lane = start;
@@ -160,7 +160,7 @@ fn advance_lanes<S: Sight>(
     requires linked { AreLinked (S.shape sight.now).links low tallies.old }
     requires lanes { AreLanesOver (S.shape sight.now) low lanes.old tallies.old }
     requires some { 0 < need }
-    ensures advanced { AdvancesLanes (S.shape sight.now) least.now low need time lanes.old lanes.new tallies.old tallies.new }
+    ensures moved { AdvancesLanes (S.shape sight.now) least.now low need time lanes.old lanes.new tallies.old tallies.new }
     ensures few { AreFew need lanes.new.above }
     ensures ends { lanes.new.ends ≡ lanes.old.ends }
 {
@@ -264,7 +264,7 @@ fn are_past(next: &[u16; 128], least: &[u16; 128]) -> bool
     true
 }
 
-/// The same from lanes that have no row yet.
+/// The same as `sweep_holders`, over lanes that have no row yet.
 fn sweep_lanes<S: Sight>(
     sight: &S,
     holders: &[Holder],
@@ -294,9 +294,9 @@ fn sweep_lanes<S: Sight>(
     are_past(&lanes.next, least)
 }
 
-/// Finds the times that these holders leave of all rows below the numbers; tells whether it could: ancestors are counted,
-/// places go in 16 bits, and times fall on no line. The holders come in the order of their times. Of each member it
-/// keeps one row, so that a holder costs one pass over the lanes, and a row one question of each line.
+/// Finds the times that these holders leave of all rows below the numbers; tells whether it could: ancestors are
+/// counted, places go in 16 bits, and times fall on no line. The holders come in the order of their times. Of each
+/// member it keeps one row, so that a holder costs one pass over the lanes, and a row one question of each line.
 pub fn sweep_holders<S: Sight>(
     sight: &S,
     holders: &[Holder],

@@ -15,7 +15,7 @@ loop-m-preserved g c =
     let room_above : c.loop-m.m < length c.loop-m.lanes.above = search rules in
     record {
       advanced = lanes_next _ c.args.least.now c.args.lanes.now.ends c.args.low c.args.need c.args.time c.args.lanes.now.next c.loop-m.lanes.next c.loop-m.lanes.above c.args.tallies.now c.loop-m.tallies
-          c.loop-m.invariant.advanced c.loop-m.m (c.loop-m.invariant.same c.loop-m.m (omega arith)) room room_above (omega arith) _ _ _ (rw c.loop-m.invariant.ends at c.advance-lane.ensures.advanced);
+          c.loop-m.invariant.advanced c.loop-m.m (c.loop-m.invariant.same c.loop-m.m (omega arith)) room room_above (omega arith) _ _ _ (rw c.loop-m.invariant.ends at c.advance-lane.ensures.moved);
       few = few_next c.loop-m.lanes.above c.loop-m.m c.advance-lane.result.above c.args.need room_above c.advance-lane.ensures.few c.loop-m.invariant.few;
       same = same_next c.loop-m.lanes.next c.args.lanes.now.next c.loop-m.m c.advance-lane.result.next c.loop-m.invariant.same;
       ends = c.loop-m.invariant.ends;

@@ -16,7 +16,7 @@ returns-then-most-need-clause-swept g c = λ _ holders swept.
     let member : c.creator-member.result < length c.args.lanes.now.ends = search rules in
     let follows = c.if-lanes-member.false ∙ c.parent_end.ensures in
     rw (c.advance_lanes.ensures.ends, by) (swept_next _ _ c.members.ensures.shaped c.args.least.now c.args.low c.args.need holders c.args.lanes.now.ends c.args.lanes.now.next c.args.lanes.now.above c.args.tallies.now swept
-    c.args.holder c.requires.inside (rw by at member) (rw by at follows) c.in-Some.ensures.lines _ _ _ (rw (c.advance_lanes.ensures.ends, by) at c.advance_lanes.ensures.advanced) c.advance_lanes.ensures.few)
+    c.args.holder c.requires.inside (rw by at member) (rw by at follows) c.in-Some.ensures.lines _ _ _ (rw (c.advance_lanes.ensures.ends, by) at c.advance_lanes.ensures.moved) c.advance_lanes.ensures.few)
 
 pub returns-else-most-need-clause-swept : goal.returns-else-most-need-clause-swept
 returns-else-most-need-clause-swept g c = λ _ holders swept.
