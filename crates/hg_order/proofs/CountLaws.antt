@@ -1,8 +1,7 @@
 -- The tallies of a round once all its holders are tallied
-use Rattle.std.proofs.Common.{◌≡◌, ℕ, ◌+◌, ◌-◌, ◌/◌, ◌<◌, ◌≤◌, true, List, [], ◌∷◌, length, get_or, map, replicate, All, refl, sym, ap, ap₂, ◌∙◌, arith}
+use Rattle.std.proofs.Common.{◌≡◌, ℕ, ◌+◌, ◌-◌, ◌/◌, ◌<◌, ◌≤◌, true, List, [], ◌∷◌, length, get_or, map, All, refl, sym, ap₂, ◌∙◌, arith}
 use Rattle.std.specs.List.{AllByRecursion}
 use Rattle.std.proofs.lemmas.Bool.{and_parts, lt-ltb, ltb-true}
-use Rattle.std.proofs.lemmas.List.{get_or-replicate, length-replicate}
 use Rattle.std.proofs.lemmas.List.Elements.{All-from_recursion}
 use Rattle.hg_model.specs.declared.row.Placed.{Placed}
 use Rattle.hg_model.specs.Places.{IsEarlier}
@@ -19,7 +18,8 @@ use Rattle.hg_order.specs.declared.tally.Holder.{Holder}
 use Rattle.hg_order.specs.Famous.{AreFamous, IsBelowAll, all_have}
 use Rattle.hg_order.specs.Round.{placed_below}
 use Rattle.hg_order.specs.Counted.{IsBelow, JustBelow, AreShared}
-use Rattle.hg_order.specs.Tallied.{no_tally, tally_at, tally_of, holder_at, is_holder, is_on_some_line, holders_below, is_earlier, untallied, placed_with, AreTalliedByAll, ReachAll, HaveMedians}
+use Rattle.hg_order.specs.Tallied.{tally_at, holder_at, is_holder, is_on_some_line, holders_below, is_earlier, placed_with, HaveMedians}
+use Rattle.hg_order.specs.Swept.{AreTimed, ReachTo}
 use Rattle.hg_order.proofs.MedianLaws.{median_counted}
 
 -- what all of these have as ancestor stands no later than the first of them
@@ -39,25 +39,20 @@ module _ (g : Graph) (s : IsShaped g.members (links_of g)) (famous least ends : 
     under_end : (x : ℕ) → all_have (links_of g) famous x ≡ true → x < «end»
     under_end x all = (let first = below 0 0 some in let le = below_first (links_of g) s.earlier famous x some all in omega arith)
 
-    pub window_reaches : (tallies : List Tally) → length tallies ≡ «end» - low → ReachAll (links_of g) least low tallies
-    window_reaches tallies long x h under =
+    pub window_reaches : low ≤ «end» → ReachTo (links_of g) least (low + («end» - low))
+    window_reaches order x h under =
         let last = under_end x (sym (shared.bounds.just x h) ∙ lt-ltb x (get_or least (creator (links_of g) x) 0) under) in
         omega arith
 
     pub have_medians : AreFamous g famous → JustBelow (links_of g) ends (is_on_some_line (links_of g) famous) → ((m : ℕ) → get_or ends m 0 ≤ «end») → «end» ≤ length (links_of g) →
-        (new : List Tally) → AreTalliedByAll (links_of g) least low (sort_by is_earlier (holders_below g ends low «end»)) (replicate («end» - low) (untallied ((length famous + 1) / 2))) new →
-        HaveMedians g famous low new
-    have_medians f just within inside new t = record {
+        (ts : List Tally) → AreTimed (links_of g) least low ((length famous + 1) / 2) (sort_by is_earlier (holders_below g ends low «end»)) ts → length ts ≡ «end» - low → HaveMedians g famous low ts
+    have_medians f just within inside ts t long = record {
       median = λ k received.
           let last = under_end (low + k) received.1 in
           let under : IsBelow (links_of g) least (low + k) = ltb-true (low + k) (get_or least (creator (links_of g) (low + k)) 0) (shared.bounds.just (low + k) received.0 ∙ received.1) in
-          let holders = sort_by is_earlier (holders_below g ends low «end») in
-          let fresh = untallied ((length famous + 1) / 2) in
-          ap (λ (t : Tally). t.time) (t.each k received.0 under ∙ ap (λ (t : Tally). tally_of (links_of g) (low + k) t holders) (get_or-replicate («end» - low) k fresh no_tally (omega arith)))
-          ∙ median_counted g s f.marks f.round famous f.are ends low «end» (low + k) just within inside (omega arith) some received.1;
+          t k received.0 under ∙ median_counted g s f.marks f.round famous f.are ends low «end» (low + k) just within inside (omega arith) some received.1;
       reach = λ x received.
           let last = under_end x received.1 in
-          let long = t.long ∙ length-replicate («end» - low) (untallied ((length famous + 1) / 2)) in
           omega arith;
     }
 

@@ -13,3 +13,4 @@ pub mod GainLaws
 pub mod EndLaws
 pub mod MedianLaws
 pub mod CountLaws
+pub mod SweepLaws

@@ -1,4 +1,5 @@
 pub mod Counted
 pub mod Famous
 pub mod Round
+pub mod Swept
 pub mod Tallied

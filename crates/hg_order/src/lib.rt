@@ -27,6 +27,7 @@ mod memory;
 mod order;
 mod placing;
 mod received;
+mod sweep;
 mod tally;
 #[cfg(test)]
 mod tests;

@@ -1,11 +1,13 @@
-ghost use Rattle.std.specs.Prelude.{◌≡◌, ◌<◌, ◌≤◌, true, All, length, replicate, slice_index, OnOk, vec_capacity};
+ghost use Rattle.std.specs.Prelude.{◌≡◌, ◌<◌, ◌≤◌, ◌+◌, true, All, length, replicate, slice_index, OnOk, vec_capacity};
 ghost use Rattle.hg_order.specs.Famous.{AreFamous};
-ghost use Rattle.hg_order.specs.Counted.{AreShared};
+ghost use Rattle.hg_order.specs.Counted.{AreShared, EndAtRows};
+ghost use Rattle.hg_order.specs.Swept.{FindsTimes, ReachTo};
 ghost use Rattle.hg_order.specs.Tallied.{untallied, HaveMedians};
 
 use crate::holders::{list_holders, raise_ends, sort_holders};
+use crate::sweep::sweep_holders;
 use crate::tally::{Holder, Tally, tally_holders};
-use hg_model::{Memory, Prefix, is_of_graph};
+use hg_model::{Memory, Prefix, Sight, is_of_graph};
 use std::alloc::Global;
 use std::marker::Model;
 
@@ -73,6 +75,35 @@ fn clear_tallies(tallies: &mut Vec<Tally>, count: usize, need: u32)
     }
 }
 
+/// Finds the times that these holders leave of all rows below the numbers, of so many from `low` on: by a sweep, and
+/// where it cannot by tallies. It tells whether it could.
+fn find_times<S: Sight>(
+    sight: &S,
+    holders: &[Holder],
+    least: &[u16; 128],
+    low: usize,
+    rows: usize,
+    need: u16,
+    tallies: &mut Vec<Tally>,
+) -> bool
+    requires places { All (λ h. h.place < length (S.shape sight.now).links) holders.now }
+    requires last { EndAtRows (S.shape sight.now).members (S.shape sight.now).links least.now }
+    requires inside { low + rows ≤ length (S.shape sight.now).links }
+    requires reach { ReachTo (S.shape sight.now).links least.now (low + rows) }
+    requires some { 0 < need }
+    requires room { rows ≤ vec_capacity tallies.old }
+    ensures times { FindsTimes result (S.shape sight.now) least.now low need holders.now tallies.new.items }
+    ensures long { result ≡ true → length tallies.new.items ≡ rows }
+    ensures room { vec_capacity tallies.new ≡ vec_capacity tallies.old }
+{
+    clear_tallies(tallies, rows, u32::from(need));
+    if sweep_holders(sight, holders, least, low, need, tallies) {
+        return true;
+    }
+    clear_tallies(tallies, rows, u32::from(need));
+    tally_holders(sight, holders, least, low, tallies)
+}
+
 /// Counts the consensus timestamps of all rows from `low` on that these unique famous witnesses have as ancestor; tells
 /// whether it could: their ancestors are counted, and there is room for the rows up to the last of the witnesses.
 pub fn count_times<P: Prefix>(
@@ -100,6 +131,6 @@ pub fn count_times<P: Prefix>(
     holders.clear();
     list_holders(p, &ends, low, end, holders);
     sort_holders(holders);
-    clear_tallies(tallies, end - low, (famous.len() as u32 + 1) / 2);
-    tally_holders(p, holders, least, low, tallies)
+    let need = (famous.len() as u16 + 1) / 2;
+    find_times(p, holders, least, low, end - low, need, tallies)
 }

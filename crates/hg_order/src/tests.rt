@@ -1,5 +1,6 @@
 use crate::holders::sort_holders;
 use crate::least::lower_to;
+use crate::sweep::count_gains;
 use crate::tally::{Holder, Tally, tallied};
 use crate::white_cmp;
 use hg_model::{Memory, Name, Sig};
@@ -83,4 +84,13 @@ fn lowers_number_by_number(rt: HostRuntime) {
     let mut numbers = [4, 9, 6];
     lower_to(&mut numbers, &[7, 2]);
     assert_eq!(rt; numbers, [4, 2, 6]);
+}
+
+// A row at place 3: 4 is above 3 and not above 4, not above 4 itself, and above the 3 rows that 3 counts. 0 is no row.
+#[test]
+fn gains_row_by_row(rt: HostRuntime) {
+    let mut above = [5, 5, 5, 5];
+    let most = count_gains(&[3, 4, 0, 0], &[4, 9, 3, 9], &[4, 4, 4, 0], &mut above);
+    assert_eq!(rt; above, [6, 5, 5, 5]);
+    assert_eq!(rt; most, 6);
 }

@@ -1,0 +1,496 @@
+-- The sweep: rows linked along the lines, lanes that go on, and what holders leave of tallies
+use Rattle.std.proofs.Common.{◌≡◌, ◌≢◌, ℕ, zero, suc, ◌+◌, ◌-◌, ◌<◌, ◌≤◌, Bool, true, false, cond, not, ◌&&◌, ltb, leb, List, [], ◌∷◌, ◌++◌, length, get_or, set, fold, replicate, count_by, refl, sym, ap, ap₂, ◌∙◌, inl, inr, ◌⊎◌, arith}
+use Rattle.std.specs.List.{list_all}
+use Rattle.std.proofs.lemmas.Bool.{false≢true, and_parts, and_from, cases_Bool, cases_eq, cases_lt, lt-ltb, le-ltb, le-leb, false_from_ne_true}
+use Rattle.std.proofs.Math.Bool.{and-true, and_comm}
+use Rattle.std.proofs.lemmas.Bool.Decides.{nat_tests}
+use Rattle.std.proofs.lemmas.List.{get_or-set_same, get_or-set_other, length-set}
+use Rattle.std.proofs.lemmas.List.Sums.{sum_by-set, sum_by-cons, sum_by-append, sum_by-le-sum_by, fold-append}
+use Rattle.std.proofs.lemmas.List.Folds.{sum_by-replicate}
+use Rattle.hg_model.specs.Places.{IsEarlier}
+use Rattle.hg_model.specs.Stakes.{Stakes, member_count}
+use Rattle.hg_model.specs.Links.{Link, creator, parents, self_parent}
+use Rattle.hg_model.specs.Ancestry.{is_ancestor}
+use Rattle.hg_model.specs.Graph.{IsShaped}
+use Rattle.hg_model.specs.Counts.{CountsMembers}
+use Rattle.hg_model.proofs.AncestryLaws.{is_ancestor-le, is_ancestor-trans, is_self_ancestor_by, is_self_ancestor_self}
+use Rattle.hg_model.proofs.SightLaws.{is_ancestor-from_self}
+use Rattle.hg_model.proofs.ReachLaws.{has_place_first}
+use Rattle.hg_model.proofs.ForkLaws.{self_parent_cases}
+use Rattle.hg_order.specs.declared.tally.Tally.{Tally}
+use Rattle.hg_order.specs.declared.tally.Holder.{Holder}
+use Rattle.hg_order.specs.Counted.{AreLines, IsBelow}
+use Rattle.hg_order.specs.Tallied.{no_tally, tally_at, tallied, tally_by, tally_of, is_gained_by, untallied, ReachAll}
+use Rattle.hg_order.specs.Swept.{has_reached, reached, parent_end, IsNextFrom, AreLinked, IsLane, AreLanes, IsPast, IsAdvanced, IsLaneFrom, AreAdvanced, AreFew, AreGained, AreGainedBy, IsSwept, AreTimed, ArePast}
+use Rattle.hg_order.proofs.BoundLaws.{no_number}
+use Rattle.hg_order.proofs.GainLaws.{AreNewFrom}
+use Rattle.hg_order.proofs.MedianLaws.{tally_where}
+
+-- the doubtful law first: how many lines have x as ancestor is one more where a holder gains it that follows its self-parent
+
+bits : (up was : Bool) → (was ≡ true → up ≡ true) → cond {A = ℕ} up 1 0 ≡ cond {A = ℕ} was 1 0 + cond {A = ℕ} (up && not was) 1 0
+bits true true h = refl
+bits true false h = refl
+bits false true h = absurd (false≢true (h refl))
+bits false false h = refl
+
+module _ (L : List Link) (e : IsEarlier (parents L)) where
+  reached_at : (z x : ℕ) → has_reached L x (z + 1) ≡ is_ancestor L z x
+  reached_at z x = (let at : z + 1 - 1 ≡ z = omega arith in rw (lt-ltb 0 (z + 1) (omega arith), at) refl)
+
+  new_where : (z low x : ℕ) → low ≤ x → list_all (λ p. not (is_ancestor L p x)) (self_parent L z) ≡ not (has_reached L x (parent_end low (self_parent L z)))
+  new_where z low x from = elim (self_parent_cases L z) [
+    | inl none ↦ rw none refl
+    | inr one ↦ elim (cases_lt one.0 low) [
+      | inl under ↦
+          (let no : is_ancestor L one.0 x ≡ false = false_from_ne_true (is_ancestor L one.0 x) (λ up. let le = is_ancestor-le L e one.0 x up in absurd (omega arith)) in
+          rw (one.1, lt-ltb one.0 low under, no) refl)
+      | inr over ↦ rw (one.1, le-ltb one.0 low over, reached_at one.0 x) (and-true (not (is_ancestor L one.0 x)))
+    ]
+  ]
+
+  parent_has : (z low x : ℕ) → has_reached L x (parent_end low (self_parent L z)) ≡ true → is_ancestor L z x ≡ true
+  parent_has z low x was = elim (self_parent_cases L z) [
+    | inl none ↦ absurd (false≢true (rw none at was))
+    | inr one ↦ elim (cases_lt one.0 low) [
+      | inl under ↦ absurd (false≢true (rw (one.1, lt-ltb one.0 low under) at was))
+      | inr over ↦
+          (let up : is_ancestor L one.0 x ≡ true = rw (one.1, le-ltb one.0 low over, reached_at one.0 x) at was in
+          let on = is_self_ancestor_by L e z one.0 one.0 (rw one.1 (has_place_first one.0 [])) (is_self_ancestor_self L e one.0) in
+          is_ancestor-trans L e z one.0 x (is_ancestor-from_self L e z one.0 on) up)
+    ]
+  ]
+
+  pub reached_next : (ends : List ℕ) (z low x : ℕ) → low ≤ x → creator L z < length ends → get_or ends (creator L z) 0 ≡ parent_end low (self_parent L z) →
+      reached L (set ends (creator L z) (z + 1)) x ≡ reached L ends x + cond (is_gained_by L z x) 1 0
+  reached_next ends z low x from room follows =
+      let was = has_reached L x (parent_end low (self_parent L z)) in
+      let f : ℕ → ℕ = λ e. cond (has_reached L x e) 1 0 in
+      let moved : reached L (set ends (creator L z) (z + 1)) x + cond was 1 0 ≡ reached L ends x + cond (is_ancestor L z x) 1 0 =
+      rw (follows, reached_at z x) at (sum_by-set f ends (creator L z) (z + 1) 0 room) in
+      let step = bits (is_ancestor L z x) was (parent_has z low x) in
+      let gained : cond (is_gained_by L z x) 1 0 ≡ cond (is_ancestor L z x && not was) 1 0 = ap (λ (b : Bool). cond {A = ℕ} (is_ancestor L z x && b) 1 0) (new_where z low x from) in
+      omega (arith, moved, step, gained)
+
+-- rows linked along the lines, from the last down
+
+pub next_none : (L : List Link) (top m : ℕ) → IsNextFrom L top m top 0
+next_none L top m = record { from = λ some. absurd (omega arith); to = omega arith; by = λ some. absurd (omega arith); first = λ x by from to. absurd (omega arith) }
+
+module _ (L : List Link) (top : ℕ) (next : List ℕ) (y : ℕ) (inside : y < top) (firsts : (m : ℕ) → IsNextFrom L top m (y + 1) (get_or next m 0)) where
+  pub firsts_next : creator L y < length next → (m : ℕ) → IsNextFrom L top m y (get_or (set next (creator L y) (y + 1)) m 0)
+  firsts_next room m = elim (cases_eq m (creator L y)) [
+    | inl same ↦ rw (same, get_or-set_same next (creator L y) (y + 1) 0 room) (record {
+      from = λ some. omega arith;
+      to = omega arith;
+      by = λ some. (let at : y + 1 - 1 ≡ y = omega arith in ap (creator L) at);
+      first = λ x by from to. (omega arith, omega arith);
+    })
+    | inr other ↦
+        (let old = firsts m in
+        rw (get_or-set_other next (creator L y) m (y + 1) 0 other) (record {
+          from = λ some. (let low = old.from some in omega arith);
+          to = old.to;
+          by = old.by;
+          first = λ x by from to. elim (cases_eq x y) [
+            | inl here ↦ absurd (other (sym by ∙ ap (creator L) here))
+            | inr later ↦ old.first x by (omega arith) to
+          ];
+        }))
+  ]
+
+  pub linked_next : (low : ℕ) (ts : List Tally) → low ≤ y → y - low < length ts → ((k : ℕ) → k < length ts → y + 1 ≤ low + k → IsNextFrom L top (creator L (low + k)) (low + k + 1) (tally_at ts k).left) →
+      (k : ℕ) → k < length ts → y ≤ low + k → IsNextFrom L top (creator L (low + k)) (low + k + 1) (tally_at (set ts (y - low) (record { left = get_or next (creator L y) 0; time = 0 })) k).left
+  linked_next low ts from room linked k few over = elim (cases_eq k (y - low)) [
+    | inl here ↦
+        (let at : low + k ≡ y = omega arith in
+        rw (here, get_or-set_same ts (y - low) (record { left = get_or next (creator L y) 0; time = 0 }) no_tally room) (rw (sym here, at) (firsts (creator L y))))
+    | inr other ↦ rw (get_or-set_other ts (y - low) k (record { left = get_or next (creator L y) 0; time = 0 }) no_tally other) (linked k few (omega arith))
+  ]
+
+-- a time more in a tally
+
+-- the tally at k with this time
+abbrev pub with_time : List Tally → ℕ → ℕ → List Tally
+with_time ts k time = set ts k (record { left = (tally_at ts k).left; time = time })
+
+left_kept : (ts : List Tally) (k time j : ℕ) → k < length ts → (tally_at (with_time ts k time) j).left ≡ (tally_at ts j).left
+left_kept ts k time j room = elim (cases_eq j k) [
+  | inl same ↦ rw same (ap (λ (t : Tally). t.left) (get_or-set_same ts k (record { left = (tally_at ts k).left; time = time }) no_tally room))
+  | inr other ↦ ap (λ (t : Tally). t.left) (get_or-set_other ts k j (record { left = (tally_at ts k).left; time = time }) no_tally other)
+]
+
+linked_timed : (L : List Link) (low : ℕ) (ts : List Tally) (k time : ℕ) → k < length ts → AreLinked L low ts → AreLinked L low (with_time ts k time)
+linked_timed L low ts k time room linked j few =
+    let long = length-set ts k (record { left = (tally_at ts k).left; time = time }) in
+    let old = linked j (rw long at few) in
+    next_same L (low + length ts) (low + length (with_time ts k time)) (creator L (low + j)) (low + j + 1) (tally_at ts j).left (tally_at (with_time ts k time) j).left (ap (λ (n : ℕ). low + n) (sym long)) (sym (left_kept ts k time j room)) old
+  where
+    next_same : (L : List Link) (top after m bottom next more : ℕ) → top ≡ after → next ≡ more → IsNextFrom L top m bottom next → IsNextFrom L after m bottom more
+    next_same L top after m bottom next more e1 e2 is = rw (← e1, ← e2) is
+
+-- one lane that goes on
+
+-- how far it is from a row to the top, and nothing once no row is left
+abbrev pub way_left : ℕ → ℕ → ℕ
+way_left top zero = 0
+way_left top (suc x) = top - x
+
+pub way_shorter : (top here next : ℕ) → 0 < here → here ≤ top → (next ≡ 0) ⊎ (here < next) → way_left top next < way_left top here
+way_shorter top zero next some inside on = absurd (omega arith)
+way_shorter top (suc x) zero some inside on = omega arith
+way_shorter top (suc x) (suc y) some inside (inl none) = absurd (omega arith)
+way_shorter top (suc x) (suc y) some inside (inr later) = omega arith
+
+cond_cases : (b : Bool) (n : ℕ) → (cond b n 0 ≡ 0) ⊎ (cond b n 0 ≡ n)
+cond_cases true n = inr refl
+cond_cases false n = inl refl
+
+module _ (L : List Link) (bound : ℕ) (ends : List ℕ) (low need time start : ℕ) (old : List Tally) where
+  pub advanced_none : (above : ℕ) → AreLinked L low old → IsLaneFrom L ends low old start above → IsAdvanced L bound ends low need time (creator L (start - 1)) start start above old old
+  advanced_none above linked lane = record {
+    lane = record { from = λ _. lane.from; to = lane.to; by = λ _. refl; counted = λ _. lane.counted; idle = λ none. (let from = lane.from in absurd (omega arith)) };
+    later = λ some. omega arith;
+    linked = linked;
+    kept = λ k before. refl;
+    timed = λ k below inside by from past. absurd (not_past k from past);
+    long = refl;
+  }
+    where
+      not_past : (k : ℕ) → start ≤ low + k + 1 → IsPast start (low + k) → ⊥
+      not_past k from (inl none) = (let some = lane.from in absurd (omega arith))
+      not_past k from (inr later) = absurd (omega arith)
+
+  module _ (m here above : ℕ) (now : List Tally) (a : IsAdvanced L bound ends low need time m start here above old now) (some : 0 < need) (enough : need ≤ above) where
+    pub row_there : 0 < here
+    row_there = elim (cases_lt 0 here) [
+      | inl there ↦ there
+      | inr none ↦ (let idle = a.lane.idle (omega arith) in absurd (omega arith))
+    ]
+
+    pub row_from : low < here
+    row_from = a.lane.from row_there
+
+    pub row_inside : here - 1 - low < length now
+    row_inside = (let there = row_there in let from = row_from in let to = a.lane.to in omega arith)
+
+    at_row : low + (here - 1 - low) ≡ here - 1
+    at_row = (let there = row_there in let from = row_from in omega arith)
+
+    step_facts : IsNextFrom L (low + length now) m here (tally_at now (here - 1 - low)).left
+    step_facts =
+        let there = row_there in
+        let from = row_from in
+        let at = at_row in
+        let one : low + (here - 1 - low) + 1 ≡ here = omega arith in
+        rw (one, at, a.lane.by there) at (a.linked (here - 1 - low) row_inside)
+
+    module _ (next more : ℕ) (is : next ≡ cond (leb (tally_at now (here - 1 - low)).left bound) (tally_at now (here - 1 - low)).left 0) where
+      next_is : (0 < next) → next ≡ (tally_at now (here - 1 - low)).left
+      next_is more = elim (cond_cases (leb (tally_at now (here - 1 - low)).left bound) (tally_at now (here - 1 - low)).left) [
+        | inl none ↦ (let zero_is = is ∙ none in absurd (omega arith))
+        | inr one ↦ is ∙ one
+      ]
+
+      pub steps_on : (next ≡ 0) ⊎ (here < next)
+      steps_on = elim (cases_lt 0 next) [
+        | inl more ↦ (let same = next_is more in inr (rw same (step_facts.from (rw same at more))))
+        | inr none ↦ inl (omega arith)
+      ]
+
+      not_later : (k : ℕ) → low + k < bound → low + k < low + length now → creator L (low + k) ≡ m → here ≤ low + k → IsPast next (low + k) → ⊥
+      not_later k below inside by from past =
+          let q = (tally_at now (here - 1 - low)).left in
+          let first = step_facts.first (low + k) by from inside in
+          let first0 = first.0 in
+          let first1 = first.1 in
+          elim (cases_lt bound q) [
+            | inl over ↦ absurd (omega arith)
+            | inr within ↦ passes past (is ∙ ap (λ (b : Bool). cond b q 0) (le-leb q bound within)) first0 first1
+          ]
+        where
+          passes : IsPast next (low + k) → next ≡ (tally_at now (here - 1 - low)).left → 0 < (tally_at now (here - 1 - low)).left → (tally_at now (here - 1 - low)).left ≤ low + k + 1 → ⊥
+          passes (inl none) same some few = absurd (omega arith)
+          passes (inr later) same some few = absurd (omega arith)
+
+      pub advanced_next : (0 < next → more ≡ reached L ends (next - 1)) → (next ≡ 0 → more ≡ 0) →
+          IsAdvanced L bound ends low need time m start next more old (with_time now (here - 1 - low) time)
+      advanced_next counted idle =
+          let k0 = here - 1 - low in
+          let there = row_there in
+          let from = row_from in
+          let at = at_row in
+          let inside = row_inside in
+          let later = a.later there in
+          let long : length (with_time now k0 time) ≡ length now = length-set now k0 (record { left = (tally_at now k0).left; time = time }) in record {
+            lane = record {
+              from = λ more. (let on = after more in omega arith);
+              to = elim (cases_lt 0 next) [
+                | inl more ↦ (let same = next_is more in let to = step_facts.to in omega arith)
+                | inr none ↦ omega arith
+              ];
+              by = λ more. (let same = next_is more in rw same (step_facts.by (rw same at more)));
+              counted = counted;
+              idle = idle;
+            };
+            later = λ more. (let on = after more in omega arith);
+            linked = linked_timed L low now k0 time inside a.linked;
+            kept = λ k before. elim (cases_eq k k0) [
+              | inl same ↦ (let early = before (ap (λ (j : ℕ). creator L (low + j)) same ∙ (ap (creator L) at ∙ a.lane.by there)) in absurd (omega arith))
+              | inr other ↦ get_or-set_other now k0 k (record { left = (tally_at now k0).left; time = time }) no_tally other ∙ a.kept k before
+            ];
+            timed = λ k below in_window by after_start past. elim (cases_eq k k0) [
+              | inl same ↦ record {
+                found = rw same (ap (λ (t : Tally). t.time) (get_or-set_same now k0 (record { left = (tally_at now k0).left; time = time }) no_tally inside));
+                enough = (let count = a.lane.counted there in rw (same, at) (omega arith));
+              }
+              | inr other ↦ rw (get_or-set_other now k0 k (record { left = (tally_at now k0).left; time = time }) no_tally other) (a.timed k below (omega arith) by after_start (before_here k other (λ over. not_later k below (omega arith) by over past)))
+            ];
+            long = long ∙ a.long;
+          }
+        where
+          after : 0 < next → here < next
+          after more = elim steps_on [
+            | inl none ↦ absurd (omega arith)
+            | inr on ↦ on
+          ]
+
+          before_here : (k : ℕ) → k ≢ here - 1 - low → (here ≤ low + k → ⊥) → IsPast here (low + k)
+          before_here k other not_over = (let there = row_there in let from = row_from in elim (cases_lt (low + k + 1) here) [
+            | inl before ↦ inr before
+            | inr over ↦ absurd (not_over (omega arith))
+          ])
+
+-- all lanes that go on
+
+pub lane_from : (L : List Link) (ends : List ℕ) (low m next above need : ℕ) (ts : List Tally) → IsLane L ends low (low + length ts) m next above → 0 < need → need ≤ above → IsLaneFrom L ends low ts next above
+lane_from L ends low m next above need ts lane some enough = elim (cases_lt 0 next) [
+  | inl there ↦ record { from = lane.from there; to = lane.to; counted = lane.counted there }
+  | inr none ↦ (let idle = lane.idle (omega arith) in absurd (omega arith))
+]
+
+module _ (L : List Link) (least ends : List ℕ) (low need time : ℕ) (start next above : List ℕ) (old now : List Tally) (a : AreAdvanced L least ends low need time start next above old now)
+    (m : ℕ) (same : get_or next m 0 ≡ get_or start m 0) (room : m < length next) (room_above : m < length above) (there : 0 < get_or next m 0) where
+  pub lanes_next : (q more : ℕ) (new : List Tally) → IsAdvanced L (get_or least m 0) ends low need time (creator L (get_or next m 0 - 1)) (get_or next m 0) q more now new →
+      AreAdvanced L least ends low need time start (set next m q) (set above m more) old new
+  lanes_next q more new step =
+      let by : creator L (get_or next m 0 - 1) ≡ m = (a.lanes m).by there in
+      let b : IsAdvanced L (get_or least m 0) ends low need time m (get_or next m 0) q more now new = rw by at step in record {
+        lanes = λ j. elim (cases_eq j m) [
+          | inl is ↦ rw (is, get_or-set_same next m q 0 room, get_or-set_same above m more 0 room_above) b.lane
+          | inr other ↦ rw (get_or-set_other next m j q 0 other, get_or-set_other above m j more 0 other, b.long) (a.lanes j)
+        ];
+        linked = b.linked;
+        kept = λ k past. b.kept k (λ is. before k is (rw is at past)) ∙ a.kept k past;
+        timed = λ k below inside some from past. elim (cases_eq (creator L (low + k)) m) [
+          | inl is ↦ b.timed k (rw is at below) inside is (rw (is, ← same) at from) (rw (is, get_or-set_same next m q 0 room) at past)
+          | inr other ↦ rw (b.kept k (λ is. absurd (other is))) (a.timed k below (rw b.long at inside) some from (rw (get_or-set_other next m (creator L (low + k)) q 0 other) at past))
+        ];
+        long = b.long ∙ a.long;
+      }
+    where
+      before : (k : ℕ) → creator L (low + k) ≡ m → IsPast (get_or start m 0) (low + k) → low + k + 1 < get_or next m 0
+      before k is (inl none) = absurd (omega arith)
+      before k is (inr later) = omega arith
+
+pub few_next : (above : List ℕ) (m v need : ℕ) → m < length above → v < need → ((j : ℕ) → j < m → get_or above j 0 < need) → (j : ℕ) → j < m + 1 → get_or (set above m v) j 0 < need
+few_next above m v need room less few j h = elim (cases_eq j m) [
+  | inl here ↦ rw (here, get_or-set_same above m v 0 room) less
+  | inr other ↦ rw (get_or-set_other above m j v 0 other) (few j (omega arith))
+]
+
+pub same_next : (next start : List ℕ) (m v : ℕ) → ((j : ℕ) → m ≤ j → get_or next j 0 ≡ get_or start j 0) → (j : ℕ) → m + 1 ≤ j → get_or (set next m v) j 0 ≡ get_or start j 0
+same_next next start m v same j over = get_or-set_other next m j v 0 (λ here. absurd (omega arith)) ∙ same j (omega arith)
+
+-- what a row gains
+
+gain_tests : (before counts q : ℕ) → 0 < q → (ltb before q && leb q counts) ≡ (leb before (q - 1) && ltb (q - 1) counts)
+gain_tests before counts q some = grind (arith, nat_tests)
+
+module _ (n : Stakes) (L : List Link) (s : IsShaped n L) (z : ℕ) where
+  pub gained_by : (before counts next old new : List ℕ) (top : ℕ) → CountsMembers n L z counts → AreNewFrom L z before → AreGained before counts next old new →
+      ((m : ℕ) → length counts ≤ m → get_or new m 0 ≡ get_or old m 0) → ((m : ℕ) → m < length counts → get_or new m 0 ≤ top) → AreGainedBy n L z next old new top
+  gained_by before counts next old new top c fresh each past top_is = record {
+    lines = record { line = c.line };
+    each = λ m some by inside.
+        let x = get_or next m 0 - 1 in
+        let low : x < length L = omega arith in
+        let member : m < length counts = rw (c.wide, ← by) (s.members x low) in
+        let tests = gain_tests (get_or before m 0) (get_or counts m 0) (get_or next m 0) some in
+        let new_is = rw by at (fresh.news x low) in
+        let told = rw by at (c.told x low) in
+        each m member ∙ ap (λ (b : Bool). get_or old m 0 + cond b 1 0) (tests ∙ (ap₂ (λ (p q : Bool). p && q) new_is told ∙ and_comm (list_all (λ p. not (is_ancestor L p x)) (self_parent L z)) (is_ancestor L z x)));
+    none = λ m zero_is. elim (cases_lt m (length counts)) [
+      | inl member ↦ (let no = le-ltb (get_or before m 0) 0 (omega arith) in let is = rw (zero_is, no) at (each m member) in omega (arith, is))
+      | inr over ↦ past m over
+    ];
+    most = λ m member. top_is m (rw c.wide member);
+    rest = λ m over. past m (rw c.wide over);
+  }
+
+-- what holders leave of tallies
+
+tally_left : (test : Holder → Bool) (holders : List Holder) (t : Tally) → (fold (tally_where test) t holders).left ≡ t.left - count_by test holders
+tally_left test [] t = omega arith
+tally_left test (h ∷ holders) t = elim (cases_Bool (test h)) [
+  | inl passes ↦
+      (let one : cond {A = ℕ} (test h) 1 0 ≡ 1 = ap (λ (b : Bool). cond {A = ℕ} b 1 0) passes in
+      let more = sum_by-cons (λ (h : Holder). cond (test h) 1 0) h holders in
+      ap (λ (b : Bool). (fold (tally_where test) (cond b (tallied h.time t) t) holders).left) passes ∙ (tally_left test holders (tallied h.time t) ∙ omega arith))
+  | inr fails ↦
+      (let one : cond {A = ℕ} (test h) 1 0 ≡ 0 = ap (λ (b : Bool). cond {A = ℕ} b 1 0) fails in
+      let more = sum_by-cons (λ (h : Holder). cond (test h) 1 0) h holders in
+      ap (λ (b : Bool). (fold (tally_where test) (cond b (tallied h.time t) t) holders).left) fails ∙ (tally_left test holders t ∙ omega arith))
+]
+
+at_last : (time : ℕ) (t : Tally) → t.left ≡ 1 → tallied time t ≡ record { left = 0; time = time }
+at_last time t one = rw one refl
+
+decided_now : (test : Holder → Bool) (holders : List Holder) (h : Holder) (need : ℕ) → count_by test holders < need → need ≤ count_by test holders + cond (test h) 1 0 →
+    tally_where test (fold (tally_where test) (untallied need) holders) h ≡ record { left = 0; time = h.time }
+decided_now test holders h need few enough = elim (cases_Bool (test h)) [
+  | inl passes ↦
+      (let one : cond {A = ℕ} (test h) 1 0 ≡ 1 = ap (λ (b : Bool). cond {A = ℕ} b 1 0) passes in
+      let left = tally_left test holders (untallied need) in
+      ap (λ (b : Bool). cond b (tallied h.time (fold (tally_where test) (untallied need) holders)) (fold (tally_where test) (untallied need) holders)) passes
+      ∙ at_last h.time (fold (tally_where test) (untallied need) holders) (left ∙ omega arith))
+  | inr fails ↦ (let none : cond {A = ℕ} (test h) 1 0 ≡ 0 = ap (λ (b : Bool). cond {A = ℕ} b 1 0) fails in absurd (omega arith))
+]
+
+decided_before : (test : Holder → Bool) (h : Holder) (time : ℕ) (t : Tally) → t ≡ record { left = 0; time = time } → tally_where test t h ≡ record { left = 0; time = time }
+decided_before test h time t is = rw is (same (test h))
+  where
+    same : (b : Bool) → cond b (tallied h.time (record { left = 0; time = time })) (record { left = 0; time = time }) ≡ record { left = 0; time = time }
+    same true = refl
+    same false = refl
+
+-- a later row of a line is ancestor of no more lines than an earlier one
+
+bit_less : (a b : Bool) → (a ≡ true → b ≡ true) → cond {A = ℕ} a 1 0 ≤ cond {A = ℕ} b 1 0
+bit_less true b h = rw (h refl) (omega arith)
+bit_less false b h = omega arith
+
+pub reached_less : (L : List Link) → IsEarlier (parents L) → AreLines L → (ends : List ℕ) (x y : ℕ) → x < length L → y ≤ x → creator L x ≡ creator L y → reached L ends x ≤ reached L ends y
+reached_less L e lines ends x y inside under same =
+    sum_by-le-sum_by (λ (e : ℕ). cond {A = ℕ} (has_reached L x e) 1 0) (λ (e : ℕ). cond {A = ℕ} (has_reached L y e) 1 0) ends (λ z. bit_less (has_reached L x z) (has_reached L y z) (λ up.
+    let parts = and_parts (ltb 0 z) (is_ancestor L (z - 1) x) up in
+    and_from (ltb 0 z) (is_ancestor L (z - 1) y) parts.0 (is_ancestor-trans L e (z - 1) x y parts.1 (is_ancestor-from_self L e x y (lines.line x y inside under same)))))
+
+-- one holder more
+
+module _ (n : Stakes) (L : List Link) (s : IsShaped n L) (least : List ℕ) (low need : ℕ) (holders : List Holder) (ends next above : List ℕ) (ts : List Tally)
+    (swept : IsSwept L least low need holders ends next above ts) (h : Holder) (inside : low + length ts ≤ length L) (room : creator L h.place < length ends)
+    (follows : get_or ends (creator L h.place) 0 ≡ parent_end low (self_parent L h.place)) where
+  pub lanes_gained : (mid : List ℕ) (top : ℕ) → AreGainedBy n L h.place next above mid top → AreLanes L (set ends (creator L h.place) (h.place + 1)) low (low + length ts) next mid
+  lanes_gained mid top g m =
+      let lane = swept.lanes m in record {
+        from = lane.from;
+        to = lane.to;
+        by = lane.by;
+        counted = λ some.
+            let to = lane.to in
+            let from = lane.from some in
+            let old = lane.counted some in
+            let gained = g.each m some (lane.by some) (omega arith) in
+            let more = reached_next L s.earlier ends h.place low (get_or next m 0 - 1) (omega arith) room follows in
+            omega arith;
+        idle = λ none. g.none m none ∙ lane.idle none;
+      }
+
+  pub few_still : (mid : List ℕ) (top : ℕ) → AreGainedBy n L h.place next above mid top → top < need → AreFew need mid
+  few_still mid top g less m = elim (cases_lt m (member_count n)) [
+    | inl member ↦ (let most = g.most m member in omega arith)
+    | inr over ↦ rw (g.rest m over) (swept.few m)
+  ]
+
+  pub swept_next : AreLines L → (next_after above_after : List ℕ) (after : List Tally) →
+      AreAdvanced L least (set ends (creator L h.place) (h.place + 1)) low need h.time next next_after above_after ts after → AreFew need above_after →
+      IsSwept L least low need (holders ++ h ∷ []) (set ends (creator L h.place) (h.place + 1)) next_after above_after after
+  swept_next lines next_after above_after after a few = record {
+    lanes = a.lanes;
+    linked = a.linked;
+    few = few;
+    counted = λ x from. count_next x ∙ (ap (λ (k : ℕ). k + cond (is_gained_by L h.place x) 1 0) (swept.counted x from) ∙ sym (reached_next L s.earlier ends h.place low x from room follows));
+    done = λ k below in_window past. fold-append (tally_by L (low + k)) (untallied need) holders (h ∷ []) ∙ done k below (rw a.long at in_window) past;
+  }
+    where
+      count_next : (x : ℕ) → count_by (λ h. is_gained_by L h.place x) (holders ++ h ∷ []) ≡ count_by (λ h. is_gained_by L h.place x) holders + cond (is_gained_by L h.place x) 1 0
+      count_next x =
+          let f : Holder → ℕ = λ h. cond (is_gained_by L h.place x) 1 0 in
+          let both = sum_by-append f holders (h ∷ []) in
+          let one = sum_by-cons f h [] in
+          omega (arith, both, one)
+
+      done : (k : ℕ) → IsBelow L least (low + k) → low + k < low + length ts → IsPast (get_or next_after (creator L (low + k)) 0) (low + k) →
+          tally_by L (low + k) (tally_of L (low + k) (untallied need) holders) h ≡ record { left = 0; time = (tally_at after k).time }
+      done k below in_window past =
+          let m = creator L (low + k) in
+          let before : IsPast (get_or next m 0) (low + k) → tally_by L (low + k) (tally_of L (low + k) (untallied need) holders) h ≡ record { left = 0; time = (tally_at after k).time } =
+          λ was. rw (a.kept k was) (decided_before (λ h. is_gained_by L h.place (low + k)) h (tally_at ts k).time (tally_of L (low + k) (untallied need) holders) (swept.done k below in_window was)) in
+          elim (cases_lt 0 (get_or next m 0)) [
+            | inr none ↦ before (inl (omega arith))
+            | inl some ↦ elim (cases_lt (low + k + 1) (get_or next m 0)) [
+              | inl later ↦ before (inr later)
+              | inr here ↦
+                  (let lane = swept.lanes m in
+                  let timed = a.timed k below (rw a.long in_window) some here past in
+                  let less = reached_less L s.earlier lines ends (low + k) (get_or next m 0 - 1) (omega arith) (omega arith) (sym (lane.by some)) in
+                  let at = lane.counted some in
+                  let low_count = swept.few m in
+                  let from : low ≤ low + k = omega arith in
+                  let is = swept.counted (low + k) from in
+                  let more = reached_next L s.earlier ends h.place low (low + k) from room follows in
+                  let enough = timed.enough in
+                  rw timed.found (decided_now (λ h. is_gained_by L h.place (low + k)) holders h need (omega arith) (omega arith)))
+            ]
+          ]
+
+pub advanced_still : (L : List Link) (least ends : List ℕ) (low need time : ℕ) (next above : List ℕ) (ts : List Tally) → AreLanes L ends low (low + length ts) next above → AreLinked L low ts →
+    AreAdvanced L least ends low need time next next above ts ts
+advanced_still L least ends low need time next above ts lanes linked = record {
+  lanes = lanes;
+  linked = linked;
+  kept = λ k past. refl;
+  timed = λ k below inside some from past. absurd (not_past (get_or next (creator L (low + k)) 0) k some from past);
+  long = refl;
+}
+  where
+    not_past : (next k : ℕ) → 0 < next → next ≤ low + k + 1 → IsPast next (low + k) → ⊥
+    not_past next k some from (inl none) = absurd (omega arith)
+    not_past next k some from (inr later) = absurd (omega arith)
+
+-- the first and the last of a sweep
+
+module _ (L : List Link) (least : List ℕ) (low need : ℕ) (next : List ℕ) (ts : List Tally) (reach : ReachAll L least low ts) where
+  pub swept_none : AreLinked L low ts → ((m : ℕ) → IsNextFrom L (low + length ts) m low (get_or next m 0)) → 0 < need → IsSwept L least low need [] (replicate 128 0) next (replicate 128 0) ts
+  swept_none linked firsts some = record {
+    lanes = λ m. let first = firsts m in record {
+      from = first.from;
+      to = first.to;
+      by = first.by;
+      counted = λ there. no_number 128 m ∙ sym (none_reached (get_or next m 0 - 1));
+      idle = λ none. no_number 128 m;
+    };
+    linked = linked;
+    few = λ m. rw (no_number 128 m) some;
+    counted = λ x from. sym (none_reached x);
+    done = λ k below inside past. absurd (not_past k inside past);
+  }
+    where
+      none_reached : (x : ℕ) → reached L (replicate 128 0) x ≡ 0
+      none_reached x = sum_by-replicate (λ (e : ℕ). cond {A = ℕ} (has_reached L x e) 1 0) 128 0
+
+      not_past : (k : ℕ) → low + k < low + length ts → IsPast (get_or next (creator L (low + k)) 0) (low + k) → ⊥
+      not_past k inside (inl none) = (let first = (firsts (creator L (low + k))).first (low + k) refl (omega arith) inside in let some = first.0 in absurd (omega arith))
+      not_past k inside (inr later) = (let first = (firsts (creator L (low + k))).first (low + k) refl (omega arith) inside in let some = first.1 in absurd (omega arith))
+
+  pub times_swept : (holders : List Holder) (ends above : List ℕ) → IsSwept L least low need holders ends next above ts → ArePast next least → AreTimed L least low need holders ts
+  times_swept holders ends above swept past k inside below =
+      sym (ap (λ (t : Tally). t.time) (swept.done k below (reach (low + k) inside below) (past_row k below (past (creator L (low + k))))))
+    where
+      past_row : (k : ℕ) → IsBelow L least (low + k) → (get_or next (creator L (low + k)) 0 ≡ 0) ⊎ (get_or least (creator L (low + k)) 0 < get_or next (creator L (low + k)) 0) → IsPast (get_or next (creator L (low + k)) 0) (low + k)
+      past_row k below (inl none) = inl none
+      past_row k below (inr over) = inr (omega arith)
+
+pub reach_same : (L : List Link) (least : List ℕ) (low : ℕ) (old new : List Tally) → length new ≡ length old → ReachAll L least low old → ReachAll L least low new
+reach_same L least low old new long reach x inside below = (let room = reach x inside below in omega arith)
