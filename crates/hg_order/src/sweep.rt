@@ -69,7 +69,8 @@ fn reached<S: Sight>(sight: &S, ends: &[usize], x: usize) -> usize
 }
 
 /// Counts one line more at each lane whose row is not below `before`, and is below `counts`. It answers the greatest of
-/// the numbers then. One loop over 16 bits with no branch, of which the compiler makes vectors.
+/// the numbers then. One loop over 16 bits: each number is read before the tests, so that the compiler needs no branch,
+/// and makes vectors of it.
 pub fn count_gains(before: &[u16], counts: &[u16], next: &[u16], above: &mut [u16]) -> u16
     requires before { length counts.now ≤ length before.now }
     requires next { length counts.now ≤ length next.now }
@@ -81,7 +82,8 @@ pub fn count_gains(before: &[u16], counts: &[u16], next: &[u16], above: &mut [u1
 {
     let mut most = 0;
     for m in 0..counts.len() {
-        above[m] += u16::from(before[m] < next[m] && next[m] <= counts[m]);
+        let (row, count) = (next[m], counts[m]);
+        above[m] += u16::from(before[m] < row && row <= count);
         most = most.max(above[m]);
     }
     most
