@@ -36,15 +36,15 @@ impl Model for Kept {
 }
 
 impl Kept {
-    /// Nothing, of no rows. Takes no memory.
-    pub fn new(alloc: Global) -> Kept
+    /// Nothing, of no rows, by so many members. Takes no memory.
+    pub fn new(alloc: Global, members: u32) -> Kept
         ensures none { result.published ≡ unpublished }
         ensures keeps { (n : Stakes) (c : ℕ) → 0 < total n → Keeps (graph_of n c []) result.published }
     {
         Kept {
             marks: Vec::new(alloc),
             closed: 0,
-            pending: Pending::new(alloc),
+            pending: Pending::new(alloc, members),
             order: Vec::new(alloc),
         }
     }
@@ -155,7 +155,7 @@ mod tests {
 
     #[test]
     fn has_room_once_it_is_reserved(rt: HostRuntime) -> Result<(), Memory> {
-        let mut kept = Kept::new(rt.alloc());
+        let mut kept = Kept::new(rt.alloc(), 4);
         kept.reserve()?;
         kept.reserve()?;
         assert!(rt; kept.closed() == 0 && kept.order().is_empty());

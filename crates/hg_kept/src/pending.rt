@@ -10,8 +10,9 @@ use hg_order::{RoundMemory, least_counts, order_round_within, received_below};
 use std::alloc::Global;
 use std::marker::Model;
 
-/// From how many rows a round's consensus timestamps are counted at most; of more each row's is found by itself.
-const MOST_TALLIED: usize = 4_096;
+/// From how many rows for each member a round's consensus timestamps are counted at most; of more each row's is found by
+/// itself. A round takes some ten rows a member, and what it receives goes back two rounds or three.
+const TALLIED_EACH: usize = 48;
 
 /// The rows that no closed round has received, and those of them that the round at hand receives.
 #[derive(Drop)]
@@ -23,6 +24,8 @@ pub struct Pending {
     fresh: Vec<u32>,
     /// In which the round at hand is ordered.
     memory: RoundMemory,
+    /// For how many rows that memory is taken at most.
+    tallied: usize,
 }
 
 impl Model for Pending {
@@ -35,8 +38,8 @@ impl Model for Pending {
 }
 
 impl Pending {
-    /// No rows. Takes no memory.
-    pub fn new(alloc: Global) -> Pending
+    /// No rows, of a graph of so many members. Takes no memory.
+    pub fn new(alloc: Global, members: u32) -> Pending
         ensures places { result.places ≡ [] }
         ensures looked { result.looked ≡ 0 }
     {
@@ -45,6 +48,7 @@ impl Pending {
             looked: 0,
             fresh: Vec::new(alloc),
             memory: RoundMemory::new(alloc),
+            tallied: TALLIED_EACH * members as usize,
         }
     }
 
@@ -57,7 +61,7 @@ impl Pending {
     {
         self.places.reserve(rows.saturating_sub(self.places.len()))?;
         self.fresh.reserve(rows.saturating_sub(self.fresh.len()))?;
-        self.memory.reserve(rows.min(MOST_TALLIED))?;
+        self.memory.reserve(rows.min(self.tallied))?;
         Ok(())
     }
 

@@ -57,7 +57,7 @@ impl Chronicle {
         Ok(Chronicle {
             own,
             graph: EventGraph::new(alloc, members.count(), members.coin())?,
-            kept: Kept::new(alloc),
+            kept: Kept::new(alloc, members.count()),
             ledger: Ledger::new(alloc, members)?,
             last_own: None,
             log: Vec::new(alloc),
