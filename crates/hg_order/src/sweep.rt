@@ -69,8 +69,9 @@ fn reached<S: Sight>(sight: &S, ends: &[usize], x: usize) -> usize
 }
 
 /// Counts one line more at each lane whose row is not below `before`, and is below `counts`. It answers the greatest of
-/// the numbers then. One loop over 16 bits: each number is read before the tests, so that the compiler needs no branch,
-/// and makes vectors of it.
+/// the numbers then. One loop over 16 bits that makes both tests at each lane and so has no branch, in a call of its own,
+/// where the compiler knows that the lists do not overlap: it makes vectors of it.
+#[inline(never)]
 pub fn count_gains(before: &[u16], counts: &[u16], next: &[u16], above: &mut [u16]) -> u16
     requires before { length counts.now ≤ length before.now }
     requires next { length counts.now ≤ length next.now }
@@ -83,7 +84,7 @@ pub fn count_gains(before: &[u16], counts: &[u16], next: &[u16], above: &mut [u1
     let mut most = 0;
     for m in 0..counts.len() {
         let (row, count) = (next[m], counts[m]);
-        above[m] += u16::from(before[m] < row && row <= count);
+        above[m] += u16::from((before[m] < row) & (row <= count));
         most = most.max(above[m]);
     }
     most
