@@ -24,8 +24,8 @@ pub struct Pending {
     fresh: Vec<u32>,
     /// In which the round at hand is ordered.
     memory: RoundMemory,
-    /// For how many rows that memory is taken at most.
-    tallied: usize,
+    /// How many members there are: that memory is taken for at most `TALLIED_EACH` rows of each.
+    members: usize,
 }
 
 impl Model for Pending {
@@ -48,7 +48,7 @@ impl Pending {
             looked: 0,
             fresh: Vec::new(alloc),
             memory: RoundMemory::new(alloc),
-            tallied: TALLIED_EACH * members as usize,
+            members: members as usize,
         }
     }
 
@@ -61,7 +61,10 @@ impl Pending {
     {
         self.places.reserve(rows.saturating_sub(self.places.len()))?;
         self.fresh.reserve(rows.saturating_sub(self.fresh.len()))?;
-        self.memory.reserve(rows.min(self.tallied))?;
+        self.memory.reserve(
+            rows.min(TALLIED_EACH.saturating_mul(self.members)),
+            self.members,
+        )?;
         Ok(())
     }
 

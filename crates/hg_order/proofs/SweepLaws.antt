@@ -1,10 +1,10 @@
 -- The sweep: rows linked along the lines, lanes that go on, and what holders leave of tallies
 use Rattle.std.proofs.Common.{◌≡◌, ◌≢◌, ℕ, zero, suc, ◌+◌, ◌-◌, ◌<◌, ◌≤◌, Bool, true, false, cond, not, ◌&&◌, ltb, leb, List, [], ◌∷◌, ◌++◌, length, get_or, set, fold, replicate, count_by, refl, sym, ap, ap₂, ◌∙◌, inl, inr, ◌⊎◌, arith}
 use Rattle.std.specs.List.{list_all}
-use Rattle.std.proofs.lemmas.Bool.{false≢true, and_parts, and_from, cases_Bool, cases_eq, cases_lt, lt-ltb, le-ltb, le-leb, false_from_ne_true}
+use Rattle.std.proofs.lemmas.Bool.{false≢true, cases_Bool, cases_eq, cases_lt, lt-ltb, le-ltb, le-leb, ltb-true, false_from_ne_true}
 use Rattle.std.proofs.Math.Bool.{and-true, and_comm}
 use Rattle.std.proofs.lemmas.Bool.Decides.{nat_tests}
-use Rattle.std.proofs.lemmas.List.{get_or-set_same, get_or-set_other, length-set}
+use Rattle.std.proofs.lemmas.List.{get_or-set_same, get_or-set_other, get_or-replicate, get_or_past, length-set, length-replicate}
 use Rattle.std.proofs.lemmas.List.Sums.{sum_by-set, sum_by-cons, sum_by-append, sum_by-le-sum_by, fold-append}
 use Rattle.std.proofs.lemmas.List.Folds.{sum_by-replicate}
 use Rattle.hg_model.specs.Places.{IsEarlier}
@@ -13,17 +13,16 @@ use Rattle.hg_model.specs.Links.{Link, creator, parents, self_parent}
 use Rattle.hg_model.specs.Ancestry.{is_ancestor}
 use Rattle.hg_model.specs.Graph.{IsShaped}
 use Rattle.hg_model.specs.Counts.{CountsMembers}
-use Rattle.hg_model.proofs.AncestryLaws.{is_ancestor-le, is_ancestor-trans, is_self_ancestor_by, is_self_ancestor_self}
+use Rattle.hg_model.proofs.AncestryLaws.{is_ancestor-le, is_ancestor_self, is_ancestor-trans, is_self_ancestor_by, is_self_ancestor_self}
 use Rattle.hg_model.proofs.SightLaws.{is_ancestor-from_self}
 use Rattle.hg_model.proofs.ReachLaws.{has_place_first}
 use Rattle.hg_model.proofs.ForkLaws.{self_parent_cases}
 use Rattle.hg_order.specs.declared.tally.Tally.{Tally}
 use Rattle.hg_order.specs.declared.tally.Holder.{Holder}
-use Rattle.hg_order.specs.Counted.{AreLines, IsBelow}
+use Rattle.hg_order.specs.Counted.{IsBelow}
 use Rattle.hg_order.specs.Tallied.{no_tally, tally_at, tallied, tally_by, tally_of, is_gained_by, untallied, ReachAll}
-use Rattle.hg_order.specs.Swept.{has_reached, reached, parent_end, IsNextFrom, AreLinked, IsLane, AreLanes, IsPast, IsAdvanced, IsLaneFrom, AreAdvanced, AreFew, AreGained, AreGainedBy, IsSwept, AreTimed, ArePast}
-use Rattle.hg_order.proofs.BoundLaws.{no_number}
-use Rattle.hg_order.proofs.GainLaws.{AreNewFrom}
+use Rattle.hg_order.specs.Swept.{has_reached, has_counted, reached, counts_at, end_of, parent_end, AreLast, IsNextFrom, AreLinked, IsLane, AreLanes, IsPast, IsAdvanced, IsLaneFrom, AreAdvanced, AreFew, AreGained, AreGainedBy, IsSwept, AreTimed, ArePast}
+use Rattle.hg_order.proofs.BoundLaws.{no_number, counts_end}
 use Rattle.hg_order.proofs.MedianLaws.{tally_where}
 
 -- the doubtful law first: how many lines have x as ancestor is one more where a holder gains it that follows its self-parent
@@ -33,6 +32,9 @@ bits true true h = refl
 bits true false h = refl
 bits false true h = absurd (false≢true (h refl))
 bits false false h = refl
+
+not_below : (a x : ℕ) → leb a x ≡ not (ltb x a)
+not_below a x = grind (arith, nat_tests)
 
 module _ (L : List Link) (e : IsEarlier (parents L)) where
   reached_at : (z x : ℕ) → has_reached L x (z + 1) ≡ is_ancestor L z x
@@ -61,16 +63,24 @@ module _ (L : List Link) (e : IsEarlier (parents L)) where
     ]
   ]
 
-  pub reached_next : (ends : List ℕ) (z low x : ℕ) → low ≤ x → creator L z < length ends → get_or ends (creator L z) 0 ≡ parent_end low (self_parent L z) →
-      reached L (set ends (creator L z) (z + 1)) x ≡ reached L ends x + cond (is_gained_by L z x) 1 0
-  reached_next ends z low x from room follows =
-      let was = has_reached L x (parent_end low (self_parent L z)) in
-      let f : ℕ → ℕ = λ e. cond (has_reached L x e) 1 0 in
-      let moved : reached L (set ends (creator L z) (z + 1)) x + cond was 1 0 ≡ reached L ends x + cond (is_ancestor L z x) 1 0 =
-      rw (follows, reached_at z x) at (sum_by-set f ends (creator L z) (z + 1) 0 room) in
-      let step = bits (is_ancestor L z x) was (parent_has z low x) in
-      let gained : cond (is_gained_by L z x) 1 0 ≡ cond (is_ancestor L z x && not was) 1 0 = ap (λ (b : Bool). cond {A = ℕ} (is_ancestor L z x && b) 1 0) (new_where z low x from) in
-      omega (arith, moved, step, gained)
+  module _ (low : ℕ) (last : List (List ℕ)) (ls : AreLast L low last) (z : ℕ) (follows : end_of last (creator L z) ≡ parent_end low (self_parent L z)) (x : ℕ) (from : low ≤ x) (inside : x < length L) where
+    -- what the counts of a line tell before its next row z comes
+    line_was : has_counted L x (counts_at last (creator L z)) ≡ has_reached L x (parent_end low (self_parent L z))
+    line_was = ls (creator L z) x from inside ∙ ap (has_reached L x) follows
+
+    pub line_new : leb (get_or (counts_at last (creator L z)) (creator L x) 0) x ≡ list_all (λ p. not (is_ancestor L p x)) (self_parent L z)
+    line_new = not_below (get_or (counts_at last (creator L z)) (creator L x) 0) x ∙ (ap not line_was ∙ sym (new_where z low x from))
+
+    pub reached_next : (counts : List ℕ) → creator L z < length last → has_counted L x counts ≡ is_ancestor L z x →
+        reached L (set last (creator L z) counts) x ≡ reached L last x + cond (is_gained_by L z x) 1 0
+    reached_next counts room now =
+        let was = has_reached L x (parent_end low (self_parent L z)) in
+        let f : List ℕ → ℕ = λ c. cond (has_counted L x c) 1 0 in
+        let moved : reached L (set last (creator L z) counts) x + cond was 1 0 ≡ reached L last x + cond (is_ancestor L z x) 1 0 =
+        rw (line_was, now) at (sum_by-set f last (creator L z) counts [] room) in
+        let step = bits (is_ancestor L z x) was (parent_has z low x) in
+        let gained : cond (is_gained_by L z x) 1 0 ≡ cond (is_ancestor L z x && not was) 1 0 = ap (λ (b : Bool). cond {A = ℕ} (is_ancestor L z x && b) 1 0) (new_where z low x from) in
+        omega (arith, moved, step, gained)
 
 -- rows linked along the lines, from the last down
 
@@ -146,8 +156,8 @@ cond_cases : (b : Bool) (n : ℕ) → (cond b n 0 ≡ 0) ⊎ (cond b n 0 ≡ n)
 cond_cases true n = inr refl
 cond_cases false n = inl refl
 
-module _ (L : List Link) (bound : ℕ) (ends : List ℕ) (low need time start : ℕ) (old : List Tally) where
-  pub advanced_none : (above : ℕ) → AreLinked L low old → IsLaneFrom L ends low old start above → IsAdvanced L bound ends low need time (creator L (start - 1)) start start above old old
+module _ (L : List Link) (bound : ℕ) (last : List (List ℕ)) (low need time start : ℕ) (old : List Tally) where
+  pub advanced_none : (above : ℕ) → AreLinked L low old → IsLaneFrom L last low old start above → IsAdvanced L bound last low need time (creator L (start - 1)) start start above old old
   advanced_none above linked lane = record {
     lane = record { from = λ _. lane.from; to = lane.to; by = λ _. refl; counted = λ _. lane.counted; idle = λ none. (let from = lane.from in absurd (omega arith)) };
     later = λ some. omega arith;
@@ -161,7 +171,7 @@ module _ (L : List Link) (bound : ℕ) (ends : List ℕ) (low need time start : 
       not_past k from (inl none) = (let some = lane.from in absurd (omega arith))
       not_past k from (inr later) = absurd (omega arith)
 
-  module _ (m here above : ℕ) (now : List Tally) (a : IsAdvanced L bound ends low need time m start here above old now) (some : 0 < need) (enough : need ≤ above) where
+  module _ (m here above : ℕ) (now : List Tally) (a : IsAdvanced L bound last low need time m start here above old now) (some : 0 < need) (enough : need ≤ above) where
     pub row_there : 0 < here
     row_there = elim (cases_lt 0 here) [
       | inl there ↦ there
@@ -213,8 +223,8 @@ module _ (L : List Link) (bound : ℕ) (ends : List ℕ) (low need time start : 
           passes (inl none) same some few = absurd (omega arith)
           passes (inr later) same some few = absurd (omega arith)
 
-      pub advanced_next : (0 < next → more ≡ reached L ends (next - 1)) → (next ≡ 0 → more ≡ 0) →
-          IsAdvanced L bound ends low need time m start next more old (with_time now (here - 1 - low) time)
+      pub advanced_next : (0 < next → more ≡ reached L last (next - 1)) → (next ≡ 0 → more ≡ 0) →
+          IsAdvanced L bound last low need time m start next more old (with_time now (here - 1 - low) time)
       advanced_next counted idle =
           let k0 = here - 1 - low in
           let there = row_there in
@@ -263,19 +273,19 @@ module _ (L : List Link) (bound : ℕ) (ends : List ℕ) (low need time start : 
 
 -- all lanes that go on
 
-pub lane_from : (L : List Link) (ends : List ℕ) (low m next above need : ℕ) (ts : List Tally) → IsLane L ends low (low + length ts) m next above → 0 < need → need ≤ above → IsLaneFrom L ends low ts next above
-lane_from L ends low m next above need ts lane some enough = elim (cases_lt 0 next) [
+pub lane_from : (L : List Link) (last : List (List ℕ)) (low m next above need : ℕ) (ts : List Tally) → IsLane L last low (low + length ts) m next above → 0 < need → need ≤ above → IsLaneFrom L last low ts next above
+lane_from L last low m next above need ts lane some enough = elim (cases_lt 0 next) [
   | inl there ↦ record { from = lane.from there; to = lane.to; counted = lane.counted there }
   | inr none ↦ (let idle = lane.idle (omega arith) in absurd (omega arith))
 ]
 
-module _ (L : List Link) (least ends : List ℕ) (low need time : ℕ) (start next above : List ℕ) (old now : List Tally) (a : AreAdvanced L least ends low need time start next above old now)
+module _ (L : List Link) (least : List ℕ) (last : List (List ℕ)) (low need time : ℕ) (start next above : List ℕ) (old now : List Tally) (a : AreAdvanced L least last low need time start next above old now)
     (m : ℕ) (same : get_or next m 0 ≡ get_or start m 0) (room : m < length next) (room_above : m < length above) (there : 0 < get_or next m 0) where
-  pub lanes_next : (q more : ℕ) (new : List Tally) → IsAdvanced L (get_or least m 0) ends low need time (creator L (get_or next m 0 - 1)) (get_or next m 0) q more now new →
-      AreAdvanced L least ends low need time start (set next m q) (set above m more) old new
+  pub lanes_next : (q more : ℕ) (new : List Tally) → IsAdvanced L (get_or least m 0) last low need time (creator L (get_or next m 0 - 1)) (get_or next m 0) q more now new →
+      AreAdvanced L least last low need time start (set next m q) (set above m more) old new
   lanes_next q more new step =
       let by : creator L (get_or next m 0 - 1) ≡ m = (a.lanes m).by there in
-      let b : IsAdvanced L (get_or least m 0) ends low need time m (get_or next m 0) q more now new = rw by at step in record {
+      let b : IsAdvanced L (get_or least m 0) last low need time m (get_or next m 0) q more now new = rw by at step in record {
         lanes = λ j. elim (cases_eq j m) [
           | inl is ↦ rw (is, get_or-set_same next m q 0 room, get_or-set_same above m more 0 room_above) b.lane
           | inr other ↦ rw (get_or-set_other next m j q 0 other, get_or-set_other above m j more 0 other, b.long) (a.lanes j)
@@ -307,26 +317,78 @@ same_next next start m v same j over = get_or-set_other next m j v 0 (λ here. a
 gain_tests : (before counts q : ℕ) → 0 < q → (ltb before q && leb q counts) ≡ (leb before (q - 1) && ltb (q - 1) counts)
 gain_tests before counts q some = grind (arith, nat_tests)
 
-module _ (n : Stakes) (L : List Link) (s : IsShaped n L) (z : ℕ) where
-  pub gained_by : (before counts next old new : List ℕ) (top : ℕ) → CountsMembers n L z counts → AreNewFrom L z before → AreGained before counts next old new →
-      ((m : ℕ) → length counts ≤ m → get_or new m 0 ≡ get_or old m 0) → ((m : ℕ) → m < length counts → get_or new m 0 ≤ top) → AreGainedBy n L z next old new top
-  gained_by before counts next old new top c fresh each past top_is = record {
-    lines = record { line = c.line };
-    each = λ m some by inside.
-        let x = get_or next m 0 - 1 in
-        let low : x < length L = omega arith in
-        let member : m < length counts = rw (c.wide, ← by) (s.members x low) in
-        let tests = gain_tests (get_or before m 0) (get_or counts m 0) (get_or next m 0) some in
-        let new_is = rw by at (fresh.news x low) in
-        let told = rw by at (c.told x low) in
-        each m member ∙ ap (λ (b : Bool). get_or old m 0 + cond b 1 0) (tests ∙ (ap₂ (λ (p q : Bool). p && q) new_is told ∙ and_comm (list_all (λ p. not (is_ancestor L p x)) (self_parent L z)) (is_ancestor L z x)));
-    none = λ m zero_is. elim (cases_lt m (length counts)) [
-      | inl member ↦ (let no = le-ltb (get_or before m 0) 0 (omega arith) in let is = rw (zero_is, no) at (each m member) in omega (arith, is))
-      | inr over ↦ past m over
-    ];
-    most = λ m member. top_is m (rw c.wide member);
-    rest = λ m over. past m (rw c.wide over);
-  }
+module _ (n : Stakes) (L : List Link) (s : IsShaped n L) (z : ℕ) (counts : List ℕ) (c : CountsMembers n L z counts) where
+  module _ (low : ℕ) (last : List (List ℕ)) (ls : AreLast L low last) (follows : end_of last (creator L z) ≡ parent_end low (self_parent L z)) where
+    pub gained_by : (next old new : List ℕ) (top : ℕ) → AreGained (counts_at last (creator L z)) counts next old new →
+        ((m : ℕ) → length counts ≤ m → get_or new m 0 ≡ get_or old m 0) → ((m : ℕ) → m < length counts → get_or new m 0 ≤ top) → AreGainedBy n L low z next old new top
+    gained_by next old new top each past top_is = record {
+      each = λ m some by inside.
+          let before = counts_at last (creator L z) in
+          let x = get_or next m 0 - 1 in
+          let here : x < length L = omega arith in
+          let from : low ≤ x = omega arith in
+          let member : m < length counts = rw (c.wide, ← by) (s.members x here) in
+          let tests = gain_tests (get_or before m 0) (get_or counts m 0) (get_or next m 0) (omega arith) in
+          let new_is = rw by at (line_new L s.earlier low last ls z follows x from here) in
+          let told = rw by at (c.told x here) in
+          each m member ∙ ap (λ (b : Bool). get_or old m 0 + cond b 1 0) (tests ∙ (ap₂ (λ (p q : Bool). p && q) new_is told ∙ and_comm (list_all (λ p. not (is_ancestor L p x)) (self_parent L z)) (is_ancestor L z x)));
+      none = λ m zero_is. elim (cases_lt m (length counts)) [
+        | inl member ↦
+            (let before = counts_at last (creator L z) in
+            let no = le-ltb (get_or before m 0) 0 (omega arith) in
+            let is = rw (zero_is, no) at (each m member) in
+            omega (arith, is))
+        | inr over ↦ past m over
+      ];
+      most = λ m member. top_is m (rw c.wide member);
+      rest = λ m over. past m (rw c.wide over);
+    }
+
+  -- the counts of row z in the place of its line's
+  module _ (inside : z < length L) (to : List ℕ) (copied : (m : ℕ) → m < length counts → get_or to m 0 ≡ get_or counts m 0) where
+    copied_at : (x : ℕ) → x < length L → get_or to (creator L x) 0 ≡ get_or counts (creator L x) 0
+    copied_at x here = copied (creator L x) (rw c.wide (s.members x here))
+
+    pub counted_now : (x : ℕ) → x < length L → has_counted L x to ≡ is_ancestor L z x
+    counted_now x here = ap (ltb x) (copied_at x here) ∙ c.told x here
+
+    end_now : get_or to (creator L z) 0 ≡ z + 1
+    end_now =
+        let count = get_or counts (creator L z) 0 in
+        let over : z < count = ltb-true z count (c.told z inside ∙ is_ancestor_self L s.earlier z) in
+        let ends = counts_end n L s z counts c (creator L z) (omega arith) in
+        let fits = ends.0 in
+        let here : count - 1 < length L = omega arith in
+        let below : ltb (count - 1) count ≡ true = lt-ltb (count - 1) count (omega arith) in
+        let up : is_ancestor L z (count - 1) ≡ true = sym (c.told (count - 1) here) ∙ rw ends.1 below in
+        let le = is_ancestor-le L s.earlier z (count - 1) up in
+        copied_at z inside ∙ omega arith
+
+    pub last_next : (low : ℕ) (last : List (List ℕ)) → creator L z < length last → AreLast L low last → AreLast L low (set last (creator L z) to)
+    last_next low last room ls m x from here = elim (cases_eq m (creator L z)) [
+      | inl same ↦ rw (same, get_or-set_same last (creator L z) to [] room, end_now, reached_at L s.earlier z x) (counted_now x here)
+      | inr other ↦ rw (get_or-set_other last (creator L z) m to [] other) (ls m x from here)
+    ]
+
+-- row z of member m is next on its line, whose counts become those of z
+module _ (n : Stakes) (L : List Link) (s : IsShaped n L) (low : ℕ) (last : List (List ℕ)) (ls : AreLast L low last) (z : ℕ) (here : z < length L) (m : ℕ) (by : m ≡ creator L z) (room : m < length last)
+    (line : List ℕ) (read : line ≡ counts_at last m) (ends : get_or line m 0 ≡ parent_end low (self_parent L z)) (counts : List ℕ) (c : CountsMembers n L z counts) where
+  room_by : creator L z < length last
+  room_by = rw by at room
+
+  follows : end_of last (creator L z) ≡ parent_end low (self_parent L z)
+  follows = rw (read, by) at ends
+
+  pub line_gains : (next old new : List ℕ) (top : ℕ) → AreGained line counts next old new → ((j : ℕ) → length counts ≤ j → get_or new j 0 ≡ get_or old j 0) → ((j : ℕ) → j < length counts → get_or new j 0 ≤ top) →
+      AreGainedBy n L low z next old new top
+  line_gains next old new top each past most = gained_by n L s z counts c low last ls follows next old new top (rw (read, by) at each) past most
+
+  module _ (to : List ℕ) (copied : (j : ℕ) → j < length counts → get_or to j 0 ≡ get_or counts j 0) where
+    pub line_on : (x : ℕ) → low ≤ x → x < length L → reached L (set last m to) x ≡ reached L last x + cond (is_gained_by L z x) 1 0
+    line_on x from inside = rw by (reached_next L s.earlier low last ls z follows x from inside to room_by (counted_now n L s z counts c here to copied x inside))
+
+    pub line_last : AreLast L low (set last m to)
+    line_last = rw by (last_next n L s z counts c here to copied low last room_by ls)
 
 -- what holders leave of tallies
 
@@ -370,18 +432,27 @@ bit_less : (a b : Bool) → (a ≡ true → b ≡ true) → cond {A = ℕ} a 1 0
 bit_less true b h = rw (h refl) (omega arith)
 bit_less false b h = omega arith
 
-pub reached_less : (L : List Link) → IsEarlier (parents L) → AreLines L → (ends : List ℕ) (x y : ℕ) → x < length L → y ≤ x → creator L x ≡ creator L y → reached L ends x ≤ reached L ends y
-reached_less L e lines ends x y inside under same =
-    sum_by-le-sum_by (λ (e : ℕ). cond {A = ℕ} (has_reached L x e) 1 0) (λ (e : ℕ). cond {A = ℕ} (has_reached L y e) 1 0) ends (λ z. bit_less (has_reached L x z) (has_reached L y z) (λ up.
-    let parts = and_parts (ltb 0 z) (is_ancestor L (z - 1) x) up in
-    and_from (ltb 0 z) (is_ancestor L (z - 1) y) parts.0 (is_ancestor-trans L e (z - 1) x y parts.1 (is_ancestor-from_self L e x y (lines.line x y inside under same)))))
+reached_less : (L : List Link) (last : List (List ℕ)) (x y : ℕ) → y ≤ x → creator L x ≡ creator L y → reached L last x ≤ reached L last y
+reached_less L last x y under same =
+    sum_by-le-sum_by (λ (c : List ℕ). cond {A = ℕ} (has_counted L x c) 1 0) (λ (c : List ℕ). cond {A = ℕ} (has_counted L y c) 1 0) last
+    (λ c. bit_less (has_counted L x c) (has_counted L y c) (λ up. (let over = ltb-true x (get_or c (creator L x) 0) up in rw (← same) (lt-ltb y (get_or c (creator L x) 0) (omega arith)))))
 
--- one holder more
+-- a lane of no member has no row
+pub lane_past : (n : Stakes) (L : List Link) → IsShaped n L → (last : List (List ℕ)) (low top m next above : ℕ) → top ≤ length L → member_count n ≤ m → IsLane L last low top m next above → next ≡ 0
+lane_past n L s last low top m next above inside over lane = elim (cases_lt 0 next) [
+  | inl some ↦
+      (let to = lane.to in
+      let member : m < member_count n = rw (lane.by some) at (s.members (next - 1) (omega arith)) in
+      absurd (omega arith))
+  | inr none ↦ omega arith
+]
 
-module _ (n : Stakes) (L : List Link) (s : IsShaped n L) (least : List ℕ) (low need : ℕ) (holders : List Holder) (ends next above : List ℕ) (ts : List Tally)
-    (swept : IsSwept L least low need holders ends next above ts) (h : Holder) (inside : low + length ts ≤ length L) (room : creator L h.place < length ends)
-    (follows : get_or ends (creator L h.place) 0 ≡ parent_end low (self_parent L h.place)) where
-  pub lanes_gained : (mid : List ℕ) (top : ℕ) → AreGainedBy n L h.place next above mid top → AreLanes L (set ends (creator L h.place) (h.place + 1)) low (low + length ts) next mid
+-- one holder more, after which the lines' counts are others
+
+module _ (n : Stakes) (L : List Link) (least : List ℕ) (low need : ℕ) (holders : List Holder) (last : List (List ℕ)) (next above : List ℕ) (ts : List Tally)
+    (swept : IsSwept L least low need holders last next above ts) (h : Holder) (inside : low + length ts ≤ length L) (on : List (List ℕ))
+    (more : (x : ℕ) → low ≤ x → x < length L → reached L on x ≡ reached L last x + cond (is_gained_by L h.place x) 1 0) where
+  pub lanes_gained : (mid : List ℕ) (top : ℕ) → AreGainedBy n L low h.place next above mid top → AreLanes L on low (low + length ts) next mid
   lanes_gained mid top g m =
       let lane = swept.lanes m in record {
         from = lane.from;
@@ -391,26 +462,25 @@ module _ (n : Stakes) (L : List Link) (s : IsShaped n L) (least : List ℕ) (low
             let to = lane.to in
             let from = lane.from some in
             let old = lane.counted some in
-            let gained = g.each m some (lane.by some) (omega arith) in
-            let more = reached_next L s.earlier ends h.place low (get_or next m 0 - 1) (omega arith) room follows in
+            let gained = g.each m from (lane.by some) (omega arith) in
+            let one = more (get_or next m 0 - 1) (omega arith) (omega arith) in
             omega arith;
         idle = λ none. g.none m none ∙ lane.idle none;
       }
 
-  pub few_still : (mid : List ℕ) (top : ℕ) → AreGainedBy n L h.place next above mid top → top < need → AreFew need mid
+  pub few_still : (mid : List ℕ) (top : ℕ) → AreGainedBy n L low h.place next above mid top → top < need → AreFew need mid
   few_still mid top g less m = elim (cases_lt m (member_count n)) [
     | inl member ↦ (let most = g.most m member in omega arith)
     | inr over ↦ rw (g.rest m over) (swept.few m)
   ]
 
-  pub swept_next : AreLines L → (next_after above_after : List ℕ) (after : List Tally) →
-      AreAdvanced L least (set ends (creator L h.place) (h.place + 1)) low need h.time next next_after above_after ts after → AreFew need above_after →
-      IsSwept L least low need (holders ++ h ∷ []) (set ends (creator L h.place) (h.place + 1)) next_after above_after after
-  swept_next lines next_after above_after after a few = record {
+  pub swept_next : (next_after above_after : List ℕ) (after : List Tally) → AreAdvanced L least on low need h.time next next_after above_after ts after → AreFew need above_after →
+      IsSwept L least low need (holders ++ h ∷ []) on next_after above_after after
+  swept_next next_after above_after after a few = record {
     lanes = a.lanes;
     linked = a.linked;
     few = few;
-    counted = λ x from. count_next x ∙ (ap (λ (k : ℕ). k + cond (is_gained_by L h.place x) 1 0) (swept.counted x from) ∙ sym (reached_next L s.earlier ends h.place low x from room follows));
+    counted = λ x from here. count_next x ∙ (ap (λ (k : ℕ). k + cond (is_gained_by L h.place x) 1 0) (swept.counted x from here) ∙ sym (more x from here));
     done = λ k below in_window past. fold-append (tally_by L (low + k)) (untallied need) holders (h ∷ []) ∙ done k below (rw a.long at in_window) past;
   }
     where
@@ -434,20 +504,21 @@ module _ (n : Stakes) (L : List Link) (s : IsShaped n L) (least : List ℕ) (low
               | inr here ↦
                   (let lane = swept.lanes m in
                   let timed = a.timed k below (rw a.long in_window) some here past in
-                  let less = reached_less L s.earlier lines ends (low + k) (get_or next m 0 - 1) (omega arith) (omega arith) (sym (lane.by some)) in
+                  let less = reached_less L last (low + k) (get_or next m 0 - 1) (omega arith) (sym (lane.by some)) in
                   let at = lane.counted some in
                   let low_count = swept.few m in
                   let from : low ≤ low + k = omega arith in
-                  let is = swept.counted (low + k) from in
-                  let more = reached_next L s.earlier ends h.place low (low + k) from room follows in
+                  let here : low + k < length L = omega arith in
+                  let is = swept.counted (low + k) from here in
+                  let one = more (low + k) from here in
                   let enough = timed.enough in
                   rw timed.found (decided_now (λ h. is_gained_by L h.place (low + k)) holders h need (omega arith) (omega arith)))
             ]
           ]
 
-pub advanced_still : (L : List Link) (least ends : List ℕ) (low need time : ℕ) (next above : List ℕ) (ts : List Tally) → AreLanes L ends low (low + length ts) next above → AreLinked L low ts →
-    AreAdvanced L least ends low need time next next above ts ts
-advanced_still L least ends low need time next above ts lanes linked = record {
+pub advanced_still : (L : List Link) (least : List ℕ) (last : List (List ℕ)) (low need time : ℕ) (next above : List ℕ) (ts : List Tally) → AreLanes L last low (low + length ts) next above → AreLinked L low ts →
+    AreAdvanced L least last low need time next next above ts ts
+advanced_still L least last low need time next above ts lanes linked = record {
   lanes = lanes;
   linked = linked;
   kept = λ k past. refl;
@@ -462,8 +533,8 @@ advanced_still L least ends low need time next above ts lanes linked = record {
 -- the first and the last of a sweep
 
 module _ (L : List Link) (least : List ℕ) (low need : ℕ) (next : List ℕ) (ts : List Tally) (reach : ReachAll L least low ts) where
-  pub swept_none : AreLinked L low ts → ((m : ℕ) → IsNextFrom L (low + length ts) m low (get_or next m 0)) → 0 < need → IsSwept L least low need [] (replicate 128 0) next (replicate 128 0) ts
-  swept_none linked firsts some = record {
+  pub swept_none : AreLinked L low ts → ((m : ℕ) → IsNextFrom L (low + length ts) m low (get_or next m 0)) → 0 < need → (members : ℕ) → IsSwept L least low need [] (replicate members (replicate 128 0)) next (replicate 128 0) ts
+  swept_none linked firsts some members = record {
     lanes = λ m. let first = firsts m in record {
       from = first.from;
       to = first.to;
@@ -473,20 +544,22 @@ module _ (L : List Link) (least : List ℕ) (low need : ℕ) (next : List ℕ) (
     };
     linked = linked;
     few = λ m. rw (no_number 128 m) some;
-    counted = λ x from. sym (none_reached x);
+    counted = λ x from here. sym (none_reached x);
     done = λ k below inside past. absurd (not_past k inside past);
   }
     where
-      none_reached : (x : ℕ) → reached L (replicate 128 0) x ≡ 0
-      none_reached x = sum_by-replicate (λ (e : ℕ). cond {A = ℕ} (has_reached L x e) 1 0) 128 0
+      none_reached : (x : ℕ) → reached L (replicate members (replicate 128 0)) x ≡ 0
+      none_reached x =
+          let none : has_counted L x (replicate 128 0) ≡ false = rw (no_number 128 (creator L x)) (le-ltb x 0 (omega arith)) in
+          sum_by-replicate (λ (c : List ℕ). cond {A = ℕ} (has_counted L x c) 1 0) members (replicate 128 0) ∙ rw none (omega arith)
 
       not_past : (k : ℕ) → low + k < low + length ts → IsPast (get_or next (creator L (low + k)) 0) (low + k) → ⊥
       not_past k inside (inl none) = (let first = (firsts (creator L (low + k))).first (low + k) refl (omega arith) inside in let some = first.0 in absurd (omega arith))
       not_past k inside (inr later) = (let first = (firsts (creator L (low + k))).first (low + k) refl (omega arith) inside in let some = first.1 in absurd (omega arith))
 
-  pub times_swept : (holders : List Holder) (ends above : List ℕ) → IsSwept L least low need holders ends next above ts → ArePast next least → AreTimed L least low need holders ts
-  times_swept holders ends above swept past k inside below =
-      sym (ap (λ (t : Tally). t.time) (swept.done k below (reach (low + k) inside below) (past_row k below (past (creator L (low + k))))))
+  pub times_swept : (n : Stakes) → IsShaped n L → (holders : List Holder) (last : List (List ℕ)) (above : List ℕ) → IsSwept L least low need holders last next above ts → ArePast (member_count n) next least → AreTimed L least low need holders ts
+  times_swept n s holders last above swept past k inside below =
+      sym (ap (λ (t : Tally). t.time) (swept.done k below (reach (low + k) inside below) (past_row k below (past (creator L (low + k)) (s.members (low + k) inside)))))
     where
       past_row : (k : ℕ) → IsBelow L least (low + k) → (get_or next (creator L (low + k)) 0 ≡ 0) ⊎ (get_or least (creator L (low + k)) 0 < get_or next (creator L (low + k)) 0) → IsPast (get_or next (creator L (low + k)) 0) (low + k)
       past_row k below (inl none) = inl none
@@ -494,3 +567,11 @@ module _ (L : List Link) (least : List ℕ) (low need : ℕ) (next : List ℕ) (
 
 pub reach_same : (L : List Link) (least : List ℕ) (low : ℕ) (old new : List Tally) → length new ≡ length old → ReachAll L least low old → ReachAll L least low new
 reach_same L least low old new long reach x inside below = (let room = reach x inside below in omega arith)
+
+pub last_none : (L : List Link) (low members : ℕ) → AreLast L low (replicate members (replicate 128 0))
+last_none L low members m x from here =
+    let zeros : List ℕ = replicate 128 0 in
+    elim (cases_lt m members) [
+      | inl room ↦ rw (get_or-replicate members m zeros [] room, no_number 128 (creator L x), no_number 128 m) (le-ltb x 0 (omega arith))
+      | inr over ↦ rw (get_or_past (replicate members zeros) m [] (rw (length-replicate members zeros) over)) (le-ltb x 0 (omega arith))
+    ]

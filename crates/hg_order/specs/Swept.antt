@@ -1,6 +1,6 @@
 -- Medians by a sweep: the holders in the order of their times, and of each member one row, the next whose time is to be
--- found, with how many lines have it as ancestor
-use Rattle.std.specs.Prelude.{ℕ, ◌≡◌, ◌<◌, ◌≤◌, ◌+◌, ◌-◌, ◌⊎◌, Bool, true, cond, ◌&&◌, nat_le, nat_lt, List, [], ◌∷◌, ◌++◌, length, count_by, replicate, slice_index}
+-- found, with how many lines have it as ancestor. Of each line it keeps the counts of the last row that it went through
+use Rattle.std.specs.Prelude.{ℕ, ◌≡◌, ◌<◌, ◌≤◌, ◌+◌, ◌-◌, ◌⊎◌, Bool, true, cond, ◌&&◌, nat_le, nat_lt, List, [], ◌∷◌, ◌++◌, length, count_by, replicate, slice_index, slice_index_or}
 use Rattle.hg_model.specs.Stakes.{Stakes, member_count}
 use Rattle.hg_model.specs.Links.{Link, creator}
 use Rattle.hg_model.specs.Ancestry.{is_ancestor}
@@ -9,16 +9,31 @@ use Rattle.hg_order.specs.declared.tally.Holder.{Holder}
 use Rattle.hg_order.specs.declared.sweep.Lane.{Lane}
 use Rattle.hg_order.specs.declared.sweep.Lanes.{Lanes}
 use Rattle.hg_model.specs.Shape.{Shape}
-use Rattle.hg_order.specs.Counted.{IsBelow, AreLines}
+use Rattle.hg_order.specs.Counted.{IsBelow}
 use Rattle.hg_order.specs.Tallied.{tally_at, tally_of, is_gained_by, untallied}
 
 -- the row just below `end` has x as ancestor; below 0 there is none
 abbrev pub has_reached : List Link → ℕ → ℕ → Bool
 has_reached L x «end» = nat_lt 0 «end» && is_ancestor L («end» - 1) x
 
--- how many of the lines that end there have x as ancestor
-abbrev pub reached : List Link → List ℕ → ℕ → ℕ
-reached L ends x = count_by (has_reached L x) ends
+-- these counts tell x as an ancestor
+abbrev pub has_counted : List Link → ℕ → List ℕ → Bool
+has_counted L x counts = nat_lt x (slice_index counts (creator L x))
+
+-- how many of the lines have x as ancestor, by the counts of the last row of each
+abbrev pub reached : List Link → List (List ℕ) → ℕ → ℕ
+reached L last x = count_by (has_counted L x) last
+
+abbrev pub counts_at : List (List ℕ) → ℕ → List ℕ
+counts_at last m = slice_index_or last m []
+
+-- one more than the place of the last row of m's line, which its own count tells, or 0
+abbrev pub end_of : List (List ℕ) → ℕ → ℕ
+end_of last m = slice_index (counts_at last m) m
+
+-- of the rows from `low` on the counts of each line tell just those that its last row has as ancestor
+abbrev pub AreLast : List Link → ℕ → List (List ℕ) → Type 0
+AreLast L low last = (m x : ℕ) → low ≤ x → x < length L → has_counted L x (counts_at last m) ≡ has_reached L x (end_of last m)
 
 -- one more than a self-parent's place, or 0 where there is none from `low` on
 abbrev pub parent_end : ℕ → List ℕ → ℕ
@@ -54,95 +69,94 @@ abbrev pub AreLinked : List Link → ℕ → List Tally → Type 0
 AreLinked L low ts = (k : ℕ) → k < length ts → IsNextFrom L (low + length ts) (creator L (low + k)) (low + k + 1) (tally_at ts k).left
 
 -- a member's lane: where its row stands, and how many lines have that as ancestor
-pub record IsLane (L : List Link) (ends : List ℕ) (low top m next above : ℕ) : Type 0 where
+pub record IsLane (L : List Link) (last : List (List ℕ)) (low top m next above : ℕ) : Type 0 where
   pub from : 0 < next → low < next
   pub to : next ≤ top
   pub by : 0 < next → creator L (next - 1) ≡ m
-  pub counted : 0 < next → above ≡ reached L ends (next - 1)
+  pub counted : 0 < next → above ≡ reached L last (next - 1)
   pub idle : next ≡ 0 → above ≡ 0
 
-abbrev pub AreLanes : List Link → List ℕ → ℕ → ℕ → List ℕ → List ℕ → Type 0
-AreLanes L ends low top next above = (m : ℕ) → IsLane L ends low top m (slice_index next m) (slice_index above m)
+abbrev pub AreLanes : List Link → List (List ℕ) → ℕ → ℕ → List ℕ → List ℕ → Type 0
+AreLanes L last low top next above = (m : ℕ) → IsLane L last low top m (slice_index next m) (slice_index above m)
 
 abbrev pub AreLanesOver : Shape → ℕ → Lanes → List Tally → Type 0
-AreLanesOver s low lanes ts = AreLanes s.links lanes.ends low (low + length ts) lanes.next lanes.above
+AreLanesOver s low lanes ts = AreLanes s.links lanes.last.items low (low + length ts) lanes.next lanes.above
 
--- no line has an end, and no lane a row
-abbrev pub no_lanes : Lanes
-no_lanes = record { ends = replicate 128 0; next = replicate 128 0; above = replicate 128 0 }
+-- of so many members: no line has a row, and no lane
+pub record AreClear (members : ℕ) (lanes : Lanes) : Type 0 where
+  pub last : lanes.last.items ≡ replicate members (replicate 128 0)
+  pub next : lanes.next ≡ replicate 128 0
+  pub above : lanes.above ≡ replicate 128 0
 
 -- the row has this time, and enough lines have it as ancestor
-pub record IsTimed (L : List Link) (ends : List ℕ) (need when x : ℕ) (t : Tally) : Type 0 where
+pub record IsTimed (L : List Link) (last : List (List ℕ)) (need when x : ℕ) (t : Tally) : Type 0 where
   pub found : t.time ≡ when
-  pub enough : need ≤ reached L ends x
+  pub enough : need ≤ reached L last x
 
 -- the lane of member m went on from one row to another, and those below `bound` that it came past have the time
-pub record IsAdvanced (L : List Link) (bound : ℕ) (ends : List ℕ) (low need when m start next above : ℕ) (old new : List Tally) : Type 0 where
-  pub lane : IsLane L ends low (low + length new) m next above
+pub record IsAdvanced (L : List Link) (bound : ℕ) (last : List (List ℕ)) (low need when m start next above : ℕ) (old new : List Tally) : Type 0 where
+  pub lane : IsLane L last low (low + length new) m next above
   pub later : 0 < next → start ≤ next
   pub linked : AreLinked L low new
   pub kept : (k : ℕ) → (creator L (low + k) ≡ m → low + k + 1 < start) → tally_at new k ≡ tally_at old k
   pub timed : (k : ℕ) → low + k < bound → low + k < low + length new → creator L (low + k) ≡ m → start ≤ low + k + 1 → IsPast next (low + k) →
-      IsTimed L ends need when (low + k) (tally_at new k)
+      IsTimed L last need when (low + k) (tally_at new k)
   pub long : length new ≡ length old
 
 -- there is a row, and this many lines have it as ancestor
-pub record IsLaneFrom (L : List Link) (ends : List ℕ) (low : ℕ) (ts : List Tally) (next above : ℕ) : Type 0 where
+pub record IsLaneFrom (L : List Link) (last : List (List ℕ)) (low : ℕ) (ts : List Tally) (next above : ℕ) : Type 0 where
   pub from : low < next
   pub to : next ≤ low + length ts
-  pub counted : above ≡ reached L ends (next - 1)
+  pub counted : above ≡ reached L last (next - 1)
 
 -- the same of the member by whom the row is
-abbrev pub AdvancesLane : Shape → List ℕ → ℕ → ℕ → ℕ → ℕ → Lane → Lane → List Tally → List Tally → Type 0
-AdvancesLane s ends bound low need when start lane old new =
-    IsAdvanced s.links bound ends low need when (creator s.links (start.next - 1)) start.next lane.next lane.above old new
+abbrev pub AdvancesLane : Shape → List (List ℕ) → ℕ → ℕ → ℕ → ℕ → Lane → Lane → List Tally → List Tally → Type 0
+AdvancesLane s last bound low need when start lane old new =
+    IsAdvanced s.links bound last low need when (creator s.links (start.next - 1)) start.next lane.next lane.above old new
 
 -- the same of all lanes
-pub record AreAdvanced (L : List Link) (least ends : List ℕ) (low need when : ℕ) (start next above : List ℕ) (old new : List Tally) : Type 0 where
-  pub lanes : AreLanes L ends low (low + length new) next above
+pub record AreAdvanced (L : List Link) (least : List ℕ) (last : List (List ℕ)) (low need when : ℕ) (start next above : List ℕ) (old new : List Tally) : Type 0 where
+  pub lanes : AreLanes L last low (low + length new) next above
   pub linked : AreLinked L low new
   pub kept : (k : ℕ) → IsPast (slice_index start (creator L (low + k))) (low + k) → tally_at new k ≡ tally_at old k
   pub timed : (k : ℕ) → IsBelow L least (low + k) → low + k < low + length new → 0 < slice_index start (creator L (low + k)) →
-      slice_index start (creator L (low + k)) ≤ low + k + 1 → IsPast (slice_index next (creator L (low + k))) (low + k) → IsTimed L ends need when (low + k) (tally_at new k)
+      slice_index start (creator L (low + k)) ≤ low + k + 1 → IsPast (slice_index next (creator L (low + k))) (low + k) → IsTimed L last need when (low + k) (tally_at new k)
   pub long : length new ≡ length old
 
 abbrev pub AdvancesLanes : Shape → List ℕ → ℕ → ℕ → ℕ → Lanes → Lanes → List Tally → List Tally → Type 0
 AdvancesLanes s least low need when start lanes old new =
-    AreAdvanced s.links least lanes.ends low need when start.next lanes.next lanes.above old new
+    AreAdvanced s.links least lanes.last.items low need when start.next lanes.next lanes.above old new
 
 abbrev pub AreFew : ℕ → List ℕ → Type 0
 AreFew need above = (m : ℕ) → slice_index above m < need
 
--- row z counts one more at each lane whose row it gains; `top` is the greatest of the numbers then
-pub record AreGainedBy (n : Stakes) (L : List Link) (z : ℕ) (next old new : List ℕ) (top : ℕ) : Type 0 where
-  pub lines : AreLines L
-  pub each : (m : ℕ) → 0 < slice_index next m → creator L (slice_index next m - 1) ≡ m → slice_index next m ≤ length L →
+-- row z counts one more at each lane whose row, from `low` on, it gains; `top` is the greatest of the numbers then
+pub record AreGainedBy (n : Stakes) (L : List Link) (low z : ℕ) (next old new : List ℕ) (top : ℕ) : Type 0 where
+  pub each : (m : ℕ) → low < slice_index next m → creator L (slice_index next m - 1) ≡ m → slice_index next m ≤ length L →
       slice_index new m ≡ slice_index old m + cond (is_gained_by L z (slice_index next m - 1)) 1 0
   pub none : (m : ℕ) → slice_index next m ≡ 0 → slice_index new m ≡ slice_index old m
   pub most : (m : ℕ) → m < member_count n → slice_index new m ≤ top
   pub rest : (m : ℕ) → member_count n ≤ m → slice_index new m ≡ slice_index old m
 
-abbrev pub GainsRow : Shape → ℕ → List ℕ → List ℕ → List ℕ → ℕ → Type 0
-GainsRow s z next old new top = AreGainedBy s.members s.links z next old new top
-
 -- after these holders: the lanes count what they gained, and the rows that lanes came past have their time
-pub record IsSwept (L : List Link) (least : List ℕ) (low need : ℕ) (holders : List Holder) (ends next above : List ℕ) (ts : List Tally) : Type 0 where
-  pub lanes : AreLanes L ends low (low + length ts) next above
+pub record IsSwept (L : List Link) (least : List ℕ) (low need : ℕ) (holders : List Holder) (last : List (List ℕ)) (next above : List ℕ) (ts : List Tally) : Type 0 where
+  pub lanes : AreLanes L last low (low + length ts) next above
   pub linked : AreLinked L low ts
   pub few : AreFew need above
-  pub counted : (x : ℕ) → low ≤ x → count_by (λ h. is_gained_by L h.place x) holders ≡ reached L ends x
+  pub counted : (x : ℕ) → low ≤ x → x < length L → count_by (λ h. is_gained_by L h.place x) holders ≡ reached L last x
   pub done : (k : ℕ) → IsBelow L least (low + k) → low + k < low + length ts → IsPast (slice_index next (creator L (low + k))) (low + k) →
       tally_of L (low + k) (untallied need) holders ≡ record { left = 0; time = (tally_at ts k).time }
 
+abbrev pub IsSweptOver : Shape → List ℕ → ℕ → ℕ → List Holder → Lanes → List Tally → Type 0
+IsSweptOver s least low need holders lanes ts = IsSwept s.links least low need holders lanes.last.items lanes.next lanes.above ts
+
 abbrev pub IsSweptBySome : Shape → List ℕ → ℕ → ℕ → Lanes → List Tally → Type 0
-IsSweptBySome s least low need lanes ts =
-    (holders : List Holder) × IsSwept s.links least low need holders lanes.ends lanes.next lanes.above ts
+IsSweptBySome s least low need lanes ts = (holders : List Holder) × IsSweptOver s least low need holders lanes ts
 
 -- if it is swept, one holder more keeps it so
 abbrev pub Sweeps : Bool → Shape → List ℕ → ℕ → ℕ → Holder → Lanes → Lanes → List Tally → List Tally → Type 0
 Sweeps swept s least low need h old_lanes lanes old new =
-    swept ≡ true → (holders : List Holder) → IsSwept s.links least low need holders old_lanes.ends old_lanes.next old_lanes.above old →
-    IsSwept s.links least low need (holders ++ h ∷ []) lanes.ends lanes.next lanes.above new
+    swept ≡ true → (holders : List Holder) → IsSweptOver s least low need holders old_lanes old → IsSweptOver s least low need (holders ++ h ∷ []) lanes new
 
 -- the rows below these numbers stand below `top`
 abbrev pub ReachTo : List Link → List ℕ → ℕ → Type 0
@@ -157,6 +171,6 @@ AreTimed L least low need holders ts = (k : ℕ) → low + k < length L → IsBe
 abbrev pub FindsTimes : Bool → Shape → List ℕ → ℕ → ℕ → List Holder → List Tally → Type 0
 FindsTimes found s least low need holders ts = found ≡ true → AreTimed s.links least low need holders ts
 
--- no lane is left at a row below its bound
-abbrev pub ArePast : List ℕ → List ℕ → Type 0
-ArePast next least = (m : ℕ) → (slice_index next m ≡ 0) ⊎ (slice_index least m < slice_index next m)
+-- none of the first lanes is left at a row below its bound
+abbrev pub ArePast : ℕ → List ℕ → List ℕ → Type 0
+ArePast members next least = (m : ℕ) → m < members → (slice_index next m ≡ 0) ⊎ (slice_index least m < slice_index next m)

@@ -5,7 +5,7 @@ ghost use Rattle.hg_order.specs.Swept.{FindsTimes, ReachTo};
 ghost use Rattle.hg_order.specs.Tallied.{untallied, HaveMedians};
 
 use crate::holders::{list_holders, raise_ends, sort_holders};
-use crate::sweep::sweep_holders;
+use crate::sweep::{Lanes, sweep_holders};
 use crate::tally::{Holder, Tally, tally_holders};
 use hg_model::{Memory, Prefix, Sight, is_of_graph};
 use std::alloc::Global;
@@ -16,6 +16,7 @@ use std::marker::Model;
 pub struct RoundMemory {
     pub holders: Vec<Holder>,
     pub tallies: Vec<Tally>,
+    pub lanes: Lanes,
 }
 
 impl Model for RoundMemory {
@@ -32,11 +33,12 @@ impl RoundMemory {
         RoundMemory {
             holders: Vec::new(alloc),
             tallies: Vec::new(alloc),
+            lanes: Lanes::new(alloc),
         }
     }
 
-    /// Takes the memory for so many rows.
-    pub fn reserve(&mut self, rows: usize) -> Result<(), Memory>
+    /// Takes the memory for so many rows of so many members.
+    pub fn reserve(&mut self, rows: usize, members: usize) -> Result<(), Memory>
         ensures room { OnOk result (rows ≤ self.new) }
         ensures more { self.old ≤ self.new }
     {
@@ -44,6 +46,7 @@ impl RoundMemory {
             .reserve(rows.saturating_sub(self.holders.len()))?;
         self.tallies
             .reserve(rows.saturating_sub(self.tallies.len()))?;
+        self.lanes.reserve(members)?;
         Ok(())
     }
 }
@@ -84,6 +87,7 @@ fn find_times<S: Sight>(
     low: usize,
     rows: usize,
     need: u16,
+    lanes: &mut Lanes,
     tallies: &mut Vec<Tally>,
 ) -> bool
     requires places { All (λ h. h.place < length (S.shape sight.now).links) holders.now }
@@ -97,7 +101,7 @@ fn find_times<S: Sight>(
     ensures room { vec_capacity tallies.new ≡ vec_capacity tallies.old }
 {
     clear_tallies(tallies, rows, u32::from(need));
-    if sweep_holders(sight, holders, least, low, need, tallies) {
+    if sweep_holders(sight, holders, least, low, need, lanes, tallies) {
         return true;
     }
     clear_tallies(tallies, rows, u32::from(need));
@@ -112,6 +116,7 @@ pub fn count_times<P: Prefix>(
     least: &[u16; 128],
     low: usize,
     holders: &mut Vec<Holder>,
+    lanes: &mut Lanes,
     tallies: &mut Vec<Tally>,
 ) -> bool
     requires famous { AreFamous (P.graph p.now) famous.now }
@@ -132,5 +137,5 @@ pub fn count_times<P: Prefix>(
     list_holders(p, &ends, low, end, holders);
     sort_holders(holders);
     let need = (famous.len() as u16 + 1) / 2;
-    find_times(p, holders, least, low, end - low, need, tallies)
+    find_times(p, holders, least, low, end - low, need, lanes, tallies)
 }

@@ -8,6 +8,7 @@ ghost use Rattle.hg_order.specs.Tallied.{placed_with};
 use crate::least::least_counts;
 use crate::memory::{RoundMemory, count_times, lowest};
 use crate::order::{is_wide, place_rows};
+use crate::sweep::Lanes;
 use crate::tally::{Holder, Tally};
 use hg_model::{Placed, Prefix};
 
@@ -45,6 +46,7 @@ fn place_by_counts<P: Prefix>(
     round: u32,
     fresh: &[u32],
     holders: &mut Vec<Holder>,
+    lanes: &mut Lanes,
     tallies: &mut Vec<Tally>,
     out: &mut [Placed],
 ) -> bool
@@ -61,7 +63,7 @@ fn place_by_counts<P: Prefix>(
         return false;
     };
     let low = lowest(fresh, famous[0]);
-    if !count_times(p, famous, &least, low, holders, tallies) {
+    if !count_times(p, famous, &least, low, holders, lanes, tallies) {
         return false;
     }
     place_tallied(p, round, low, tallies, fresh, out);
@@ -92,6 +94,7 @@ pub fn place_within<P: Prefix>(
             round,
             fresh,
             &mut memory.holders,
+            &mut memory.lanes,
             &mut memory.tallies,
             out,
         )

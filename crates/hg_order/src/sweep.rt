@@ -1,10 +1,12 @@
-ghost use Rattle.std.specs.Prelude.{◌≡◌, ◌<◌, ◌≤◌, ◌+◌, ◌-◌, ◌^◌, ℕ, true, cond, nat_le, All, length, replicate, slice_index, vec_capacity, IfSome};
+ghost use Rattle.std.specs.Prelude.{◌≡◌, ◌<◌, ◌≤◌, ◌+◌, ◌-◌, ◌^◌, ℕ, true, cond, nat_le, nat_lt, All, count_by, length, replicate, slice_index, vec_capacity, OnOk};
 ghost use Rattle.hg_model.specs.Links.{self_parent};
+ghost use Rattle.hg_model.specs.Stakes.{member_count};
 ghost use Rattle.hg_order.specs.Tallied.{ReachAll};
-ghost use Rattle.hg_order.specs.Swept.{reached, parent_end, no_lanes, AdvancesLane, AdvancesLanes, AreFew, AreFirsts, AreGained, AreLanesOver, AreLinked, ArePast, FindsTimes, GainsRow, IsLaneFrom, IsSweptBySome, Sweeps};
+ghost use Rattle.hg_order.specs.Swept.{reached, parent_end, AdvancesLane, AdvancesLanes, AreClear, AreFew, AreFirsts, AreGained, AreLanesOver, AreLast, AreLinked, ArePast, FindsTimes, IsLaneFrom, IsSweptBySome, Sweeps};
 
-use crate::tally::{Holder, Tally, no_counts};
-use hg_model::Sight;
+use crate::tally::{Holder, Tally};
+use hg_model::{Memory, Sight};
+use std::alloc::Global;
 
 /// Of a member, one more than the place of the row whose time is to be found next, or 0 where none is left, and how
 /// many lines have that row as ancestor.
@@ -14,23 +16,44 @@ struct Lane {
     above: u16,
 }
 
-/// Of each member, one more than the place of the last holder on its line that was gone through, or 0, and its lane.
-/// The numbers of the lanes stand apart, so that a holder is one pass over rows of 16 bits.
+/// Of each member the counts of the last holder on its line that was gone through, or zeros, and its lane. The numbers of
+/// the lanes stand apart, so that a holder is one pass over rows of 16 bits.
 #[derive(Drop)]
-struct Lanes {
-    ends: [usize; 128],
+pub struct Lanes {
+    last: Vec<[u16; 128]>,
     next: [u16; 128],
     above: [u16; 128],
 }
 
-/// Before the first holder.
-fn no_lanes() -> Lanes
-    ensures { result ≡ no_lanes }
-{
-    Lanes {
-        ends: [0; 128],
-        next: [0; 128],
-        above: [0; 128],
+impl Lanes {
+    /// Of no members. Takes no memory.
+    pub fn new(alloc: Global) -> Lanes {
+        Lanes {
+            last: Vec::new(alloc),
+            next: [0; 128],
+            above: [0; 128],
+        }
+    }
+
+    /// Takes the memory for so many members.
+    pub fn reserve(&mut self, members: usize) -> Result<(), Memory>
+        ensures { OnOk result (members ≤ vec_capacity self.new.last) }
+    {
+        self.last.reserve(members.saturating_sub(self.last.len()))?;
+        Ok(())
+    }
+
+    /// Before the first holder.
+    fn clear(&mut self, members: usize)
+        requires { members ≤ vec_capacity self.old.last }
+        ensures { AreClear members self.new }
+    {
+        self.next = [0; 128];
+        self.above = [0; 128];
+        self.last.clear();
+        for _ in 0..members {
+            self.last.push_reserved([0; 128]);
+        }
     }
 }
 
@@ -57,15 +80,27 @@ fn link_rows<S: Sight>(sight: &S, low: usize, tallies: &mut [Tally], next: &mut 
     }
 }
 
-/// How many of the lines that end there have row `x` as ancestor.
-fn reached<S: Sight>(sight: &S, ends: &[usize], x: usize) -> usize
-    requires places { All (λ e. e ≤ length (S.shape sight.now).links) ends.now }
-    requires place { x < length (S.shape sight.now).links }
-    ensures { result ≡ reached (S.shape sight.now).links ends.now x }
+/// How many of these counts are above `x` at the member.
+fn count_above(last: &[[u16; 128]], member: usize, x: u16) -> u16
+    requires few { length last.now ≤ 128 }
+    requires member { member < 128 }
+    ensures { result ≡ count_by (λ counts. nat_lt x (slice_index counts member)) last.now }
 {
-    ends.iter()
-        .filter(|e| **e > 0 && sight.ancestor(**e - 1, x))
-        .count()
+    let mut lines = 0;
+    for counts in last {
+        lines += u16::from(x < counts[member]);
+    }
+    lines
+}
+
+/// How many lines have row `x` as ancestor.
+fn reached<S: Sight>(sight: &S, last: &[[u16; 128]], x: u16) -> u16
+    requires few { length last.now ≤ 128 }
+    requires place { x < length (S.shape sight.now).links }
+    ensures { result ≡ reached (S.shape sight.now).links last.now x }
+{
+    sight.members();
+    count_above(last, sight.creator(x as usize) as usize, x)
 }
 
 /// Counts one line more at each lane whose row is not below `before`, and is below `counts`. It answers the greatest of
@@ -102,11 +137,11 @@ fn next_below(left: u32, bound: u16) -> u16
 }
 
 /// The lane that comes to this row.
-fn lane_at<S: Sight>(sight: &S, ends: &[usize; 128], next: u16) -> Lane
-    requires places { All (λ e. e ≤ length (S.shape sight.now).links) ends.now }
+fn lane_at<S: Sight>(sight: &S, last: &[[u16; 128]], next: u16) -> Lane
+    requires few { length last.now ≤ 128 }
     requires place { next ≤ length (S.shape sight.now).links }
     ensures next { result.next ≡ next }
-    ensures counted { 0 < next → result.above ≡ reached (S.shape sight.now).links ends.now (next - 1) }
+    ensures counted { 0 < next → result.above ≡ reached (S.shape sight.now).links last.now (next - 1) }
     ensures idle { next ≡ 0 → result.above ≡ 0 }
 {
     if next == 0 {
@@ -114,7 +149,7 @@ fn lane_at<S: Sight>(sight: &S, ends: &[usize; 128], next: u16) -> Lane
     }
     Lane {
         next,
-        above: reached(sight, ends, next as usize - 1) as u16,
+        above: reached(sight, last, next - 1),
     }
 }
 
@@ -122,7 +157,7 @@ fn lane_at<S: Sight>(sight: &S, ends: &[usize; 128], next: u16) -> Lane
 /// row that follows while enough lines have it as ancestor, up to the last that stands below the bound.
 fn advance<S: Sight>(
     sight: &S,
-    ends: &[usize; 128],
+    last: &[[u16; 128]],
     bound: u16,
     low: usize,
     need: u16,
@@ -130,12 +165,12 @@ fn advance<S: Sight>(
     start: Lane,
     tallies: &mut [Tally],
 ) -> Lane
-    requires places { All (λ e. e ≤ length (S.shape sight.now).links) ends.now }
+    requires members { length last.now ≤ 128 }
     requires inside { low + length tallies.old ≤ length (S.shape sight.now).links }
     requires linked { AreLinked (S.shape sight.now).links low tallies.old }
-    requires lane { IsLaneFrom (S.shape sight.now).links ends.now low tallies.old start.next start.above }
+    requires lane { IsLaneFrom (S.shape sight.now).links last.now low tallies.old start.next start.above }
     requires some { 0 < need }
-    ensures moved { AdvancesLane (S.shape sight.now) ends.now bound low need time start result tallies.old tallies.new }
+    ensures moved { AdvancesLane (S.shape sight.now) last.now bound low need time start result tallies.old tallies.new }
     ensures few { result.above < need }
 {
     let mut lane = start;
@@ -143,7 +178,7 @@ fn advance<S: Sight>(
         let k = lane.next as usize - 1 - low;
         let left = tallies[k].left;
         tallies[k] = Tally { left, time };
-        lane = lane_at(sight, ends, next_below(left, bound));
+        lane = lane_at(sight, last, next_below(left, bound));
     }
     lane
 }
@@ -158,16 +193,17 @@ fn advance_lanes<S: Sight>(
     lanes: &mut Lanes,
     tallies: &mut [Tally],
 )
-    requires places { All (λ e. e ≤ length (S.shape sight.now).links) lanes.old.ends }
+    requires members { length lanes.old.last.items ≡ member_count (S.shape sight.now).members }
     requires inside { low + length tallies.old ≤ length (S.shape sight.now).links }
     requires linked { AreLinked (S.shape sight.now).links low tallies.old }
     requires lanes { AreLanesOver (S.shape sight.now) low lanes.old tallies.old }
     requires some { 0 < need }
     ensures moved { AdvancesLanes (S.shape sight.now) least.now low need time lanes.old lanes.new tallies.old tallies.new }
     ensures few { AreFew need lanes.new.above }
-    ensures ends { lanes.new.ends ≡ lanes.old.ends }
+    ensures last { lanes.new.last ≡ lanes.old.last }
 {
-    for m in 0..128 {
+    sight.members();
+    for m in 0..lanes.last.len() {
         if lanes.above[m] < need {
             continue;
         }
@@ -177,7 +213,7 @@ fn advance_lanes<S: Sight>(
         };
         let lane = advance(
             sight,
-            &lanes.ends,
+            &lanes.last,
             least[m],
             low,
             need,
@@ -202,22 +238,12 @@ fn parent_end<S: Sight>(sight: &S, low: usize, z: usize) -> usize
     }
 }
 
-/// Counts row `z` at each lane whose row it has as ancestor and its self-parent has not. It answers the greatest of the
-/// numbers then, or `None` where ancestors are not counted.
-fn gain<S: Sight>(sight: &S, z: usize, next: &[u16; 128], above: &mut [u16; 128]) -> Option<u16>
-    requires place { z < length (S.shape sight.now).links }
-    requires short { (m : ℕ) → slice_index above.old m < 2 ^ 16 - 1 }
-    ensures { IfSome result (GainsRow (S.shape sight.now) z next.now above.old above.new) }
+/// Makes the first of these numbers the others.
+fn copy_counts(counts: &[u16], to: &mut [u16; 128])
+    requires { length counts.now ≤ 128 }
+    ensures { (m : ℕ) → m < length counts.now → slice_index to.new m ≡ slice_index counts.now m }
 {
-    sight.members();
-    let counts = sight.counts(z)?;
-    match sight.self_parent(z) {
-        None => Some(count_gains(&no_counts(), counts, next, above)),
-        Some(parent) => {
-            let before = sight.counts(parent)?;
-            Some(count_gains(before, counts, next, above))
-        }
-    }
+    to[..counts.len()].copy_from_slice(counts);
 }
 
 /// One holder more. It answers whether it could: ancestors are counted, and the holder follows its self-parent, as it
@@ -232,34 +258,40 @@ fn sweep_holder<S: Sight>(
     tallies: &mut [Tally],
 ) -> bool
     requires place { holder.place < length (S.shape sight.now).links }
-    requires places { All (λ e. e ≤ length (S.shape sight.now).links) lanes.old.ends }
+    requires members { length lanes.old.last.items ≡ member_count (S.shape sight.now).members }
+    requires last { AreLast (S.shape sight.now).links low lanes.old.last.items }
     requires inside { low + length tallies.old ≤ length (S.shape sight.now).links }
+    requires some { 0 < need }
     requires swept { IsSweptBySome (S.shape sight.now) least.now low need lanes.old tallies.old }
-    ensures swept { Sweeps result (S.shape sight.now) least.now low need holder lanes.old lanes.new tallies.old tallies.new }
-    ensures places { result ≡ true → All (λ e. e ≤ length (S.shape sight.now).links) lanes.new.ends }
+    ensures on { Sweeps result (S.shape sight.now) least.now low need holder lanes.old lanes.new tallies.old tallies.new }
+    ensures last { result ≡ true → AreLast (S.shape sight.now).links low lanes.new.last.items }
+    ensures members { result ≡ true → length lanes.new.last.items ≡ length lanes.old.last.items }
     ensures long { result ≡ true → length tallies.new ≡ length tallies.old }
 {
     sight.rows();
     sight.members();
     let member = sight.creator(holder.place) as usize;
-    if lanes.ends[member] != parent_end(sight, low, holder.place) {
+    let last = &mut lanes.last[member];
+    if last[member] as usize != parent_end(sight, low, holder.place) {
         return false;
     }
-    let Some(most) = gain(sight, holder.place, &lanes.next, &mut lanes.above) else {
+    let Some(counts) = sight.counts(holder.place) else {
         return false;
     };
-    lanes.ends[member] = holder.place + 1;
+    let most = count_gains(last, counts, &lanes.next, &mut lanes.above);
+    copy_counts(counts, last);
     if most >= need {
         advance_lanes(sight, least, low, need, holder.time, lanes, tallies);
     }
     true
 }
 
-/// Whether no lane is left at a row below its bound.
-fn are_past(next: &[u16; 128], least: &[u16; 128]) -> bool
-    ensures { result ≡ true → ArePast next.now least.now }
+/// Whether none of the first lanes, of so many, is left at a row below its bound.
+fn are_past(next: &[u16; 128], least: &[u16; 128], members: usize) -> bool
+    requires { members ≤ 128 }
+    ensures { result ≡ true → ArePast members next.now least.now }
 {
-    for m in 0..128 {
+    for m in 0..members {
         if 0 < next[m] && next[m] <= least[m] {
             return false;
         }
@@ -281,10 +313,11 @@ fn sweep_lanes<S: Sight>(
     requires inside { low + length tallies.old ≤ length (S.shape sight.now).links }
     requires reach { ReachAll (S.shape sight.now).links least.now low tallies.old }
     requires some { 0 < need }
-    requires none { lanes.old ≡ no_lanes }
+    requires clear { AreClear (member_count (S.shape sight.now).members) lanes.old }
     ensures { FindsTimes result (S.shape sight.now) least.now low need holders.now tallies.new }
 {
     sight.rows();
+    sight.members();
     if low + tallies.len() > u16::MAX as usize {
         return false;
     }
@@ -294,18 +327,20 @@ fn sweep_lanes<S: Sight>(
             return false;
         }
     }
-    are_past(&lanes.next, least)
+    are_past(&lanes.next, least, lanes.last.len())
 }
 
 /// Finds the times that these holders leave of all rows below the numbers; tells whether it could: ancestors are
-/// counted, places go in 16 bits, and times fall on no line. The holders come in the order of their times. Of each
-/// member it keeps one row, so that a holder costs one pass over the lanes, and a row one question of each line.
+/// counted, places go in 16 bits, times fall on no line, and the lanes have memory for the members. The holders come in
+/// the order of their times. Of each member it keeps one row, so that a holder costs one pass over the lanes, and a row
+/// one over the lines.
 pub fn sweep_holders<S: Sight>(
     sight: &S,
     holders: &[Holder],
     least: &[u16; 128],
     low: usize,
     need: u16,
+    lanes: &mut Lanes,
     tallies: &mut Vec<Tally>,
 ) -> bool
     requires places { All (λ h. h.place < length (S.shape sight.now).links) holders.now }
@@ -316,5 +351,10 @@ pub fn sweep_holders<S: Sight>(
     ensures long { length tallies.new.items ≡ length tallies.old.items }
     ensures room { vec_capacity tallies.new ≡ vec_capacity tallies.old }
 {
-    sweep_lanes(sight, holders, least, low, need, &mut no_lanes(), tallies)
+    let members = sight.members() as usize;
+    if lanes.last.capacity() < members {
+        return false;
+    }
+    lanes.clear(members);
+    sweep_lanes(sight, holders, least, low, need, lanes, tallies)
 }

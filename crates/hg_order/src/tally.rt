@@ -93,7 +93,7 @@ fn tally_between<S: Sight>(
 }
 
 /// The counts of no row.
-pub fn no_counts() -> [u16; 128]
+fn no_counts() -> [u16; 128]
     ensures { result ≡ replicate 128 0 }
 {
     [0; 128]

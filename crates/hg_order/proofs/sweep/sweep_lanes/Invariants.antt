@@ -1,10 +1,12 @@
-use Rattle.std.proofs.Common.{◌≡◌, ◌≤◌, All, take, length}
-use Rattle.hg_order.specs.Swept.{IsSwept}
+use Rattle.std.proofs.Common.{◌≡◌, take, length}
+use Rattle.hg_model.specs.Stakes.{member_count}
+use Rattle.hg_order.specs.Swept.{AreLast, IsSweptOver}
 use Rattle.hg_order.proofs.sweep.sweep_lanes.Given as goal
 
 abbrev pub invariant-loop-holder : goal.invariant-loop-holder
-invariant-loop-holder g l = let L = (g.S.Sight.shape l.sight).links in record {
-  swept : IsSwept L l.least l.low l.need (take l.holder-index l.holders) l.lanes.ends l.lanes.next l.lanes.above l.tallies;
-  places : All (λ e. e ≤ length L) l.lanes.ends;
+invariant-loop-holder g l = let s = g.S.Sight.shape l.sight in record {
+  swept : IsSweptOver s l.least l.low l.need (take l.holder-index l.holders) l.lanes l.tallies;
+  last : AreLast s.links l.low l.lanes.last.items;
+  members : length l.lanes.last.items ≡ member_count s.members;
   long : length l.tallies ≡ length l.fn.tallies;
 }
