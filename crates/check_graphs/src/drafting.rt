@@ -95,10 +95,20 @@ fn other_parent(
     name_back(node, other, back)
 }
 
-/// The next event, if the dice give one: none where its other-parent is still to come. Times repeat.
+/// The time that the next event claims. Times repeat.
+fn next_time(dice: &mut Dice, plan: &Plan, node: &Node<&MacTable>) -> u64 {
+    let drawn = u64::from(dice.below(24));
+    if plan.rising {
+        node.rows() as u64 / 3
+    } else {
+        drawn
+    }
+}
+
+/// The next event, if the dice give one: none where its other-parent is still to come.
 pub fn next_draft(dice: &mut Dice, plan: &Plan, node: &Node<&MacTable>) -> Option<Draft> {
     let creator = next_creator(dice, plan, node);
-    let time = u64::from(dice.below(24));
+    let time = next_time(dice, plan, node);
     let parents = match own_parent(dice, plan, node, creator) {
         None => None,
         Some(own) => Some((own, other_parent(dice, plan, node, creator)?)),

@@ -17,6 +17,8 @@ pub struct Plan {
     pub events: u32,
     /// The members who fork. Where both would be a third of all or more, one does not come to it.
     pub forkers: Option<(u32, u32)>,
+    /// Times rise with the rows, so that they fall on no line. Else they are drawn.
+    pub rising: bool,
     pub ghost few: { members ≤ 7 },
     pub ghost some: { 4 ≤ members },
     pub ghost coin_low: { 3 ≤ coin },
@@ -41,6 +43,7 @@ pub fn plan_of(number: u32, dice: &mut Dice) -> Plan {
         coin: 3 + dice.below(4),
         events: 44 + 11 * members + dice.below(12),
         forkers,
+        rising: number % 2 == 0,
     }
 }
 
