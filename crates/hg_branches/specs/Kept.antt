@@ -1,5 +1,5 @@
 -- Rows of which the first descendants are kept
-use Rattle.std.specs.Prelude.{◌≡◌, ◌≢◌, ℕ, ◌+◌, ◌-◌, ◌<◌, ◌≤◌, ◌&&◌, nat_lt, nat_le, Bool, cond, List, [], length, get_or, slice_index, slice_set, Option, Some, None}
+use Rattle.std.specs.Prelude.{◌≡◌, ◌≢◌, ℕ, ◌+◌, ◌-◌, ◌<◌, ◌≤◌, ◌&&◌, nat_lt, nat_le, min, Bool, cond, List, [], length, get_or, slice_index, slice_set, Option, Some, None}
 use Rattle.hg_model.specs.Places.{count_below}
 use Rattle.hg_model.specs.Stakes.{Stakes, member_count}
 use Rattle.hg_model.specs.Links.{Link}
@@ -88,6 +88,11 @@ NotesOn c count b end old new = (i : ℕ) → i < length old → (kept_at old i)
 -- the same by the counts of the row
 abbrev pub NotesBy : List ℕ → ℕ → ℕ → List Kept → List Kept → ℕ → Type 0
 NotesBy counts b end old new c = NotesOn c (slice_index counts c) b end old new
+
+-- the lanes in which a row counts more than is known, below the top, have 1, and the others 0
+abbrev pub AreNews : List ℕ → List ℕ → List ℕ → List ℕ → Type 0
+AreNews known tops counts news =
+    (c : ℕ) → c < length counts → slice_index news c ≡ cond (nat_lt (slice_index known c) (min (slice_index tops c) (slice_index counts c))) 1 0
 
 -- no kept row of a branch is later than its top
 abbrev pub HoldsTops : List Kept → List ℕ → Type 0

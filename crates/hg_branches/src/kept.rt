@@ -1,5 +1,5 @@
 ghost use Rattle.std.specs.Prelude.{◌≡◌, ◌≢◌, ◌<◌, ◌≤◌, ◌-◌, ℕ, length, slice_index, IfOk};
-ghost use Rattle.hg_branches.specs.Kept.{kept_at, no_first, noted, noted_once, AreNotedBy, AreNotedOn, HoldsChains, HoldsNewest, HoldsTops, IsLastOn, NotesBy, NotesOn};
+ghost use Rattle.hg_branches.specs.Kept.{kept_at, no_first, noted, noted_once, AreNews, AreNotedBy, AreNotedOn, HoldsChains, HoldsNewest, HoldsTops, IsLastOn, NotesBy, NotesOn};
 ghost use Rattle.hg_branches.specs.Lines.{is_strong_by_own};
 
 use crate::branches::zeros;
@@ -141,6 +141,7 @@ pub fn note_all(
     end: u16,
 )
     requires same { known.now.members ≡ counts.now.members }
+    requires few { counts.now.members ≤ 128 }
     requires newest_all { counts.now.members ≤ length newest.now }
     requires tops_all { counts.now.members ≤ length tops.now }
     requires chains { HoldsChains kept.old }
@@ -154,6 +155,21 @@ pub fn note_all(
     note_others(kept, newest, known, counts, branch, end);
 }
 
+/// Marks with 1, and else 0, each lane in which a row counts more than is known, below the top. One loop without a branch,
+/// in a call of its own, where the compiler knows that the lists do not overlap: it makes vectors of it.
+#[inline(never)]
+fn mark_news(known: &[u16], tops: &[u16], counts: &[u16], news: &mut [u16])
+    requires known_all { length counts.now ≤ length known.now }
+    requires tops_all { length counts.now ≤ length tops.now }
+    requires room { length counts.now ≤ length news.old }
+    ensures len { length news.new ≡ length news.old }
+    ensures each { AreNews known.now tops.now counts.now news.new }
+{
+    for c in 0..counts.len() {
+        news[c] = u16::from(known[c] < tops[c].min(counts[c]));
+    }
+}
+
 /// Notes it in the kept rows of the members' own branches, of which these are the counts.
 fn note_own(
     kept: &mut [KeptRow],
@@ -165,6 +181,7 @@ fn note_own(
     end: u16,
 )
     requires same { length known.now ≡ length counts.now }
+    requires few { length counts.now ≤ 128 }
     requires newest_all { length counts.now ≤ length newest.now }
     requires tops_all { length counts.now ≤ length tops.now }
     requires chains { HoldsChains kept.old }
@@ -175,8 +192,10 @@ fn note_own(
     ensures done { (c : ℕ) → c < length counts.now → NotesBy counts.now branch end kept.old kept.new c }
     ensures left { (i : ℕ) → length counts.now ≤ (kept_at kept.old i).branch → kept_at kept.new i ≡ kept_at kept.old i }
 {
+    let mut news = [0; 128];
+    mark_news(known, tops, counts, &mut news);
     for c in 0..counts.len() {
-        if known[c] < tops[c].min(counts[c]) {
+        if news[c] > 0 {
             note_branch(kept, newest, c, known[c], counts[c], branch, end);
         }
     }

@@ -1,6 +1,7 @@
 ghost use Rattle.std.specs.Prelude.{◌≡◌, ◌<◌, ◌≤◌, ◌+◌, ℕ, [], length, slice_index, IfOk};
 ghost use Rattle.hg_model.specs.Forks.{has_fork_below};
 ghost use Rattle.hg_model.specs.Shape.{shape_of};
+ghost use Rattle.hg_model.specs.GraphWords.{strongly_sees_in};
 ghost use Rattle.hg_bits.specs.Masks.{mask_has};
 
 use crate::branches::{branch_for, ends_within, move_end, open_branch, zeros};
@@ -124,6 +125,33 @@ impl BranchSight {
         Ok(())
     }
 
+    /// Whether row `x` strongly sees row `y`, where there are branches beside the members' own, or the first descendants of row
+    /// `y` are not kept. A call of its own, so that the other case is short.
+    #[inline(never)]
+    fn strongly_sees_beside(&self, x: usize, y: usize) -> bool
+        requires left { x < length self.now.shape.links }
+        requires right { y < length self.now.shape.links }
+        ensures { result ≡ strongly_sees_in self.now.shape x y }
+    {
+        // That the graph is shaped.
+        self.members();
+        let number = count_at(&self.numbers, y);
+        if !self.ancestor(x, y) {
+            return false;
+        }
+        let counts = row_of(&self.counts, x);
+        let member = self.creator(y);
+        if !mask_has(self.forked_below(x), member) {
+            let slot = number as usize;
+            if slot > 0 {
+                let firsts = firsts_at(&self.kept, slot - 1);
+                return seeing::strong_by_firsts(self, &self.makers, &counts, firsts, y);
+            }
+        }
+        let seers = seeing::seers(self, &self.makers, &counts, y);
+        members_over(seers, self.members)
+    }
+
     /// The members with a fork among the ancestors of row `x`.
     pub(crate) fn forked_below(&self, x: usize) -> u128
         requires { x < length self.now.shape.links }
@@ -180,20 +208,7 @@ impl Sight for BranchSight {
         if number > 0 && self.makers.len() == self.members as usize {
             return kept_row(&self.kept, number as usize - 1).is_strong_by(self.counts.own(x));
         }
-        if !self.ancestor(x, y) {
-            return false;
-        }
-        let counts = row_of(&self.counts, x);
-        let member = self.creator(y);
-        if !mask_has(self.forked_below(x), member) {
-            let slot = number as usize;
-            if slot > 0 {
-                let firsts = firsts_at(&self.kept, slot - 1);
-                return seeing::strong_by_firsts(self, &self.makers, &counts, firsts, y);
-            }
-        }
-        let seers = seeing::seers(self, &self.makers, &counts, y);
-        members_over(seers, self.members)
+        self.strongly_sees_beside(x, y)
     }
 
     fn counts(&self, x: usize) -> Option<&[u16]> {
