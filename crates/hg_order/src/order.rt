@@ -133,7 +133,9 @@ fn placed_cmp<P: Prefix>(p: &P, white: &Sig, a: &Placed, b: &Placed) -> Ordering
     }
 }
 
-/// How the rows at two places compare by their whitened signatures and their names.
+/// How the rows at two places compare by their whitened signatures and their names. A call of its own, so that the sort, which
+/// hardly makes it, stays short.
+#[inline(never)]
 #[tactic(auto, unfolding(crate::specs::Round::rows_cmp))]
 fn rows_cmp<P: Prefix>(p: &P, white: &Sig, x: usize, y: usize) -> Ordering
     ensures { result ≡ rows_cmp (P.graph p.now).rows white.now x y }
