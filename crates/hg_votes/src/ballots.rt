@@ -1,12 +1,13 @@
 ghost use Rattle.std.specs.Prelude.{◌≡◌, ◌<◌, ◌≤◌, ◌-◌, ◌^◌, length, replicate};
 ghost use Rattle.hg_model.specs.Prefix.{IsCounted, ballot_of};
 ghost use Rattle.hg_model.specs.GraphWords.{round_in};
+ghost use Rattle.hg_model.specs.Votes.{is_normal};
 ghost use Rattle.hg_votes.specs.Counting.{HasRoom, HoldsBallots, HoldsVoted, HoldsVoters, IsOpened, IsVotersOf};
 
 use crate::slots::mark;
 use crate::tally::count_slots;
 use crate::voters::Voters;
-use crate::weighing::weigh;
+use crate::weighing::{is_normal, weigh_where};
 use hg_model::{Ballot, Prefix};
 
 /// The ballot of witness `y` on `x`, so many rounds below it, from the votes of its voters.
@@ -17,11 +18,13 @@ fn next_ballot<P: Prefix>(
     x: usize,
     y: usize,
     above: u32,
+    normal: bool,
 ) -> Ballot
     requires counted { IsCounted (P.graph p.now) x (round_in (P.graph p.now) y) y }
     requires candidate { x < length (P.graph p.now).rows }
     requires short { length (P.graph p.now).rows < 2 ^ 32 - 1 }
     requires above { above ≡ round_in (P.graph p.now) y - round_in (P.graph p.now) x }
+    requires normal { normal ≡ is_normal (P.graph p.now).coin above }
     requires voters { IsVotersOf (P.graph p.now) y voters.now }
     requires wide { length voters.now ≤ length voted.now }
     requires before { HoldsVoted (P.graph p.now) x (round_in (P.graph p.now) y - 1) voted.now }
@@ -34,9 +37,9 @@ fn next_ballot<P: Prefix>(
         };
     }
     let tally = count_slots(voters, voted);
-    weigh(
+    weigh_where(
+        normal,
         above,
-        p.coin(),
         tally.yes,
         tally.no,
         p.members(),
@@ -68,11 +71,12 @@ pub fn count_round<P: Prefix>(
 {
     next.fill(0);
     let above = r - p.round(x);
+    let normal = is_normal(above, p.coin());
     let witnesses = p.witnesses(r);
     for slot in 0..witnesses.len() {
         let y = witnesses[slot];
         let number = voters.number(y);
-        let ballot = next_ballot(p, voters.voters(number), voted, x, y, above);
+        let ballot = next_ballot(p, voters.voters(number), voted, x, y, above, normal);
         mark(next, slot, ballot.vote);
         ballots[number] = ballot;
     }

@@ -1,6 +1,7 @@
 ghost use Rattle.std.specs.Prelude.{◌≡◌, ◌<◌};
 ghost use Rattle.hg_model.specs.Order.{middle_bit};
-ghost use Rattle.hg_model.specs.Votes.{weighed_decides, weighed_vote};
+ghost use Rattle.hg_model.specs.Votes.{is_normal, weighed_decides, weighed_vote};
+ghost use Rattle.hg_votes.specs.Tallies.{weighed_where};
 
 use hg_model::{Ballot, Sig, is_supermajority};
 
@@ -19,16 +20,30 @@ pub fn weigh(d: u32, c: u32, yes: u32, no: u32, n: u32, sig: &Sig) -> Ballot
     requires { 0 < c }
     ensures { result ≡ record { vote = weighed_vote n c d yes no (middle_bit sig.now); decides = weighed_decides n c d yes no } }
 {
+    weigh_where(is_normal(d, c), d, yes, no, n, sig)
+}
+
+/// Whether a witness `d` rounds above the candidate throws no coin, with a coin period of `c` rounds.
+pub fn is_normal(d: u32, c: u32) -> bool
+    requires { 0 < c }
+    ensures { result ≡ is_normal c d }
+{
+    d % c > 0
+}
+
+/// The same as `weigh`, where it is known whether that round is a normal one.
+pub fn weigh_where(normal: bool, d: u32, yes: u32, no: u32, n: u32, sig: &Sig) -> Ballot
+    ensures { result ≡ weighed_where normal n d yes no (middle_bit sig.now) }
+{
     let majority = no <= yes;
     let is_strong = is_supermajority(n, yes.max(no));
-    let is_normal = d % c > 0;
     Ballot {
-        vote: if is_normal || is_strong {
+        vote: if normal || is_strong {
             majority
         } else {
             coin_bit(sig)
         },
-        decides: 1 < d && is_normal && is_strong,
+        decides: 1 < d && normal && is_strong,
     }
 }
 

@@ -1,4 +1,4 @@
-use Rattle.std.proofs.Common.{◌∙◌, ap, subst, arith}
+use Rattle.std.proofs.Common.{◌∙◌, ap, subst, refl, arith}
 use Rattle.hg_model.specs.Places.{IsEarlier}
 use Rattle.hg_model.specs.Links.{parents}
 use Rattle.hg_model.specs.Seeing.{sees}
@@ -20,6 +20,6 @@ returns g c =
     let graph = g.P.Prefix.graph c.args.p.now in
     let shaped = g.met.P.Prefix.sees_graph c.args.p.now in
     ballot_far graph c.args.x c.args.y c.requires.counted (subst (λ (s : Shape). IsEarlier (parents s.links)) shaped c.members.ensures.shaped.earlier)
-    (λ one. c.if-above-eq1.false (c.requires.above ∙ one)) c.args.voters.now c.args.voted.now c.requires.voters c.requires.before c.args.above c.members.result c.coin.result
-    _ c.count_slots-tally.result c.weigh.result c.requires.above (c.members.ensures.value ∙ ap (λ (s : Shape). s.members) shaped) c.coin.ensures.value
-    (coin_read graph.rows c.args.y c.row.result.now c.row.ensures) c.count_slots-tally.ensures c.weigh.ensures
+    (λ one. c.if-above-eq1.false (c.requires.above ∙ one)) c.args.voters.now c.args.voted.now c.requires.voters c.requires.before c.args.above c.members.result graph.coin
+    _ c.count_slots-tally.result c.weigh_where.result c.requires.above (c.members.ensures.value ∙ ap (λ (s : Shape). s.members) shaped) refl
+    (coin_read graph.rows c.args.y c.row.result.now c.row.ensures) c.count_slots-tally.ensures (rw c.requires.normal at c.weigh_where.ensures)
