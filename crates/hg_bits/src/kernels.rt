@@ -29,30 +29,3 @@ pub fn max_into(row: &mut [u16], other: &[u16])
         row[i] = row[i].max(other[i]);
     }
 }
-
-#[cfg(test)]
-mod tests {
-    use super::*;
-
-    // For so many lanes, in how many of them 0, 1, 2, 0, .. is at least 1.
-    const LANES: [(usize, u16); 6] = [(0, 0), (1, 0), (7, 4), (8, 5), (9, 6), (128, 85)];
-
-    #[test]
-    fn each_lane_counts(rt: HostRuntime) {
-        let ones = [1; 128];
-        for (len, count) in &LANES {
-            let mut row = [0; 128];
-            for i in 0..128 {
-                row[i] = (i % 3) as u16;
-            }
-            assert_eq!(rt; count_ge(&row[..*len], &ones[..*len]), *count, "{len}");
-            max_into(&mut row[..*len], &ones[..*len]);
-            assert_eq!(rt;
-                count_ge(&row[..*len], &ones[..*len]) as usize,
-                *len,
-                "{len}"
-            );
-            assert!(rt; row[2] == 2 && row[127] == 1);
-        }
-    }
-}

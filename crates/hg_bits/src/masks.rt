@@ -44,18 +44,3 @@ pub fn members_over(mask: u128, n: u32) -> bool
 {
     is_supermajority(n, mask.count_ones())
 }
-
-#[cfg(test)]
-mod tests {
-    use super::*;
-
-    #[test]
-    fn three_of_four_are_more_than_two_thirds(rt: HostRuntime) {
-        let two = with_member(with_member(0, 127), 0);
-        assert!(rt; mask_has(two, 127) && mask_has(two, 0) && !mask_has(two, 1));
-        assert!(rt; !members_over(two, 3) && !members_over(two, 4));
-        assert!(rt; members_over(with_member(two, 1), 4));
-        assert!(rt; !members_over(with_member(two, 0), 3));
-        assert!(rt; join_masks(two, 2) == with_member(two, 1) && meet_masks(two, 3) == 1);
-    }
-}

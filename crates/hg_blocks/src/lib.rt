@@ -20,6 +20,3 @@ pub use block::Block;
 pub use blocks::Blocks;
 pub use rows::RowBlocks;
 pub use tail::Tail;
-
-#[cfg(test)]
-mod tests;

@@ -11,9 +11,6 @@ use hg_model::Memory;
 use std::alloc::Global;
 use std::marker::Model;
 
-#[cfg(test)]
-mod tests;
-
 /// For each row and branch one more than the place of the branch's last row among the row's ancestors, or 0. The first
 /// branches are the members' own.
 /// Where no row stands on another branch, a row costs two bytes for each member. Prefixes share the sealed blocks.

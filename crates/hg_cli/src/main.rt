@@ -15,8 +15,6 @@
 
 mod disk;
 mod stream;
-#[cfg(test)]
-mod tests;
 
 use crate::disk::Disk;
 use crate::stream::Stream;

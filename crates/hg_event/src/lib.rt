@@ -2,7 +2,7 @@
 //! The layers above use that `decode` is `read_event`, the row that the bytes spell or their first fault, and that an
 //! `Event` is a row whose bytes spell it.
 //!
-//! From `keeps_an_event_as_it_was_read` in the tests of this crate, shortened:
+//! From `keeps_an_event_as_it_was_read` in the tests of `check_bytes`, shortened:
 //!
 //! ```text
 //! let Ok(view) = decode(&bytes) else {
@@ -18,8 +18,6 @@ mod event;
 mod fields;
 mod laws;
 mod read;
-#[cfg(test)]
-mod tests;
 mod view;
 mod write;
 

@@ -12,8 +12,6 @@
 //! ```
 #![tactic(auto)]
 
-#[cfg(test)]
-mod checked;
 mod laws;
 mod line;
 mod self_row;

@@ -148,17 +148,3 @@ fn first_mark<P: Prefix>(p: &P, closed: u32) -> Option<bool>
         None
     }
 }
-
-#[cfg(test)]
-mod tests {
-    use super::*;
-
-    #[test]
-    fn has_room_once_it_is_reserved(rt: HostRuntime) -> Result<(), Memory> {
-        let mut kept = Kept::new(rt.alloc(), 4);
-        kept.reserve()?;
-        kept.reserve()?;
-        assert!(rt; kept.closed() == 0 && kept.order().is_empty());
-        Ok(())
-    }
-}

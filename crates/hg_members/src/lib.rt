@@ -2,7 +2,7 @@
 //! The layer above uses `read_members`, which gives the members, or the first fault in the order of the checks.
 //! What TOML is, is what the kit's `toml` takes.
 //!
-//! From `members_are_read` in the tests of this crate, shortened:
+//! From `members_are_read` in the tests of `check_bytes`, shortened:
 //!
 //! ```text
 //! let Ok(members) = read_members(rt.alloc(), text.as_bytes())? else {
@@ -18,8 +18,6 @@
 mod entry;
 mod fault;
 mod file;
-#[cfg(test)]
-mod tests;
 
 pub use fault::MemberFault;
 pub use file::read_members;

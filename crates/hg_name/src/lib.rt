@@ -2,7 +2,7 @@
 //! A name can be written out as text and compared byte by byte; no call takes memory.
 //! The layers above use that `name_of` is `sha384`, the word by which `Spells` of hg_model names a row.
 //!
-//! From `names_abc` in the tests of this crate:
+//! From `names_abc` in the tests of `check_bytes`:
 //!
 //! ```text
 //! let text = name_hex(&name_of(b"abc"));
@@ -22,9 +22,6 @@ ghost use Rattle.hex.specs.Hex.{encode_lower};
 use hg_model::Name;
 use sha2::{Digest, Sha384};
 use std::cmp::Ordering;
-
-#[cfg(test)]
-mod tests;
 
 /// The name of an event with these bytes, those of its signature included.
 pub fn name_of(bytes: &[u8]) -> Name

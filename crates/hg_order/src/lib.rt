@@ -29,8 +29,6 @@ mod placing;
 mod received;
 mod sweep;
 mod tally;
-#[cfg(test)]
-mod tests;
 mod time;
 mod white;
 

@@ -17,8 +17,6 @@ mod laws;
 mod ledger;
 mod pay;
 mod paying;
-#[cfg(test)]
-mod tests;
 
 pub use book::Book;
 pub use laws::{books_go_on, pays_are_spelled, sum_is_kept};

@@ -2,7 +2,7 @@
 //! A signer is told by the test `accepts`, of which nothing else is supposed, so that any scheme can take its place.
 //! The layers above use that `check` is `accepts`, and that `accepts` takes what `sign` gives.
 //!
-//! From `signs_for_members` in the tests of this crate, shortened:
+//! From `signs_for_members` in the tests of `check_bytes`, shortened:
 //!
 //! ```text
 //! let table = MacTable::new(rt.alloc(), &two_members(&rt, rt.alloc())?)?;
@@ -18,8 +18,6 @@ mod laws;
 mod shared;
 mod signer;
 mod table;
-#[cfg(test)]
-mod tests;
 
 pub use laws::one_signature;
 pub use shared::SharedTable;

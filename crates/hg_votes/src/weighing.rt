@@ -46,39 +46,3 @@ pub fn weigh_where(normal: bool, d: u32, yes: u32, no: u32, n: u32, sig: &Sig) -
         decides: 1 < d && normal && is_strong,
     }
 }
-
-#[cfg(test)]
-mod tests {
-    use super::*;
-
-    fn sig_with(byte: u8) -> Sig {
-        let mut sig = [0; 64];
-        sig[32] = byte;
-        sig
-    }
-
-    // Four members, and a coin round each third one above the candidate.
-    #[test]
-    fn weighs_the_votes_of_four_members(rt: HostRuntime) {
-        for (d, yes, no, byte, vote, decides) in [
-            (2, 3, 0, 0, true, true),
-            (2, 2, 2, 0, true, false),
-            (3, 1, 2, 0x80, true, false),
-            (3, 1, 2, 0x7f, false, false),
-            (3, 0, 3, 0x80, false, false),
-            (4, 0, 3, 0x80, false, true),
-        ] {
-            let ballot = weigh(d, 3, yes, no, 4, &sig_with(byte));
-            assert!(rt;
-                ballot == Ballot { vote, decides },
-                "{d} rounds above, {yes} to {no}"
-            );
-        }
-    }
-
-    #[test]
-    fn throws_the_highest_bit_of_byte_32(rt: HostRuntime) {
-        assert!(rt; coin_bit(&sig_with(0x80)) && coin_bit(&sig_with(0xff)));
-        assert!(rt; !coin_bit(&sig_with(0x7f)) && !coin_bit(&sig_with(0)));
-    }
-}
