@@ -143,14 +143,14 @@ class Node:
             vote = self.web.vote(y, x)
             if vote.decides:
                 if known and known.value != vote.value:
-                    sys.exit("draw-graph: two witnesses decide otherwise on a third; nothing is drawn")
+                    sys.exit("draw-graph: two witnesses decide otherwise on a third; nothing is written")
                 self.found[x] = Mark(vote.value, known.line if known else line, y)
 
     def mark_late(self, new, line):
         """A witness that comes to a closed round is not famous: its graph says so, and where the node has published the
         round's fame, the mark is published with it."""
         if new.round <= self.decided.closed and (new not in self.found or self.found[new].value):
-            sys.exit("draw-graph: a witness came to a closed round and is not decided as not famous; nothing is drawn")
+            sys.exit("draw-graph: a witness came to a closed round and is not decided as not famous; nothing is written")
         if new.round <= self.kept.closed:
             self.published[new] = Mark(False, line)
 
