@@ -10,7 +10,7 @@ PAYLOAD_MOST, TRANSFERS_MOST = 1024, 64
 
 
 class Refused(Exception):
-    """Why bytes or a making are refused, in the report's words."""
+    """Why bytes or a making are refused, in the words of the output."""
 
 
 class Member:

@@ -1,4 +1,4 @@
-"""Plays a script: the nodes after each line, and the report that the program should print of them."""
+"""Plays a script: the nodes after each line, and the output that the program should print of them."""
 
 import re
 import sys
@@ -166,7 +166,7 @@ class Node:
         self.publish(self.found, line)
 
     def block(self, ledger, names=False):
-        """The block of the report."""
+        """The block of the output."""
         lines = [f"node {self.member.name} events {len(self.rows)} forkers {len(self.forkers)} round {self.greatest()} "
                  f"closed {ledger.closed} ordered {len(ledger.order)}"]
         for number, row in enumerate(ledger.order, 1):
