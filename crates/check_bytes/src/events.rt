@@ -39,11 +39,7 @@ const SPOILED: [(&[(usize, u8)], usize, Option<ByteFault>); 7] = [
     (&[], 0, Some(ByteFault::Short(0))),
     (&[(1, 0x58)], 2, Some(ByteFault::BadMagic)),
     (&[(6, 2)], 81, Some(ByteFault::BadKind(2))),
-    (
-        &[(15, 4), (16, 1)],
-        81,
-        Some(ByteFault::BadLength(1025)),
-    ),
+    (&[(15, 4), (16, 1)], 81, Some(ByteFault::BadLength(1025))),
     (&[(81, 7)], 82, Some(ByteFault::Trailing(1))),
 ];
 
