@@ -1,4 +1,4 @@
-use Rattle.hg_script.proofs.table.line_by.Goals as goal
+use Rattle.hg_reading.proofs.table.line_by.Goals as goal
 
 pub returns-in_ok-pull-in-Pull-len2-clause-lawful : goal.returns-in_ok-pull-in-Pull-len2-clause-lawful
 returns-in_ok-pull-in-Pull-len2-clause-lawful c = c.in_ok-pull-in-Pull-len2.ensures.lawful c.args.above.now

@@ -3,8 +3,8 @@ use Rattle.std.proofs.lemmas.Iterator.{YieldsList-from_take}
 use Rattle.std.proofs.lemmas.Iterator.Consumers.{YieldsList-at, YieldsList-from_filter, map_from_collect}
 use Rattle.std.proofs.lemmas.Iterator.Splits.{YieldsList-from_slice_split}
 use Rattle.hg_script.specs.Script.{is_blank}
-use Rattle.hg_script.specs.declared.words.TheConstants.{MOST_WORDS}
-use Rattle.hg_script.proofs.words.words_of.Goals as goal
+use Rattle.hg_reading.specs.declared.words.TheConstants.{MOST_WORDS}
+use Rattle.hg_reading.proofs.words.words_of.Goals as goal
 
 pub returns : goal.returns
 returns c =

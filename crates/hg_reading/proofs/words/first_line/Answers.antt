@@ -1,7 +1,7 @@
 use Rattle.std.proofs.Common.{◌+◌, sym}
 use Rattle.std.proofs.lemmas.List.{take_rest}
-use Rattle.hg_script.proofs.LineLaws.{lines_at}
-use Rattle.hg_script.proofs.words.first_line.Goals as goal
+use Rattle.hg_reading.proofs.LineLaws.{lines_at}
+use Rattle.hg_reading.proofs.words.first_line.Goals as goal
 
 pub returns-in-Some-clause-lines : goal.returns-in-Some-clause-lines
 returns-in-Some-clause-lines c =

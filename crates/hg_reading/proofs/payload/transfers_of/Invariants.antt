@@ -1,8 +1,8 @@
 use Rattle.std.proofs.Common.{◌≡◌, ◌≤◌, length, map}
 use Rattle.std.specs.Prelude.{vec_capacity}
 use Rattle.hg_script.specs.Payload.{transfers_of}
-use Rattle.hg_script.proofs.PayloadLaws.{and_then, transfers_left}
-use Rattle.hg_script.proofs.payload.transfers_of.Given as goal
+use Rattle.hg_reading.proofs.PayloadLaws.{and_then, transfers_left}
+use Rattle.hg_reading.proofs.payload.transfers_of.Given as goal
 
 abbrev pub invariant-loop-part : goal.invariant-loop-part
 invariant-loop-part l = record {

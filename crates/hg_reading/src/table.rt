@@ -6,17 +6,13 @@ ghost use Rattle.hg_script.specs.Lawful.{IsFound};
 ghost use Rattle.hg_script.specs.Table as spec;
 ghost use Rattle.hg_script.specs.declared.line.Action.TheVariants.{Label};
 
-use crate::above::Above;
-use crate::argument::{
+use crate::payload::payload_of;
+use hg_model::{Members, Stop};
+use hg_script::argument::{
     byte_of, label_of, member_of, new_label, node_of, number_of, parents_of, peer_of, raw_bytes,
     worker_of,
 };
-use crate::fault::Why;
-use crate::found::Found;
-use crate::line::{Action, Gossip, Source};
-use crate::payload::payload_of;
-use crate::verb::Verb;
-use hg_model::{Members, Stop};
+use hg_script::{Above, Action, Found, Gossip, Source, Verb, Why};
 use std::alloc::Global;
 
 fn gossip<'a>(gossip: Gossip) -> Found<'a>
@@ -31,7 +27,7 @@ fn makes<'a>(source: Source, label: &'a [u8]) -> Found<'a>
     Found::makes(Action::Label(source), label)
 }
 
-#[tactic(auto, unfolding(crate::specs::Table::create))]
+#[tactic(auto, unfolding(hg_script::specs::Table::create))]
 fn create<'a>(
     alloc: Global,
     members: &Members,
@@ -72,7 +68,7 @@ fn create_line<'a>(
     }
 }
 
-#[tactic(auto, unfolding(crate::specs::Table::sync))]
+#[tactic(auto, unfolding(hg_script::specs::Table::sync))]
 fn sync<'a>(
     alloc: Global,
     members: &Members,
@@ -116,7 +112,7 @@ fn sync_line<'a>(
     }
 }
 
-#[tactic(auto, unfolding(crate::specs::Table::pull))]
+#[tactic(auto, unfolding(hg_script::specs::Table::pull))]
 fn pull<'a>(members: &Members, x: &[u8], y: &[u8]) -> Result<Found<'a>, Why>
     ensures value { result ≡ spec.pull members.now x.now y.now }
     ensures lawful { (above : spec.Above) → IfOk result (IsFound members.now above) }
@@ -126,7 +122,7 @@ fn pull<'a>(members: &Members, x: &[u8], y: &[u8]) -> Result<Found<'a>, Why>
     Ok(gossip(Gossip::Pull { taker, peer }))
 }
 
-#[tactic(auto, unfolding(crate::specs::Table::join))]
+#[tactic(auto, unfolding(hg_script::specs::Table::join))]
 fn join<'a>(
     alloc: Global,
     members: &Members,
@@ -170,7 +166,7 @@ fn join_line<'a>(
     }
 }
 
-#[tactic(auto, unfolding(crate::specs::Table::name))]
+#[tactic(auto, unfolding(hg_script::specs::Table::name))]
 fn name<'a>(members: &Members, above: &Above<'_>, l: &'a [u8], x: &[u8]) -> Result<Found<'a>, Why>
     ensures value { result ≡ spec.name members.now above.now l.now x.now }
     ensures lawful { IfOk result (IsFound members.now above.now) }
@@ -180,7 +176,7 @@ fn name<'a>(members: &Members, above: &Above<'_>, l: &'a [u8], x: &[u8]) -> Resu
     Ok(makes(Source::Last { member }, label))
 }
 
-#[tactic(auto, unfolding(crate::specs::Table::forge))]
+#[tactic(auto, unfolding(hg_script::specs::Table::forge))]
 fn forge<'a>(
     alloc: Global,
     members: &Members,
@@ -227,7 +223,7 @@ fn forge_line<'a>(
     }
 }
 
-#[tactic(auto, unfolding(crate::specs::Table::raw))]
+#[tactic(auto, unfolding(hg_script::specs::Table::raw))]
 fn raw<'a>(alloc: Global, above: &Above<'_>, l: &'a [u8], h: &[u8]) -> Result<Found<'a>, Stop<Why>>
     ensures value { ReadsAs result (spec.raw above.now l.now h.now) }
     ensures lawful { (members : MemberList) → IfOk result (IsFound members above.now) }
@@ -237,7 +233,7 @@ fn raw<'a>(alloc: Global, above: &Above<'_>, l: &'a [u8], h: &[u8]) -> Result<Fo
     Ok(makes(Source::Raw { bytes }, label))
 }
 
-#[tactic(auto, unfolding(crate::specs::Table::alter))]
+#[tactic(auto, unfolding(hg_script::specs::Table::alter))]
 fn alter<'a>(
     above: &Above<'_>,
     l: &'a [u8],
@@ -262,7 +258,7 @@ fn alter<'a>(
     ))
 }
 
-#[tactic(auto, unfolding(crate::specs::Table::cut))]
+#[tactic(auto, unfolding(hg_script::specs::Table::cut))]
 fn cut<'a>(above: &Above<'_>, l: &'a [u8], l2: &[u8], k: &[u8]) -> Result<Found<'a>, Why>
     ensures value { result ≡ spec.cut above.now l.now l2.now k.now }
     ensures lawful { (members : MemberList) → IfOk result (IsFound members above.now) }
@@ -273,7 +269,7 @@ fn cut<'a>(above: &Above<'_>, l: &'a [u8], l2: &[u8], k: &[u8]) -> Result<Found<
     Ok(makes(Source::Front { label: whole, len }, label))
 }
 
-#[tactic(auto, unfolding(crate::specs::Table::give))]
+#[tactic(auto, unfolding(hg_script::specs::Table::give))]
 fn give<'a>(members: &Members, above: &Above<'_>, x: &[u8], l: &[u8]) -> Result<Found<'a>, Why>
     ensures value { result ≡ spec.give members.now above.now x.now l.now }
     ensures lawful { IfOk result (IsFound members.now above.now) }
@@ -283,7 +279,7 @@ fn give<'a>(members: &Members, above: &Above<'_>, x: &[u8], l: &[u8]) -> Result<
     Ok(gossip(Gossip::Give { member, label }))
 }
 
-#[tactic(auto, unfolding(crate::specs::Table::freeze))]
+#[tactic(auto, unfolding(hg_script::specs::Table::freeze))]
 fn freeze<'a>(members: &Members, x: &[u8], w: &[u8]) -> Result<Found<'a>, Why>
     ensures value { result ≡ spec.freeze members.now x.now w.now }
     ensures lawful { (above : spec.Above) → IfOk result (IsFound members.now above) }
@@ -293,7 +289,7 @@ fn freeze<'a>(members: &Members, x: &[u8], w: &[u8]) -> Result<Found<'a>, Why>
     Ok(Found::does(Action::Freeze { member, worker }))
 }
 
-#[tactic(auto, unfolding(crate::specs::Table::publish))]
+#[tactic(auto, unfolding(hg_script::specs::Table::publish))]
 fn publish<'a>(members: &Members, x: &[u8], w: &[u8]) -> Result<Found<'a>, Why>
     ensures value { result ≡ spec.publish members.now x.now w.now }
     ensures lawful { (above : spec.Above) → IfOk result (IsFound members.now above) }
@@ -303,7 +299,7 @@ fn publish<'a>(members: &Members, x: &[u8], w: &[u8]) -> Result<Found<'a>, Why>
     Ok(Found::does(Action::Publish { member, worker }))
 }
 
-#[tactic(auto, unfolding(crate::specs::Table::show_kept))]
+#[tactic(auto, unfolding(hg_script::specs::Table::show_kept))]
 fn show_kept<'a>(members: &Members, x: &[u8]) -> Result<Found<'a>, Why>
     ensures value { result ≡ spec.show_kept members.now x.now }
     ensures lawful { (above : spec.Above) → IfOk result (IsFound members.now above) }
@@ -312,7 +308,7 @@ fn show_kept<'a>(members: &Members, x: &[u8]) -> Result<Found<'a>, Why>
     Ok(Found::does(Action::Kept { member }))
 }
 
-#[tactic(auto, unfolding(crate::specs::Table::show))]
+#[tactic(auto, unfolding(hg_script::specs::Table::show))]
 fn show<'a>(members: &Members, x: &[u8]) -> Result<Found<'a>, Why>
     ensures value { result ≡ spec.show members.now x.now }
     ensures lawful { (above : spec.Above) → IfOk result (IsFound members.now above) }
@@ -321,7 +317,7 @@ fn show<'a>(members: &Members, x: &[u8]) -> Result<Found<'a>, Why>
     Ok(Found::does(Action::Show { member }))
 }
 
-#[tactic(auto, unfolding(crate::specs::Table::names))]
+#[tactic(auto, unfolding(hg_script::specs::Table::names))]
 fn names<'a>(members: &Members, x: &[u8]) -> Result<Found<'a>, Why>
     ensures value { result ≡ spec.names members.now x.now }
     ensures lawful { (above : spec.Above) → IfOk result (IsFound members.now above) }

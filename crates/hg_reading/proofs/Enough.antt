@@ -7,7 +7,7 @@ use Rattle.hg_script.specs.declared.fault.Why.{Why}
 use Rattle.hg_script.specs.declared.fault.Why.TheVariants.{Word}
 use Rattle.hg_script.specs.declared.verb.Verb.{Verb}
 use Rattle.hg_script.specs.declared.verb.Verb.TheVariants as verb
-use Rattle.hg_script.specs.declared.words.TheConstants.{MOST_WORDS}
+use Rattle.hg_reading.specs.declared.words.TheConstants.{MOST_WORDS}
 use Rattle.hg_script.specs.Script.{line_in}
 use Rattle.hg_script.specs.Table.{Above, Found, found_by, line_by, alter, create, cut, forge, freeze, give, join, name, names, publish, pull, raw, show, show_kept, sync, one_word, two_words, three_words, four_words, two_or_three, three_or_four, five_or_six, verb_of}
 

@@ -6,13 +6,10 @@ ghost use Rattle.hg_script.specs.Lawful.{HasLawful, IsAllowed, IsLine};
 ghost use Rattle.hg_model.specs.Results.{Gives};
 ghost use Rattle.hg_script.specs.Script as spec;
 
-use crate::above::Above;
-use crate::fault::{ScriptFault, Why};
-use crate::found::Found;
-use crate::line::Line;
 use crate::table::found_by;
 use crate::words::{first_line, words_of};
 use hg_model::{Items, Members, Memory, Stop};
+use hg_script::{Above, Found, Line, ScriptFault, Why};
 use std::alloc::Global;
 
 fn is_text(line: &[u8]) -> bool
@@ -107,7 +104,7 @@ fn all_lines<'a>(
 }
 
 /// The lines that the bytes of a script are in a run with so many workers, or the first line that is refused.
-#[tactic(auto, unfolding(crate::specs::Script::lines_of))]
+#[tactic(auto, unfolding(hg_script::specs::Script::lines_of))]
 pub fn read_script(
     alloc: Global,
     bytes: &[u8],

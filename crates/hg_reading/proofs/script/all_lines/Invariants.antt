@@ -3,7 +3,7 @@ use Rattle.std.specs.List.{All}
 use Rattle.std.specs.Str.Lines.{lines}
 use Rattle.hg_script.specs.Lawful.{IsLine}
 use Rattle.hg_script.specs.Script.{lines_after, nothing_above}
-use Rattle.hg_script.proofs.script.all_lines.Given as goal
+use Rattle.hg_reading.proofs.script.all_lines.Given as goal
 
 abbrev pub invariant-lines : goal.invariant-lines
 invariant-lines l = record {

@@ -7,10 +7,10 @@ ghost use Rattle.hg_model.specs.Results.{Gives};
 ghost use Rattle.hg_script.specs.Words.{ReadsAs, bytes_in};
 ghost use Rattle.hg_script.specs.Payload as spec;
 
-use crate::argument::{digits_form, member_of, number_of};
-use crate::fault::Why;
 use hg_model::{Bytes, Member, Members, Memory, Stop, Transfer};
 use hg_pay::write_pay;
+use hg_script::Why;
+use hg_script::argument::{digits_form, member_of, number_of};
 use std::alloc::{AllocError, Global};
 
 /// The greatest number of transfers in one payload.
@@ -99,7 +99,7 @@ fn receiver_of(members: &Members, word: &[u8]) -> Result<Member, Why>
     }
 }
 
-#[tactic(auto, unfolding(crate::specs::Payload::transfer_of))]
+#[tactic(auto, unfolding(hg_script::specs::Payload::transfer_of))]
 fn transfer_of(members: &Members, part: &[u8]) -> Result<Transfer, Why>
     ensures { result ≡ spec.transfer_of members.now part.now }
 {

@@ -2,8 +2,8 @@ use Rattle.std.proofs.Common.{◌+◌, ◌∙◌, ap, sym, take, drop, arith, �
 use Rattle.std.specs.List.{position_or_len}
 use Rattle.std.proofs.lemmas.List.{drop_all, take_all, take_rest}
 use Rattle.hg_script.specs.Payload.{is_equals}
-use Rattle.hg_script.proofs.LineLaws.{found_first, none_before}
-use Rattle.hg_script.proofs.payload.sides_of.Goals as goal
+use Rattle.hg_reading.proofs.LineLaws.{found_first, none_before}
+use Rattle.hg_reading.proofs.payload.sides_of.Goals as goal
 
 pub returns-in-Some-clause-before : goal.returns-in-Some-clause-before
 returns-in-Some-clause-before c = ap (λ (k : ℕ). take k c.args.part.now) (sym (found_first is_equals c.args.part.now c.in-Some.end (sym c.in-Some.ensures)).0)

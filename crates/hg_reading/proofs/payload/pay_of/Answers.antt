@@ -4,8 +4,8 @@ use Rattle.std.proofs.lemmas.Bool.{leb-true}
 use Rattle.std.proofs.lemmas.List.{length-map}
 use Rattle.hg_model.specs.Pay.{transfer_limit}
 use Rattle.hg_script.specs.Payload.{parts_of}
-use Rattle.hg_script.proofs.PayloadLaws.{pay_refused, pay_taken}
-use Rattle.hg_script.proofs.payload.pay_of.Goals as goal
+use Rattle.hg_reading.proofs.PayloadLaws.{pay_refused, pay_taken}
+use Rattle.hg_reading.proofs.payload.pay_of.Goals as goal
 
 abbrev texts : List (Bor (List ℕ)) → List (List ℕ)
 texts parts = map (λ part. part.now) parts
