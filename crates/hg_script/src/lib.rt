@@ -2,10 +2,11 @@
 //! table of lines, and `lines_of` in `specs/Script.antt` says what bytes are a script. The layer above uses `Line` and its
 //! parts, and `ScriptFault`; `hg_reading` reads lines from bytes, by the calls of `argument` below the lines of `Above`.
 //!
-//! From `give` of `hg_reading`:
+//! From `give` of `hg_reading`, shortened:
 //!
 //! ```text
-//! fn give<'a>(members: &Members, above: &Above<'_>, x: &[u8], l: &[u8]) -> Result<Found<'a>, Why> {
+//! fn give<'a>(members: &Members, above: &Above<'_>, x: &[u8], l: &[u8]) -> Result<Found<'a>, Why>
+//! {
 //!     let member = node_of(members, x)?;
 //!     let label = label_of(above, l)?;
 //!     Ok(gossip(Gossip::Give { member, label }))
