@@ -1,7 +1,8 @@
 use crate::members::{entry, members_of};
 use crate::telling::equal;
 use hg_model::{Items, Members, Memory};
-use hg_script::{Line, ScriptFault, Why, read_script};
+use hg_reading::read_script;
+use hg_script::{Line, ScriptFault, Why};
 use std::alloc::{AllocError, Global};
 use std::process::Abort;
 use std::test::Fail;

@@ -17,7 +17,7 @@ use Rattle.hg_model.proofs.VoteLaws.{vote_of-at}
 use Rattle.hg_votes.specs.declared.tally.Tally.{Tally}
 use Rattle.hg_votes.specs.Tallies.{no_ballot, vote_at, voters_of, tally_of}
 use Rattle.hg_votes.proofs.VoterLaws.{voter_below}
-use Rattle.hg_plain.specs.Tables.{IsTableOf}
+use Rattle.hg_plain_graph.specs.Tables.{IsTableOf}
 
 pub voters_before : (g : Graph) (y : ℕ) (voters : List ℕ) → IsEarlier (parents (links_of g)) → voters ≡ voters_of g y → AllByRecursion (λ w. w < y) voters
 unfolding voters_of

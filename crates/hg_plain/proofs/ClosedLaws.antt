@@ -6,7 +6,7 @@ use Rattle.hg_model.specs.Links.{Link}
 use Rattle.hg_model.specs.Fame.{Marks, is_closed}
 use Rattle.hg_model.specs.Order.{last_closed}
 use Rattle.hg_model.proofs.SearchLaws.{greatest_below-same}
-use Rattle.hg_plain.specs.Tables.{IsTableOf}
+use Rattle.hg_plain_graph.specs.Tables.{IsTableOf}
 
 -- the last of them
 pub last_closed_is : (n : Stakes) (L : List Link) (marks : Marks) (closed : List Bool) → IsTableOf false (is_closed n L marks) (suc (length L)) closed →

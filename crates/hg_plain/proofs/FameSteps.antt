@@ -14,7 +14,7 @@ use Rattle.hg_model.proofs.PlacesLaws.{least_below_zero, least_below_passes, lea
 use Rattle.hg_model.proofs.SearchLaws.{least_below-same, option_map-least_below}
 use Rattle.hg_model.proofs.FameLaws.{fame_of_witness}
 use Rattle.hg_votes.specs.Tallies.{no_ballot, vote_at}
-use Rattle.hg_plain.specs.Tables.{IsTableOf}
+use Rattle.hg_plain_graph.specs.Tables.{IsTableOf}
 use Rattle.hg_plain.specs.declared.fame.Decision.{Decision}
 use Rattle.hg_plain.specs.Elections.{decides_at, decision_at, earlier_of, decided_vote}
 

@@ -13,7 +13,7 @@ use Rattle.hg_model.specs.Standings.{standings_of, witnesses_in}
 use Rattle.hg_model.proofs.PlacesLaws.{list_below-same, list_below_none, maximum_below_bounds}
 use Rattle.hg_model.proofs.StandingLaws.{witnesses_in-standings}
 use Rattle.hg_order.specs.Round.{received_places}
-use Rattle.hg_plain.specs.Tables.{IsTableOf}
+use Rattle.hg_plain_graph.specs.Tables.{IsTableOf}
 use Rattle.hg_plain.specs.Held.{witnesses_of}
 use Rattle.hg_plain.specs.Rounds.{is_round}
 

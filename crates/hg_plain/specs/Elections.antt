@@ -8,7 +8,7 @@ use Rattle.hg_model.specs.Rounds.{round_of}
 use Rattle.hg_model.specs.Shape.{Shape}
 use Rattle.hg_model.specs.Prefix.{Graph, ballot_of, links_of}
 use Rattle.hg_votes.specs.Tallies.{no_ballot, vote_at, voters_of}
-use Rattle.hg_plain.specs.Tables.{IsTableOf}
+use Rattle.hg_plain_graph.specs.Tables.{IsTableOf}
 use Rattle.hg_plain.specs.declared.fame.Decision.{Decision}
 
 -- the voters of each row

@@ -4,9 +4,9 @@ ghost use Rattle.hg_model.specs.GraphWords.{fame_in, fame_marks_in};
 ghost use Rattle.hg_plain.specs.Elections.{IsVoterTable, decided_vote, earlier_of, first_decision};
 
 use crate::prefix::PlainPrefix;
-use crate::sight::PlainSight;
 use crate::votes::{ballots, voters};
 use hg_model::{Ballot, Items, Memory};
+use hg_plain_graph::PlainSight;
 use std::alloc::Global;
 
 /// A decision: the round of the row that decides, and its vote.
@@ -73,7 +73,7 @@ fn fame(
 }
 
 /// The fame of all rows.
-#[tactic(auto, using(crate::proofs::TableLaws::table_steps))]
+#[tactic(auto, using(hg_plain_graph::proofs::TableLaws::table_steps))]
 pub fn marks(alloc: Global, p: &PlainPrefix<'_>) -> Result<Vec<Option<bool>>, Memory>
     requires short { length (links_of p.now) < 2 ^ 32 - 1 }
     ensures marks { IfOk result (λ v. v.items ≡ fame_marks_in p.now) }

@@ -1,6 +1,7 @@
 //! The report's procedures computed whole from a list of rows, in time by the cube of the rows: the yardstick for every
-//! faster form. Ballots are counted and weighed as there, by `hg_votes`. The layer above uses `plain_whole` and
-//! `plain_forkers`, which are the definitions, and `PlainPrefix`, a graph with its tables, for what takes any `Prefix`.
+//! faster form. What the rows see of each other, their rounds and what is closed stand in tables of `hg_plain_graph`; here
+//! ballots are counted and weighed as there, by `hg_votes`, and the order is made. The layer above uses `plain_whole`,
+//! which is the definition, and `PlainPrefix`, a graph with its tables, for what takes any `Prefix`.
 //!
 //! From `whole_of` of `check_graphs`:
 //!
@@ -18,23 +19,13 @@
 //! ```
 #![tactic(auto)]
 
-mod ancestry;
-mod closed;
 mod fame;
-mod forks;
-mod links;
 mod order;
 mod plain;
 mod prefix;
 mod received;
-mod rounds;
-mod seeing;
-mod sight;
-mod strongly_seeing;
-mod tables;
 mod votes;
 
-pub use forks::plain_forkers;
+pub use hg_plain_graph::{PlainSight, plain_forkers};
 pub use plain::{PlainState, PlainWhole, plain_whole};
 pub use prefix::PlainPrefix;
-pub use sight::PlainSight;

@@ -1,7 +1,8 @@
 ghost use Rattle.std.specs.Prelude.{◌≡◌, ◌<◌, ◌≤◌, ◌==◌, ◌++◌, ◌^◌, length, IfOk, OnOk, None, false};
 ghost use Rattle.hg_model.specs.GraphWords.{received_order, shape_in, ordered_by};
 ghost use Rattle.hg_order.specs.Round.{received_places};
-ghost use Rattle.hg_plain.specs.Held.{IsClosedTable, IsReceivedTable};
+ghost use Rattle.hg_plain_graph.specs.Held.{IsClosedTable};
+ghost use Rattle.hg_plain.specs.Held.{IsReceivedTable};
 ghost use Rattle.hg_plain.specs.Rounds.{is_round, places_received};
 ghost use Rattle.hg_model.specs.Stakes.{member_count};
 

@@ -9,14 +9,13 @@ ghost use Rattle.hg_model.specs.Ledger.{closed_of};
 ghost use Rattle.hg_model.specs.Prefix.{graph_of, links_of};
 ghost use Rattle.hg_model.specs.Shape.{shape_of};
 ghost use Rattle.hg_model.specs.GraphWords.{shape_in, last_round_in, last_closed_in};
-ghost use Rattle.hg_plain.specs.Held.{IsClosedTable};
+ghost use Rattle.hg_plain_graph.specs.Held.{IsClosedTable};
 
-use crate::closed::{closed_rounds, last_closed};
 use crate::fame::marks;
 use crate::order::ordered_rows;
 use crate::prefix::PlainPrefix;
-use crate::sight::PlainSight;
 use hg_model::{Items, Memory, Placed, Row};
+use hg_plain_graph::{PlainSight, closed_rounds, last_closed};
 use std::alloc::Global;
 
 /// What the procedures tell of a graph besides its order.

@@ -7,9 +7,8 @@ ghost use Rattle.hg_model.specs.GraphWords.{standings_in, shape_in};
 ghost use Rattle.hg_plain.specs.Held.{IsWitnessTable, witnesses_of};
 ghost use Rattle.hg_model.specs.Stakes.{member_count};
 
-use crate::closed::is_witness_of_round;
-use crate::sight::PlainSight;
 use hg_model::{Items, Member, Memory, Prefix, Rounds, Row, Sight};
+use hg_plain_graph::{PlainSight, is_witness_of_round};
 use std::alloc::Global;
 use std::marker::Model;
 
@@ -67,7 +66,7 @@ impl<'a> PlainPrefix<'a> {
 }
 
 /// The witnesses of each round, from 0 to the greatest.
-#[tactic(auto, using(crate::proofs::TableLaws::table_steps))]
+#[tactic(auto, using(hg_plain_graph::proofs::TableLaws::table_steps))]
 fn witness_lists(alloc: Global, sight: &PlainSight) -> Result<Vec<Items<usize>>, Memory>
     ensures { IfOk result (λ v. IsWitnessTable sight.now v.items) }
 {

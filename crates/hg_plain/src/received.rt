@@ -4,7 +4,8 @@ ghost use Rattle.hg_model.specs.Fame.{is_closed};
 ghost use Rattle.hg_model.specs.Order.{can_receive, round_received};
 ghost use Rattle.hg_model.specs.Prefix.{links_of};
 ghost use Rattle.hg_model.specs.GraphWords.{shape_in, is_closed_in, can_receive_in, round_received_in};
-ghost use Rattle.hg_plain.specs.Held.{IsClosedTable, IsReceivedTable};
+ghost use Rattle.hg_plain_graph.specs.Held.{IsClosedTable};
+ghost use Rattle.hg_plain.specs.Held.{IsReceivedTable};
 
 use crate::prefix::PlainPrefix;
 use hg_model::{Memory, Sight};
@@ -12,7 +13,7 @@ use hg_order::{received_in, unique_famous};
 use std::alloc::Global;
 
 /// The round that receives each row, if some round does.
-#[tactic(auto, using(crate::proofs::TableLaws::table_steps))]
+#[tactic(auto, using(hg_plain_graph::proofs::TableLaws::table_steps))]
 pub fn rounds_received(
     alloc: Global,
     p: &PlainPrefix<'_>,

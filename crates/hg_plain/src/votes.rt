@@ -5,8 +5,8 @@ ghost use Rattle.hg_votes.specs.Tallies.{voters_of};
 ghost use Rattle.hg_plain.specs.Elections.{IsBallotTable, IsVoterTable};
 
 use crate::prefix::PlainPrefix;
-use crate::sight::PlainSight;
 use hg_model::{Ballot, Items, Memory, Prefix, Sight};
+use hg_plain_graph::PlainSight;
 use hg_votes::{count_votes, weigh};
 use std::alloc::Global;
 
@@ -38,7 +38,7 @@ fn voters_of(alloc: Global, p: &PlainPrefix<'_>, y: usize) -> Result<Items<usize
 }
 
 /// The voters of each row.
-#[tactic(auto, using(crate::proofs::TableLaws::table_steps))]
+#[tactic(auto, using(hg_plain_graph::proofs::TableLaws::table_steps))]
 pub fn voters(alloc: Global, p: &PlainPrefix<'_>) -> Result<Vec<Items<usize>>, Memory>
     ensures { IfOk result (λ v. IsVoterTable p.now v.items) }
 {
@@ -100,7 +100,7 @@ fn next_ballot(
 }
 
 /// The ballots of all rows on row `x`.
-#[tactic(auto, using(crate::proofs::TableLaws::table_steps))]
+#[tactic(auto, using(hg_plain_graph::proofs::TableLaws::table_steps))]
 pub fn ballots(
     alloc: Global,
     p: &PlainPrefix<'_>,

@@ -1,30 +1,28 @@
-//! The gossip script: its lines, read from bytes. `specs/Table.antt` has the table of lines, `table.rt` its Rust form.
-//! The layer above uses `read_script`, which gives just the lines that the bytes are in a run with so many workers, or
-//! the first line that is refused. What a word of a line can be stands in `argument.rt` and `payload.rt`.
+//! The gossip script: what its lines do, and what a word of a line can be, in `argument.rt`. `specs/Table.antt` has the
+//! table of lines, and `lines_of` in `specs/Script.antt` says what bytes are a script. The layer above uses `Line` and its
+//! parts, and `ScriptFault`; `hg_reading` reads lines from bytes, by the calls of `argument` below the lines of `Above`.
 //!
-//! From `lines_of` of `check_calls`:
+//! From `give` of `hg_reading`, shortened:
 //!
 //! ```text
-//! fn lines_of(rt: &impl Abort, alloc: Global, bytes: &[u8]) -> Result<Items<Line>, Fail> {
-//!     match read_script(alloc, bytes, &three_members(rt, alloc)?, 0)? {
-//!         Ok(lines) => Ok(lines),
-//!         Err(_) => Err("refused".into()),
-//!     }
+//! fn give<'a>(members: &Members, above: &Above<'_>, x: &[u8], l: &[u8]) -> Result<Found<'a>, Why>
+//! {
+//!     let member = node_of(members, x)?;
+//!     let label = label_of(above, l)?;
+//!     Ok(gossip(Gossip::Give { member, label }))
 //! }
 //! ```
 #![tactic(auto)]
 
 mod above;
-mod argument;
+pub mod argument;
 mod fault;
 mod found;
 mod line;
-mod payload;
-mod script;
-mod table;
 mod verb;
-mod words;
 
+pub use above::Above;
 pub use fault::{ScriptFault, Why};
+pub use found::Found;
 pub use line::{Action, Gossip, Line, Source};
-pub use script::read_script;
+pub use verb::Verb;

@@ -1,6 +1,6 @@
 use Rattle.std.proofs.Common.{arith}
 use Rattle.hg_model.specs.Fame.{fame_marks}
-use Rattle.hg_plain.proofs.TableLaws.{Prints-table}
+use Rattle.hg_plain_graph.proofs.TableLaws.{Prints-table}
 use Rattle.hg_plain.proofs.fame.marks.Goals as goal
 
 pub returns-clause-marks : goal.returns-clause-marks

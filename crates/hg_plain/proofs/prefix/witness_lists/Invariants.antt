@@ -1,5 +1,5 @@
 use Rattle.std.proofs.Common.{[]}
-use Rattle.hg_plain.specs.Tables.{IsTableOf}
+use Rattle.hg_plain_graph.specs.Tables.{IsTableOf}
 use Rattle.hg_plain.specs.Held.{witnesses_of}
 use Rattle.hg_plain.proofs.prefix.witness_lists.Given as goal
 

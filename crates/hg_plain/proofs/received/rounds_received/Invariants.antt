@@ -1,7 +1,7 @@
 use Rattle.std.proofs.Common.{None}
 use Rattle.hg_model.specs.Order.{round_received}
 use Rattle.hg_model.specs.Prefix.{links_of}
-use Rattle.hg_plain.specs.Tables.{IsTableOf}
+use Rattle.hg_plain_graph.specs.Tables.{IsTableOf}
 use Rattle.hg_plain.proofs.received.rounds_received.Given as goal
 
 abbrev pub invariant-loop-x : goal.invariant-loop-x

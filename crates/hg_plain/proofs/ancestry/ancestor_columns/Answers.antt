@@ -1,5 +1,0 @@
-use Rattle.hg_plain.proofs.TableLaws.{IsTableOfPairs_more}
-use Rattle.hg_plain.proofs.ancestry.ancestor_columns.Goals as goal
-
-pub loop-y-preserved : goal.loop-y-preserved
-loop-y-preserved c = rw c.in_ok-push.ensures.items (IsTableOfPairs_more _ _ _ _ _ c.loop-y.invariant c.in_ok-ancestor_column.ensures)

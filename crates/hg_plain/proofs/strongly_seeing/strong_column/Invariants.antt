@@ -1,7 +1,0 @@
-use Rattle.std.proofs.Common.{false}
-use Rattle.hg_model.specs.Seeing.{strongly_sees}
-use Rattle.hg_plain.specs.Tables.{IsTableOf}
-use Rattle.hg_plain.proofs.strongly_seeing.strong_column.Given as goal
-
-abbrev pub invariant-loop-x : goal.invariant-loop-x
-invariant-loop-x l = IsTableOf false (λ x. strongly_sees l.seeing.members l.seeing.links x l.y) l.x l.column.items

@@ -1,0 +1,4 @@
+pub mod Tables
+pub mod By
+pub mod Held
+pub mod Twins
