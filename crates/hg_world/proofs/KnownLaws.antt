@@ -1,9 +1,9 @@
 -- Rows whose names a node has: none of them is lacking, and they stay known
-use Rattle.std.proofs.Common.{◌≡◌, inl, inr, ℕ, zero, suc, ◌+◌, ◌<◌, Bool, true, false, not, cond, ◌||◌, List, [], ◌∷◌, ◌++◌, length, take, drop, slice_get, Some, None, is_some, sym, refl, ap, ◌∙◌, subst, add-one, append_assoc, arith}
+use Rattle.std.proofs.Common.{◌≡◌, inl, inr, ℕ, zero, suc, ◌<◌, Bool, true, false, not, cond, ◌||◌, List, [], ◌∷◌, ◌++◌, length, take, drop, slice_get, Some, None, sym, refl, ap, ◌∙◌, subst, append_assoc, arith}
 use Rattle.std.specs.List.{list_any}
 use Rattle.std.specs.Str.{bytes_eq}
 use Rattle.std.proofs.lemmas.Bool.{cases_Bool, true≢false}
-use Rattle.std.proofs.lemmas.List.{length-append, map-append, take-append-drop, take-append-le}
+use Rattle.std.proofs.lemmas.List.{length-append, map-append, take-append-drop, take-append-le, take_all}
 use Rattle.std.proofs.lemmas.List.Elements.{filter-append}
 use Rattle.std.proofs.lemmas.List.Folds.{list_any-append}
 use Rattle.std.proofs.lemmas.Option.{slice_get_within, get_or_from_slice_get}
@@ -12,12 +12,10 @@ use Rattle.std.proofs.lemmas.Slice.Eq.{bytes_eq-Decides}
 use Rattle.hg_model.specs.declared.row.Row.{Row}
 use Rattle.hg_model.specs.Gossip.{lacking}
 use Rattle.hg_model.specs.Orders.{IsPrefix}
-use Rattle.hg_model.specs.Links.{place_of}
 use Rattle.hg_model.specs.Verdict.{is_held}
-use Rattle.hg_graph.specs.RowsWithRoom.{found_place}
 use Rattle.hg_gossip.specs.Holding.{row_names}
 use Rattle.hg_gossip.proofs.RowLaws.{unnamed_lacks}
-use Rattle.hg_world.specs.KnownRows.{AreKnown, KnowsFirst}
+use Rattle.hg_world.specs.KnownRows.{AreKnown, HeardView, Knows, all_heard, none_heard}
 
 -- a name is held that is among the names
 abbrev one_named : List ℕ → Row
@@ -89,19 +87,31 @@ known_take G zero rows known = tt
 known_take G (suc k) [] known = tt
 known_take G (suc k) (row ∷ rows) known = (known.0, known_take G k rows known.1)
 
-pub known_push : (G : List Row) (rows : List Row) (row : Row) → AreKnown G rows → is_held G row.name ≡ true → AreKnown G (rows ++ row ∷ [])
-known_push G [] row known held = (held, tt)
-known_push G (other ∷ rows) row known held = (known.0, known_push G rows row known.1 held)
-
 -- what is known is not lacking
-known_lacks : (G rows : List Row) → AreKnown G rows → lacking G rows ≡ []
+pub known_lacks : (G rows : List Row) → AreKnown G rows → lacking G rows ≡ []
 known_lacks G [] known = refl
 known_lacks G (row ∷ rows) known = ap (λ (b : Bool). cond (not b) (row ∷ lacking G rows) (lacking G rows)) known.0 ∙ known_lacks G rows known.1
 
-pub lacks_beyond : (G H : List Row) (k : ℕ) → AreKnown G (take k H) → lacking G (drop k H) ≡ lacking G H
-lacks_beyond G H k known =
-    ap (λ (first : List Row). first ++ lacking G (drop k H)) (sym (known_lacks G (take k H) known))
-    ∙ (sym (filter-append (λ (row : Row). not (is_held G row.name)) (take k H) (drop k H)) ∙ ap (lacking G) (take-append-drop k H))
+-- so what lacks nothing is known
+none_lacks : (G rows : List Row) → lacking G rows ≡ [] → AreKnown G rows
+none_lacks G [] none = tt
+none_lacks G (row ∷ rows) none = by (is_held G row.name) refl none (none_lacks G rows)
+  where
+    by : (b : Bool) → is_held G row.name ≡ b → cond (not b) (row ∷ lacking G rows) (lacking G rows) ≡ [] → (lacking G rows ≡ [] → AreKnown G rows) → AreKnown G (row ∷ rows)
+    by true is rest then = (is, then rest)
+    by false is rest then = (let long = ap length rest in absurd (omega (arith, long)))
+
+pub lacks_both : (G first rest : List Row) → lacking G (first ++ rest) ≡ lacking G first ++ lacking G rest
+lacks_both G first rest = filter-append (λ (row : Row). not (is_held G row.name)) first rest
+
+-- what is lacking later was lacking before
+pub lacks_again : (G now rows : List Row) → IsPrefix G now → lacking now (lacking G rows) ≡ lacking now rows
+lacks_again G now [] grown = refl
+lacks_again G now (row ∷ rows) grown = by (is_held G row.name) refl (lacks_again G now rows grown)
+  where
+    by : (b : Bool) → is_held G row.name ≡ b → lacking now (lacking G rows) ≡ lacking now rows → lacking now (cond (not b) (row ∷ lacking G rows) (lacking G rows)) ≡ lacking now (row ∷ rows)
+    by true is rest = rest ∙ sym (ap (λ (b : Bool). cond (not b) (row ∷ lacking now rows) (lacking now rows)) (held_more G now row.name grown is))
+    by false is rest = ap (λ (rows : List Row). cond (not (is_held now row.name)) (row ∷ rows) rows) rest
 
 -- once what was lacking is known, all is
 pub known_all : (G now rows : List Row) → IsPrefix G now → AreKnown now (lacking G rows) → AreKnown now rows
@@ -113,43 +123,37 @@ known_all G now (row ∷ rows) grown known = by (is_held G row.name) refl known 
     by false is known then = (known.0, then known.1)
 
 -- the rows of both only get more
-pub first_more : (G now H then : List Row) (k : ℕ) → IsPrefix G now → IsPrefix H then → KnowsFirst G H k → KnowsFirst now then k
-first_more G now H then k grown longer knows = record {
+pub knows_more : (G now H then : List Row) (heard : HeardView) → IsPrefix G now → IsPrefix H then → Knows G H heard → Knows now then heard
+knows_more G now H then heard grown longer knows = record {
   within = (let long = ap length longer.1 ∙ length-append H longer.0 in let low = knows.within in omega (arith, long, low));
-  known =
-      subst (AreKnown now) (sym (ap (take k) longer.1 ∙ take-append-le k H longer.0 knows.within))
-      (known_more G now (take k H) grown knows.known);
+  lacks =
+      ap (lacking now) (ap (take heard.len) longer.1 ∙ take-append-le heard.len H longer.0 knows.within)
+      ∙ (sym (lacks_again G now (take heard.len H) grown)
+      ∙ (ap (lacking now) knows.lacks ∙ lacks_again G now heard.refused grown));
 }
 
-pub first_none : (G H : List Row) → KnowsFirst G H 0
-first_none G H = record { within = omega (arith); known = tt }
+pub knows_none : (G H : List Row) → Knows G H none_heard
+knows_none G H = record { within = omega (arith); lacks = refl }
 
-pub first_all : (G H : List Row) → AreKnown G H → KnowsFirst G H (length H)
-first_all G H known = record { within = omega (arith); known = known_take G (length H) H known }
+pub knows_all : (G H : List Row) → AreKnown G H → Knows G H (all_heard (length H))
+knows_all G H known = record { within = omega (arith); lacks = known_lacks G (take (length H) H) (known_take G (length H) H known) }
 
--- handed on: who knows all of the second knows what the second does
-pub first_through : (G H rows : List Row) (k : ℕ) → AreKnown G H → KnowsFirst H rows k → KnowsFirst G rows k
-first_through G H rows k first then = record { within = then.within; known = known_through G H (take k rows) first then.known }
+-- handed on: who has all names of the second knows what the second knows, where that refused nothing
+pub knows_through : (G H rows : List Row) (len : ℕ) → AreKnown G H → Knows H rows (all_heard len) → Knows G rows (all_heard len)
+knows_through G H rows len first then = record {
+  within = then.within;
+  lacks = known_lacks G (take len rows) (known_through G H (take len rows) first (none_lacks H (take len rows) then.lacks));
+}
 
--- one row more, which is there
-pub first_step : (G H : List Row) (k : ℕ) (row : Row) → KnowsFirst G H k → slice_get H k ≡ Some row → is_held G row.name ≡ true → KnowsFirst G H (k + 1)
-first_step G H k row knows at held =
-    let low : k < length H = slice_get_within H k row at in
-    record {
-      within = omega (arith, low);
-      known =
-          subst (AreKnown G)
-          (sym (ap (λ (n : ℕ). take n H) (add-one k) ∙ (take-suc H k row low ∙ ap (λ (r : Row). take k H ++ r ∷ []) (get_or_from_slice_get H k row row at))))
-          (known_push G (take k H) row knows.known held);
-    }
+-- all of them but for the rest
+pub knows_rest : (G H rest : List Row) → lacking G H ≡ lacking G rest → Knows G H (record { len = length H; refused = rest })
+knows_rest G H rest is = record { within = omega (arith); lacks = ap (lacking G) (take_all (length H) H (omega (arith))) ∙ is }
 
--- a row that was found by its name
-pub found_held : (G : List Row) (name : List ℕ) → is_some (found_place G name) ≡ true → is_held G name ≡ true
-found_held G name found = by (is_held G name) found
-  where
-    by : (b : Bool) → is_some (cond b (Some (place_of G name)) None) ≡ true → b ≡ true
-    by true some = refl
-    by false some = absurd (true≢false (sym some))
+-- what is lacking: those that were refused, and what is lacking of the rows behind
+pub lacks_heard : (G H : List Row) (heard : HeardView) → Knows G H heard → lacking G heard.refused ++ lacking G (drop heard.len H) ≡ lacking G H
+lacks_heard G H heard knows =
+    ap (λ (first : List Row). first ++ lacking G (drop heard.len H)) (sym knows.lacks)
+    ∙ (sym (lacks_both G (take heard.len H) (drop heard.len H)) ∙ ap (lacking G) (take-append-drop heard.len H))
 
 -- a row is held under its own name
 pub held_at : (G : List Row) (x : ℕ) (row : Row) (name : List ℕ) → slice_get G x ≡ Some row → row.name ≡ name → is_held G name ≡ true

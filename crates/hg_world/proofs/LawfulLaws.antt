@@ -1,5 +1,5 @@
--- Steps leave a lawful world, once it is known that all rows of its nodes are events: of what the steps bring nothing
--- else need be known
+-- Steps leave a lawful world, once it is known that all rows of its nodes are events, or that what the steps bring is
+-- within its range
 use Rattle.std.proofs.Common.{◌≡◌, zero, suc, inl, inr, ℕ, ◌<◌, true, List, [], ◌∷◌, ◌++◌, length, Some, slice_get, Result, Ok, Err, sym, refl, ap, ◌∙◌, subst, arith}
 use Rattle.std.specs.List.{AllByRecursion}
 use Rattle.std.specs.Option.{option_to_list}
@@ -7,6 +7,7 @@ use Rattle.std.proofs.lemmas.Bool.{cases_eq}
 use Rattle.std.proofs.lemmas.List.{append-nil, length-set, get_or-set_same, get_or-set_other}
 use Rattle.std.proofs.lemmas.Option.{slice_get_within}
 use Rattle.std.proofs.lemmas.Slice.Eq.{bytes_eq-Decides}
+use Rattle.sha2.proofs.Facts512.{length-sha512}
 use Rattle.hg_model.specs.declared.row.Row.{Row}
 use Rattle.hg_model.specs.declared.answers.ByteFault.{ByteFault}
 use Rattle.hg_model.specs.declared.answers.PutAnswer.{PutAnswer}
@@ -16,7 +17,7 @@ use Rattle.hg_model.specs.declared.answers.MakeAnswer.TheVariants as answer
 use Rattle.hg_model.specs.Orders.{IsPrefix}
 use Rattle.hg_model.specs.Reading.{read_event}
 use Rattle.hg_model.specs.Spelling.{Spells, body_of, spelling}
-use Rattle.hg_model.specs.Signing.{Accepts, accepts_by}
+use Rattle.hg_model.specs.Signing.{Accepts, accepts_by, hmac_sha512, signature_by}
 use Rattle.hg_model.specs.Verdict.{made_row, row_verdict}
 use Rattle.hg_model.specs.History.{Change}
 use Rattle.hg_model.specs.History.Change.{Took, Made}
@@ -28,13 +29,15 @@ use Rattle.hg_history.proofs.RuleLaws.{accepted_place, made_place}
 use Rattle.hg_history.specs.Laws.{IsEvent}
 use Rattle.hg_history.proofs.SoundLaws.{sound}
 use Rattle.hg_history.proofs.StateLaws.{prefix_more, replay-push, rows_grow}
-use Rattle.hg_history.proofs.CallLaws.{node_with, publishes_leave_a_node, with_none}
+use Rattle.hg_history.proofs.CallLaws.{node_with, publishes_leave_a_node, puts_leave_a_node, with_none}
+use Rattle.hg_history.proofs.MakeLaws.{makes_leave_a_node}
 use Rattle.hg_graph.specs.Held.{AreEvents}
 use Rattle.hg_world.specs.declared.step.Step.{Step}
 use Rattle.hg_world.specs.declared.step.Step.TheVariants.{Make, Deliver, Freeze, Publish}
 use Rattle.hg_world.specs.World.{Secrets, Site, WorldView, no_site, node_at, rows_at, site_at, site_of, with_site}
 use Rattle.hg_world.specs.Steps.{IsStepOf, after_step, after_steps, node_made, node_put, own_signature}
 use Rattle.hg_world.specs.Parts.{HaveEvents, IsWorld, KeepsSite}
+use Rattle.hg_world.specs.Laws.{HasRange, StepsStayLawful}
 use Rattle.hg_world.proofs.StepLaws.{step_sites, steps_sites}
 use Rattle.hg_world.proofs.WorldLaws.{changed_site, frozen_site, set_site}
 
@@ -129,6 +132,26 @@ step_lawful w (Freeze m worker) is of events =
 step_lawful w (Publish m worker share) is of events =
     changed_lawful w m is of.0 _ (publishes_leave_a_node Secrets accepts_by (node_at w m) _ share ((is.sites m of.0).frozen worker) (is.sites m of.0).node)
 
+-- so they do where the numbers and bytes of the steps are within their ranges
+
+length_signature : (secrets : Secrets) (m : ℕ) (body : List ℕ) → length (signature_by secrets m body) ≡ 64
+unfolding hmac_sha512
+length_signature secrets m body = length-sha512 _
+
+step_in_range : (w : WorldView) (step : Step) → IsWorld w → IsStepOf w step → HasRange step → IsWorld (after_step w step)
+step_in_range w (Make m other time payload) is of early =
+    let v = node_at w m in
+    let others : List (List ℕ) = option_to_list other in
+    let sig = own_signature v others time payload in
+    changed_lawful w m is of.0 _
+    (makes_leave_a_node Secrets accepts_by v others time payload sig early (length_signature v.start.keys v.start.own (make_body v others time payload)) (λ none. (bytes_eq-Decides sig sig).1 refl) (is.sites m of.0).node)
+step_in_range w (Deliver m bytes) is of fit =
+    changed_lawful w m is of.0 _ (puts_leave_a_node Secrets accepts_by (node_at w m) bytes fit (is.sites m of.0).node)
+step_in_range w (Freeze m worker) is of range =
+    set_site w m _ is of.0 (frozen_site w is.keys m (node_at w m) (site_at w m).frozen worker (length (rows_at w m)) (is.sites m of.0) (omega arith))
+step_in_range w (Publish m worker share) is of range =
+    changed_lawful w m is of.0 _ (publishes_leave_a_node Secrets accepts_by (node_at w m) _ share ((is.sites m of.0).frozen worker) (is.sites m of.0).node)
+
 -- the rows of each node only get more
 
 rows_set : (w : WorldView) (m k : ℕ) (es : List Change) (lens : List ℕ) → m < length w.sites → IsPrefix (rows_at w k) (rows_at (with_site w m (site_of (with_changes (node_at w m) es) lens)) k)
@@ -173,6 +196,11 @@ steps_lawful w (step ∷ steps) is of events =
     let low : (m : ℕ) → m < length next.sites → m < length (after_steps next steps).sites = λ m inside. omega (arith, inside, steps_sites next steps) in
     let here : HaveEvents next = λ m inside. first_events (rows_at next m) (rows_at (after_steps next steps) m) (steps_rows next steps m more) (events m (low m inside)) in
     steps_lawful next steps (step_lawful w step is of.0 here) more events
+
+pub stay_lawful : StepsStayLawful
+stay_lawful w [] is of ranges = is
+stay_lawful w (step ∷ steps) is of ranges =
+    stay_lawful (after_step w step) steps (step_in_range w step is of.0 ranges.0) (still_steps w step steps of.1) ranges.1
 
 first_is : (first row : Row) → Some first ≡ Some row → first ≡ row
 first_is first row is = cc

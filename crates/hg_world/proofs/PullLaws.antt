@@ -1,5 +1,5 @@
 -- Pulls and syncs as steps
-use Rattle.std.proofs.Common.{◌≡◌, ℕ, suc, ◌+◌, ◌<◌, Bool, true, false, not, cond, List, [], ◌∷◌, ◌++◌, length, fold, take, drop, get_or, slice_get, Option, Some, option_map, Result, Ok, Err, sym, refl, ap, ap₂, ◌∙◌, subst, add-one, arith}
+use Rattle.std.proofs.Common.{◌≡◌, ℕ, suc, ◌+◌, ◌<◌, Bool, true, false, not, cond, List, [], ◌∷◌, ◌++◌, length, fold, take, drop, get_or, slice_get, Option, Some, option_map, Result, Ok, Err, sym, refl, ap, ap₂, ◌∙◌, subst, add-one, append_assoc, arith}
 use Rattle.std.specs.Prelude.{OnErr, IfOk, reverse}
 use Rattle.std.specs.declared.sync.Arc.{Arc}
 use Rattle.std.proofs.lemmas.Grind.{reverse_onto}
@@ -26,6 +26,7 @@ use Rattle.hg_world.specs.World.{Secrets, WorldView, Site, no_site, node_at, sit
 use Rattle.hg_world.specs.Steps.{RanSome, after_step, after_steps, node_put, putting_at}
 use Rattle.hg_world.specs.Syncs.{HasMadeAfter, HasPulled, HasSynced, HasTaken, deliver_steps, last_made, make_steps, made_after, pull_steps, pulled, unheld}
 use Rattle.hg_world.specs.Laws.{PullsSetOneNode}
+use Rattle.hg_world.proofs.KnownLaws.{lacks_both}
 use Rattle.hg_world.proofs.StepLaws.{after_both, after_more, steps_sites, taken_more}
 
 -- the node that bytes come to
@@ -163,3 +164,29 @@ puts_set (bytes ∷ events) w m counts low =
 
 pub pulls_set : PullsSetOneNode
 pulls_set w taker peer low = puts_set (lacked (node_at w taker) (node_at w peer)) w taker none_taken low
+
+unheld_lacks : (held : List Row) (row : Row) → unheld held row ≡ lacking held (row ∷ [])
+unheld_lacks held row = one (is_held held row.name)
+  where
+    one : (b : Bool) → cond b [] (row ∷ []) ≡ cond (not b) (row ∷ []) []
+    one true = refl
+    one false = refl
+
+-- one event more, of which the row is lacking or not
+pub lacks_more : {A : Type 0} (held : List Row) (events : List (Arc Row A)) (i : ℕ) (event : Arc Row A) (before after : List Row) → i < length events → event ≡ get_or events i event →
+    before ≡ lacking held (rows_of (take i events)) → after ≡ before ++ unheld held event.value → after ≡ lacking held (rows_of (take (i + 1) events))
+lacks_more held events i event before after low is so_far pushed =
+    pushed
+    ∙ (ap₂ (λ (xs ys : List Row). xs ++ ys) so_far (unheld_lacks held event.value)
+    ∙ (sym (lacks_both held (rows_of (take i events)) (event.value ∷ []))
+    ∙ ap (lacking held) (sym (ap rows_of (taken_more events i event low is) ∙ map-append (λ e. e.value) (take i events) (event ∷ [])))))
+
+-- one event more behind the first
+pub rows_joined : {A : Type 0} (first : List Row) (events old new : List (Arc Row A)) (i : ℕ) (event copy : Arc Row A) → i < length events → event ≡ get_or events i event → copy.value ≡ event.value →
+    rows_of old ≡ first ++ rows_of (take i events) → new ≡ old ++ copy ∷ [] → rows_of new ≡ first ++ rows_of (take (i + 1) events)
+rows_joined first events old new i event copy low is same so_far pushed =
+    ap rows_of pushed
+    ∙ (map-append (λ e. e.value) old (copy ∷ [])
+    ∙ (ap₂ (λ (rows : List Row) (row : Row). rows ++ row ∷ []) so_far same
+    ∙ (append_assoc first (rows_of (take i events)) (event.value ∷ [])
+    ∙ ap (λ (rows : List Row). first ++ rows) (sym (ap rows_of (taken_more events i event low is) ∙ map-append (λ e. e.value) (take i events) (event ∷ []))))))

@@ -30,8 +30,8 @@ use Rattle.hg_world.specs.World.{Secrets, Site, WorldView, no_site, node_at, row
 use Rattle.hg_world.specs.Steps.{after_step, after_steps, node_put}
 use Rattle.hg_world.specs.Syncs.{HasTaken, deliver_steps}
 use Rattle.hg_world.specs.Parts.{IsWorld}
-use Rattle.hg_world.specs.KnownRows.{AreKnown}
-use Rattle.hg_world.proofs.KnownLaws.{held_last, held_more, known_all, known_own}
+use Rattle.hg_world.specs.KnownRows.{AreKnown, LacksOf}
+use Rattle.hg_world.proofs.KnownLaws.{held_last, held_more, known_all, known_lacks, known_own, lacks_again}
 use Rattle.hg_world.proofs.SignedLaws.{all_filtered}
 
 -- the rows are events
@@ -131,4 +131,20 @@ noted old new taker peer events put counts world low is same taken all = elim (c
   | inr other ↦ subst (λ (v : NodeView Secrets). AreKnown (rows_at new taker) (node_rows v))
       (sym (ap (λ (w : WorldView). node_at w peer) taken.after ∙ others_stay old taker peer put other))
       (pulled_all (node_at old taker) (node_at old peer) put (node_at new taker) counts (world.sites peer low).node (same ∙ is) taken.counted (all ∙ ap length (sym same)))
+]
+
+-- a pull of whatever events: what is lacking then was lacking before
+pub rest_noted : (old new : WorldView) (taker peer : ℕ) (rows : List Row) (put : List (List ℕ)) (counts : Taken) → rows ≡ lacking (rows_at old taker) (rows_at old peer) → HasTaken old taker put counts new →
+    LacksOf (rows_at new taker) (rows_at new peer) rows
+rest_noted old new taker peer rows put counts is taken = elim (cases_eq peer taker) [
+  | inl here ↦
+      let own : lacking (rows_at old taker) (rows_at old peer) ≡ [] = rw here (known_lacks (rows_at old taker) (rows_at old taker) (known_own (rows_at old taker))) in
+      subst (λ (k : ℕ). LacksOf (rows_at new taker) (rows_at new k) rows) (sym here)
+      (known_lacks (rows_at new taker) (rows_at new taker) (known_own (rows_at new taker)) ∙ sym (ap (lacking (rows_at new taker)) (is ∙ own)))
+  | inr other ↦
+      let later : node_at new taker ≡ (taking accepts_by (node_at old taker) put).node = ap (λ (t : Taking Secrets). t.node) taken.counted in
+      let grown : IsPrefix (rows_at old taker) (rows_at new taker) = subst (λ (v : NodeView Secrets). IsPrefix (rows_at old taker) (node_rows v)) (sym later) (rows_more put (taking_of (node_at old taker) none_taken)) in
+      subst (λ (v : NodeView Secrets). LacksOf (rows_at new taker) (node_rows v) rows)
+      (sym (ap (λ (w : WorldView). node_at w peer) taken.after ∙ others_stay old taker peer put other))
+      (sym (lacks_again (rows_at old taker) (rows_at new taker) (rows_at old peer) grown) ∙ sym (ap (lacking (rows_at new taker)) is))
 ]

@@ -1,9 +1,10 @@
--- Of how many of a node's first rows another node is known to have the names
-use Rattle.std.specs.Prelude.{ℕ, ◌≡◌, ◌<◌, ◌≤◌, true, List, [], length, max, get_or, slice_set, take}
+-- What a node is known to have of another one's rows
+use Rattle.std.specs.Prelude.{ℕ, ◌≡◌, ◌<◌, ◌≤◌, true, List, [], length, get_or, replicate, slice_set, take}
 use Rattle.std.specs.List.{AllByRecursion}
 use Rattle.hg_model.specs.declared.row.Row.{Row}
-use Rattle.hg_model.specs.Stakes.{Stakes}
+use Rattle.hg_model.specs.Gossip.{lacking}
 use Rattle.hg_model.specs.Verdict.{is_held}
+use Rattle.hg_model.specs.Stakes.{Stakes}
 use Rattle.hg_model.specs.NodeView.{NodeView, node_rows}
 use Rattle.hg_world.specs.World.{Secrets}
 use Rattle.hg_world.specs.Parts.{KeepsWorld, nth_node}
@@ -12,25 +13,52 @@ use Rattle.hg_world.specs.Parts.{KeepsWorld, nth_node}
 abbrev pub AreKnown : List Row → List Row → Type 0
 AreKnown G rows = AllByRecursion (λ (row : Row). is_held G row.name ≡ true) rows
 
--- H has so many rows, and G has their names
-pub record KnowsFirst (G H : List Row) (k : ℕ) : Type 0 where
-  pub within : k ≤ length H
-  pub known : AreKnown G (take k H)
+-- the names of so many first rows are known, but for those of these rows, which were refused
+pub record HeardView : Type 0 where
+  pub len : ℕ
+  pub refused : List Row
 
--- of how many first rows of node y the node x has the names, by x and y; there is a list of these numbers for each node
-abbrev pub known_by : List (List ℕ) → ℕ → ℕ → ℕ
-known_by known x y = get_or (get_or known x []) y 0
+abbrev pub heard_of : ℕ → List Row → HeardView
+heard_of len refused = record { len = len; refused = refused }
 
-pub record KeepsKnown (nodes : List (NodeView Secrets)) (known : List (List ℕ)) : Type 0 where
+-- of the first rows of H, G lacks those of the refused whose names it lacks
+pub record Knows (G H : List Row) (heard : HeardView) : Type 0 where
+  pub within : heard.len ≤ length H
+  pub lacks : lacking G (take heard.len H) ≡ lacking G heard.refused
+
+-- of the rows of H, G lacks those of the rest whose names it lacks
+abbrev pub LacksOf : List Row → List Row → List Row → Type 0
+LacksOf G H rest = lacking G H ≡ lacking G rest
+
+-- of all these first rows
+abbrev pub all_heard : ℕ → HeardView
+all_heard len = heard_of len []
+
+abbrev pub none_heard : HeardView
+none_heard = all_heard 0
+
+-- what node x has heard of node y
+abbrev pub heard_by : List (List HeardView) → ℕ → ℕ → HeardView
+heard_by known x y = get_or (get_or known x []) y none_heard
+
+-- once it has heard this
+abbrev pub with_heard : List (List HeardView) → ℕ → ℕ → HeardView → List (List HeardView)
+with_heard known x y heard = slice_set known x (slice_set (get_or known x []) y heard)
+
+-- so many nodes that have heard of nothing
+abbrev pub nothing_heard : ℕ → List (List HeardView)
+nothing_heard count = replicate count (replicate count none_heard)
+
+-- the rows of the node at a place
+abbrev pub nth_rows : List (NodeView Secrets) → ℕ → List Row
+nth_rows nodes m = node_rows (nth_node nodes m)
+
+-- what each of the nodes has heard of each
+pub record KeepsKnown (nodes : List (NodeView Secrets)) (known : List (List HeardView)) : Type 0 where
   pub long : length known ≡ length nodes
-  pub wide : (x : ℕ) → x < length nodes → length (get_or known x []) ≡ 128
-  pub each : (x y : ℕ) → x < length nodes → y < length nodes → KnowsFirst (node_rows (nth_node nodes x)) (node_rows (nth_node nodes y)) (known_by known x y)
+  pub wide : (x : ℕ) → x < length nodes → length (get_or known x []) ≡ length nodes
+  pub each : (x y : ℕ) → x < length nodes → y < length nodes → Knows (nth_rows nodes x) (nth_rows nodes y) (heard_by known x y)
 
--- node x has become one that knows what it knew and what y knew
-abbrev pub HandsOn : List (List ℕ) → ℕ → ℕ → List (List ℕ) → Type 0
-HandsOn old x y new =
-    (row : List ℕ) × ((z : ℕ) → get_or row z 0 ≡ max (known_by old x z) (known_by old y z)) × (length row ≡ 128) × (new ≡ slice_set old x row)
-
--- a world's parts, beside what its nodes are known to have
-abbrev pub KeepsParts : Stakes → ℕ → List (NodeView Secrets) → List (List ℕ) → List (List ℕ) → Type 0
+-- a world's parts, beside what its nodes have heard
+abbrev pub KeepsParts : Stakes → ℕ → List (NodeView Secrets) → List (List ℕ) → List (List HeardView) → Type 0
 KeepsParts n c nodes frozen known = KeepsWorld n c nodes frozen × KeepsKnown nodes known

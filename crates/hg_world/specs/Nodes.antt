@@ -1,5 +1,5 @@
 -- The nodes of a world after a step of the one at a place: that node, all of them, and what it answers
-use Rattle.std.specs.Prelude.{ℕ, ◌≡◌, List, Option, Some, drop, length, reverse, slice_set}
+use Rattle.std.specs.Prelude.{ℕ, ◌≡◌, ◌++◌, List, Option, Some, drop, length, reverse, slice_set}
 use Rattle.std.specs.Option.{option_to_list}
 use Rattle.hg_model.specs.declared.row.Row.{Row}
 use Rattle.hg_model.specs.declared.answers.MakeAnswer.{MakeAnswer}
@@ -9,7 +9,7 @@ use Rattle.hg_model.specs.NodeView.{NodeView, node_rows}
 use Rattle.hg_world.specs.World.{Secrets}
 use Rattle.hg_world.specs.Steps.{making_at, node_made, node_put, node_published}
 use Rattle.hg_world.specs.Parts.{nth_node}
-use Rattle.hg_world.specs.Syncs.{with_lacked}
+use Rattle.hg_world.specs.Syncs.{unheld, with_lacked}
 
 -- it makes an event
 abbrev pub nth_making : List (NodeView Secrets) → ℕ → Option (List ℕ) → ℕ → List ℕ → MakeAnswer
@@ -45,6 +45,10 @@ nodes_settled nodes m = slice_set nodes m (nth_settled nodes m)
 -- the peer's row at a place was pushed behind these, unless the taker has its name
 abbrev pub PushesLacked : NodeView Secrets → NodeView Secrets → ℕ → List Row → List Row → Type 0
 PushesLacked taker peer place old new = with_lacked (node_rows taker) (node_rows peer) place old ≡ Some new
+
+-- the row was pushed behind these, unless the taker has its name
+abbrev pub PushesUnheld : NodeView Secrets → Row → List Row → List Row → Type 0
+PushesUnheld taker row old new = new ≡ old ++ unheld (node_rows taker) row
 
 -- the peer's rows from a place on whose names the taker lacks, the last one first
 abbrev pub lacked_backwards : NodeView Secrets → NodeView Secrets → ℕ → List Row

@@ -1,11 +1,12 @@
-ghost use Rattle.std.specs.Prelude.{◌≡◌, ◌<◌, ◌≤◌, IfOk, OnOk, Some, is_some, length, slice_get};
+ghost use Rattle.std.specs.Prelude.{◌≡◌, ◌++◌, ◌<◌, ◌≤◌, IfOk, OnOk, Some, drop, is_some, length, slice_get};
 ghost use Rattle.hg_model.specs.Gossip.{lacking};
 ghost use Rattle.hg_model.specs.NodeView.{node_rows};
 ghost use Rattle.hg_model.specs.Verdict.{is_held};
 ghost use Rattle.hg_graph.specs.RowsWithRoom.{rows_of};
-ghost use Rattle.hg_world.specs.KnownRows.{KnowsFirst};
-ghost use Rattle.hg_world.specs.Nodes.{PushesLacked, lacked_backwards};
+ghost use Rattle.hg_world.specs.KnownRows.{Knows};
+ghost use Rattle.hg_world.specs.Nodes.{PushesLacked, PushesUnheld, lacked_backwards};
 
+use crate::known::Heard;
 use hg_event::Event;
 use hg_model::{Member, Memory, Name, Sight};
 use hg_node::Node;
@@ -112,17 +113,75 @@ fn lacked_backwards(
     Ok(events)
 }
 
-/// The events of the peer whose names the taker lacks, who has those of the rows before this place.
-pub(crate) fn lacked_from(
+/// The event behind the others, unless the taker has its name.
+fn push_unless_taken(
+    events: &mut Vec<Arc<Event>>,
+    taker: &Node<SharedTable>,
+    event: &Arc<Event>,
+) -> Result<(), Memory>
+    ensures { OnOk result (PushesUnheld taker.now event.now.value (rows_of events.old.items) (rows_of events.new.items)) }
+{
+    let row = event.row();
+    if taker.graph().place_by(&row.name, row.creator).is_none() {
+        events.push(Arc::clone(event)?)?;
+    }
+    Ok(())
+}
+
+/// Those of these events whose names the taker lacks.
+pub(crate) fn still_lacked(
+    alloc: Global,
+    taker: &Node<SharedTable>,
+    events: &[Arc<Event>],
+) -> Result<Vec<Arc<Event>>, Memory>
+    ensures { IfOk result (λ lacked. rows_of lacked.items ≡ lacking (node_rows taker.now) (rows_of events.now)) }
+{
+    let mut lacked = Vec::new(alloc);
+    for event in events {
+        push_unless_taken(&mut lacked, taker, event)?;
+    }
+    Ok(lacked)
+}
+
+/// The events of the peer from this place on whose names the taker lacks.
+fn lacked_behind(
     alloc: Global,
     taker: &Node<SharedTable>,
     peer: &Node<SharedTable>,
     from: usize,
 ) -> Result<Vec<Arc<Event>>, Memory>
-    requires { KnowsFirst (node_rows taker.now) (node_rows peer.now) from }
-    ensures { IfOk result (λ events. rows_of events.items ≡ lacking (node_rows taker.now) (node_rows peer.now)) }
+    requires { from ≤ length (node_rows peer.now) }
+    ensures { IfOk result (λ events. rows_of events.items ≡ lacking (node_rows taker.now) (drop from (node_rows peer.now))) }
 {
     let mut events = lacked_backwards(alloc, taker, peer, from)?;
     events.reverse();
     Ok(events)
+}
+
+/// The events, and then the others.
+fn joined(mut events: Vec<Arc<Event>>, others: Vec<Arc<Event>>) -> Result<Vec<Arc<Event>>, Memory>
+    ensures { IfOk result (λ all. rows_of all.items ≡ rows_of events.items ++ rows_of others.items) }
+{
+    if events.is_empty() {
+        return Ok(others);
+    }
+    for event in &others {
+        events.push(Arc::clone(event)?)?;
+    }
+    Ok(events)
+}
+
+/// The events of the peer whose names the taker lacks, who has heard of so many: first those that it refused.
+pub(crate) fn lacked_beside(
+    alloc: Global,
+    taker: &Node<SharedTable>,
+    peer: &Node<SharedTable>,
+    heard: &Heard,
+) -> Result<Vec<Arc<Event>>, Memory>
+    requires { Knows (node_rows taker.now) (node_rows peer.now) heard.now }
+    ensures { IfOk result (λ events. rows_of events.items ≡ lacking (node_rows taker.now) (node_rows peer.now)) }
+{
+    let refused = still_lacked(alloc, taker, heard.refused.as_slice())?;
+    let behind = lacked_behind(alloc, taker, peer, heard.len)?;
+    joined(refused, behind)
 }

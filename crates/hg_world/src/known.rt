@@ -1,75 +1,181 @@
-ghost use Rattle.std.specs.Prelude.{◌≡◌, ℕ, ◌<◌, [], IfOk, get_or, length, max, replicate, slice_set};
-ghost use Rattle.hg_model.specs.NodeView.{node_rows};
-ghost use Rattle.hg_world.specs.KnownRows.{HandsOn, KnowsFirst, known_by};
+ghost use Rattle.std.specs.Prelude.{◌≡◌, ◌<◌, [], IfOk, IfSome, get_or, length, replicate, slice_set};
+ghost use Rattle.hg_graph.specs.RowsWithRoom.{rows_of};
+ghost use Rattle.hg_world.specs.KnownRows.{AreKnown, KeepsKnown, LacksOf, all_heard, heard_by, none_heard, nothing_heard, nth_rows, with_heard};
 
+use hg_event::Event;
 use hg_model::Memory;
 use hg_node::Node;
 use hg_sign::SharedTable;
 use std::alloc::Global;
+use std::marker::Model;
+use std::sync::Arc;
 
-/// Of how many first rows of each node a node has the names.
-pub(crate) type Known = [usize; 128];
+/// What a node has of another one's rows: the names of so many first ones, but for those of the events that it refused.
+#[derive(Drop)]
+pub(crate) struct Heard {
+    pub(crate) len: usize,
+    pub(crate) refused: Vec<Arc<Event>>,
+}
 
-/// So many nodes of which no rows are known.
-pub(crate) fn none_known(alloc: Global, count: usize) -> Result<Vec<Known>, Memory>
-    ensures { IfOk result (λ known. known.items ≡ replicate count (replicate 128 0)) }
+impl Model for Heard {
+    ghost use Rattle.hg_graph.specs.RowsWithRoom.{rows_of};
+    ghost use Rattle.hg_world.specs.KnownRows.{HeardView, heard_of};
+
+    ghost Value = { HeardView };
+
+    ghost view = { λ s. heard_of s.len (rows_of s.refused.items) };
+}
+
+/// What a node has heard of each node.
+#[derive(Drop)]
+pub(crate) struct Hearing {
+    of: Vec<Heard>,
+}
+
+impl Model for Hearing {
+    ghost use Rattle.std.specs.Prelude.{List};
+    ghost use Rattle.hg_world.specs.KnownRows.{HeardView};
+
+    ghost Value = { List HeardView };
+
+    ghost view = { λ s. s.of.items };
+}
+
+/// All of these first rows: none was refused.
+fn all_heard(alloc: Global, len: usize) -> Heard
+    ensures { result ≡ all_heard len }
+{
+    Heard {
+        len,
+        refused: Vec::new(alloc),
+    }
+}
+
+/// A node that has heard of none of so many.
+fn none_heard(alloc: Global, count: usize) -> Result<Hearing, Memory>
+    ensures { IfOk result (λ hearing. hearing ≡ replicate count none_heard) }
+{
+    let mut of = Vec::with_capacity(alloc, count)?;
+    for _ in 0..count {
+        of.push(all_heard(alloc, 0))?;
+    }
+    Ok(Hearing { of })
+}
+
+/// So many nodes that have heard of nothing.
+pub(crate) fn nothing_heard(alloc: Global, count: usize) -> Result<Vec<Hearing>, Memory>
+    ensures { IfOk result (λ known. known.items ≡ nothing_heard count) }
 {
     let mut known = Vec::with_capacity(alloc, count)?;
     for _ in 0..count {
-        known.push([0; 128])?;
+        known.push(none_heard(alloc, count)?)?;
     }
     Ok(known)
 }
 
-/// Of how many first rows of node `y` the node `x` has the names.
-pub(crate) fn known_at(known: &Vec<Known>, x: usize, y: usize) -> usize
+/// What the node `x` has heard of the node `y`.
+pub(crate) fn heard_by(known: &Vec<Hearing>, x: usize, y: usize) -> &Heard
     requires x { x < length known.now.items }
-    requires y { y < 128 }
-    ensures { result ≡ known_by known.now.items x y }
+    requires y { y < length (get_or known.now.items x []) }
+    ensures { result.now ≡ heard_by known.now.items x y }
 {
-    known[x][y]
+    &known[x].of[y]
 }
 
 /// Sets it.
-pub(crate) fn set_known(known: &mut Vec<Known>, x: usize, y: usize, len: usize)
+fn set_heard(known: &mut Vec<Hearing>, x: usize, y: usize, heard: Heard)
     requires x { x < length known.old.items }
-    requires y { y < 128 }
-    ensures { known.new.items ≡ slice_set known.old.items x (slice_set (get_or known.old.items x []) y len) }
+    requires y { y < length (get_or known.old.items x []) }
+    ensures { known.new.items ≡ with_heard known.old.items x y heard }
 {
-    known[x][y] = len;
+    known[x].of[y] = heard;
 }
 
-/// The greater of two numbers, at each node.
-fn greater(mut own: Known, other: &Known) -> Known
-    ensures { (z : ℕ) → get_or result z 0 ≡ max (get_or own z 0) (get_or other.now z 0) }
+/// How many first rows a node has, of which none was refused.
+fn whole(heard: &Heard) -> Option<usize>
+    ensures { IfSome result (λ len. heard.now ≡ all_heard len) }
 {
-    for z in 0..128 {
-        own[z] = own[z].max(other[z]);
+    if heard.refused.is_empty() {
+        return Some(heard.len);
     }
-    own
+    None
 }
 
-/// What the node `y` knows the node `x` knows too.
-pub(crate) fn hand_on(known: &mut Vec<Known>, x: usize, y: usize)
-    requires x { x < length known.old.items }
-    requires y { y < length known.old.items }
-    ensures { HandsOn known.old.items x y known.new.items }
+/// What the node `y` has of the node `z`, the node `x` has too, which has the names of all rows of `y`.
+fn hand_one_on(
+    known: &mut Vec<Hearing>,
+    alloc: Global,
+    nodes: &Vec<Node<SharedTable>>,
+    x: usize,
+    y: usize,
+    z: usize,
+)
+    requires x { x < length nodes.now.items }
+    requires y { y < length nodes.now.items }
+    requires z { z < length nodes.now.items }
+    requires keeps { KeepsKnown nodes.now.items known.old.items }
+    requires all { AreKnown (nth_rows nodes.now.items x) (nth_rows nodes.now.items y) }
+    ensures { KeepsKnown nodes.now.items known.new.items }
 {
-    known[x] = greater(known[x], &known[y]);
-}
-
-/// The first place, from this one on, of a row of the peer whose name the taker lacks, or the number of the peer's rows.
-pub(crate) fn first_unknown(
-    taker: &Node<SharedTable>,
-    peer: &Node<SharedTable>,
-    from: usize,
-) -> usize
-    requires { KnowsFirst (node_rows taker.now) (node_rows peer.now) from }
-    ensures { KnowsFirst (node_rows taker.now) (node_rows peer.now) result }
-{
-    let mut place = from;
-    'places: while place < peer.rows() && taker.place_of(&peer.row(place).name).is_some() {
-        place += 1;
+    let Some(len) = whole(heard_by(known, y, z)) else {
+        return;
+    };
+    if heard_by(known, x, z).len < len {
+        set_heard(known, x, z, all_heard(alloc, len));
     }
-    place
+}
+
+/// What the node `y` has of any node, with nothing refused, the node `x` has too, which has the names of all rows of `y`.
+fn hand_on(
+    known: &mut Vec<Hearing>,
+    alloc: Global,
+    nodes: &Vec<Node<SharedTable>>,
+    x: usize,
+    y: usize,
+)
+    requires x { x < length nodes.now.items }
+    requires y { y < length nodes.now.items }
+    requires keeps { KeepsKnown nodes.now.items known.old.items }
+    requires all { AreKnown (nth_rows nodes.now.items x) (nth_rows nodes.now.items y) }
+    ensures { KeepsKnown nodes.now.items known.new.items }
+{
+    for z in 0..nodes.len() {
+        hand_one_on(known, alloc, nodes, x, y, z);
+    }
+}
+
+/// The node `x` has the names of all rows of the node `y`.
+pub(crate) fn note_all(
+    known: &mut Vec<Hearing>,
+    alloc: Global,
+    nodes: &Vec<Node<SharedTable>>,
+    x: usize,
+    y: usize,
+)
+    requires x { x < length nodes.now.items }
+    requires y { y < length nodes.now.items }
+    requires keeps { KeepsKnown nodes.now.items known.old.items }
+    requires all { AreKnown (nth_rows nodes.now.items x) (nth_rows nodes.now.items y) }
+    ensures { KeepsKnown nodes.now.items known.new.items }
+{
+    hand_on(known, alloc, nodes, x, y);
+    set_heard(known, x, y, all_heard(alloc, nodes[y].rows()));
+}
+
+/// Of the rows of the node `y` the node `x` lacks the names of these refused ones at most.
+pub(crate) fn note_rest(
+    known: &mut Vec<Hearing>,
+    nodes: &Vec<Node<SharedTable>>,
+    x: usize,
+    y: usize,
+    refused: Vec<Arc<Event>>,
+)
+    requires x { x < length nodes.now.items }
+    requires y { y < length nodes.now.items }
+    requires keeps { KeepsKnown nodes.now.items known.old.items }
+    requires rest { LacksOf (nth_rows nodes.now.items x) (nth_rows nodes.now.items y) (rows_of refused.items) }
+    ensures { KeepsKnown nodes.now.items known.new.items }
+{
+    let len = nodes[y].rows();
+    set_heard(known, x, y, Heard { len, refused });
 }

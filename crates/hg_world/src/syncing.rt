@@ -45,7 +45,7 @@ impl World {
         if counts.taken == number {
             self.note_all(taker, peer);
         } else {
-            self.note_first(taker, peer);
+            self.note_rest(taker, peer, events.as_slice());
         }
         Ok(counts)
     }

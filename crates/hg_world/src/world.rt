@@ -7,15 +7,15 @@ ghost use Rattle.hg_gossip.specs.Holding.{WouldSign, WouldTake, rules_alone, see
 ghost use Rattle.hg_world.specs.declared.step.Step.TheVariants.{Make, Deliver, Freeze, Publish};
 ghost use Rattle.hg_graph.specs.RowsWithRoom.{rows_of};
 ghost use Rattle.hg_world.specs.Parts.{AreOfOneList, IsWorld, nth_node, unfrozen};
-ghost use Rattle.hg_world.specs.KnownRows.{AreKnown};
+ghost use Rattle.hg_world.specs.KnownRows.{AreKnown, LacksOf, nothing_heard};
 ghost use Rattle.hg_model.specs.Gossip.{lacking};
 ghost use Rattle.hg_model.specs.Spelling.{spelling};
 ghost use Rattle.hg_world.specs.World.{IsMemberOf, IsSiteOf, new_world, node_at, nodes_of, rows_at, run_of, site_at, worker_limit};
 ghost use Rattle.hg_world.specs.Steps.{after_step, after_steps, making_at, publishing_by, putting_at, settle_steps};
 ghost use Rattle.hg_world.specs.Syncs.{IsSigned};
 
-use crate::events::lacked_from;
-use crate::known::{self, Known};
+use crate::events::{lacked_beside, still_lacked};
+use crate::known::{self, Hearing};
 use crate::nodes::{self, Frozen};
 use hg_event::Event;
 use hg_model::{MakeAnswer, Member, Members, Memory, Name, Prefix, PutAnswer, Share, Sight};
@@ -33,8 +33,8 @@ pub struct World {
     coin: u32,
     nodes: Vec<Node<SharedTable>>,
     frozen: Vec<Frozen>,
-    /// The rows of a node only get more, so what is known stays known.
-    known: Vec<Known>,
+    /// The rows of a node only get more, so what a node has it has for good.
+    known: Vec<Hearing>,
 }
 
 impl Model for World {
@@ -56,7 +56,7 @@ impl World {
     {
         let nodes = nodes::new_nodes(alloc, members)?;
         let frozen = nodes::none_frozen(alloc, nodes.len())?;
-        let known = known::none_known(alloc, nodes.len())?;
+        let known = known::nothing_heard(alloc, nodes.len())?;
         Ok(World {
             alloc,
             members: members.count(),
@@ -155,15 +155,16 @@ impl World {
         nodes::put_event(&mut self.nodes, member as usize, event)
     }
 
-    /// The peer's events whose names the taker lacks. Looks at no row whose name it is known to have.
+    /// The peer's events whose names the taker lacks. Looks at no row whose name it is known to have, and of those that it
+    /// refused before at these alone.
     pub(crate) fn lacked(&self, taker: Member, peer: Member) -> Result<Vec<Arc<Event>>, Memory>
         requires taker { IsMemberOf self.now taker }
         requires peer { IsMemberOf self.now peer }
         ensures { IfOk result (λ events. rows_of events.items ≡ lacking (rows_at self.now taker) (rows_at self.now peer)) }
     {
         let (x, y) = (taker as usize, peer as usize);
-        let from = known::known_at(&self.known, x, y);
-        lacked_from(self.alloc, &self.nodes[x], &self.nodes[y], from)
+        let heard = known::heard_by(&self.known, x, y);
+        lacked_beside(self.alloc, &self.nodes[x], &self.nodes[y], heard)
     }
 
     /// The taker has the names of all rows of the peer, and so those that the peer is known to have.
@@ -174,21 +175,21 @@ impl World {
         ensures { self.new ≡ self.old }
     {
         let (x, y) = (taker as usize, peer as usize);
-        let len = self.nodes[y].rows();
-        known::hand_on(&mut self.known, x, y);
-        known::set_known(&mut self.known, x, y, len);
+        known::note_all(&mut self.known, self.alloc, &self.nodes, x, y);
     }
 
-    /// The taker has the names of the peer's rows before the first one that it lacks.
-    pub(crate) fn note_first(&mut self, taker: Member, peer: Member)
+    /// Of the peer's rows the taker lacks some of these at most. Where there is no memory to note which, it is tried again
+    /// from where it was known before.
+    pub(crate) fn note_rest(&mut self, taker: Member, peer: Member, events: &[Arc<Event>])
         requires taker { IsMemberOf self.old taker }
         requires peer { IsMemberOf self.old peer }
+        requires rest { LacksOf (rows_at self.old taker) (rows_at self.old peer) (rows_of events.now) }
         ensures { self.new ≡ self.old }
     {
         let (x, y) = (taker as usize, peer as usize);
-        let from = known::known_at(&self.known, x, y);
-        let first = known::first_unknown(&self.nodes[x], &self.nodes[y], from);
-        known::set_known(&mut self.known, x, y, first);
+        if let Ok(refused) = still_lacked(self.alloc, &self.nodes[x], events) {
+            known::note_rest(&mut self.known, &self.nodes, x, y, refused);
+        }
     }
 
     /// Worker 0 of a member's node freezes all rows and publishes all fame that they decide. It copies no row.
@@ -252,11 +253,11 @@ impl World {
 }
 
 /// So many nodes of which no rows are frozen or known.
-fn nothing_done(alloc: Global, count: usize) -> Result<(Vec<Frozen>, Vec<Known>), Memory>
+fn nothing_done(alloc: Global, count: usize) -> Result<(Vec<Frozen>, Vec<Hearing>), Memory>
     ensures frozen { IfOk result (λ parts. parts.0.items ≡ replicate count (replicate worker_limit 0)) }
-    ensures known { IfOk result (λ parts. parts.1.items ≡ replicate count (replicate 128 0)) }
+    ensures known { IfOk result (λ parts. parts.1.items ≡ nothing_heard count) }
 {
     let frozen = nodes::none_frozen(alloc, count)?;
-    let known = known::none_known(alloc, count)?;
+    let known = known::nothing_heard(alloc, count)?;
     Ok((frozen, known))
 }

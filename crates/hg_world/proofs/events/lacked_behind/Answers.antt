@@ -4,15 +4,12 @@ use Rattle.std.proofs.lemmas.List.{reverse-reverse}
 use Rattle.hg_model.specs.Gossip.{lacking}
 use Rattle.hg_model.specs.NodeView.{node_rows}
 use Rattle.hg_graph.specs.RowsWithRoom.{rows_of}
-use Rattle.hg_world.proofs.KnownLaws.{lacks_beyond}
 use Rattle.hg_world.proofs.PullLaws.{rows_reversed}
-use Rattle.hg_world.proofs.events.lacked_from.Goals as goal
+use Rattle.hg_world.proofs.events.lacked_behind.Goals as goal
 
 pub returns : goal.returns
 returns c =
-    let G = node_rows c.args.taker.now in
-    let H = node_rows c.args.peer.now in
     ap rows_of c.reverse.ensures.items
     ∙ (rows_reversed c.in_ok-events.events.items
     ∙ (ap (λ rows. reverse rows) c.in_ok-events.ensures
-    ∙ (reverse-reverse (lacking G (drop c.args.from H)) ∙ lacks_beyond G H c.args.from c.requires.known)))
+    ∙ reverse-reverse (lacking (node_rows c.args.taker.now) (drop c.args.from (node_rows c.args.peer.now)))))

@@ -1,0 +1,6 @@
+use Rattle.std.proofs.Common.{◌≡◌, replicate}
+use Rattle.hg_world.specs.KnownRows.{none_heard}
+use Rattle.hg_world.proofs.known.nothing_heard.Given as goal
+
+abbrev pub invariant-loop : goal.invariant-loop
+invariant-loop l = l.known.items ≡ replicate l.counter (replicate l.count none_heard)
