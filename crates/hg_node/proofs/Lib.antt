@@ -4,6 +4,7 @@ pub mod LastLaws
 pub mod RecordLaws
 pub mod ArrivalLaws
 pub mod PutLaws
+pub mod CheckLaws
 pub mod MakeLaws
 pub mod OneLaws
 pub mod KeepLaws

@@ -1,5 +1,5 @@
 -- What a node keeps of its history: rows, the log of how they came, and the published marks
-use Rattle.std.specs.Prelude.{ℕ, ◌≡◌, ◌≤◌, ◌+◌, ◌*◌, ◌==◌, cond, List, [], ◌∷◌, ◌++◌, length, Option, option_map, is_some}
+use Rattle.std.specs.Prelude.{ℕ, ◌≡◌, ◌≤◌, ◌+◌, ◌*◌, ◌==◌, cond, List, [], ◌∷◌, ◌++◌, length, slice_get, Option, option_and_then, option_map, is_some}
 use Rattle.hg_model.specs.declared.row.Row.{Row}
 use Rattle.hg_model.specs.declared.row.Placed.{Placed}
 use Rattle.hg_model.specs.declared.entry.Entry.{Entry}
@@ -70,6 +70,10 @@ chronicle_news r len share =
 -- the place of the last row that the member made
 abbrev pub last_own_place : ℕ → List Row → Option ℕ
 last_own_place own G = option_map (place_of G) (last_name own G)
+
+-- the last row that the member made
+abbrev pub last_own_row : ℕ → List Row → Option Row
+last_own_row own G = option_and_then (slice_get G) (last_own_place own G)
 
 -- how many rows have a mark
 unfoldable pub marked : Marks → ℕ

@@ -1,5 +1,6 @@
 pub mod ChronicleView
 pub mod Arrival
+pub mod Checked
 pub mod Draft
 pub mod Laws
 pub mod Puts

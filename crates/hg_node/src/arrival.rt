@@ -10,7 +10,7 @@ use crate::ROW_LIMIT;
 use hg_event::{Event, EventView, body_of};
 use hg_graph::EventGraph;
 use hg_model::{Fault, Member, Name, Parents, PutAnswer, Sight};
-use hg_sign::Signer;
+use hg_sign::{Signer, Verifier};
 use std::sync::Arc;
 
 /// The places of the parents of an event that is put to a graph, or the answer of the first rule that speaks against
@@ -69,7 +69,8 @@ fn parents_of_new(
     Ok(parents)
 }
 
-fn member_rule(members: u32, view: &EventView<'_>) -> Result<(), PutAnswer>
+/// Whether a member made it.
+pub fn member_rule(members: u32, view: &EventView<'_>) -> Result<(), PutAnswer>
     ensures answer { result_err result ≡ member_rule members (row_of view.now) }
     ensures member { OnOk result (view.now.creator < members) }
 {
@@ -95,7 +96,8 @@ fn name_rule(graph: &EventGraph, name: &Name, bytes: &[u8]) -> Result<(), PutAns
     }
 }
 
-fn signature_rule<V: Signer>(keys: &V, view: &EventView<'_>) -> Result<(), PutAnswer>
+/// Whether the keys accept its signature.
+pub fn signature_rule<V: Verifier>(keys: &V, view: &EventView<'_>) -> Result<(), PutAnswer>
     ensures { result_err result ≡ signature_rule (V.accepts keys.now) (row_of view.now) }
 {
     if keys.check(view.creator, body_of(view), view.sig) {

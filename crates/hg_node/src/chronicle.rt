@@ -1,4 +1,4 @@
-ghost use Rattle.std.specs.Prelude.{◌≡◌, ◌<◌, ◌++◌, ◌∷◌, ◌==◌, [], All, Some, cond, length, IfOk, OnOk, OnErr};
+ghost use Rattle.std.specs.Prelude.{◌≡◌, ◌<◌, ◌++◌, ◌∷◌, ◌==◌, [], All, Some, cond, length, option_map, IfOk, OnOk, OnErr};
 ghost use Rattle.hg_model.specs.declared.entry.Entry.{Entry};
 ghost use Rattle.hg_model.specs.declared.row.Placed.{Placed};
 ghost use Rattle.hg_model.specs.Graph.{IsGraph};
@@ -7,7 +7,7 @@ ghost use Rattle.hg_model.specs.Fame.{mark_at};
 ghost use Rattle.hg_model.specs.Kept.{kept};
 ghost use Rattle.hg_model.specs.Shares.{whole};
 ghost use Rattle.hg_model.specs.GraphWords.{last_closed_in, SpeaksOf};
-ghost use Rattle.hg_node.specs.ChronicleView.{book_in, last_own_place, news_in, no_chronicle, chronicle_news, chronicle_with, chronicle_state};
+ghost use Rattle.hg_node.specs.ChronicleView.{book_in, last_own_place, last_own_row, news_in, no_chronicle, chronicle_news, chronicle_with, chronicle_state};
 ghost use Rattle.hg_node.specs.Arrival.{StandsOn};
 
 use hg_event::Event;
@@ -90,6 +90,16 @@ impl Chronicle {
     {
         match self.last_own {
             Some(place) => Some(self.graph.row(place).name),
+            None => None,
+        }
+    }
+
+    /// The last event that the member made.
+    pub fn last_event(&self) -> Option<&Arc<Event>>
+        ensures { option_map (λ e. e.now.value) result ≡ last_own_row self.now.own self.now.graph.rows }
+    {
+        match self.last_own {
+            Some(place) => Some(self.graph.event(place)),
             None => None,
         }
     }

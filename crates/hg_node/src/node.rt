@@ -55,7 +55,7 @@ impl<V: Signer> Model for Node<V> {
 impl<V: Signer> Node<V> {
     ghost use Rattle.hg_model.specs.Links.{links};
     ghost use Rattle.hg_graph.specs.RowsWithRoom.{found_place};
-    ghost use Rattle.hg_node.specs.ChronicleView.{last_own_place};
+    ghost use Rattle.hg_node.specs.ChronicleView.{last_own_place, last_own_row};
 
     /// The node of the member `own`, without rows.
     pub fn new(alloc: Global, members: &Members, own: Member, keys: V) -> Result<Node<V>, Memory>
@@ -274,6 +274,13 @@ impl<V: Signer> Node<V> {
         ensures { result ≡ last_own_place self.now.start.own (node_rows self.now) }
     {
         self.chronicle.last_own()
+    }
+
+    /// The last event that the node made, if it made any.
+    pub fn last_event(&self) -> Option<&Arc<Event>>
+        ensures { option_map (λ e. e.now.value) result ≡ last_own_row self.now.start.own (node_rows self.now) }
+    {
+        self.chronicle.last_event()
     }
 
     /// The name of the last row that the node made, if it made any.
