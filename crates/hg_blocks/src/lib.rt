@@ -2,7 +2,7 @@
 //! The layer above uses that a `Blocks` is the list of its items, and that a `prefix` shares the sealed blocks, so that it
 //! costs a pointer for each block and a copy of at most 64 items. `RowBlocks` is the same of rows of numbers.
 //!
-//! From `prefix` of the `RowStore` of `hg_graph`, whose `events` are a `Blocks<SharedEvent>`, and from `push`:
+//! From `reserve`, `push` and `prefix` of the `RowStore` of `hg_graph`, whose `events` are a `Blocks<SharedEvent>`, shortened:
 //!
 //! ```text
 //! self.events.reserve()?;

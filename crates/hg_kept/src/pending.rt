@@ -10,10 +10,6 @@ use hg_order::{RoundMemory, least_counts, order_round_within, received_below};
 use std::alloc::Global;
 use std::marker::Model;
 
-/// From how many rows for each member a round's consensus timestamps are counted at most; of more each row's is found by
-/// itself. A round takes some ten rows a member, and what it receives goes back two rounds or three.
-const TALLIED_EACH: usize = 48;
-
 /// The rows that no closed round has received, and those of them that the round at hand receives.
 #[derive(Drop)]
 pub struct Pending {
@@ -24,7 +20,7 @@ pub struct Pending {
     fresh: Vec<u32>,
     /// In which the round at hand is ordered.
     memory: RoundMemory,
-    /// How many members there are: that memory is taken for at most `TALLIED_EACH` rows of each.
+    /// How many members there are.
     members: usize,
 }
 
@@ -61,10 +57,8 @@ impl Pending {
     {
         self.places.reserve(rows.saturating_sub(self.places.len()))?;
         self.fresh.reserve(rows.saturating_sub(self.fresh.len()))?;
-        self.memory.reserve(
-            rows.min(TALLIED_EACH.saturating_mul(self.members)),
-            self.members,
-        )?;
+        // For all rows: where many have waited, one round receives them all. What is not written takes no memory.
+        self.memory.reserve(rows, self.members)?;
         Ok(())
     }
 
