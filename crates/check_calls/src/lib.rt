@@ -1,5 +1,5 @@
-//! Tests of public calls of `hg_script`, `hg_votes`, `hg_fame`, `hg_node`, `hg_gossip`, `hg_world`, `hg_report` and
-//! `order_match`, with values from outside.
+//! Tests of public calls of `hg_votes`, `hg_fame`, `hg_node`, `hg_gossip` and `hg_world`, with values from outside: those
+//! that own a node.
 //! They stand above these crates so that their code is proved once; a crate with tests of its own is proved twice.
 //! There is nothing here but tests.
 //!
@@ -19,8 +19,6 @@ mod full_node;
 #[cfg(test)]
 mod gossiping;
 #[cfg(test)]
-mod matching;
-#[cfg(test)]
 mod members;
 #[cfg(test)]
 mod paying;
@@ -28,10 +26,6 @@ mod paying;
 mod playing;
 #[cfg(test)]
 mod publishing;
-#[cfg(test)]
-mod reporting;
-#[cfg(test)]
-mod script;
 #[cfg(test)]
 mod two_members;
 #[cfg(test)]

@@ -1,4 +1,5 @@
 use crate::members::{entry, members_of};
+use crate::telling::equal;
 use hg_model::{Items, Members, Memory};
 use hg_script::{Line, ScriptFault, Why, read_script};
 use std::alloc::{AllocError, Global};
@@ -8,9 +9,9 @@ use std::test::Fail;
 /// The members m0 and m1, and n without a node.
 fn three_members(rt: &impl Abort, alloc: Global) -> Result<Members, Memory> {
     let entries = [
-        entry(alloc, b"m0", 1, 0, true)?,
-        entry(alloc, b"m1", 1, 0, true)?,
-        entry(alloc, b"n", 1, 0, false)?,
+        entry(alloc, b"m0", &[1], 0, true)?,
+        entry(alloc, b"m1", &[1], 0, true)?,
+        entry(alloc, b"n", &[1], 0, false)?,
     ];
     Ok(members_of(rt, Vec::from_array(alloc, entries)?))
 }
@@ -87,11 +88,10 @@ const LINES: [(u64, &str); 20] = [
 #[test]
 fn lines_are_read(rt: HostRuntime) -> Result<(), Fail> {
     let lines = lines_of(&rt, rt.alloc(), SCRIPT)?;
-    assert_eq!(rt; lines.as_slice().len(), LINES.len());
-    for (line, (number, action)) in lines.as_slice().iter().zip(&LINES) {
-        assert_eq!(rt; line.number, *number);
-        let matches = format!(in rt.alloc(); "{:?}", line.action)?;
-        assert_eq!(rt; matches.as_str(), *action);
+    equal(&rt, 0, lines.as_slice().len(), LINES.len());
+    for (case, (line, wanted)) in lines.as_slice().iter().zip(&LINES).enumerate() {
+        let action = format!(in rt.alloc(); "{:?}", line.action)?;
+        equal(&rt, case, (line.number, action.as_str()), *wanted);
     }
     Ok(())
 }
@@ -99,7 +99,7 @@ fn lines_are_read(rt: HostRuntime) -> Result<(), Fail> {
 #[test]
 fn no_bytes_are_no_lines(rt: HostRuntime) -> Result<(), Fail> {
     let lines = lines_of(&rt, rt.alloc(), &[])?;
-    assert!(rt; lines.as_slice().is_empty());
+    equal(&rt, 0, lines.as_slice().len(), 0);
     Ok(())
 }
 
@@ -129,11 +129,8 @@ const DIGITS: [(&[u8], usize, Option<ScriptFault>); 5] = [
 fn digits_have_a_limit(rt: HostRuntime) -> Result<(), Fail> {
     for (front, digits, fault) in &DIGITS {
         let line = digits_line(rt.alloc(), front, *digits)?;
-        assert_eq!(rt;
-            fault_of(&rt, rt.alloc(), line.as_slice(), 0)?,
-            *fault,
-            "{digits}"
-        );
+        let found = fault_of(&rt, rt.alloc(), line.as_slice(), 0)?;
+        equal(&rt, *digits, found, *fault);
     }
     Ok(())
 }
@@ -171,16 +168,12 @@ const REFUSED: [(&[u8], u64, Why); 27] = [
 
 #[test]
 fn whys_are_known(rt: HostRuntime) -> Result<(), Fail> {
-    for (text, line, why) in &REFUSED {
+    for (case, (text, line, why)) in REFUSED.iter().enumerate() {
         let fault = ScriptFault {
             line: *line,
             why: *why,
         };
-        assert_eq!(rt;
-            fault_of(&rt, rt.alloc(), text, 0)?,
-            Some(fault),
-            "{text:?}"
-        );
+        equal(&rt, case, fault_of(&rt, rt.alloc(), text, 0)?, Some(fault));
     }
     Ok(())
 }
@@ -195,9 +188,9 @@ const WITH_WORKERS: [(&[u8], Option<Why>); 5] = [
 
 #[test]
 fn workers_take_lines_away(rt: HostRuntime) -> Result<(), Fail> {
-    for (text, why) in &WITH_WORKERS {
+    for (case, (text, why)) in WITH_WORKERS.iter().enumerate() {
         let fault = fault_of(&rt, rt.alloc(), text, 1)?;
-        assert_eq!(rt; fault.map(|fault| fault.why), *why, "{text:?}");
+        equal(&rt, case, fault.map(|fault| fault.why), *why);
     }
     Ok(())
 }

@@ -1,3 +1,4 @@
+use crate::telling::equal;
 use hg_io::{Failed, SinkMem};
 use hg_model::{
     Block, Bytes, Effect, Items, MakeAnswer, MakeFault, Memory, OrderLine, Outcome, Printed,
@@ -96,11 +97,11 @@ fn outcome(alloc: Global) -> Result<Outcome, Fail> {
 fn the_text_is_written(rt: HostRuntime) -> Result<(), Fail> {
     let outcome = outcome(rt.alloc())?;
     let mut sink = ample(rt.alloc())?;
-    assert_eq!(rt; text_of(&outcome, &mut sink), Ok(()));
-    assert!(rt; sink.bytes() == TEXT.as_bytes());
+    equal(&rt, 0, text_of(&outcome, &mut sink), Ok(()));
+    equal(&rt, 1, sink.bytes() == TEXT.as_bytes(), true);
     let mut sink = ample(rt.alloc())?;
-    assert_eq!(rt; summary_of(&outcome, &mut sink), Ok(()));
-    assert!(rt; sink.bytes() == SUMMARY.as_bytes());
+    equal(&rt, 2, summary_of(&outcome, &mut sink), Ok(()));
+    equal(&rt, 3, sink.bytes() == SUMMARY.as_bytes(), true);
     Ok(())
 }
 
@@ -112,8 +113,9 @@ fn a_failed_call_stops_the_text(rt: HostRuntime) -> Result<(), Fail> {
     for call in 0..calls {
         let fails = vec![in alloc; call as u64]?;
         let mut sink = SinkMem::new(alloc, 1000, 50, fails)?;
-        assert_eq!(rt; text_of(&outcome, &mut sink), Err(Failed), "{call}");
-        assert!(rt; sink.bytes() == &TEXT.as_bytes()[..50 * call], "{call}");
+        equal(&rt, call, text_of(&outcome, &mut sink), Err(Failed));
+        let is_front = sink.bytes() == &TEXT.as_bytes()[..50 * call];
+        equal(&rt, call, is_front, true);
     }
     Ok(())
 }

@@ -1,15 +1,8 @@
+use crate::telling::equal;
 use hg_model::{Member, Memory};
 use order_match::{Book, Order, Request, RequestFault, Side, Trade, read_request, write_request};
 use std::alloc::Global;
 use std::test::Fail;
-
-fn place(side: Side, price: u32, quantity: u32) -> Request {
-    Request::Place {
-        side,
-        price,
-        quantity,
-    }
-}
 
 /// A member's request goes into the book by its payload.
 fn ask(alloc: Global, book: &mut Book, member: Member, request: Request) -> Result<(), Memory> {
@@ -89,7 +82,7 @@ fn matches_by_price_and_time(rt: HostRuntime) -> Result<(), Fail> {
         price: 10,
         quantity: 2,
     };
-    assert_eq!(rt; book.trades(), [first, second].as_slice());
+    equal(&rt, 0, book.trades(), [first, second].as_slice());
     let bid = Order {
         number: 6,
         member: 1,
@@ -108,33 +101,46 @@ fn matches_by_price_and_time(rt: HostRuntime) -> Result<(), Fail> {
         price: 10,
         quantity: 1,
     };
-    assert_eq!(rt; book.bids().resting(), [bid].as_slice());
-    assert_eq!(rt; book.asks().resting(), [ask].as_slice());
-    assert_eq!(rt; book.asks().cancelled(), [gone].as_slice());
-    assert_eq!(rt; (book.events(), book.unread()), (8, 1));
+    equal(&rt, 1, book.bids().resting(), [bid].as_slice());
+    equal(&rt, 2, book.asks().resting(), [ask].as_slice());
+    equal(&rt, 3, book.asks().cancelled(), [gone].as_slice());
+    equal(&rt, 4, (book.events(), book.unread()), (8, 1));
     Ok(())
 }
 
+// What is read of these bytes.
+const READ: [(&[u8], Result<Request, RequestFault>); 5] = [
+    (
+        b"\x01\x00\x00\x01\x02\x00\x00\x00\x07",
+        Ok(Request::Place {
+            side: Side::Sell,
+            price: 258,
+            quantity: 7,
+        }),
+    ),
+    (b"", Ok(Request::Nothing)),
+    (b"\x00\x01", Err(RequestFault::BadLength(2))),
+    (
+        b"\x03\x00\x00\x00\x00\x00\x00\x00\x01",
+        Err(RequestFault::BadKind(3)),
+    ),
+    (
+        b"\x00\x00\x00\x00\x01\x00\x00\x00\x00",
+        Err(RequestFault::NoQuantity),
+    ),
+];
+
 #[test]
 fn reads_what_is_written(rt: HostRuntime) -> Result<(), Fail> {
-    let payload = write_request(rt.alloc(), &place(Side::Sell, 258, 7))?;
-    assert_eq!(rt;
-        payload.as_slice(),
-        b"\x01\x00\x00\x01\x02\x00\x00\x00\x07".as_slice()
-    );
-    assert_eq!(rt;
-        read_request(payload.as_slice()),
-        Ok(place(Side::Sell, 258, 7))
-    );
-    assert_eq!(rt; read_request(b""), Ok(Request::Nothing));
-    assert_eq!(rt; read_request(b"\x00\x01"), Err(RequestFault::BadLength(2)));
-    assert_eq!(rt;
-        read_request(b"\x03\x00\x00\x00\x00\x00\x00\x00\x01"),
-        Err(RequestFault::BadKind(3))
-    );
-    assert_eq!(rt;
-        read_request(b"\x00\x00\x00\x00\x01\x00\x00\x00\x00"),
-        Err(RequestFault::NoQuantity)
-    );
+    let sell = Request::Place {
+        side: Side::Sell,
+        price: 258,
+        quantity: 7,
+    };
+    let payload = write_request(rt.alloc(), &sell)?;
+    equal(&rt, 0, payload.as_slice(), READ[0].0);
+    for (case, (bytes, wanted)) in READ.iter().enumerate() {
+        equal(&rt, case, read_request(bytes), *wanted);
+    }
     Ok(())
 }

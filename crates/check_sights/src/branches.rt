@@ -1,0 +1,141 @@
+use crate::both::{Both, has_counts};
+use crate::forking::{has_both_branches, strongly_sees_two};
+use crate::growing::{FORKED, on};
+use crate::telling::equal;
+use hg_model::{Member, Memory, Parents, Sight};
+use std::alloc::Global;
+
+/// Adds the rows from this place on, and keeps each of so many rows, or none.
+fn add_forked(both: &mut Both, from: usize, every: usize) -> Result<bool, Memory> {
+    for i in from..10 {
+        let (creator, pair) = FORKED[i];
+        if !both.add(on(pair), creator)? {
+            return Ok(false);
+        }
+        if every > 0 && i % every == 0 {
+            both.sight.keep_last();
+        }
+    }
+    Ok(true)
+}
+
+/// The rows in both sights, if they fit.
+fn forked(alloc: Global, every: usize) -> Result<Both, Memory> {
+    let mut both = Both::new(alloc, 4)?;
+    add_forked(&mut both, 0, every)?;
+    Ok(both)
+}
+
+/// The first `len` rows agree, also with the others added again.
+fn goes_on(first: &mut Both, len: usize) -> Result<bool, Memory> {
+    Ok(first.agree() && add_forked(first, len, 1)? && first.agree())
+}
+
+fn first_goes_on(both: &Both, len: usize) -> Result<bool, Memory> {
+    let mut first = both.first(len)?;
+    goes_on(&mut first, len)
+}
+
+/// Both agree on all rows, on the first ones, and on those with the others added again.
+fn agree_on_forked(both: &Both) -> Result<bool, Memory> {
+    Ok(both.agree() && first_goes_on(both, 7)? && first_goes_on(both, 0)?)
+}
+
+/// What both tell of the rows, of which each of so many is kept, or none.
+fn tells_forked(alloc: Global, every: usize) -> Result<[bool; 4], Memory> {
+    let both = forked(alloc, every)?;
+    Ok([
+        agree_on_forked(&both)?,
+        has_both_branches(&both.sight),
+        strongly_sees_two(&both.sight),
+        !has_counts(&both.sight, 9),
+    ])
+}
+
+// No row, every row, every second or every third one is kept.
+#[test]
+fn tells_what_bit_rows_tell(rt: HostRuntime) -> Result<(), Memory> {
+    for every in 0..4 {
+        equal(&rt, every, tells_forked(rt.alloc(), every)?, [true; 4]);
+    }
+    Ok(())
+}
+
+/// Three members sync in turn, and a fourth now and then. Each row but the first four has the row before it as other-parent.
+fn add_turns(both: &mut Both, fork: bool) -> Result<bool, Memory> {
+    let mut last = [0, 1, 2, 3];
+    for i in 0..40 {
+        let member = if i < 4 {
+            i
+        } else if i % 7 == 0 {
+            3
+        } else {
+            i % 3
+        };
+        let parents = if i < 4 {
+            Parents::none()
+        } else if fork && i == 28 {
+            Parents::of(3, i - 1)
+        } else {
+            Parents::of(last[member], i - 1)
+        };
+        if !both.add(parents, member as Member)? {
+            return Ok(false);
+        }
+        both.sight.keep_last();
+        last[member] = i;
+    }
+    Ok(true)
+}
+
+/// Whether the counts of row `x` tell whether row `y` is an ancestor.
+fn counts_tell(both: &Both, x: usize, y: usize) -> bool {
+    if x >= both.sight.rows()
+        || y >= both.sight.rows()
+        || x >= both.bits.rows()
+        || y >= both.bits.rows()
+    {
+        return false;
+    }
+    let member = usize::from(both.sight.creator(y));
+    match both.sight.counts(x) {
+        None => false,
+        Some(counts) => {
+            member < counts.len() && (y < counts[member] as usize) == both.bits.ancestor(x, y)
+        }
+    }
+}
+
+/// Whether the counts of each row tell its ancestors.
+fn counts_agree(both: &Both) -> bool {
+    for x in 0..both.sight.rows() {
+        for y in 0..both.sight.rows() {
+            if !counts_tell(both, x, y) {
+                return false;
+            }
+        }
+    }
+    true
+}
+
+fn counts_turns_in(both: &mut Both, fork: bool) -> Result<[bool; 4], Memory> {
+    let added = add_turns(both, fork)?;
+    let told = if fork {
+        !has_counts(&both.sight, 39)
+    } else {
+        counts_agree(both)
+    };
+    Ok([added, both.sight.rows() == 40, both.agree(), told])
+}
+
+fn counts_turns(alloc: Global, fork: bool) -> Result<[bool; 4], Memory> {
+    let mut both = Both::new(alloc, 4)?;
+    counts_turns_in(&mut both, fork)
+}
+
+#[test]
+fn counts_while_nobody_forks(rt: HostRuntime) -> Result<(), Memory> {
+    equal(&rt, 0, counts_turns(rt.alloc(), false)?, [true; 4]);
+    equal(&rt, 1, counts_turns(rt.alloc(), true)?, [true; 4]);
+    Ok(())
+}

@@ -1,0 +1,93 @@
+ghost use Rattle.std.specs.Prelude.{◌<◌};
+
+use crate::growing::{add, on};
+use crate::telling::{equal, holds};
+use hg_branches::BranchSight;
+use hg_model::{Growing, Member, Memory, Sight};
+use std::alloc::Global;
+use std::process::Abort;
+
+/// Of two members, A and B, whose own branches are 0 and 1: of each row its parents and its branch. A goes on twice on
+/// its first row after that has a child, by rows 4 and 8, which open branches 2 and 3.
+const ROWS: [(Option<(usize, usize)>, usize); 12] = [
+    (None, 0),
+    (None, 1),
+    (Some((0, 1)), 0),
+    (Some((1, 2)), 1),
+    (Some((0, 1)), 2),
+    (Some((3, 4)), 1),
+    (Some((4, 3)), 2),
+    (Some((2, 3)), 0),
+    (Some((0, 5)), 3),
+    (Some((5, 7)), 1),
+    (Some((9, 8)), 1),
+    (Some((8, 10)), 3),
+];
+
+/// One more than the last place that each row has among its ancestors on branches 0 to 3.
+const COUNTS: [[u16; 4]; 12] = [
+    [1, 0, 0, 0],
+    [0, 2, 0, 0],
+    [3, 2, 0, 0],
+    [3, 4, 0, 0],
+    [1, 2, 5, 0],
+    [3, 6, 5, 0],
+    [3, 4, 7, 0],
+    [8, 4, 0, 0],
+    [3, 6, 5, 9],
+    [8, 10, 5, 0],
+    [8, 11, 5, 9],
+    [8, 11, 5, 12],
+];
+
+/// Who made the row: B those of branch 1.
+fn maker(x: usize) -> Member
+    requires { x < 12 }
+{
+    if ROWS[x].1 == 1 { 1 } else { 0 }
+}
+
+/// Adds a row. While no member has a fork, the sight gives the numbers of the members' own branches.
+fn grow(rt: &impl Abort, sight: &mut BranchSight, x: usize) -> Result<(), Memory>
+    requires { x < 12 }
+{
+    holds(rt, x, add(sight, on(ROWS[x].0), maker(x))?);
+    assert!(rt; x < sight.rows());
+    equal(
+        rt,
+        x,
+        sight.counts(x),
+        if x < 4 { Some(&COUNTS[x][..2]) } else { None },
+    );
+    Ok(())
+}
+
+/// The sight has so many rows, and each number of them: row `y` is an ancestor where it is below the number of its branch.
+fn matches(rt: &impl Abort, sight: &BranchSight, len: usize) {
+    assert!(rt; sight.rows() == len && len <= 12);
+    for x in 0..len {
+        for y in 0..len {
+            let is_below = y < COUNTS[x][ROWS[y].1 % 4] as usize;
+            equal(rt, x, sight.ancestor(x, y), is_below);
+        }
+    }
+}
+
+fn forked(rt: &impl Abort, alloc: Global) -> Result<BranchSight, Memory> {
+    let mut sight = BranchSight::new(alloc, 2)?;
+    for x in 0..12 {
+        grow(rt, &mut sight, x)?;
+    }
+    Ok(sight)
+}
+
+#[test]
+fn counts_the_last_ancestor_on_each_branch(rt: HostRuntime) -> Result<(), Memory> {
+    let sight = forked(&rt, rt.alloc())?;
+    matches(&rt, &sight, 12);
+    for len in 0..13 {
+        assert!(rt; len <= sight.rows());
+        matches(&rt, &sight.prefix(len)?, len);
+    }
+    Ok(())
+}

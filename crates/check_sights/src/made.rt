@@ -1,0 +1,143 @@
+//! Made graphs, by numbers that look thrown, with forks in two of three: the sight by branches and that by rows of bits are
+//! to answer alike for any two of their rows, and of their first rows.
+
+use crate::both::Both;
+use crate::telling::{equal, holds};
+use hg_branches::BranchSight;
+use hg_model::{Member, Memory, Parents, Sight};
+use std::alloc::Global;
+
+/// How many graphs are made.
+const GRAPHS: u32 = 50;
+
+/// And of how many rows.
+const ROWS: u32 = 72;
+
+/// The next number of a linear congruence, of which the high bits are used.
+fn next(state: u64) -> u64 {
+    state
+        .wrapping_mul(6_364_136_223_846_793_005)
+        .wrapping_add(1_442_695_040_888_963_407)
+}
+
+/// A number below `n`, or 0 where `n` is 0.
+fn below(state: u64, n: usize) -> usize {
+    match ((state >> 33) as usize).checked_rem(n) {
+        None => 0,
+        Some(number) => number,
+    }
+}
+
+/// The last row by the member, or where `early` is the first one, if it has any.
+fn row_by(sight: &BranchSight, member: Member, early: bool) -> Option<usize> {
+    let mut found = None;
+    for x in 0..sight.rows() {
+        if sight.creator(x) == member && (found.is_none() || !early) {
+            found = Some(x);
+        }
+    }
+    found
+}
+
+/// Parents for a row by the member: two rows if it has one and another member has the other, and else none.
+fn parents_by(sight: &BranchSight, state: u64, member: Member, early: bool) -> Parents {
+    let other = below(next(state), sight.rows());
+    match row_by(sight, member, early) {
+        None => Parents::none(),
+        Some(self_place) => Parents::of(self_place, other),
+    }
+}
+
+/// Adds made rows to both sights, as the number tells.
+fn play(both: &mut Both, number: u32, turns: u32) -> Result<(), Memory> {
+    let members = both.sight.members();
+    let mut state = next(next(u64::from(number)));
+    for _ in 0..turns {
+        state = next(state);
+        let member = (below(state, members as usize) % 16) as Member;
+        state = next(state);
+        let early = number % 3 > 0 && u32::from(member) < members / 3 && below(state, 4) == 0;
+        let parents = parents_by(&both.sight, state, member, early);
+        if both.add(parents, member)? && below(state, 3) > 0 {
+            both.sight.keep_last();
+        }
+    }
+    Ok(())
+}
+
+/// A made graph in both sights: how many rows they took, whether a row has a fork below it, and whether they agree.
+fn made(alloc: Global, number: u32) -> Result<(usize, bool, bool), Memory> {
+    let mut both = Both::new(alloc, 3 + number % 7)?;
+    made_in(&mut both, number)
+}
+
+fn made_in(both: &mut Both, number: u32) -> Result<(usize, bool, bool), Memory> {
+    play(both, number, ROWS)?;
+    let len = below(u64::from(number) << 33, both.sight.rows());
+    let alike = first_agrees(both, len)? && both.agree();
+    Ok((both.sight.rows(), has_fork(&both.sight), alike))
+}
+
+fn first_agrees(both: &Both, len: usize) -> Result<bool, Memory> {
+    let first = both.first(len)?;
+    Ok(first.agree())
+}
+
+/// Whether the first rows agree, also with made rows added to them.
+fn grows_from(both: &Both, len: usize) -> Result<bool, Memory> {
+    let mut first = both.first(len)?;
+    grows(&mut first, len)
+}
+
+fn grows(first: &mut Both, len: usize) -> Result<bool, Memory> {
+    let alike = first.sight.rows() == len && first.agree();
+    play(first, 1, 6)?;
+    Ok(alike && first.agree())
+}
+
+/// A graph past two whole blocks, cut at each place about their ends.
+fn agrees_at_seams(alloc: Global) -> Result<bool, Memory> {
+    let mut both = Both::new(alloc, 7)?;
+    agrees_at_seams_in(&mut both)
+}
+
+fn agrees_at_seams_in(both: &mut Both) -> Result<bool, Memory> {
+    play(both, 1, 240)?;
+    let mut alike = has_fork(&both.sight) && both.agree();
+    for len in 62..67 {
+        alike = grows_from(both, len)? && grows_from(both, len + 64)? && alike;
+    }
+    Ok(alike)
+}
+
+/// Whether some row has an ancestor that it does not see, whose creator has a fork below it.
+fn has_fork(sight: &BranchSight) -> bool {
+    for x in 0..sight.rows() {
+        for y in 0..sight.rows() {
+            if sight.ancestor(x, y) && !sight.sees(x, y) {
+                return true;
+            }
+        }
+    }
+    false
+}
+
+#[test]
+fn agree_on_made_graphs(rt: HostRuntime) -> Result<(), Memory> {
+    let mut forked = 0u32;
+    for number in 0..GRAPHS {
+        let (taken, has_fork, alike) = made(rt.alloc(), number)?;
+        holds(&rt, number as usize, alike && taken > 40);
+        if has_fork {
+            forked = forked.saturating_add(1);
+        }
+    }
+    holds(&rt, forked as usize, forked >= 30);
+    Ok(())
+}
+
+#[test]
+fn agree_at_the_ends_of_blocks(rt: HostRuntime) -> Result<(), Memory> {
+    equal(&rt, 0, agrees_at_seams(rt.alloc())?, true);
+    Ok(())
+}
