@@ -14,6 +14,8 @@
 #[cfg(test)]
 mod events;
 #[cfg(test)]
+mod formats;
+#[cfg(test)]
 mod matching;
 #[cfg(test)]
 mod members;
