@@ -19,6 +19,8 @@ mod full_node;
 #[cfg(test)]
 mod gossiping;
 #[cfg(test)]
+mod medians;
+#[cfg(test)]
 mod members;
 #[cfg(test)]
 mod paying;

@@ -15,7 +15,11 @@ use std::alloc::Global;
 use std::process::Abort;
 
 /// Of the members A, B, C and D so many.
-fn first_members(rt: &impl Abort, alloc: Global, count: usize) -> Result<Members, Memory> {
+pub(crate) fn first_members(
+    rt: &impl Abort,
+    alloc: Global,
+    count: usize,
+) -> Result<Members, Memory> {
     let mut entries = Vec::new(alloc);
     entries.push(entry(alloc, b"A", 1, 0, true)?)?;
     entries.push(entry(alloc, b"B", 2, 0, true)?)?;

@@ -17,8 +17,8 @@ use std::alloc::Global;
 use std::process::Abort;
 
 /// The tests hold a world in this alone: it goes in a call, which is proved once.
-struct Held {
-    world: World,
+pub(crate) struct Held {
+    pub world: World,
 }
 
 impl Drop for Held {

@@ -61,7 +61,8 @@ fn tells_what_bit_rows_tell(rt: HostRuntime) -> Result<(), Memory> {
     Ok(())
 }
 
-/// Three members sync in turn, and a fourth now and then. Each row but the first four has the row before it as other-parent.
+/// Three members sync in turn, and a fourth now and then. Each row but the first four has the row before it as
+/// other-parent.
 fn add_turns(both: &mut Both, fork: bool) -> Result<bool, Memory> {
     let mut last = [0, 1, 2, 3];
     for i in 0..40 {

@@ -62,7 +62,8 @@ fn grow(rt: &impl Abort, sight: &mut BranchSight, x: usize) -> Result<(), Memory
     Ok(())
 }
 
-/// The sight has so many rows, and each number of them: row `y` is an ancestor where it is below the number of its branch.
+/// The sight has so many rows, and each number of them: row `y` is an ancestor where it is below the number of its
+/// branch.
 fn matches(rt: &impl Abort, sight: &BranchSight, len: usize) {
     assert!(rt; sight.rows() == len && len <= 12);
     for x in 0..len {

@@ -15,8 +15,8 @@ pub(crate) fn has_both_branches<S: Sight>(sight: &S) -> bool {
     true
 }
 
-/// Yet it strongly sees that row, through the first rows of the others that do, and the first member's first row, and no other
-/// first row.
+/// Yet it strongly sees that row, through the first rows of the others that do, and the first member's first row, and
+/// no other first row.
 pub(crate) fn strongly_sees_two<S: Sight>(sight: &S) -> bool {
     sight.rows() == 10
         && sight.sees(4, 2)

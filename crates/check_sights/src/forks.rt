@@ -12,8 +12,8 @@ use std::process::Abort;
 /// How many members have a fork once each of the rows is there: the last member's rows 3 and 7 stand on one row.
 const FORKERS: [u32; 10] = [0, 0, 0, 0, 0, 0, 0, 1, 1, 1];
 
-/// The parents of a row that is not added, its creator, and how many members would have a fork with it: on the last row, on
-/// an earlier one, and on none; the last by a member that has a fork already.
+/// The creator of a row that is not added, its parents, and how many members would have a fork with it: on the last row,
+/// on an earlier one, and on none; the last by a member that has a fork already.
 const OTHERS: [(Member, Option<(usize, usize)>, u32); 4] = [
     (2, Some((9, 8)), 1),
     (2, Some((5, 8)), 2),

@@ -1,5 +1,5 @@
-//! Made graphs, by numbers that look thrown, with forks in two of three: the sight by branches and that by rows of bits are
-//! to answer alike for any two of their rows, and of their first rows.
+//! Made graphs, by numbers that look thrown, with forks in two of three: the sight by branches and that by rows of bits
+//! are to answer alike for any two of their rows, and of their first rows.
 
 use crate::both::Both;
 use crate::telling::{equal, holds};
