@@ -1,46 +1,19 @@
--- The first of what is left of a text, and the others
+-- The first of what is left of texts, and names one after the other
 use Rattle.std.proofs.Common.{inl, inr, true, false, not, ◌≡◌, ◌∙◌, ◌+◌, ◌<◌, ◌++◌, ℕ, zero, suc, take, append-nil, Bool, List, [], ◌∷◌, length, drop, get_or, sym, ap, add-one, append_assoc, arith}
-use Rattle.std.proofs.Math.Seq.{drop-cons}
 use Rattle.std.proofs.lemmas.Bool.{cases_Bool, true≢false}
 use Rattle.std.proofs.lemmas.Slice.Eq.{bytes_eq-Decides}
 use Rattle.std.specs.Str.{bytes_eq}
-use Rattle.hg_model.specs.Report.{balance_text, balances_text, order_line_text, order_text, printed_text, printed_texts}
+use Rattle.hg_model.specs.Report.{printed_text, printed_texts}
 use Rattle.hg_model.specs.declared.outcome.OrderLine.{OrderLine}
 use Rattle.hg_model.specs.declared.outcome.Printed.{Printed}
-use Rattle.hg_report.specs.Pieces.{piece_text, pieces_text}
 use Rattle.hg_report.specs.Summary.{names_together, piece_summary, pieces_summary}
-use Rattle.hg_report.specs.declared.pieces.Piece.{Piece}
-
-first_left : {X : Type 0} (xs : List X) (i : ℕ) (d : X) → i < length xs → drop i xs ≡ get_or xs i d ∷ drop (i + 1) xs
-first_left xs i d lt = drop-cons xs i d lt ∙ ap (λ k. get_or xs i d ∷ drop k xs) (sym (add-one i))
-
-pub pieces_left : (pieces : List Piece) (i : ℕ) (d : Piece) → i < length pieces
-    → pieces_text (drop i pieces) ≡ piece_text (get_or pieces i d) ++ pieces_text (drop (i + 1) pieces)
-pieces_left pieces i d lt = ap pieces_text (first_left pieces i d lt)
-
-pub lines_left : (named : Bool) (names : List (List ℕ)) (lines : List OrderLine) (number i : ℕ) (d : OrderLine) → i < length lines
-    → order_text named names number (drop i lines) ≡ order_line_text named names number (get_or lines i d) ++ order_text named names (number + 1) (drop (i + 1) lines)
-lines_left named names lines number i d lt =
-    ap (order_text named names number) (first_left lines i d lt)
-    ∙ ap (λ k. order_line_text named names number (get_or lines i d) ++ order_text named names k (drop (i + 1) lines)) (sym (add-one number))
-
-pub balances_left : (names : List (List ℕ)) (balances : List ℕ) (m i : ℕ) (d : ℕ) → i < length balances
-    → balances_text names m (drop i balances) ≡ balance_text names m (get_or balances i d) ++ balances_text names (m + 1) (drop (i + 1) balances)
-balances_left names balances m i d lt =
-    ap (balances_text names m) (first_left balances i d lt)
-    ∙ ap (λ k. balance_text names m (get_or balances i d) ++ balances_text names k (drop (i + 1) balances)) (sym (add-one m))
+use Rattle.hg_pieces.proofs.Steps.{first_left}
 
 pub texts_left : (names : List (List ℕ)) (texts : List Printed) (i : ℕ) (printed : Printed) → printed ≡ get_or texts i printed → i < length texts
     → printed_texts names (drop i texts) ≡ printed_text names printed ++ printed_texts names (drop (i + 1) texts)
 texts_left names texts i printed is lt =
     ap (printed_texts names) (first_left texts i printed lt)
     ∙ ap (λ p. printed_text names p ++ printed_texts names (drop (i + 1) texts)) (sym is)
-
--- four pieces with a text, and what follows them
-pub four_then : (pieces : List Piece) (d : Piece) (text rest : List ℕ) → length pieces ≡ 4 → pieces_text pieces ≡ text
-    → piece_text (get_or pieces 0 d) ++ (piece_text (get_or pieces 1 d) ++ (piece_text (get_or pieces 2 d) ++ (piece_text (get_or pieces 3 d) ++ rest))) ≡ text ++ rest
-four_then (p ∷ q ∷ r ∷ s ∷ []) d text rest four is = rw (← is) (simp append_assoc)
-four_then _ d text rest four is = absurd (omega arith)
 
 pub summary_left : (names : List (List ℕ)) (pieces : List Printed) (i : ℕ) (piece : Printed) → piece ≡ get_or pieces i piece → i < length pieces
     → pieces_summary names (drop i pieces) ≡ piece_summary names piece ++ pieces_summary names (drop (i + 1) pieces)

@@ -1,4 +1,2 @@
-pub mod Phrases
-pub mod Pieces
 pub mod Writes
 pub mod Summary

@@ -16,12 +16,9 @@
 //! ```
 #![tactic(auto)]
 
-mod block;
-mod phrases;
-mod pieces;
 mod printed;
 mod summary;
 
-pub use pieces::{Piece, print_pieces};
+pub use hg_pieces::{Piece, print_pieces};
 pub use printed::text_of;
 pub use summary::summary_of;

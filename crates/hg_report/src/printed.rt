@@ -2,13 +2,12 @@ ghost use Rattle.hg_io.specs.Printing.{Prints, PutsOn};
 ghost use Rattle.hg_model.specs.Report.{printed_text, printed_texts, pull_line, report_text, sync_line};
 ghost use Rattle.hg_report.specs.Writes.{PutsAnswer};
 
-use crate::block::write_block;
-use crate::phrases::{
-    Phrase, make_answer_phrase, number_phrase, put_answer_phrase, sync_made_phrase,
-};
-use crate::pieces::{Piece, write_pieces};
 use hg_io::{Failed, Page, Sink};
 use hg_model::{Bytes, Outcome, Printed, SyncReport};
+use hg_pieces::{
+    Phrase, Piece, make_answer_phrase, number_phrase, put_answer_phrase, sync_made_phrase,
+    write_block, write_pieces,
+};
 
 /// The line of an answer, with the script's own word.
 fn write_answer<'a, K: Sink>(

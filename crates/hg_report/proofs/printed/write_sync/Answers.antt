@@ -2,7 +2,7 @@ use Rattle.std.proofs.Common.{◌∙◌, ◌++◌, List, ℕ, ap, codes, subst, 
 use Rattle.std.specs.Fmt.{decimal}
 use Rattle.hg_io.specs.Printing.{Puts, desk}
 use Rattle.hg_model.specs.Report.{with_number}
-use Rattle.hg_report.specs.Pieces.{piece_text}
+use Rattle.hg_pieces.specs.Pieces.{piece_text}
 use Rattle.hg_report.proofs.printed.write_sync.Goals as goal
 
 pub returns : goal.returns

@@ -1,5 +1,5 @@
 use Rattle.hg_io.proofs.PrintLaws.{failed, puts_then, stops_before, stops_then}
-use Rattle.hg_report.proofs.block.write_block.Goals as goal
+use Rattle.hg_pieces.proofs.block.write_block.Goals as goal
 
 pub returns-in_err-write_head : goal.returns-in_err-write_head
 returns-in_err-write_head g c = failed _ _ _ _ c.from_residual.ensures.0 (stops_before _ (stops_before _ c.in_err-write_head.ensures))

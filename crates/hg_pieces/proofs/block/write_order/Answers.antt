@@ -1,7 +1,7 @@
 use Rattle.std.proofs.Common.{◌+◌}
 use Rattle.hg_io.proofs.PrintLaws.{failed, more_put, stopped_within}
-use Rattle.hg_report.proofs.Steps.{lines_left}
-use Rattle.hg_report.proofs.block.write_order.Goals as goal
+use Rattle.hg_pieces.proofs.Steps.{lines_left}
+use Rattle.hg_pieces.proofs.block.write_order.Goals as goal
 
 pub loop-i-preserved : goal.loop-i-preserved
 loop-i-preserved g c =

@@ -1,18 +1,18 @@
 ghost use Rattle.std.specs.Prelude.{◌≡◌, ◌++◌};
 ghost use Rattle.std.specs.Fmt.{decimal};
 ghost use Rattle.hg_model.specs.Report.{byte_fault_text, fault_text, make_answer_text, make_fault_text, put_answer_text, sync_made_text};
-ghost use Rattle.hg_report.specs.Phrases.{phrase_text};
-ghost use Rattle.hg_report.specs.Pieces.{piece_text};
+ghost use Rattle.hg_pieces.specs.Phrases.{phrase_text};
+ghost use Rattle.hg_pieces.specs.Pieces.{piece_text};
 
 use crate::pieces::Piece;
 use hg_model::{ByteFault, Fault, MakeAnswer, MakeFault, PutAnswer, SyncMade};
 
 /// What is told of an answer: two texts, each of which may be empty, and then a piece.
 #[derive(Clone, Copy)]
-pub(crate) struct Phrase<'a> {
-    pub(crate) first: &'a [u8],
-    pub(crate) second: &'a [u8],
-    pub(crate) detail: Piece<'a>,
+pub struct Phrase<'a> {
+    pub first: &'a [u8],
+    pub second: &'a [u8],
+    pub detail: Piece<'a>,
 }
 
 /// What is wrong with an event's bytes: a word, and a number if there is one.
@@ -74,14 +74,14 @@ fn phrase_of<'a>(first: &'a [u8], parts: (&'a [u8], Piece<'a>)) -> Phrase<'a>
 }
 
 /// A number alone.
-pub(crate) fn number_phrase(number: u64) -> Phrase<'static>
+pub fn number_phrase(number: u64) -> Phrase<'static>
     ensures { phrase_text result ≡ decimal number }
 {
     phrase_of(b"", (b"", Piece::Number(number)))
 }
 
 /// What came of bytes that were put to a node.
-pub(crate) fn put_answer_phrase(answer: &PutAnswer) -> Phrase<'_>
+pub fn put_answer_phrase(answer: &PutAnswer) -> Phrase<'_>
     ensures { phrase_text result ≡ put_answer_text answer.now }
 {
     match answer {
@@ -92,7 +92,7 @@ pub(crate) fn put_answer_phrase(answer: &PutAnswer) -> Phrase<'_>
 }
 
 /// What came of a node's making an event.
-pub(crate) fn make_answer_phrase(answer: &MakeAnswer) -> Phrase<'_>
+pub fn make_answer_phrase(answer: &MakeAnswer) -> Phrase<'_>
     ensures { phrase_text result ≡ make_answer_text answer.now }
 {
     match answer {
@@ -102,7 +102,7 @@ pub(crate) fn make_answer_phrase(answer: &MakeAnswer) -> Phrase<'_>
 }
 
 /// What came of the event at the end of a sync.
-pub(crate) fn sync_made_phrase(made: &SyncMade) -> Phrase<'_>
+pub fn sync_made_phrase(made: &SyncMade) -> Phrase<'_>
     ensures { phrase_text result ≡ sync_made_text made.now }
 {
     match made {

@@ -1,8 +1,8 @@
 ghost use Rattle.hg_io.specs.Printing.{PutsOn};
 ghost use Rattle.std.specs.Prelude.{◌≡◌, ◌++◌, codes, length};
 ghost use Rattle.hg_model.specs.Report.{balance_text, balances_text, effect_text, head_text, line_end};
-ghost use Rattle.hg_report.specs.Pieces.{pieces_text};
-ghost use Rattle.hg_report.specs.Writes.{PutsBlock, PutsOrder, PutsLine};
+ghost use Rattle.hg_pieces.specs.Pieces.{pieces_text};
+ghost use Rattle.hg_pieces.specs.Writes.{PutsBlock, PutsOrder, PutsLine};
 
 use crate::pieces::{Piece, name_of, write_pieces};
 use hg_io::{Failed, Page, Sink};
@@ -131,7 +131,7 @@ fn write_balances<K: Sink>(
 }
 
 /// The first line of a block.
-pub(crate) fn write_head<K: Sink>(
+pub fn write_head<K: Sink>(
     page: &mut Page,
     sink: &mut K,
     names: &[Bytes],
@@ -161,7 +161,7 @@ pub(crate) fn write_head<K: Sink>(
 }
 
 /// What is printed of a node.
-pub(crate) fn write_block<'a, K: Sink>(
+pub fn write_block<'a, K: Sink>(
     page: &mut Page,
     sink: &mut K,
     named: bool,

@@ -1,7 +1,7 @@
 ghost use Rattle.std.specs.Prelude.{◌≡◌};
 ghost use Rattle.hg_io.specs.Printing.{Prints, PutsOn};
 ghost use Rattle.hg_model.specs.Report.{name_of_member};
-ghost use Rattle.hg_report.specs.Pieces.{piece_text, pieces_text};
+ghost use Rattle.hg_pieces.specs.Pieces.{piece_text, pieces_text};
 
 use hg_io::{Failed, Page, Sink};
 use hg_model::{Bytes, Name};
@@ -24,7 +24,7 @@ pub enum Piece<'a> {
 }
 
 /// A member's name, nothing for a number that is no member's.
-pub(crate) fn name_of(names: &[Bytes], member: usize) -> &[u8]
+pub fn name_of(names: &[Bytes], member: usize) -> &[u8]
     ensures { result.now ≡ name_of_member names.now member }
 {
     match names.get(member) {
@@ -47,7 +47,7 @@ fn write_piece<K: Sink>(page: &mut Page, sink: &mut K, piece: &Piece<'_>) -> Res
 
 /// Puts the pieces one after the other.
 #[tactic(auto, using(hg_io::proofs::PrintLaws::none_put, hg_io::proofs::PrintLaws::more_put, hg_io::proofs::PrintLaws::all_put, hg_io::proofs::PrintLaws::stopped_within))]
-pub(crate) fn write_pieces<K: Sink>(
+pub fn write_pieces<K: Sink>(
     page: &mut Page,
     sink: &mut K,
     pieces: &[Piece<'_>],

@@ -1,6 +1,6 @@
 use Rattle.hg_io.proofs.PrintLaws.{failed, more_put, stopped_within}
-use Rattle.hg_report.proofs.Steps.{pieces_left}
-use Rattle.hg_report.proofs.pieces.write_pieces.Goals as goal
+use Rattle.hg_pieces.proofs.Steps.{pieces_left}
+use Rattle.hg_pieces.proofs.pieces.write_pieces.Goals as goal
 
 pub loop-piece-preserved : goal.loop-piece-preserved
 loop-piece-preserved g c =

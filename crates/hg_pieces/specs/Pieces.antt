@@ -2,8 +2,8 @@
 use Rattle.std.specs.Prelude.{List, ℕ, [], ◌∷◌, ◌++◌}
 use Rattle.std.specs.Fmt.{decimal, signed_decimal}
 use Rattle.hex.specs.Hex.{encode_lower}
-use Rattle.hg_report.specs.declared.pieces.Piece.{Piece}
-use Rattle.hg_report.specs.declared.pieces.Piece.TheVariants as piece
+use Rattle.hg_pieces.specs.declared.pieces.Piece.{Piece}
+use Rattle.hg_pieces.specs.declared.pieces.Piece.TheVariants as piece
 
 abbrev pub piece_text : Piece → List ℕ
 piece_text (piece.Bytes bytes) = bytes.now

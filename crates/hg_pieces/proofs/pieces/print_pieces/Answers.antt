@@ -1,5 +1,5 @@
 use Rattle.hg_io.proofs.PrintLaws.{printed_by_page}
-use Rattle.hg_report.proofs.pieces.print_pieces.Goals as goal
+use Rattle.hg_pieces.proofs.pieces.print_pieces.Goals as goal
 
 pub returns : goal.returns
 returns g c = printed_by_page g.K.Sink _ _ _ _ _ _ _ c.new-page.ensures c.in_ok-write_pieces.ensures c.send.ensures.matches

@@ -1,6 +1,6 @@
 use Rattle.hg_io.proofs.PrintLaws.{failed, more_put, stopped_within}
-use Rattle.hg_report.proofs.Steps.{balances_left}
-use Rattle.hg_report.proofs.block.write_balances.Goals as goal
+use Rattle.hg_pieces.proofs.Steps.{balances_left}
+use Rattle.hg_pieces.proofs.block.write_balances.Goals as goal
 
 pub loop-i-preserved : goal.loop-i-preserved
 loop-i-preserved g c =

@@ -1,7 +1,7 @@
 use Rattle.std.proofs.Common.{drop}
 use Rattle.hg_io.specs.Printing.{IsPutUpTo, desk}
-use Rattle.hg_report.specs.Pieces.{pieces_text}
-use Rattle.hg_report.proofs.pieces.write_pieces.Given as goal
+use Rattle.hg_pieces.specs.Pieces.{pieces_text}
+use Rattle.hg_pieces.proofs.pieces.write_pieces.Given as goal
 
 abbrev pub invariant-loop-piece : goal.invariant-loop-piece
 invariant-loop-piece g l =

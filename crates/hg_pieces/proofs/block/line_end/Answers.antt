@@ -1,5 +1,5 @@
-use Rattle.hg_report.proofs.Steps.{four_then}
-use Rattle.hg_report.proofs.block.line_end.Goals as goal
+use Rattle.hg_pieces.proofs.Steps.{four_then}
+use Rattle.hg_pieces.proofs.block.line_end.Goals as goal
 
 pub returns-then-named : goal.returns-then-named
 returns-then-named c = rw c.if-named.true (four_then _ _ _ _ c.effect_pieces.ensures.four c.effect_pieces.ensures.text)

@@ -1,0 +1,3 @@
+pub mod Phrases
+pub mod Pieces
+pub mod Writes
