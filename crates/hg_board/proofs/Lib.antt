@@ -3,5 +3,8 @@ pub mod PositionLaws
 pub mod MoveLaws
 pub mod TurnLaws
 pub mod SeatLaws
+pub mod CallLaws
+pub mod TakingLaws
+pub mod CopyLaws
 pub mod JoinLaws
 pub mod ChangeLaws

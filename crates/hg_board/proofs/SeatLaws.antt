@@ -13,6 +13,7 @@ use Rattle.hg_model.specs.declared.answers.MakeAnswer.TheVariants as made
 use Rattle.hg_model.specs.declared.share.Found.{Found}
 use Rattle.hg_model.specs.Orders.{IsPrefix}
 use Rattle.hg_model.specs.Reading.{read_event}
+use Rattle.hg_model.specs.Spelling.{spelling}
 use Rattle.hg_model.specs.Shares.{Share}
 use Rattle.hg_model.specs.Verdict.{made_row, row_verdict}
 use Rattle.hg_model.specs.History.{Change}
@@ -21,8 +22,11 @@ use Rattle.hg_model.specs.NodeView.{NodeView, IsNode, node_rows, with_changes}
 use Rattle.hg_model.specs.Calls.{IsMaking, made_by, make_answer, make_changes, publish_answer, publish_changes, put_answer, put_changes, taken_by, taken_from}
 use Rattle.hg_model.specs.Signing.{Accepts}
 use Rattle.hg_node.specs.ChronicleView.{IsFoundBy}
+use Rattle.hg_node.specs.Puts.{WouldAccept}
 use Rattle.hg_history.proofs.FoundLaws.{found_lasts}
 use Rattle.hg_history.proofs.StateLaws.{prefix_more}
+use Rattle.hg_gossip.specs.declared.gossip.Taken.{Taken}
+use Rattle.hg_gossip.specs.Nodes.{taking_of}
 use Rattle.hg_gossip.specs.Holding.{Seen, Waits, positions_from, rules_alone, seen_whole, with_own}
 use Rattle.hg_gossip.proofs.AloneLaws.{waits_alone}
 use Rattle.hg_board.specs.declared.view.View.{View}
@@ -31,6 +35,7 @@ use Rattle.hg_board.specs.Steps.{Hand}
 use Rattle.hg_board.specs.Seats.{IsOf, SharedNode, SeatView, shared_node, seen_by, seat_view_of}
 use Rattle.hg_board.specs.Turns.{Enters, IsGrown, IsInside, inside_at, mine_with, outside_at}
 use Rattle.hg_board.specs.Calls.{SeatMakes, SeatPublishes, SeatPuts, SeatWaits, Stays, rules_shared}
+use Rattle.hg_board.specs.Taking.{AddsInside, SeatTakes, SeatTakesFirst, TakesFirst, taking_rows}
 use Rattle.hg_board.proofs.PrefixLaws.{prefix_front}
 use Rattle.hg_board.proofs.TurnLaws.{drop_front}
 
@@ -249,6 +254,48 @@ module _ {V : Type 0} (accepts : V → Accepts) where
           answers = answer ∙ ap (λ (v : NodeView V). publish_answer v len share) inside.found;
           grown = own_new (publish_changes reached.node len share) (grown_left (publish_changes reached.node len share)
               (grown ∙ ap (λ (v : NodeView V). with_changes node (publish_changes v len share)) inside.found));
+        }
+
+      -- a call that put events to the node while the seat was inside, in the end as n'
+      module _ (n' : Hand V) (w : NodeView V) (adds : AddsInside n n' node w) (left : o ≡ outside_at n'.0 n'.0.seen n'.0.mine) where
+        took_left : o ≡ outside_at m.0 (inside.history ++ adds.more) (m.0.mine ++ positions_from (length inside.history) adds.more)
+        took_left =
+            left
+            ∙ (ap (λ (x : Hand V). outside_at x.0 x.0.seen x.0.mine) adds.inside
+            ∙ ap (λ (x : Hand V). outside_at x.0 (x.0.seen ++ adds.more) (x.0.mine ++ positions_from (length x.0.seen) adds.more)) inside.inside)
+
+        took_node : w ≡ with_changes reached.node adds.more
+        took_node = adds.grown ∙ ap (λ (v : NodeView V). with_changes v adds.more) inside.found
+
+        pub took_stays : IsNode accepts w → Stays accepts (shared_node table start) (seat_view_of old m.0) (seat_view_of new o.0)
+        took_stays lawful = own_stays adds.more took_left (subst (IsNode accepts) took_node lawful)
+
+        takes : (rows : List Row) (counts : Taken) → taking_rows accepts node rows ≡ taking_of w counts →
+            SeatTakes accepts (shared_node table start) (seat_view_of old m.0) rows (seat_view_of new o.0) counts
+        takes rows counts is = record {
+          reached = reached;
+          waits = others_came;
+          more = adds.more;
+          taken = ap (λ (v : NodeView V). taking_rows accepts v rows) (sym inside.found) ∙ (is ∙ ap (λ (v : NodeView V). taking_of v counts) took_node);
+          grown = own_new adds.more took_left;
+        }
+
+        pub takes_all : {E : Type 0} (rows : List Row) (result : Result Taken E) → IfOk result (λ t. taking_rows accepts node rows ≡ taking_of w t) →
+            IfOk result (SeatTakes accepts (shared_node table start) (seat_view_of old m.0) rows (seat_view_of new o.0))
+        takes_all rows (Ok counts) is = takes rows counts is
+        takes_all rows (Err e) is = tt
+
+        pub takes_first : {E : Type 0} (rows : List Row) (result : Result Taken E) → OnErr result (TakesFirst accepts node rows w) →
+            OnErr result (SeatTakesFirst accepts (shared_node table start) (seat_view_of old m.0) rows (seat_view_of new o.0))
+        takes_first rows (Ok counts) first = tt
+        takes_first rows (Err e) t = record {
+          first = t.first;
+          next = t.next;
+          rest = t.rest;
+          whole = t.whole;
+          counts = t.counts;
+          takes = takes t.first t.counts t.taken;
+          full = subst (λ (v : NodeView V). WouldAccept accepts v (spelling t.next)) (took_node ∙ sym (ap (λ (x : Seen V). x.node) (own_new adds.more took_left))) t.full;
         }
 
   -- a node that has one holder is left by a look at it

@@ -4,5 +4,7 @@ pub mod Steps
 pub mod Seats
 pub mod Turns
 pub mod Calls
+pub mod Copies
 pub mod Crews
+pub mod Taking
 pub mod Laws

@@ -18,14 +18,17 @@
 //! ```
 #![tactic(auto)]
 
+mod copies;
 mod crew;
 mod laws;
 mod rule;
 mod seat;
 mod shared;
+mod taking;
 mod turn;
 mod view;
 
+pub use copies::EventParcel;
 pub use crew::Crew;
 pub use laws::{shared_makes_add_one, shared_publishes_add_one, shared_puts_add_one};
 pub use seat::Seat;

@@ -1,17 +1,26 @@
-ghost use Rattle.std.specs.Prelude.{◌≡◌, ◌<◌, IfErr, IfOk, OnErr};
+ghost use Rattle.std.specs.Prelude.{◌≡◌, ◌<◌, true, IfErr, IfOk, OnErr};
 ghost use Rattle.std.specs.Option.{option_to_list};
 ghost use Rattle.hg_model.specs.NodeView.{kept_of};
+ghost use Rattle.hg_model.specs.Spelling.{spelling};
+ghost use Rattle.hg_model.specs.Stakes.{member_count};
 ghost use Rattle.hg_node.specs.ChronicleView.{IsFoundBy, graph_in};
+ghost use Rattle.hg_node.specs.Puts.{is_signed};
+ghost use Rattle.hg_graph.specs.RowsWithRoom.{rows_of};
+ghost use Rattle.hg_board.specs.Copies.{IsLastRow, IsParcelFrom};
+ghost use Rattle.hg_board.specs.Taking.{AreSignedFor, SeatTakes, SeatTakesFirst};
 ghost use Rattle.hg_gossip.specs.Holding.{names_in, parcel_beyond};
 ghost use Rattle.hg_board.specs.Seats.{IsOf, seen_by};
 ghost use Rattle.hg_board.specs.Calls.{Absorbs, IsStarted, IsWhole, SeatMakes, SeatPublishes, SeatPuts, SeatWaits, Stays, after_split, rules_shared, split_off};
 ghost use Rattle.hg_gossip.specs.Holding.{WouldSign, WouldTake};
 
+use crate::copies::{EventParcel, copied, last_event, parcel_from};
 use crate::rule::{Board, Both, Compare, OnePart};
 use crate::seat::Seat;
+use crate::taking::take_each;
 use crate::turn::{enter, leave, leave_changed};
 use atomic_table::{Refused, Table};
-use hg_gossip::Holder;
+use hg_event::Event;
+use hg_gossip::{Holder, Taken};
 use hg_graph::FrozenGraph;
 use hg_model::{Found, MakeAnswer, Memory, Name, Parcel, Placed, PutAnswer};
 use hg_node::Node;
@@ -19,7 +28,7 @@ use hg_sign::Signer;
 use std::alloc::Global;
 use std::marker::Model;
 use std::snapshot::Snapshot;
-use std::sync::Wait;
+use std::sync::{Arc, Wait};
 
 /// A node between threads. Each call needs a seat of it, and answers as the node does at the history that the seat then
 /// has seen, of which it had seen a prefix.
@@ -86,6 +95,52 @@ impl<V: Signer + Drop> Shared<V> {
         let answer = node.put(bytes);
         leave_changed(steps, raw, node, count);
         answer
+    }
+
+    /// Puts an event of a member, whose signature the node's keys accept: what comes of it is what comes of its bytes, but
+    /// it is not read, named, checked or copied in the turn.
+    pub fn put_event<R: Wait>(
+        &self,
+        rt: &R,
+        seat: &mut Seat<V>,
+        event: &Arc<Event>,
+    ) -> Result<PutAnswer, Memory>
+        requires seat { IsOf self.now seat.old }
+        requires fits { event.now.value.creator < member_count self.now.start.start.members }
+        requires signed { is_signed V.accepts self.now.start.start event.now.value ≡ true }
+        ensures stays { Stays V.accepts self.now seat.old seat.new }
+        ensures ok { IfOk result (SeatPuts V.accepts self.now seat.old (spelling event.now.value) seat.new) }
+        ensures err { OnErr result (SeatWaits V.accepts self.now seat.old seat.new) }
+        ensures free { OnErr result (WouldTake (rules_shared V.accepts) (seen_by self.now seat.new) (spelling event.now.value)) }
+    {
+        let steps = &self.table.shared;
+        let raw = &mut seat.raw;
+        let (mut node, count) = enter(rt, steps, raw);
+        let answer = node.put_event(event);
+        leave_changed(steps, raw, node, count);
+        answer
+    }
+
+    /// Puts such events in one turn, but for those whose names the node has. After `Memory` some of the first are put.
+    pub fn take_events<R: Wait>(
+        &self,
+        rt: &R,
+        seat: &mut Seat<V>,
+        events: &[Arc<Event>],
+    ) -> Result<Taken, Memory>
+        requires seat { IsOf self.now seat.old }
+        requires signed { AreSignedFor V.accepts self.now.start.start (rows_of events.now) }
+        ensures stays { Stays V.accepts self.now seat.old seat.new }
+        ensures ok { IfOk result (SeatTakes V.accepts self.now seat.old (rows_of events.now) seat.new) }
+        ensures err { OnErr result (SeatTakesFirst V.accepts self.now seat.old (rows_of events.now) seat.new) }
+    {
+        let steps = &self.table.shared;
+        let raw = &mut seat.raw;
+        let (mut node, _count) = enter(rt, steps, raw);
+        let taken = take_each(steps, raw, &mut node, events);
+        node.rows();
+        leave(steps, raw, node);
+        taken
     }
 
     /// Makes an event of the node's member on its last one, with this other-parent, or its first one without parents.
@@ -185,6 +240,47 @@ impl<V: Signer + Drop> Shared<V> {
         parcel
     }
 
+    /// The last event that the node made, if it made any.
+    pub fn last_event<R: Wait>(
+        &self,
+        rt: &R,
+        seat: &mut Seat<V>,
+    ) -> Result<Option<Arc<Event>>, Memory>
+        requires { IsOf self.now seat.old }
+        ensures stays { Stays V.accepts self.now seat.old seat.new }
+        ensures waits { SeatWaits V.accepts self.now seat.old seat.new }
+        ensures event { IfOk result (IsLastRow (seen_by self.now seat.new).node) }
+    {
+        let steps = &self.table.shared;
+        let raw = &mut seat.raw;
+        let (node, _count) = enter(rt, steps, raw);
+        let event = last_event(&node);
+        leave(steps, raw, node);
+        event
+    }
+
+    /// The events of the rows from a place on, and the name of the last row that the node made, if it made any. Where there
+    /// is no such row there is no event.
+    pub fn events_from<R: Wait>(
+        &self,
+        rt: &R,
+        alloc: Global,
+        seat: &mut Seat<V>,
+        from: usize,
+    ) -> Result<EventParcel, Memory>
+        requires { IsOf self.now seat.old }
+        ensures stays { Stays V.accepts self.now seat.old seat.new }
+        ensures waits { SeatWaits V.accepts self.now seat.old seat.new }
+        ensures parcel { IfOk result (IsParcelFrom from (seen_by self.now seat.new).node) }
+    {
+        let steps = &self.table.shared;
+        let raw = &mut seat.raw;
+        let (node, _count) = enter(rt, steps, raw);
+        let parcel = parcel_from(alloc, &node, from);
+        leave(steps, raw, node);
+        parcel
+    }
+
     /// What the closed rounds have received, in order.
     pub fn kept_copy<R: Wait>(
         &self,
@@ -249,11 +345,4 @@ impl<V: Signer + Drop> Shared<V> {
         closed.free();
         node
     }
-}
-
-/// A copy of the order.
-fn copied(alloc: Global, order: &[Placed]) -> Result<Vec<Placed>, Memory>
-    ensures { IfOk result (λ copy. copy.items ≡ order.now) }
-{
-    Ok(Vec::from_slice(alloc, order)?)
 }

@@ -74,7 +74,7 @@ fn raise<V: Signer + Drop, N: Naming>(steps: &Steps<V>, raw: &mut RawSeat<V>, no
 }
 
 /// Raises the count where the node has a change that the count has not.
-fn raise_if_changed<V: Signer + Drop>(
+pub fn raise_if_changed<V: Signer + Drop>(
     steps: &Steps<V>,
     raw: &mut RawSeat<V>,
     node: &Node<V>,

@@ -1,0 +1,73 @@
+// Copies of what a node has, made while it is out.
+ghost use Rattle.std.specs.Prelude.{◌≡◌, ◌<◌, IfOk, Some, drop, length, slice_get};
+ghost use Rattle.hg_graph.specs.RowsWithRoom.{rows_of};
+ghost use Rattle.hg_model.specs.NodeView.{node_rows};
+ghost use Rattle.hg_board.specs.Copies.{IsLastRow, IsParcelFrom};
+
+use hg_event::Event;
+use hg_model::{Memory, Name, Placed};
+use hg_node::Node;
+use hg_sign::Signer;
+use std::alloc::Global;
+use std::sync::Arc;
+
+/// Events that a node hands over, and the name of the last row that it made, if it made any.
+#[derive(Drop)]
+pub struct EventParcel {
+    pub events: Vec<Arc<Event>>,
+    pub last: Option<Name>,
+}
+
+/// A copy of the order.
+pub fn copied(alloc: Global, order: &[Placed]) -> Result<Vec<Placed>, Memory>
+    ensures { IfOk result (λ copy. copy.items ≡ order.now) }
+{
+    Ok(Vec::from_slice(alloc, order)?)
+}
+
+/// The last event that the node made, once more.
+pub fn last_event<V: Signer>(node: &Node<V>) -> Result<Option<Arc<Event>>, Memory>
+    ensures { IfOk result (IsLastRow node.now) }
+{
+    match node.last_event() {
+        Some(event) => Ok(Some(Arc::clone(event)?)),
+        None => Ok(None),
+    }
+}
+
+/// The event at a place, once more.
+fn event_at<V: Signer>(node: &Node<V>, place: usize) -> Result<Arc<Event>, Memory>
+    requires { place < length (node_rows node.now) }
+    ensures { IfOk result (λ event. slice_get (node_rows node.now) place ≡ Some event.value) }
+{
+    Ok(Arc::clone(node.event(place))?)
+}
+
+/// The events from a place on.
+fn events_from<V: Signer>(
+    alloc: Global,
+    node: &Node<V>,
+    from: usize,
+) -> Result<Vec<Arc<Event>>, Memory>
+    ensures { IfOk result (λ events. rows_of events.items ≡ drop from (node_rows node.now)) }
+{
+    let mut events = Vec::new(alloc);
+    for place in from..node.rows() {
+        events.push(event_at(node, place)?)?;
+    }
+    Ok(events)
+}
+
+/// The same, with the name of the last row that the node made.
+pub fn parcel_from<V: Signer>(
+    alloc: Global,
+    node: &Node<V>,
+    from: usize,
+) -> Result<EventParcel, Memory>
+    ensures { IfOk result (IsParcelFrom from node.now) }
+{
+    Ok(EventParcel {
+        events: events_from(alloc, node, from)?,
+        last: node.last_name(),
+    })
+}
