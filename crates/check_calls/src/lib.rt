@@ -1,5 +1,5 @@
-//! Tests of public calls of `hg_script`, `hg_votes`, `hg_fame`, `hg_node`, `hg_gossip`, `hg_world`, `hg_report` and
-//! `order_match`, with values from outside.
+//! Tests of public calls of `hg_script`, `hg_reading`, `hg_votes`, `hg_fame`, `hg_node`, `hg_gossip`, `hg_world`,
+//! `hg_report` and `order_match`, with values from outside.
 //! They stand above these crates so that their code is proved once; a crate with tests of its own is proved twice.
 //! There is nothing here but tests.
 //!
