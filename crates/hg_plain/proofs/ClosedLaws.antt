@@ -1,5 +1,5 @@
 -- What the table of closed rounds tells
-use Rattle.std.proofs.Common.{◌≡◌, ℕ, suc, false, Bool, List, length, get_or}
+use Rattle.std.proofs.Common.{◌≡◌, suc, false, Bool, List, length, get_or}
 use Rattle.hg_model.specs.Places.{greatest_below}
 use Rattle.hg_model.specs.Stakes.{Stakes}
 use Rattle.hg_model.specs.Links.{Link}

@@ -1,5 +1,5 @@
 -- The steps of the loops that look for the first decision and that make the marks
-use Rattle.std.proofs.Common.{◌≡◌, ℕ, ◌+◌, ◌<◌, Bool, true, false, List, length, Option, Some, None, option_map, leb, sym, refl, ap, ◌∙◌, inl, inr}
+use Rattle.std.proofs.Common.{◌≡◌, ℕ, ◌+◌, ◌<◌, true, false, List, length, Option, Some, None, option_map, leb, sym, refl, ap, ◌∙◌, inl, inr}
 use Rattle.std.proofs.lemmas.Bool.{cases_Bool}
 use Rattle.hg_model.specs.declared.ballot.Ballot.{Ballot}
 use Rattle.hg_model.specs.Places.{lesser_of, least_below}

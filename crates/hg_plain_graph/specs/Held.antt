@@ -1,9 +1,9 @@
 -- What the tables of a graph hold
-use Rattle.std.specs.Prelude.{ℕ, suc, ◌≡◌, ◌-◌, Bool, false, List, length, slice_index}
+use Rattle.std.specs.Prelude.{ℕ, suc, ◌≡◌, Bool, false, List, length, slice_index}
 use Rattle.std.specs.Global.{Vec}
 use Rattle.hg_model.specs.Places.{count_below}
 use Rattle.hg_model.specs.Stakes.{Stakes, member_count}
-use Rattle.hg_model.specs.Links.{Link, links}
+use Rattle.hg_model.specs.Links.{Link}
 use Rattle.hg_model.specs.Shape.{Shape, shape_of}
 use Rattle.hg_model.specs.Fame.{Marks, is_closed}
 use Rattle.hg_model.specs.Graph.{IsShaped}

@@ -1,5 +1,5 @@
 ghost use Rattle.std.specs.Prelude.{◌≡◌, ◌<◌, ◌≤◌, ◌-◌, ◌^◌, ◌&&◌, ◌==◌, length, slice_index, IfOk};
-ghost use Rattle.hg_model.specs.Places.{IsEarlier, count_below, maximum_below};
+ghost use Rattle.hg_model.specs.Places.{IsEarlier, maximum_below};
 ghost use Rattle.hg_model.specs.Links.{parents};
 ghost use Rattle.hg_model.specs.Rounds.{parent_round, is_seen_witness, is_witness_by, round_of};
 ghost use Rattle.hg_plain_graph.specs.Held.{IsRoundTable, IsStrongTable, seen_witnesses};

@@ -1,6 +1,5 @@
 use Rattle.std.proofs.Common.{sym, ◌∙◌, ap}
-use Rattle.hg_model.specs.Places.{least_below}
-use Rattle.hg_model.specs.Rounds.{is_witness, round_of}
+use Rattle.hg_model.specs.Rounds.{is_witness}
 use Rattle.hg_model.specs.Shape.{Shape}
 use Rattle.hg_model.proofs.FameLaws.{fame_of_other}
 use Rattle.hg_plain.specs.Elections.{decided_vote}
