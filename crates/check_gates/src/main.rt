@@ -13,13 +13,11 @@
 mod gates;
 mod noted;
 mod running;
-mod trouble;
 
 use crate::gates::{LinesMeet, WorkerHeld, WorkersMeet};
 use crate::noted::{Noted, noted_script};
 use crate::running::report;
-use crate::trouble::Trouble;
-use check_tally::{Tally, exit};
+use hg_check::{Tally, Trouble, exit};
 use hg_io::NoGate;
 use std::process::ExitCode;
 use std::sync::Wait;

@@ -1,6 +1,6 @@
 //! A run of the program over files in memory.
 
-use crate::trouble::Trouble;
+use hg_check::Trouble;
 use hg_io::{Gate, ShelfMem, SinkMem};
 use hg_model::Memory;
 use hg_top::{Status, hashgraph};

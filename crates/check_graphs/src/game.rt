@@ -1,11 +1,11 @@
 use crate::carried::is_carried;
 use crate::comparing::{is_alike, is_front};
-use crate::dice::Dice;
 use crate::drafting::{Draft, next_draft, signed_event};
 use crate::marks::{are_marked, count_marked};
 use crate::plain::{rows_of, tables_of, whole_of};
 use crate::plan::{Plan, asks_for_fork, members_of, plan_of};
 use crate::watched::Watched;
+use hg_check::Dice;
 use hg_model::{Members, Memory, PutAnswer, Share};
 use hg_sign::MacTable;
 use std::alloc::Global;

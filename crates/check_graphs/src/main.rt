@@ -13,20 +13,17 @@
 
 mod carried;
 mod comparing;
-mod dice;
 mod drafting;
 mod game;
 mod marks;
 mod plain;
 mod plan;
-mod trouble;
 mod watched;
 mod worked;
 
 use crate::game::play;
-use crate::trouble::Trouble;
 use crate::worked::play_worked;
-use check_tally::{Tally, exit};
+use hg_check::{Tally, Trouble, exit};
 use std::process::ExitCode;
 
 /// How many graphs are made.

@@ -2,7 +2,7 @@ ghost use Rattle.std.specs.Prelude.{◌≡◌, ◌≤◌, ◌<◌, IfOk};
 ghost use Rattle.hg_model.specs.Members.{listed};
 ghost use Rattle.check_graphs.specs.Made.{made_entry, made_entries};
 
-use crate::dice::Dice;
+use hg_check::Dice;
 use hg_model::{Bytes, MemberEntry, Members, Memory};
 use std::alloc::Global;
 

@@ -1,6 +1,6 @@
 //! Two members, the nodes that they play with, and what a node does that no one shares.
 
-use crate::trouble::Trouble;
+use hg_check::Trouble;
 use hg_model::{Bytes, Member, MemberEntry, Members, Memory};
 use hg_node::Node;
 use hg_sign::MacTable;

@@ -1,10 +1,10 @@
-ghost use Rattle.std.specs.Prelude.{◌≡◌, ◌<◌, ◌≤◌, ◌↔◌, ℕ, IfSome, IsTrue, OnOk, [], get_or, length, slice_get};
+ghost use Rattle.std.specs.Prelude.{◌≡◌, ◌<◌, ◌↔◌, ℕ, IfSome, IsTrue, OnOk, [], get_or, length, slice_get};
 ghost use Rattle.hg_model.specs.Orders.{IsPrefix};
 ghost use Rattle.hg_runs.specs.Safety.{IsOnePrefix};
 ghost use Rattle.check_worlds.specs.Orders.{AreOneOrder, HaveGrown, orders_in};
 
-use crate::orders::{Order, Ordered, orders_of};
-use check_tally::Tally;
+use crate::orders::orders_of;
+use hg_check::{Order, Ordered, Tally, is_prefix};
 use hg_model::Memory;
 use hg_world::World;
 use std::alloc::Global;
@@ -16,13 +16,6 @@ pub struct Compared {
     before: Vec<Order>,
     /// How many pairs of orders were compared, and how many of them differ.
     tally: Tally,
-}
-
-/// Whether the first is a prefix of the second.
-fn is_prefix(front: &[Ordered], whole: &[Ordered]) -> bool
-    ensures { IsTrue result ↔ IsPrefix front.now whole.now }
-{
-    whole.starts_with(front)
 }
 
 /// Whether one of the two is a prefix of the other.

@@ -1,4 +1,4 @@
-use crate::dice::Dice;
+use hg_check::Dice;
 use hg_event::{encode, encode_body};
 use hg_model::{Bytes, Member, Memory, Name, Row};
 use hg_node::Node;

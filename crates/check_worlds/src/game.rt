@@ -1,11 +1,9 @@
 ghost use Rattle.hg_world.specs.World.{IsMemberOf};
 
 use crate::comparing::Compared;
-use crate::dice::Dice;
 use crate::forging::{damage, forged_event};
 use crate::plan::{Plan, members_of, plan_of};
-use crate::trouble::Trouble;
-use check_tally::Tally;
+use hg_check::{Dice, Tally, Trouble};
 use hg_model::{Member, Members, Memory, PutAnswer, Share};
 use hg_sign::MacTable;
 use hg_world::World;

@@ -10,16 +10,13 @@
 #![tactic(auto)]
 
 mod comparing;
-mod dice;
 mod forging;
 mod game;
 mod orders;
 mod plan;
-mod trouble;
 
 use crate::game::play;
-use crate::trouble::Trouble;
-use check_tally::{Tally, exit};
+use hg_check::{Tally, Trouble, exit};
 use std::process::ExitCode;
 
 /// How many worlds are played.

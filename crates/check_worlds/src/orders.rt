@@ -4,33 +4,12 @@ ghost use Rattle.hg_model.specs.NodeView.{node_rows};
 ghost use Rattle.hg_world.specs.World.{IsMemberOf, node_at};
 ghost use Rattle.check_worlds.specs.Orders.{kept_order, orders_in};
 
-use hg_model::{Items, Member, Memory, Name, Placed};
+use hg_check::{Order, Ordered};
+use hg_model::{Items, Member, Memory, Placed};
 use hg_node::Node;
 use hg_sign::SharedTable;
 use hg_world::World;
 use std::alloc::Global;
-use std::marker::Model;
-
-/// An event of an order by its name, which speaks of it at every node.
-#[derive(Clone, Copy, Debug, PartialEq, Eq)]
-pub struct Ordered {
-    name: Name,
-    received: u32,
-    time: u64,
-}
-
-impl Model for Ordered {
-    ghost use Rattle.hg_model.specs.Order as order;
-
-    ghost Value = { order.Ordered };
-
-    ghost view = { λ s. record { name = s.name; received = s.received; time = s.time } };
-
-    ghost inverse = { λ s. record { name = s.name; received = s.received; time = s.time } };
-}
-
-/// An order of a node, by names.
-pub type Order = Items<Ordered>;
 
 /// A placed row of the node, by its name.
 #[tactic(auto, unfolding(hg_model::specs::Graph::name_at))]

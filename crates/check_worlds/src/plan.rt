@@ -1,7 +1,6 @@
 ghost use Rattle.std.specs.Prelude.{◌≤◌, ◌<◌};
 
-use crate::dice::Dice;
-use crate::trouble::Trouble;
+use hg_check::{Dice, Trouble};
 use hg_model::{Bytes, MemberEntry, Members, Memory};
 use std::alloc::Global;
 

@@ -17,13 +17,12 @@ mod market;
 mod printing;
 mod reading;
 mod script;
-mod trouble;
 
 use crate::forging::forged_event;
 use crate::market::Market;
 use crate::printing::print_book;
 use crate::script::{asking, gossip, members_of, opening, passing, placing, taking_back, time_of};
-use crate::trouble::Trouble;
+use hg_check::Trouble;
 use hg_model::{Member, Memory};
 use hg_sign::MacTable;
 use order_match::Side;

@@ -2,23 +2,29 @@ use hg_model::Memory;
 use std::alloc::{AllocError, AllocFailed};
 use std::io;
 
-/// Why the cases could not be played to their end.
+/// Why a program of tests came to no end.
 #[derive(Clone, Copy, Debug, PartialEq, Eq)]
 pub enum Trouble {
-    /// The packed file has another form.
+    /// What it reads has another form.
     Broken,
+    /// The made members are none.
+    Members,
     /// Memory ran out.
     Memory,
-    /// The packed file could not be read, or a line not be written.
+    /// A file could not be read, or a line not be written.
     Outside,
+    /// The program that it runs came to another status than its end.
+    Program,
 }
 
 impl Trouble {
     pub fn text(self) -> &'static str {
         match self {
             Trouble::Broken => "broken",
+            Trouble::Members => "no members",
             Trouble::Memory => "out of memory",
             Trouble::Outside => "not read, or a line not written",
+            Trouble::Program => "another status",
         }
     }
 }

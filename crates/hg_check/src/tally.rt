@@ -1,5 +1,5 @@
 ghost use Rattle.std.specs.Prelude.{◌≡◌, ◌+◌, ◌-◌, ◌^◌, true, false, min};
-ghost use Rattle.check_tally.specs.Exit.{exit_number};
+ghost use Rattle.hg_check.specs.Exit.{exit_number};
 
 use std::io;
 use std::process::ExitCode;

@@ -1,6 +1,6 @@
 -- What two runs of the program are compared by
 use Rattle.std.specs.Prelude.{◌≡◌}
-use Rattle.check_cases.specs.declared.outcome.Outcome.{Outcome}
+use Rattle.hg_check.specs.declared.outcome.Outcome.{Outcome}
 
 -- both ended with the same status and wrote the same
 abbrev pub AreSame : Outcome → Outcome → Type 0

@@ -1,7 +1,7 @@
 use Rattle.std.proofs.Common.{drop, length}
 use Rattle.std.proofs.lemmas.Slice.Eq.{starts_is}
-use Rattle.check_worlds.proofs.OrderLaws.{same_decides}
-use Rattle.check_worlds.proofs.comparing.is_prefix.Goals as goal
+use Rattle.hg_check.proofs.OrderedLaws.{same_decides}
+use Rattle.hg_check.proofs.ordered.is_prefix.Goals as goal
 
 pub returns : goal.returns
 returns c =

@@ -1,6 +1,6 @@
 -- With what number a program of tests ends
 use Rattle.std.specs.Prelude.{ℕ, if◌then◌else◌, ◌==◌, Result, Ok, Err}
-use Rattle.check_tally.specs.declared.tally.Tally.{Tally}
+use Rattle.hg_check.specs.declared.tally.Tally.{Tally}
 
 -- 0 where nothing differs
 abbrev pub exit_number : {E : Type 0} → Result Tally E → ℕ

@@ -1,5 +1,5 @@
 ghost use Rattle.std.specs.Prelude.{◌≡◌, ◌↔◌, None};
-ghost use Rattle.check_cases.specs.Outcomes.{AreSame};
+ghost use Rattle.hg_check.specs.Outcomes.{AreSame};
 
 /// What a run of the program wrote and ended with.
 #[derive(Clone, Copy)]
