@@ -7,16 +7,16 @@ use std::rt::Files;
 
 /// The files of the machine, one of which is open at a time. It tells nothing of what they hold.
 #[derive(Drop)]
-pub struct Disk<'a, R: Files> {
+pub struct RealShelf<'a, R: Files> {
     files: &'a R,
     file: Option<R::File>,
     faults: u64,
     starts: u64,
 }
 
-impl<'a, R: Files> Disk<'a, R> {
-    pub fn new(files: &'a R) -> Disk<'a, R> {
-        Disk {
+impl<'a, R: Files> RealShelf<'a, R> {
+    pub fn new(files: &'a R) -> RealShelf<'a, R> {
+        RealShelf {
             files,
             file: None,
             faults: 0,
@@ -25,7 +25,7 @@ impl<'a, R: Files> Disk<'a, R> {
     }
 }
 
-impl<R: Files> Shelf for Disk<'_, R> {
+impl<R: Files> Shelf for RealShelf<'_, R> {
     ghost use Rattle.std.specs.Prelude.{IsSome};
 
     ghost holds = { λ _. None };
