@@ -1,7 +1,7 @@
 use Rattle.std.proofs.Common.{◌≡◌, ◌≤◌, ◌<◌, ℕ, length, get_or}
 use Rattle.order_match.specs.Books.{no_book}
-use Rattle.order_book.specs.Market.{IsBehind, book_at, events_at}
-use Rattle.order_book.proofs.reading.read_all.Given as goal
+use Rattle.order_market.specs.Market.{IsBehind, book_at, events_at}
+use Rattle.order_market.proofs.reading.read_all.Given as goal
 
 abbrev pub invariant-loop-m : goal.invariant-loop-m
 invariant-loop-m l = record {

@@ -16,8 +16,8 @@ use Rattle.hg_world.specs.Steps.{after_steps, settle_steps}
 use Rattle.hg_world.specs.Syncs.{sync_steps}
 use Rattle.order_match.specs.Books.{BookView, Event, book_of, event_of, no_book}
 use Rattle.order_match.specs.Laws.{IsEarlier}
-use Rattle.order_book.specs.declared.action.Action.{Action}
-use Rattle.order_book.specs.declared.action.Action.TheVariants.{Make, Sync, Deliver, Settle}
+use Rattle.order_market.specs.declared.action.Action.{Action}
+use Rattle.order_market.specs.declared.action.Action.TheVariants.{Make, Sync, Deliver, Settle}
 
 -- the row at a place as an event of a book: its creator and its payload
 abbrev pub event_at : List Row → ℕ → Event

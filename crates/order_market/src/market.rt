@@ -3,7 +3,7 @@ ghost use Rattle.order_match.specs.Books.{no_book};
 ghost use Rattle.order_match.specs.Laws.{IsWhole};
 ghost use Rattle.hg_world.specs.World.{IsMemberOf, new_world};
 ghost use Rattle.hg_world.specs.Steps.{after_steps};
-ghost use Rattle.order_book.specs.Market.{AreOneBook, action_steps, after_action, after_actions, book_at, events_at, is_action_of};
+ghost use Rattle.order_market.specs.Market.{AreOneBook, action_steps, after_action, after_actions, book_at, events_at, is_action_of};
 
 use crate::action::Action;
 use crate::reading::{member_count, read_all};
@@ -22,7 +22,7 @@ pub struct Market {
 
 impl Model for Market {
     ghost use Rattle.hg_world.specs.World.{WorldView};
-    ghost use Rattle.order_book.specs.Market.{HasBooks};
+    ghost use Rattle.order_market.specs.Market.{HasBooks};
 
     ghost Value = { WorldView };
 

@@ -1,5 +1,5 @@
-use Rattle.order_book.proofs.ReadLaws.{few_read, none_read, one_read}
-use Rattle.order_book.proofs.reading.read_each.Goals as goal
+use Rattle.order_market.proofs.ReadLaws.{few_read, none_read, one_read}
+use Rattle.order_market.proofs.reading.read_each.Goals as goal
 
 pub loop-placed-init : goal.loop-placed-init
 loop-placed-init c = none_read c.args.book.now

@@ -23,8 +23,8 @@ use Rattle.hg_world.specs.World.{site_at}
 use Rattle.hg_world.specs.Steps.{after_step, after_steps}
 use Rattle.hg_world.proofs.StepLaws.{steps_sites}
 use Rattle.order_match.specs.Books.{BookView, Event}
-use Rattle.order_book.specs.declared.action.Action.{Action}
-use Rattle.order_book.specs.Market.{AreBehind, HasBooks, action_steps, after_action, event_in, events_after, events_at, is_action_of}
+use Rattle.order_market.specs.declared.action.Action.{Action}
+use Rattle.order_market.specs.Market.{AreBehind, HasBooks, action_steps, after_action, event_in, events_after, events_at, is_action_of}
 
 -- ---- the history of each node
 

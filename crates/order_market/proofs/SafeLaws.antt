@@ -19,8 +19,8 @@ use Rattle.hg_world.specs.Parts.{IsWorld}
 use Rattle.order_match.specs.Books.{Event, book_of}
 use Rattle.order_match.specs.Laws.{IsEarlier}
 use Rattle.order_match.proofs.BookLaws.{book_more}
-use Rattle.order_book.specs.Market.{AreOneBook, IsBookBefore, event_in, events_at}
-use Rattle.order_book.proofs.GrowthLaws.{kept_places}
+use Rattle.order_market.specs.Market.{AreOneBook, IsBookBefore, event_in, events_at}
+use Rattle.order_market.proofs.GrowthLaws.{kept_places}
 
 -- rows of one name are one event
 same_event : (G H : List Row) (x y : Placed) → HaveEqualRows G H → x.place < length G → y.place < length H → name_at G x.place ≡ name_at H y.place → event_in G x ≡ event_in H y

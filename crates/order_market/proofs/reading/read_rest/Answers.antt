@@ -1,8 +1,8 @@
 use Rattle.std.proofs.Common.{◌∙◌, ◌-◌, ap₂, drop, length, take, List, ℕ}
 use Rattle.std.proofs.lemmas.List.{take_rest}
 use Rattle.hg_model.specs.declared.row.Placed.{Placed}
-use Rattle.order_book.proofs.ReadLaws.{rest_read}
-use Rattle.order_book.proofs.reading.read_rest.Goals as goal
+use Rattle.order_market.proofs.ReadLaws.{rest_read}
+use Rattle.order_market.proofs.reading.read_rest.Goals as goal
 
 pub returns : goal.returns
 returns c =

@@ -13,7 +13,7 @@ use Rattle.hg_world.specs.World.{Secrets, WorldView, IsSiteOf, node_at, site_at}
 use Rattle.order_match.specs.Books.{BookView, Event, book_of, no_book, with_event, with_events}
 use Rattle.order_match.proofs.BookLaws.{more_count}
 use Rattle.order_match.specs.Laws.{BooksGoOn, EventsAreCounted}
-use Rattle.order_book.specs.Market.{AreBehind, IsBehind, event_at, event_in, events_after, events_at, events_of}
+use Rattle.order_market.specs.Market.{AreBehind, IsBehind, event_at, event_in, events_after, events_at, events_of}
 
 -- no event read, and one more
 pub none_read : (b : BookView) → b ≡ with_events b []
