@@ -1,3 +1,4 @@
 pub mod Alike
 pub mod Made
 pub mod Moments
+pub mod Published

@@ -1,1 +1,2 @@
 mod OrderedLaws
+mod PlacedLaws

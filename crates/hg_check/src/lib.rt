@@ -1,6 +1,6 @@
 //! What the programs of tests have in common: the tally of what they tried and what differs from what it must be, dice
-//! that fall the same for the same number, why they came to no end, and two comparisons: of what two runs of the program
-//! came to, and of orders by names.
+//! that fall the same for the same number, why they came to no end, and three comparisons: of what two runs of the program
+//! came to, of the orders of two nodes by names, and of those of one graph by places.
 //! The program above adds to a `Tally`, prints it as its last line, and ends with `exit`.
 //!
 //! From `run_all` and `main` of `check_gates`:
@@ -20,11 +20,13 @@
 mod dice;
 mod ordered;
 mod outcome;
+mod placed;
 mod tally;
 mod trouble;
 
 pub use dice::Dice;
 pub use ordered::{Order, Ordered, is_prefix};
 pub use outcome::{Outcome, Part, difference};
+pub use placed::are_equal;
 pub use tally::{Tally, exit};
 pub use trouble::Trouble;
