@@ -1,6 +1,6 @@
 use Rattle.std.proofs.Common.{◌≡◌, ◌<◌, ℕ, [], get_or}
 use Rattle.hg_runs.specs.Safety.{IsOnePrefix}
-use Rattle.check_worlds.proofs.comparing.with_pairs.Given as goal
+use Rattle.check_graphs.proofs.agreeing.with_pairs.Given as goal
 
 abbrev pub invariant-loop-place : goal.invariant-loop-place
 invariant-loop-place l = record {

@@ -2,8 +2,8 @@ use Rattle.std.proofs.Common.{◌∙◌, ◌++◌, ◌∷◌, [], List, ap₂, s
 use Rattle.std.proofs.lemmas.List.FromFn.{map-range_with_len_more}
 use Rattle.hg_model.specs.Order.{Ordered}
 use Rattle.hg_world.specs.World.{node_at}
-use Rattle.check_worlds.specs.Orders.{kept_order}
-use Rattle.check_worlds.proofs.orders.orders_of.Goals as goal
+use Rattle.check_graphs.specs.Orders.{kept_order}
+use Rattle.check_graphs.proofs.orders.orders_of.Goals as goal
 
 pub loop-member-preserved : goal.loop-member-preserved
 loop-member-preserved c =

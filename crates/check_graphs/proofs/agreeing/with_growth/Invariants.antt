@@ -1,6 +1,6 @@
 use Rattle.std.proofs.Common.{◌≡◌, ◌<◌, ℕ, [], get_or, slice_get, IfSome}
 use Rattle.hg_model.specs.Orders.{IsPrefix}
-use Rattle.check_worlds.proofs.comparing.with_growth.Given as goal
+use Rattle.check_graphs.proofs.agreeing.with_growth.Given as goal
 
 abbrev pub invariant-loop-place : goal.invariant-loop-place
 invariant-loop-place l = record {

@@ -4,7 +4,7 @@ use Rattle.std.proofs.lemmas.Bool.{cases_lt}
 use Rattle.std.proofs.lemmas.List.{get_or_default}
 use Rattle.hg_model.specs.Order as order
 use Rattle.hg_runs.specs.Safety.{IsOnePrefix}
-use Rattle.check_worlds.specs.Orders.{AreOneOrder}
+use Rattle.check_graphs.specs.Orders.{AreOneOrder}
 
 -- what holds below a number, and of it, holds below the next
 pub below_next : (P : ℕ → Type 0) (n : ℕ) → ((k : ℕ) → k < n → P k) → P n → (k : ℕ) → k < n + 1 → P k

@@ -1,18 +1,21 @@
+ghost use Rattle.std.specs.Prelude.{◌≡◌, IfOk, OnOk};
 ghost use Rattle.hg_world.specs.World.{IsMemberOf};
+ghost use Rattle.check_graphs.specs.Orders.{AreOneOrder, HaveGrown, orders_in};
 
-use crate::comparing::Compared;
+use crate::agreeing::Compared;
 use crate::forging::{damage, forged_event};
-use crate::plan::{Plan, members_of, plan_of};
-use hg_check::{Dice, Tally, Trouble};
+use crate::plan::members_of;
+use crate::world_plan::{WorldPlan, world_plan};
+use hg_check::{Dice, Tally};
 use hg_model::{Member, Members, Memory, PutAnswer, Share};
 use hg_sign::MacTable;
 use hg_world::World;
 use std::alloc::Global;
 
-/// After so many steps the orders are compared, after each.
+/// So many steps there are at least.
 const STEPS: u32 = 99;
 
-/// At most so many steps come then, until events are ordered and there is a fork where the plan asks for one.
+/// At most so many come then, until events are ordered and there is a fork where the plan asks for one.
 const MORE: u32 = 400;
 
 /// How a world came out.
@@ -28,7 +31,7 @@ pub struct Played {
 #[derive(Clone, Copy)]
 struct Game<'a> {
     alloc: Global,
-    plan: Plan,
+    plan: WorldPlan,
     keys: &'a MacTable,
 }
 
@@ -166,47 +169,73 @@ impl<'a> Game<'a> {
         Ok(true)
     }
 
-    /// The steps after which the orders are compared.
+    /// A step, and then the comparison of the orders.
+    fn step_compared(
+        &self,
+        dice: &mut Dice,
+        world: &mut World,
+        compared: &mut Compared,
+    ) -> Result<bool, Memory>
+        ensures none { compared.new.tally.differ ≡ 0 → compared.old.tally.differ ≡ 0 }
+        ensures pairs { OnOk result (compared.new.tally.differ ≡ 0 → AreOneOrder (orders_in world.new)) }
+        ensures grown { OnOk result (compared.new.tally.differ ≡ 0 → HaveGrown compared.old.before.items (orders_in world.new)) }
+    {
+        let refused = self.step(dice, world)?;
+        compared.compare(self.alloc, world)?;
+        Ok(refused)
+    }
+
+    /// The steps that there are at least.
     fn play_steps(
         &self,
         dice: &mut Dice,
         world: &mut World,
         compared: &mut Compared,
-    ) -> Result<bool, Memory> {
+    ) -> Result<bool, Memory>
+        ensures { compared.new.tally.differ ≡ 0 → compared.old.tally.differ ≡ 0 }
+    {
         let mut refused = true;
-        for _ in 0..STEPS {
-            refused = self.step(dice, world)? && refused;
-            compared.compare(self.alloc, world)?;
+        for step in 0..STEPS {
+            refused = self.step_compared(dice, world, compared)? && refused;
         }
         Ok(refused)
     }
 
     /// More steps, until the world is worth it.
-    fn play_more(&self, dice: &mut Dice, world: &mut World) -> Result<bool, Memory> {
+    fn play_more(
+        &self,
+        dice: &mut Dice,
+        world: &mut World,
+        compared: &mut Compared,
+    ) -> Result<bool, Memory>
+        ensures { compared.new.tally.differ ≡ 0 → compared.old.tally.differ ≡ 0 }
+    {
         let mut refused = true;
-        for _ in 0..MORE {
+        for step in 0..MORE {
             if is_worth(world, self.plan.forkers.is_some()) {
                 break;
             }
-            refused = self.step(dice, world)? && refused;
+            refused = self.step_compared(dice, world, compared)? && refused;
         }
         Ok(refused)
     }
 
     /// Each member's first event, and all steps. At the end all nodes are settled, and the orders compared once more.
-    fn play(&self, dice: &mut Dice, world: &mut World) -> Result<Played, Memory> {
+    fn play(&self, dice: &mut Dice, world: &mut World) -> Result<Played, Memory>
+        ensures { IfOk result (λ played. played.compared.differ ≡ 0 → AreOneOrder (orders_in world.new)) }
+    {
         let mut compared = Compared::new(self.alloc);
         for number in 0..self.plan.members {
             begin(dice, world, number)?;
         }
         let mut refused = self.play_steps(dice, world, &mut compared)?;
-        refused = self.play_more(dice, world)? && refused;
+        refused = self.play_more(dice, world, &mut compared)? && refused;
         for number in 0..self.plan.members {
             settle(world, number)?;
         }
         compared.compare(self.alloc, world)?;
         Ok(Played {
-            compared: compared.tally(),
+            compared: compared.tally,
             is_worth: refused && is_worth(world, self.plan.forkers.is_some()),
         })
     }
@@ -226,19 +255,19 @@ fn publish_some(dice: &mut Dice, world: &mut World) -> Result<(), Memory> {
 }
 
 /// Plays the world of this number.
-pub fn play(alloc: Global, number: u32) -> Result<Played, Trouble> {
+pub fn play_world(alloc: Global, number: u32) -> Result<Played, Memory> {
     let mut dice = Dice::new(number);
-    let plan = plan_of(number, &mut dice);
-    let members = members_of(alloc, &plan)?;
+    let plan = world_plan(number, &mut dice);
+    let members = members_of(alloc, plan.members, plan.coin)?;
     let keys = MacTable::new(alloc, &members)?;
-    Ok(play_plan(alloc, &mut dice, plan, &members, &keys)?)
+    play_plan(alloc, &mut dice, plan, &members, &keys)
 }
 
 /// Plays it by its plan, among these members.
 fn play_plan(
     alloc: Global,
     dice: &mut Dice,
-    plan: Plan,
+    plan: WorldPlan,
     members: &Members,
     keys: &MacTable,
 ) -> Result<Played, Memory> {

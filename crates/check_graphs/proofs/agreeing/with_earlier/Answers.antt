@@ -1,7 +1,7 @@
 use Rattle.std.proofs.Common.{[], get_or, arith, ◌∙◌}
 use Rattle.hg_runs.specs.Safety.{IsOnePrefix}
-use Rattle.check_worlds.proofs.OrderLaws.{below_next, at_places}
-use Rattle.check_worlds.proofs.comparing.with_earlier.Goals as goal
+use Rattle.check_graphs.proofs.OrderLaws.{below_next, at_places}
+use Rattle.check_graphs.proofs.agreeing.with_earlier.Goals as goal
 
 pub loop-k-preserved : goal.loop-k-preserved
 loop-k-preserved c = record {

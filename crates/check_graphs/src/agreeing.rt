@@ -1,7 +1,7 @@
 ghost use Rattle.std.specs.Prelude.{◌≡◌, ◌<◌, ◌↔◌, ℕ, IfSome, IsTrue, OnOk, [], get_or, length, slice_get};
 ghost use Rattle.hg_model.specs.Orders.{IsPrefix};
 ghost use Rattle.hg_runs.specs.Safety.{IsOnePrefix};
-ghost use Rattle.check_worlds.specs.Orders.{AreOneOrder, HaveGrown, orders_in};
+ghost use Rattle.check_graphs.specs.Orders.{AreOneOrder, HaveGrown, orders_in};
 
 use crate::orders::orders_of;
 use hg_check::{Order, Ordered, Tally, is_prefix};
@@ -13,9 +13,9 @@ use std::alloc::Global;
 #[derive(Drop)]
 pub struct Compared {
     /// The orders that its nodes kept last.
-    before: Vec<Order>,
+    pub before: Vec<Order>,
     /// How many pairs of orders were compared, and how many of them differ.
-    tally: Tally,
+    pub tally: Tally,
 }
 
 /// Whether one of the two is a prefix of the other.
@@ -88,12 +88,6 @@ impl Compared {
             before: Vec::new(alloc),
             tally: Tally::new(),
         }
-    }
-
-    pub fn tally(&self) -> Tally
-        ensures { result ≡ self.now.tally }
-    {
-        self.tally
     }
 
     /// Compares the orders that the nodes keep with each other, and each with that of the last time.

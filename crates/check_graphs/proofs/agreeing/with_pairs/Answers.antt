@@ -1,7 +1,7 @@
 use Rattle.std.proofs.Common.{◌<◌, [], get_or, arith}
 use Rattle.hg_runs.specs.Safety.{IsOnePrefix}
-use Rattle.check_worlds.proofs.OrderLaws.{below_next, pairs_of}
-use Rattle.check_worlds.proofs.comparing.with_pairs.Goals as goal
+use Rattle.check_graphs.proofs.OrderLaws.{below_next, pairs_of}
+use Rattle.check_graphs.proofs.agreeing.with_pairs.Goals as goal
 
 pub loop-place-preserved : goal.loop-place-preserved
 loop-place-preserved c = record {

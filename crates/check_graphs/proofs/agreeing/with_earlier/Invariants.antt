@@ -1,6 +1,6 @@
 use Rattle.std.proofs.Common.{◌≡◌, ◌<◌, ℕ, [], get_or}
 use Rattle.hg_runs.specs.Safety.{IsOnePrefix}
-use Rattle.check_worlds.proofs.comparing.with_earlier.Given as goal
+use Rattle.check_graphs.proofs.agreeing.with_earlier.Given as goal
 
 abbrev pub invariant-loop-k : goal.invariant-loop-k
 invariant-loop-k l = record {

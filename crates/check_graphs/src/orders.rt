@@ -2,7 +2,7 @@ ghost use Rattle.std.specs.Prelude.{◌≡◌, ◌<◌, IfOk, length};
 ghost use Rattle.hg_model.specs.Order.{named_in};
 ghost use Rattle.hg_model.specs.NodeView.{node_rows};
 ghost use Rattle.hg_world.specs.World.{IsMemberOf, node_at};
-ghost use Rattle.check_worlds.specs.Orders.{kept_order, orders_in};
+ghost use Rattle.check_graphs.specs.Orders.{kept_order, orders_in};
 
 use hg_check::{Order, Ordered};
 use hg_model::{Items, Member, Memory, Placed};
