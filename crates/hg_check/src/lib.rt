@@ -3,17 +3,20 @@
 //! came to, of the orders of two nodes by names, and of those of one graph by places.
 //! The program above adds to a `Tally`, prints it as its last line, and ends with `exit`.
 //!
-//! From `run_all` and `main` of `check_gates`:
+//! From `run_all` and `main` of `check_cases`:
 //!
 //! ```text
 //! let runs = Tally::new()
 //!     .with(lines_meet(rt)?)
 //!     .with(workers_meet(rt)?)
-//!     .with(many_write(rt)?);
+//!     .with(many_write(rt)?)
+//!     .with(lines_pass(rt)?)
+//!     .with(points_are_passed(rt, false)?)
+//!     .with(points_are_passed(rt, true)?);
 //! runs.print(rt, "runs at gates")?;
 //! Ok(runs)
 //!
-//! exit(run_all(&rt))
+//! exit(play_all(&rt))
 //! ```
 #![tactic(auto)]
 

@@ -1,6 +1,6 @@
 //! Four members trade by an order that none of them rules: each node has the book of its order. D cheats: it signs two
 //! events on one self-parent, for B and for the rest. It prints each node's book. Of two books one is an earlier state
-//! of the other (`safe` of `run` of order_market), if the dishonest have less than a third of the stake and names do not collide.
+//! of the other, if the dishonest have less than a third of the stake and names do not collide (`run` of order_market).
 //!
 //! `rt run` in its folder proves and runs it; of what it prints (`stdout`), the first lines:
 //!

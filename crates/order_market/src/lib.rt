@@ -2,10 +2,9 @@
 //! The program above hands actions to a `Market`, and reads the books. Of two books one is an earlier state of the other
 //! (`safe` of `run`), if the dishonest have less than a third of the stake and names do not collide.
 //!
-//! From `play_all`, `play` and `print_all` of `order_book`, shortened:
+//! From `play` and `print_all` of `order_book`, shortened:
 //!
 //! ```text
-//! let market = Market::new(alloc, &members)?;
 //! let actions = opening(alloc)?;
 //! let market = market.run(&actions)?;
 //! print_book(rt, member, market.book(member))?;
