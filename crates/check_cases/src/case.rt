@@ -1,6 +1,5 @@
-use crate::outcome::Outcome;
 use crate::pack::Pack;
-use crate::trouble::Trouble;
+use hg_check::{Outcome, Trouble};
 use std::alloc::Global;
 
 /// A case: what the program is run on, and what it must come to.

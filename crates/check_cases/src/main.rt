@@ -1,6 +1,6 @@
 //! Plays stored cases: for each, words and files, and what the program must write and end with.
 //! Each is run through `hashgraph` of hg_top over a shelf and two sinks in memory, and compared byte for byte.
-//! `difference` says that no part differs just where all parts are the same.
+//! `difference` of hg_check says that no part differs just where all parts are the same.
 //!
 //! `rt ci check_cases` proves it and runs it in its `data/`; it prints (`stdout`), N being the number of stored cases:
 //!
@@ -10,19 +10,15 @@
 #![tactic(auto)]
 
 mod case;
-mod outcome;
 mod pack;
 mod playing;
 mod printing;
-mod trouble;
 
 use crate::case::{Case, read_case};
-use crate::outcome::difference;
 use crate::pack::Pack;
 use crate::playing::play;
 use crate::printing::print_difference;
-use crate::trouble::Trouble;
-use check_tally::{Tally, exit};
+use hg_check::{Tally, Trouble, difference, exit};
 use std::fs;
 use std::process::ExitCode;
 use std::rt::Files;

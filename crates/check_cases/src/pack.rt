@@ -1,6 +1,6 @@
 ghost use Rattle.std.specs.Prelude.{◌≡◌, ◌↔◌, ◌≤◌, ◌++◌, ◌∷◌, Contains, IfOk, IfSome, IsOk, IsSome, drop, length, take};
 
-use crate::trouble::Trouble;
+use hg_check::Trouble;
 
 /// The packed cases that are still to be read.
 #[derive(Clone, Copy)]

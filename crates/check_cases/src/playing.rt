@@ -1,4 +1,4 @@
-use crate::outcome::Outcome;
+use hg_check::Outcome;
 use hg_io::{NoGate, ShelfMem, SinkMem};
 use hg_model::Memory;
 use hg_top::{Status, hashgraph};

@@ -1,4 +1,4 @@
-use crate::outcome::{Outcome, Part};
+use hg_check::{Outcome, Part};
 use std::io;
 
 /// Prints the first line at which two texts part, numbered from 1.

@@ -1,4 +1,5 @@
 mod CarryLaws
 mod MadeLaws
 mod MomentLaws
+mod OrderLaws
 mod TakeLaws

@@ -1,3 +1,5 @@
 pub mod Alike
 pub mod Made
 pub mod Moments
+pub mod Orders
+pub mod Published

@@ -1,7 +1,7 @@
 ghost use Rattle.std.specs.Prelude.{◌<◌};
 
-use crate::dice::Dice;
 use crate::plan::Plan;
+use hg_check::Dice;
 use hg_event::{encode, encode_body};
 use hg_model::{Bytes, Member, Memory, Name, Row};
 use hg_name::name_of;

@@ -1,12 +1,18 @@
+ghost use Rattle.std.specs.Prelude.{◌≡◌, IfOk, IsTrue};
+ghost use Rattle.hg_model.specs.NodeView.{kept_of, last_closed_of};
+ghost use Rattle.check_graphs.specs.Published.{IsPublished};
+
 use crate::carried::is_carried;
 use crate::comparing::{is_alike, is_front};
-use crate::dice::Dice;
 use crate::drafting::{Draft, next_draft, signed_event};
 use crate::marks::{are_marked, count_marked};
-use crate::plain::{rows_of, tables_of, whole_of};
+use crate::plain::{is_published, rows_of, tables_of, whole_of};
 use crate::plan::{Plan, asks_for_fork, members_of, plan_of};
 use crate::watched::Watched;
+use hg_check::Dice;
 use hg_model::{Members, Memory, PutAnswer, Share};
+use hg_node::Node;
+use hg_plain::{PlainPrefix, PlainWhole};
 use hg_sign::MacTable;
 use std::alloc::Global;
 
@@ -118,7 +124,9 @@ impl<'a> Game<'a> {
     }
 
     /// All of it, from the node without rows to the end.
-    fn play(&mut self, number: u32) -> Result<bool, Memory> {
+    fn play(&mut self, number: u32) -> Result<bool, Memory>
+        ensures { IfOk result (λ same. IsTrue same → IsPublished self.new.watched.node) }
+    {
         let mut alike = self.is_plain()?;
         alike = self.play_events()? && alike;
         alike = self.play_more(number)? && alike;
@@ -127,7 +135,9 @@ impl<'a> Game<'a> {
 
     /// Publishes all that is left, all at once or share by share, and compares with the plain program; and a table of votes that
     /// is carried from row to row with new ones.
-    fn end(&mut self, number: u32) -> Result<bool, Memory> {
+    fn end(&mut self, number: u32) -> Result<bool, Memory>
+        ensures { IfOk result (λ same. IsTrue same → IsPublished self.new.watched.node) }
+    {
         let mut alike = true;
         if number % 2 == 0 {
             self.watched.settle()?;
@@ -149,18 +159,14 @@ impl<'a> Game<'a> {
     }
 
     /// Whether all is published, and all that the node tells is what the plain program tells.
-    fn is_plain(&self) -> Result<bool, Memory> {
+    fn is_plain(&self) -> Result<bool, Memory>
+        ensures { IfOk result (λ same. IsTrue same → IsPublished self.now.watched.node) }
+    {
         let node = self.watched.node();
         let whole = whole_of(self.alloc, node)?;
         let rows = rows_of(self.alloc, node)?;
         let tables = tables_of(self.alloc, node, rows.as_slice())?;
-        Ok(
-            node.kept() == whole.order.as_slice()
-                && node.closed() == whole.state.closed
-                && node.greatest() == whole.state.greatest
-                && node.forkers() == whole.state.forkers
-                && is_alike(node.graph(), &tables),
-        )
+        Ok(is_told_alike(node, &whole, &tables))
     }
 
     /// Whether rows were ordered, and a member has a fork, where the number asks for one.
@@ -170,11 +176,22 @@ impl<'a> Game<'a> {
     }
 }
 
+/// Whether all that the node tells is what the plain program tells.
+fn is_told_alike(node: &Node<&MacTable>, whole: &PlainWhole, tables: &PlainPrefix<'_>) -> bool
+    ensures order { IsTrue result → kept_of node.now ≡ whole.now.order }
+    ensures closed { IsTrue result → last_closed_of node.now ≡ whole.now.state.closed }
+{
+    is_published(node, whole)
+        && node.greatest() == whole.state.greatest
+        && node.forkers() == whole.state.forkers
+        && is_alike(node.graph(), tables)
+}
+
 /// Plays the graph of this number, and tells whether all was as it must be.
 pub fn play(alloc: Global, number: u32) -> Result<bool, Memory> {
     let mut dice = Dice::new(number);
     let plan = plan_of(number, &mut dice);
-    let members = members_of(alloc, &plan)?;
+    let members = members_of(alloc, plan.members, plan.coin)?;
     let keys = MacTable::new(alloc, &members)?;
     play_plan(alloc, number, dice, plan, &members, &keys)
 }

@@ -1,8 +1,10 @@
-ghost use Rattle.std.specs.Prelude.{◌≡◌, IfOk};
+ghost use Rattle.std.specs.Prelude.{◌≡◌, IfOk, IsTrue};
+ghost use Rattle.hg_model.specs.Ledger.{closed_of};
 ghost use Rattle.hg_model.specs.Order.{order_of};
 ghost use Rattle.hg_model.specs.Prefix.{graph_of};
-ghost use Rattle.hg_model.specs.NodeView.{node_rows};
+ghost use Rattle.hg_model.specs.NodeView.{kept_of, last_closed_of, node_rows};
 
+use hg_check::are_equal;
 use hg_model::{Memory, Prefix, Row, Sight};
 use hg_node::Node;
 use hg_plain::{PlainPrefix, PlainSight, PlainWhole, plain_whole};
@@ -30,13 +32,22 @@ fn copy_of(row: &Row) -> Result<Row, Memory>
 /// All that the plain program tells of the node's rows.
 #[tactic(auto, using(hg_model::proofs::LinkLaws::link_lengths))]
 pub fn whole_of(alloc: Global, node: &Node<&MacTable>) -> Result<PlainWhole, Memory>
-    ensures { IfOk result (λ whole. whole.order ≡ order_of node.now.start.members node.now.start.coin (node_rows node.now)) }
+    ensures order { IfOk result (λ whole. whole.order ≡ order_of node.now.start.members node.now.start.coin (node_rows node.now)) }
+    ensures closed { IfOk result (λ whole. whole.state.closed ≡ closed_of node.now.start.members node.now.start.coin (node_rows node.now)) }
 {
     let rows = rows_of(alloc, node)?;
     let graph = node.graph();
     // A graph has few rows.
     graph.rows();
     plain_whole(alloc, &rows, graph.members(), graph.coin())
+}
+
+/// Whether the node's kept order and last closed round are those that the plain program tells.
+pub fn is_published(node: &Node<&MacTable>, whole: &PlainWhole) -> bool
+    ensures order { IsTrue result → kept_of node.now ≡ whole.now.order }
+    ensures closed { IsTrue result → last_closed_of node.now ≡ whole.now.state.closed }
+{
+    are_equal(node.kept(), whole.order.as_slice()) && node.closed() == whole.state.closed
 }
 
 /// The plain program's tables of the node's rows.

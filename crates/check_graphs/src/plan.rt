@@ -2,7 +2,7 @@ ghost use Rattle.std.specs.Prelude.{◌≡◌, ◌≤◌, ◌<◌, IfOk};
 ghost use Rattle.hg_model.specs.Members.{listed};
 ghost use Rattle.check_graphs.specs.Made.{made_entry, made_entries};
 
-use crate::dice::Dice;
+use hg_check::Dice;
 use hg_model::{Bytes, MemberEntry, Members, Memory};
 use std::alloc::Global;
 
@@ -47,15 +47,19 @@ pub fn plan_of(number: u32, dice: &mut Dice) -> Plan {
     }
 }
 
-/// The members of the plan, A, B, C and so on.
-pub fn members_of(alloc: Global, plan: &Plan) -> Result<Members, Memory>
-    ensures { IfOk result (λ members. members ≡ listed (made_entries plan.now.members) plan.now.coin) }
+/// So many members, A, B, C and so on.
+pub fn members_of(alloc: Global, count: u32, coin: u32) -> Result<Members, Memory>
+    requires some { 4 ≤ count }
+    requires few { count ≤ 7 }
+    requires coin_low { 3 ≤ coin }
+    requires coin_high { coin ≤ 6 }
+    ensures { IfOk result (λ members. members ≡ listed (made_entries count) coin) }
 {
     let mut entries = Vec::new(alloc);
-    for number in 0..plan.members {
+    for number in 0..count {
         entries.push(entry_of(alloc, number as u8)?)?;
     }
-    Ok(Members::new(entries, plan.coin))
+    Ok(Members::new(entries, coin))
 }
 
 /// The member of this number.

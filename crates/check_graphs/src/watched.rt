@@ -1,4 +1,4 @@
-ghost use Rattle.std.specs.Prelude.{All, IfOk};
+ghost use Rattle.std.specs.Prelude.{◌≡◌, All, IfOk};
 ghost use Rattle.hg_model.specs.GraphWords.{SpeaksOf};
 ghost use Rattle.check_graphs.specs.Moments.{IsMomentOf};
 
@@ -43,7 +43,9 @@ impl<'a> Watched<'a> {
         })
     }
 
-    pub fn node(&self) -> &Node<&'a MacTable> {
+    pub fn node(&self) -> &Node<&'a MacTable>
+        ensures { result.now ≡ self.now.node }
+    {
         &self.node
     }
 

@@ -14,15 +14,13 @@ mod by_hand;
 mod meeting;
 mod players;
 mod seated;
-mod trouble;
 
 use crate::beside::{TURNS, shared_beside};
 use crate::by_hand::is_as_by_hand;
 use crate::meeting::Meeting;
 use crate::players::{Player, are_same, made_alone, node_of, played_alone, two_members};
 use crate::seated::{sync_alone, sync_by_seats};
-use crate::trouble::Trouble;
-use check_tally::{Tally, exit};
+use hg_check::{Tally, Trouble, exit};
 use hg_io::{Gate, NoGate};
 use hg_model::Members;
 use std::alloc::Global;

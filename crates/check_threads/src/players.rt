@@ -1,6 +1,10 @@
 //! Two members, the nodes that they play with, and what a node does that no one shares.
 
-use crate::trouble::Trouble;
+ghost use Rattle.std.specs.Prelude.{◌≡◌, ◌<◌, IfOk, IsTrue, length};
+ghost use Rattle.hg_model.specs.NodeView.{kept_of, node_rows};
+ghost use Rattle.check_threads.specs.Rows.{HaveSameRows, IsSpelledAlike};
+
+use hg_check::{Trouble, are_equal};
 use hg_model::{Bytes, Member, MemberEntry, Members, Memory};
 use hg_node::Node;
 use hg_sign::MacTable;
@@ -102,13 +106,24 @@ pub fn made_alone(alloc: Global, members: &Members) -> Result<Player, Trouble> {
     Ok(a)
 }
 
+/// Whether the row at this place has the same bytes in both nodes.
+fn is_spelled_alike(one: &Node<MacTable>, other: &Node<MacTable>, place: usize) -> bool
+    requires one { place < length (node_rows one.now) }
+    requires other { place < length (node_rows other.now) }
+    ensures { IsTrue result → IsSpelledAlike one.now other.now place }
+{
+    one.bytes(place) == other.bytes(place)
+}
+
 /// Whether both nodes have the same rows.
-fn have_same_rows(one: &Node<MacTable>, other: &Node<MacTable>) -> bool {
+fn have_same_rows(one: &Node<MacTable>, other: &Node<MacTable>) -> bool
+    ensures { IsTrue result → HaveSameRows one.now other.now }
+{
     if one.rows() != other.rows() {
         return false;
     }
     for place in 0..one.rows() {
-        if one.bytes(place) != other.bytes(place) {
+        if !is_spelled_alike(one, other, place) {
             return false;
         }
     }
@@ -116,8 +131,11 @@ fn have_same_rows(one: &Node<MacTable>, other: &Node<MacTable>) -> bool {
 }
 
 /// Whether both nodes have the same rows and, once they are settled, the same order.
-pub fn are_same(one: &mut Node<MacTable>, other: &mut Node<MacTable>) -> Result<bool, Memory> {
+pub fn are_same(one: &mut Node<MacTable>, other: &mut Node<MacTable>) -> Result<bool, Memory>
+    ensures rows { IfOk result (λ same. IsTrue same → HaveSameRows one.new other.new) }
+    ensures order { IfOk result (λ same. IsTrue same → kept_of one.new ≡ kept_of other.new) }
+{
     one.settle()?;
     other.settle()?;
-    Ok(have_same_rows(one, other) && one.kept() == other.kept())
+    Ok(have_same_rows(one, other) && are_equal(one.kept(), other.kept()))
 }

@@ -5,8 +5,8 @@ ghost use Rattle.hg_board.specs.Seats.{IsOf};
 ghost use Rattle.hg_board.specs.Table.{all_parts};
 
 use crate::players::{Player, node_of, two_players};
-use crate::trouble::Trouble;
 use hg_board::{Seat, Shared};
+use hg_check::Trouble;
 use hg_gossip::{Holder, sync};
 use hg_model::{MakeAnswer, Member, Members, Memory, SyncMade, SyncReport};
 use hg_play::Seated;

@@ -2,7 +2,7 @@
 //! Each law is the contract of a function without a body, so that the must-fail edits change definitions.
 //! The layers above use that a kept order only grows, `order_grows`, and that each mark is the fame of the graph.
 //!
-//! From `events_grow` in `GrowthLaws.antt` of `order_book`, shortened:
+//! From `events_grow` in `GrowthLaws.antt` of `order_market`, shortened:
 //!
 //! ```text
 //! use Rattle.hg_history.proofs.KeptLaws.{order_grows}

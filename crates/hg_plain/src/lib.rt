@@ -7,8 +7,10 @@
 //!
 //! ```text
 //! fn whole_of(alloc: Global, node: &Node<&MacTable>) -> Result<PlainWhole, Memory>
-//!     ensures { IfOk result (λ whole. whole.order ≡
+//!     ensures order { IfOk result (λ whole. whole.order ≡
 //!         order_of node.now.start.members node.now.start.coin (node_rows node.now)) }
+//!     ensures closed { IfOk result (λ whole. whole.state.closed ≡
+//!         closed_of node.now.start.members node.now.start.coin (node_rows node.now)) }
 //! {
 //!     let rows = rows_of(alloc, node)?;
 //!     let graph = node.graph();

@@ -5,10 +5,10 @@
 //! From `main` of `hg_cli`, shortened:
 //!
 //! ```text
-//! let mut disk = Disk::new(&rt);
+//! let mut shelf = RealShelf::new(&rt);
 //! let mut out = Stream::new(rt.stdout());
 //! let words = words.as_slice();
-//! hashgraph(&rt, rt.alloc(), words, &mut disk, &mut out, &mut err, &NoGate)
+//! hashgraph(&rt, rt.alloc(), words, &mut shelf, &mut out, &mut err, &NoGate)
 //! ```
 #![tactic(auto)]
 

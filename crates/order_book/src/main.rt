@@ -1,6 +1,6 @@
 //! Four members trade by an order that none of them rules: each node has the book of its order. D cheats: it signs two
 //! events on one self-parent, for B and for the rest. It prints each node's book. Of two books one is an earlier state
-//! of the other (`safe` of `run`), if the dishonest have less than a third of the stake and names do not collide.
+//! of the other, if the dishonest have less than a third of the stake and names do not collide (`run` of order_market).
 //!
 //! `rt run` in its folder proves and runs it; of what it prints (`stdout`), the first lines:
 //!
@@ -11,21 +11,17 @@
 //! ```
 #![tactic(auto)]
 
-mod action;
 mod forging;
-mod market;
 mod printing;
-mod reading;
 mod script;
-mod trouble;
 
 use crate::forging::forged_event;
-use crate::market::Market;
 use crate::printing::print_book;
 use crate::script::{asking, gossip, members_of, opening, passing, placing, taking_back, time_of};
-use crate::trouble::Trouble;
+use hg_check::Trouble;
 use hg_model::{Member, Memory};
 use hg_sign::MacTable;
+use order_market::Market;
 use order_match::Side;
 use std::alloc::Global;
 use std::process::ExitCode;

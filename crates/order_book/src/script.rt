@@ -1,6 +1,6 @@
-use crate::action::Action;
-use crate::trouble::Trouble;
+use hg_check::Trouble;
 use hg_model::{Bytes, Member, MemberEntry, Members, Memory, Name};
+use order_market::Action;
 use order_match::{Book, Request, Side, write_request};
 use std::alloc::Global;
 

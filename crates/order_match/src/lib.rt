@@ -2,7 +2,7 @@
 //! The layers above use that `add` leaves the book `with_event`, so that the book of an order is
 //! one fold over its events and their payloads alone.
 //!
-//! From `read_at` of `order_book`:
+//! From `read_at` of `order_market`:
 //!
 //! ```text
 //! fn read_at(book: &mut Book, node: &Node<SharedTable>, place: usize) -> Result<(), Memory>

@@ -9,4 +9,4 @@ loop-number-preserved c =
     ∙ sym (made_more c.loop-number.number)
 
 pub new-requires : goal.new-requires
-new-requires c = rw (c.loop-number.invariant) (made_members c.loop-number.number c.args.plan.now.coin (omega (arith, c.args.plan.now.some)) (omega (arith, c.args.plan.now.few)) c.args.plan.now.coin_low c.args.plan.now.coin_high)
+new-requires c = rw (c.loop-number.invariant) (made_members c.loop-number.number c.args.coin (omega (arith, c.requires.some)) (omega (arith, c.requires.few)) c.requires.coin_low c.requires.coin_high)

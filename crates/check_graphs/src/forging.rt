@@ -1,0 +1,72 @@
+use hg_check::Dice;
+use hg_event::{encode, encode_body};
+use hg_model::{Bytes, Member, Memory, Name, Row};
+use hg_node::Node;
+use hg_sign::{MacTable, SharedTable, Signer};
+use std::alloc::Global;
+
+/// The name of the row by a member that is so many before the last one at the node.
+fn name_back(node: &Node<SharedTable>, member: Member, back: u32) -> Option<Name> {
+    let mut left = back;
+    for place in (0..node.rows()).rev() {
+        let row = node.row(place);
+        if row.creator == member {
+            if left == 0 {
+                return Some(row.name);
+            }
+            left -= 1;
+        }
+    }
+    None
+}
+
+/// The parents of a forged event: on one of the last rows by its creator at the node, or one first event more.
+/// Nothing where the dice ask for a row that is not there.
+fn forged_parents(
+    dice: &mut Dice,
+    node: &Node<SharedTable>,
+    creator: Member,
+    other: Member,
+) -> Option<Option<(Name, Name)>> {
+    if dice.is_one_in(12) {
+        return Some(None);
+    }
+    let own = name_back(node, creator, dice.below(4))?;
+    let other = name_back(node, other, dice.below(2))?;
+    Some(Some((own, other)))
+}
+
+/// The bytes of an event that the node of its creator does not make, under the creator's signature, on rows of this
+/// node.
+pub fn forged_event(
+    alloc: Global,
+    dice: &mut Dice,
+    keys: &MacTable,
+    node: &Node<SharedTable>,
+    creator: Member,
+    other: Member,
+) -> Result<Option<Vec<u8>>, Memory> {
+    let Some(parents) = forged_parents(dice, node, creator, other) else {
+        return Ok(None);
+    };
+    let time = u64::from(dice.below(24));
+    let body = encode_body(alloc, creator, &parents, time, &[])?;
+    let row = Row {
+        creator,
+        parents,
+        time,
+        payload: Bytes::new(alloc),
+        sig: keys.sign(creator, body.as_slice()),
+        name: [0; 48],
+    };
+    Ok(Some(encode(alloc, &row)?))
+}
+
+/// Changes one of the bytes.
+pub fn damage(dice: &mut Dice, bytes: &mut [u8]) {
+    if bytes.is_empty() {
+        return;
+    }
+    let place = dice.place(bytes.len());
+    bytes[place] ^= 1 + dice.below(255) as u8;
+}

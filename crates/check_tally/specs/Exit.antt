@@ -1,8 +1,0 @@
--- With what number a program of tests ends
-use Rattle.std.specs.Prelude.{ℕ, if◌then◌else◌, ◌==◌, Result, Ok, Err}
-use Rattle.check_tally.specs.declared.tally.Tally.{Tally}
-
--- 0 where nothing differs
-abbrev pub exit_number : {E : Type 0} → Result Tally E → ℕ
-exit_number (Ok tally) = if tally.differ == 0 then 0 else 1
-exit_number (Err e) = 2

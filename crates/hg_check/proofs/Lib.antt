@@ -1,0 +1,2 @@
+mod OrderedLaws
+mod PlacedLaws

@@ -1,0 +1,21 @@
+//! What a program on a real machine is run over: the machine's files as a shelf, a standard stream as a sink, and the
+//! words of its command line. Faults are counted as the traits of hg_io ask; what a real file or stream holds no clause
+//! tells.
+//!
+//! From `main` of `hg_cli`, shortened:
+//!
+//! ```text
+//! let mut err = Stream::new(rt.stderr());
+//! let mut shelf = RealShelf::new(&rt);
+//! let mut out = Stream::new(rt.stdout());
+//! hashgraph(&rt, rt.alloc(), words, &mut shelf, &mut out, &mut err, &NoGate)
+//! ```
+#![tactic(auto)]
+
+mod shelf;
+mod stream;
+mod words;
+
+pub use shelf::RealShelf;
+pub use stream::Stream;
+pub use words::words_of;

@@ -1,0 +1,64 @@
+ghost use Rattle.std.specs.Prelude.{None};
+
+use hg_io::{Failed, Shelf};
+use std::fs;
+use std::io::Read;
+use std::rt::Files;
+
+/// The files of the machine, one of which is open at a time. It tells nothing of what they hold.
+#[derive(Drop)]
+pub struct RealShelf<'a, R: Files> {
+    files: &'a R,
+    file: Option<R::File>,
+    faults: u64,
+    starts: u64,
+}
+
+impl<'a, R: Files> RealShelf<'a, R> {
+    pub fn new(files: &'a R) -> RealShelf<'a, R> {
+        RealShelf {
+            files,
+            file: None,
+            faults: 0,
+            starts: 0,
+        }
+    }
+}
+
+impl<R: Files> Shelf for RealShelf<'_, R> {
+    ghost use Rattle.std.specs.Prelude.{IsSome};
+
+    ghost holds = { λ _. None };
+
+    ghost left = { λ _. None };
+
+    ghost At = { λ s _. IsSome s.file };
+
+    ghost faults = { λ s _. s.faults };
+
+    ghost starts = { λ s. s.starts };
+
+    fn start(&mut self, name: &str) -> Result<(), Failed> {
+        self.starts = self.starts.saturating_add(1);
+        match fs::open(self.files, name) {
+            Ok(file) => {
+                self.file = Some(file);
+                Ok(())
+            }
+            Err(_) => {
+                self.faults = self.faults.saturating_add(1);
+                Err(Failed)
+            }
+        }
+    }
+
+    fn read(&mut self, _name: &str, buf: &mut [u8]) -> Result<usize, Failed> {
+        match self.file.as_mut().unwrap().read(buf) {
+            Ok(count) => Ok(count),
+            Err(_) => {
+                self.faults = self.faults.saturating_add(1);
+                Err(Failed)
+            }
+        }
+    }
+}

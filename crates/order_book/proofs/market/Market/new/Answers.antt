@@ -1,5 +1,0 @@
-use Rattle.order_book.proofs.ReadLaws.{none_behind}
-use Rattle.order_book.proofs.market.Market.new.Goals as goal
-
-pub read_all-requires : goal.read_all-requires
-read_all-requires c = none_behind _ _ _ c.in_ok-books.ensures c.members.ensures.value

@@ -1,6 +1,0 @@
-use Rattle.std.proofs.Common.{◌≡◌, take}
-use Rattle.order_book.specs.Market.{after_actions}
-use Rattle.order_book.proofs.market.Market.run.Given as goal
-
-abbrev pub invariant-loop-action : goal.invariant-loop-action
-invariant-loop-action l = l.market ≡ after_actions l.fn.self (take l.action-index l.actions)
