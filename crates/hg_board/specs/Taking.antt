@@ -50,6 +50,10 @@ pub record TakesFirst {K : Type 0} (accepts : K → Accepts) (old : NodeView K) 
   pub taken : taking_rows accepts old first ≡ taking_of new counts
   pub full : WouldAccept accepts new (spelling next)
 
+-- the node that is seen takes the event, so that memory is needed for it
+abbrev pub WouldTakeRow : {V : Type 0} → (V → Accepts) → Seen V → Row → Type 0
+WouldTakeRow accepts s row = WouldTake (rules_shared accepts) s (spelling row)
+
 module _ {V : Type 0} (accepts : V → Accepts) (p : SharedNode V) where
   -- the events came to the node at one history, of which the seat had seen a prefix; what they added follows it, and each
   -- change of these is the seat's
@@ -68,4 +72,4 @@ module _ {V : Type 0} (accepts : V → Accepts) (p : SharedNode V) where
     pub whole : rows ≡ first ++ next ∷ rest
     pub counts : Taken
     pub takes : SeatTakes old first new counts
-    pub full : WouldTake (rules_shared accepts) (seen_by p new) (spelling next)
+    pub full : WouldTakeRow accepts (seen_by p new) next

@@ -7,7 +7,7 @@ ghost use Rattle.hg_node.specs.ChronicleView.{IsFoundBy, graph_in};
 ghost use Rattle.hg_node.specs.Puts.{is_signed};
 ghost use Rattle.hg_graph.specs.RowsWithRoom.{rows_of};
 ghost use Rattle.hg_board.specs.Copies.{IsLastRow, IsParcelFrom};
-ghost use Rattle.hg_board.specs.Taking.{AreSignedFor, SeatTakes, SeatTakesFirst};
+ghost use Rattle.hg_board.specs.Taking.{AreSignedFor, SeatTakes, SeatTakesFirst, WouldTakeRow};
 ghost use Rattle.hg_gossip.specs.Holding.{names_in, parcel_beyond};
 ghost use Rattle.hg_board.specs.Seats.{IsOf, seen_by};
 ghost use Rattle.hg_board.specs.Calls.{Absorbs, IsStarted, IsWhole, SeatMakes, SeatPublishes, SeatPuts, SeatWaits, Stays, after_split, rules_shared, split_off};
@@ -111,7 +111,7 @@ impl<V: Signer + Drop> Shared<V> {
         ensures stays { Stays V.accepts self.now seat.old seat.new }
         ensures ok { IfOk result (SeatPuts V.accepts self.now seat.old (spelling event.now.value) seat.new) }
         ensures err { OnErr result (SeatWaits V.accepts self.now seat.old seat.new) }
-        ensures free { OnErr result (WouldTake (rules_shared V.accepts) (seen_by self.now seat.new) (spelling event.now.value)) }
+        ensures free { OnErr result (WouldTakeRow V.accepts (seen_by self.now seat.new) event.now.value) }
     {
         let steps = &self.table.shared;
         let raw = &mut seat.raw;

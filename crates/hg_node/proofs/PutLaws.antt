@@ -121,6 +121,14 @@ module _ {K : Type 0} (accepts : K → Accepts) (keys : K) (r : ChronicleView) (
       free = (put_taken fit silent).answer ∙ ap (λ (G : List Row). Accepted (length G)) (sym is.rows);
     }
 
+    -- the same, by what the chronicle was that was lent
+    pub put_ends_as : {E : Type 0} (result : Result PutAnswer E) (s t : ChronicleView) → t ≡ r → AreBytes bytes → None ≡ rules row →
+        IfOk result (λ a. a ≡ Accepted (length t.graph.rows)) → OnOk result (s ≡ chronicle_with t row (entry.Took (length t.graph.rows))) → OnErr result (s ≡ t) → IsPut accepts (node_view keys r) (node_view keys s) s bytes result
+    put_ends_as result s t same fit silent answer ok err =
+        put_ends result s fit silent (subst (λ (x : ChronicleView). IfOk result (λ a. a ≡ Accepted (length x.graph.rows))) same answer)
+        (subst (λ (x : ChronicleView). OnOk result (s ≡ chronicle_with x row (entry.Took (length x.graph.rows)))) same ok)
+        (subst (λ (x : ChronicleView). OnErr result (s ≡ x)) same err)
+
 -- an event of a member, whose signature the keys accept, as it stands at another node
 module _ {K : Type 0} (accepts : K → Accepts) (keys : K) (r : ChronicleView) {v : NodeView K} (view : node_view keys r ≡ v) (is : IsRecorded accepts (node_view keys r) r)
     {event row : Row} (of_row : event ≡ row) (spells : Spells (spelling event) event) (member : row.creator < v.start.members)
@@ -143,7 +151,7 @@ module _ {K : Type 0} (accepts : K → Accepts) (keys : K) (r : ChronicleView) {
     pub event_taken : IsTaking accepts (node_view keys r) (node_view keys (chronicle_with r row (entry.Took (length r.graph.rows)))) r row (spelling row)
     event_taken = put_taken accepts keys r (spelling row) is row event_read (subst AreBytes whole fit) (event_rules None silent)
 
-    pub event_ends : {E : Type 0} (result : Result PutAnswer E) (s : ChronicleView) →
-        IfOk result (λ a. a ≡ Accepted (length r.graph.rows)) → OnOk result (s ≡ chronicle_with r row (entry.Took (length r.graph.rows))) → OnErr result (s ≡ r) →
+    pub event_ends : {E : Type 0} (result : Result PutAnswer E) (s t : ChronicleView) → t ≡ r →
+        IfOk result (λ a. a ≡ Accepted (length t.graph.rows)) → OnOk result (s ≡ chronicle_with t row (entry.Took (length t.graph.rows))) → OnErr result (s ≡ t) →
         IsPut accepts (node_view keys r) (node_view keys s) s (spelling row) result
-    event_ends result s answer ok err = put_ends accepts keys r (spelling row) is row event_read result s (subst AreBytes whole fit) (event_rules None silent) answer ok err
+    event_ends result s t same answer ok err = put_ends_as accepts keys r (spelling row) is row event_read result s t same (subst AreBytes whole fit) (event_rules None silent) answer ok err

@@ -38,7 +38,8 @@ use std::sync::Arc;
 pub struct Node<V: Signer> {
     alloc: Global,
     keys: V,
-    chronicle: Chronicle,
+    /// On the heap, so that to move the node is to move little.
+    chronicle: Box<Chronicle>,
 }
 
 impl<V: Signer> Model for Node<V> {
@@ -47,9 +48,9 @@ impl<V: Signer> Model for Node<V> {
 
     ghost Value = { NodeView V };
 
-    ghost view = { λ s. node_view s.keys s.chronicle };
+    ghost view = { λ s. node_view s.keys s.chronicle.value };
 
-    ghost invariant = { λ s. IsRecorded V.accepts (node_view s.keys s.chronicle) s.chronicle };
+    ghost invariant = { λ s. IsRecorded V.accepts (node_view s.keys s.chronicle.value) s.chronicle.value };
 }
 
 impl<V: Signer> Node<V> {
@@ -66,7 +67,7 @@ impl<V: Signer> Node<V> {
         ensures history { IfOk result (λ node. node.history ≡ []) }
     {
         members.entries();
-        let chronicle = Chronicle::new(alloc, members, own)?;
+        let chronicle = Box::new(alloc, Chronicle::new(alloc, members, own)?)?;
         Ok(Node {
             alloc,
             keys,
@@ -89,7 +90,14 @@ impl<V: Signer> Node<V> {
         let graph = self.chronicle.graph();
         let own = Some(self.chronicle.own());
         match parents_of_arrival(&self.keys, graph, own, &view, &name, bytes) {
-            Ok(parents) => take(self.alloc, &mut self.chronicle, &view, name, bytes, parents),
+            Ok(parents) => take(
+                self.alloc,
+                &mut *self.chronicle,
+                &view,
+                name,
+                bytes,
+                parents,
+            ),
             Err(answer) => Ok(answer),
         }
     }
@@ -110,7 +118,7 @@ impl<V: Signer> Node<V> {
         let graph = self.chronicle.graph();
         let own = Some(self.chronicle.own());
         match parents_of_signed(graph, own, event) {
-            Ok(parents) => take_shared(&mut self.chronicle, event, parents),
+            Ok(parents) => take_shared(&mut *self.chronicle, event, parents),
             Err(answer) => Ok(answer),
         }
     }
@@ -127,7 +135,7 @@ impl<V: Signer> Node<V> {
         ensures err { OnErr result (self.new ≡ self.old) }
         ensures free { OnErr result (make_draft self.old (option_to_list other) payload.now ≡ None) }
     {
-        let draft = match draft_of(&self.chronicle, &other, payload) {
+        let draft = match draft_of(&*self.chronicle, &other, payload) {
             Ok(draft) => draft,
             Err(fault) => return Ok(MakeAnswer::Refused(fault)),
         };
