@@ -3,19 +3,34 @@ ghost use Rattle.hg_model.specs.Gossip.{lacking};
 ghost use Rattle.hg_model.specs.NodeView.{node_rows};
 ghost use Rattle.hg_model.specs.Verdict.{is_held};
 ghost use Rattle.hg_graph.specs.RowsWithRoom.{rows_of};
-ghost use Rattle.hg_world.specs.KnownRows.{Knows};
-ghost use Rattle.hg_world.specs.Nodes.{PushesLacked, PushesUnheld, lacked_backwards};
+ghost use Rattle.hg_gossip.specs.Handing.{Knows, PushesLacked, PushesUnheld, lacked_backwards};
 
-use crate::known::Heard;
 use hg_event::Event;
 use hg_model::{Member, Memory, Name, Sight};
 use hg_node::Node;
-use hg_sign::SharedTable;
+use hg_sign::Signer;
 use std::alloc::Global;
+use std::marker::Model;
 use std::sync::Arc;
 
+/// What a node has of another one's rows: the names of so many first ones, but for those of the events that it refused.
+#[derive(Drop)]
+pub struct Heard {
+    pub len: usize,
+    pub refused: Vec<Arc<Event>>,
+}
+
+impl Model for Heard {
+    ghost use Rattle.hg_graph.specs.RowsWithRoom.{rows_of};
+    ghost use Rattle.hg_gossip.specs.Handing.{HeardView, heard_of};
+
+    ghost Value = { HeardView };
+
+    ghost view = { λ s. heard_of s.len (rows_of s.refused.items) };
+}
+
 /// The event that a row of a node is, once more.
-fn event_at(node: &Node<SharedTable>, place: usize) -> Result<Arc<Event>, Memory>
+fn event_at<V: Signer>(node: &Node<V>, place: usize) -> Result<Arc<Event>, Memory>
     requires { place < length (node_rows node.now) }
     ensures { IfOk result (λ event. slice_get (node_rows node.now) place ≡ Some event.value) }
 {
@@ -27,7 +42,7 @@ fn event_at(node: &Node<SharedTable>, place: usize) -> Result<Arc<Event>, Memory
 type Marks = [usize; 128];
 
 /// The self-parent of a row, or none: where to look for the row by its member that comes before it. No clause speaks of it.
-fn before(taker: &Node<SharedTable>, place: usize) -> usize {
+fn before<V: Signer>(taker: &Node<V>, place: usize) -> usize {
     let graph = taker.graph();
     if place < graph.rows() {
         return graph.self_parent(place).unwrap_or(usize::MAX);
@@ -37,8 +52,8 @@ fn before(taker: &Node<SharedTable>, place: usize) -> usize {
 
 /// The place of the taker's row with this name by the member, which may well be the one that is marked: only where that has
 /// another name the name is looked up.
-fn place_near(
-    taker: &Node<SharedTable>,
+fn place_near<V: Signer>(
+    taker: &Node<V>,
     name: &Name,
     member: Member,
     marked: usize,
@@ -52,7 +67,7 @@ fn place_near(
 }
 
 /// Who made the row at a place, as the graph's links tell, so that its event need not be touched. No clause speaks of it.
-fn maker(node: &Node<SharedTable>, place: usize) -> Member {
+fn maker<V: Signer>(node: &Node<V>, place: usize) -> Member {
     let graph = node.graph();
     if place < graph.rows() {
         return graph.creator(place);
@@ -61,7 +76,7 @@ fn maker(node: &Node<SharedTable>, place: usize) -> Member {
 }
 
 /// Whether the taker has this name of a row that the member made, with the marks as they are behind it.
-fn is_held_near(taker: &Node<SharedTable>, name: &Name, member: Member, marks: &mut Marks) -> bool
+fn is_held_near<V: Signer>(taker: &Node<V>, name: &Name, member: Member, marks: &mut Marks) -> bool
     ensures { result ≡ is_held (node_rows taker.now) name.now }
 {
     let line = usize::from(member);
@@ -76,10 +91,10 @@ fn is_held_near(taker: &Node<SharedTable>, name: &Name, member: Member, marks: &
 }
 
 /// The event of a row of the peer behind the others, unless the taker has its name.
-fn push_unless_held(
+fn push_unless_held<V: Signer, W: Signer>(
     events: &mut Vec<Arc<Event>>,
-    taker: &Node<SharedTable>,
-    peer: &Node<SharedTable>,
+    taker: &Node<V>,
+    peer: &Node<W>,
     place: usize,
     marks: &mut Marks,
 ) -> Result<(), Memory>
@@ -94,10 +109,10 @@ fn push_unless_held(
 
 /// The events of the peer from this place on whose names the taker lacks, the last one first: so each member's line is
 /// walked down in both graphs, and of what the taker has hardly a name is looked up.
-fn lacked_backwards(
+fn lacked_backwards<V: Signer, W: Signer>(
     alloc: Global,
-    taker: &Node<SharedTable>,
-    peer: &Node<SharedTable>,
+    taker: &Node<V>,
+    peer: &Node<W>,
     from: usize,
 ) -> Result<Vec<Arc<Event>>, Memory>
     requires { from ≤ length (node_rows peer.now) }
@@ -114,9 +129,9 @@ fn lacked_backwards(
 }
 
 /// The event behind the others, unless the taker has its name.
-fn push_unless_taken(
+fn push_unless_taken<V: Signer>(
     events: &mut Vec<Arc<Event>>,
-    taker: &Node<SharedTable>,
+    taker: &Node<V>,
     event: &Arc<Event>,
 ) -> Result<(), Memory>
     ensures { OnOk result (PushesUnheld taker.now event.now.value (rows_of events.old.items) (rows_of events.new.items)) }
@@ -129,9 +144,9 @@ fn push_unless_taken(
 }
 
 /// Those of these events whose names the taker lacks.
-pub(crate) fn still_lacked(
+pub fn still_lacked<V: Signer>(
     alloc: Global,
-    taker: &Node<SharedTable>,
+    taker: &Node<V>,
     events: &[Arc<Event>],
 ) -> Result<Vec<Arc<Event>>, Memory>
     ensures { IfOk result (λ lacked. rows_of lacked.items ≡ lacking (node_rows taker.now) (rows_of events.now)) }
@@ -144,10 +159,10 @@ pub(crate) fn still_lacked(
 }
 
 /// The events of the peer from this place on whose names the taker lacks.
-fn lacked_behind(
+fn lacked_behind<V: Signer, W: Signer>(
     alloc: Global,
-    taker: &Node<SharedTable>,
-    peer: &Node<SharedTable>,
+    taker: &Node<V>,
+    peer: &Node<W>,
     from: usize,
 ) -> Result<Vec<Arc<Event>>, Memory>
     requires { from ≤ length (node_rows peer.now) }
@@ -172,10 +187,10 @@ fn joined(mut events: Vec<Arc<Event>>, others: Vec<Arc<Event>>) -> Result<Vec<Ar
 }
 
 /// The events of the peer whose names the taker lacks, who has heard of so many: first those that it refused.
-pub(crate) fn lacked_beside(
+pub fn lacked<V: Signer, W: Signer>(
     alloc: Global,
-    taker: &Node<SharedTable>,
-    peer: &Node<SharedTable>,
+    taker: &Node<V>,
+    peer: &Node<W>,
     heard: &Heard,
 ) -> Result<Vec<Arc<Event>>, Memory>
     requires { Knows (node_rows taker.now) (node_rows peer.now) heard.now }

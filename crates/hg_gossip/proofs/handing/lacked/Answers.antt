@@ -4,12 +4,12 @@ use Rattle.hg_model.specs.declared.row.Row.{Row}
 use Rattle.hg_model.specs.Gossip.{lacking}
 use Rattle.hg_model.specs.NodeView.{node_rows}
 use Rattle.hg_graph.specs.RowsWithRoom.{rows_of}
-use Rattle.hg_world.specs.KnownRows.{HeardView}
-use Rattle.hg_world.proofs.KnownLaws.{lacks_heard}
-use Rattle.hg_world.proofs.events.lacked_beside.Goals as goal
+use Rattle.hg_gossip.specs.Handing.{HeardView}
+use Rattle.hg_gossip.proofs.HandLaws.{lacks_heard}
+use Rattle.hg_gossip.proofs.handing.lacked.Goals as goal
 
 pub returns : goal.returns
-returns c =
+returns g c =
     let G = node_rows c.args.taker.now in
     let H = node_rows c.args.peer.now in
     subst (λ (rows : List Row). IfOk c.joined.result (λ events. rows_of events.items ≡ rows))

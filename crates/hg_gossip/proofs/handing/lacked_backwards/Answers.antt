@@ -4,11 +4,11 @@ use Rattle.std.proofs.lemmas.List.{drop_all}
 use Rattle.hg_model.specs.Gossip.{lacking}
 use Rattle.hg_model.specs.NodeView.{node_rows}
 use Rattle.hg_graph.specs.RowsWithRoom.{rows_of}
-use Rattle.hg_world.proofs.PullLaws.{lacked_before}
-use Rattle.hg_world.proofs.events.lacked_backwards.Goals as goal
+use Rattle.hg_gossip.proofs.HandLaws.{lacked_before}
+use Rattle.hg_gossip.proofs.handing.lacked_backwards.Goals as goal
 
 pub places-init : goal.places-init
-places-init c = (
+places-init g c = (
   omega (arith, c.requires, c.rows-place.ensures),
   omega (arith, c.rows-place.ensures),
   ap rows_of c.new-events.ensures.items
@@ -16,7 +16,7 @@ places-init c = (
 )
 
 pub places-preserved : goal.places-preserved
-places-preserved c =
+places-preserved g c =
     let back : c.places.place ≡ c.places.place - 1 + 1 = omega (arith, c.places-test.true) in (
       omega (arith, c.places-test.true),
       omega (arith, c.places.invariant.1),

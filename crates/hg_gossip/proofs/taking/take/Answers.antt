@@ -1,6 +1,6 @@
 use Rattle.std.proofs.Common.{◌∙◌, arith}
 use Rattle.hg_gossip.proofs.TakeLaws.{errs, few_more, takes_first, takes_next}
-use Rattle.hg_gossip.proofs.gossip.take.Goals as goal
+use Rattle.hg_gossip.proofs.taking.take.Goals as goal
 
 pub returns-in_err-answer-clause-err : goal.returns-in_err-answer-clause-err
 returns-in_err-answer-clause-err g c =

@@ -4,11 +4,11 @@ use Rattle.std.proofs.lemmas.List.{reverse-reverse}
 use Rattle.hg_model.specs.Gossip.{lacking}
 use Rattle.hg_model.specs.NodeView.{node_rows}
 use Rattle.hg_graph.specs.RowsWithRoom.{rows_of}
-use Rattle.hg_world.proofs.PullLaws.{rows_reversed}
-use Rattle.hg_world.proofs.events.lacked_behind.Goals as goal
+use Rattle.hg_gossip.proofs.HandLaws.{rows_reversed}
+use Rattle.hg_gossip.proofs.handing.lacked_behind.Goals as goal
 
 pub returns : goal.returns
-returns c =
+returns g c =
     ap rows_of c.reverse.ensures.items
     ∙ (rows_reversed c.in_ok-events.events.items
     ∙ (ap (λ rows. reverse rows) c.in_ok-events.ensures

@@ -1,6 +1,6 @@
 use Rattle.std.proofs.Common.{◌≡◌, ◌≤◌, ◌+◌, take}
 use Rattle.hg_gossip.specs.Gossip.{TakesAll}
-use Rattle.hg_gossip.proofs.gossip.take.Given as goal
+use Rattle.hg_gossip.proofs.taking.take.Given as goal
 
 abbrev pub invariant-loop-event : goal.invariant-loop-event
 invariant-loop-event g l = record {
