@@ -2,3 +2,5 @@ pub mod SeenLaws
 pub mod TakeLaws
 pub mod RowLaws
 pub mod AloneLaws
+pub mod HandLaws
+pub mod TakingLaws

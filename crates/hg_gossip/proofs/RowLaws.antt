@@ -98,7 +98,7 @@ below_next a b = elim (cases_Bool (ltb a b)) [
 ]
 
 -- a name is among those of rows where one of the rows has it
-held_is : (G : List Row) (name : List ℕ) → list_any (bytes_eq name) (row_names G) ≡ is_held G name
+pub held_is : (G : List Row) (name : List ℕ) → list_any (bytes_eq name) (row_names G) ≡ is_held G name
 held_is [] name = refl
 held_is (row ∷ G) name = elim (cases_Bool (is_named name row)) [
   | inl here ↦ rw (turned name row.name, here) (sym (lt-ltb 0 (suc (length G)) (omega arith)))

@@ -1,3 +1,5 @@
 pub mod Holding
 pub mod Gossip
 pub mod Nodes
+pub mod Handing
+pub mod Taking

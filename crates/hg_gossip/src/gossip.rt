@@ -1,10 +1,11 @@
-ghost use Rattle.std.specs.Prelude.{◌≡◌, ◌+◌, ◌-◌, ◌<◌, ◌^◌, IfOk, OnErr, length};
+ghost use Rattle.std.specs.Prelude.{◌≡◌, ◌+◌, ◌-◌, ◌<◌, ◌^◌, IfOk, OnErr};
 ghost use Rattle.hg_model.specs.Gossip.{made_in_sync};
-ghost use Rattle.hg_gossip.specs.Gossip.{Pulls, PullsSome, Syncs, TakesAll, TakesSome, MakesAfter, with_answer};
+ghost use Rattle.hg_gossip.specs.Gossip.{Pulls, PullsSome, Syncs, with_answer};
 ghost use Rattle.hg_gossip.specs.Holding.{Waits, names_in, parcel_beyond};
 
 use crate::holder::Holder;
-use hg_model::{Bytes, MakeAnswer, Memory, Name, Parcel, PutAnswer, SyncMade, SyncReport};
+use crate::taking::{make_after, take};
+use hg_model::{MakeAnswer, Memory, Parcel, PutAnswer, SyncMade, SyncReport};
 use std::alloc::Global;
 
 /// How many events were taken, and how many refused. Those that were known count as neither.
@@ -32,24 +33,6 @@ pub fn with_answer(counts: Taken, answer: PutAnswer) -> Taken
     }
 }
 
-/// Puts these events, one after the other.
-fn take<H: Holder>(taker: &mut H, events: &[Bytes]) -> Result<Taken, Memory>
-    ensures lent { H.lent taker.new ≡ H.lent taker.old }
-    ensures ok { IfOk result (TakesAll H.rules (H.seen taker.old) events.now (H.seen taker.new)) }
-    ensures err { OnErr result (TakesSome H.rules (H.seen taker.old) events.now (H.seen taker.new)) }
-{
-    let _count = events.len();
-    let mut counts = Taken {
-        taken: 0,
-        refused: 0,
-    };
-    for event in events {
-        let answer = taker.put(event.as_slice())?;
-        counts = with_answer(counts, answer);
-    }
-    Ok(counts)
-}
-
 /// What came of an event at the end of a sync.
 pub fn sync_made(answer: MakeAnswer) -> SyncMade
     ensures { result ≡ made_in_sync answer }
@@ -57,26 +40,6 @@ pub fn sync_made(answer: MakeAnswer) -> SyncMade
     match answer {
         MakeAnswer::Made(place) => SyncMade::Row(place),
         MakeAnswer::Refused(fault) => SyncMade::Fault(fault),
-    }
-}
-
-/// Makes an event with this other-parent, if there is one.
-fn make_after<H: Holder>(
-    taker: &mut H,
-    other: Option<Name>,
-    time: u64,
-    payload: &[u8],
-) -> Result<SyncMade, Memory>
-    ensures lent { H.lent taker.new ≡ H.lent taker.old }
-    ensures ok { IfOk result (MakesAfter H.rules (H.seen taker.old) other time payload.now (H.seen taker.new)) }
-    ensures err { OnErr result (Waits H.rules (H.seen taker.old) (H.seen taker.new)) }
-{
-    match other {
-        None => Ok(SyncMade::PeerBare),
-        Some(name) => {
-            let answer = taker.make(Some(name), time, payload)?;
-            Ok(sync_made(answer))
-        }
     }
 }
 

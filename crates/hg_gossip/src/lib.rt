@@ -1,6 +1,8 @@
 //! Gossip: who holds a node takes from another what the node lacks (`pull`), and then makes an event on it (`sync`).
 //! The layers above use that the peer's rows whose names the taker lacks are put, in the peer's order, each at what was
 //! reached then, for others may change a shared node; of a `Node` alone `pulling_alone` and `syncing_alone` tell all.
+//! Each half stands by itself, on one node at a time: what a peer hands over (`held` and `missing`, or `lacked` between
+//! two nodes at hand), taking it (`take`, `take_events`), and the event that is made then (`make_after`).
 //!
 //! From `meet` in the tests of `check_calls`:
 //!
@@ -18,10 +20,14 @@
 #![tactic(auto)]
 
 mod gossip;
+mod handing;
 mod holder;
 mod laws;
 mod node;
+mod taking;
 
 pub use gossip::{Taken, pull, sync, sync_made, with_answer};
+pub use handing::{Heard, lacked, still_lacked};
 pub use holder::Holder;
 pub use laws::{missing_is_lacking, pulling_alone, syncing_alone, waiting_alone};
+pub use taking::{make_after, take, take_events};

@@ -1,22 +1,13 @@
 -- Pulls and syncs as steps
-use Rattle.std.proofs.Common.{◌≡◌, ℕ, suc, ◌+◌, ◌<◌, Bool, true, false, not, cond, List, [], ◌∷◌, ◌++◌, length, fold, take, drop, get_or, slice_get, Option, Some, option_map, Result, Ok, Err, sym, refl, ap, ap₂, ◌∙◌, subst, add-one, append_assoc, arith}
-use Rattle.std.specs.Prelude.{OnErr, IfOk, reverse}
-use Rattle.std.specs.declared.sync.Arc.{Arc}
-use Rattle.std.proofs.lemmas.Grind.{reverse_onto}
-use Rattle.std.proofs.lemmas.List.{append-nil, reverse-append, get_or-set_same, map-append, take-append-drop, length-set, set-get_or, set-set}
+use Rattle.std.proofs.Common.{◌≡◌, ℕ, ◌+◌, ◌<◌, List, [], ◌∷◌, length, fold, take, drop, get_or, Option, Result, Ok, Err, sym, refl, ap, ap₂, ◌∙◌, subst, arith}
+use Rattle.std.specs.Prelude.{OnErr, IfOk}
+use Rattle.std.proofs.lemmas.List.{append-nil, get_or-set_same, map-append, take-append-drop, length-set, set-get_or, set-set}
 use Rattle.std.proofs.lemmas.List.Sums.{fold-append}
-use Rattle.std.proofs.lemmas.Option.{slice_get-get_or}
-use Rattle.std.proofs.Math.Seq.{drop-cons}
-use Rattle.hg_model.specs.declared.row.Row.{Row}
 use Rattle.hg_model.specs.declared.answers.PutAnswer.{PutAnswer}
 use Rattle.hg_model.specs.declared.answers.SyncMade.{SyncMade}
 use Rattle.hg_model.specs.declared.answers.SyncReport.{SyncReport}
-use Rattle.hg_model.specs.Links.{no_row}
-use Rattle.hg_model.specs.Gossip.{lacking}
 use Rattle.hg_model.specs.Signing.{accepts_by}
-use Rattle.hg_model.specs.Verdict.{is_held}
 use Rattle.hg_model.specs.NodeView.{NodeView}
-use Rattle.hg_graph.specs.RowsWithRoom.{rows_of}
 use Rattle.hg_gossip.specs.declared.gossip.Taken.{Taken}
 use Rattle.hg_gossip.specs.Gossip.{none_taken, with_answer}
 use Rattle.hg_gossip.specs.Nodes.{Taking, lacked, take_event, taking, taking_of}
@@ -24,9 +15,8 @@ use Rattle.hg_world.specs.declared.step.Step.{Step}
 use Rattle.hg_world.specs.declared.step.Step.TheVariants.{Deliver}
 use Rattle.hg_world.specs.World.{Secrets, WorldView, Site, no_site, node_at, site_at, site_of, with_node_at, with_site}
 use Rattle.hg_world.specs.Steps.{RanSome, after_step, after_steps, node_put, putting_at}
-use Rattle.hg_world.specs.Syncs.{HasMadeAfter, HasPulled, HasSynced, HasTaken, deliver_steps, last_made, make_steps, made_after, pull_steps, pulled, unheld}
+use Rattle.hg_world.specs.Syncs.{HasMadeAfter, HasPulled, HasSynced, HasTaken, deliver_steps, last_made, make_steps, made_after, pull_steps, pulled}
 use Rattle.hg_world.specs.Laws.{PullsSetOneNode}
-use Rattle.hg_world.proofs.KnownLaws.{lacks_both}
 use Rattle.hg_world.proofs.StepLaws.{after_both, after_more, steps_sites, taken_more}
 
 -- the node that bytes come to
@@ -111,43 +101,8 @@ syncs old now new taker peer last time payload counts made is pull makes =
           ∙ sym (after_both old (pull_steps old taker peer) (make_steps taker (last_made (node_at old peer)) time payload))),
     )
 
--- one row more that the taker lacks
-lacked_at : (held rows : List Row) (k : ℕ) (d : Row) → k < length rows → unheld held (get_or rows k d) ++ lacking held (drop (k + 1) rows) ≡ lacking held (drop k rows)
-lacked_at held rows k d inside = rw (add-one, drop-cons rows k d inside) (one (is_held held (get_or rows k d).name) (get_or rows k d) (lacking held (drop (suc k) rows)))
-  where
-    one : (b : Bool) (row : Row) (rest : List Row) → cond b [] (row ∷ []) ++ rest ≡ cond (not b) (row ∷ rest) rest
-    one true row rest = refl
-    one false row rest = refl
-
--- the rows of events in turned order
-pub rows_reversed : {A : Type 0} (events : List (Arc Row A)) → rows_of (reverse events) ≡ reverse (rows_of events)
-rows_reversed [] = refl
-rows_reversed (event ∷ events) =
-    ap rows_of (reverse_onto events event [])
-    ∙ (map-append (λ e. e.value) (reverse events) (event ∷ [])
-    ∙ (ap (λ (rows : List Row). rows ++ event.value ∷ []) (rows_reversed events) ∙ sym (reverse_onto (rows_of events) event.value [])))
-
-one_reversed : (held : List Row) (row : Row) → reverse (unheld held row) ≡ unheld held row
-one_reversed held row = one (is_held held row.name)
-  where
-    one : (b : Bool) → reverse (cond b [] (row ∷ [])) ≡ cond b [] (row ∷ [])
-    one true = refl
-    one false = refl
-
--- with the row before those that were walked, the last one first
-pub lacked_before : (held rows : List Row) (k : ℕ) (before after : List Row) → k < length rows → option_map (λ (row : Row). before ++ unheld held row) (slice_get rows k) ≡ Some after →
-    before ≡ reverse (lacking held (drop (k + 1) rows)) → after ≡ reverse (lacking held (drop k rows))
-lacked_before held rows k before after inside grown is =
-    let row : Row = get_or rows k no_row in
-    let rest : List Row = lacking held (drop (k + 1) rows) in
-    let some : Some (before ++ unheld held row) ≡ Some after = sym (ap (option_map (λ (r : Row). before ++ unheld held r)) (slice_get-get_or rows k no_row inside)) ∙ grown in
-    let same : before ++ unheld held row ≡ after = cc in
-    sym same
-    ∙ (ap₂ (λ (xs ys : List Row). xs ++ ys) is (sym (one_reversed held row))
-    ∙ (sym (reverse-append (unheld held row) rest) ∙ ap (λ (xs : List Row). reverse xs) (lacked_at held rows k no_row inside)))
-
 -- events that come to one node set that node
-puts_set : (events : List (List ℕ)) (w : WorldView) (m : ℕ) (counts : Taken) → m < length w.sites →
+pub puts_set : (events : List (List ℕ)) (w : WorldView) (m : ℕ) (counts : Taken) → m < length w.sites →
     after_steps w (deliver_steps m events) ≡ with_node_at w m (fold (take_event accepts_by) (taking_of (node_at w m) counts) events).node
 puts_set [] w m counts low =
     ap (λ (sites : List Site). let u : WorldView = record { members = w.members; coin = w.coin; sites = sites } in u) (sym (set-get_or w.sites m no_site))
@@ -164,29 +119,3 @@ puts_set (bytes ∷ events) w m counts low =
 
 pub pulls_set : PullsSetOneNode
 pulls_set w taker peer low = puts_set (lacked (node_at w taker) (node_at w peer)) w taker none_taken low
-
-unheld_lacks : (held : List Row) (row : Row) → unheld held row ≡ lacking held (row ∷ [])
-unheld_lacks held row = one (is_held held row.name)
-  where
-    one : (b : Bool) → cond b [] (row ∷ []) ≡ cond (not b) (row ∷ []) []
-    one true = refl
-    one false = refl
-
--- one event more, of which the row is lacking or not
-pub lacks_more : {A : Type 0} (held : List Row) (events : List (Arc Row A)) (i : ℕ) (event : Arc Row A) (before after : List Row) → i < length events → event ≡ get_or events i event →
-    before ≡ lacking held (rows_of (take i events)) → after ≡ before ++ unheld held event.value → after ≡ lacking held (rows_of (take (i + 1) events))
-lacks_more held events i event before after low is so_far pushed =
-    pushed
-    ∙ (ap₂ (λ (xs ys : List Row). xs ++ ys) so_far (unheld_lacks held event.value)
-    ∙ (sym (lacks_both held (rows_of (take i events)) (event.value ∷ []))
-    ∙ ap (lacking held) (sym (ap rows_of (taken_more events i event low is) ∙ map-append (λ e. e.value) (take i events) (event ∷ [])))))
-
--- one event more behind the first
-pub rows_joined : {A : Type 0} (first : List Row) (events old new : List (Arc Row A)) (i : ℕ) (event copy : Arc Row A) → i < length events → event ≡ get_or events i event → copy.value ≡ event.value →
-    rows_of old ≡ first ++ rows_of (take i events) → new ≡ old ++ copy ∷ [] → rows_of new ≡ first ++ rows_of (take (i + 1) events)
-rows_joined first events old new i event copy low is same so_far pushed =
-    ap rows_of pushed
-    ∙ (map-append (λ e. e.value) old (copy ∷ [])
-    ∙ (ap₂ (λ (rows : List Row) (row : Row). rows ++ row ∷ []) so_far same
-    ∙ (append_assoc first (rows_of (take i events)) (event.value ∷ [])
-    ∙ ap (λ (rows : List Row). first ++ rows) (sym (ap rows_of (taken_more events i event low is) ∙ map-append (λ e. e.value) (take i events) (event ∷ []))))))

@@ -30,8 +30,8 @@ use Rattle.hg_world.specs.World.{Secrets, Site, WorldView, no_site, node_at, row
 use Rattle.hg_world.specs.Steps.{after_step, after_steps, node_put}
 use Rattle.hg_world.specs.Syncs.{HasTaken, deliver_steps}
 use Rattle.hg_world.specs.Parts.{IsWorld}
-use Rattle.hg_world.specs.KnownRows.{AreKnown, LacksOf}
-use Rattle.hg_world.proofs.KnownLaws.{held_last, held_more, known_all, known_lacks, known_own, lacks_again}
+use Rattle.hg_gossip.specs.Handing.{AreKnown, LacksOf}
+use Rattle.hg_gossip.proofs.HandLaws.{held_last, held_more, known_all, known_lacks, known_own, lacks_again}
 use Rattle.hg_world.proofs.SignedLaws.{all_filtered}
 
 -- the rows are events

@@ -1,25 +1,20 @@
 -- Events that a node accepts as signed: those of a node that began with the same members and keys
-use Rattle.std.proofs.Common.{◌≡◌, ℕ, zero, suc, ◌<◌, true, false, not, cond, Bool, List, [], ◌∷◌, length, fold, get_or, sym, refl, ap, ◌∙◌, subst, arith}
+use Rattle.std.proofs.Common.{◌≡◌, ℕ, suc, ◌<◌, true, false, not, cond, Bool, List, [], ◌∷◌, length, get_or, sym, ap, ◌∙◌, subst, arith}
 use Rattle.std.specs.List.{AllByRecursion, filter}
-use Rattle.std.specs.declared.sync.Arc.{Arc}
-use Rattle.std.proofs.lemmas.List.{get_or-map, get_or_default, length-map}
+use Rattle.std.proofs.lemmas.List.{get_or_default}
 use Rattle.hg_model.specs.declared.row.Row.{Row}
 use Rattle.hg_model.specs.Gossip.{lacking}
 use Rattle.hg_model.specs.Links.{no_row}
 use Rattle.hg_model.specs.Stakes.{member_count}
 use Rattle.hg_model.specs.Signing.{accepts_by}
-use Rattle.hg_model.specs.Spelling.{body_of, spelling}
+use Rattle.hg_model.specs.Spelling.{body_of}
 use Rattle.hg_model.specs.Verdict.{is_held}
 use Rattle.hg_model.specs.NodeView.{NodeView, Start, IsNode, node_rows}
 use Rattle.hg_model.proofs.LinkLaws.{creator-links, length-links}
 use Rattle.hg_history.specs.Laws.{IsEvent}
 use Rattle.hg_history.proofs.SoundLaws.{sound}
-use Rattle.hg_gossip.specs.declared.gossip.Taken.{Taken}
-use Rattle.hg_gossip.specs.Gossip.{none_taken}
-use Rattle.hg_gossip.specs.Nodes.{Taking, take_event, taking_of}
 use Rattle.hg_world.specs.World.{Secrets, WorldView, node_at, rows_at}
-use Rattle.hg_graph.specs.RowsWithRoom.{rows_of}
-use Rattle.hg_world.specs.Syncs.{AreSigned, HasTaken, IsSigned, bytes_of}
+use Rattle.hg_gossip.specs.Taking.{AreSigned, IsSigned}
 use Rattle.hg_world.specs.Parts.{IsWorld}
 
 pub all_filtered : (P : Row → Type 0) (keeps : Row → Bool) (rows : List Row) → AllByRecursion P rows → AllByRecursion P (filter keeps rows)
@@ -32,14 +27,14 @@ all_filtered P keeps (row ∷ rows) all = by (keeps row) (all_filtered P keeps r
 
 -- the rows of a node are so for the node
 signed_events : (start : Start Secrets) (rows : List Row) → AllByRecursion (IsEvent (accepts_by start.keys)) rows →
-    ((x : ℕ) → x < length rows → (get_or rows x no_row).creator < member_count start.members) → AreSigned start rows
+    ((x : ℕ) → x < length rows → (get_or rows x no_row).creator < member_count start.members) → AreSigned accepts_by start rows
 signed_events start [] events fit = tt
 signed_events start (row ∷ rows) events fit = (
   record { fits = fit 0 (omega arith); signed = events.0.signed },
   signed_events start rows events.1 (λ x low. fit (suc x) (omega (arith, low))),
 )
 
-signed_own : (v : NodeView Secrets) → IsNode accepts_by v → AreSigned v.start (node_rows v)
+signed_own : (v : NodeView Secrets) → IsNode accepts_by v → AreSigned accepts_by v.start (node_rows v)
 signed_own v node =
     let s = sound (accepts_by v.start.keys) v.start.members v.start.coin v.start.own v.history node.coin node.history in
     signed_events v.start (node_rows v) s.events
@@ -47,7 +42,7 @@ signed_own v node =
     (s.graph.shaped.members x (omega (arith, low, length-links (node_rows v)))))
 
 -- and for one with the same members and keys
-signed_alike : (a b : Start Secrets) (rows : List Row) → a.members ≡ b.members → a.keys ≡ b.keys → AreSigned a rows → AreSigned b rows
+signed_alike : (a b : Start Secrets) (rows : List Row) → a.members ≡ b.members → a.keys ≡ b.keys → AreSigned accepts_by a rows → AreSigned accepts_by b rows
 signed_alike a b [] members keys all = tt
 signed_alike a b (row ∷ rows) members keys all = (
   record {
@@ -59,39 +54,11 @@ signed_alike a b (row ∷ rows) members keys all = (
 
 -- so what a node of the world lacks of another's is signed for it
 pub lacked_signed : (w : WorldView) (taker peer : ℕ) (rows : List Row) → IsWorld w → taker < length w.sites → peer < length w.sites → rows ≡ lacking (rows_at w taker) (rows_at w peer) →
-    AreSigned (node_at w taker).start rows
+    AreSigned accepts_by (node_at w taker).start rows
 lacked_signed w taker peer rows world low_taker low_peer is =
     let t = world.sites taker low_taker in
     let p = world.sites peer low_peer in
-    subst (AreSigned (node_at w taker).start) (sym is)
-    (all_filtered (IsSigned (node_at w taker).start) (λ (row : Row). not (is_held (rows_at w taker) row.name)) (rows_at w peer)
+    subst (AreSigned accepts_by (node_at w taker).start) (sym is)
+    (all_filtered (IsSigned accepts_by (node_at w taker).start) (λ (row : Row). not (is_held (rows_at w taker) row.name)) (rows_at w peer)
     (signed_alike (node_at w peer).start (node_at w taker).start (rows_at w peer) (p.is.members ∙ sym t.is.members) (p.keyed ∙ sym t.keyed)
     (signed_own (node_at w peer) p.node)))
-
--- events that come to a node leave what it began with
-start_kept : (events : List (List ℕ)) (t : Taking Secrets) → (fold (take_event accepts_by) t events).node.start ≡ t.node.start
-start_kept [] t = refl
-start_kept (bytes ∷ events) t = start_kept events (take_event accepts_by t bytes)
-
-module _ {A : Type 0} where
-  signed_in : (start : Start Secrets) (events : List (Arc Row A)) (i : ℕ) (d : Arc Row A) → AreSigned start (rows_of events) → i < length events → IsSigned start (get_or events i d).value
-  signed_in start [] i d all low = absurd (omega (arith, low))
-  signed_in start (event ∷ events) zero d all low = all.0
-  signed_in start (event ∷ events) (suc i) d all low = signed_in start events i d all.1 (omega (arith, low))
-
-  -- the next one is signed for the node still
-  pub signed_at : (old now : WorldView) (m : ℕ) (events : List (Arc Row A)) (i : ℕ) (event : Arc Row A) (first : List (List ℕ)) (counts : Taken) → AreSigned (node_at old m).start (rows_of events) →
-      i < length events → event ≡ get_or events i event → HasTaken old m first counts now → IsSigned (node_at now m).start event.value
-  signed_at old now m events i event first counts all low is taken =
-      subst (λ (start : Start Secrets). IsSigned start event.value)
-      (sym (ap (λ (t : Taking Secrets). t.node.start) taken.counted ∙ start_kept first (taking_of (node_at old m) none_taken)))
-      (subst (λ (e : Arc Row A). IsSigned (node_at old m).start e.value) (sym is) (signed_in (node_at old m).start events i event all low))
-
-  pub bytes_length : (events : List (Arc Row A)) → length (bytes_of events) ≡ length events
-  bytes_length events = length-map (rows_of events) spelling ∙ length-map events (λ (e : Arc Row A). e.value)
-
-  -- the bytes of one event
-  pub bytes_at : (events : List (Arc Row A)) (i : ℕ) (event : Arc Row A) → i < length events → event ≡ get_or events i event → spelling event.value ≡ get_or (bytes_of events) i (spelling event.value)
-  bytes_at events i event low is =
-      sym (get_or-map spelling (rows_of events) i event.value (spelling event.value) (omega (arith, low, length-map events (λ (e : Arc Row A). e.value)))
-      ∙ ap spelling (get_or-map (λ (e : Arc Row A). e.value) events i event event.value low ∙ ap (λ (e : Arc Row A). e.value) (sym is)))

@@ -11,8 +11,9 @@ use Rattle.hg_model.specs.NodeView.{NodeView, node_rows, with_changes}
 use Rattle.hg_history.proofs.StateLaws.{prefix_same, rows_grow}
 use Rattle.hg_world.specs.World.{Secrets}
 use Rattle.hg_world.specs.Parts.{no_node, nth_node}
-use Rattle.hg_world.specs.KnownRows.{AreKnown, HeardView, KeepsKnown, Knows, LacksOf, all_heard, heard_by, heard_of, none_heard, nothing_heard, nth_rows, with_heard}
-use Rattle.hg_world.proofs.KnownLaws.{knows_all, knows_more, knows_none, knows_rest, knows_through, lacks_again}
+use Rattle.hg_gossip.specs.Handing.{AreKnown, HeardView, Knows, LacksOf, all_heard, heard_of, none_heard}
+use Rattle.hg_world.specs.KnownRows.{KeepsKnown, heard_by, nothing_heard, nth_rows, with_heard}
+use Rattle.hg_gossip.proofs.HandLaws.{knows_all, knows_more, knows_none, knows_rest, knows_through, lacks_again}
 
 -- nothing is heard yet
 pub knows_nothing : (nodes : List (NodeView Secrets)) (known : List (List HeardView)) → known ≡ nothing_heard (length nodes) → KeepsKnown nodes known

@@ -1,41 +1,11 @@
 -- What a node is known to have of another one's rows
-use Rattle.std.specs.Prelude.{ℕ, ◌≡◌, ◌<◌, ◌≤◌, true, List, [], length, get_or, replicate, slice_set, take}
-use Rattle.std.specs.List.{AllByRecursion}
+use Rattle.std.specs.Prelude.{ℕ, ◌≡◌, ◌<◌, List, [], length, get_or, replicate, slice_set}
 use Rattle.hg_model.specs.declared.row.Row.{Row}
-use Rattle.hg_model.specs.Gossip.{lacking}
-use Rattle.hg_model.specs.Verdict.{is_held}
 use Rattle.hg_model.specs.Stakes.{Stakes}
 use Rattle.hg_model.specs.NodeView.{NodeView, node_rows}
+use Rattle.hg_gossip.specs.Handing.{HeardView, Knows, none_heard}
 use Rattle.hg_world.specs.World.{Secrets}
 use Rattle.hg_world.specs.Parts.{KeepsWorld, nth_node}
-
--- G has the names of all these rows
-abbrev pub AreKnown : List Row → List Row → Type 0
-AreKnown G rows = AllByRecursion (λ (row : Row). is_held G row.name ≡ true) rows
-
--- the names of so many first rows are known, but for those of these rows, which were refused
-pub record HeardView : Type 0 where
-  pub len : ℕ
-  pub refused : List Row
-
-abbrev pub heard_of : ℕ → List Row → HeardView
-heard_of len refused = record { len = len; refused = refused }
-
--- of the first rows of H, G lacks those of the refused whose names it lacks
-pub record Knows (G H : List Row) (heard : HeardView) : Type 0 where
-  pub within : heard.len ≤ length H
-  pub lacks : lacking G (take heard.len H) ≡ lacking G heard.refused
-
--- of the rows of H, G lacks those of the rest whose names it lacks
-abbrev pub LacksOf : List Row → List Row → List Row → Type 0
-LacksOf G H rest = lacking G H ≡ lacking G rest
-
--- of all these first rows
-abbrev pub all_heard : ℕ → HeardView
-all_heard len = heard_of len []
-
-abbrev pub none_heard : HeardView
-none_heard = all_heard 0
 
 -- what node x has heard of node y
 abbrev pub heard_by : List (List HeardView) → ℕ → ℕ → HeardView

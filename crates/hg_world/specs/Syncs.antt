@@ -1,19 +1,13 @@
 -- Gossip as steps of a run: what one member's node takes from another's, and the event that it makes then.
 -- SWIRLDS-TR-2016-01, section 3
-use Rattle.std.specs.Prelude.{ℕ, ◌≡◌, ◌<◌, true, cond, List, [], ◌∷◌, ◌++◌, map, slice_get, Option, Some, None, option_map}
-use Rattle.std.specs.List.{AllByRecursion}
-use Rattle.std.specs.declared.sync.Arc.{Arc}
-use Rattle.hg_model.specs.declared.row.Row.{Row}
+use Rattle.std.specs.Prelude.{ℕ, ◌≡◌, List, [], ◌∷◌, ◌++◌, map, Option, Some, None}
 use Rattle.hg_model.specs.declared.answers.SyncMade.{SyncMade}
 use Rattle.hg_model.specs.declared.answers.SyncMade.TheVariants as sync_made
 use Rattle.hg_model.specs.declared.answers.SyncReport.{SyncReport}
 use Rattle.hg_model.specs.Gossip.{made_in_sync}
 use Rattle.hg_model.specs.Signing.{accepts_by}
-use Rattle.hg_model.specs.Stakes.{member_count}
-use Rattle.hg_model.specs.Spelling.{body_of, spelling}
-use Rattle.hg_model.specs.Verdict.{is_held, last_name}
-use Rattle.hg_model.specs.NodeView.{NodeView, Start, node_rows}
-use Rattle.hg_graph.specs.RowsWithRoom.{rows_of}
+use Rattle.hg_model.specs.Verdict.{last_name}
+use Rattle.hg_model.specs.NodeView.{NodeView, node_rows}
 use Rattle.hg_gossip.specs.declared.gossip.Taken.{Taken}
 use Rattle.hg_gossip.specs.Nodes.{Taking, lacked, pulling, taking, taking_of}
 use Rattle.hg_world.specs.declared.step.Step.{Step}
@@ -80,24 +74,3 @@ HasSynced old taker peer time payload report new =
 abbrev pub HasMadeAfter : WorldView → ℕ → Option (List ℕ) → ℕ → List ℕ → SyncMade → WorldView → Type 0
 HasMadeAfter old m other time payload made new =
     (made ≡ made_after (node_at old m) other time payload) × (new ≡ after_steps old (make_steps m other time payload))
-
--- the row, unless its name is held
-abbrev pub unheld : List Row → Row → List Row
-unheld held row = cond (is_held held row.name) [] (row ∷ [])
-
--- these and the peer's row at a place, unless the taker has its name; nothing where there is no row
-abbrev pub with_lacked : List Row → List Row → ℕ → List Row → Option (List Row)
-with_lacked taker peer place rows = option_map (λ (row : Row). rows ++ unheld taker row) (slice_get peer place)
-
--- the bytes of events that are shared
-abbrev pub bytes_of : {A : Type 0} → List (Arc Row A) → List (List ℕ)
-bytes_of events = map spelling (rows_of events)
-
--- the row is of one of the members, whose signature a node that began so accepts
-pub record IsSigned (start : Start Secrets) (row : Row) : Type 0 where
-  pub fits : row.creator < member_count start.members
-  pub signed : accepts_by start.keys row.creator (body_of row) row.sig ≡ true
-
--- so are all of these
-abbrev pub AreSigned : Start Secrets → List Row → Type 0
-AreSigned start rows = AllByRecursion (IsSigned start) rows

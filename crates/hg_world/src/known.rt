@@ -1,30 +1,16 @@
 ghost use Rattle.std.specs.Prelude.{◌≡◌, ◌<◌, [], IfOk, IfSome, get_or, length, replicate, slice_set};
 ghost use Rattle.hg_graph.specs.RowsWithRoom.{rows_of};
-ghost use Rattle.hg_world.specs.KnownRows.{AreKnown, KeepsKnown, LacksOf, all_heard, heard_by, none_heard, nothing_heard, nth_rows, with_heard};
+ghost use Rattle.hg_gossip.specs.Handing.{AreKnown, LacksOf, all_heard, none_heard};
+ghost use Rattle.hg_world.specs.KnownRows.{KeepsKnown, heard_by, nothing_heard, nth_rows, with_heard};
 
 use hg_event::Event;
+use hg_gossip::Heard;
 use hg_model::Memory;
 use hg_node::Node;
 use hg_sign::SharedTable;
 use std::alloc::Global;
 use std::marker::Model;
 use std::sync::Arc;
-
-/// What a node has of another one's rows: the names of so many first ones, but for those of the events that it refused.
-#[derive(Drop)]
-pub(crate) struct Heard {
-    pub(crate) len: usize,
-    pub(crate) refused: Vec<Arc<Event>>,
-}
-
-impl Model for Heard {
-    ghost use Rattle.hg_graph.specs.RowsWithRoom.{rows_of};
-    ghost use Rattle.hg_world.specs.KnownRows.{HeardView, heard_of};
-
-    ghost Value = { HeardView };
-
-    ghost view = { λ s. heard_of s.len (rows_of s.refused.items) };
-}
 
 /// What a node has heard of each node.
 #[derive(Drop)]
@@ -34,7 +20,7 @@ pub(crate) struct Hearing {
 
 impl Model for Hearing {
     ghost use Rattle.std.specs.Prelude.{List};
-    ghost use Rattle.hg_world.specs.KnownRows.{HeardView};
+    ghost use Rattle.hg_gossip.specs.Handing.{HeardView};
 
     ghost Value = { List HeardView };
 

@@ -17,7 +17,6 @@
 //! ```
 #![tactic(auto)]
 
-mod events;
 mod known;
 mod laws;
 mod nodes;

@@ -4,17 +4,19 @@ ghost use Rattle.hg_model.specs.Calls.{IsSettled, publish_answer};
 ghost use Rattle.hg_model.specs.NodeView.{IsNode, node_rows};
 ghost use Rattle.hg_model.specs.Places.{table};
 ghost use Rattle.hg_model.specs.Signing.{accepts_by, secrets_of};
-ghost use Rattle.hg_model.specs.Spelling.{spelling};
 ghost use Rattle.hg_node.specs.ChronicleView.{IsFoundBy};
+ghost use Rattle.hg_graph.specs.RowsWithRoom.{rows_of};
 ghost use Rattle.hg_gossip.specs.Holding.{WouldSign, WouldTake, rules_alone, seen_whole};
+ghost use Rattle.hg_gossip.specs.Nodes.{taking_of};
+ghost use Rattle.hg_gossip.specs.Taking.{AreSigned, bytes_of};
 ghost use Rattle.hg_world.specs.World.{new_node, worker_limit};
 ghost use Rattle.hg_world.specs.Steps.{putting_at};
 ghost use Rattle.hg_world.specs.Parts.{nth_node};
-ghost use Rattle.hg_world.specs.Nodes.{nodes_made, nodes_published, nodes_put, nodes_settled, nth_made, nth_making, nth_published, nth_put, nth_settled};
-ghost use Rattle.hg_world.specs.Syncs.{IsSigned};
+ghost use Rattle.hg_world.specs.Nodes.{NthTookSome, nodes_made, nodes_published, nodes_put, nodes_settled, nth_made, nth_making, nth_published, nth_put, nth_settled, nth_taking};
 
 use hg_event::Event;
 use hg_fame::elect_share;
+use hg_gossip::{Taken, take_events};
 use hg_model::{Found, MakeAnswer, Member, Members, Memory, Name, PutAnswer, Share};
 use hg_node::Node;
 use hg_sign::SharedTable;
@@ -133,23 +135,23 @@ pub(crate) fn put(
     Ok(answer)
 }
 
-/// An event that the node at a place accepts as signed comes to it.
-pub(crate) fn put_event(
+/// Events that the node at a place accepts as signed come to it, one after the other.
+pub(crate) fn take(
     nodes: &mut Vec<Node<SharedTable>>,
     m: usize,
-    event: &Arc<Event>,
-) -> Result<PutAnswer, Memory>
+    events: &[Arc<Event>],
+) -> Result<Taken, Memory>
     requires place { m < length nodes.old.items }
-    requires signed { IsSigned (nth_node nodes.old.items m).start event.now.value }
-    ensures answer { IfOk result (λ a. a ≡ putting_at (nth_node nodes.old.items m) (spelling event.now.value)) }
-    ensures ok { OnOk result (nodes.new.items ≡ nodes_put nodes.old.items m (spelling event.now.value)) }
-    ensures node { OnOk result (IsNode accepts_by (nth_put nodes.old.items m (spelling event.now.value))) }
-    ensures err { OnErr result (nodes.new.items ≡ nodes.old.items) }
+    requires signed { AreSigned accepts_by (nth_node nodes.old.items m).start (rows_of events.now) }
+    ensures ok { IfOk result (λ t. taking_of (nth_node nodes.new.items m) t ≡ nth_taking nodes.old.items m (bytes_of events.now)) }
+    ensures err { OnErr result (NthTookSome nodes.old.items m (bytes_of events.now) nodes.new.items) }
+    ensures set { nodes.new.items ≡ slice_set nodes.old.items m (nth_node nodes.new.items m) }
+    ensures node { IsNode accepts_by (nth_node nodes.new.items m) }
 {
     let node = &mut nodes[m];
-    let answer = node.put_event(event)?;
+    let counts = take_events(node, events);
     node.rows();
-    Ok(answer)
+    counts
 }
 
 /// The node at a place publishes all fame that its graph decides; tells how many rows it has.

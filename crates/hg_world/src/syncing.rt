@@ -1,36 +1,14 @@
 ghost use Rattle.std.specs.Prelude.{◌≡◌, IfOk, OnErr};
 ghost use Rattle.hg_runs.specs.Safety.{IsSafe};
-ghost use Rattle.hg_graph.specs.RowsWithRoom.{rows_of};
 ghost use Rattle.hg_world.specs.World.{IsMemberOf, node_at, run_of};
 ghost use Rattle.hg_world.specs.Steps.{RanSome};
-ghost use Rattle.hg_world.specs.Syncs.{AreSigned, HasMadeAfter, HasPulled, HasSynced, HasTaken, bytes_of, deliver_steps, pull_steps};
+ghost use Rattle.hg_world.specs.Syncs.{HasMadeAfter, HasPulled, HasSynced, pull_steps};
 
 use crate::world::World;
-use hg_event::Event;
-use hg_gossip::{Taken, sync_made, with_answer};
+use hg_gossip::{Taken, sync_made};
 use hg_model::{Member, Memory, Name, SyncMade, SyncReport};
-use std::sync::Arc;
 
 impl World {
-    /// Puts these events, which a member's node accepts as signed, to it, one after the other.
-    fn take(&mut self, member: Member, events: &[Arc<Event>]) -> Result<Taken, Memory>
-        requires member { IsMemberOf self.old member }
-        requires signed { AreSigned (node_at self.old member).start (rows_of events.now) }
-        ensures ok { IfOk result (λ counts. HasTaken self.old member (bytes_of events.now) counts self.new) }
-        ensures err { OnErr result (RanSome self.old (deliver_steps member (bytes_of events.now)) self.new) }
-    {
-        let _count = events.len();
-        let mut counts = Taken {
-            taken: 0,
-            refused: 0,
-        };
-        for event in events {
-            let answer = self.put_event(member, event)?;
-            counts = with_answer(counts, answer);
-        }
-        Ok(counts)
-    }
-
     fn pull_rows(&mut self, taker: Member, peer: Member) -> Result<Taken, Memory>
         requires taker { IsMemberOf self.old taker }
         requires peer { IsMemberOf self.old peer }

@@ -3,21 +3,22 @@ ghost use Rattle.std.specs.Option.{option_to_list};
 ghost use Rattle.hg_model.specs.Calls.{IsSettled};
 ghost use Rattle.hg_model.specs.Signing.{accepts_by};
 ghost use Rattle.hg_runs.specs.Safety.{IsSafe};
+ghost use Rattle.hg_gossip.specs.Handing.{AreKnown, LacksOf};
 ghost use Rattle.hg_gossip.specs.Holding.{WouldSign, WouldTake, rules_alone, seen_whole};
+ghost use Rattle.hg_gossip.specs.Taking.{AreSigned, bytes_of};
 ghost use Rattle.hg_world.specs.declared.step.Step.TheVariants.{Make, Deliver, Freeze, Publish};
 ghost use Rattle.hg_graph.specs.RowsWithRoom.{rows_of};
 ghost use Rattle.hg_world.specs.Parts.{AreOfOneList, IsWorld, nth_node, unfrozen};
-ghost use Rattle.hg_world.specs.KnownRows.{AreKnown, LacksOf, nothing_heard};
+ghost use Rattle.hg_world.specs.KnownRows.{nothing_heard};
 ghost use Rattle.hg_model.specs.Gossip.{lacking};
-ghost use Rattle.hg_model.specs.Spelling.{spelling};
 ghost use Rattle.hg_world.specs.World.{IsMemberOf, IsSiteOf, new_world, node_at, nodes_of, rows_at, run_of, site_at, worker_limit};
-ghost use Rattle.hg_world.specs.Steps.{after_step, after_steps, making_at, publishing_by, putting_at, settle_steps};
-ghost use Rattle.hg_world.specs.Syncs.{IsSigned};
+ghost use Rattle.hg_world.specs.Steps.{RanSome, after_step, after_steps, making_at, publishing_by, putting_at, settle_steps};
+ghost use Rattle.hg_world.specs.Syncs.{HasTaken, deliver_steps};
 
-use crate::events::{lacked_beside, still_lacked};
 use crate::known::{self, Hearing};
 use crate::nodes::{self, Frozen};
 use hg_event::Event;
+use hg_gossip::{Taken, lacked, still_lacked};
 use hg_model::{MakeAnswer, Member, Members, Memory, Name, Prefix, PutAnswer, Share, Sight};
 use hg_node::Node;
 use hg_sign::SharedTable;
@@ -140,19 +141,14 @@ impl World {
         nodes::publish(self.alloc, &mut self.nodes, m, len, share)
     }
 
-    /// An event that a member's node accepts as signed comes to it.
-    pub(crate) fn put_event(
-        &mut self,
-        member: Member,
-        event: &Arc<Event>,
-    ) -> Result<PutAnswer, Memory>
+    /// Events that a member's node accepts as signed come to it, one after the other.
+    pub(crate) fn take(&mut self, member: Member, events: &[Arc<Event>]) -> Result<Taken, Memory>
         requires member { IsMemberOf self.old member }
-        requires signed { IsSigned (node_at self.old member).start event.now.value }
-        ensures answer { IfOk result (λ a. a ≡ putting_at (node_at self.old member) (spelling event.now.value)) }
-        ensures ok { OnOk result (self.new ≡ after_step self.old (Deliver member (spelling event.now.value))) }
-        ensures err { OnErr result (self.new ≡ self.old) }
+        requires signed { AreSigned accepts_by (node_at self.old member).start (rows_of events.now) }
+        ensures ok { IfOk result (λ counts. HasTaken self.old member (bytes_of events.now) counts self.new) }
+        ensures err { OnErr result (RanSome self.old (deliver_steps member (bytes_of events.now)) self.new) }
     {
-        nodes::put_event(&mut self.nodes, member as usize, event)
+        nodes::take(&mut self.nodes, member as usize, events)
     }
 
     /// The peer's events whose names the taker lacks. Looks at no row whose name it is known to have, and of those that it
@@ -164,7 +160,7 @@ impl World {
     {
         let (x, y) = (taker as usize, peer as usize);
         let heard = known::heard_by(&self.known, x, y);
-        lacked_beside(self.alloc, &self.nodes[x], &self.nodes[y], heard)
+        lacked(self.alloc, &self.nodes[x], &self.nodes[y], heard)
     }
 
     /// The taker has the names of all rows of the peer, and so those that the peer is known to have.

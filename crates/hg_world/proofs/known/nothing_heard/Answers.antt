@@ -1,6 +1,6 @@
 use Rattle.std.proofs.Common.{◌∙◌, ◌++◌, ◌∷◌, [], List, ap₂, replicate}
 use Rattle.std.proofs.lemmas.List.{replicate-append-replicate}
-use Rattle.hg_world.specs.KnownRows.{HeardView, none_heard}
+use Rattle.hg_gossip.specs.Handing.{HeardView, none_heard}
 use Rattle.hg_world.proofs.known.nothing_heard.Goals as goal
 
 pub loop-preserved : goal.loop-preserved

@@ -1,5 +1,5 @@
 use Rattle.std.proofs.Common.{◌≡◌, replicate}
-use Rattle.hg_world.specs.KnownRows.{none_heard}
+use Rattle.hg_gossip.specs.Handing.{none_heard}
 use Rattle.hg_world.proofs.known.nothing_heard.Given as goal
 
 abbrev pub invariant-loop : goal.invariant-loop

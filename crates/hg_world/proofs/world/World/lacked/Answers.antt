@@ -21,13 +21,13 @@ index-requires c = omega (arith, c.self.inside.nodes.ok.0, low_in c.self.inside.
 pub index-requires-2 : goal.index-requires-2
 index-requires-2 c = omega (arith, c.self.inside.nodes.ok.0, low_in c.self.inside.members c.self.inside.coin c.self.inside.nodes.items c.self.inside.frozen.items c.args.self.now c.args.peer c.self.invariant.0 c.self.view_is c.requires.peer)
 
-pub lacked_beside-requires : goal.lacked_beside-requires
-lacked_beside-requires c =
+pub lacked-requires : goal.lacked-requires
+lacked-requires c =
     knows_here c.self.inside.nodes.items c.self.inside.known.items c.args.taker c.args.peer c.index.result.now c.index-2.result.now c.heard_by-heard.result.now c.self.invariant.1 (low_in c.self.inside.members c.self.inside.coin c.self.inside.nodes.items c.self.inside.frozen.items c.args.self.now c.args.taker c.self.invariant.0 c.self.view_is c.requires.taker) (low_in c.self.inside.members c.self.inside.coin c.self.inside.nodes.items c.self.inside.frozen.items c.args.self.now c.args.peer c.self.invariant.0 c.self.view_is c.requires.peer)
     (c.index.ensures ∙ node_here c.self.inside.nodes.items c.args.taker _ (low_in c.self.inside.members c.self.inside.coin c.self.inside.nodes.items c.self.inside.frozen.items c.args.self.now c.args.taker c.self.invariant.0 c.self.view_is c.requires.taker)) (c.index-2.ensures ∙ node_here c.self.inside.nodes.items c.args.peer _ (low_in c.self.inside.members c.self.inside.coin c.self.inside.nodes.items c.self.inside.frozen.items c.args.self.now c.args.peer c.self.invariant.0 c.self.view_is c.requires.peer)) c.heard_by-heard.ensures
 
 pub returns : goal.returns
 returns c =
-    subst (λ (v : NodeView Secrets). IfOk c.lacked_beside.result (λ events. rows_of events.items ≡ lacking (node_rows v) (rows_at c.args.self.now c.args.peer))) (c.index.ensures ∙ (node_here c.self.inside.nodes.items c.args.taker _ (low_in c.self.inside.members c.self.inside.coin c.self.inside.nodes.items c.self.inside.frozen.items c.args.self.now c.args.taker c.self.invariant.0 c.self.view_is c.requires.taker) ∙ node_in c.self.inside.members c.self.inside.coin c.self.inside.nodes.items c.self.inside.frozen.items c.args.self.now c.args.taker c.self.invariant.0 c.self.view_is c.requires.taker))
-    (subst (λ (v : NodeView Secrets). IfOk c.lacked_beside.result (λ events. rows_of events.items ≡ lacking (node_rows c.index.result.now) (node_rows v))) (c.index-2.ensures ∙ (node_here c.self.inside.nodes.items c.args.peer _ (low_in c.self.inside.members c.self.inside.coin c.self.inside.nodes.items c.self.inside.frozen.items c.args.self.now c.args.peer c.self.invariant.0 c.self.view_is c.requires.peer) ∙ node_in c.self.inside.members c.self.inside.coin c.self.inside.nodes.items c.self.inside.frozen.items c.args.self.now c.args.peer c.self.invariant.0 c.self.view_is c.requires.peer))
-    c.lacked_beside.ensures)
+    subst (λ (v : NodeView Secrets). IfOk c.lacked.result (λ events. rows_of events.items ≡ lacking (node_rows v) (rows_at c.args.self.now c.args.peer))) (c.index.ensures ∙ (node_here c.self.inside.nodes.items c.args.taker _ (low_in c.self.inside.members c.self.inside.coin c.self.inside.nodes.items c.self.inside.frozen.items c.args.self.now c.args.taker c.self.invariant.0 c.self.view_is c.requires.taker) ∙ node_in c.self.inside.members c.self.inside.coin c.self.inside.nodes.items c.self.inside.frozen.items c.args.self.now c.args.taker c.self.invariant.0 c.self.view_is c.requires.taker))
+    (subst (λ (v : NodeView Secrets). IfOk c.lacked.result (λ events. rows_of events.items ≡ lacking (node_rows c.index.result.now) (node_rows v))) (c.index-2.ensures ∙ (node_here c.self.inside.nodes.items c.args.peer _ (low_in c.self.inside.members c.self.inside.coin c.self.inside.nodes.items c.self.inside.frozen.items c.args.self.now c.args.peer c.self.invariant.0 c.self.view_is c.requires.peer) ∙ node_in c.self.inside.members c.self.inside.coin c.self.inside.nodes.items c.self.inside.frozen.items c.args.self.now c.args.peer c.self.invariant.0 c.self.view_is c.requires.peer))
+    c.lacked.ensures)

@@ -1,7 +1,8 @@
 use Rattle.std.proofs.Common.{sym, subst}
 use Rattle.hg_model.specs.NodeView.{NodeView, node_rows}
 use Rattle.hg_world.specs.World.{Secrets, rows_at}
-use Rattle.hg_world.specs.KnownRows.{AreKnown, nth_rows}
+use Rattle.hg_gossip.specs.Handing.{AreKnown}
+use Rattle.hg_world.specs.KnownRows.{nth_rows}
 use Rattle.hg_world.proofs.WorldLaws.{low_in, node_in}
 use Rattle.hg_world.proofs.world.World.note_all.Goals as goal
 

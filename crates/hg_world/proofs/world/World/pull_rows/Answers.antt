@@ -1,9 +1,11 @@
 use Rattle.std.proofs.Common.{◌∙◌, ap, map, arith}
 use Rattle.hg_model.specs.Spelling.{spelling}
 use Rattle.hg_graph.specs.RowsWithRoom.{rows_of}
-use Rattle.hg_world.specs.Syncs.{bytes_of, deliver_steps}
+use Rattle.hg_gossip.specs.Taking.{bytes_of}
+use Rattle.hg_gossip.proofs.TakingLaws.{bytes_length}
+use Rattle.hg_world.specs.Syncs.{deliver_steps}
 use Rattle.hg_world.proofs.PutsLaws.{noted, rest_noted}
-use Rattle.hg_world.proofs.SignedLaws.{bytes_length, lacked_signed}
+use Rattle.hg_world.proofs.SignedLaws.{lacked_signed}
 use Rattle.hg_world.proofs.StepLaws.{still_member}
 use Rattle.hg_world.proofs.world.World.pull_rows.Goals as goal
 

@@ -1,0 +1,25 @@
+use Rattle.std.proofs.Common.{◌≡◌, ◌∙◌, ◌+◌, ◌-◌, ap, sym, arith, drop}
+use Rattle.std.specs.Prelude.{reverse}
+use Rattle.std.proofs.lemmas.List.{drop_all}
+use Rattle.hg_model.specs.Gossip.{lacking}
+use Rattle.hg_model.specs.NodeView.{node_rows}
+use Rattle.hg_graph.specs.RowsWithRoom.{rows_of}
+use Rattle.hg_gossip.proofs.HandLaws.{lacked_before}
+use Rattle.hg_gossip.proofs.handing.lacked_backwards.Goals as goal
+
+pub places-init : goal.places-init
+places-init g c = (
+  omega (arith, c.requires, c.rows-place.ensures),
+  omega (arith, c.rows-place.ensures),
+  ap rows_of c.new-events.ensures.items
+      ∙ sym (ap (λ rows. reverse (lacking (node_rows c.args.taker.now) rows)) (drop_all c.rows-place.result (node_rows c.args.peer.now) (omega (arith, c.rows-place.ensures)))),
+)
+
+pub places-preserved : goal.places-preserved
+places-preserved g c =
+    let back : c.places.place ≡ c.places.place - 1 + 1 = omega (arith, c.places-test.true) in (
+      omega (arith, c.places-test.true),
+      omega (arith, c.places.invariant.1),
+      lacked_before (node_rows c.args.taker.now) (node_rows c.args.peer.now) (c.places.place - 1) _ _ (omega (arith, c.places-test.true, c.places.invariant.1)) c.in_ok-push_unless_held.ensures
+          (c.places.invariant.2 ∙ ap (λ n. reverse (lacking (node_rows c.args.taker.now) (drop n (node_rows c.args.peer.now)))) back),
+    )

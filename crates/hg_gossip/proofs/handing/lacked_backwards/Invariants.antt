@@ -1,0 +1,12 @@
+use Rattle.std.proofs.Common.{◌≡◌, ◌≤◌, length}
+use Rattle.hg_model.specs.NodeView.{node_rows}
+use Rattle.hg_graph.specs.RowsWithRoom.{rows_of}
+use Rattle.hg_gossip.specs.Handing.{lacked_backwards}
+use Rattle.hg_gossip.proofs.handing.lacked_backwards.Given as goal
+
+abbrev pub invariant-places : goal.invariant-places
+invariant-places g l =
+    (l.from ≤ l.place) × (l.place ≤ length (node_rows l.peer)) × (rows_of l.events.items ≡ lacked_backwards l.taker l.peer l.place)
+
+abbrev pub decreases-places : goal.decreases-places
+decreases-places g l = l.place

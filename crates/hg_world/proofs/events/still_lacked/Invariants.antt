@@ -1,8 +1,0 @@
-use Rattle.std.proofs.Common.{◌≡◌, take}
-use Rattle.hg_model.specs.Gossip.{lacking}
-use Rattle.hg_model.specs.NodeView.{node_rows}
-use Rattle.hg_graph.specs.RowsWithRoom.{rows_of}
-use Rattle.hg_world.proofs.events.still_lacked.Given as goal
-
-abbrev pub invariant-loop-event : goal.invariant-loop-event
-invariant-loop-event l = rows_of l.lacked.items ≡ lacking (node_rows l.taker) (rows_of (take l.event-index l.events))
