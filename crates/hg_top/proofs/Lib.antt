@@ -1,1 +1,2 @@
-pub mod SafeLaws
+pub mod WorkLaws
+pub mod Before

@@ -13,6 +13,7 @@
 #![tactic(auto)]
 
 mod printing;
+mod reading;
 mod status;
 mod top;
 
