@@ -1,2 +1,1 @@
 pub mod WorkLaws
-pub mod Before

@@ -34,7 +34,7 @@ some_is : {A : Type 0} (x y : A) → (let a : Option A = Some x in a) ≡ Some y
 some_is x y same = cc
 
 -- a shelf that tells what it has has no other bytes under the name
-pub same_bytes : (holds : Option Files) (name bytes others : List ℕ) → Has holds name bytes → Tells holds name others → bytes ≡ others
+same_bytes : (holds : Option Files) (name bytes others : List ℕ) → Has holds name bytes → Tells holds name others → bytes ≡ others
 same_bytes None name bytes others has tells = absurd tells
 same_bytes (Some files) name bytes others has tells = some_is bytes others (sym has ∙ tells)
 

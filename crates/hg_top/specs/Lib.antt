@@ -3,4 +3,3 @@ pub mod Course
 pub mod Ends
 pub mod Commands
 pub mod Printing
-pub mod Before
