@@ -1,4 +1,2 @@
-pub mod Limits
-pub mod Passing
 pub mod Readings
 mod Worked

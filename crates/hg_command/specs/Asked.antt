@@ -1,14 +1,16 @@
 -- What the words of a command line ask for
-use Rattle.std.specs.Prelude.{ℕ, String, map, string_bytes, ◌-◌, ◌^◌, ◌≤◌, List, [], ◌∷◌, Option, Some, None, option_map, option_and_then, unwrap_or, if◌then◌else◌, codes, false}
+use Rattle.std.specs.Prelude.{ℕ, String, Bool, false, map, find, string_bytes, nat_le, ◌&&◌, ◌≤◌, List, [], ◌∷◌, Option, Some, None, option_map, option_and_then, unwrap_or, if◌then◌else◌, codes}
 use Rattle.std.specs.Global.{Global}
 use Rattle.std.specs.Str.{bytes_eq}
 use Rattle.std.specs.Str.Parse.{digits_value, without_leading_plus}
-use Rattle.clap.specs.Words.{Kinds, Row, Text, fault_of, first_of, one_of, subcommand_of}
+use Rattle.clap.specs.Words.{App, Kinds, Row, Rule, Text, fault_of, first_of, one_of, subcommand_of}
 use Rattle.clap.specs.ValueTests.{accepts}
 use Rattle.clap.specs.declared.builder.ValueParser.TheVariants.{Unsigned}
-use Rattle.hg_command.specs.Line.{command, least_members, most_lines, most_members, most_workers}
+use Rattle.hg_command.specs.Line.{app_with, most_of_bits, needed, number_option, program_with, seed_option, text_option}
 use Rattle.hg_command.specs.declared.request.Request.{Request}
 use Rattle.hg_command.specs.declared.request.Request.TheVariants as request
+
+-- ---- what may be asked for
 
 -- a run over two files, with so many workers
 pub record RunFiles : Type 0 where
@@ -34,43 +36,103 @@ asked (request.Run members script workers) = run (record { members = members.now
 asked (request.Make members lines seed workers) =
     make (record { members = members; lines = lines; seed = seed; workers = workers })
 
+-- the least and the greatest number of members that are made
+abbrev pub least_members : ℕ
+least_members = 2
+
+abbrev pub most_members : ℕ
+most_members = 128
+
+-- the greatest number of lines that are made
+abbrev pub most_lines : ℕ
+most_lines = 1000000
+
+-- the greatest number of workers
+abbrev pub most_workers : ℕ
+most_workers = 16
+
+-- the numbers that are asked for lie in their ranges
+abbrev pub KeepsRanges : Asked → Type 0
+KeepsRanges (run r) = r.workers ≤ most_workers
+KeepsRanges (make m) =
+    (least_members ≤ m.members) × (m.members ≤ most_members) × (m.lines ≤ most_lines) × (m.workers ≤ most_workers)
+
+-- whether they do
+abbrev pub keeps_ranges : Asked → Bool
+keeps_ranges (run r) = nat_le r.workers most_workers
+keeps_ranges (make m) =
+    nat_le least_members m.members && (nat_le m.members most_members && (nat_le m.lines most_lines && nat_le m.workers most_workers))
+
+-- ---- what an option was given
+
 -- the text that an option was given
 abbrev pub text_in : Text → List Row → Text
 text_in option rows = unwrap_or (first_of option rows) []
-
--- the greatest number of so many bits
-abbrev pub most_of_bits : ℕ → ℕ
-most_of_bits bits = 2 ^ bits - 1
 
 -- the number of so many bits that a text is, where it is one
 abbrev pub text_number : ℕ → Text → Option ℕ
 text_number bits text =
     if accepts false (Unsigned 0 (most_of_bits bits)) text then Some (digits_value 10 (without_leading_plus text)) else None
 
--- the number of so many bits that an option was given, and `least` where it was left out
-abbrev pub number_in : ℕ → ℕ → Text → List Row → ℕ
-number_in bits least option rows = unwrap_or (option_and_then (text_number bits) (one_of option rows)) least
+-- the number of so many bits that an option was given, and 0 where it was left out
+abbrev pub number_in : ℕ → Text → List Row → ℕ
+number_in bits option rows = unwrap_or (option_and_then (text_number bits) (one_of option rows)) 0
 
--- what the options of `run` ask for
-abbrev pub run_in : List Row → RunFiles
-run_in rows = record {
-  members = text_in (codes "members") rows;
-  script = text_in (codes "script") rows;
-  workers = number_in 32 0 (codes "workers") rows;
+-- ---- the commands
+
+-- a command: its name, its options, and what it asks for by what they were given
+pub record Command : Type 0 where
+  pub name : Text
+  pub options : List Rule
+  pub reads : List Row → Asked
+
+-- run --members FILE --script FILE [--workers K]
+abbrev pub run_command : Command
+run_command = record {
+  name = codes "run";
+  options = needed (text_option (codes "members")) ∷ needed (text_option (codes "script")) ∷ number_option (codes "workers") ∷ [];
+  reads = λ rows. run (record {
+    members = text_in (codes "members") rows;
+    script = text_in (codes "script") rows;
+    workers = number_in 32 (codes "workers") rows;
+  });
 }
 
--- what the options of `make` ask for
-abbrev pub make_in : List Row → MadeRun
-make_in rows = record {
-  members = number_in 32 least_members (codes "members") rows;
-  lines = number_in 32 0 (codes "lines") rows;
-  seed = number_in 64 0 (codes "seed") rows;
-  workers = number_in 32 0 (codes "workers") rows;
+-- make --members N --lines L --seed S [--workers K]
+abbrev pub make_command : Command
+make_command = record {
+  name = codes "make";
+  options =
+      needed (number_option (codes "members")) ∷ needed (number_option (codes "lines")) ∷ needed (seed_option (codes "seed"))
+      ∷ number_option (codes "workers") ∷ [];
+  reads = λ rows. make (record {
+    members = number_in 32 (codes "members") rows;
+    lines = number_in 32 (codes "lines") rows;
+    seed = number_in 64 (codes "seed") rows;
+    workers = number_in 32 (codes "workers") rows;
+  });
 }
+
+-- the commands of the program
+abbrev pub commands : List Command
+commands = run_command ∷ make_command ∷ []
+
+-- a command as clap is told of it
+abbrev pub app_for : Command → App
+app_for c = app_with c.name c.options
+
+abbrev pub command : App
+command = program_with (map app_for commands)
 
 -- what a command of this name asks for, by what its options were given
-abbrev pub asked_in : Text × List Row → Asked
-asked_in found = if bytes_eq found.0 (codes "run") then run (run_in found.1) else make (make_in found.1)
+abbrev pub asked_in : Text × List Row → Option Asked
+asked_in found = option_map (λ c. c.reads found.1) (find (λ c. bytes_eq found.0 c.name) commands)
+
+-- ---- the words
+
+-- what was asked for, if its numbers lie in their ranges
+abbrev pub within_ranges : Asked → Option Asked
+within_ranges a = if keeps_ranges a then Some a else None
 
 -- the second, unless there is a fault
 abbrev pub unless_faulty : Kinds → Option Asked → Option Asked
@@ -81,12 +143,7 @@ unless_faulty (kind ∷ kinds) found = None
 abbrev pub texts : List (String Global) → List Text
 texts words = map string_bytes words
 
--- What the words ask for, the program's name first, where clap's definition finds no fault in them
+-- What the words ask for, the program's name first, where clap's definition finds no fault in them and their numbers lie in
+-- their ranges
 abbrev pub request_of : List Text → Option Asked
-request_of words = unless_faulty (fault_of command words) (option_map asked_in (subcommand_of command words))
-
--- the numbers that are asked for lie in their ranges
-abbrev pub KeepsRanges : Asked → Type 0
-KeepsRanges (run r) = r.workers ≤ most_workers
-KeepsRanges (make m) =
-    (least_members ≤ m.members) × (m.members ≤ most_members) × (m.lines ≤ most_lines) × (m.workers ≤ most_workers)
+request_of words = option_and_then within_ranges (unless_faulty (fault_of command words) (option_and_then asked_in (subcommand_of command words)))

@@ -1,73 +1,73 @@
 ghost use Rattle.std.specs.Prelude.{◌≡◌, false, IfOk};
 ghost use Rattle.clap.specs.Words.{app_of, rule_of};
 ghost use Rattle.clap.specs.declared.builder.Command.TheViews.{out-Command};
+ghost use Rattle.hg_command.specs.Asked as asked;
+ghost use Rattle.hg_command.specs.Asked.{app_for};
 ghost use Rattle.hg_command.specs.Line as line;
 
 use clap::builder::ValueParser;
 use clap::{Arg, Command};
 use std::alloc::{AllocError, Global};
 
-/// An option that must be given, and takes the name of a file.
-fn file_option<'a>(alloc: Global, name: &'a str) -> Arg<'a>
+/// An option that must be given, and takes a text, as the name of a file.
+fn text_option<'a>(alloc: Global, name: &'a str) -> Arg<'a>
     ensures rule { rule_of result ≡ line.needed (line.text_option name.entry.now) }
     ensures local { result.global ≡ false }
 {
     Arg::new(alloc, name).long(name).required(true)
 }
 
-/// An option that takes a number, and may be left out.
-fn number_option<'a>(alloc: Global, name: &'a str, numbers: ValueParser<'a>) -> Arg<'a>
-    ensures rule { rule_of result ≡ line.number_option name.entry.now numbers.entry }
+/// An option that takes a whole number of 32 bits, and may be left out.
+fn number_option<'a>(alloc: Global, name: &'a str) -> Arg<'a>
+    ensures rule { rule_of result ≡ line.number_option name.entry.now }
     ensures local { result.global ≡ false }
 {
-    Arg::new(alloc, name).long(name).value_parser(numbers)
+    Arg::new(alloc, name)
+        .long(name)
+        .value_parser(ValueParser::Signed(0, 4_294_967_295))
 }
 
-/// An option that must be given, and takes a number.
-fn count_option<'a>(alloc: Global, name: &'a str, numbers: ValueParser<'a>) -> Arg<'a>
-    ensures rule { rule_of result ≡ line.needed (line.number_option name.entry.now numbers.entry) }
+/// An option that must be given, and takes a whole number of 32 bits.
+fn count_option<'a>(alloc: Global, name: &'a str) -> Arg<'a>
+    ensures rule { rule_of result ≡ line.needed (line.number_option name.entry.now) }
     ensures local { result.global ≡ false }
 {
-    number_option(alloc, name, numbers).required(true)
+    number_option(alloc, name).required(true)
 }
 
-/// How many workers a run has, none where it is left out.
-fn workers_option<'a>(alloc: Global) -> Arg<'a>
-    ensures rule { rule_of result ≡ line.workers_option }
+/// An option that must be given, and takes a number of 64 bits.
+fn seed_option<'a>(alloc: Global, name: &'a str) -> Arg<'a>
+    ensures rule { rule_of result ≡ line.needed (line.seed_option name.entry.now) }
     ensures local { result.global ≡ false }
 {
-    number_option(alloc, "workers", ValueParser::Signed(0, 16))
+    Arg::new(alloc, name)
+        .long(name)
+        .required(true)
+        .value_parser(ValueParser::Unsigned(0, u64::MAX))
 }
 
 /// `run --members FILE --script FILE [--workers K]`
 fn run_command<'a>(alloc: Global) -> Result<Command<'a>, AllocError>
-    ensures app { IfOk result (λ c. app_of c ≡ line.run_command) }
+    ensures app { IfOk result (λ c. app_of c ≡ app_for asked.run_command) }
     ensures local { IfOk result (λ c. (out-Command c).has_globals ≡ false) }
 {
-    let members = file_option(alloc, "members");
-    let script = file_option(alloc, "script");
-    let workers = workers_option(alloc);
     let run = Command::new(alloc, "run")
-        .arg(members)?
-        .arg(script)?
-        .arg(workers)?;
+        .arg(text_option(alloc, "members"))?
+        .arg(text_option(alloc, "script"))?
+        .arg(number_option(alloc, "workers"))?;
     Ok(run)
 }
 
 /// `make --members N --lines L --seed S [--workers K]`
 fn make_command<'a>(alloc: Global) -> Result<Command<'a>, AllocError>
-    ensures app { IfOk result (λ c. app_of c ≡ line.make_command) }
+    ensures app { IfOk result (λ c. app_of c ≡ app_for asked.make_command) }
     ensures local { IfOk result (λ c. (out-Command c).has_globals ≡ false) }
 {
-    let members = count_option(alloc, "members", ValueParser::Signed(2, 128));
-    let lines = count_option(alloc, "lines", ValueParser::Signed(0, 1_000_000));
-    let seed = count_option(alloc, "seed", ValueParser::Unsigned(0, u64::MAX));
-    let workers = workers_option(alloc);
     let make = Command::new(alloc, "make")
-        .arg(members)?
-        .arg(lines)?
-        .arg(seed)?
-        .arg(workers)?;
+        .arg(count_option(alloc, "members"))?
+        .arg(count_option(alloc, "lines"))?
+        .arg(seed_option(alloc, "seed"))?
+        .arg(number_option(alloc, "workers"))?;
     Ok(make)
 }
 
@@ -84,7 +84,7 @@ fn program<'a>(alloc: Global) -> Command<'a>
 
 /// The program with each of its commands.
 pub(crate) fn command<'a>(alloc: Global) -> Result<Command<'a>, AllocError>
-    ensures app { IfOk result (λ c. app_of c ≡ line.command) }
+    ensures app { IfOk result (λ c. app_of c ≡ asked.command) }
     ensures local { IfOk result (λ c. (out-Command c).has_globals ≡ false) }
 {
     let run = run_command(alloc)?;

@@ -1,6 +1,6 @@
-ghost use Rattle.std.specs.Prelude.{◌≡◌, Some, option_map, true, codes};
-ghost use Rattle.clap.specs.Words.{found_of, has_subcommand, rows_of, subcommand_rows_of};
-ghost use Rattle.hg_command.specs.Asked.{asked, asked_in, make, make_in, number_in, run, run_in, text_in};
+ghost use Rattle.std.specs.Prelude.{◌≡◌, option_and_then, option_map, codes};
+ghost use Rattle.clap.specs.Words.{found_of, rows_of, subcommand_rows_of};
+ghost use Rattle.hg_command.specs.Asked.{asked, asked_in, keeps_ranges, make_command, number_in, run_command, text_in};
 
 use clap::ArgMatches;
 
@@ -22,20 +22,38 @@ pub enum Request<'a> {
     },
 }
 
-/// The number that the option was given, `least` where it was left out.
-fn number_at(matches: &ArgMatches<'_>, option: &str, least: u32) -> u32
-    ensures { result ≡ number_in 32 least option.now (rows_of (found_of matches.now)) }
+impl<'a> Request<'a> {
+    /// Whether its numbers lie in their ranges.
+    pub(crate) fn keeps_ranges(self) -> bool
+        ensures { result ≡ keeps_ranges (asked self.entry) }
+    {
+        match self {
+            Request::Run { workers, .. } => workers <= 16,
+            Request::Make {
+                members,
+                lines,
+                workers,
+                ..
+            } => 2 <= members && members <= 128 && lines <= 1_000_000 && workers <= 16,
+        }
+    }
+}
+
+/// The number that the option was given, 0 where it was left out.
+fn number_at(matches: &ArgMatches<'_>, option: &str) -> u32
+    ensures { result ≡ number_in 32 option.now (rows_of (found_of matches.now)) }
 {
-    matches.get_one::<u32>(option).unwrap_or(least)
+    matches.get_one::<u32>(option).unwrap_or(0)
 }
 
 /// The seed that the option was given, 0 where it was left out.
 fn seed_at(matches: &ArgMatches<'_>, option: &str) -> u64
-    ensures { result ≡ number_in 64 0 option.now (rows_of (found_of matches.now)) }
+    ensures { result ≡ number_in 64 option.now (rows_of (found_of matches.now)) }
 {
     matches.get_one::<u64>(option).unwrap_or(0)
 }
 
+/// The text that the option was given, an empty one where it was left out.
 fn text_at<'a>(matches: &ArgMatches<'a>, option: &str) -> &'a str
     ensures { result.now ≡ text_in option.now (rows_of (found_of matches.now)) }
 {
@@ -43,39 +61,36 @@ fn text_at<'a>(matches: &ArgMatches<'a>, option: &str) -> &'a str
 }
 
 fn run_at<'a>(matches: &ArgMatches<'a>) -> Request<'a>
-    ensures { asked result ≡ run (run_in (rows_of (found_of matches.now))) }
+    ensures { asked result ≡ run_command.reads (rows_of (found_of matches.now)) }
 {
     Request::Run {
         members: text_at(matches, "members"),
         script: text_at(matches, "script"),
-        workers: number_at(matches, "workers", 0),
+        workers: number_at(matches, "workers"),
     }
 }
 
 fn make_at<'a>(matches: &ArgMatches<'a>) -> Request<'a>
-    ensures { asked result ≡ make (make_in (rows_of (found_of matches.now))) }
+    ensures { asked result ≡ make_command.reads (rows_of (found_of matches.now)) }
 {
     Request::Make {
-        members: number_at(matches, "members", 2),
-        lines: number_at(matches, "lines", 0),
+        members: number_at(matches, "members"),
+        lines: number_at(matches, "lines"),
         seed: seed_at(matches, "seed"),
-        workers: number_at(matches, "workers", 0),
+        workers: number_at(matches, "workers"),
     }
 }
 
 /// What the command that was met asks for.
-pub(crate) fn request_at<'a>(matches: &ArgMatches<'a>) -> Request<'a>
-    requires { has_subcommand matches.now ≡ true }
-    ensures { Some (asked result) ≡ option_map asked_in (subcommand_rows_of matches.now) }
+pub(crate) fn request_at<'a>(matches: &ArgMatches<'a>) -> Option<Request<'a>>
+    ensures { option_map asked result ≡ option_and_then asked_in (subcommand_rows_of matches.now) }
 {
-    match matches.subcommand() {
-        Some((name, options)) => {
-            if name == "run" {
-                run_at(options)
-            } else {
-                make_at(options)
-            }
-        }
-        None => unreachable!(),
+    let (name, options) = matches.subcommand()?;
+    if name == "run" {
+        Some(run_at(options))
+    } else if name == "make" {
+        Some(make_at(options))
+    } else {
+        None
     }
 }

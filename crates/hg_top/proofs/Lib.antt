@@ -1,1 +1,1 @@
-pub mod SafeLaws
+pub mod WorkLaws

@@ -1,5 +1,5 @@
-pub mod Accepted
-pub mod Reading
-pub mod Made
-pub mod Top
+pub mod Work
+pub mod Course
+pub mod Ends
+pub mod Commands
 pub mod Printing

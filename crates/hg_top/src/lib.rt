@@ -1,6 +1,8 @@
 //! The program in one call: words, files, nodes, report.
 //! `main` uses `hashgraph`, whose clauses say what it writes for which files, and the cause of each status.
 //! What the script does is `hg_play`'s; what is written `report_text`, `summary_text` and `status_line` tell.
+//! A command is a work, a value of `specs/Work.antt`: it reads files and then writes a text or stops. `specs/Commands.antt` has
+//! the work of each, and `specs/Ends.antt` says once what a work comes to.
 //!
 //! From `main` of `hg_cli`, shortened:
 //!
@@ -13,6 +15,7 @@
 #![tactic(auto)]
 
 mod printing;
+mod reading;
 mod status;
 mod top;
 

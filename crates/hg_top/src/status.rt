@@ -1,5 +1,6 @@
 ghost use Rattle.std.specs.Prelude.{◌≡◌};
 ghost use Rattle.hg_top.specs.Printing.{status_code};
+ghost use Rattle.hg_top.specs.Work.{limit_of, too_long};
 
 use hg_members::MemberFault;
 use hg_script::ScriptFault;
@@ -9,6 +10,28 @@ use hg_script::ScriptFault;
 pub enum File {
     Members,
     Script,
+}
+
+impl File {
+    /// The greatest number of bytes that it may have.
+    pub(crate) fn limit(self) -> usize
+        ensures { result ≡ limit_of self }
+    {
+        match self {
+            File::Members => 1_048_576,
+            File::Script => 16_777_216,
+        }
+    }
+
+    /// What a call comes to where it has more.
+    pub(crate) fn too_long(self) -> Status
+        ensures { result ≡ too_long self }
+    {
+        match self {
+            File::Members => Status::Members(Refusal::TooLong),
+            File::Script => Status::Script(Refusal::TooLong),
+        }
+    }
 }
 
 /// What is wrong with a file.

@@ -1,107 +1,61 @@
-ghost use Rattle.std.specs.Prelude.{◌≡◌, ◌≤◌, ℕ, List, All, IfOk, IfErr};
-ghost use Rattle.hg_io.specs.Faults.{raised};
-ghost use Rattle.hg_model.specs.Report.{report_text};
-ghost use Rattle.hg_script.specs.Lawful.{IsLine};
-ghost use Rattle.hg_report.specs.Summary.{summary_text};
-ghost use Rattle.hg_top.specs.Made.{EndsMadeOn, made_run};
-ghost use Rattle.hg_top.specs.Reading.{ReadsLines, ReadsMembers, StopsAtMembers, StopsAtScript, Writes};
+ghost use Rattle.std.specs.Prelude.{◌≡◌, ◌≤◌, ℕ};
+ghost use Rattle.hg_top.specs.Commands.{IsSummaryOf, asks, made_run, run_work, script_work, work_of};
+ghost use Rattle.hg_top.specs.Course.{course};
+ghost use Rattle.hg_top.specs.Ends as spec;
+ghost use Rattle.hg_top.specs.Ends.{Completes, Ends, ReadsNoFile, WroteOn};
 ghost use Rattle.hg_top.specs.Printing.{IsPrintedOn, status_line};
-ghost use Rattle.hg_top.specs.Top.{EndsBy, EndsOn, IsComplete, IsCompleteMade, IsRefused, IsUsage, ReadsNoFile, Starts, StartsBy, asks, course};
 
 use crate::printing::report_status;
-use crate::status::{File, Refusal, Status};
+use crate::reading::{lines_from, members_from};
+use crate::status::Status;
 use hg_command::{Request, read_words};
-use hg_io::{Failed, FileAnswer, Gate, Shelf, Sink, read_file};
+use hg_io::{Failed, Gate, Shelf, Sink};
 use hg_made::generate;
-use hg_members::read_members;
-use hg_model::{Items, Members, Memory, Outcome};
+use hg_model::{Members, Memory};
 use hg_play::{play, summary};
 use hg_report::{summary_of, text_of};
-use hg_script::{Line, read_script};
 use hg_workers::Voters;
 use std::alloc::Global;
 use std::sync::Wait;
 use std::thread::Threads;
 
-/// The greatest number of bytes of a member file.
-const MEMBER_LIMIT: usize = 1_048_576;
-
-/// The greatest number of bytes of a script.
-const SCRIPT_LIMIT: usize = 16_777_216;
-
-/// The members that the file of this name tells.
-fn members_from<F: Shelf>(alloc: Global, shelf: &mut F, name: &str) -> Result<Members, Status>
-    ensures ok { IfOk result (ReadsMembers (F.holds shelf.old) name.now) }
-    ensures err { IfErr result (StopsAtMembers F.Shelf shelf.old shelf.new name.now) }
-    ensures same { F.holds shelf.new ≡ F.holds shelf.old }
-    ensures counts { (other : List ℕ) → F.faults shelf.old other ≤ F.faults shelf.new other }
-    ensures begun { F.starts shelf.new ≡ raised (F.starts shelf.old) }
+/// What a call comes to by what came of writing its text.
+fn status_of(written: Result<(), Failed>) -> Status
+    ensures { result ≡ spec.status_of written }
 {
-    match read_file(alloc, shelf, name, MEMBER_LIMIT) {
-        Err(_) => Err(Status::Memory),
-        Ok(FileAnswer::Failed) => Err(Status::ReadFault(File::Members)),
-        Ok(FileAnswer::TooLong(_)) => Err(Status::Members(Refusal::TooLong)),
-        Ok(FileAnswer::Bytes(bytes)) => match read_members(alloc, bytes.as_slice()) {
-            Err(Memory) => Err(Status::Memory),
-            Ok(Err(fault)) => Err(Status::Members(Refusal::Fault(fault))),
-            Ok(Ok(members)) => Ok(members),
-        },
+    match written {
+        Ok(()) => Status::Done,
+        Err(Failed) => Status::WriteFault,
     }
 }
 
-/// The lines that the script of this name is, for so many workers.
-fn lines_from<F: Shelf>(
+/// What the script of this name comes to among these members, with so many workers.
+fn run_script<R: Threads + Wait + Sync, F: Shelf, K: Sink, G: Gate + Sync>(
+    rt: &R,
     alloc: Global,
-    shelf: &mut F,
-    name: &str,
     members: &Members,
+    script: &str,
     workers: u32,
-) -> Result<Items<Line>, Status>
-    ensures ok { IfOk result (ReadsLines (F.holds shelf.old) name.now members.now workers) }
-    ensures lawful { IfOk result (λ lines. All (IsLine members.now workers) lines) }
-    ensures err { IfErr result (StopsAtScript F.Shelf shelf.old shelf.new name.now members.now workers) }
+    shelf: &mut F,
+    out: &mut K,
+    gate: &G,
+) -> Status
+    requires { workers ≤ 16 }
+    ensures ends { Ends (script_work script.now workers members.now) (course F.Shelf K.Sink shelf.old shelf.new out.old out.new) result }
     ensures same { F.holds shelf.new ≡ F.holds shelf.old }
-    ensures counts { (other : List ℕ) → F.faults shelf.old other ≤ F.faults shelf.new other }
-    ensures begun { F.starts shelf.new ≡ raised (F.starts shelf.old) }
 {
-    match read_file(alloc, shelf, name, SCRIPT_LIMIT) {
-        Err(_) => Err(Status::Memory),
-        Ok(FileAnswer::Failed) => Err(Status::ReadFault(File::Script)),
-        Ok(FileAnswer::TooLong(_)) => Err(Status::Script(Refusal::TooLong)),
-        Ok(FileAnswer::Bytes(bytes)) => match read_script(
-            alloc,
-            bytes.as_slice(),
-            members,
-            workers,
-        ) {
-            Err(Memory) => Err(Status::Memory),
-            Ok(Err(fault)) => Err(Status::Script(Refusal::Fault(fault))),
-            Ok(Ok(lines)) => Ok(lines),
-        },
+    let lines = match lines_from(alloc, shelf, script, members, workers) {
+        Ok(lines) => lines,
+        Err(stop) => return stop,
+    };
+    let voters = Voters::new(gate);
+    match play(rt, alloc, members, lines.as_slice(), workers, &voters, gate) {
+        Ok(outcome) => status_of(text_of(&outcome, out)),
+        Err(Memory) => Status::Memory,
     }
 }
 
-/// Writes the report.
-fn write_report<K: Sink>(out: &mut K, outcome: &Outcome) -> Status
-    ensures { Writes K.Sink out.old out.new (report_text outcome.now) result }
-{
-    match text_of(outcome, out) {
-        Ok(()) => Status::Done,
-        Err(Failed) => Status::WriteFault,
-    }
-}
-
-/// Writes the summary.
-fn write_summary<K: Sink>(out: &mut K, outcome: &Outcome) -> Status
-    ensures { Writes K.Sink out.old out.new (summary_text outcome.now) result }
-{
-    match summary_of(outcome, out) {
-        Ok(()) => Status::Done,
-        Err(Failed) => Status::WriteFault,
-    }
-}
-
-/// What the run of a script comes to, with the names of the two files and so many workers.
+/// What a run comes to, with the names of its two files and so many workers.
 fn run<R: Threads + Wait + Sync, F: Shelf, K: Sink, G: Gate + Sync>(
     rt: &R,
     alloc: Global,
@@ -113,23 +67,14 @@ fn run<R: Threads + Wait + Sync, F: Shelf, K: Sink, G: Gate + Sync>(
     gate: &G,
 ) -> Status
     requires { workers ≤ 16 }
-    ensures ends { EndsOn members.now script.now workers (course F.Shelf K.Sink shelf.old shelf.new out.old out.new) result }
-    ensures begun { Starts (course F.Shelf K.Sink shelf.old shelf.new out.old out.new) result }
+    ensures ends { Ends (run_work members.now script.now workers) (course F.Shelf K.Sink shelf.old shelf.new out.old out.new) result }
     ensures same { F.holds shelf.new ≡ F.holds shelf.old }
 {
     let list = match members_from(alloc, shelf, members) {
         Ok(list) => list,
         Err(status) => return status,
     };
-    let lines = match lines_from(alloc, shelf, script, &list, workers) {
-        Ok(lines) => lines,
-        Err(status) => return status,
-    };
-    let voters = Voters::new(gate);
-    match play(rt, alloc, &list, lines.as_slice(), workers, &voters, gate) {
-        Ok(outcome) => write_report(out, &outcome),
-        Err(Memory) => Status::Memory,
-    }
+    run_script(rt, alloc, &list, script, workers, shelf, out, gate)
 }
 
 /// What the run of made members and lines comes to.
@@ -146,7 +91,7 @@ fn make<R: Threads + Wait + Sync, K: Sink, G: Gate + Sync>(
     requires some { 2 ≤ members }
     requires few { members ≤ 128 }
     requires workers { workers ≤ 16 }
-    ensures { EndsMadeOn K.Sink out.old out.new (made_run members lines seed workers) result }
+    ensures { WroteOn K.Sink out.old out.new (IsSummaryOf (made_run members lines seed workers)) result }
 {
     let (list, lines) = match generate(alloc, seed, members, lines) {
         Ok(made) => made,
@@ -154,7 +99,7 @@ fn make<R: Threads + Wait + Sync, K: Sink, G: Gate + Sync>(
     };
     let voters = Voters::new(gate);
     match summary(rt, alloc, &list, lines.as_slice(), workers, &voters, gate) {
-        Ok(outcome) => write_summary(out, &outcome),
+        Ok(outcome) => status_of(summary_of(&outcome, out)),
         Err(Memory) => Status::Memory,
     }
 }
@@ -164,8 +109,9 @@ fn make<R: Threads + Wait + Sync, K: Sink, G: Gate + Sync>(
 /// the nodes' ledgers are written to `out`. `make --members N --lines L --seed S [--workers K]`: so many members and lines
 /// are made from the seed and played, and a summary of each node is written to `out`; no file is read. What is wrong is
 /// written to `err`, in one line. With workers the fame of witnesses is decided by so many threads beside the one that
-/// plays the lines; what is written does not change with their number. They pass the points of `gate`. All that memory is
-/// taken for is done before the first byte is written.
+/// plays the lines; what is written does not change with their number, and what is said of the safety of the run is said
+/// of it without the marks that workers give. They pass the points of `gate`. All that memory is taken for is done before
+/// the first byte is written.
 pub fn hashgraph<R: Threads + Wait + Sync, F: Shelf, K: Sink, E: Sink, G: Gate + Sync>(
     rt: &R,
     alloc: Global,
@@ -175,16 +121,13 @@ pub fn hashgraph<R: Threads + Wait + Sync, F: Shelf, K: Sink, E: Sink, G: Gate +
     err: &mut E,
     gate: &G,
 ) -> Status
-    // The report or the summary at `Done`, and the cause of each other status. In that run no two nodes' orders part
-    // ways, where the dishonest members have less than a third of the stake and names do not collide.
-    ensures ends { EndsBy (asks words.now) (course F.Shelf K.Sink shelf.old shelf.new out.old out.new) result }
-    ensures usage { IsUsage (asks words.now) result }
-    ensures refused { IsRefused (asks words.now) (course F.Shelf K.Sink shelf.old shelf.new out.old out.new) result }
-    ensures complete { IsComplete (asks words.now) (course F.Shelf K.Sink shelf.old shelf.new out.old out.new) result }
-    ensures made { IsCompleteMade (asks words.now) (course F.Shelf K.Sink shelf.old shelf.new out.old out.new) result }
-    // No file is started for faulty words or a run that is made, and no script where the member file ends the work.
-    ensures unread { ReadsNoFile (asks words.now) → shelf.new ≡ shelf.old }
-    ensures begun { StartsBy (asks words.now) (course F.Shelf K.Sink shelf.old shelf.new out.old out.new) result }
+    // What the work of these words came to: its text, whole at `Done`, and the cause of each other status; and which files
+    // it started. In its run no two nodes' orders part ways, where the dishonest members have less than a third of the
+    // stake and names do not collide.
+    ensures ends { Ends (work_of (asks words.now)) (course F.Shelf K.Sink shelf.old shelf.new out.old out.new) result }
+    // Where nothing fails its text is written whole, and what is refused has just its status, but for want of memory.
+    ensures complete { Completes (work_of (asks words.now)) (course F.Shelf K.Sink shelf.old shelf.new out.old out.new) result }
+    ensures unread { ReadsNoFile (work_of (asks words.now)) → shelf.new ≡ shelf.old }
     ensures matches { IsPrintedOn E.Sink err.old err.new (status_line result) }
     ensures same { F.holds shelf.new ≡ F.holds shelf.old }
 {

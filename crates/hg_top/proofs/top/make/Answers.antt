@@ -3,8 +3,8 @@ use Rattle.hg_model.specs.Members.{MemberList}
 use Rattle.hg_script.specs.declared.line.Line.{Line}
 use Rattle.hg_play.specs.Play.{IsSafePlay, summary}
 use Rattle.hg_report.specs.Summary.{summary_text}
-use Rattle.hg_top.specs.Made.{IsSafeMade, made_by, made_run, made_text}
-use Rattle.hg_top.proofs.SafeLaws.{ends_made}
+use Rattle.hg_top.specs.Commands.{IsSummaryOf, made_by, made_run}
+use Rattle.hg_top.proofs.WorkLaws.{wrote}
 use Rattle.hg_top.proofs.top.make.Goals as goal
 
 pub summary-requires-clause-lines : goal.summary-requires-clause-lines
@@ -15,7 +15,9 @@ returns-in-Ok-summary g c =
     let m = made_run c.args.members c.args.lines c.args.seed c.args.workers in
     let list : c.in-Ok.made.0 ≡ (made_by m).0 = ap (λ (p : MemberList × List Line). p.0) c.in-Ok.ensures.made in
     let lines : c.as_slice.result.now ≡ (made_by m).1 = c.as_slice.ensures.value ∙ ap (λ (p : MemberList × List Line). p.1) c.in-Ok.ensures.made in
-    let text : summary_text c.in-Ok-summary.outcome ≡ made_text m = ap summary_text (c.in-Ok-summary.ensures.outcome ∙ ap₂ summary list lines) in
-    let safe : IsSafeMade m =
-    subst (λ (l : MemberList). IsSafePlay l (made_by m).1) list (subst (IsSafePlay c.in-Ok.made.0) lines c.in-Ok-summary.ensures.safe) in
-    ends_made g.K.Sink c.args.out.now c.write_summary.new.out m (summary_text c.in-Ok-summary.outcome) c.write_summary.result text safe c.write_summary.ensures
+    let text = summary_text c.in-Ok-summary.outcome in
+    let is : IsSummaryOf m text = record {
+      is = ap summary_text (c.in-Ok-summary.ensures.outcome ∙ ap₂ summary list lines);
+      safe = subst (λ (l : MemberList). IsSafePlay l (made_by m).1) list (subst (IsSafePlay c.in-Ok.made.0) lines c.in-Ok-summary.ensures.safe);
+    } in
+    rw c.status_of.ensures (wrote g.K.Sink c.args.out.now c.summary_of.new.sink (IsSummaryOf m) text c.summary_of.result is c.summary_of.ensures)

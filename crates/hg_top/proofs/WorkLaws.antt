@@ -1,0 +1,156 @@
+-- Laws of works
+use Rattle.std.proofs.Common.{◌≡◌, ◌<◌, ◌≤◌, ℕ, List, Option, Some, None, length, inl, inr, refl, sym, ◌∙◌, subst, arith}
+use Rattle.std.specs.Prelude.{Result, Ok, Err, ⊤}
+use Rattle.hg_io.specs.Faults.{raised}
+use Rattle.hg_io.specs.Files.{Files}
+use Rattle.hg_io.specs.Printing.{Prints}
+use Rattle.hg_io.specs.declared.shelf.Shelf as shelf
+use Rattle.hg_io.specs.declared.sink.Sink as sink
+use Rattle.hg_top.specs.declared.status.File.{File}
+use Rattle.hg_top.specs.declared.status.Status.{Status}
+use Rattle.hg_top.specs.declared.status.Status.TheVariants.{Done, ReadFault, Usage, Members, Script, WriteFault, Memory}
+use Rattle.hg_top.specs.Course.{Course, Has, HasMore, HasWithin, IsQuiet, StartsOne, Tells, course, reading}
+use Rattle.hg_top.specs.Ends.{Comes, Completes, Ends, IsTaken, StopsAt, StopsIn, WroteOn, status_of}
+use Rattle.hg_top.specs.Work.{Work, limit_of, nothing_more, takes, unless_faulty}
+use Rattle.hg_top.specs.Work.Work.{Writes, Stops, Reads}
+use Rattle.hg_top.specs.Commands.{work_of}
+use Rattle.hg_command.specs.Asked.{Asked}
+
+-- ---- what holds of each work
+
+-- want of memory is an end of each work, before it did anything
+pub comes_short : (work : Work) (c : Course) (starts : ℕ) → IsQuiet c starts → Comes work c starts Memory
+comes_short (Writes Is) c starts quiet = quiet
+comes_short (Stops why) c starts quiet = (inr refl, quiet)
+comes_short (Reads file name next) c starts quiet = inl (refl, quiet)
+
+-- and whatever is told of the shelf and of standard output
+completes_short : (work : Work) (c : Course) → Completes work c Memory
+completes_short (Writes Is) c = λ fine. inr refl
+completes_short (Stops why) c = inr refl
+completes_short (Reads file name next) c = λ bytes tells fine. (λ more. inr refl, λ within. completes_short (next bytes) c)
+
+some_is : {A : Type 0} (x y : A) → (let a : Option A = Some x in a) ≡ Some y → x ≡ y
+some_is x y same = cc
+
+-- a shelf that tells what it has has no other bytes under the name
+same_bytes : (holds : Option Files) (name bytes others : List ℕ) → Has holds name bytes → Tells holds name others → bytes ≡ others
+same_bytes None name bytes others has tells = absurd tells
+same_bytes (Some files) name bytes others has tells = some_is bytes others (sym has ∙ tells)
+
+-- nor fewer, where it has more than so many
+more_bytes : (holds : Option Files) (name bytes : List ℕ) (limit : ℕ) → HasMore holds name limit → Tells holds name bytes → limit < length bytes
+more_bytes None name bytes limit more tells = absurd tells
+more_bytes (Some files) name bytes limit more tells = rw tells at more
+
+completes_text : (Is : List ℕ → Type 0) (c : Course) (starts : ℕ) (status : Status) → Comes (Writes Is) c starts status → Completes (Writes Is) c status
+completes_text Is c starts Done comes fine = inl refl
+completes_text Is c starts Memory comes fine = inr refl
+completes_text Is c starts WriteFault comes fine = absurd (fine comes.1.0)
+completes_text Is c starts (ReadFault file) comes fine = absurd comes.1
+completes_text Is c starts Usage comes fine = absurd comes.1
+completes_text Is c starts (Members refusal) comes fine = absurd comes.1
+completes_text Is c starts (Script refusal) comes fine = absurd comes.1
+
+completes_file : (file : File) (name : List ℕ) (next : List ℕ → Work) (c : Course) (status : Status) → StopsAt c file name status → Completes (Reads file name next) c status
+completes_file file name next c status (inl fault) = λ bytes tells fine. absurd (fine fault.1)
+completes_file file name next c status (inr (inl long)) = λ bytes tells fine. (
+  λ more. inl long.0,
+  λ within. absurd (let more = more_bytes c.holds name bytes (limit_of file) long.1 tells in omega (arith, more, within)),
+)
+completes_file file name next c status (inr (inr short)) = subst (Completes (Reads file name next) c) (sym short) (completes_short (Reads file name next) c)
+
+-- what a work came to is its end, where nothing failed
+pub completes : (work : Work) (c : Course) (starts : ℕ) (status : Status) → Comes work c starts status → Completes work c status
+completes (Writes Is) c starts status comes = completes_text Is c starts status comes
+completes (Stops why) c starts status comes = comes.0
+completes (Reads file name next) c starts status (inl short) = subst (Completes (Reads file name next) c) (sym short.0) (completes_short (Reads file name next) c)
+completes (Reads file name next) c starts status (inr (inl stops)) = completes_file file name next c status stops.0
+completes (Reads file name next) c starts status (inr (inr read)) = λ bytes tells fine. (
+  λ more. absurd (let same = same_bytes c.holds name read.0 bytes read.1.1 tells in let within = rw same at read.1.0 in omega (arith, more, within)),
+  λ within. subst (λ (b : List ℕ). Completes (next b) c status) (same_bytes c.holds name read.0 bytes read.1.1 tells)
+      (completes (next read.0) c (raised starts) status read.2),
+)
+
+-- ---- from one work to another
+
+-- where nothing more was done it does not matter what would have been
+pub stops_before : (work : Work) (c : Course) (starts : ℕ) (status : Status) → Comes nothing_more c starts status → Comes work c starts status
+stops_before work c starts Done comes = absurd comes.1.1
+stops_before work c starts WriteFault comes = absurd comes.1.1.1
+stops_before work c starts Memory comes = comes_short work c starts comes
+stops_before work c starts (ReadFault file) comes = absurd comes.1
+stops_before work c starts Usage comes = absurd comes.1
+stops_before work c starts (Members refusal) comes = absurd comes.1
+stops_before work c starts (Script refusal) comes = absurd comes.1
+
+-- a file that is read, if what follows may be exchanged
+pub reads_for : (file : File) (name : List ℕ) (next others : List ℕ → Work) (c : Course) (starts : ℕ) (status : Status) →
+    ((bytes : List ℕ) → Comes (next bytes) c (raised starts) status → Comes (others bytes) c (raised starts) status) →
+    Comes (Reads file name next) c starts status → Comes (Reads file name others) c starts status
+reads_for file name next others c starts status change (inl short) = inl short
+reads_for file name next others c starts status change (inr (inl stops)) = inr (inl stops)
+reads_for file name next others c starts status change (inr (inr read)) = inr (inr (read.0, read.1, change read.0 read.2))
+
+-- a file that gave no bytes, whatever would have been done with them
+pub reads_none : {S : Type 0} (F : shelf.Ghosts S) (s t : S) (file : File) (name : List ℕ) (next : List ℕ → Work) (status : Status) →
+    StopsIn F s t (Reads file name (λ bytes. nothing_more)) status → StopsIn F s t (Reads file name next) status
+reads_none F s t file name next status stops = λ faults written.
+    let c = reading F s t faults written in
+    reads_for file name (λ bytes. nothing_more) next c c.before.starts status (λ bytes. stops_before (next bytes) c (raised c.before.starts) status) (stops faults written)
+
+unless_faulty_for : {A F : Type 0} (stop : F → Status) (read : Result A F) (next others : A → Work) (c : Course) (starts : ℕ) (status : Status) →
+    ((x : A) → Comes (next x) c starts status → Comes (others x) c starts status) →
+    Comes (unless_faulty stop read next) c starts status → Comes (unless_faulty stop read others) c starts status
+unless_faulty_for stop (Ok x) next others c starts status change comes = change x comes
+unless_faulty_for stop (Err fault) next others c starts status change comes = comes
+
+-- a file that was not taken, whatever would have been done with it
+pub takes_none : {S T A E : Type 0} (F : shelf.Ghosts S) (K : sink.Ghosts T) (s t : S) (out : T) (file : File) (stop : E → Status) (read : List ℕ → Result A E) (name : List ℕ) (next : A → Work) (status : Status) →
+    StopsIn F s t (takes file stop read name (λ x. nothing_more)) status → Ends (takes file stop read name next) (course F K s t out out) status
+takes_none F K s t out file stop read name next status stops =
+    let c = course F K s t out out in
+    reads_for file name (λ bytes. unless_faulty stop (read bytes) (λ x. nothing_more)) (λ bytes. unless_faulty stop (read bytes) next) c c.before.starts status
+    (λ bytes. unless_faulty_for stop (read bytes) (λ x. nothing_more) next c (raised c.before.starts) status (λ x. stops_before (next x) c (raised c.before.starts) status))
+    (stops (K.faults out) (K.written out))
+
+-- ---- from one moment to an earlier one
+
+-- what came of a work came of it from an earlier moment too: the files are the same, and no count of faults fell
+pub earlier : {S T : Type 0} (F : shelf.Ghosts S) (K : sink.Ghosts T) (s u t : S) (out written : T) (work : Work) (starts : ℕ) (status : Status) →
+    F.holds u ≡ F.holds s → ((name : List ℕ) → F.faults s name ≤ F.faults u name) →
+    Comes work (course F K u t out written) starts status → Comes work (course F K s t out written) starts status
+earlier F K s u t out written (Writes Is) starts status holds counts comes = comes
+earlier F K s u t out written (Stops why) starts status holds counts comes = comes
+earlier F K s u t out written (Reads file name next) starts status holds counts (inl short) = inl short
+earlier F K s u t out written (Reads file name next) starts status holds counts (inr (inl (inl fault, quiet))) =
+    (let less = counts name in inr (inl (inl (fault.0, omega (arith, fault.1, less)), quiet)))
+earlier F K s u t out written (Reads file name next) starts status holds counts (inr (inl (inr (inl long), quiet))) =
+    inr (inl (inr (inl (long.0, subst (λ (h : Option Files). HasMore h name (limit_of file)) holds long.1)), quiet))
+earlier F K s u t out written (Reads file name next) starts status holds counts (inr (inl (inr (inr short), quiet))) = inr (inl (inr (inr short), quiet))
+earlier F K s u t out written (Reads file name next) starts status holds counts (inr (inr read)) =
+    inr (inr (
+      read.0,
+      subst (λ (h : Option Files). HasWithin h name (limit_of file) read.0) holds read.1,
+      earlier F K s u t out written (next read.0) (raised starts) status holds counts read.2,
+    ))
+
+-- a file was taken, and on
+pub takes_on : {S T A E : Type 0} (F : shelf.Ghosts S) (K : sink.Ghosts T) (s u t : S) (out written : T) (file : File) (stop : E → Status) (read : List ℕ → Result A E) (name : List ℕ) (next : A → Work) (x : A) (status : Status) →
+    IsTaken (F.holds s) file read name x → StartsOne F s u →
+    Ends (next x) (course F K u t out written) status → Ends (takes file stop read name next) (course F K s t out written) status
+takes_on F K s u t out written file stop read name next x status taken started ends =
+    let on = earlier F K s u t out written (next x) (raised (F.starts s)) status started.1 started.2
+    (subst (λ (n : ℕ). Comes (next x) (course F K u t out written) n status) started.0 ends) in
+    inr (inr (taken.0, taken.1, rw taken.2 on))
+
+-- a text of which this holds was printed
+pub wrote : {T E : Type 0} (K : sink.Ghosts T) (out written : T) (Is : List ℕ → Type 0) (text : List ℕ) (r : Result ⊤ E) →
+    Is text → Prints K out written text r → WroteOn K out written Is (status_of r)
+wrote K out written Is text (Ok x) is prints = (text, is, prints.0)
+wrote K out written Is text (Err e) is prints = (prints.1, (text, is, prints.0))
+
+-- what a request came to, told of the values at the end of the call
+pub ends_at : {S T : Type 0} (F : shelf.Ghosts S) (K : sink.Ghosts T) (s t last : S) (out written done : T) (asked words : Option Asked) (status same : Status) →
+    asked ≡ words → last ≡ t → done ≡ written → same ≡ status → Ends (work_of asked) (course F K s t out written) status → Ends (work_of words) (course F K s last out done) same
+ends_at F K s t last out written done asked words status same is shelf_is out_is status_is ends = rw (← is, shelf_is, out_is, status_is) ends

@@ -1,0 +1,15 @@
+use Rattle.std.proofs.Common.{arith}
+use Rattle.std.proofs.lemmas.Grind.{common_steps}
+use Rattle.hg_top.specs.declared.status.File.TheVariants as file
+use Rattle.hg_top.specs.Commands.{bad_script, lines_for}
+use Rattle.hg_top.specs.Work.{nothing_more, unless_faulty}
+use Rattle.hg_top.proofs.WorkLaws.{reads_none}
+use Rattle.hg_top.proofs.reading.lines_from.Goals as goal
+
+pub returns-in-Err-clause-err : goal.returns-in-Err-clause-err
+returns-in-Err-clause-err g c =
+    reads_none g.F.Shelf c.args.shelf.now c.bytes_from.new.shelf file.Script c.args.name.now
+    (λ bytes. unless_faulty bad_script (lines_for c.args.members.now c.args.workers bytes) (λ lines. nothing_more)) c.in-Err.status c.in-Err.ensures.err
+
+pub returns-in-Ok-Err-clause-err : goal.returns-in-Ok-Err-clause-err
+returns-in-Ok-Err-clause-err g c = grind (arith, common_steps)

@@ -1,0 +1,97 @@
+-- The commands: what each of them does, as a work
+use Rattle.std.specs.Prelude.{ℕ, ◌≡◌, List, Option, Some, None, Result, String}
+use Rattle.std.specs.Global.{Global}
+use Rattle.hg_model.specs.Members.{MemberList}
+use Rattle.hg_model.specs.Report.{report_text}
+use Rattle.hg_members.specs.declared.fault.MemberFault.{MemberFault}
+use Rattle.hg_members.specs.MemberFile.{members_of}
+use Rattle.hg_script.specs.declared.fault.ScriptFault.{ScriptFault}
+use Rattle.hg_script.specs.declared.line.Line.{Line}
+use Rattle.hg_script.specs.Script.{lines_of}
+use Rattle.hg_made.specs.Made.{generate}
+use Rattle.hg_command.specs.Asked.{Asked, MadeRun, make, request_of, run, texts}
+use Rattle.hg_play.specs.Agree.{IsAgreed}
+use Rattle.hg_play.specs.Play.{IsSafePlay, play, summary}
+use Rattle.hg_report.specs.Summary.{summary_text}
+use Rattle.hg_top.specs.declared.status.File.TheVariants as file
+use Rattle.hg_top.specs.declared.status.Refusal.TheVariants.{Fault}
+use Rattle.hg_top.specs.declared.status.Status.{Status}
+use Rattle.hg_top.specs.declared.status.Status.TheVariants.{Usage, Members, Script}
+use Rattle.hg_top.specs.Work.{Work, takes}
+use Rattle.hg_top.specs.Work.Work.{Writes, Stops}
+
+-- ---- the files
+
+-- the statuses of a member file and of a script that have a fault
+abbrev pub bad_members : MemberFault → Status
+bad_members fault = Members (Fault fault)
+
+abbrev pub bad_script : ScriptFault → Status
+bad_script fault = Script (Fault fault)
+
+-- the member file of this name, and next with its members
+abbrev pub members_work : List ℕ → (MemberList → Work) → Work
+members_work name next = takes file.Members bad_members members_of name next
+
+-- the lines that a script's bytes are for these members and so many workers, or their first fault
+abbrev pub lines_for : MemberList → ℕ → List ℕ → Result (List Line) ScriptFault
+lines_for members workers bytes = lines_of bytes members workers
+
+-- the script of this name for these members and so many workers, and next with its lines
+abbrev pub lines_work : List ℕ → MemberList → ℕ → (List Line → Work) → Work
+lines_work name members workers next = takes file.Script bad_script (lines_for members workers) name next
+
+-- ---- run
+
+-- The text is the report of the play of the lines. The run of their steps is safe, and so is what the report shows: no two
+-- of its orders part ways, where the dishonest members have less than a third of the stake and names do not collide. With
+-- workers it is the run without the marks that they give, which change nothing that is written.
+pub record IsReportOf (members : MemberList) (lines : List Line) (text : List ℕ) : Type 0 where
+  pub is : text ≡ report_text (play members lines)
+  pub safe : IsSafePlay members lines
+  pub agreed : IsAgreed members lines
+
+-- the report is written
+abbrev pub report_work : MemberList → List Line → Work
+report_work members lines = Writes (IsReportOf members lines)
+
+-- the script, then the report
+abbrev pub script_work : List ℕ → ℕ → MemberList → Work
+script_work name workers members = lines_work name members workers (report_work members)
+
+-- the member file, then the script
+abbrev pub run_work : List ℕ → List ℕ → ℕ → Work
+run_work members script workers = members_work members (script_work script workers)
+
+-- ---- make
+
+-- the members and the lines that are made
+abbrev pub made_by : MadeRun → MemberList × List Line
+made_by m = generate m.seed m.members m.lines
+
+-- The text is the summary of the play of the lines that are made. The run of their steps is safe: where the dishonest
+-- members have less than a third of the stake and names do not collide, of the orders that any two nodes keep at any two
+-- moments one is a prefix of the other.
+pub record IsSummaryOf (m : MadeRun) (text : List ℕ) : Type 0 where
+  pub is : text ≡ summary_text (summary (made_by m).0 (made_by m).1)
+  pub safe : IsSafePlay (made_by m).0 (made_by m).1
+
+-- the summary is written, and no file is read
+abbrev pub make_work : MadeRun → Work
+make_work m = Writes (IsSummaryOf m)
+
+-- ---- all commands
+
+-- the work that was asked for; words that are not accepted have their status
+abbrev pub work_of : Option Asked → Work
+work_of None = Stops Usage
+work_of (Some (run r)) = run_work r.members r.script r.workers
+work_of (Some (make m)) = make_work m
+
+-- what the words of a command line ask for, where they are accepted
+abbrev pub asks : List (String Global) → Option Asked
+asks words = request_of (texts words)
+
+-- a run of so many members and lines, made from the seed, with so many workers
+abbrev pub made_run : ℕ → ℕ → ℕ → ℕ → MadeRun
+made_run members lines seed workers = record { members = members; lines = lines; seed = seed; workers = workers }

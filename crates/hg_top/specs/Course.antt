@@ -1,0 +1,72 @@
+-- The course of a call: what the outside counts and tells before and after it
+use Rattle.std.specs.Prelude.{ℕ, ◌≡◌, ◌<◌, ◌≤◌, List, length, Option, Some, IfSome, IsSomeAnd}
+use Rattle.hg_io.specs.Faults.{Rose, raised}
+use Rattle.hg_io.specs.Files.{Files, content_of}
+use Rattle.hg_io.specs.declared.shelf.Shelf as shelf
+use Rattle.hg_io.specs.declared.sink.Sink as sink
+
+-- what the outside counts and tells: the shelf's starts of files and its faults by name, and the faults and the bytes of
+-- standard output
+pub record Outside : Type 0 where
+  pub starts : ℕ
+  pub read_faults : List ℕ → ℕ
+  pub write_faults : ℕ
+  pub written : Option (List ℕ)
+
+abbrev pub outside : {S : Type 0} → shelf.Ghosts S → S → ℕ → Option (List ℕ) → Outside
+outside F s faults written = record { starts = F.starts s; read_faults = F.faults s; write_faults = faults; written = written }
+
+-- the course of a call: the files of the shelf, where it tells them, and the outside before and after
+pub record Course : Type 0 where
+  pub holds : Option Files
+  pub before : Outside
+  pub after : Outside
+
+-- that of a call with a shelf F and standard output K, each before and after
+abbrev pub course : {S T : Type 0} → shelf.Ghosts S → sink.Ghosts T → S → S → T → T → Course
+course F K s t out written = record {
+  holds = F.holds s;
+  before = outside F s (K.faults out) (K.written out);
+  after = outside F t (K.faults written) (K.written written);
+}
+
+-- that of a call with a shelf alone, while standard output failed so often and has these bytes
+abbrev pub reading : {S : Type 0} → shelf.Ghosts S → S → S → ℕ → Option (List ℕ) → Course
+reading F s t faults written = record { holds = F.holds s; before = outside F s faults written; after = outside F t faults written }
+
+-- nothing was written to standard output
+abbrev pub WritesNothing : Course → Type 0
+WritesNothing c = c.after.written ≡ c.before.written
+
+-- so many files were started in all, and nothing was written
+abbrev pub IsQuiet : Course → ℕ → Type 0
+IsQuiet c starts = (c.after.starts ≡ starts) × WritesNothing c
+
+-- the shelf failed at a name, or standard output did
+abbrev pub HasReadFault : Course → List ℕ → Type 0
+HasReadFault c name = Rose (c.before.read_faults name) (c.after.read_faults name)
+
+abbrev pub HasWriteFault : Course → Type 0
+HasWriteFault c = Rose c.before.write_faults c.after.write_faults
+
+-- the shelf has these bytes under the name, where it tells what it has
+abbrev pub Has : Option Files → List ℕ → List ℕ → Type 0
+Has holds name bytes = IfSome holds (λ files. content_of files name ≡ Some bytes)
+
+-- the same, and they are no more than so many
+abbrev pub HasWithin : Option Files → List ℕ → ℕ → List ℕ → Type 0
+HasWithin holds name limit bytes = (length bytes ≤ limit) × Has holds name bytes
+
+-- it has more bytes than so many under the name, where it tells what it has
+abbrev pub HasMore : Option Files → List ℕ → ℕ → Type 0
+HasMore holds name limit = IfSome holds (λ files. IsSomeAnd (content_of files name) (λ bytes. limit < length bytes))
+
+-- it tells what it has, and has these bytes under the name
+abbrev pub Tells : Option Files → List ℕ → List ℕ → Type 0
+Tells holds name bytes = IsSomeAnd holds (λ files. content_of files name ≡ Some bytes)
+
+-- one file was started: the shelf F has what it had, and no count of its faults fell
+abbrev pub StartsOne : {S : Type 0} → shelf.Ghosts S → S → S → Type 0
+StartsOne F before after =
+    (F.starts after ≡ raised (F.starts before)) × (F.holds after ≡ F.holds before)
+    × ((name : List ℕ) → F.faults before name ≤ F.faults after name)

@@ -1,0 +1,78 @@
+-- What a work comes to: said once, by recursion over it, for all commands
+use Rattle.std.specs.Prelude.{ℕ, ◌≡◌, ◌<◌, ◌≤◌, ◌⊎◌, ⊤, List, length, Option, Result, Ok, Err}
+use Rattle.hg_io.specs.Bytes.{Appends, AppendsPart}
+use Rattle.hg_io.specs.Faults.{Rose, raised}
+use Rattle.hg_io.specs.Files.{Files}
+use Rattle.hg_io.specs.declared.shelf.Shelf as shelf
+use Rattle.hg_io.specs.declared.sink.Sink as sink
+use Rattle.hg_top.specs.declared.status.File.{File}
+use Rattle.hg_top.specs.declared.status.Status.{Status}
+use Rattle.hg_top.specs.declared.status.Status.TheVariants.{Done, ReadFault, WriteFault, Memory}
+use Rattle.hg_top.specs.Course.{Course, HasMore, HasReadFault, HasWithin, HasWriteFault, IsQuiet, Tells, reading}
+use Rattle.hg_top.specs.Work.{Work, limit_of, too_long}
+use Rattle.hg_top.specs.Work.Work.{Writes, Stops, Reads}
+
+-- just this status, or that memory ran out
+abbrev pub Gives : Status → Status → Type 0
+Gives why status = (status ≡ why) ⊎ (status ≡ Memory)
+
+-- what came of writing a text of which this holds: standard output had so many bytes before and after, and failed so often
+abbrev pub Wrote : (List ℕ → Type 0) → Option (List ℕ) → Option (List ℕ) → ℕ → ℕ → Status → Type 0
+Wrote Is before after faults_before faults_after Done = (text : List ℕ) × Is text × Appends before after text
+Wrote Is before after faults_before faults_after WriteFault =
+    Rose faults_before faults_after × ((text : List ℕ) × Is text × AppendsPart before after text)
+Wrote Is before after faults_before faults_after Memory = after ≡ before
+Wrote Is before after faults_before faults_after _ = ⊥
+
+-- the same of a sink K, before and after
+abbrev pub WroteOn : {S : Type 0} → sink.Ghosts S → S → S → (List ℕ → Type 0) → Status → Type 0
+WroteOn K before after Is status = Wrote Is (K.written before) (K.written after) (K.faults before) (K.faults after) status
+
+-- what a call comes to by what came of writing
+abbrev pub status_of : {A E : Type 0} → Result A E → Status
+status_of (Ok x) = Done
+status_of (Err e) = WriteFault
+
+-- why a file that was started gave no bytes: the shelf failed at its name, or it has too many, or memory ran out
+abbrev pub StopsAt : Course → File → List ℕ → Status → Type 0
+StopsAt c file name status =
+    ((status ≡ ReadFault file) × HasReadFault c name)
+    ⊎ (((status ≡ too_long file) × HasMore c.holds name (limit_of file)) ⊎ (status ≡ Memory))
+
+-- What a work came to, before which so many files were started. A text is written whole, or a front of it where standard
+-- output failed. A file is started once the one before it was taken, and nothing is written before the last step. Memory
+-- may run out at each step.
+abbrev pub Comes : Work → Course → ℕ → Status → Type 0
+Comes (Writes Is) c starts status =
+    (c.after.starts ≡ starts) × Wrote Is c.before.written c.after.written c.before.write_faults c.after.write_faults status
+Comes (Stops why) c starts status = Gives why status × IsQuiet c starts
+Comes (Reads file name next) c starts status =
+    ((status ≡ Memory) × IsQuiet c starts)
+    ⊎ ((StopsAt c file name status × IsQuiet c (raised starts))
+    ⊎ ((bytes : List ℕ) × HasWithin c.holds name (limit_of file) bytes × Comes (next bytes) c (raised starts) status))
+
+-- the same of a whole call
+abbrev pub Ends : Work → Course → Status → Type 0
+Ends work c status = Comes work c c.before.starts status
+
+-- Where nothing fails a work goes to its end: its text is written whole, or it stops as it says, or memory runs out. A file
+-- that has too many bytes has just its status.
+abbrev pub Completes : Work → Course → Status → Type 0
+Completes (Writes Is) c status = (HasWriteFault c → ⊥) → Gives Done status
+Completes (Stops why) c status = Gives why status
+Completes (Reads file name next) c status =
+    (bytes : List ℕ) → Tells c.holds name bytes → (HasReadFault c name → ⊥) →
+    ((limit_of file < length bytes) → Gives (too_long file) status) × ((length bytes ≤ limit_of file) → Completes (next bytes) c status)
+
+-- no file is read
+abbrev pub ReadsNoFile : Work → Type 0
+ReadsNoFile (Reads file name next) = ⊥
+ReadsNoFile _ = ⊤
+
+-- a work came to this status, with a shelf F alone: nothing was written, whatever standard output is
+abbrev pub StopsIn : {S : Type 0} → shelf.Ghosts S → S → S → Work → Status → Type 0
+StopsIn F before after work status = (faults : ℕ) (written : Option (List ℕ)) → Ends work (reading F before after faults written) status
+
+-- the file of this name was taken for this
+abbrev pub IsTaken : {A F : Type 0} → Option Files → File → (List ℕ → Result A F) → List ℕ → A → Type 0
+IsTaken holds file read name x = (bytes : List ℕ) × HasWithin holds name (limit_of file) bytes × (read bytes ≡ Ok x)

@@ -1,0 +1,37 @@
+-- What a command does, as a value: it reads files, each once the one before it is accepted, and then it writes a text or stops
+use Rattle.std.specs.Prelude.{ℕ, List, Result, Ok, Err}
+use Rattle.hg_top.specs.declared.status.File.{File}
+use Rattle.hg_top.specs.declared.status.File.TheVariants as file
+use Rattle.hg_top.specs.declared.status.Refusal.TheVariants.{TooLong}
+use Rattle.hg_top.specs.declared.status.Status.{Status}
+use Rattle.hg_top.specs.declared.status.Status.TheVariants.{Members, Script}
+
+-- the greatest number of bytes of each file
+abbrev pub limit_of : File → ℕ
+limit_of file.Members = 1048576
+limit_of file.Script = 16777216
+
+-- the status of a file that has more
+abbrev pub too_long : File → Status
+too_long file.Members = Members TooLong
+too_long file.Script = Script TooLong
+
+-- a text is written, of which this holds; or the work stops with this status; or the file of this name is read, and its
+-- bytes, where they are not too many, tell what is done next
+pub data Work : Type 1 where
+  Writes : (List ℕ → Type 0) → Work
+  Stops : Status → Work
+  Reads : File → List ℕ → (List ℕ → Work) → Work
+
+-- next with what bytes were taken for, or their fault has its status
+abbrev pub unless_faulty : {A F : Type 0} → (F → Status) → Result A F → (A → Work) → Work
+unless_faulty stop (Ok x) next = next x
+unless_faulty stop (Err fault) next = Stops (stop fault)
+
+-- the file is read, and what its bytes are taken for tells what is done next
+abbrev pub takes : {A F : Type 0} → File → (F → Status) → (List ℕ → Result A F) → List ℕ → (A → Work) → Work
+takes file stop read name next = Reads file name (λ bytes. unless_faulty stop (read bytes) next)
+
+-- a work that comes to nothing of its own: it stands for whatever is done next
+abbrev pub nothing_more : Work
+nothing_more = Writes (λ text. ⊥)

@@ -1,0 +1,80 @@
+ghost use Rattle.std.specs.Prelude.{◌≤◌, ℕ, List, All, IfOk, IfErr};
+ghost use Rattle.hg_members.specs.MemberFile.{members_of};
+ghost use Rattle.hg_script.specs.Lawful.{IsLine};
+ghost use Rattle.hg_top.specs.Commands.{lines_for, lines_work, members_work};
+ghost use Rattle.hg_top.specs.Course.{HasWithin, StartsOne};
+ghost use Rattle.hg_top.specs.Ends.{IsTaken, StopsIn};
+ghost use Rattle.hg_top.specs.Work.{limit_of, nothing_more};
+ghost use Rattle.hg_top.specs.Work.Work.{Reads};
+ghost use Rattle.hg_top.specs.declared.status.File.TheVariants as file;
+
+use crate::status::{File, Refusal, Status};
+use hg_io::{FileAnswer, Shelf, read_file};
+use hg_members::read_members;
+use hg_model::{Bytes, Items, Members, Memory};
+use hg_script::{Line, read_script};
+use std::alloc::Global;
+
+/// The bytes of the file of this name, if they are not too many.
+fn bytes_from<F: Shelf>(
+    alloc: Global,
+    shelf: &mut F,
+    file: File,
+    name: &str,
+) -> Result<Bytes, Status>
+    ensures ok { IfOk result (HasWithin (F.holds shelf.old) name.now (limit_of file)) }
+    ensures err { IfErr result (StopsIn F.Shelf shelf.old shelf.new (Reads file name.now (λ bytes. nothing_more))) }
+    ensures starts { StartsOne F.Shelf shelf.old shelf.new }
+{
+    match read_file(alloc, shelf, name, file.limit()) {
+        Err(Memory) => Err(Status::Memory),
+        Ok(FileAnswer::Failed) => Err(Status::ReadFault(file)),
+        Ok(FileAnswer::TooLong(_)) => Err(file.too_long()),
+        Ok(FileAnswer::Bytes(bytes)) => Ok(bytes),
+    }
+}
+
+/// The members that the file of this name tells.
+pub(crate) fn members_from<F: Shelf>(
+    alloc: Global,
+    shelf: &mut F,
+    name: &str,
+) -> Result<Members, Status>
+    ensures ok { IfOk result (IsTaken (F.holds shelf.old) file.Members members_of name.now) }
+    ensures err { IfErr result (StopsIn F.Shelf shelf.old shelf.new (members_work name.now (λ members. nothing_more))) }
+    ensures starts { StartsOne F.Shelf shelf.old shelf.new }
+{
+    let bytes = match bytes_from(alloc, shelf, File::Members, name) {
+        Ok(bytes) => bytes,
+        Err(status) => return Err(status),
+    };
+    match read_members(alloc, bytes.as_slice()) {
+        Err(Memory) => Err(Status::Memory),
+        Ok(Err(fault)) => Err(Status::Members(Refusal::Fault(fault))),
+        Ok(Ok(members)) => Ok(members),
+    }
+}
+
+/// The lines that the script of this name is, for so many workers.
+pub(crate) fn lines_from<F: Shelf>(
+    alloc: Global,
+    shelf: &mut F,
+    name: &str,
+    members: &Members,
+    workers: u32,
+) -> Result<Items<Line>, Status>
+    ensures ok { IfOk result (IsTaken (F.holds shelf.old) file.Script (lines_for members.now workers) name.now) }
+    ensures lawful { IfOk result (λ lines. All (IsLine members.now workers) lines) }
+    ensures err { IfErr result (StopsIn F.Shelf shelf.old shelf.new (lines_work name.now members.now workers (λ lines. nothing_more))) }
+    ensures starts { StartsOne F.Shelf shelf.old shelf.new }
+{
+    let bytes = match bytes_from(alloc, shelf, File::Script, name) {
+        Ok(bytes) => bytes,
+        Err(status) => return Err(status),
+    };
+    match read_script(alloc, bytes.as_slice(), members, workers) {
+        Err(Memory) => Err(Status::Memory),
+        Ok(Err(fault)) => Err(Status::Script(Refusal::Fault(fault))),
+        Ok(Ok(lines)) => Ok(lines),
+    }
+}
