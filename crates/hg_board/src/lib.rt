@@ -31,6 +31,8 @@ mod view;
 
 pub use copies::EventParcel;
 pub use crew::Crew;
-pub use laws::{shared_makes_add_one, shared_publishes_add_one, shared_puts_add_one};
+pub use laws::{
+    shared_makes_add_one, shared_publishes_add_one, shared_puts_add_one, turns_take_each,
+};
 pub use seat::Seat;
 pub use shared::Shared;
