@@ -8,3 +8,4 @@ pub mod TakingLaws
 pub mod CopyLaws
 pub mod JoinLaws
 pub mod ChangeLaws
+pub mod OneTurnLaws

@@ -1,5 +1,5 @@
 -- The calls that may change a shared node, in the plain words of a history and one change more
-use Rattle.std.specs.Prelude.{ℕ, ◌≡◌, ◌<◌, true, List, [], ◌∷◌, ◌++◌, length, None, Ok}
+use Rattle.std.specs.Prelude.{ℕ, ◌≡◌, ◌<◌, true, List, [], ◌∷◌, ◌++◌, length, map, None, Ok}
 use Rattle.hg_model.specs.declared.row.Row.{Row}
 use Rattle.hg_model.specs.declared.answers.PutAnswer.{PutAnswer}
 use Rattle.hg_model.specs.declared.answers.PutAnswer.TheVariants.{Accepted}
@@ -8,15 +8,20 @@ use Rattle.hg_model.specs.declared.answers.MakeAnswer.TheVariants as made
 use Rattle.hg_model.specs.Orders.{IsPrefix}
 use Rattle.hg_model.specs.Reading.{read_event}
 use Rattle.hg_model.specs.Shares.{Share}
+use Rattle.hg_model.specs.Gossip.{lacking}
+use Rattle.hg_model.specs.Graph.{HasDistinctNames}
+use Rattle.hg_model.specs.Spelling.{spelling}
 use Rattle.hg_model.specs.Verdict.{made_row}
 use Rattle.hg_model.specs.History.{Change}
 use Rattle.hg_model.specs.History.Change.{Took, Made, Marked}
 use Rattle.hg_model.specs.NodeView.{NodeView, node_rows}
 use Rattle.hg_model.specs.Calls.{make_answer, make_body, make_draft, publish_answer, put_answer}
 use Rattle.hg_model.specs.Signing.{Accepts}
+use Rattle.hg_gossip.specs.Nodes.{taking}
 use Rattle.hg_board.specs.Table.{node_at}
 use Rattle.hg_board.specs.Seats.{SharedNode, SeatView}
 use Rattle.hg_board.specs.Calls.{SeatMakes, SeatPublishes, SeatPuts}
+use Rattle.hg_board.specs.Taking.{AreSpelled, taking_rows}
 
 -- what the seat then has seen is a history of which it had seen a prefix, and this change, at whose position it is its own
 pub record AddsOne {V : Type 0} (old new : SeatView V) (history : List Change) (change : Change) : Type 0 where
@@ -67,3 +72,8 @@ PublishesAddOne V = (accepts : V → Accepts) (p : SharedNode V) (old new : Seat
 abbrev pub OtherPublishesAddNone : (V : Type 0) → Type 0
 OtherPublishesAddNone V = (accepts : V → Accepts) (p : SharedNode V) (old new : SeatView V) (len : ℕ) (share : Share) → SeatPublishes accepts p old len share new 0 →
     AddsNone old new × (publish_answer (node_at p.start new.seen) len share ≡ 0)
+
+-- events of different names that come in one turn are put one after the other, but for those whose names the node had
+abbrev pub TurnsTakeEach : (V : Type 0) → Type 0
+TurnsTakeEach V = (accepts : V → Accepts) (v : NodeView V) (rows : List Row) → HasDistinctNames rows → AreSpelled rows →
+    taking_rows accepts v rows ≡ taking accepts v (map spelling (lacking (node_rows v) rows))

@@ -3,7 +3,7 @@ use Rattle.std.specs.Prelude.{◌≡◌, ◌<◌, true, cond, List, ◌∷◌, �
 use Rattle.std.specs.List.{AllByRecursion}
 use Rattle.hg_model.specs.declared.row.Row.{Row}
 use Rattle.hg_model.specs.Stakes.{member_count}
-use Rattle.hg_model.specs.Spelling.{spelling}
+use Rattle.hg_model.specs.Spelling.{Spells, spelling}
 use Rattle.hg_model.specs.Verdict.{is_held}
 use Rattle.hg_model.specs.History.{Change}
 use Rattle.hg_model.specs.NodeView.{NodeView, Start, node_rows, with_changes}
@@ -25,6 +25,10 @@ pub record IsSignedFor {K : Type 0} (accepts : K → Accepts) (start : Start K) 
 
 abbrev pub AreSignedFor : {K : Type 0} → (K → Accepts) → Start K → List Row → Type 0
 AreSignedFor accepts start rows = AllByRecursion (IsSignedFor accepts start) rows
+
+-- each event is spelled as its name says
+abbrev pub AreSpelled : List Row → Type 0
+AreSpelled rows = AllByRecursion (λ (row : Row). Spells (spelling row) row) rows
 
 -- the node and the counts with one event more, unless the node has its name
 abbrev pub take_row : {K : Type 0} → (K → Accepts) → Taking K → Row → Taking K

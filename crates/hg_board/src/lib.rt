@@ -1,6 +1,7 @@
 //! A node between threads: callers share a `Shared`, and each has a `Seat`, what it has seen of the node's one history.
 //! The layers above use that each call, but for `start`, `split` and `absorb`, waits for its turn, and answers as the
 //! node does at what its seat then has seen, in the words of `hg_gossip`'s holders; and `Crew`, which workers keep to.
+//! Events are handed over and taken as they stand (`events_from`, `take_events`): none is read or checked in a turn.
 //!
 //! From `shared_beside` of `check_threads`, shortened:
 //!
@@ -30,6 +31,8 @@ mod view;
 
 pub use copies::EventParcel;
 pub use crew::Crew;
-pub use laws::{shared_makes_add_one, shared_publishes_add_one, shared_puts_add_one};
+pub use laws::{
+    shared_makes_add_one, shared_publishes_add_one, shared_puts_add_one, turns_take_each,
+};
 pub use seat::Seat;
 pub use shared::Shared;
