@@ -8,4 +8,5 @@ pub mod Nodes
 pub mod Play
 pub mod Printing
 pub mod Sites
+pub mod Tape
 pub mod Through

@@ -13,8 +13,10 @@
 //! ```
 #![tactic(auto)]
 
+mod band;
 mod batch;
 mod blocks;
+mod game;
 mod gossip;
 mod labels;
 mod laws;
@@ -25,6 +27,7 @@ mod printing;
 mod seated;
 mod seats;
 mod shared;
+mod tape;
 mod through;
 
 pub use laws::{lines_are_steps, lines_need_rows_alone, steps_need_rows_alone};
