@@ -3,7 +3,6 @@ pub mod Alike
 pub mod Batch
 pub mod Labels
 pub mod Lines
-pub mod Loans
 pub mod Nodes
 pub mod Play
 pub mod Printing
