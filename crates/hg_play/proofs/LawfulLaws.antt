@@ -6,7 +6,7 @@ use Rattle.std.proofs.lemmas.List.Elements.{All-head, All-tail}
 use Rattle.hg_graph.specs.Held.{AreEvents}
 use Rattle.hg_model.specs.declared.outcome.Printed.{Printed}
 use Rattle.hg_model.specs.declared.outcome.Outcome.{Outcome}
-use Rattle.hg_model.specs.Members.{MemberList, has_node, names_of}
+use Rattle.hg_model.specs.Members.{MemberList, has_node}
 use Rattle.hg_script.specs.declared.line.Gossip.{Gossip}
 use Rattle.hg_script.specs.declared.line.Gossip.TheVariants.{Create, Sync, Pull, Join, Give}
 use Rattle.hg_script.specs.declared.line.Action.{Action}
@@ -139,15 +139,11 @@ ends members lines world last printed before pieces new below played told is_las
       agreeing = agreed members lines run refl lawful below so;
     }
 
--- the same of an outcome, where the members and what was asked of the lines are told of a game
-pub ended : (members game : MemberList) (workers : ℕ) (lines : List Line) (world : WorldView) (printed before : List Printed) (outcome : Outcome) → game ≡ members → All (IsLine members workers) lines → IsWorld (new_world game) →
-    IsPlayed game lines world printed → Closes game world before outcome → Ends members lines before outcome.printed × (outcome.names ≡ names_of members)
-ended members game workers lines world printed before outcome same lawful =
-    subst (λ (m : MemberList). IsWorld (new_world m) → IsPlayed m lines world printed → Closes m world before outcome → Ends members lines before outcome.printed × (outcome.names ≡ names_of members)) (sym same)
-    (λ new played closes. (
-      ends members lines world closes.last printed before outcome.printed new (lines_below members workers (length members.entries) lines refl lawful) played closes.blocks closes.lawful,
-      closes.names,
-    ))
+-- the same of an outcome
+pub ended : (members : MemberList) (workers : ℕ) (lines : List Line) (world : WorldView) (printed before : List Printed) (outcome : Outcome) → All (IsLine members workers) lines → IsWorld (new_world members) →
+    IsPlayed members lines world printed → Closes members world before outcome → Ends members lines before outcome.printed
+ended members workers lines world printed before outcome lawful new played closes =
+    ends members lines world closes.last printed before outcome.printed new (lines_below members workers (length members.entries) lines refl lawful) played closes.blocks closes.lawful
 
 -- there is a node for each member
 pub played_count : (members : MemberList) (lines : List Line) (world : WorldView) (printed : List Printed) → IsPlayed members lines world printed → length world.sites ≡ length members.entries

@@ -1,5 +1,5 @@
 ghost use Rattle.std.specs.Prelude.{◌≡◌, ◌<◌, ◌≤◌, All, IfOk, length};
-ghost use Rattle.hg_model.specs.Signing.{accepts_by};
+ghost use Rattle.hg_model.specs.Signing.{accepts_by, secrets_of};
 ghost use Rattle.hg_crowd.specs.Crowd.{AreSeats, AreStill, Each};
 ghost use Rattle.hg_crowd.specs.Workers.{HasMore, Worked};
 ghost use Rattle.hg_world.specs.World.{new_world};
@@ -41,25 +41,34 @@ fn play_batch<R: Threads + Wait + Sync, C: Crew + Sync, G: Gate + Sync>(
     ensures told { IfOk result (λ r. MatchesBatch game.now.members.now lines.now world tape r.0 r.1) }
 {
     let (rt, workers, crew, gate) = (band.rt, band.workers, band.crew, band.gate);
-    let alloc = game.alloc;
+    let (alloc, members, keys) = (game.alloc, game.members, game.keys);
     let (shared, mut seats) = start_all(alloc, world.into_nodes())?;
     let own = split_all(alloc, shared.as_slice(), &mut seats)?;
     let places = shared.as_slice();
-    let ((own, played), (mut seats, _)) = join(
+    // The second runs in the thread of the caller, as all lines do that stand in no batch.
+    let ((mut seats, _), (own, played)) = join(
         rt,
-        move || -> (Vec<Seat<SharedTable>>, Result<Tape, Memory>)
-            requires seats { AreSeats accepts_by places.now own.items }
-            requires lines { All (IsPartLine (length own.items)) lines.now }
-            ensures seats { AreSeats accepts_by places.entry.now result.0.items }
-            ensures still { AreStill own.items result.0.items }
-            ensures played { IfOk result.1 (MatchesThrough game.entry.now.members.now lines.entry.now places.entry.now own.items tape result.0.items) }
-        { play_through(rt, game, places, own, tape, lines, gate) },
         move || -> (Vec<Seat<SharedTable>>, Result<(), Memory>)
             requires seats { Each (HasMore accepts_by workers) places.now seats.items }
             requires some { 0 < workers }
             ensures seats { AreSeats accepts_by places.entry.now result.0.items }
             ensures worked { Each Worked seats.items result.0.items }
         { work_beside(rt, alloc, places, seats, workers, crew) },
+        move || -> (Vec<Seat<SharedTable>>, Result<Tape, Memory>)
+            requires seats { AreSeats accepts_by places.now own.items }
+            requires lines { All (IsPartLine (length own.items)) lines.now }
+            requires keys { keys.now ≡ secrets_of members.now }
+            ensures seats { AreSeats accepts_by places.entry.now result.0.items }
+            ensures still { AreStill own.items result.0.items }
+            ensures played { IfOk result.1 (MatchesThrough members.entry.now lines.entry.now places.entry.now own.items tape result.0.items) }
+        {
+            let game = Game {
+                alloc,
+                members,
+                keys,
+            };
+            play_through(rt, &game, places, own, tape, lines, gate)
+        },
     );
     absorb_all(places, &mut seats, own);
     let (seats, done) = work_beside(rt, alloc, places, seats, workers, crew);

@@ -12,11 +12,7 @@ use hg_sign::SharedTable;
 use hg_world::World;
 
 /// The block of a member's node, by the marks that it has published.
-fn kept_block(
-    game: &Game,
-    member: Member,
-    node: &Node<SharedTable>,
-) -> Result<Block, Memory>
+fn kept_block(game: &Game, member: Member, node: &Node<SharedTable>) -> Result<Block, Memory>
     ensures { IfOk result (IsBlockOf game.now.members.now member node.now) }
 {
     // That it is a node, whose links are those of its rows.
@@ -35,11 +31,7 @@ fn kept_block(
 }
 
 /// The same of a member's node in the world.
-pub(crate) fn kept_at(
-    game: &Game,
-    world: &World,
-    member: Member,
-) -> Result<Block, Memory>
+pub(crate) fn kept_at(game: &Game, world: &World, member: Member) -> Result<Block, Memory>
     requires { IsMemberOf world.now member }
     ensures { IfOk result (IsKeptBlock game.now.members.now world.now member) }
 {
@@ -48,11 +40,7 @@ pub(crate) fn kept_at(
 }
 
 /// The block of the node of a member, which is settled for it.
-pub(crate) fn settled_at(
-    game: &Game,
-    world: &mut World,
-    member: Member,
-) -> Result<Block, Memory>
+pub(crate) fn settled_at(game: &Game, world: &mut World, member: Member) -> Result<Block, Memory>
     requires { IsMemberOf world.old member }
     ensures block { IfOk result (IsShownBlock game.now.members.now world.old member) }
     ensures world { OnOk result (world.new ≡ after_steps world.old (settle_steps member)) }
@@ -64,12 +52,7 @@ pub(crate) fn settled_at(
 }
 
 /// The block of a node behind what was printed, if the member has one.
-fn push_block(
-    game: &Game,
-    world: &mut World,
-    member: usize,
-    tape: &mut Tape,
-) -> Result<(), Memory>
+fn push_block(game: &Game, world: &mut World, member: usize, tape: &mut Tape) -> Result<(), Memory>
     requires below { IsMemberOf world.old member }
     requires few { member < 2 ^ 16 }
     ensures kept { IsKept (seen_alone world.old) (seen_alone world.new) }
@@ -83,11 +66,7 @@ fn push_block(
 }
 
 /// The blocks of all nodes, in the order of the members, behind what was printed.
-pub(crate) fn push_blocks(
-    game: &Game,
-    world: &mut World,
-    tape: &mut Tape,
-) -> Result<(), Memory>
+pub(crate) fn push_blocks(game: &Game, world: &mut World, tape: &mut Tape) -> Result<(), Memory>
     requires { length world.old.sites ≡ length game.now.members.now.entries }
     ensures kept { IsKept (seen_alone world.old) (seen_alone world.new) }
     ensures told { OnOk result (MatchesBlocks (seen_alone world.old) (seen_alone world.new) game.now.members.now tape.old.printed tape.new.printed) }

@@ -23,7 +23,7 @@ fn source_bytes<N: Nodes>(
 ) -> Result<Bytes, Memory>
     requires { IsBelow (N.seen nodes.old).count (Action.Label source.now) }
     ensures kept { IsKept (N.seen nodes.old) (N.seen nodes.new) }
-    ensures told { IfOk result (MatchesSource (N.seen nodes.old) (N.seen nodes.new) game.now.keys labels.now source.now) }
+    ensures told { IfOk result (MatchesSource (N.seen nodes.old) (N.seen nodes.new) game.now.keys.now labels.now source.now) }
 {
     let alloc = game.alloc;
     match source {
@@ -35,7 +35,14 @@ fn source_bytes<N: Nodes>(
             payload,
         } => {
             let names = names_of_labels(labels, parents);
-            forged(alloc, &game.keys, *creator, &names, *time, payload.as_slice())
+            forged(
+                alloc,
+                game.keys,
+                *creator,
+                &names,
+                *time,
+                payload.as_slice(),
+            )
         }
         Source::Raw { bytes } => copied(alloc, bytes.as_slice()),
         Source::Altered { label, at, mask } => altered(alloc, bytes_at(labels, *label), *at, *mask),

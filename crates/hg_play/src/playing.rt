@@ -18,6 +18,7 @@ use hg_board::Crew;
 use hg_io::Gate;
 use hg_model::{Bytes, Items, Members, Memory, Outcome};
 use hg_script::Line;
+use hg_sign::MacTable;
 use hg_world::World;
 use std::alloc::Global;
 use std::sync::Wait;
@@ -100,7 +101,12 @@ pub fn play<R: Threads + Wait + Sync, C: Crew + Sync, G: Gate + Sync>(
     ensures safe { OnOk result (IsSafePlay members.now lines.now) }
     ensures agree { OnOk result (IsAgreed members.now lines.now) }
 {
-    let game = Game::new(alloc, members)?;
+    let keys = MacTable::new(alloc, members)?;
+    let game = Game {
+        alloc,
+        members,
+        keys: &keys,
+    };
     let (world, tape) = play_all(rt, &game, lines, workers, crew, gate)?;
     let outcome = closed(&game, world, tape)?;
     Ok(outcome)
@@ -121,7 +127,12 @@ pub fn summary<R: Threads + Wait + Sync, C: Crew + Sync, G: Gate + Sync>(
     ensures outcome { IfOk result (λ outcome. outcome ≡ summary members.now lines.now) }
     ensures safe { OnOk result (IsSafePlay members.now lines.now) }
 {
-    let game = Game::new(alloc, members)?;
+    let keys = MacTable::new(alloc, members)?;
+    let game = Game {
+        alloc,
+        members,
+        keys: &keys,
+    };
     let (world, _) = play_all(rt, &game, lines, workers, crew, gate)?;
     let outcome = closed(&game, world, Tape::new(alloc))?;
     Ok(outcome)
