@@ -8,9 +8,9 @@
 //! let (shared, mut seats) = start_all(alloc, world.into_nodes())?;
 //! let own = split_all(alloc, shared.as_slice(), &mut seats)?;
 //! let places = shared.as_slice();
-//! let ((own, played), (mut seats, _)) = join(rt,
-//!     move || ... { play_through(rt, alloc, members, keys, places, own, labels, printed, lines, gate) },
+//! let ((mut seats, _), (own, played)) = join(rt,
 //!     move || ... { work_beside(rt, alloc, places, seats, workers, crew) },
+//!     move || ... { play_through(rt, game, places, own, tape, lines, gate) },
 //! );
 //! absorb_all(places, &mut seats, own);
 //! let (seats, done) = work_beside(rt, alloc, places, seats, workers, crew);

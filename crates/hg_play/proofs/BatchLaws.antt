@@ -31,6 +31,7 @@ use Rattle.hg_play.specs.Play.{Stage, after_line, after_lines, first_stage, stag
 use Rattle.hg_play.proofs.LikeLaws.{line_like, worlds_alike}
 use Rattle.hg_play.proofs.WorldLaws.{starts-new}
 use Rattle.hg_play.specs.Sites.{starts_of}
+use Rattle.hg_play.specs.Tape.{TapeView, no_tape}
 use Rattle.hg_play.specs.Through.{AllOthersMark, AreSeen, IsOfRows, IsPart, IsPartLine, IsStageLike, IsStageOf, MatchesThrough, node_seen}
 
 -- the node of a place that was started with it is the node
@@ -129,26 +130,24 @@ ends_of_one_list nodes places called ends run of =
 
 -- what comes of a batch
 pub batch_told : (members : MemberList) (lines : List Line) (world new : WorldView) (nodes : List (NodeView Secrets)) (places : List (SharedNode Secrets)) (called : List (SeatView Secrets)) (ends : List (NodeView Secrets))
-    (labels labels_new : List (List ℕ)) (printed printed_new : List Printed) → nodes ≡ nodes_of world → (run : IsSession accepts_by nodes places called ends) → new.sites ≡ unfrozen ends →
-    MatchesThrough members lines places (map split_off run.firsts) labels printed called labels_new printed_new → MatchesBatch members lines world labels printed new labels_new printed_new
-batch_told members lines world new nodes places called ends labels labels_new printed printed_new is run sites told = λ s at.
+    (t t_new : TapeView) → nodes ≡ nodes_of world → (run : IsSession accepts_by nodes places called ends) → new.sites ≡ unfrozen ends →
+    MatchesThrough members lines places (map split_off run.firsts) t called t_new → MatchesBatch members lines world t new t_new
+batch_told members lines world new nodes places called ends t t_new is run sites told = λ s at.
     let ended = sessions_end Secrets accepts_by nodes places called ends run in
     let alone : AllOthersMark places called = record {
       count = omega (arith, ended.shared_count, ended.called_count);
-      each = λ m p t low. (ended.each m p t no_node (omega (arith, low, ended.shared_count))).others;
+      each = λ m p seat low. (ended.each m p seat no_node (omega (arith, low, ended.shared_count))).others;
     } in
-    let here : IsStageOf members places (map split_off run.firsts) labels printed s = record {
+    let here : IsStageOf members places (map split_off run.firsts) t s = record {
       agrees = seen_first world s.world nodes places run.firsts is run.started at.agrees;
       begun = at.begun;
-      labelled = at.labelled;
-      shown = at.shown;
+      taped = at.taped;
     } in
     let after = told alone s here in
     record {
       agrees = ended_alike new (after_lines members s lines).world places called ends sites ended after.agrees;
       begun = after.begun;
-      labelled = after.labelled;
-      shown = after.shown;
+      taped = after.taped;
     }
 
 pub batch_count : (world new : WorldView) (nodes : List (NodeView Secrets)) (places : List (SharedNode Secrets)) (called : List (SeatView Secrets)) (ends : List (NodeView Secrets)) → nodes ≡ nodes_of world →
@@ -160,60 +159,56 @@ batch_count world new nodes places called ends is run sites =
     omega (arith, last, long, ended.shared_count, run.started.shared_count)
 
 -- batches, one after the other, up to a line
-pub record InBatches (members : MemberList) (lines : List Line) (first now : WorldView) (labels : List (List ℕ)) (printed : List Printed) (next : ℕ) : Type 0 where
+pub record InBatches (members : MemberList) (lines : List Line) (first now : WorldView) (t : TapeView) (next : ℕ) : Type 0 where
   pub within : next ≤ length lines
   pub count : length now.sites ≡ length first.sites
-  pub stage : IsStageLike members now labels printed (after_lines members (first_stage members) (take next lines))
+  pub stage : IsStageLike members now t (after_lines members (first_stage members) (take next lines))
 
-pub in_none : (members : MemberList) (lines : List Line) (first : WorldView) (labels : List (List ℕ)) (printed : List Printed) → first ≡ new_world members → labels ≡ [] → printed ≡ [] →
-    InBatches members lines first first labels printed 0
-in_none members lines first labels printed is no_labels none = record {
+pub in_none : (members : MemberList) (lines : List Line) (first : WorldView) (t : TapeView) → first ≡ new_world members → t ≡ no_tape → InBatches members lines first first t 0
+in_none members lines first t is none = record {
   within = omega arith;
   count = refl;
   stage = record {
     agrees = subst (λ (w : WorldView). WorldsAlike first w) is (worlds_alike first);
     begun = starts-new members;
-    labelled = no_labels;
-    shown = none;
+    taped = none;
   };
 }
 
-pub in_next : (members : MemberList) (lines : List Line) (first now new : WorldView) (labels labels_new : List (List ℕ)) (printed printed_new : List Printed) (next to : ℕ) →
-    InBatches members lines first now labels printed next → PlaysNext members lines next now labels printed new labels_new printed_new to → InBatches members lines first new labels_new printed_new to
-in_next members lines first now new labels labels_new printed printed_new next to so plays = record {
+pub in_next : (members : MemberList) (lines : List Line) (first now new : WorldView) (t t_new : TapeView) (next to : ℕ) →
+    InBatches members lines first now t next → PlaysNext members lines next now t new t_new to → InBatches members lines first new t_new to
+in_next members lines first now new t t_new next to so plays = record {
   within = plays.within;
   count = plays.count ∙ so.count;
   stage = plays.told (first_stage members) so.stage;
 }
 
-pub in_all : (members : MemberList) (lines : List Line) (first now : WorldView) (labels : List (List ℕ)) (printed : List Printed) (next : ℕ) → InBatches members lines first now labels printed next →
-    length lines ≤ next → IsPlayed members lines now printed
-in_all members lines first now labels printed next so past =
-    let at = subst (λ (ls : List Line). IsStageLike members now labels printed (after_lines members (first_stage members) ls)) (take_all next lines past) so.stage in
-    record { world = at.agrees; pieces = at.shown }
+pub in_all : (members : MemberList) (lines : List Line) (first now : WorldView) (t : TapeView) (next : ℕ) → InBatches members lines first now t next → length lines ≤ next → IsPlayed members lines now t.printed
+in_all members lines first now t next so past =
+    let at = subst (λ (ls : List Line). IsStageLike members now t (after_lines members (first_stage members) ls)) (take_all next lines past) so.stage in
+    record { world = at.agrees; pieces = ap (λ (u : TapeView). u.printed) at.taped }
 
 -- the lines played next are those behind the ones before
 after_more : (members : MemberList) (s : Stage) (lines : List Line) (from count : ℕ) →
     after_lines members s (take (from + count) lines) ≡ after_lines members (after_lines members s (take from lines)) (take count (drop from lines))
 after_more members s lines from count = ap (λ (ls : List Line). after_lines members s ls) (take-add from count lines) ∙ fold-append (after_line members) s (take from lines) (take count (drop from lines))
 
-pub plays_batch : (members : MemberList) (lines batch rest : List Line) (from count : ℕ) (old new : WorldView) (labels labels_new : List (List ℕ)) (printed printed_new : List Printed) →
+pub plays_batch : (members : MemberList) (lines batch rest : List Line) (from count : ℕ) (old new : WorldView) (t t_new : TapeView) →
     rest ≡ drop from lines → batch ≡ take count rest → 0 < count → count ≤ length rest → length rest + from ≡ length lines → length new.sites ≡ length old.sites →
-    MatchesBatch members batch old labels printed new labels_new printed_new → PlaysNext members lines from old labels printed new labels_new printed_new (from + count)
-plays_batch members lines batch rest from count old new labels labels_new printed printed_new is_rest is some few long same told = record {
+    MatchesBatch members batch old t new t_new → PlaysNext members lines from old t new t_new (from + count)
+plays_batch members lines batch rest from count old new t t_new is_rest is some few long same told = record {
   further = omega (arith, some);
   within = omega (arith, few, long);
   count = same;
   told = λ s at.
       let behind : after_lines members s (take (from + count) lines) ≡ after_lines members (after_lines members s (take from lines)) batch =
       after_more members s lines from count ∙ ap (λ (ls : List Line). after_lines members (after_lines members s (take from lines)) ls) (sym (is ∙ ap (take count) is_rest)) in
-      subst (IsStageLike members new labels_new printed_new) (sym behind) (told (after_lines members s (take from lines)) at);
+      subst (IsStageLike members new t_new) (sym behind) (told (after_lines members s (take from lines)) at);
 }
 
-pub plays_line : (members : MemberList) (lines : List Line) (line : Line) (from : ℕ) (old new : WorldView) (labels labels_new : List (List ℕ)) (printed printed_new : List Printed) →
-    from < length lines → line ≡ get_or lines from line → IsOfRows line.action → length new.sites ≡ length old.sites →
-    MatchesLine members line (seen_alone old) labels printed (seen_alone new) labels_new printed_new → PlaysNext members lines from old labels printed new labels_new printed_new (from + 1)
-plays_line members lines line from old new labels labels_new printed printed_new low is of same told = record {
+pub plays_line : (members : MemberList) (lines : List Line) (line : Line) (from : ℕ) (old new : WorldView) (t t_new : TapeView) → from < length lines → line ≡ get_or lines from line → IsOfRows line.action →
+    length new.sites ≡ length old.sites → MatchesLine members line (seen_alone old) t (seen_alone new) t_new → PlaysNext members lines from old t new t_new (from + 1)
+plays_line members lines line from old new t t_new low is of same told = record {
   further = omega arith;
   within = omega (arith, low);
   count = same;
@@ -221,7 +216,7 @@ plays_line members lines line from old new labels labels_new printed printed_new
       let before = after_lines members s (take from lines) in
       let behind : after_lines members s (take (from + 1) lines) ≡ after_line members before line =
       fold_more (after_line members) s lines from line low ∙ ap (after_line members before) (sym is) in
-      subst (IsStageLike members new labels_new printed_new) (sym behind) (line_like members line old new labels labels_new printed printed_new of told before at);
+      subst (IsStageLike members new t_new) (sym behind) (line_like members line old new t t_new of told before at);
 }
 
 -- lines that may stand in a batch are parts

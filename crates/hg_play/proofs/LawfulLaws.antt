@@ -5,6 +5,7 @@ use Rattle.std.specs.List.{AllByRecursion}
 use Rattle.std.proofs.lemmas.List.Elements.{All-head, All-tail}
 use Rattle.hg_graph.specs.Held.{AreEvents}
 use Rattle.hg_model.specs.declared.outcome.Printed.{Printed}
+use Rattle.hg_model.specs.declared.outcome.Outcome.{Outcome}
 use Rattle.hg_model.specs.Members.{MemberList, has_node}
 use Rattle.hg_script.specs.declared.line.Gossip.{Gossip}
 use Rattle.hg_script.specs.declared.line.Gossip.TheVariants.{Create, Sync, Pull, Join, Give}
@@ -24,13 +25,14 @@ use Rattle.hg_play.specs.Agree.{IsAgreed}
 use Rattle.hg_play.specs.Alike.{WorldsAlike}
 use Rattle.hg_play.specs.Batch.{IsLineOfRows, IsPlayed}
 use Rattle.hg_play.specs.Lines.{IsBelow, IsLineBelow, action_steps, gossip_steps}
-use Rattle.hg_play.specs.Nodes.{MatchesBlocks, seen_alone}
+use Rattle.hg_play.specs.Nodes.{Closes, MatchesBlocks, seen_alone}
 use Rattle.hg_play.specs.Play.{IsSafePlay, Stage, after_line, after_lines, end_blocks, end_steps, first_stage, lines_steps, play_steps}
 use Rattle.hg_play.specs.Sites.{starts, starts_of}
 use Rattle.hg_play.specs.Through.{IsOfRows}
 use Rattle.hg_play.proofs.AgreeLaws.{agreed}
 use Rattle.hg_play.proofs.AlikeLaws.{step_alike}
 use Rattle.hg_play.proofs.LikeLaws.{blocks_alike, starts_alike}
+use Rattle.hg_play.proofs.PlayLaws.{lines_below}
 use Rattle.hg_play.proofs.WorldLaws.{play-steps, safe-play, starts-lines, starts-new, starts_length}
 
 -- with workers the lines do not depend on marks
@@ -136,6 +138,12 @@ ends members lines world last printed before pieces new below played told is_las
       safely = so;
       agreeing = agreed members lines run refl lawful below so;
     }
+
+-- the same of an outcome
+pub ended : (members : MemberList) (workers : ℕ) (lines : List Line) (world : WorldView) (printed before : List Printed) (outcome : Outcome) → All (IsLine members workers) lines → IsWorld (new_world members) →
+    IsPlayed members lines world printed → Closes members world before outcome → Ends members lines before outcome.printed
+ended members workers lines world printed before outcome lawful new played closes =
+    ends members lines world closes.last printed before outcome.printed new (lines_below members workers (length members.entries) lines refl lawful) played closes.blocks closes.lawful
 
 -- there is a node for each member
 pub played_count : (members : MemberList) (lines : List Line) (world : WorldView) (printed : List Printed) → IsPlayed members lines world printed → length world.sites ≡ length members.entries

@@ -30,6 +30,7 @@ use Rattle.hg_play.specs.Lines.{action_labels, action_printed, action_steps, gos
 use Rattle.hg_play.specs.Nodes.{IsStage, MatchesLine, seen_alone}
 use Rattle.hg_play.specs.Play.{Stage, after_line, end_blocks, stage}
 use Rattle.hg_play.specs.Sites.{starts_of}
+use Rattle.hg_play.specs.Tape.{TapeView, tape}
 use Rattle.hg_play.specs.Through.{IsOfRows, IsStageLike, LinesNeedRowsAlone, StagesAlike}
 use Rattle.hg_play.proofs.AlikeLaws.{gossip_alike, same_of, stay_alike, step_alike}
 use Rattle.hg_play.proofs.WorldLaws.{starts-steps}
@@ -126,18 +127,20 @@ stage_alike members s t line of like =
     }
 
 -- a line that was played over a world whose nodes are those of a stage, but for marks
-pub line_like : (members : MemberList) (line : Line) (old new : WorldView) (labels labels_new : List (List ℕ)) (before after : List Printed) → IsOfRows line.action →
-    MatchesLine members line (seen_alone old) labels before (seen_alone new) labels_new after → (s : Stage) → IsStageLike members old labels before s →
-    IsStageLike members new labels_new after (after_line members s line)
-line_like members line old new labels labels_new before after of told s is =
-    let own : Stage = stage old labels before in
-    let like : StagesAlike own s = record { world = is.agrees; labels = is.labelled; printed = is.shown } in
-    let here : IsStage members (seen_alone old) labels before own = record { agrees = refl; begun = starts_alike old s.world is.agrees ∙ is.begun; labelled = refl; shown = refl } in
-    let t = told tt own here in
+pub line_like : (members : MemberList) (line : Line) (old new : WorldView) (t t_new : TapeView) → IsOfRows line.action → MatchesLine members line (seen_alone old) t (seen_alone new) t_new →
+    (s : Stage) → IsStageLike members old t s → IsStageLike members new t_new (after_line members s line)
+line_like members line old new t t_new of told s is =
+    let own : Stage = stage old t.labels t.printed in
+    let like : StagesAlike own s = record {
+      world = is.agrees;
+      labels = ap (λ (u : TapeView). u.labels) is.taped;
+      printed = ap (λ (u : TapeView). u.printed) is.taped;
+    } in
+    let here : IsStage members (seen_alone old) t own = record { agrees = refl; begun = starts_alike old s.world is.agrees ∙ is.begun; taped = refl } in
+    let after = told tt own here in
     let both = stage_alike members own s line of like in
     record {
-      agrees = subst (λ (u : WorldView). WorldsAlike u (after_line members s line).world) (sym t.agrees) both.world;
+      agrees = subst (λ (u : WorldView). WorldsAlike u (after_line members s line).world) (sym after.agrees) both.world;
       begun = starts-steps s.world (action_steps s.world s.labels line.action) ∙ is.begun;
-      labelled = t.labelled ∙ both.labels;
-      shown = t.shown ∙ both.printed;
+      taped = after.taped ∙ ap₂ tape both.labels both.printed;
     }

@@ -8,15 +8,16 @@ use Rattle.hg_model.specs.Places.{list_below}
 use Rattle.hg_script.specs.declared.line.Action.{Action}
 use Rattle.hg_script.specs.declared.line.Line.{Line}
 use Rattle.hg_world.specs.declared.step.Step.{Step}
-use Rattle.hg_world.specs.World.{WorldView, new_world}
+use Rattle.hg_world.specs.World.{WorldView}
 use Rattle.hg_world.specs.Steps.{RanSome, after_steps, settle_steps}
-use Rattle.hg_play.specs.Lines.{action_labels, action_printed, action_steps}
-use Rattle.hg_play.specs.Nodes.{IsKept, IsStage, NodesView, MatchesBlock, MatchesBlocks, MatchesLine, MatchesLines, Matched, seen_alone}
-use Rattle.hg_play.specs.Play.{Stage, after_line, after_lines, all_printed, block_at, end_blocks, end_steps, first_stage, stage}
+use Rattle.hg_play.specs.Lines.{action_steps, action_tape}
+use Rattle.hg_play.specs.Nodes.{IsKept, IsStage, NodesView, MatchesBlock, MatchesLine, MatchesLines, Matched, seen_alone}
+use Rattle.hg_play.specs.Play.{after_line, after_lines, block_at, end_steps, stage}
 use Rattle.hg_play.specs.Sites.{starts, starts_of}
+use Rattle.hg_play.specs.Tape.{TapeView, no_tape}
 use Rattle.hg_play.specs.Through.{MatchesParts}
 use Rattle.hg_play.proofs.PlayLaws.{block_more, no_blocks}
-use Rattle.hg_play.proofs.WorldLaws.{block_same, sites_length, starts-lines, starts-new, starts-steps, starts_length, steps-append}
+use Rattle.hg_play.proofs.WorldLaws.{block_same, sites_length, starts-steps, starts_length, steps-append}
 
 -- what calls keep, one after the other
 pub kept_same : {N : Type 0} (v : NodesView N) → IsKept v v
@@ -54,44 +55,35 @@ pub told_alone : (old new : WorldView) (steps : WorldView → List Step) (IsSo :
 told_alone old new steps IsSo so is = λ alone w same. subst (λ (v : WorldView). IsSo v × (new ≡ after_steps v (steps v))) same (so, is)
 
 -- a line by what is told of its call
-pub line_told : {N : Type 0} (old new : NodesView N) (members : MemberList) (line : Line) (a : Action) (labels labels_new : List (List ℕ)) (printed printed_new : List Printed) → line.action ≡ a →
-    Matched old new (λ w. action_steps w labels a)
-    (λ w. starts_of w ≡ starts members → (labels_new ≡ action_labels members w labels a) × (printed_new ≡ printed ++ action_printed members w labels line.number a)) →
-    MatchesLine members line old labels printed new labels_new printed_new
-line_told old new members line a labels labels_new printed printed_new action told = λ alone s is.
+pub line_told : {N : Type 0} (old new : NodesView N) (members : MemberList) (line : Line) (a : Action) (t t_new : TapeView) → line.action ≡ a →
+    Matched old new (λ w. action_steps w t.labels a) (λ w. starts_of w ≡ starts members → t_new ≡ action_tape members w t line.number a) → MatchesLine members line old t new t_new
+line_told old new members line a t t_new action told = λ alone s is.
     let w = s.world in
-    let t = told alone w is.agrees in
-    let so = t.0 is.begun in
-    let after : ℕ → List (List ℕ) → Action → Stage = λ number ls b.
-    stage (after_steps w (action_steps w ls b)) (action_labels members w ls b) (s.printed ++ action_printed members w ls number b) in
-    let here : IsStage members new labels_new printed_new (after line.number labels a) = record {
-      agrees = t.1;
-      begun = starts-steps w (action_steps w labels a) ∙ is.begun;
-      labelled = so.0;
-      shown = so.1 ∙ ap (λ (ps : List Printed). ps ++ action_printed members w labels line.number a) is.shown;
-    } in
-    subst (λ (ls : List (List ℕ)). IsStage members new labels_new printed_new (after line.number ls line.action)) is.labelled
-    (subst (λ (b : Action). IsStage members new labels_new printed_new (after line.number labels b)) (sym action) here)
+    let here = told alone w is.agrees in
+    let steps : action_steps w t.labels a ≡ action_steps w s.labels line.action =
+    ap₂ (λ (u : TapeView) (b : Action). action_steps w u.labels b) is.taped (sym action) in
+    record {
+      agrees = subst (λ (steps : List Step). new.Agrees (after_steps w steps)) steps here.1;
+      begun = starts-steps w (action_steps w s.labels line.action) ∙ is.begun;
+      taped = here.0 is.begun ∙ ap₂ (λ (u : TapeView) (b : Action). action_tape members w u line.number b) is.taped (sym action);
+    }
 
 -- no lines so far
-pub parts_none : {N : Type 0} (members : MemberList) (v : NodesView N) (labels labels_now : List (List ℕ)) (printed printed_now : List Printed) → labels_now ≡ labels → printed_now ≡ printed →
-    MatchesParts members [] v labels printed v labels_now printed_now
-parts_none members v labels labels_now printed printed_now same shown = λ alone s at. record {
+pub parts_none : {N : Type 0} (members : MemberList) (v : NodesView N) (t t_now : TapeView) → t_now ≡ t → MatchesParts members [] v t v t_now
+parts_none members v t t_now same = λ alone s at. record {
   agrees = at.agrees;
   begun = at.begun;
-  labelled = same ∙ at.labelled;
-  shown = shown ∙ at.shown;
+  taped = same ∙ at.taped;
 }
 
 -- one line more
-pub parts_more : {N : Type 0} (old now new : NodesView N) (members : MemberList) (lines : List Line) (i : ℕ) (line : Line) (labels_old labels labels_new : List (List ℕ)) (printed_old printed printed_new : List Printed) →
-    i < length lines → line ≡ get_or lines i line → (new.Alone → now.Alone) → MatchesParts members (take i lines) old labels_old printed_old now labels printed →
-    MatchesLine members line now labels printed new labels_new printed_new → MatchesParts members (take (i + 1) lines) old labels_old printed_old new labels_new printed_new
-parts_more old now new members lines i line labels_old labels labels_new printed_old printed printed_new within is back so_far told = λ alone s at.
+pub parts_more : {N : Type 0} (old now new : NodesView N) (members : MemberList) (lines : List Line) (i : ℕ) (line : Line) (t_old t t_new : TapeView) → i < length lines → line ≡ get_or lines i line → (new.Alone → now.Alone) →
+    MatchesParts members (take i lines) old t_old now t → MatchesLine members line now t new t_new → MatchesParts members (take (i + 1) lines) old t_old new t_new
+parts_more old now new members lines i line t_old t t_new within is back so_far told = λ alone s at.
     let before = after_lines members s (take i lines) in
     let next : after_lines members s (take (i + 1) lines) ≡ after_line members before line =
     fold_more (after_line members) s lines i line within ∙ ap (after_line members before) (sym is) in
-    subst (IsStage members new labels_new printed_new) (sym next) (told alone before (so_far (back alone) s at))
+    subst (IsStage members new t_new) (sym next) (told alone before (so_far (back alone) s at))
 
 -- what is told of a call that answers
 pub told_by : {A E : Type 0} (result : Result A E) (old new : WorldView) (steps : WorldView → List Step) (IsSo : A → WorldView → Type 0) (P : A → Type 0) →
@@ -135,28 +127,12 @@ blocks_more old now new members m before printed printed_new low back so_far tol
     so_far told
 
 -- all of them, over a world
-pub lines_told : {N : Type 0} (old now : NodesView N) (members : MemberList) (lines : List Line) (labels : List (List ℕ)) (printed : List Printed) →
-    MatchesParts members lines old [] [] now labels printed → MatchesLines old now members lines printed
-lines_told old now members lines labels printed told = λ alone w agrees begun.
-    let at = told alone (stage w [] []) (record { agrees = agrees; begun = begun; labelled = refl; shown = refl }) in
-    (at.shown, at.agrees)
+pub lines_told : {N : Type 0} (old now : NodesView N) (members : MemberList) (lines : List Line) (t : TapeView) → MatchesParts members lines old no_tape now t → MatchesLines old now members lines t.printed
+lines_told old now members lines t told = λ alone w agrees begun.
+    let at = told alone (stage w [] []) (record { agrees = agrees; begun = begun; taped = refl }) in
+    (ap (λ (u : TapeView). u.printed) at.taped, at.agrees)
 
 -- lines that may be played may be later
 pub lines_still : {N : Type 0} (Is : ℕ → Line → Type 0) (old now : NodesView N) → IsKept old now → (lines : List Line) (i : ℕ) (line : Line) → i < length lines → line ≡ get_or lines i line →
     All (Is old.count) lines → Is now.count line
 lines_still Is old now kept lines i line low is each = subst (λ (n : ℕ). Is n line) (sym kept.count) (subst (Is old.count) (sym is) (each i line low))
-
--- what the nodes of one thread come to, and all that they print
-pub played_alone : (members : MemberList) (lines : List Line) (world now last : WorldView) (pieces printed : List Printed) → world ≡ new_world members →
-    MatchesLines (seen_alone world) (seen_alone now) members lines pieces → MatchesBlocks (seen_alone now) (seen_alone last) members pieces printed →
-    (printed ≡ all_printed members lines) × (last ≡ after_steps (after_lines members (first_stage members) lines).world (end_steps members (length members.entries)))
-played_alone members lines world now last pieces printed is lines_told blocks_told =
-    let played : WorldView → Stage = λ w. after_lines members (stage w [] []) lines in
-    let first = lines_told tt world refl (ap starts_of is ∙ starts-new members) in
-    let now_is : now ≡ (played (new_world members)).world = first.1 ∙ ap (λ (w : WorldView). (played w).world) is in
-    let pieces_are : pieces ≡ (played (new_world members)).printed = first.0 ∙ ap (λ (w : WorldView). (played w).printed) is in
-    let ends = blocks_told tt now refl in
-    let begun : starts_of now ≡ starts members = ap starts_of now_is ∙ (starts-lines members (first_stage members) lines ∙ starts-new members) in (
-      ends.0 begun ∙ ap₂ (λ (ps : List Printed) (w : WorldView). ps ++ end_blocks members w) pieces_are now_is,
-      ends.1 ∙ ap (λ (w : WorldView). after_steps w (end_steps members (length members.entries))) now_is,
-    )

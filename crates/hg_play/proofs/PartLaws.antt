@@ -25,11 +25,11 @@ use Rattle.hg_world.proofs.PullLaws.{pull_ended, syncs, takes_more, takes_none}
 use Rattle.hg_play.specs.Labels.{bytes_at, bytes_beside, bytes_named}
 use Rattle.hg_board.specs.Seats.{SharedNode, SeatView}
 use Rattle.hg_script.specs.declared.line.Line.{Line}
-use Rattle.hg_model.specs.declared.outcome.Printed.{Printed}
 use Rattle.hg_model.specs.Members.{MemberList}
 use Rattle.hg_crowd.specs.Crowd.{AreStill}
 use Rattle.hg_play.proofs.SharedLaws.{still_all}
 use Rattle.hg_play.specs.Nodes.{IsKept, NodesView, MatchesLast, MatchesMaking, MatchesPulling, MatchesPutting, MatchesSyncing}
+use Rattle.hg_play.specs.Tape.{TapeView}
 use Rattle.hg_play.specs.Through.{SharedView, MatchesLacked, MatchesMade, MatchesNames, MatchesParcel, MatchesParts, MatchesTaken, MatchesThrough, seen_shared, seen_through, shared_view}
 
 -- the first place that passes, or the length, by `position`
@@ -147,11 +147,10 @@ pub through_since : (places : List (SharedNode Secrets)) (seats : List (SeatView
     (new.places ≡ places) × AreStill seats new.seats
 through_since places seats old new is kept = kept.since (shared_view places seats) (subst (λ (v : SharedView). (seen_shared v).Since (shared_view places seats)) (sym is) (refl, still_all seats))
 
-pub through_told : {A E : Type 0} (members : MemberList) (lines : List Line) (places : List (SharedNode Secrets)) (seats seats_new : List (SeatView Secrets)) (old new : SharedView) (labels : List (List ℕ)) (printed : List Printed)
-    (labels_of : A → List (List ℕ)) (printed_of : A → List Printed) (result : Result A E) → old ≡ shared_view places seats → new ≡ shared_view places seats_new →
-    IfOk result (λ r. MatchesParts members lines (seen_shared old) labels printed (seen_shared new) (labels_of r) (printed_of r)) →
-    IfOk result (λ r. MatchesThrough members lines places seats labels printed seats_new (labels_of r) (printed_of r))
-through_told members lines places seats seats_new old new labels printed labels_of printed_of (Err e) is was told = tt
-through_told members lines places seats seats_new old new labels printed labels_of printed_of (Ok r) is was told =
-    subst (λ (v : SharedView). MatchesParts members lines (seen_shared v) labels printed (seen_through places seats_new) (labels_of r) (printed_of r)) is
-    (subst (λ (v : SharedView). MatchesParts members lines (seen_shared old) labels printed (seen_shared v) (labels_of r) (printed_of r)) was told)
+pub through_told : {E : Type 0} (members : MemberList) (lines : List Line) (places : List (SharedNode Secrets)) (seats seats_new : List (SeatView Secrets)) (old new : SharedView) (t : TapeView)
+    (result : Result TapeView E) → old ≡ shared_view places seats → new ≡ shared_view places seats_new →
+    IfOk result (MatchesParts members lines (seen_shared old) t (seen_shared new)) → IfOk result (MatchesThrough members lines places seats t seats_new)
+through_told members lines places seats seats_new old new t (Err e) is was told = tt
+through_told members lines places seats seats_new old new t (Ok t_new) is was told =
+    subst (λ (v : SharedView). MatchesParts members lines (seen_shared v) t (seen_through places seats_new) t_new) is
+    (subst (λ (v : SharedView). MatchesParts members lines (seen_shared old) t (seen_shared v) t_new) was told)

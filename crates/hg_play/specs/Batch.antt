@@ -1,6 +1,5 @@
 -- Lines that are played over a world whose nodes are those of a stage but for marks, some of them between threads
 use Rattle.std.specs.Prelude.{ℕ, ◌≡◌, ◌<◌, ◌≤◌, Bool, true, false, List, length, take, get_or}
-use Rattle.std.specs.Global.{Vec}
 use Rattle.hg_model.specs.declared.outcome.Printed.{Printed}
 use Rattle.hg_model.specs.Members.{MemberList}
 use Rattle.hg_script.specs.declared.line.Action.{Action}
@@ -10,17 +9,13 @@ use Rattle.hg_world.specs.World.{WorldView, node_at}
 use Rattle.hg_crowd.specs.Workers.{HasAllMarks}
 use Rattle.hg_play.specs.Alike.{WorldsAlike}
 use Rattle.hg_play.specs.Play.{Stage, after_lines, first_stage}
+use Rattle.hg_play.specs.Tape.{TapeView}
 use Rattle.hg_play.specs.Through.{IsOfRows, IsStageLike}
 
 -- the world's nodes, the labels and what was printed are those of the stage after these lines, where they were those of a
 -- stage before
-abbrev pub MatchesBatch : MemberList → List Line → WorldView → List (List ℕ) → List Printed → WorldView → List (List ℕ) → List Printed → Type 0
-MatchesBatch members lines old labels printed new labels_new printed_new =
-    (s : Stage) → IsStageLike members old labels printed s → IsStageLike members new labels_new printed_new (after_lines members s lines)
-
-abbrev pub PlaysBatch : MemberList → List Line → WorldView → Vec (List ℕ) → Vec Printed → WorldView → Vec (List ℕ) → Vec Printed → Type 0
-PlaysBatch members lines old labels printed new labels_new printed_new =
-    MatchesBatch members lines old labels.items printed.items new labels_new.items printed_new.items
+abbrev pub MatchesBatch : MemberList → List Line → WorldView → TapeView → WorldView → TapeView → Type 0
+MatchesBatch members lines old t new t_new = (s : Stage) → IsStageLike members old t s → IsStageLike members new t_new (after_lines members s lines)
 
 -- the line may stand in a batch: it is of gossip, or makes a label
 abbrev pub is_part : Action → Bool
@@ -52,16 +47,11 @@ abbrev pub AllAreMarked : WorldView → Type 0
 AllAreMarked w = (m : ℕ) → m < length w.sites → HasAllMarks (node_at w m)
 
 -- the lines from one on up to another were played
-pub record PlaysNext (members : MemberList) (lines : List Line) (from : ℕ) (old : WorldView) (labels : List (List ℕ)) (printed : List Printed) (new : WorldView) (labels_new : List (List ℕ)) (printed_new : List Printed) (to : ℕ) : Type 0 where
+pub record PlaysNext (members : MemberList) (lines : List Line) (from : ℕ) (old : WorldView) (t : TapeView) (new : WorldView) (t_new : TapeView) (to : ℕ) : Type 0 where
   pub further : from < to
   pub within : to ≤ length lines
   pub count : length new.sites ≡ length old.sites
-  pub told : (s : Stage) → IsStageLike members old labels printed (after_lines members s (take from lines)) →
-      IsStageLike members new labels_new printed_new (after_lines members s (take to lines))
-
-abbrev pub GoesOn : MemberList → List Line → ℕ → WorldView → Vec (List ℕ) → Vec Printed → WorldView → Vec (List ℕ) → Vec Printed → ℕ → Type 0
-GoesOn members lines from old labels printed new labels_new printed_new to =
-    PlaysNext members lines from old labels.items printed.items new labels_new.items printed_new.items to
+  pub told : (s : Stage) → IsStageLike members old t (after_lines members s (take from lines)) → IsStageLike members new t_new (after_lines members s (take to lines))
 
 -- all lines were played over the members' nodes: what they print, and the nodes but for marks
 pub record IsPlayed (members : MemberList) (lines : List Line) (new : WorldView) (printed : List Printed) : Type 0 where

@@ -3,9 +3,9 @@ pub mod Alike
 pub mod Batch
 pub mod Labels
 pub mod Lines
-pub mod Loans
 pub mod Nodes
 pub mod Play
 pub mod Printing
 pub mod Sites
+pub mod Tape
 pub mod Through

@@ -22,6 +22,7 @@ use Rattle.hg_world.specs.World.{Secrets, WorldView, worker_limit, node_at, rows
 use Rattle.hg_world.specs.Steps.{making_at, putting_at, settle_steps}
 use Rattle.hg_world.specs.Syncs.{pull_steps, pulled, sync_report, sync_steps}
 use Rattle.hg_play.specs.Labels.{bytes_at, name_of_label, source_bytes}
+use Rattle.hg_play.specs.Tape.{TapeView, tape}
 
 -- the steps of a line of gossip, in this world and with these labels
 abbrev pub gossip_steps : WorldView → List (List ℕ) → Gossip → List Step
@@ -69,6 +70,10 @@ action_printed members w labels number (action.Names m) = printed.Names (block_o
 abbrev pub action_labels : MemberList → WorldView → List (List ℕ) → Action → List (List ℕ)
 action_labels members w labels (action.Label source) = labels ++ source_bytes (secrets_of members) w labels source ∷ []
 action_labels members w labels _ = labels
+
+-- the labels and all that was printed after a line
+abbrev pub action_tape : MemberList → WorldView → TapeView → ℕ → Action → TapeView
+action_tape members w t number a = tape (action_labels members w t.labels a) (t.printed ++ action_printed members w t.labels number a)
 
 -- the members are below this number
 abbrev pub IsGossipBelow : ℕ → Gossip → Type 0

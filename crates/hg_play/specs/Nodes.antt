@@ -1,14 +1,14 @@
 -- Many nodes that lines are played over: of one thread, or shared with others who add nothing but marks. What a call
 -- answers is told once it is known that others did no more. Lines that need the marks are played over a world
 use Rattle.std.specs.Prelude.{ℕ, ◌≡◌, ⊤, cond, List, [], ◌∷◌, ◌++◌, length, Option}
-use Rattle.std.specs.Global.{Vec}
 use Rattle.std.specs.Option.{option_to_list}
 use Rattle.hg_model.specs.declared.answers.PutAnswer.{PutAnswer}
 use Rattle.hg_model.specs.declared.answers.MakeAnswer.{MakeAnswer}
 use Rattle.hg_model.specs.declared.answers.SyncReport.{SyncReport}
 use Rattle.hg_model.specs.declared.outcome.Block.{Block}
 use Rattle.hg_model.specs.declared.outcome.Printed.{Printed}
-use Rattle.hg_model.specs.Members.{MemberList, has_node}
+use Rattle.hg_model.specs.declared.outcome.Outcome.{Outcome}
+use Rattle.hg_model.specs.Members.{MemberList, has_node, names_of}
 use Rattle.hg_model.specs.Ledger.{block_of}
 use Rattle.hg_model.specs.NodeView.{NodeView}
 use Rattle.hg_gossip.specs.declared.gossip.Taken.{Taken}
@@ -20,10 +20,12 @@ use Rattle.hg_world.specs.declared.step.Step.TheVariants.{Make, Deliver}
 use Rattle.hg_world.specs.World.{Secrets, WorldView, node_at, rows_at}
 use Rattle.hg_world.specs.Steps.{after_steps, making_at, putting_at, settle_steps}
 use Rattle.hg_world.specs.Syncs.{pull_steps, pulled, sync_report, sync_steps}
+use Rattle.hg_world.specs.Parts.{IsWorld}
 use Rattle.hg_play.specs.Labels.{last_bytes, source_bytes}
 use Rattle.hg_play.specs.Lines.{gossip_printed, gossip_steps, kept_block}
-use Rattle.hg_play.specs.Play.{Stage, after_line, after_lines, block_at, end_blocks, end_steps, stage}
+use Rattle.hg_play.specs.Play.{Stage, after_line, after_lines, block_at, end_blocks, end_steps, stage, tape_of}
 use Rattle.hg_play.specs.Sites.{start_in, starts, starts_of}
+use Rattle.hg_play.specs.Tape.{TapeView}
 
 -- many nodes at a moment, as their caller sees them: how many they are; that all that others did since the beginning are
 -- marks; of which worlds they are the nodes, but for what others marked; and since which moments
@@ -91,21 +93,14 @@ abbrev pub MatchesSource : {N : Type 0} → NodesView N → NodesView N → Secr
 MatchesSource old new secrets labels source bytes = Matched old new (λ w. []) (λ w. bytes ≡ source_bytes secrets w labels source)
 
 -- the nodes, which began as those of these members, the labels, and what was printed are those of a stage
-pub record IsStage {N : Type 0} (members : MemberList) (v : NodesView N) (labels : List (List ℕ)) (printed : List Printed) (s : Stage) : Type 0 where
+pub record IsStage {N : Type 0} (members : MemberList) (v : NodesView N) (t : TapeView) (s : Stage) : Type 0 where
   pub agrees : v.Agrees s.world
   pub begun : starts_of s.world ≡ starts members
-  pub labelled : labels ≡ s.labels
-  pub shown : printed ≡ s.printed
+  pub taped : t ≡ tape_of s
 
 -- if others only mark, then after the line they are those of the stage after it
-abbrev pub MatchesLine : {N : Type 0} → MemberList → Line → NodesView N → List (List ℕ) → List Printed → NodesView N → List (List ℕ) → List Printed → Type 0
-MatchesLine members line old labels printed new labels_new printed_new =
-    new.Alone → (s : Stage) → IsStage members old labels printed s → IsStage members new labels_new printed_new (after_line members s line)
-
--- a line was played, behind these labels and what was printed
-abbrev pub PlaysLine : {N : Type 0} → (N → NodesView N) → MemberList → Line → N → Vec (List ℕ) → Vec Printed → N → Vec (List ℕ) → Vec Printed → Type 0
-PlaysLine seen members line old labels printed new labels_new printed_new =
-    MatchesLine members line (seen old) labels.items printed.items (seen new) labels_new.items printed_new.items
+abbrev pub MatchesLine : {N : Type 0} → MemberList → Line → NodesView N → TapeView → NodesView N → TapeView → Type 0
+MatchesLine members line old t new t_new = new.Alone → (s : Stage) → IsStage members old t s → IsStage members new t_new (after_line members s line)
 
 -- what is told of lines that were played over nodes that began as those of these members: all that they print, and that the
 -- nodes are those of the world after them
@@ -113,10 +108,6 @@ abbrev pub MatchesLines : {N : Type 0} → NodesView N → NodesView N → Membe
 MatchesLines old new members lines printed =
     new.Alone → (w : WorldView) → old.Agrees w → starts_of w ≡ starts members →
     (let s = after_lines members (stage w [] []) lines in (printed ≡ s.printed) × new.Agrees s.world)
-
--- lines were played over a world
-abbrev pub PlaysLines : MemberList → List Line → WorldView → WorldView → Vec Printed → Type 0
-PlaysLines members lines old new printed = MatchesLines (seen_alone old) (seen_alone new) members lines printed.items
 
 -- of the block of a node behind what was printed, if the member has one
 abbrev pub MatchesBlock : {N : Type 0} → NodesView N → NodesView N → MemberList → ℕ → List Printed → List Printed → Type 0
@@ -129,10 +120,9 @@ abbrev pub MatchesBlocks : {N : Type 0} → NodesView N → NodesView N → Memb
 MatchesBlocks old new members before after =
     Matched old new (λ w. end_steps members (length members.entries)) (λ w. starts_of w ≡ starts members → after ≡ before ++ end_blocks members w)
 
--- over a world a block was printed, if the member has one
-abbrev pub PrintsBlock : MemberList → ℕ → WorldView → Vec Printed → WorldView → Vec Printed → Type 0
-PrintsBlock members m old before new after = MatchesBlock (seen_alone old) (seen_alone new) members m before.items after.items
-
--- so were the blocks of all nodes
-abbrev pub PrintsBlocks : MemberList → WorldView → Vec Printed → WorldView → Vec Printed → Type 0
-PrintsBlocks members old before new after = MatchesBlocks (seen_alone old) (seen_alone new) members before.items after.items
+-- the outcome has the members' names, what was printed, and behind it the blocks of all nodes, which are lawful then
+pub record Closes (members : MemberList) (old : WorldView) (before : List Printed) (outcome : Outcome) : Type 0 where
+  pub names : outcome.names ≡ names_of members
+  pub last : WorldView
+  pub blocks : MatchesBlocks (seen_alone old) (seen_alone last) members before outcome.printed
+  pub lawful : IsWorld last

@@ -13,6 +13,7 @@ use Rattle.hg_world.specs.declared.step.Step.{Step}
 use Rattle.hg_world.specs.World.{WorldView, new_world, rows_at, run_of}
 use Rattle.hg_world.specs.Steps.{after_steps, settle_steps}
 use Rattle.hg_play.specs.Lines.{action_labels, action_printed, action_steps}
+use Rattle.hg_play.specs.Tape.{TapeView, tape}
 
 -- the members' nodes, the bytes of the labels so far, and what was printed so far
 pub record Stage : Type 0 where
@@ -22,6 +23,10 @@ pub record Stage : Type 0 where
 
 abbrev pub stage : WorldView → List (List ℕ) → List Printed → Stage
 stage w labels printed = record { world = w; labels = labels; printed = printed }
+
+-- it without its world
+abbrev pub tape_of : Stage → TapeView
+tape_of s = tape s.labels s.printed
 
 -- before the first line
 abbrev pub first_stage : MemberList → Stage

@@ -27,6 +27,7 @@ use Rattle.hg_play.specs.Alike.{AreAlike, WorldsAlike}
 use Rattle.hg_play.specs.Lines.{IsBelow}
 use Rattle.hg_play.specs.Nodes.{IsStage, NodesView, MatchesMaking, MatchesPutting, Matched}
 use Rattle.hg_play.specs.Play.{Stage, after_line, after_lines}
+use Rattle.hg_play.specs.Tape.{TapeView}
 
 -- nodes between threads, and a seat of each
 pub record SharedView : Type 0 where
@@ -63,12 +64,12 @@ abbrev pub seen_alike : WorldView → NodesView WorldView
 seen_alike w = record { count = length w.sites; Alone = ⊤; Agrees = WorldsAlike w; Since = λ earlier. ⊤ }
 
 -- what the seats have seen, the labels, and what was printed are those of a stage, but for marks
-abbrev pub IsStageOf : MemberList → List (SharedNode Secrets) → List (SeatView Secrets) → List (List ℕ) → List Printed → Stage → Type 0
-IsStageOf members places seats labels printed s = IsStage members (seen_shared (shared_view places seats)) labels printed s
+abbrev pub IsStageOf : MemberList → List (SharedNode Secrets) → List (SeatView Secrets) → TapeView → Stage → Type 0
+IsStageOf members places seats t s = IsStage members (seen_shared (shared_view places seats)) t s
 
 -- so are the nodes of this world
-abbrev pub IsStageLike : MemberList → WorldView → List (List ℕ) → List Printed → Stage → Type 0
-IsStageLike members w labels printed s = IsStage members (seen_alike w) labels printed s
+abbrev pub IsStageLike : MemberList → WorldView → TapeView → Stage → Type 0
+IsStageLike members w t s = IsStage members (seen_alike w) t s
 
 -- what comes of the line is that of the rows: it is of gossip, or makes a label, of members below this number
 abbrev pub IsPart : ℕ → Action → Type 0
@@ -108,23 +109,13 @@ LinesNeedRowsAlone =
     (members : MemberList) (s t : Stage) (line : Line) → IsOfRows line.action → StagesAlike s t → StagesAlike (after_line members s line) (after_line members t line)
 
 -- if others only mark, then after the lines they are those of the stage after them
-abbrev pub MatchesParts : {N : Type 0} → MemberList → List Line → NodesView N → List (List ℕ) → List Printed → NodesView N → List (List ℕ) → List Printed → Type 0
-MatchesParts members lines old labels printed new labels_new printed_new =
-    new.Alone → (s : Stage) → IsStage members old labels printed s → IsStage members new labels_new printed_new (after_lines members s lines)
-
-abbrev pub PlaysParts : {N : Type 0} → (N → NodesView N) → MemberList → List Line → N → Vec (List ℕ) → Vec Printed → N → Vec (List ℕ) → Vec Printed → Type 0
-PlaysParts seen members lines old labels printed new labels_new printed_new =
-    MatchesParts members lines (seen old) labels.items printed.items (seen new) labels_new.items printed_new.items
+abbrev pub MatchesParts : {N : Type 0} → MemberList → List Line → NodesView N → TapeView → NodesView N → TapeView → Type 0
+MatchesParts members lines old t new t_new = new.Alone → (s : Stage) → IsStage members old t s → IsStage members new t_new (after_lines members s lines)
 
 -- the same of nodes between threads
-abbrev pub MatchesThrough : MemberList → List Line → List (SharedNode Secrets) → List (SeatView Secrets) → List (List ℕ) → List Printed → List (SeatView Secrets) → List (List ℕ) → List Printed → Type 0
-MatchesThrough members lines places seats labels printed seats_new labels_new printed_new =
-    AllOthersMark places seats_new → (s : Stage) → IsStageOf members places seats labels printed s →
-    IsStageOf members places seats_new labels_new printed_new (after_lines members s lines)
-
-abbrev pub PlaysThrough : MemberList → List Line → List (SharedNode Secrets) → Vec (SeatView Secrets) → Vec (List ℕ) → Vec Printed → Vec (SeatView Secrets) → Vec (List ℕ) × Vec Printed → Type 0
-PlaysThrough members lines places seats labels printed seats_new played =
-    MatchesThrough members lines places seats.items labels.items printed.items seats_new.items played.0.items played.1.items
+abbrev pub MatchesThrough : MemberList → List Line → List (SharedNode Secrets) → List (SeatView Secrets) → TapeView → List (SeatView Secrets) → TapeView → Type 0
+MatchesThrough members lines places seats t seats_new t_new =
+    AllOthersMark places seats_new → (s : Stage) → IsStageOf members places seats t s → IsStageOf members places seats_new t_new (after_lines members s lines)
 
 abbrev pub seen_through : List (SharedNode Secrets) → List (SeatView Secrets) → NodesView SharedView
 seen_through places seats = seen_shared (shared_view places seats)

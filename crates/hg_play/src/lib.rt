@@ -13,8 +13,10 @@
 //! ```
 #![tactic(auto)]
 
+mod band;
 mod batch;
 mod blocks;
+mod game;
 mod gossip;
 mod labels;
 mod laws;
@@ -22,11 +24,11 @@ mod lines;
 mod nodes;
 mod playing;
 mod printing;
-mod seated;
 mod seats;
 mod shared;
+mod tape;
 mod through;
 
+pub use hg_seat::Seated;
 pub use laws::{lines_are_steps, lines_need_rows_alone, steps_need_rows_alone};
 pub use playing::{play, summary};
-pub use seated::Seated;

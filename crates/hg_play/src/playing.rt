@@ -1,19 +1,22 @@
-ghost use Rattle.std.specs.Prelude.{◌≡◌, ◌≤◌, All, IfOk, OnOk};
+ghost use Rattle.std.specs.Prelude.{◌≡◌, ◌≤◌, All, IfOk, OnOk, length};
 ghost use Rattle.hg_model.specs.Members.{names_of};
-ghost use Rattle.hg_model.specs.Signing.{secrets_of};
 ghost use Rattle.hg_script.specs.Lawful.{IsLine};
 ghost use Rattle.hg_world.specs.Parts.{IsWorld};
 ghost use Rattle.hg_world.specs.World.{new_world};
 ghost use Rattle.hg_play.specs.Agree.{IsAgreed};
 ghost use Rattle.hg_play.specs.Batch.{IsPlayed, most_workers};
+ghost use Rattle.hg_play.specs.Nodes.{Closes};
 ghost use Rattle.hg_play.specs.Play.{IsSafePlay, play, summary};
 
+use crate::band::Band;
 use crate::batch::play_batches;
 use crate::blocks::push_blocks;
+use crate::game::Game;
 use crate::lines::play_lines;
+use crate::tape::Tape;
 use hg_board::Crew;
 use hg_io::Gate;
-use hg_model::{Bytes, Items, Members, Memory, Outcome, Printed};
+use hg_model::{Bytes, Items, Members, Memory, Outcome};
 use hg_script::Line;
 use hg_sign::MacTable;
 use hg_world::World;
@@ -32,30 +35,49 @@ fn names(alloc: Global, members: &Members) -> Result<Items<Bytes>, Memory>
     Ok(Items::from_vec(names))
 }
 
-/// Plays the lines over the members' nodes, beside so many workers. The nodes, and what the lines print.
+/// Plays the lines over the members' nodes, beside so many workers. The nodes, and what the lines leave.
 fn play_all<R: Threads + Wait + Sync, C: Crew + Sync, G: Gate + Sync>(
     rt: &R,
-    alloc: Global,
-    members: &Members,
+    game: &Game,
     lines: &[Line],
     workers: u32,
     crew: &C,
     gate: &G,
-) -> Result<(World, Vec<Printed>), Memory>
+) -> Result<(World, Tape), Memory>
     requires workers { workers ≤ most_workers }
-    requires lines { All (IsLine members.now workers) lines.now }
-    ensures new { OnOk result (IsWorld (new_world members.now)) }
-    ensures played { IfOk result (λ r. IsPlayed members.now lines.now r.0 r.1.items) }
+    requires lines { All (IsLine game.now.members.now workers) lines.now }
+    ensures new { OnOk result (IsWorld (new_world game.now.members.now)) }
+    ensures played { IfOk result (λ r. IsPlayed game.now.members.now lines.now r.0 r.1.printed) }
 {
-    let keys = MacTable::new(alloc, members)?;
-    let mut world = World::new(alloc, members)?;
+    let mut world = World::new(game.alloc, game.members)?;
     // That it is a lawful one.
     world.members();
     if workers > 0 {
-        return play_batches(rt, alloc, members, &keys, world, lines, workers, crew, gate);
+        let band = Band {
+            rt,
+            workers,
+            crew,
+            gate,
+        };
+        return play_batches(game, &band, world, lines);
     }
-    let printed = play_lines(alloc, members, &keys, &mut world, lines)?;
-    Ok((world, printed))
+    let tape = play_lines(game, &mut world, lines)?;
+    Ok((world, tape))
+}
+
+/// The outcome: the members' names, what was printed, and behind it a block for each node.
+fn closed(game: &Game, mut world: World, mut tape: Tape) -> Result<Outcome, Memory>
+    requires { length world.sites ≡ length game.now.members.now.entries }
+    ensures { IfOk result (Closes game.now.members.now world tape.printed) }
+{
+    push_blocks(game, &mut world, &mut tape)?;
+    let names = names(game.alloc, game.members)?;
+    // That the nodes are lawful up to here.
+    world.members();
+    Ok(Outcome {
+        names,
+        printed: Items::from_vec(tape.into_printed()),
+    })
 }
 
 /// Plays the lines of a script over the members' nodes, and gives all that the script prints, with a last block for
@@ -79,15 +101,15 @@ pub fn play<R: Threads + Wait + Sync, C: Crew + Sync, G: Gate + Sync>(
     ensures safe { OnOk result (IsSafePlay members.now lines.now) }
     ensures agree { OnOk result (IsAgreed members.now lines.now) }
 {
-    let (mut world, mut printed) = play_all(rt, alloc, members, lines, workers, crew, gate)?;
-    push_blocks(alloc, members, &mut world, &mut printed)?;
-    let names = names(alloc, members)?;
-    // That the nodes are lawful up to here.
-    world.members();
-    Ok(Outcome {
-        names,
-        printed: Items::from_vec(printed),
-    })
+    let keys = MacTable::new(alloc, members)?;
+    let game = Game {
+        alloc,
+        members,
+        keys: &keys,
+    };
+    let (world, tape) = play_all(rt, &game, lines, workers, crew, gate)?;
+    let outcome = closed(&game, world, tape)?;
+    Ok(outcome)
 }
 
 /// The same with the names and the last blocks alone.
@@ -105,14 +127,13 @@ pub fn summary<R: Threads + Wait + Sync, C: Crew + Sync, G: Gate + Sync>(
     ensures outcome { IfOk result (λ outcome. outcome ≡ summary members.now lines.now) }
     ensures safe { OnOk result (IsSafePlay members.now lines.now) }
 {
-    let (mut world, mut printed) = play_all(rt, alloc, members, lines, workers, crew, gate)?;
-    printed.clear();
-    push_blocks(alloc, members, &mut world, &mut printed)?;
-    let names = names(alloc, members)?;
-    // That the nodes are lawful up to here.
-    world.members();
-    Ok(Outcome {
-        names,
-        printed: Items::from_vec(printed),
-    })
+    let keys = MacTable::new(alloc, members)?;
+    let game = Game {
+        alloc,
+        members,
+        keys: &keys,
+    };
+    let (world, _) = play_all(rt, &game, lines, workers, crew, gate)?;
+    let outcome = closed(&game, world, Tape::new(alloc))?;
+    Ok(outcome)
 }

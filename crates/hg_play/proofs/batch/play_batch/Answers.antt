@@ -14,44 +14,44 @@ split_all-requires g c =
     subst (λ l. Each (HasMore accepts_by 1) l c.in_ok-shared.seats.items) (sym c.as_slice.ensures.value)
     (seats_started accepts_by 1 c.into_nodes.result.items c.in_ok-shared.shared.items c.in_ok-shared.seats.items (omega arith) c.in_ok-shared.ensures)
 
-pub join-own-requires-after_bounds : goal.join-own-requires-after_bounds
-join-own-requires-after_bounds g c κs within =
+pub join-seats-requires-after_bounds : goal.join-seats-requires-after_bounds
+join-seats-requires-after_bounds g c κs within =
     let nodes = c.into_nodes.result.items in
     let shared = c.in_ok-shared.shared.items in
     let places = c.as_slice-places.result.now in
     let firsts = c.in_ok-shared.seats.items in
     let own = c.in_ok-own.own.items in
-    let few = c.requires.few in
+    let few = c.args.band.now.few in
     let long = own_count c.args.world nodes shared firsts own c.into_nodes.ensures.nodes c.in_ok-shared.ensures c.in_ok-own.ensures.new in (
       (
-        seats_own nodes shared places firsts own c.as_slice-places.ensures.value c.in_ok-shared.ensures c.in_ok-own.ensures.new,
-        (λ k d low. subst (λ n. IsPartLine n (get_or c.args.lines.now k d)) (sym long) (c.requires.lines k d low), c.requires.keys),
+        has_beside c.args.band.now.workers nodes shared places firsts c.split_all.new.seats.items c.as_slice-places.ensures.value (omega (arith, few)) c.in_ok-shared.ensures c.in_ok-own.ensures.old,
+        (c.args.band.now.some, (search rules, search rules)),
       ),
       (
-        has_beside c.args.workers nodes shared places firsts c.split_all.new.seats.items c.as_slice-places.ensures.value (omega (arith, few)) c.in_ok-shared.ensures c.in_ok-own.ensures.old,
-        (c.requires.some, (search rules, search rules)),
+        seats_own nodes shared places firsts own c.as_slice-places.ensures.value c.in_ok-shared.ensures c.in_ok-own.ensures.new,
+        (λ k d low. subst (λ n. IsPartLine n (get_or c.args.lines.now k d)) (sym long) (c.requires k d low), c.args.game.now.signed),
       ),
     )
 
 pub work_beside-seats-requires-clause-seats : goal.work_beside-seats-requires-clause-seats
 work_beside-seats-requires-clause-seats g c κs within =
     let places = c.as_slice-places.result.now in
-    let few = c.requires.few in
-    let had = has_beside c.args.workers c.into_nodes.result.items c.in_ok-shared.shared.items places c.in_ok-shared.seats.items c.split_all.new.seats.items
+    let few = c.args.band.now.few in
+    let had = has_beside c.args.band.now.workers c.into_nodes.result.items c.in_ok-shared.shared.items places c.in_ok-shared.seats.items c.split_all.new.seats.items
     c.as_slice-places.ensures.value (omega (arith, few)) c.in_ok-shared.ensures c.in_ok-own.ensures.old in
-    has_again accepts_by c.args.workers places c.split_all.new.seats.items c.join-own.result.1.0.items c.join-own.result.0.0.items c.absorb_all.new.seats.items had
-    c.join-own.ensures.second.1 c.join-own.ensures.second.0 c.absorb_all.ensures
+    has_again accepts_by c.args.band.now.workers places c.split_all.new.seats.items c.join-seats.result.0.0.items c.join-seats.result.1.0.items c.absorb_all.new.seats.items had
+    c.join-seats.ensures.first.1 c.join-seats.ensures.first.0 c.absorb_all.ensures
 
 pub from_nodes-requires : goal.from_nodes-requires
 from_nodes-requires g c =
     let nodes = c.into_nodes.result.items in
     let shared = c.in_ok-shared.shared.items in
     let places = c.as_slice-places.result.now in
-    let called = c.join-own.result.0.0.items in
+    let called = c.join-seats.result.1.0.items in
     let ends = c.in_ok-nodes.nodes.items in
-    let run = the_run nodes shared places c.in_ok-shared.seats.items c.split_all.new.seats.items c.in_ok-own.own.items called c.join-own.result.1.0.items c.absorb_all.new.seats.items
-    c.work_beside-seats.result.0.items ends c.as_slice-places.ensures.value c.in_ok-shared.ensures c.in_ok-own.ensures.old c.in_ok-own.ensures.new c.join-own.ensures.first.0 c.join-own.ensures.first.1.0
-    c.join-own.ensures.second.1 c.absorb_all.ensures c.work_beside-seats.ensures.worked c.in_ok-nodes.ensures in
+    let run = the_run nodes shared places c.in_ok-shared.seats.items c.split_all.new.seats.items c.in_ok-own.own.items called c.join-seats.result.0.0.items c.absorb_all.new.seats.items
+    c.work_beside-seats.result.0.items ends c.as_slice-places.ensures.value c.in_ok-shared.ensures c.in_ok-own.ensures.old c.in_ok-own.ensures.new c.join-seats.ensures.second.0 c.join-seats.ensures.second.1.0
+    c.join-seats.ensures.first.1 c.absorb_all.ensures c.work_beside-seats.ensures.worked c.in_ok-nodes.ensures in
     ends_of_one_list nodes places called ends run c.into_nodes.ensures.lawful
 
 pub returns-clause-count : goal.returns-clause-count
@@ -59,11 +59,11 @@ returns-clause-count g c =
     let nodes = c.into_nodes.result.items in
     let shared = c.in_ok-shared.shared.items in
     let places = c.as_slice-places.result.now in
-    let called = c.join-own.result.0.0.items in
+    let called = c.join-seats.result.1.0.items in
     let ends = c.in_ok-nodes.nodes.items in
-    let run = the_run nodes shared places c.in_ok-shared.seats.items c.split_all.new.seats.items c.in_ok-own.own.items called c.join-own.result.1.0.items c.absorb_all.new.seats.items
-    c.work_beside-seats.result.0.items ends c.as_slice-places.ensures.value c.in_ok-shared.ensures c.in_ok-own.ensures.old c.in_ok-own.ensures.new c.join-own.ensures.first.0 c.join-own.ensures.first.1.0
-    c.join-own.ensures.second.1 c.absorb_all.ensures c.work_beside-seats.ensures.worked c.in_ok-nodes.ensures in
+    let run = the_run nodes shared places c.in_ok-shared.seats.items c.split_all.new.seats.items c.in_ok-own.own.items called c.join-seats.result.0.0.items c.absorb_all.new.seats.items
+    c.work_beside-seats.result.0.items ends c.as_slice-places.ensures.value c.in_ok-shared.ensures c.in_ok-own.ensures.old c.in_ok-own.ensures.new c.join-seats.ensures.second.0 c.join-seats.ensures.second.1.0
+    c.join-seats.ensures.first.1 c.absorb_all.ensures c.work_beside-seats.ensures.worked c.in_ok-nodes.ensures in
     batch_count c.args.world c.in-Ok.world nodes places called ends c.into_nodes.ensures.nodes run c.in-Ok.ensures.ok
 
 pub returns-clause-marked : goal.returns-clause-marked
@@ -71,11 +71,11 @@ returns-clause-marked g c =
     let nodes = c.into_nodes.result.items in
     let shared = c.in_ok-shared.shared.items in
     let places = c.as_slice-places.result.now in
-    let called = c.join-own.result.0.0.items in
+    let called = c.join-seats.result.1.0.items in
     let ends = c.in_ok-nodes.nodes.items in
-    let run = the_run nodes shared places c.in_ok-shared.seats.items c.split_all.new.seats.items c.in_ok-own.own.items called c.join-own.result.1.0.items c.absorb_all.new.seats.items
-    c.work_beside-seats.result.0.items ends c.as_slice-places.ensures.value c.in_ok-shared.ensures c.in_ok-own.ensures.old c.in_ok-own.ensures.new c.join-own.ensures.first.0 c.join-own.ensures.first.1.0
-    c.join-own.ensures.second.1 c.absorb_all.ensures c.work_beside-seats.ensures.worked c.in_ok-nodes.ensures in
+    let run = the_run nodes shared places c.in_ok-shared.seats.items c.split_all.new.seats.items c.in_ok-own.own.items called c.join-seats.result.0.0.items c.absorb_all.new.seats.items
+    c.work_beside-seats.result.0.items ends c.as_slice-places.ensures.value c.in_ok-shared.ensures c.in_ok-own.ensures.old c.in_ok-own.ensures.new c.join-seats.ensures.second.0 c.join-seats.ensures.second.1.0
+    c.join-seats.ensures.first.1 c.absorb_all.ensures c.work_beside-seats.ensures.worked c.in_ok-nodes.ensures in
     let marked = subst (λ r. OnOk r (AllMark places whole c.absorb_all.new.seats.items c.work_beside-seats.result.0.items)) c.in_ok-done.was c.work_beside-seats.ensures.marked in
     batch_marked c.in-Ok.world nodes places called ends run c.in-Ok.ensures.ok marked
 
@@ -84,16 +84,15 @@ returns-clause-told g c =
     let nodes = c.into_nodes.result.items in
     let shared = c.in_ok-shared.shared.items in
     let places = c.as_slice-places.result.now in
-    let called = c.join-own.result.0.0.items in
+    let called = c.join-seats.result.1.0.items in
     let ends = c.in_ok-nodes.nodes.items in
     let own = c.in_ok-own.own.items in
-    let members = c.args.members.now in
+    let members = c.args.game.now.members.now in
     let lines = c.args.lines.now in
-    let labels = c.args.labels.items in
-    let printed = c.args.printed.items in
-    let run = the_run nodes shared places c.in_ok-shared.seats.items c.split_all.new.seats.items own called c.join-own.result.1.0.items c.absorb_all.new.seats.items
-    c.work_beside-seats.result.0.items ends c.as_slice-places.ensures.value c.in_ok-shared.ensures c.in_ok-own.ensures.old c.in_ok-own.ensures.new c.join-own.ensures.first.0 c.join-own.ensures.first.1.0
-    c.join-own.ensures.second.1 c.absorb_all.ensures c.work_beside-seats.ensures.worked c.in_ok-nodes.ensures in
-    let told = subst (λ r. IfOk r (λ v. MatchesThrough members lines places own labels printed called v.0.items v.1.items)) c.in_ok-labels.was c.join-own.ensures.first.1.1 in
-    let through = subst (λ l. MatchesThrough members lines places l labels printed called c.in_ok-labels.labels.items c.in_ok-labels.printed.items) c.in_ok-own.ensures.new told in
-    batch_told members lines c.args.world c.in-Ok.world nodes places called ends labels c.in_ok-labels.labels.items printed c.in_ok-labels.printed.items c.into_nodes.ensures.nodes run c.in-Ok.ensures.ok through
+    let t = c.args.tape in
+    let run = the_run nodes shared places c.in_ok-shared.seats.items c.split_all.new.seats.items own called c.join-seats.result.0.0.items c.absorb_all.new.seats.items
+    c.work_beside-seats.result.0.items ends c.as_slice-places.ensures.value c.in_ok-shared.ensures c.in_ok-own.ensures.old c.in_ok-own.ensures.new c.join-seats.ensures.second.0 c.join-seats.ensures.second.1.0
+    c.join-seats.ensures.first.1 c.absorb_all.ensures c.work_beside-seats.ensures.worked c.in_ok-nodes.ensures in
+    let told = subst (λ r. IfOk r (MatchesThrough members lines places own t called)) c.in_ok-tape.was c.join-seats.ensures.second.1.1 in
+    let through = subst (λ l. MatchesThrough members lines places l t called c.in_ok-tape.tape) c.in_ok-own.ensures.new told in
+    batch_told members lines c.args.world c.in-Ok.world nodes places called ends t c.in_ok-tape.tape c.into_nodes.ensures.nodes run c.in-Ok.ensures.ok through

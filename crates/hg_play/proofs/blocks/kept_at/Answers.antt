@@ -8,5 +8,5 @@ use Rattle.hg_play.proofs.blocks.kept_at.Goals as goal
 pub returns : goal.returns
 returns c = λ begun.
     c.in_ok-block.ensures
-    (ap (λ (v : NodeView Secrets). v.start) c.node.ensures.value ∙ start_read c.args.members.now c.args.world.now c.args.member begun c.requires)
-    ∙ ap (kept_block c.args.members.now c.args.member) c.node.ensures.value
+    (ap (λ (v : NodeView Secrets). v.start) c.node.ensures.value ∙ start_read c.args.game.now.members.now c.args.world.now c.args.member begun c.requires)
+    ∙ ap (kept_block c.args.game.now.members.now c.args.member) c.node.ensures.value

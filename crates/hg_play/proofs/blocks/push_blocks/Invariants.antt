@@ -5,5 +5,5 @@ use Rattle.hg_play.proofs.blocks.push_blocks.Given as goal
 abbrev pub invariant-loop-member : goal.invariant-loop-member
 invariant-loop-member l = record {
   kept : IsKept (seen_alone l.initial.world) (seen_alone l.world);
-  told : BlocksSoFar l.members l.member (seen_alone l.initial.world) (seen_alone l.world) l.initial.printed.items l.printed.items;
+  told : BlocksSoFar l.game.members.now l.member (seen_alone l.initial.world) (seen_alone l.world) l.initial.tape.printed l.tape.printed;
 }

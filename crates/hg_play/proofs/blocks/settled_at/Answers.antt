@@ -9,5 +9,5 @@ use Rattle.hg_play.proofs.blocks.settled_at.Goals as goal
 pub returns-clause-block : goal.returns-clause-block
 returns-clause-block c = λ begun.
     c.in_ok-block.ensures (ap starts_of c.in_ok-settle.ensures.ok ∙ (starts-steps c.args.world.now (settle_steps c.args.member) ∙ begun))
-    ∙ settled_is c.args.members.now c.args.member (node_at c.args.world.now c.args.member) (node_at c.settle.new.self c.args.member)
-    (start_read c.args.members.now c.args.world.now c.args.member begun c.requires) c.in_ok-settle.ensures.settled
+    ∙ settled_is c.args.game.now.members.now c.args.member (node_at c.args.world.now c.args.member) (node_at c.settle.new.self c.args.member)
+    (start_read c.args.game.now.members.now c.args.world.now c.args.member begun c.requires) c.in_ok-settle.ensures.settled

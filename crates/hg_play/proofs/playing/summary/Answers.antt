@@ -1,30 +1,23 @@
-use Rattle.std.proofs.Common.{◌∙◌, ◌++◌, List, ℕ, ap, ap₂, length, refl}
+use Rattle.std.proofs.Common.{◌∙◌, ◌++◌, List, ℕ, ap, ap₂}
 use Rattle.hg_model.specs.declared.outcome.Outcome.{Outcome}
 use Rattle.hg_model.specs.declared.outcome.Printed.{Printed}
 use Rattle.hg_play.specs.Play.{after_lines, end_blocks, first_stage, summary}
-use Rattle.hg_play.proofs.LawfulLaws.{ends, played_count}
-use Rattle.hg_play.proofs.PlayLaws.{lines_below}
+use Rattle.hg_play.specs.Tape.{TapeView}
+use Rattle.hg_play.proofs.LawfulLaws.{ended, played_count}
 use Rattle.hg_play.proofs.playing.summary.Goals as goal
 
-pub push_blocks-requires : goal.push_blocks-requires
-push_blocks-requires g c = played_count c.args.members.now c.args.lines.now c.in_ok-world.world c.in_ok-world.printed.items c.in_ok-world.ensures.played
+pub closed-requires : goal.closed-requires
+closed-requires g c = played_count c.args.members.now c.args.lines.now c.in_ok-world.world _ c.in_ok-world.ensures.played
 
 pub returns-clause-outcome : goal.returns-clause-outcome
 unfolding summary
 returns-clause-outcome g c =
     let members = c.args.members.now in
     let lines = c.args.lines.now in
-    let before = c.in_ok-world.printed.items in
-    let e = ends members lines c.in_ok-world.world c.push_blocks.new.world before c.clear.new.self.items c.push_blocks.new.printed.items c.in_ok-world.ensures.new
-    (lines_below members c.args.workers (length members.entries) lines refl c.requires.lines) c.in_ok-world.ensures.played c.in_ok-push_blocks.ensures.told c.members.ensures.world in
-    ap₂ (λ (ns : List (List ℕ)) (ps : List Printed). let o : Outcome = record { names = ns; printed = ps } in o) c.in_ok-names.ensures
-    (c.from_vec.ensures ∙ (e.shown ∙ ap (λ (ps : List Printed). ps ++ end_blocks members (after_lines members (first_stage members) lines).world) c.clear.ensures.items))
+    let e = ended members c.args.workers lines c.in_ok-world.world _ c.new-2.result.printed c.in_ok-outcome.outcome c.requires.lines c.in_ok-world.ensures.new c.in_ok-world.ensures.played c.in_ok-outcome.ensures in
+    ap₂ (λ (ns : List (List ℕ)) (ps : List Printed). let o : Outcome = record { names = ns; printed = ps } in o) c.in_ok-outcome.ensures.names
+    (e.shown ∙ ap (λ (t : TapeView). t.printed ++ end_blocks members (after_lines members (first_stage members) lines).world) c.new-2.ensures)
 
 pub returns-clause-safe : goal.returns-clause-safe
 returns-clause-safe g c =
-    let members = c.args.members.now in
-    let lines = c.args.lines.now in
-    let before = c.in_ok-world.printed.items in
-    let e = ends members lines c.in_ok-world.world c.push_blocks.new.world before c.clear.new.self.items c.push_blocks.new.printed.items c.in_ok-world.ensures.new
-    (lines_below members c.args.workers (length members.entries) lines refl c.requires.lines) c.in_ok-world.ensures.played c.in_ok-push_blocks.ensures.told c.members.ensures.world in
-    e.safely
+    (ended c.args.members.now c.args.workers c.args.lines.now c.in_ok-world.world _ c.new-2.result.printed c.in_ok-outcome.outcome c.requires.lines c.in_ok-world.ensures.new c.in_ok-world.ensures.played c.in_ok-outcome.ensures).safely

@@ -6,5 +6,5 @@ use Rattle.hg_play.proofs.through.play_parts.Given as goal
 abbrev pub invariant-loop-line : goal.invariant-loop-line
 invariant-loop-line g l = record {
   kept : IsKept (g.N.Nodes.seen l.initial.nodes) (g.N.Nodes.seen l.nodes);
-  told : MatchesParts l.members (take l.line-index l.lines) (g.N.Nodes.seen l.initial.nodes) l.initial.labels.items l.initial.printed.items (g.N.Nodes.seen l.nodes) l.labels.items l.printed.items;
+  told : MatchesParts l.game.members.now (take l.line-index l.lines) (g.N.Nodes.seen l.initial.nodes) l.initial.tape (g.N.Nodes.seen l.nodes) l.tape;
 }

@@ -8,8 +8,8 @@ use Rattle.hg_play.specs.Through.{IsPartLine, SharedView, shared_view}
 use Rattle.hg_play.proofs.PartLaws.{through_since, through_told}
 use Rattle.hg_play.proofs.through.play_through.Goals as goal
 
-pub play_parts-played-requires-clause-lines : goal.play_parts-played-requires-clause-lines
-play_parts-played-requires-clause-lines g c =
+pub play_parts-played-requires : goal.play_parts-played-requires
+play_parts-played-requires g c =
     subst (λ (v : SharedView). All (IsPartLine (length v.seats)) c.args.lines.now) (sym c.new-nodes.ensures) c.requires.lines
 
 pub returns-clause-seats : goal.returns-clause-seats
@@ -26,5 +26,5 @@ pub returns-clause-played : goal.returns-clause-played
 returns-clause-played g c =
     let since = through_since c.args.shared.now c.args.seats.items c.new-nodes.result c.play_parts-played.new.nodes c.new-nodes.ensures c.play_parts-played.ensures.kept in
     let new : c.play_parts-played.new.nodes ≡ shared_view c.args.shared.now c.into_seats.result.items = ap₂ shared_view since.0 (sym c.into_seats.ensures.same) in
-    through_told c.args.members.now c.args.lines.now c.args.shared.now c.args.seats.items c.into_seats.result.items c.new-nodes.result c.play_parts-played.new.nodes c.args.labels.items c.args.printed.items
-    (λ r. r.0.items) (λ r. r.1.items) c.play_parts-played.result c.new-nodes.ensures new c.play_parts-played.ensures.told
+    through_told c.args.game.now.members.now c.args.lines.now c.args.shared.now c.args.seats.items c.into_seats.result.items c.new-nodes.result c.play_parts-played.new.nodes c.args.tape
+    c.play_parts-played.result c.new-nodes.ensures new c.play_parts-played.ensures.told

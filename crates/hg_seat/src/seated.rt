@@ -33,7 +33,7 @@ impl<'a, V: Signer, R: Wait> Seated<'a, V, R> {
 impl<'a, V: Signer + Drop, R: Wait> Holder for Seated<'a, V, R> {
     ghost use Rattle.hg_board.specs.Seats.{seen_by};
     ghost use Rattle.hg_board.specs.Calls.{rules_shared};
-    ghost use Rattle.hg_play.specs.Loans.{SeatLoan, seat_loan};
+    ghost use Rattle.hg_seat.specs.Loans.{SeatLoan, seat_loan};
 
     type Keys = V;
 
