@@ -1,4 +1,4 @@
--- Laws of works
+-- Laws that hold of all works
 use Rattle.std.proofs.Common.{◌≡◌, ◌<◌, ◌≤◌, ℕ, List, Option, Some, None, length, inl, inr, refl, sym, ◌∙◌, subst, arith}
 use Rattle.std.specs.Prelude.{Result, Ok, Err, ⊤}
 use Rattle.hg_io.specs.Faults.{raised}
@@ -18,13 +18,13 @@ use Rattle.hg_command.specs.Asked.{Asked}
 
 -- ---- what holds of each work
 
--- want of memory is an end of each work, before it did anything
+-- memory may run out before the first step
 pub comes_short : (work : Work) (c : Course) (starts : ℕ) → IsQuiet c starts → Comes work c starts Memory
 comes_short (Writes Is) c starts quiet = quiet
 comes_short (Stops why) c starts quiet = (inr refl, quiet)
 comes_short (Reads file name next) c starts quiet = inl (refl, quiet)
 
--- and whatever is told of the shelf and of standard output
+-- and this is never against what must come of a work
 completes_short : (work : Work) (c : Course) → Completes work c Memory
 completes_short (Writes Is) c = λ fine. inr refl
 completes_short (Stops why) c = inr refl
@@ -33,12 +33,12 @@ completes_short (Reads file name next) c = λ bytes tells fine. (λ more. inr re
 some_is : {A : Type 0} (x y : A) → (let a : Option A = Some x in a) ≡ Some y → x ≡ y
 some_is x y same = cc
 
--- a shelf that tells what it has has no other bytes under the name
+-- what a shelf has under a name is what it tells of it
 same_bytes : (holds : Option Files) (name bytes others : List ℕ) → Has holds name bytes → Tells holds name others → bytes ≡ others
 same_bytes None name bytes others has tells = absurd tells
 same_bytes (Some files) name bytes others has tells = some_is bytes others (sym has ∙ tells)
 
--- nor fewer, where it has more than so many
+-- so it is no less than what was found too much
 more_bytes : (holds : Option Files) (name bytes : List ℕ) (limit : ℕ) → HasMore holds name limit → Tells holds name bytes → limit < length bytes
 more_bytes None name bytes limit more tells = absurd tells
 more_bytes (Some files) name bytes limit more tells = rw tells at more
@@ -60,7 +60,7 @@ completes_file file name next c status (inr (inl long)) = λ bytes tells fine. (
 )
 completes_file file name next c status (inr (inr short)) = subst (Completes (Reads file name next) c) (sym short) (completes_short (Reads file name next) c)
 
--- what a work came to is its end, where nothing failed
+-- what came of a work is what must come of it
 pub completes : (work : Work) (c : Course) (starts : ℕ) (status : Status) → Comes work c starts status → Completes work c status
 completes (Writes Is) c starts status comes = completes_text Is c starts status comes
 completes (Stops why) c starts status comes = comes.0
@@ -116,7 +116,7 @@ takes_none F K s t out file stop read name next status stops =
 
 -- ---- from one moment to an earlier one
 
--- what came of a work came of it from an earlier moment too: the files are the same, and no count of faults fell
+-- the course may begin at an earlier moment, with the same files and no more faults
 pub earlier : {S T : Type 0} (F : shelf.Ghosts S) (K : sink.Ghosts T) (s u t : S) (out written : T) (work : Work) (starts : ℕ) (status : Status) →
     F.holds u ≡ F.holds s → ((name : List ℕ) → F.faults s name ≤ F.faults u name) →
     Comes work (course F K u t out written) starts status → Comes work (course F K s t out written) starts status
@@ -135,7 +135,7 @@ earlier F K s u t out written (Reads file name next) starts status holds counts 
       earlier F K s u t out written (next read.0) (raised starts) status holds counts read.2,
     ))
 
--- a file was taken, and on
+-- from the work behind a file to the one that begins with it
 pub takes_on : {S T A E : Type 0} (F : shelf.Ghosts S) (K : sink.Ghosts T) (s u t : S) (out written : T) (file : File) (stop : E → Status) (read : List ℕ → Result A E) (name : List ℕ) (next : A → Work) (x : A) (status : Status) →
     IsTaken (F.holds s) file read name x → StartsOne F s u →
     Ends (next x) (course F K u t out written) status → Ends (takes file stop read name next) (course F K s t out written) status
@@ -144,7 +144,7 @@ takes_on F K s u t out written file stop read name next x status taken started e
     (subst (λ (n : ℕ). Comes (next x) (course F K u t out written) n status) started.0 ends) in
     inr (inr (taken.0, taken.1, rw taken.2 on))
 
--- a text of which this holds was printed
+-- from what printing tells of a text to the end of a work that writes it
 pub wrote : {T E : Type 0} (K : sink.Ghosts T) (out written : T) (Is : List ℕ → Type 0) (text : List ℕ) (r : Result ⊤ E) →
     Is text → Prints K out written text r → WroteOn K out written Is (status_of r)
 wrote K out written Is text (Ok x) is prints = (text, is, prints.0)

@@ -43,7 +43,7 @@ lines_work name members workers next = takes file.Script bad_script (lines_for m
 
 -- ---- run
 
--- The text is the report of the play of the lines. The run of their steps is safe, and so is what the report shows: no two
+-- What a run writes: the report of the play of these lines. The run of their steps is safe, and so is what the report shows: no two
 -- of its orders part ways, where the dishonest members have less than a third of the stake and names do not collide. With
 -- workers it is the run without the marks that they give, which change nothing that is written.
 pub record IsReportOf (members : MemberList) (lines : List Line) (text : List ℕ) : Type 0 where
@@ -55,11 +55,11 @@ pub record IsReportOf (members : MemberList) (lines : List Line) (text : List �
 abbrev pub report_work : MemberList → List Line → Work
 report_work members lines = Writes (IsReportOf members lines)
 
--- the script, then the report
+-- reads the script and writes the report
 abbrev pub script_work : List ℕ → ℕ → MemberList → Work
 script_work name workers members = lines_work name members workers (report_work members)
 
--- the member file, then the script
+-- reads the member file, then the script
 abbrev pub run_work : List ℕ → List ℕ → ℕ → Work
 run_work members script workers = members_work members (script_work script workers)
 

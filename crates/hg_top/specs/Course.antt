@@ -38,7 +38,7 @@ reading F s t faults written = record { holds = F.holds s; before = outside F s 
 abbrev pub WritesNothing : Course → Type 0
 WritesNothing c = c.after.written ≡ c.before.written
 
--- so many files were started in all, and nothing was written
+-- the starts have come to this number, and standard output stands where it stood
 abbrev pub IsQuiet : Course → ℕ → Type 0
 IsQuiet c starts = (c.after.starts ≡ starts) × WritesNothing c
 
@@ -61,7 +61,7 @@ HasWithin holds name limit bytes = (length bytes ≤ limit) × Has holds name by
 abbrev pub HasMore : Option Files → List ℕ → ℕ → Type 0
 HasMore holds name limit = IfSome holds (λ files. IsSomeAnd (content_of files name) (λ bytes. limit < length bytes))
 
--- it tells what it has, and has these bytes under the name
+-- a shelf that does tell, with these bytes under the name
 abbrev pub Tells : Option Files → List ℕ → List ℕ → Type 0
 Tells holds name bytes = IsSomeAnd holds (λ files. content_of files name ≡ Some bytes)
 

@@ -16,7 +16,8 @@ use Rattle.hg_top.specs.Work.Work.{Writes, Stops, Reads}
 abbrev pub Gives : Status → Status → Type 0
 Gives why status = (status ≡ why) ⊎ (status ≡ Memory)
 
--- what came of writing a text of which this holds: standard output had so many bytes before and after, and failed so often
+-- The last step of a work that writes a text with a property: the text stands whole at `Done`, and a front of it at a fault.
+-- Of standard output the bytes and the count of faults are told, each before and after.
 abbrev pub Wrote : (List ℕ → Type 0) → Option (List ℕ) → Option (List ℕ) → ℕ → ℕ → Status → Type 0
 Wrote Is before after faults_before faults_after Done = (text : List ℕ) × Is text × Appends before after text
 Wrote Is before after faults_before faults_after WriteFault =
@@ -39,9 +40,8 @@ StopsAt c file name status =
     ((status ≡ ReadFault file) × HasReadFault c name)
     ⊎ (((status ≡ too_long file) × HasMore c.holds name (limit_of file)) ⊎ (status ≡ Memory))
 
--- What a work came to, before which so many files were started. A text is written whole, or a front of it where standard
--- output failed. A file is started once the one before it was taken, and nothing is written before the last step. Memory
--- may run out at each step.
+-- How a work ended that began after so many starts of files. No file is started until the one before it was taken, and no
+-- byte is written until the last step. A want of memory may end it at any step.
 abbrev pub Comes : Work → Course → ℕ → Status → Type 0
 Comes (Writes Is) c starts status =
     (c.after.starts ≡ starts) × Wrote Is c.before.written c.after.written c.before.write_faults c.after.write_faults status
@@ -51,12 +51,12 @@ Comes (Reads file name next) c starts status =
     ⊎ ((StopsAt c file name status × IsQuiet c (raised starts))
     ⊎ ((bytes : List ℕ) × HasWithin c.holds name (limit_of file) bytes × Comes (next bytes) c (raised starts) status))
 
--- the same of a whole call
+-- how a call ended whose first step is the work's
 abbrev pub Ends : Work → Course → Status → Type 0
 Ends work c status = Comes work c c.before.starts status
 
--- Where nothing fails a work goes to its end: its text is written whole, or it stops as it says, or memory runs out. A file
--- that has too many bytes has just its status.
+-- What must come of a work if neither the shelf nor standard output fails: its text, or the status that it stops with, or
+-- that of a file that is too long; only a want of memory may come instead.
 abbrev pub Completes : Work → Course → Status → Type 0
 Completes (Writes Is) c status = (HasWriteFault c → ⊥) → Gives Done status
 Completes (Stops why) c status = Gives why status
@@ -64,7 +64,7 @@ Completes (Reads file name next) c status =
     (bytes : List ℕ) → Tells c.holds name bytes → (HasReadFault c name → ⊥) →
     ((limit_of file < length bytes) → Gives (too_long file) status) × ((length bytes ≤ limit_of file) → Completes (next bytes) c status)
 
--- no file is read
+-- the work begins with no file
 abbrev pub ReadsNoFile : Work → Type 0
 ReadsNoFile (Reads file name next) = ⊥
 ReadsNoFile _ = ⊤

@@ -1,4 +1,4 @@
--- What a command does, as a value: it reads files, each once the one before it is accepted, and then it writes a text or stops
+-- A command as a value: files that are read in turn, and at the end a text, or the status that it stops with
 use Rattle.std.specs.Prelude.{ℕ, List, Result, Ok, Err}
 use Rattle.hg_top.specs.declared.status.File.{File}
 use Rattle.hg_top.specs.declared.status.File.TheVariants as file
@@ -16,8 +16,8 @@ abbrev pub too_long : File → Status
 too_long file.Members = Members TooLong
 too_long file.Script = Script TooLong
 
--- a text is written, of which this holds; or the work stops with this status; or the file of this name is read, and its
--- bytes, where they are not too many, tell what is done next
+-- `Writes`: some text with this property goes to standard output. `Stops`: nothing more is done, and the call has this
+-- status. `Reads`: the file of this kind and name is read and, where it is not too long, its bytes decide what comes next.
 pub data Work : Type 1 where
   Writes : (List ℕ → Type 0) → Work
   Stops : Status → Work

@@ -55,7 +55,7 @@ fn run_script<R: Threads + Wait + Sync, F: Shelf, K: Sink, G: Gate + Sync>(
     }
 }
 
-/// What a run comes to, with the names of its two files and so many workers.
+/// What the run of a script comes to, with the names of the two files and so many workers.
 fn run<R: Threads + Wait + Sync, F: Shelf, K: Sink, G: Gate + Sync>(
     rt: &R,
     alloc: Global,
@@ -121,11 +121,11 @@ pub fn hashgraph<R: Threads + Wait + Sync, F: Shelf, K: Sink, E: Sink, G: Gate +
     err: &mut E,
     gate: &G,
 ) -> Status
-    // What the work of these words came to: its text, whole at `Done`, and the cause of each other status; and which files
-    // it started. In its run no two nodes' orders part ways, where the dishonest members have less than a third of the
+    // How the work that the words ask for ended: with its text on `out`, or for which cause, and with which files started.
+    // No two nodes' orders part ways in the run that is written, where the dishonest members have less than a third of the
     // stake and names do not collide.
     ensures ends { Ends (work_of (asks words.now)) (course F.Shelf K.Sink shelf.old shelf.new out.old out.new) result }
-    // Where nothing fails its text is written whole, and what is refused has just its status, but for want of memory.
+    // That it must end with its text, or with the status of what is refused, if nothing fails and memory does not run out.
     ensures complete { Completes (work_of (asks words.now)) (course F.Shelf K.Sink shelf.old shelf.new out.old out.new) result }
     ensures unread { ReadsNoFile (work_of (asks words.now)) → shelf.new ≡ shelf.old }
     ensures matches { IsPrintedOn E.Sink err.old err.new (status_line result) }
