@@ -1,7 +1,7 @@
 ghost use Rattle.std.specs.Prelude.{◌≡◌, ◌++◌};
 ghost use Rattle.hg_io.specs.Printing.{Prints};
 ghost use Rattle.hg_members.specs.Text.{member_fault_text};
-ghost use Rattle.hg_report.specs.Pieces.{piece_text};
+ghost use Rattle.hg_pieces.specs.Pieces.{piece_text};
 ghost use Rattle.hg_top.specs.Printing.{IsPrintedOn, members_line, script_line, status_line, status_without};
 
 use crate::status::{File, NoWords, Refusal, Status};

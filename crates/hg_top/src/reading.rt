@@ -12,7 +12,8 @@ use crate::status::{File, Refusal, Status};
 use hg_io::{FileAnswer, Shelf, read_file};
 use hg_members::read_members;
 use hg_model::{Bytes, Items, Members, Memory};
-use hg_script::{Line, read_script};
+use hg_reading::read_script;
+use hg_script::Line;
 use std::alloc::Global;
 
 /// The bytes of the file of this name, if they are not too many.

@@ -1,6 +1,6 @@
 use Rattle.std.proofs.Common.{◌∙◌, ◌++◌, List, ℕ, ap, append_assoc, codes, subst, sym}
 use Rattle.hg_io.specs.Printing.{Prints}
-use Rattle.hg_report.specs.Pieces.{piece_text}
+use Rattle.hg_pieces.specs.Pieces.{piece_text}
 use Rattle.hg_top.proofs.printing.print_member_fault.Goals as goal
 
 pub returns : goal.returns
