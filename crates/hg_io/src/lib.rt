@@ -2,18 +2,14 @@
 //! What a shelf holds and a sink was given are members that only clauses see, told by some; every fault has a count.
 //! The layer above uses `read_file` and `write_all`: all of a file, all of the bytes, or a fault whose count rose.
 //!
-//! From `members_from` of `hg_top`:
+//! From `bytes_from` of `hg_top`:
 //!
 //! ```text
-//! match read_file(alloc, shelf, name, MEMBER_LIMIT) {
-//!     Err(_) => Err(Status::Memory),
-//!     Ok(FileAnswer::Failed) => Err(Status::ReadFault(File::Members)),
-//!     Ok(FileAnswer::TooLong(_)) => Err(Status::Members(Refusal::TooLong)),
-//!     Ok(FileAnswer::Bytes(bytes)) => match read_members(alloc, bytes.as_slice()) {
-//!         Err(Memory) => Err(Status::Memory),
-//!         Ok(Err(fault)) => Err(Status::Members(Refusal::Fault(fault))),
-//!         Ok(Ok(members)) => Ok(members),
-//!     },
+//! match read_file(alloc, shelf, name, file.limit()) {
+//!     Err(Memory) => Err(Status::Memory),
+//!     Ok(FileAnswer::Failed) => Err(Status::ReadFault(file)),
+//!     Ok(FileAnswer::TooLong(_)) => Err(file.too_long()),
+//!     Ok(FileAnswer::Bytes(bytes)) => Ok(bytes),
 //! }
 //! ```
 #![tactic(auto)]

@@ -11,7 +11,7 @@
 //! };
 //! let voters = Voters::new(gate);
 //! match summary(rt, alloc, &list, lines.as_slice(), workers, &voters, gate) {
-//!     Ok(outcome) => write_summary(out, &outcome),
+//!     Ok(outcome) => status_of(summary_of(&outcome, out)),
 //!     Err(Memory) => Status::Memory,
 //! }
 //! ```

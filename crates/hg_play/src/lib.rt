@@ -2,12 +2,12 @@
 //! The layer above uses `play`, whose answer is all that the script prints, as the definitions say it, and whose run is
 //! safe and its blocks agree (premises: `IsSafe` of `hg_runs`); and `summary`, its last blocks alone.
 //!
-//! From `run` of `hg_top`:
+//! From `run_script` of `hg_top`:
 //!
 //! ```text
 //! let voters = Voters::new(gate);
-//! match play(rt, alloc, &list, lines.as_slice(), workers, &voters, gate) {
-//!     Ok(outcome) => write_report(out, &outcome),
+//! match play(rt, alloc, members, lines.as_slice(), workers, &voters, gate) {
+//!     Ok(outcome) => status_of(text_of(&outcome, out)),
 //!     Err(Memory) => Status::Memory,
 //! }
 //! ```

@@ -2,7 +2,7 @@
 //! a run with so many workers, or the first line that is refused. `table.rt` has a function for each kind of line, as the
 //! table of `specs/Table.antt` in `hg_script` has a definition, and `payload.rt` reads the word of a payload.
 //!
-//! From `lines_of` of `check_calls`:
+//! From `lines_of` in the tests of `check_bytes`:
 //!
 //! ```text
 //! fn lines_of(rt: &impl Abort, alloc: Global, bytes: &[u8]) -> Result<Items<Line>, Fail> {

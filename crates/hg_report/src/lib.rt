@@ -2,16 +2,12 @@
 //! The layer above uses `text_of`, which writes `report_text` of the outcome to a sink, by pages, without memory, and
 //! `summary_of`, which so writes `summary_text`, a few lines for each node.
 //!
-//! From `write_report` of `hg_top`:
+//! From `run_script` of `hg_top`:
 //!
 //! ```text
-//! fn write_report<K: Sink>(out: &mut K, outcome: &Outcome) -> Status
-//!     ensures { Writes K.Sink out.old out.new (report_text outcome.now) result }
-//! {
-//!     match text_of(outcome, out) {
-//!         Ok(()) => Status::Done,
-//!         Err(Failed) => Status::WriteFault,
-//!     }
+//! match play(rt, alloc, members, lines.as_slice(), workers, &voters, gate) {
+//!     Ok(outcome) => status_of(text_of(&outcome, out)),
+//!     Err(Memory) => Status::Memory,
 //! }
 //! ```
 #![tactic(auto)]
