@@ -1,5 +1,10 @@
+ghost use Rattle.std.specs.Prelude.{◌≡◌, [], IfOk};
+ghost use Rattle.hg_io.specs.FilesOf.{files_of};
+ghost use Rattle.hg_top.specs.Printing.{status_code};
+ghost use Rattle.check_cases.specs.Runs.{MayEnd};
+
 use hg_check::Outcome;
-use hg_io::{NoGate, ShelfMem, SinkMem};
+use hg_io::{Gate, ShelfMem, SinkMem};
 use hg_model::Memory;
 use hg_top::{Status, hashgraph};
 use std::alloc::Global;
@@ -12,13 +17,16 @@ const ROOM: usize = 1_048_576;
 /// A run that ended.
 #[derive(Drop)]
 pub struct Played {
-    status: Status,
-    out: SinkMem,
-    err: SinkMem,
+    pub status: Status,
+    pub out: SinkMem,
+    pub err: SinkMem,
 }
 
 impl Played {
-    pub fn outcome(&self) -> Outcome<'_> {
+    pub fn outcome(&self) -> Outcome<'_>
+        ensures status { result.status ≡ status_code self.now.status }
+        ensures stdout { result.stdout.now ≡ self.now.out.bytes }
+    {
         Outcome {
             status: self.status.code(),
             stdout: self.out.bytes(),
@@ -27,16 +35,26 @@ impl Played {
     }
 }
 
-/// Runs the program with these words, its name first, where these files lie.
-pub fn play<R: Threads + Wait + Sync>(
+/// A sink that takes all that a run writes.
+fn sink(alloc: Global) -> Result<SinkMem, Memory>
+    ensures { IfOk result (λ sink. sink.bytes ≡ []) }
+{
+    SinkMem::new(alloc, ROOM, ROOM, Vec::new(alloc))
+}
+
+/// Runs the program with these words, its name first, where these files lie, at a gate.
+pub fn play<R: Threads + Wait + Sync, G: Gate + Sync>(
     rt: &R,
     alloc: Global,
     words: &[String],
     files: Vec<(String, Vec<u8>)>,
-) -> Result<Played, Memory> {
+    gate: &G,
+) -> Result<Played, Memory>
+    ensures { IfOk result (λ played. MayEnd words.now (files_of files.items) played.status played.out.bytes) }
+{
     let mut shelf = ShelfMem::new(alloc, files, Vec::new(alloc))?;
-    let mut out = SinkMem::new(alloc, ROOM, ROOM, Vec::new(alloc))?;
-    let mut err = SinkMem::new(alloc, ROOM, ROOM, Vec::new(alloc))?;
-    let status = hashgraph(rt, alloc, words, &mut shelf, &mut out, &mut err, &NoGate);
+    let mut out = sink(alloc)?;
+    let mut err = sink(alloc)?;
+    let status = hashgraph(rt, alloc, words, &mut shelf, &mut out, &mut err, gate);
     Ok(Played { status, out, err })
 }
