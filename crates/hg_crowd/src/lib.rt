@@ -10,7 +10,7 @@
 //! let places = shared.as_slice();
 //! let ((mut seats, _), (own, played)) = join(rt,
 //!     move || ... { work_beside(rt, alloc, places, seats, workers, crew) },
-//!     move || ... { play_through(rt, game, places, own, tape, lines, gate) },
+//!     move || ... { ... play_through(rt, &game, places, own, tape, lines, gate) },
 //! );
 //! absorb_all(places, &mut seats, own);
 //! let (seats, done) = work_beside(rt, alloc, places, seats, workers, crew);
