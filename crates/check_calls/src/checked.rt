@@ -119,6 +119,12 @@ fn give_rows(
     give_both(rt, alloc, members, keys, b, twin, last, PutAnswer::Known(2))
 }
 
+/// The first 40 bytes of more.
+fn front_of<'a>(rt: &impl Abort, bytes: &'a [u8]) -> &'a [u8] {
+    assert!(rt; 40 < bytes.len());
+    &bytes[..40]
+}
+
 /// A row of A with another signature, an event of no member, and the front of a row.
 fn give_faulty(
     rt: &impl Abort,
@@ -155,9 +161,17 @@ fn give_faulty(
         &shortest_event(2),
         refused,
     )?;
-    assert!(rt; first.len() > 40);
     let refused = PutAnswer::Refused(Fault::Bytes(ByteFault::Short(40)));
-    give_both(rt, alloc, members, keys, b, twin, &first[..40], refused)?;
+    give_both(
+        rt,
+        alloc,
+        members,
+        keys,
+        b,
+        twin,
+        front_of(rt, first),
+        refused,
+    )?;
     equal(rt, twin.log(), b.log());
     Ok(())
 }
@@ -191,10 +205,11 @@ fn answers_of_what_is_checked_as_of_bytes(rt: HostRuntime) -> Result<(), Memory>
     )
 }
 
-fn last_bytes<'a>(node: &'a Node<MacTable>) -> Option<&'a [u8]> {
+/// The last event that the node made has these bytes.
+fn last_is(rt: &impl Abort, node: &Node<MacTable>, bytes: &[u8]) {
     match node.last_event() {
-        Some(event) => Some(event.bytes()),
-        None => None,
+        Some(event) => equal(rt, event.bytes(), bytes),
+        None => panic!(rt; "no event"),
     }
 }
 
@@ -203,10 +218,10 @@ fn tell_last(
     a: &mut Node<MacTable>,
     b: &mut Node<MacTable>,
 ) -> Result<(), Memory> {
-    equal(rt, last_bytes(a), None);
+    assert!(rt; a.last_event().is_none());
     play(rt, a, b)?;
-    equal(rt, last_bytes(a), Some(bytes_of(rt, a, 2)));
-    equal(rt, last_bytes(b), Some(bytes_of(rt, a, 1)));
+    last_is(rt, a, bytes_of(rt, a, 2));
+    last_is(rt, b, bytes_of(rt, a, 1));
     Ok(())
 }
 

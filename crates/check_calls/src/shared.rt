@@ -70,19 +70,19 @@ fn event_of<V: Verifier>(
     }
 }
 
-/// B's last event has these bytes, or there is none.
+/// The last event that B made has these bytes.
 fn tells_last<R: Wait + Abort>(
     rt: &R,
     shared: &Shared<MacTable>,
     seat: &mut Seat<MacTable>,
-    bytes: Option<&[u8]>,
+    bytes: &[u8],
 ) -> Result<(), Memory>
     requires { IsOf shared.now seat.old }
     ensures { IsOf shared.now seat.new }
 {
     match shared.last_event(rt, seat)? {
-        Some(event) => equal(rt, Some(event.bytes()), bytes),
-        None => equal(rt, None, bytes),
+        Some(event) => equal(rt, event.bytes(), bytes),
+        None => panic!(rt; "no event"),
     }
     Ok(())
 }
@@ -97,13 +97,14 @@ fn begins<R: Wait + Abort>(
     requires { IsOf shared.now seat.old }
     ensures { IsOf shared.now seat.new }
 {
-    tells_last(rt, shared, seat, None)?;
+    let before = shared.last_event(rt, seat)?;
+    assert!(rt; before.is_none());
     equal(
         rt,
         shared.make(rt, seat, None, 1, b"any")?,
         MakeAnswer::Made(0),
     );
-    tells_last(rt, shared, seat, Some(bytes))
+    tells_last(rt, shared, seat, bytes)
 }
 
 /// The event of these bytes is put, and the answer is to be this.
@@ -193,7 +194,7 @@ fn puts_all<R: Wait + Abort>(
         last,
         PutAnswer::Known(2),
     )?;
-    tells_last(rt, shared, seat, Some(own))
+    tells_last(rt, shared, seat, own)
 }
 
 #[test]
