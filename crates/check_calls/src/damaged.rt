@@ -8,7 +8,7 @@ use std::alloc::Global;
 use std::process::Abort;
 
 /// The shortest event there is: of this creator, at time 1, with a signature of zero bytes.
-fn shortest_event(creator: u8) -> [u8; 81] {
+pub(crate) fn shortest_event(creator: u8) -> [u8; 81] {
     let mut bytes = [0; 81];
     bytes[0] = 0x48;
     bytes[1] = 0x47;
@@ -69,7 +69,7 @@ const ALTERED: [(usize, usize, u8, Fault); 8] = [
 ];
 
 /// The bytes of the event, with the one at this place XORed with the mask.
-fn altered(
+pub(crate) fn altered(
     rt: &impl Abort,
     alloc: Global,
     event: &[u8],

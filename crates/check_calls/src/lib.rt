@@ -1,5 +1,5 @@
-//! Tests of public calls of `hg_votes`, `hg_fame`, `hg_node`, `hg_gossip` and `hg_world`, with values from outside: those
-//! that own a node.
+//! Tests of public calls of `hg_votes`, `hg_fame`, `hg_node`, `hg_gossip`, `hg_board` and `hg_world`, with values from
+//! outside: those that own a node.
 //! They stand above these crates so that their code is proved once; a crate with tests of its own is proved twice.
 //! There is nothing here but tests.
 //!
@@ -10,6 +10,8 @@
 //! ```
 #![tactic(auto)]
 
+#[cfg(test)]
+mod checked;
 #[cfg(test)]
 mod damaged;
 #[cfg(test)]
@@ -28,6 +30,8 @@ mod paying;
 mod playing;
 #[cfg(test)]
 mod publishing;
+#[cfg(test)]
+mod shared;
 #[cfg(test)]
 mod two_members;
 #[cfg(test)]

@@ -1,5 +1,9 @@
 //! What the tests of nodes share: players, and what they do.
 
+ghost use Rattle.std.specs.Prelude.{◌≡◌, IfOk};
+ghost use Rattle.hg_model.specs.Signing.{secrets_of};
+ghost use Rattle.hg_model.specs.NodeView.{start_of};
+
 use crate::members::two_members;
 use hg_model::{MakeAnswer, Members, Memory, Name, Placed, PutAnswer};
 use hg_node::Node;
@@ -35,13 +39,24 @@ impl Drop for Player {
     }
 }
 
+impl Player {
+    pub(crate) fn into_node(self) -> Node<MacTable>
+        ensures { result ≡ self.node }
+    {
+        let Player { node } = self;
+        node
+    }
+}
+
 /// The player of a member, of a number below the members' count, with keys of its own.
 pub(crate) fn player_of(
     rt: &impl Abort,
     alloc: Global,
     members: &Members,
     own: u16,
-) -> Result<Player, Memory> {
+) -> Result<Player, Memory>
+    ensures { IfOk result (λ player. player.node.start ≡ start_of members.now own (secrets_of members.now)) }
+{
     assert!(rt; u32::from(own) < members.count());
     let keys = MacTable::new(alloc, members)?;
     Ok(Player {
@@ -95,7 +110,9 @@ pub(crate) fn make(
     other: Option<Name>,
     time: u64,
     answer: MakeAnswer,
-) -> Result<(), Memory> {
+) -> Result<(), Memory>
+    ensures { node.new.start ≡ node.old.start }
+{
     equal(rt, node.make(other, time, b"any")?, answer);
     Ok(())
 }
