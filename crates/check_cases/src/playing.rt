@@ -1,7 +1,7 @@
 ghost use Rattle.std.specs.Prelude.{◌≡◌, [], IfOk};
 ghost use Rattle.hg_io.specs.FilesOf.{files_of};
 ghost use Rattle.hg_top.specs.Printing.{status_code};
-ghost use Rattle.check_cases.specs.Runs.{MayEnd};
+ghost use Rattle.check_cases.specs.Runs.{IsFrontOfLine, MayEnd};
 
 use hg_check::Outcome;
 use hg_io::{Gate, ShelfMem, SinkMem};
@@ -26,6 +26,7 @@ impl Played {
     pub fn outcome(&self) -> Outcome<'_>
         ensures status { result.status ≡ status_code self.now.status }
         ensures stdout { result.stdout.now ≡ self.now.out.bytes }
+        ensures stderr { result.stderr.now ≡ self.now.err.bytes }
     {
         Outcome {
             status: self.status.code(),
@@ -50,7 +51,8 @@ pub fn play<R: Threads + Wait + Sync, G: Gate + Sync>(
     files: Vec<(String, Vec<u8>)>,
     gate: &G,
 ) -> Result<Played, Memory>
-    ensures { IfOk result (λ played. MayEnd words.now (files_of files.items) played.status played.out.bytes) }
+    ensures ends { IfOk result (λ played. MayEnd words.now (files_of files.items) played.status played.out.bytes) }
+    ensures told { IfOk result (λ played. IsFrontOfLine played.status played.err.bytes) }
 {
     let mut shelf = ShelfMem::new(alloc, files, Vec::new(alloc))?;
     let mut out = sink(alloc)?;
