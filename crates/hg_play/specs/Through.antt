@@ -1,7 +1,6 @@
 -- Lines that are played over nodes between threads, while others mark: what they print is that of the rows alone
 use Rattle.std.specs.Prelude.{ℕ, ◌≡◌, ◌<◌, ⊤, List, [], length, map, get_or, Option, Some, None}
 use Rattle.std.specs.declared.sync.Arc.{Arc}
-use Rattle.hg_model.specs.declared.outcome.Printed.{Printed}
 use Rattle.hg_model.specs.declared.answers.MakeAnswer.{MakeAnswer}
 use Rattle.hg_model.specs.declared.answers.PutAnswer.{PutAnswer}
 use Rattle.hg_model.specs.declared.answers.SyncMade.{SyncMade}
