@@ -136,10 +136,10 @@ step_alike w v (Publish m worker share) alike =
     (sites_alike w v m _ _ alike (record { start = own.start; rows = own.rows ∙ sym other.rows }), tt)
 
 -- events that are taken, one after the other
-abbrev TakenAlike : Taking Secrets → Taking Secrets → Type 0
+abbrev pub TakenAlike : Taking Secrets → Taking Secrets → Type 0
 TakenAlike a b = (a.counts ≡ b.counts) × AreAlike a.node b.node
 
-taking_alike : (v u : NodeView Secrets) (t : Taken) (events : List (List ℕ)) → AreAlike v u →
+pub taking_alike : (v u : NodeView Secrets) (t : Taken) (events : List (List ℕ)) → AreAlike v u →
     TakenAlike (fold (take_event accepts_by) (taking_of v t) events) (fold (take_event accepts_by) (taking_of u t) events)
 taking_alike v u t [] alike = (refl, alike)
 taking_alike v u t (bytes ∷ events) alike =

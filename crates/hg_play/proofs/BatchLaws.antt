@@ -32,7 +32,7 @@ use Rattle.hg_play.proofs.LikeLaws.{line_like, worlds_alike}
 use Rattle.hg_play.proofs.WorldLaws.{starts-new}
 use Rattle.hg_play.specs.Sites.{starts_of}
 use Rattle.hg_play.specs.Tape.{TapeView, no_tape}
-use Rattle.hg_play.specs.Through.{AllOthersMark, AreSeen, IsOfRows, IsPart, IsPartLine, IsStageLike, IsStageOf, MatchesThrough, node_seen}
+use Rattle.hg_play.specs.Through.{AllOthersMark, AreNodes, AreSeen, IsOfRows, IsPart, IsPartLine, IsStageLike, IsStageOf, MatchesThrough, begun, node_seen}
 
 -- the node of a place that was started with it is the node
 same_node : (p : SharedNode Secrets) (s : SeatView Secrets) (v : NodeView Secrets) → p.start ≡ v → s.seen ≡ v.history → node_seen p s ≡ v
@@ -268,6 +268,22 @@ pub seats_own : (nodes : List (NodeView Secrets)) (shared places : List (SharedN
 seats_own nodes shared places firsts own same started is =
     subst (λ (l : List (SharedNode Secrets)). AreSeats accepts_by l own) (sym same)
     (subst (AreSeats accepts_by shared) (sym is) (split_off_all accepts_by shared firsts (seats_of accepts_by shared 1 firsts (seats_started accepts_by 1 nodes shared firsts (omega arith) started))))
+
+-- they are of one list, as the nodes are with which they were started
+pub nodes_own : (nodes : List (NodeView Secrets)) (shared places : List (SharedNode Secrets)) (firsts own : List (SeatView Secrets)) → places ≡ shared →
+    AreStarted accepts_by nodes shared firsts → own ≡ map split_off firsts → AreOfOneList nodes → AreNodes places own
+nodes_own nodes shared places firsts own same started is of =
+    let long : length (begun shared) ≡ length shared = length-map shared (λ (p : SharedNode Secrets). p.start) in
+    record {
+      seated = seats_own nodes shared places firsts own same started is;
+      one_list = subst (λ (l : List (SharedNode Secrets)). AreOfOneList (begun l)) (sym same)
+          (same_start nodes (begun shared) (long ∙ started.shared_count) (λ m low.
+          let low_shared : m < length shared = omega (arith, low, long) in
+          let low_nodes : m < length nodes = omega (arith, low_shared, started.shared_count) in
+          let p : SharedNode Secrets = some_of shared m low_shared in
+          let s : SeatView Secrets = some_of firsts m (omega (arith, low_nodes, started.seats_count)) in
+          ap (λ (v : NodeView Secrets). v.start) (get_or-map (λ (q : SharedNode Secrets). q.start) shared m p no_node low_shared ∙ (started.each m no_node p s low_nodes).start)) of);
+    }
 
 pub own_count : (world : WorldView) (nodes : List (NodeView Secrets)) (shared : List (SharedNode Secrets)) (firsts own : List (SeatView Secrets)) → nodes ≡ nodes_of world → AreStarted accepts_by nodes shared firsts → own ≡ map split_off firsts →
     length own ≡ length world.sites

@@ -7,6 +7,7 @@ mod BlockLaws
 mod PlayLaws
 mod OthersLaws
 mod SharedLaws
+mod HandedLaws
 mod CallLaws
 mod LikeLaws
 mod PartLaws

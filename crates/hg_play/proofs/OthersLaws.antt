@@ -1,19 +1,27 @@
 -- What a call through a seat leaves, where others only mark
-use Rattle.std.proofs.Common.{◌≡◌, ◌≢◌, ℕ, zero, suc, ◌+◌, ◌<◌, ◌≤◌, eqb, cond, List, [], ◌∷◌, ◌++◌, length, Some, slice_get, sym, refl, ap, ◌∙◌, subst, append_assoc, arith}
+use Rattle.std.proofs.Common.{◌≡◌, ◌≢◌, ℕ, zero, suc, ◌+◌, ◌<◌, ◌≤◌, eqb, cond, List, [], ◌∷◌, ◌++◌, length, map, Some, slice_get, sym, refl, ap, ◌∙◌, subst, append_assoc, arith}
 use Rattle.std.proofs.lemmas.Bool.{ne_eqb}
 use Rattle.std.proofs.lemmas.List.{append-nil, length-append}
 use Rattle.hg_model.specs.declared.row.Row.{Row}
 use Rattle.hg_model.specs.declared.answers.PutAnswer.{PutAnswer}
 use Rattle.hg_model.specs.declared.answers.MakeAnswer.{MakeAnswer}
+use Rattle.hg_model.specs.Gossip.{lacking}
+use Rattle.hg_model.specs.Graph.{HasDistinctNames}
 use Rattle.hg_model.specs.Signing.{accepts_by}
+use Rattle.hg_model.specs.Spelling.{spelling}
 use Rattle.hg_model.specs.History.{Change}
 use Rattle.hg_model.specs.History.Change.{Took, Made, Marked}
 use Rattle.hg_model.specs.NodeView.{NodeView, node_rows, with_changes}
 use Rattle.hg_model.specs.Calls.{make_changes, put_answer, put_changes}
+use Rattle.hg_gossip.specs.declared.gossip.Taken.{Taken}
+use Rattle.hg_gossip.specs.Gossip.{none_taken}
+use Rattle.hg_gossip.specs.Nodes.{Taking, taking, taking_of}
 use Rattle.hg_gossip.specs.Holding.{Seen, positions_from, with_others, with_own}
 use Rattle.hg_board.specs.Positions.{times, AreBelow}
 use Rattle.hg_board.specs.Seats.{SharedNode, SeatView, seen_by}
 use Rattle.hg_board.specs.Calls.{SeatMakes, SeatPuts, SeatWaits, Stays}
+use Rattle.hg_board.specs.Taking.{AreSpelled, SeatTakes}
+use Rattle.hg_board.proofs.OneTurnLaws.{turns_take_each}
 use Rattle.hg_board.proofs.PositionLaws as positions
 use Rattle.hg_board.proofs.PrefixLaws.{prefix_length}
 use Rattle.hg_world.specs.World.{Secrets}
@@ -22,7 +30,7 @@ use Rattle.hg_world.proofs.NodeLaws.{makes}
 use Rattle.hg_crowd.specs.Crowd.{IsMark, IsSeat, IsStill, OthersMark}
 use Rattle.hg_play.specs.Alike.{AreAlike}
 use Rattle.hg_play.specs.Through.{node_seen}
-use Rattle.hg_play.proofs.AlikeLaws.{added, rows_changed, stay_alike}
+use Rattle.hg_play.proofs.AlikeLaws.{added, rows_changed, stay_alike, taking_alike}
 
 pub alike_back : (v u : NodeView Secrets) → AreAlike v u → AreAlike u v
 alike_back v u alike = record { start = sym alike.start; rows = sym alike.rows }
@@ -186,6 +194,37 @@ module _ (p : SharedNode Secrets) (old new : SeatView Secrets) (names : List (Li
       let is = makes u made.reached.node (node_seen p new) names time payload answer (ap (λ (s : Seen Secrets). s.node) made.waits.later) made.making in (
         is.0 ∙ of.0,
         alike_both (node_seen p new) (node_made u names time payload) (node_made (node_seen p old) names time payload) (alike_same (node_seen p new) (node_made u names time payload) is.1) of.1,
+      )
+
+-- events came through a seat in one turn
+module _ (p : SharedNode Secrets) (old new : SeatView Secrets) (rows : List Row) (counts : Taken) (takes : SeatTakes accepts_by p old rows new counts) where
+  abbrev take_others : List Change
+  take_others = takes.waits.others
+
+  take_grown : seen_by p new ≡ with_own (with_others (seen_by p old) take_others) takes.more
+  take_grown = takes.grown ∙ ap (λ (s : Seen Secrets). with_own s takes.more) takes.waits.later
+
+  take_called : IsCalled old new take_others takes.more
+  take_called = record { seen = ap (λ (s : Seen Secrets). s.node.history) take_grown; mine = ap (λ (s : Seen Secrets). s.positions) take_grown }
+
+  pub take_after : IsSeat accepts_by p old → Stays accepts_by p old new → IsAfter p old new
+  take_after = after p old new take_others takes.more take_called
+
+  -- of a node alike, what is counted and left is that of the bytes of those that it lacked, one after the other
+  pub take_told : HasDistinctNames rows → AreSpelled rows → IsSeat accepts_by p old → OthersMark p new → (v : NodeView Secrets) → AreAlike v (node_seen p old) →
+      (counts ≡ (taking accepts_by v (map spelling (lacking (node_rows v) rows))).counts) × AreAlike (taking accepts_by v (map spelling (lacking (node_rows v) rows))).node (node_seen p new)
+  take_told distinct spelled seat mark v alike =
+      let u : NodeView Secrets = with_changes (node_seen p old) take_others in
+      let r : NodeView Secrets = takes.reached.node in
+      let events : List (List ℕ) = map spelling (lacking (node_rows v) rows) in
+      let both : AreAlike v u = alike_both v (node_seen p old) u alike (alike_back u (node_seen p old) (reached_alike p old new take_others takes.more take_called seat mark)) in
+      let near : AreAlike v r = subst (AreAlike v) (sym (ap (λ (s : Seen Secrets). s.node) takes.waits.later)) both in
+      let ended : taking_of (with_changes r takes.more) counts ≡ taking accepts_by r events =
+      sym takes.taken ∙ (turns_take_each Secrets accepts_by r rows distinct spelled ∙ ap (λ (G : List Row). taking accepts_by r (map spelling (lacking G rows))) (sym near.rows)) in
+      let alikes = taking_alike v r none_taken events near in (
+        ap (λ (t : Taking Secrets). t.counts) ended ∙ sym alikes.0,
+        alike_both (taking accepts_by v events).node (taking accepts_by r events).node (node_seen p new) alikes.1
+            (alike_same (taking accepts_by r events).node (node_seen p new) (sym (ap (λ (t : Taking Secrets). t.node) ended) ∙ sym (ap (λ (s : Seen Secrets). s.node) takes.grown))),
       )
 
 -- a call through a seat added nothing

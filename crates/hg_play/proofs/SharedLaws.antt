@@ -9,10 +9,10 @@ use Rattle.hg_board.specs.Seats.{SharedNode, SeatView}
 use Rattle.hg_world.specs.declared.step.Step.{Step}
 use Rattle.hg_world.specs.World.{Secrets, Site, WorldView, no_site, node_at, site_at, site_of, with_node_at}
 use Rattle.hg_world.specs.Steps.{after_steps}
-use Rattle.hg_crowd.specs.Crowd.{AreSeats, AreStill, IsSeat, IsStill, OthersMark}
+use Rattle.hg_crowd.specs.Crowd.{AreStill, IsSeat, IsStill, OthersMark}
 use Rattle.hg_play.specs.Alike.{AreAlike}
 use Rattle.hg_play.specs.Nodes.{IsKept, Matched}
-use Rattle.hg_play.specs.Through.{AllOthersMark, AreSeen, node_seen, seen_shared, shared_view}
+use Rattle.hg_play.specs.Through.{AllOthersMark, AreNodes, AreSeen, node_seen, seen_shared, shared_view}
 use Rattle.hg_play.proofs.OthersLaws.{IsAfter}
 
 module _ {A : Type 0} where
@@ -41,9 +41,9 @@ still_all seats = record {
 
 -- after a call through the seat at x, which left the seat n
 module _ (places : List (SharedNode Secrets)) (seats : List (SeatView Secrets)) (x : ℕ) (p : SharedNode Secrets) (m n : SeatView Secrets)
-    (are : AreSeats accepts_by places seats) (low : x < length seats) (p_is : p ≡ get_or places x p) (m_is : m ≡ get_or seats x m) where
+    (are : AreNodes places seats) (low : x < length seats) (p_is : p ≡ get_or places x p) (m_is : m ≡ get_or seats x m) where
   within : x < length places
-  within = omega (arith, low, are.count)
+  within = omega (arith, low, are.seated.count)
 
   place_here : (k : ℕ) (d : SharedNode Secrets) → k ≡ x → get_or places k d ≡ p
   place_here k d here = ap (λ (j : ℕ). get_or places j d) here ∙ (same_at places x d p within ∙ sym p_is)
@@ -52,17 +52,20 @@ module _ (places : List (SharedNode Secrets)) (seats : List (SeatView Secrets)) 
   seat_here k d here = ap (λ (j : ℕ). get_or seats j d) here ∙ (same_at seats x d m low ∙ sym m_is)
 
   pub seat_of : IsSeat accepts_by p m
-  seat_of = subst (λ (s : SeatView Secrets). IsSeat accepts_by p s) (sym m_is) (subst (λ (q : SharedNode Secrets). IsSeat accepts_by q (get_or seats x m)) (sym p_is) (are.each x p m within))
+  seat_of = subst (λ (s : SeatView Secrets). IsSeat accepts_by p s) (sym m_is) (subst (λ (q : SharedNode Secrets). IsSeat accepts_by q (get_or seats x m)) (sym p_is) (are.seated.each x p m within))
 
   module _ (call : IsAfter p m n) where
-    pub seats_after : AreSeats accepts_by places (set seats x n)
+    pub seats_after : AreNodes places (set seats x n)
     seats_after = record {
-      count = length-set seats x n ∙ are.count;
-      each = λ k a b lower. elim (cases_eq k x) [
-        | inl here ↦ subst (λ (s : SeatView Secrets). IsSeat accepts_by (get_or places k a) s) (sym (here_is seats x k n b low here))
-            (subst (λ (q : SharedNode Secrets). IsSeat accepts_by q n) (sym (place_here k a here)) call.seat)
-        | inr other ↦ subst (λ (s : SeatView Secrets). IsSeat accepts_by (get_or places k a) s) (sym (get_or-set_other seats x k n b other)) (are.each k a b lower)
-      ];
+      seated = record {
+        count = length-set seats x n ∙ are.seated.count;
+        each = λ k a b lower. elim (cases_eq k x) [
+          | inl here ↦ subst (λ (s : SeatView Secrets). IsSeat accepts_by (get_or places k a) s) (sym (here_is seats x k n b low here))
+              (subst (λ (q : SharedNode Secrets). IsSeat accepts_by q n) (sym (place_here k a here)) call.seat)
+          | inr other ↦ subst (λ (s : SeatView Secrets). IsSeat accepts_by (get_or places k a) s) (sym (get_or-set_other seats x k n b other)) (are.seated.each k a b lower)
+        ];
+      };
+      one_list = are.one_list;
     }
 
     -- of the seat, the others only marked
@@ -73,7 +76,7 @@ module _ (places : List (SharedNode Secrets)) (seats : List (SeatView Secrets)) 
 
     back : AllOthersMark places (set seats x n) → AllOthersMark places seats
     back alone = record {
-      count = are.count;
+      count = are.seated.count;
       each = λ k a b lower. elim (cases_eq k x) [
         | inl here ↦ subst (λ (s : SeatView Secrets). OthersMark (get_or places k a) s) (sym (seat_here k b here))
             (subst (λ (q : SharedNode Secrets). OthersMark q m) (sym (place_here k a here)) (call.back (mark_here alone)))
@@ -138,13 +141,14 @@ module _ (places : List (SharedNode Secrets)) (seats : List (SeatView Secrets)) 
   }
 
   -- what is told of a call that changes the node
-  pub told_change : (step : WorldView → Step) (change : NodeView Secrets → NodeView Secrets) (IsSo : WorldView → Type 0) → IsAfter p m n →
-      ((w : WorldView) → after_steps w (step w ∷ []) ≡ with_node_at w x (change (node_at w x))) →
-      (OthersMark p n → (w : WorldView) → AreAlike (node_at w x) (node_seen p m) → IsSo w × AreAlike (change (node_at w x)) (node_seen p n)) →
-      Matched (seen_shared (shared_view places seats)) (seen_shared (shared_view places (set seats x n))) (λ w. step w ∷ []) IsSo
-  told_change step change IsSo call after so = λ alone w agrees.
-      let is = so (mark_here call alone) w (node_alike w agrees) in
-      (is.0, subst (AreSeen places (set seats x n)) (sym (after w)) (agrees_changed w (change (node_at w x)) agrees is.1))
+  pub told_change : (steps : WorldView → List Step) (change : NodeView Secrets → NodeView Secrets) (IsSo : WorldView → Type 0) → IsAfter p m n →
+      ((w : WorldView) → x < length w.sites → after_steps w (steps w) ≡ with_node_at w x (change (node_at w x))) →
+      (OthersMark p n → (w : WorldView) → x < length w.sites → AreAlike (node_at w x) (node_seen p m) → IsSo w × AreAlike (change (node_at w x)) (node_seen p n)) →
+      Matched (seen_shared (shared_view places seats)) (seen_shared (shared_view places (set seats x n))) steps IsSo
+  told_change steps change IsSo call after so = λ alone w agrees.
+      let here : x < length w.sites = omega (arith, low, agrees.count) in
+      let is = so (mark_here call alone) w here (node_alike w agrees) in
+      (is.0, subst (AreSeen places (set seats x n)) (sym (after w here)) (agrees_changed w (change (node_at w x)) agrees is.1))
 
   -- of one that reads it
   pub told_same : (IsSo : WorldView → Type 0) → IsAfter p m n →

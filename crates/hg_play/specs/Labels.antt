@@ -1,7 +1,6 @@
 -- The bytes that labels stand for
-use Rattle.std.specs.Prelude.{ℕ, nat_lt, List, [], ◌++◌, length, take, slice_get, slice_index, slice_index_or, slice_set, bit_xor, option_map, unwrap_or, if◌then◌else◌}
-use Rattle.std.specs.List.{position}
-use Rattle.std.specs.Str.{bytes_eq}
+use Rattle.std.specs.Prelude.{ℕ, nat_lt, Option, List, [], ◌++◌, length, take, slice_get, slice_index, slice_index_or, slice_set, bit_xor, option_map, unwrap_or, if◌then◌else◌}
+use Rattle.std.specs.declared.sync.Arc.{Arc}
 use Rattle.sha2.specs.Sha512.{sha384}
 use Rattle.hg_model.specs.declared.row.Row.{Row}
 use Rattle.hg_model.specs.Links.{ParentNames, place_of}
@@ -29,9 +28,9 @@ names_of_labels labels pair = (name_of_label labels pair.0, name_of_label labels
 abbrev pub bytes_named : List Row → List ℕ → List ℕ
 bytes_named G name = unwrap_or (option_map spelling (slice_get G (place_of G name))) []
 
--- the bytes of the row with this name, where the rows have these names, or none
-abbrev pub bytes_beside : List (List ℕ) → List (List ℕ) → List ℕ → List ℕ
-bytes_beside names rows name = bytes_at rows (unwrap_or (position (λ other. bytes_eq other name) names) (length names))
+-- the bytes of the event, or none
+abbrev pub bytes_of_event : {A : Type 0} → Option (Arc Row A) → List ℕ
+bytes_of_event event = unwrap_or (option_map (λ e. spelling e.value) event) []
 
 -- the bytes of the last event that the node made, or none
 abbrev pub last_bytes : NodeView Secrets → List ℕ

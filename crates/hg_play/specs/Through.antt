@@ -1,29 +1,34 @@
 -- Lines that are played over nodes between threads, while others mark: what they print is that of the rows alone
 use Rattle.std.specs.Prelude.{ℕ, ◌≡◌, ◌<◌, ⊤, List, [], length, map, get_or, Option, Some, None}
-use Rattle.std.specs.Global.{Vec}
-use Rattle.hg_model.specs.declared.outcome.Printed.{Printed}
+use Rattle.std.specs.declared.sync.Arc.{Arc}
 use Rattle.hg_model.specs.declared.answers.MakeAnswer.{MakeAnswer}
 use Rattle.hg_model.specs.declared.answers.PutAnswer.{PutAnswer}
 use Rattle.hg_model.specs.declared.answers.SyncMade.{SyncMade}
-use Rattle.hg_model.specs.declared.gossip.Parcel.{Parcel}
+use Rattle.hg_model.specs.declared.row.Row.{Row}
+use Rattle.hg_model.specs.Gossip.{lacking}
+use Rattle.hg_model.specs.Graph.{HasDistinctNames}
 use Rattle.hg_model.specs.Members.{MemberList}
+use Rattle.hg_model.specs.Signing.{accepts_by}
 use Rattle.hg_model.specs.NodeView.{NodeView}
 use Rattle.hg_model.specs.Spelling.{spelling}
 use Rattle.hg_gossip.specs.declared.gossip.Taken.{Taken}
-use Rattle.hg_gossip.specs.Holding.{row_names, unnamed}
-use Rattle.hg_gossip.specs.Nodes.{lacked}
+use Rattle.hg_graph.specs.RowsWithRoom.{rows_of}
 use Rattle.hg_script.specs.declared.line.Gossip.TheVariants.{Create, Sync, Pull, Join, Give}
 use Rattle.hg_script.specs.declared.line.Source.TheVariants.{Last}
 use Rattle.hg_script.specs.declared.line.Action.{Action}
 use Rattle.hg_script.specs.declared.line.Action.TheVariants as action
 use Rattle.hg_script.specs.declared.line.Line.{Line}
 use Rattle.hg_world.specs.World.{Secrets, WorldView, node_at, rows_at}
+use Rattle.hg_world.specs.Parts.{AreOfOneList}
 use Rattle.hg_world.specs.Steps.{after_steps}
 use Rattle.hg_world.specs.Syncs.{HasTaken, deliver_steps, last_made, made_after, make_steps}
 use Rattle.hg_board.specs.Table as board
+use Rattle.hg_board.specs.declared.copies.EventParcel.{EventParcel}
 use Rattle.hg_board.specs.Seats.{SharedNode, SeatView}
-use Rattle.hg_crowd.specs.Crowd.{AreStill, Each, OthersMark}
+use Rattle.hg_board.specs.Taking.{AreSignedFor, AreSpelled}
+use Rattle.hg_crowd.specs.Crowd.{AreSeats, AreStill, Each, OthersMark}
 use Rattle.hg_play.specs.Alike.{AreAlike, WorldsAlike}
+use Rattle.hg_play.specs.Labels.{bytes_of_event, last_bytes}
 use Rattle.hg_play.specs.Lines.{IsBelow}
 use Rattle.hg_play.specs.Nodes.{IsStage, NodesView, MatchesMaking, MatchesPutting, Matched}
 use Rattle.hg_play.specs.Play.{Stage, after_line, after_lines}
@@ -49,6 +54,21 @@ pub record AreSeen (places : List (SharedNode Secrets)) (seats : List (SeatView 
 -- of no node others did more than mark
 abbrev pub AllOthersMark : List (SharedNode Secrets) → List (SeatView Secrets) → Type 0
 AllOthersMark places seats = Each OthersMark places seats
+
+-- the nodes that were shared, as they were then
+abbrev pub begun : List (SharedNode Secrets) → List (NodeView Secrets)
+begun places = map (λ (p : SharedNode Secrets). p.start) places
+
+-- nodes of one list of members and with the same keys, and a seat of each
+pub record AreNodes (places : List (SharedNode Secrets)) (seats : List (SeatView Secrets)) : Type 0 where
+  pub seated : AreSeats accepts_by places seats
+  pub one_list : AreOfOneList (begun places)
+
+-- rows of different names, which are spelled as these say, and whose signatures each of the nodes accepts
+pub record AreHanded (places : List (SharedNode Secrets)) (rows : List Row) : Type 0 where
+  pub signed : (m : ℕ) (p : SharedNode Secrets) → m < length places → AreSignedFor accepts_by (get_or places m p).start.start rows
+  pub distinct : HasDistinctNames rows
+  pub spelled : AreSpelled rows
 
 -- nodes between threads, as the caller who has these seats sees them
 abbrev pub seen_shared : SharedView → NodesView SharedView
@@ -120,24 +140,24 @@ MatchesThrough members lines places seats t seats_new t_new =
 abbrev pub seen_through : List (SharedNode Secrets) → List (SeatView Secrets) → NodesView SharedView
 seen_through places seats = seen_shared (shared_view places seats)
 
--- of the names of the rows of member m's node
-abbrev pub MatchesNames : {N : Type 0} → NodesView N → NodesView N → ℕ → List (List ℕ) → Type 0
-MatchesNames old new m names = Matched old new (λ w. []) (λ w. names ≡ row_names (rows_at w m))
+-- of the rows of member m's node, and the name of the last one that it made
+abbrev pub MatchesEvents : {N : Type 0} → NodesView N → NodesView N → ℕ → EventParcel → Type 0
+MatchesEvents old new m parcel =
+    Matched old new (λ w. []) (λ w. (rows_of parcel.events.items ≡ rows_at w m) × (parcel.last ≡ last_made (node_at w m)))
 
--- of what it hands over to one that has rows of these names
-abbrev pub MatchesParcel : {N : Type 0} → NodesView N → NodesView N → ℕ → List (List ℕ) → Parcel → Type 0
-MatchesParcel old new m names parcel =
-    Matched old new (λ w. []) (λ w. (parcel.rows ≡ map spelling (unnamed names (rows_at w m))) × (parcel.last ≡ last_made (node_at w m)))
+-- the bytes of these rows, but for those whose names member m's node has
+abbrev pub lacking_at : WorldView → ℕ → List Row → List (List ℕ)
+lacking_at w m rows = map spelling (lacking (rows_at w m) rows)
 
--- of what the peer has that the taker lacks
-abbrev pub MatchesLacked : {N : Type 0} → NodesView N → NodesView N → ℕ → ℕ → Parcel → Type 0
-MatchesLacked old new taker peer parcel =
-    Matched old new (λ w. []) (λ w. (parcel.rows ≡ lacked (node_at w taker) (node_at w peer)) × (parcel.last ≡ last_made (node_at w peer)))
+-- of rows that came to a node, one after the other, but for those whose names it had
+abbrev pub MatchesTaken : {N : Type 0} → NodesView N → NodesView N → ℕ → List Row → Taken → Type 0
+MatchesTaken old new m rows counts =
+    Matched old new (λ w. deliver_steps m (lacking_at w m rows))
+    (λ w. HasTaken w m (lacking_at w m rows) counts (after_steps w (deliver_steps m (lacking_at w m rows))))
 
--- of bytes that came to a node, one after the other
-abbrev pub MatchesTaken : {N : Type 0} → NodesView N → NodesView N → ℕ → List (List ℕ) → Taken → Type 0
-MatchesTaken old new m events counts =
-    Matched old new (λ w. deliver_steps m events) (λ w. HasTaken w m events counts (after_steps w (deliver_steps m events)))
+-- of the last event that a node made, if it made any
+abbrev pub MatchesLastEvent : {N A : Type 0} → NodesView N → NodesView N → ℕ → Option (Arc Row A) → Type 0
+MatchesLastEvent old new m event = Matched old new (λ w. []) (λ w. bytes_of_event event ≡ last_bytes (node_at w m))
 
 -- of an event that was made on this other-parent, or refused; none where there is no name
 abbrev pub MatchesMade : {N : Type 0} → NodesView N → NodesView N → ℕ → Option (List ℕ) → ℕ → List ℕ → SyncMade → Type 0
@@ -151,8 +171,11 @@ SeatsMatchMaking places old new m other time payload answer = MatchesMaking (see
 abbrev pub SeatsMatchPutting : List (SharedNode Secrets) → List (SeatView Secrets) → List (SeatView Secrets) → ℕ → List ℕ → PutAnswer → Type 0
 SeatsMatchPutting places old new m bytes answer = MatchesPutting (seen_through places old) (seen_through places new) m bytes answer
 
-abbrev pub SeatsMatchNames : List (SharedNode Secrets) → List (SeatView Secrets) → List (SeatView Secrets) → ℕ → Vec (List ℕ) → Type 0
-SeatsMatchNames places old new m names = MatchesNames (seen_through places old) (seen_through places new) m names.items
+abbrev pub SeatsMatchEvents : List (SharedNode Secrets) → List (SeatView Secrets) → List (SeatView Secrets) → ℕ → EventParcel → Type 0
+SeatsMatchEvents places old new m parcel = MatchesEvents (seen_through places old) (seen_through places new) m parcel
 
-abbrev pub SeatsMatchParcel : List (SharedNode Secrets) → List (SeatView Secrets) → List (SeatView Secrets) → ℕ → List (List ℕ) → Parcel → Type 0
-SeatsMatchParcel places old new m names parcel = MatchesParcel (seen_through places old) (seen_through places new) m names parcel
+abbrev pub SeatsMatchTaken : List (SharedNode Secrets) → List (SeatView Secrets) → List (SeatView Secrets) → ℕ → List Row → Taken → Type 0
+SeatsMatchTaken places old new m rows counts = MatchesTaken (seen_through places old) (seen_through places new) m rows counts
+
+abbrev pub SeatsMatchLast : {A : Type 0} → List (SharedNode Secrets) → List (SeatView Secrets) → List (SeatView Secrets) → ℕ → Option (Arc Row A) → Type 0
+SeatsMatchLast places old new m event = MatchesLastEvent (seen_through places old) (seen_through places new) m event

@@ -5,7 +5,7 @@ ghost use Rattle.hg_crowd.specs.Workers.{HasMore, Worked};
 ghost use Rattle.hg_world.specs.World.{new_world};
 ghost use Rattle.hg_play.specs.Batch.{AllAreMarked, IsLineOfRows, IsPartBelow, IsPlayed, MatchesBatch, PlaysNext, StopsAt, is_part, most_lines};
 ghost use Rattle.hg_play.specs.Lines.{IsLineBelow};
-ghost use Rattle.hg_play.specs.Through.{IsPartLine, MatchesThrough};
+ghost use Rattle.hg_play.specs.Through.{AreNodes, IsPartLine, MatchesThrough};
 
 use crate::band::Band;
 use crate::game::Game;
@@ -55,7 +55,7 @@ fn play_batch<R: Threads + Wait + Sync, C: Crew + Sync, G: Gate + Sync>(
             ensures worked { Each Worked seats.items result.0.items }
         { work_beside(rt, alloc, places, seats, workers, crew) },
         move || -> (Vec<Seat<SharedTable>>, Result<Tape, Memory>)
-            requires seats { AreSeats accepts_by places.now own.items }
+            requires seats { AreNodes places.now own.items }
             requires lines { All (IsPartLine (length own.items)) lines.now }
             requires keys { keys.now ≡ secrets_of members.now }
             ensures seats { AreSeats accepts_by places.entry.now result.0.items }

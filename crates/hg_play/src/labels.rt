@@ -1,16 +1,15 @@
-ghost use Rattle.std.specs.Prelude.{◌≡◌, ◌≤◌, IfOk, [], length, option_map, take, unwrap_or};
-ghost use Rattle.std.specs.List.{position};
-ghost use Rattle.std.specs.Str.{bytes_eq};
+ghost use Rattle.std.specs.Prelude.{◌≡◌, ◌≤◌, IfOk, length, option_map, take};
 ghost use Rattle.hg_model.specs.Spelling.{payload_limit};
 ghost use Rattle.hg_model.specs.NodeView.{node_rows};
-ghost use Rattle.hg_play.specs.Labels.{altered, bytes_at, bytes_beside, bytes_named, forged, last_bytes, name_of_label, names_of_labels};
+ghost use Rattle.hg_play.specs.Labels.{altered, bytes_at, bytes_named, bytes_of_event, forged, last_bytes, name_of_label, names_of_labels};
 
-use hg_event::encode_body;
+use hg_event::{Event, encode_body};
 use hg_model::{Bytes, Items, Member, Memory, Name};
 use hg_name::name_of;
 use hg_node::Node;
 use hg_sign::{MacTable, SharedTable, Signer};
 use std::alloc::Global;
+use std::sync::Arc;
 
 /// The bytes of a label, by its number; none for a number that is no label's.
 pub(crate) fn bytes_at(labels: &[Bytes], label: usize) -> &[u8]
@@ -117,32 +116,12 @@ pub(crate) fn last_bytes(alloc: Global, node: &Node<SharedTable>) -> Result<Byte
     }
 }
 
-/// The place of the first of these names that is this one.
-fn place_among(names: &[Name], name: &Name) -> Option<usize>
-    ensures { result ≡ position (λ other. bytes_eq other name.now) names.now }
+/// A copy of the bytes of the event, or none.
+pub(crate) fn bytes_of_event(alloc: Global, event: &Option<Arc<Event>>) -> Result<Bytes, Memory>
+    ensures { IfOk result (λ bytes. bytes ≡ bytes_of_event event.now) }
 {
-    names.iter().position(|other| *other == *name)
-}
-
-/// The bytes of the row with this name, where the rows have these names, or none.
-fn bytes_beside<'a>(names: &[Name], rows: &'a [Bytes], name: &Name) -> &'a [u8]
-    ensures { result.now ≡ bytes_beside names.now rows.now name.now }
-{
-    let place = place_among(names, name).unwrap_or(names.len());
-    bytes_at(rows, place)
-}
-
-/// A copy of them, or no bytes where there is no name.
-pub(crate) fn last_beside(
-    alloc: Global,
-    names: &[Name],
-    rows: &[Bytes],
-    name: Option<Name>,
-) -> Result<Bytes, Memory>
-    ensures { IfOk result (λ bytes. bytes ≡ unwrap_or (option_map (bytes_beside names.now rows.now) name) []) }
-{
-    match name {
-        Some(name) => copied(alloc, bytes_beside(names, rows, &name)),
+    match event {
+        Some(event) => copied(alloc, event.bytes()),
         None => Ok(Items::new(alloc)),
     }
 }

@@ -1,14 +1,15 @@
 ghost use Rattle.std.specs.Prelude.{◌≡◌, ◌<◌, IfOk, length};
-ghost use Rattle.hg_model.specs.Signing.{accepts_by};
-ghost use Rattle.hg_crowd.specs.Crowd.{AreSeats};
+ghost use Rattle.hg_graph.specs.RowsWithRoom.{rows_of};
 ghost use Rattle.hg_play.specs.Nodes.{IsKept};
-ghost use Rattle.hg_play.specs.Through.{SeatsMatchMaking, SeatsMatchNames, SeatsMatchParcel, SeatsMatchPutting, seen_through};
+ghost use Rattle.hg_play.specs.Through.{AreHanded, AreNodes, SeatsMatchEvents, SeatsMatchLast, SeatsMatchMaking, SeatsMatchPutting, SeatsMatchTaken, seen_through};
 
-use hg_board::{Seat, Shared};
-use hg_model::{MakeAnswer, Memory, Name, Parcel, PutAnswer};
+use hg_board::{EventParcel, Seat, Shared};
+use hg_event::Event;
+use hg_gossip::Taken;
+use hg_model::{MakeAnswer, Memory, Name, PutAnswer};
 use hg_sign::SharedTable;
 use std::alloc::Global;
-use std::sync::Wait;
+use std::sync::{Arc, Wait};
 
 /// Bytes come to the node at a place, through its seat.
 pub(crate) fn put_at<R: Wait>(
@@ -18,9 +19,9 @@ pub(crate) fn put_at<R: Wait>(
     x: usize,
     bytes: &[u8],
 ) -> Result<PutAnswer, Memory>
-    requires seats { AreSeats accepts_by shared.now seats.old }
+    requires seats { AreNodes shared.now seats.old }
     requires place { x < length seats.old }
-    ensures seats { AreSeats accepts_by shared.now seats.new }
+    ensures seats { AreNodes shared.now seats.new }
     ensures kept { IsKept (seen_through shared.now seats.old) (seen_through shared.now seats.new) }
     ensures told { IfOk result (SeatsMatchPutting shared.now seats.old seats.new x bytes.now) }
 {
@@ -37,46 +38,63 @@ pub(crate) fn make_at<R: Wait>(
     time: u64,
     payload: &[u8],
 ) -> Result<MakeAnswer, Memory>
-    requires seats { AreSeats accepts_by shared.now seats.old }
+    requires seats { AreNodes shared.now seats.old }
     requires place { x < length seats.old }
-    ensures seats { AreSeats accepts_by shared.now seats.new }
+    ensures seats { AreNodes shared.now seats.new }
     ensures kept { IsKept (seen_through shared.now seats.old) (seen_through shared.now seats.new) }
     ensures told { IfOk result (SeatsMatchMaking shared.now seats.old seats.new x other time payload.now) }
 {
     shared[x].make(rt, &mut seats[x], other, time, payload)
 }
 
-/// The names of the rows of the node at a place.
-pub(crate) fn held_at<R: Wait>(
+/// The events of the node at a place, and the name of the last one that it made.
+pub(crate) fn events_at<R: Wait>(
     rt: &R,
     alloc: Global,
     shared: &[Shared<SharedTable>],
     seats: &mut [Seat<SharedTable>],
     x: usize,
-) -> Result<Vec<Name>, Memory>
-    requires seats { AreSeats accepts_by shared.now seats.old }
+) -> Result<EventParcel, Memory>
+    requires seats { AreNodes shared.now seats.old }
     requires place { x < length seats.old }
-    ensures seats { AreSeats accepts_by shared.now seats.new }
+    ensures seats { AreNodes shared.now seats.new }
     ensures kept { IsKept (seen_through shared.now seats.old) (seen_through shared.now seats.new) }
-    ensures told { IfOk result (SeatsMatchNames shared.now seats.old seats.new x) }
+    ensures handed { IfOk result (λ parcel. AreHanded shared.now (rows_of parcel.events.items)) }
+    ensures told { IfOk result (SeatsMatchEvents shared.now seats.old seats.new x) }
 {
-    shared[x].held(rt, alloc, &mut seats[x])
+    shared[x].events_from(rt, alloc, &mut seats[x], 0)
 }
 
-/// What the node at a place hands over to one that has rows of these names.
-pub(crate) fn missing_at<R: Wait>(
+/// Events of such a node come to the node at a place, all in one turn, but for those whose names it has.
+pub(crate) fn take_at<R: Wait>(
     rt: &R,
-    alloc: Global,
     shared: &[Shared<SharedTable>],
     seats: &mut [Seat<SharedTable>],
     x: usize,
-    names: &[Name],
-) -> Result<Parcel, Memory>
-    requires seats { AreSeats accepts_by shared.now seats.old }
+    events: &[Arc<Event>],
+) -> Result<Taken, Memory>
+    requires seats { AreNodes shared.now seats.old }
     requires place { x < length seats.old }
-    ensures seats { AreSeats accepts_by shared.now seats.new }
+    requires handed { AreHanded shared.now (rows_of events.now) }
+    ensures seats { AreNodes shared.now seats.new }
     ensures kept { IsKept (seen_through shared.now seats.old) (seen_through shared.now seats.new) }
-    ensures told { IfOk result (SeatsMatchParcel shared.now seats.old seats.new x names.now) }
+    ensures told { IfOk result (SeatsMatchTaken shared.now seats.old seats.new x (rows_of events.now)) }
 {
-    shared[x].missing(rt, alloc, &mut seats[x], names)
+    shared[x].take_events(rt, &mut seats[x], events)
+}
+
+/// The last event that the node at a place made, if it made any.
+pub(crate) fn last_at<R: Wait>(
+    rt: &R,
+    shared: &[Shared<SharedTable>],
+    seats: &mut [Seat<SharedTable>],
+    x: usize,
+) -> Result<Option<Arc<Event>>, Memory>
+    requires seats { AreNodes shared.now seats.old }
+    requires place { x < length seats.old }
+    ensures seats { AreNodes shared.now seats.new }
+    ensures kept { IsKept (seen_through shared.now seats.old) (seen_through shared.now seats.new) }
+    ensures told { IfOk result (SeatsMatchLast shared.now seats.old seats.new x) }
+{
+    shared[x].last_event(rt, &mut seats[x])
 }

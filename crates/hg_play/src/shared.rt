@@ -1,19 +1,19 @@
 ghost use Rattle.std.specs.Prelude.{◌≡◌, ◌<◌, IfOk, length};
-ghost use Rattle.hg_model.specs.Signing.{accepts_by};
-ghost use Rattle.hg_crowd.specs.Crowd.{AreSeats};
+ghost use Rattle.hg_graph.specs.RowsWithRoom.{rows_of};
 ghost use Rattle.hg_play.specs.Nodes.{IsKept};
-ghost use Rattle.hg_play.specs.Through.{MatchesLacked, MatchesMade, MatchesNames, MatchesParcel, MatchesTaken, seen_shared, shared_view};
+ghost use Rattle.hg_play.specs.Through.{AreHanded, AreNodes, MatchesEvents, MatchesLastEvent, MatchesMade, MatchesTaken, seen_shared, shared_view};
 
-use crate::labels::last_beside;
+use crate::labels::bytes_of_event;
 use crate::nodes::Nodes;
-use crate::seats::{held_at, make_at, missing_at, put_at};
-use hg_board::{Seat, Shared};
-use hg_gossip::{Taken, sync_made, with_answer};
-use hg_model::{Bytes, MakeAnswer, Member, Memory, Name, Parcel, PutAnswer, SyncMade, SyncReport};
+use crate::seats::{events_at, last_at, make_at, put_at, take_at};
+use hg_board::{EventParcel, Seat, Shared};
+use hg_event::Event;
+use hg_gossip::{Taken, sync_made};
+use hg_model::{Bytes, MakeAnswer, Member, Memory, Name, PutAnswer, SyncMade, SyncReport};
 use hg_sign::SharedTable;
 use std::alloc::Global;
 use std::marker::Model;
-use std::sync::Wait;
+use std::sync::{Arc, Wait};
 
 /// Nodes between threads, with a seat of each.
 #[derive(Drop)]
@@ -25,15 +25,13 @@ pub(crate) struct SharedNodes<'a, R: Wait> {
 }
 
 impl<'a, R: Wait> Model for SharedNodes<'a, R> {
-    ghost use Rattle.hg_model.specs.Signing.{accepts_by};
-    ghost use Rattle.hg_crowd.specs.Crowd.{AreSeats};
-    ghost use Rattle.hg_play.specs.Through.{SharedView, shared_view};
+    ghost use Rattle.hg_play.specs.Through.{AreNodes, SharedView, shared_view};
 
     ghost Value = { SharedView };
 
     ghost view = { λ s. shared_view s.shared.now s.seats.items };
 
-    ghost invariant = { λ s. AreSeats accepts_by s.shared.now s.seats.items };
+    ghost invariant = { λ s. AreNodes s.shared.now s.seats.items };
 }
 
 impl<'a, R: Wait> SharedNodes<'a, R> {
@@ -44,7 +42,7 @@ impl<'a, R: Wait> SharedNodes<'a, R> {
         shared: &'a [Shared<SharedTable>],
         seats: Vec<Seat<SharedTable>>,
     ) -> SharedNodes<'a, R>
-        requires { AreSeats accepts_by shared.now seats.items }
+        requires { AreNodes shared.now seats.items }
         ensures { result ≡ shared_view shared.now seats.items }
     {
         SharedNodes {
@@ -58,18 +56,19 @@ impl<'a, R: Wait> SharedNodes<'a, R> {
     /// The seats, as they are then.
     pub(crate) fn into_seats(self) -> Vec<Seat<SharedTable>>
         ensures same { result.items ≡ self.entry.seats }
-        ensures seats { AreSeats accepts_by self.entry.places result.items }
+        ensures seats { AreNodes self.entry.places result.items }
     {
         self.seats
     }
 
-    /// The names of a member's rows.
-    fn held(&mut self, member: Member) -> Result<Vec<Name>, Memory>
+    /// The events of a member's node, and the name of the last one that it made.
+    fn events_of(&mut self, member: Member) -> Result<EventParcel, Memory>
         requires { member < length self.old.seats }
         ensures kept { IsKept (seen_shared self.old) (seen_shared self.new) }
-        ensures told { IfOk result (λ v. MatchesNames (seen_shared self.old) (seen_shared self.new) member v.items) }
+        ensures handed { IfOk result (λ parcel. AreHanded self.new.places (rows_of parcel.events.items)) }
+        ensures told { IfOk result (MatchesEvents (seen_shared self.old) (seen_shared self.new) member) }
     {
-        held_at(
+        events_at(
             self.rt,
             self.alloc,
             self.shared,
@@ -78,49 +77,34 @@ impl<'a, R: Wait> SharedNodes<'a, R> {
         )
     }
 
-    /// What a member's node hands over to one that has rows of these names.
-    fn missing(&mut self, member: Member, names: &[Name]) -> Result<Parcel, Memory>
-        requires { member < length self.old.seats }
+    /// Events of one of the nodes come to a member's node, but for those whose names it has.
+    fn take(&mut self, member: Member, events: &[Arc<Event>]) -> Result<Taken, Memory>
+        requires member { member < length self.old.seats }
+        requires handed { AreHanded self.old.places (rows_of events.now) }
         ensures kept { IsKept (seen_shared self.old) (seen_shared self.new) }
-        ensures told { IfOk result (MatchesParcel (seen_shared self.old) (seen_shared self.new) member names.now) }
+        ensures told { IfOk result (MatchesTaken (seen_shared self.old) (seen_shared self.new) member (rows_of events.now)) }
     {
-        missing_at(
+        take_at(
             self.rt,
-            self.alloc,
             self.shared,
             self.seats.as_mut_slice(),
             member as usize,
-            names,
+            events,
         )
     }
 
-    /// What the peer has that the taker lacks, by the names of the rows.
-    fn parcel_for(&mut self, taker: Member, peer: Member) -> Result<Parcel, Memory>
-        requires taker { taker < length self.old.seats }
-        requires peer { peer < length self.old.seats }
-        ensures kept { IsKept (seen_shared self.old) (seen_shared self.new) }
-        ensures told { IfOk result (MatchesLacked (seen_shared self.old) (seen_shared self.new) taker peer) }
-    {
-        let names = self.held(taker)?;
-        self.missing(peer, names.as_slice())
-    }
-
-    /// Puts these events to a member's node, one after the other.
-    fn take(&mut self, member: Member, events: &[Bytes]) -> Result<Taken, Memory>
+    /// The last event that a member's node made, if it made any.
+    fn last_of(&mut self, member: Member) -> Result<Option<Arc<Event>>, Memory>
         requires { member < length self.old.seats }
         ensures kept { IsKept (seen_shared self.old) (seen_shared self.new) }
-        ensures told { IfOk result (MatchesTaken (seen_shared self.old) (seen_shared self.new) member events.now) }
+        ensures told { IfOk result (MatchesLastEvent (seen_shared self.old) (seen_shared self.new) member) }
     {
-        let _count = events.len();
-        let mut counts = Taken {
-            taken: 0,
-            refused: 0,
-        };
-        for event in events {
-            let answer = self.put(member, event.as_slice())?;
-            counts = with_answer(counts, answer);
-        }
-        Ok(counts)
+        last_at(
+            self.rt,
+            self.shared,
+            self.seats.as_mut_slice(),
+            member as usize,
+        )
     }
 
     /// Makes an event with this other-parent, if there is one.
@@ -179,8 +163,8 @@ impl<'a, R: Wait> Nodes for SharedNodes<'a, R> {
     }
 
     fn pull(&mut self, taker: Member, peer: Member) -> Result<Taken, Memory> {
-        let parcel = self.parcel_for(taker, peer)?;
-        self.take(taker, parcel.rows.as_slice())
+        let parcel = self.events_of(peer)?;
+        self.take(taker, parcel.events.as_slice())
     }
 
     fn sync(
@@ -190,8 +174,8 @@ impl<'a, R: Wait> Nodes for SharedNodes<'a, R> {
         time: u64,
         payload: &[u8],
     ) -> Result<SyncReport, Memory> {
-        let parcel = self.parcel_for(taker, peer)?;
-        let counts = self.take(taker, parcel.rows.as_slice())?;
+        let parcel = self.events_of(peer)?;
+        let counts = self.take(taker, parcel.events.as_slice())?;
         let made = self.make_after(taker, parcel.last, time, payload)?;
         Ok(SyncReport {
             taken: counts.taken,
@@ -201,8 +185,7 @@ impl<'a, R: Wait> Nodes for SharedNodes<'a, R> {
     }
 
     fn last_bytes(&mut self, alloc: Global, member: Member) -> Result<Bytes, Memory> {
-        let parcel = self.missing(member, &[])?;
-        let names = self.held(member)?;
-        last_beside(alloc, names.as_slice(), parcel.rows.as_slice(), parcel.last)
+        let event = self.last_of(member)?;
+        bytes_of_event(alloc, &event)
     }
 }

@@ -2,7 +2,7 @@ ghost use Rattle.std.specs.Prelude.{◌≡◌, ◌≤◌, All, IfOk, OnOk, lengt
 ghost use Rattle.hg_model.specs.Signing.{accepts_by};
 ghost use Rattle.hg_crowd.specs.Crowd.{AreSeats, AreStill};
 ghost use Rattle.hg_play.specs.Nodes.{IsKept, MatchesLine};
-ghost use Rattle.hg_play.specs.Through.{IsPart, IsPartLine, MatchesParts, MatchesThrough, worked_on};
+ghost use Rattle.hg_play.specs.Through.{AreNodes, IsPart, IsPartLine, MatchesParts, MatchesThrough, worked_on};
 
 use crate::game::Game;
 use crate::lines::play_part;
@@ -88,7 +88,7 @@ pub(crate) fn play_through<R: Wait, G: Gate>(
     lines: &[Line],
     gate: &G,
 ) -> (Vec<Seat<SharedTable>>, Result<Tape, Memory>)
-    requires seats { AreSeats accepts_by shared.now seats.items }
+    requires seats { AreNodes shared.now seats.items }
     requires lines { All (IsPartLine (length seats.items)) lines.now }
     ensures seats { AreSeats accepts_by shared.now result.0.items }
     ensures still { AreStill seats.items result.0.items }

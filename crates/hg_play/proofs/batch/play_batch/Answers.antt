@@ -6,7 +6,7 @@ use Rattle.hg_crowd.specs.Crowd.{Each}
 use Rattle.hg_crowd.specs.Workers.{AllMark, HasMore}
 use Rattle.hg_crowd.proofs.CrowdLaws.{has_again, seats_started}
 use Rattle.hg_play.specs.Through.{IsPartLine, MatchesThrough}
-use Rattle.hg_play.proofs.BatchLaws.{batch_count, batch_marked, batch_told, ends_of_one_list, has_beside, own_count, seats_own, the_run}
+use Rattle.hg_play.proofs.BatchLaws.{batch_count, batch_marked, batch_told, ends_of_one_list, has_beside, nodes_own, own_count, the_run}
 use Rattle.hg_play.proofs.batch.play_batch.Goals as goal
 
 pub split_all-requires : goal.split_all-requires
@@ -28,7 +28,7 @@ join-seats-requires-after_bounds g c κs within =
         (c.args.band.now.some, (search rules, search rules)),
       ),
       (
-        seats_own nodes shared places firsts own c.as_slice-places.ensures.value c.in_ok-shared.ensures c.in_ok-own.ensures.new,
+        nodes_own nodes shared places firsts own c.as_slice-places.ensures.value c.in_ok-shared.ensures c.in_ok-own.ensures.new c.into_nodes.ensures.lawful,
         (λ k d low. subst (λ n. IsPartLine n (get_or c.args.lines.now k d)) (sym long) (c.requires k d low), c.args.game.now.signed),
       ),
     )

@@ -1,10 +1,9 @@
 use Rattle.std.proofs.Common.{◌≡◌, List, ap₂, sym, subst}
 use Rattle.std.specs.Prelude.{All, length}
-use Rattle.hg_model.specs.Signing.{accepts_by}
 use Rattle.hg_board.specs.Seats.{SharedNode, SeatView}
 use Rattle.hg_world.specs.World.{Secrets}
-use Rattle.hg_crowd.specs.Crowd.{AreSeats, AreStill}
-use Rattle.hg_play.specs.Through.{IsPartLine, SharedView, shared_view}
+use Rattle.hg_crowd.specs.Crowd.{AreStill}
+use Rattle.hg_play.specs.Through.{AreNodes, IsPartLine, SharedView, shared_view}
 use Rattle.hg_play.proofs.PartLaws.{through_since, through_told}
 use Rattle.hg_play.proofs.through.play_through.Goals as goal
 
@@ -15,7 +14,7 @@ play_parts-played-requires g c =
 pub returns-clause-seats : goal.returns-clause-seats
 returns-clause-seats g c =
     let since = through_since c.args.shared.now c.args.seats.items c.new-nodes.result c.play_parts-played.new.nodes c.new-nodes.ensures c.play_parts-played.ensures.kept in
-    subst (λ (places : List (SharedNode Secrets)). AreSeats accepts_by places c.into_seats.result.items) since.0 c.into_seats.ensures.seats
+    (subst (λ (places : List (SharedNode Secrets)). AreNodes places c.into_seats.result.items) since.0 c.into_seats.ensures.seats).seated
 
 pub returns-clause-still : goal.returns-clause-still
 returns-clause-still g c =

@@ -1,0 +1,67 @@
+-- Rows that one node hands over to another
+use Rattle.std.proofs.Common.{◌≡◌, ℕ, suc, ◌<◌, true, List, [], ◌∷◌, length, get_or, sym, ap, ◌∙◌, subst, arith}
+use Rattle.std.specs.List.{AllByRecursion}
+use Rattle.std.proofs.lemmas.List.{get_or-map, get_or_default, length-map}
+use Rattle.hg_model.specs.declared.row.Row.{Row}
+use Rattle.hg_model.specs.Links.{no_row}
+use Rattle.hg_model.specs.Stakes.{Stakes, member_count}
+use Rattle.hg_model.specs.Signing.{Accepts, accepts_by}
+use Rattle.hg_model.specs.Spelling.{body_of}
+use Rattle.hg_model.specs.NodeView.{NodeView, Start, IsNode, node_rows}
+use Rattle.hg_model.proofs.LinkLaws.{creator-links, length-links}
+use Rattle.hg_history.specs.Laws.{IsEvent}
+use Rattle.hg_history.proofs.SoundLaws.{sound}
+use Rattle.hg_board.specs.Seats.{SharedNode}
+use Rattle.hg_board.specs.Taking.{AreSignedFor, AreSpelled}
+use Rattle.hg_world.specs.World.{Secrets}
+use Rattle.hg_world.specs.Parts.{AreOfOneList, HasStart, no_node}
+use Rattle.hg_play.specs.Through.{AreHanded, begun}
+
+signed_events : (start : Start Secrets) (rows : List Row) → AllByRecursion (IsEvent (accepts_by start.keys)) rows →
+    ((x : ℕ) → x < length rows → (get_or rows x no_row).creator < member_count start.members) → AreSignedFor accepts_by start rows
+signed_events start [] events fit = tt
+signed_events start (row ∷ rows) events fit = (
+  record { fits = fit 0 (omega arith); signed = events.0.signed },
+  signed_events start rows events.1 (λ x low. fit (suc x) (omega (arith, low))),
+)
+
+spelled_events : (accepts : Accepts) (rows : List Row) → AllByRecursion (IsEvent accepts) rows → AreSpelled rows
+spelled_events accepts [] events = tt
+spelled_events accepts (row ∷ rows) events = (events.0.spelled, spelled_events accepts rows events.1)
+
+-- what a node accepts as signed, each does with the same members and keys
+signed_alike : (a b : Start Secrets) (rows : List Row) → a.members ≡ b.members → a.keys ≡ b.keys → AreSignedFor accepts_by a rows → AreSignedFor accepts_by b rows
+signed_alike a b [] members keys all = tt
+signed_alike a b (row ∷ rows) members keys all = (
+  record {
+    fits = omega (arith, all.0.fits, ap member_count members);
+    signed = subst (λ (k : Secrets). accepts_by k row.creator (body_of row) row.sig ≡ true) keys all.0.signed;
+  },
+  signed_alike a b rows members keys all.1,
+)
+
+-- what the node at a place began with
+start_at : (n : Stakes) (c : ℕ) (keys : Secrets) (places : List (SharedNode Secrets)) → ((m : ℕ) → m < length (begun places) → HasStart n c keys m (get_or (begun places) m no_node)) →
+    (m : ℕ) (p : SharedNode Secrets) → m < length places → HasStart n c keys m (get_or places m p).start
+start_at n c keys places each m p low =
+    subst (HasStart n c keys m) (get_or-map (λ (q : SharedNode Secrets). q.start) places m p no_node low) (each m (omega (arith, low, length-map places (λ (q : SharedNode Secrets). q.start))))
+
+-- the rows of a node that one of these became
+pub handed : (places : List (SharedNode Secrets)) (x : ℕ) (p : SharedNode Secrets) (v : NodeView Secrets) → AreOfOneList (begun places) → x < length places → p ≡ get_or places x p → v.start ≡ p.start.start →
+    IsNode accepts_by v → AreHanded places (node_rows v)
+handed places x p v one low p_is start node =
+    let s = sound (accepts_by v.start.keys) v.start.members v.start.coin v.start.own v.history node.coin node.history in
+    let mine = start_at one.0 one.1 one.2 places one.3.each x p low in
+    let from : v.start ≡ (get_or places x p).start.start = start ∙ ap (λ (q : SharedNode Secrets). q.start.start) p_is in
+    let own : AreSignedFor accepts_by v.start (node_rows v) =
+    signed_events v.start (node_rows v) s.events
+    (λ y below. subst (λ (m : ℕ). m < member_count v.start.members) (creator-links (node_rows v) y (get_or (node_rows v) y no_row) below (get_or_default (node_rows v) y no_row (get_or (node_rows v) y no_row) below))
+    (s.graph.shaped.members y (omega (arith, below, length-links (node_rows v))))) in
+    record {
+      signed = λ m q inside.
+          let other = start_at one.0 one.1 one.2 places one.3.each m q inside in
+          signed_alike v.start (get_or places m q).start.start (node_rows v) (ap (λ (t : Start Secrets). t.members) from ∙ (mine.members ∙ sym other.members))
+          (ap (λ (t : Start Secrets). t.keys) from ∙ (mine.keyed ∙ sym other.keyed)) own;
+      distinct = s.graph.distinct;
+      spelled = spelled_events (accepts_by v.start.keys) (node_rows v) s.events;
+    }
