@@ -121,8 +121,10 @@ fn give_rows(
 
 /// The first 40 bytes of more.
 fn front_of<'a>(rt: &impl Abort, bytes: &'a [u8]) -> &'a [u8] {
-    assert!(rt; 40 < bytes.len());
-    &bytes[..40]
+    match bytes.split_at_checked(40) {
+        Some((front, _)) => front,
+        None => panic!(rt; "a short event"),
+    }
 }
 
 /// A row of A with another signature, an event of no member, and the front of a row.
