@@ -1,8 +1,7 @@
 -- The events of a node's order only go on
-use Rattle.std.proofs.Common.{◌≡◌, inl, inr, ℕ, ◌+◌, ◌<◌, Bool, true, false, cond, List, [], ◌∷◌, ◌++◌, length, map, sym, refl, ap, ap₂, ◌∙◌, subst, append_assoc, arith}
+use Rattle.std.proofs.Common.{◌≡◌, ℕ, ◌<◌, Bool, true, false, cond, List, [], ◌∷◌, ◌++◌, length, map, sym, refl, ap, ap₂, ◌∙◌, subst, arith}
 use Rattle.std.specs.Prelude.{All}
-use Rattle.std.proofs.lemmas.Bool.{cases_eq}
-use Rattle.std.proofs.lemmas.List.{append-nil, get_or_append_left, get_or-set_same, get_or-set_other, map-append}
+use Rattle.std.proofs.lemmas.List.{get_or_append_left, map-append}
 use Rattle.std.proofs.lemmas.List.Elements.{All-head, All-tail}
 use Rattle.hg_model.specs.declared.row.Row.{Row}
 use Rattle.hg_model.specs.declared.row.Placed.{Placed}
@@ -16,55 +15,16 @@ use Rattle.hg_model.proofs.OrderLaws.{ordered_within}
 use Rattle.hg_history.proofs.StateLaws.{even_after, rows_grow}
 use Rattle.hg_history.proofs.KeptLaws.{order_grows}
 use Rattle.hg_world.specs.declared.step.Step.{Step}
-use Rattle.hg_world.specs.declared.step.Step.TheVariants.{Make, Deliver, Freeze, Publish}
-use Rattle.hg_world.specs.World.{Site, WorldView, no_site, node_at, with_site}
+use Rattle.hg_world.specs.World.{WorldView, node_at}
 use Rattle.hg_world.specs.Parts.{IsWorld, KeepsSite}
 use Rattle.hg_world.specs.World.{site_at}
-use Rattle.hg_world.specs.Steps.{after_step, after_steps}
+use Rattle.hg_world.specs.Steps.{after_steps}
+use Rattle.hg_world.specs.Laws.{Grows}
 use Rattle.hg_world.proofs.StepLaws.{steps_sites}
+use Rattle.hg_world.proofs.GrowthLaws.{steps_grown, steps_members}
 use Rattle.order_match.specs.Books.{BookView, Event}
 use Rattle.order_market.specs.declared.action.Action.{Action}
 use Rattle.order_market.specs.Market.{AreBehind, HasBooks, action_steps, after_action, event_in, events_after, events_at, is_action_of}
-
--- ---- the history of each node
-
-abbrev Grows : List Change → List Change → Type 0
-Grows a b = (more : List Change) × (b ≡ a ++ more)
-
-site_grown : (w : WorldView) (m : ℕ) (site : Site) (k : ℕ) → k < length w.sites → Grows (node_at w m).history site.node.history → Grows (node_at w k).history (node_at (with_site w m site) k).history
-site_grown w m site k low grows = elim (cases_eq k m) [
-  | inl here ↦ subst (λ (j : ℕ). Grows (node_at w j).history (node_at (with_site w m site) j).history) (sym here)
-      (grows.0, ap (λ (s : Site). s.node.history) (get_or-set_same w.sites m site no_site (omega (arith, low, here))) ∙ grows.1)
-  | inr other ↦ ([], ap (λ (s : Site). s.node.history) (get_or-set_other w.sites m k site no_site other) ∙ sym (append-nil (node_at w k).history))
-]
-
-step_grown : (w : WorldView) (step : Step) (k : ℕ) → k < length w.sites → Grows (node_at w k).history (node_at (after_step w step) k).history
-step_grown w (Make m other time payload) k low = site_grown w m _ k low (_, refl)
-step_grown w (Deliver m bytes) k low = site_grown w m _ k low (_, refl)
-step_grown w (Freeze m worker) k low = site_grown w m _ k low ([], sym (append-nil (node_at w m).history))
-step_grown w (Publish m worker share) k low = site_grown w m _ k low (_, refl)
-
-steps_grown : (w : WorldView) (steps : List Step) (k : ℕ) → k < length w.sites → Grows (node_at w k).history (node_at (after_steps w steps) k).history
-steps_grown w [] k low = ([], sym (append-nil (node_at w k).history))
-steps_grown w (step ∷ steps) k low =
-    let v = after_step w step in
-    let one = step_grown w step k low in
-    let more = steps_grown v steps k (omega (arith, low, steps_sites w (step ∷ []))) in
-    (one.0 ++ more.0, more.1 ∙ (ap (λ (h : List Change). h ++ more.0) one.1 ∙ append_assoc (node_at w k).history one.0 more.0))
-
--- steps leave the members and the coin period
-step_members : (w : WorldView) (step : Step) → ((after_step w step).members ≡ w.members) × ((after_step w step).coin ≡ w.coin)
-step_members w (Make m other time payload) = (refl, refl)
-step_members w (Deliver m bytes) = (refl, refl)
-step_members w (Freeze m worker) = (refl, refl)
-step_members w (Publish m worker share) = (refl, refl)
-
-steps_members : (w : WorldView) (steps : List Step) → ((after_steps w steps).members ≡ w.members) × ((after_steps w steps).coin ≡ w.coin)
-steps_members w [] = (refl, refl)
-steps_members w (step ∷ steps) =
-    let one = step_members w step in
-    let more = steps_members (after_step w step) steps in
-    (more.0 ∙ one.0, more.1 ∙ one.1)
 
 -- ---- the events of an order
 
