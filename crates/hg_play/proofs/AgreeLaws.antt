@@ -1,9 +1,8 @@
 -- The blocks that a play prints show orders that nodes of its run keep at some moments
-use Rattle.std.proofs.Common.{◌≡◌, inl, inr, ℕ, zero, suc, ◌<◌, ◌≤◌, Bool, true, false, cond, List, [], ◌∷◌, ◌++◌, length, map, get_or, slice_set, Some, slice_get, sym, refl, ap, ap₂, ◌∙◌, subst, append_assoc, arith}
+use Rattle.std.proofs.Common.{◌≡◌, inl, inr, ℕ, zero, suc, ◌<◌, ◌≤◌, Bool, true, false, cond, List, [], ◌∷◌, ◌++◌, length, map, get_or, slice_set, Some, slice_get, sym, refl, ap, ap₂, ◌∙◌, subst, arith}
 use Rattle.std.specs.Prelude.{All}
 use Rattle.std.specs.List.{AllByRecursion}
-use Rattle.std.proofs.lemmas.Bool.{cases_eq}
-use Rattle.std.proofs.lemmas.List.{append-nil, length-set, get_or-map, get_or-set_same, get_or-set_other}
+use Rattle.std.proofs.lemmas.List.{length-set, get_or-map, get_or-set_same}
 use Rattle.std.proofs.lemmas.List.Elements.{All-head, All-tail}
 use Rattle.std.proofs.lemmas.Option.{slice_get_within}
 use Rattle.std.proofs.Math.Seq.{map-set_same}
@@ -37,6 +36,8 @@ use Rattle.hg_script.specs.declared.line.Action.{Action}
 use Rattle.hg_script.specs.declared.line.Action.TheVariants as action
 use Rattle.hg_world.specs.declared.step.Step.{Step}
 use Rattle.hg_world.specs.declared.step.Step.TheVariants.{Make, Deliver, Freeze, Publish}
+use Rattle.hg_world.specs.Laws.{Grows}
+use Rattle.hg_world.proofs.GrowthLaws.{steps_grown}
 use Rattle.hg_world.specs.World.{Secrets, Site, WorldView, frozen_by, new_world, no_site, node_at, rows_at, run_of, site_at, site_of, with_site}
 use Rattle.hg_world.specs.Parts.{IsWorld}
 use Rattle.hg_world.specs.Steps.{after_step, after_steps, node_published, settle_steps}
@@ -71,31 +72,6 @@ kept_shown members m v start node =
     marked_shown members m s.rows s.marks
     ∙ (ap (λ (L : List Link). map (named_in s.rows) (ordered (stakes_of members) s.rows L s.marks)) linked
     ∙ ap (λ (b : Start Secrets). let t : State = replay b.members b.coin v.history in map (named_in t.rows) (ordered (stakes_of members) t.rows t.links t.marks)) start)
-
--- steps only add to the history of each node
-abbrev Grows : List Change → List Change → Type 0
-Grows a b = (more : List Change) × (b ≡ a ++ more)
-
-site_grown : (w : WorldView) (m : ℕ) (site : Site) (k : ℕ) → k < length w.sites → Grows (node_at w m).history site.node.history → Grows (node_at w k).history (node_at (with_site w m site) k).history
-site_grown w m site k low grows = elim (cases_eq k m) [
-  | inl here ↦ subst (λ (j : ℕ). Grows (node_at w j).history (node_at (with_site w m site) j).history) (sym here)
-      (grows.0, ap (λ (s : Site). s.node.history) (get_or-set_same w.sites m site no_site (omega (arith, low, here))) ∙ grows.1)
-  | inr other ↦ ([], ap (λ (s : Site). s.node.history) (get_or-set_other w.sites m k site no_site other) ∙ sym (append-nil (node_at w k).history))
-]
-
-step_grown : (w : WorldView) (step : Step) (k : ℕ) → k < length w.sites → Grows (node_at w k).history (node_at (after_step w step) k).history
-step_grown w (Make m other time payload) k low = site_grown w m _ k low (_, refl)
-step_grown w (Deliver m bytes) k low = site_grown w m _ k low (_, refl)
-step_grown w (Freeze m worker) k low = site_grown w m _ k low ([], sym (append-nil (node_at w m).history))
-step_grown w (Publish m worker share) k low = site_grown w m _ k low (_, refl)
-
-steps_grown : (w : WorldView) (steps : List Step) (k : ℕ) → k < length w.sites → Grows (node_at w k).history (node_at (after_steps w steps) k).history
-steps_grown w [] k low = ([], sym (append-nil (node_at w k).history))
-steps_grown w (step ∷ steps) k low =
-    let v = after_step w step in
-    let one = step_grown w step k low in
-    let more = steps_grown v steps k (omega (arith, low, sites_length v w (starts-steps w (step ∷ [])))) in
-    (one.0 ++ more.0, more.1 ∙ (ap (λ (h : List Change). h ++ more.0) one.1 ∙ append_assoc (node_at w k).history one.0 more.0))
 
 -- a node of which another is later is a node
 node_before : (v u : NodeView Secrets) → v.start ≡ u.start → Grows v.history u.history → IsNode accepts_by u → IsNode accepts_by v
