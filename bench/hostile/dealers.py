@@ -1,4 +1,5 @@
-"""Worlds in which the network is cut into two halves, and members without honesty play another game in each of them."""
+"""Worlds in which the network is cut: into two halves, in each of which members without honesty play another game; or so that
+some members are silent for long, or groups of them meet rarely."""
 
 from .world import World
 
@@ -99,6 +100,40 @@ class DoubleDealing(World):
             self.line_show()
 
 
-def world_of(seed):
-    """The world of a seed: every fourth is one of double dealing."""
+class Apart(World):
+    """For most of the script half of the nodes are silent, or groups of two to four gossip among themselves, and one line of
+    fifty goes beyond them; the forgers' forks are handed on by gossip. At the end all gossip."""
+
+    def fill(self):
+        draw = self.draw
+        for member in self.nodes:
+            self.line_create(member)
+        order = draw.sample(self.nodes, len(self.nodes))
+        size = max(2, len(order) // 2) if draw.random() < 0.5 else draw.randint(2, 4)
+        groups = [order[at:at + size] for at in range(0, len(order), size)]
+        self.group = {member: group for group in groups for member in group}
+        self.talking = order[:size] if draw.random() < 0.5 else order
+        kinds = {"sync": 60, "pull": 6, "forge": 3 if self.forgers else 0, "deliver": 3, "join": 2, "show": 0.5}
+        kinds.update(dict.fromkeys(("freeze", "publish", "kept"), 3 * self.publishing))
+        for _ in range(draw.randint(10 * self.n, 45 * self.n)):
+            getattr(self, "line_" + draw.choices(list(kinds), list(kinds.values()))[0])()
+        self.talking, self.group = order, dict.fromkeys(order, order)
+        for _ in range(draw.choice((3, 6, 9))):
+            self.line_gossip()
+            self.line_show()
+        for member in self.nodes:
+            self.say("names", self.names[member])
+
+    def two(self):
+        """A member who talks, and mostly another one of its group; None where there are none."""
+        taker = self.draw.choice(self.talking)
+        known = self.nodes if self.draw.random() < 0.02 else self.group[taker]
+        others = [member for member in known if member != taker]
+        return (taker, self.draw.choice(others)) if others else None
+
+
+def world_of(seed, apart=False):
+    """The world of a seed: every fourth is one of double dealing, or all are of members apart."""
+    if apart:
+        return Apart(seed)
     return DoubleDealing(seed) if seed % 4 == 3 else World(seed)
