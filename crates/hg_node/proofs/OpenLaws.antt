@@ -187,6 +187,10 @@ module _ (g : Graph) (test : ℕ → Bool) (closed last : ℕ) (places new : Lis
     ];
   })
 
+none_is : (mark : Option Bool) → is_none mark ≡ true → mark ≡ None
+none_is None h = refl
+none_is (Some b) h = absurd (cc)
+
 -- where these are all rounds
 module _ (g : Graph) (votes : Counting) (marks : Marks) (share : Share) (len closed last : ℕ) (places : List ℕ)
     (opens : OpensUpTo g (is_open votes marks share len) closed last places) (made : IsMadeFor votes g) (shut : closed ≡ last_closed_in g marks) (far : last_round_in g ≤ last + 2) (within : len ≤ length g.rows) where
@@ -223,6 +227,10 @@ module _ (g : Graph) (votes : Counting) (marks : Marks) (share : Share) (len clo
   opens_all = record {
     witnesses = λ k d h. let mine = open_is_mine (get_or places k d) (opens.passes k d h) (opens.witnesses k d h) in record { place = mine.0; witness = (opens.witnesses k d h).witness };
     mine = λ k d h. (open_is_mine (get_or places k d) (opens.passes k d h) (opens.witnesses k d h)).1;
+    unmarked = λ k d h.
+        let x : ℕ = get_or places k d in
+        let parts = and_parts (ltb x len && eqb (get_or votes.voters.numbers x 0 % share.of) share.k) (is_none (mark_at marks x)) (opens.passes k d h) in
+        none_is (mark_at marks x) parts.1;
     all = λ x v is none.
         let d = early_known g made.shaped len within share x v is in
         let here = mine_is_open x v d none in

@@ -14,7 +14,6 @@ ghost use Rattle.hg_node.specs.Arrival.{StandsOn};
 
 use crate::open::{Open, found_in, open_in};
 use hg_event::Event;
-use hg_fame::elect_unmarked;
 use hg_graph::EventGraph;
 use hg_kept::Kept;
 use hg_model::{
@@ -152,14 +151,16 @@ impl Chronicle {
         count
     }
 
-    /// Publishes all fame that the graph decides. Of the votes only those of new rows are looked for.
+    /// Publishes all fame that the graph decides. Of the votes only those of new rows are looked for, and of the witnesses only
+    /// those without a mark are elected.
     pub fn settle(&mut self, alloc: Global) -> Result<(), Memory>
         ensures ok { OnOk result (self.new ≡ chronicle_news self.old (length self.old.graph.rows) whole) }
         ensures err { OnErr result (self.new ≡ self.old) }
     {
         self.votes.carry(alloc, &self.graph)?;
         let all = Share::new(0, 1);
-        let found = elect_unmarked(alloc, &self.graph, &mut self.votes, all, self.kept.marks())?;
+        let rows = self.graph.len();
+        let found = found_in(alloc, &self.graph, &self.kept, &mut self.votes, rows, all)?;
         self.publish(&found);
         Ok(())
     }
