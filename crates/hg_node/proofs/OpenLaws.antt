@@ -42,7 +42,7 @@ use Rattle.hg_fame.proofs.ShareLaws.{whole_fames}
 use Rattle.hg_node.specs.ChronicleView.{ChronicleView, IsFoundBy, IsRecorded, graph_in, node_view}
 use Rattle.hg_node.specs.declared.open.Open.{Open}
 use Rattle.hg_node.specs.Laws.{OpenedIsFound}
-use Rattle.hg_node.specs.Opening.{HasShareMarks, Opens, OpensAll, is_open}
+use Rattle.hg_node.specs.Opening.{AreUnmarked, HasShareMarks, Opens, OpensAll, is_open}
 use Rattle.hg_node.proofs.RecordLaws.{state_is}
 
 -- A witness of a round up to the last closed one has a mark
@@ -301,7 +301,23 @@ elected_finds g marks share len places (Ok found) shaped within opens mine first
     subst (λ (k : Share). FindsNews n g.coin (state_by g marks) found.len k found.marks) (sym mine)
     (subst (λ (k : ℕ). FindsNews n g.coin (state_by g marks) k share found.marks) (sym first) news)
 
+-- and has no mark, where the places have none
+pub elected_unmarked : {E : Type 0} (g : Graph) (marks : Marks) (len : ℕ) (places : List ℕ) (answer : Result Found E) → All (λ x. mark_at marks x ≡ None) places →
+    IfOk answer (λ found. found.marks ≡ fames_among (fame_within g len) places) → IfOk answer (AreUnmarked marks)
+elected_unmarked g marks len places (Err e) none is = tt
+elected_unmarked g marks len places (Ok found) none is =
+    let fame = fame_within g len in
+    let P : ℕ × Bool → Type 0 = λ f. mark_at marks f.0 ≡ None in
+    subst (λ (fames : List (ℕ × Bool)). All P fames) (sym is)
+    (All-from_recursion P (fames_among fame places)
+    (fames_all fame P places
+    (recursion_from_All (λ x. (v : Bool) → fame x ≡ Some v → P (x, v)) places (λ k d h v decided. none k d h))))
+
 -- Of a node with these records
+
+pub unmarked_by_node : {K E : Type 0} (accepts : K → Accepts) (keys : K) (r : ChronicleView) → IsRecorded accepts (node_view keys r) r → (answer : Result Found E) → IfOk answer (AreUnmarked r.marks) →
+    IfOk answer (AreUnmarked (node_marks (node_view keys r)))
+unmarked_by_node accepts keys r is answer none = subst (λ (marks : Marks). IfOk answer (AreUnmarked marks)) (sym is.marks) none
 
 pub found_by_node : {K E : Type 0} (accepts : K → Accepts) (keys : K) (r : ChronicleView) → IsRecorded accepts (node_view keys r) r → (answer : Result Found E) → IfOk answer (FindsNewsOf r.graph r.marks) →
     IfOk answer (IsFoundBy (node_view keys r))

@@ -2,6 +2,7 @@
 use Rattle.std.specs.Prelude.{ℕ, ◌≡◌, ◌<◌, ◌%◌, Bool, ◌&&◌, ◌==◌, nat_lt, List, ◌++◌, All, Contains, filter, get_or, length, Option, None, Some, is_none, IsTrue}
 use Rattle.hg_model.specs.Fame.{Marks, mark_at}
 use Rattle.hg_model.specs.Prefix.{Graph, links_of}
+use Rattle.hg_model.specs.declared.share.Found.{Found}
 use Rattle.hg_model.specs.GraphWords.{share_fame_in}
 use Rattle.hg_model.specs.Shares.{Share, early_fame, is_of_share}
 use Rattle.hg_fame.specs.Decisions.{AreWitnesses}
@@ -23,6 +24,10 @@ pub record OpensAll (g : Graph) (marks : Marks) (share : Share) (len : ℕ) (pla
   pub mine : All (λ x. IsTrue (is_of_share g.members (links_of g) share x)) places
   pub unmarked : All (λ x. mark_at marks x ≡ None) places
   pub all : (x : ℕ) (v : Bool) → early_fame g.members g.coin g.rows (links_of g) len share x ≡ Some v → mark_at marks x ≡ None → Contains places x
+
+-- nothing of what was found has its mark
+abbrev pub AreUnmarked : Marks → Found → Type 0
+AreUnmarked marks found = All (λ f. mark_at marks f.0 ≡ None) found.marks
 
 -- the graph, votes on it, and such places of all its rows, some at least
 pub record IsOpening (g : Graph) (marks : Marks) (share : Share) (opened : Open) : Type 0 where
