@@ -96,3 +96,33 @@ module _ (key : ℕ → ℕ) (test : ℕ → Bool) (r : ℕ) where
               rw passes (by_earlier n y less same (first_by_key n y less) earlier refl here))
         ]
       ]
+
+-- where no later place passes, the least is that of the first places
+pub least_below-longer : (key : ℕ → ℕ) (len n : ℕ) (test : ℕ → Bool) → len ≤ n → ((k : ℕ) → len ≤ k → k < n → test k ≡ false) → least_below key n test ≡ least_below key len test
+unfolding least_below
+least_below-longer key zero zero test le none = refl
+least_below-longer key (suc len) zero test le none = absurd (omega arith)
+least_below-longer key len (suc n) test le none = elim (cases_eq len (suc n)) [
+  | inl same ↦ ap (λ (k : ℕ). least_below key k test) (sym same)
+  | inr other ↦
+      ap (λ b. cond b (Some (lesser_of key (least_below key n test) n)) (least_below key n test)) (none n (omega (arith, other)) (omega arith))
+      ∙ least_below-longer key len n test (omega (arith, other)) (λ k ge low. none k ge (omega arith))
+]
+
+-- keys that agree below n
+lesser_same : (one two : ℕ → ℕ) (n : ℕ) (found : Option ℕ) → one n ≡ two n → IfSome found (λ k. one k ≡ two k) → Some (lesser_of one found n) ≡ Some (lesser_of two found n)
+lesser_same one two n None here at = refl
+lesser_same one two n (Some k) here at = rw (at, here) refl
+
+same_at : (one two : ℕ → ℕ) (test : ℕ → Bool) (n : ℕ) (found : Option ℕ) → ((k : ℕ) → k < n → one k ≡ two k) → IfSome found (IsFoundBelow test n) → IfSome found (λ k. one k ≡ two k)
+same_at one two test n None same found = tt
+same_at one two test n (Some k) same found = same k found.0
+
+pub least_below-keys : (one two : ℕ → ℕ) (n : ℕ) (test : ℕ → Bool) → ((k : ℕ) → k < n → one k ≡ two k) → least_below one n test ≡ least_below two n test
+unfolding least_below
+least_below-keys one two zero test same = refl
+least_below-keys one two (suc n) test same =
+    let before = least_below one n test in
+    let lesser = lesser_same one two n before (same n (omega arith)) (same_at one two test n before (λ k h. same k (omega arith)) (least_below_found one n test)) in
+    ap (λ found. cond (test n) found before) lesser
+    ∙ ap (λ found. cond (test n) (Some (lesser_of two found n)) found) (least_below-keys one two n test (λ k h. same k (omega arith)))

@@ -1,14 +1,19 @@
 -- What a share finds, row by row
-use Rattle.std.proofs.Common.{◌≡◌, ℕ, ◌+◌, ◌<◌, ◌%◌, Bool, true, false, cond, ◌&&◌, ltb, eqb, List, [], ◌∷◌, ◌++◌, length, take, Option, Some, None, is_some, IsTrue, sym, ap, ap₂, ◌∙◌, arith, lt-ltb}
+use Rattle.std.proofs.Common.{◌≡◌, ℕ, ◌+◌, ◌<◌, ◌≤◌, ◌%◌, Bool, true, false, cond, ◌&&◌, ltb, eqb, List, [], ◌∷◌, ◌++◌, length, take, get_or, Option, Some, None, is_some, option_map, IsTrue, sym, ap, ap₂, ◌∙◌, arith, lt-ltb}
+use Rattle.std.specs.List.{cons_option, filter_map}
 use Rattle.std.proofs.Math.Seq.{take-length}
+use Rattle.std.proofs.lemmas.List.{append-nil, take_all, take_more}
+use Rattle.std.proofs.lemmas.List.Elements.{filter_map-append}
 use Rattle.std.proofs.lemmas.Bool.{and_from, and_left, and_right, ne_eqb, eq-eqb}
 use Rattle.hg_model.specs.Places.{count_below, list_below}
 use Rattle.hg_model.specs.Rounds.{is_witness}
 use Rattle.hg_model.specs.Fame.{fame_of, is_yes}
 use Rattle.hg_model.specs.Order.{coin_at}
 use Rattle.hg_model.specs.Prefix.{Graph, links_of}
+use Rattle.hg_model.specs.GraphWords.{fame_in}
 use Rattle.hg_model.specs.Shares.{Share, Speaks, is_of_share, share_fame, found_in}
 use Rattle.hg_model.proofs.LinkLaws.{length-links}
+use Rattle.hg_fame.specs.Decisions.{fame_within, fames_among}
 use Rattle.hg_model.proofs.PlacesLaws.{count_below_zero, count_below_passes, count_below_fails, list_below_zero, list_below_passes, list_below_fails}
 
 -- the fame of x for a share of this graph
@@ -70,5 +75,32 @@ speaks_of g share k marks is all =
       within = omega arith;
       matches = is ∙ (ap (found_below g share) links_long ∙ ap₂ (λ G L. found_in g.members g.coin G L share) (sym rows_all) (sym links_all));
     }
+
+-- The fames among places
+
+fames_next : (fame : ℕ → Option Bool) (places : List ℕ) (i : ℕ) (found : Option Bool) → i < length places → found ≡ fame (get_or places i 0) →
+    fames_among fame (take (i + 1) places) ≡ fames_among fame (take i places) ++ cons_option (option_map (λ (v : Bool). (get_or places i 0, v)) found) []
+fames_next fame places i found h is =
+    let one : ℕ → Option (ℕ × Bool) = λ x. option_map (λ (v : Bool). (x, v)) (fame x) in
+    ap (filter_map one) (take_more places i 0 h)
+    ∙ (filter_map-append one (take i places) (get_or places i 0 ∷ [])
+    ∙ ap (λ f. fames_among fame (take i places) ++ cons_option (option_map (λ (v : Bool). (get_or places i 0, v)) f) []) (sym is))
+
+pub fames_some : (fame : ℕ → Option Bool) (places : List ℕ) (i : ℕ) (v : Bool) → i < length places → Some v ≡ fame (get_or places i 0) →
+    fames_among fame (take (i + 1) places) ≡ fames_among fame (take i places) ++ (get_or places i 0, v) ∷ []
+fames_some fame places i v h is = fames_next fame places i (Some v) h is
+
+pub fames_none : (fame : ℕ → Option Bool) (places : List ℕ) (i : ℕ) → i < length places → None ≡ fame (get_or places i 0) → fames_among fame (take (i + 1) places) ≡ fames_among fame (take i places)
+fames_none fame places i h is = fames_next fame places i None h is ∙ append-nil (fames_among fame (take i places))
+
+-- of all places
+pub fames_all : (fame : ℕ → Option Bool) (places : List ℕ) (i : ℕ) → length places ≤ i → fames_among fame (take i places) ≡ fames_among fame places
+fames_all fame places i all = ap (fames_among fame) (take_all i places all)
+
+-- where the first rows are all
+pub whole_fames : (g : Graph) (len : ℕ) (places : List ℕ) → len ≡ length g.rows → fames_among (fame_within g len) places ≡ fames_among (fame_in g) places
+whole_fames g len places all =
+    ap₂ (λ L G. fames_among (λ x. fame_of g.members g.coin L (coin_at G) x) places)
+    (take_all len (links_of g) (omega (arith, length-links g.rows))) (take_all len g.rows (omega arith))
 
 pub ruleset share_steps = (found_none, found_more, found_same, no_fame_other, count_below_zero, count_below_passes, count_below_fails)

@@ -1,12 +1,12 @@
-ghost use Rattle.std.specs.Prelude.{◌≡◌, ◌<◌, Some, IsTrue, length, IfOk, IfSome};
+ghost use Rattle.std.specs.Prelude.{◌≡◌, ◌<◌, ◌≤◌, Some, IsTrue, length, IfOk, IfSome};
 ghost use Rattle.hg_model.specs.Places.{count_below};
 ghost use Rattle.hg_model.specs.Rounds.{is_witness};
 ghost use Rattle.hg_model.specs.Shares.{share_fame};
 ghost use Rattle.hg_model.specs.Fame.{mark_at};
 ghost use Rattle.hg_model.specs.GraphWords.{fame_in, is_witness_in, share_fame_in};
-ghost use Rattle.hg_fame.specs.Decisions.{AreFameIn, SpeaksFor};
+ghost use Rattle.hg_fame.specs.Decisions.{AreFameIn, AreWitnesses, SpeaksFor, fame_within, fames_among};
 
-use crate::electing::elect;
+use crate::electing::{elect, elect_within};
 use hg_model::{Found, Items, Memory, Prefix, Share, Votes};
 use std::alloc::Global;
 
@@ -89,6 +89,54 @@ pub fn elect_unmarked<P: Prefix, V: Votes>(
     }
     Ok(Found {
         len: p.rows(),
+        share,
+        marks: Items::from_vec(found),
+    })
+}
+
+/// What the prefix decides of these witnesses: each decided one, in their order, with its fame.
+pub fn elect_open<P: Prefix, V: Votes>(
+    alloc: Global,
+    p: &P,
+    votes: &mut V,
+    share: Share,
+    places: &[usize],
+) -> Result<Found, Memory>
+    requires made { V.MadeFor votes.old (P.graph p.now) }
+    requires places { AreWitnesses (P.graph p.now) (length (P.graph p.now).rows) places.now }
+    ensures made { V.MadeFor votes.new (P.graph p.now) }
+    ensures share { IfOk result (λ found. found.share ≡ share) }
+    ensures len { IfOk result (λ found. found.len ≡ length (P.graph p.now).rows) }
+    ensures fames { IfOk result (λ found. found.marks ≡ fames_among (fame_in (P.graph p.now)) places.now) }
+{
+    elect_first(alloc, p, votes, share, p.rows(), places)
+}
+
+/// The same in the graph of the first `len` rows, with the votes of the whole prefix.
+pub fn elect_first<P: Prefix, V: Votes>(
+    alloc: Global,
+    p: &P,
+    votes: &mut V,
+    share: Share,
+    len: usize,
+    places: &[usize],
+) -> Result<Found, Memory>
+    requires made { V.MadeFor votes.old (P.graph p.now) }
+    requires within { len ≤ length (P.graph p.now).rows }
+    requires places { AreWitnesses (P.graph p.now) len places.now }
+    ensures made { V.MadeFor votes.new (P.graph p.now) }
+    ensures share { IfOk result (λ found. found.share ≡ share) }
+    ensures len { IfOk result (λ found. found.len ≡ len) }
+    ensures fames { IfOk result (λ found. found.marks ≡ fames_among (fame_within (P.graph p.now) len) places.now) }
+{
+    let mut found = Vec::new(alloc);
+    for x in places {
+        if let Some((fame, _)) = elect_within(p, votes, *x, len) {
+            found.push((*x, fame))?;
+        }
+    }
+    Ok(Found {
+        len,
         share,
         marks: Items::from_vec(found),
     })

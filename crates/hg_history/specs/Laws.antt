@@ -13,7 +13,8 @@ use Rattle.hg_model.specs.Reading.{read_event}
 use Rattle.hg_model.specs.Verdict.{row_limit, verdict, row_verdict, made_row}
 use Rattle.hg_model.specs.Shares.{Share, Speaks}
 use Rattle.hg_history.specs.Adding.{add_marks}
-use Rattle.hg_model.specs.History.{Change, with_marks, replay, news, IsHistory}
+use Rattle.hg_history.specs.News.{FindsNews}
+use Rattle.hg_model.specs.History.{Change, State, with_marks, replay, news, IsHistory}
 use Rattle.hg_model.specs.Kept.{kept, kept_in, kept_up_to, kept_by_names}
 use Rattle.hg_model.specs.History.Change.{Took, Made, Marked}
 use Rattle.hg_model.specs.NodeView.{NodeView, with_changes, node_rows, log_from, history_of, IsNode}
@@ -104,6 +105,16 @@ abbrev pub FoundLasts : Type 0
 FoundLasts = (n : Stakes) (c : ℕ) (a b : List Change) (len : ℕ) (share : Share) (marks : List (ℕ × Bool)) →
     Speaks n c (replay n c a).rows (replay n c a).links len share marks → Speaks n c (replay n c (a ++ b)).rows (replay n c (a ++ b)).links len share marks
 
+-- all that a share found may be published
+abbrev pub FoundIsNews : Type 0
+FoundIsNews = (n : Stakes) (c : ℕ) (s : State) (len : ℕ) (share : Share) (found : List (ℕ × Bool)) →
+    Speaks n c s.rows s.links len share found → FindsNews n c s len share found
+
+-- what may be published at one moment may be at each later one
+abbrev pub NewsLasts : Type 0
+NewsLasts = (n : Stakes) (c : ℕ) (a b : List Change) (len : ℕ) (share : Share) (found : List (ℕ × Bool)) →
+    FindsNews n c (replay n c a) len share found → FindsNews n c (replay n c (a ++ b)) len share found
+
 -- of two moments of a history the order kept at the earlier is a prefix of that kept at the later
 abbrev pub KeptOrderGrows : Type 0
 KeptOrderGrows = (accepts : Accepts) (n : Stakes) (c own : ℕ) (a b : List Change) → 2 < c → IsHistory accepts n c own (a ++ b) →
@@ -131,10 +142,10 @@ SharesAreAll = (accepts : Accepts) (n : Stakes) (c own : ℕ) (h : List Change) 
     let t = replay n c (h ++ shares_published (length G) m m) in
     (t.rows ≡ G) × (t.marks ≡ fame_marks n c (links G) (coin_at G))
 
--- to publish what a share found is to add its marks one after the other
+-- to publish what a share found is to add its marks one after the other, where what has its mark may be left out
 abbrev pub PublishingAddsMarks : Type 0
 PublishingAddsMarks = (n : Stakes) (c : ℕ) (h : List Change) (len : ℕ) (share : Share) (found : List (ℕ × Bool)) →
-    let s = replay n c h in Speaks n c s.rows s.links len share found →
+    let s = replay n c h in FindsNews n c s len share found →
     ((add_marks s.marks found).marks ≡ (with_marks n c s len share).marks) × ((add_marks s.marks found).count ≡ news n c s len share)
 
 -- what a share found in the first rows is no news once it was published, whatever comes then

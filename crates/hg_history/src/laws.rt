@@ -1,4 +1,4 @@
-ghost use Rattle.hg_history.specs.Laws.{ClosedStays, ChangesLeftRows, FirstRowsAreAGraph, FoundLasts, KeptIsOfTheGraph, LinksAreThoseOfTheRows, LinksGrow, ListsAreEven, LogSpellsHistory, MakesAddOne, MakesLeaveANode, MarkingLeavesRows, MarksAreFame, MarksStay, MomentsAreHistories, NamedOrderGrows, OrderByRounds, KeptOrderGrows, OtherMakesAddNone, OtherPutsAddNone, PublishedIsNoNews, PublishesLeaveANode, PublishingAddsMarks, PutsAddOne, PutsLeaveANode, RoundsStay, RowsAreAGraph, RowsCameByChanges, RowsGrow, RowsLeaveTheOrder, SettlesAll, SharesAreAll, VerdictsAreOfBytes};
+ghost use Rattle.hg_history.specs.Laws.{ClosedStays, ChangesLeftRows, FirstRowsAreAGraph, FoundIsNews, FoundLasts, KeptIsOfTheGraph, LinksAreThoseOfTheRows, LinksGrow, ListsAreEven, LogSpellsHistory, MakesAddOne, MakesLeaveANode, MarkingLeavesRows, MarksAreFame, MarksStay, MomentsAreHistories, NamedOrderGrows, NewsLasts, OrderByRounds, KeptOrderGrows, OtherMakesAddNone, OtherPutsAddNone, PublishedIsNoNews, PublishesLeaveANode, PublishingAddsMarks, PutsAddOne, PutsLeaveANode, RoundsStay, RowsAreAGraph, RowsCameByChanges, RowsGrow, RowsLeaveTheOrder, SettlesAll, SharesAreAll, VerdictsAreOfBytes};
 
 /// A law: after each history the rows are a graph of signed events, in which the node's own member has one chain,
 /// and their links are those that were made as the rows came. A moment of a history is a history.
@@ -48,10 +48,12 @@ pub fn order_by_rounds()
     ensures rows { RowsLeaveTheOrder }
 {}
 
-/// A law: what a share found in the first rows may be published at each later moment, which adds its marks one after
-/// the other, and is no news then. The first rows of a graph are a graph.
+/// A law: what a share found in the first rows may be published at each later moment, whole or without what has its
+/// mark, which adds its marks one after the other, and is no news then. The first rows of a graph are a graph.
 pub fn found_lasts()
     ensures lasts { FoundLasts }
+    ensures whole { FoundIsNews }
+    ensures news { NewsLasts }
     ensures adds { PublishingAddsMarks }
     ensures published { PublishedIsNoNews }
     ensures first { FirstRowsAreAGraph }

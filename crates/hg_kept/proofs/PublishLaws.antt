@@ -1,34 +1,29 @@
 -- More marks leave what is ordered, and rounds that they close are ordered after it
-use Rattle.std.proofs.Common.{◌≡◌, inl, inr, ℕ, zero, suc, ◌+◌, ◌<◌, ◌≤◌, Bool, true, false, not, List, [], length, take, Option, Some, is_some, sym, refl, ap, ◌∙◌, subst, arith}
+use Rattle.std.proofs.Common.{◌≡◌, inl, inr, ℕ, zero, suc, ◌+◌, ◌<◌, ◌≤◌, Bool, true, false, not, [], length, Some, sym, refl, ap, ◌∙◌, subst, arith}
 use Rattle.std.proofs.lemmas.Bool.{cases_eq}
 use Rattle.std.specs.Prelude.{All}
-use Rattle.std.specs.List.{AllByRecursion}
-use Rattle.std.proofs.lemmas.List.{length-take-le}
-use Rattle.std.proofs.lemmas.List.Elements.{All-from_recursion}
 use Rattle.std.proofs.lemmas.List.FromFn.{length-map-range_with_len}
-use Rattle.hg_model.specs.declared.row.Row.{Row}
-use Rattle.hg_model.specs.Places.{list_below}
 use Rattle.hg_model.specs.Stakes.{Stakes}
-use Rattle.hg_model.specs.Links.{Link, links}
-use Rattle.hg_model.specs.Fame.{Marks, mark_at, is_closed, is_yes}
+use Rattle.hg_model.specs.Links.{links}
+use Rattle.hg_model.specs.Fame.{Marks, mark_at, is_closed}
 use Rattle.hg_model.specs.Prefix.{Graph, links_of}
-use Rattle.hg_model.specs.Shares.{Share, Speaks, share_fame, found_in}
-use Rattle.hg_model.specs.History.{State, with_marks, new_mark, news}
+use Rattle.hg_model.specs.declared.share.Found.{Found}
+use Rattle.hg_model.specs.Shares.{Share}
+use Rattle.hg_model.specs.History.{State, with_marks, new_mark}
 use Rattle.hg_model.specs.History.Change.{Marked}
 use Rattle.hg_model.specs.Kept.{kept_up_to, kept_in}
 use Rattle.hg_model.specs.Orders.{IsPrefix, AreFame}
-use Rattle.hg_model.specs.GraphWords.{state_by}
+use Rattle.hg_model.specs.GraphWords.{state_by, news_by, marks_by}
 use Rattle.hg_model.proofs.LinkLaws.{length-links}
 use Rattle.hg_model.proofs.PlacesLaws.{list_below-same}
-use Rattle.hg_model.proofs.ListLaws.{all_list_below, length-list_below-le}
 use Rattle.hg_prefix.specs.Standing.{IsMarkedPart}
 use Rattle.hg_prefix.proofs.GrowthLaws.{stands_in_itself}
 use Rattle.hg_history.specs.Adding.{Adding, add_marks}
-use Rattle.hg_history.proofs.AddLaws.{adds_marks}
+use Rattle.hg_history.proofs.AddLaws.{found_inside, adds_marks}
 use Rattle.hg_history.proofs.MarkLaws.{fame_with_marks, closed_with_marks}
 use Rattle.hg_history.proofs.RoundLaws.{order_by_rounds}
 use Rattle.hg_history.proofs.StateLaws.{IsEven, marks_step, prefix_same}
-use Rattle.hg_kept.specs.Published.{Published, IsReached, KeepsUpTo, Keeps, is_pending}
+use Rattle.hg_kept.specs.Published.{Published, IsReached, KeepsUpTo, Keeps, FindsNewsOf, is_pending}
 use Rattle.hg_kept.proofs.LaterLaws.{order_stays, received_stays}
 use Rattle.hg_kept.proofs.NextLaws.{last_here, last_reached, closed_to_reached}
 
@@ -115,51 +110,24 @@ order_grows n s m (suc k) le = elim (cases_eq m (suc k)) [
       Rattle.hg_history.proofs.StateLaws.prefix_more (kept_up_to n s m) (kept_up_to n s k) (kept_up_to n s (suc k)) before (kept_in n s (suc k), refl))
 ]
 
-no_more : {A : Type 0} (xs ys : List A) (a b c : ℕ) → xs ≡ ys → length ys ≤ a → a ≡ b → b ≤ c → length xs ≤ c
-no_more xs ys a b c same few sized within = (let e = ap length same in omega arith)
-
 -- what a share has found becomes marks
-module _ (g : Graph) (three : 2 < g.coin) (v : Published) (keeps : Keeps g v) (len : ℕ) (share : Share) (found : List (ℕ × Bool))
-    (speaks : Speaks g.members g.coin g.rows (links_of g) len share found) where
-  found_at : AllByRecursion (λ (f : ℕ × Bool). f.0 < length v.marks) found
-  unfolding found_in
-  found_at =
-      let n = g.members in
-      let G : List Row = take len g.rows in
-      let L : List Link = take len (links_of g) in
-      let within = speaks.within in
-      let sized = length-take-le len (links_of g) (omega (arith, length-links g.rows)) in
-      let even = keeps.even in
-      subst (AllByRecursion (λ (f : ℕ × Bool). f.0 < length v.marks)) (sym speaks.matches)
-      (all_list_below (λ (f : ℕ × Bool). f.0 < length v.marks) (λ x. (x, is_yes (share_fame n g.coin G L share x))) (length L) (λ x. is_some (share_fame n g.coin G L share x))
-      (λ x inside passes. omega arith))
+module _ (g : Graph) (three : 2 < g.coin) (v : Published) (keeps : Keeps g v) (found : Found) (finds : FindsNewsOf g v.marks found) where
+  even_state : IsEven (state_by g v.marks)
+  even_state = record { links = length-links g.rows; marks = keeps.even }
 
-  pub found_inside : All (λ (f : ℕ × Bool). f.0 < length v.marks) found
-  found_inside = All-from_recursion (λ (f : ℕ × Bool). f.0 < length v.marks) found found_at
+  pub inside : All (λ (f : ℕ × Bool). f.0 < length v.marks) found.marks
+  inside = found_inside g.members g.coin (state_by g v.marks) even_state found.len found.share found.marks finds
 
-  pub found_few : length found ≤ length g.rows
-  unfolding found_in
-  found_few =
-      let G : List Row = take len g.rows in
-      let L : List Link = take len (links_of g) in
-      let fame : ℕ → Option Bool = share_fame g.members g.coin G L share in
-      let within = speaks.within in
-      let sized : length L ≡ len = length-take-le len (links_of g) (omega (arith, length-links g.rows)) in
-      let few : length (list_below (λ x. (x, is_yes (fame x))) (length L) (λ x. is_some (fame x))) ≤ length L =
-      length-list_below-le (λ x. (x, is_yes (fame x))) (length L) (λ x. is_some (fame x)) in
-      no_more found (list_below (λ x. (x, is_yes (fame x))) (length L) (λ x. is_some (fame x))) (length L) len (length g.rows) speaks.matches few sized within
+  module _ (marks : Marks) (count : ℕ) (added : record { marks = marks; count = count } ≡ add_marks v.marks found.marks) where
+    adds : ((add_marks v.marks found.marks).marks ≡ marks_by g v.marks found.len found.share) × ((add_marks v.marks found.marks).count ≡ news_by g v.marks found.len found.share)
+    adds = adds_marks g.members g.coin (state_by g v.marks) even_state found.len found.share found.marks finds
 
-  module _ (marks : Marks) (count : ℕ) (added : record { marks = marks; count = count } ≡ add_marks v.marks found) where
-    adds : ((add_marks v.marks found).marks ≡ (with_marks g.members g.coin (state_by g v.marks) len share).marks) × ((add_marks v.marks found).count ≡ news g.members g.coin (state_by g v.marks) len share)
-    adds =
-        adds_marks g.members g.coin (state_by g v.marks) (record { links = length-links g.rows; marks = keeps.even }) len share found speaks
-
-    pub marks_published : marks ≡ (with_marks g.members g.coin (state_by g v.marks) len share).marks
+    pub marks_published : marks ≡ marks_by g v.marks found.len found.share
     marks_published = ap (λ (a : Adding). a.marks) added ∙ adds.0
 
-    pub count_published : count ≡ news g.members g.coin (state_by g v.marks) len share
+    pub count_published : count ≡ news_by g v.marks found.len found.share
     count_published = ap (λ (a : Adding). a.count) added ∙ adds.1
 
     pub keeps_published : KeepsUpTo g (record v { marks = marks })
     keeps_published =
-        subst (λ (h : Marks). KeepsUpTo g (record v { marks = h })) (sym marks_published) (keeps_share g three v keeps len share speaks.within)
+        subst (λ (h : Marks). KeepsUpTo g (record v { marks = h })) (sym marks_published) (keeps_share g three v keeps found.len found.share finds.within)

@@ -1,14 +1,15 @@
 -- Steps of loops: of those that part a list, list places, and add marks
 use Rattle.std.proofs.Common.{◌≡◌, ℕ, ◌+◌, ◌-◌, ◌<◌, ◌≤◌, Bool, true, false, cond, not, List, [], ◌∷◌, ◌++◌, length, take, get_or, fold, Option, Some, None, is_none, sym, refl, ap, ap₂, ◌∙◌, arith}
-use Rattle.std.specs.Prelude.{filter, slice_set}
+use Rattle.std.specs.Prelude.{All, filter, slice_set}
 use Rattle.std.specs.List.{range_with_len}
 use Rattle.std.specs.Option.{option_or}
 use Rattle.std.proofs.lemmas.List.{append-nil, length_push, length-set, get_or-set_other, take_more, take_more_set, take-append-le, set-get_or}
-use Rattle.std.proofs.lemmas.List.Elements.{filter_more}
+use Rattle.std.proofs.lemmas.List.Elements.{filter_more, All-take}
 use Rattle.std.proofs.lemmas.List.FromFn.{map-range_with_len_more}
 use Rattle.std.proofs.lemmas.List.Sums.{fold-append}
 use Rattle.hg_model.specs.Fame.{Marks, mark_at}
 use Rattle.hg_history.specs.Adding.{Adding, add_mark, add_marks}
+use Rattle.hg_history.proofs.AddLaws.{few_added}
 
 -- parting
 
@@ -114,3 +115,10 @@ module _ (old : Marks) (found : List (ℕ × Bool)) (i : ℕ) (inside : i < leng
       let none_more : count ≡ count + 0 = omega arith in
       ap₂ adding (sym (ap (λ (o : Option Bool). slice_set marks f.0 o) (kept_mark (mark_at marks f.0) f.1 some) ∙ set-get_or marks f.0 None)) (none_more ∙ ap (λ (b : Bool). count + cond b 1 0) (sym some))
       ∙ (ap₂ add_mark before at ∙ sym one_more)
+
+-- no more are counted than there are places
+pub one_more_fits : (marks : Marks) (found : List (ℕ × Bool)) (i : ℕ) {new : Marks} {count : ℕ} → All (λ (f : ℕ × Bool). f.0 < length marks) found →
+    record { marks = new; count = count } ≡ add_marks marks (take i found) → count ≤ length marks
+one_more_fits marks found i {new} {count} within is =
+    let same : count ≡ (add_marks marks (take i found)).count = ap (λ (a : Adding). a.count) is in
+    omega (arith, same, few_added marks (take i found) (All-take (λ (f : ℕ × Bool). f.0 < length marks) i found within))

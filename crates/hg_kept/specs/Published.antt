@@ -3,6 +3,7 @@
 use Rattle.std.specs.Prelude.{ℕ, ◌≡◌, ◌≤◌, ◌<◌, ◌-◌, ◌⊎◌, Bool, true, false, cond, not, ◌&&◌, nat_le, List, [], ◌∷◌, ◌++◌, length, Option, Some, None}
 use Rattle.hg_model.specs.declared.row.Row.{Row}
 use Rattle.hg_model.specs.declared.row.Placed.{Placed}
+use Rattle.hg_model.specs.declared.share.Found.{Found}
 use Rattle.hg_model.specs.Places.{list_below}
 use Rattle.hg_model.specs.Fame.{Marks}
 use Rattle.hg_model.specs.Prefix.{Graph, graph_of}
@@ -10,6 +11,7 @@ use Rattle.hg_model.specs.History.{with_row}
 use Rattle.hg_model.specs.Kept.{kept_up_to}
 use Rattle.hg_model.specs.Orders.{AreFame}
 use Rattle.hg_model.specs.GraphWords.{round_in, is_witness_in, is_closed_in, last_closed_in, is_received_by, ordered_by, IsLawfulGraph, state_by}
+use Rattle.hg_history.specs.News.{FindsNews}
 
 pub record Published : Type 0 where
   pub marks : Marks
@@ -89,3 +91,7 @@ mark_by g closed = cond (is_last_late g closed) (Some false) None
 pub record TookRow (g : Graph) (old new : Published) : Type 0 where
   pub marks : (before : List Row) (row : Row) → g.rows ≡ before ++ row ∷ [] → new.marks ≡ marks_with g before row old.marks
   pub rest : new ≡ record old { marks = new.marks }
+
+-- this may be published where these are the marks
+abbrev pub FindsNewsOf : Graph → Marks → Found → Type 0
+FindsNewsOf g marks found = FindsNews g.members g.coin (state_by g marks) found.len found.share found.marks

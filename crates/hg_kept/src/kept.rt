@@ -3,8 +3,8 @@ ghost use Rattle.hg_model.specs.Stakes.{Stakes, total};
 ghost use Rattle.hg_model.specs.Fame.{mark_at};
 ghost use Rattle.hg_model.specs.Prefix.{graph_of};
 ghost use Rattle.hg_model.specs.Orders.{IsPrefix};
-ghost use Rattle.hg_model.specs.GraphWords.{news_by, marks_by, SpeaksOf};
-ghost use Rattle.hg_kept.specs.Published.{HasCome, Keeps, TookRow, is_last_late, mark_by, unpublished};
+ghost use Rattle.hg_model.specs.GraphWords.{news_by, marks_by};
+ghost use Rattle.hg_kept.specs.Published.{FindsNewsOf, HasCome, Keeps, TookRow, is_last_late, mark_by, unpublished};
 
 use crate::closing::close_rounds;
 use crate::marking::mark_found;
@@ -75,10 +75,10 @@ impl Kept {
     }
 
     /// Each found witness without a mark gets it, and each round that is closed then is ordered; tells how many were
-    /// marked. Takes no memory.
+    /// marked. What was found may leave out what has its mark. Takes no memory.
     pub fn publish<P: Prefix>(&mut self, p: &P, found: &Found) -> u32
         requires keeps { Keeps (P.graph p.now) self.old.published }
-        requires speaks { SpeaksOf (P.graph p.now) found.now }
+        requires news { FindsNewsOf (P.graph p.now) self.old.published.marks found.now }
         ensures count { result ≡ news_by (P.graph p.now) self.old.published.marks found.now.len found.now.share }
         ensures marks { self.new.published.marks ≡ marks_by (P.graph p.now) self.old.published.marks found.now.len found.now.share }
         ensures keeps { Keeps (P.graph p.now) self.new.published }

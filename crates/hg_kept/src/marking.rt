@@ -4,7 +4,7 @@ ghost use Rattle.hg_history.specs.Adding.{add_marks};
 /// Gives each found witness its mark, if it has none, and tells how many had none.
 fn add_marks(marks: &mut [Option<bool>], found: &[(usize, bool)]) -> u32
     requires within { All (λ f. f.0 < length marks.old) found.now }
-    requires few { length found.now < 2 ^ 32 }
+    requires few { length marks.old < 2 ^ 32 }
     ensures { record { marks = marks.new; count = result } ≡ add_marks marks.old found.now }
 {
     let mut count = 0;
@@ -20,7 +20,7 @@ fn add_marks(marks: &mut [Option<bool>], found: &[(usize, bool)]) -> u32
 /// The same on a list that owns its memory.
 pub fn mark_found(marks: &mut Vec<Option<bool>>, found: &[(usize, bool)]) -> u32
     requires within { All (λ f. f.0 < length marks.old.items) found.now }
-    requires few { length found.now < 2 ^ 32 }
+    requires few { length marks.old.items < 2 ^ 32 }
     ensures added { record { marks = marks.new.items; count = result } ≡ add_marks marks.old.items found.now }
     ensures room { vec_capacity marks.new ≡ vec_capacity marks.old }
 {

@@ -1,4 +1,4 @@
-ghost use Rattle.std.specs.Prelude.{◌≡◌, ◌<◌, ◌^◌, [], length, take, slice_index_or, OnOk, OnErr};
+ghost use Rattle.std.specs.Prelude.{◌≡◌, ◌<◌, ◌^◌, [], length, take, slice_index_or, IfOk, OnOk, OnErr};
 ghost use Rattle.std.specs.List.{AllByRecursion};
 ghost use Rattle.hg_model.specs.GraphWords.{strongly_sees_in};
 ghost use Rattle.hg_votes.specs.Slots.{AddsSet};
@@ -75,6 +75,16 @@ impl SlotSets {
         let end = self.words.len();
         self.spans.push_reserved(Span { start, end });
         Ok(())
+    }
+
+    /// The same sets as a value of their own.
+    pub fn copied(&self, alloc: Global) -> Result<SlotSets, Memory>
+        ensures { IfOk result (λ copy. copy ≡ self.now) }
+    {
+        Ok(SlotSets {
+            words: Vec::from_slice(alloc, &self.words)?,
+            spans: Vec::from_slice(alloc, &self.spans)?,
+        })
     }
 
     /// The first `len` sets alone.

@@ -1,9 +1,9 @@
-ghost use Rattle.std.specs.Prelude.{ℕ, ◌≡◌, ◌≤◌, [], length, vec_len, IfOk, OnOk, OnErr};
+ghost use Rattle.std.specs.Prelude.{ℕ, ◌≡◌, ◌<◌, ◌≤◌, [], length, slice_index, vec_len, IfOk, OnOk, OnErr};
 ghost use Rattle.hg_model.specs.Orders.{IsPrefix};
-ghost use Rattle.hg_model.specs.Prefix.{graph_of};
+ghost use Rattle.hg_model.specs.Prefix.{Graph, graph_of};
 ghost use Rattle.hg_model.specs.Stakes.{Stakes};
 ghost use Rattle.hg_model.specs.GraphWords.{shape_in, IsShapedIn};
-ghost use Rattle.hg_votes.specs.Counting.{CarriesTo, HoldsVoters, IsMadeFor, witnesses_of};
+ghost use Rattle.hg_votes.specs.Counting.{CarriesTo, HoldsVoters, IsMadeFor, number_of, witnesses_of};
 
 use crate::ballots::count_round;
 use crate::voters::Voters;
@@ -26,6 +26,12 @@ pub struct VoteTable {
     /// The round up to which votes are counted, 0 without a candidate.
     counted: u32,
 }
+
+/// What stands where no ballot is counted.
+const NO_BALLOT: Ballot = Ballot {
+    vote: false,
+    decides: false,
+};
 
 impl Model for VoteTable {
     ghost use Rattle.std.specs.Prelude.{◌≡◌, length};
@@ -62,11 +68,7 @@ fn enter<P: Prefix>(voters: &mut Voters, ballots: &mut Vec<Ballot>, p: &P) -> Re
     ensures sets { IsPrefix voters.old.sets voters.new.sets }
 {
     voters.enter(p)?;
-    let none = Ballot {
-        vote: false,
-        decides: false,
-    };
-    ballots.resize(voters.witnesses(), none)?;
+    ballots.resize(voters.witnesses(), NO_BALLOT)?;
     Ok(())
 }
 
@@ -135,6 +137,33 @@ impl VoteTable {
         self.candidate = 0;
         self.counted = 0;
         Ok(())
+    }
+
+    /// A table of its own, without a candidate, made for each graph that this one is made for. Its voters are copied and
+    /// not looked for again.
+    pub fn copied(&self, alloc: Global) -> Result<VoteTable, Memory>
+        ensures { IfOk result (λ copy. (g : Graph) → IsMadeFor self.now g → IsMadeFor copy g) }
+    {
+        let voters = self.voters.copied(alloc)?;
+        let ballots = vec![in alloc; NO_BALLOT; voters.witnesses()]?;
+        let words = self.voted.len();
+        Ok(VoteTable {
+            voters,
+            ballots,
+            voted: vec![in alloc; 0u64; words]?,
+            next: vec![in alloc; 0u64; words]?,
+            candidate: 0,
+            counted: 0,
+        })
+    }
+
+    /// How many witnesses come before row `x`.
+    pub fn number(&self, x: usize) -> usize
+        requires { x < length self.now.voters.numbers }
+        ensures kept { result ≡ slice_index self.now.voters.numbers x }
+        ensures number { (g : Graph) → IsMadeFor self.now g → result ≡ number_of g x }
+    {
+        self.voters.number(x)
     }
 }
 

@@ -1,4 +1,4 @@
-ghost use Rattle.std.specs.Prelude.{◌≡◌, ◌<◌, ◌≤◌, ◌+◌, ◌-◌, ◌^◌, [], length, slice_index, slice_index_or, take, OnOk};
+ghost use Rattle.std.specs.Prelude.{◌≡◌, ◌<◌, ◌≤◌, ◌+◌, ◌-◌, ◌^◌, [], length, slice_index, slice_index_or, take, IfOk, OnOk};
 ghost use Rattle.hg_model.specs.Orders.{IsPrefix};
 ghost use Rattle.hg_votes.specs.Counting.{HoldsVoters};
 
@@ -97,6 +97,16 @@ impl Voters {
             self.enter_row(p, y)?;
         }
         Ok(())
+    }
+
+    /// The same rows and witnesses as a value of their own.
+    pub fn copied(&self, alloc: Global) -> Result<Voters, Memory>
+        ensures { IfOk result (λ copy. copy ≡ self.now) }
+    {
+        Ok(Voters {
+            numbers: Vec::from_slice(alloc, &self.numbers)?,
+            sets: self.sets.copied(alloc)?,
+        })
     }
 
     /// The first rows and witnesses alone.

@@ -1,40 +1,42 @@
-use Rattle.std.proofs.Common.{◌≡◌, length, ap, sym, subst, arith}
-use Rattle.hg_model.specs.History.{news, with_marks}
-use Rattle.hg_model.specs.GraphWords.{state_by}
-use Rattle.hg_kept.specs.Published.{PublishedWithRoom, Keeps}
-use Rattle.hg_kept.proofs.PublishLaws.{found_inside, found_few, marks_published, count_published, keeps_published}
+use Rattle.std.proofs.Common.{◌≡◌, subst, sym, arith}
+use Rattle.hg_model.specs.GraphWords.{news_by, marks_by}
+use Rattle.hg_kept.specs.Published.{PublishedWithRoom, Keeps, FindsNewsOf}
+use Rattle.hg_kept.proofs.PublishLaws.{inside, marks_published, count_published, keeps_published}
 use Rattle.hg_kept.proofs.kept.Kept.publish.Goals as goal
 
 pub mark_found-count-requires-clause-within : goal.mark_found-count-requires-clause-within
 mark_found-count-requires-clause-within g c =
     let graph = g.P.Prefix.graph c.args.p.now in
     let keeps = subst (λ (t : PublishedWithRoom). Keeps graph t.published) (sym c.self.view_is) c.requires.keeps in
-    rw c.as_slice.ensures (found_inside graph c.is_of_graph.ensures.matches.coin _ keeps _ _ _ c.requires.speaks)
+    let finds = subst (λ (t : PublishedWithRoom). FindsNewsOf graph t.published.marks c.args.found.now) (sym c.self.view_is) c.requires.news in
+    rw c.as_slice.ensures (inside graph c.is_of_graph.ensures.matches.coin _ keeps c.args.found.now finds)
 
 pub mark_found-count-requires-clause-few : goal.mark_found-count-requires-clause-few
 mark_found-count-requires-clause-few g c =
     let graph = g.P.Prefix.graph c.args.p.now in
     let keeps = subst (λ (t : PublishedWithRoom). Keeps graph t.published) (sym c.self.view_is) c.requires.keeps in
-    let few = found_few graph c.is_of_graph.ensures.matches.coin _ keeps _ _ _ c.requires.speaks in
-    let same = ap length c.as_slice.ensures in
+    let even = keeps.even in
     omega (arith, c.is_of_graph.ensures.short)
 
 pub close_rounds-self-inside-requires-clause-keeps : goal.close_rounds-self-inside-requires-clause-keeps
 close_rounds-self-inside-requires-clause-keeps g c =
     let graph = g.P.Prefix.graph c.args.p.now in
     let keeps = subst (λ (t : PublishedWithRoom). Keeps graph t.published) (sym c.self.view_is) c.requires.keeps in
-    rw c.deref.ensures.value (keeps_published graph c.is_of_graph.ensures.matches.coin _ keeps _ _ _ c.requires.speaks _ _ (rw c.as_slice.ensures at c.mark_found-count.ensures.added))
+    let finds = subst (λ (t : PublishedWithRoom). FindsNewsOf graph t.published.marks c.args.found.now) (sym c.self.view_is) c.requires.news in
+    rw c.deref.ensures.value (keeps_published graph c.is_of_graph.ensures.matches.coin _ keeps c.args.found.now finds _ _ (rw c.as_slice.ensures at c.mark_found-count.ensures.added))
 
 pub returns-clause-count : goal.returns-clause-count
 returns-clause-count g c =
     let graph = g.P.Prefix.graph c.args.p.now in
     let keeps = subst (λ (t : PublishedWithRoom). Keeps graph t.published) (sym c.self.view_is) c.requires.keeps in
-    subst (λ (t : PublishedWithRoom). c.mark_found-count.result ≡ news graph.members graph.coin (state_by graph t.published.marks) c.args.found.now.len c.args.found.now.share) c.self.view_is
-    (count_published graph c.is_of_graph.ensures.matches.coin _ keeps _ _ _ c.requires.speaks _ _ (rw c.as_slice.ensures at c.mark_found-count.ensures.added))
+    let finds = subst (λ (t : PublishedWithRoom). FindsNewsOf graph t.published.marks c.args.found.now) (sym c.self.view_is) c.requires.news in
+    subst (λ (t : PublishedWithRoom). c.mark_found-count.result ≡ news_by graph t.published.marks c.args.found.now.len c.args.found.now.share) c.self.view_is
+    (count_published graph c.is_of_graph.ensures.matches.coin _ keeps c.args.found.now finds _ _ (rw c.as_slice.ensures at c.mark_found-count.ensures.added))
 
 pub returns-clause-marks : goal.returns-clause-marks
 returns-clause-marks g c =
     let graph = g.P.Prefix.graph c.args.p.now in
     let keeps = subst (λ (t : PublishedWithRoom). Keeps graph t.published) (sym c.self.view_is) c.requires.keeps in
-    subst (λ (t : PublishedWithRoom). c.mark_found-count.new.marks.items ≡ (with_marks graph.members graph.coin (state_by graph t.published.marks) c.args.found.now.len c.args.found.now.share).marks) c.self.view_is
-    (marks_published graph c.is_of_graph.ensures.matches.coin _ keeps _ _ _ c.requires.speaks _ _ (rw c.as_slice.ensures at c.mark_found-count.ensures.added))
+    let finds = subst (λ (t : PublishedWithRoom). FindsNewsOf graph t.published.marks c.args.found.now) (sym c.self.view_is) c.requires.news in
+    subst (λ (t : PublishedWithRoom). c.mark_found-count.new.marks.items ≡ marks_by graph t.published.marks c.args.found.now.len c.args.found.now.share) c.self.view_is
+    (marks_published graph c.is_of_graph.ensures.matches.coin _ keeps c.args.found.now finds _ _ (rw c.as_slice.ensures at c.mark_found-count.ensures.added))
