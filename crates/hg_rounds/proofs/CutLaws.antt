@@ -1,9 +1,9 @@
 -- The first rows of a table
-use Rattle.std.proofs.Common.{◌≡◌, inl, inr, ℕ, zero, suc, ◌+◌, ◌-◌, ◌<◌, ◌≤◌, Bool, true, false, cond, ◌&&◌, eqb, List, [], ◌∷◌, ◌++◌, length, take, drop, get_or, refl, sym, ap, ap₂, ◌∙◌, subst, arith, add-zero, add-suc}
+use Rattle.std.proofs.Common.{◌≡◌, inl, inr, ℕ, zero, suc, ◌+◌, ◌-◌, ◌<◌, ◌≤◌, Bool, true, false, cond, ◌&&◌, eqb, List, Option, Some, None, [], ◌∷◌, ◌++◌, length, take, drop, get_or, refl, sym, ap, ap₂, ◌∙◌, subst, arith, add-zero, add-suc}
 use Rattle.std.proofs.lemmas.Bool.{cases_lt}
 use Rattle.std.proofs.lemmas.List.{append-nil, append_assoc, length-append, length_push, length-take-le, take-append-drop, take-append-le, take-take, take_all, take_at, get_or-take, get_or_append_left, get_or-append_right, get_or_push}
 use Rattle.std.specs.List.{AllByRecursion}
-use Rattle.std.specs.Prelude.{slice_get}
+use Rattle.std.specs.Prelude.{slice_get, IfSome}
 use Rattle.hg_model.specs.Places.{list_below, maximum_below}
 use Rattle.hg_model.specs.Standings.{Standing, standing_round, standing_witness, round_at, witness_at, witnesses_in, greatest_in}
 use Rattle.hg_model.proofs.ListLaws.{all_list_below}
@@ -140,20 +140,28 @@ tops_push S tops s top has is = record {
   ];
 }
 
-pub table_with : (S : List Standing) (tops : List ℕ) (s : Standing) (lists : List (List ℕ)) (top longest last : ℕ) (spare : List ℕ) → HasTops S tops → KeepsLists (S ++ s ∷ []) lists top longest →
-    last ≤ top + 1 → spare ≡ [] → KeepsTable (S ++ s ∷ []) (tops ++ top ∷ []) lists top longest last spare
-table_with S tops s lists top longest last spare has keeps there none =
-    let long = keeps.long in
-    record { lists_kept = keeps; tops_kept = tops_push S tops s top has keeps.greatest; last_there = omega arith; empty = none }
+if_there : (one : Option ℕ) (count top : ℕ) → count ≡ top + 2 → IfSome one (λ r. r ≤ top + 1) → IfSome one (λ r. r < count)
+if_there None count top long there = tt
+if_there (Some r) count top long there = omega arith
+
+-- a round that is there stays there
+pub still_there : (one : Option ℕ) (count top new : ℕ) → count ≡ top + 2 → top ≤ new → IfSome one (λ r. r < count) → IfSome one (λ r. r ≤ new + 1)
+still_there None count top new long more there = tt
+still_there (Some r) count top new long more there = omega arith
+
+pub table_with : (S : List Standing) (tops : List ℕ) (s : Standing) (lists : List (List ℕ)) (top longest : ℕ) (one : Option ℕ) (spare : List ℕ) → HasTops S tops → KeepsLists (S ++ s ∷ []) lists top longest →
+    IfSome one (λ r. r ≤ top + 1) → spare ≡ [] → KeepsTable (S ++ s ∷ []) (tops ++ top ∷ []) lists top longest one spare
+table_with S tops s lists top longest one spare has keeps there none =
+    record { lists_kept = keeps; tops_kept = tops_push S tops s top has keeps.greatest; there = if_there one (length lists) top keeps.long there; empty = none }
 
 pub no_tops : HasTops [] []
 no_tops = record { long = refl; each = λ x lt. absurd (omega arith) }
 
 -- the first rows as a table
-pub table_first : (S : List Standing) (tops : List ℕ) (lists cuts : List (List ℕ)) (top longest last greatest len : ℕ) (spare none : List ℕ) → KeepsTable S tops lists top longest last spare →
+pub table_first : (S : List Standing) (tops : List ℕ) (lists cuts : List (List ℕ)) (top longest greatest len : ℕ) (one : Option ℕ) (spare none : List ℕ) → KeepsTable S tops lists top longest one spare →
     len ≤ length S → greatest ≡ greatest_in (take len S) → length cuts ≡ greatest + 2 → ((r : ℕ) → r < greatest + 2 → IsCut (list_at lists r) len (list_at cuts r)) → none ≡ [] →
-    KeepsTable (take len S) (take len tops) cuts greatest longest 0 none
-table_first S tops lists cuts top longest last greatest len spare none keeps le is long each empty =
+    KeepsTable (take len S) (take len tops) cuts greatest longest None none
+table_first S tops lists cuts top longest greatest len one spare none keeps le is long each empty =
     let less : greatest ≤ top = omega (arith, greatest_first S len le, is, keeps.lists_kept.greatest) in
     let all : length lists ≡ top + 2 = keeps.lists_kept.long in
     record {
@@ -167,6 +175,6 @@ table_first S tops lists cuts top longest last greatest len spare none keeps le 
             omega (arith, ap length cut.first_are, length-take-le cut.count (list_at lists r) cut.within, cut.within, keeps.lists_kept.within r (omega arith)));
       };
       tops_kept = tops_first S len le tops keeps.tops_kept;
-      last_there = omega arith;
+      there = tt;
       empty = empty;
     }

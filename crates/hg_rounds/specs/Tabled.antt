@@ -1,5 +1,5 @@
 -- What a table of rounds tells, and what it keeps
-use Rattle.std.specs.Prelude.{ℕ, ◌≡◌, ◌<◌, ◌≤◌, ◌+◌, ◌-◌, Bool, List, [], length, take, min, get_or}
+use Rattle.std.specs.Prelude.{ℕ, ◌≡◌, ◌<◌, ◌≤◌, ◌+◌, ◌-◌, Bool, List, [], length, take, min, get_or, Option, IfSome}
 use Rattle.hg_model.specs.Links.{parents}
 use Rattle.hg_model.specs.Shape.{Shape, first_links}
 use Rattle.hg_model.specs.Standings.{Standing, round_at, witnesses_in, greatest_in}
@@ -47,11 +47,11 @@ pub record HasTops (S : List Standing) (tops : List ℕ) : Type 0 where
   pub long : length tops ≡ length S
   pub each : (x : ℕ) → x < length S → get_or tops x 0 ≡ greatest_in (take (x + 1) S)
 
--- all that a table keeps: `last` is a round that is there, and nothing is in the spare memory
-pub record KeepsTable (S : List Standing) (tops : List ℕ) (lists : List (List ℕ)) (top longest last : ℕ) (spare : List ℕ) : Type 0 where
+-- all that a table keeps: the open list, if there is one, is that of a round, and nothing is in the spare memory
+pub record KeepsTable (S : List Standing) (tops : List ℕ) (lists : List (List ℕ)) (top longest : ℕ) (one : Option ℕ) (spare : List ℕ) : Type 0 where
   pub lists_kept : KeepsLists S lists top longest
   pub tops_kept : HasTops S tops
-  pub last_there : last < length lists
+  pub there : IfSome one (λ r. r < length lists)
   pub empty : spare ≡ []
 
 -- for how many more rows there is memory at least, by the room of the rows and of the lists, and by the spare memory, which a

@@ -20,8 +20,8 @@ pub struct RoundTable {
     /// The witnesses of each round from 0 to the next one; those of round 0 and of the next one are none.
     lists: Vec<Witnesses>,
     greatest: u32,
-    /// The round that got the last witness.
-    last: usize,
+    /// The round that got the last witness, if its list is yet to be sealed.
+    open: Option<usize>,
     /// No list is longer.
     longest: usize,
     /// Memory for a copy of a list that gets one more place while a prefix shares it, with nothing in it.
@@ -36,7 +36,7 @@ impl Model for RoundTable {
 
     ghost view = { λ s. record { standings = s.rows.items; room = room_by (min s.rows.room s.tops.room) (vec_capacity s.lists - vec_len s.lists) (vec_capacity s.spare - s.longest) } };
 
-    ghost invariant = { λ s. KeepsTable s.rows.items s.tops.items s.lists.items s.greatest s.longest s.last s.spare.items };
+    ghost invariant = { λ s. KeepsTable s.rows.items s.tops.items s.lists.items s.greatest s.longest s.open s.spare.items };
 }
 
 impl RoundTable {
@@ -53,7 +53,7 @@ impl RoundTable {
             tops: Blocks::new(alloc),
             lists,
             greatest: 0,
-            last: 0,
+            open: None,
             longest: 0,
             spare: Vec::new(alloc),
         })
@@ -67,9 +67,12 @@ impl RoundTable {
         self.rows.reserve()?;
         self.tops.reserve()?;
         self.lists.reserve(1)?;
-        let next = self.greatest as usize + 1;
-        self.lists[next].reserve()?;
-        self.lists[self.last].reserve()?;
+        if let Some(open) = self.open {
+            let next = self.greatest as usize + 1;
+            self.lists[next].reserve()?;
+            self.lists[open].reserve()?;
+            self.open = None;
+        }
         reserve_spare(&mut self.spare, self.longest)
     }
 
@@ -81,9 +84,10 @@ impl RoundTable {
         ensures { self.new.standings ≡ self.old.standings ++ standing round witness ∷ [] }
     {
         if witness {
-            self.last = round as usize;
-            let count = self.lists[self.last].push(self.rows.len(), &mut self.spare);
+            let r = round as usize;
+            let count = self.lists[r].push(self.rows.len(), &mut self.spare);
             self.longest = self.longest.max(count);
+            self.open = Some(r);
         }
         if round > self.greatest {
             self.greatest = round;
@@ -105,7 +109,7 @@ impl RoundTable {
             tops: self.tops.prefix(len)?,
             lists: first_lists(self.alloc, &self.lists, greatest as usize + 2, len)?,
             greatest,
-            last: 0,
+            open: None,
             longest: self.longest,
             spare: Vec::new(self.alloc),
         })
@@ -117,10 +121,12 @@ fn reserve_spare(spare: &mut Vec<usize>, longest: usize) -> Result<(), Memory>
     ensures room { OnOk result (longest < vec_capacity spare.new) }
     ensures same { spare.new.items ≡ spare.old.items }
 {
-    let Some(wanted) = longest.checked_add(1) else {
-        return Err(Memory);
-    };
-    spare.reserve(wanted)?;
+    if spare.capacity() <= longest {
+        let Some(wanted) = longest.checked_add(1) else {
+            return Err(Memory);
+        };
+        spare.reserve(wanted)?;
+    }
     Ok(())
 }
 

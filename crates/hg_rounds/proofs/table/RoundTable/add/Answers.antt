@@ -2,7 +2,7 @@ use Rattle.std.proofs.Common.{◌≡◌, ◌∙◌, ◌+◌, ◌≤◌, ◌++◌
 use Rattle.std.proofs.lemmas.List.{get_or_read_under}
 use Rattle.hg_model.specs.Standings.{greatest_in}
 use Rattle.hg_rounds.specs.Tabled.{Tabled, list_at}
-use Rattle.hg_rounds.proofs.CutLaws.{table_with}
+use Rattle.hg_rounds.proofs.CutLaws.{table_with, still_there}
 use Rattle.hg_rounds.proofs.KeepLaws.{marked_not, marked_set, keeps_stayed, keeps_opened}
 use Rattle.hg_rounds.proofs.table.RoundTable.add.Goals as goal
 use Rattle.hg_rounds.proofs.table.RoundTable.add.Goals.{then-round-self, else-round-self, then-witness, else-witness}
@@ -28,11 +28,10 @@ invariant_of-self c =
           ])
       | else-witness w ↦
           (let marked = marked_not _ _ _ _ kept _ _ c.requires.first next w.if-witness.false in
-          let there = c.self.invariant.last_there in
           elim c.if-round-self.branch [
             | then-round-self v ↦
                 (let high = rw w.self-inside-is at v.if-round-self.true in
-                rw (c.push.ensures, c.push-2.ensures, v.self-inside-is, v.push_reserved.ensures.items, w.self-inside-is) (table_with _ _ _ _ _ _ _ _ tops (keeps_opened _ _ _ _ kept _ _ c.requires.first next _ _ marked _ high v.new.ensures) (omega arith) c.self.invariant.empty))
-            | else-round-self v ↦ rw (c.push.ensures, c.push-2.ensures, v.self-inside-is, w.self-inside-is) (table_with _ _ _ _ _ _ _ _ tops (keeps_stayed _ _ _ _ kept _ _ c.requires.first next _ _ marked (rw w.self-inside-is at v.if-round-self.false)) (omega arith) c.self.invariant.empty)
+                rw (c.push.ensures, c.push-2.ensures, v.self-inside-is, v.push_reserved.ensures.items, w.self-inside-is) (table_with _ _ _ _ _ _ _ _ tops (keeps_opened _ _ _ _ kept _ _ c.requires.first next _ _ marked _ high v.new.ensures) (still_there _ _ _ _ long (omega arith) c.self.invariant.there) c.self.invariant.empty))
+            | else-round-self v ↦ rw (c.push.ensures, c.push-2.ensures, v.self-inside-is, w.self-inside-is) (table_with _ _ _ _ _ _ _ _ tops (keeps_stayed _ _ _ _ kept _ _ c.requires.first next _ _ marked (rw w.self-inside-is at v.if-round-self.false)) (still_there _ _ _ _ long (omega arith) c.self.invariant.there) c.self.invariant.empty)
           ])
     ]
