@@ -1,17 +1,16 @@
 -- The first rows of a table
-use Rattle.std.proofs.Common.{◌≡◌, inl, inr, ℕ, zero, suc, ◌+◌, ◌-◌, ◌<◌, ◌≤◌, Bool, true, false, cond, ◌&&◌, eqb, List, [], ◌∷◌, ◌++◌, length, take, drop, get_or, refl, sym, ap, ap₂, ◌∙◌, subst, arith, add-zero, add-suc}
+use Rattle.std.proofs.Common.{◌≡◌, inl, inr, ℕ, zero, suc, ◌+◌, ◌-◌, ◌<◌, ◌≤◌, Bool, true, false, cond, ◌&&◌, eqb, List, Option, Some, None, [], ◌∷◌, ◌++◌, length, take, drop, get_or, refl, sym, ap, ap₂, ◌∙◌, subst, arith, add-zero, add-suc}
 use Rattle.std.proofs.lemmas.Bool.{cases_lt}
 use Rattle.std.proofs.lemmas.List.{append-nil, append_assoc, length-append, length_push, length-take-le, take-append-drop, take-append-le, take-take, take_all, take_at, get_or-take, get_or_append_left, get_or-append_right, get_or_push}
 use Rattle.std.specs.List.{AllByRecursion}
-use Rattle.std.specs.Prelude.{slice_get}
+use Rattle.std.specs.Prelude.{slice_get, IfSome}
 use Rattle.hg_model.specs.Places.{list_below, maximum_below}
 use Rattle.hg_model.specs.Standings.{Standing, standing_round, standing_witness, round_at, witness_at, witnesses_in, greatest_in}
 use Rattle.hg_model.proofs.ListLaws.{all_list_below}
 use Rattle.hg_model.proofs.LongerLaws.{slice_get-append}
 use Rattle.hg_model.proofs.PlacesLaws.{list_below-same, maximum_below_bounds}
-use Rattle.hg_rounds.specs.Listed.{Listed}
 use Rattle.hg_rounds.specs.Tabled.{standing, list_at, IsByRow, HasTops, KeepsLists, KeepsTable}
-use Rattle.hg_rounds.specs.Cut.{IsCut, IsCutList}
+use Rattle.hg_rounds.specs.Cut.{IsCut}
 
 -- a cut
 
@@ -141,26 +140,41 @@ tops_push S tops s top has is = record {
   ];
 }
 
-pub table_with : (S : List Standing) (tops : List ℕ) (s : Standing) (lists : List Listed) (top full : ℕ) → HasTops S tops → KeepsLists (S ++ s ∷ []) lists top full → KeepsTable (S ++ s ∷ []) (tops ++ top ∷ []) lists top full
-table_with S tops s lists top full has keeps = record { lists_kept = keeps; tops_kept = tops_push S tops s top has keeps.greatest }
+if_there : (one : Option ℕ) (count top : ℕ) → count ≡ top + 2 → IfSome one (λ r. r ≤ top + 1) → IfSome one (λ r. r < count)
+if_there None count top long there = tt
+if_there (Some r) count top long there = omega arith
+
+-- a round that is there stays there
+pub still_there : (one : Option ℕ) (count top new : ℕ) → count ≡ top + 2 → top ≤ new → IfSome one (λ r. r < count) → IfSome one (λ r. r ≤ new + 1)
+still_there None count top new long more there = tt
+still_there (Some r) count top new long more there = omega arith
+
+pub table_with : (S : List Standing) (tops : List ℕ) (s : Standing) (lists : List (List ℕ)) (top longest : ℕ) (one : Option ℕ) (spare : List ℕ) → HasTops S tops → KeepsLists (S ++ s ∷ []) lists top longest →
+    IfSome one (λ r. r ≤ top + 1) → spare ≡ [] → KeepsTable (S ++ s ∷ []) (tops ++ top ∷ []) lists top longest one spare
+table_with S tops s lists top longest one spare has keeps there none =
+    record { lists_kept = keeps; tops_kept = tops_push S tops s top has keeps.greatest; there = if_there one (length lists) top keeps.long there; empty = none }
 
 pub no_tops : HasTops [] []
 no_tops = record { long = refl; each = λ x lt. absurd (omega arith) }
 
 -- the first rows as a table
-pub table_first : (S : List Standing) (tops : List ℕ) (lists cuts : List Listed) (top full greatest len : ℕ) → KeepsTable S tops lists top full → len ≤ length S →
-    greatest ≡ greatest_in (take len S) → length cuts ≡ greatest + 2 → ((r : ℕ) → r < greatest + 2 → IsCutList len (list_at lists r) (list_at cuts r)) →
-    KeepsTable (take len S) (take len tops) cuts greatest 0
-table_first S tops lists cuts top full greatest len keeps le is long each =
+pub table_first : (S : List Standing) (tops : List ℕ) (lists cuts : List (List ℕ)) (top longest greatest len : ℕ) (one : Option ℕ) (spare none : List ℕ) → KeepsTable S tops lists top longest one spare →
+    len ≤ length S → greatest ≡ greatest_in (take len S) → length cuts ≡ greatest + 2 → ((r : ℕ) → r < greatest + 2 → IsCut (list_at lists r) len (list_at cuts r)) → none ≡ [] →
+    KeepsTable (take len S) (take len tops) cuts greatest longest None none
+table_first S tops lists cuts top longest greatest len one spare none keeps le is long each empty =
     let less : greatest ≤ top = omega (arith, greatest_first S len le, is, keeps.lists_kept.greatest) in
+    let all : length lists ≡ top + 2 = keeps.lists_kept.long in
     record {
       lists_kept = record {
         by_row = by_row_first S len le keeps.lists_kept.by_row;
         greatest = is;
         long = long;
-        matches = λ r lt. cut_places S len le r _ _ (keeps.lists_kept.matches r (let all = keeps.lists_kept.long in omega arith)) (each r (omega arith)).cut;
-        one = omega arith;
-        spare = λ r lt apart later. (each r (omega arith)).room;
+        matches = λ r lt. cut_places S len le r _ _ (keeps.lists_kept.matches r (omega arith)) (each r (omega arith));
+        within = λ r lt. (
+            let cut = each r (omega arith) in
+            omega (arith, ap length cut.first_are, length-take-le cut.count (list_at lists r) cut.within, cut.within, keeps.lists_kept.within r (omega arith)));
       };
       tops_kept = tops_first S len le tops keeps.tops_kept;
+      there = tt;
+      empty = empty;
     }

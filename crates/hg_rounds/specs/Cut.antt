@@ -1,6 +1,5 @@
 -- The places of a list that come before others
 use Rattle.std.specs.Prelude.{ℕ, ◌≡◌, ◌<◌, ◌≤◌, ◌-◌, List, length, take, get_or}
-use Rattle.hg_rounds.specs.Listed.{Listed}
 
 -- the places up to the last one below len; those after it are not below len
 pub record IsCut (places : List ℕ) (len : ℕ) (first : List ℕ) : Type 0 where
@@ -9,8 +8,3 @@ pub record IsCut (places : List ℕ) (len : ℕ) (first : List ℕ) : Type 0 whe
   pub first_are : first ≡ take count places
   pub last : 0 < count → get_or places (count - 1) 0 < len
   pub later : (i : ℕ) → count ≤ i → i < length places → len ≤ get_or places i 0
-
--- the same of a list with room
-pub record IsCutList (len : ℕ) (list first : Listed) : Type 0 where
-  pub cut : IsCut list.places len first.places
-  pub room : 1 ≤ first.room

@@ -1,10 +1,9 @@
 -- What a table of rounds tells, and what it keeps
-use Rattle.std.specs.Prelude.{ℕ, ◌≡◌, ◌≢◌, ◌<◌, ◌≤◌, ◌+◌, ◌-◌, Bool, List, [], length, take, min, get_or}
+use Rattle.std.specs.Prelude.{ℕ, ◌≡◌, ◌<◌, ◌≤◌, ◌+◌, ◌-◌, Bool, List, [], length, take, min, get_or, Option, IfSome}
 use Rattle.hg_model.specs.Links.{parents}
 use Rattle.hg_model.specs.Shape.{Shape, first_links}
 use Rattle.hg_model.specs.Standings.{Standing, round_at, witnesses_in, greatest_in}
 use Rattle.hg_model.specs.Rounds.{round_of, is_witness}
-use Rattle.hg_rounds.specs.Listed.{Listed}
 
 -- the standings of the rows, and for how many more there is memory at least
 pub record Tabled : Type 0 where
@@ -26,42 +25,39 @@ last_parents shape = parents shape.links (last_place shape)
 abbrev pub before_last : Shape → Shape
 before_last shape = first_links shape (last_place shape)
 
-abbrev pub no_list : Listed
-no_list = record { places = []; room = 0 }
-
 -- the list of round r
-abbrev pub list_at : List Listed → ℕ → Listed
-list_at lists r = get_or lists r no_list
+abbrev pub list_at : List (List ℕ) → ℕ → List ℕ
+list_at lists r = get_or lists r []
 
 -- each row's round is from 1 to one above the greatest before it
 pub record IsByRow (S : List Standing) : Type 0 where
   pub first : (x : ℕ) → x < length S → 1 ≤ round_at S x
   pub next : (x : ℕ) → x < length S → round_at S x ≤ greatest_in (take x S) + 1
 
--- a list for each round from 0 to the next one, which has the round's witnesses; and room for one more place in each,
--- but perhaps in that of round `full` and in that of the next round
-pub record KeepsLists (S : List Standing) (lists : List Listed) (top full : ℕ) : Type 0 where
+-- a list for each round from 0 to the next one, which has the round's witnesses, and none longer than `longest`
+pub record KeepsLists (S : List Standing) (lists : List (List ℕ)) (top longest : ℕ) : Type 0 where
   pub by_row : IsByRow S
   pub greatest : top ≡ greatest_in S
   pub long : length lists ≡ top + 2
-  pub matches : (r : ℕ) → r < length lists → (list_at lists r).places ≡ witnesses_in S r
-  pub one : full < length lists
-  pub spare : (r : ℕ) → r < length lists → r ≢ full → r ≢ top + 1 → 1 ≤ (list_at lists r).room
+  pub matches : (r : ℕ) → r < length lists → list_at lists r ≡ witnesses_in S r
+  pub within : (r : ℕ) → r < length lists → length (list_at lists r) ≤ longest
 
 -- of each row the greatest round up to it
 pub record HasTops (S : List Standing) (tops : List ℕ) : Type 0 where
   pub long : length tops ≡ length S
   pub each : (x : ℕ) → x < length S → get_or tops x 0 ≡ greatest_in (take (x + 1) S)
 
--- all that a table keeps
-pub record KeepsTable (S : List Standing) (tops : List ℕ) (lists : List Listed) (top full : ℕ) : Type 0 where
-  pub lists_kept : KeepsLists S lists top full
+-- all that a table keeps: the open list, if there is one, is that of a round, and nothing is in the spare memory
+pub record KeepsTable (S : List Standing) (tops : List ℕ) (lists : List (List ℕ)) (top longest : ℕ) (one : Option ℕ) (spare : List ℕ) : Type 0 where
+  pub lists_kept : KeepsLists S lists top longest
   pub tops_kept : HasTops S tops
+  pub there : IfSome one (λ r. r < length lists)
+  pub empty : spare ≡ []
 
--- for how many more rows there is memory at least, by the room of the rows and of the lists, and of the two lists that
--- may be full
-abbrev pub room_by : ℕ → ℕ → Listed → Listed → ℕ
-room_by rows lists full next = min (min rows lists) (min full.room next.room)
+-- for how many more rows there is memory at least, by the room of the rows and of the lists, and by the spare memory, which a
+-- copy of the longest list must leave room in
+abbrev pub room_by : ℕ → ℕ → ℕ → ℕ
+room_by rows lists spare = min (min rows lists) spare
 
 -- the round of the graph's last row, and whether it is a witness
 abbrev pub last_row_round : Shape → ℕ

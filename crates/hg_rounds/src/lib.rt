@@ -13,6 +13,7 @@
 
 mod laws;
 mod place;
+mod places;
 mod row_round;
 mod table;
 mod witnesses;

@@ -1,6 +1,6 @@
-ghost use Rattle.std.specs.Prelude.{◌≡◌, ◌<◌, ◌≤◌, ◌+◌, ◌-◌, List, [], ◌∷◌, ◌++◌, ℕ, length, take, IfOk, OnOk};
+ghost use Rattle.std.specs.Prelude.{◌≡◌, ◌<◌, ◌≤◌, ◌+◌, ◌-◌, List, [], ◌∷◌, ◌++◌, ℕ, length, take, vec_capacity, IfOk, OnOk};
 ghost use Rattle.hg_model.specs.Standings.{Standing, greatest_in, round_at, witness_at, witnesses_in};
-ghost use Rattle.hg_rounds.specs.Cut.{IsCutList};
+ghost use Rattle.hg_rounds.specs.Cut.{IsCut};
 ghost use Rattle.hg_rounds.specs.Tabled.{HasTops, list_at, standing};
 
 use crate::row_round::RowRound;
@@ -20,19 +20,23 @@ pub struct RoundTable {
     /// The witnesses of each round from 0 to the next one; those of round 0 and of the next one are none.
     lists: Vec<Witnesses>,
     greatest: u32,
-    /// The round whose list may be full. So may the next round's be; each other list has room for one more.
-    full: usize,
+    /// The round that got the last witness, if its list is yet to be sealed.
+    open: Option<usize>,
+    /// No list is longer.
+    longest: usize,
+    /// Memory for a copy of a list that gets one more place while a prefix shares it, with nothing in it.
+    spare: Vec<usize>,
 }
 
 impl Model for RoundTable {
-    ghost use Rattle.std.specs.Prelude.{◌+◌, ◌-◌, min, vec_capacity, vec_len};
-    ghost use Rattle.hg_rounds.specs.Tabled.{KeepsTable, Tabled, list_at, room_by};
+    ghost use Rattle.std.specs.Prelude.{◌-◌, min, vec_capacity, vec_len};
+    ghost use Rattle.hg_rounds.specs.Tabled.{KeepsTable, Tabled, room_by};
 
     ghost Value = { Tabled };
 
-    ghost view = { λ s. record { standings = s.rows.items; room = room_by (min s.rows.room s.tops.room) (vec_capacity s.lists - vec_len s.lists) (list_at s.lists.items s.full) (list_at s.lists.items (s.greatest + 1)) } };
+    ghost view = { λ s. record { standings = s.rows.items; room = room_by (min s.rows.room s.tops.room) (vec_capacity s.lists - vec_len s.lists) (vec_capacity s.spare - s.longest) } };
 
-    ghost invariant = { λ s. KeepsTable s.rows.items s.tops.items s.lists.items s.greatest s.full };
+    ghost invariant = { λ s. KeepsTable s.rows.items s.tops.items s.lists.items s.greatest s.longest s.open s.spare.items };
 }
 
 impl RoundTable {
@@ -49,7 +53,9 @@ impl RoundTable {
             tops: Blocks::new(alloc),
             lists,
             greatest: 0,
-            full: 0,
+            open: None,
+            longest: 0,
+            spare: Vec::new(alloc),
         })
     }
 
@@ -61,10 +67,13 @@ impl RoundTable {
         self.rows.reserve()?;
         self.tops.reserve()?;
         self.lists.reserve(1)?;
-        let next = self.greatest as usize + 1;
-        self.lists[next].reserve()?;
-        self.lists[self.full].reserve()?;
-        Ok(())
+        if let Some(open) = self.open {
+            let next = self.greatest as usize + 1;
+            self.lists[next].reserve()?;
+            self.lists[open].reserve()?;
+            self.open = None;
+        }
+        reserve_spare(&mut self.spare, self.longest)
     }
 
     /// One more row, of a round that is there or of the next one. Takes no memory.
@@ -75,8 +84,10 @@ impl RoundTable {
         ensures { self.new.standings ≡ self.old.standings ++ standing round witness ∷ [] }
     {
         if witness {
-            self.full = round as usize;
-            self.lists[self.full].push(self.rows.len());
+            let r = round as usize;
+            let count = self.lists[r].push(self.rows.len(), &mut self.spare);
+            self.longest = self.longest.max(count);
+            self.open = Some(r);
         }
         if round > self.greatest {
             self.greatest = round;
@@ -86,7 +97,7 @@ impl RoundTable {
         self.tops.push(self.greatest);
     }
 
-    /// The table of the first `len` rows, as a value of its own. It shares what is sealed of the rows, and copies the lists.
+    /// The table of the first `len` rows, as a value of its own. It shares what is sealed of the rows and of the lists.
     pub fn prefix(&self, len: usize) -> Result<RoundTable, Memory>
         requires { len ≤ length self.now.standings }
         ensures { IfOk result (λ t. t.standings ≡ take len self.now.standings) }
@@ -98,9 +109,25 @@ impl RoundTable {
             tops: self.tops.prefix(len)?,
             lists: first_lists(self.alloc, &self.lists, greatest as usize + 2, len)?,
             greatest,
-            full: 0,
+            open: None,
+            longest: self.longest,
+            spare: Vec::new(self.alloc),
         })
     }
+}
+
+/// Takes the memory for a copy of a list of at most so many places, and of one more.
+fn reserve_spare(spare: &mut Vec<usize>, longest: usize) -> Result<(), Memory>
+    ensures room { OnOk result (longest < vec_capacity spare.new) }
+    ensures same { spare.new.items ≡ spare.old.items }
+{
+    if spare.capacity() <= longest {
+        let Some(wanted) = longest.checked_add(1) else {
+            return Err(Memory);
+        };
+        spare.reserve(wanted)?;
+    }
+    Ok(())
 }
 
 /// The greatest round of the first `len` rows, from the greatest rounds up to each row.
@@ -111,7 +138,7 @@ fn greatest_first(tops: &Blocks<u32>, len: usize) -> u32
     if len == 0 { 0 } else { tops[len - 1] }
 }
 
-/// The first so many lists, each with its places below `len`, and with memory for one more.
+/// The first so many lists, each with its places below `len`.
 fn first_lists(
     alloc: Global,
     lists: &[Witnesses],
@@ -120,7 +147,7 @@ fn first_lists(
 ) -> Result<Vec<Witnesses>, Memory>
     requires { count ≤ length lists.now }
     ensures count { IfOk result (λ first. length first.items ≡ count) }
-    ensures each { IfOk result (λ first. (r : ℕ) → r < count → IsCutList len (list_at lists.now r) (list_at first.items r)) }
+    ensures each { IfOk result (λ first. (r : ℕ) → r < count → IsCut (list_at lists.now r) len (list_at first.items r)) }
 {
     let mut first = Vec::with_capacity(alloc, count)?;
     for list in &lists[..count] {

@@ -4,4 +4,4 @@ use Rattle.hg_rounds.proofs.table.RoundTable.new.Goals as goal
 
 pub invariant_of-result : goal.invariant_of-result
 invariant_of-result c =
-    rw (c.new-3.ensures, c.new-4.ensures, c.in_ok-push-2.ensures.items, c.in_ok-push.ensures.items, c.new-lists.ensures.items) (record { lists_kept = keeps_none _ _ c.new.ensures c.new-2.ensures; tops_kept = no_tops })
+    rw (c.new-3.ensures, c.new-4.ensures, c.in_ok-push-2.ensures.items, c.in_ok-push.ensures.items, c.new-lists.ensures.items) (record { lists_kept = keeps_none _ _ c.new.ensures c.new-2.ensures; tops_kept = no_tops; there = tt; empty = c.new-5.ensures.items })
