@@ -1,4 +1,5 @@
-ghost use Rattle.hg_gossip.specs.Nodes.{PullsAlone, SyncsAlone, UnnamedAreLacking, WaitsAlone};
+ghost use Rattle.hg_gossip.specs.Known.{KnownForGood};
+ghost use Rattle.hg_gossip.specs.Nodes.{MakesAlone, PullsAlone, SyncsAlone, UnnamedAreLacking, WaitsAlone};
 
 /// A law: nothing comes between the calls on a node that has one holder.
 pub fn waiting_alone<K>()
@@ -11,6 +12,11 @@ pub fn pulling_alone<K, L>()
     ensures { PullsAlone K L }
 {}
 
+/// A law: `make_after` leaves of such a node what making the event leaves of it, or that node where there is no name.
+pub fn making_alone<K>()
+    ensures { MakesAlone K }
+{}
+
 /// A law: a sync leaves what making an event leaves of the node after the pull, or that node where the peer is bare.
 pub fn syncing_alone<K, L>()
     ensures { SyncsAlone K L }
@@ -19,4 +25,9 @@ pub fn syncing_alone<K, L>()
 /// A law: the rows that have none of the names of other rows are those whose names these lack.
 pub fn missing_is_lacking()
     ensures { UnnamedAreLacking }
+{}
+
+/// A law: what nodes are known to have of each other's rows they are known to have for good, for rows only get more.
+pub fn known_for_good()
+    ensures { KnownForGood }
 {}
