@@ -14,3 +14,4 @@ pub mod EndLaws
 pub mod MedianLaws
 pub mod CountLaws
 pub mod SweepLaws
+pub mod ListingLaws

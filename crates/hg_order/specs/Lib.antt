@@ -3,3 +3,4 @@ pub mod Famous
 pub mod Round
 pub mod Swept
 pub mod Tallied
+pub mod Lined

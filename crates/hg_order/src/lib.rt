@@ -23,6 +23,7 @@
 mod famous;
 mod holders;
 mod least;
+mod lines;
 mod memory;
 mod order;
 mod placing;

@@ -6,11 +6,12 @@ ghost use Rattle.hg_order.specs.Round.{placed_below, IsWide};
 ghost use Rattle.hg_order.specs.Tallied.{placed_with};
 
 use crate::least::least_counts;
+use crate::lines::{list_lines, median_of_lines};
 use crate::memory::{RoundMemory, count_times, lowest};
 use crate::order::{is_wide, place_rows};
 use crate::sweep::Lanes;
 use crate::tally::{Holder, Tally};
-use hg_model::{Placed, Prefix};
+use hg_model::{Placed, Prefix, is_of_graph};
 
 /// The rows at the places `fresh`, with the times of their tallies.
 fn place_tallied<P: Prefix>(
@@ -70,8 +71,45 @@ fn place_by_counts<P: Prefix>(
     true
 }
 
+/// The rows at the places `fresh` as the round places them, by the lines of the witnesses, each listed once; tells whether
+/// there was room for the lines.
+fn place_by_lines<P: Prefix>(
+    p: &P,
+    famous: &[usize],
+    round: u32,
+    fresh: &[u32],
+    lines: &mut Vec<Holder>,
+    out: &mut [Placed],
+) -> bool
+    requires famous { AreFamous (P.graph p.now) famous.now }
+    requires some { 0 < length famous.now }
+    requires received { AllByRecursion (IsBelowAll (P.graph p.now) famous.now) fresh.now }
+    requires same { length out.old ≡ length fresh.now }
+    ensures placed { result ≡ true → out.new ≡ map (placed_below (P.graph p.now) famous.now round) fresh.now }
+    ensures wide { result ≡ true → All (IsWide (P.graph p.now).rows) fresh.now }
+    ensures room { vec_capacity lines.new ≡ vec_capacity lines.old }
+{
+    is_of_graph(p);
+    let low = lowest(fresh, famous[0]);
+    let mut starts = [0; 129];
+    lines.clear();
+    if !list_lines(p, famous, low, lines, &mut starts) {
+        return false;
+    }
+    for (i, x) in fresh.iter().enumerate() {
+        let place = *x as usize;
+        is_wide(p, place);
+        out[i] = Placed {
+            place,
+            received: round,
+            time: median_of_lines(p, famous, lines, &starts, place),
+        };
+    }
+    true
+}
+
 /// The rows at the places `fresh` as the round places them, in their order: by counting where ancestors are counted
-/// and the memory suffices.
+/// and the memory suffices, else by the lines of the witnesses where it suffices for these.
 pub fn place_within<P: Prefix>(
     p: &P,
     famous: &[usize],
@@ -88,7 +126,7 @@ pub fn place_within<P: Prefix>(
     ensures room { memory.new ≡ memory.old }
 {
     if !famous.is_empty()
-        && place_by_counts(
+        && (place_by_counts(
             p,
             famous,
             round,
@@ -97,7 +135,7 @@ pub fn place_within<P: Prefix>(
             &mut memory.lanes,
             &mut memory.tallies,
             out,
-        )
+        ) || place_by_lines(p, famous, round, fresh, &mut memory.holders, out))
     {
         return;
     }

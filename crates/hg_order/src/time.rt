@@ -97,7 +97,7 @@ fn middle_of(times: &[u64]) -> u64
 }
 
 /// Of k times in ascending order that at place (k - 1) / 2, or 0 if there is none.
-fn median_of(times: &mut [u64]) -> u64
+pub fn median_of(times: &mut [u64]) -> u64
     ensures { result ≡ median times.old }
 {
     times.sort_unstable();
