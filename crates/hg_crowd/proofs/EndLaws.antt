@@ -5,7 +5,6 @@ use native.Mathlib.Decide.{ℕ_discrete}
 use Rattle.std.proofs.lemmas.List.{get_or-map, length-map}
 use Rattle.hg_model.specs.Orders.{IsPrefix}
 use Rattle.hg_model.specs.Signing.{Accepts}
-use Rattle.hg_model.specs.History.{replay}
 use Rattle.hg_model.specs.NodeView.{NodeView, node_rows}
 use Rattle.hg_model.specs.declared.row.Row.{Row}
 use Rattle.hg_model.specs.Links.{Link}
@@ -21,7 +20,7 @@ use Rattle.hg_board.proofs.PositionLaws.{once_within, times-append, times_past}
 use Rattle.hg_crowd.specs.Crowd.{IsEnded, IsMark, IsSeat, IsStill}
 use Rattle.hg_crowd.specs.Workers.{AllMark, HasAllMarks, Worked}
 use Rattle.hg_crowd.specs.Laws.{IsSession, SessionsEnd, SessionsMark}
-use Rattle.hg_crowd.proofs.MarkLaws.{mark_among, mark_before, mark_later, links_stay, rows_stay}
+use Rattle.hg_crowd.proofs.MarkLaws.{mark_among, mark_before, mark_later, rows_stay}
 use Rattle.hg_crowd.proofs.ListLaws.{some_of}
 
 module _ {V : Type 0} (accepts : V → Accepts) (p : SharedNode V) (first called beside back last : SeatView V) (begun node : NodeView V) (started : IsStarted accepts p begun first)
@@ -60,7 +59,7 @@ module _ {V : Type 0} (accepts : V → Accepts) (p : SharedNode V) (first called
       record {
         start = ap (λ (v : NodeView V). v.start) whole_node.seen;
         others = λ q from below other. mark_before called.seen last.seen q from_called below (marks_beside q from (omega (arith, below, longer)) other);
-        rows = ap (λ (v : NodeView V). node_rows v) whole_node.seen ∙ rows_stay p.start.start.members p.start.start.coin called.seen last.seen from_called marks_behind;
+        rows = ap (λ (v : NodeView V). node_rows v) whole_node.seen ∙ (rows_stay p.start.start.members p.start.start.coin called.seen last.seen from_called marks_behind).0;
       }
 
   -- its marks are those that the workers' last turn made, of all that its rows decide
@@ -70,9 +69,8 @@ module _ {V : Type 0} (accepts : V → Accepts) (p : SharedNode V) (first called
       let c = p.start.start.coin in
       let shorter : length called.seen ≤ length back.seen = prefix_length called.seen back.seen absorbs.ends in
       let behind : (q : ℕ) → length back.seen ≤ q → q < length last.seen → IsMark last.seen q = λ q past below. marks_behind q (omega (arith, shorter, past)) below in
-      let rows : (replay n c last.seen).rows ≡ (replay n c back.seen).rows = rows_stay n c back.seen last.seen again.still.seen behind in
-      let ties : (replay n c last.seen).links ≡ (replay n c back.seen).links = links_stay n c back.seen last.seen again.still.seen behind in
-      marked x famous (sym (ap₂ (λ (G : List Row) (L : List Link). share_fame n c G L whole x) rows ties) ∙ decided)
+      let same = rows_stay n c back.seen last.seen again.still.seen behind in
+      marked x famous (sym (ap₂ (λ (G : List Row) (L : List Link). share_fame n c G L whole x) same.0 same.1) ∙ decided)
 
   pub ended_marked : MarksAll p whole back last → HasAllMarks node
   ended_marked marked = subst (λ (v : NodeView V). HasAllMarks v) (sym whole_node.seen) (marked_last marked)

@@ -58,37 +58,23 @@ mark_among history (p ∷ positions) q marks some = dite (ℕ_discrete p q)
     (λ same. subst (IsMark history) same marks.0)
     (λ ne. mark_among history positions q marks.1 (omega (arith, times_cons q p positions, times_apart q p (λ e. ne e))))
 
--- marks bring no rows
+-- marks bring no rows, and tie none
 
 module _ (n : Stakes) (c : ℕ) where
-  marks_bring_none : (s : State) (h : List Change) → ((q : ℕ) → q < length h → IsMark h q) → (fold (step n c) s h).rows ≡ s.rows
-  marks_bring_none s [] marks = refl
+  marks_bring_none : (s : State) (h : List Change) → ((q : ℕ) → q < length h → IsMark h q) → ((fold (step n c) s h).rows ≡ s.rows) × ((fold (step n c) s h).links ≡ s.links)
+  marks_bring_none s [] marks = (refl, refl)
   marks_bring_none s (Took row ∷ h) marks = let mark = marks 0 (omega arith) in let e = mark.2 in absurd (cc)
   marks_bring_none s (Made row ∷ h) marks = let mark = marks 0 (omega arith) in let e = mark.2 in absurd (cc)
   marks_bring_none s (Marked len share ∷ h) marks = marks_bring_none (with_marks n c s len share) h (λ q inside. marks (suc q) (omega arith))
 
   pub rows_stay : (seen history : List Change) → IsPrefix seen history → ((q : ℕ) → length seen ≤ q → q < length history → IsMark history q) →
-      (replay n c history).rows ≡ (replay n c seen).rows
+      ((replay n c history).rows ≡ (replay n c seen).rows) × ((replay n c history).links ≡ (replay n c seen).links)
   rows_stay seen history p marks =
       let last : (q : ℕ) → q < length p.0 → IsMark p.0 q = λ q inside.
       (let there : length seen + q < length history = omega (arith, inside, ap length p.1, length-append seen p.0) in
       let mark = marks (length seen + q) (omega arith) there in
       let same : slice_get history (length seen + q) ≡ slice_get p.0 q = ap (λ (h : List Change). slice_get h (length seen + q)) p.1 ∙ get_behind seen p.0 (length seen + q) q refl in
       (mark.0, mark.1, sym same ∙ mark.2)) in
-      ap (λ (h : List Change). (replay n c h).rows) p.1 ∙ (ap (λ (s : State). s.rows) (replay-append n c seen p.0) ∙ marks_bring_none (replay n c seen) p.0 last)
-
-  marks_tie_none : (s : State) (h : List Change) → ((q : ℕ) → q < length h → IsMark h q) → (fold (step n c) s h).links ≡ s.links
-  marks_tie_none s [] marks = refl
-  marks_tie_none s (Took row ∷ h) marks = let mark = marks 0 (omega arith) in let e = mark.2 in absurd (cc)
-  marks_tie_none s (Made row ∷ h) marks = let mark = marks 0 (omega arith) in let e = mark.2 in absurd (cc)
-  marks_tie_none s (Marked len share ∷ h) marks = marks_tie_none (with_marks n c s len share) h (λ q inside. marks (suc q) (omega arith))
-
-  pub links_stay : (seen history : List Change) → IsPrefix seen history → ((q : ℕ) → length seen ≤ q → q < length history → IsMark history q) →
-      (replay n c history).links ≡ (replay n c seen).links
-  links_stay seen history p marks =
-      let last : (q : ℕ) → q < length p.0 → IsMark p.0 q = λ q inside.
-      (let there : length seen + q < length history = omega (arith, inside, ap length p.1, length-append seen p.0) in
-      let mark = marks (length seen + q) (omega arith) there in
-      let same : slice_get history (length seen + q) ≡ slice_get p.0 q = ap (λ (h : List Change). slice_get h (length seen + q)) p.1 ∙ get_behind seen p.0 (length seen + q) q refl in
-      (mark.0, mark.1, sym same ∙ mark.2)) in
-      ap (λ (h : List Change). (replay n c h).links) p.1 ∙ (ap (λ (s : State). s.links) (replay-append n c seen p.0) ∙ marks_tie_none (replay n c seen) p.0 last)
+      let after = marks_bring_none (replay n c seen) p.0 last in
+      let is : replay n c history ≡ fold (step n c) (replay n c seen) p.0 = ap (λ (h : List Change). replay n c h) p.1 ∙ replay-append n c seen p.0 in
+      (ap (λ (s : State). s.rows) is ∙ after.0, ap (λ (s : State). s.links) is ∙ after.1)

@@ -1,5 +1,6 @@
 //! Many nodes between threads: a seat of each, workers beside each other over all of them, and the nodes again.
-//! The layer above uses these calls, and `sessions_end`: where all that others did beside the calls through one seat of
+//! The layer above uses `Party`, the nodes with their seats as one value, which each thread makes for itself, the calls
+//! that start and finish them, and `sessions_end`: where all that others did beside the calls through one seat of
 //! each node are marks, the nodes have the rows that those seats have seen.
 //!
 //! From `play_batch` of `hg_play`, shortened:
