@@ -19,7 +19,7 @@ use Rattle.hg_branches.specs.Kept.{Kept, kept_at, no_first, is_first, noted, not
 use Rattle.hg_branches.specs.Lines.{sees_on, own_sees, others_see}
 use Rattle.hg_branches.proofs.FirstLaws.{firsts_begin, firsts_next}
 use Rattle.hg_branches.proofs.SeenLaws.{by_branches, seen_by_branches, counted_sound, counted_complete}
-use Rattle.hg_branches.proofs.LineSeenLaws.{sound_on, complete_on}
+use Rattle.hg_branches.proofs.LineSeenLaws.{sound_on, complete_on, none_on}
 use Rattle.hg_branches.proofs.HeldLaws.{Serves, row_taken, branch_last, in_reach}
 use Rattle.hg_branches.proofs.PutLaws.{opened_reads, opened_long}
 use Rattle.hg_branches.proofs.ChainLaws.{zero_behind, read_zeros, StandsAs, chains_noted, newest_noted, numbers_noted, begun_last, chains_begun, newest_begun, numbers_begun}
@@ -378,13 +378,11 @@ module _ (n : Stakes) (L : List Link) (branches makers ends : List ℕ) (held : 
   pub on_other_is : (m : ℕ) → others_see L makers k.firsts (get_or counts x []) y m ≡ on_other m
   on_other_is m = ap (λ j. some_below (length makers) (λ b. (nat_le j b && not (on_own (get_or makers b 0)) && sees_on L (get_or counts x []) y b) && eqb (get_or makers b 0) m)) holds.long
 
-  -- the members' own branches alone tell it, where there are no others
-  pub strong_alone : length makers ≡ member_count n → is_supermajority (member_count n) (count_below (member_count n) on_own) ≡ strongly_sees n L x y
-  strong_alone one =
+  -- the members' own branches alone tell it, where x counts no others
+  pub strong_alone : ((b : ℕ) → member_count n ≤ b → b < length makers → count b ≡ 0) → is_supermajority (member_count n) (count_below (member_count n) on_own) ≡ strongly_sees n L x y
+  strong_alone alone =
       let none : count_below 128 on_other ≡ 0 = weight_below_none (λ _. 1) 128 on_other (λ m below h. (let b = other_found m h in
-      let there = b.1 in
-      let past = b.2 in
-      absurd (omega arith))) in
+      both_ways (sees_on L (get_or counts x []) y b.0) (none_on L (get_or counts x []) y b.0 (alone b.0 b.2 b.1)) b.4)) in
       ap (is_supermajority (member_count n)) (add_zero (count_below (member_count n) on_own)) ∙ strong_by_firsts (count_below (member_count n) on_own) 0 refl (sym none)
     where
       add_zero : (k : ℕ) → k ≡ k + 0

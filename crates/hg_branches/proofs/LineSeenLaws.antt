@@ -1,5 +1,5 @@
 -- Who is seen along branches, where forks are
-use Rattle.std.proofs.Common.{◌≡◌, ℕ, zero, suc, ◌+◌, ◌-◌, ◌<◌, ◌≤◌, lt-ltb, ◌&&◌, nat_lt, true, false, List, [], ◌∷◌, length, get_or, slice_index, sym, ap, ◌∙◌, subst, inl, inr, arith}
+use Rattle.std.proofs.Common.{◌≡◌, ℕ, zero, suc, ◌+◌, ◌-◌, ◌<◌, ◌≤◌, lt-ltb, ◌&&◌, eqb, nat_lt, nat_le, not, true, false, List, [], ◌∷◌, length, get_or, slice_index, sym, ap, ◌∙◌, subst, inl, inr, arith}
 use Rattle.std.proofs.lemmas.Bool.{cases_lt, and_parts, and_from, ltb-true, false_from_ne_true, both_ways}
 use Rattle.hg_model.specs.Places.{has_place, IsEarlier}
 use Rattle.hg_model.specs.Stakes.{Stakes}
@@ -12,7 +12,7 @@ use Rattle.hg_model.proofs.ReachLaws.{has_place_first, one_there, none_there}
 use Rattle.hg_model.proofs.AncestryLaws.{is_ancestor-le, self_parent_earlier, is_ancestor-trans, is_self_ancestor_self, is_self_ancestor_by, is_self_ancestor_cases, is_self_ancestor-le, is_self_ancestor-trans}
 use Rattle.hg_model.proofs.SightLaws.{is_ancestor-from_self, sees-is_ancestor}
 use Rattle.hg_branches.specs.Branches.{Branching}
-use Rattle.hg_branches.specs.Lines.{line_sees, sees_on, seen_on}
+use Rattle.hg_branches.specs.Lines.{line_sees, sees_on, seen_on, own_sees, other_sees}
 use Rattle.hg_branches.specs.Columns.{branching_of, count_in, HoldsBranches, HoldsCounts}
 use Rattle.hg_branches.proofs.SeenLaws.{seen_by_branches}
 
@@ -69,6 +69,17 @@ line_low n L counts y b s le = false_from_ne_true (sees_on L counts y b) (λ h.
     let one = is_self_ancestor-le L s.earlier (slice_index counts b - 1) w.0 w.1 in
     let two = is_ancestor-le L s.earlier w.0 y (sees-is_ancestor L s.earlier w.0 y w.2) in
     absurd (omega arith))
+
+-- nor do the rows of a branch that is not counted
+pub none_on : (L : List Link) (counts : List ℕ) (y b : ℕ) → slice_index counts b ≡ 0 → sees_on L counts y b ≡ false
+none_on L counts y b none = ap (λ k. nat_lt 0 k && line_sees L (k - 1) y) none
+
+-- then the branch adds no one
+pub other_unseen : (L : List Link) (makers firsts counts : List ℕ) (y b m : ℕ) → sees_on L counts y b ≡ false → (other_sees L makers firsts counts y b && eqb (slice_index makers b) m) ≡ false
+other_unseen L makers firsts counts y b m unseen = false_from_ne_true (other_sees L makers firsts counts y b && eqb (slice_index makers b) m) (λ h.
+    let one = and_parts (other_sees L makers firsts counts y b) (eqb (slice_index makers b) m) h in
+    let two = and_parts (nat_le (length firsts) b && not (own_sees firsts counts (slice_index makers b))) (sees_on L counts y b) one.0 in
+    both_ways (sees_on L counts y b) unseen two.1)
 
 -- self-ancestors are by one member
 creator_to : (n : Stakes) (L : List Link) → IsShaped n L → (k x y : ℕ) → x < k → is_self_ancestor L x y ≡ true → creator L y ≡ creator L x

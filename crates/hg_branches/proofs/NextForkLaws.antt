@@ -1,6 +1,6 @@
 -- Who has a fork above the next row, by the masks and the counts of its parents
-use Rattle.std.proofs.Common.{◌≡◌, ◌≢◌, ℕ, ◌+◌, ◌<◌, ◌||◌, ◌&&◌, eqb, false, Bool, List, [], ◌∷◌, ◌++◌, length, get_or, ◌-◌, ◌^◌, Option, Some, None, sym, ap, ap₂, ◌∙◌, inl, inr, arith}
-use Rattle.std.proofs.lemmas.Bool.{cases_Bool, or_left, false_from_ne_true, true≢false}
+use Rattle.std.proofs.Common.{◌≡◌, ◌≢◌, ℕ, ◌+◌, ◌<◌, ◌≤◌, ◌||◌, ◌&&◌, eqb, false, Bool, List, [], ◌∷◌, ◌++◌, length, get_or, ◌-◌, ◌^◌, Option, Some, None, sym, ap, ap₂, ◌∙◌, inl, inr, arith}
+use Rattle.std.proofs.lemmas.Bool.{cases_Bool, cases_lt, ltb-true, or_left, false_from_ne_true, true≢false}
 use Rattle.std.proofs.lemmas.List.{length_push}
 use Rattle.std.proofs.Math.Bool.{or-false}
 use Rattle.hg_model.specs.Stakes.{Stakes, member_count}
@@ -19,9 +19,20 @@ use Rattle.hg_branches.proofs.SeenLaws.{apart_told, no_fork_on_one}
 -- no member has a fork while each has one branch
 pub no_fork_on_own : (n : Stakes) (L : List Link) (branches makers ends : List ℕ) → HoldsBranches n L branches makers ends → length makers ≡ member_count n → (x m : ℕ) → x < length L → has_fork_below L x m ≡ false
 no_fork_on_own n L branches makers ends held one x m hx =
-    no_fork_on_one L held.shaped.earlier (branching_of branches makers) held.lines (length makers) held.known x m m hx (λ a ha by_m.
+    no_fork_on_one L held.shaped.earlier (branching_of branches makers) held.lines (length makers) held.known x m m hx (λ a ha up by_m.
     let known : get_or branches a 0 < length makers = held.known a ha in
     sym (held.own (get_or branches a 0) (omega arith)) ∙ (sym (held.lines.made a ha) ∙ by_m))
+
+-- nor where x counts rows of the members' own branches alone
+pub no_fork_counted : (n : Stakes) (L : List Link) (branches makers ends : List ℕ) → HoldsBranches n L branches makers ends → (counts : List (List ℕ)) → HoldsCounts n L branches makers counts →
+    (x m : ℕ) → x < length L → ((b : ℕ) → member_count n ≤ b → b < length makers → count_in counts x b ≡ 0) → has_fork_below L x m ≡ false
+no_fork_counted n L branches makers ends held counts rows x m hx alone =
+    no_fork_on_one L held.shaped.earlier (branching_of branches makers) held.lines (length makers) held.known x m m hx (λ a ha up by_m.
+    let b : ℕ = get_or branches a 0 in
+    let known : b < length makers = held.known a ha in
+    let over : a < count_in counts x b = ltb-true a (count_in counts x b) ((rows.row x hx).told a ha ∙ up) in
+    let own : b < member_count n = elim (cases_lt b (member_count n)) [ inl low ↦ low | inr past ↦ (let none = alone b past known in absurd (omega arith)) ] in
+    sym (held.own b own) ∙ (sym (held.lines.made a ha) ∙ by_m))
 
 module _ (n : Stakes) (L : List Link) (branches makers ends : List ℕ) (held : HoldsBranches n L branches makers ends) (counts : List (List ℕ)) (rows : HoldsCounts n L branches makers counts)
     (masks : List ℕ) (forks : HoldsForks L masks) (short : length L + 1 < 2 ^ 16 - 1) where

@@ -49,16 +49,16 @@ module _ (L : List Link) (e : IsEarlier (parents L)) (B : Branching) (lines : Is
       (and_from (nat_lt (other b) (count b)) (eqb (B.maker b) m) (lt-ltb (other b) (count b) over)
       (eq-eqb (B.maker b) m (sym (lines.made a.0 inside) ∙ a.3))))
 
-  -- a member with all rows on one branch has no fork
-  pub no_fork_on_one : (x m b : ℕ) → x < length L → ((a : ℕ) → a < length L → creator L a ≡ m → B.branch a ≡ b) → has_fork_below L x m ≡ false
+  -- a member whose rows among the ancestors of x are all on one branch has no fork there
+  pub no_fork_on_one : (x m b : ℕ) → x < length L → ((a : ℕ) → a < length L → is_ancestor L x a ≡ true → creator L a ≡ m → B.branch a ≡ b) → has_fork_below L x m ≡ false
   no_fork_on_one x m b hx one = false_from_ne_true (has_fork_below L x m) (λ h.
       let f = has_fork_below_found L e x m h in
       let low_a : f.0 ≤ x = is_ancestor-le L e x f.0 f.2 in
       let low_b : f.1 ≤ x = is_ancestor-le L e x f.1 f.3 in
       let ha : f.0 < length L = omega arith in
       let hb : f.1 < length L = omega arith in
-      let on_a = one f.0 ha f.4.first in
-      let on_b = one f.1 hb f.4.second in
+      let on_a = one f.0 ha f.2 f.4.first in
+      let on_b = one f.1 hb f.3 f.4.second in
       elim (cases_lt f.0 f.1) [
         | inl less ↦ absurd (both_ways (is_self_ancestor L f.1 f.0) f.4.not_below (lines.line f.1 f.0 hb (omega arith) (on_b ∙ sym on_a)))
         | inr more ↦ absurd (both_ways (is_self_ancestor L f.0 f.1) f.4.not_above (lines.line f.0 f.1 ha (omega arith) (on_a ∙ sym on_b)))

@@ -60,6 +60,10 @@ counts_more makers count other m = some_below (length makers) (λ b. nat_lt (oth
 abbrev pub forks_anew : List ℕ → (ℕ → ℕ) → (ℕ → ℕ) → ℕ → ℕ → Bool
 forks_anew makers count other by m = (m == by || counts_more makers count other m) && counts_more makers other count m
 
+-- member m is the creator, and has rows on its own branch that the other-parent alone counts
+abbrev pub forks_on_own : (ℕ → ℕ) → (ℕ → ℕ) → ℕ → ℕ → Bool
+forks_on_own count other by m = nat_lt (count by) (other by) && m == by
+
 -- whether member m has a fork among the ancestors of a row on these parents by this member; `many` tells whether some
 -- member has a second branch
 abbrev pub forks_next : List ℕ → List (List ℕ) → List ℕ → Bool → Option (ℕ × ℕ) → ℕ → ℕ → Bool

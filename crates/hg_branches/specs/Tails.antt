@@ -17,17 +17,25 @@ no_tail = record { own = 0; numbers = [] }
 abbrev pub tail_at : List Tail → ℕ → Tail
 tail_at tails x = slice_index_or tails x no_tail
 
+-- what a row counts of the branch at place k, if of its own branch it counts its end and of the others these numbers
+abbrev pub place_count : List ℕ → ℕ → ℕ → ℕ → ℕ
+place_count numbers own end k = max (slice_index numbers k) (cond (k + 1 == own) end 0)
+
+-- of how many places it tells
+abbrev pub place_width : List ℕ → ℕ → ℕ
+place_width numbers own = max (length numbers) own
+
 -- what row x counts of its own branch, where that is the one at place k, and else 0
 abbrev pub own_count : List Tail → ℕ → ℕ → ℕ
 own_count tails x k = cond (k + 1 == (tail_at tails x).own) (x + 1) 0
 
 -- what the tail of row x counts of the branch at place k
 abbrev pub tail_count : List Tail → ℕ → ℕ → ℕ
-tail_count tails x k = max (slice_index (tail_at tails x).numbers k) (own_count tails x k)
+tail_count tails x k = place_count (tail_at tails x).numbers (tail_at tails x).own (x + 1) k
 
 -- how many branches the tail of row x tells of
 abbrev pub tail_width : List Tail → ℕ → ℕ
-tail_width tails x = max (length (tail_at tails x).numbers) (tail_at tails x).own
+tail_width tails x = place_width (tail_at tails x).numbers (tail_at tails x).own
 
 -- what becomes of number n at place k on parents p and q: their own branches count too, and that of the row does not
 abbrev pub tail_made : List Tail → ℕ → ℕ → ℕ → ℕ → ℕ → ℕ

@@ -1,7 +1,8 @@
-ghost use Rattle.std.specs.Prelude.{◌≡◌, ◌<◌, ◌≤◌, ℕ, max, length, slice_index, take};
+ghost use Rattle.std.specs.Prelude.{◌≡◌, ◌<◌, ◌≤◌, ◌==◌, ℕ, max, min, length, slice_index, take};
 ghost use Rattle.hg_model.specs.Shape.{pair_list};
 ghost use Rattle.hg_branches.specs.Rows.{row_in, known_place};
 
+use crate::row_tail::RowTail;
 use crate::table::CountTable;
 use hg_bits::kernels::max_into;
 use std::marker::Model;
@@ -9,20 +10,19 @@ use std::marker::Model;
 /// What a row counts of each branch.
 #[derive(Drop)]
 pub struct RowCounts<'a> {
-    table: &'a CountTable,
-    row: usize,
     /// The numbers of the members' own branches.
     own: &'a [u16],
+    /// Those of the others.
+    tail: RowTail<'a>,
 }
 
 impl<'a> Model for RowCounts<'a> {
-    ghost use Rattle.hg_branches.specs.Rows.{HoldsRow, RowView, row_in};
+    ghost use Rattle.std.specs.Prelude.{length};
+    ghost use Rattle.hg_branches.specs.Rows.{RowView, joined_row};
 
     ghost Value = { RowView };
 
-    ghost view = { λ s. row_in s.table.now s.row };
-
-    ghost invariant = { λ s. HoldsRow s.table.now s.row s.own.now };
+    ghost view = { λ s. record { members = length s.own.now; row = joined_row s.own.now s.tail.numbers.now s.tail.own s.tail.end } };
 }
 
 impl<'a> RowCounts<'a> {
@@ -32,8 +32,22 @@ impl<'a> RowCounts<'a> {
     {
         match self.own.get(b) {
             Some(number) => *number,
-            None => self.table.at(self.row, b),
+            None => self.tail.at(b - self.own.len()),
         }
+    }
+
+    /// How many of the first `many` branches the row tells of. It counts 0 of those behind.
+    pub fn reach(&self, many: usize) -> usize
+        ensures { result ≡ min many (length self.now.row) }
+    {
+        many.min(self.own.len().saturating_add(self.tail.width()))
+    }
+
+    /// Whether the row tells of the members' own branches alone.
+    pub fn is_own(&self) -> bool
+        ensures { result ≡ (length self.now.row == self.now.members) }
+    {
+        self.tail.width() == 0
     }
 
     /// The numbers of the members' own branches.
@@ -51,9 +65,8 @@ pub fn row_of(table: &CountTable, x: usize) -> RowCounts<'_>
     ensures { result ≡ row_in table.now x }
 {
     RowCounts {
-        table,
-        row: x,
         own: table.own(x),
+        tail: table.tail(x),
     }
 }
 

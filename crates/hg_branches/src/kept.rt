@@ -201,7 +201,7 @@ fn note_own(
     }
 }
 
-/// Notes it in the kept rows of the other branches.
+/// Notes it in the kept rows of the other branches that are counted.
 fn note_others(
     kept: &mut [KeptRow],
     newest: &[u16],
@@ -217,7 +217,7 @@ fn note_others(
     ensures done { (c : ℕ) → counts.now.members ≤ c → NotesBy counts.now.row branch end kept.old kept.new c }
     ensures left { (i : ℕ) → (kept_at kept.old i).branch < counts.now.members → kept_at kept.new i ≡ kept_at kept.old i }
 {
-    for c in counts.own().len()..newest.len() {
+    for c in counts.own().len()..counts.reach(newest.len()) {
         let least = known.at(c);
         let count = counts.at(c);
         if least < count {

@@ -25,6 +25,7 @@ mod forks;
 mod kept;
 mod links;
 mod next_row;
+mod row_tail;
 mod seeing;
 mod sight;
 mod table;

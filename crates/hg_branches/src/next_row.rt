@@ -47,8 +47,9 @@ pub fn join_tails(row: &mut Vec<u16>, tails: &TailBlocks, on: Option<(usize, usi
     match on {
         None => row.clear(),
         Some((self_place, other)) => {
-            let width = tails.width(self_place).max(tails.width(other));
-            join(row, tails.numbers(self_place), tails.numbers(other), width);
+            let one = tails.tail(self_place);
+            let two = tails.tail(other);
+            join(row, one.numbers, two.numbers, one.width().max(two.width()));
             set_own(row, tails, self_place, other, own);
             row.truncate(len_of(row));
         }
@@ -65,8 +66,8 @@ fn set_own(row: &mut [u16], tails: &TailBlocks, self_place: usize, other: usize,
     ensures len { length row.new ≡ length row.old }
     ensures each { (k : ℕ) → slice_index row.new k ≡ tail_made tails.now.rows self_place other own k (slice_index row.old k) }
 {
-    raise_at(row, tails.own(self_place), self_place as u16 + 1);
-    raise_at(row, tails.own(other), other as u16 + 1);
+    raise_at(row, tails.tail(self_place).own, self_place as u16 + 1);
+    raise_at(row, tails.tail(other).own, other as u16 + 1);
     clear_at(row, own);
 }
 

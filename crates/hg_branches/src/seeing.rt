@@ -23,7 +23,7 @@ pub fn sees(sight: &BranchSight, x: usize, y: usize) -> bool
     sight.ancestor(x, y) && !mask_has(sight.forked_below(x), sight.creator(y))
 }
 
-/// The members with a branch that sees row `y`: a look at the last counted row of each branch.
+/// The members with a branch that sees row `y`: a look at the last row of each branch that is counted.
 #[tactic(auto, using(hg_model::proofs::PlacesLaws::some_steps))]
 pub fn seers(sight: &BranchSight, makers: &[Member], counts: &RowCounts, y: usize) -> u128
     requires place { y < length sight.now.shape.links }
@@ -32,14 +32,14 @@ pub fn seers(sight: &BranchSight, makers: &[Member], counts: &RowCounts, y: usiz
     ensures { (m : ℕ) → mask_has result m ≡ seen_on sight.now.shape.links makers.now counts.now.row y m }
 {
     let mut mask = 0;
-    for b in 0..makers.len() {
+    for b in 0..counts.reach(makers.len()) {
         mask = with_seer(mask, sight, counts, b, makers[b], y);
     }
     mask
 }
 
 /// Whether more than two thirds of the members have a branch that sees row `y`, whose first descendants are given: one
-/// comparison for each member's own branch, and a look at each other branch.
+/// comparison for each member's own branch and, where these are too few, a look at each other branch that is counted.
 pub fn strong_by_firsts(
     sight: &BranchSight,
     makers: &[Member],
@@ -56,6 +56,9 @@ pub fn strong_by_firsts(
     ensures { result ≡ is_strong_by_firsts sight.now.shape makers.now firsts.now counts.now.row y }
 {
     let own = count_own(counts, firsts);
+    if is_supermajority(sight.members(), own) {
+        return true;
+    }
     let others = members_in(others(sight, makers, counts, firsts, y));
     is_supermajority(sight.members(), own + others)
 }
@@ -92,10 +95,11 @@ fn others(
     requires members { (b : ℕ) → b < length makers.now → slice_index makers.now b < 128 }
     requires places { (b : ℕ) → slice_index counts.now.row b ≤ length sight.now.shape.links }
     requires few { length firsts.now ≤ length makers.now }
+    requires wide { length firsts.now ≡ counts.now.members }
     ensures { (m : ℕ) → mask_has result m ≡ others_see sight.now.shape.links makers.now firsts.now counts.now.row y m }
 {
     let mut mask = 0;
-    for b in firsts.len()..makers.len() {
+    for b in counts.own().len()..counts.reach(makers.len()) {
         mask = with_other(mask, sight, makers, counts, firsts, b, y);
     }
     mask
@@ -118,6 +122,11 @@ fn with_other(
     requires there { slice_index counts.now.row b ≤ length sight.now.shape.links }
     ensures { AddsOther sight.now.shape.links makers.now firsts.now counts.now.row y b mask result }
 {
+    // That the graph is shaped: no row before y sees it.
+    sight.rows();
+    if counts.at(b) as usize <= y {
+        return mask;
+    }
     let maker = makers[b];
     let own = usize::from(maker);
     if count_at(firsts, own) <= counts.at(own) {

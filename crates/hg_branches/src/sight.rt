@@ -125,8 +125,8 @@ impl BranchSight {
         Ok(())
     }
 
-    /// Whether row `x` strongly sees row `y`, where there are branches beside the members' own, or the first descendants of row
-    /// `y` are not kept. A call of its own, so that the other case is short.
+    /// Whether row `x` strongly sees row `y`, where row `x` counts branches beside the members' own, or the first descendants of
+    /// row `y` are not kept. A call of its own, so that the other case is short.
     #[inline(never)]
     fn strongly_sees_beside(&self, x: usize, y: usize) -> bool
         requires left { x < length self.now.shape.links }
@@ -205,7 +205,7 @@ impl Sight for BranchSight {
         // That the graph is shaped.
         self.members();
         let number = count_at(&self.numbers, y);
-        if number > 0 && self.makers.len() == self.members as usize {
+        if number > 0 && (self.makers.len() == self.members as usize || self.counts.is_own(x)) {
             return kept_row(&self.kept, number as usize - 1).is_strong_by(self.counts.own(x));
         }
         self.strongly_sees_beside(x, y)

@@ -1,10 +1,12 @@
-ghost use Rattle.std.specs.Prelude.{◌≡◌, ◌<◌, ◌≤◌, ◌+◌, ◌-◌, ◌^◌, ℕ, [], length, slice_index_or, take, IfOk, OnOk};
+ghost use Rattle.std.specs.Prelude.{◌≡◌, ◌<◌, ◌≤◌, ◌+◌, ◌-◌, ◌==◌, ◌^◌, ℕ, [], length, slice_index_or, take, IfOk, OnOk};
 ghost use Rattle.std.specs.List.{AllByRecursion};
 ghost use Rattle.hg_model.specs.Shape.{pair_list};
 ghost use Rattle.hg_branches.specs.Columns.{count_in};
+ghost use Rattle.hg_branches.specs.Rows.{HasTail};
 ghost use Rattle.hg_branches.specs.Table.{AddsCounts};
 
 use crate::next_row::{join_own, join_tails};
+use crate::row_tail::RowTail;
 use crate::tail_blocks::TailBlocks;
 use hg_blocks::RowBlocks;
 use hg_model::Memory;
@@ -78,6 +80,22 @@ impl CountTable {
         ensures len { length result.now ≡ self.now.members }
     {
         self.own.row(x)
+    }
+
+    /// What row `x` counts of the other branches.
+    pub fn tail(&self, x: usize) -> RowTail<'_>
+        requires { x < length self.now.rows }
+        ensures { HasTail self.now.members (slice_index_or self.now.rows x []) result.numbers.now result.own result.end }
+    {
+        self.tails.tail(x)
+    }
+
+    /// Whether row `x` tells of the members' own branches alone.
+    pub fn is_own(&self, x: usize) -> bool
+        requires { x < length self.now.rows }
+        ensures { result ≡ (length (slice_index_or self.now.rows x []) == self.now.members) }
+    {
+        self.tails.width(x) == 0
     }
 
     /// Takes the memory of one more row, whatever its branch and its parents.

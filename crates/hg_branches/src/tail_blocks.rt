@@ -3,7 +3,7 @@ ghost use Rattle.std.specs.List.{AllByRecursion};
 ghost use Rattle.hg_branches.specs.TailBlocks.{IsFull, SealsTails, joined_tails};
 ghost use Rattle.hg_branches.specs.Tails.{tail_at, tail_count, tail_width};
 
-use crate::counts::count_at;
+use crate::row_tail::RowTail;
 use crate::tails::Tails;
 use hg_model::Memory;
 use std::alloc::Global;
@@ -50,28 +50,29 @@ impl TailBlocks {
         64 * self.sealed.len() + self.last.len()
     }
 
-    /// One more than the place of row `x`'s own branch, or 0 where it is a member's own.
-    pub fn own(&self, x: usize) -> usize
-        requires { x < length self.now.rows }
-        ensures { result ≡ (tail_at self.now.rows x).own }
+    /// What row `x` counts of these branches.
+    pub fn tail(&self, x: usize) -> RowTail<'_>
+        requires place { x < length self.now.rows }
+        requires short { length self.now.rows < 2 ^ 16 }
+        ensures numbers { result.numbers.now ≡ (tail_at self.now.rows x).numbers }
+        ensures own { result.own ≡ (tail_at self.now.rows x).own }
+        ensures end { result.end ≡ x + 1 }
     {
-        block(&self.sealed, &self.last, x / 64).own(x % 64)
-    }
-
-    /// What row `x` counts of the others of these branches.
-    pub fn numbers(&self, x: usize) -> &[u16]
-        requires { x < length self.now.rows }
-        ensures { result.now ≡ (tail_at self.now.rows x).numbers }
-    {
-        block(&self.sealed, &self.last, x / 64).numbers(x % 64)
+        let part = block(&self.sealed, &self.last, x / 64);
+        RowTail {
+            numbers: part.numbers(x % 64),
+            own: part.own(x % 64),
+            end: x as u16 + 1,
+        }
     }
 
     /// Of how many branches row `x` tells.
     pub fn width(&self, x: usize) -> usize
-        requires { x < length self.now.rows }
+        requires place { x < length self.now.rows }
+        requires short { length self.now.rows < 2 ^ 16 }
         ensures { result ≡ tail_width self.now.rows x }
     {
-        self.numbers(x).len().max(self.own(x))
+        self.tail(x).width()
     }
 
     /// What row `x` counts of the branch at place `k`.
@@ -80,12 +81,7 @@ impl TailBlocks {
         requires short { length self.now.rows < 2 ^ 16 }
         ensures { result ≡ tail_count self.now.rows x k }
     {
-        let number = count_at(self.numbers(x), k);
-        let own = self.own(x);
-        if own > 0 && own - 1 == k {
-            return number.max(x as u16 + 1);
-        }
-        number
+        self.tail(x).at(k)
     }
 
     /// Takes the memory of one more row, with so many numbers. A full block is sealed.

@@ -1,5 +1,4 @@
-use Rattle.std.proofs.Common.{◌≡◌, ◌<◌, ◌≤◌, ◌+◌, ◌-◌, ◌∙◌, ℕ, List, [], ap, ap₂, sym, subst, length, take, get_or, slice_index, false, arith}
-use Rattle.std.proofs.lemmas.List.{get_or-take}
+use Rattle.std.proofs.Common.{◌≡◌, ◌<◌, ◌≤◌, ◌+◌, ◌-◌, ◌∙◌, ℕ, List, [], ap, ap₂, sym, subst, length, get_or, slice_index, false, arith}
 use Rattle.hg_model.specs.Places.{count_below}
 use Rattle.hg_model.specs.Links.{Link, creator}
 use Rattle.hg_model.specs.Forks.{has_fork_below}
@@ -10,10 +9,8 @@ use Rattle.hg_bits.specs.Masks.{mask_has}
 use Rattle.hg_ancestry.proofs.SeerLaws.{strong_by_members, strong_above}
 use Rattle.hg_branches.specs.Rows.{RowView}
 use Rattle.hg_branches.specs.Kept.{Kept, kept_at}
-use Rattle.hg_branches.specs.Lines.{own_sees, others_see, seen_on, is_strong_by_own}
-use Rattle.hg_branches.proofs.KeptLaws.{strong_by_firsts, strong_alone, on_other, on_other_is}
-use Rattle.hg_branches.proofs.NextForkLaws.{no_fork_on_own}
-use Rattle.hg_branches.proofs.ReachedLaws.{strong_by_taken}
+use Rattle.hg_branches.specs.Lines.{own_sees, others_see, seen_on}
+use Rattle.hg_branches.proofs.KeptLaws.{strong_by_firsts, on_other, on_other_is}
 use Rattle.hg_branches.proofs.LineSeenLaws.{count_small, seen_by_lines}
 use Rattle.hg_branches.proofs.sight.BranchSight.strongly_sees_beside.Goals as goal
 

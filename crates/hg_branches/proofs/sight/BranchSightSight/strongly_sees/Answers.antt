@@ -1,21 +1,17 @@
-use Rattle.std.proofs.Common.{◌≡◌, ◌<◌, ◌≤◌, ◌+◌, ◌-◌, ◌∙◌, ℕ, List, [], ap, ap₂, sym, subst, length, take, get_or, slice_index, false, arith}
-use Rattle.std.proofs.lemmas.List.{get_or-take}
-use Rattle.hg_model.specs.Places.{count_below}
-use Rattle.hg_model.specs.Links.{Link, creator}
-use Rattle.hg_model.specs.Forks.{has_fork_below}
-use Rattle.hg_model.specs.Seeing.{strongly_sees, sees_through, is_supermajority}
+use Rattle.std.proofs.Common.{◌≡◌, ◌<◌, ◌≤◌, ◌-◌, ◌∙◌, ℕ, List, [], ap, ap₂, sym, subst, length, take, get_or, slice_index, arith}
+use Rattle.std.proofs.lemmas.List.{get_or-take, get_or_past}
+use Rattle.std.proofs.lemmas.Bool.{eqb-true}
+use Rattle.hg_model.specs.Links.{creator}
+use Rattle.hg_model.specs.Seeing.{strongly_sees}
 use Rattle.hg_model.specs.Shape.{ShapeWithRoom}
-use Rattle.hg_model.proofs.PlacesLaws.{weight_below-same}
-use Rattle.hg_bits.specs.Masks.{mask_has}
-use Rattle.hg_ancestry.proofs.SeerLaws.{strong_by_members, strong_above}
-use Rattle.hg_branches.specs.Rows.{RowView}
 use Rattle.hg_branches.specs.Kept.{Kept, kept_at}
-use Rattle.hg_branches.specs.Lines.{own_sees, others_see, seen_on, is_strong_by_own}
-use Rattle.hg_branches.proofs.KeptLaws.{strong_by_firsts, strong_alone, on_other, on_other_is}
-use Rattle.hg_branches.proofs.NextForkLaws.{no_fork_on_own}
+use Rattle.hg_branches.specs.Lines.{is_strong_by_own}
+use Rattle.hg_branches.proofs.KeptLaws.{strong_alone}
+use Rattle.hg_branches.proofs.NextForkLaws.{no_fork_counted}
 use Rattle.hg_branches.proofs.ReachedLaws.{strong_by_taken}
-use Rattle.hg_branches.proofs.LineSeenLaws.{count_small, seen_by_lines}
+use Rattle.hg_branches.proofs.LineSeenLaws.{count_small}
 use Rattle.hg_branches.proofs.sight.BranchSightSight.strongly_sees.Goals as goal
+use Rattle.hg_branches.proofs.sight.BranchSightSight.strongly_sees.Goals.{then-len-self, else-len-self}
 
 pub is_strong_by-requires-clause-low : goal.is_strong_by-requires-clause-low
 is_strong_by-requires-clause-low c = λ b h.
@@ -28,23 +24,29 @@ is_strong_by-requires-clause-low c = λ b h.
     let short = held.branches.short in
     omega arith
 
-pub returns-then-len-self : goal.returns-then-len-self
-returns-then-len-self c =
+pub returns-then-is_own : goal.returns-then-is_own
+returns-then-is_own c =
     let s = c.self.inside in
     let held = c.self.invariant in
     let x = c.args.x in
     let y = c.args.y in
     let left : x < length s.links.items = subst (λ (g : ShapeWithRoom). x < length g.shape.links) (sym c.self.view_is) c.requires.left in
-    let one : length s.makers.items ≡ s.members = (let same = c.if-len-self.true in omega arith) in
+    let row : List ℕ = get_or s.counts.rows x [] in
+    -- either there are no other branches, or the row ends where they begin
+    let alone : (b : ℕ) → s.members ≤ b → b < length s.makers.items → get_or row b 0 ≡ 0 = elim c.if-len-self.branch [
+      | then-len-self w ↦ (λ b past low. absurd (omega (arith, past, low, w.if-len-self.true)))
+      | else-len-self w ↦ (λ b past low. get_or_past row b 0
+          (omega (arith, past, held.counts_members, eqb-true (length row) s.counts.members (sym w.is_own.ensures ∙ (sym w.value-is ∙ c.if-is_own.true)))))
+    ] in
     let number = c.count_at-number.ensures ∙ ap (λ (ns : List ℕ). slice_index ns y) c.deref.ensures.value in
     let found = held.kept.by_place y (let some = c.if-number-gt0.true in omega arith) in
     let slot : ℕ = slice_index s.numbers.items y - 1 in
     let k = kept_at s.kept.items slot in
     let holds = held.kept.each slot (let le : slice_index s.numbers.items y ≤ length s.kept.items = found.0 in let some = c.if-number-gt0.true in omega arith) in
-    let k_is : c.kept_row.result.now ≡ k = c.kept_row.ensures ∙ ap₂ (λ (kept : List Kept) (j : ℕ). kept_at kept (j - 1)) c.deref-then-len-self.ensures.value number in
+    let k_is : c.kept_row.result.now ≡ k = c.kept_row.ensures ∙ ap₂ (λ (kept : List Kept) (j : ℕ). kept_at kept (j - 1)) c.deref-then-is_own.ensures.value number in
     let own : c.own.result.now ≡ take s.members (get_or s.counts.rows x []) = c.own.ensures.value ∙ ap (λ j. take j (get_or s.counts.rows x [])) held.counts_members in
-    let free = no_fork_on_own s.members s.links.items s.branches.items s.makers.items s.ends.items held.branches one x (creator s.links.items y) left in
-    let told = strong_alone s.members s.links.items s.branches.items s.makers.items s.ends.items held.branches s.counts.rows held.counts x y left free k holds found.1 one in
+    let free = no_fork_counted s.members s.links.items s.branches.items s.makers.items s.ends.items held.branches s.counts.rows held.counts x (creator s.links.items y) left alone in
+    let told = strong_alone s.members s.links.items s.branches.items s.makers.items s.ends.items held.branches s.counts.rows held.counts x y left free k holds found.1 alone in
     subst (λ (g : ShapeWithRoom). c.is_strong_by.result ≡ strongly_sees g.shape.members g.shape.links x y) c.self.view_is
     (c.is_strong_by.ensures
     ∙ (ap₂ (λ (k : Kept) (r : List ℕ). is_strong_by_own k.firsts r) k_is own
