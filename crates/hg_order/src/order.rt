@@ -28,8 +28,9 @@ pub fn order_round<P: Prefix>(p: &P, famous: &[usize], fresh: &[u32], out: &mut 
     sort_round(p, famous, out);
 }
 
-/// The same, with the consensus timestamps counted in this memory: in time of the rows and the witnesses, where the
-/// ancestors of rows are counted and the memory is for the rows from the first of `fresh` to the last of the witnesses.
+/// The same, with the consensus timestamps found in this memory, if it is for the rows from the first of `fresh` to the last
+/// of the witnesses: in time of the rows and the witnesses, where the ancestors of rows are counted, and else in time of the
+/// logarithm of these for each of `fresh` and each witness.
 pub fn order_round_within<P: Prefix>(
     p: &P,
     famous: &[usize],
