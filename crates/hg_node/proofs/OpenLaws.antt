@@ -42,7 +42,7 @@ use Rattle.hg_fame.proofs.ShareLaws.{whole_fames}
 use Rattle.hg_node.specs.ChronicleView.{ChronicleView, IsFoundBy, IsRecorded, graph_in, node_view}
 use Rattle.hg_node.specs.declared.open.Open.{Open}
 use Rattle.hg_node.specs.Laws.{OpenedIsFound}
-use Rattle.hg_node.specs.Opening.{HasShareMarks, Opens, OpensAll, is_open}
+use Rattle.hg_node.specs.Opening.{AreUnmarked, HasShareMarks, Opens, OpensAll, is_open}
 use Rattle.hg_node.proofs.RecordLaws.{state_is}
 
 -- A witness of a round up to the last closed one has a mark
@@ -187,6 +187,10 @@ module _ (g : Graph) (test : ℕ → Bool) (closed last : ℕ) (places new : Lis
     ];
   })
 
+none_there : (mark : Option Bool) → is_none mark ≡ true → mark ≡ None
+none_there None h = refl
+none_there (Some v) h = absurd (cc)
+
 -- where these are all rounds
 module _ (g : Graph) (votes : Counting) (marks : Marks) (share : Share) (len closed last : ℕ) (places : List ℕ)
     (opens : OpensUpTo g (is_open votes marks share len) closed last places) (made : IsMadeFor votes g) (shut : closed ≡ last_closed_in g marks) (far : last_round_in g ≤ last + 2) (within : len ≤ length g.rows) where
@@ -223,6 +227,9 @@ module _ (g : Graph) (votes : Counting) (marks : Marks) (share : Share) (len clo
   opens_all = record {
     witnesses = λ k d h. let mine = open_is_mine (get_or places k d) (opens.passes k d h) (opens.witnesses k d h) in record { place = mine.0; witness = (opens.witnesses k d h).witness };
     mine = λ k d h. (open_is_mine (get_or places k d) (opens.passes k d h) (opens.witnesses k d h)).1;
+    unmarked = λ k d h.
+        let x = get_or places k d in
+        none_there (mark_at marks x) (and_parts (ltb x len && eqb (get_or votes.voters.numbers x 0 % share.of) share.k) (is_none (mark_at marks x)) (opens.passes k d h)).1;
     all = λ x v is none.
         let d = early_known g made.shaped len within share x v is in
         let here = mine_is_open x v d none in
@@ -231,6 +238,10 @@ module _ (g : Graph) (votes : Counting) (marks : Marks) (share : Share) (len clo
   }
 
 -- Where no place is open, the share has its marks
+
+pub some_items : (n : ℕ) → eqb n 0 ≡ false → 0 < n
+some_items zero h = absurd (cc)
+some_items (suc n) h = omega arith
 
 pub whole_early : (g : Graph) (share : Share) (x : ℕ) → early_fame g.members g.coin g.rows (links_of g) (length g.rows) share x ≡ share_fame_in g share x
 whole_early g share x =
@@ -293,7 +304,22 @@ elected_finds g marks share len places (Ok found) shaped within opens mine first
     subst (λ (k : Share). FindsNews n g.coin (state_by g marks) found.len k found.marks) (sym mine)
     (subst (λ (k : ℕ). FindsNews n g.coin (state_by g marks) k share found.marks) (sym first) news)
 
+-- none of which has its mark
+pub elected_unmarked : {E : Type 0} (g : Graph) (marks : Marks) (share : Share) (len : ℕ) (places : List ℕ) (answer : Result Found E) → OpensAll g marks share len places →
+    IfOk answer (λ found. found.marks ≡ fames_among (fame_within g len) places) → IfOk answer (AreUnmarked marks)
+elected_unmarked g marks share len places (Err e) opens is = tt
+elected_unmarked g marks share len places (Ok found) opens is =
+    let has_none : ℕ × Bool → Type 0 = λ f. mark_at marks f.0 ≡ None in
+    subst (All has_none) (sym is)
+    (All-from_recursion has_none (fames_among (fame_within g len) places)
+    (fames_all (fame_within g len) has_none places
+    (recursion_from_All (λ x. (v : Bool) → fame_within g len x ≡ Some v → has_none (x, v)) places (λ k d h v fame. opens.unmarked k d h))))
+
 -- Of a node with these records
+
+pub unmarked_by_node : {K E : Type 0} (accepts : K → Accepts) (keys : K) (r : ChronicleView) → IsRecorded accepts (node_view keys r) r → (answer : Result Found E) → IfOk answer (AreUnmarked r.marks) →
+    IfOk answer (AreUnmarked (node_marks (node_view keys r)))
+unmarked_by_node accepts keys r is answer unmarked = subst (λ (marks : Marks). IfOk answer (AreUnmarked marks)) (sym is.marks) unmarked
 
 pub found_by_node : {K E : Type 0} (accepts : K → Accepts) (keys : K) (r : ChronicleView) → IsRecorded accepts (node_view keys r) r → (answer : Result Found E) → IfOk answer (FindsNewsOf r.graph r.marks) →
     IfOk answer (IsFoundBy (node_view keys r))

@@ -8,7 +8,7 @@ ghost use Rattle.hg_model.specs.Kept.{kept};
 ghost use Rattle.hg_model.specs.Shares.{whole};
 ghost use Rattle.hg_model.specs.GraphWords.{last_closed_in};
 ghost use Rattle.hg_kept.specs.Published.{FindsNewsOf};
-ghost use Rattle.hg_node.specs.Opening.{Opens};
+ghost use Rattle.hg_node.specs.Opening.{AreUnmarked, Opens};
 ghost use Rattle.hg_node.specs.ChronicleView.{book_in, last_own_place, last_own_row, news_in, no_chronicle, chronicle_news, chronicle_with, chronicle_state};
 ghost use Rattle.hg_node.specs.Arrival.{StandsOn};
 
@@ -178,6 +178,7 @@ impl Chronicle {
         requires { len ≤ length self.old.graph.rows }
         ensures same { self.new ≡ self.old }
         ensures news { IfOk result (FindsNewsOf self.old.graph self.old.marks) }
+        ensures unmarked { IfOk result (AreUnmarked self.old.marks) }
         ensures len { IfOk result (λ found. found.len ≡ len) }
         ensures share { IfOk result (λ found. found.share ≡ share) }
     {

@@ -11,7 +11,7 @@ ghost use Rattle.hg_model.specs.Verdict.{last_name, row_limit};
 ghost use Rattle.hg_graph.specs.Held.{first_graph};
 ghost use Rattle.hg_node.specs.Arrival.{StandsOn};
 ghost use Rattle.hg_node.specs.ChronicleView.{IsFoundBy, chronicle_took, graph_in};
-ghost use Rattle.hg_node.specs.Opening.{Opens};
+ghost use Rattle.hg_node.specs.Opening.{AreUnmarked, Opens};
 ghost use Rattle.hg_node.specs.Puts.{WouldAccept, after_put, is_signed};
 ghost use Rattle.hg_model.specs.declared.answers.PutAnswer.TheVariants.{Accepted};
 ghost use Rattle.hg_model.specs.Fame.{mark_at};
@@ -188,6 +188,7 @@ impl<V: Signer> Node<V> {
         requires { len ≤ length (node_rows self.old) }
         ensures same { self.new ≡ self.old }
         ensures found { IfOk result (IsFoundBy self.old) }
+        ensures unmarked { IfOk result (AreUnmarked (node_marks self.old)) }
         ensures len { IfOk result (λ found. found.len ≡ len) }
         ensures share { IfOk result (λ found. found.share ≡ share) }
     {

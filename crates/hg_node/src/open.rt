@@ -1,7 +1,7 @@
 ghost use Rattle.std.specs.Prelude.{◌≡◌, ◌<◌, ◌≤◌, All, length, IfOk, OnOk};
 ghost use Rattle.hg_kept.specs.Published.{FindsNewsOf, Keeps};
 ghost use Rattle.hg_votes.specs.Counting.{IsMadeFor};
-ghost use Rattle.hg_node.specs.Opening.{AddsOpen, Opens, OpensAll, is_open};
+ghost use Rattle.hg_node.specs.Opening.{AddsOpen, AreUnmarked, Opens, OpensAll, is_open};
 
 use hg_fame::elect_first;
 use hg_graph::{EventGraph, FrozenGraph};
@@ -114,6 +114,7 @@ pub fn found_in(
     requires within { len ≤ length graph.now.graph.rows }
     ensures made { IsMadeFor votes.new graph.now.graph }
     ensures news { IfOk result (FindsNewsOf graph.now.graph kept.now.published.marks) }
+    ensures unmarked { IfOk result (AreUnmarked kept.now.published.marks) }
     ensures len { IfOk result (λ found. found.len ≡ len) }
     ensures share { IfOk result (λ found. found.share ≡ share) }
 {

@@ -1,7 +1,7 @@
 use Rattle.std.proofs.Common.{ℕ, ◌≡◌, ◌∙◌, length, subst, sym, rules}
 use Rattle.std.proofs.lemmas.Bool.{eqb-true}
 use Rattle.hg_node.specs.Opening.{OpensAll}
-use Rattle.hg_node.proofs.OpenLaws.{none_open}
+use Rattle.hg_node.proofs.OpenLaws.{none_open, some_items}
 use Rattle.hg_node.proofs.open.open_in.Goals as goal
 
 pub returns-then-is_empty : goal.returns-then-is_empty
@@ -19,4 +19,5 @@ returns c =
       graph = c.in_ok-frozen.ensures;
       votes = c.in_ok-table.ensures g c.requires.made;
       places = subst (λ (k : ℕ). OpensAll g c.args.kept.now.published.marks c.args.share k c.in_ok-places.places.items) c.len-rows.ensures.value c.in_ok-places.ensures;
+      some = (let is = some_items _ (sym c.is_empty.ensures ∙ c.if-is_empty.false) in search rules);
     }

@@ -1,7 +1,8 @@
 use Rattle.std.proofs.Common.{IfOk, subst}
 use Rattle.hg_kept.specs.Published.{FindsNewsOf}
 use Rattle.hg_node.specs.ChronicleView.{ChronicleView}
-use Rattle.hg_node.proofs.OpenLaws.{found_by_node}
+use Rattle.hg_node.specs.Opening.{AreUnmarked}
+use Rattle.hg_node.proofs.OpenLaws.{found_by_node, unmarked_by_node}
 use Rattle.hg_node.proofs.node.Node.found.Goals as goal
 
 pub returns-clause-found : goal.returns-clause-found
@@ -9,3 +10,9 @@ returns-clause-found g c =
     rw (← c.self.view_is)
     (found_by_node g.V.Verifier.accepts c.self.inside.keys c.self.inside.chronicle.value c.self.invariant c.found.result
     (subst (λ (r : ChronicleView). IfOk c.found.result (FindsNewsOf r.graph r.marks)) c.deref_mut.ensures.value c.found.ensures.news))
+
+pub returns-clause-unmarked : goal.returns-clause-unmarked
+returns-clause-unmarked g c =
+    rw (← c.self.view_is)
+    (unmarked_by_node g.V.Verifier.accepts c.self.inside.keys c.self.inside.chronicle.value c.self.invariant c.found.result
+    (subst (λ (r : ChronicleView). IfOk c.found.result (AreUnmarked r.marks)) c.deref_mut.ensures.value c.found.ensures.unmarked))
