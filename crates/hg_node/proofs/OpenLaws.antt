@@ -187,9 +187,9 @@ module _ (g : Graph) (test : ℕ → Bool) (closed last : ℕ) (places new : Lis
     ];
   })
 
-none_is : (mark : Option Bool) → is_none mark ≡ true → mark ≡ None
-none_is None h = refl
-none_is (Some b) h = absurd (cc)
+none_there : (mark : Option Bool) → is_none mark ≡ true → mark ≡ None
+none_there None h = refl
+none_there (Some v) h = absurd (cc)
 
 -- where these are all rounds
 module _ (g : Graph) (votes : Counting) (marks : Marks) (share : Share) (len closed last : ℕ) (places : List ℕ)
@@ -228,9 +228,8 @@ module _ (g : Graph) (votes : Counting) (marks : Marks) (share : Share) (len clo
     witnesses = λ k d h. let mine = open_is_mine (get_or places k d) (opens.passes k d h) (opens.witnesses k d h) in record { place = mine.0; witness = (opens.witnesses k d h).witness };
     mine = λ k d h. (open_is_mine (get_or places k d) (opens.passes k d h) (opens.witnesses k d h)).1;
     unmarked = λ k d h.
-        let x : ℕ = get_or places k d in
-        let parts = and_parts (ltb x len && eqb (get_or votes.voters.numbers x 0 % share.of) share.k) (is_none (mark_at marks x)) (opens.passes k d h) in
-        none_is (mark_at marks x) parts.1;
+        let x = get_or places k d in
+        none_there (mark_at marks x) (and_parts (ltb x len && eqb (get_or votes.voters.numbers x 0 % share.of) share.k) (is_none (mark_at marks x)) (opens.passes k d h)).1;
     all = λ x v is none.
         let d = early_known g made.shaped len within share x v is in
         let here = mine_is_open x v d none in
@@ -239,6 +238,10 @@ module _ (g : Graph) (votes : Counting) (marks : Marks) (share : Share) (len clo
   }
 
 -- Where no place is open, the share has its marks
+
+pub some_items : (n : ℕ) → eqb n 0 ≡ false → 0 < n
+some_items zero h = absurd (cc)
+some_items (suc n) h = omega arith
 
 pub whole_early : (g : Graph) (share : Share) (x : ℕ) → early_fame g.members g.coin g.rows (links_of g) (length g.rows) share x ≡ share_fame_in g share x
 whole_early g share x =
@@ -301,23 +304,22 @@ elected_finds g marks share len places (Ok found) shaped within opens mine first
     subst (λ (k : Share). FindsNews n g.coin (state_by g marks) found.len k found.marks) (sym mine)
     (subst (λ (k : ℕ). FindsNews n g.coin (state_by g marks) k share found.marks) (sym first) news)
 
--- and has no mark, where the places have none
-pub elected_unmarked : {E : Type 0} (g : Graph) (marks : Marks) (len : ℕ) (places : List ℕ) (answer : Result Found E) → All (λ x. mark_at marks x ≡ None) places →
+-- none of which has its mark
+pub elected_unmarked : {E : Type 0} (g : Graph) (marks : Marks) (share : Share) (len : ℕ) (places : List ℕ) (answer : Result Found E) → OpensAll g marks share len places →
     IfOk answer (λ found. found.marks ≡ fames_among (fame_within g len) places) → IfOk answer (AreUnmarked marks)
-elected_unmarked g marks len places (Err e) none is = tt
-elected_unmarked g marks len places (Ok found) none is =
-    let fame = fame_within g len in
-    let P : ℕ × Bool → Type 0 = λ f. mark_at marks f.0 ≡ None in
-    subst (λ (fames : List (ℕ × Bool)). All P fames) (sym is)
-    (All-from_recursion P (fames_among fame places)
-    (fames_all fame P places
-    (recursion_from_All (λ x. (v : Bool) → fame x ≡ Some v → P (x, v)) places (λ k d h v decided. none k d h))))
+elected_unmarked g marks share len places (Err e) opens is = tt
+elected_unmarked g marks share len places (Ok found) opens is =
+    let has_none : ℕ × Bool → Type 0 = λ f. mark_at marks f.0 ≡ None in
+    subst (All has_none) (sym is)
+    (All-from_recursion has_none (fames_among (fame_within g len) places)
+    (fames_all (fame_within g len) has_none places
+    (recursion_from_All (λ x. (v : Bool) → fame_within g len x ≡ Some v → has_none (x, v)) places (λ k d h v fame. opens.unmarked k d h))))
 
 -- Of a node with these records
 
 pub unmarked_by_node : {K E : Type 0} (accepts : K → Accepts) (keys : K) (r : ChronicleView) → IsRecorded accepts (node_view keys r) r → (answer : Result Found E) → IfOk answer (AreUnmarked r.marks) →
     IfOk answer (AreUnmarked (node_marks (node_view keys r)))
-unmarked_by_node accepts keys r is answer none = subst (λ (marks : Marks). IfOk answer (AreUnmarked marks)) (sym is.marks) none
+unmarked_by_node accepts keys r is answer unmarked = subst (λ (marks : Marks). IfOk answer (AreUnmarked marks)) (sym is.marks) unmarked
 
 pub found_by_node : {K E : Type 0} (accepts : K → Accepts) (keys : K) (r : ChronicleView) → IsRecorded accepts (node_view keys r) r → (answer : Result Found E) → IfOk answer (FindsNewsOf r.graph r.marks) →
     IfOk answer (IsFoundBy (node_view keys r))

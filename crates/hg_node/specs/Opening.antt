@@ -2,8 +2,8 @@
 use Rattle.std.specs.Prelude.{ℕ, ◌≡◌, ◌<◌, ◌%◌, Bool, ◌&&◌, ◌==◌, nat_lt, List, ◌++◌, All, Contains, filter, get_or, length, Option, None, Some, is_none, IsTrue}
 use Rattle.hg_model.specs.Fame.{Marks, mark_at}
 use Rattle.hg_model.specs.Prefix.{Graph, links_of}
-use Rattle.hg_model.specs.declared.share.Found.{Found}
 use Rattle.hg_model.specs.GraphWords.{share_fame_in}
+use Rattle.hg_model.specs.declared.share.Found.{Found}
 use Rattle.hg_model.specs.Shares.{Share, early_fame, is_of_share}
 use Rattle.hg_fame.specs.Decisions.{AreWitnesses}
 use Rattle.hg_votes.specs.Counting.{Counting, IsMadeFor}
@@ -17,7 +17,7 @@ is_open votes marks share len x = nat_lt x len && get_or votes.voters.numbers x 
 abbrev pub AddsOpen : Counting → Marks → Share → ℕ → List ℕ → List ℕ → List ℕ → Type 0
 AddsOpen votes marks share len witnesses old new = new ≡ old ++ filter (is_open votes marks share len) witnesses
 
--- these places are witnesses of the share among the first `len` rows without a mark, and with them is each such one that
+-- these places are witnesses of the share among the first `len` rows, without a mark, and with them is each such one that
 -- these rows decide
 pub record OpensAll (g : Graph) (marks : Marks) (share : Share) (len : ℕ) (places : List ℕ) : Type 0 where
   pub witnesses : AreWitnesses g len places
@@ -25,11 +25,7 @@ pub record OpensAll (g : Graph) (marks : Marks) (share : Share) (len : ℕ) (pla
   pub unmarked : All (λ x. mark_at marks x ≡ None) places
   pub all : (x : ℕ) (v : Bool) → early_fame g.members g.coin g.rows (links_of g) len share x ≡ Some v → mark_at marks x ≡ None → Contains places x
 
--- nothing of what was found has its mark
-abbrev pub AreUnmarked : Marks → Found → Type 0
-AreUnmarked marks found = All (λ f. mark_at marks f.0 ≡ None) found.marks
-
--- the graph, votes on it, and such places of all its rows, some at least
+-- the graph, votes on it, and such places of all its rows, at least one
 pub record IsOpening (g : Graph) (marks : Marks) (share : Share) (opened : Open) : Type 0 where
   pub graph : opened.graph ≡ g
   pub votes : IsMadeFor opened.votes g
@@ -44,3 +40,7 @@ HasShareMarks g marks share = (x : ℕ) (v : Bool) → share_fame_in g share x �
 abbrev pub Opens : Graph → Marks → Share → Option Open → Type 0
 Opens g marks share None = HasShareMarks g marks share
 Opens g marks share (Some opened) = IsOpening g marks share opened
+
+-- none of what was found has its mark
+abbrev pub AreUnmarked : Marks → Found → Type 0
+AreUnmarked marks found = All (λ (f : ℕ × Bool). mark_at marks f.0 ≡ None) found.marks

@@ -1,7 +1,7 @@
 -- What is entered of a graph is so of every longer one
-use Rattle.std.proofs.Common.{◌≡◌, ℕ, zero, suc, ◌+◌, ◌-◌, ◌<◌, ◌≤◌, Bool, false, cond, ◌&&◌, ltb, eqb, List, [], ◌∷◌, ◌++◌, length, get_or, refl, sym, ap, ap₂, ◌∙◌, subst, inl, inr, arith, add-suc, add-zero, append_assoc, length-append}
+use Rattle.std.proofs.Common.{◌≡◌, ℕ, zero, suc, ◌+◌, ◌-◌, ◌*◌, ◌<◌, ◌≤◌, Bool, false, cond, ◌&&◌, ltb, eqb, List, [], ◌∷◌, ◌++◌, length, get_or, refl, sym, ap, ap₂, ◌∙◌, subst, inl, inr, arith, add-suc, add-zero, append_assoc, length-append}
 use Rattle.std.specs.List.{AllByRecursion}
-use Rattle.std.proofs.lemmas.Bool.{cases_lt, and_left, and_right, false_from_ne_true, lt-ltb, le-ltb}
+use Rattle.std.proofs.lemmas.Bool.{cases_lt, and_left, and_parts, and_right, eqb-true, false_from_ne_true, lt-ltb, le-ltb}
 use Rattle.std.proofs.lemmas.List.{append-nil, get_or_append_left, get_or-append_right}
 use Rattle.std.proofs.lemmas.List.Elements.{All-from_recursion}
 use Rattle.hg_model.specs.declared.row.Row.{Row}
@@ -22,7 +22,7 @@ use Rattle.hg_model.proofs.SightLaws.{strongly_sees-is_ancestor}
 use Rattle.hg_model.proofs.StandingLaws.{witnesses_in-standings}
 use Rattle.hg_bits.specs.Words.{has_bit}
 use Rattle.hg_votes.specs.Slots.{HoldsSlots}
-use Rattle.hg_votes.specs.Counting.{Begins, CarriesTo, Counting, Entered, HoldsVoters, IsVotersOf, number_of, witnesses_of}
+use Rattle.hg_votes.specs.Counting.{Begins, CarriesTo, Counting, Entered, HasMost, HasRoom, HoldsVoters, IsVotersOf, number_of, witnesses_of}
 
 -- more places, after the first
 list_below-add : (a b : ℕ) (test : ℕ → Bool) → list_below (λ k. k) (a + b) test ≡ list_below (λ k. k) a test ++ list_below (λ k. a + k) b (λ k. test (a + k))
@@ -72,11 +72,16 @@ module _ (n : Stakes) (c : ℕ) (G more : List Row) (shaped : IsShaped n (links 
       (λ k h. ap₂ (λ a b. a && eqb b r) (witness_stays k (omega (arith, length-links G))) (round_stays k (omega (arith, length-links G)))) (λ k h passes. refl)
       ∙ sym (witnesses_in-standings n (links G) r))))
 
-  new_are_late : (r : ℕ) → AllByRecursion (λ w. length (links G) ≤ w) (new_witnesses r)
+  -- a row of this round behind the first
+  abbrev IsNewOf : ℕ → ℕ → Type 0
+  IsNewOf r w = (length (links G) ≤ w) × (w < length (links (G ++ more))) × (round_in later w ≡ r)
+
+  new_are_late : (r : ℕ) → AllByRecursion (IsNewOf r) (new_witnesses r)
   unfolding new_witnesses
   new_are_late r =
-      all_list_below (λ w. length (links G) ≤ w) (λ k. length (links G) + k) (length (links (G ++ more)) - length (links G))
-      (λ k. is_witness_in later (length (links G) + k) && eqb (round_in later (length (links G) + k)) r) (λ k h passes. omega arith)
+      all_list_below (IsNewOf r) (λ k. length (links G) + k) (length (links (G ++ more)) - length (links G))
+      (λ k. is_witness_in later (length (links G) + k) && eqb (round_in later (length (links G) + k)) r)
+      (λ k h passes. (omega arith, omega arith, eqb-true (round_in later (length (links G) + k)) r (and_parts (is_witness_in later (length (links G) + k)) (eqb (round_in later (length (links G) + k)) r) passes).1))
 
   -- a later row is not seen
   late_unseen : (y w : ℕ) → y < length G → length (links G) ≤ w → strongly_sees n (links (G ++ more)) y w ≡ false
@@ -104,7 +109,7 @@ module _ (n : Stakes) (c : ℕ) (G more : List Row) (shaped : IsShaped n (links 
         ∙ sym (elim (cases_lt i (length (witnesses_of later r))) [
           | inr over ↦ and_left (ltb i (length (witnesses_of later r))) (strongly_sees n (links (G ++ more)) y (get_or (witnesses_of later r) i 0)) (le-ltb i (length (witnesses_of later r)) over)
           | inl inside ↦
-              (let late = All-from_recursion (λ w. length (links G) ≤ w) (new_witnesses r) (new_are_late r) (i - length (witnesses_of first r)) 0 (omega arith) in
+              (let late = (All-from_recursion (IsNewOf r) (new_witnesses r) (new_are_late r) (i - length (witnesses_of first r)) 0 (omega arith)).0 in
               let there : get_or (witnesses_of later r) i 0 ≡ get_or (new_witnesses r) (i - length (witnesses_of first r)) 0 =
               ap (λ ws. get_or ws i 0) (witnesses_go_on r) ∙ get_or-append_right (witnesses_of first r) (new_witnesses r) (length (witnesses_of first r)) i 0 refl past in
               and_right (ltb i (length (witnesses_of later r))) (strongly_sees n (links (G ++ more)) y (get_or (witnesses_of later r) i 0))
@@ -118,6 +123,19 @@ module _ (n : Stakes) (c : ℕ) (G more : List Row) (shaped : IsShaped n (links 
 
   more_witnesses : (r : ℕ) → length (witnesses_of first r) ≤ length (witnesses_of later r)
   more_witnesses r = omega (arith, ap (λ (ws : List ℕ). length ws) (witnesses_go_on r), length-append (witnesses_of first r) (new_witnesses r))
+
+  -- words for the first rows and for the rounds of the new ones are enough
+  room_stays : (old most words : ℕ) → HasRoom first old → HasMost later (length G) (length (G ++ more)) most → old ≤ words → most ≤ 64 * words → HasRoom later words
+  room_stays old most words room new_most enough fits = record {
+    room = λ r.
+        let all : length (witnesses_of later r) ≡ length (witnesses_of first r) + length (new_witnesses r) = ap (λ (ws : List ℕ). length ws) (witnesses_go_on r) ∙ length-append (witnesses_of first r) (new_witnesses r) in
+        elim (cases_lt 0 (length (new_witnesses r))) [
+          | inr none ↦ omega (arith, all, room.room r)
+          | inl some ↦
+              (let w = All-from_recursion (IsNewOf r) (new_witnesses r) (new_are_late r) 0 0 some in
+              omega (arith, new_most (get_or (new_witnesses r) 0 0) (omega (arith, w.0, length-links G)) (omega (arith, w.1, length-links (G ++ more))), ap (λ k. length (witnesses_of later k)) w.2))
+        ];
+  }
 
   voters_stay : (y : ℕ) → y < length G → (set : List ℕ) → IsVotersOf first y set → IsVotersOf later y set
   voters_stay y h set voters = record {
@@ -142,6 +160,16 @@ entered_later first g entered begins shaped whole held =
     let is : graph_of n first.coin (first.rows ++ more) ≡ g = λ i. graph_of (begins.members i) (begins.coin i) (sym begins.rows.1 i) in
     subst (λ (h : Graph). HoldsVoters h (length first.rows) entered) is
     (entered_in_longer n first.coin first.rows more shaped (subst (λ (h : Graph). IsShapedIn (shape_in h)) (sym is) whole) entered held)
+
+pub room_later : (first g : Graph) (old most words : ℕ) → Begins first g → IsShapedIn (shape_in first) → IsShapedIn (shape_in g) → HasRoom first old → HasMost g (length first.rows) (length g.rows) most →
+    old ≤ words → most ≤ 64 * words → HasRoom g words
+room_later first g old most words begins shaped whole room new_most enough fits =
+    let n = first.members in
+    let more = begins.rows.0 in
+    let is : graph_of n first.coin (first.rows ++ more) ≡ g = λ i. graph_of (begins.members i) (begins.coin i) (sym begins.rows.1 i) in
+    subst (λ (h : Graph). HasRoom h words) is
+    (room_stays n first.coin first.rows more shaped (subst (λ (h : Graph). IsShapedIn (shape_in h)) (sym is) whole) old most words room
+    (subst (λ (h : Graph). HasMost h (length first.rows) (length h.rows) most) (sym is) new_most) enough fits)
 
 -- the graph without rows
 pub begins_empty : (g : Graph) → Begins (graph_of g.members g.coin []) g

@@ -46,6 +46,10 @@ pub record Counting : Type 0 where
 pub record HasRoom (g : Graph) (words : ℕ) : Type 0 where
   pub room : (r : ℕ) → length (witnesses_of g r) ≤ 64 * words
 
+-- none of the rounds of the rows from this one on, up to before the other, has more witnesses
+abbrev pub HasMost : Graph → ℕ → ℕ → ℕ → Type 0
+HasMost g from to most = (y : ℕ) → from ≤ y → y < to → length (witnesses_of g (round_in g y)) ≤ most
+
 -- the ballots on x are those of the graph, up to this round
 pub record HoldsBallots (g : Graph) (x last : ℕ) (ballots : List Ballot) : Type 0 where
   pub len : length ballots ≡ number_of g (length g.rows)

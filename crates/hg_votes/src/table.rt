@@ -2,8 +2,7 @@ ghost use Rattle.std.specs.Prelude.{ℕ, ◌≡◌, ◌<◌, ◌≤◌, [], leng
 ghost use Rattle.hg_model.specs.Orders.{IsPrefix};
 ghost use Rattle.hg_model.specs.Prefix.{Graph, graph_of};
 ghost use Rattle.hg_model.specs.Stakes.{Stakes};
-ghost use Rattle.hg_model.specs.GraphWords.{shape_in, IsShapedIn};
-ghost use Rattle.hg_votes.specs.Counting.{CarriesTo, HoldsVoters, IsMadeFor, number_of, witnesses_of};
+ghost use Rattle.hg_votes.specs.Counting.{CarriesTo, HasMost, HoldsVoters, IsMadeFor, number_of};
 
 use crate::ballots::count_round;
 use crate::voters::Voters;
@@ -44,14 +43,13 @@ impl Model for VoteTable {
     ghost invariant = { λ s. length s.next.items ≡ length s.voted.items };
 }
 
-/// How many witnesses the round has that has most.
-fn most_witnesses<P: Prefix>(p: &P) -> usize
-    requires { IsShapedIn (shape_in (P.graph p.now)) }
-    ensures { (r : ℕ) → length (witnesses_of (P.graph p.now) r) ≤ result }
+/// How many witnesses the round has that has most, of the rounds of the rows from this one on.
+fn most_witnesses<P: Prefix>(p: &P, from: usize) -> usize
+    ensures { HasMost (P.graph p.now) from (length (P.graph p.now).rows) result }
 {
     let mut most = 0;
-    for before in 0..p.greatest() {
-        most = most.max(p.witnesses(before + 1).len());
+    for y in from..p.rows() {
+        most = most.max(p.witnesses(p.round(y)).len());
     }
     most
 }
@@ -120,15 +118,16 @@ impl VoteTable {
         Ok(table)
     }
 
-    /// Makes it the table of this prefix, which goes on from the one that it was made for, without a candidate.
-    /// An error leaves the table.
+    /// Makes it the table of this prefix, which goes on from the one that it was made for, without a candidate. Only new
+    /// rows are looked at. An error leaves the table.
     pub fn carry<P: Prefix>(&mut self, alloc: Global, p: &P) -> Result<(), Memory>
         requires { CarriesTo self.old (P.graph p.now) }
         ensures ok { OnOk result (IsMadeFor self.new (P.graph p.now)) }
         ensures err { OnErr result (self.new ≡ self.old) }
     {
         is_of_graph(p);
-        let words = most_witnesses(p).div_ceil(64);
+        let most = most_witnesses(p, self.voters.rows());
+        let words = most.div_ceil(64).max(self.voted.len());
         let voted = vec![in alloc; 0u64; words]?;
         let next = vec![in alloc; 0u64; words]?;
         enter_or_leave(&mut self.voters, &mut self.ballots, p)?;

@@ -14,5 +14,6 @@ returns-clause-news c =
 pub returns-clause-unmarked : goal.returns-clause-unmarked
 returns-clause-unmarked c =
     let g = c.args.graph.now.graph in
-    elected_unmarked g c.args.kept.now.published.marks c.args.len c.in_ok-places.places.items c.elect_first.result c.in_ok-places.ensures.unmarked
-    (subst (λ (places : List ℕ). IfOk c.elect_first.result (λ found. found.marks ≡ fames_among (fame_within g c.args.len) places)) c.as_slice.ensures.value c.elect_first.ensures.fames)
+    let len = c.args.len in
+    elected_unmarked g c.args.kept.now.published.marks c.args.share len c.in_ok-places.places.items c.elect_first.result c.in_ok-places.ensures
+    (subst (λ (places : List ℕ). IfOk c.elect_first.result (λ found. found.marks ≡ fames_among (fame_within g len) places)) c.as_slice.ensures.value c.elect_first.ensures.fames)

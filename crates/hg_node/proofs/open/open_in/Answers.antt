@@ -1,7 +1,7 @@
-use Rattle.std.proofs.Common.{ℕ, zero, suc, ◌≡◌, ◌<◌, ◌∙◌, false, eqb, length, subst, sym, arith, rules}
+use Rattle.std.proofs.Common.{ℕ, ◌≡◌, ◌∙◌, length, subst, sym, rules}
 use Rattle.std.proofs.lemmas.Bool.{eqb-true}
 use Rattle.hg_node.specs.Opening.{OpensAll}
-use Rattle.hg_node.proofs.OpenLaws.{none_open}
+use Rattle.hg_node.proofs.OpenLaws.{none_open, some_items}
 use Rattle.hg_node.proofs.open.open_in.Goals as goal
 
 pub returns-then-is_empty : goal.returns-then-is_empty
@@ -12,10 +12,6 @@ returns-then-is_empty c =
     let none : length places ≡ 0 = (let is = eqb-true _ _ (sym c.is_empty.ensures ∙ c.if-is_empty.true) in search rules) in
     none_open g marks c.args.share places c.requires.made.shaped c.requires.keeps.fame (subst (λ (k : ℕ). OpensAll g marks c.args.share k places) c.len-rows.ensures.value c.in_ok-places.ensures) none
 
-positive : (k : ℕ) → eqb k 0 ≡ false → 0 < k
-positive zero h = absurd (cc)
-positive (suc k) h = omega arith
-
 pub returns : goal.returns
 returns c =
     let g = c.args.graph.now.graph in
@@ -23,5 +19,5 @@ returns c =
       graph = c.in_ok-frozen.ensures;
       votes = c.in_ok-table.ensures g c.requires.made;
       places = subst (λ (k : ℕ). OpensAll g c.args.kept.now.published.marks c.args.share k c.in_ok-places.places.items) c.len-rows.ensures.value c.in_ok-places.ensures;
-      some = let is = positive _ (sym c.is_empty.ensures ∙ c.if-is_empty.false) in search rules;
+      some = (let is = some_items _ (sym c.is_empty.ensures ∙ c.if-is_empty.false) in search rules);
     }

@@ -1,16 +1,17 @@
-use Rattle.std.proofs.Common.{◌≡◌, length, max, arith, rules}
-use Rattle.hg_votes.proofs.MadeLaws.{most_none, most_more, most_all}
+use Rattle.std.proofs.Common.{◌≡◌, ◌∙◌, length, max, ap, arith, rules}
+use Rattle.hg_model.specs.Shape.{Shape}
+use Rattle.hg_model.specs.GraphWords.{round_in}
+use Rattle.hg_model.proofs.LinkLaws.{length-links}
+use Rattle.hg_model.proofs.PrefixLaws.{round_read}
+use Rattle.hg_votes.proofs.MadeLaws.{most_more}
 use Rattle.hg_votes.proofs.table.most_witnesses.Goals as goal
 
-pub loop-before-init : goal.loop-before-init
-loop-before-init g c = most_none (g.P.Prefix.graph c.args.p.now) c.requires
-
-pub loop-before-preserved : goal.loop-before-preserved
-loop-before-preserved g c =
-    let top : c.max-most.result ≡ max c.loop-before.most (length c.witnesses.result.now) = search rules in
-    most_more (g.P.Prefix.graph c.args.p.now) _ c.loop-before.before c.loop-before.most c.witnesses.result.now (g.met.P.Prefix.has_rounds c.args.p.now) c.witnesses.ensures c.loop-before.invariant
-    _ (omega arith) (omega arith)
-
-pub returns : goal.returns
-returns g c =
-    most_all (g.P.Prefix.graph c.args.p.now) _ c.loop-before.before c.loop-before.most (g.met.P.Prefix.has_rounds c.args.p.now) (omega arith) c.loop-before.invariant
+pub loop-y-preserved : goal.loop-y-preserved
+loop-y-preserved g c =
+    let graph = g.P.Prefix.graph c.args.p.now in
+    let matches = g.met.P.Prefix.has_rounds c.args.p.now in
+    let top : c.max-most.result ≡ max c.loop-y.most (length c.witnesses.result.now) = search rules in
+    let long : c.rows-y-end.result ≡ length graph.rows =
+    c.rows-y-end.ensures.value ∙ (ap (λ (s : Shape). length s.links) (g.met.P.Prefix.sees_graph c.args.p.now) ∙ length-links graph.rows) in
+    let read : c.round.result ≡ round_in graph c.loop-y.y = c.round.ensures ∙ round_read graph _ c.loop-y.y matches (omega (arith, long, c.loop-y-test.true)) in
+    most_more graph _ c.args.from c.loop-y.y c.round.result c.loop-y.most c.witnesses.result.now matches read c.witnesses.ensures c.loop-y.invariant _ (omega arith) (omega arith)

@@ -11,7 +11,6 @@ returns-clause-found g c =
     (found_by_node g.V.Verifier.accepts c.self.inside.keys c.self.inside.chronicle.value c.self.invariant c.found.result
     (subst (λ (r : ChronicleView). IfOk c.found.result (FindsNewsOf r.graph r.marks)) c.deref_mut.ensures.value c.found.ensures.news))
 
-
 pub returns-clause-unmarked : goal.returns-clause-unmarked
 returns-clause-unmarked g c =
     rw (← c.self.view_is)

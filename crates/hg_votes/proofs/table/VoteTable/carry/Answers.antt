@@ -1,8 +1,8 @@
-use Rattle.std.proofs.Common.{ℕ, length, ap, subst, sym, arith, length-append}
+use Rattle.std.proofs.Common.{◌≡◌, ◌∙◌, ℕ, length, max, ap, subst, sym, arith, rules, length-append}
 use Rattle.std.proofs.lemmas.Grind.{div_ceil_times}
-use Rattle.hg_votes.specs.Counting.{Counting, HasRoom, HoldsVoters}
+use Rattle.hg_votes.specs.Counting.{Counting, HasMost, HasRoom, HoldsVoters}
 use Rattle.hg_votes.proofs.MadeLaws.{made_new}
-use Rattle.hg_votes.proofs.CarryLaws.{entered_later}
+use Rattle.hg_votes.proofs.CarryLaws.{entered_later, room_later}
 use Rattle.hg_votes.proofs.table.VoteTable.carry.Goals as goal
 
 pub enter_or_leave-requires-clause-few : goal.enter_or_leave-requires-clause-few
@@ -23,7 +23,17 @@ enter_or_leave-requires-clause-before g c =
 pub returns-clause-ok : goal.returns-clause-ok
 returns-clause-ok g c =
     let graph = g.P.Prefix.graph c.args.p.now in
-    let times = div_ceil_times c.most_witnesses.result 64 (omega arith) in
-    let room : HasRoom graph (length c.in_ok-voted.voted.items) = record { room = λ r. omega (arith, c.most_witnesses.ensures r, times.0, c.div_ceil-words.ensures, c.in_ok-voted.ensures.len) } in
-    made_new graph _ c.enter_or_leave.new.ballots.items c.in_ok-voted.voted.items c.is_of_graph.ensures.shaped c.is_of_graph.ensures.short c.in_ok-enter_or_leave.ensures.voters
+    let first = c.requires.0 in
+    let made = c.requires.1 in
+    let shaped = c.is_of_graph.ensures.shaped in
+    let times = div_ceil_times c.most_witnesses-most.result 64 (omega arith) in
+    let from : c.rows.result ≡ length first.rows = c.rows.ensures ∙ (ap (λ (t : Counting). length t.voters.numbers) c.self.view_is ∙ made.voters.long) in
+    let most : HasMost graph (length first.rows) (length graph.rows) c.most_witnesses-most.result =
+    subst (λ (k : ℕ). HasMost graph k (length graph.rows) c.most_witnesses-most.result) from c.most_witnesses-most.ensures in
+    let top : c.max-words.result ≡ max c.div_ceil.result c.len.result = search rules in
+    let before : c.len.result ≡ length c.args.self.now.voted = omega (arith, c.len.ensures, ap (λ (t : Counting). length t.voted) c.self.view_is) in
+    let words : length c.in_ok-voted.voted.items ≡ c.max-words.result = omega (arith, c.in_ok-voted.ensures.len) in
+    let room : HasRoom graph (length c.in_ok-voted.voted.items) = room_later first graph (length c.args.self.now.voted) c.most_witnesses-most.result (length c.in_ok-voted.voted.items)
+    c.requires.2 made.shaped shaped made.room most (omega (arith, top, before, words)) (omega (arith, times.0, c.div_ceil.ensures, top, words)) in
+    made_new graph _ c.enter_or_leave.new.ballots.items c.in_ok-voted.voted.items shaped c.is_of_graph.ensures.short c.in_ok-enter_or_leave.ensures.voters
     (omega (arith, c.in_ok-enter_or_leave.ensures.ballots)) room
