@@ -11,7 +11,7 @@ use hg_made::generate;
 use hg_model::{Bytes, Memory, Name, Row, Transfer};
 use hg_name::name_of;
 use hg_pay::write_pay;
-use hg_script::{Action, Gossip, Line};
+use hg_script::{Action, Gossip, Line, Part};
 use hg_sign::{MacTable, Signer};
 use std::alloc::Global;
 use std::process::Abort;
@@ -147,13 +147,15 @@ const MADE: [(u16, u16, u64, &[u8]); 3] = [
 /// The fields of a sync, or of none.
 fn sync_of(line: &Line) -> (u16, u16, u64, &[u8]) {
     match &line.action {
-        Action::Gossip(
-            Gossip::Sync {
-                taker,
-                peer,
-                time,
-                payload,
-            },
+        Action::Part(
+            Part::Gossip(
+                Gossip::Sync {
+                    taker,
+                    peer,
+                    time,
+                    payload,
+                },
+            ),
         ) => (*taker, *peer, *time, payload.as_slice()),
         _ => (0, 0, 0, &[]),
     }

@@ -1,10 +1,8 @@
 -- What is made keeps to the rules of members and of lines
-use Rattle.std.proofs.Common.{◌≡◌, ◌≢◌, ◌∙◌, ◌+◌, ◌-◌, ◌*◌, ◌%◌, ◌<◌, ◌≤◌, ◌^◌, ◌++◌, ◌&&◌, ℕ, zero, suc, Bool, true, false, List, [], ◌∷◌, length, get_or, map, slice_get, cond, drop, All, AllPairs, sum_by, Some, refl, sym, ap, subst, inl, inr, arith, codes, add-one, zero-add, mod-lt}
+use Rattle.std.proofs.Common.{◌≡◌, ◌∙◌, ◌+◌, ◌-◌, ◌*◌, ◌%◌, ◌<◌, ◌≤◌, ◌++◌, ℕ, zero, suc, Bool, true, false, List, [], ◌∷◌, length, get_or, slice_get, cond, drop, All, sum_by, Some, refl, sym, ap, subst, inl, inr, arith, add-one, zero-add, mod-lt}
 use Rattle.std.specs.Prelude.{nat_lt}
-use Rattle.std.specs.Fmt.{decimal, digits}
-use Rattle.std.specs.Int.{w16, w64, to_be_bytes}
+use Rattle.std.specs.Fmt.{digits}
 use Rattle.std.specs.List.{list_all, range_with_len}
-use Rattle.std.specs.Option.{option_map_or}
 use Rattle.std.proofs.lemmas.Bool.{cases_Bool, false≢true, ltb-true, ltb-false}
 use Rattle.std.proofs.lemmas.Fmt.{decimal_injective}
 use Rattle.std.proofs.lemmas.List.Elements.{All-append, All-cons, All-nil}
@@ -14,7 +12,7 @@ use Rattle.std.proofs.lemmas.List.Sums.{sum_by-le}
 use Rattle.std.proofs.lemmas.Option.{slice_get-get_or}
 use Rattle.hg_model.specs.declared.members.MemberEntry.{MemberEntry}
 use Rattle.hg_model.specs.declared.pay.Transfer.{Transfer}
-use Rattle.hg_model.specs.Members.{IsEntry, IsMemberList, has_node, is_member_name, listed}
+use Rattle.hg_model.specs.Members.{IsEntry, IsMemberList, is_member_name}
 use Rattle.hg_model.specs.Pay.{pay_bytes}
 use Rattle.hg_model.specs.Places.{table}
 use Rattle.hg_script.specs.declared.line.Gossip.TheVariants.{Create}

@@ -7,6 +7,7 @@ use Rattle.hg_model.specs.declared.pay.Transfer.{Transfer}
 use Rattle.hg_model.specs.Members.{MemberList, listed}
 use Rattle.hg_model.specs.Pay.{pay_bytes}
 use Rattle.hg_model.specs.Places.{table}
+use Rattle.hg_script.specs.declared.line.Part.TheVariants as part
 use Rattle.hg_script.specs.declared.line.Action.TheVariants as action
 use Rattle.hg_script.specs.declared.line.Gossip.{Gossip}
 use Rattle.hg_script.specs.declared.line.Gossip.TheVariants.{Create, Sync}
@@ -56,7 +57,7 @@ state_behind n x j = cond (nat_lt j n) x (state_after x 4)
 
 -- numbered from 1, as a script of these lines would be
 abbrev pub made_line : ℕ → ℕ → ℕ → Line
-made_line n x j = record { number = j + 1; action = action.Gossip (made_gossip n x j) }
+made_line n x j = record { number = j + 1; action = action.Part (part.Gossip (made_gossip n x j)) }
 
 -- the state of the draws, and the lines so far
 pub record Making : Type 0 where

@@ -5,7 +5,7 @@ ghost use Rattle.hg_made.specs.Made.{first_lines, made_gossip, made_sync, peer_o
 use crate::draws::Draws;
 use hg_model::{Bytes, Items, Member, Memory, Transfer};
 use hg_pay::write_pay;
-use hg_script::{Action, Gossip, Line};
+use hg_script::{Action, Gossip, Line, Part};
 use std::alloc::Global;
 
 /// Another member than the taker, for a number below their count less one.
@@ -72,7 +72,7 @@ pub(crate) fn made_lines(
         let gossip = made_gossip(alloc, &mut draws, members, j)?;
         made.push(Line {
             number: u64::from(j) + 1,
-            action: Action::Gossip(gossip),
+            action: Action::Part(Part::Gossip(gossip)),
         })?;
     }
     Ok(made)

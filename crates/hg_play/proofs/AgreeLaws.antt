@@ -32,6 +32,7 @@ use Rattle.hg_runs.specs.Safety.{OrdersAgree, order_after}
 use Rattle.hg_script.specs.declared.line.Line.{Line}
 use Rattle.hg_script.specs.declared.line.Gossip.{Gossip}
 use Rattle.hg_script.specs.declared.line.Gossip.TheVariants.{Create, Sync, Pull, Join, Give}
+use Rattle.hg_script.specs.declared.line.Part.TheVariants as part
 use Rattle.hg_script.specs.declared.line.Action.{Action}
 use Rattle.hg_script.specs.declared.line.Action.TheVariants as action
 use Rattle.hg_world.specs.declared.step.Step.{Step}
@@ -197,8 +198,8 @@ module _ (members : MemberList) (last : WorldView) (world : IsWorld last) (count
 
   action_shown : (w : WorldView) (labels : List (List ℕ)) (number : ℕ) (a : Action) → starts_of w ≡ starts members → IsBelow (length w.sites) a → IsBefore last (after_steps w (action_steps w labels a)) →
       AllByRecursion ShowsKept (action_printed members w labels number a)
-  action_shown w labels number (action.Gossip g) begun below after = (gossip_shown w labels number g, tt)
-  action_shown w labels number (action.Label source) begun below after = tt
+  action_shown w labels number (action.Part (part.Gossip g)) begun below after = (gossip_shown w labels number g, tt)
+  action_shown w labels number (action.Part (part.Label source)) begun below after = tt
   action_shown w labels number (action.Freeze m worker) begun below after = (tt, tt)
   action_shown w labels number (action.Publish m worker) begun below after = (tt, tt)
   action_shown w labels number (action.Kept m) begun below after = (kept_is_shown w begun after m below, tt)

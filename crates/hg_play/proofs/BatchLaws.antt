@@ -1,16 +1,15 @@
 -- Nodes of a world that were shared, and are a world again
-use Rattle.std.proofs.Common.{◌≡◌, inl, inr, ℕ, ◌+◌, ◌<◌, ◌≤◌, true, List, [], length, take, drop, map, get_or, replicate, sym, refl, ap, ◌∙◌, subst, arith}
-use Rattle.std.specs.Prelude.{All}
+use Rattle.std.proofs.Common.{◌≡◌, inl, inr, ℕ, zero, suc, ◌+◌, ◌<◌, ◌≤◌, List, [], length, take, drop, map, get_or, replicate, sym, refl, ap, ◌∙◌, subst, arith}
 use Rattle.std.proofs.Math.Seq.{take-add}
 use Rattle.std.proofs.lemmas.Bool.{cases_lt, true≢false}
 use Rattle.std.proofs.lemmas.List.Sums.{fold-append, fold_more}
-use Rattle.std.proofs.lemmas.List.{get_or-drop, get_or-map, get_or-take, get_or_past, length-map, length-take-le, take_all}
+use Rattle.std.proofs.lemmas.List.{get_or-drop, get_or-map, get_or_past, length-map, take_all}
 use Rattle.hg_model.specs.declared.outcome.Printed.{Printed}
 use Rattle.hg_model.specs.Members.{MemberList}
 use Rattle.hg_model.specs.Shares.{whole}
 use Rattle.hg_model.specs.Signing.{accepts_by}
 use Rattle.hg_model.specs.NodeView.{NodeView, Start}
-use Rattle.hg_script.specs.declared.line.Action.{Action}
+use Rattle.hg_script.specs.declared.line.Part.{Part}
 use Rattle.hg_script.specs.declared.line.Action.TheVariants as action
 use Rattle.hg_script.specs.declared.line.Line.{Line}
 use Rattle.hg_world.specs.World.{Secrets, Site, WorldView, no_site, node_at, nodes_of, new_world, site_of, worker_limit}
@@ -25,15 +24,14 @@ use Rattle.hg_crowd.proofs.CrowdLaws.{after_split_all, all_back, all_started, mo
 use Rattle.hg_crowd.proofs.EndLaws.{sessions_end, sessions_mark}
 use Rattle.hg_crowd.proofs.ListLaws.{some_of}
 use Rattle.hg_play.specs.Alike.{AreAlike, WorldsAlike}
-use Rattle.hg_play.specs.Batch.{AllAreMarked, IsPartBelow, IsPlayed, PlaysNext, MatchesBatch, is_part}
-use Rattle.hg_play.specs.Lines.{IsBelow, IsLineBelow}
+use Rattle.hg_play.specs.Batch.{AllAreMarked, IsBatch, IsPlayed, PlaysNext, MatchesBatch, is_part}
 use Rattle.hg_play.specs.Nodes.{MatchesLine, MatchesLines, seen_alone}
 use Rattle.hg_play.specs.Play.{Stage, after_line, after_lines, first_stage, stage}
 use Rattle.hg_play.proofs.LikeLaws.{line_like, worlds_alike}
 use Rattle.hg_play.proofs.WorldLaws.{starts-new}
 use Rattle.hg_play.specs.Sites.{starts_of}
 use Rattle.hg_play.specs.Tape.{TapeView, no_tape}
-use Rattle.hg_play.specs.Through.{AllOthersMark, AreNodes, AreSeen, IsOfRows, IsPart, IsPartLine, IsStageLike, IsStageOf, MatchesThrough, begun, node_seen}
+use Rattle.hg_play.specs.Through.{AllOthersMark, AreNodes, AreSeen, IsOfRows, IsStageLike, IsStageOf, MatchesThrough, begun, node_seen}
 
 -- the node of a place that was started with it is the node
 same_node : (p : SharedNode Secrets) (s : SeatView Secrets) (v : NodeView Secrets) → p.start ≡ v → s.seen ≡ v.history → node_seen p s ≡ v
@@ -194,18 +192,28 @@ after_more : (members : MemberList) (s : Stage) (lines : List Line) (from count 
     after_lines members s (take (from + count) lines) ≡ after_lines members (after_lines members s (take from lines)) (take count (drop from lines))
 after_more members s lines from count = ap (λ (ls : List Line). after_lines members s ls) (take-add from count lines) ∙ fold-append (after_line members) s (take from lines) (take count (drop from lines))
 
-pub plays_batch : (members : MemberList) (lines batch rest : List Line) (from count : ℕ) (old new : WorldView) (t t_new : TapeView) →
-    rest ≡ drop from lines → batch ≡ take count rest → 0 < count → count ≤ length rest → length rest + from ≡ length lines → length new.sites ≡ length old.sites →
-    MatchesBatch members batch old t new t_new → PlaysNext members lines from old t new t_new (from + count)
-plays_batch members lines batch rest from count old new t t_new is_rest is some few long same told = record {
-  further = omega (arith, some);
-  within = omega (arith, few, long);
-  count = same;
-  told = λ s at.
-      let behind : after_lines members s (take (from + count) lines) ≡ after_lines members (after_lines members s (take from lines)) batch =
-      after_more members s lines from count ∙ ap (λ (ls : List Line). after_lines members (after_lines members s (take from lines)) ls) (sym (is ∙ ap (take count) is_rest)) in
-      subst (IsStageLike members new t_new) (sym behind) (told (after_lines members s (take from lines)) at);
-}
+-- a batch has its first line, if that may stand in one
+batch_some : (rest : List Line) (count : ℕ) (d : Line) (p : Part) → IsBatch rest count → 0 < length rest → (get_or rest 0 d).action ≡ action.Part p → 0 < count
+batch_some rest zero d p batch some is = absurd (true≢false (sym (ap is_part is) ∙ batch.stops d some (omega arith)))
+batch_some rest (suc k) d p batch some is = omega arith
+
+pub plays_batch : (members : MemberList) (lines rest : List Line) (line : Line) (p : Part) (from count : ℕ) (old new : WorldView) (t t_new : TapeView) →
+    from < length lines → (get_or lines from line).action ≡ action.Part p → rest ≡ drop from lines → length rest + from ≡ length lines → IsBatch rest count → length new.sites ≡ length old.sites →
+    MatchesBatch members (take count rest) old t new t_new → PlaysNext members lines from old t new t_new (from + count)
+plays_batch members lines rest line p from count old new t t_new low part is_rest long batch same told =
+    let from_here : from + 0 ≡ from = omega arith in
+    let first : get_or rest 0 line ≡ get_or lines from line =
+    ap (λ (ls : List Line). get_or ls 0 line) is_rest ∙ (get_or-drop from lines 0 line ∙ ap (λ (k : ℕ). get_or lines k line) from_here) in
+    let some : 0 < count = batch_some rest count line p batch (omega (arith, low, long)) (ap (λ (l : Line). l.action) first ∙ part) in
+    record {
+      further = omega (arith, some);
+      within = omega (arith, batch.within, long);
+      count = same;
+      told = λ s at.
+          let behind : after_lines members s (take (from + count) lines) ≡ after_lines members (after_lines members s (take from lines)) (take count rest) =
+          after_more members s lines from count ∙ ap (λ (ls : List Line). after_lines members (after_lines members s (take from lines)) (take count ls)) (sym is_rest) in
+          subst (IsStageLike members new t_new) (sym behind) (told (after_lines members s (take from lines)) at);
+    }
 
 pub plays_line : (members : MemberList) (lines : List Line) (line : Line) (from : ℕ) (old new : WorldView) (t t_new : TapeView) → from < length lines → line ≡ get_or lines from line → IsOfRows line.action →
     length new.sites ≡ length old.sites → MatchesLine members line (seen_alone old) t (seen_alone new) t_new → PlaysNext members lines from old t new t_new (from + 1)
@@ -219,24 +227,6 @@ plays_line members lines line from old new t t_new low is of same told = record 
       fold_more (after_line members) s lines from line low ∙ ap (after_line members before) (sym is) in
       subst (IsStageLike members new t_new) (sym behind) (line_like members line old new t t_new of told before at);
 }
-
--- lines that may stand in a batch are parts
-part_of : (n : ℕ) (a : Action) → is_part a ≡ true → IsBelow n a → IsPart n a
-part_of n (action.Gossip g) part below = below
-part_of n (action.Label source) part below = below
-part_of n (action.Freeze m worker) part below = absurd (true≢false (sym part))
-part_of n (action.Publish m worker) part below = absurd (true≢false (sym part))
-part_of n (action.Kept m) part below = absurd (true≢false (sym part))
-part_of n (action.Show m) part below = absurd (true≢false (sym part))
-part_of n (action.Names m) part below = absurd (true≢false (sym part))
-
-pub batch_parts : (n from count : ℕ) (lines rest batch : List Line) → rest ≡ drop from lines → batch ≡ take count rest → count ≤ length rest → length rest + from ≡ length lines → All (IsLineBelow n) lines → IsPartBelow rest count → All (IsPartLine n) batch
-batch_parts n from count lines rest batch is_rest is few long below parts = λ k d low.
-    let short : length batch ≡ count = ap length is ∙ length-take-le count rest few in
-    let early : k < count = omega (arith, low, short) in
-    let here : get_or batch k d ≡ get_or rest k d = ap (λ (ls : List Line). get_or ls k d) is ∙ get_or-take count rest k d early in
-    let there : get_or rest k d ≡ get_or lines (from + k) d = ap (λ (ls : List Line). get_or ls k d) is_rest ∙ get_or-drop from lines k d in
-    subst (IsPartLine n) (sym here) (part_of n (get_or rest k d).action (parts k d early) (subst (IsLineBelow n) (sym there) (below (from + k) d (omega (arith, early, few, long)))))
 
 -- the run that a batch is
 abbrev pub the_run : (nodes : List (NodeView Secrets)) (shared places : List (SharedNode Secrets)) (firsts split own called beside back lasts : List (SeatView Secrets)) (ends : List (NodeView Secrets)) → places ≡ shared →

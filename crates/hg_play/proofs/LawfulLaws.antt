@@ -9,6 +9,7 @@ use Rattle.hg_model.specs.declared.outcome.Outcome.{Outcome}
 use Rattle.hg_model.specs.Members.{MemberList, has_node}
 use Rattle.hg_script.specs.declared.line.Gossip.{Gossip}
 use Rattle.hg_script.specs.declared.line.Gossip.TheVariants.{Create, Sync, Pull, Join, Give}
+use Rattle.hg_script.specs.declared.line.Part.TheVariants as part
 use Rattle.hg_script.specs.declared.line.Action.{Action}
 use Rattle.hg_script.specs.declared.line.Action.TheVariants as action
 use Rattle.hg_script.specs.declared.line.Line.{Line}
@@ -24,7 +25,7 @@ use Rattle.hg_world.proofs.WorldLaws.{safe}
 use Rattle.hg_play.specs.Agree.{IsAgreed}
 use Rattle.hg_play.specs.Alike.{WorldsAlike}
 use Rattle.hg_play.specs.Batch.{IsLineOfRows, IsPlayed}
-use Rattle.hg_play.specs.Lines.{IsBelow, IsLineBelow, action_steps, gossip_steps}
+use Rattle.hg_play.specs.Lines.{IsBelow, IsGossipBelow, IsLineBelow, action_steps, gossip_steps}
 use Rattle.hg_play.specs.Nodes.{Closes, MatchesBlocks, seen_alone}
 use Rattle.hg_play.specs.Play.{IsSafePlay, Stage, after_line, after_lines, end_blocks, end_steps, first_stage, lines_steps, play_steps}
 use Rattle.hg_play.specs.Sites.{starts, starts_of}
@@ -37,8 +38,7 @@ use Rattle.hg_play.proofs.WorldLaws.{play-steps, safe-play, starts-lines, starts
 
 -- with workers the lines do not depend on marks
 line_of_rows : (workers : ℕ) (a : Action) → 0 < workers → IsWithWorkers workers a → IsOfRows a
-line_of_rows workers (action.Gossip g) some with = tt
-line_of_rows workers (action.Label source) some with = tt
+line_of_rows workers (action.Part p) some with = tt
 line_of_rows workers (action.Freeze m worker) some with = absurd (omega (arith, with, some))
 line_of_rows workers (action.Publish m worker) some with = absurd (omega (arith, with, some))
 line_of_rows workers (action.Kept m) some with = absurd (omega (arith, with, some))
@@ -69,7 +69,7 @@ module _ (n : ℕ) where
   settled : (m : ℕ) → m < n → AllByRecursion IsStepBelow (settle_steps m)
   settled m low = ((low, omega arith), ((low, omega arith), tt))
 
-  gossip_below : (w : WorldView) (labels : List (List ℕ)) (g : Gossip) → IsBelow n (action.Gossip g) → AllByRecursion IsStepBelow (gossip_steps w labels g)
+  gossip_below : (w : WorldView) (labels : List (List ℕ)) (g : Gossip) → IsGossipBelow n g → AllByRecursion IsStepBelow (gossip_steps w labels g)
   gossip_below w labels (Create m time payload) below = ((below, tt), tt)
   gossip_below w labels (Sync taker peer time payload) below = both (pull_steps w taker peer) _ (delivered taker _ below.0) (made taker _ time payload below.0)
   gossip_below w labels (Pull taker peer) below = delivered taker _ below.0
@@ -77,8 +77,8 @@ module _ (n : ℕ) where
   gossip_below w labels (Give m label) below = ((below, tt), tt)
 
   action_below : (w : WorldView) (labels : List (List ℕ)) (a : Action) → IsBelow n a → AllByRecursion IsStepBelow (action_steps w labels a)
-  action_below w labels (action.Gossip g) below = gossip_below w labels g below
-  action_below w labels (action.Label source) below = tt
+  action_below w labels (action.Part (part.Gossip g)) below = gossip_below w labels g below
+  action_below w labels (action.Part (part.Label source)) below = tt
   action_below w labels (action.Freeze m worker) below = (below, tt)
   action_below w labels (action.Publish m worker) below = (below, tt)
   action_below w labels (action.Kept m) below = tt

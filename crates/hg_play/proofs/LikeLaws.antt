@@ -18,6 +18,7 @@ use Rattle.hg_script.specs.declared.line.Gossip.{Gossip}
 use Rattle.hg_script.specs.declared.line.Gossip.TheVariants.{Create, Sync, Pull, Join, Give}
 use Rattle.hg_script.specs.declared.line.Source.{Source}
 use Rattle.hg_script.specs.declared.line.Source.TheVariants.{Last, Forged, Raw, Altered, Front}
+use Rattle.hg_script.specs.declared.line.Part.TheVariants as part
 use Rattle.hg_script.specs.declared.line.Action.{Action}
 use Rattle.hg_script.specs.declared.line.Action.TheVariants as action
 use Rattle.hg_script.specs.declared.line.Line.{Line}
@@ -58,8 +59,8 @@ module _ (w v : WorldView) (alike : WorldsAlike w v) where
   gossip_steps_alike labels (Give m label) = refl
 
   action_steps_alike : (labels : List (List ℕ)) (a : Action) → IsOfRows a → action_steps w labels a ≡ action_steps v labels a
-  action_steps_alike labels (action.Gossip g) of = gossip_steps_alike labels g
-  action_steps_alike labels (action.Label source) of = refl
+  action_steps_alike labels (action.Part (part.Gossip g)) of = gossip_steps_alike labels g
+  action_steps_alike labels (action.Part (part.Label source)) of = refl
   action_steps_alike labels (action.Freeze m worker) of = absurd of
   action_steps_alike labels (action.Publish m worker) of = absurd of
   action_steps_alike labels (action.Kept m) of = absurd of
@@ -76,8 +77,8 @@ module _ (w v : WorldView) (alike : WorldsAlike w v) where
   gossip_printed_alike labels number (Give m label) = ap (λ (a : PutAnswer). printed.Give number a) ((stay_alike (node_at w m) (node_at v m) (alike.nodes m)).put _).0
 
   action_printed_alike : (members : MemberList) (labels : List (List ℕ)) (number : ℕ) (a : Action) → IsOfRows a → action_printed members w labels number a ≡ action_printed members v labels number a
-  action_printed_alike members labels number (action.Gossip g) of = ap (λ (p : Printed). p ∷ []) (gossip_printed_alike labels number g)
-  action_printed_alike members labels number (action.Label source) of = refl
+  action_printed_alike members labels number (action.Part (part.Gossip g)) of = ap (λ (p : Printed). p ∷ []) (gossip_printed_alike labels number g)
+  action_printed_alike members labels number (action.Part (part.Label source)) of = refl
   action_printed_alike members labels number (action.Freeze m worker) of = absurd of
   action_printed_alike members labels number (action.Publish m worker) of = absurd of
   action_printed_alike members labels number (action.Kept m) of = absurd of
@@ -92,8 +93,8 @@ module _ (w v : WorldView) (alike : WorldsAlike w v) where
   source_alike secrets labels (Front label len) = refl
 
   action_labels_alike : (members : MemberList) (labels : List (List ℕ)) (a : Action) → action_labels members w labels a ≡ action_labels members v labels a
-  action_labels_alike members labels (action.Gossip g) = refl
-  action_labels_alike members labels (action.Label source) = ap (λ (bytes : List ℕ). labels ++ bytes ∷ []) (source_alike (secrets_of members) labels source)
+  action_labels_alike members labels (action.Part (part.Gossip g)) = refl
+  action_labels_alike members labels (action.Part (part.Label source)) = ap (λ (bytes : List ℕ). labels ++ bytes ∷ []) (source_alike (secrets_of members) labels source)
   action_labels_alike members labels (action.Freeze m worker) = refl
   action_labels_alike members labels (action.Publish m worker) = refl
   action_labels_alike members labels (action.Kept m) = refl

@@ -5,12 +5,14 @@ use Rattle.std.proofs.lemmas.List.Sums.{fold_more}
 use Rattle.hg_model.specs.declared.outcome.Printed.{Printed}
 use Rattle.hg_model.specs.Members.{MemberList, has_node}
 use Rattle.hg_model.specs.Places.{list_below}
+use Rattle.hg_script.specs.declared.line.Part.{Part}
 use Rattle.hg_script.specs.declared.line.Action.{Action}
+use Rattle.hg_script.specs.declared.line.Action.TheVariants as action
 use Rattle.hg_script.specs.declared.line.Line.{Line}
 use Rattle.hg_world.specs.declared.step.Step.{Step}
 use Rattle.hg_world.specs.World.{WorldView}
 use Rattle.hg_world.specs.Steps.{RanSome, after_steps, settle_steps}
-use Rattle.hg_play.specs.Lines.{action_steps, action_tape}
+use Rattle.hg_play.specs.Lines.{action_steps, action_tape, part_line}
 use Rattle.hg_play.specs.Nodes.{IsKept, IsStage, NodesView, MatchesBlock, MatchesLine, MatchesLines, Matched, seen_alone}
 use Rattle.hg_play.specs.Play.{after_line, after_lines, block_at, end_steps, stage}
 use Rattle.hg_play.specs.Sites.{starts, starts_of}
@@ -131,6 +133,10 @@ pub lines_told : {N : Type 0} (old now : NodesView N) (members : MemberList) (li
 lines_told old now members lines t told = λ alone w agrees begun.
     let at = told alone (stage w [] []) (record { agrees = agrees; begun = begun; taped = refl }) in
     (ap (λ (u : TapeView). u.printed) at.taped, at.agrees)
+
+-- a line that does what may stand in a batch
+pub part_is : (line : Line) (p : Part) → line.action ≡ action.Part p → part_line line.number p ≡ line
+part_is line p is = λ i. record { number = line.number; action = sym is i }
 
 -- lines that may be played may be later
 pub lines_still : {N : Type 0} (Is : ℕ → Line → Type 0) (old now : NodesView N) → IsKept old now → (lines : List Line) (i : ℕ) (line : Line) → i < length lines → line ≡ get_or lines i line →

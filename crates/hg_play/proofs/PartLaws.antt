@@ -1,5 +1,5 @@
 -- Pulls, syncs and last events over nodes between threads, by the calls that they are made of
-use Rattle.std.proofs.Common.{◌≡◌, ℕ, List, map, Option, Some, Result, Ok, Err, sym, refl, ap, ◌∙◌, subst}
+use Rattle.std.proofs.Common.{◌≡◌, ℕ, List, map, take, Option, Some, Result, Ok, Err, sym, refl, ap, ◌∙◌, subst}
 use Rattle.std.specs.declared.sync.Arc.{Arc}
 use Rattle.std.specs.Prelude.{IfOk}
 use Rattle.hg_model.specs.declared.row.Row.{Row}
@@ -78,9 +78,9 @@ pub through_since : (places : List (SharedNode Secrets)) (seats : List (SeatView
 through_since places seats old new is kept = kept.since (shared_view places seats) (subst (λ (v : SharedView). (seen_shared v).Since (shared_view places seats)) (sym is) (refl, still_all seats))
 
 pub through_told : {E : Type 0} (members : MemberList) (lines : List Line) (places : List (SharedNode Secrets)) (seats seats_new : List (SeatView Secrets)) (old new : SharedView) (t : TapeView)
-    (result : Result TapeView E) → old ≡ shared_view places seats → new ≡ shared_view places seats_new →
-    IfOk result (MatchesParts members lines (seen_shared old) t (seen_shared new)) → IfOk result (MatchesThrough members lines places seats t seats_new)
+    (result : Result (TapeView × ℕ) E) → old ≡ shared_view places seats → new ≡ shared_view places seats_new →
+    IfOk result (λ r. MatchesParts members (take r.1 lines) (seen_shared old) t (seen_shared new) r.0) → IfOk result (λ r. MatchesThrough members (take r.1 lines) places seats t seats_new r.0)
 through_told members lines places seats seats_new old new t (Err e) is was told = tt
-through_told members lines places seats seats_new old new t (Ok t_new) is was told =
-    subst (λ (v : SharedView). MatchesParts members lines (seen_shared v) t (seen_through places seats_new) t_new) is
-    (subst (λ (v : SharedView). MatchesParts members lines (seen_shared old) t (seen_shared v) t_new) was told)
+through_told members lines places seats seats_new old new t (Ok r) is was told =
+    subst (λ (v : SharedView). MatchesParts members (take r.1 lines) (seen_shared v) t (seen_through places seats_new) r.0) is
+    (subst (λ (v : SharedView). MatchesParts members (take r.1 lines) (seen_shared old) t (seen_shared v) r.0) was told)

@@ -14,11 +14,12 @@ use Rattle.hg_script.specs.declared.line.Gossip.{Gossip}
 use Rattle.hg_script.specs.declared.line.Gossip.TheVariants.{Create, Sync, Pull, Join, Give}
 use Rattle.hg_script.specs.declared.line.Source.{Source}
 use Rattle.hg_script.specs.declared.line.Source.TheVariants.{Last, Forged, Raw, Altered, Front}
+use Rattle.hg_script.specs.declared.line.Part.TheVariants as part
 use Rattle.hg_script.specs.declared.line.Action.{Action}
 use Rattle.hg_script.specs.declared.line.Action.TheVariants as action
 use Rattle.hg_script.specs.Lawful.{IsGossip, IsSource, IsLawful, IsLine}
 use Rattle.hg_world.specs.World.{WorldView}
-use Rattle.hg_play.specs.Lines.{IsBelow, IsGossipBelow, IsLineBelow}
+use Rattle.hg_play.specs.Lines.{IsBelow, IsGossipBelow, IsLineBelow, IsSourceBelow}
 use Rattle.hg_play.specs.Play.{block_at}
 
 -- what three things make is what others make that are the same
@@ -38,7 +39,7 @@ gossip_below members (Pull taker peer) node = (has_node_below members.entries ta
 gossip_below members (Join m label time payload) node = has_node_below members.entries m node.0
 gossip_below members (Give m label) node = has_node_below members.entries m node
 
-source_below : (members : MemberList) (s : Source) → IsSource members s → IsBelow (length members.entries) (action.Label s)
+source_below : (members : MemberList) (s : Source) → IsSource members s → IsSourceBelow (length members.entries) s
 source_below members (Last m) node = has_node_below members.entries m node
 source_below members (Forged m parents time payload) fits = fits
 source_below members (Raw bytes) node = tt
@@ -46,8 +47,8 @@ source_below members (Altered label at mask) node = tt
 source_below members (Front label len) node = tt
 
 action_below : (members : MemberList) (a : Action) → IsLawful members a → IsBelow (length members.entries) a
-action_below members (action.Gossip g) lawful = gossip_below members g lawful
-action_below members (action.Label s) lawful = source_below members s lawful
+action_below members (action.Part (part.Gossip g)) lawful = gossip_below members g lawful
+action_below members (action.Part (part.Label s)) lawful = source_below members s lawful
 action_below members (action.Freeze m worker) lawful = (has_node_below members.entries m lawful.0, lawful.1)
 action_below members (action.Publish m worker) lawful = (has_node_below members.entries m lawful.0, lawful.1)
 action_below members (action.Kept m) lawful = has_node_below members.entries m lawful

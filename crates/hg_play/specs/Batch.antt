@@ -17,15 +17,6 @@ use Rattle.hg_play.specs.Through.{IsOfRows, IsStageLike}
 abbrev pub MatchesBatch : MemberList → List Line → WorldView → TapeView → WorldView → TapeView → Type 0
 MatchesBatch members lines old t new t_new = (s : Stage) → IsStageLike members old t s → IsStageLike members new t_new (after_lines members s lines)
 
--- the line may stand in a batch: it is of gossip, or makes a label
-abbrev pub is_part : Action → Bool
-is_part (action.Gossip g) = true
-is_part (action.Label source) = true
-is_part _ = false
-
-abbrev pub IsPartBelow : List Line → ℕ → Type 0
-IsPartBelow lines count = (k : ℕ) (line : Line) → k < count → is_part (get_or lines k line).action ≡ true
-
 -- what the line prints does not depend on marks
 abbrev pub IsLineOfRows : Line → Type 0
 IsLineOfRows line = IsOfRows line.action
@@ -38,9 +29,16 @@ most_lines = 32
 abbrev pub most_workers : ℕ
 most_workers = 16
 
--- a batch of so many is the longest: it has as many as it may, or all lines, or the next one stands in none
-abbrev pub StopsAt : List Line → ℕ → Type 0
-StopsAt lines count = (line : Line) → count < length lines → count < most_lines → is_part (get_or lines count line).action ≡ false
+-- the line may stand in a batch
+abbrev pub is_part : Action → Bool
+is_part (action.Part p) = true
+is_part _ = false
+
+-- the first lines, so many, are a batch: as many as it may have, or all lines, or the next one stands in none
+pub record IsBatch (lines : List Line) (count : ℕ) : Type 0 where
+  pub within : count ≤ length lines
+  pub few : count ≤ most_lines
+  pub stops : (line : Line) → count < length lines → count < most_lines → is_part (get_or lines count line).action ≡ false
 
 -- each witness that the rows of one of its nodes decide is marked there
 abbrev pub AllAreMarked : WorldView → Type 0

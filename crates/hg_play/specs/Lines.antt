@@ -12,7 +12,10 @@ use Rattle.hg_model.specs.NodeView.{NodeView, node_rows, node_marks}
 use Rattle.hg_model.specs.Calls.{publish_answer}
 use Rattle.hg_script.specs.declared.line.Gossip.{Gossip}
 use Rattle.hg_script.specs.declared.line.Gossip.TheVariants.{Create, Sync, Pull, Join, Give}
+use Rattle.hg_script.specs.declared.line.Source.{Source}
 use Rattle.hg_script.specs.declared.line.Source.TheVariants.{Last, Forged}
+use Rattle.hg_script.specs.declared.line.Part.{Part}
+use Rattle.hg_script.specs.declared.line.Part.TheVariants as part
 use Rattle.hg_script.specs.declared.line.Action.{Action}
 use Rattle.hg_script.specs.declared.line.Action.TheVariants as action
 use Rattle.hg_script.specs.declared.line.Line.{Line}
@@ -34,8 +37,8 @@ gossip_steps w labels (Give m label) = step.Deliver m (bytes_at labels label) �
 
 -- the steps of a line. A shown node is settled first: worker 0 freezes its rows and publishes all that they decide
 abbrev pub action_steps : WorldView → List (List ℕ) → Action → List Step
-action_steps w labels (action.Gossip g) = gossip_steps w labels g
-action_steps w labels (action.Label source) = []
+action_steps w labels (action.Part (part.Gossip g)) = gossip_steps w labels g
+action_steps w labels (action.Part (part.Label source)) = []
 action_steps w labels (action.Freeze m worker) = step.Freeze m worker ∷ []
 action_steps w labels (action.Publish m worker) = step.Publish m worker whole ∷ []
 action_steps w labels (action.Kept m) = []
@@ -57,8 +60,8 @@ kept_block members m v = marked_block members m (node_rows v) (node_marks v)
 
 -- what is printed of a line. A shown block is that of the node's graph, by the procedures computed whole
 abbrev pub action_printed : MemberList → WorldView → List (List ℕ) → ℕ → Action → List Printed
-action_printed members w labels number (action.Gossip g) = gossip_printed w labels number g ∷ []
-action_printed members w labels number (action.Label source) = []
+action_printed members w labels number (action.Part (part.Gossip g)) = gossip_printed w labels number g ∷ []
+action_printed members w labels number (action.Part (part.Label source)) = []
 action_printed members w labels number (action.Freeze m worker) = printed.Freeze number (length (rows_at w m)) ∷ []
 action_printed members w labels number (action.Publish m worker) =
     printed.Publish number (publish_answer (node_at w m) (frozen_by w m worker) whole) ∷ []
@@ -68,7 +71,7 @@ action_printed members w labels number (action.Names m) = printed.Names (block_o
 
 -- the labels after a line
 abbrev pub action_labels : MemberList → WorldView → List (List ℕ) → Action → List (List ℕ)
-action_labels members w labels (action.Label source) = labels ++ source_bytes (secrets_of members) w labels source ∷ []
+action_labels members w labels (action.Part (part.Label source)) = labels ++ source_bytes (secrets_of members) w labels source ∷ []
 action_labels members w labels _ = labels
 
 -- the labels and all that was printed after a line
@@ -83,12 +86,19 @@ IsGossipBelow n (Pull taker peer) = (taker < n) × (peer < n)
 IsGossipBelow n (Join m label time payload) = m < n
 IsGossipBelow n (Give m label) = m < n
 
--- so are the action's, its worker is one, and the payload of an event that is forged is not too long
+-- so is the one whose event is named, and the payload of an event that is forged is not too long
+abbrev pub IsSourceBelow : ℕ → Source → Type 0
+IsSourceBelow n (Last m) = m < n
+IsSourceBelow n (Forged m parents time payload) = length payload ≤ payload_limit
+IsSourceBelow n _ = ⊤
+
+abbrev pub IsPartBelow : ℕ → Part → Type 0
+IsPartBelow n (part.Gossip g) = IsGossipBelow n g
+IsPartBelow n (part.Label source) = IsSourceBelow n source
+
+-- so are the action's, and its worker is one
 abbrev pub IsBelow : ℕ → Action → Type 0
-IsBelow n (action.Gossip g) = IsGossipBelow n g
-IsBelow n (action.Label (Last m)) = m < n
-IsBelow n (action.Label (Forged m parents time payload)) = length payload ≤ payload_limit
-IsBelow n (action.Label _) = ⊤
+IsBelow n (action.Part p) = IsPartBelow n p
 IsBelow n (action.Freeze m worker) = (m < n) × (worker < worker_limit)
 IsBelow n (action.Publish m worker) = (m < n) × (worker < worker_limit)
 IsBelow n (action.Kept m) = m < n
@@ -97,3 +107,7 @@ IsBelow n (action.Names m) = m < n
 
 abbrev pub IsLineBelow : ℕ → Line → Type 0
 IsLineBelow n line = IsBelow n line.action
+
+-- the line of this number that does this
+abbrev pub part_line : ℕ → Part → Line
+part_line number p = record { number = number; action = action.Part p }

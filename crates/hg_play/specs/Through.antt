@@ -15,6 +15,8 @@ use Rattle.hg_gossip.specs.declared.gossip.Taken.{Taken}
 use Rattle.hg_graph.specs.RowsWithRoom.{rows_of}
 use Rattle.hg_script.specs.declared.line.Gossip.TheVariants.{Create, Sync, Pull, Join, Give}
 use Rattle.hg_script.specs.declared.line.Source.TheVariants.{Last}
+use Rattle.hg_script.specs.declared.line.Part.{Part}
+use Rattle.hg_script.specs.declared.line.Part.TheVariants as part
 use Rattle.hg_script.specs.declared.line.Action.{Action}
 use Rattle.hg_script.specs.declared.line.Action.TheVariants as action
 use Rattle.hg_script.specs.declared.line.Line.{Line}
@@ -29,7 +31,6 @@ use Rattle.hg_board.specs.Taking.{AreSignedFor, AreSpelled}
 use Rattle.hg_crowd.specs.Crowd.{AreSeats, AreStill, Each, OthersMark}
 use Rattle.hg_play.specs.Alike.{AreAlike, WorldsAlike}
 use Rattle.hg_play.specs.Labels.{bytes_of_event, last_bytes}
-use Rattle.hg_play.specs.Lines.{IsBelow}
 use Rattle.hg_play.specs.Nodes.{IsStage, NodesView, MatchesMaking, MatchesPutting, Matched}
 use Rattle.hg_play.specs.Play.{Stage, after_line, after_lines}
 use Rattle.hg_play.specs.Tape.{TapeView}
@@ -91,24 +92,15 @@ IsStageOf members places seats t s = IsStage members (seen_shared (shared_view p
 abbrev pub IsStageLike : MemberList → WorldView → TapeView → Stage → Type 0
 IsStageLike members w t s = IsStage members (seen_alike w) t s
 
--- what comes of the line is that of the rows: it is of gossip, or makes a label, of members below this number
-abbrev pub IsPart : ℕ → Action → Type 0
-IsPart n (action.Gossip g) = IsBelow n (action.Gossip g)
-IsPart n (action.Label source) = IsBelow n (action.Label source)
-IsPart n _ = ⊥
-
-abbrev pub IsPartLine : ℕ → Line → Type 0
-IsPartLine n line = IsPart n line.action
-
 -- the member whose node a line works on, if there is one: of a sync or a pull the taker
-abbrev pub worked_on : Action → Option ℕ
-worked_on (action.Gossip (Create m time payload)) = Some m
-worked_on (action.Gossip (Sync taker peer time payload)) = Some taker
-worked_on (action.Gossip (Pull taker peer)) = Some taker
-worked_on (action.Gossip (Join m label time payload)) = Some m
-worked_on (action.Gossip (Give m label)) = Some m
-worked_on (action.Label (Last m)) = Some m
-worked_on _ = None
+abbrev pub worked_on : Part → Option ℕ
+worked_on (part.Gossip (Create m time payload)) = Some m
+worked_on (part.Gossip (Sync taker peer time payload)) = Some taker
+worked_on (part.Gossip (Pull taker peer)) = Some taker
+worked_on (part.Gossip (Join m label time payload)) = Some m
+worked_on (part.Gossip (Give m label)) = Some m
+worked_on (part.Label (Last m)) = Some m
+worked_on (part.Label _) = None
 
 -- what the line prints does not depend on marks
 abbrev pub IsOfRows : Action → Type 0

@@ -1,11 +1,11 @@
-ghost use Rattle.std.specs.Prelude.{◌≡◌, ◌<◌, ◌≤◌, All, IfOk, length};
+ghost use Rattle.std.specs.Prelude.{◌≡◌, ◌<◌, All, IfOk, length, take};
 ghost use Rattle.hg_model.specs.Signing.{accepts_by, secrets_of};
 ghost use Rattle.hg_crowd.specs.Crowd.{AreSeats, AreStill, Each};
 ghost use Rattle.hg_crowd.specs.Workers.{HasMore, Worked};
 ghost use Rattle.hg_world.specs.World.{new_world};
-ghost use Rattle.hg_play.specs.Batch.{AllAreMarked, IsLineOfRows, IsPartBelow, IsPlayed, MatchesBatch, PlaysNext, StopsAt, is_part, most_lines};
+ghost use Rattle.hg_play.specs.Batch.{AllAreMarked, IsBatch, IsLineOfRows, IsPlayed, MatchesBatch, PlaysNext};
 ghost use Rattle.hg_play.specs.Lines.{IsLineBelow};
-ghost use Rattle.hg_play.specs.Through.{AreNodes, IsPartLine, MatchesThrough};
+ghost use Rattle.hg_play.specs.Through.{AreNodes, MatchesThrough};
 
 use crate::band::Band;
 use crate::game::Game;
@@ -22,23 +22,22 @@ use hg_world::World;
 use std::sync::Wait;
 use std::thread::{Threads, join};
 
-/// How many lines a batch has at most.
-const MOST_LINES: usize = 32;
-
-/// Plays lines of gossip and of labels over a world's nodes: they are shared, one branch plays the lines through a seat of
-/// each, and beside it so many workers work one turn on every node. Once all seats have come back the workers work one
-/// turn more, so that all that the nodes' rows decide is marked, and the nodes are a world again. Without memory they are dropped.
+/// Plays the first batch of these lines over a world's nodes, and tells how many lines it has. The nodes are shared, one
+/// branch plays the lines through a seat of each, and beside it so many workers work one turn on every node. Once all seats
+/// have come back the workers work one turn more, so that all that the nodes' rows decide is marked, and the nodes are a
+/// world again. Without memory they are dropped.
 fn play_batch<R: Threads + Wait + Sync, C: Crew + Sync, G: Gate + Sync>(
     game: &Game,
     band: &Band<R, C, G>,
     world: World,
     tape: Tape,
     lines: &[Line],
-) -> Result<(World, Tape), Memory>
-    requires { All (IsPartLine (length world.sites)) lines.now }
+) -> Result<(World, Tape, usize), Memory>
+    requires { All (IsLineBelow (length world.sites)) lines.now }
     ensures count { IfOk result (λ r. length r.0.sites ≡ length world.sites) }
     ensures marked { IfOk result (λ r. AllAreMarked r.0) }
-    ensures told { IfOk result (λ r. MatchesBatch game.now.members.now lines.now world tape r.0 r.1) }
+    ensures batch { IfOk result (λ r. IsBatch lines.now r.2) }
+    ensures told { IfOk result (λ r. MatchesBatch game.now.members.now (take r.2 lines.now) world tape r.0 r.1) }
 {
     let (rt, workers, crew, gate) = (band.rt, band.workers, band.crew, band.gate);
     let (alloc, members, keys) = (game.alloc, game.members, game.keys);
@@ -55,13 +54,14 @@ fn play_batch<R: Threads + Wait + Sync, C: Crew + Sync, G: Gate + Sync>(
             ensures seats { AreSeats accepts_by places.entry.now result.0.items }
             ensures worked { Each Worked seats.items result.0.items }
         { work_beside(rt, alloc, places, seats, workers, crew) },
-        move || -> (Vec<Seat<SharedTable>>, Result<Tape, Memory>)
+        move || -> (Vec<Seat<SharedTable>>, Result<(Tape, usize), Memory>)
             requires seats { AreNodes places.now own.items }
-            requires lines { All (IsPartLine (length own.items)) lines.now }
+            requires lines { All (IsLineBelow (length own.items)) lines.now }
             requires keys { keys.now ≡ secrets_of members.now }
             ensures seats { AreSeats accepts_by places.entry.now result.0.items }
             ensures still { AreStill own.items result.0.items }
-            ensures played { IfOk result.1 (MatchesThrough members.entry.now lines.entry.now places.entry.now own.items tape result.0.items) }
+            ensures batch { IfOk result.1 (λ r. IsBatch lines.entry.now r.1) }
+            ensures played { IfOk result.1 (λ r. MatchesThrough members.entry.now (take r.1 lines.entry.now) places.entry.now own.items tape result.0.items r.0) }
         {
             let game = Game {
                 alloc,
@@ -75,34 +75,11 @@ fn play_batch<R: Threads + Wait + Sync, C: Crew + Sync, G: Gate + Sync>(
     let (seats, done) = work_beside(rt, alloc, places, seats, workers, crew);
     let nodes = finish_all(rt, alloc, shared, seats)?;
     done?;
-    let tape = played?;
+    let (tape, count) = played?;
     let Ok(world) = World::from_nodes(alloc, nodes) else {
         return Err(Memory);
     };
-    Ok((world, tape))
-}
-
-/// Whether a line may stand in a batch.
-fn is_part(action: &Action) -> bool
-    ensures { result ≡ is_part action.now }
-{
-    matches!(action, Action::Gossip(_) | Action::Label(_))
-}
-
-/// How many of these lines the next batch has: at most 32, and none from a shown node on.
-fn batch_len(lines: &[Line]) -> usize
-    ensures few { result ≤ length lines.now }
-    ensures most { result ≤ most_lines }
-    ensures parts { IsPartBelow lines.now result }
-    ensures stops { StopsAt lines.now result }
-{
-    let most = lines.len().min(MOST_LINES);
-    'lines: for i in 0..most {
-        if !is_part(&lines[i].action) {
-            return i;
-        }
-    }
-    most
+    Ok((world, tape, count))
 }
 
 /// Plays the next batch, or the one line that stands in none, from a place on. Gives the place of the line after it.
@@ -119,15 +96,13 @@ fn play_next<R: Threads + Wait + Sync, C: Crew + Sync, G: Gate + Sync>(
     requires rows { All IsLineOfRows lines.now }
     ensures { IfOk result (λ r. PlaysNext game.now.members.now lines.now from world tape r.0 r.1 r.2) }
 {
-    let (_, rest) = lines.split_at(from);
-    let count = batch_len(rest);
-    if count == 0 {
-        play_line(game, &mut world, &mut tape, &lines[from])?;
-        return Ok((world, tape, from + 1));
+    if let Action::Part(_) = &lines[from].action {
+        let (_, rest) = lines.split_at(from);
+        let (world, tape, count) = play_batch(game, band, world, tape, rest)?;
+        return Ok((world, tape, from + count));
     }
-    let (batch, _) = rest.split_at(count);
-    let (world, tape) = play_batch(game, band, world, tape, batch)?;
-    Ok((world, tape, from + count))
+    play_line(game, &mut world, &mut tape, &lines[from])?;
+    Ok((world, tape, from + 1))
 }
 
 /// Plays the lines over the members' nodes in batches, beside workers. The nodes, and what the lines leave.

@@ -1,8 +1,6 @@
 ghost use Rattle.std.specs.Prelude.{◌≡◌, All, IfOk, OnOk, length};
-ghost use Rattle.hg_script.specs.declared.line.Action.{Action};
-ghost use Rattle.hg_play.specs.Lines.{IsBelow, IsLineBelow};
+ghost use Rattle.hg_play.specs.Lines.{IsBelow, IsLineBelow, IsPartBelow, IsSourceBelow, part_line};
 ghost use Rattle.hg_play.specs.Nodes.{IsKept, MatchesLine, MatchesLines, MatchesSource, seen_alone};
-ghost use Rattle.hg_play.specs.Through.{IsPart};
 
 use crate::blocks::{kept_at, settled_at};
 use crate::game::Game;
@@ -11,7 +9,7 @@ use crate::labels::{altered, bytes_at, copied, forged, front, names_of_labels};
 use crate::nodes::Nodes;
 use crate::tape::Tape;
 use hg_model::{Bytes, Memory, Printed, Share};
-use hg_script::{Action, Line, Source};
+use hg_script::{Action, Line, Part, Source};
 use hg_world::World;
 
 /// The bytes from a source.
@@ -21,7 +19,7 @@ fn source_bytes<N: Nodes>(
     labels: &[Bytes],
     source: &Source,
 ) -> Result<Bytes, Memory>
-    requires { IsBelow (N.seen nodes.old).count (Action.Label source.now) }
+    requires { IsSourceBelow (N.seen nodes.old).count source.now }
     ensures kept { IsKept (N.seen nodes.old) (N.seen nodes.new) }
     ensures told { IfOk result (MatchesSource (N.seen nodes.old) (N.seen nodes.new) game.now.keys.now labels.now source.now) }
 {
@@ -50,28 +48,27 @@ fn source_bytes<N: Nodes>(
     }
 }
 
-/// Plays a line of gossip, or one that makes a label.
+/// Plays what may stand in a batch, under this line's number.
 pub(crate) fn play_part<N: Nodes>(
     game: &Game,
     nodes: &mut N,
     tape: &mut Tape,
-    line: &Line,
+    line: u64,
+    part: &Part,
 ) -> Result<(), Memory>
-    requires { IsPart (N.seen nodes.old).count line.now.action }
+    requires { IsPartBelow (N.seen nodes.old).count part.now }
     ensures kept { IsKept (N.seen nodes.old) (N.seen nodes.new) }
-    ensures told { OnOk result (MatchesLine game.now.members.now line.now (N.seen nodes.old) tape.old (N.seen nodes.new) tape.new) }
+    ensures told { OnOk result (MatchesLine game.now.members.now (part_line line part.now) (N.seen nodes.old) tape.old (N.seen nodes.new) tape.new) }
 {
-    match &line.action {
-        Action::Gossip(gossip) => {
-            let piece = play_gossip(nodes, tape.labels(), line.number, gossip)?;
+    match part {
+        Part::Gossip(gossip) => {
+            let piece = play_gossip(nodes, tape.labels(), line, gossip)?;
             tape.print(piece)?;
         }
-        Action::Label(source) => {
+        Part::Label(source) => {
             let bytes = source_bytes(game, nodes, tape.labels(), source)?;
             tape.label(bytes)?;
         }
-        // No other line comes here.
-        _ => {}
     }
     Ok(())
 }
@@ -88,8 +85,8 @@ pub(crate) fn play_line(
     ensures told { OnOk result (MatchesLine game.now.members.now line.now (seen_alone world.old) tape.old (seen_alone world.new) tape.new) }
 {
     match &line.action {
-        Action::Gossip(_) | Action::Label(_) => {
-            play_part(game, world, tape, line)?;
+        Action::Part(part) => {
+            play_part(game, world, tape, line.number, part)?;
         }
         Action::Freeze { member, worker } => {
             let len = world.freeze(*member, *worker) as u64;

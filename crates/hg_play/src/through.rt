@@ -1,8 +1,10 @@
-ghost use Rattle.std.specs.Prelude.{◌≡◌, ◌≤◌, All, IfOk, OnOk, length};
+ghost use Rattle.std.specs.Prelude.{◌≡◌, ◌≤◌, All, IfOk, OnOk, length, take};
 ghost use Rattle.hg_model.specs.Signing.{accepts_by};
 ghost use Rattle.hg_crowd.specs.Crowd.{AreSeats, AreStill};
+ghost use Rattle.hg_play.specs.Batch.{IsBatch};
+ghost use Rattle.hg_play.specs.Lines.{IsLineBelow, IsPartBelow, part_line};
 ghost use Rattle.hg_play.specs.Nodes.{IsKept, MatchesLine};
-ghost use Rattle.hg_play.specs.Through.{AreNodes, IsPart, IsPartLine, MatchesParts, MatchesThrough, worked_on};
+ghost use Rattle.hg_play.specs.Through.{AreNodes, MatchesParts, MatchesThrough, worked_on};
 
 use crate::game::Game;
 use crate::lines::play_part;
@@ -12,22 +14,26 @@ use crate::tape::Tape;
 use hg_board::{Seat, Shared};
 use hg_io::Gate;
 use hg_model::{Member, Memory};
-use hg_script::{Action, Gossip, Line, Source};
+use hg_script::{Action, Gossip, Line, Part, Source};
 use hg_sign::SharedTable;
 use std::sync::Wait;
 
+/// How many lines a batch has at most.
+const MOST_LINES: usize = 32;
+
 /// The member whose node a line works on, if there is one: of a sync or a pull the taker.
-fn worked_on(action: &Action) -> Option<Member>
-    ensures { result ≡ worked_on action.now }
+fn worked_on(part: &Part) -> Option<Member>
+    ensures { result ≡ worked_on part.now }
 {
-    match action {
-        Action::Gossip(Gossip::Create { member, .. }) => Some(*member),
-        Action::Gossip(Gossip::Sync { taker, .. }) => Some(*taker),
-        Action::Gossip(Gossip::Pull { taker, .. }) => Some(*taker),
-        Action::Gossip(Gossip::Join { member, .. }) => Some(*member),
-        Action::Gossip(Gossip::Give { member, .. }) => Some(*member),
-        Action::Label(Source::Last { member }) => Some(*member),
-        _ => None,
+    match part {
+        Part::Gossip(Gossip::Create { member, .. }) => Some(*member),
+        Part::Gossip(Gossip::Sync { taker, .. }) => Some(*taker),
+        Part::Gossip(Gossip::Pull { taker, .. }) => Some(*taker),
+        Part::Gossip(Gossip::Join { member, .. }) => Some(*member),
+        Part::Gossip(Gossip::Give { member, .. }) => Some(*member),
+        Part::Label(Source::Last { member }) => Some(*member),
+        Part::Label(Source::Forged { .. } | Source::Raw { .. }) => None,
+        Part::Label(Source::Altered { .. } | Source::Front { .. }) => None,
     }
 }
 
@@ -40,44 +46,52 @@ fn reach<G: Gate>(gate: &G, first: u32, member: Option<Member>)
     }
 }
 
-/// Plays a line of gossip, or one that makes a label. The gate is told before and after.
+/// Plays what may stand in a batch, under this line's number. The gate is told before and after.
 fn play_watched<N: Nodes, G: Gate>(
     game: &Game,
     nodes: &mut N,
     tape: &mut Tape,
-    line: &Line,
+    line: u64,
+    part: &Part,
     gate: &G,
 ) -> Result<(), Memory>
-    requires { IsPart (N.seen nodes.old).count line.now.action }
+    requires { IsPartBelow (N.seen nodes.old).count part.now }
     ensures kept { IsKept (N.seen nodes.old) (N.seen nodes.new) }
-    ensures told { OnOk result (MatchesLine game.now.members.now line.now (N.seen nodes.old) tape.old (N.seen nodes.new) tape.new) }
+    ensures told { OnOk result (MatchesLine game.now.members.now (part_line line part.now) (N.seen nodes.old) tape.old (N.seen nodes.new) tape.new) }
 {
-    let member = worked_on(&line.action);
+    let member = worked_on(part);
     reach(gate, 1000, member);
-    play_part(game, nodes, tape, line)?;
+    play_part(game, nodes, tape, line, part)?;
     reach(gate, 2000, member);
     Ok(())
 }
 
-/// Plays such lines, one after the other, behind what others left.
+/// Plays the first batch of these lines, one after the other, behind what others left, and tells how many lines it has: at
+/// most 32, and none from one on that may stand in no batch.
 fn play_parts<N: Nodes, G: Gate>(
     game: &Game,
     nodes: &mut N,
     mut tape: Tape,
     lines: &[Line],
     gate: &G,
-) -> Result<Tape, Memory>
-    requires { All (IsPartLine (N.seen nodes.old).count) lines.now }
+) -> Result<(Tape, usize), Memory>
+    requires { All (IsLineBelow (N.seen nodes.old).count) lines.now }
     ensures kept { IsKept (N.seen nodes.old) (N.seen nodes.new) }
-    ensures told { IfOk result (MatchesParts game.now.members.now lines.now (N.seen nodes.old) tape (N.seen nodes.new)) }
+    ensures batch { IfOk result (λ r. IsBatch lines.now r.1) }
+    ensures told { IfOk result (λ r. MatchesParts game.now.members.now (take r.1 lines.now) (N.seen nodes.old) tape (N.seen nodes.new) r.0) }
 {
-    for line in lines {
-        play_watched(game, nodes, &mut tape, line, gate)?;
+    let most = lines.len().min(MOST_LINES);
+    'lines: for i in 0..most {
+        let line = &lines[i];
+        let Action::Part(part) = &line.action else {
+            return Ok((tape, i));
+        };
+        play_watched(game, nodes, &mut tape, line.number, part, gate)?;
     }
-    Ok(tape)
+    Ok((tape, most))
 }
 
-/// Plays lines of gossip and of labels over nodes between threads, through these seats, while others mark. The seats come
+/// Plays the first batch of these lines over nodes between threads, through these seats, while others mark. The seats come
 /// back, also without memory.
 pub(crate) fn play_through<R: Wait, G: Gate>(
     rt: &R,
@@ -87,12 +101,13 @@ pub(crate) fn play_through<R: Wait, G: Gate>(
     tape: Tape,
     lines: &[Line],
     gate: &G,
-) -> (Vec<Seat<SharedTable>>, Result<Tape, Memory>)
+) -> (Vec<Seat<SharedTable>>, Result<(Tape, usize), Memory>)
     requires seats { AreNodes shared.now seats.items }
-    requires lines { All (IsPartLine (length seats.items)) lines.now }
+    requires lines { All (IsLineBelow (length seats.items)) lines.now }
     ensures seats { AreSeats accepts_by shared.now result.0.items }
     ensures still { AreStill seats.items result.0.items }
-    ensures played { IfOk result.1 (MatchesThrough game.now.members.now lines.now shared.now seats.items tape result.0.items) }
+    ensures batch { IfOk result.1 (λ r. IsBatch lines.now r.1) }
+    ensures played { IfOk result.1 (λ r. MatchesThrough game.now.members.now (take r.1 lines.now) shared.now seats.items tape result.0.items r.0) }
 {
     let mut nodes = SharedNodes::new(rt, game.alloc, shared, seats);
     let played = play_parts(game, &mut nodes, tape, lines, gate);

@@ -4,7 +4,6 @@ ghost use Rattle.hg_model.specs.Members.{MemberList};
 ghost use Rattle.hg_script.specs.Words.{ReadsAs, bytes_in};
 ghost use Rattle.hg_script.specs.Lawful.{IsFound};
 ghost use Rattle.hg_script.specs.Table as spec;
-ghost use Rattle.hg_script.specs.declared.line.Action.TheVariants.{Label};
 
 use crate::payload::payload_of;
 use hg_model::{Members, Stop};
@@ -12,19 +11,13 @@ use hg_script::argument::{
     byte_of, label_of, member_of, new_label, node_of, number_of, parents_of, peer_of, raw_bytes,
     worker_of,
 };
-use hg_script::{Above, Action, Found, Gossip, Source, Verb, Why};
+use hg_script::{Above, Action, Found, Gossip, Part, Source, Verb, Why};
 use std::alloc::Global;
 
 fn gossip<'a>(gossip: Gossip) -> Found<'a>
     ensures { result ≡ spec.gossip gossip }
 {
-    Found::does(Action::Gossip(gossip))
-}
-
-fn makes<'a>(source: Source, label: &'a [u8]) -> Found<'a>
-    ensures { result ≡ spec.makes (Label source) label.now }
-{
-    Found::makes(Action::Label(source), label)
+    Found::does(Action::Part(Part::Gossip(gossip)))
 }
 
 #[tactic(auto, unfolding(hg_script::specs::Table::create))]
@@ -173,7 +166,7 @@ fn name<'a>(members: &Members, above: &Above<'_>, l: &'a [u8], x: &[u8]) -> Resu
 {
     let label = new_label(above, l)?;
     let member = node_of(members, x)?;
-    Ok(makes(Source::Last { member }, label))
+    Ok(Found::makes(Source::Last { member }, label))
 }
 
 #[tactic(auto, unfolding(hg_script::specs::Table::forge))]
@@ -196,7 +189,7 @@ fn forge<'a>(
     let parents = parents_of(above, s, o)?;
     let time = number_of(t)?;
     let payload = payload_of(alloc, members, p)?;
-    Ok(makes(
+    Ok(Found::makes(
         Source::Forged {
             creator,
             parents,
@@ -230,7 +223,7 @@ fn raw<'a>(alloc: Global, above: &Above<'_>, l: &'a [u8], h: &[u8]) -> Result<Fo
 {
     let label = new_label(above, l)?;
     let bytes = raw_bytes(alloc, h)?;
-    Ok(makes(Source::Raw { bytes }, label))
+    Ok(Found::makes(Source::Raw { bytes }, label))
 }
 
 #[tactic(auto, unfolding(hg_script::specs::Table::alter))]
@@ -248,7 +241,7 @@ fn alter<'a>(
     let altered = label_of(above, l2)?;
     let at = number_of(place)?;
     let mask = byte_of(b)?;
-    Ok(makes(
+    Ok(Found::makes(
         Source::Altered {
             label: altered,
             at,
@@ -266,7 +259,7 @@ fn cut<'a>(above: &Above<'_>, l: &'a [u8], l2: &[u8], k: &[u8]) -> Result<Found<
     let label = new_label(above, l)?;
     let whole = label_of(above, l2)?;
     let len = number_of(k)?;
-    Ok(makes(Source::Front { label: whole, len }, label))
+    Ok(Found::makes(Source::Front { label: whole, len }, label))
 }
 
 #[tactic(auto, unfolding(hg_script::specs::Table::give))]

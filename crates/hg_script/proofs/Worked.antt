@@ -9,6 +9,7 @@ use Rattle.hg_script.specs.declared.line.Gossip.{Gossip}
 use Rattle.hg_script.specs.declared.line.Gossip.TheVariants.{Create, Sync, Pull, Join, Give}
 use Rattle.hg_script.specs.declared.line.Source.{Source}
 use Rattle.hg_script.specs.declared.line.Source.TheVariants.{Last, Forged, Raw, Altered, Front}
+use Rattle.hg_script.specs.declared.line.Part.TheVariants as part
 use Rattle.hg_script.specs.declared.line.Action.{Action}
 use Rattle.hg_script.specs.declared.line.Action.TheVariants as action
 use Rattle.hg_script.specs.declared.line.Line.{Line}
@@ -32,10 +33,10 @@ abbrev line_at : ℕ → Action → Line
 line_at number action = record { number = number; action = action }
 
 abbrev does : ℕ → Gossip → Line
-does number gossip = line_at number (action.Gossip gossip)
+does number gossip = line_at number (action.Part (part.Gossip gossip))
 
 abbrev makes : ℕ → Source → Line
-makes number source = line_at number (action.Label source)
+makes number source = line_at number (action.Part (part.Label source))
 
 -- the same in a run with a worker
 abbrev script_with_worker : List ℕ → Result (List Line) ScriptFault

@@ -8,6 +8,8 @@ use Rattle.hg_script.specs.declared.line.Gossip.{Gossip}
 use Rattle.hg_script.specs.declared.line.Gossip.TheVariants.{Create, Sync, Pull, Join, Give}
 use Rattle.hg_script.specs.declared.line.Source.{Source}
 use Rattle.hg_script.specs.declared.line.Source.TheVariants.{Last, Forged}
+use Rattle.hg_script.specs.declared.line.Part.{Part}
+use Rattle.hg_script.specs.declared.line.Part.TheVariants as part
 use Rattle.hg_script.specs.declared.line.Action.{Action}
 use Rattle.hg_script.specs.declared.line.Action.TheVariants as action
 use Rattle.hg_script.specs.declared.line.Line.{Line}
@@ -38,10 +40,13 @@ IsSource members (Last member) = HasNode members member
 IsSource members (Forged creator parents time payload) = IsShortPayload payload
 IsSource members _ = ⊤
 
+abbrev pub IsPart : MemberList → Part → Type 0
+IsPart members (part.Gossip g) = IsGossip members g
+IsPart members (part.Label s) = IsSource members s
+
 -- the members that the action names have nodes, its payload fits, and its worker is one
 abbrev pub IsLawful : MemberList → Action → Type 0
-IsLawful members (action.Gossip g) = IsGossip members g
-IsLawful members (action.Label s) = IsSource members s
+IsLawful members (action.Part p) = IsPart members p
 IsLawful members (action.Freeze member worker) = HasNode members member × IsWorker worker
 IsLawful members (action.Publish member worker) = HasNode members member × IsWorker worker
 IsLawful members (action.Kept member) = HasNode members member
@@ -64,7 +69,7 @@ HasLawful members workers above = All (IsLine members workers) above.lines
 
 -- a member that makes a first event has a number below 128
 abbrev pub IsLow : Action → Type 0
-IsLow (action.Gossip (Create member time payload)) = member < 128
+IsLow (action.Part (part.Gossip (Create member time payload))) = member < 128
 IsLow _ = ⊤
 
 -- the label to be made, if there is one, has none of these names

@@ -9,7 +9,9 @@ use Rattle.hg_script.specs.declared.fault.Why.{Why}
 use Rattle.hg_script.specs.declared.fault.Why.TheVariants.{Word, Arity, NotFirst, First}
 use Rattle.hg_script.specs.declared.line.Gossip.{Gossip}
 use Rattle.hg_script.specs.declared.line.Gossip.TheVariants.{Create, Sync, Pull, Join, Give}
+use Rattle.hg_script.specs.declared.line.Source.{Source}
 use Rattle.hg_script.specs.declared.line.Source.TheVariants.{Last, Forged, Raw, Altered, Front}
+use Rattle.hg_script.specs.declared.line.Part.TheVariants as part
 use Rattle.hg_script.specs.declared.line.Action.{Action}
 use Rattle.hg_script.specs.declared.line.Action.TheVariants as action
 use Rattle.hg_script.specs.declared.line.Line.{Line}
@@ -31,13 +33,13 @@ pub record Found : Type 0 where
 abbrev pub does : Action → Found
 does a = record { action = a; label = None }
 
-abbrev pub makes : Action → List ℕ → Found
-makes a name = record { action = a; label = Some name }
+abbrev pub makes : Source → List ℕ → Found
+makes source name = record { action = action.Part (part.Label source); label = Some name }
 
 -- the rules of a whole line, by the lines above it
 
 abbrev pub creates : ℕ → Action → Bool
-creates x (action.Gossip (Create member time payload)) = member == x
+creates x (action.Part (part.Gossip (Create member time payload))) = member == x
 creates x _ = false
 
 abbrev pub is_created : List Line → ℕ → Bool
@@ -52,7 +54,7 @@ abbrev pub later : List Line → ℕ → Found → Result Found Why
 later lines x found = if is_created lines x then Ok found else Err First
 
 abbrev pub gossip : Gossip → Found
-gossip g = does (action.Gossip g)
+gossip g = does (action.Part (part.Gossip g))
 
 -- create X T P, of which P may be left out
 unfoldable pub create : MemberList → Above → List ℕ → List ℕ → Option (List ℕ) → Result Found Why
@@ -92,7 +94,7 @@ unfoldable pub name : MemberList → Above → List ℕ → List ℕ → Result 
 name members above l x = do
   label ← new_label above.labels l
   member ← node_of members x
-  Ok (makes (action.Label (Last member)) label)
+  Ok (makes (Last member) label)
 
 -- forge L M S O T P, of which P may be left out
 unfoldable pub forge : MemberList → Above → List ℕ → List ℕ → List ℕ → List ℕ → List ℕ → Option (List ℕ) → Result Found Why
@@ -102,14 +104,14 @@ forge members above l m s o t p = do
   parents ← parents_of above.labels s o
   time ← number_of t
   payload ← payload_of members p
-  Ok (makes (action.Label (Forged creator parents time payload)) label)
+  Ok (makes (Forged creator parents time payload) label)
 
 -- raw L H
 unfoldable pub raw : Above → List ℕ → List ℕ → Result Found Why
 raw above l h = do
   label ← new_label above.labels l
   bytes ← raw_bytes h
-  Ok (makes (action.Label (Raw bytes)) label)
+  Ok (makes (Raw bytes) label)
 
 -- alter L L2 AT B
 unfoldable pub alter : Above → List ℕ → List ℕ → List ℕ → List ℕ → Result Found Why
@@ -118,7 +120,7 @@ alter above l l2 place b = do
   altered ← label_of above.labels l2
   at ← number_of place
   mask ← byte_of b
-  Ok (makes (action.Label (Altered altered at mask)) label)
+  Ok (makes (Altered altered at mask) label)
 
 -- cut L L2 K
 unfoldable pub cut : Above → List ℕ → List ℕ → List ℕ → Result Found Why
@@ -126,7 +128,7 @@ cut above l l2 k = do
   label ← new_label above.labels l
   whole ← label_of above.labels l2
   len ← number_of k
-  Ok (makes (action.Label (Front whole len)) label)
+  Ok (makes (Front whole len) label)
 
 -- give X L
 unfoldable pub give : MemberList → Above → List ℕ → List ℕ → Result Found Why

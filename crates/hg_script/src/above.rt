@@ -7,7 +7,7 @@ ghost use Rattle.hg_script.specs.Words.{bytes_in};
 ghost use Rattle.hg_script.specs.Table as spec;
 
 use crate::found::Found;
-use crate::line::{Action, Gossip, Line};
+use crate::line::{Action, Gossip, Line, Part};
 use hg_model::{Items, Member};
 use indexmap::IndexSet;
 use std::alloc::{AllocError, Global};
@@ -63,7 +63,7 @@ fn with_creator(created: u128, action: &Action) -> u128
     ensures { (x : ℕ) → IsBitSet result x ↔ IsBitSet created x ⊎ IsTrue (spec.creates x action.now) }
 {
     match action {
-        Action::Gossip(Gossip::Create { member, .. }) => created | 1 << *member,
+        Action::Part(Part::Gossip(Gossip::Create { member, .. })) => created | 1 << *member,
         _ => created,
     }
 }

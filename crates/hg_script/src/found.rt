@@ -3,7 +3,7 @@ ghost use Rattle.std.specs.Option.{option_copied};
 ghost use Rattle.hg_script.specs.Script.{is_alone};
 ghost use Rattle.hg_script.specs.Table as spec;
 
-use crate::line::Action;
+use crate::line::{Action, Part, Source};
 use std::marker::Model;
 
 /// What a line does, and the name of the label that it makes, if it makes one. The name stands in the script's bytes.
@@ -33,12 +33,12 @@ impl<'a> Found<'a> {
         }
     }
 
-    /// A line that makes the label of this name.
-    pub fn makes(action: Action, label: &'a [u8]) -> Found<'a>
-        ensures { result ≡ spec.makes action label.now }
+    /// A line that makes the label of this name, which stands for these bytes.
+    pub fn makes(source: Source, label: &'a [u8]) -> Found<'a>
+        ensures { result ≡ spec.makes source label.now }
     {
         Found {
-            action,
+            action: Action::Part(Part::Label(source)),
             label: Some(label),
         }
     }

@@ -24,5 +24,5 @@ mod verb;
 pub use above::Above;
 pub use fault::{ScriptFault, Why};
 pub use found::Found;
-pub use line::{Action, Gossip, Line, Source};
+pub use line::{Action, Gossip, Line, Part, Source};
 pub use verb::Verb;

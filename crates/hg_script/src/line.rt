@@ -67,13 +67,20 @@ pub enum Source {
     },
 }
 
-/// What a line of the script does. A label is told by its number: how many labels were made above it.
+/// What may stand in a batch. A label is told by its number: how many labels were made above it.
 #[derive(Debug, Drop)]
-pub enum Action {
+pub enum Part {
     /// A node does this, and a line is printed.
     Gossip(Gossip),
     /// One label more stands for these bytes. Nothing is printed.
     Label(Source),
+}
+
+/// What a line of the script does.
+#[derive(Debug, Drop)]
+pub enum Action {
+    /// What a line of a batch does.
+    Part(Part),
     /// A worker of the member's node, numbered below 16, freezes the node's graph as it is now.
     Freeze { member: Member, worker: u32 },
     /// The fame of all witnesses of the rows that a worker of the member's node, numbered below 16, froze last is

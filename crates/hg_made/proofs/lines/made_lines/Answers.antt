@@ -1,4 +1,4 @@
-use Rattle.std.proofs.Common.{◌≡◌, ◌∙◌, ◌≤◌, ◌+◌, arith, refl}
+use Rattle.std.proofs.Common.{arith}
 use Rattle.hg_made.proofs.MadeLaws.{lines_next}
 use Rattle.hg_made.proofs.lines.made_lines.Goals as goal
 

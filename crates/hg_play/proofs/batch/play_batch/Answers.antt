@@ -1,11 +1,13 @@
-use Rattle.std.proofs.Common.{rules, arith, sym, subst, get_or}
+use Rattle.std.proofs.Common.{rules, arith, sym, subst, get_or, take}
 use Rattle.std.specs.Prelude.{IfOk, OnOk}
 use Rattle.hg_model.specs.Signing.{accepts_by}
 use Rattle.hg_model.specs.Shares.{whole}
 use Rattle.hg_crowd.specs.Crowd.{AreSeats}
 use Rattle.hg_crowd.specs.Workers.{AllMark}
 use Rattle.hg_crowd.proofs.CrowdLaws.{all_worked, more_started, seats_absorbed, seats_started}
-use Rattle.hg_play.specs.Through.{IsPartLine, MatchesThrough}
+use Rattle.hg_play.specs.Batch.{IsBatch}
+use Rattle.hg_play.specs.Lines.{IsLineBelow}
+use Rattle.hg_play.specs.Through.{MatchesThrough}
 use Rattle.hg_play.proofs.BatchLaws.{all_again, batch_count, batch_marked, batch_told, ends_of_one_list, more_beside, nodes_own, own_count, seats_beside, the_run}
 use Rattle.hg_play.proofs.batch.play_batch.Goals as goal
 
@@ -32,7 +34,7 @@ join-seats-requires-after_bounds g c κs within =
       ),
       (
         nodes_own nodes shared places firsts own c.as_slice-places.ensures.value c.in_ok-shared.ensures c.in_ok-own.ensures.new c.into_nodes.ensures.lawful,
-        (λ k d low. subst (λ n. IsPartLine n (get_or c.args.lines.now k d)) (sym long) (c.requires k d low), c.args.game.now.signed),
+        (λ k d low. subst (λ n. IsLineBelow n (get_or c.args.lines.now k d)) (sym long) (c.requires k d low), c.args.game.now.signed),
       ),
     )
 
@@ -106,6 +108,10 @@ returns-clause-told g c =
     let run = the_run nodes shared places c.in_ok-shared.seats.items c.split_all.new.seats.items own called c.join-seats.result.0.0.items c.absorb_all.new.seats.items
     c.work_beside-seats.result.0.items ends c.as_slice-places.ensures.value c.in_ok-shared.ensures c.in_ok-own.ensures.old c.in_ok-own.ensures.new c.join-seats.ensures.second.0 c.join-seats.ensures.second.1.0
     c.join-seats.ensures.first.1 c.absorb_all.ensures c.work_beside-seats.ensures.worked c.in_ok-nodes.ensures in
-    let told = subst (λ r. IfOk r (MatchesThrough members lines places own t called)) c.in_ok-tape.was c.join-seats.ensures.second.1.1 in
-    let through = subst (λ l. MatchesThrough members lines places l t called c.in_ok-tape.tape) c.in_ok-own.ensures.new told in
-    batch_told members lines c.args.world c.in-Ok.world nodes places called ends t c.in_ok-tape.tape c.into_nodes.ensures.nodes run c.in-Ok.ensures.ok through
+    let batch = take c.in_ok-tape.count lines in
+    let told = subst (λ r. IfOk r (λ q. MatchesThrough members (take q.1 lines) places own t called q.0)) c.in_ok-tape.was c.join-seats.ensures.second.1.1.1 in
+    let through = subst (λ l. MatchesThrough members batch places l t called c.in_ok-tape.tape) c.in_ok-own.ensures.new told in
+    batch_told members batch c.args.world c.in-Ok.world nodes places called ends t c.in_ok-tape.tape c.into_nodes.ensures.nodes run c.in-Ok.ensures.ok through
+
+pub returns-clause-batch : goal.returns-clause-batch
+returns-clause-batch g c = subst (λ r. IfOk r (λ q. IsBatch c.args.lines.now q.1)) c.in_ok-tape.was c.join-seats.ensures.second.1.1.0

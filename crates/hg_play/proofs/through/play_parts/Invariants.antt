@@ -3,8 +3,8 @@ use Rattle.hg_play.specs.Nodes.{IsKept}
 use Rattle.hg_play.specs.Through.{MatchesParts}
 use Rattle.hg_play.proofs.through.play_parts.Given as goal
 
-abbrev pub invariant-loop-line : goal.invariant-loop-line
-invariant-loop-line g l = record {
-  kept : IsKept (g.N.Nodes.seen l.initial.nodes) (g.N.Nodes.seen l.nodes);
-  told : MatchesParts l.game.members.now (take l.line-index l.lines) (g.N.Nodes.seen l.initial.nodes) l.initial.tape (g.N.Nodes.seen l.nodes) l.tape;
+abbrev pub invariant-lines : goal.invariant-lines
+invariant-lines g l = record {
+  kept : IsKept (g.N.Nodes.seen l.fn.nodes) (g.N.Nodes.seen l.nodes);
+  told : MatchesParts l.fn.game.members.now (take l.i l.fn.lines) (g.N.Nodes.seen l.fn.nodes) l.fn.tape (g.N.Nodes.seen l.nodes) l.tape;
 }

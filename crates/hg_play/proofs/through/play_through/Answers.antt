@@ -3,13 +3,14 @@ use Rattle.std.specs.Prelude.{All, length}
 use Rattle.hg_board.specs.Seats.{SharedNode, SeatView}
 use Rattle.hg_world.specs.World.{Secrets}
 use Rattle.hg_crowd.specs.Crowd.{AreStill}
-use Rattle.hg_play.specs.Through.{AreNodes, IsPartLine, SharedView, shared_view}
+use Rattle.hg_play.specs.Lines.{IsLineBelow}
+use Rattle.hg_play.specs.Through.{AreNodes, SharedView, shared_view}
 use Rattle.hg_play.proofs.PartLaws.{through_since, through_told}
 use Rattle.hg_play.proofs.through.play_through.Goals as goal
 
 pub play_parts-played-requires : goal.play_parts-played-requires
 play_parts-played-requires g c =
-    subst (λ (v : SharedView). All (IsPartLine (length v.seats)) c.args.lines.now) (sym c.new-nodes.ensures) c.requires.lines
+    subst (λ (v : SharedView). All (IsLineBelow (length v.seats)) c.args.lines.now) (sym c.new-nodes.ensures) c.requires.lines
 
 pub returns-clause-seats : goal.returns-clause-seats
 returns-clause-seats g c =
