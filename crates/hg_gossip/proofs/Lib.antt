@@ -4,3 +4,4 @@ pub mod RowLaws
 pub mod AloneLaws
 pub mod HandLaws
 pub mod TakingLaws
+pub mod KnownLaws

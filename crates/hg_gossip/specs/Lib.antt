@@ -3,3 +3,4 @@ pub mod Gossip
 pub mod Nodes
 pub mod Handing
 pub mod Taking
+pub mod Known

@@ -1,3 +1,4 @@
+ghost use Rattle.hg_gossip.specs.Known.{KnownForGood};
 ghost use Rattle.hg_gossip.specs.Nodes.{PullsAlone, SyncsAlone, UnnamedAreLacking, WaitsAlone};
 
 /// A law: nothing comes between the calls on a node that has one holder.
@@ -19,4 +20,9 @@ pub fn syncing_alone<K, L>()
 /// A law: the rows that have none of the names of other rows are those whose names these lack.
 pub fn missing_is_lacking()
     ensures { UnnamedAreLacking }
+{}
+
+/// A law: what nodes are known to have of each other's rows they are known to have for good, for rows only get more.
+pub fn known_for_good()
+    ensures { KnownForGood }
 {}

@@ -22,6 +22,7 @@
 mod gossip;
 mod handing;
 mod holder;
+mod known;
 mod laws;
 mod node;
 mod taking;
@@ -29,5 +30,6 @@ mod taking;
 pub use gossip::{Taken, pull, sync, sync_made, with_answer};
 pub use handing::{Heard, lacked, still_lacked};
 pub use holder::Holder;
-pub use laws::{missing_is_lacking, pulling_alone, syncing_alone, waiting_alone};
+pub use known::Known;
+pub use laws::{known_for_good, missing_is_lacking, pulling_alone, syncing_alone, waiting_alone};
 pub use taking::{make_after, take, take_events};

@@ -154,7 +154,7 @@ step_in_range w (Publish m worker share) is of range =
 
 -- the rows of each node only get more
 
-rows_set : (w : WorldView) (m k : ℕ) (es : List Change) (lens : List ℕ) → m < length w.sites → IsPrefix (rows_at w k) (rows_at (with_site w m (site_of (with_changes (node_at w m) es) lens)) k)
+pub rows_set : (w : WorldView) (m k : ℕ) (es : List Change) (lens : List ℕ) → m < length w.sites → IsPrefix (rows_at w k) (rows_at (with_site w m (site_of (with_changes (node_at w m) es) lens)) k)
 rows_set w m k es lens low = elim (cases_eq k m) [
   | inl here ↦
       let v = node_at w m in

@@ -1,9 +1,7 @@
 -- Pulls and syncs as steps
-use Rattle.std.proofs.Common.{◌≡◌, ℕ, ◌+◌, ◌<◌, List, [], ◌∷◌, length, fold, take, drop, get_or, Option, Result, Ok, Err, sym, refl, ap, ap₂, ◌∙◌, subst, arith}
+use Rattle.std.proofs.Common.{◌≡◌, ℕ, ◌<◌, List, [], ◌∷◌, length, fold, Option, Result, Ok, Err, sym, ap, ap₂, ◌∙◌, arith}
 use Rattle.std.specs.Prelude.{OnErr, IfOk}
-use Rattle.std.proofs.lemmas.List.{append-nil, get_or-set_same, map-append, take-append-drop, length-set, set-get_or, set-set}
-use Rattle.std.proofs.lemmas.List.Sums.{fold-append}
-use Rattle.hg_model.specs.declared.answers.PutAnswer.{PutAnswer}
+use Rattle.std.proofs.lemmas.List.{get_or-set_same, length-set, set-get_or, set-set}
 use Rattle.hg_model.specs.declared.answers.SyncMade.{SyncMade}
 use Rattle.hg_model.specs.declared.answers.SyncReport.{SyncReport}
 use Rattle.hg_model.specs.Signing.{accepts_by}
@@ -11,59 +9,12 @@ use Rattle.hg_model.specs.NodeView.{NodeView}
 use Rattle.hg_gossip.specs.declared.gossip.Taken.{Taken}
 use Rattle.hg_gossip.specs.Gossip.{none_taken, with_answer}
 use Rattle.hg_gossip.specs.Nodes.{Taking, lacked, take_event, taking, taking_of}
-use Rattle.hg_world.specs.declared.step.Step.{Step}
 use Rattle.hg_world.specs.declared.step.Step.TheVariants.{Deliver}
 use Rattle.hg_world.specs.World.{Secrets, WorldView, Site, no_site, node_at, site_at, site_of, with_node_at, with_site}
-use Rattle.hg_world.specs.Steps.{RanSome, after_step, after_steps, node_put, putting_at}
+use Rattle.hg_world.specs.Steps.{after_step, after_steps, node_put, putting_at}
 use Rattle.hg_world.specs.Syncs.{HasMadeAfter, HasPulled, HasSynced, HasTaken, deliver_steps, last_made, make_steps, made_after, pull_steps, pulled}
 use Rattle.hg_world.specs.Laws.{PullsSetOneNode}
-use Rattle.hg_world.proofs.StepLaws.{after_both, after_more, steps_sites, taken_more}
-
--- the node that bytes come to
-put_node : (w : WorldView) (m : ℕ) (bytes : List ℕ) → m < length w.sites → node_at (after_step w (Deliver m bytes)) m ≡ node_put (node_at w m) bytes
-put_node w m bytes low = ap (λ (s : Site). s.node) (get_or-set_same w.sites m (site_of (node_put (node_at w m) bytes) (site_at w m).frozen) no_site low)
-
--- nothing is put yet
-pub takes_none : (w : WorldView) (m : ℕ) → HasTaken w m [] none_taken w
-takes_none w m = record { after = refl; counted = refl }
-
--- one event more
-pub takes_more : (old now new : WorldView) (m : ℕ) (events : List (List ℕ)) (i : ℕ) (event bytes : List ℕ) (before after : Taken) (answer : PutAnswer) → m < length old.sites → i < length events → event ≡ get_or events i event → bytes ≡ event →
-    HasTaken old m (take i events) before now → answer ≡ putting_at (node_at now m) bytes → new ≡ after_step now (Deliver m bytes) → after ≡ with_answer before answer →
-    HasTaken old m (take (i + 1) events) after new
-takes_more old now new m events i event bytes before after answer inside low is same taken answers put counted =
-    let first = take i events in
-    let all = taken_more events i event low is in
-    let low_now : m < length now.sites = omega (arith, inside, ap (λ (w : WorldView). length w.sites) taken.after, steps_sites old (deliver_steps m first)) in
-    record {
-      after =
-          put
-          ∙ (ap₂ (λ (w : WorldView) (b : List ℕ). after_step w (Deliver m b)) taken.after same
-          ∙ (sym (after_more old (deliver_steps m first) (Deliver m event))
-          ∙ ap (after_steps old) (sym (ap (deliver_steps m) all ∙ map-append (λ (b : List ℕ). let s : Step = Deliver m b in s) first (event ∷ [])))));
-      counted =
-          ap₂ (λ (v : NodeView Secrets) (t : Taken). taking_of v t) (ap (λ (w : WorldView). node_at w m) put ∙ put_node now m bytes low_now) (counted ∙ ap (with_answer before) answers)
-          ∙ (ap (take_event accepts_by (taking_of (node_at now m) before)) same
-          ∙ (ap (λ (t : Taking Secrets). take_event accepts_by t event) taken.counted
-          ∙ (sym (fold-append (take_event accepts_by) (taking_of (node_at old m) none_taken) first (event ∷ [])) ∙ ap (taking accepts_by (node_at old m)) (sym all))));
-    }
-
--- memory ran out at the next one
-pub ran_puts : (old now new : WorldView) (m : ℕ) (events : List (List ℕ)) (i : ℕ) (counts : Taken) → HasTaken old m (take i events) counts now → new ≡ now → RanSome old (deliver_steps m events) new
-ran_puts old now new m events i counts taken same = record {
-  first = deliver_steps m (take i events);
-  rest = deliver_steps m (drop i events);
-  whole = ap (deliver_steps m) (sym (take-append-drop i events)) ∙ map-append (λ (b : List ℕ). let s : Step = Deliver m b in s) (take i events) (drop i events);
-  after = same ∙ taken.after;
-}
-
--- none were done
-pub ran_none : (w : WorldView) (steps : List Step) → RanSome w steps w
-ran_none w steps = record { first = []; rest = steps; whole = refl; after = refl }
-
--- all were
-pub ran_all : (old new : WorldView) (steps : List Step) → new ≡ after_steps old steps → RanSome old steps new
-ran_all old new steps is = record { first = steps; rest = []; whole = sym (append-nil steps); after = is }
+use Rattle.hg_world.proofs.StepLaws.{after_both}
 
 pub errs : {A E : Type 0} (result : Result A E) (P : Type 0) → P → OnErr result P
 errs (Ok a) P p = tt
@@ -83,11 +34,6 @@ pub pull_ended : {E : Type 0} (old new : WorldView) (taker peer : ℕ) (events p
     IfOk result (λ counts. HasTaken old taker put counts new) → IfOk result (λ counts. HasPulled old taker peer counts new)
 pull_ended old new taker peer events put (Ok counts) is same taken = pulls old new taker peer put counts (same ∙ is) taken
 pull_ended old new taker peer events put (Err e) is same taken = tt
-
-pub pull_stopped : {E : Type 0} (old new : WorldView) (taker peer : ℕ) (events put : List (List ℕ)) (result : Result Taken E) → events ≡ lacked (node_at old taker) (node_at old peer) → put ≡ events →
-    OnErr result (RanSome old (deliver_steps taker put) new) → OnErr result (RanSome old (pull_steps old taker peer) new)
-pull_stopped old new taker peer events put (Ok counts) is same ran = tt
-pull_stopped old new taker peer events put (Err e) is same ran = subst (λ (es : List (List ℕ)). RanSome old (deliver_steps taker es) new) (same ∙ is) ran
 
 -- what a sync leaves and reports
 pub syncs : (old now new : WorldView) (taker peer : ℕ) (last : Option (List ℕ)) (time : ℕ) (payload : List ℕ) (counts : Taken) (made : SyncMade) → last ≡ last_made (node_at old peer) →

@@ -1,19 +1,16 @@
 -- What every world keeps to, over its parts
-use Rattle.std.specs.Prelude.{ℕ, ◌≡◌, ◌<◌, ◌≤◌, List, [], ◌∷◌, length, map, get_or, replicate}
+use Rattle.std.specs.Prelude.{ℕ, ◌≡◌, ◌<◌, ◌≤◌, List, length, map, get_or, replicate}
+use Rattle.hg_model.specs.declared.row.Row.{Row}
 use Rattle.hg_model.specs.Stakes.{Stakes, member_count}
 use Rattle.hg_model.specs.Signing.{accepts_by}
 use Rattle.hg_model.specs.NodeView.{NodeView, IsNode, node_rows}
 use Rattle.hg_graph.specs.Held.{AreEvents}
-use Rattle.hg_world.specs.World.{Secrets, Site, WorldView, IsSiteOf, no_site, rows_at, site_at, site_of, worker_limit}
+use Rattle.hg_gossip.specs.Handing.{HeardView}
+use Rattle.hg_gossip.specs.Known.{KeepsKnown}
+use Rattle.hg_world.specs.World.{Secrets, Site, WorldView, IsSiteOf, no_site, nodes_of, rows_at, site_at, site_of, worker_limit}
 
--- what these nodes are with what their workers have frozen
-abbrev pub sites_of : List (NodeView Secrets) → List (List ℕ) → List Site
-sites_of [] frozen = []
-sites_of (v ∷ nodes) [] = []
-sites_of (v ∷ nodes) (lens ∷ frozen) = site_of v lens ∷ sites_of nodes frozen
-
-abbrev pub world_of : Stakes → ℕ → List (NodeView Secrets) → List (List ℕ) → WorldView
-world_of n c nodes frozen = record { members = n; coin = c; sites = sites_of nodes frozen }
+abbrev pub world_of : Stakes → ℕ → List Site → WorldView
+world_of n c sites = record { members = n; coin = c; sites = sites }
 
 -- the site is the member's, and its node is one, with these keys, whose workers froze no more rows than it has
 pub record KeepsSite (w : WorldView) (keys : Secrets) (m : ℕ) (site : Site) : Type 0 where
@@ -34,11 +31,20 @@ pub record IsWorld (w : WorldView) : Type 0 where
 abbrev pub HaveEvents : WorldView → Type 0
 HaveEvents w = (m : ℕ) → m < length w.sites → AreEvents (rows_at w m)
 
--- the same over the parts
-pub record KeepsWorld (n : Stakes) (c : ℕ) (nodes : List (NodeView Secrets)) (frozen : List (List ℕ)) : Type 0 where
-  pub long : length frozen ≡ length nodes
-  pub few : length nodes ≤ 128
-  pub world : IsWorld (world_of n c nodes frozen)
+-- the nodes of these sites
+abbrev pub nodes_in : List Site → List (NodeView Secrets)
+nodes_in sites = map (λ (site : Site). site.node) sites
+
+-- the rows of each of these nodes
+abbrev pub rows_of_each : List (NodeView Secrets) → List (List Row)
+rows_of_each nodes = map (λ (v : NodeView Secrets). node_rows v) nodes
+
+-- a world whose nodes have of each other what they have heard, and room for the nodes
+pub record KeepsParts (w : WorldView) (known : List (List HeardView)) (room : ℕ) : Type 0 where
+  pub few : length w.sites ≤ 128
+  pub world : IsWorld w
+  pub heard : KeepsKnown (rows_of_each (nodes_of w)) known
+  pub fits : length w.sites ≤ room
 
 -- the node at a place; one without rows where there is none
 abbrev pub no_node : NodeView Secrets

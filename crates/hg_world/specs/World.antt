@@ -7,6 +7,7 @@ use Rattle.hg_model.specs.Members.{MemberList, stakes_of}
 use Rattle.hg_model.specs.Signing.{secrets_of}
 use Rattle.hg_model.specs.NodeView.{NodeView, start_of, node_rows}
 use Rattle.hg_runs.specs.Run.{Run}
+pub use Rattle.hg_world.specs.declared.site.Site.{Site}
 
 -- the keys of a node: the members' secrets
 abbrev pub Secrets : Type 0
@@ -16,12 +17,7 @@ Secrets = List (List ℕ)
 abbrev pub worker_limit : ℕ
 worker_limit = 16
 
--- a member's node, and of each of its workers how many rows it froze last, or 0
-pub record Site : Type 0 where
-  pub node : NodeView Secrets
-  pub frozen : List ℕ
-
--- the members' stakes, the coin period, and each member's site
+-- the members' stakes, the coin period, and each member's site: its node, and how many rows each of its workers froze last
 pub record WorldView : Type 0 where
   pub members : Stakes
   pub coin : ℕ

@@ -17,10 +17,10 @@
 //! ```
 #![tactic(auto)]
 
-mod known;
 mod laws;
 mod nodes;
 mod running;
+mod site;
 mod step;
 mod syncing;
 mod world;

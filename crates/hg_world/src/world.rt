@@ -1,24 +1,24 @@
-ghost use Rattle.std.specs.Prelude.{◌≡◌, ◌<◌, IfErr, IfOk, OnErr, OnOk, length, replicate};
+ghost use Rattle.std.specs.Prelude.{◌≡◌, ◌<◌, IfErr, IfOk, OnErr, OnOk, length};
 ghost use Rattle.std.specs.Option.{option_to_list};
 ghost use Rattle.hg_model.specs.Calls.{IsSettled};
 ghost use Rattle.hg_model.specs.Signing.{accepts_by};
 ghost use Rattle.hg_runs.specs.Safety.{IsSafe};
 ghost use Rattle.hg_gossip.specs.Handing.{AreKnown, LacksOf};
 ghost use Rattle.hg_gossip.specs.Holding.{WouldSign, WouldTake, rules_alone, seen_whole};
+ghost use Rattle.hg_gossip.specs.Known.{KeepsKnown};
 ghost use Rattle.hg_gossip.specs.Taking.{AreSigned, bytes_of};
 ghost use Rattle.hg_world.specs.declared.step.Step.TheVariants.{Make, Deliver, Freeze, Publish};
 ghost use Rattle.hg_graph.specs.RowsWithRoom.{rows_of};
-ghost use Rattle.hg_world.specs.Parts.{AreOfOneList, IsWorld, nth_node, unfrozen};
-ghost use Rattle.hg_world.specs.KnownRows.{nothing_heard};
+ghost use Rattle.hg_world.specs.Parts.{AreOfOneList, IsWorld, nth_node, rows_of_each, unfrozen};
 ghost use Rattle.hg_model.specs.Gossip.{lacking};
 ghost use Rattle.hg_world.specs.World.{IsMemberOf, IsSiteOf, new_world, node_at, nodes_of, rows_at, run_of, site_at, worker_limit};
 ghost use Rattle.hg_world.specs.Steps.{RanSome, after_step, after_steps, making_at, publishing_by, putting_at, settle_steps};
 ghost use Rattle.hg_world.specs.Syncs.{HasTaken, deliver_steps};
 
-use crate::known::{self, Hearing};
-use crate::nodes::{self, Frozen};
+use crate::nodes::{found_by, into_nodes, into_sites, new_nodes, room_for, see_all};
+use crate::site::Site;
 use hg_event::Event;
-use hg_gossip::{Taken, lacked, still_lacked};
+use hg_gossip::{Known, Taken, lacked, still_lacked, take_events};
 use hg_model::{MakeAnswer, Member, Members, Memory, Name, Prefix, PutAnswer, Share, Sight};
 use hg_node::Node;
 use hg_sign::SharedTable;
@@ -32,22 +32,23 @@ pub struct World {
     alloc: Global,
     members: u32,
     coin: u32,
-    nodes: Vec<Node<SharedTable>>,
-    frozen: Vec<Frozen>,
+    sites: Vec<Site>,
     /// The rows of a node only get more, so what a node has it has for good.
-    known: Vec<Hearing>,
+    known: Known,
+    /// Empty, with room for all nodes: to give them back takes no memory.
+    spare: Vec<Node<SharedTable>>,
 }
 
 impl Model for World {
+    ghost use Rattle.std.specs.Prelude.{◌≡◌, [], vec_capacity};
     ghost use Rattle.hg_world.specs.World.{WorldView};
-    ghost use Rattle.hg_world.specs.Parts.{world_of};
-    ghost use Rattle.hg_world.specs.KnownRows.{KeepsParts};
+    ghost use Rattle.hg_world.specs.Parts.{KeepsParts, world_of};
 
     ghost Value = { WorldView };
 
-    ghost view = { λ s. world_of s.members s.coin s.nodes.items s.frozen.items };
+    ghost view = { λ s. world_of s.members s.coin s.sites.items };
 
-    ghost invariant = { λ s. KeepsParts s.members s.coin s.nodes.items s.frozen.items s.known.items };
+    ghost invariant = { λ s. KeepsParts (world_of s.members s.coin s.sites.items) s.known (vec_capacity s.spare) × (s.spare.items ≡ []) };
 }
 
 impl World {
@@ -55,17 +56,13 @@ impl World {
     pub fn new(alloc: Global, members: &Members) -> Result<World, Memory>
         ensures { IfOk result (λ w. w ≡ new_world members.now) }
     {
-        let nodes = nodes::new_nodes(alloc, members)?;
-        let frozen = nodes::none_frozen(alloc, nodes.len())?;
-        let known = known::nothing_heard(alloc, nodes.len())?;
-        Ok(World {
-            alloc,
-            members: members.count(),
-            coin: members.coin(),
-            nodes,
-            frozen,
-            known,
-        })
+        // That they are a list of members.
+        members.count();
+        let nodes = new_nodes(alloc, members)?;
+        match World::from_nodes(alloc, nodes) {
+            Ok(world) => Ok(world),
+            Err(_) => Err(Memory),
+        }
     }
 
     /// How many members there are.
@@ -83,7 +80,7 @@ impl World {
         ensures value { result.now ≡ node_at self.now member }
         ensures site { IsSiteOf self.now member (site_at self.now member) }
     {
-        &self.nodes[member as usize]
+        &self.sites[member as usize].node
     }
 
     /// A member's node makes an event on its last one, with this other-parent, or its first one without parents. The time
@@ -101,7 +98,11 @@ impl World {
         ensures err { OnErr result (self.new ≡ self.old) }
         ensures free { OnErr result (WouldSign (seen_whole (node_at self.old member)) (option_to_list other) payload.now) }
     {
-        nodes::make(&mut self.nodes, member as usize, other, time, payload)
+        let node = &mut self.sites[member as usize].node;
+        let answer = node.make(other, time, payload)?;
+        // That it is a node still.
+        node.rows();
+        Ok(answer)
     }
 
     /// Bytes come to a member's node. Only to accept an event takes memory.
@@ -112,7 +113,11 @@ impl World {
         ensures err { OnErr result (self.new ≡ self.old) }
         ensures free { OnErr result (WouldTake (rules_alone accepts_by) (seen_whole (node_at self.old member)) bytes.now) }
     {
-        nodes::put(&mut self.nodes, member as usize, bytes)
+        let node = &mut self.sites[member as usize].node;
+        let answer = node.put(bytes)?;
+        // That it is a node still.
+        node.rows();
+        Ok(answer)
     }
 
     /// A worker, of a number below 16, freezes the rows of a member's node; tells how many they are.
@@ -122,8 +127,9 @@ impl World {
         ensures len { result ≡ length (rows_at self.old member) }
         ensures after { self.new ≡ after_step self.old (Freeze member worker) }
     {
-        let len = self.nodes[member as usize].rows();
-        nodes::set_frozen(&mut self.frozen, member as usize, worker as usize, len);
+        let site = &mut self.sites[member as usize];
+        let len = site.node.rows();
+        site.frozen[worker as usize] = len;
         len
     }
 
@@ -136,9 +142,13 @@ impl World {
         ensures ok { OnOk result (self.new ≡ after_step self.old (Publish member worker share)) }
         ensures err { OnErr result (self.new ≡ self.old) }
     {
-        let m = member as usize;
-        let len = nodes::frozen_at(&self.frozen, m, worker as usize);
-        nodes::publish(self.alloc, &mut self.nodes, m, len, share)
+        let site = &mut self.sites[member as usize];
+        let len = site.frozen[worker as usize];
+        let found = found_by(self.alloc, &site.node, len, share)?;
+        let count = site.node.publish(&found);
+        // That it is a node still.
+        site.node.rows();
+        Ok(count)
     }
 
     /// Events that a member's node accepts as signed come to it, one after the other.
@@ -148,7 +158,11 @@ impl World {
         ensures ok { IfOk result (λ counts. HasTaken self.old member (bytes_of events.now) counts self.new) }
         ensures err { OnErr result (RanSome self.old (deliver_steps member (bytes_of events.now)) self.new) }
     {
-        nodes::take(&mut self.nodes, member as usize, events)
+        let taker = &mut self.sites[member as usize].node;
+        let counts = take_events(taker, events);
+        // That it is a node still.
+        taker.rows();
+        counts
     }
 
     /// The peer's events whose names the taker lacks. Looks at no row whose name it is known to have, and of those that it
@@ -159,8 +173,8 @@ impl World {
         ensures { IfOk result (λ events. rows_of events.items ≡ lacking (rows_at self.now taker) (rows_at self.now peer)) }
     {
         let (x, y) = (taker as usize, peer as usize);
-        let heard = known::heard_by(&self.known, x, y);
-        lacked(self.alloc, &self.nodes[x], &self.nodes[y], heard)
+        let heard = self.known.heard(x, y);
+        lacked(self.alloc, &self.sites[x].node, &self.sites[y].node, heard)
     }
 
     /// The taker has the names of all rows of the peer, and so those that the peer is known to have.
@@ -171,7 +185,8 @@ impl World {
         ensures { self.new ≡ self.old }
     {
         let (x, y) = (taker as usize, peer as usize);
-        known::note_all(&mut self.known, self.alloc, &self.nodes, x, y);
+        let len = self.sites[y].node.rows();
+        self.known.note_all(self.alloc, x, y, len);
     }
 
     /// Of the peer's rows the taker lacks some of these at most. Where there is no memory to note which, it is tried again
@@ -183,8 +198,9 @@ impl World {
         ensures { self.new ≡ self.old }
     {
         let (x, y) = (taker as usize, peer as usize);
-        if let Ok(refused) = still_lacked(self.alloc, &self.nodes[x], events) {
-            known::note_rest(&mut self.known, &self.nodes, x, y, refused);
+        let len = self.sites[y].node.rows();
+        if let Ok(refused) = still_lacked(self.alloc, &self.sites[x].node, events) {
+            self.known.note_rest(x, y, len, refused);
         }
     }
 
@@ -207,8 +223,12 @@ impl World {
         ensures settled { OnOk result (IsSettled (node_at self.old member) (node_at self.new member)) }
         ensures err { OnErr result (self.new ≡ self.old) }
     {
-        let len = nodes::settle(&mut self.nodes, member as usize)?;
-        nodes::set_frozen(&mut self.frozen, member as usize, 0, len);
+        let site = &mut self.sites[member as usize];
+        let len = site.node.rows();
+        site.node.settle()?;
+        // That it is a node still.
+        site.node.rows();
+        site.frozen[0] = len;
         Ok(())
     }
 
@@ -217,7 +237,17 @@ impl World {
         ensures nodes { result.items ≡ nodes_of self }
         ensures lawful { AreOfOneList result.items }
     {
-        self.nodes
+        let (nodes, _) = self.into_parts();
+        nodes
+    }
+
+    /// The nodes, in the order of the members, and what each has heard of each.
+    pub fn into_parts(self) -> (Vec<Node<SharedTable>>, Known)
+        ensures nodes { result.0.items ≡ nodes_of self }
+        ensures lawful { AreOfOneList result.0.items }
+        ensures known { KeepsKnown (rows_of_each result.0.items) result.1 }
+    {
+        (into_nodes(self.sites, self.spare), self.known)
     }
 
     /// A world of these nodes, of which no worker has frozen any rows: one for each of the members with which the first
@@ -232,28 +262,37 @@ impl World {
         ensures coin { IfOk result (λ world. world.coin ≡ (nth_node nodes.items 0).start.coin) }
         ensures back { IfErr result (λ back. back.items ≡ nodes.items) }
     {
-        nodes::see_all(&nodes);
+        match Known::none(alloc, nodes.len()) {
+            Ok(known) => World::from_parts(alloc, nodes, known),
+            Err(Memory) => Err(nodes),
+        }
+    }
+
+    /// The same, of nodes each of which has of each what it has heard. Where memory runs out the nodes come back.
+    pub fn from_parts(
+        alloc: Global,
+        nodes: Vec<Node<SharedTable>>,
+        known: Known,
+    ) -> Result<World, Vec<Node<SharedTable>>>
+        requires nodes { AreOfOneList nodes.items }
+        requires known { KeepsKnown (rows_of_each nodes.items) known }
+        ensures ok { IfOk result (λ world. world.sites ≡ unfrozen nodes.items) }
+        ensures members { IfOk result (λ world. world.members ≡ (nth_node nodes.items 0).start.members) }
+        ensures coin { IfOk result (λ world. world.coin ≡ (nth_node nodes.items 0).start.coin) }
+        ensures back { IfErr result (λ back. back.items ≡ nodes.items) }
+    {
+        see_all(&nodes);
         let (members, coin) = (nodes[0].graph().members(), nodes[0].graph().coin());
-        match nothing_done(alloc, nodes.len()) {
-            Ok((frozen, known)) => Ok(World {
+        match room_for(alloc, nodes.len()) {
+            Ok((spare, sites)) => Ok(World {
                 alloc,
                 members,
                 coin,
-                nodes,
-                frozen,
+                sites: into_sites(nodes, sites),
                 known,
+                spare,
             }),
             Err(Memory) => Err(nodes),
         }
     }
-}
-
-/// So many nodes of which no rows are frozen or known.
-fn nothing_done(alloc: Global, count: usize) -> Result<(Vec<Frozen>, Vec<Hearing>), Memory>
-    ensures frozen { IfOk result (λ parts. parts.0.items ≡ replicate count (replicate worker_limit 0)) }
-    ensures known { IfOk result (λ parts. parts.1.items ≡ nothing_heard count) }
-{
-    let frozen = nodes::none_frozen(alloc, count)?;
-    let known = known::nothing_heard(alloc, count)?;
-    Ok((frozen, known))
 }

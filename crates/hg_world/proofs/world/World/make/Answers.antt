@@ -1,32 +1,41 @@
-use Rattle.std.proofs.Common.{◌≡◌, subst}
-use Rattle.std.specs.Prelude.{IfOk, OnErr}
+use Rattle.std.proofs.Common.{◌≡◌, ◌<◌, ◌∙◌, length, refl, ap}
+use Rattle.std.specs.Prelude.{vec_capacity}
 use Rattle.std.specs.Option.{option_to_list}
 use Rattle.hg_model.specs.Calls.{make_changes}
-use Rattle.hg_model.specs.NodeView.{NodeView}
-use Rattle.hg_gossip.specs.Holding.{WouldSign, seen_whole}
-use Rattle.hg_world.specs.World.{Secrets}
-use Rattle.hg_world.specs.Steps.{making_at, own_signature}
-use Rattle.hg_world.specs.Parts.{nth_node}
-use Rattle.hg_world.proofs.TableLaws.{still_known}
-use Rattle.hg_world.proofs.WorldLaws.{changed, low_in, node_in}
+use Rattle.hg_world.specs.World.{Site, WorldView, node_at, with_node_at}
+use Rattle.hg_world.specs.Steps.{node_made, own_signature}
+use Rattle.hg_world.specs.Parts.{world_of}
+use Rattle.hg_world.proofs.NodeLaws.{makes}
+use Rattle.hg_world.proofs.PartLaws.{changed, low_in}
+use Rattle.hg_world.proofs.WorldLaws.{set_node, site_here}
 use Rattle.hg_world.proofs.world.World.make.Goals as goal
 
-pub make-requires : goal.make-requires
-make-requires c = low_in c.self.inside.members c.self.inside.coin c.self.inside.nodes.items c.self.inside.frozen.items c.args.self.now c.args.member c.self.invariant.0 c.self.view_is c.requires
-
-pub invariant_of-self : goal.invariant_of-self
-invariant_of-self c = (
-  (changed c.self.inside.members c.self.inside.coin c.self.inside.nodes.items c.self.inside.frozen.items c.args.self.now c.args.member c.self.invariant.0 c.self.view_is c.requires c.make.new.nodes.items (λ v. make_changes v (option_to_list c.args.other) c.args.time c.args.payload.now (own_signature v (option_to_list c.args.other) c.args.time c.args.payload.now)) c.make.result c.make.ensures.ok c.make.ensures.node c.make.ensures.err).keeps,
-  (let u = nth_node c.self.inside.nodes.items c.args.member in still_known c.self.inside.nodes.items c.make.new.nodes.items c.self.inside.known.items c.args.member (make_changes u (option_to_list c.args.other) c.args.time c.args.payload.now (own_signature u (option_to_list c.args.other) c.args.time c.args.payload.now)) c.make.result (low_in c.self.inside.members c.self.inside.coin c.self.inside.nodes.items c.self.inside.frozen.items c.args.self.now c.args.member c.self.invariant.0 c.self.view_is c.requires) c.self.invariant.1 c.make.ensures.ok c.make.ensures.err),
-)
+pub invariant_of-self-2 : goal.invariant_of-self-2
+invariant_of-self-2 c =
+    let w : WorldView = world_of c.self.inside.members c.self.inside.coin c.self.inside.sites.items in
+    let low : c.args.member < length w.sites = low_in w c.args.self.now c.args.member c.self.view_is c.requires in
+    let v = c.index_mut.result.now.node in
+    let others = option_to_list c.args.other in (
+      changed w c.self.inside.known (vec_capacity c.self.inside.spare) c.self.invariant.0 c.args.member low c.index_mut.result.now c.index_mut.ensures.value
+          c.make.new.self (make_changes v others c.args.time c.args.payload.now (own_signature v others c.args.time c.args.payload.now))
+          (makes v v c.make.new.self others c.args.time c.args.payload.now c.in_ok-answer.answer refl c.in_ok-answer.ensures.ok).1 c.rows.ensures.node,
+      c.self.invariant.1,
+    )
 
 pub returns-clause-answer : goal.returns-clause-answer
 returns-clause-answer c =
-    subst (λ (v : NodeView Secrets). IfOk c.make.result (λ a. a ≡ making_at v (option_to_list c.args.other) c.args.time c.args.payload.now)) (node_in c.self.inside.members c.self.inside.coin c.self.inside.nodes.items c.self.inside.frozen.items c.args.self.now c.args.member c.self.invariant.0 c.self.view_is c.requires) c.make.ensures.answer
+    let w : WorldView = world_of c.self.inside.members c.self.inside.coin c.self.inside.sites.items in
+    let low : c.args.member < length w.sites = low_in w c.args.self.now c.args.member c.self.view_is c.requires in
+    let here : c.index_mut.result.now.node ≡ node_at c.args.self.now c.args.member =
+    ap (λ (s : Site). s.node) (site_here w c.args.member low c.index_mut.result.now c.index_mut.ensures.value) ∙ ap (λ (u : WorldView). node_at u c.args.member) c.self.view_is in
+    (makes (node_at c.args.self.now c.args.member) c.index_mut.result.now.node c.make.new.self (option_to_list c.args.other) c.args.time c.args.payload.now c.in_ok-answer.answer here c.in_ok-answer.ensures.ok).0
 
 pub returns-clause-ok : goal.returns-clause-ok
-returns-clause-ok c = (changed c.self.inside.members c.self.inside.coin c.self.inside.nodes.items c.self.inside.frozen.items c.args.self.now c.args.member c.self.invariant.0 c.self.view_is c.requires c.make.new.nodes.items (λ v. make_changes v (option_to_list c.args.other) c.args.time c.args.payload.now (own_signature v (option_to_list c.args.other) c.args.time c.args.payload.now)) c.make.result c.make.ensures.ok c.make.ensures.node c.make.ensures.err).ok
-
-pub returns-clause-free : goal.returns-clause-free
-returns-clause-free c =
-    subst (λ (v : NodeView Secrets). OnErr c.make.result (WouldSign (seen_whole v) (option_to_list c.args.other) c.args.payload.now)) (node_in c.self.inside.members c.self.inside.coin c.self.inside.nodes.items c.self.inside.frozen.items c.args.self.now c.args.member c.self.invariant.0 c.self.view_is c.requires) c.make.ensures.free
+returns-clause-ok c =
+    let w : WorldView = world_of c.self.inside.members c.self.inside.coin c.self.inside.sites.items in
+    let low : c.args.member < length w.sites = low_in w c.args.self.now c.args.member c.self.view_is c.requires in
+    let others = option_to_list c.args.other in
+    let here : c.index_mut.result.now.node ≡ node_at w c.args.member = ap (λ (s : Site). s.node) (site_here w c.args.member low c.index_mut.result.now c.index_mut.ensures.value) in
+    set_node w c.args.member low c.index_mut.result.now c.index_mut.ensures.value c.make.new.self
+    ∙ (ap (with_node_at w c.args.member) (makes (node_at w c.args.member) c.index_mut.result.now.node c.make.new.self others c.args.time c.args.payload.now c.in_ok-answer.answer here c.in_ok-answer.ensures.ok).1
+    ∙ ap (λ (u : WorldView). with_node_at u c.args.member (node_made (node_at u c.args.member) others c.args.time c.args.payload.now)) c.self.view_is)

@@ -1,18 +1,21 @@
-use Rattle.std.proofs.Common.{sym, subst}
-use Rattle.hg_model.specs.NodeView.{NodeView, node_rows}
-use Rattle.hg_world.specs.World.{Secrets, rows_at}
+use Rattle.std.proofs.Common.{◌<◌, ◌∙◌, length, subst, sym, ap}
+use Rattle.std.specs.Prelude.{vec_capacity}
+use Rattle.hg_model.specs.NodeView.{node_rows}
 use Rattle.hg_gossip.specs.Handing.{AreKnown}
-use Rattle.hg_world.specs.KnownRows.{nth_rows}
-use Rattle.hg_world.proofs.WorldLaws.{low_in, node_in}
+use Rattle.hg_world.specs.World.{Site, WorldView, nodes_of, rows_at}
+use Rattle.hg_world.specs.Parts.{rows_of_each, world_of}
+use Rattle.hg_world.proofs.PartLaws.{has_all, heard_parts, low_in}
+use Rattle.hg_world.proofs.WorldLaws.{site_here}
 use Rattle.hg_world.proofs.world.World.note_all.Goals as goal
 
-pub note_all-requires-clause-x : goal.note_all-requires-clause-x
-note_all-requires-clause-x c = low_in c.self.inside.members c.self.inside.coin c.self.inside.nodes.items c.self.inside.frozen.items c.args.self.now c.args.taker c.self.invariant.0 c.self.view_is c.requires.taker
-
-pub note_all-requires-clause-y : goal.note_all-requires-clause-y
-note_all-requires-clause-y c = low_in c.self.inside.members c.self.inside.coin c.self.inside.nodes.items c.self.inside.frozen.items c.args.self.now c.args.peer c.self.invariant.0 c.self.view_is c.requires.peer
-
-pub note_all-requires-clause-all : goal.note_all-requires-clause-all
-note_all-requires-clause-all c =
-    subst (λ (v : NodeView Secrets). AreKnown (node_rows v) (nth_rows c.self.inside.nodes.items c.args.peer)) (sym (node_in c.self.inside.members c.self.inside.coin c.self.inside.nodes.items c.self.inside.frozen.items c.args.self.now c.args.taker c.self.invariant.0 c.self.view_is c.requires.taker))
-    (subst (λ (v : NodeView Secrets). AreKnown (rows_at c.args.self.now c.args.taker) (node_rows v)) (sym (node_in c.self.inside.members c.self.inside.coin c.self.inside.nodes.items c.self.inside.frozen.items c.args.self.now c.args.peer c.self.invariant.0 c.self.view_is c.requires.peer)) c.requires.all)
+pub invariant_of-self : goal.invariant_of-self
+invariant_of-self c =
+    let w : WorldView = world_of c.self.inside.members c.self.inside.coin c.self.inside.sites.items in
+    let low_x : c.args.taker < length w.sites = low_in w c.args.self.now c.args.taker c.self.view_is c.requires.taker in
+    let low_y : c.args.peer < length w.sites = low_in w c.args.self.now c.args.peer c.self.view_is c.requires.peer in (
+      heard_parts w c.self.inside.known c.note_all.new.self (vec_capacity c.self.inside.spare) c.self.invariant.0
+          (c.note_all.ensures.keeps (rows_of_each (nodes_of w)) c.self.invariant.0.heard
+          (has_all w c.args.taker c.args.peer c.rows-len.result low_x low_y (subst (λ (u : WorldView). AreKnown (rows_at u c.args.taker) (rows_at u c.args.peer)) (sym c.self.view_is) c.requires.all)
+          (c.rows-len.ensures.value ∙ ap (λ (s : Site). length (node_rows s.node)) (site_here w c.args.peer low_y c.index.result.now c.index.ensures)))),
+      c.self.invariant.1,
+    )

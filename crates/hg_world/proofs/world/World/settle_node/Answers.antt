@@ -1,26 +1,26 @@
-use Rattle.std.proofs.Common.{length, subst}
-use Rattle.hg_model.specs.Calls.{IsSettled, publish_changes}
-use Rattle.hg_model.specs.Shares.{whole}
-use Rattle.hg_model.specs.NodeView.{NodeView, node_rows}
-use Rattle.hg_world.specs.World.{Secrets, node_at}
-use Rattle.hg_world.specs.Parts.{nth_node}
-use Rattle.hg_world.proofs.TableLaws.{still_known}
-use Rattle.hg_world.proofs.WorldLaws.{low_in, node_in, settled}
+use Rattle.std.proofs.Common.{◌<◌, ◌∙◌, ℕ, length, slice_set, ap, ap₂}
+use Rattle.std.specs.Prelude.{vec_capacity}
+use Rattle.hg_model.specs.NodeView.{NodeView}
+use Rattle.hg_world.specs.World.{Secrets, WorldView, site_of, with_site}
+use Rattle.hg_world.specs.Steps.{after_steps, settle_steps}
+use Rattle.hg_world.specs.Parts.{world_of}
+use Rattle.hg_world.proofs.PartLaws.{low_in, settled}
+use Rattle.hg_world.proofs.WorldLaws.{set_settled}
 use Rattle.hg_world.proofs.world.World.settle_node.Goals as goal
 
-pub settle-requires : goal.settle-requires
-settle-requires c = low_in c.self.inside.members c.self.inside.coin c.self.inside.nodes.items c.self.inside.frozen.items c.args.self.now c.args.member c.self.invariant.0 c.self.view_is c.requires
-
 pub invariant_of-self-2 : goal.invariant_of-self-2
-invariant_of-self-2 c = (
-  (settled c.self.inside.members c.self.inside.coin c.self.inside.nodes.items c.settle.new.nodes.items c.self.inside.frozen.items c.set_frozen.new.frozen.items c.args.self.now c.args.member c.in_ok-len.len c.self.invariant.0 c.self.view_is c.requires c.in_ok-len.ensures.ok c.in_ok-len.ensures.node c.in_ok-len.ensures.rows c.set_frozen.ensures).keeps,
-  (let u = nth_node c.self.inside.nodes.items c.args.member in still_known c.self.inside.nodes.items c.settle.new.nodes.items c.self.inside.known.items c.args.member (publish_changes u (length (node_rows u)) whole) c.settle.result (low_in c.self.inside.members c.self.inside.coin c.self.inside.nodes.items c.self.inside.frozen.items c.args.self.now c.args.member c.self.invariant.0 c.self.view_is c.requires) c.self.invariant.1 c.settle.ensures.ok c.settle.ensures.err),
-)
+invariant_of-self-2 c =
+    let w : WorldView = world_of c.self.inside.members c.self.inside.coin c.self.inside.sites.items in
+    let low : c.args.member < length w.sites = low_in w c.args.self.now c.args.member c.self.view_is c.requires in (
+      settled w c.self.inside.known (vec_capacity c.self.inside.spare) c.self.invariant.0 c.args.member low c.index_mut-site.result.now c.index_mut-site.ensures.value
+          c.settle.new.self c.rows-len.result c.in_ok-settle.ensures.ok c.rows.ensures.node c.rows-len.ensures.value,
+      c.self.invariant.1,
+    )
 
 pub returns-clause-ok : goal.returns-clause-ok
-returns-clause-ok c = (settled c.self.inside.members c.self.inside.coin c.self.inside.nodes.items c.settle.new.nodes.items c.self.inside.frozen.items c.set_frozen.new.frozen.items c.args.self.now c.args.member c.in_ok-len.len c.self.invariant.0 c.self.view_is c.requires c.in_ok-len.ensures.ok c.in_ok-len.ensures.node c.in_ok-len.ensures.rows c.set_frozen.ensures).ok
-
-pub returns-clause-settled : goal.returns-clause-settled
-returns-clause-settled c =
-    subst (IsSettled (node_at c.args.self.now c.args.member)) (settled c.self.inside.members c.self.inside.coin c.self.inside.nodes.items c.settle.new.nodes.items c.self.inside.frozen.items c.set_frozen.new.frozen.items c.args.self.now c.args.member c.in_ok-len.len c.self.invariant.0 c.self.view_is c.requires c.in_ok-len.ensures.ok c.in_ok-len.ensures.node c.in_ok-len.ensures.rows c.set_frozen.ensures).node
-    (subst (λ (v : NodeView Secrets). IsSettled v (nth_node c.settle.new.nodes.items c.args.member)) (node_in c.self.inside.members c.self.inside.coin c.self.inside.nodes.items c.self.inside.frozen.items c.args.self.now c.args.member c.self.invariant.0 c.self.view_is c.requires) c.in_ok-len.ensures.settled)
+returns-clause-ok c =
+    let w : WorldView = world_of c.self.inside.members c.self.inside.coin c.self.inside.sites.items in
+    let low : c.args.member < length w.sites = low_in w c.args.self.now c.args.member c.self.view_is c.requires in
+    ap₂ (λ (v : NodeView Secrets) (k : ℕ). with_site w c.args.member (site_of v (slice_set c.index_mut-site.result.now.frozen 0 k))) c.in_ok-settle.ensures.ok c.rows-len.ensures.value
+    ∙ (set_settled w c.args.member low c.index_mut-site.result.now c.index_mut-site.ensures.value (c.self.invariant.0.world.sites c.args.member low).is.workers
+    ∙ ap (λ (u : WorldView). after_steps u (settle_steps c.args.member)) c.self.view_is)

@@ -1,6 +1,0 @@
-use Rattle.std.proofs.Common.{◌≡◌, replicate}
-use Rattle.hg_gossip.specs.Handing.{none_heard}
-use Rattle.hg_world.proofs.known.nothing_heard.Given as goal
-
-abbrev pub invariant-loop : goal.invariant-loop
-invariant-loop l = l.known.items ≡ replicate l.counter (replicate l.count none_heard)
