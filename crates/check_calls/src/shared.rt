@@ -5,6 +5,7 @@ ghost use Rattle.hg_model.specs.Signing.{secrets_of};
 ghost use Rattle.hg_model.specs.NodeView.{start_of};
 ghost use Rattle.hg_node.specs.Checked.{IsSignedRow};
 ghost use Rattle.hg_board.specs.Seats.{IsOf};
+ghost use Rattle.hg_board.specs.Table.{all_parts};
 
 use crate::checked::play;
 use crate::members::two_members;
@@ -26,6 +27,7 @@ fn shared_b(
     members: &Members,
 ) -> Result<(Shared<MacTable>, Seat<MacTable>), Memory>
     ensures seat { IfOk result (λ r. IsOf r.0 r.1) }
+    ensures parts { IfOk result (λ r. r.1.parts ≡ all_parts) }
     ensures start { IfOk result (λ r. r.0.start.start ≡ start_of members.now 1 (secrets_of members.now)) }
 {
     let player = player_of(rt, alloc, members, 1)?;
@@ -40,7 +42,8 @@ fn shared_b(
 
 /// The tests let a shared node go here alone.
 fn end<R: Wait>(rt: &R, shared: Shared<MacTable>, seat: Seat<MacTable>)
-    requires { IsOf shared seat }
+    requires seat { IsOf shared seat }
+    requires parts { seat.parts ≡ all_parts }
 {
     drop(Player {
         node: shared.finish(rt, seat),
@@ -78,7 +81,8 @@ fn tells_last<R: Wait + Abort>(
     bytes: &[u8],
 ) -> Result<(), Memory>
     requires { IsOf shared.now seat.old }
-    ensures { IsOf shared.now seat.new }
+    ensures of { IsOf shared.now seat.new }
+    ensures parts { seat.new.parts ≡ seat.old.parts }
 {
     match shared.last_event(rt, seat)? {
         Some(event) => equal(rt, event.bytes(), bytes),
@@ -95,7 +99,8 @@ fn begins<R: Wait + Abort>(
     bytes: &[u8],
 ) -> Result<(), Memory>
     requires { IsOf shared.now seat.old }
-    ensures { IsOf shared.now seat.new }
+    ensures of { IsOf shared.now seat.new }
+    ensures parts { seat.new.parts ≡ seat.old.parts }
 {
     let before = shared.last_event(rt, seat)?;
     assert!(rt; before.is_none());
@@ -120,7 +125,8 @@ fn puts<R: Wait + Abort>(
 ) -> Result<(), Memory>
     requires seat { IsOf shared.now seat.old }
     requires start { shared.now.start.start ≡ start_of members.now 1 keys.now }
-    ensures { IsOf shared.now seat.new }
+    ensures of { IsOf shared.now seat.new }
+    ensures parts { seat.new.parts ≡ seat.old.parts }
 {
     let event = event_of(rt, alloc, members, keys, bytes)?;
     equal(rt, shared.put_event(rt, seat, &event)?, answer);
@@ -138,7 +144,8 @@ fn puts_all<R: Wait + Abort>(
 ) -> Result<(), Memory>
     requires seat { IsOf shared.now seat.old }
     requires start { shared.now.start.start ≡ start_of members.now 1 keys.now }
-    ensures { IsOf shared.now seat.new }
+    ensures of { IsOf shared.now seat.new }
+    ensures parts { seat.new.parts ≡ seat.old.parts }
 {
     let (first, own, last) = (bytes_of(rt, a, 0), bytes_of(rt, a, 1), bytes_of(rt, a, 2));
     begins(rt, shared, seat, own)?;
@@ -229,7 +236,8 @@ fn takes<R: Wait + Abort>(
 ) -> Result<(), Memory>
     requires seat { IsOf shared.now seat.old }
     requires start { shared.now.start.start ≡ start_of members.now 1 keys.now }
-    ensures { IsOf shared.now seat.new }
+    ensures of { IsOf shared.now seat.new }
+    ensures parts { seat.new.parts ≡ seat.old.parts }
 {
     let first = event_of(rt, alloc, members, keys, bytes_of(rt, a, 0))?;
     let own = event_of(rt, alloc, members, keys, bytes_of(rt, a, 1))?;
@@ -249,7 +257,8 @@ fn hands_over<R: Wait + Abort>(
     wanted: (usize, Option<Name>),
 ) -> Result<(), Memory>
     requires { IsOf shared.now seat.old }
-    ensures { IsOf shared.now seat.new }
+    ensures of { IsOf shared.now seat.new }
+    ensures parts { seat.new.parts ≡ seat.old.parts }
 {
     let parcel = shared.events_from(rt, alloc, seat, from)?;
     equal(rt, (parcel.events.len(), parcel.last), wanted);
@@ -268,7 +277,8 @@ fn takes_all<R: Wait + Abort>(
 ) -> Result<(), Memory>
     requires seat { IsOf shared.now seat.old }
     requires start { shared.now.start.start ≡ start_of members.now 1 keys.now }
-    ensures { IsOf shared.now seat.new }
+    ensures of { IsOf shared.now seat.new }
+    ensures parts { seat.new.parts ≡ seat.old.parts }
 {
     hands_over(rt, alloc, shared, seat, 0, (0, None))?;
     begins(rt, shared, seat, bytes_of(rt, a, 1))?;

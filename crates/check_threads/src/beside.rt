@@ -1,6 +1,6 @@
 //! A node that is shared by two threads: one puts and makes the events of a node that was alone, the other votes.
 
-ghost use Rattle.std.specs.Prelude.{◌<◌, length};
+ghost use Rattle.std.specs.Prelude.{◌≡◌, ◌<◌, length};
 ghost use Rattle.hg_model.specs.NodeView.{node_rows};
 ghost use Rattle.hg_board.specs.Seats.{IsOf};
 
@@ -34,7 +34,8 @@ fn replay_row<R: Wait>(
 ) -> Result<(), Memory>
     requires seat { IsOf shared.now seat.old }
     requires place { place < length (node_rows alone.now) }
-    ensures { IsOf shared.now seat.new }
+    ensures of { IsOf shared.now seat.new }
+    ensures parts { seat.new.parts ≡ seat.old.parts }
 {
     let row = alone.row(place);
     if row.creator == alone.own() {
@@ -54,7 +55,8 @@ fn replay_rows<R: Wait>(
     alone: &Node<MacTable>,
 ) -> Result<(), Memory>
     requires { IsOf shared.now seat.old }
-    ensures { IsOf shared.now seat.new }
+    ensures of { IsOf shared.now seat.new }
+    ensures parts { seat.new.parts ≡ seat.old.parts }
 {
     for place in 0..alone.rows() {
         replay_row(rt, shared, seat, alone, place)?;
@@ -71,7 +73,8 @@ fn replay<R: Wait, G: Gate>(
     gate: &G,
 ) -> (Seat<MacTable>, Result<(), Memory>)
     requires { IsOf shared.now seat }
-    ensures { IsOf shared.now result.0 }
+    ensures of { IsOf shared.now result.0 }
+    ensures parts { result.0.parts ≡ seat.parts }
 {
     gate.reach(BEFORE);
     let replayed = replay_rows(rt, shared, &mut seat, alone);
@@ -88,7 +91,8 @@ fn vote<R: Wait, G: Gate>(
     gate: &G,
 ) -> (Seat<MacTable>, Result<u32, Memory>)
     requires { IsOf shared.now seat }
-    ensures { IsOf shared.now result.0 }
+    ensures of { IsOf shared.now result.0 }
+    ensures parts { result.0.parts ≡ seat.parts }
 {
     let all = Share::new(0, 1);
     let marked = Voters::new(gate).work(rt, alloc, shared, &mut seat, all, TURNS);
@@ -112,11 +116,13 @@ pub fn shared_beside<R: Threads + Wait + Sync, G: Gate + Sync>(
         rt,
         move || -> (Seat<MacTable>, Result<(), Memory>)
             requires { IsOf top.now seat }
-            ensures { IsOf top.entry.now result.0 }
+            ensures of { IsOf top.entry.now result.0 }
+            ensures parts { result.0.parts ≡ seat.parts }
         { replay(rt, top, seat, alone, gate) },
         move || -> (Seat<MacTable>, Result<u32, Memory>)
             requires { IsOf top.now other }
-            ensures { IsOf top.entry.now result.0 }
+            ensures of { IsOf top.entry.now result.0 }
+            ensures parts { result.0.parts ≡ other.parts }
         { vote(rt, alloc, top, other, gate) },
     );
     shared.absorb(&mut seat, other);

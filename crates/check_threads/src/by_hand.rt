@@ -1,5 +1,6 @@
 //! A shared node by hand: its two seats are those of one thread, one after the other.
 
+ghost use Rattle.std.specs.Prelude.{◌≡◌};
 ghost use Rattle.hg_board.specs.Seats.{IsOf};
 
 use crate::players::Player;
@@ -17,7 +18,8 @@ fn makes_one<R: Wait>(
     seat: &mut Seat<MacTable>,
 ) -> Result<bool, Memory>
     requires { IsOf shared.now seat.old }
-    ensures { IsOf shared.now seat.new }
+    ensures of { IsOf shared.now seat.new }
+    ensures parts { seat.new.parts ≡ seat.old.parts }
 {
     let made = shared.make(rt, seat, None, 1, b"")?;
     let frozen = shared.freeze(rt, seat)?;
@@ -33,7 +35,8 @@ fn tells_name<R: Wait>(
     row: &Row,
 ) -> Result<bool, Memory>
     requires { IsOf shared.now seat.old }
-    ensures { IsOf shared.now seat.new }
+    ensures of { IsOf shared.now seat.new }
+    ensures parts { seat.new.parts ≡ seat.old.parts }
 {
     let names = shared.held(rt, alloc, seat)?;
     Ok(names.as_slice() == [row.name].as_slice())
@@ -48,7 +51,8 @@ fn tells_bytes<R: Wait>(
     bytes: &[u8],
 ) -> Result<bool, Memory>
     requires { IsOf shared.now seat.old }
-    ensures { IsOf shared.now seat.new }
+    ensures of { IsOf shared.now seat.new }
+    ensures parts { seat.new.parts ≡ seat.old.parts }
 {
     let parcel = shared.missing(rt, alloc, seat, &[])?;
     Ok(match parcel.rows.as_slice() {
@@ -65,7 +69,8 @@ fn tells_no_order<R: Wait>(
     seat: &mut Seat<MacTable>,
 ) -> Result<bool, Memory>
     requires { IsOf shared.now seat.old }
-    ensures { IsOf shared.now seat.new }
+    ensures of { IsOf shared.now seat.new }
+    ensures parts { seat.new.parts ≡ seat.old.parts }
 {
     let order = shared.kept_copy(rt, alloc, seat)?;
     Ok(order.is_empty())
@@ -80,7 +85,8 @@ fn tells_one<R: Wait>(
     alone: &Node<MacTable>,
 ) -> Result<bool, Memory>
     requires { IsOf shared.now seat.old }
-    ensures { IsOf shared.now seat.new }
+    ensures of { IsOf shared.now seat.new }
+    ensures parts { seat.new.parts ≡ seat.old.parts }
 {
     if alone.rows() != 1 {
         return Ok(false);

@@ -1,5 +1,6 @@
 -- What is so once two seats are one, and in the end
-use Rattle.std.proofs.Common.{◌≡◌, ℕ, ◌≤◌, Bool, true, false, cond, nat_le, List, ◌++◌, length, Option, refl, sym, ap, ◌∙◌, subst}
+use Rattle.std.proofs.Common.{◌≡◌, inl, inr, ℕ, ◌≤◌, Bool, true, false, cond, nat_le, List, ◌++◌, length, Option, sym, ap, ◌∙◌, subst, arith}
+use Rattle.std.proofs.lemmas.Bool.{cases_lt}
 use mathlib.Core.Option.{some}
 use lib.ListN.{get_elem?}
 use Rattle.atomic_table.specs.Seated.{TableId}
@@ -8,15 +9,16 @@ use Rattle.hg_model.specs.Orders.{IsPrefix}
 use Rattle.hg_model.specs.History.{Change}
 use Rattle.hg_model.specs.NodeView.{NodeView, IsNode}
 use Rattle.hg_model.specs.Signing.{Accepts}
-use Rattle.hg_board.specs.Positions.{times, AreBelow}
+use Rattle.hg_board.specs.Positions.{times, once_from, AreBelow}
 use Rattle.hg_board.specs.declared.view.View.{View}
-use Rattle.hg_board.specs.Table.{Orderly, node_at}
+use Rattle.hg_board.specs.Table.{HasSeen, Orderly, all_parts, node_at}
 use Rattle.hg_board.specs.Steps.{Hand, HasCompared, joined, longer}
 use Rattle.hg_board.specs.Seats.{IsOf, shared_node, seat_view_of}
-use Rattle.hg_board.specs.Turns.{Enters, inside_at}
+use Rattle.hg_board.specs.Turns.{Enters}
 use Rattle.hg_board.specs.Calls.{Absorbs, IsWhole}
-use Rattle.hg_board.proofs.PrefixLaws.{longest, prefix_self}
-use Rattle.hg_board.proofs.MoveLaws.{Ends, ends}
+use Rattle.hg_board.proofs.PositionLaws.{once_within, times_past}
+use Rattle.hg_board.proofs.PrefixLaws.{longest, prefix_length, prefix_self, prefix_whole}
+use Rattle.hg_board.proofs.MoveLaws.{ends}
 use Rattle.hg_board.proofs.TurnLaws.{same_some}
 
 both_begin : (xs ys : List Change) (b : Bool) → IsPrefix (cond b xs ys) (cond b ys xs) → IsPrefix xs (cond b ys xs) × IsPrefix ys (cond b ys xs)
@@ -49,16 +51,25 @@ module _ {V : Type 0} (accepts : V → Accepts) (start : NodeView V) where
         node = subst (λ (h : List Change). IsNode accepts (node_at start h)) (sym seen) (subst (λ (x : NodeView V). IsNode accepts (node_at x (longer v.seen w.seen))) from t.node);
       }
 
-  pub whole : (m n : Hand V) (node : NodeView V) (count : ℕ) → Enters accepts start m n node count → (table old : TableId) (s : State (Option (NodeView V)) (View V)) → Orderly accepts start s → (id : ℕ) →
-      get_elem? s.views id ≡ some n.0 → IsWhole accepts (shared_node table start) (seat_view_of old m.0) node
-  whole m n node count inside table old s o id at =
-      let here : Ends accepts start n.0 = ends accepts start s o id n.0 at (ap (λ (x : Hand V). x.0.hold) inside.inside) in
-      let e : Ends accepts start (inside_at m.0 inside.history m.0.mine).0 = subst (λ (x : Hand V). Ends accepts start x.0) inside.inside here in
-      subst (λ (v : NodeView V). IsWhole accepts (shared_node table start) (seat_view_of old m.0) v) (sym inside.found) record {
-        start = refl;
-        later = e.later;
-        seen = inside.seen;
-        within = e.within;
-        once = e.once;
-        all = e.all;
+  -- a seat whose changes are all since the start has seen the history
+  seen_all : (seen history : List Change) (mine : List ℕ) → HasSeen start seen mine → IsPrefix seen history → ((q : ℕ) → times q mine ≡ once_from (length start.history) (length history) q) → history ≡ seen
+  seen_all seen history mine knows first all = elim (cases_lt (length seen) (length history)) [
+    | inl low ↦
+        let begun : length start.history ≤ length seen = prefix_length start.history seen knows.begun in
+        let none : times (length seen) mine ≡ 0 = times_past (length seen) (length seen) mine knows.within (omega arith) in
+        absurd (omega (arith, none, all (length seen), once_within (length start.history) (length history) (length seen) begun low))
+    | inr past ↦ prefix_whole seen history first (omega (arith, past))
+  ]
+
+  pub whole : (m n : Hand V) (node : NodeView V) (count : ℕ) → Enters accepts start m n node count → m.0.parts ≡ all_parts → (table old : TableId) (s : State (Option (NodeView V)) (View V)) → Orderly accepts start s →
+      (id : ℕ) → get_elem? s.views id ≡ some n.0 → IsWhole (shared_node table start) (seat_view_of old m.0) node
+  whole m n node count inside every table old s o id at =
+      let all : (q : ℕ) → times q m.0.mine ≡ once_from (length start.history) (length inside.history) q =
+      subst (λ (x : Hand V). x.0.parts ≡ all_parts → (q : ℕ) → times q x.0.mine ≡ once_from (length start.history) (length x.0.seen) q) inside.inside
+      (ends accepts start s o id n.0 at (ap (λ (x : Hand V). x.0.hold) inside.inside)) every in
+      let same : inside.history ≡ m.0.seen = seen_all m.0.seen inside.history m.0.mine inside.knows inside.seen all in
+      record {
+        seen = inside.found ∙ ap (λ (h : List Change). node_at start h) same;
+        later = inside.knows.begun;
+        all = subst (λ (h : List Change). (q : ℕ) → times q m.0.mine ≡ once_from (length start.history) (length h) q) same all;
       }

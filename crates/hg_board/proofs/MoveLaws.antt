@@ -13,7 +13,7 @@ use Rattle.hg_model.specs.NodeView.{NodeView, IsNode}
 use Rattle.hg_model.specs.Signing.{Accepts}
 use Rattle.hg_history.proofs.SoundLaws.{moment}
 use Rattle.hg_history.proofs.StateLaws.{prefix_more}
-use Rattle.hg_board.specs.Positions.{times, once_from, AreBelow}
+use Rattle.hg_board.specs.Positions.{times, once_from}
 use Rattle.hg_board.specs.declared.view.Hold.{Hold}
 use Rattle.hg_board.specs.declared.view.Hold.TheVariants.{Free, Taken, Loaded}
 use Rattle.hg_board.specs.declared.view.View.{View}
@@ -62,11 +62,12 @@ module _ {V : Type 0} where
       held = held;
       within = fits.within;
       alive = fits.alive;
+      begun = fits.begun;
       gone = fits.gone;
     }
 
     fits_spent : (history : List Change) → Fits start history spent
-    fits_spent history = record { seen = prefix_none history; told = prefix_none history; held = tt; within = tt; alive = λ some_parts. absurd (omega arith); gone = λ e. refl }
+    fits_spent history = record { seen = prefix_none history; told = prefix_none history; held = tt; within = tt; alive = λ some_parts. absurd (omega arith); begun = λ some_parts. absurd (omega arith); gone = λ e. refl }
 
   module _ (accepts : V → Accepts) (start : NodeView V) where
     -- what a step of the seat `id` may change: its view from v to w, the words, the slot, and the history
@@ -170,12 +171,12 @@ module _ {V : Type 0} where
             later = prefix_self o.history;
             node = o.node;
             others = λ j u apart there. (o.each j u there).held;
-            fits = record { seen = f.seen; told = f.told; held = refl; within = f.within; alive = f.alive; gone = λ e. absurd (omega (arith, alive, e)) };
+            fits = record { seen = f.seen; told = f.told; held = refl; within = f.within; alive = f.alive; begun = f.begun; gone = λ e. absurd (omega (arith, alive, e)) };
             turns = omega (arith, ap turns_of idle, free);
             parts = refl;
             once = λ p. refl;
           },
-          ((λ _. record { start = start; history = o.history; from = f.alive alive; seen = f.seen; node = o.node; taken = refl }), λ miss. absurd (miss hit)),
+          ((λ _. record { start = start; history = o.history; from = f.alive alive; knows = record { begun = f.begun alive; within = f.within }; seen = f.seen; node = o.node; taken = refl }), λ miss. absurd (miss hit)),
         ))
         (λ miss. (v, keeps, tt, unmoved s o id 0 v me, ((λ hit. absurd (miss hit)), λ _. refl)))
 
@@ -192,6 +193,7 @@ module _ {V : Type 0} where
           held = refl;
           within = below_more (length v.seen) (length o.history) v.mine (prefix_length v.seen o.history f.seen) f.within;
           alive = f.alive;
+          begun = λ _. o.later;
           gone = λ e. absurd (omega (arith, alive, e));
         } in (
           w,
@@ -237,6 +239,7 @@ module _ {V : Type 0} where
               held = refl;
               within = below_append (length h) v.mine (length v.seen ∷ []) (below_more (length v.seen) (length h) v.mine (omega (arith, count, count_seen)) f.within) (omega (arith, count, count_seen), tt);
               alive = f.alive;
+              begun = λ _. prefix_more start.history o.history h o.later later;
               gone = λ e. absurd (omega (arith, alive, e));
             };
             turns = omega (arith, one);
@@ -275,7 +278,7 @@ module _ {V : Type 0} where
             later = prefix_self o.history;
             node = o.node;
             others = λ j u apart there. (o.each j u there).held;
-            fits = record { seen = f.seen; told = f.told; held = tt; within = f.within; alive = f.alive; gone = λ e. absurd (omega (arith, alive, e)) };
+            fits = record { seen = f.seen; told = f.told; held = tt; within = f.within; alive = f.alive; begun = f.begun; gone = λ e. absurd (omega (arith, alive, e)) };
             turns = omega (arith, one, busy);
             parts = refl;
             once = λ p. refl;
@@ -295,6 +298,7 @@ module _ {V : Type 0} where
           held = free_holds o.history w idle;
           within = f.within;
           alive = f.alive;
+          begun = f.begun;
           gone = λ e. absurd (omega (arith, alive, e));
         } in (
           w,
@@ -326,6 +330,7 @@ module _ {V : Type 0} where
           held = free_holds o.history left idle;
           within = f.within;
           alive = λ _. f.alive (omega (arith, more));
+          begun = λ _. f.begun (omega (arith, more));
           gone = λ e. absurd (omega (arith, more, e));
         } in
         let fits_right : Fits start o.history right = record {
@@ -334,6 +339,7 @@ module _ {V : Type 0} where
           held = tt;
           within = tt;
           alive = λ _. f.alive (omega (arith, more));
+          begun = λ _. f.begun (omega (arith, more));
           gone = λ e. absurd (omega (arith, e));
         } in
         record {
@@ -374,6 +380,7 @@ module _ {V : Type 0} where
           held = free_holds o.history both idle;
           within = below_append (length both.seen) v.mine w.mine (below_more (length v.seen) (length both.seen) v.mine size.first f.within) (below_more (length w.seen) (length both.seen) w.mine size.second g.within);
           alive = λ _. f.alive alive;
+          begun = λ _. prefix_more start.history v.seen both.seen (f.begun alive) (prefix_of_prefix v.seen both.seen o.history f.seen (of_longer (λ h. IsPrefix h o.history) v.seen w.seen f.seen g.seen) size.first);
           gone = λ e. absurd (omega (arith, alive, e));
         } in
         record {
@@ -418,6 +425,7 @@ module _ {V : Type 0} where
             held = tt;
             within = tt;
             alive = λ _. refl;
+            begun = λ _. prefix_self start.history;
             gone = λ e. absurd (omega (arith, e));
           })
           (at_snoc [] (first_view start) v j at);
@@ -425,29 +433,16 @@ module _ {V : Type 0} where
       once = λ p. omega (arith, once_none (length start.history) p, times_none p);
     }
 
-    -- what is so in the end, by the seat that has the turn
-    pub record Ends (v : View V) : Type 0 where
-      pub later : IsPrefix start.history v.seen
-      pub within : AreBelow (length v.seen) v.mine
-      pub once : (p : ℕ) → times p v.mine ≤ 1
-      pub all : v.parts ≡ all_parts → (p : ℕ) → times p v.mine ≡ once_from (length start.history) (length v.seen) p
-
-    pub ends : (s : Tables V) (o : Orderly accepts start s) (id : ℕ) (v : View V) → get_elem? s.views id ≡ some v → v.hold ≡ Loaded → Ends v
-    ends s o id v me has =
-        let f = o.each id v me in
-        let same : v.seen ≡ o.history = held_as start o.history v Loaded f has in
-        record {
-          later = subst (IsPrefix start.history) (sym same) o.later;
-          within = f.within;
-          once = λ p. omega (arith, o.once p, once_few (length start.history) (length o.history) p, one_in_sum (λ (u : View V). times p u.mine) s.views id v me);
-          all = λ every p. omega (
-            arith,
-            o.once p,
-            ap (λ (h : List Change). once_from (length start.history) (length h) p) same,
-            alone_in_sum (λ (u : View V). u.parts) (λ (u : View V). times p u.mine) s.views id v me (omega (arith, o.parts, every))
-                (λ j u at none_there. ap (λ (x : View V). times p x.mine) ((o.each j u at).gone none_there) ∙ times_none p),
-          );
-        }
+    -- what is so in the end, by the seat that has the turn and all parts
+    pub ends : (s : Tables V) (o : Orderly accepts start s) (id : ℕ) (v : View V) → get_elem? s.views id ≡ some v → v.hold ≡ Loaded → v.parts ≡ all_parts →
+        (p : ℕ) → times p v.mine ≡ once_from (length start.history) (length v.seen) p
+    ends s o id v me has every p = omega (
+      arith,
+      o.once p,
+      ap (λ (h : List Change). once_from (length start.history) (length h) p) (held_as start o.history v Loaded (o.each id v me) has),
+      alone_in_sum (λ (u : View V). u.parts) (λ (u : View V). times p u.mine) s.views id v me (omega (arith, o.parts, every))
+          (λ j u at none_there. ap (λ (x : View V). times p x.mine) ((o.each j u at).gone none_there) ∙ times_none p),
+    )
 
     -- the same of a seat between two calls, and of one that is loaded
     pub takes_at : (n id : ℕ) (m : Hand V) → IsAtRest m → Allows (Orderly accepts start) n id m 0 (λ y. either (eqb y 0) 1 y) (taken accepts (step n 0 0 1 none) m)

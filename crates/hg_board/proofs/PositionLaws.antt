@@ -1,9 +1,11 @@
 -- How often positions stand in lists, and sums over views of which one changes
-use Rattle.std.proofs.Common.{◌≡◌, ◌≢◌, ℕ, zero, suc, ◌+◌, ◌≤◌, eqb, ◌&&◌, List, [], ◌∷◌, ◌++◌, set, Bool, true, false, cond, nat_le, nat_lt, sum_by, refl, sym, ap, arith}
+use Rattle.std.proofs.Common.{◌≡◌, ◌≢◌, ℕ, zero, suc, ◌+◌, ◌<◌, ◌≤◌, eqb, ◌&&◌, List, [], ◌∷◌, ◌++◌, length, set, Bool, true, false, cond, nat_le, nat_lt, sum_by, refl, sym, ap, arith}
 use Rattle.std.proofs.lemmas.Bool.Decides.{nat_tests}
 use Rattle.std.proofs.lemmas.List.Sums.{sum_by-append, sum_by-cons}
 use mathlib.Core.Option.{some, some-injective, some-ne-none}
 use lib.ListN.{get_elem?}
+use Rattle.hg_model.specs.History.{Change}
+use Rattle.hg_gossip.specs.Holding.{positions_from}
 use Rattle.hg_board.specs.Positions.{times, once_from, AreBelow}
 
 pub times-append : (p : ℕ) (xs ys : List ℕ) → times p (xs ++ ys) ≡ times p xs + times p ys
@@ -38,6 +40,25 @@ below_more m n (x ∷ xs) le all = (omega (arith, all.0), below_more m n xs le a
 pub below_append : (n : ℕ) (xs ys : List ℕ) → AreBelow n xs → AreBelow n ys → AreBelow n (xs ++ ys)
 below_append n [] ys all more = more
 below_append n (x ∷ xs) ys all more = (all.0, below_append n xs ys all.1 more)
+
+pub times_apart : (p q : ℕ) → q ≢ p → ◌≡◌ {A = ℕ} (cond (eqb q p) 1 0) 0
+times_apart p q ne = grind (arith, nat_tests)
+
+pub times_cons : (p q : ℕ) (qs : List ℕ) → times p (q ∷ qs) ≡ cond (eqb q p) 1 0 + times p qs
+times_cons p q qs = omega (arith, times-append p (q ∷ []) qs, times_push p [] q, times_none p)
+
+-- no position past the end stands in a list of positions below it
+pub times_past : (end q : ℕ) (positions : List ℕ) → AreBelow end positions → end ≤ q → times q positions ≡ 0
+times_past end q [] below past = times_none q
+times_past end q (p ∷ positions) below past =
+    omega (arith, times_cons q p positions, times_apart q p (λ e. let same : p ≡ q = e in omega (arith, same, below.0)), times_past end q positions below.1 past)
+
+pub once_within : (first end q : ℕ) → first ≤ q → q < end → once_from first end q ≡ 1
+once_within first end q from below = grind (arith, nat_tests)
+
+pub from_below : (n : ℕ) (es : List Change) → AreBelow (n + length es) (positions_from n es)
+from_below n [] = tt
+from_below n (e ∷ es) = (omega arith, below_more (suc n + length es) (n + length (e ∷ es)) (positions_from (suc n) es) (omega arith) (from_below (suc n) es))
 
 module _ {A : Type 0} (weight : A → ℕ) where
   pub sum_replaced : (xs : List A) (j : ℕ) (old new : A) → get_elem? xs j ≡ some old → sum_by weight (set xs j new) + weight old ≡ sum_by weight xs + weight new

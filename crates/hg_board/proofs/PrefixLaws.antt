@@ -1,5 +1,6 @@
 -- Prefixes of one list, and of two of them the longer
-use Rattle.std.proofs.Common.{◌≡◌, ◌≤◌, List, [], ◌∷◌, ◌++◌, length, length-append, Bool, true, false, cond, nat_le, refl, ap, arith}
+use Rattle.std.proofs.Common.{◌≡◌, ◌≤◌, List, [], ◌∷◌, ◌++◌, length, length-append, Bool, true, false, cond, nat_le, refl, ap, ◌∙◌, arith}
+use Rattle.std.proofs.lemmas.List.{append-nil}
 use Rattle.std.proofs.lemmas.Bool.Decides.{nat_tests}
 use Rattle.hg_model.specs.Orders.{IsPrefix}
 use Rattle.hg_model.specs.History.{Change}
@@ -30,6 +31,14 @@ module _ {A : Type 0} where
       let other : IsPrefix ys zs = (q.0, cc (q.1)) in
       let rest = prefix_of_prefix xs ys zs front other (omega arith) in
       (rest.0, cc (here, rest.1))
+
+  -- a prefix that is not shorter is the whole
+  pub prefix_whole : (xs ys : List A) → IsPrefix xs ys → length ys ≤ length xs → ys ≡ xs
+  prefix_whole xs ys p le = by p.0 p.1
+    where
+      by : (rest : List A) → ys ≡ xs ++ rest → ys ≡ xs
+      by [] is = is ∙ append-nil xs
+      by (z ∷ zs) is = absurd (omega (arith, le, ap length is, length-append xs (z ∷ zs)))
 
 -- what is so of both is so of the longer and of the shorter
 longer_by : (P : List Change → Type 0) (xs ys : List Change) (b : Bool) → P xs → P ys → P (cond b ys xs)

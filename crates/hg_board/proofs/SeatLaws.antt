@@ -1,5 +1,5 @@
 -- What a call did to its seat, from the steps inside
-use Rattle.std.proofs.Common.{◌≡◌, ℕ, ◌≤◌, Bool, true, false, cond, eqb, List, [], ◌∷◌, ◌++◌, length, drop, Result, Ok, Err, Some, refl, sym, ap, ◌∙◌, subst, arith}
+use Rattle.std.proofs.Common.{◌≡◌, ℕ, ◌≤◌, Bool, true, false, cond, eqb, List, [], ◌∷◌, ◌++◌, length, length-append, drop, Result, Ok, Err, Some, refl, sym, ap, ◌∙◌, subst, arith}
 use Rattle.std.specs.Prelude.{IfOk, OnErr, OnOk}
 use Rattle.std.proofs.lemmas.Bool.{true≢false}
 use Rattle.std.proofs.lemmas.List.{append-nil}
@@ -30,13 +30,15 @@ use Rattle.hg_gossip.specs.Nodes.{taking_of}
 use Rattle.hg_gossip.specs.Holding.{Seen, Waits, positions_from, rules_alone, seen_whole, with_own}
 use Rattle.hg_gossip.proofs.AloneLaws.{waits_alone}
 use Rattle.hg_board.specs.declared.view.View.{View}
+use Rattle.hg_board.specs.Positions.{AreBelow}
 use Rattle.hg_board.specs.Table.{node_at}
 use Rattle.hg_board.specs.Steps.{Hand}
 use Rattle.hg_board.specs.Seats.{IsOf, SharedNode, SeatView, shared_node, seen_by, seat_view_of}
 use Rattle.hg_board.specs.Turns.{Enters, IsGrown, IsInside, inside_at, mine_with, outside_at}
 use Rattle.hg_board.specs.Calls.{SeatMakes, SeatPublishes, SeatPuts, SeatWaits, Stays, rules_shared}
 use Rattle.hg_board.specs.Taking.{AddsInside, SeatTakes, SeatTakesFirst, TakesFirst, taking_rows}
-use Rattle.hg_board.proofs.PrefixLaws.{prefix_front}
+use Rattle.hg_board.proofs.PositionLaws.{below_append, below_more, from_below}
+use Rattle.hg_board.proofs.PrefixLaws.{prefix_front, prefix_length}
 use Rattle.hg_board.proofs.TurnLaws.{drop_front}
 
 -- each call adds one change at most
@@ -142,6 +144,9 @@ module _ {V : Type 0} (accepts : V → Accepts) where
         own_seen : o.0.seen ≡ inside.history ++ es
         own_seen = ap (λ (x : Hand V). x.0.seen) left
 
+        own_more : IsPrefix m.0.seen (inside.history ++ es)
+        own_more = prefix_more m.0.seen inside.history (inside.history ++ es) inside.seen (prefix_front inside.history es)
+
         own_new : seen_by (shared_node table start) (seat_view_of new o.0) ≡ with_own reached es
         own_new = ap (λ (x : Hand V). seen_by (shared_node table start) (seat_view_of new x.0)) left
 
@@ -149,7 +154,12 @@ module _ {V : Type 0} (accepts : V → Accepts) where
         own_stays lawful = record {
           of = record { table = same ∙ of.table; start = ap (λ (x : Hand V). x.0.start) left ∙ of.start };
           parts = ap (λ (x : Hand V). x.0.parts) left;
-          seen = subst (IsPrefix m.0.seen) (sym own_seen) (prefix_more m.0.seen inside.history (inside.history ++ es) inside.seen (prefix_front inside.history es));
+          seen = subst (IsPrefix m.0.seen) (sym own_seen) own_more;
+          begun = subst (IsPrefix start.history) (sym own_seen) (prefix_more start.history m.0.seen (inside.history ++ es) inside.knows.begun own_more);
+          within = subst (λ (x : Hand V). AreBelow (length x.0.seen) x.0.mine) (sym left)
+              (below_append (length (inside.history ++ es)) m.0.mine (positions_from (length inside.history) es)
+              (below_more (length m.0.seen) (length (inside.history ++ es)) m.0.mine (prefix_length m.0.seen (inside.history ++ es) own_more) inside.knows.within)
+              (subst (λ (n : ℕ). AreBelow n (positions_from (length inside.history) es)) (sym (length-append inside.history es)) (from_below (length inside.history) es)));
           node = subst (λ (h : List Change). IsNode accepts (node_at start h)) (sym own_seen) lawful;
         }
 
@@ -163,6 +173,9 @@ module _ {V : Type 0} (accepts : V → Accepts) where
           of = record { table = same ∙ of.table; start = ap (λ (x : Hand V). x.0.start) read_left ∙ of.start };
           parts = ap (λ (x : Hand V). x.0.parts) read_left;
           seen = subst (IsPrefix m.0.seen) (sym (ap (λ (x : Hand V). x.0.seen) read_left)) inside.seen;
+          begun = subst (IsPrefix start.history) (sym (ap (λ (x : Hand V). x.0.seen) read_left)) (prefix_more start.history m.0.seen inside.history inside.knows.begun inside.seen);
+          within = subst (λ (x : Hand V). AreBelow (length x.0.seen) x.0.mine) (sym read_left)
+              (below_more (length m.0.seen) (length inside.history) m.0.mine (prefix_length m.0.seen inside.history inside.seen) inside.knows.within);
           node = subst (λ (h : List Change). IsNode accepts (node_at start h)) (sym (ap (λ (x : Hand V). x.0.seen) read_left)) inside.lawful;
         }
 

@@ -10,7 +10,7 @@ use Rattle.hg_model.specs.Signing.{Accepts}
 use Rattle.hg_gossip.specs.Holding.{positions_from}
 use Rattle.hg_board.specs.declared.view.Hold.TheVariants.{Free, Taken, Loaded}
 use Rattle.hg_board.specs.declared.view.View.{View}
-use Rattle.hg_board.specs.Table.{node_at, view}
+use Rattle.hg_board.specs.Table.{HasSeen, node_at, view}
 use Rattle.hg_board.specs.Steps.{Hand, HasTaken, IsAtRest, given, loaded, raised, taken, with_hold}
 use Rattle.hg_board.specs.Turns.{Enters, IsGrown, IsInside, inside_at, last_change, mine_with, outside_at}
 
@@ -40,6 +40,7 @@ module _ {V : Type 0} (accepts : V → Accepts) (start : NodeView V) where
   -- after the turn was taken, by a seat that knows the start
   pub record Took (m n : Hand V) : Type 0 where
     pub history : List Change
+    pub knows : HasSeen start m.0.seen m.0.mine
     pub seen : IsPrefix m.0.seen history
     pub node : IsNode accepts (node_at start history)
     pub taken : n ≡ (with_hold m.0 (Taken history), (0, Some (node_at start history)) ∷ [])
@@ -47,8 +48,8 @@ module _ {V : Type 0} (accepts : V → Accepts) (start : NodeView V) where
   took_from : (m n : Hand V) → m.0.start ≡ Some start → HasTaken accepts m n → Took m n
   took_from m n from t =
       let same : t.start ≡ start = same_some t.start start (sym t.from ∙ from) in
-      subst (λ (x : NodeView V). (IsNode accepts (node_at x t.history)) → n ≡ (with_hold m.0 (Taken t.history), (0, Some (node_at x t.history)) ∷ []) → Took m n) (sym same)
-      (λ node is. record { history = t.history; seen = t.seen; node = node; taken = is }) t.node t.taken
+      subst (λ (x : NodeView V). HasSeen x m.0.seen m.0.mine → IsNode accepts (node_at x t.history) → n ≡ (with_hold m.0 (Taken t.history), (0, Some (node_at x t.history)) ∷ []) → Took m n) (sym same)
+      (λ knows node is. record { history = t.history; knows = knows; seen = t.seen; node = node; taken = is }) t.knows t.node t.taken
 
   pub took : (m n : Hand V) (step : Step (Option (NodeView V))) (found : ℕ) → m.0.start ≡ Some start → taken accepts step m found n → found ≡ 0 → Took m n
   took m n step found from told hit = took_from m n from (told.0 hit)
@@ -66,6 +67,7 @@ module _ {V : Type 0} (accepts : V → Accepts) (start : NodeView V) where
   -- after the count was loaded too
   pub record Looked (m o : Hand V) (count : ℕ) : Type 0 where
     pub history : List Change
+    pub knows : HasSeen start m.0.seen m.0.mine
     pub seen : IsPrefix m.0.seen history
     pub node : IsNode accepts (node_at start history)
     pub counted : count ≡ length history
@@ -76,6 +78,7 @@ module _ {V : Type 0} (accepts : V → Accepts) (start : NodeView V) where
       let is = subst (λ (x : Hand V). loaded step x count o) t.taken told t.history refl in
       record {
         history = t.history;
+        knows = t.knows;
         seen = t.seen;
         node = t.node;
         counted = is.0;
@@ -104,6 +107,7 @@ module _ {V : Type 0} (accepts : V → Accepts) (start : NodeView V) where
       let out = moved_out m o p count t found was left in
       record {
         history = t.history;
+        knows = t.knows;
         seen = t.seen;
         lawful = t.node;
         alive = alive;

@@ -25,11 +25,14 @@ pub record Publishes {V : Type 0} (rules : Rules V) (old : Seen V) (len : ℕ) (
   pub grown : new ≡ with_own reached (publish_changes reached.node len share)
 
 module _ {V : Type 0} (accepts : V → Accepts) (p : SharedNode V) where
-  -- it is a seat of the node still, with as many parts; it has seen more, which is a history of the node
+  -- it is a seat of the node still, with as many parts; it has seen more, which is a history of the node and has all that
+  -- this was started with, and the seat's own changes
   pub record Stays (old new : SeatView V) : Type 0 where
     pub of : IsOf p new
     pub parts : new.parts ≡ old.parts
     pub seen : IsPrefix old.seen new.seen
+    pub begun : IsPrefix p.start.history new.seen
+    pub within : AreBelow (length new.seen) new.mine
     pub node : IsNode accepts (node_at p.start new.seen)
 
   -- its call added nothing: others' changes alone are new
@@ -69,17 +72,13 @@ module _ {V : Type 0} (accepts : V → Accepts) (p : SharedNode V) where
     pub ends : IsPrefix other.seen new.seen
     pub node : IsNode accepts (node_at p.start new.seen)
 
-  -- the node of the whole history: all else of it is as at the start, and the changes of the seat are there; where the
-  -- seat has all parts, they are all since the start, each once
-  pub record IsWhole (s : SeatView V) (node : NodeView V) : Type 0 where
-    pub start : node.start ≡ p.start.start
-    pub later : IsPrefix p.start.history node.history
-    pub seen : IsPrefix s.seen node.history
-    pub within : AreBelow (length node.history) s.mine
-    pub once : (q : ℕ) → times q s.mine ≤ 1
-    pub all : s.parts ≡ all_parts → (q : ℕ) → times q s.mine ≡ once_from (length p.start.history) (length node.history) q
-
 module _ {V : Type 0} where
+  -- the node as the seat has seen it, and the changes since the start are the seat's, each once
+  pub record IsWhole (p : SharedNode V) (s : SeatView V) (node : NodeView V) : Type 0 where
+    pub seen : node ≡ node_at p.start s.seen
+    pub later : IsPrefix p.start.history s.seen
+    pub all : (q : ℕ) → times q s.mine ≡ once_from (length p.start.history) (length s.seen) q
+
   -- a split moves one part to a new seat, which has seen as much and added nothing
   abbrev pub after_split : SeatView V → SeatView V
   after_split s = seat_view s.table s.start s.seen s.mine (s.parts - 1)

@@ -9,7 +9,7 @@ use Rattle.hg_board.specs.Positions.{times, AreBelow}
 use Rattle.hg_board.specs.declared.view.Hold.{Hold}
 use Rattle.hg_board.specs.declared.view.Hold.TheVariants.{Free, Taken, Loaded}
 use Rattle.hg_board.specs.declared.view.View.{View}
-use Rattle.hg_board.specs.Table.{all_parts, node_at, view}
+use Rattle.hg_board.specs.Table.{HasSeen, all_parts, node_at, view}
 
 -- of two lists of changes the longer, and the other
 abbrev pub longer : List Change → List Change → List Change
@@ -35,6 +35,7 @@ module _ {V : Type 0} where
     pub start : NodeView V
     pub history : List Change
     pub from : m.0.start ≡ Some start
+    pub knows : HasSeen start m.0.seen m.0.mine
     pub seen : IsPrefix m.0.seen history
     pub node : IsNode accepts (node_at start history)
     pub taken : n ≡ (with_hold m.0 (Taken history), (0, Some (node_at start history)) ∷ [])

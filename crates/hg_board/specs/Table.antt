@@ -45,14 +45,20 @@ module _ {V : Type 0} where
   Holds history v (Taken found) = found ≡ history
   Holds history v Loaded = v.seen ≡ history
 
+  -- it has seen the history of the start and its own changes
+  pub record HasSeen (start : NodeView V) (seen : List Change) (mine : List ℕ) : Type 0 where
+    pub begun : IsPrefix start.history seen
+    pub within : AreBelow (length seen) mine
+
   -- what is so of each view, where this is the history
   pub record Fits (start : NodeView V) (history : List Change) (v : View V) : Type 0 where
     pub seen : IsPrefix v.seen history
     pub told : IsPrefix v.told history
     pub held : Holds history v v.hold
     pub within : AreBelow (length v.seen) v.mine
-    -- a view that is not spent has a part at least, and knows the start
+    -- a view that is not spent has a part at least, and knows the start, whose history it has seen
     pub alive : 0 < v.parts → v.start ≡ Some start
+    pub begun : 0 < v.parts → IsPrefix start.history v.seen
     pub gone : v.parts ≡ 0 → v ≡ spent
 
   -- the rule, at every moment
@@ -71,7 +77,7 @@ module _ {V : Type 0} where
     pub later : IsPrefix start.history history
     pub node : IsNode accepts (node_at start history)
     pub each : (j : ℕ) (v : View V) → get_elem? s.views j ≡ some v → Fits start history v
-    -- the parts of all views are 65,536
+    -- the parts of the views are all
     pub parts : sum_by (λ (v : View V). v.parts) s.views ≡ all_parts
     -- each position since the start is in the `mine` of exactly one view, once, and no other position in any
     pub once : (p : ℕ) → sum_by (λ (v : View V). times p v.mine) s.views ≡ once_from (length start.history) (length history) p

@@ -8,7 +8,7 @@ use Rattle.hg_model.specs.NodeView.{NodeView, IsNode, with_changes}
 use Rattle.hg_model.specs.Shares.{whole}
 use Rattle.hg_model.specs.Signing.{Accepts}
 use Rattle.hg_gossip.specs.Holding.{positions_from}
-use Rattle.hg_board.specs.Table.{node_at, view}
+use Rattle.hg_board.specs.Table.{HasSeen, node_at, view}
 use Rattle.hg_board.specs.Steps.{Hand}
 use Rattle.hg_board.specs.declared.view.Hold.TheVariants.{Free, Loaded}
 use Rattle.hg_board.specs.declared.view.View.{View}
@@ -44,6 +44,7 @@ module _ {V : Type 0} where
   -- it is inside, with a node that has this history, whose length is the count
   pub record Enters (accepts : V → Accepts) (start : NodeView V) (m n : Hand V) (node : NodeView V) (count : ℕ) : Type 0 where
     pub history : List Change
+    pub knows : HasSeen start m.0.seen m.0.mine
     pub seen : IsPrefix m.0.seen history
     pub lawful : IsNode accepts (node_at start history)
     pub alive : 0 < m.0.parts

@@ -5,7 +5,7 @@ use hg_sign::Signer;
 use std::marker::Model;
 
 /// The token of one caller of a shared node. It knows a prefix of the node's history, the positions of the changes that
-/// its own calls added, and its parts of the right to know the whole: the first seat has 65,536.
+/// its own calls added, and its parts of the right to know the whole: the first seat has all.
 #[derive(Drop)]
 pub struct Seat<V: Signer> {
     pub(crate) raw: RawSeat<V>,

@@ -10,6 +10,7 @@ ghost use Rattle.hg_board.specs.Copies.{IsLastRow, IsParcelFrom};
 ghost use Rattle.hg_board.specs.Taking.{AreSignedFor, SeatTakes, SeatTakesFirst, WouldTakeRow};
 ghost use Rattle.hg_gossip.specs.Holding.{names_in, parcel_beyond};
 ghost use Rattle.hg_board.specs.Seats.{IsOf, seen_by};
+ghost use Rattle.hg_board.specs.Table.{all_parts};
 ghost use Rattle.hg_board.specs.Calls.{Absorbs, IsStarted, IsWhole, SeatMakes, SeatPublishes, SeatPuts, SeatWaits, Stays, after_split, rules_shared, split_off};
 ghost use Rattle.hg_gossip.specs.Holding.{WouldSign, WouldTake};
 
@@ -331,11 +332,12 @@ impl<V: Signer + Drop> Shared<V> {
         seat.parts += parts;
     }
 
-    /// The node. Its history goes on from what the seat has seen; where the seat has all parts, each change since the start
-    /// is one of the seat's.
+    /// The node, by the seat that has all parts. It has the history that this seat has seen: each change since the start is
+    /// one of the seat's.
     pub fn finish<R: Wait>(self, rt: &R, seat: Seat<V>) -> Node<V>
-        requires { IsOf self seat }
-        ensures { IsWhole V.accepts self seat result }
+        requires seat { IsOf self seat }
+        requires parts { seat.parts ≡ all_parts }
+        ensures { IsWhole self seat result }
     {
         let Shared { table } = self;
         let Seat { mut raw, parts: _ } = seat;

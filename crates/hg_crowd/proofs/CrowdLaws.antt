@@ -1,8 +1,9 @@
 -- The same of a seat of each node: the loops over all of them, and workers beside each other
-use Rattle.std.proofs.Common.{◌≡◌, ℕ, suc, ◌+◌, ◌<◌, ◌≤◌, ◌%◌, ◌&&◌, Bool, true, cond, eqb, eq-eqb, nat_lt, None, List, [], ◌∷◌, ◌++◌, length, take, map, get_or, set, Result, Ok, Err, refl, sym, ap, ◌∙◌, subst, arith, length-set, length-append}
-use Rattle.std.specs.Prelude.{OnOk}
+use Rattle.std.proofs.Common.{◌≡◌, ℕ, suc, ◌+◌, ◌-◌, ◌<◌, ◌≤◌, ◌%◌, ◌&&◌, Bool, true, cond, eqb, eq-eqb, nat_lt, None, List, [], ◌∷◌, ◌++◌, length, take, map, get_or, set, Result, Ok, Err, refl, sym, ap, ◌∙◌, subst, arith, length-set, length-append}
+use Rattle.std.specs.Prelude.{All, OnOk}
 use Rattle.std.specs.Result.{result_and}
 use Rattle.std.proofs.lemmas.Nat.{mod_below}
+use Rattle.std.proofs.lemmas.List.Elements.{All-map}
 use Rattle.std.proofs.lemmas.List.{get_or_append_left, get_or_default, get_or-map, get_or-set_other, length-map}
 use mathlib.Core.Logic.{dite}
 use native.Mathlib.Decide.{ℕ_discrete}
@@ -24,30 +25,28 @@ use Rattle.hg_board.specs.Table.{all_parts}
 use Rattle.hg_board.specs.Seats.{IsOf, SharedNode, SeatView}
 use Rattle.hg_board.specs.Calls.{Absorbs, IsStarted, IsWhole, Stays, after_split, split_off}
 use Rattle.hg_board.specs.Crews.{MarksAll, OnlyMarks}
-use Rattle.hg_crowd.specs.Crowd.{AreSeats, Each, IsSeat}
-use Rattle.hg_crowd.specs.Workers.{AllAbsorb, AllMark, AllMarkUpTo, AreStarted, AreWhole, HasMore, Worked}
+use Rattle.hg_crowd.specs.Crowd.{AreSeats, AreStill, Each, IsSeat}
+use Rattle.hg_crowd.specs.Workers.{AllAbsorb, AllMark, AllMarkUpTo, AreStarted, AreWhole, HasAll, HasMore, Worked}
 use Rattle.hg_crowd.proofs.ListLaws.{front_all, front_get, front_set, get_last, map_front, map_push, map_taken, pair_at, set_at, some_of}
 use Rattle.hg_crowd.proofs.WorkLaws.{marked_later, seat_absorbed, seat_after_split, seat_of_call, seat_split_off, worked_beside, worked_by_call, worked_none}
 
+-- parts
+
+pub has_fewer : {V : Type 0} (seats : List (SeatView V)) (many few : ℕ) → few ≤ many → All (HasMore many) seats → All (HasMore few) seats
+has_fewer seats many few le more = λ k s inside. omega (arith, more k s inside, le)
+
+pub more_after_split : {V : Type 0} (many : ℕ) (seats : List (SeatView V)) → All (HasMore (many + 1)) seats → All (HasMore many) (map after_split seats)
+more_after_split many seats more = All-map (HasMore many) after_split seats (λ k s inside. omega (arith, more k s inside))
+
+-- splitting
+
 module _ {V : Type 0} (accepts : V → Accepts) (shared : List (SharedNode V)) where
-  pub seats_of : (many : ℕ) (seats : List (SeatView V)) → Each (HasMore accepts many) shared seats → AreSeats accepts shared seats
-  seats_of many seats each = record { count = each.count; each = λ k p s inside. (each.each k p s inside).seat }
-
-  pub has_fewer : (many few : ℕ) (seats : List (SeatView V)) → few ≤ many → Each (HasMore accepts many) shared seats → Each (HasMore accepts few) shared seats
-  has_fewer many few seats le each = record {
-    count = each.count;
-    each = λ k p s inside. let here = each.each k p s inside in record { seat = here.seat; parts = omega (arith, here.parts, le) };
-  }
-
-  -- splitting
-
-  pub after_split_all : (many : ℕ) (seats : List (SeatView V)) → Each (HasMore accepts (many + 1)) shared seats → Each (HasMore accepts many) shared (map after_split seats)
-  after_split_all many seats each = record {
+  pub after_split_all : (seats : List (SeatView V)) → AreSeats accepts shared seats → AreSeats accepts shared (map after_split seats)
+  after_split_all seats each = record {
     count = length-map seats after_split ∙ each.count;
     each = λ k p s inside.
-        let here = each.each k p s inside in
-        subst (HasMore accepts many (get_or shared k p)) (sym (get_or-map after_split seats k s s (omega (arith, inside, each.count))))
-        (record { seat = seat_after_split accepts (get_or shared k p) (get_or seats k s) here.seat; parts = omega (arith, here.parts) });
+        subst (IsSeat accepts (get_or shared k p)) (sym (get_or-map after_split seats k s s (omega (arith, inside, each.count))))
+        (seat_after_split accepts (get_or shared k p) (get_or seats k s) (each.each k p s inside));
   }
 
   pub split_off_all : (seats : List (SeatView V)) → AreSeats accepts shared seats → AreSeats accepts shared (map split_off seats)
@@ -183,7 +182,7 @@ module _ {V : Type 0} (accepts : V → Accepts) (shared : List (SharedNode V)) (
       let seat : IsSeat accepts p s = working_seat now i p s count so inside place_at seat_at in
       let was : (d : SeatView V) → s ≡ get_or olds i d = λ d. seat_at ∙ so.same i d s (omega (arith, inside, count)) (omega arith) in
       set_at IsWorking now i t (record {
-        seat = λ q. subst (λ (x : SharedNode V). IsSeat accepts x t) (place_at ∙ get_or_default shared i p q inside) (seat_of_call accepts p s t share seat stays marks);
+        seat = λ q. subst (λ (x : SharedNode V). IsSeat accepts x t) (place_at ∙ get_or_default shared i p q inside) (seat_of_call accepts p s t stays);
         worked = λ a. subst (λ (x : SeatView V). Worked x t) (was a) (worked_by_call accepts p s t share seat stays marks);
       }) (λ k d below ne. so.each k d below)
 
@@ -219,9 +218,9 @@ module _ {V : Type 0} (accepts : V → Accepts) (shared : List (SharedNode V)) w
   }
 
   -- workers beside each other, of whom some had the seats and one had those that were split off
-  pub worked_beside_all : (olds ts others us : List (SeatView V)) → Each (HasMore accepts 1) shared olds → Each Worked (map after_split olds) ts → Each Worked (map split_off olds) others →
+  pub worked_beside_all : (olds ts others us : List (SeatView V)) → AreSeats accepts shared olds → All (HasMore 1) olds → Each Worked (map after_split olds) ts → Each Worked (map split_off olds) others →
       AllAbsorb accepts shared ts others us → Each Worked olds us
-  worked_beside_all olds ts others us seats first second absorbs =
+  worked_beside_all olds ts others us seats parts first second absorbs =
       let after_count : length (map after_split olds) ≡ length olds = length-map olds after_split in
       let split_count : length (map split_off olds) ≡ length olds = length-map olds split_off in
       record {
@@ -231,7 +230,7 @@ module _ {V : Type 0} (accepts : V → Accepts) (shared : List (SharedNode V)) w
             let seat = seats.each k some_place s (omega (arith, inside, seats.count)) in
             let one = subst (λ (x : SeatView V). Worked x (get_or ts k s)) (get_or-map after_split olds k s s inside) (first.each k s s (omega (arith, inside, after_count))) in
             let two = subst (λ (x : SeatView V). Worked x (get_or others k s)) (get_or-map split_off olds k s s inside) (second.each k s s (omega (arith, inside, split_count))) in
-            worked_beside accepts (get_or shared k some_place) (get_or olds k s) (get_or ts k s) (get_or others k s) (get_or us k u) seat.seat seat.parts one two
+            worked_beside accepts (get_or shared k some_place) (get_or olds k s) (get_or ts k s) (get_or others k s) (get_or us k u) seat (parts k s inside) one two
             (absorbs.each k some_place s s u (omega (arith, inside, first.count, after_count)));
       }
 
@@ -321,25 +320,25 @@ module _ {V : Type 0} (accepts : V → Accepts) where
         (subst (IsStarted accepts (get_or shared k b) (get_or nodes k a)) (sym (get_or_append_left seats (s ∷ []) d k (omega (arith, early, so.seats_count)))) (so.each k a b d early))));
   }
 
-  pub whole_none : (shared : List (SharedNode V)) (seats : List (SeatView V)) → shared ≡ [] → seats ≡ [] → AreWhole accepts shared seats []
+  pub whole_none : (shared : List (SharedNode V)) (seats : List (SeatView V)) → shared ≡ [] → seats ≡ [] → AreWhole shared seats []
   whole_none shared seats no_place no_seat = record { shared_count = ap length no_place; seats_count = ap length no_seat; each = λ k p s node inside. absurd (omega arith) }
 
   pub whole_one : (shared : List (SharedNode V)) (seats : List (SeatView V)) (nodes : List (NodeView V)) (p : SharedNode V) (s : SeatView V) (node : NodeView V) →
-      AreWhole accepts shared seats nodes → IsWhole accepts p s node → AreWhole accepts (shared ++ p ∷ []) (seats ++ s ∷ []) (nodes ++ node ∷ [])
+      AreWhole shared seats nodes → IsWhole p s node → AreWhole (shared ++ p ∷ []) (seats ++ s ∷ []) (nodes ++ node ∷ [])
   whole_one shared seats nodes p s node so whole = record {
     shared_count = omega (arith, length-append shared (p ∷ []), length-append nodes (node ∷ []), so.shared_count);
     seats_count = omega (arith, length-append seats (s ∷ []), length-append nodes (node ∷ []), so.seats_count);
     each = λ k b d a inside. dite (ℕ_discrete k (length nodes))
         (λ e.
         let last : k ≡ length nodes = e in
-        subst (λ (x : NodeView V). IsWhole accepts (get_or (shared ++ p ∷ []) k b) (get_or (seats ++ s ∷ []) k d) x) (sym (get_last nodes node a k last))
-        (subst (λ (x : SharedNode V). IsWhole accepts x (get_or (seats ++ s ∷ []) k d) node) (sym (get_last shared p b k (last ∙ sym so.shared_count)))
-        (subst (λ (x : SeatView V). IsWhole accepts p x node) (sym (get_last seats s d k (last ∙ sym so.seats_count))) whole)))
+        subst (λ (x : NodeView V). IsWhole (get_or (shared ++ p ∷ []) k b) (get_or (seats ++ s ∷ []) k d) x) (sym (get_last nodes node a k last))
+        (subst (λ (x : SharedNode V). IsWhole x (get_or (seats ++ s ∷ []) k d) node) (sym (get_last shared p b k (last ∙ sym so.shared_count)))
+        (subst (λ (x : SeatView V). IsWhole p x node) (sym (get_last seats s d k (last ∙ sym so.seats_count))) whole)))
         (λ ne.
         let early : k < length nodes = omega (arith, ne, inside, length-append nodes (node ∷ [])) in
-        subst (λ (x : NodeView V). IsWhole accepts (get_or (shared ++ p ∷ []) k b) (get_or (seats ++ s ∷ []) k d) x) (sym (get_or_append_left nodes (node ∷ []) a k early))
-        (subst (λ (x : SharedNode V). IsWhole accepts x (get_or (seats ++ s ∷ []) k d) (get_or nodes k a)) (sym (get_or_append_left shared (p ∷ []) b k (omega (arith, early, so.shared_count))))
-        (subst (λ (x : SeatView V). IsWhole accepts (get_or shared k b) x (get_or nodes k a)) (sym (get_or_append_left seats (s ∷ []) d k (omega (arith, early, so.seats_count)))) (so.each k b d a early))));
+        subst (λ (x : NodeView V). IsWhole (get_or (shared ++ p ∷ []) k b) (get_or (seats ++ s ∷ []) k d) x) (sym (get_or_append_left nodes (node ∷ []) a k early))
+        (subst (λ (x : SharedNode V). IsWhole x (get_or (seats ++ s ∷ []) k d) (get_or nodes k a)) (sym (get_or_append_left shared (p ∷ []) b k (omega (arith, early, so.shared_count))))
+        (subst (λ (x : SeatView V). IsWhole (get_or shared k b) x (get_or nodes k a)) (sym (get_or_append_left seats (s ∷ []) d k (omega (arith, early, so.seats_count)))) (so.each k b d a early))));
   }
 
   -- all but the last pair are seats of their nodes, and so is the last
@@ -359,35 +358,44 @@ module _ {V : Type 0} (accepts : V → Accepts) where
         seat.of,
       )
 
-  -- the first seats have many parts
-  pub seats_started : (many : ℕ) (nodes : List (NodeView V)) (shared : List (SharedNode V)) (seats : List (SeatView V)) → many < all_parts →
-      AreStarted accepts nodes shared seats → Each (HasMore accepts many) shared seats
-  seats_started many nodes shared seats few so = record {
+  -- the first seats
+  pub seats_started : (nodes : List (NodeView V)) (shared : List (SharedNode V)) (seats : List (SeatView V)) → AreStarted accepts nodes shared seats → AreSeats accepts shared seats
+  seats_started nodes shared seats so = record {
     count = so.seats_count ∙ sym so.shared_count;
     each = λ k p s inside.
         let started = so.each k p.start p s (omega (arith, inside, so.shared_count)) in
         let same : (get_or seats k s).seen ≡ (get_or shared k p).start.history = started.seen ∙ ap (λ (v : NodeView V). v.history) (sym started.start) in
         record {
-          seat = record {
-            of = started.of;
-            begun = prefix_same (get_or shared k p).start.history (get_or seats k s).seen (sym same);
-            within = subst (AreBelow (length (get_or seats k s).seen)) (sym started.mine) tt;
-            node = subst (λ (h : List Change). IsNode accepts (node_at (get_or shared k p).start h)) (sym same) (subst (IsNode accepts) (sym started.start) started.lawful);
-          };
-          parts = omega (arith, started.parts, few);
+          of = started.of;
+          begun = prefix_same (get_or shared k p).start.history (get_or seats k s).seen (sym same);
+          within = subst (AreBelow (length (get_or seats k s).seen)) (sym started.mine) tt;
+          node = subst (λ (h : List Change). IsNode accepts (node_at (get_or shared k p).start h)) (sym same) (subst (IsNode accepts) (sym started.start) started.lawful);
         };
   }
 
-  -- seats that worked and absorbed others have as many parts at least
-  pub has_again : (many : ℕ) (shared : List (SharedNode V)) (olds nows others news : List (SeatView V)) → Each (HasMore accepts many) shared olds → Each Worked olds nows → AreSeats accepts shared nows →
-      AllAbsorb accepts shared nows others news → Each (HasMore accepts many) shared news
-  has_again many shared olds nows others news had worked seats absorbs =
-      let each = seats_absorbed accepts shared nows others news seats absorbs in
-      record {
-        count = each.count;
-        each = λ k p s inside.
-            let old = had.each k p s inside in
-            let still = (worked.each k s s (omega (arith, inside, had.count))).still in
-            let absorbed = absorbs.each k p s s s (omega (arith, inside, seats.count)) in
-            record { seat = each.each k p s inside; parts = omega (arith, old.parts, still.parts, absorbed.parts) };
-      }
+  -- they have all parts
+  pub all_started : (nodes : List (NodeView V)) (shared : List (SharedNode V)) (seats : List (SeatView V)) → AreStarted accepts nodes shared seats → All HasAll seats
+  all_started nodes shared seats so = λ k s inside.
+      let node : NodeView V = some_of nodes k (omega (arith, inside, so.seats_count)) in
+      let p : SharedNode V = some_of shared k (omega (arith, inside, so.seats_count, so.shared_count)) in
+      (so.each k node p s (omega (arith, inside, so.seats_count))).parts
+
+  pub more_started : (many : ℕ) (nodes : List (NodeView V)) (shared : List (SharedNode V)) (seats : List (SeatView V)) → many < all_parts → AreStarted accepts nodes shared seats → All (HasMore many) seats
+  more_started many nodes shared seats few so = λ k s inside. omega (arith, all_started nodes shared seats so k s inside, few)
+
+  -- after a split, work, and the absorption of seats that are still those that were split off, they have all again
+  pub all_back : (shared : List (SharedNode V)) (firsts beside called back : List (SeatView V)) → AreSeats accepts shared firsts → All HasAll firsts → AreStill (map split_off firsts) called →
+      Each Worked (map after_split firsts) beside → AllAbsorb accepts shared beside called back → All HasAll back
+  all_back shared firsts beside called back seats all still worked absorbs = λ k s inside.
+      let after_count : length (map after_split firsts) ≡ length firsts = length-map firsts after_split in
+      let split_count : length (map split_off firsts) ≡ length firsts = length-map firsts split_off in
+      let there : k < length firsts = omega (arith, inside, absorbs.count, worked.count, after_count) in
+      let p : SharedNode V = some_of shared k (omega (arith, there, seats.count)) in
+      let one : (get_or beside k s).parts ≡ (get_or firsts k s).parts - 1 =
+      (worked.each k s s (omega (arith, there, after_count))).still.parts ∙ ap (λ (t : SeatView V). t.parts) (get_or-map after_split firsts k s s there) in
+      let two : (get_or called k s).parts ≡ 1 = (still.each k s s (omega (arith, there, split_count))).parts ∙ ap (λ (t : SeatView V). t.parts) (get_or-map split_off firsts k s s there) in
+      omega (arith, (absorbs.each k p s s s (omega (arith, there, after_count, worked.count))).parts, one, two, all k s there)
+
+-- work leaves the parts as they were
+pub all_worked : {V : Type 0} (olds news : List (SeatView V)) → Each Worked olds news → All HasAll olds → All HasAll news
+all_worked olds news worked all = λ k s inside. let here : k < length olds = omega (arith, inside, worked.count) in (worked.each k s s here).still.parts ∙ all k s here

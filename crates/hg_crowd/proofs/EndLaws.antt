@@ -1,94 +1,81 @@
 -- When all seats have come back: what was not done through the seat of the calls are marks
-use Rattle.std.proofs.Common.{◌≡◌, ℕ, ◌+◌, ◌<◌, ◌≤◌, List, ◌++◌, length, map, get_or, Some, sym, ap, ap₂, ◌∙◌, subst, arith}
+use Rattle.std.proofs.Common.{◌≡◌, ℕ, ◌+◌, ◌<◌, ◌≤◌, List, ◌++◌, length, map, get_or, sym, ap, ap₂, ◌∙◌, subst, arith}
 use mathlib.Core.Logic.{dite}
 use native.Mathlib.Decide.{ℕ_discrete}
 use Rattle.std.proofs.lemmas.List.{get_or-map, length-map}
 use Rattle.hg_model.specs.Orders.{IsPrefix}
 use Rattle.hg_model.specs.Signing.{Accepts}
-use Rattle.hg_model.specs.History.{Change, replay}
-use Rattle.hg_model.specs.NodeView.{NodeView, Start}
+use Rattle.hg_model.specs.History.{replay}
+use Rattle.hg_model.specs.NodeView.{NodeView, node_rows}
 use Rattle.hg_model.specs.declared.row.Row.{Row}
 use Rattle.hg_model.specs.Links.{Link}
-use Rattle.hg_model.specs.Fame.{mark_at}
 use Rattle.hg_model.specs.Shares.{share_fame, whole}
-use Rattle.hg_history.proofs.StateLaws.{marks_stay, prefix_more}
+use Rattle.hg_history.proofs.StateLaws.{prefix_more}
 use Rattle.hg_board.specs.Crews.{MarksAll}
 use Rattle.hg_board.specs.Positions.{times}
-use Rattle.hg_board.specs.Table.{all_parts}
+use Rattle.hg_board.specs.Table.{node_at}
 use Rattle.hg_board.specs.Seats.{SharedNode, SeatView}
 use Rattle.hg_board.specs.Calls.{Absorbs, IsStarted, IsWhole, after_split, split_off}
 use Rattle.hg_board.proofs.PrefixLaws.{prefix_length}
-use Rattle.hg_board.proofs.PositionLaws.{times-append}
+use Rattle.hg_board.proofs.PositionLaws.{once_within, times-append, times_past}
 use Rattle.hg_crowd.specs.Crowd.{IsEnded, IsMark, IsSeat, IsStill}
 use Rattle.hg_crowd.specs.Workers.{AllMark, HasAllMarks, Worked}
 use Rattle.hg_crowd.specs.Laws.{IsSession, SessionsEnd, SessionsMark}
-use Rattle.hg_crowd.proofs.MarkLaws.{mark_among, mark_before, mark_later, links_stay, none_past, once_within, rows_stay}
+use Rattle.hg_crowd.proofs.MarkLaws.{mark_among, mark_before, mark_later, links_stay, rows_stay}
 use Rattle.hg_crowd.proofs.ListLaws.{some_of}
 
 module _ {V : Type 0} (accepts : V → Accepts) (p : SharedNode V) (first called beside back last : SeatView V) (begun node : NodeView V) (started : IsStarted accepts p begun first)
     (still : IsStill (split_off first) called) (seat : IsSeat accepts p called) (worked : Worked (after_split first) beside) (absorbs : Absorbs accepts p beside called back)
-    (again : Worked back last) (whole_node : IsWhole accepts p last node) where
-  from_back : IsPrefix back.seen node.history
-  from_back = prefix_more back.seen last.seen node.history again.still.seen whole_node.seen
-
-  from_called : IsPrefix called.seen node.history
-  from_called = prefix_more called.seen back.seen node.history absorbs.ends from_back
+    (again : Worked back last) (whole_node : IsWhole p last node) where
+  from_called : IsPrefix called.seen last.seen
+  from_called = prefix_more called.seen back.seen last.seen absorbs.ends again.still.seen
 
   -- what was not done through the seat of the calls are marks
-  marks_beside : (q : ℕ) → length p.start.history ≤ q → q < length node.history → times q called.mine ≡ 0 → IsMark node.history q
+  marks_beside : (q : ℕ) → length p.start.history ≤ q → q < length last.seen → times q called.mine ≡ 0 → IsMark last.seen q
   marks_beside q from below other =
-      let h : List Change = node.history in
-      let parts : last.parts ≡ all_parts = omega (arith, again.still.parts, absorbs.parts, worked.still.parts, still.parts, started.parts) in
       let beside_mine : beside.mine ≡ worked.more = worked.mine ∙ ap (λ (l : List ℕ). l ++ worked.more) started.mine in
       let mine : last.mine ≡ (worked.more ++ called.mine) ++ again.more =
       again.mine ∙ ap (λ (l : List ℕ). l ++ again.more) (absorbs.mine ∙ ap (λ (l : List ℕ). l ++ called.mine) beside_mine) in
-      let from_beside : IsPrefix beside.seen h = prefix_more beside.seen back.seen h absorbs.begins from_back in
+      let from_beside : IsPrefix beside.seen last.seen = prefix_more beside.seen back.seen last.seen absorbs.begins again.still.seen in
       dite (ℕ_discrete (times q worked.more) 0)
       (λ none.
       let not_theirs : times q worked.more ≡ 0 = none in
-      let once : times q last.mine ≡ 1 = whole_node.all parts q ∙ once_within (length p.start.history) (length h) q from below in
+      let once : times q last.mine ≡ 1 = whole_node.all q ∙ once_within (length p.start.history) (length last.seen) q from below in
       let split : times q last.mine ≡ (times q worked.more + times q called.mine) + times q again.more =
       ap (times q) mine ∙ (times-append q (worked.more ++ called.mine) again.more ∙ ap (λ (n : ℕ). n + times q again.more) (times-append q worked.more called.mine)) in
-      mark_later last.seen h q whole_node.seen (mark_among last.seen again.more q again.marks (omega (arith, once, split, other, not_theirs))))
-      (λ some. mark_later beside.seen h q from_beside (mark_among beside.seen worked.more q worked.marks (omega (arith, some))))
+      mark_among last.seen again.more q again.marks (omega (arith, once, split, other, not_theirs)))
+      (λ some. mark_later beside.seen last.seen q from_beside (mark_among beside.seen worked.more q worked.marks (omega (arith, some))))
 
   begins : length p.start.history ≤ length called.seen
   begins = prefix_length p.start.history called.seen seat.begun
 
   -- so are all behind what that seat has seen
-  marks_behind : (q : ℕ) → length called.seen ≤ q → q < length node.history → IsMark node.history q
-  marks_behind q past below = marks_beside q (omega (arith, begins, past)) below (none_past (length called.seen) q called.mine seat.within past)
+  marks_behind : (q : ℕ) → length called.seen ≤ q → q < length last.seen → IsMark last.seen q
+  marks_behind q past below = marks_beside q (omega (arith, begins, past)) below (times_past (length called.seen) q called.mine seat.within past)
 
   -- one node
   pub ended : IsEnded p called node
   ended =
-      let longer : length called.seen ≤ length node.history = prefix_length called.seen node.history from_called in
+      let longer : length called.seen ≤ length last.seen = prefix_length called.seen last.seen from_called in
       record {
-        start = whole_node.start;
-        others = λ q from below other. mark_before called.seen node.history q from_called below (marks_beside q from (omega (arith, below, longer)) other);
-        rows = ap (λ (s : Start V). (replay s.members s.coin node.history).rows) whole_node.start
-            ∙ rows_stay p.start.start.members p.start.start.coin called.seen node.history from_called marks_behind;
+        start = ap (λ (v : NodeView V). v.start) whole_node.seen;
+        others = λ q from below other. mark_before called.seen last.seen q from_called below (marks_beside q from (omega (arith, below, longer)) other);
+        rows = ap (λ (v : NodeView V). node_rows v) whole_node.seen ∙ rows_stay p.start.start.members p.start.start.coin called.seen last.seen from_called marks_behind;
       }
 
   -- its marks are those that the workers' last turn made, of all that its rows decide
-  pub ended_marked : MarksAll p whole back last → HasAllMarks node
-  ended_marked marked x famous decided =
-      let h : List Change = node.history in
+  marked_last : MarksAll p whole back last → HasAllMarks (node_at p.start last.seen)
+  marked_last marked x famous decided =
       let n = p.start.start.members in
       let c = p.start.start.coin in
       let shorter : length called.seen ≤ length back.seen = prefix_length called.seen back.seen absorbs.ends in
-      let behind : (q : ℕ) → length back.seen ≤ q → q < length h → IsMark h q = λ q past below. marks_behind q (omega (arith, shorter, past)) below in
-      let rows : (replay n c h).rows ≡ (replay n c back.seen).rows = rows_stay n c back.seen h from_back behind in
-      let ties : (replay n c h).links ≡ (replay n c back.seen).links = links_stay n c back.seen h from_back behind in
-      let here : share_fame n c (replay n c h).rows (replay n c h).links whole x ≡ Some famous =
-      subst (λ (s : Start V). share_fame s.members s.coin (replay s.members s.coin h).rows (replay s.members s.coin h).links whole x ≡ Some famous) whole_node.start decided in
-      let there : share_fame n c (replay n c back.seen).rows (replay n c back.seen).links whole x ≡ Some famous =
-      sym (ap₂ (λ (G : List Row) (L : List Link). share_fame n c G L whole x) rows ties) ∙ here in
-      let seen : mark_at (replay n c last.seen).marks x ≡ Some famous = marked x famous there in
-      let rest = whole_node.seen in
-      let all : mark_at (replay n c h).marks x ≡ Some famous =
-      ap (λ (l : List Change). mark_at (replay n c l).marks x) rest.1 ∙ marks_stay n c last.seen rest.0 x famous seen in
-      subst (λ (s : Start V). mark_at (replay s.members s.coin h).marks x ≡ Some famous) (sym whole_node.start) all
+      let behind : (q : ℕ) → length back.seen ≤ q → q < length last.seen → IsMark last.seen q = λ q past below. marks_behind q (omega (arith, shorter, past)) below in
+      let rows : (replay n c last.seen).rows ≡ (replay n c back.seen).rows = rows_stay n c back.seen last.seen again.still.seen behind in
+      let ties : (replay n c last.seen).links ≡ (replay n c back.seen).links = links_stay n c back.seen last.seen again.still.seen behind in
+      marked x famous (sym (ap₂ (λ (G : List Row) (L : List Link). share_fame n c G L whole x) rows ties) ∙ decided)
+
+  pub ended_marked : MarksAll p whole back last → HasAllMarks node
+  ended_marked marked = subst (λ (v : NodeView V). HasAllMarks v) (sym whole_node.seen) (marked_last marked)
 
 -- the parts of a run at one node
 module _ {V : Type 0} (accepts : V → Accepts) (nodes : List (NodeView V)) (shared : List (SharedNode V)) (called : List (SeatView V)) (ends : List (NodeView V)) (run : IsSession accepts nodes shared called ends) (k : ℕ)

@@ -3,3 +3,4 @@ pub mod ListLaws
 pub mod WorkLaws
 pub mod CrowdLaws
 pub mod EndLaws
+pub mod PartyLaws

@@ -1,7 +1,6 @@
 -- Changes of a history that are marks: they stay, and bring no rows
-use Rattle.std.proofs.Common.{◌≡◌, ◌≢◌, ℕ, zero, suc, ◌+◌, ◌<◌, ◌≤◌, eqb, cond, List, [], ◌∷◌, ◌++◌, length, length-append, fold, slice_get, refl, sym, ap, ◌∙◌, subst, arith}
+use Rattle.std.proofs.Common.{◌≡◌, ℕ, zero, suc, ◌+◌, ◌<◌, ◌≤◌, List, [], ◌∷◌, ◌++◌, length, length-append, fold, slice_get, refl, sym, ap, ◌∙◌, subst, arith}
 use Rattle.std.specs.List.{AllByRecursion}
-use Rattle.std.proofs.lemmas.Bool.Decides.{nat_tests}
 use Rattle.std.proofs.lemmas.Option.{slice_get_within}
 use mathlib.Core.Logic.{dite}
 use native.Mathlib.Decide.{ℕ_discrete}
@@ -11,26 +10,10 @@ use Rattle.hg_model.specs.Stakes.{Stakes}
 use Rattle.hg_model.specs.History.{Change, State, replay, step, with_marks}
 use Rattle.hg_model.specs.History.Change.{Took, Made, Marked}
 use Rattle.hg_history.proofs.StateLaws.{replay-append}
-use Rattle.hg_board.specs.Positions.{times, once_from, AreBelow}
+use Rattle.hg_board.specs.Positions.{times}
 use Rattle.hg_board.specs.Crews.{AreMarks}
-use Rattle.hg_board.proofs.PositionLaws.{times-append, times_none, times_push}
+use Rattle.hg_board.proofs.PositionLaws.{times_apart, times_cons, times_none}
 use Rattle.hg_crowd.specs.Crowd.{IsMark}
-
--- how often positions stand in lists
-
-apart : (p q : ℕ) → q ≢ p → ◌≡◌ {A = ℕ} (cond (eqb q p) 1 0) 0
-apart p q ne = grind (arith, nat_tests)
-
-times_cons : (p q : ℕ) (qs : List ℕ) → times p (q ∷ qs) ≡ cond (eqb q p) 1 0 + times p qs
-times_cons p q qs = omega (arith, times-append p (q ∷ []) qs, times_push p [] q, times_none p)
-
-pub none_past : (end q : ℕ) (positions : List ℕ) → AreBelow end positions → end ≤ q → times q positions ≡ 0
-none_past end q [] below past = times_none q
-none_past end q (p ∷ positions) below past =
-    omega (arith, times_cons q p positions, apart q p (λ e. let same : p ≡ q = e in omega (arith, same, below.0)), none_past end q positions below.1 past)
-
-pub once_within : (first end q : ℕ) → first ≤ q → q < end → once_from first end q ≡ 1
-once_within first end q from below = grind (arith, nat_tests)
 
 -- elements of lists
 
@@ -69,16 +52,11 @@ pub marks_of_share : (share : Share) (history : List Change) (positions : List �
 marks_of_share share history [] marks = tt
 marks_of_share share history (q ∷ positions) marks = ((marks.0.0, share, marks.0.1), marks_of_share share history positions marks.1)
 
-pub marks_within : (history : List Change) (positions : List ℕ) → AllByRecursion (IsMark history) positions → AreBelow (length history) positions
-marks_within history [] marks = tt
-marks_within history (q ∷ positions) marks =
-    (slice_get_within history q (Marked marks.0.0 marks.0.1) marks.0.2, marks_within history positions marks.1)
-
 pub mark_among : (history : List Change) (positions : List ℕ) (q : ℕ) → AllByRecursion (IsMark history) positions → 0 < times q positions → IsMark history q
 mark_among history [] q marks some = absurd (omega (arith, times_none q))
 mark_among history (p ∷ positions) q marks some = dite (ℕ_discrete p q)
     (λ same. subst (IsMark history) same marks.0)
-    (λ ne. mark_among history positions q marks.1 (omega (arith, times_cons q p positions, apart q p (λ e. ne e))))
+    (λ ne. mark_among history positions q marks.1 (omega (arith, times_cons q p positions, times_apart q p (λ e. ne e))))
 
 -- marks bring no rows
 

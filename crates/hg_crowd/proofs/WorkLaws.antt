@@ -1,5 +1,5 @@
 -- What is so of one seat after a worker's call, after a split and after it absorbed another
-use Rattle.std.proofs.Common.{ℕ, ◌<◌, ◌≤◌, List, [], ◌++◌, length, refl, sym, ap, ◌∙◌, subst, arith, append_assoc}
+use Rattle.std.proofs.Common.{ℕ, ◌<◌, List, [], ◌++◌, refl, sym, ap, ◌∙◌, arith, append_assoc}
 use Rattle.std.proofs.lemmas.List.{append-nil}
 use Rattle.hg_model.specs.Orders.{IsPrefix}
 use Rattle.hg_model.specs.Shares.{Share}
@@ -8,16 +8,14 @@ use Rattle.hg_model.specs.History.{Change}
 use Rattle.hg_model.specs.NodeView.{node_marks}
 use Rattle.hg_model.specs.Fame.{mark_at}
 use Rattle.hg_history.proofs.StateLaws.{marks_stay, prefix_more}
-use Rattle.hg_board.specs.Positions.{AreBelow}
 use Rattle.hg_board.specs.Table.{node_at}
 use Rattle.hg_board.specs.Seats.{SharedNode, SeatView}
 use Rattle.hg_board.specs.Calls.{Absorbs, Stays, after_split, split_off}
 use Rattle.hg_board.specs.Crews.{MarksAll, OnlyMarks}
-use Rattle.hg_board.proofs.PrefixLaws.{prefix_length, prefix_self}
-use Rattle.hg_board.proofs.PositionLaws.{below_append, below_more}
+use Rattle.hg_board.proofs.PrefixLaws.{prefix_self}
 use Rattle.hg_crowd.specs.Crowd.{IsSeat, IsStill}
 use Rattle.hg_crowd.specs.Workers.{Worked}
-use Rattle.hg_crowd.proofs.MarkLaws.{marks_later, marks_more, marks_of_share, marks_within}
+use Rattle.hg_crowd.proofs.MarkLaws.{marks_later, marks_more, marks_of_share}
 
 module _ {V : Type 0} where
   pub still_self : (s : SeatView V) → IsStill s s
@@ -27,16 +25,8 @@ module _ {V : Type 0} where
   worked_none s = record { still = still_self s; more = []; mine = sym (append-nil s.mine); marks = tt }
 
 module _ {V : Type 0} (accepts : V → Accepts) (p : SharedNode V) where
-  pub seat_of_call : (s t : SeatView V) (share : Share) → IsSeat accepts p s → Stays accepts p s t → OnlyMarks share s t → IsSeat accepts p t
-  seat_of_call s t share seat stays marks =
-      let longer : length s.seen ≤ length t.seen = prefix_length s.seen t.seen stays.seen in
-      let new : AreBelow (length t.seen) marks.more = marks_within t.seen marks.more (marks_of_share share t.seen marks.more marks.marks) in
-      record {
-        of = stays.of;
-        begun = prefix_more p.start.history s.seen t.seen seat.begun stays.seen;
-        within = subst (AreBelow (length t.seen)) (sym marks.mine) (below_append (length t.seen) s.mine marks.more (below_more (length s.seen) (length t.seen) s.mine longer seat.within) new);
-        node = stays.node;
-      }
+  pub seat_of_call : (s t : SeatView V) → Stays accepts p s t → IsSeat accepts p t
+  seat_of_call s t stays = record { of = stays.of; begun = stays.begun; within = stays.within; node = stays.node }
 
   pub worked_by_call : (s t : SeatView V) (share : Share) → IsSeat accepts p s → Stays accepts p s t → OnlyMarks share s t → Worked s t
   worked_by_call s t share seat stays marks = record {

@@ -22,7 +22,7 @@ module _ {V : Type 0} where
     pub worked : Each Worked (map after_split firsts) beside
     pub absorbed : AllAbsorb accepts shared beside called back
     pub again : Each Worked back lasts
-    pub whole : AreWhole accepts shared lasts ends
+    pub whole : AreWhole shared lasts ends
 
   -- each node of the list was ended so
   pub record AreEnded (shared : List (SharedNode V)) (called : List (SeatView V)) (ends : List (NodeView V)) : Type 0 where

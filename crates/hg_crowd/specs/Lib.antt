@@ -1,3 +1,4 @@
 pub mod Crowd
 pub mod Workers
+pub mod Party
 pub mod Laws

@@ -5,10 +5,11 @@ use Rattle.hg_model.specs.Shares.{Share, share_fame, whole}
 use Rattle.hg_model.specs.Fame.{mark_at}
 use Rattle.hg_model.specs.Signing.{Accepts}
 use Rattle.hg_model.specs.NodeView.{NodeView, node_links, node_marks, node_rows}
+use Rattle.hg_board.specs.Table.{all_parts}
 use Rattle.hg_board.specs.Seats.{SharedNode, SeatView}
 use Rattle.hg_board.specs.Calls.{Absorbs, IsStarted, IsWhole}
 use Rattle.hg_board.specs.Crews.{MarksAll}
-use Rattle.hg_crowd.specs.Crowd.{IsMark, IsSeat, IsStill}
+use Rattle.hg_crowd.specs.Crowd.{IsMark, IsStill}
 
 -- each witness that the rows of the node decide has its mark
 abbrev pub HasAllMarks : {V : Type 0} → NodeView V → Type 0
@@ -24,10 +25,13 @@ module _ {V : Type 0} where
     pub mine : new.mine ≡ old.mine ++ more
     pub marks : AllByRecursion (IsMark new.seen) more
 
-  -- a seat of this node, with more parts than so many
-  pub record HasMore (accepts : V → Accepts) (many : ℕ) (p : SharedNode V) (s : SeatView V) : Type 0 where
-    pub seat : IsSeat accepts p s
-    pub parts : many < s.parts
+  -- it has more parts than so many
+  abbrev pub HasMore : ℕ → SeatView V → Type 0
+  HasMore many s = many < s.parts
+
+  -- it has all
+  abbrev pub HasAll : SeatView V → Type 0
+  HasAll s = s.parts ≡ all_parts
 
   -- each node was started, in order, with its first seat
   pub record AreStarted (accepts : V → Accepts) (nodes : List (NodeView V)) (shared : List (SharedNode V)) (seats : List (SeatView V)) : Type 0 where
@@ -42,11 +46,11 @@ module _ {V : Type 0} where
       (nodes : List (NodeView V)) → AreStarted accepts nodes shared seats → AreStarted accepts (nodes ++ node ∷ []) more_shared more_seats
 
   -- these are the nodes again, in order
-  pub record AreWhole (accepts : V → Accepts) (shared : List (SharedNode V)) (seats : List (SeatView V)) (nodes : List (NodeView V)) : Type 0 where
+  pub record AreWhole (shared : List (SharedNode V)) (seats : List (SeatView V)) (nodes : List (NodeView V)) : Type 0 where
     pub shared_count : length shared ≡ length nodes
     pub seats_count : length seats ≡ length nodes
     pub each : (k : ℕ) (p : SharedNode V) (s : SeatView V) (node : NodeView V) → k < length nodes →
-        IsWhole accepts (get_or shared k p) (get_or seats k s) (get_or nodes k node)
+        IsWhole (get_or shared k p) (get_or seats k s) (get_or nodes k node)
 
   -- each seat was absorbed by that of the same node
   pub record AllAbsorb (accepts : V → Accepts) (shared : List (SharedNode V)) (olds others news : List (SeatView V)) : Type 0 where

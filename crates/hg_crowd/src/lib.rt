@@ -19,11 +19,13 @@
 #![tactic(auto)]
 
 mod laws;
+mod party;
 mod sharing;
 mod splitting;
 mod working;
 
 pub use laws::sessions_end;
+pub use party::Party;
 pub use sharing::{finish_all, start_all};
 pub use splitting::{absorb_all, split_all};
 pub use working::work_beside;

@@ -1,6 +1,6 @@
-ghost use Rattle.std.specs.Prelude.{◌≡◌, ◌<◌, ◌≤◌, [], IfOk, OnOk, vec_capacity, vec_len};
+ghost use Rattle.std.specs.Prelude.{◌≡◌, ◌<◌, ◌≤◌, [], All, IfOk, OnOk, vec_capacity, vec_len};
 ghost use Rattle.hg_crowd.specs.Crowd.{AreSeats};
-ghost use Rattle.hg_crowd.specs.Workers.{AreStarted, AreWhole, StartsBehind};
+ghost use Rattle.hg_crowd.specs.Workers.{AreStarted, AreWhole, HasAll, StartsBehind};
 
 use hg_board::{Seat, Shared};
 use hg_model::Memory;
@@ -96,9 +96,10 @@ fn finish_each<V: Signer + Drop, R: Wait>(
     nodes: &mut Vec<Node<V>>,
 )
     requires seats { AreSeats V.accepts shared.old.items seats.old.items }
+    requires parts { All HasAll seats.old.items }
     requires none { nodes.old.items ≡ [] }
     requires room { vec_len shared.old ≤ vec_capacity nodes.old }
-    ensures whole { AreWhole V.accepts shared.old.items seats.old.items nodes.new.items }
+    ensures whole { AreWhole shared.old.items seats.old.items nodes.new.items }
     ensures room { vec_capacity nodes.new ≡ vec_capacity nodes.old }
 {
     let Some(shared_node) = shared.pop() else {
@@ -111,15 +112,16 @@ fn finish_each<V: Signer + Drop, R: Wait>(
     nodes.push_reserved(shared_node.finish(rt, seat));
 }
 
-/// The nodes again, in order, with their whole histories. Without memory they are dropped.
+/// The nodes again, in order, by the seats that have all parts. Without memory they are dropped.
 pub fn finish_all<V: Signer + Drop, R: Wait>(
     rt: &R,
     alloc: Global,
     mut shared: Vec<Shared<V>>,
     mut seats: Vec<Seat<V>>,
 ) -> Result<Vec<Node<V>>, Memory>
-    requires { AreSeats V.accepts shared.items seats.items }
-    ensures { IfOk result (λ nodes. AreWhole V.accepts shared.items seats.items nodes.items) }
+    requires seats { AreSeats V.accepts shared.items seats.items }
+    requires parts { All HasAll seats.items }
+    ensures { IfOk result (λ nodes. AreWhole shared.items seats.items nodes.items) }
 {
     let mut nodes = Vec::new(alloc);
     match nodes.reserve(shared.len()) {

@@ -1,6 +1,6 @@
-ghost use Rattle.std.specs.Prelude.{◌≡◌, IfOk, OnErr, map};
+ghost use Rattle.std.specs.Prelude.{◌≡◌, ◌<◌, All, IfOk, OnErr, map};
 ghost use Rattle.hg_board.specs.Calls.{after_split, split_off};
-ghost use Rattle.hg_crowd.specs.Crowd.{AreSeats, Each};
+ghost use Rattle.hg_crowd.specs.Crowd.{AreSeats};
 ghost use Rattle.hg_crowd.specs.Workers.{AllAbsorb, HasMore};
 
 use hg_board::{Seat, Shared};
@@ -14,7 +14,8 @@ pub fn split_all<V: Signer + Drop>(
     shared: &[Shared<V>],
     seats: &mut Vec<Seat<V>>,
 ) -> Result<Vec<Seat<V>>, Memory>
-    requires { Each (HasMore V.accepts 1) shared.now seats.old.items }
+    requires seats { AreSeats V.accepts shared.now seats.old.items }
+    requires parts { All (HasMore 1) seats.old.items }
     ensures old { IfOk result (λ others. seats.new.items ≡ map after_split seats.old.items) }
     ensures new { IfOk result (λ others. others.items ≡ map split_off seats.old.items) }
     ensures err { OnErr result (seats.new.items ≡ seats.old.items) }

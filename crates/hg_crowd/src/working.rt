@@ -1,4 +1,4 @@
-ghost use Rattle.std.specs.Prelude.{◌≡◌, ◌+◌, ◌<◌, ◌≤◌, OnOk};
+ghost use Rattle.std.specs.Prelude.{◌≡◌, ◌+◌, ◌<◌, ◌≤◌, All, OnOk};
 ghost use Rattle.hg_model.specs.Shares.{whole};
 ghost use Rattle.hg_crowd.specs.Crowd.{AreSeats, Each};
 ghost use Rattle.hg_crowd.specs.Workers.{AllMark, AllMarkUpTo, HasMore, Worked};
@@ -59,7 +59,8 @@ fn work_up_to<V: Signer + Drop + Send, C: Crew + Sync, R: Threads + Wait + Sync>
     shares: u32,
     crew: &C,
 ) -> (Vec<Seat<V>>, Result<(), Memory>)
-    requires seats { Each (HasMore V.accepts last) shared.now seats.items }
+    requires seats { AreSeats V.accepts shared.now seats.items }
+    requires parts { All (HasMore last) seats.items }
     requires last { last < shares }
     ensures seats { AreSeats V.accepts shared.now result.0.items }
     ensures worked { Each Worked seats.items result.0.items }
@@ -76,7 +77,8 @@ fn work_up_to<V: Signer + Drop + Send, C: Crew + Sync, R: Threads + Wait + Sync>
     let ((mut seats, done), (others, other_done)) = join(
         rt,
         move || -> (Vec<Seat<V>>, Result<(), Memory>)
-            requires seats { Each (HasMore V.accepts before) shared.now seats.items }
+            requires seats { AreSeats V.accepts shared.now seats.items }
+            requires parts { All (HasMore before) seats.items }
             requires last { before < shares }
             ensures seats { AreSeats V.accepts shared.entry.now result.0.items }
             ensures worked { Each Worked seats.items result.0.items }
@@ -103,7 +105,8 @@ pub fn work_beside<V: Signer + Drop + Send, C: Crew + Sync, R: Threads + Wait + 
     workers: u32,
     crew: &C,
 ) -> (Vec<Seat<V>>, Result<(), Memory>)
-    requires seats { Each (HasMore V.accepts workers) shared.now seats.items }
+    requires seats { AreSeats V.accepts shared.now seats.items }
+    requires parts { All (HasMore workers) seats.items }
     requires workers { 0 < workers }
     ensures seats { AreSeats V.accepts shared.now result.0.items }
     ensures worked { Each Worked seats.items result.0.items }

@@ -15,12 +15,13 @@ use Rattle.hg_script.specs.declared.line.Action.TheVariants as action
 use Rattle.hg_script.specs.declared.line.Line.{Line}
 use Rattle.hg_world.specs.World.{Secrets, Site, WorldView, no_site, node_at, nodes_of, new_world, site_of, worker_limit}
 use Rattle.hg_world.specs.Parts.{AreOfOneList, no_node, nth_node, unfrozen}
+use Rattle.hg_board.specs.Table.{all_parts}
 use Rattle.hg_board.specs.Seats.{SharedNode, SeatView}
 use Rattle.hg_board.specs.Calls.{after_split, split_off}
 use Rattle.hg_crowd.specs.Crowd.{AreSeats, AreStill, Each}
-use Rattle.hg_crowd.specs.Workers.{AllAbsorb, AllMark, AreStarted, AreWhole, HasAllMarks, HasMore, Worked}
+use Rattle.hg_crowd.specs.Workers.{AllAbsorb, AllMark, AreStarted, AreWhole, HasAll, HasAllMarks, HasMore, Worked}
 use Rattle.hg_crowd.specs.Laws.{AreEnded, IsSession}
-use Rattle.hg_crowd.proofs.CrowdLaws.{after_split_all, seats_of, seats_started, split_off_all}
+use Rattle.hg_crowd.proofs.CrowdLaws.{after_split_all, all_back, all_started, more_after_split, more_started, seats_started, split_off_all}
 use Rattle.hg_crowd.proofs.EndLaws.{sessions_end, sessions_mark}
 use Rattle.hg_crowd.proofs.ListLaws.{some_of}
 use Rattle.hg_play.specs.Alike.{AreAlike, WorldsAlike}
@@ -240,7 +241,7 @@ batch_parts n from count lines rest batch is_rest is few long below parts = λ k
 -- the run that a batch is
 abbrev pub the_run : (nodes : List (NodeView Secrets)) (shared places : List (SharedNode Secrets)) (firsts split own called beside back lasts : List (SeatView Secrets)) (ends : List (NodeView Secrets)) → places ≡ shared →
     AreStarted accepts_by nodes shared firsts → split ≡ map after_split firsts → own ≡ map split_off firsts → AreSeats accepts_by places called → AreStill own called → Each Worked split beside →
-    AllAbsorb accepts_by places beside called back → Each Worked back lasts → AreWhole accepts_by shared lasts ends → IsSession accepts_by nodes places called ends
+    AllAbsorb accepts_by places beside called back → Each Worked back lasts → AreWhole shared lasts ends → IsSession accepts_by nodes places called ends
 the_run nodes shared places firsts split own called beside back lasts ends same started split_is own_is seats still worked absorbed again whole = record {
   firsts = firsts;
   beside = beside;
@@ -252,22 +253,35 @@ the_run nodes shared places firsts split own called beside back lasts ends same 
   worked = subst (λ (l : List (SeatView Secrets)). Each Worked l beside) split_is worked;
   absorbed = absorbed;
   again = again;
-  whole = subst (λ (l : List (SharedNode Secrets)). AreWhole accepts_by l lasts ends) (sym same) whole;
+  whole = subst (λ (l : List (SharedNode Secrets)). AreWhole l lasts ends) (sym same) whole;
 }
 
--- what the seats beside the calls have
-pub has_beside : (workers : ℕ) (nodes : List (NodeView Secrets)) (shared places : List (SharedNode Secrets)) (firsts split : List (SeatView Secrets)) → places ≡ shared → workers + 1 < 65536 →
-    AreStarted accepts_by nodes shared firsts → split ≡ map after_split firsts → Each (HasMore accepts_by workers) places split
-has_beside workers nodes shared places firsts split same few started is =
-    subst (λ (l : List (SharedNode Secrets)). Each (HasMore accepts_by workers) l split) (sym same)
-    (subst (Each (HasMore accepts_by workers) shared) (sym is) (after_split_all accepts_by shared workers firsts (seats_started accepts_by (workers + 1) nodes shared firsts few started)))
+-- the seats beside the calls
+pub seats_beside : (nodes : List (NodeView Secrets)) (shared places : List (SharedNode Secrets)) (firsts split : List (SeatView Secrets)) → places ≡ shared →
+    AreStarted accepts_by nodes shared firsts → split ≡ map after_split firsts → AreSeats accepts_by places split
+seats_beside nodes shared places firsts split same started is =
+    subst (λ (l : List (SharedNode Secrets)). AreSeats accepts_by l split) (sym same)
+    (subst (AreSeats accepts_by shared) (sym is) (after_split_all accepts_by shared firsts (seats_started accepts_by nodes shared firsts started)))
+
+pub more_beside : (workers : ℕ) (nodes : List (NodeView Secrets)) (shared : List (SharedNode Secrets)) (firsts split : List (SeatView Secrets)) → workers + 1 < all_parts →
+    AreStarted accepts_by nodes shared firsts → split ≡ map after_split firsts → All (HasMore workers) split
+more_beside workers nodes shared firsts split few started is =
+    subst (All (HasMore workers)) (sym is) (more_after_split workers firsts (more_started accepts_by (workers + 1) nodes shared firsts few started))
+
+-- once the seats of the calls are back, there are all parts
+pub all_again : (nodes : List (NodeView Secrets)) (shared places : List (SharedNode Secrets)) (firsts split own called beside back : List (SeatView Secrets)) → places ≡ shared →
+    AreStarted accepts_by nodes shared firsts → split ≡ map after_split firsts → own ≡ map split_off firsts → AreStill own called → Each Worked split beside → AllAbsorb accepts_by places beside called back → All HasAll back
+all_again nodes shared places firsts split own called beside back same started split_is own_is still worked absorbed =
+    all_back accepts_by shared firsts beside called back (seats_started accepts_by nodes shared firsts started) (all_started accepts_by nodes shared firsts started)
+    (subst (λ (l : List (SeatView Secrets)). AreStill l called) own_is still) (subst (λ (l : List (SeatView Secrets)). Each Worked l beside) split_is worked)
+    (subst (λ (l : List (SharedNode Secrets)). AllAbsorb accepts_by l beside called back) same absorbed)
 
 -- what the seats of the calls are
 pub seats_own : (nodes : List (NodeView Secrets)) (shared places : List (SharedNode Secrets)) (firsts own : List (SeatView Secrets)) → places ≡ shared →
     AreStarted accepts_by nodes shared firsts → own ≡ map split_off firsts → AreSeats accepts_by places own
 seats_own nodes shared places firsts own same started is =
     subst (λ (l : List (SharedNode Secrets)). AreSeats accepts_by l own) (sym same)
-    (subst (AreSeats accepts_by shared) (sym is) (split_off_all accepts_by shared firsts (seats_of accepts_by shared 1 firsts (seats_started accepts_by 1 nodes shared firsts (omega arith) started))))
+    (subst (AreSeats accepts_by shared) (sym is) (split_off_all accepts_by shared firsts (seats_started accepts_by nodes shared firsts started)))
 
 -- they are of one list, as the nodes are with which they were started
 pub nodes_own : (nodes : List (NodeView Secrets)) (shared places : List (SharedNode Secrets)) (firsts own : List (SeatView Secrets)) → places ≡ shared →

@@ -49,7 +49,8 @@ fn play_batch<R: Threads + Wait + Sync, C: Crew + Sync, G: Gate + Sync>(
     let ((mut seats, _), (own, played)) = join(
         rt,
         move || -> (Vec<Seat<SharedTable>>, Result<(), Memory>)
-            requires seats { Each (HasMore accepts_by workers) places.now seats.items }
+            requires seats { AreSeats accepts_by places.now seats.items }
+            requires parts { All (HasMore workers) seats.items }
             requires some { 0 < workers }
             ensures seats { AreSeats accepts_by places.entry.now result.0.items }
             ensures worked { Each Worked seats.items result.0.items }

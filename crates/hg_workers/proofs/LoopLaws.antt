@@ -47,6 +47,8 @@ module _ {V : Type 0} where
     of = two.of;
     parts = two.parts ∙ one.parts;
     seen = prefix_more a.seen b.seen c.seen one.seen two.seen;
+    begun = two.begun;
+    within = two.within;
     node = two.node;
   }
 

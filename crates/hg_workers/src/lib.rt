@@ -8,7 +8,8 @@
 //! fn vote<R: Wait, G: Gate>(rt: &R, alloc: Global, shared: &Shared<MacTable>, mut seat: Seat<MacTable>, gate: &G)
 //!     -> (Seat<MacTable>, Result<u32, Memory>)
 //!     requires { IsOf shared.now seat }
-//!     ensures { IsOf shared.now result.0 }
+//!     ensures of { IsOf shared.now result.0 }
+//!     ensures parts { result.0.parts ≡ seat.parts }
 //! {
 //!     let all = Share::new(0, 1);
 //!     let marked = Voters::new(gate).work(rt, alloc, shared, &mut seat, all, TURNS);

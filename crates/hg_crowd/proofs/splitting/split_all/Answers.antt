@@ -1,5 +1,6 @@
 use Rattle.std.proofs.Common.{arith, sym, subst, ◌++◌, ◌∷◌, [], ◌+◌, slice_set}
 use Rattle.std.specs.Prelude.{vec_capacity}
+use Rattle.hg_crowd.specs.Crowd.{IsSeat}
 use Rattle.hg_crowd.specs.Workers.{HasMore}
 use Rattle.hg_crowd.proofs.ListLaws.{pair_at}
 use Rattle.hg_crowd.proofs.CrowdLaws.{Splitting, split_all_now, split_all_others, split_found, split_one}
@@ -10,14 +11,14 @@ split-other-requires-clause-seat g c =
     let s = c.index_mut.result.now in
     let so = c.nodes.invariant in
     let at = split_found c.args.seats.now.items c.nodes.seats.items c.nodes.others.items c.nodes.i c.len-count.result (vec_capacity c.nodes.others) s so c.index_mut.ensures.value in
-    (pair_at (HasMore g.V.Verifier.accepts 1) c.args.shared.now c.args.seats.now.items c.nodes.i c.index-shared-i.result s c.requires (omega (arith, c.requires.count, so.counted, c.nodes-test.true)) c.index-shared-i.is at).seat.of
+    (pair_at (IsSeat g.V.Verifier.accepts) c.args.shared.now c.args.seats.now.items c.nodes.i c.index-shared-i.result s c.requires.seats (omega (arith, c.requires.seats.count, so.counted, c.nodes-test.true)) c.index-shared-i.is at).of
 
 pub split-other-requires-clause-parts : goal.split-other-requires-clause-parts
 split-other-requires-clause-parts g c =
     let s = c.index_mut.result.now in
     let so = c.nodes.invariant in
     let at = split_found c.args.seats.now.items c.nodes.seats.items c.nodes.others.items c.nodes.i c.len-count.result (vec_capacity c.nodes.others) s so c.index_mut.ensures.value in
-    (pair_at (HasMore g.V.Verifier.accepts 1) c.args.shared.now c.args.seats.now.items c.nodes.i c.index-shared-i.result s c.requires (omega (arith, c.requires.count, so.counted, c.nodes-test.true)) c.index-shared-i.is at).parts
+    subst (HasMore 1) (sym at) (c.requires.parts c.nodes.i s (omega (arith, so.counted, c.nodes-test.true)))
 
 pub nodes-preserved : goal.nodes-preserved
 nodes-preserved g c =

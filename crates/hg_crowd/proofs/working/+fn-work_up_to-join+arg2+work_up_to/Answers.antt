@@ -1,13 +1,10 @@
 use Rattle.std.proofs.Common.{rules, arith, sym, subst, ◌+◌, ◌-◌, map}
-use Rattle.std.specs.Prelude.{OnOk}
+use Rattle.std.specs.Prelude.{All, OnOk}
 use Rattle.hg_board.specs.Calls.{split_off}
 use Rattle.hg_crowd.specs.Crowd.{AreSeats, Each}
 use Rattle.hg_crowd.specs.Workers.{AllMark, AllMarkUpTo, HasMore, Worked}
-use Rattle.hg_crowd.proofs.CrowdLaws.{after_split_all, has_fewer, mark_beside_all, ok_both, ok_map, seats_absorbed, seats_of, split_off_all, up_to_first, worked_beside_all}
+use Rattle.hg_crowd.proofs.CrowdLaws.{after_split_all, has_fewer, mark_beside_all, more_after_split, ok_both, ok_map, seats_absorbed, split_off_all, up_to_first, worked_beside_all}
 use Rattle.hg_crowd.proofs.working.+fn-work_up_to-join+arg2+work_up_to.Goals as goal
-
-pub worked_each-requires : goal.worked_each-requires
-worked_each-requires g t c = seats_of g.V.Verifier.accepts c.args.shared.now c.args.last c.args.seats.items c.requires.seats
 
 pub returns-then-last-eq0-clause-marked : goal.returns-then-last-eq0-clause-marked
 returns-then-last-eq0-clause-marked g t c =
@@ -18,16 +15,15 @@ returns-then-last-eq0-clause-marked g t c =
     ok_map c.worked_each.result.1 (AllMark ps c.new-share.result olds news) (AllMarkUpTo ps c.args.last c.args.shares olds news)
     (up_to_first ps c.args.last c.args.shares c.new-share.result olds news (omega (arith, first)) c.new-share.ensures) c.worked_each.ensures.marked
 
-pub split_all-requires : goal.split_all-requires
-split_all-requires g t c =
+pub split_all-requires-clause-parts : goal.split_all-requires-clause-parts
+split_all-requires-clause-parts g t c =
     let some = c.if-last-eq0.false in
-    has_fewer g.V.Verifier.accepts c.args.shared.now c.args.last 1 c.args.seats.items (omega (arith, some)) c.requires.seats
+    has_fewer c.args.seats.items c.args.last 1 (omega (arith, some)) c.requires.parts
 
 pub returns-in_default-clause-seats : goal.returns-in_default-clause-seats
 returns-in_default-clause-seats g t c =
     let accepts = g.V.Verifier.accepts in
-    let seats = seats_of accepts c.args.shared.now c.args.last c.args.seats.items c.requires.seats in
-    subst (AreSeats accepts c.args.shared.now) (sym (search rules)) seats
+    subst (AreSeats accepts c.args.shared.now) (sym (search rules)) c.requires.seats
 
 pub join-seats-requires-after_bounds : goal.join-seats-requires-after_bounds
 join-seats-requires-after_bounds g t c κs within =
@@ -36,10 +32,11 @@ join-seats-requires-after_bounds g t c κs within =
     let ps = c.args.shared.now in
     let olds = c.args.seats.items in
     let before = c.args.last - 1 in
-    let more = has_fewer accepts ps c.args.last (before + 1) olds (omega (arith, some)) c.requires.seats in
-    let seats = subst (Each (HasMore accepts before) ps) (sym c.in-Ok.ensures.old) (after_split_all accepts ps before olds more) in
-    let others = subst (AreSeats accepts ps) (sym c.in-Ok.ensures.new) (split_off_all accepts ps olds (seats_of accepts ps c.args.last olds c.requires.seats)) in
-    ((search rules, (λ a m. m, (λ a m. m, (λ a m. m, (seats, (omega (arith, c.requires.last), (search rules, search rules, search rules))))))), others)
+    let more = has_fewer olds c.args.last (before + 1) (omega (arith, some)) c.requires.parts in
+    let seats = subst (AreSeats accepts ps) (sym c.in-Ok.ensures.old) (after_split_all accepts ps olds c.requires.seats) in
+    let parts = subst (All (HasMore before)) (sym c.in-Ok.ensures.old) (more_after_split before olds more) in
+    let others = subst (AreSeats accepts ps) (sym c.in-Ok.ensures.new) (split_off_all accepts ps olds c.requires.seats) in
+    ((search rules, (λ a m. m, (λ a m. m, (λ a m. m, (seats, (parts, (omega (arith, c.requires.last), (search rules, search rules, search rules)))))))), others)
 
 pub absorb_all-requires-clause-seats : goal.absorb_all-requires-clause-seats
 absorb_all-requires-clause-seats g t c = c.join-seats.ensures.first.0
@@ -58,7 +55,7 @@ returns-clause-worked g t c =
     let ts = c.join-seats.result.0.0.items in
     let os = c.join-seats.result.1.0.items in
     worked_beside_all g.V.Verifier.accepts c.args.shared.now olds ts os c.absorb_all.new.seats.items
-    (has_fewer g.V.Verifier.accepts c.args.shared.now c.args.last 1 olds (omega (arith, some)) c.requires.seats)
+    c.requires.seats (has_fewer olds c.args.last 1 (omega (arith, some)) c.requires.parts)
     (subst (λ l. Each Worked l ts) c.in-Ok.ensures.old c.join-seats.ensures.first.1.0) (subst (λ l. Each Worked l os) c.in-Ok.ensures.new c.join-seats.ensures.second.1.0) c.absorb_all.ensures
 
 pub returns-clause-marked : goal.returns-clause-marked

@@ -4,9 +4,8 @@ use Rattle.hg_crowd.specs.Workers.{AllMark, AllMarkUpTo}
 use Rattle.hg_crowd.proofs.CrowdLaws.{all_whole_marked, has_fewer, ok_map}
 use Rattle.hg_crowd.proofs.working.work_beside.Goals as goal
 
-pub work_up_to-requires-clause-seats : goal.work_up_to-requires-clause-seats
-work_up_to-requires-clause-seats g c κs within =
-    has_fewer g.V.Verifier.accepts c.args.shared.now c.args.workers (c.args.workers - 1) c.args.seats.items (omega arith) c.requires.seats
+pub work_up_to-requires-clause-parts : goal.work_up_to-requires-clause-parts
+work_up_to-requires-clause-parts g c κs within = has_fewer c.args.seats.items c.args.workers (c.args.workers - 1) (omega arith) c.requires.parts
 
 pub returns-clause-marked : goal.returns-clause-marked
 returns-clause-marked g c =

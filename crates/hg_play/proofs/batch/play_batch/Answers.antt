@@ -2,17 +2,20 @@ use Rattle.std.proofs.Common.{rules, arith, sym, subst, get_or}
 use Rattle.std.specs.Prelude.{IfOk, OnOk}
 use Rattle.hg_model.specs.Signing.{accepts_by}
 use Rattle.hg_model.specs.Shares.{whole}
-use Rattle.hg_crowd.specs.Crowd.{Each}
-use Rattle.hg_crowd.specs.Workers.{AllMark, HasMore}
-use Rattle.hg_crowd.proofs.CrowdLaws.{has_again, seats_started}
+use Rattle.hg_crowd.specs.Crowd.{AreSeats}
+use Rattle.hg_crowd.specs.Workers.{AllMark}
+use Rattle.hg_crowd.proofs.CrowdLaws.{all_worked, more_started, seats_absorbed, seats_started}
 use Rattle.hg_play.specs.Through.{IsPartLine, MatchesThrough}
-use Rattle.hg_play.proofs.BatchLaws.{batch_count, batch_marked, batch_told, ends_of_one_list, has_beside, nodes_own, own_count, the_run}
+use Rattle.hg_play.proofs.BatchLaws.{all_again, batch_count, batch_marked, batch_told, ends_of_one_list, more_beside, nodes_own, own_count, seats_beside, the_run}
 use Rattle.hg_play.proofs.batch.play_batch.Goals as goal
 
-pub split_all-requires : goal.split_all-requires
-split_all-requires g c =
-    subst (λ l. Each (HasMore accepts_by 1) l c.in_ok-shared.seats.items) (sym c.as_slice.ensures.value)
-    (seats_started accepts_by 1 c.into_nodes.result.items c.in_ok-shared.shared.items c.in_ok-shared.seats.items (omega arith) c.in_ok-shared.ensures)
+pub split_all-requires-clause-seats : goal.split_all-requires-clause-seats
+split_all-requires-clause-seats g c =
+    subst (λ l. AreSeats accepts_by l c.in_ok-shared.seats.items) (sym c.as_slice.ensures.value)
+    (seats_started accepts_by c.into_nodes.result.items c.in_ok-shared.shared.items c.in_ok-shared.seats.items c.in_ok-shared.ensures)
+
+pub split_all-requires-clause-parts : goal.split_all-requires-clause-parts
+split_all-requires-clause-parts g c = more_started accepts_by 1 c.into_nodes.result.items c.in_ok-shared.shared.items c.in_ok-shared.seats.items (omega arith) c.in_ok-shared.ensures
 
 pub join-seats-requires-after_bounds : goal.join-seats-requires-after_bounds
 join-seats-requires-after_bounds g c κs within =
@@ -24,8 +27,8 @@ join-seats-requires-after_bounds g c κs within =
     let few = c.args.band.now.few in
     let long = own_count c.args.world nodes shared firsts own c.into_nodes.ensures.nodes c.in_ok-shared.ensures c.in_ok-own.ensures.new in (
       (
-        has_beside c.args.band.now.workers nodes shared places firsts c.split_all.new.seats.items c.as_slice-places.ensures.value (omega (arith, few)) c.in_ok-shared.ensures c.in_ok-own.ensures.old,
-        (c.args.band.now.some, (search rules, search rules)),
+        seats_beside nodes shared places firsts c.split_all.new.seats.items c.as_slice-places.ensures.value c.in_ok-shared.ensures c.in_ok-own.ensures.old,
+        (more_beside c.args.band.now.workers nodes shared firsts c.split_all.new.seats.items (omega (arith, few)) c.in_ok-shared.ensures c.in_ok-own.ensures.old, (c.args.band.now.some, (search rules, search rules))),
       ),
       (
         nodes_own nodes shared places firsts own c.as_slice-places.ensures.value c.in_ok-shared.ensures c.in_ok-own.ensures.new c.into_nodes.ensures.lawful,
@@ -35,12 +38,22 @@ join-seats-requires-after_bounds g c κs within =
 
 pub work_beside-seats-requires-clause-seats : goal.work_beside-seats-requires-clause-seats
 work_beside-seats-requires-clause-seats g c κs within =
-    let places = c.as_slice-places.result.now in
+    seats_absorbed accepts_by c.as_slice-places.result.now c.join-seats.result.0.0.items c.join-seats.result.1.0.items c.absorb_all.new.seats.items c.join-seats.ensures.first.0 c.absorb_all.ensures
+
+pub work_beside-seats-requires-clause-parts : goal.work_beside-seats-requires-clause-parts
+work_beside-seats-requires-clause-parts g c κs within =
     let few = c.args.band.now.few in
-    let had = has_beside c.args.band.now.workers c.into_nodes.result.items c.in_ok-shared.shared.items places c.in_ok-shared.seats.items c.split_all.new.seats.items
-    c.as_slice-places.ensures.value (omega (arith, few)) c.in_ok-shared.ensures c.in_ok-own.ensures.old in
-    has_again accepts_by c.args.band.now.workers places c.split_all.new.seats.items c.join-seats.result.0.0.items c.join-seats.result.1.0.items c.absorb_all.new.seats.items had
-    c.join-seats.ensures.first.1 c.join-seats.ensures.first.0 c.absorb_all.ensures
+    let all = all_again c.into_nodes.result.items c.in_ok-shared.shared.items c.as_slice-places.result.now c.in_ok-shared.seats.items c.split_all.new.seats.items c.in_ok-own.own.items c.join-seats.result.1.0.items
+    c.join-seats.result.0.0.items c.absorb_all.new.seats.items c.as_slice-places.ensures.value c.in_ok-shared.ensures c.in_ok-own.ensures.old c.in_ok-own.ensures.new c.join-seats.ensures.second.1.0
+    c.join-seats.ensures.first.1 c.absorb_all.ensures in
+    λ k s inside. omega (arith, all k s inside, few)
+
+pub finish_all-requires-clause-parts : goal.finish_all-requires-clause-parts
+finish_all-requires-clause-parts g c =
+    let all = all_again c.into_nodes.result.items c.in_ok-shared.shared.items c.as_slice-places.result.now c.in_ok-shared.seats.items c.split_all.new.seats.items c.in_ok-own.own.items c.join-seats.result.1.0.items
+    c.join-seats.result.0.0.items c.absorb_all.new.seats.items c.as_slice-places.ensures.value c.in_ok-shared.ensures c.in_ok-own.ensures.old c.in_ok-own.ensures.new c.join-seats.ensures.second.1.0
+    c.join-seats.ensures.first.1 c.absorb_all.ensures in
+    all_worked c.absorb_all.new.seats.items c.work_beside-seats.result.0.items c.work_beside-seats.ensures.worked all
 
 pub from_nodes-requires : goal.from_nodes-requires
 from_nodes-requires g c =
