@@ -11,3 +11,4 @@ pub mod KeepLaws
 pub mod NewsLaws
 pub mod PublishLaws
 pub mod TableLaws
+pub mod OpenLaws

@@ -5,14 +5,14 @@ use Rattle.std.proofs.lemmas.List.{append-nil}
 use Rattle.hg_model.specs.declared.row.Row.{Row}
 use Rattle.hg_model.specs.declared.entry.Entry.{Entry}
 use Rattle.hg_model.specs.declared.entry.Entry.TheVariants as entry
-use Rattle.hg_model.specs.Links.{links}
 use Rattle.hg_model.specs.Fame.{Marks}
-use Rattle.hg_model.specs.Shares.{Share, Speaks, whole}
+use Rattle.hg_model.specs.Shares.{Share, whole}
 use Rattle.hg_model.specs.History.{Change, State, news, with_marks}
 use Rattle.hg_model.specs.History.Change.{Marked}
 use Rattle.hg_model.specs.NodeView.{NodeView, with_changes, node_state, node_rows, IsNode}
 use Rattle.hg_model.specs.Calls.{publish_answer, publish_changes, settle_changes, IsSettled}
 use Rattle.hg_model.specs.Signing.{Accepts}
+use Rattle.hg_history.specs.News.{FindsNews}
 use Rattle.hg_history.proofs.NodeLaws.{settles_all}
 use Rattle.hg_history.proofs.StateLaws.{IsEven, even_after}
 use Rattle.hg_history.proofs.CallLaws.{with_none, publishes_leave_a_node}
@@ -71,14 +71,14 @@ module _ {K : Type 0} (accepts : K → Accepts) (keys : K) (r : ChronicleView) (
         grown = sym (ap (with_changes (node_view keys r)) changes ∙ shown_after accepts keys r (Marked len share) (entry.Marked len share) refl is);
       })
 
-  module _ (found : List (ℕ × Bool)) (speaks : Speaks r.graph.members r.graph.coin (node_state (node_view keys r)).rows (node_state (node_view keys r)).links len share found) where
-    pub speaks_in : Speaks r.graph.members r.graph.coin r.graph.rows (links r.graph.rows) len share found
-    speaks_in = subst (λ (s : State). Speaks r.graph.members r.graph.coin s.rows s.links len share found) (state_is accepts keys r is) speaks
+  module _ (found : List (ℕ × Bool)) (finds : FindsNews r.graph.members r.graph.coin (node_state (node_view keys r)) len share found) where
+    pub finds_in : FindsNews r.graph.members r.graph.coin (chronicle_state r) len share found
+    finds_in = subst (λ (s : State). FindsNews r.graph.members r.graph.coin s len share found) (state_is accepts keys r is) finds
 
     pub published : (s : ChronicleView) → s ≡ chronicle_news r len share → IsPublishing accepts (node_view keys r) (node_view keys s) s len share
     published s grown =
         subst (λ (t : ChronicleView). IsPublishing accepts (node_view keys r) (node_view keys t) t len share) (sym grown)
-        (publishing_by (eqb (news_in r len share) 0) refl speaks_in.within)
+        (publishing_by (eqb (news_in r len share) 0) refl finds_in.within)
 
 -- what a node becomes that settles
 pub record IsSettling {K : Type 0} (accepts : K → Accepts) (v w : NodeView K) (s : ChronicleView) : Type 0 where

@@ -8,7 +8,7 @@ use Rattle.hg_model.specs.Places.{count_below}
 use Rattle.hg_model.specs.Links.{place_of}
 use Rattle.hg_model.specs.Fame.{Marks, mark_at}
 use Rattle.hg_model.specs.declared.share.Found.{Found}
-use Rattle.hg_model.specs.Shares.{Share, Speaks}
+use Rattle.hg_model.specs.Shares.{Share}
 use Rattle.hg_model.specs.Verdict.{last_name}
 use Rattle.hg_model.specs.Members.{MemberList, balances_of, stakes_of}
 use Rattle.hg_model.specs.Prefix.{Graph, graph_of}
@@ -16,9 +16,10 @@ use Rattle.hg_model.specs.Pay.{Book, book_of}
 use Rattle.hg_model.specs.Kept.{kept}
 use Rattle.hg_graph.specs.Held.{graph_with}
 use Rattle.hg_model.specs.History.{State, news, with_row, with_marks}
-use Rattle.hg_model.specs.NodeView.{NodeView, node_rows, node_marks, log, history_of, IsNode, node_links}
+use Rattle.hg_model.specs.NodeView.{NodeView, node_rows, node_marks, node_state, log, history_of, IsNode}
 use Rattle.hg_model.specs.Signing.{Accepts}
 use Rattle.hg_model.specs.GraphWords.{state_by}
+use Rattle.hg_history.specs.News.{FindsNews}
 use Rattle.hg_kept.specs.Published.{Published, Keeps}
 use Rattle.hg_pay.specs.Account.{Account}
 use Rattle.hg_votes.specs.Counting.{CarriesTo, Counting}
@@ -108,9 +109,9 @@ node_view keys r = record {
 abbrev pub graph_in : {K : Type 0} → NodeView K → Graph
 graph_in v = graph_of v.start.members v.start.coin (node_rows v)
 
--- what was found is what the node's first rows decide
+-- what was found is what a share decides in the node's first rows, and may leave out what has its mark
 abbrev pub IsFoundBy : {K : Type 0} → NodeView K → Found → Type 0
-IsFoundBy v found = Speaks v.start.members v.start.coin (node_rows v) (node_links v) found.len found.share found.marks
+IsFoundBy v found = FindsNews v.start.members v.start.coin (node_state v) found.len found.share found.marks
 
 -- the node's history has these rows, this log and these marks
 pub record IsRecorded {K : Type 0} (accepts : K → Accepts) (v : NodeView K) (r : ChronicleView) : Type 0 where

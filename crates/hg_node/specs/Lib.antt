@@ -3,4 +3,5 @@ pub mod Arrival
 pub mod Checked
 pub mod Draft
 pub mod Laws
+pub mod Opening
 pub mod Puts

@@ -1,4 +1,4 @@
-ghost use Rattle.std.specs.Prelude.{◌≡◌, ◌<◌, ◌++◌, ◌∷◌, ◌==◌, [], All, Some, cond, length, option_map, IfOk, OnOk, OnErr};
+ghost use Rattle.std.specs.Prelude.{◌≡◌, ◌<◌, ◌≤◌, ◌++◌, ◌∷◌, ◌==◌, [], All, Some, cond, length, option_map, IfOk, OnOk, OnErr};
 ghost use Rattle.hg_model.specs.declared.entry.Entry.{Entry};
 ghost use Rattle.hg_model.specs.declared.row.Placed.{Placed};
 ghost use Rattle.hg_model.specs.Graph.{IsGraph};
@@ -6,10 +6,13 @@ ghost use Rattle.hg_model.specs.Verdict.{last_name, row_limit};
 ghost use Rattle.hg_model.specs.Fame.{mark_at};
 ghost use Rattle.hg_model.specs.Kept.{kept};
 ghost use Rattle.hg_model.specs.Shares.{whole};
-ghost use Rattle.hg_model.specs.GraphWords.{last_closed_in, SpeaksOf};
+ghost use Rattle.hg_model.specs.GraphWords.{last_closed_in};
+ghost use Rattle.hg_kept.specs.Published.{FindsNewsOf};
+ghost use Rattle.hg_node.specs.Opening.{Opens};
 ghost use Rattle.hg_node.specs.ChronicleView.{book_in, last_own_place, last_own_row, news_in, no_chronicle, chronicle_news, chronicle_with, chronicle_state};
 ghost use Rattle.hg_node.specs.Arrival.{StandsOn};
 
+use crate::open::{Open, found_in, open_in};
 use hg_event::Event;
 use hg_fame::elect_unmarked;
 use hg_graph::EventGraph;
@@ -132,9 +135,9 @@ impl Chronicle {
     }
 
     /// Marks what a share has found, with an entry if it is news, and pays what is ordered then; tells how many were
-    /// marked. Takes no memory.
+    /// marked. What was found may leave out what has its mark. Takes no memory.
     pub fn publish(&mut self, found: &Found) -> u32
-        requires { SpeaksOf self.old.graph found.now }
+        requires { FindsNewsOf self.old.graph self.old.marks found.now }
         ensures count { result ≡ news_in self.old found.now.len found.now.share }
         ensures grown { self.new ≡ chronicle_news self.old found.now.len found.now.share }
     {
@@ -159,6 +162,27 @@ impl Chronicle {
         let found = elect_unmarked(alloc, &self.graph, &mut self.votes, all, self.kept.marks())?;
         self.publish(&found);
         Ok(())
+    }
+
+    /// What a share may still decide; `None` where it has all its marks.
+    pub fn open(&mut self, alloc: Global, share: Share) -> Result<Option<Open>, Memory>
+        ensures same { self.new ≡ self.old }
+        ensures opens { IfOk result (Opens self.old.graph self.old.marks share) }
+    {
+        self.votes.carry(alloc, &self.graph)?;
+        open_in(alloc, &self.graph, &self.kept, &self.votes, share)
+    }
+
+    /// What a share decides in the first `len` rows, but for what has its mark.
+    pub fn found(&mut self, alloc: Global, len: usize, share: Share) -> Result<Found, Memory>
+        requires { len ≤ length self.old.graph.rows }
+        ensures same { self.new ≡ self.old }
+        ensures news { IfOk result (FindsNewsOf self.old.graph self.old.marks) }
+        ensures len { IfOk result (λ found. found.len ≡ len) }
+        ensures share { IfOk result (λ found. found.share ≡ share) }
+    {
+        self.votes.carry(alloc, &self.graph)?;
+        found_in(alloc, &self.graph, &self.kept, &mut self.votes, len, share)
     }
 
     /// The mark of the row at a place below the number of rows.

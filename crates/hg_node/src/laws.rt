@@ -1,4 +1,4 @@
-ghost use Rattle.hg_node.specs.Laws.{FirstTablesCarry, MakingIsOne, TablesLast};
+ghost use Rattle.hg_node.specs.Laws.{FirstTablesCarry, MakingIsOne, OpenedIsFound, TablesLast};
 
 /// A law: where each body has one accepted signature, what comes of making an event is a function of the node and of the
 /// event's fields.
@@ -11,4 +11,9 @@ pub fn making_is_one<K>()
 pub fn tables_last()
     ensures first { FirstTablesCarry }
     ensures lasts { TablesLast }
+{}
+
+/// A law: what is elected of the witnesses that a share may still decide is what the node finds.
+pub fn opened_is_found<K>()
+    ensures { OpenedIsFound K }
 {}

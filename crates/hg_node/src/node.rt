@@ -11,6 +11,7 @@ ghost use Rattle.hg_model.specs.Verdict.{last_name, row_limit};
 ghost use Rattle.hg_graph.specs.Held.{first_graph};
 ghost use Rattle.hg_node.specs.Arrival.{StandsOn};
 ghost use Rattle.hg_node.specs.ChronicleView.{IsFoundBy, chronicle_took, graph_in};
+ghost use Rattle.hg_node.specs.Opening.{Opens};
 ghost use Rattle.hg_node.specs.Puts.{WouldAccept, after_put, is_signed};
 ghost use Rattle.hg_model.specs.declared.answers.PutAnswer.TheVariants.{Accepted};
 ghost use Rattle.hg_model.specs.Fame.{mark_at};
@@ -20,11 +21,12 @@ ghost use Rattle.hg_model.specs.Calls.{IsMaking, make_draft, publish_answer, pub
 use crate::arrival::{parents_of_arrival, parents_of_signed};
 use crate::chronicle::Chronicle;
 use crate::draft::{draft_of, row_rule, signed_event};
+use crate::open::Open;
 use hg_event::{Event, EventView, decode};
 use hg_graph::{EventGraph, FrozenGraph};
 use hg_model::{
     Effect, Entry, Fault, Found, MakeAnswer, Member, Members, Memory, Name, Parents, Placed,
-    Prefix, PutAnswer, Rounds, Row,
+    Prefix, PutAnswer, Rounds, Row, Share,
 };
 use hg_name::name_of;
 use hg_pay::Book;
@@ -152,7 +154,8 @@ impl<V: Signer> Node<V> {
     }
 
     /// Publishes what a share has found in the node's first rows: each found witness without a mark gets it, and what
-    /// is ordered then is paid. Answers how many were marked. Takes no memory.
+    /// is ordered then is paid. What was found may leave out what has its mark. Answers how many were marked. Takes no
+    /// memory.
     pub fn publish(&mut self, found: &Found) -> u32
         requires { IsFoundBy self.old found.now }
         ensures answer { result ≡ publish_answer self.old found.now.len found.now.share }
@@ -169,6 +172,26 @@ impl<V: Signer> Node<V> {
     {
         self.chronicle.settle(self.alloc)?;
         Ok(())
+    }
+
+    /// What a share may still decide in the node's graph, to be elected without the node and published; `None` where the
+    /// share has all its marks. The votes of rows that came since the last such call are looked for.
+    pub fn open(&mut self, share: Share) -> Result<Option<Open>, Memory>
+        ensures same { self.new ≡ self.old }
+        ensures opens { IfOk result (Opens (graph_in self.old) (node_marks self.old) share) }
+    {
+        self.chronicle.open(self.alloc, share)
+    }
+
+    /// What a share decides in the node's first `len` rows, at most all, but for what has its mark.
+    pub fn found(&mut self, len: usize, share: Share) -> Result<Found, Memory>
+        requires { len ≤ length (node_rows self.old) }
+        ensures same { self.new ≡ self.old }
+        ensures found { IfOk result (IsFoundBy self.old) }
+        ensures len { IfOk result (λ found. found.len ≡ len) }
+        ensures share { IfOk result (λ found. found.share ≡ share) }
+    {
+        self.chronicle.found(self.alloc, len, share)
     }
 
     /// The node's graph as a value of its own, which speaks of its rows whatever comes then.

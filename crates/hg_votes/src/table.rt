@@ -1,4 +1,4 @@
-ghost use Rattle.std.specs.Prelude.{ℕ, ◌≡◌, ◌<◌, ◌≤◌, [], length, vec_len, IfOk, OnOk, OnErr};
+ghost use Rattle.std.specs.Prelude.{ℕ, ◌≡◌, ◌<◌, ◌≤◌, [], length, slice_index, vec_len, IfOk, OnOk, OnErr};
 ghost use Rattle.hg_model.specs.Orders.{IsPrefix};
 ghost use Rattle.hg_model.specs.Prefix.{Graph, graph_of};
 ghost use Rattle.hg_model.specs.Stakes.{Stakes};
@@ -160,7 +160,8 @@ impl VoteTable {
     /// How many witnesses come before row `x`.
     pub fn number(&self, x: usize) -> usize
         requires { x < length self.now.voters.numbers }
-        ensures { (g : Graph) → IsMadeFor self.now g → result ≡ number_of g x }
+        ensures kept { result ≡ slice_index self.now.voters.numbers x }
+        ensures number { (g : Graph) → IsMadeFor self.now g → result ≡ number_of g x }
     {
         self.voters.number(x)
     }

@@ -1,17 +1,17 @@
 use Rattle.std.proofs.Common.{◌∙◌, ap, subst, sym}
-use Rattle.hg_model.specs.Shares.{Speaks}
-use Rattle.hg_model.specs.NodeView.{NodeView, node_rows, node_links}
-use Rattle.hg_model.specs.GraphWords.{SpeaksOf}
+use Rattle.hg_model.specs.NodeView.{NodeView, node_state}
+use Rattle.hg_history.specs.News.{FindsNews}
+use Rattle.hg_kept.specs.Published.{FindsNewsOf}
 use Rattle.hg_node.specs.ChronicleView.{ChronicleView, chronicle_news, news_in, node_view}
-use Rattle.hg_node.proofs.PublishLaws.{IsPublishing, answer_is, published, speaks_in}
+use Rattle.hg_node.proofs.PublishLaws.{IsPublishing, answer_is, published, finds_in}
 use Rattle.hg_node.proofs.node.Node.publish.Given as given
 use Rattle.hg_node.proofs.node.Node.publish.Goals as goal
 
 pub publish-requires : goal.publish-requires
 publish-requires g c =
-    subst (λ (r : ChronicleView). SpeaksOf r.graph c.args.found.now) (sym c.deref_mut.ensures.value)
-    (speaks_in g.V.Verifier.accepts c.self.inside.keys c.self.inside.chronicle.value c.self.invariant c.args.found.now.len c.args.found.now.share c.args.found.now.marks
-    (subst (λ (w : NodeView g.row.V.Denot). Speaks w.start.members w.start.coin (node_rows w) (node_links w) c.args.found.now.len c.args.found.now.share c.args.found.now.marks)
+    subst (λ (r : ChronicleView). FindsNewsOf r.graph r.marks c.args.found.now) (sym c.deref_mut.ensures.value)
+    (finds_in g.V.Verifier.accepts c.self.inside.keys c.self.inside.chronicle.value c.self.invariant c.args.found.now.len c.args.found.now.share c.args.found.now.marks
+    (subst (λ (w : NodeView g.row.V.Denot). FindsNews w.start.members w.start.coin (node_state w) c.args.found.now.len c.args.found.now.share c.args.found.now.marks)
     (sym c.self.view_is) c.requires))
 
 -- what the chronicle has become
@@ -19,7 +19,7 @@ publishes : (g : given.Over) (c : goal.After-self-1 g) → IsPublishing g.V.Veri
     (node_view c.self.inside.keys c.publish.new.self) c.publish.new.self c.args.found.now.len c.args.found.now.share
 publishes g c =
     published g.V.Verifier.accepts c.self.inside.keys c.self.inside.chronicle.value c.self.invariant c.args.found.now.len c.args.found.now.share
-    c.args.found.now.marks (subst (λ (w : NodeView g.row.V.Denot). Speaks w.start.members w.start.coin (node_rows w) (node_links w) c.args.found.now.len c.args.found.now.share c.args.found.now.marks)
+    c.args.found.now.marks (subst (λ (w : NodeView g.row.V.Denot). FindsNews w.start.members w.start.coin (node_state w) c.args.found.now.len c.args.found.now.share c.args.found.now.marks)
     (sym c.self.view_is) c.requires) c.publish.new.self
     (c.publish.ensures.grown ∙ ap (λ (r : ChronicleView). chronicle_news r c.args.found.now.len c.args.found.now.share) c.deref_mut.ensures.value)
 
