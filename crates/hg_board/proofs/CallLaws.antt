@@ -1,5 +1,5 @@
 -- What a call leaves, once the seat has come in and gone out
-use Rattle.std.proofs.Common.{◌≡◌, ℕ, ◌∙◌, List, length, Option, Result, ap}
+use Rattle.std.proofs.Common.{◌≡◌, ℕ, ◌∙◌, List, length, Result, ap}
 use Rattle.std.specs.Prelude.{IfOk, OnOk, OnErr}
 use Rattle.atomic_table.specs.Seated.{TableId}
 use Rattle.hg_model.specs.declared.row.Row.{Row}

@@ -1,8 +1,7 @@
 -- Events that come in one turn, and the same put one after the other
-use Rattle.std.proofs.Common.{◌≡◌, ℕ, zero, suc, ◌<◌, Bool, true, false, not, cond, ◌||◌, List, [], ◌∷◌, ◌++◌, length, map, fold, filter, Option, Some, None, slice_get, sym, refl, ap, ◌∙◌, arith}
+use Rattle.std.proofs.Common.{◌≡◌, ℕ, suc, ◌<◌, Bool, true, false, not, cond, ◌||◌, List, [], ◌∷◌, ◌++◌, length, map, fold, None, sym, refl, ap, ◌∙◌, arith}
 use Rattle.std.specs.List.{AllByRecursion, list_any}
 use Rattle.std.specs.Str.{bytes_eq}
-use Rattle.std.proofs.lemmas.Bool.{cases_Bool, true≢false}
 use Rattle.std.proofs.lemmas.List.{append-nil, map-append}
 use Rattle.std.proofs.lemmas.List.Folds.{list_any-append}
 use Rattle.std.proofs.lemmas.Slice.Eq.{bytes_eq-Decides}
@@ -22,7 +21,7 @@ use Rattle.hg_event.proofs.Spells.{Spells-read_event}
 use Rattle.hg_history.proofs.StateLaws.{replay-push}
 use Rattle.hg_gossip.specs.Gossip.{none_taken}
 use Rattle.hg_gossip.specs.Holding.{row_names}
-use Rattle.hg_gossip.specs.Nodes.{Taking, take_event, taking, taking_of}
+use Rattle.hg_gossip.specs.Nodes.{Taking, take_event, taking_of}
 use Rattle.hg_gossip.proofs.RowLaws.{unnamed_lacks}
 use Rattle.hg_board.specs.Table.{node_at}
 use Rattle.hg_board.specs.Taking.{AreSpelled, take_row, taking_rows}

@@ -23,7 +23,7 @@ use Rattle.hg_model.specs.Calls.{IsMaking, made_by, make_answer, make_changes, p
 use Rattle.hg_model.specs.Signing.{Accepts}
 use Rattle.hg_node.specs.ChronicleView.{IsFoundBy}
 use Rattle.hg_node.specs.Puts.{WouldAccept}
-use Rattle.hg_history.proofs.FoundLaws.{found_lasts}
+use Rattle.hg_history.proofs.FoundLaws.{news_lasts}
 use Rattle.hg_history.proofs.StateLaws.{prefix_more}
 use Rattle.hg_gossip.specs.declared.gossip.Taken.{Taken}
 use Rattle.hg_gossip.specs.Nodes.{taking_of}
@@ -117,12 +117,12 @@ module _ {V : Type 0} (accepts : V → Accepts) where
     pub grown_inside : (w : NodeView V) → IsGrown node w → IsGrown (node_at start n.0.seen) w
     grown_inside w g = subst (λ (v : NodeView V). IsGrown v w) node_inside g
 
-    -- what was found in what the seat had seen speaks of the history
+    -- what may be published where the seat was may be at the history
     pub found_inside : (found : Found) → IsFoundBy (node_at start m.0.seen) found → IsFoundBy node found
-    found_inside found speaks =
+    found_inside found finds =
         subst (λ (v : NodeView V). IsFoundBy v found) (sym inside.found)
         (subst (λ (h : List Change). IsFoundBy (node_at start h) found) (sym inside.seen.1)
-        (found_lasts start.start.members start.start.coin m.0.seen inside.seen.0 found.len found.share found.marks speaks))
+        (news_lasts start.start.members start.start.coin m.0.seen inside.seen.0 found.len found.share found.marks finds))
 
     module _ (table old new : TableId) (of : IsOf (shared_node table start) (seat_view_of old m.0)) (same : new ≡ old) (o : Hand V) where
       abbrev known : List Change → List ℕ → Seen V

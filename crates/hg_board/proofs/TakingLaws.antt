@@ -1,18 +1,17 @@
 -- What a seat has while it puts events to the node in its hand, one after the other
-use Rattle.std.proofs.Common.{append_assoc, ◌≡◌, ℕ, zero, suc, ◌+◌, ◌<◌, ◌≤◌, true, false, cond, List, [], ◌∷◌, ◌++◌, length, fold, take, drop, get_or, Result, Ok, Err, refl, sym, ap, ap₂, ◌∙◌, subst, add-one, arith, length-append}
-use Rattle.std.specs.Prelude.{IfOk, OnErr, OnOk}
+use Rattle.std.proofs.Common.{append_assoc, ◌≡◌, ℕ, zero, suc, ◌+◌, ◌<◌, true, false, cond, List, [], ◌∷◌, ◌++◌, length, take, drop, get_or, Result, Ok, Err, refl, sym, ap, ap₂, ◌∙◌, subst, add-one, arith, length-append}
+use Rattle.std.specs.Prelude.{OnErr}
 use Rattle.std.specs.declared.sync.Arc.{Arc}
 use Rattle.std.proofs.lemmas.List.{append-nil, get_or-map, length-map, take-append-drop}
 use Rattle.std.proofs.lemmas.List.Sums.{fold-append}
-use Rattle.std.proofs.Math.Seq.{drop-cons, take-suc}
-use Rattle.atomic_table.specs.Seated.{TableId}
+use Rattle.std.proofs.Math.Seq.{take-suc}
 use Rattle.hg_model.specs.declared.row.Row.{Row}
 use Rattle.hg_model.specs.declared.answers.PutAnswer.{PutAnswer}
 use Rattle.hg_model.specs.Spelling.{spelling}
 use Rattle.hg_model.specs.Verdict.{is_held}
 use Rattle.hg_model.specs.History.{Change}
-use Rattle.hg_model.specs.NodeView.{NodeView, Start, IsNode, node_rows, with_changes}
-use Rattle.hg_model.specs.Calls.{put_answer, put_changes}
+use Rattle.hg_model.specs.NodeView.{NodeView, Start, node_rows, with_changes}
+use Rattle.hg_model.specs.Calls.{put_answer}
 use Rattle.hg_model.specs.Signing.{Accepts}
 use Rattle.hg_graph.specs.RowsWithRoom.{rows_of}
 use Rattle.hg_node.specs.Puts.{WouldAccept, after_put}

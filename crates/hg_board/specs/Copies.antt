@@ -1,11 +1,14 @@
--- What a shared node hands over of its rows
+-- What a shared node hands over of its rows, and of what is still to be decided
 use Rattle.std.specs.Prelude.{ℕ, ◌≡◌, drop, Option, option_map}
 use Rattle.std.specs.declared.sync.Arc.{Arc}
 use Rattle.hg_model.specs.declared.row.Row.{Row}
+use Rattle.hg_model.specs.Shares.{Share}
 use Rattle.hg_model.specs.Verdict.{last_name}
-use Rattle.hg_model.specs.NodeView.{NodeView, node_rows}
+use Rattle.hg_model.specs.NodeView.{NodeView, node_marks, node_rows}
 use Rattle.hg_graph.specs.RowsWithRoom.{rows_of}
-use Rattle.hg_node.specs.ChronicleView.{last_own_row}
+use Rattle.hg_node.specs.declared.open.Open.{Open}
+use Rattle.hg_node.specs.ChronicleView.{graph_in, last_own_row}
+use Rattle.hg_node.specs.Opening.{Opens}
 use Rattle.hg_board.specs.declared.copies.EventParcel.{EventParcel}
 
 -- the event is the last row that the node made, if it made any
@@ -16,3 +19,7 @@ IsLastRow node event = option_map (λ e. e.value) event ≡ last_own_row node.st
 pub record IsParcelFrom {V : Type 0} (from : ℕ) (node : NodeView V) (parcel : EventParcel) : Type 0 where
   pub events : rows_of parcel.events.items ≡ drop from (node_rows node)
   pub last : parcel.last ≡ last_name node.start.own (node_rows node)
+
+-- this is what the share may still decide in the node's graph; none only where it has all its marks
+abbrev pub OpensIn : {V : Type 0} → Share → NodeView V → Option Open → Type 0
+OpensIn share node opened = Opens (graph_in node) (node_marks node) share opened

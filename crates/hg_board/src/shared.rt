@@ -6,7 +6,7 @@ ghost use Rattle.hg_model.specs.Stakes.{member_count};
 ghost use Rattle.hg_node.specs.ChronicleView.{IsFoundBy, graph_in};
 ghost use Rattle.hg_node.specs.Puts.{is_signed};
 ghost use Rattle.hg_graph.specs.RowsWithRoom.{rows_of};
-ghost use Rattle.hg_board.specs.Copies.{IsLastRow, IsParcelFrom};
+ghost use Rattle.hg_board.specs.Copies.{IsLastRow, IsParcelFrom, OpensIn};
 ghost use Rattle.hg_board.specs.Taking.{AreSignedFor, SeatTakes, SeatTakesFirst, WouldTakeRow};
 ghost use Rattle.hg_gossip.specs.Holding.{names_in, parcel_beyond};
 ghost use Rattle.hg_board.specs.Seats.{IsOf, seen_by};
@@ -23,8 +23,8 @@ use atomic_table::{Refused, Table};
 use hg_event::Event;
 use hg_gossip::{Holder, Taken};
 use hg_graph::FrozenGraph;
-use hg_model::{Found, MakeAnswer, Memory, Name, Parcel, Placed, PutAnswer};
-use hg_node::Node;
+use hg_model::{Found, MakeAnswer, Memory, Name, Parcel, Placed, PutAnswer, Share};
+use hg_node::{Node, Open};
 use hg_sign::Signer;
 use std::alloc::Global;
 use std::marker::Model;
@@ -169,7 +169,8 @@ impl<V: Signer + Drop> Shared<V> {
     }
 
     /// Publishes what a share has found in the first rows of the graph that the seat has seen: each found witness without
-    /// a mark gets it, and what is ordered then is paid. Answers how many were marked. Takes no memory.
+    /// a mark gets it, and what is ordered then is paid. What had its mark then may be left out. Answers how many were
+    /// marked. Takes no memory.
     pub fn publish<R: Wait>(&self, rt: &R, seat: &mut Seat<V>, found: &Found) -> u32
         requires seat { IsOf self.now seat.old }
         requires found { IsFoundBy (seen_by self.now seat.old).node found.now }
@@ -197,6 +198,27 @@ impl<V: Signer + Drop> Shared<V> {
         let frozen = node.freeze();
         leave(steps, raw, node);
         frozen
+    }
+
+    /// What a share may still decide in the graph that the seat then has seen, to be elected without the turn and
+    /// published; `None` where the share has all its marks.
+    pub fn open<R: Wait>(
+        &self,
+        rt: &R,
+        seat: &mut Seat<V>,
+        share: Share,
+    ) -> Result<Option<Open>, Memory>
+        requires { IsOf self.now seat.old }
+        ensures stays { Stays V.accepts self.now seat.old seat.new }
+        ensures waits { SeatWaits V.accepts self.now seat.old seat.new }
+        ensures opens { IfOk result (OpensIn share (seen_by self.now seat.new).node) }
+    {
+        let steps = &self.table.shared;
+        let raw = &mut seat.raw;
+        let (mut node, _count) = enter(rt, steps, raw);
+        let opened = node.open(share);
+        leave(steps, raw, node);
+        opened
     }
 
     /// The names of the rows, in the order in which they came.

@@ -3,14 +3,11 @@
 //! Voters are found once, as sets of slots, which are indices among the witnesses of the round before; a table is carried
 //! to a longer prefix, and a ballot costs a word of voters for every 64 slots, and no memory.
 //!
-//! From `found_by` of `hg_world`, what a share of the witnesses decides in the first `len` rows of a node:
+//! From `elect_in` of `check_graphs`, what a share of the witnesses decides in a frozen graph:
 //!
 //! ```text
-//! node.rows();
-//! let frozen = node.prefix(len)?;
-//! let mut votes = VoteTable::new(alloc, &frozen)?;
-//! let found = elect_share(alloc, &frozen, &mut votes, share)?;
-//! Ok(found)
+//! let mut votes = VoteTable::new(alloc, held)?;
+//! elect_share(alloc, held, &mut votes, share)
 //! ```
 #![tactic(auto, using(hg_model::proofs::StandingLaws::standings_known, hg_model::proofs::LinkLaws::link_lengths))]
 

@@ -1,3 +1,4 @@
 pub mod StateLaws
+pub mod ElectionLaws
 pub mod TurnLaws
 pub mod LoopLaws

@@ -8,16 +8,14 @@ use Rattle.hg_model.specs.History.{Change}
 use Rattle.hg_model.specs.History.Change.{Marked}
 use Rattle.hg_model.specs.Signing.{Accepts}
 use Rattle.hg_history.proofs.StateLaws.{prefix_more}
-use Rattle.hg_model.specs.NodeView.{node_rows}
-use Rattle.hg_model.specs.Prefix.{Graph}
 use Rattle.hg_model.specs.declared.share.Found.{Found}
-use Rattle.hg_node.specs.ChronicleView.{graph_in}
 use Rattle.hg_gossip.specs.Holding.{Seen}
 use Rattle.hg_board.specs.Table.{node_at}
-use Rattle.hg_board.specs.Seats.{SharedNode, SeatView, seen_by}
+use Rattle.hg_board.specs.Seats.{SharedNode, SeatView}
 use Rattle.hg_board.specs.Calls.{SeatPublishes, SeatWaits, Stays}
 use Rattle.hg_board.specs.Crews.{AreMarks, MarksAll, MarksOf, OnlyMarks, marked_at, marked_by}
 use Rattle.hg_workers.specs.Turns.{marks_seen}
+use Rattle.hg_workers.proofs.ElectionLaws.{HasMarks, IsFoundWhole}
 use Rattle.hg_workers.proofs.TurnLaws.{mark_stays, marks_all_before, marks_by_turn, marks_of_turn, more_by_turn, more_marks}
 
 get_front : (xs ys : List Change) (k : ℕ) (x : Change) → slice_get xs k ≡ Some x → slice_get (xs ++ ys) k ≡ Some x
@@ -124,21 +122,29 @@ pub record IsTurn {V : Type 0} (p : SharedNode V) (share : Share) (a d : SeatVie
   pub all : MarksAll p share a d
   pub few : marks_seen p a + count ≤ marks_seen p d
 
--- a seat saw the graph, and then what was found in it was published
-pub is_turn : {V : Type 0} (accepts : V → Accepts) (p : SharedNode V) (a c d : SeatView V) (g : Graph) (found : Found) (share : Share) (count : ℕ) →
-    Stays accepts p a c → SeatWaits accepts p a c → g ≡ graph_in (seen_by p c).node → found.share ≡ share → found.len ≡ length g.rows →
+-- a seat saw the graph, and then what was found in all of it was published
+pub is_turn : {V : Type 0} (accepts : V → Accepts) (p : SharedNode V) (a c d : SeatView V) (found : Found) (share : Share) (count : ℕ) →
+    Stays accepts p a c → SeatWaits accepts p a c → IsFoundWhole (node_at p.start c.seen) share found →
     Stays accepts p c d → SeatPublishes accepts p c found.len found.share d count → IsTurn p share a d count
-is_turn {V} accepts p a c d g found share count saw waits frozen same len stays publishes =
-    let mine : SeatPublishes accepts p c found.len share d count = subst (λ (k : Share). SeatPublishes accepts p c found.len k d count) same publishes in
-    let all : found.len ≡ length (node_rows (node_at p.start c.seen)) = len ∙ ap (λ (h : Graph). length h.rows) frozen in
+is_turn {V} accepts p a c d found share count saw waits found_whole stays publishes =
+    let mine : SeatPublishes accepts p c found.len share d count = subst (λ (k : Share). SeatPublishes accepts p c found.len k d count) found_whole.mine publishes in
     let before = more_marks p a c saw.seen in
-    let more = more_by_turn p accepts c d found.len share count mine all in
+    let more = more_by_turn p accepts c d found.len share count mine found_whole.len in
     record {
       of = subst (MarksOf p share a d) (let e : 0 + count ≡ count = omega arith in e)
           (of_on p share a c d 0 count stays.seen (of_none p share a c (waits_mine accepts p a c waits)) (marks_of_turn p accepts c d found.len share count mine));
-      all = marks_all_before p accepts a c d share saw.seen saw.node (marks_by_turn p accepts c d found.len share count mine all saw.node);
+      all = marks_all_before p accepts a c d share saw.seen saw.node (marks_by_turn p accepts c d found.len share count mine found_whole.len saw.node);
       few = omega (arith, before, more);
     }
+
+-- a seat saw the graph, and all that it decides was marked
+pub is_quiet_turn : {V : Type 0} (accepts : V → Accepts) (p : SharedNode V) (a c : SeatView V) (share : Share) →
+    Stays accepts p a c → SeatWaits accepts p a c → HasMarks (node_at p.start c.seen) share → IsTurn p share a c 0
+is_quiet_turn accepts p a c share saw waits has = record {
+  of = of_none p share a c (waits_mine accepts p a c waits);
+  all = marks_all_before p accepts a c c share saw.seen saw.node has;
+  few = (let before = more_marks p a c saw.seen in omega (arith, before));
+}
 
 -- the next turn
 module _ {V : Type 0} (accepts : V → Accepts) (p : SharedNode V) (share : Share) (a b c : SeatView V) (j k : ℕ) (stays : Stays accepts p a b) (next : Stays accepts p b c) where

@@ -13,7 +13,7 @@ use Rattle.hg_model.specs.Rounds.{is_witness}
 use Rattle.hg_model.specs.Fame.{Marks, mark_at, fame_of}
 use Rattle.hg_model.specs.Order.{coin_at}
 use Rattle.hg_model.specs.Orders.{AreFame, IsPrefix}
-use Rattle.hg_model.specs.Shares.{Share, Speaks, early_fame, found_in, is_of_share, share_fame}
+use Rattle.hg_model.specs.Shares.{Share, early_fame, found_in, is_of_share, share_fame}
 use Rattle.hg_model.specs.History.{Change, State, news, new_mark, replay, with_marks}
 use Rattle.hg_model.specs.History.Change.{Marked}
 use Rattle.hg_model.specs.NodeView.{NodeView, IsNode, node_marks, node_rows, node_state, with_changes}
@@ -22,7 +22,8 @@ use Rattle.hg_model.specs.Signing.{Accepts}
 use Rattle.hg_model.proofs.LongerLaws.{IsLonger, is_witness-longer, longer-append}
 use Rattle.hg_model.proofs.PlacesLaws.{count_below-le, count_below_zero, list_below_zero, weight_below-same, weight_below_grows}
 use Rattle.hg_model.proofs.ShapeLaws.{shaped-shorter}
-use Rattle.hg_history.proofs.FoundLaws.{same_first}
+use Rattle.hg_history.specs.News.{FindsNews}
+use Rattle.hg_history.proofs.FoundLaws.{found_is_news, same_first}
 use Rattle.hg_history.proofs.MarkLaws.{early_is_fame}
 use Rattle.hg_history.proofs.SoundLaws.{IsSound, sound}
 use Rattle.hg_history.proofs.StateLaws.{IsEven, even_after, mark_of_table, marks_stay, replay-push, rows_grow}
@@ -68,7 +69,7 @@ module _ (n : Stakes) (c : ℕ) (s t : State) (even : IsEven s) (later : IsEven 
         (and_from (ltb x (length t.links)) (is_witness n t.links x) (lt-ltb x (length t.links) (omega arith)) witness)
         (ap (λ (k : ℕ). eqb (k % share.of) share.k) same ∙ one.1)
 
-    fame_later : (share : Share) (x : ℕ) (v : Bool) → share_fame n c s.rows s.links share x ≡ Some v → fame_of n c t.links (coin_at t.rows) x ≡ Some v
+    pub fame_later : (share : Share) (x : ℕ) (v : Bool) → share_fame n c s.rows s.links share x ≡ Some v → fame_of n c t.links (coin_at t.rows) x ≡ Some v
     fame_later share x v is =
         ap (λ (L : List Link). fame_of n c L (coin_at t.rows) x) linked
         ∙ early_is_fame n c t g linked (length s.rows) share within x v (early_is share x ∙ is)
@@ -155,9 +156,9 @@ module _ {K : Type 0} (v : NodeView K) (len : ℕ) (share : Share) (within : len
 
 -- no share finds anything in no rows, and to publish that marks none
 
-pub nothing_found : (n : Stakes) (c : ℕ) (G : List Row) (L : List Link) (share : Share) (marks : List (ℕ × Bool)) → marks ≡ [] → Speaks n c G L 0 share marks
+pub nothing_found : (n : Stakes) (c : ℕ) (s : State) (share : Share) (marks : List (ℕ × Bool)) → marks ≡ [] → FindsNews n c s 0 share marks
 unfolding found_in
-nothing_found n c G L share marks none = record { within = omega arith; matches = none ∙ sym (list_below_zero _ _) }
+nothing_found n c s share marks none = found_is_news n c s 0 share marks (record { within = omega arith; matches = none ∙ sym (list_below_zero _ _) })
 
 pub nothing_published : {K : Type 0} (v : NodeView K) (share : Share) → publish_answer v 0 share ≡ 0
 unfolding publish_answer news

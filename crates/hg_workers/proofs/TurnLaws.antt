@@ -1,4 +1,4 @@
--- What a turn of a worker adds: the graph that it froze, what its share found in it, and the publication
+-- What a turn of a worker adds
 use Rattle.std.proofs.Common.{◌≡◌, ℕ, ◌+◌, ◌<◌, ◌≤◌, Bool, List, [], ◌∷◌, ◌++◌, length, length-append, take, Some, slice_get, sym, refl, ap, ◌∙◌, subst, arith}
 use Rattle.std.proofs.lemmas.List.{append-nil, take-append-le}
 use Rattle.std.proofs.Math.Seq.{take-length}
@@ -6,29 +6,23 @@ use mathlib.Core.Logic.{dite}
 use native.Mathlib.Decide.{ℕ_discrete}
 use Rattle.hg_model.specs.Fame.{Marks, mark_at}
 use Rattle.hg_model.specs.Stakes.{Stakes}
-use Rattle.hg_model.specs.Links.{Link}
 use Rattle.hg_model.specs.Orders.{IsPrefix}
-use Rattle.hg_model.specs.Shares.{Share, Speaks, share_fame}
+use Rattle.hg_model.specs.Shares.{Share, share_fame}
 use Rattle.hg_model.specs.History.{Change, replay, with_marks}
 use Rattle.hg_model.specs.History.Change.{Marked}
-use Rattle.hg_model.specs.NodeView.{NodeView, IsNode, node_links, node_marks, node_rows, node_state, with_changes}
+use Rattle.hg_model.specs.NodeView.{NodeView, IsNode, node_marks, node_rows, node_state, with_changes}
 use Rattle.hg_model.specs.Calls.{publish_answer, publish_changes}
 use Rattle.hg_model.specs.Signing.{Accepts}
-use Rattle.hg_model.specs.Prefix.{Graph, graph_of}
-use Rattle.hg_model.specs.declared.share.Found.{Found}
 use Rattle.hg_history.proofs.StateLaws.{even_after, links_grow, marks_stay, rows_grow}
-use Rattle.hg_fame.specs.Decisions.{SpeaksFor}
-use Rattle.hg_node.specs.ChronicleView.{IsFoundBy, graph_in, marked}
+use Rattle.hg_node.specs.ChronicleView.{marked}
 use Rattle.hg_gossip.specs.Holding.{Seen}
 use Rattle.hg_board.specs.Table.{node_at}
-use Rattle.hg_board.specs.Seats.{SharedNode, SeatView, seen_by}
+use Rattle.hg_board.specs.Seats.{SharedNode, SeatView}
 use Rattle.hg_board.specs.Calls.{SeatPublishes}
 use Rattle.hg_board.specs.Crews.{MarksAll, MarksOf, marked_by}
 use Rattle.hg_board.specs.Laws.{AddsNone}
 use Rattle.hg_board.proofs.ChangeLaws.{other_publishes_add_none, publishes_add_one}
-use Rattle.hg_votes.specs.Counting.{CarriesTo, Counting, IsMadeFor}
-use Rattle.hg_votes.proofs.CarryLaws.{begins_empty, begins_itself, carries_on}
-use Rattle.hg_workers.specs.Turns.{graph_seen, marks_seen}
+use Rattle.hg_workers.specs.Turns.{marks_seen}
 use Rattle.hg_workers.proofs.StateLaws.{marked_later, node_sound, nothing_published, published_later, published_marks, published_more, share_later}
 
 pub get_push : (h : List Change) (e : Change) → slice_get (h ++ e ∷ []) (length h) ≡ Some e
@@ -59,17 +53,6 @@ module _ {V : Type 0} (p : SharedNode V) where
   links_later : (a b : List Change) → IsPrefix a b → IsPrefix (replay n coin a).links (replay n coin b).links
   links_later a b first = subst (λ (h : List Change). IsPrefix (replay n coin a).links (replay n coin h).links) (sym first.1) (links_grow n coin a first.0)
 
-  -- votes on the graph that the seat saw go on to the one that it sees
-  pub carries_later : (votes : Counting) (a b : SeatView V) → IsPrefix a.seen b.seen → CarriesTo votes (graph_seen p a) → CarriesTo votes (graph_seen p b)
-  carries_later votes a b first carries =
-      carries_on votes (graph_seen p a) (graph_seen p b) carries (record { members = refl; coin = refl; rows = rows_later a.seen b.seen first })
-
-  pub carries_none : (a : SeatView V) (votes : Counting) → ((members : Stakes) (c : ℕ) → IsMadeFor votes (graph_of members c [])) → CarriesTo votes (graph_seen p a)
-  carries_none a votes made = (graph_of n coin [], made n coin, begins_empty (graph_seen p a))
-
-  pub carries_made : (votes : Counting) (g : Graph) (a b : SeatView V) → g ≡ graph_seen p a → IsPrefix a.seen b.seen → IsMadeFor votes g → CarriesTo votes (graph_seen p b)
-  carries_made votes g a b frozen first made = carries_later votes a b first (subst (CarriesTo votes) frozen (g, made, begins_itself g))
-
   module _ (accepts : V → Accepts) where
     -- what the graph decided before, a later one decides
     pub decided_later : (a b : SeatView V) → IsPrefix a.seen b.seen → IsNode accepts (node_at p.start b.seen) → (share : Share) (x : ℕ) (v : Bool) →
@@ -81,16 +64,6 @@ module _ {V : Type 0} (p : SharedNode V) where
     -- so what marks all that the later graph decides marks all that the earlier does
     pub marks_all_before : (a b c : SeatView V) (share : Share) → IsPrefix a.seen b.seen → IsNode accepts (node_at p.start b.seen) → MarksAll p share b c → MarksAll p share a c
     marks_all_before a b c share first node all x v is = all x v (decided_later a b first node share x v is)
-
-    -- what was found in a frozen graph was found in the rows that the seat has seen
-    pub found_by_seat : (c : SeatView V) (g : Graph) (found : Found) → IsNode accepts (node_at p.start c.seen) → g ≡ graph_in (seen_by p c).node → (share : Share) → found.share ≡ share → SpeaksFor g share found →
-        IsFoundBy (seen_by p c).node found
-    found_by_seat c g found node frozen share same speaks =
-        let v = node_at p.start c.seen in
-        let s = node_sound accepts v node in
-        let here : SpeaksFor (graph_in v) share found = subst (λ (h : Graph). SpeaksFor h share found) frozen speaks in
-        let tied : Speaks n coin (node_rows v) (node_links v) found.len share found.marks = subst (λ (L : List Link). Speaks n coin (node_rows v) L found.len share found.marks) (sym s.linked) here in
-        subst (λ (k : Share). Speaks n coin (node_rows v) (node_links v) found.len k found.marks) (sym same) tied
 
     -- a publication by a seat
     module _ (c d : SeatView V) (len : ℕ) (share : Share) (count : ℕ) (publishes : SeatPublishes accepts p c len share d count) where

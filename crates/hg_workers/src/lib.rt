@@ -1,5 +1,5 @@
-//! Vote workers: each freezes the graph of a node between threads, decides its share's witnesses in it without the
-//! turn, and publishes what it found.
+//! Vote workers: each takes from a node between threads what its share may still decide, elects that without the turn,
+//! and publishes what it found.
 //! The layer above uses `Voters` as a `Crew` of `hg_board`, whose clauses say what a worker may do and what it owes.
 //!
 //! From `vote` of `check_threads`:

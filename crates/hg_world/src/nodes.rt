@@ -1,17 +1,14 @@
 ghost use Rattle.std.specs.Prelude.{◌≡◌, ◌<◌, ◌≤◌, [], All, IfOk, length, vec_capacity};
-ghost use Rattle.hg_model.specs.NodeView.{IsNode, node_rows};
+ghost use Rattle.hg_model.specs.NodeView.{IsNode};
 ghost use Rattle.hg_model.specs.Places.{table};
 ghost use Rattle.hg_model.specs.Signing.{accepts_by, secrets_of};
-ghost use Rattle.hg_node.specs.ChronicleView.{IsFoundBy};
 ghost use Rattle.hg_world.specs.World.{new_node};
 ghost use Rattle.hg_world.specs.Parts.{nodes_in, unfrozen};
 
 use crate::site::Site;
-use hg_fame::elect_share;
-use hg_model::{Found, Member, Members, Memory, Share};
+use hg_model::{Member, Members, Memory};
 use hg_node::Node;
 use hg_sign::SharedTable;
-use hg_votes::VoteTable;
 use std::alloc::Global;
 
 /// A node for each member, without rows.
@@ -91,23 +88,4 @@ pub(crate) fn into_nodes(
         nodes.push_reserved(site.node);
     }
     nodes
-}
-
-/// What a share of the witnesses decides in the node's first `len` rows.
-pub(crate) fn found_by(
-    alloc: Global,
-    node: &Node<SharedTable>,
-    len: usize,
-    share: Share,
-) -> Result<Found, Memory>
-    requires { len ≤ length (node_rows node.now) }
-    ensures speaks { IfOk result (λ found. IsFoundBy node.now found) }
-    ensures len { IfOk result (λ found. found.len ≡ len) }
-    ensures share { IfOk result (λ found. found.share ≡ share) }
-{
-    node.rows();
-    let frozen = node.prefix(len)?;
-    let mut votes = VoteTable::new(alloc, &frozen)?;
-    let found = elect_share(alloc, &frozen, &mut votes, share)?;
-    Ok(found)
 }

@@ -15,7 +15,7 @@ ghost use Rattle.hg_world.specs.World.{IsMemberOf, IsSiteOf, new_world, node_at,
 ghost use Rattle.hg_world.specs.Steps.{RanSome, after_step, after_steps, making_at, publishing_by, putting_at, settle_steps};
 ghost use Rattle.hg_world.specs.Syncs.{HasMadeAfter, HasTaken, deliver_steps};
 
-use crate::nodes::{found_by, into_nodes, into_sites, new_nodes, room_for, see_all};
+use crate::nodes::{into_nodes, into_sites, new_nodes, room_for, see_all};
 use crate::site::Site;
 use hg_event::Event;
 use hg_gossip::{Known, Taken, lacked, make_after, still_lacked, take_events};
@@ -146,7 +146,7 @@ impl World {
     {
         let site = &mut self.sites[member as usize];
         let len = site.frozen[worker as usize];
-        let found = found_by(self.alloc, &site.node, len, share)?;
+        let found = site.node.found(len, share)?;
         let count = site.node.publish(&found);
         // That it is a node still.
         site.node.rows();

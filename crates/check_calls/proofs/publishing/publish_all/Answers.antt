@@ -2,7 +2,8 @@ use Rattle.std.proofs.Common.{List, sym, subst}
 use Rattle.hg_model.specs.Links.{Link}
 use Rattle.hg_model.specs.Prefix.{Graph, links_of}
 use Rattle.hg_model.specs.Shares.{Share, Speaks}
-use Rattle.hg_model.specs.NodeView.{node_rows}
+use Rattle.hg_model.specs.NodeView.{node_rows, node_state}
+use Rattle.hg_history.proofs.FoundLaws.{found_is_news}
 use Rattle.hg_history.proofs.SoundLaws.{sound}
 use Rattle.check_calls.proofs.publishing.publish_all.Goals as goal
 
@@ -15,5 +16,6 @@ publish-requires c =
     let of_share = subst (λ (s : Share). Speaks c.in_ok-frozen.frozen.members c.in_ok-frozen.frozen.coin c.in_ok-frozen.frozen.rows (links_of c.in_ok-frozen.frozen) found.len s found.marks)
     (sym c.in_ok-found.ensures.share) c.in_ok-found.ensures.speaks in
     let of_rows = subst (λ (g : Graph). Speaks g.members g.coin g.rows (links_of g) found.len found.share found.marks) c.in_ok-frozen.ensures of_share in
-    subst (λ (L : List Link). Speaks node.start.members node.start.coin (node_rows node) L found.len found.share found.marks)
-    (sym (sound _ node.start.members node.start.coin node.start.own node.history is.coin is.history).linked) of_rows
+    found_is_news node.start.members node.start.coin (node_state node) found.len found.share found.marks
+    (subst (λ (L : List Link). Speaks node.start.members node.start.coin (node_rows node) L found.len found.share found.marks)
+    (sym (sound _ node.start.members node.start.coin node.start.own node.history is.coin is.history).linked) of_rows)

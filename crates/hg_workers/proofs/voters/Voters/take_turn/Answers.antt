@@ -1,43 +1,50 @@
-use Rattle.std.proofs.Common.{subst, sym}
-use Rattle.hg_votes.specs.Counting.{CarriesTo}
-use Rattle.hg_workers.proofs.TurnLaws.{carries_later, carries_made, found_by_seat}
-use Rattle.hg_workers.proofs.LoopLaws.{is_turn, stays_on}
+use Rattle.std.proofs.Common.{subst}
+use Rattle.hg_board.specs.Table.{node_at}
+use Rattle.hg_workers.specs.Turns.{Elects}
+use Rattle.hg_workers.proofs.ElectionLaws.{electable, elected_none, elected_whole}
+use Rattle.hg_workers.proofs.LoopLaws.{IsTurn, is_quiet_turn, is_turn, only_of}
+use Rattle.hg_workers.proofs.voters.Voters.take_turn.Given as given
 use Rattle.hg_workers.proofs.voters.Voters.take_turn.Goals as goal
-
-pub publish-requires-clause-found : goal.publish-requires-clause-found
-publish-requires-clause-found g c =
-    found_by_seat c.args.shared.now g.V.Verifier.accepts c.freeze.new.seat c.in_ok-frozen.frozen c.in_ok-found.found c.freeze.ensures.stays.node c.in_ok-frozen.ensures.graph c.args.share c.in_ok-found.ensures.share c.in_ok-found.ensures.speaks
 
 pub elected-requires : goal.elected-requires
 elected-requires g c =
-    subst (CarriesTo c.args.votes.now) (sym c.in_ok-frozen.ensures.graph)
-    (carries_later c.args.shared.now c.args.votes.now c.args.seat.now c.freeze.new.seat c.freeze.ensures.stays.seen c.requires.votes)
+    electable g.V.Verifier.accepts (node_at c.args.shared.now.start c.open.new.seat.seen) c.open.ensures.stays.node c.args.share c.in_ok-opened.opened c.in_ok-opened.ensures.opens
 
-pub returns-clause-stays : goal.returns-clause-stays
-returns-clause-stays g c =
-    stays_on g.V.Verifier.accepts c.args.shared.now c.args.seat.now c.freeze.new.seat c.publish.new.seat c.freeze.ensures.stays c.publish.ensures.stays
+pub publish-requires-clause-found : goal.publish-requires-clause-found
+publish-requires-clause-found g c =
+    (elected_whole g.V.Verifier.accepts (node_at c.args.shared.now.start c.open.new.seat.seen) c.open.ensures.stays.node c.args.share c.in_ok-opened.opened c.in-Some.found c.in_ok-opened.ensures.opens
+    (subst (Elects c.args.share c.in_ok-opened.opened) c.in-Some.is c.in_ok-found.ensures)).news
 
-pub returns-clause-votes : goal.returns-clause-votes
-returns-clause-votes g c =
-    carries_made c.args.shared.now c.elected.new.votes c.in_ok-frozen.frozen c.freeze.new.seat c.publish.new.seat c.in_ok-frozen.ensures.graph c.publish.ensures.stays.seen c.in_ok-found.ensures.votes
+-- the turn that published what was found
+turn : (g : given.Over) (c : goal.After-drop-found g) → IsTurn c.args.shared.now c.args.share c.args.seat.now c.publish.new.seat c.publish.result
+turn g c =
+    is_turn g.V.Verifier.accepts c.args.shared.now c.args.seat.now c.open.new.seat c.publish.new.seat c.in-Some.found c.args.share c.publish.result
+    c.open.ensures.stays c.open.ensures.waits
+    (elected_whole g.V.Verifier.accepts (node_at c.args.shared.now.start c.open.new.seat.seen) c.open.ensures.stays.node c.args.share c.in_ok-opened.opened c.in-Some.found c.in_ok-opened.ensures.opens
+    (subst (Elects c.args.share c.in_ok-opened.opened) c.in-Some.is c.in_ok-found.ensures))
+    c.publish.ensures.stays c.publish.ensures.marks
 
-pub returns-clause-marks : goal.returns-clause-marks
-returns-clause-marks g c =
-    let turn = is_turn g.V.Verifier.accepts c.args.shared.now c.args.seat.now c.freeze.new.seat c.publish.new.seat c.in_ok-frozen.frozen c.in_ok-found.found c.args.share c.publish.result
-    c.freeze.ensures.stays c.freeze.ensures.waits c.in_ok-frozen.ensures.graph c.in_ok-found.ensures.share c.in_ok-found.ensures.len c.publish.ensures.stays c.publish.ensures.marks in
-    record { more = turn.of.more; mine = turn.of.mine; marks = turn.of.marks }
+pub returns-in-Some-clause-marks : goal.returns-in-Some-clause-marks
+returns-in-Some-clause-marks g c = only_of c.args.shared.now c.args.share c.args.seat.now c.publish.new.seat c.publish.result (turn g c).of
 
-pub returns-clause-counted : goal.returns-clause-counted
-returns-clause-counted g c =
-    (is_turn g.V.Verifier.accepts c.args.shared.now c.args.seat.now c.freeze.new.seat c.publish.new.seat c.in_ok-frozen.frozen c.in_ok-found.found c.args.share c.publish.result
-    c.freeze.ensures.stays c.freeze.ensures.waits c.in_ok-frozen.ensures.graph c.in_ok-found.ensures.share c.in_ok-found.ensures.len c.publish.ensures.stays c.publish.ensures.marks).of
+pub returns-in-Some-clause-counted : goal.returns-in-Some-clause-counted
+returns-in-Some-clause-counted g c = (turn g c).of
 
-pub returns-clause-all : goal.returns-clause-all
-returns-clause-all g c =
-    (is_turn g.V.Verifier.accepts c.args.shared.now c.args.seat.now c.freeze.new.seat c.publish.new.seat c.in_ok-frozen.frozen c.in_ok-found.found c.args.share c.publish.result
-    c.freeze.ensures.stays c.freeze.ensures.waits c.in_ok-frozen.ensures.graph c.in_ok-found.ensures.share c.in_ok-found.ensures.len c.publish.ensures.stays c.publish.ensures.marks).all
+pub returns-in-Some-clause-all : goal.returns-in-Some-clause-all
+returns-in-Some-clause-all g c = (turn g c).all
 
-pub returns-clause-few : goal.returns-clause-few
-returns-clause-few g c =
-    (is_turn g.V.Verifier.accepts c.args.shared.now c.args.seat.now c.freeze.new.seat c.publish.new.seat c.in_ok-frozen.frozen c.in_ok-found.found c.args.share c.publish.result
-    c.freeze.ensures.stays c.freeze.ensures.waits c.in_ok-frozen.ensures.graph c.in_ok-found.ensures.share c.in_ok-found.ensures.len c.publish.ensures.stays c.publish.ensures.marks).few
+pub returns-in-Some-clause-few : goal.returns-in-Some-clause-few
+returns-in-Some-clause-few g c = (turn g c).few
+
+-- the turn that found nothing
+quiet : (g : given.Over) (c : goal.In-None g) → IsTurn c.args.shared.now c.args.share c.args.seat.now c.open.new.seat 0
+quiet g c =
+    is_quiet_turn g.V.Verifier.accepts c.args.shared.now c.args.seat.now c.open.new.seat c.args.share c.open.ensures.stays c.open.ensures.waits
+    (elected_none g.V.Verifier.accepts (node_at c.args.shared.now.start c.open.new.seat.seen) c.open.ensures.stays.node c.args.share c.in_ok-opened.opened c.in_ok-opened.ensures.opens
+    (subst (Elects c.args.share c.in_ok-opened.opened) c.in-None.is c.in_ok-found.ensures))
+
+pub returns-in-None-clause-all : goal.returns-in-None-clause-all
+returns-in-None-clause-all g c = (quiet g c).all
+
+pub returns-in-None-clause-few : goal.returns-in-None-clause-few
+returns-in-None-clause-few g c = (quiet g c).few

@@ -1,0 +1,18 @@
+use Rattle.std.proofs.Common.{◌≡◌, ◌∙◌, length, ap, sym}
+use Rattle.std.proofs.lemmas.Bool.{eqb-true}
+use Rattle.hg_model.specs.GraphWords.{fame_in}
+use Rattle.hg_fame.specs.Decisions.{fames_among}
+use Rattle.hg_workers.proofs.ElectionLaws.{none_decided}
+use Rattle.hg_workers.proofs.voters.elected.Goals as goal
+
+pub returns-then-is_empty : goal.returns-then-is_empty
+returns-then-is_empty c =
+    let found = c.in_ok-found.found.marks in
+    let some = c.in-Some.field-0 in
+    let graph = c.in-Some.graph-is in
+    let items = c.in-Some.places-is in
+    let all = c.as_slice.ensures.value in
+    let fames = c.in_ok-found.ensures.fames in
+    let decided : found ≡ fames_among (fame_in some.graph) some.places.items = cc in
+    none_decided c.args.share c.args.opened some c.in-Some.is found decided
+    (ap length (sym c.as_slice-2.ensures) ∙ eqb-true (length c.as_slice-2.result.now) 0 (sym c.is_empty.ensures ∙ c.if-is_empty.true))
