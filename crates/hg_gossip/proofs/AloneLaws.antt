@@ -44,7 +44,7 @@ module _ {K : Type 0} (accepts : K → Accepts) where
       (subst (λ (events : List (List ℕ)). TakesAll (rules_alone accepts) (seen_whole old) events new taken) rows
       (subst (λ (s : Seen K). TakesAll (rules_alone accepts) s (parcel_beyond (names_in s) (seen_whole peer)).rows new taken) same takes))
 
-  made_alone : (v new : NodeView K) (other : Option (List ℕ)) (time : ℕ) (payload : List ℕ) (made : SyncMade) → MakesAfter (rules_alone accepts) (seen_whole v) other time payload (seen_whole new) made →
+  pub made_alone : (v new : NodeView K) (other : Option (List ℕ)) (time : ℕ) (payload : List ℕ) (made : SyncMade) → MakesAfter (rules_alone accepts) (seen_whole v) other time payload (seen_whole new) made →
       MakesOn accepts v other time payload new made
   made_alone v new None time payload made is = (ap (λ (s : Seen K). s.node) is.0, is.1)
   made_alone v new (Some other) time payload made is = (

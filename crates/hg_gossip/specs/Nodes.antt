@@ -14,7 +14,7 @@ use Rattle.hg_model.specs.Calls.{IsMaking, put_answer, put_changes}
 use Rattle.hg_model.specs.Gossip.{lacking, made_in_sync}
 use Rattle.hg_gossip.specs.declared.gossip.Taken.{Taken}
 use Rattle.hg_gossip.specs.Holding.{Waits, row_names, rules_alone, seen_whole, unnamed}
-use Rattle.hg_gossip.specs.Gossip.{Pulls, Syncs, none_taken, with_answer}
+use Rattle.hg_gossip.specs.Gossip.{MakesAfter, Pulls, Syncs, none_taken, with_answer}
 
 -- a node that takes events, and what came of them so far
 pub record Taking (K : Type 0) : Type 0 where
@@ -64,6 +64,10 @@ PullsAlone K L = (accepts : K → Accepts) (old new : NodeView K) (peer : NodeVi
 abbrev pub SyncsAlone : (K L : Type 0) → Type 0
 SyncsAlone K L = (accepts : K → Accepts) (old new : NodeView K) (peer : NodeView L) (time : ℕ) (payload : List ℕ) (report : SyncReport) →
     Syncs (rules_alone accepts) (seen_whole old) (seen_whole peer) time payload (seen_whole new) report → IsSynced accepts old peer time payload new report
+
+abbrev pub MakesAlone : (K : Type 0) → Type 0
+MakesAlone K = (accepts : K → Accepts) (old new : NodeView K) (other : Option (List ℕ)) (time : ℕ) (payload : List ℕ) (made : SyncMade) →
+    MakesAfter (rules_alone accepts) (seen_whole old) other time payload (seen_whole new) made → MakesOn accepts old other time payload new made
 
 -- the rows without the names of these are those whose names these lack
 abbrev pub UnnamedAreLacking : Type 0

@@ -1,5 +1,5 @@
 ghost use Rattle.hg_gossip.specs.Known.{KnownForGood};
-ghost use Rattle.hg_gossip.specs.Nodes.{PullsAlone, SyncsAlone, UnnamedAreLacking, WaitsAlone};
+ghost use Rattle.hg_gossip.specs.Nodes.{MakesAlone, PullsAlone, SyncsAlone, UnnamedAreLacking, WaitsAlone};
 
 /// A law: nothing comes between the calls on a node that has one holder.
 pub fn waiting_alone<K>()
@@ -10,6 +10,11 @@ pub fn waiting_alone<K>()
 /// bytes that the node lacked.
 pub fn pulling_alone<K, L>()
     ensures { PullsAlone K L }
+{}
+
+/// A law: `make_after` leaves of such a node what making the event leaves of it, or that node where there is no name.
+pub fn making_alone<K>()
+    ensures { MakesAlone K }
 {}
 
 /// A law: a sync leaves what making an event leaves of the node after the pull, or that node where the peer is bare.

@@ -31,5 +31,7 @@ pub use gossip::{Taken, pull, sync, sync_made, with_answer};
 pub use handing::{Heard, joined, lacked, still_lacked};
 pub use holder::Holder;
 pub use known::Known;
-pub use laws::{known_for_good, missing_is_lacking, pulling_alone, syncing_alone, waiting_alone};
+pub use laws::{
+    known_for_good, making_alone, missing_is_lacking, pulling_alone, syncing_alone, waiting_alone,
+};
 pub use taking::{make_after, take, take_events};

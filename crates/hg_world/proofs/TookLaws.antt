@@ -1,20 +1,25 @@
 -- Events that come to one node of a world, one after the other
-use Rattle.std.proofs.Common.{◌≡◌, ℕ, ◌<◌, List, length, get_or, Result, Ok, Err, sym, ap, ◌∙◌}
+use Rattle.std.proofs.Common.{◌≡◌, ℕ, ◌<◌, List, [], ◌∷◌, length, get_or, Option, None, Some, Result, Ok, Err, sym, refl, ap, ◌∙◌}
 use Rattle.std.specs.Prelude.{IfOk, OnErr}
-use Rattle.std.proofs.lemmas.List.{get_or-set_same, map-append}
+use Rattle.std.proofs.lemmas.List.{get_or-set_same, map-append, set-get_or}
+use Rattle.hg_model.specs.declared.answers.SyncMade.{SyncMade}
+use Rattle.hg_model.specs.Calls.{make_changes}
+use Rattle.hg_model.specs.Gossip.{made_in_sync}
 use Rattle.hg_model.specs.Signing.{accepts_by}
 use Rattle.hg_model.specs.History.{Change}
 use Rattle.hg_model.specs.NodeView.{NodeView, with_changes}
 use Rattle.hg_gossip.specs.declared.gossip.Taken.{Taken}
 use Rattle.hg_gossip.specs.Gossip.{none_taken}
-use Rattle.hg_gossip.specs.Nodes.{Taking, taking, taking_of}
+use Rattle.hg_history.proofs.CallLaws.{with_none}
+use Rattle.hg_gossip.specs.Nodes.{MakesOn, Taking, taking, taking_of}
 use Rattle.hg_gossip.specs.Taking.{TookSome}
 use Rattle.hg_gossip.proofs.TakingLaws.{takes_change}
 use Rattle.hg_world.specs.declared.step.Step.{Step}
 use Rattle.hg_world.specs.declared.step.Step.TheVariants.{Deliver}
 use Rattle.hg_world.specs.World.{Secrets, Site, WorldView, no_site, node_at, site_of, with_node_at, with_site}
 use Rattle.hg_world.specs.Steps.{RanSome, after_steps}
-use Rattle.hg_world.specs.Syncs.{HasTaken, deliver_steps}
+use Rattle.hg_world.specs.Syncs.{HasMadeAfter, HasTaken, deliver_steps}
+use Rattle.hg_world.proofs.NodeLaws.{makes}
 use Rattle.hg_world.proofs.PullLaws.{puts_set}
 use Rattle.hg_world.proofs.WorldLaws.{set_node, site_here}
 
@@ -32,6 +37,12 @@ grown v u events (Err e) ok err =
 module _ (w : WorldView) (m : ℕ) (low : m < length w.sites) (site : Site) (read : site ≡ get_or w.sites m site) (u : NodeView Secrets) where
   here : site.node ≡ node_at w m
   here = ap (λ (s : Site). s.node) (site_here w m low site read)
+
+  -- the same node
+  pub same_is : u ≡ site.node → with_site w m (site_of u site.frozen) ≡ w
+  same_is is =
+      ap (λ (s : Site). with_site w m s) (ap (λ (v : NodeView Secrets). site_of v site.frozen) is ∙ site_here w m low site read)
+      ∙ ap (λ (sites : List Site). let v : WorldView = record { members = w.members; coin = w.coin; sites = sites } in v) (set-get_or w.sites m no_site)
 
   steps_are : (events : List (List ℕ)) → u ≡ (taking accepts_by site.node events).node → with_site w m (site_of u site.frozen) ≡ after_steps w (deliver_steps m events)
   steps_are events is =
@@ -53,6 +64,18 @@ module _ (w : WorldView) (m : ℕ) (low : m < length w.sites) (site : Site) (rea
     whole = ap (deliver_steps m) some.whole ∙ map-append (λ (b : List ℕ). let s : Step = Deliver m b in s) some.first some.rest;
     after = steps_are some.first some.after;
   }
+
+  -- an event was made on this other-parent, or none where there is no name
+  pub made_so : (other : Option (List ℕ)) (time : ℕ) (payload : List ℕ) (made : SyncMade) → MakesOn accepts_by site.node other time payload u made → HasMadeAfter w m other time payload made (with_site w m (site_of u site.frozen))
+  made_so None time payload made is = (is.1, same_is is.0)
+  made_so (Some other) time payload made is =
+      let one = makes (node_at w m) site.node u (other ∷ []) time payload is.0 here is.1 in
+      (is.2 ∙ ap made_in_sync one.0, set_node w m low site read u ∙ ap (with_node_at w m) one.1)
+
+-- what that made of the node is some changes
+pub made_changes : (v u : NodeView Secrets) (other : Option (List ℕ)) (time : ℕ) (payload : List ℕ) (made : SyncMade) → MakesOn accepts_by v other time payload u made → (es : List Change) × (u ≡ with_changes v es)
+made_changes v u None time payload made is = ([], is.0 ∙ sym (with_none v [] refl))
+made_changes v u (Some other) time payload made is = (make_changes v (other ∷ []) time payload is.1.sig, is.1.grown)
 
 -- the same of what came of it
 pub all_of : {E : Type 0} (result : Result Taken E) (P Q : Taken → Type 0) → ((t : Taken) → P t → Q t) → IfOk result P → IfOk result Q

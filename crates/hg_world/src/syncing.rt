@@ -2,11 +2,11 @@ ghost use Rattle.std.specs.Prelude.{◌≡◌, IfOk, OnErr};
 ghost use Rattle.hg_runs.specs.Safety.{IsSafe};
 ghost use Rattle.hg_world.specs.World.{IsMemberOf, node_at, run_of};
 ghost use Rattle.hg_world.specs.Steps.{RanSome};
-ghost use Rattle.hg_world.specs.Syncs.{HasMadeAfter, HasPulled, HasSynced, pull_steps};
+ghost use Rattle.hg_world.specs.Syncs.{HasPulled, HasSynced, pull_steps};
 
 use crate::world::World;
-use hg_gossip::{Taken, sync_made};
-use hg_model::{Member, Memory, Name, SyncMade, SyncReport};
+use hg_gossip::Taken;
+use hg_model::{Member, Memory, SyncReport};
 
 impl World {
     fn pull_rows(&mut self, taker: Member, peer: Member) -> Result<Taken, Memory>
@@ -40,27 +40,6 @@ impl World {
         let counts = self.pull_rows(taker, peer);
         self.members();
         counts
-    }
-
-    /// Makes an event with this other-parent, if there is one.
-    fn make_after(
-        &mut self,
-        member: Member,
-        other: Option<Name>,
-        time: u64,
-        payload: &[u8],
-    ) -> Result<SyncMade, Memory>
-        requires { IsMemberOf self.old member }
-        ensures ok { IfOk result (λ made. HasMadeAfter self.old member other time payload.now made self.new) }
-        ensures err { OnErr result (self.new ≡ self.old) }
-    {
-        match other {
-            None => Ok(SyncMade::PeerBare),
-            Some(name) => {
-                let answer = self.make(member, Some(name), time, payload)?;
-                Ok(sync_made(answer))
-            }
-        }
     }
 
     fn sync_rows(

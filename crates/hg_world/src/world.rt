@@ -13,13 +13,15 @@ ghost use Rattle.hg_world.specs.Parts.{AreOfOneList, IsWorld, nth_node, rows_of_
 ghost use Rattle.hg_model.specs.Gossip.{lacking};
 ghost use Rattle.hg_world.specs.World.{IsMemberOf, IsSiteOf, new_world, node_at, nodes_of, rows_at, run_of, site_at, worker_limit};
 ghost use Rattle.hg_world.specs.Steps.{RanSome, after_step, after_steps, making_at, publishing_by, putting_at, settle_steps};
-ghost use Rattle.hg_world.specs.Syncs.{HasTaken, deliver_steps};
+ghost use Rattle.hg_world.specs.Syncs.{HasMadeAfter, HasTaken, deliver_steps};
 
 use crate::nodes::{found_by, into_nodes, into_sites, new_nodes, room_for, see_all};
 use crate::site::Site;
 use hg_event::Event;
-use hg_gossip::{Known, Taken, lacked, still_lacked, take_events};
-use hg_model::{MakeAnswer, Member, Members, Memory, Name, Prefix, PutAnswer, Share, Sight};
+use hg_gossip::{Known, Taken, lacked, make_after, still_lacked, take_events};
+use hg_model::{
+    MakeAnswer, Member, Members, Memory, Name, Prefix, PutAnswer, Share, Sight, SyncMade,
+};
 use hg_node::Node;
 use hg_sign::SharedTable;
 use std::alloc::Global;
@@ -163,6 +165,25 @@ impl World {
         // That it is a node still.
         taker.rows();
         counts
+    }
+
+    /// A member's node makes an event with this other-parent, if there is one.
+    pub(crate) fn make_after(
+        &mut self,
+        member: Member,
+        other: Option<Name>,
+        time: u64,
+        payload: &[u8],
+    ) -> Result<SyncMade, Memory>
+        requires { IsMemberOf self.old member }
+        ensures ok { IfOk result (λ made. HasMadeAfter self.old member other time payload.now made self.new) }
+        ensures err { OnErr result (self.new ≡ self.old) }
+    {
+        let maker = &mut self.sites[member as usize].node;
+        let made = make_after(maker, other, time, payload)?;
+        // That it is a node still.
+        maker.rows();
+        Ok(made)
     }
 
     /// The peer's events whose names the taker lacks. Looks at no row whose name it is known to have, and of those that it
