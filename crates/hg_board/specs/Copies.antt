@@ -1,7 +1,8 @@
 -- What a shared node hands over of its rows, and of what is still to be decided
-use Rattle.std.specs.Prelude.{ℕ, ◌≡◌, drop, Option, option_map}
+use Rattle.std.specs.Prelude.{ℕ, ◌≡◌, List, drop, Option, option_map}
 use Rattle.std.specs.declared.sync.Arc.{Arc}
 use Rattle.hg_model.specs.declared.row.Row.{Row}
+use Rattle.hg_model.specs.Gossip.{lacking}
 use Rattle.hg_model.specs.Shares.{Share}
 use Rattle.hg_model.specs.Verdict.{last_name}
 use Rattle.hg_model.specs.NodeView.{NodeView, node_marks, node_rows}
@@ -14,6 +15,10 @@ use Rattle.hg_board.specs.declared.copies.EventParcel.{EventParcel}
 -- the event is the last row that the node made, if it made any
 abbrev pub IsLastRow : {V A : Type 0} → NodeView V → Option (Arc Row A) → Type 0
 IsLastRow node event = option_map (λ e. e.value) event ≡ last_own_row node.start.own (node_rows node)
+
+-- the events are those of these rows whose names the node lacks
+abbrev pub AreLacked : {V A : Type 0} → List Row → NodeView V → List (Arc Row A) → Type 0
+AreLacked rows node events = rows_of events ≡ lacking (node_rows node) rows
 
 -- the events are the node's rows from the place on, and the name is that of the last row that it made
 pub record IsParcelFrom {V : Type 0} (from : ℕ) (node : NodeView V) (parcel : EventParcel) : Type 0 where

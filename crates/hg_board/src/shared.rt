@@ -6,7 +6,7 @@ ghost use Rattle.hg_model.specs.Stakes.{member_count};
 ghost use Rattle.hg_node.specs.ChronicleView.{IsFoundBy, graph_in};
 ghost use Rattle.hg_node.specs.Puts.{is_signed};
 ghost use Rattle.hg_graph.specs.RowsWithRoom.{rows_of};
-ghost use Rattle.hg_board.specs.Copies.{IsLastRow, IsParcelFrom, OpensIn};
+ghost use Rattle.hg_board.specs.Copies.{AreLacked, IsLastRow, IsParcelFrom, OpensIn};
 ghost use Rattle.hg_board.specs.Taking.{AreSignedFor, SeatTakes, SeatTakesFirst, WouldTakeRow};
 ghost use Rattle.hg_gossip.specs.Holding.{names_in, parcel_beyond};
 ghost use Rattle.hg_board.specs.Seats.{IsOf, seen_by};
@@ -21,7 +21,7 @@ use crate::taking::take_each;
 use crate::turn::{enter, leave, leave_changed};
 use atomic_table::{Refused, Table};
 use hg_event::Event;
-use hg_gossip::{Holder, Taken};
+use hg_gossip::{Holder, Taken, still_lacked};
 use hg_graph::FrozenGraph;
 use hg_model::{Found, MakeAnswer, Memory, Name, Parcel, Placed, PutAnswer, Share};
 use hg_node::{Node, Open};
@@ -302,6 +302,27 @@ impl<V: Signer + Drop> Shared<V> {
         let parcel = parcel_from(alloc, &node, from);
         leave(steps, raw, node);
         parcel
+    }
+
+    /// Those of these events whose names the node lacks.
+    pub fn still_lacked<R: Wait>(
+        &self,
+        rt: &R,
+        alloc: Global,
+        seat: &mut Seat<V>,
+        events: &[Arc<Event>],
+    ) -> Result<Vec<Arc<Event>>, Memory>
+        requires { IsOf self.now seat.old }
+        ensures stays { Stays V.accepts self.now seat.old seat.new }
+        ensures waits { SeatWaits V.accepts self.now seat.old seat.new }
+        ensures lacked { IfOk result (λ lacked. AreLacked (rows_of events.now) (seen_by self.now seat.new).node lacked.items) }
+    {
+        let steps = &self.table.shared;
+        let raw = &mut seat.raw;
+        let (node, _count) = enter(rt, steps, raw);
+        let lacked = still_lacked(alloc, &node, events);
+        leave(steps, raw, node);
+        lacked
     }
 
     /// What the closed rounds have received, in order.

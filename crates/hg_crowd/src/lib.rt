@@ -6,12 +6,13 @@
 //! From `play_batch` of `hg_play`, shortened:
 //!
 //! ```text
-//! let (shared, mut seats) = start_all(alloc, world.into_nodes())?;
+//! let (nodes, known) = world.into_parts();
+//! let (shared, mut seats) = start_all(alloc, nodes)?;
 //! let own = split_all(alloc, shared.as_slice(), &mut seats)?;
 //! let places = shared.as_slice();
-//! let ((mut seats, _), (own, played)) = join(rt,
+//! let ((mut seats, _), (own, known, played)) = join(rt,
 //!     move || ... { work_beside(rt, alloc, places, seats, workers, crew) },
-//!     move || ... { ... play_through(rt, &game, places, own, tape, lines, gate) },
+//!     move || ... { ... play_through(&game, nodes, tape, lines, gate) },
 //! );
 //! absorb_all(places, &mut seats, own);
 //! let (seats, done) = work_beside(rt, alloc, places, seats, workers, crew);

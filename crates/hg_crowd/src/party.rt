@@ -3,7 +3,7 @@ ghost use Rattle.std.specs.Option.{option_to_list};
 ghost use Rattle.hg_graph.specs.RowsWithRoom.{rows_of};
 ghost use Rattle.hg_model.specs.Shares.{whole};
 ghost use Rattle.hg_board.specs.Calls.{after_split, split_off};
-ghost use Rattle.hg_board.specs.Copies.{IsLastRow, IsParcelFrom};
+ghost use Rattle.hg_board.specs.Copies.{AreLacked, IsLastRow, IsParcelFrom};
 ghost use Rattle.hg_crowd.specs.Crowd.{AreSeats, Each};
 ghost use Rattle.hg_crowd.specs.Workers.{AllAbsorb, AllMark, HasMore, Worked};
 ghost use Rattle.hg_crowd.specs.Party.{AreSignedAt, Makes, MovesOne, Puts, Reads, Takes, party_view};
@@ -131,6 +131,21 @@ impl<'a, V: Signer + Drop> Party<'a, V> {
     {
         let shared = self.shared;
         shared[k].take_events(rt, &mut self.seats[k], events)
+    }
+
+    /// Those of these events whose names the node at a place lacks.
+    pub fn still_lacked<R: Wait>(
+        &mut self,
+        rt: &R,
+        alloc: Global,
+        k: usize,
+        events: &[Arc<Event>],
+    ) -> Result<Vec<Arc<Event>>, Memory>
+        requires { k < length self.old.seats }
+        ensures { MovesOne V.accepts (Reads V.accepts (λ v. IfOk result (λ lacked. AreLacked (rows_of events.now) v lacked.items))) k self.old self.new }
+    {
+        let shared = self.shared;
+        shared[k].still_lacked(rt, alloc, &mut self.seats[k], events)
     }
 
     /// The last event that the node at a place made, if it made any.

@@ -174,7 +174,10 @@ fn lacked_behind<V: Signer, W: Signer>(
 }
 
 /// The events, and then the others.
-fn joined(mut events: Vec<Arc<Event>>, others: Vec<Arc<Event>>) -> Result<Vec<Arc<Event>>, Memory>
+pub fn joined(
+    mut events: Vec<Arc<Event>>,
+    others: Vec<Arc<Event>>,
+) -> Result<Vec<Arc<Event>>, Memory>
     ensures { IfOk result (λ all. rows_of all.items ≡ rows_of events.items ++ rows_of others.items) }
 {
     if events.is_empty() {

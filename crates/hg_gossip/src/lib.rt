@@ -28,7 +28,7 @@ mod node;
 mod taking;
 
 pub use gossip::{Taken, pull, sync, sync_made, with_answer};
-pub use handing::{Heard, lacked, still_lacked};
+pub use handing::{Heard, joined, lacked, still_lacked};
 pub use holder::Holder;
 pub use known::Known;
 pub use laws::{

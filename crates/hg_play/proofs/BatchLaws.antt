@@ -1,19 +1,21 @@
 -- Nodes of a world that were shared, and are a world again
-use Rattle.std.proofs.Common.{◌≡◌, inl, inr, ℕ, zero, suc, ◌+◌, ◌<◌, ◌≤◌, List, [], length, take, drop, map, get_or, replicate, sym, refl, ap, ◌∙◌, subst, arith}
+use Rattle.std.proofs.Common.{◌≡◌, inl, inr, ℕ, zero, suc, ◌+◌, ◌<◌, ◌≤◌, List, [], length, take, drop, map, get_or, replicate, sym, refl, ap, ap₂, ◌∙◌, subst, arith}
+use Rattle.std.specs.Prelude.{All}
 use Rattle.std.proofs.Math.Seq.{take-add}
 use Rattle.std.proofs.lemmas.Bool.{cases_lt, true≢false}
 use Rattle.std.proofs.lemmas.List.Sums.{fold-append, fold_more}
-use Rattle.std.proofs.lemmas.List.{get_or-drop, get_or-map, get_or_past, length-map, take_all}
+use Rattle.std.proofs.lemmas.List.{ext_get_or, get_or-drop, get_or-map, get_or_past, length-map, take_all}
 use Rattle.hg_model.specs.declared.outcome.Printed.{Printed}
 use Rattle.hg_model.specs.Members.{MemberList}
 use Rattle.hg_model.specs.Shares.{whole}
 use Rattle.hg_model.specs.Signing.{accepts_by}
-use Rattle.hg_model.specs.NodeView.{NodeView, Start}
+use Rattle.hg_model.specs.NodeView.{NodeView, Start, node_rows}
 use Rattle.hg_script.specs.declared.line.Part.{Part}
 use Rattle.hg_script.specs.declared.line.Action.TheVariants as action
 use Rattle.hg_script.specs.declared.line.Line.{Line}
-use Rattle.hg_world.specs.World.{Secrets, Site, WorldView, no_site, node_at, nodes_of, new_world, site_of, worker_limit}
-use Rattle.hg_world.specs.Parts.{AreOfOneList, no_node, nth_node, unfrozen}
+use Rattle.hg_world.specs.declared.site.Site.{Site}
+use Rattle.hg_world.specs.World.{Secrets, WorldView, no_site, node_at, nodes_of, new_world, site_of, worker_limit}
+use Rattle.hg_world.specs.Parts.{AreOfOneList, no_node, nth_node, rows_of_each, unfrozen}
 use Rattle.hg_board.specs.Table.{all_parts}
 use Rattle.hg_board.specs.Seats.{SharedNode, SeatView}
 use Rattle.hg_board.specs.Calls.{after_split, split_off}
@@ -23,12 +25,15 @@ use Rattle.hg_crowd.specs.Laws.{AreEnded, IsSession}
 use Rattle.hg_crowd.proofs.CrowdLaws.{after_split_all, all_back, all_started, more_after_split, more_started, seats_started, split_off_all}
 use Rattle.hg_crowd.proofs.EndLaws.{sessions_end, sessions_mark}
 use Rattle.hg_crowd.proofs.ListLaws.{some_of}
+use Rattle.hg_crowd.specs.Party.{party_view}
 use Rattle.hg_play.specs.Alike.{AreAlike, WorldsAlike}
 use Rattle.hg_play.specs.Batch.{AllAreMarked, IsBatch, IsPlayed, PlaysNext, MatchesBatch, is_part}
 use Rattle.hg_play.specs.Nodes.{MatchesLine, MatchesLines, seen_alone}
 use Rattle.hg_play.specs.Play.{Stage, after_line, after_lines, first_stage, stage}
+use Rattle.hg_play.proofs.HeardLaws.{node_by, nodes_length, rows_length, rows_nth}
 use Rattle.hg_play.proofs.LikeLaws.{line_like, worlds_alike}
 use Rattle.hg_play.proofs.WorldLaws.{starts-new}
+use Rattle.hg_play.specs.Heard.{nodes_by, rows_seen}
 use Rattle.hg_play.specs.Sites.{starts_of}
 use Rattle.hg_play.specs.Tape.{TapeView, no_tape}
 use Rattle.hg_play.specs.Through.{AllOthersMark, AreNodes, AreSeen, IsOfRows, IsStageLike, IsStageOf, MatchesThrough, begun, node_seen}
@@ -288,6 +293,39 @@ nodes_own nodes shared places firsts own same started is of =
           let s : SeatView Secrets = some_of firsts m (omega (arith, low_nodes, started.seats_count)) in
           ap (λ (v : NodeView Secrets). v.start) (get_or-map (λ (q : SharedNode Secrets). q.start) shared m p no_node low_shared ∙ (started.each m no_node p s low_nodes).start)) of);
     }
+
+-- what the nodes had heard in the beginning, they have of the rows that the seats of the calls have seen
+pub rows_begun : (nodes : List (NodeView Secrets)) (shared places : List (SharedNode Secrets)) (firsts own : List (SeatView Secrets)) → places ≡ shared → AreStarted accepts_by nodes shared firsts → own ≡ map split_off firsts →
+    rows_of_each nodes ≡ rows_seen (party_view places own)
+rows_begun nodes shared places firsts own same started own_is =
+    let split : length (map split_off firsts) ≡ length firsts = length-map firsts split_off in
+    let long : length (map split_off firsts) ≡ length shared = omega (arith, split, started.shared_count, started.seats_count) in
+    let all : nodes ≡ nodes_by shared (map split_off firsts) =
+    ext_get_or no_node nodes (nodes_by shared (map split_off firsts)) (omega (arith, nodes_length shared (map split_off firsts) long, split, started.seats_count)) (λ m low.
+    let inside : m < length shared = omega (arith, low, started.shared_count) in
+    let there : m < length firsts = omega (arith, low, started.seats_count) in
+    let p : SharedNode Secrets = some_of shared m inside in
+    let s : SeatView Secrets = some_of firsts m there in
+    let first = started.each m no_node p s low in
+    sym (node_by shared (map split_off firsts) m p s inside (omega (arith, there, split))
+    ∙ same_node (get_or shared m p) (get_or (map split_off firsts) m s) (nth_node nodes m) first.start (ap (λ (t : SeatView Secrets). t.seen) (get_or-map split_off firsts m s s there) ∙ first.seen))) in
+    ap (λ (vs : List (NodeView Secrets)). rows_of_each vs) all ∙ ap₂ (λ (ps : List (SharedNode Secrets)) (ss : List (SeatView Secrets)). rows_of_each (nodes_by ps ss)) (sym same) (sym own_is)
+
+-- and in the end of their own
+pub rows_ended : (nodes : List (NodeView Secrets)) (places : List (SharedNode Secrets)) (called : List (SeatView Secrets)) (ends : List (NodeView Secrets)) → IsSession accepts_by nodes places called ends →
+    rows_seen (party_view places called) ≡ rows_of_each ends
+rows_ended nodes places called ends run =
+    let ended = sessions_end Secrets accepts_by nodes places called ends run in
+    let long : length called ≡ length places = omega (arith, ended.shared_count, ended.called_count) in
+    let many = length-map ends (λ (v : NodeView Secrets). node_rows v) in
+    ext_get_or [] (rows_of_each (nodes_by places called)) (rows_of_each ends) (omega (arith, rows_length places called long, many, ended.called_count)) (λ k low.
+    let there : k < length called = omega (arith, low, rows_length places called long) in
+    let inside : k < length places = omega (arith, there, long) in
+    let here : k < length ends = omega (arith, there, ended.called_count) in
+    let p : SharedNode Secrets = some_of places k inside in
+    let s : SeatView Secrets = some_of called k there in
+    rows_nth (nodes_by places called) k (omega (arith, there, nodes_length places called long))
+    ∙ (ap (λ (v : NodeView Secrets). node_rows v) (node_by places called k p s inside there) ∙ (sym (ended.each k p s no_node here).rows ∙ sym (rows_nth ends k here))))
 
 pub own_count : (world : WorldView) (nodes : List (NodeView Secrets)) (shared : List (SharedNode Secrets)) (firsts own : List (SeatView Secrets)) → nodes ≡ nodes_of world → AreStarted accepts_by nodes shared firsts → own ≡ map split_off firsts →
     length own ≡ length world.sites

@@ -8,8 +8,11 @@ mod PlayLaws
 mod OthersLaws
 mod SharedLaws
 mod HandedLaws
+mod HeardLaws
+mod HeldLaws
 mod CallLaws
 mod LikeLaws
 mod PartLaws
+mod ReadLaws
 mod BatchLaws
 mod LawfulLaws

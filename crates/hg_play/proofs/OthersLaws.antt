@@ -61,10 +61,6 @@ times_before n q [] before = positions.times_none q
 times_before n q (e ∷ es) before =
     omega (arith, times_cons q n (positions_from (suc n) es), times_other q n (λ e. omega arith), times_before (suc n) q es (omega arith))
 
-from_below : (n : ℕ) (es : List Change) → AreBelow (n + length es) (positions_from n es)
-from_below n [] = tt
-from_below n (e ∷ es) = (omega arith, positions.below_more (suc n + length es) (n + length (e ∷ es)) (positions_from (suc n) es) (omega arith) (from_below (suc n) es))
-
 module _ {A : Type 0} where
   get_front : (xs ys : List A) (k : ℕ) → k < length xs → slice_get (xs ++ ys) k ≡ slice_get xs k
   get_front [] ys k low = absurd (omega arith)
@@ -129,11 +125,8 @@ module _ (p : SharedNode Secrets) (old new : SeatView Secrets) (others own : Lis
   after seat stays = record {
     seat = record {
       of = stays.of;
-      begun = (seat.begun.0 ++ (others ++ own), whole ∙ (ap (λ (h : List Change). h ++ (others ++ own)) seat.begun.1 ∙ append_assoc p.start.history seat.begun.0 (others ++ own)));
-      within = subst (AreBelow (length new.seen)) (sym called.mine)
-          (positions.below_append (length new.seen) old.mine (positions_from (length (old.seen ++ others)) own)
-          (positions.below_more (length old.seen) (length new.seen) old.mine (omega (arith, ap length whole, length-append old.seen (others ++ own))) seat.within)
-          (subst (λ (n : ℕ). AreBelow n (positions_from (length (old.seen ++ others)) own)) (sym (ap length called.seen ∙ length-append (old.seen ++ others) own)) (from_below (length (old.seen ++ others)) own)));
+      begun = stays.begun;
+      within = stays.within;
       node = stays.node;
     };
     still = record {

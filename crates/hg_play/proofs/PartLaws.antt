@@ -1,29 +1,32 @@
 -- Pulls, syncs and last events over nodes between threads, by the calls that they are made of
-use Rattle.std.proofs.Common.{◌≡◌, ℕ, List, map, take, Option, Some, Result, Ok, Err, sym, refl, ap, ◌∙◌, subst}
+use Rattle.std.proofs.Common.{◌≡◌, ℕ, ◌<◌, List, length, map, take, Option, Some, Result, Ok, Err, sym, refl, ap, ap₂, ◌∙◌, subst}
 use Rattle.std.specs.declared.sync.Arc.{Arc}
 use Rattle.std.specs.Prelude.{IfOk}
 use Rattle.hg_model.specs.declared.row.Row.{Row}
 use Rattle.hg_model.specs.declared.answers.MakeAnswer.{MakeAnswer}
 use Rattle.hg_model.specs.declared.answers.SyncMade.{SyncMade}
 use Rattle.hg_model.specs.Gossip.{lacking, made_in_sync}
-use Rattle.hg_model.specs.Spelling.{spelling}
-use Rattle.hg_gossip.specs.declared.gossip.Taken.{Taken}
-use Rattle.hg_graph.specs.RowsWithRoom.{rows_of}
-use Rattle.hg_gossip.specs.Nodes.{lacked}
-use Rattle.hg_world.specs.World.{Secrets, WorldView, node_at, rows_at}
-use Rattle.hg_world.specs.Steps.{after_steps}
-use Rattle.hg_world.specs.Syncs.{HasPulled, deliver_steps, make_steps}
-use Rattle.hg_world.proofs.PullLaws.{pull_ended, syncs}
-use Rattle.hg_play.specs.Labels.{bytes_of_event}
-use Rattle.hg_board.specs.declared.copies.EventParcel.{EventParcel}
-use Rattle.hg_board.specs.Seats.{SharedNode, SeatView}
-use Rattle.hg_script.specs.declared.line.Line.{Line}
 use Rattle.hg_model.specs.Members.{MemberList}
-use Rattle.hg_crowd.specs.Crowd.{AreStill}
-use Rattle.hg_play.proofs.SharedLaws.{still_all}
-use Rattle.hg_play.specs.Nodes.{IsKept, NodesView, MatchesLast, MatchesMaking, MatchesPulling, MatchesSyncing}
+use Rattle.hg_model.specs.Spelling.{spelling}
+use Rattle.hg_model.specs.Verdict.{last_name}
+use Rattle.hg_graph.specs.RowsWithRoom.{rows_of}
+use Rattle.hg_gossip.specs.declared.gossip.Taken.{Taken}
+use Rattle.hg_world.specs.World.{Secrets, WorldView, node_at, rows_at}
+use Rattle.hg_world.specs.Parts.{nth_node}
+use Rattle.hg_world.specs.Steps.{after_steps}
+use Rattle.hg_world.specs.Syncs.{HasPulled, deliver_steps, make_steps, pull_steps}
+use Rattle.hg_world.proofs.PullLaws.{pull_ended, syncs}
+use Rattle.hg_board.specs.Seats.{SeatView}
+use Rattle.hg_crowd.specs.Party.{PartyView, party_view}
+use Rattle.hg_script.specs.declared.line.Line.{Line}
+use Rattle.hg_play.specs.declared.handing.Handed.{Handed}
+use Rattle.hg_play.specs.Heard.{IsHanded, nodes_seen}
+use Rattle.hg_play.specs.Labels.{bytes_of_event}
+use Rattle.hg_play.specs.Nodes.{NodesView, MatchesLast, MatchesMaking, MatchesPulling, MatchesSyncing}
 use Rattle.hg_play.specs.Tape.{TapeView}
-use Rattle.hg_play.specs.Through.{SharedView, MatchesEvents, MatchesLastEvent, MatchesMade, MatchesParts, MatchesTaken, MatchesThrough, lacking_at, seen_shared, seen_through, shared_view}
+use Rattle.hg_play.specs.Through.{AllOthersMark, AreNodes, AreSeen, MatchesLastEvent, MatchesMade, MatchesNone, MatchesParts, MatchesPulled, MatchesTaken, MatchesThrough, lacking_at, seen_shared}
+use Rattle.hg_play.proofs.AlikeLaws.{same_of}
+use Rattle.hg_play.proofs.HeardLaws.{node_agrees, rows_agree}
 
 -- of the bytes of the last event
 pub last_told : {N A E : Type 0} (old new : NodesView N) (m : ℕ) (event : Option (Arc Row A)) (result : Result (List ℕ) E) → IfOk result (λ bytes. bytes ≡ bytes_of_event event) → MatchesLastEvent old new m event → IfOk result (MatchesLast old new m)
@@ -32,37 +35,45 @@ last_told old new m event (Ok bytes) is last = λ alone w agrees.
     let a = last alone w agrees in
     (is ∙ a.0, a.1)
 
--- the rows that the taker lacks of the peer's
-peer_lacked : (w : WorldView) (taker peer : ℕ) (rows : List Row) → rows ≡ rows_at w peer → lacking_at w taker rows ≡ lacked (node_at w taker) (node_at w peer)
-peer_lacked w taker peer rows is = ap (λ (G : List Row). map spelling (lacking (rows_at w taker) G)) is
-
 -- what a pull leaves and counts
-pub pull_told : {N E : Type 0} (old mid new : NodesView N) (taker peer : ℕ) (parcel : EventParcel) (rows : List Row) (result : Result Taken E) → rows ≡ rows_of parcel.events.items → (new.Alone → mid.Alone) →
-    MatchesEvents old mid peer parcel → IfOk result (MatchesTaken mid new taker rows) → IfOk result (MatchesPulling old new taker peer)
-pull_told old mid new taker peer parcel rows (Err e) same back found took = tt
-pull_told {N} {E} old mid new taker peer parcel rows (Ok counts) same back found took = λ alone w agrees.
-    let a = found (back alone) w agrees in
-    let b = took alone w a.1 in
+pub pulled_told : (v0 v1 v2 : PartyView Secrets) (taker peer : ℕ) (handed : Handed) (counts : Taken) (last : Option (List ℕ)) → AreNodes v1.places v1.seats → taker < length v1.seats → peer < length v1.seats → last ≡ handed.last →
+    IsHanded v1 taker peer handed → (AllOthersMark v2.places v2.seats → AllOthersMark v1.places v1.seats) → MatchesNone (seen_shared v0) (seen_shared v1) →
+    MatchesTaken (seen_shared v1) (seen_shared v2) taker (rows_of handed.events.items) counts → MatchesPulled (seen_shared v0) (seen_shared v2) taker peer counts last
+pulled_told v0 v1 v2 taker peer handed counts last are low_x low_y last_is is back none took = λ alone w agrees.
+    let here = none (back alone) w agrees in
+    let rows : List Row = rows_of handed.events.items in
+    let G = rows_agree v1 are w taker here low_x in
+    let H = rows_agree v1 are w peer here low_y in
+    let lacks : lacking (rows_at w taker) rows ≡ lacking (rows_at w taker) (rows_at w peer) =
+    ap (λ (G : List Row). lacking G rows) G ∙ (sym is.rest.lacks ∙ ap₂ (λ (G H : List Row). lacking G H) (sym G) (sym H)) in
     let events : List (List ℕ) = lacking_at w taker rows in
-    let answer : Result Taken E = Ok counts in
+    let b = took alone w here in
+    let answer : Result Taken Unit = Ok counts in
     let pulled : HasPulled w taker peer counts (after_steps w (deliver_steps taker events)) =
-    pull_ended w (after_steps w (deliver_steps taker events)) taker peer events events answer (peer_lacked w taker peer rows (same ∙ a.0.0)) refl b.0 in
-    (pulled.counts, subst new.Agrees pulled.after b.1)
+    pull_ended w (after_steps w (deliver_steps taker events)) taker peer events events answer (ap (map spelling) lacks) refl b.0 in
+    let node = node_agrees v1 are w peer here low_y in (
+      (
+        subst (λ (v : WorldView). HasPulled w taker peer counts v) pulled.after pulled,
+        last_is ∙ (is.last ∙ sym (same_of (λ s G. last_name s.own G) (node_at w peer) (nth_node (nodes_seen v1) peer) node)),
+      ),
+      subst (AreSeen v2.places v2.seats) pulled.after b.1,
+    )
+
+pub pull_told : {N : Type 0} (old new : NodesView N) (taker peer : ℕ) (counts : Taken) (last : Option (List ℕ)) → MatchesPulled old new taker peer counts last → MatchesPulling old new taker peer counts
+pull_told old new taker peer counts last pulled = λ alone w agrees.
+    let a = pulled alone w agrees in
+    (a.0.0.counts, a.1)
 
 -- what a sync leaves and reports
-pub sync_told : {N : Type 0} (old mid full new : NodesView N) (taker peer : ℕ) (parcel : EventParcel) (rows : List Row) (time : ℕ) (payload : List ℕ) (counts : Taken) (made : SyncMade) → rows ≡ rows_of parcel.events.items → (full.Alone → mid.Alone) →
-    (new.Alone → full.Alone) → MatchesEvents old mid peer parcel → MatchesTaken mid full taker rows counts → MatchesMade full new taker parcel.last time payload made →
+pub sync_told : {N : Type 0} (old full new : NodesView N) (taker peer : ℕ) (last : Option (List ℕ)) (time : ℕ) (payload : List ℕ) (counts : Taken) (made : SyncMade) → (new.Alone → full.Alone) →
+    MatchesPulled old full taker peer counts last → MatchesMade full new taker last time payload made →
     MatchesSyncing old new taker peer time payload (record { taken = counts.taken; refused = counts.refused; made = made })
-sync_told old mid full new taker peer parcel rows time payload counts made same back last found took makes = λ alone w agrees.
-    let a = found (back (last alone)) w agrees in
-    let b = took (last alone) w a.1 in
-    let events : List (List ℕ) = lacking_at w taker rows in
-    let u : WorldView = after_steps w (deliver_steps taker events) in
-    let answer : Result Taken Unit = Ok counts in
-    let pulled : HasPulled w taker peer counts u = pull_ended w u taker peer events events answer (peer_lacked w taker peer rows (same ∙ a.0.0)) refl b.0 in
-    let c = makes alone u b.1 in
-    let v : WorldView = after_steps u (make_steps taker parcel.last time payload) in
-    let synced = syncs w u v taker peer parcel.last time payload counts made a.0.1 pulled (c.0, refl) in
+sync_told old full new taker peer last time payload counts made back pull makes = λ alone w agrees.
+    let a = pull (back alone) w agrees in
+    let u : WorldView = after_steps w (pull_steps w taker peer) in
+    let c = makes alone u a.1 in
+    let v : WorldView = after_steps u (make_steps taker last time payload) in
+    let synced = syncs w u v taker peer last time payload counts made a.0.1 a.0.0 (c.0, refl) in
     (synced.0, subst new.Agrees synced.1 c.1)
 
 -- what came of an event
@@ -72,15 +83,8 @@ made_told old new m name time payload answer made is makes = λ alone w agrees.
     let a = makes alone w agrees in
     (is ∙ ap made_in_sync a.0, a.1)
 
--- what is known of the seats in the end, since lines were played from these on
-pub through_since : (places : List (SharedNode Secrets)) (seats : List (SeatView Secrets)) (old new : SharedView) → old ≡ shared_view places seats → IsKept (seen_shared old) (seen_shared new) →
-    (new.places ≡ places) × AreStill seats new.seats
-through_since places seats old new is kept = kept.since (shared_view places seats) (subst (λ (v : SharedView). (seen_shared v).Since (shared_view places seats)) (sym is) (refl, still_all seats))
-
-pub through_told : {E : Type 0} (members : MemberList) (lines : List Line) (places : List (SharedNode Secrets)) (seats seats_new : List (SeatView Secrets)) (old new : SharedView) (t : TapeView)
-    (result : Result (TapeView × ℕ) E) → old ≡ shared_view places seats → new ≡ shared_view places seats_new →
-    IfOk result (λ r. MatchesParts members (take r.1 lines) (seen_shared old) t (seen_shared new) r.0) → IfOk result (λ r. MatchesThrough members (take r.1 lines) places seats t seats_new r.0)
-through_told members lines places seats seats_new old new t (Err e) is was told = tt
-through_told members lines places seats seats_new old new t (Ok r) is was told =
-    subst (λ (v : SharedView). MatchesParts members (take r.1 lines) (seen_shared v) t (seen_through places seats_new) r.0) is
-    (subst (λ (v : SharedView). MatchesParts members (take r.1 lines) (seen_shared old) t (seen_shared v) r.0) was told)
+-- lines that were played from these seats on
+pub through_told : {E : Type 0} (members : MemberList) (lines : List Line) (old new : PartyView Secrets) (seats : List (SeatView Secrets)) (t : TapeView) (result : Result (TapeView × ℕ) E) → new ≡ party_view old.places seats →
+    IfOk result (λ r. MatchesParts members (take r.1 lines) (seen_shared old) t (seen_shared new) r.0) → IfOk result (λ r. MatchesThrough members (take r.1 lines) old.places old.seats t seats r.0)
+through_told members lines old new seats t (Err e) is told = tt
+through_told members lines old new seats t (Ok r) is told = subst (λ (v : PartyView Secrets). MatchesParts members (take r.1 lines) (seen_shared old) t (seen_shared v) r.0) is told

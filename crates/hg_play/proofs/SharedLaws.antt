@@ -7,12 +7,14 @@ use Rattle.hg_model.specs.NodeView.{NodeView}
 use Rattle.hg_history.proofs.StateLaws.{prefix_more, prefix_same}
 use Rattle.hg_board.specs.Seats.{SharedNode, SeatView}
 use Rattle.hg_world.specs.declared.step.Step.{Step}
-use Rattle.hg_world.specs.World.{Secrets, Site, WorldView, no_site, node_at, site_at, site_of, with_node_at}
+use Rattle.hg_world.specs.declared.site.Site.{Site}
+use Rattle.hg_world.specs.World.{Secrets, WorldView, no_site, node_at, site_at, site_of, with_node_at}
 use Rattle.hg_world.specs.Steps.{after_steps}
 use Rattle.hg_crowd.specs.Crowd.{AreStill, IsSeat, IsStill, OthersMark}
 use Rattle.hg_play.specs.Alike.{AreAlike}
 use Rattle.hg_play.specs.Nodes.{IsKept, Matched}
-use Rattle.hg_play.specs.Through.{AllOthersMark, AreNodes, AreSeen, node_seen, seen_shared, shared_view}
+use Rattle.hg_crowd.specs.Party.{party_view}
+use Rattle.hg_play.specs.Through.{AllOthersMark, AreNodes, AreSeen, node_seen, seen_shared}
 use Rattle.hg_play.proofs.OthersLaws.{IsAfter}
 
 module _ {A : Type 0} where
@@ -94,7 +96,7 @@ module _ (places : List (SharedNode Secrets)) (seats : List (SeatView Secrets)) 
       ];
     }
 
-    pub kept_after : IsKept (seen_shared (shared_view places seats)) (seen_shared (shared_view places (set seats x n)))
+    pub kept_after : IsKept (seen_shared (party_view places seats)) (seen_shared (party_view places (set seats x n)))
     kept_after = record {
       since = λ earlier since. (since.0, still_after earlier.seats since.1);
       back = back;
@@ -144,7 +146,7 @@ module _ (places : List (SharedNode Secrets)) (seats : List (SeatView Secrets)) 
   pub told_change : (steps : WorldView → List Step) (change : NodeView Secrets → NodeView Secrets) (IsSo : WorldView → Type 0) → IsAfter p m n →
       ((w : WorldView) → x < length w.sites → after_steps w (steps w) ≡ with_node_at w x (change (node_at w x))) →
       (OthersMark p n → (w : WorldView) → x < length w.sites → AreAlike (node_at w x) (node_seen p m) → IsSo w × AreAlike (change (node_at w x)) (node_seen p n)) →
-      Matched (seen_shared (shared_view places seats)) (seen_shared (shared_view places (set seats x n))) steps IsSo
+      Matched (seen_shared (party_view places seats)) (seen_shared (party_view places (set seats x n))) steps IsSo
   told_change steps change IsSo call after so = λ alone w agrees.
       let here : x < length w.sites = omega (arith, low, agrees.count) in
       let is = so (mark_here call alone) w here (node_alike w agrees) in
@@ -153,7 +155,7 @@ module _ (places : List (SharedNode Secrets)) (seats : List (SeatView Secrets)) 
   -- of one that reads it
   pub told_same : (IsSo : WorldView → Type 0) → IsAfter p m n →
       (OthersMark p n → (w : WorldView) → AreAlike (node_at w x) (node_seen p m) → IsSo w × AreAlike (node_at w x) (node_seen p n)) →
-      Matched (seen_shared (shared_view places seats)) (seen_shared (shared_view places (set seats x n))) (λ w. []) IsSo
+      Matched (seen_shared (party_view places seats)) (seen_shared (party_view places (set seats x n))) (λ w. []) IsSo
   told_same IsSo call so = λ alone w agrees.
       let is = so (mark_here call alone) w (node_alike w agrees) in
       (is.0, agrees_same w agrees is.1)

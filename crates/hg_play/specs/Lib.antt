@@ -1,6 +1,7 @@
 pub mod Agree
 pub mod Alike
 pub mod Batch
+pub mod Heard
 pub mod Labels
 pub mod Lines
 pub mod Nodes

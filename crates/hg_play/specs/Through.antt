@@ -1,8 +1,6 @@
 -- Lines that are played over nodes between threads, while others mark: what they print is that of the rows alone
 use Rattle.std.specs.Prelude.{ℕ, ◌≡◌, ◌<◌, ⊤, List, [], length, map, get_or, Option, Some, None}
 use Rattle.std.specs.declared.sync.Arc.{Arc}
-use Rattle.hg_model.specs.declared.answers.MakeAnswer.{MakeAnswer}
-use Rattle.hg_model.specs.declared.answers.PutAnswer.{PutAnswer}
 use Rattle.hg_model.specs.declared.answers.SyncMade.{SyncMade}
 use Rattle.hg_model.specs.declared.row.Row.{Row}
 use Rattle.hg_model.specs.Gossip.{lacking}
@@ -12,7 +10,6 @@ use Rattle.hg_model.specs.Signing.{accepts_by}
 use Rattle.hg_model.specs.NodeView.{NodeView}
 use Rattle.hg_model.specs.Spelling.{spelling}
 use Rattle.hg_gossip.specs.declared.gossip.Taken.{Taken}
-use Rattle.hg_graph.specs.RowsWithRoom.{rows_of}
 use Rattle.hg_script.specs.declared.line.Gossip.TheVariants.{Create, Sync, Pull, Join, Give}
 use Rattle.hg_script.specs.declared.line.Source.TheVariants.{Last}
 use Rattle.hg_script.specs.declared.line.Part.{Part}
@@ -23,25 +20,17 @@ use Rattle.hg_script.specs.declared.line.Line.{Line}
 use Rattle.hg_world.specs.World.{Secrets, WorldView, node_at, rows_at}
 use Rattle.hg_world.specs.Parts.{AreOfOneList}
 use Rattle.hg_world.specs.Steps.{after_steps}
-use Rattle.hg_world.specs.Syncs.{HasTaken, deliver_steps, last_made, made_after, make_steps}
+use Rattle.hg_world.specs.Syncs.{HasPulled, HasTaken, deliver_steps, last_made, made_after, make_steps, pull_steps}
 use Rattle.hg_board.specs.Table as board
-use Rattle.hg_board.specs.declared.copies.EventParcel.{EventParcel}
 use Rattle.hg_board.specs.Seats.{SharedNode, SeatView}
 use Rattle.hg_board.specs.Taking.{AreSignedFor, AreSpelled}
 use Rattle.hg_crowd.specs.Crowd.{AreSeats, AreStill, Each, OthersMark}
+use Rattle.hg_crowd.specs.Party.{PartyView, party_view}
 use Rattle.hg_play.specs.Alike.{AreAlike, WorldsAlike}
 use Rattle.hg_play.specs.Labels.{bytes_of_event, last_bytes}
-use Rattle.hg_play.specs.Nodes.{IsStage, NodesView, MatchesMaking, MatchesPutting, Matched}
+use Rattle.hg_play.specs.Nodes.{IsStage, NodesView, Matched}
 use Rattle.hg_play.specs.Play.{Stage, after_line, after_lines}
 use Rattle.hg_play.specs.Tape.{TapeView}
-
--- nodes between threads, and a seat of each
-pub record SharedView : Type 0 where
-  pub places : List (SharedNode Secrets)
-  pub seats : List (SeatView Secrets)
-
-abbrev pub shared_view : List (SharedNode Secrets) → List (SeatView Secrets) → SharedView
-shared_view places seats = record { places = places; seats = seats }
 
 -- the node as the seat has seen it
 abbrev pub node_seen : SharedNode Secrets → SeatView Secrets → NodeView Secrets
@@ -72,7 +61,7 @@ pub record AreHanded (places : List (SharedNode Secrets)) (rows : List Row) : Ty
   pub spelled : AreSpelled rows
 
 -- nodes between threads, as the caller who has these seats sees them
-abbrev pub seen_shared : SharedView → NodesView SharedView
+abbrev pub seen_shared : PartyView Secrets → NodesView (PartyView Secrets)
 seen_shared v = record {
   count = length v.seats;
   Alone = AllOthersMark v.places v.seats;
@@ -86,7 +75,7 @@ seen_alike w = record { count = length w.sites; Alone = ⊤; Agrees = WorldsAlik
 
 -- what the seats have seen, the labels, and what was printed are those of a stage, but for marks
 abbrev pub IsStageOf : MemberList → List (SharedNode Secrets) → List (SeatView Secrets) → TapeView → Stage → Type 0
-IsStageOf members places seats t s = IsStage members (seen_shared (shared_view places seats)) t s
+IsStageOf members places seats t s = IsStage members (seen_shared (party_view places seats)) t s
 
 -- so are the nodes of this world
 abbrev pub IsStageLike : MemberList → WorldView → TapeView → Stage → Type 0
@@ -129,13 +118,9 @@ abbrev pub MatchesThrough : MemberList → List Line → List (SharedNode Secret
 MatchesThrough members lines places seats t seats_new t_new =
     AllOthersMark places seats_new → (s : Stage) → IsStageOf members places seats t s → IsStageOf members places seats_new t_new (after_lines members s lines)
 
-abbrev pub seen_through : List (SharedNode Secrets) → List (SeatView Secrets) → NodesView SharedView
-seen_through places seats = seen_shared (shared_view places seats)
-
--- of the rows of member m's node, and the name of the last one that it made
-abbrev pub MatchesEvents : {N : Type 0} → NodesView N → NodesView N → ℕ → EventParcel → Type 0
-MatchesEvents old new m parcel =
-    Matched old new (λ w. []) (λ w. (rows_of parcel.events.items ≡ rows_at w m) × (parcel.last ≡ last_made (node_at w m)))
+-- nothing was added: they are the nodes of the same worlds
+abbrev pub MatchesNone : {N : Type 0} → NodesView N → NodesView N → Type 0
+MatchesNone old new = new.Alone → (w : WorldView) → old.Agrees w → new.Agrees w
 
 -- the bytes of these rows, but for those whose names member m's node has
 abbrev pub lacking_at : WorldView → ℕ → List Row → List (List ℕ)
@@ -147,6 +132,12 @@ MatchesTaken old new m rows counts =
     Matched old new (λ w. deliver_steps m (lacking_at w m rows))
     (λ w. HasTaken w m (lacking_at w m rows) counts (after_steps w (deliver_steps m (lacking_at w m rows))))
 
+-- of a pull, and of the name of the last row that the peer made
+abbrev pub MatchesPulled : {N : Type 0} → NodesView N → NodesView N → ℕ → ℕ → Taken → Option (List ℕ) → Type 0
+MatchesPulled old new taker peer counts last =
+    Matched old new (λ w. pull_steps w taker peer)
+    (λ w. HasPulled w taker peer counts (after_steps w (pull_steps w taker peer)) × (last ≡ last_made (node_at w peer)))
+
 -- of the last event that a node made, if it made any
 abbrev pub MatchesLastEvent : {N A : Type 0} → NodesView N → NodesView N → ℕ → Option (Arc Row A) → Type 0
 MatchesLastEvent old new m event = Matched old new (λ w. []) (λ w. bytes_of_event event ≡ last_bytes (node_at w m))
@@ -155,19 +146,3 @@ MatchesLastEvent old new m event = Matched old new (λ w. []) (λ w. bytes_of_ev
 abbrev pub MatchesMade : {N : Type 0} → NodesView N → NodesView N → ℕ → Option (List ℕ) → ℕ → List ℕ → SyncMade → Type 0
 MatchesMade old new m other time payload made =
     Matched old new (λ w. make_steps m other time payload) (λ w. made ≡ made_after (node_at w m) other time payload)
-
--- the same where the nodes are seen through seats
-abbrev pub SeatsMatchMaking : List (SharedNode Secrets) → List (SeatView Secrets) → List (SeatView Secrets) → ℕ → Option (List ℕ) → ℕ → List ℕ → MakeAnswer → Type 0
-SeatsMatchMaking places old new m other time payload answer = MatchesMaking (seen_through places old) (seen_through places new) m other time payload answer
-
-abbrev pub SeatsMatchPutting : List (SharedNode Secrets) → List (SeatView Secrets) → List (SeatView Secrets) → ℕ → List ℕ → PutAnswer → Type 0
-SeatsMatchPutting places old new m bytes answer = MatchesPutting (seen_through places old) (seen_through places new) m bytes answer
-
-abbrev pub SeatsMatchEvents : List (SharedNode Secrets) → List (SeatView Secrets) → List (SeatView Secrets) → ℕ → EventParcel → Type 0
-SeatsMatchEvents places old new m parcel = MatchesEvents (seen_through places old) (seen_through places new) m parcel
-
-abbrev pub SeatsMatchTaken : List (SharedNode Secrets) → List (SeatView Secrets) → List (SeatView Secrets) → ℕ → List Row → Taken → Type 0
-SeatsMatchTaken places old new m rows counts = MatchesTaken (seen_through places old) (seen_through places new) m rows counts
-
-abbrev pub SeatsMatchLast : {A : Type 0} → List (SharedNode Secrets) → List (SeatView Secrets) → List (SeatView Secrets) → ℕ → Option (Arc Row A) → Type 0
-SeatsMatchLast places old new m event = MatchesLastEvent (seen_through places old) (seen_through places new) m event

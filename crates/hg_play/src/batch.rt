@@ -3,17 +3,22 @@ ghost use Rattle.hg_model.specs.Signing.{accepts_by, secrets_of};
 ghost use Rattle.hg_crowd.specs.Crowd.{AreSeats, AreStill, Each};
 ghost use Rattle.hg_crowd.specs.Workers.{HasMore, Worked};
 ghost use Rattle.hg_world.specs.World.{new_world};
+ghost use Rattle.hg_gossip.specs.Known.{KeepsKnown};
+ghost use Rattle.hg_crowd.specs.Party.{party_view};
 ghost use Rattle.hg_play.specs.Batch.{AllAreMarked, IsBatch, IsLineOfRows, IsPlayed, MatchesBatch, PlaysNext};
+ghost use Rattle.hg_play.specs.Heard.{rows_seen};
 ghost use Rattle.hg_play.specs.Lines.{IsLineBelow};
 ghost use Rattle.hg_play.specs.Through.{AreNodes, MatchesThrough};
 
 use crate::band::Band;
 use crate::game::Game;
 use crate::lines::play_line;
+use crate::shared::SharedNodes;
 use crate::tape::Tape;
 use crate::through::play_through;
 use hg_board::{Crew, Seat};
-use hg_crowd::{absorb_all, finish_all, split_all, start_all, work_beside};
+use hg_crowd::{Party, absorb_all, finish_all, split_all, start_all, work_beside};
+use hg_gossip::Known;
 use hg_io::Gate;
 use hg_model::Memory;
 use hg_script::{Action, Line};
@@ -41,11 +46,12 @@ fn play_batch<R: Threads + Wait + Sync, C: Crew + Sync, G: Gate + Sync>(
 {
     let (rt, workers, crew, gate) = (band.rt, band.workers, band.crew, band.gate);
     let (alloc, members, keys) = (game.alloc, game.members, game.keys);
-    let (shared, mut seats) = start_all(alloc, world.into_nodes())?;
+    let (nodes, known) = world.into_parts();
+    let (shared, mut seats) = start_all(alloc, nodes)?;
     let own = split_all(alloc, shared.as_slice(), &mut seats)?;
     let places = shared.as_slice();
     // The second runs in the thread of the caller, as all lines do that stand in no batch.
-    let ((mut seats, _), (own, played)) = join(
+    let ((mut seats, _), (own, known, played)) = join(
         rt,
         move || -> (Vec<Seat<SharedTable>>, Result<(), Memory>)
             requires seats { AreSeats accepts_by places.now seats.items }
@@ -54,21 +60,24 @@ fn play_batch<R: Threads + Wait + Sync, C: Crew + Sync, G: Gate + Sync>(
             ensures seats { AreSeats accepts_by places.entry.now result.0.items }
             ensures worked { Each Worked seats.items result.0.items }
         { work_beside(rt, alloc, places, seats, workers, crew) },
-        move || -> (Vec<Seat<SharedTable>>, Result<(Tape, usize), Memory>)
+        move || -> (Vec<Seat<SharedTable>>, Known, Result<(Tape, usize), Memory>)
             requires seats { AreNodes places.now own.items }
+            requires known { KeepsKnown (rows_seen (party_view places.now own.items)) known }
             requires lines { All (IsLineBelow (length own.items)) lines.now }
             requires keys { keys.now ≡ secrets_of members.now }
             ensures seats { AreSeats accepts_by places.entry.now result.0.items }
             ensures still { AreStill own.items result.0.items }
-            ensures batch { IfOk result.1 (λ r. IsBatch lines.entry.now r.1) }
-            ensures played { IfOk result.1 (λ r. MatchesThrough members.entry.now (take r.1 lines.entry.now) places.entry.now own.items tape result.0.items r.0) }
+            ensures known { KeepsKnown (rows_seen (party_view places.entry.now result.0.items)) result.1 }
+            ensures batch { IfOk result.2 (λ r. IsBatch lines.entry.now r.1) }
+            ensures played { IfOk result.2 (λ r. MatchesThrough members.entry.now (take r.1 lines.entry.now) places.entry.now own.items tape result.0.items r.0) }
         {
             let game = Game {
                 alloc,
                 members,
                 keys,
             };
-            play_through(rt, &game, places, own, tape, lines, gate)
+            let nodes = SharedNodes::new(rt, alloc, Party::new(places, own), known);
+            play_through(&game, nodes, tape, lines, gate)
         },
     );
     absorb_all(places, &mut seats, own);
@@ -76,7 +85,7 @@ fn play_batch<R: Threads + Wait + Sync, C: Crew + Sync, G: Gate + Sync>(
     let nodes = finish_all(rt, alloc, shared, seats)?;
     done?;
     let (tape, count) = played?;
-    let Ok(world) = World::from_nodes(alloc, nodes) else {
+    let Ok(world) = World::from_parts(alloc, nodes, known) else {
         return Err(Memory);
     };
     Ok((world, tape, count))

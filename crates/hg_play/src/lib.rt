@@ -18,14 +18,15 @@ mod batch;
 mod blocks;
 mod game;
 mod gossip;
+mod handing;
 mod labels;
 mod laws;
 mod lines;
 mod nodes;
 mod playing;
 mod printing;
-mod seats;
 mod shared;
+mod taking;
 mod tape;
 mod through;
 

@@ -1,96 +1,87 @@
 ghost use Rattle.std.specs.Prelude.{◌≡◌, ◌<◌, IfOk, length};
-ghost use Rattle.hg_graph.specs.RowsWithRoom.{rows_of};
+ghost use Rattle.hg_crowd.specs.Party.{party_view};
+ghost use Rattle.hg_gossip.specs.Known.{KeepsKnown};
+ghost use Rattle.hg_play.specs.Heard.{KeepsNodes, rows_seen};
 ghost use Rattle.hg_play.specs.Nodes.{IsKept};
-ghost use Rattle.hg_play.specs.Through.{AreHanded, AreNodes, MatchesEvents, MatchesLastEvent, MatchesMade, MatchesTaken, seen_shared, shared_view};
+ghost use Rattle.hg_play.specs.Through.{AreNodes, MatchesLastEvent, MatchesMade, MatchesPulled, seen_shared};
 
+use crate::handing::lacked;
 use crate::labels::bytes_of_event;
 use crate::nodes::Nodes;
-use crate::seats::{events_at, last_at, make_at, put_at, take_at};
-use hg_board::{EventParcel, Seat, Shared};
+use crate::taking::{note, take};
+use hg_board::Seat;
+use hg_crowd::Party;
 use hg_event::Event;
-use hg_gossip::{Taken, sync_made};
+use hg_gossip::{Known, Taken, sync_made};
 use hg_model::{Bytes, MakeAnswer, Member, Memory, Name, PutAnswer, SyncMade, SyncReport};
 use hg_sign::SharedTable;
 use std::alloc::Global;
 use std::marker::Model;
 use std::sync::{Arc, Wait};
 
-/// Nodes between threads, with a seat of each.
+/// Nodes between threads, with a seat of each, and what each has heard of each.
 #[derive(Drop)]
 pub(crate) struct SharedNodes<'a, R: Wait> {
     rt: &'a R,
     alloc: Global,
-    shared: &'a [Shared<SharedTable>],
-    seats: Vec<Seat<SharedTable>>,
+    party: Party<'a, SharedTable>,
+    known: Known,
 }
 
 impl<'a, R: Wait> Model for SharedNodes<'a, R> {
-    ghost use Rattle.hg_play.specs.Through.{AreNodes, SharedView, shared_view};
+    ghost use Rattle.hg_world.specs.World.{Secrets};
+    ghost use Rattle.hg_crowd.specs.Party.{PartyView};
+    ghost use Rattle.hg_play.specs.Heard.{KeepsNodes};
 
-    ghost Value = { SharedView };
+    ghost Value = { PartyView Secrets };
 
-    ghost view = { λ s. shared_view s.shared.now s.seats.items };
+    ghost view = { λ s. s.party };
 
-    ghost invariant = { λ s. AreNodes s.shared.now s.seats.items };
+    ghost invariant = { λ s. KeepsNodes s.party s.known };
 }
 
 impl<'a, R: Wait> SharedNodes<'a, R> {
-    /// These nodes, with these seats of them.
+    /// These nodes, of which each has of each what it has heard.
     pub(crate) fn new(
         rt: &'a R,
         alloc: Global,
-        shared: &'a [Shared<SharedTable>],
-        seats: Vec<Seat<SharedTable>>,
+        party: Party<'a, SharedTable>,
+        known: Known,
     ) -> SharedNodes<'a, R>
-        requires { AreNodes shared.now seats.items }
-        ensures { result ≡ shared_view shared.now seats.items }
+        requires { KeepsNodes party known }
+        ensures { result ≡ party.entry }
     {
         SharedNodes {
             rt,
             alloc,
-            shared,
-            seats,
+            party,
+            known,
         }
     }
 
-    /// The seats, as they are then.
-    pub(crate) fn into_seats(self) -> Vec<Seat<SharedTable>>
-        ensures same { result.items ≡ self.entry.seats }
-        ensures seats { AreNodes self.entry.places result.items }
+    /// The seats, as they are then, and what each node has heard of each.
+    pub(crate) fn into_parts(self) -> (Vec<Seat<SharedTable>>, Known)
+        ensures same { result.0.items ≡ self.entry.seats }
+        ensures seats { AreNodes self.entry.places result.0.items }
+        ensures known { KeepsKnown (rows_seen (party_view self.entry.places result.0.items)) result.1 }
     {
-        self.seats
+        (self.party.into_seats(), self.known)
     }
 
-    /// The events of a member's node, and the name of the last one that it made.
-    fn events_of(&mut self, member: Member) -> Result<EventParcel, Memory>
-        requires { member < length self.old.seats }
+    /// The taker's node takes from the peer's the rows that it lacks. What of them it took and refused, and the name of the
+    /// last one that the peer made.
+    fn pull_rows(&mut self, taker: Member, peer: Member) -> Result<(Taken, Option<Name>), Memory>
+        requires taker { taker < length self.old.seats }
+        requires peer { peer < length self.old.seats }
         ensures kept { IsKept (seen_shared self.old) (seen_shared self.new) }
-        ensures handed { IfOk result (λ parcel. AreHanded self.new.places (rows_of parcel.events.items)) }
-        ensures told { IfOk result (MatchesEvents (seen_shared self.old) (seen_shared self.new) member) }
+        ensures told { IfOk result (λ r. MatchesPulled (seen_shared self.old) (seen_shared self.new) taker peer r.0 r.1) }
     {
-        events_at(
-            self.rt,
-            self.alloc,
-            self.shared,
-            self.seats.as_mut_slice(),
-            member as usize,
-        )
-    }
-
-    /// Events of one of the nodes come to a member's node, but for those whose names it has.
-    fn take(&mut self, member: Member, events: &[Arc<Event>]) -> Result<Taken, Memory>
-        requires member { member < length self.old.seats }
-        requires handed { AreHanded self.old.places (rows_of events.now) }
-        ensures kept { IsKept (seen_shared self.old) (seen_shared self.new) }
-        ensures told { IfOk result (MatchesTaken (seen_shared self.old) (seen_shared self.new) member (rows_of events.now)) }
-    {
-        take_at(
-            self.rt,
-            self.shared,
-            self.seats.as_mut_slice(),
-            member as usize,
-            events,
-        )
+        let (x, y) = (taker as usize, peer as usize);
+        let handed = lacked(self.rt, self.alloc, &mut self.party, &self.known, x, y)?;
+        let counts = take(self.rt, &mut self.party, x, handed.events.as_slice())?;
+        let last = handed.last;
+        note(self.alloc, &mut self.known, x, y, handed, counts.refused);
+        Ok((counts, last))
     }
 
     /// The last event that a member's node made, if it made any.
@@ -99,12 +90,7 @@ impl<'a, R: Wait> SharedNodes<'a, R> {
         ensures kept { IsKept (seen_shared self.old) (seen_shared self.new) }
         ensures told { IfOk result (MatchesLastEvent (seen_shared self.old) (seen_shared self.new) member) }
     {
-        last_at(
-            self.rt,
-            self.shared,
-            self.seats.as_mut_slice(),
-            member as usize,
-        )
+        self.party.last_event(self.rt, member as usize)
     }
 
     /// Makes an event with this other-parent, if there is one.
@@ -141,30 +127,17 @@ impl<'a, R: Wait> Nodes for SharedNodes<'a, R> {
         time: u64,
         payload: &[u8],
     ) -> Result<MakeAnswer, Memory> {
-        make_at(
-            self.rt,
-            self.shared,
-            self.seats.as_mut_slice(),
-            member as usize,
-            other,
-            time,
-            payload,
-        )
+        self.party
+            .make(self.rt, member as usize, other, time, payload)
     }
 
     fn put(&mut self, member: Member, bytes: &[u8]) -> Result<PutAnswer, Memory> {
-        put_at(
-            self.rt,
-            self.shared,
-            self.seats.as_mut_slice(),
-            member as usize,
-            bytes,
-        )
+        self.party.put(self.rt, member as usize, bytes)
     }
 
     fn pull(&mut self, taker: Member, peer: Member) -> Result<Taken, Memory> {
-        let parcel = self.events_of(peer)?;
-        self.take(taker, parcel.events.as_slice())
+        let (counts, _) = self.pull_rows(taker, peer)?;
+        Ok(counts)
     }
 
     fn sync(
@@ -174,9 +147,8 @@ impl<'a, R: Wait> Nodes for SharedNodes<'a, R> {
         time: u64,
         payload: &[u8],
     ) -> Result<SyncReport, Memory> {
-        let parcel = self.events_of(peer)?;
-        let counts = self.take(taker, parcel.events.as_slice())?;
-        let made = self.make_after(taker, parcel.last, time, payload)?;
+        let (counts, last) = self.pull_rows(taker, peer)?;
+        let made = self.make_after(taker, last, time, payload)?;
         Ok(SyncReport {
             taken: counts.taken,
             refused: counts.refused,

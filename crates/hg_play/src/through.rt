@@ -1,17 +1,21 @@
 ghost use Rattle.std.specs.Prelude.{◌≡◌, ◌≤◌, All, IfOk, OnOk, length, take};
 ghost use Rattle.hg_model.specs.Signing.{accepts_by};
+ghost use Rattle.hg_gossip.specs.Known.{KeepsKnown};
 ghost use Rattle.hg_crowd.specs.Crowd.{AreSeats, AreStill};
+ghost use Rattle.hg_crowd.specs.Party.{party_view};
 ghost use Rattle.hg_play.specs.Batch.{IsBatch};
 ghost use Rattle.hg_play.specs.Lines.{IsLineBelow, IsPartBelow, part_line};
 ghost use Rattle.hg_play.specs.Nodes.{IsKept, MatchesLine};
-ghost use Rattle.hg_play.specs.Through.{AreNodes, MatchesParts, MatchesThrough, worked_on};
+ghost use Rattle.hg_play.specs.Heard.{rows_seen};
+ghost use Rattle.hg_play.specs.Through.{MatchesParts, MatchesThrough, worked_on};
 
 use crate::game::Game;
 use crate::lines::play_part;
 use crate::nodes::Nodes;
 use crate::shared::SharedNodes;
 use crate::tape::Tape;
-use hg_board::{Seat, Shared};
+use hg_board::Seat;
+use hg_gossip::Known;
 use hg_io::Gate;
 use hg_model::{Member, Memory};
 use hg_script::{Action, Gossip, Line, Part, Source};
@@ -91,25 +95,23 @@ fn play_parts<N: Nodes, G: Gate>(
     Ok((tape, most))
 }
 
-/// Plays the first batch of these lines over nodes between threads, through these seats, while others mark. The seats come
-/// back, also without memory.
+/// Plays the first batch of these lines over nodes between threads, through their seats, while others mark. The seats come
+/// back, and what each node has heard of each, also without memory.
 pub(crate) fn play_through<R: Wait, G: Gate>(
-    rt: &R,
     game: &Game,
-    shared: &[Shared<SharedTable>],
-    seats: Vec<Seat<SharedTable>>,
+    mut nodes: SharedNodes<'_, R>,
     tape: Tape,
     lines: &[Line],
     gate: &G,
-) -> (Vec<Seat<SharedTable>>, Result<(Tape, usize), Memory>)
-    requires seats { AreNodes shared.now seats.items }
-    requires lines { All (IsLineBelow (length seats.items)) lines.now }
-    ensures seats { AreSeats accepts_by shared.now result.0.items }
-    ensures still { AreStill seats.items result.0.items }
-    ensures batch { IfOk result.1 (λ r. IsBatch lines.now r.1) }
-    ensures played { IfOk result.1 (λ r. MatchesThrough game.now.members.now (take r.1 lines.now) shared.now seats.items tape result.0.items r.0) }
+) -> (Vec<Seat<SharedTable>>, Known, Result<(Tape, usize), Memory>)
+    requires { All (IsLineBelow (length nodes.seats)) lines.now }
+    ensures seats { AreSeats accepts_by nodes.entry.places result.0.items }
+    ensures still { AreStill nodes.entry.seats result.0.items }
+    ensures known { KeepsKnown (rows_seen (party_view nodes.entry.places result.0.items)) result.1 }
+    ensures batch { IfOk result.2 (λ r. IsBatch lines.now r.1) }
+    ensures played { IfOk result.2 (λ r. MatchesThrough game.now.members.now (take r.1 lines.now) nodes.entry.places nodes.entry.seats tape result.0.items r.0) }
 {
-    let mut nodes = SharedNodes::new(rt, game.alloc, shared, seats);
     let played = play_parts(game, &mut nodes, tape, lines, gate);
-    (nodes.into_seats(), played)
+    let (seats, known) = nodes.into_parts();
+    (seats, known, played)
 }

@@ -45,7 +45,7 @@ ok_same : (a b : Row) (read : Result Row ByteFault) → read ≡ Ok a → read �
 ok_same a b read one other = (let same : result_of a ≡ result_of b = sym one ∙ other in cc)
 
 -- the name of a row that is accepted is held then
-accepted_held : (v : NodeView Secrets) (row : Row) (place : ℕ) → Spells (spelling row) row → put_answer accepts_by v (spelling row) ≡ Accepted place →
+pub accepted_held : (v : NodeView Secrets) (row : Row) (place : ℕ) → Spells (spelling row) row → put_answer accepts_by v (spelling row) ≡ Accepted place →
     is_held (node_rows (with_changes v (put_changes accepts_by v (spelling row)))) row.name ≡ true
 accepted_held v row place spells accepted =
     let one = puts_add_one Secrets accepts_by v (spelling row) place accepted in
@@ -57,7 +57,7 @@ accepted_held v row place spells accepted =
 
 -- events one after the other
 
-rows_more : (events : List (List ℕ)) (t : Taking Secrets) → IsPrefix (node_rows t.node) (node_rows (fold (take_event accepts_by) t events).node)
+pub rows_more : (events : List (List ℕ)) (t : Taking Secrets) → IsPrefix (node_rows t.node) (node_rows (fold (take_event accepts_by) t events).node)
 rows_more [] t = prefix_same (node_rows t.node) (node_rows t.node) refl
 rows_more (bytes ∷ events) t =
     let next = take_event accepts_by t bytes in

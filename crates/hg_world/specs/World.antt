@@ -7,7 +7,7 @@ use Rattle.hg_model.specs.Members.{MemberList, stakes_of}
 use Rattle.hg_model.specs.Signing.{secrets_of}
 use Rattle.hg_model.specs.NodeView.{NodeView, start_of, node_rows}
 use Rattle.hg_runs.specs.Run.{Run}
-pub use Rattle.hg_world.specs.declared.site.Site.{Site}
+use Rattle.hg_world.specs.declared.site.Site as declared
 
 -- the keys of a node: the members' secrets
 abbrev pub Secrets : Type 0
@@ -16,6 +16,10 @@ Secrets = List (List ℕ)
 -- how many workers each node has
 abbrev pub worker_limit : ℕ
 worker_limit = 16
+
+-- a member's node, and of each of its workers how many rows it froze last, or 0
+abbrev pub Site : Type 0
+Site = declared.Site
 
 -- the members' stakes, the coin period, and each member's site: its node, and how many rows each of its workers froze last
 pub record WorldView : Type 0 where

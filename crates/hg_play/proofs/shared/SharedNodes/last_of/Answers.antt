@@ -1,0 +1,23 @@
+use Rattle.std.proofs.Common.{subst}
+use Rattle.std.specs.Prelude.{IfOk}
+use Rattle.hg_world.specs.World.{Secrets}
+use Rattle.hg_crowd.specs.Party.{PartyView}
+use Rattle.hg_play.specs.Nodes.{IsKept}
+use Rattle.hg_play.specs.Through.{MatchesLastEvent, seen_shared}
+use Rattle.hg_play.proofs.CallLaws.{IsDone, last_moved}
+use Rattle.hg_play.proofs.ReadLaws.{done_keeps, low_seat}
+use Rattle.hg_play.proofs.shared.SharedNodes.last_of.Given as given
+use Rattle.hg_play.proofs.shared.SharedNodes.last_of.Goals as goal
+
+-- all that the call left
+left : (g : given.Over) (c : goal.After-last_event g) → IsDone c.self.inside.party c.last_event.new.self c.last_event.result (MatchesLastEvent (seen_shared c.self.inside.party) (seen_shared c.last_event.new.self) c.args.member)
+left g c = last_moved c.self.inside.party c.last_event.new.self c.args.member c.self.invariant.nodes (low_seat c.self.inside.party c.args.self.now c.args.member c.self.view_is c.requires) c.last_event.result c.last_event.ensures
+
+pub invariant_of-self : goal.invariant_of-self
+invariant_of-self g c = done_keeps c.self.inside.party c.last_event.new.self c.self.inside.known c.last_event.result _ c.self.invariant (left g c)
+
+pub returns-clause-kept : goal.returns-clause-kept
+returns-clause-kept g c = subst (λ (v : PartyView Secrets). IsKept (seen_shared v) (seen_shared c.last_event.new.self)) c.self.view_is (left g c).kept
+
+pub returns-clause-told : goal.returns-clause-told
+returns-clause-told g c = subst (λ (v : PartyView Secrets). IfOk c.last_event.result (MatchesLastEvent (seen_shared v) (seen_shared c.last_event.new.self) c.args.member)) c.self.view_is (left g c).told
