@@ -171,7 +171,7 @@ impl Chronicle {
         ensures opens { IfOk result (Opens self.old.graph self.old.marks share) }
     {
         self.votes.carry(alloc, &self.graph)?;
-        open_in(alloc, &self.graph, &self.kept, &self.votes, share)
+        open_in(alloc, &self.graph, &self.kept, &mut self.votes, share)
     }
 
     /// What a share decides in the first `len` rows, but for what has its mark.

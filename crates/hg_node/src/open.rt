@@ -79,19 +79,20 @@ pub fn open_in(
     alloc: Global,
     graph: &EventGraph,
     kept: &Kept,
-    votes: &VoteTable,
+    votes: &mut VoteTable,
     share: Share,
 ) -> Result<Option<Open>, Memory>
-    requires made { IsMadeFor votes.now graph.now.graph }
+    requires made { IsMadeFor votes.old graph.now.graph }
     requires keeps { Keeps graph.now.graph kept.now.published }
-    ensures { IfOk result (Opens graph.now.graph kept.now.published.marks share) }
+    ensures same { votes.new ≡ votes.old }
+    ensures opens { IfOk result (Opens graph.now.graph kept.now.published.marks share) }
 {
     let rows = graph.len();
     let places = open_places(alloc, graph, kept, votes, share, rows)?;
     if places.is_empty() {
         return Ok(None);
     }
-    let table = votes.copied(alloc)?;
+    let table = votes.shared(alloc)?;
     let frozen = graph.freeze()?;
     Ok(Some(Open {
         graph: frozen,

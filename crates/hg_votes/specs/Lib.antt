@@ -1,3 +1,4 @@
 pub mod Tallies
 pub mod Slots
 pub mod Counting
+pub mod Shared

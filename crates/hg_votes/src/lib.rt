@@ -12,7 +12,9 @@
 #![tactic(auto, using(hg_model::proofs::StandingLaws::standings_known, hg_model::proofs::LinkLaws::link_lengths))]
 
 mod ballots;
+mod holding;
 mod sets;
+mod shared;
 mod slots;
 mod table;
 mod tally;

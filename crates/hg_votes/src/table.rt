@@ -5,6 +5,7 @@ ghost use Rattle.hg_model.specs.Stakes.{Stakes};
 ghost use Rattle.hg_votes.specs.Counting.{CarriesTo, HasMost, HoldsVoters, IsMadeFor, number_of};
 
 use crate::ballots::count_round;
+use crate::shared::SharedVoters;
 use crate::voters::Voters;
 use hg_model::{Ballot, Memory, Prefix, Votes, is_of_graph};
 use std::alloc::Global;
@@ -14,7 +15,7 @@ use std::mem;
 /// The votes of a prefix's witnesses.
 #[derive(Drop)]
 pub struct VoteTable {
-    voters: Voters,
+    voters: SharedVoters,
     /// The ballots on the candidate by witness, of those witnesses whose votes are counted.
     ballots: Vec<Ballot>,
     /// The witnesses of the last counted round who vote yes, as a set of slots.
@@ -27,7 +28,7 @@ pub struct VoteTable {
 }
 
 /// What stands where no ballot is counted.
-const NO_BALLOT: Ballot = Ballot {
+pub(crate) const NO_BALLOT: Ballot = Ballot {
     vote: false,
     decides: false,
 };
@@ -71,7 +72,7 @@ fn enter<P: Prefix>(voters: &mut Voters, ballots: &mut Vec<Ballot>, p: &P) -> Re
 }
 
 /// Enters the rows that are not entered yet, and takes the memory of a ballot for each witness. An error leaves both.
-fn enter_or_leave<P: Prefix>(
+pub(crate) fn enter_or_leave<P: Prefix>(
     voters: &mut Voters,
     ballots: &mut Vec<Ballot>,
     p: &P,
@@ -100,7 +101,7 @@ impl VoteTable {
         ensures { (members : Stakes) (coin : ℕ) → IsMadeFor result (graph_of members coin []) }
     {
         VoteTable {
-            voters: Voters::new(alloc),
+            voters: SharedVoters::new(alloc),
             ballots: Vec::new(alloc),
             voted: Vec::new(alloc),
             next: Vec::new(alloc),
@@ -126,11 +127,11 @@ impl VoteTable {
         ensures err { OnErr result (self.new ≡ self.old) }
     {
         is_of_graph(p);
-        let most = most_witnesses(p, self.voters.rows());
+        let most = most_witnesses(p, self.voters.as_voters().rows());
         let words = most.div_ceil(64).max(self.voted.len());
         let voted = vec![in alloc; 0u64; words]?;
         let next = vec![in alloc; 0u64; words]?;
-        enter_or_leave(&mut self.voters, &mut self.ballots, p)?;
+        self.voters.enter(alloc, &mut self.ballots, p)?;
         self.voted = voted;
         self.next = next;
         self.candidate = 0;
@@ -138,19 +139,20 @@ impl VoteTable {
         Ok(())
     }
 
-    /// A table of its own, without a candidate, made for each graph that this one is made for. Its voters are copied and
-    /// not looked for again.
-    pub fn copied(&self, alloc: Global) -> Result<VoteTable, Memory>
-        ensures { IfOk result (λ copy. (g : Graph) → IsMadeFor self.now g → IsMadeFor copy g) }
+    /// A table of its own, without a candidate, made for each graph that this one is made for. It shares the voters.
+    pub fn shared(&mut self, alloc: Global) -> Result<VoteTable, Memory>
+        ensures same { self.new ≡ self.old }
+        ensures made { IfOk result (λ other. (g : Graph) → IsMadeFor self.old g → IsMadeFor other g) }
     {
-        let voters = self.voters.copied(alloc)?;
-        let ballots = vec![in alloc; NO_BALLOT; voters.witnesses()]?;
+        let ballots = vec![in alloc; NO_BALLOT; self.voters.as_voters().witnesses()]?;
         let words = self.voted.len();
+        let voted = vec![in alloc; 0u64; words]?;
+        let next = vec![in alloc; 0u64; words]?;
         Ok(VoteTable {
-            voters,
+            voters: self.voters.share(alloc)?,
             ballots,
-            voted: vec![in alloc; 0u64; words]?,
-            next: vec![in alloc; 0u64; words]?,
+            voted,
+            next,
             candidate: 0,
             counted: 0,
         })
@@ -162,7 +164,7 @@ impl VoteTable {
         ensures kept { result ≡ slice_index self.now.voters.numbers x }
         ensures number { (g : Graph) → IsMadeFor self.now g → result ≡ number_of g x }
     {
-        self.voters.number(x)
+        self.voters.as_voters().number(x)
     }
 }
 
@@ -182,7 +184,7 @@ impl Votes for VoteTable {
         self.counted += 1;
         count_round(
             p,
-            &self.voters,
+            self.voters.as_voters(),
             &self.voted,
             &mut self.ballots,
             &mut self.next,
@@ -200,6 +202,6 @@ impl Votes for VoteTable {
     }
 
     fn ballot(&self, y: usize) -> Ballot {
-        self.ballots[self.voters.number(y)]
+        self.ballots[self.voters.as_voters().number(y)]
     }
 }
