@@ -39,8 +39,7 @@ use Rattle.hg_world.specs.declared.step.Step.{Step}
 use Rattle.hg_world.specs.declared.step.Step.TheVariants.{Make, Deliver, Freeze, Publish}
 use Rattle.hg_world.specs.Laws.{Grows}
 use Rattle.hg_world.proofs.GrowthLaws.{steps_grown}
-use Rattle.hg_world.specs.declared.site.Site.{Site}
-use Rattle.hg_world.specs.World.{Secrets, WorldView, frozen_by, new_world, no_site, node_at, rows_at, run_of, site_at, site_of, with_site}
+use Rattle.hg_world.specs.World.{Secrets, Site, WorldView, frozen_by, new_world, no_site, node_at, rows_at, run_of, site_at, site_of, with_site}
 use Rattle.hg_world.specs.Parts.{IsWorld}
 use Rattle.hg_world.specs.Steps.{after_step, after_steps, node_published, settle_steps}
 use Rattle.hg_play.specs.Agree.{HasBlock, IsAgreed, shown_line, shown_order}

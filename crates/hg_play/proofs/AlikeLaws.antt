@@ -26,8 +26,7 @@ use Rattle.hg_gossip.specs.Nodes.{Taking, lacked, take_event, taking, taking_of}
 use Rattle.hg_world.specs.declared.step.Step.{Step}
 use Rattle.hg_world.specs.declared.step.Step.TheVariants.{Make, Deliver, Freeze, Publish}
 use Rattle.hg_world.specs.declared.step.Reply.TheVariants as reply
-use Rattle.hg_world.specs.declared.site.Site.{Site}
-use Rattle.hg_world.specs.World.{Secrets, WorldView, no_site, node_at, with_site}
+use Rattle.hg_world.specs.World.{Secrets, Site, WorldView, no_site, node_at, with_site}
 use Rattle.hg_world.specs.Steps.{after_step, node_published, node_put, own_signature, putting_at}
 use Rattle.hg_world.specs.Syncs.{last_made, made_after, make_steps, pull_steps, pulled}
 use Rattle.hg_play.specs.Alike.{AnswersAlike, AreAlike, GossipAlike, MadeAlike, PutAlike, StayAlike, WorldsAlike}

@@ -21,8 +21,7 @@ use Rattle.hg_board.specs.Taking.{SeatTakes, SeatTakesFirst}
 use Rattle.hg_board.specs.Seats.{SharedNode, SeatView, seen_by}
 use Rattle.hg_board.specs.Calls.{SeatMakes, SeatPuts, SeatWaits, Stays}
 use Rattle.hg_world.specs.declared.step.Step.TheVariants.{Deliver, Make}
-use Rattle.hg_world.specs.declared.site.Site.{Site}
-use Rattle.hg_world.specs.World.{Secrets, WorldView, no_site, node_at, site_at, site_of}
+use Rattle.hg_world.specs.World.{Secrets, Site, WorldView, no_site, node_at, site_at, site_of}
 use Rattle.hg_world.specs.Steps.{after_steps, making_at, node_made, node_put, putting_at}
 use Rattle.hg_world.specs.Syncs.{HasTaken, deliver_steps}
 use Rattle.hg_world.proofs.PullLaws.{puts_set}

@@ -1,5 +1,5 @@
 -- The nodes as their seats have seen them, and what each has heard of each while calls go through the seats
-use Rattle.std.proofs.Common.{◌≡◌, ◌≢◌, ℕ, zero, suc, ◌+◌, ◌-◌, ◌<◌, ◌≤◌, List, [], ◌∷◌, ◌++◌, length, get_or, set, map, take, drop, length-drop, sym, refl, ap, ap₂, ◌∙◌, subst, arith}
+use Rattle.std.proofs.Common.{◌≡◌, ◌≢◌, ℕ, zero, suc, ◌+◌, ◌<◌, ◌≤◌, List, [], ◌∷◌, ◌++◌, length, get_or, set, take, drop, length-drop, sym, refl, ap, ap₂, ◌∙◌, subst, arith}
 use Rattle.std.proofs.lemmas.List.{get_or-map, length-map}
 use Rattle.hg_model.specs.declared.row.Row.{Row}
 use Rattle.hg_model.specs.Gossip.{lacking}
@@ -10,20 +10,19 @@ use Rattle.hg_model.specs.Verdict.{row_limit}
 use Rattle.hg_model.specs.NodeView.{NodeView, node_rows}
 use Rattle.hg_history.proofs.SoundLaws.{sound}
 use Rattle.hg_history.proofs.StateLaws.{prefix_same, rows_grow}
-use Rattle.hg_graph.specs.RowsWithRoom.{rows_of}
 use Rattle.hg_gossip.specs.Handing.{AreKnown, HeardView, Knows, LacksOf}
-use Rattle.hg_gossip.specs.Known.{AreLonger, HasAll, HasRest, KeepsAll, KeepsKnown, KeepsRest, heard_by, nth_rows}
+use Rattle.hg_gossip.specs.Known.{AreLonger, HasAll, HasRest, KeepsKnown, nth_rows}
 use Rattle.hg_gossip.proofs.HandLaws.{knows_more, known_all, known_lacks, lacks_again, lacks_both, lacks_heard}
 use Rattle.hg_gossip.proofs.KnownLaws.{known_for_good}
 use Rattle.hg_board.specs.Table as board
 use Rattle.hg_board.specs.Seats.{SharedNode, SeatView}
-use Rattle.hg_crowd.specs.Crowd.{AreSeats, AreStill}
-use Rattle.hg_crowd.specs.Party.{PartyView, party_view}
+use Rattle.hg_crowd.specs.Crowd.{AreStill}
+use Rattle.hg_crowd.specs.Party.{PartyView}
 use Rattle.hg_crowd.proofs.ListLaws.{some_of}
 use Rattle.hg_world.specs.World.{Secrets, WorldView, node_at, rows_at}
 use Rattle.hg_world.specs.Parts.{no_node, nth_node, rows_of_each}
 use Rattle.hg_play.specs.Alike.{AreAlike}
-use Rattle.hg_play.specs.Heard.{KeepsNoted, nodes_by, nodes_seen, rows_seen}
+use Rattle.hg_play.specs.Heard.{nodes_by, nodes_seen, rows_seen}
 use Rattle.hg_play.specs.Nodes.{IsKept}
 use Rattle.hg_play.specs.Through.{AreNodes, AreSeen, node_seen, seen_shared}
 use Rattle.hg_play.proofs.SharedLaws.{still_all}

@@ -1,6 +1,6 @@
 -- Rows that come in one turn: where none is refused, the node has the names of all of them then
-use Rattle.std.proofs.Common.{◌≡◌, inl, inr, ℕ, zero, suc, ◌+◌, ◌*◌, ◌≤◌, Bool, true, false, cond, not, if◌then◌else◌, List, [], ◌∷◌, fold, Option, Some, None, option_map, unwrap_or, length, Result, Ok, sym, refl, ap, ◌∙◌, subst, arith}
-use Rattle.std.specs.Prelude.{nat_lt, nat_le, ◌==◌}
+use Rattle.std.proofs.Common.{◌≡◌, inl, inr, ℕ, ◌+◌, ◌*◌, ◌≤◌, Bool, true, false, cond, not, if◌then◌else◌, List, [], ◌∷◌, fold, Option, Some, None, option_map, unwrap_or, length, Result, sym, refl, ap, ◌∙◌, subst, arith}
+use Rattle.std.specs.Prelude.{nat_le, ◌==◌}
 use Rattle.std.specs.Option.{option_or}
 use Rattle.std.proofs.lemmas.Bool.{cases_Bool, true≢false}
 use Rattle.hg_model.specs.declared.row.Row.{Row}
@@ -12,13 +12,12 @@ use Rattle.hg_model.specs.declared.answers.PutAnswer.TheVariants.{Accepted, Know
 use Rattle.hg_model.specs.Graph.{creator_at}
 use Rattle.hg_model.specs.Links.{ParentNames, place_of}
 use Rattle.hg_model.specs.Orders.{IsPrefix}
-use Rattle.hg_model.specs.Reading.{read_event}
 use Rattle.hg_model.specs.Signing.{Accepts, accepts_by}
 use Rattle.hg_model.specs.Spelling.{Spells, body_of, spelling}
 use Rattle.hg_model.specs.Stakes.{Stakes, member_count, total}
 use Rattle.hg_model.specs.Verdict.{arrival_rule, creator_rule, first_by, first_missing, forkers_rule, forking_with, full_rule, has_bytes, impostor_rule, is_held, member_rule, missing_rule, name_rule, row_limit, row_verdict, signature_rule, verdict_of}
 use Rattle.hg_model.specs.Calls.{put_answer, put_changes}
-use Rattle.hg_model.specs.NodeView.{NodeView, node_rows, with_changes}
+use Rattle.hg_model.specs.NodeView.{NodeView, node_rows}
 use Rattle.hg_event.proofs.Spells.{Spells-read_event}
 use Rattle.hg_history.proofs.StateLaws.{prefix_more, prefix_same, rows_grow}
 use Rattle.hg_gossip.specs.declared.gossip.Taken.{Taken}

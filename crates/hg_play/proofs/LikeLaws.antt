@@ -23,8 +23,7 @@ use Rattle.hg_script.specs.declared.line.Action.{Action}
 use Rattle.hg_script.specs.declared.line.Action.TheVariants as action
 use Rattle.hg_script.specs.declared.line.Line.{Line}
 use Rattle.hg_world.specs.declared.step.Step.{Step}
-use Rattle.hg_world.specs.declared.site.Site.{Site}
-use Rattle.hg_world.specs.World.{Secrets, WorldView, no_site, node_at, rows_at}
+use Rattle.hg_world.specs.World.{Secrets, Site, WorldView, no_site, node_at, rows_at}
 use Rattle.hg_world.specs.Steps.{after_step, after_steps}
 use Rattle.hg_play.specs.Alike.{WorldsAlike}
 use Rattle.hg_play.specs.Labels.{bytes_named, name_of_label, source_bytes}

@@ -1,17 +1,15 @@
 -- What a peer hands over, by what was read of it and of the taker; and what is heard once it has come
-use Rattle.std.proofs.Common.{◌≡◌, ◌≢◌, ℕ, ◌+◌, ◌<◌, ◌≤◌, List, ◌++◌, length, get_or, take, drop, Result, Ok, sym, refl, ap, ◌∙◌, subst, arith}
+use Rattle.std.proofs.Common.{◌≡◌, ℕ, ◌+◌, ◌<◌, ◌≤◌, List, ◌++◌, length, get_or, take, drop, Result, Ok, sym, refl, ap, ◌∙◌, subst, arith}
 use Rattle.std.specs.declared.sync.Arc.{Arc}
 use Rattle.std.specs.Prelude.{IfOk}
 use Rattle.std.proofs.lemmas.List.{length-map}
 use Rattle.hg_model.specs.declared.row.Row.{Row}
 use Rattle.hg_model.specs.Gossip.{lacking}
-use Rattle.hg_model.specs.Signing.{accepts_by}
-use Rattle.hg_model.specs.Verdict.{row_limit}
 use Rattle.hg_model.specs.NodeView.{NodeView, node_rows}
 use Rattle.hg_graph.specs.RowsWithRoom.{rows_of}
 use Rattle.hg_gossip.specs.declared.gossip.Taken.{Taken}
 use Rattle.hg_gossip.specs.Handing.{AreKnown, HeardView, Knows, LacksOf}
-use Rattle.hg_gossip.specs.Known.{HasRest, KeepsKnown, heard_by, nth_rows}
+use Rattle.hg_gossip.specs.Known.{KeepsKnown, heard_by, nth_rows}
 use Rattle.hg_board.specs.declared.copies.EventParcel.{EventParcel}
 use Rattle.hg_board.specs.Copies.{AreLacked, IsParcelFrom}
 use Rattle.hg_board.specs.Seats.{SharedNode, SeatView}

@@ -7,8 +7,7 @@ use Rattle.hg_model.specs.NodeView.{NodeView}
 use Rattle.hg_history.proofs.StateLaws.{prefix_more, prefix_same}
 use Rattle.hg_board.specs.Seats.{SharedNode, SeatView}
 use Rattle.hg_world.specs.declared.step.Step.{Step}
-use Rattle.hg_world.specs.declared.site.Site.{Site}
-use Rattle.hg_world.specs.World.{Secrets, WorldView, no_site, node_at, site_at, site_of, with_node_at}
+use Rattle.hg_world.specs.World.{Secrets, Site, WorldView, no_site, node_at, site_at, site_of, with_node_at}
 use Rattle.hg_world.specs.Steps.{after_steps}
 use Rattle.hg_crowd.specs.Crowd.{AreStill, IsSeat, IsStill, OthersMark}
 use Rattle.hg_play.specs.Alike.{AreAlike}

@@ -20,8 +20,7 @@ use Rattle.hg_history.proofs.StateLaws.{replay-push}
 use Rattle.hg_world.specs.declared.step.Step.{Step}
 use Rattle.hg_world.specs.declared.step.Step.TheVariants.{Make, Deliver, Freeze, Publish}
 use Rattle.hg_runs.specs.Safety.{IsSafe}
-use Rattle.hg_world.specs.declared.site.Site.{Site}
-use Rattle.hg_world.specs.World.{Secrets, WorldView, new_site, new_world, no_site, node_at, rows_at, run_of, frozen_by, with_site}
+use Rattle.hg_world.specs.World.{Secrets, Site, WorldView, new_site, new_world, no_site, node_at, rows_at, run_of, frozen_by, with_site}
 use Rattle.hg_world.specs.Steps.{after_step, after_steps, node_published, settle_steps}
 use Rattle.hg_script.specs.declared.line.Line.{Line}
 use Rattle.hg_play.specs.Lines.{action_steps}

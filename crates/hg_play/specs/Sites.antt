@@ -4,8 +4,7 @@ use Rattle.hg_model.specs.Places.{table}
 use Rattle.hg_model.specs.Members.{MemberList}
 use Rattle.hg_model.specs.Signing.{secrets_of}
 use Rattle.hg_model.specs.NodeView.{Start, start_of}
-use Rattle.hg_world.specs.declared.site.Site.{Site}
-use Rattle.hg_world.specs.World.{Secrets, WorldView}
+use Rattle.hg_world.specs.World.{Secrets, Site, WorldView}
 
 -- what the node of member m begins with
 abbrev pub start_in : MemberList → ℕ → Start Secrets

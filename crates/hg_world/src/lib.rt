@@ -26,6 +26,5 @@ mod syncing;
 mod world;
 
 pub use laws::{pulls_set_one_node, steps_keep_sites, steps_only_add, steps_stay_lawful};
-pub use site::Site;
 pub use step::{Reply, Step};
 pub use world::World;

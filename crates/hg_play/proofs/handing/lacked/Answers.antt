@@ -1,15 +1,13 @@
-use Rattle.std.proofs.Common.{◌≡◌, ◌+◌, ◌≤◌, ◌∙◌, length, Ok, refl, ap, arith, sym, subst}
+use Rattle.std.proofs.Common.{◌+◌, ◌∙◌, Ok, refl, arith, sym, subst}
 use Rattle.std.specs.Prelude.{IfOk}
 use Rattle.hg_graph.specs.RowsWithRoom.{rows_of}
 use Rattle.hg_gossip.specs.Handing.{HeardView, heard_of}
-use Rattle.hg_gossip.specs.Known.{heard_by}
 use Rattle.hg_board.specs.Copies.{AreLacked, IsParcelFrom}
 use Rattle.hg_world.specs.Parts.{nth_node}
 use Rattle.hg_play.specs.declared.handing.Handed.{Handed}
 use Rattle.hg_play.specs.Heard.{nodes_seen}
 use Rattle.hg_play.proofs.HeardLaws.{rows_length}
 use Rattle.hg_play.proofs.ReadLaws.{handed_few, hands, is_handed}
-use Rattle.hg_play.proofs.handing.lacked.Given as given
 use Rattle.hg_play.proofs.handing.lacked.Goals as goal
 
 pub heard-heard-requires-clause-x : goal.heard-heard-requires-clause-x

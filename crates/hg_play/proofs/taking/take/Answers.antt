@@ -1,4 +1,3 @@
-use Rattle.std.proofs.Common.{arith}
 use Rattle.hg_graph.specs.RowsWithRoom.{rows_of}
 use Rattle.hg_play.proofs.CallLaws.{take_moved}
 use Rattle.hg_play.proofs.taking.take.Goals as goal

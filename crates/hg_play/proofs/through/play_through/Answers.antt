@@ -1,4 +1,4 @@
-use Rattle.std.proofs.Common.{◌≡◌, List, ap₂, refl, sym, subst}
+use Rattle.std.proofs.Common.{List, ap₂, refl, sym, subst}
 use Rattle.hg_gossip.specs.Known.{KeepsKnown}
 use Rattle.hg_board.specs.Seats.{SharedNode, SeatView}
 use Rattle.hg_world.specs.World.{Secrets}

@@ -1,4 +1,4 @@
-use Rattle.std.proofs.Common.{ap, arith, length, refl, subst}
+use Rattle.std.proofs.Common.{arith, refl, subst}
 use Rattle.std.specs.Prelude.{IfOk}
 use Rattle.hg_graph.specs.RowsWithRoom.{rows_of}
 use Rattle.hg_world.specs.World.{Secrets}
