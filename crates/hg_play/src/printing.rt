@@ -1,11 +1,11 @@
-ghost use Rattle.std.specs.Prelude.{◌≡◌, ◌<◌, ◌+◌, All, IfOk, length};
+ghost use Rattle.std.specs.Prelude.{◌≡◌, ◌<◌, ◌≤◌, ◌+◌, All, IfOk, length};
 ghost use Rattle.hg_model.specs.declared.row.Placed.{Placed};
 ghost use Rattle.hg_model.specs.Places.{table};
 ghost use Rattle.hg_model.specs.Links.{self_parent};
 ghost use Rattle.hg_model.specs.Order.{sequence_of};
 ghost use Rattle.hg_model.specs.Ledger.{order_line};
 ghost use Rattle.hg_model.specs.Prefix.{links_of};
-ghost use Rattle.hg_play.specs.Printing.{lines_of, sequences};
+ghost use Rattle.hg_play.specs.Printing.{lines_of};
 
 use hg_model::{Effect, Items, Memory, OrderLine, Placed, Prefix, Sight, is_of_graph};
 use std::alloc::Global;
@@ -25,22 +25,37 @@ fn next_sequence<S: Sight>(sight: &S, sequences: &[u64], x: usize) -> u64
     }
 }
 
-/// How many self-ancestors each row has, other than itself.
-fn sequences<S: Sight>(alloc: Global, sight: &S) -> Result<Vec<u64>, Memory>
-    ensures { IfOk result (λ v. v.items ≡ sequences (S.shape sight.now).links) }
+/// How many self-ancestors each of so many first rows has, other than itself.
+fn sequences<S: Sight>(alloc: Global, sight: &S, end: usize) -> Result<Vec<u64>, Memory>
+    requires { end ≤ length (S.shape sight.now).links }
+    ensures { IfOk result (λ v. v.items ≡ table (sequence_of (S.shape sight.now).links) end) }
 {
     let mut sequences = Vec::new(alloc);
-    for x in 0..sight.rows() {
+    for x in 0..end {
         let sequence = next_sequence(sight, sequences.as_slice(), x);
         sequences.push(sequence)?;
     }
     Ok(sequences)
 }
 
+/// One more than the greatest place of an order, or 0: rows behind it are not printed.
+fn end_of(len: usize, order: &[Placed]) -> usize
+    requires { All (λ (x : Placed). x.place < len) order.now }
+    ensures places { All (λ (x : Placed). x.place < result) order.now }
+    ensures within { result ≤ len }
+{
+    let mut end = 0;
+    for placed in order {
+        end = end.max(placed.place + 1);
+    }
+    end
+}
+
 /// A row of the order as it is printed.
 fn order_line<P: Prefix>(p: &P, sequences: &[u64], placed: &Placed, effect: Effect) -> OrderLine
     requires place { placed.now.place < length (P.graph p.now).rows }
-    requires sequences { sequences.now ≡ table (sequence_of (links_of (P.graph p.now))) (length (P.graph p.now).rows) }
+    requires counted { placed.now.place < length sequences.now }
+    requires sequences { sequences.now ≡ table (sequence_of (links_of (P.graph p.now))) (length sequences.now) }
     ensures { result ≡ order_line (P.graph p.now).rows (links_of (P.graph p.now)) placed.now effect }
 {
     is_of_graph(p);
@@ -66,7 +81,8 @@ pub fn order_lines<P: Prefix>(
     ensures { IfOk result (λ lines. lines ≡ lines_of (P.graph p.now) order.now effects.now) }
 {
     is_of_graph(p);
-    let sequences = sequences(alloc, p)?;
+    let end = end_of(p.rows(), order);
+    let sequences = sequences(alloc, p, end)?;
     let mut lines = Vec::new(alloc);
     for (i, placed) in order.iter().enumerate() {
         lines.push(order_line(p, sequences.as_slice(), placed, effects[i]))?;
