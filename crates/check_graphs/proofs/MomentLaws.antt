@@ -1,11 +1,11 @@
 -- What is found at an earlier moment may be published later
-use Rattle.std.proofs.Common.{◌≡◌, ℕ, Bool, true, false, List, [], ◌∷◌, ◌++◌, if◌then◌else◌, Option, Result, Ok, Err, OnOk, OnErr, IfOk, sym, subst}
+use Rattle.std.proofs.Common.{◌≡◌, ℕ, Bool, true, false, List, [], ◌∷◌, ◌++◌, if◌then◌else◌, Result, Ok, Err, OnOk, OnErr, IfOk, sym, subst}
 use Rattle.std.specs.List.{All}
 use Rattle.std.proofs.lemmas.List.Elements.{All-push}
 use Rattle.hg_model.specs.Links.{Link, links}
 use Rattle.hg_model.specs.Prefix.{Graph}
 use Rattle.hg_model.specs.Prefix.{graph_of}
-use Rattle.hg_model.specs.Shares.{Share, Speaks}
+use Rattle.hg_model.specs.Shares.{Speaks}
 use Rattle.hg_model.specs.History.{Change}
 use Rattle.hg_model.specs.declared.answers.MakeAnswer.{MakeAnswer}
 use Rattle.hg_model.specs.Calls.{IsMaking, make_changes}
