@@ -37,7 +37,7 @@ fn next_ballot<P: Prefix>(
             decides: false,
         };
     }
-    let tally = weigh_slots(p, voters, voted);
+    let tally = weigh_slots(p, voted.rows, voters, voted.yes);
     weigh_where(
         normal,
         above,

@@ -69,17 +69,17 @@ fn is_in(words: &[u64], slot: usize) -> bool
 
 /// What the voters weigh who vote yes, and what the others do, slot by slot.
 #[tactic(auto, using(hg_model::proofs::PlacesLaws::weight_steps))]
-fn sum_slots<S: Sight>(sight: &S, voters: &[u64], voted: Voted<'_>) -> Tally
-    requires short { length voted.rows.now < 2 ^ 32 }
-    requires places { AllByRecursion (λ w. w < length (S.shape sight.now).links) voted.rows.now }
-    ensures { result ≡ tally_in (S.shape sight.now) (length voted.rows.now) voted.rows.now voters.now voted.yes.now }
+fn sum_slots<S: Sight>(sight: &S, rows: &[usize], voters: &[u64], voted: &[u64]) -> Tally
+    requires short { length rows.now < 2 ^ 32 }
+    requires places { AllByRecursion (λ w. w < length (S.shape sight.now).links) rows.now }
+    ensures { result ≡ tally_in (S.shape sight.now) (length rows.now) rows.now voters.now voted.now }
 {
     let mut yes = 0u64;
     let mut no = 0u64;
-    for slot in 0..voted.rows.len() {
+    for slot in 0..rows.len() {
         if is_in(voters, slot) {
-            let stake = u64::from(sight.stake(sight.creator(voted.rows[slot])));
-            if is_in(voted.yes, slot) {
+            let stake = u64::from(sight.stake(sight.creator(rows[slot])));
+            if is_in(voted, slot) {
                 yes += stake;
             } else {
                 no += stake;
@@ -89,20 +89,20 @@ fn sum_slots<S: Sight>(sight: &S, voters: &[u64], voted: Voted<'_>) -> Tally
     Tally { yes, no }
 }
 
-/// What the voters weigh who vote yes, and what the others do, of one round: where all members have one stake by counting.
-/// SWIRLDS-TR-2016-01, procedure decideFame.
-pub fn weigh_slots<S: Sight>(sight: &S, voters: &[u64], voted: Voted<'_>) -> Tally
-    requires short { length voted.rows.now < 2 ^ 32 }
-    requires places { AllByRecursion (λ w. w < length (S.shape sight.now).links) voted.rows.now }
-    requires within { (i : ℕ) → has_bit voters.now i ≡ true → i < length voted.rows.now }
-    requires wide { length voters.now ≤ length voted.yes.now }
-    ensures { result ≡ tally_in (S.shape sight.now) (64 * length voters.now) voted.rows.now voters.now voted.yes.now }
+/// What the voters weigh who vote yes, and what the others do: both sets are of slots of these rows. Where all members have
+/// one stake they are counted. SWIRLDS-TR-2016-01, procedure decideFame.
+pub fn weigh_slots<S: Sight>(sight: &S, rows: &[usize], voters: &[u64], voted: &[u64]) -> Tally
+    requires short { length rows.now < 2 ^ 32 }
+    requires places { AllByRecursion (λ w. w < length (S.shape sight.now).links) rows.now }
+    requires within { (i : ℕ) → has_bit voters.now i ≡ true → i < length rows.now }
+    requires wide { length voters.now ≤ length voted.now }
+    ensures { result ≡ tally_in (S.shape sight.now) (64 * length voters.now) rows.now voters.now voted.now }
 {
     is_shaped(sight);
     match sight.even() {
-        None => sum_slots(sight, voters, voted),
+        None => sum_slots(sight, rows, voters, voted),
         Some(stake) => {
-            let counted = count_slots(voters, voted.yes);
+            let counted = count_slots(voters, voted);
             let each = u64::from(stake);
             Tally {
                 yes: counted.yes * each,

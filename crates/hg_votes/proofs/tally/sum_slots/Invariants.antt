@@ -7,9 +7,9 @@ use Rattle.hg_votes.proofs.tally.sum_slots.Given as goal
 
 abbrev pub invariant-loop-slot : goal.invariant-loop-slot
 invariant-loop-slot g l =
-    let weight = slot_weight (stake_in (g.S.Sight.shape l.sight)) l.voted.rows.now in
+    let weight = slot_weight (stake_in (g.S.Sight.shape l.sight)) l.rows in
     record {
-      yes : l.yes ≡ weight_below weight l.slot (λ i. has_bit l.voters i && has_bit l.voted.yes.now i);
-      no : l.no ≡ weight_below weight l.slot (λ i. has_bit l.voters i && not (has_bit l.voted.yes.now i));
+      yes : l.yes ≡ weight_below weight l.slot (λ i. has_bit l.voters i && has_bit l.voted i);
+      no : l.no ≡ weight_below weight l.slot (λ i. has_bit l.voters i && not (has_bit l.voted i));
       low : l.yes + l.no ≤ 4294967295 * l.slot;
     }
