@@ -10,7 +10,7 @@ ghost use Rattle.hg_model.specs.GraphWords.{last_closed_in};
 ghost use Rattle.hg_kept.specs.Published.{FindsNewsOf};
 ghost use Rattle.hg_node.specs.Opening.{AreUnmarked, Opens};
 ghost use Rattle.hg_node.specs.ChronicleView.{book_in, last_own_place, last_own_row, news_in, no_chronicle, chronicle_news, chronicle_with, chronicle_state};
-ghost use Rattle.hg_node.specs.Arrival.{StandsOn};
+ghost use Rattle.hg_arrival.specs.Arrival.{StandsOn};
 
 use crate::open::{Open, found_in, open_in};
 use hg_event::Event;
