@@ -1,15 +1,15 @@
 -- An event against which no rule of its arrival speaks adds its link; the rules that are left for a signed one
-use Rattle.std.proofs.Common.{◌≡◌, ℕ, suc, ◌<◌, Bool, true, false, cond, eqb, List, [], ◌∷◌, ◌++◌, Option, Some, None, sym, ap, ◌∙◌, subst, arith}
+use Rattle.std.proofs.Common.{◌≡◌, ℕ, suc, ◌<◌, ◌≤◌, Bool, true, false, cond, eqb, List, [], ◌∷◌, ◌++◌, Option, Some, None, sym, ap, ◌∙◌, subst, arith}
 use Rattle.std.specs.Prelude.{nat_le}
 use Rattle.std.specs.Option.{option_or}
 use Rattle.std.proofs.lemmas.Bool.Decides.{nat_tests}
 use Rattle.hg_model.specs.declared.row.Row.{Row}
 use Rattle.hg_model.specs.Links.{Link, links, link_in}
-use Rattle.hg_model.specs.Forks.{forking}
+use Rattle.hg_model.specs.Forks.{forking, has_fork}
 use Rattle.hg_model.specs.Graph.{IsShaped}
 use Rattle.hg_model.specs.Shape.{FitsLink, link_of}
 use Rattle.hg_model.specs.Spelling.{body_of}
-use Rattle.hg_model.specs.Stakes.{Stakes, member_count}
+use Rattle.hg_model.specs.Stakes.{Stakes, member_count, total}
 use Rattle.hg_model.specs.Verdict.{forkers_rule, impostor_rule, member_rule, name_rule, signature_rule}
 use Rattle.hg_model.specs.Signing.{Accepts}
 use Rattle.hg_model.specs.Fits.{Fits}
@@ -18,8 +18,16 @@ use Rattle.hg_model.specs.declared.answers.PutAnswer.{PutAnswer}
 use Rattle.hg_model.specs.declared.answers.PutAnswer.TheVariants.{Refused}
 use Rattle.hg_model.specs.Prefix.{Graph}
 use Rattle.hg_model.proofs.RuleLaws.{arrives}
+use Rattle.hg_model.proofs.StakeLaws.{stake_where-total}
 use Rattle.hg_graph.proofs.NextLaws.{adds_link}
 use Rattle.hg_arrival.specs.Arrival.{LinkComes, all_rules, arrival_places, impostor_by, parents_rule, signed_rules}
+
+-- the forking members have no more stake than all
+pub forking-total : (n : Stakes) (L : List Link) → forking n L ≤ total n
+unfolding forking
+forking-total n L = stake_where-total n (has_fork L)
+
+pub ruleset forking_low = (forking-total)
 
 member_silent : (g : Graph) (row : Row) → row.creator < member_count g.members → member_rule g.members row ≡ None
 member_silent g row member =

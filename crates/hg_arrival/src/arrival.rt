@@ -9,7 +9,7 @@ ghost use Rattle.hg_arrival.specs.Arrival.{IsNameAnswer, LinkComes, StandsOn, al
 
 use hg_event::{Event, EventView, body_of};
 use hg_graph::EventGraph;
-use hg_model::{Fault, Member, Name, Parents, PutAnswer, Sight};
+use hg_model::{Fault, Member, Name, Parents, PutAnswer, Sight, is_shaped};
 use hg_sign::Verifier;
 use std::sync::Arc;
 
@@ -60,8 +60,7 @@ fn parents_of_new(
     ensures answer { result_err result ≡ later_rules own graph.now.graph (row_of view.now) }
     ensures link { IfOk result (λ on. StandsOn graph.now.graph.rows (row_of view.now) on) }
 {
-    // That the graph is shaped.
-    graph.members();
+    is_shaped(graph);
     impostor_rule(own, view)?;
     let parents = parent_places(graph, view)?;
     forkers_rule(graph, view, parents)?;
@@ -152,16 +151,15 @@ pub fn creator_at(graph: &EventGraph, place: usize) -> Member
     graph.creator(place)
 }
 
-/// Whether with the event too many members would have a fork.
-#[tactic(auto, using(crate::proofs::ArrivalLaws::by_count))]
+/// Whether with the event the forking members would have a third of the stake or more.
+#[tactic(auto, using(crate::proofs::ArrivalLaws::forking_low))]
 fn forkers_rule(graph: &EventGraph, view: &EventView<'_>, parents: Parents) -> Result<(), PutAnswer>
     requires { LinkComes graph.now.graph (row_of view.now) parents }
     ensures { result_err result ≡ forkers_rule graph.now.graph.members graph.now.graph.rows (row_of view.now) }
 {
-    let members = graph.members();
-    let forkers = graph.would(view.creator, parents);
-    if u64::from(members) <= 3 * u64::from(forkers) {
-        return Err(PutAnswer::Refused(Fault::TooManyForkers(forkers)));
+    let forking = graph.would(view.creator, parents);
+    if graph.total() <= 3 * forking {
+        return Err(PutAnswer::Refused(Fault::TooManyForkers(forking)));
     }
     Ok(())
 }

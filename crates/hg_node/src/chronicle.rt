@@ -56,9 +56,10 @@ impl Chronicle {
     pub fn new(alloc: Global, members: &Members, own: Member) -> Result<Chronicle, Memory>
         ensures { IfOk result (λ c. c ≡ no_chronicle members.now own) }
     {
+        let stakes = members.stakes(alloc)?;
         Ok(Chronicle {
             own,
-            graph: EventGraph::new(alloc, members.count(), members.coin())?,
+            graph: EventGraph::new(alloc, stakes.as_slice(), members.coin())?,
             kept: Kept::new(alloc, members.count()),
             ledger: Ledger::new(alloc, members)?,
             last_own: None,

@@ -37,10 +37,7 @@ pub fn parents_of_put<V: Signer>(
 }
 
 /// The same of an event of a member whose signature is accepted.
-pub fn parents_of_put_event(
-    chronicle: &Chronicle,
-    event: &Arc<Event>,
-) -> Result<Parents, PutAnswer>
+pub fn parents_of_put_event(chronicle: &Chronicle, event: &Arc<Event>) -> Result<Parents, PutAnswer>
     requires { event.now.value.creator < member_count chronicle.now.graph.members }
     ensures answer { result_err result ≡ signed_put_rules chronicle.now event.now.value }
     ensures link { IfOk result (λ on. StandsOn chronicle.now.graph.rows event.now.value on) }
