@@ -15,7 +15,7 @@ fetch_add-requires g c =
     let lawful = subst (λ v. IsNode g.V.Verifier.accepts v) c.requires.node c.rows.ensures.node in (
       c.requires.table,
       omega (arith, c.requires.size.words),
-      raises g.V.Verifier.accepts c.args.steps.now.key.value _ _ m.0 m.1 e (ap (λ x. x.0.hold) c.requires.inside.inside) c.requires.inside.alive short lawful,
+      raises g.V.Verifier.accepts c.args.board.now.key.value _ _ m.0 m.1 e (ap (λ x. x.0.hold) c.requires.inside.inside) c.requires.inside.alive short lawful,
     )
 
 pub returns-clause-seat : goal.returns-clause-seat
