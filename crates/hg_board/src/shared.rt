@@ -58,7 +58,7 @@ impl<V: Signer + Drop> Shared<V> {
         ensures ok { IfOk result (λ r. IsStarted V.accepts r.0 node r.1) }
         ensures err { IfErr result (λ back. back ≡ node) }
     {
-        node.rows();
+        node.is_node();
         let key = Snapshot::of(&node);
         let count = node.changes() as u64;
         let Ok(mut slots) = Vec::with_capacity(alloc, 1) else {
@@ -139,7 +139,7 @@ impl<V: Signer + Drop> Shared<V> {
         let raw = &mut seat.raw;
         let (mut node, _count) = enter(rt, board, raw);
         let taken = take_each(board, raw, &mut node, events);
-        node.rows();
+        node.is_node();
         leave(board, raw, node);
         taken
     }

@@ -67,8 +67,8 @@ fn raise<V: Signer + Drop, N: Naming>(board: &SharedBoard<V>, raw: &mut RawSeat<
     ensures table { raw.new.table_id ≡ raw.old.table_id }
     ensures seat { raw.new.me ≡ inside_at raw.old.me.0 node.now.history (mine_with raw.old.me.0 node.now.history) }
 {
-    // It is a node's history, and its length fits the word.
-    node.rows();
+    node.is_node();
+    // Their number fits the word.
     node.changes();
     board.fetch_add::<Raise<N>>(raw, COUNT, 1);
 }
@@ -109,7 +109,7 @@ pub fn leave_changed<V: Signer + Drop>(
     ensures seat { raw.new.me ≡ outside_at raw.old.me.0 node.history (mine_with raw.old.me.0 node.history) }
     ensures node { IsNode V.accepts node }
 {
-    node.rows();
+    node.is_node();
     raise_if_changed(board, raw, &node, count);
     leave(board, raw, node);
 }

@@ -94,7 +94,7 @@ fn play(world: &mut World) -> Result<(), Memory>
         world.sync(taker, peer, u64::from(step) + 4, payload_at(step))?;
         world.settle(taker)?;
     }
-    world.members();
+    world.is_world();
     Ok(())
 }
 
