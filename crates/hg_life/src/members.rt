@@ -90,7 +90,7 @@ impl Members {
     pub fn is_lawful(&self)
         ensures { IsMemberList self.now }
     {
-        self.coin();
+        self.entries();
     }
 
     /// The members in their order.
