@@ -1,8 +1,8 @@
-use hg_event::{PAYLOAD_LIMIT, encode, encode_body};
-use hg_model::{Bytes, Member, Memory, Name, Row};
+use hg_event::PAYLOAD_LIMIT;
+use hg_model::{Bytes, Member, Memory, Name};
 use hg_name::name_of;
 use hg_node::Node;
-use hg_sign::{MacTable, SharedTable, Signer};
+use hg_sign::{MacTable, SharedTable, signed_bytes};
 use std::alloc::Global;
 
 /// An event in bytes, and its name.
@@ -45,19 +45,10 @@ pub fn forged_event(
         return Ok(None);
     };
     let parents = Some((own, other));
-    let body = encode_body(alloc, creator, &parents, time, payload.as_slice())?;
-    let row = Row {
-        creator,
-        parents,
-        time,
-        payload,
-        sig: keys.sign(creator, body.as_slice()),
-        name: [0; 48],
-    };
-    let bytes = encode(alloc, &row)?;
-    let name = name_of(&bytes);
+    let event = signed_bytes(alloc, keys, creator, &parents, time, payload.as_slice())?;
+    let name = name_of(event.bytes.as_slice());
     Ok(Some(Forged {
-        bytes: Bytes::from_vec(bytes),
+        bytes: Bytes::from_vec(event.bytes),
         name,
     }))
 }
