@@ -52,12 +52,7 @@ pub fn plan_of(number: u32, dice: &mut Dice) -> Plan {
 }
 
 /// So many members, A, B, C and so on, of stakes that differ or of 1 each.
-pub fn members_of(
-    alloc: Global,
-    count: u32,
-    coin: u32,
-    weighed: bool,
-) -> Result<Members, Memory>
+pub fn members_of(alloc: Global, count: u32, coin: u32, weighed: bool) -> Result<Members, Memory>
     requires some { 4 ≤ count }
     requires few { count ≤ 7 }
     requires coin_low { 3 ≤ coin }

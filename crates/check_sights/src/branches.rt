@@ -113,7 +113,8 @@ fn counts_tell(both: &Both, x: usize, y: usize) -> bool {
     match both.sight.counts(x) {
         None => false,
         Some(counts) => {
-            usize::from(member) < counts.len() && (y < counts.at(member)) == both.bits.ancestor(x, y)
+            usize::from(member) < counts.len()
+                && (y < counts.at(member)) == both.bits.ancestor(x, y)
         }
     }
 }
