@@ -1,6 +1,6 @@
 -- The members of a made graph
 use Rattle.std.specs.Prelude.{ℕ, ◌+◌, ◌%◌, Bool, true, cond, List, [], ◌∷◌}
-use Rattle.hg_model.specs.declared.members.MemberEntry.{MemberEntry}
+use Rattle.hg_life.specs.declared.members.MemberEntry.{MemberEntry}
 use Rattle.hg_model.specs.Places.{table}
 
 -- what members weigh: 4, 1, 2, 3, 4 and so on, or 1 each
