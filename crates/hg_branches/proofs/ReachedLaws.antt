@@ -5,7 +5,7 @@ use Rattle.std.proofs.lemmas.List.{get_or-take, get_or-set_other, length-set}
 use Rattle.hg_model.specs.Places.{count_below, weight_below}
 use Rattle.hg_model.specs.Seeing.{is_supermajority}
 use Rattle.hg_model.proofs.PlacesLaws.{weight_below-le, weight_below-same, weight_below_none, count_below-le}
-use Rattle.hg_branches.specs.Kept.{is_reached, no_first, ReachesFew}
+use Rattle.hg_branches.specs.Landmarks.{is_reached, no_first, ReachesFew}
 use Rattle.hg_branches.specs.Lines.{own_sees, is_strong_by_own}
 
 -- none, where no branch has one

@@ -8,9 +8,9 @@ use Rattle.hg_model.proofs.PlacesLaws.{weight_below-same}
 use Rattle.hg_bits.specs.Masks.{mask_has}
 use Rattle.hg_ancestry.proofs.SeerLaws.{strong_by_members, strong_above}
 use Rattle.hg_branches.specs.Rows.{RowView}
-use Rattle.hg_branches.specs.Kept.{Kept, kept_at}
+use Rattle.hg_branches.specs.Landmarks.{LandmarkView, landmark_at}
 use Rattle.hg_branches.specs.Lines.{own_sees, others_see, seen_on}
-use Rattle.hg_branches.proofs.KeptLaws.{strong_by_firsts, on_other, on_other_is}
+use Rattle.hg_branches.proofs.LandmarkLaws.{strong_by_firsts, on_other, on_other_is}
 use Rattle.hg_branches.proofs.LineSeenLaws.{count_small, seen_by_lines}
 use Rattle.hg_branches.proofs.sight.BranchSight.strongly_sees_beside.Goals as goal
 
@@ -47,15 +47,15 @@ returns-then-slot-gt0 c =
     let left : x < length s.links.items = subst (λ (g : ShapeWithRoom). x < length g.shape.links) (sym c.self.view_is) c.requires.left in
     let row : c.row_of-counts.result.row ≡ get_or s.counts.rows x [] = ap (λ (r : RowView). r.row) c.row_of-counts.ensures in
     let number : c.count_at-number.result ≡ slice_index s.numbers.items y = c.count_at-number.ensures ∙ ap (λ (ns : List ℕ). slice_index ns y) c.deref.ensures.value in
-    let found = held.kept.by_place y (let some = c.if-slot-gt0.true in omega arith) in
+    let found = held.landmarks.by_place y (let some = c.if-slot-gt0.true in omega arith) in
     let slot : ℕ = slice_index s.numbers.items y - 1 in
-    let k = kept_at s.kept.items slot in
-    let firsts : c.firsts_at-firsts.result.now ≡ k.firsts = c.firsts_at-firsts.ensures ∙ ap₂ (λ (kept : List Kept) (j : ℕ). (kept_at kept (j - 1)).firsts) c.deref-then-slot-gt0.ensures.value number in
+    let k = landmark_at s.landmarks.items slot in
+    let firsts : c.firsts_at-firsts.result.now ≡ k.firsts = c.firsts_at-firsts.ensures ∙ ap₂ (λ (landmarks : List LandmarkView) (j : ℕ). (landmark_at landmarks (j - 1)).firsts) c.deref-then-slot-gt0.ensures.value number in
     let free : has_fork_below s.links.items x (creator s.links.items y) ≡ false =
     subst (λ (g : ShapeWithRoom). has_fork_below g.shape.links x (creator g.shape.links y) ≡ false) (sym c.self.view_is)
     (ap (has_fork_below c.args.self.now.shape.links x) (sym c.creator-member.ensures.value) ∙ (sym (c.forked_below.ensures c.creator-member.result) ∙ (sym c.mask_has.ensures ∙ c.if-not-mask_has.true))) in
     let is_y : k.end ≡ y + 1 = found.1 in
-    let holds = held.kept.each slot (let le : slice_index s.numbers.items y ≤ length s.kept.items = found.0 in omega arith) in
+    let holds = held.landmarks.each slot (let le : slice_index s.numbers.items y ≤ length s.landmarks.items = found.0 in omega arith) in
     let L_is : c.args.self.now.shape.links ≡ s.links.items = sym (ap (λ (g : ShapeWithRoom). g.shape.links) c.self.view_is) in
     let n_is : c.args.self.now.shape.members ≡ s.members = sym (ap (λ (g : ShapeWithRoom). g.shape.members) c.self.view_is) in
     let value = c.strong_by_firsts.ensures in

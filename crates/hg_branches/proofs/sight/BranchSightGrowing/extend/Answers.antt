@@ -12,8 +12,8 @@ use Rattle.hg_branches.specs.Branches.{greatest_count}
 use Rattle.hg_branches.specs.Columns.{HoldsBranches, next_branch, with_branch, put_at, count_in, forks_next}
 use Rattle.hg_branches.proofs.HeldLaws.{Serves, next_serves, in_reach, branches_hold, counts_hold, counts_last}
 use Rattle.hg_branches.specs.Rows.{RowView, known_place}
-use Rattle.hg_branches.specs.Kept.{Kept, kept_at, noted, AreNotedOn, HoldsChains, HoldsNewest, HoldsTops, HoldsKept}
-use Rattle.hg_branches.proofs.KeptLaws.{noted_on, kept_more, refilled_kept, tops_noted}
+use Rattle.hg_branches.specs.Landmarks.{LandmarkView, landmark_at, noted, AreNotedOn, HoldsChains, HoldsNewest, HoldsTops, HoldsLandmarks}
+use Rattle.hg_branches.proofs.LandmarkLaws.{noted_on, landmarks_more, refilled, tops_noted}
 use Rattle.hg_branches.proofs.PutLaws.{opened_long}
 use Rattle.hg_branches.proofs.NextForkLaws.{forks_told}
 use Rattle.hg_branches.proofs.TakeLaws.{forks_more}
@@ -93,17 +93,17 @@ row_of-counts-requires c =
     omega arith
 
 pub note_all-requires-clause-chains : goal.note_all-requires-clause-chains
-note_all-requires-clause-chains c = subst HoldsChains (sym c.deref_mut.ensures.value) c.self.invariant.kept.chains
+note_all-requires-clause-chains c = subst HoldsChains (sym c.deref_mut.ensures.value) c.self.invariant.landmarks.chains
 
 pub note_all-requires-clause-newest : goal.note_all-requires-clause-newest
 note_all-requires-clause-newest c =
-    subst (λ (kept : List Kept). HoldsNewest kept c.deref-3.result.now) (sym c.deref_mut.ensures.value)
-    (subst (HoldsNewest c.self.inside.kept.items) (sym c.deref-3.ensures.value) c.self.invariant.kept.by_branch)
+    subst (λ (landmarks : List LandmarkView). HoldsNewest landmarks c.deref-3.result.now) (sym c.deref_mut.ensures.value)
+    (subst (HoldsNewest c.self.inside.landmarks.items) (sym c.deref-3.ensures.value) c.self.invariant.landmarks.by_branch)
 
 pub note_all-requires-clause-tops : goal.note_all-requires-clause-tops
 note_all-requires-clause-tops c =
-    subst (λ (kept : List Kept). HoldsTops kept c.deref-4.result.now) (sym c.deref_mut.ensures.value)
-    (subst (HoldsTops c.self.inside.kept.items) (sym c.deref-4.ensures.value) c.self.invariant.tops)
+    subst (λ (landmarks : List LandmarkView). HoldsTops landmarks c.deref-4.result.now) (sym c.deref_mut.ensures.value)
+    (subst (HoldsTops c.self.inside.landmarks.items) (sym c.deref-4.ensures.value) c.self.invariant.tops)
 
 pub note_all-requires-clause-noted : goal.note_all-requires-clause-noted
 note_all-requires-clause-noted c = λ i.
@@ -127,11 +127,11 @@ note_all-requires-clause-noted c = λ i.
     let others : (i : ℕ) → (i ≡ next_branch s.branches.items s.ends.items on by → ⊥) → get_or row i 0 ≡ greatest_count (count_in s.counts.rows) on i =
     λ i off. c.push.ensures.3.others i (λ e. off (e ∙ b_is)) ∙ ap (λ (ps : List ℕ). greatest_count (count_in s.counts.rows) ps i) c.pair-on.ensures in
     subst (AreNotedOn i (get_or c.row_of-known.result.row i 0) (get_or c.row_of-counts.result.row i 0) b (c.len-row.result + 1)) (sym c.deref_mut.ensures.value)
-    (subst (λ (k : List ℕ). AreNotedOn i (get_or k i 0) (get_or c.row_of-counts.result.row i 0) b (c.len-row.result + 1) s.kept.items) (sym known_is)
-    (subst (λ (r : List ℕ). AreNotedOn i (get_or known i 0) (get_or r i 0) b (c.len-row.result + 1) s.kept.items) (sym row_is)
-    (subst (λ j. AreNotedOn i (get_or known i 0) (get_or row i 0) j (c.len-row.result + 1) s.kept.items) (sym b_is)
-    (subst (λ x. AreNotedOn i (get_or known i 0) (get_or row i 0) (next_branch s.branches.items s.ends.items on by) (x + 1) s.kept.items) (sym place)
-    (noted_on s.members L s.branches.items s.makers.items s.ends.items held.branches s.counts.rows held.counts s.kept.items s.newest.items s.numbers.items held.kept on by fits row others i)))))
+    (subst (λ (k : List ℕ). AreNotedOn i (get_or k i 0) (get_or c.row_of-counts.result.row i 0) b (c.len-row.result + 1) s.landmarks.items) (sym known_is)
+    (subst (λ (r : List ℕ). AreNotedOn i (get_or known i 0) (get_or r i 0) b (c.len-row.result + 1) s.landmarks.items) (sym row_is)
+    (subst (λ j. AreNotedOn i (get_or known i 0) (get_or row i 0) j (c.len-row.result + 1) s.landmarks.items) (sym b_is)
+    (subst (λ x. AreNotedOn i (get_or known i 0) (get_or row i 0) (next_branch s.branches.items s.ends.items on by) (x + 1) s.landmarks.items) (sym place)
+    (noted_on s.members L s.branches.items s.makers.items s.ends.items held.branches s.counts.rows held.counts s.landmarks.items s.newest.items s.numbers.items held.landmarks on by fits row others i)))))
 
 pub move_end-requires-clause-there : goal.move_end-requires-clause-there
 move_end-requires-clause-there c =
@@ -150,7 +150,7 @@ open_branch-requires-clause-there c =
     let fits = subst (λ (g : ShapeWithRoom). FitsLink g.shape.members g.shape.links (link_of c.args.creator c.args.parents)) (sym c.self.view_is) c.requires.fits in
     let b_is = branch_is s.branches.items s.ends.items c.args.creator c.pair-on.result c.args.parents s.branches.items c.deref.result.now c.branch_for-branch.result c.branch_for-branch.ensures refl c.deref.ensures.value c.pair-on.ensures in
     let low = reach s.members s.links.items s.branches.items s.makers.items s.ends.items held c.args.parents c.args.creator fits c.branch_for-branch.result b_is in
-    let all = c.self.invariant.kept.newest_all in
+    let all = c.self.invariant.landmarks.newest_all in
     omega arith
 
 pub open_branch-requires-2-clause-there : goal.open_branch-requires-2-clause-there
@@ -213,11 +213,11 @@ invariant_of-self c =
     m
     ∙ ap (λ (on : List ℕ). has_fork_below (L ++ link_of by on ∷ []) (length L) m) on_is)) in
     let counted = counts_last s.members L s.branches.items s.makers.items s.ends.items held.branches link fits b serves s.counts.rows row held.counts end others in
-    let kept_long : length c.note_all.new.kept ≡ length s.kept.items = c.note_all.ensures.len ∙ ap length c.deref_mut.ensures.value in
-    let each : (i : ℕ) → i < length s.kept.items → kept_at c.note_all.new.kept i ≡ noted row b (length L + 1) (kept_at s.kept.items i) = λ i h.
-    c.note_all.ensures.each i (subst (λ (old : List Kept). i < length old) (sym c.deref_mut.ensures.value) h)
-    ∙ (ap (λ (old : List Kept). noted c.row_of-counts.result.row b (c.len-row.result + 1) (kept_at old i)) c.deref_mut.ensures.value
-    ∙ ap₂ (λ (counts : List ℕ) (e : ℕ). noted counts b e (kept_at s.kept.items i)) row_is end_place) in
+    let landmarks_long : length c.note_all.new.landmarks ≡ length s.landmarks.items = c.note_all.ensures.len ∙ ap length c.deref_mut.ensures.value in
+    let each : (i : ℕ) → i < length s.landmarks.items → landmark_at c.note_all.new.landmarks i ≡ noted row b (length L + 1) (landmark_at s.landmarks.items i) = λ i h.
+    c.note_all.ensures.each i (subst (λ (old : List LandmarkView). i < length old) (sym c.deref_mut.ensures.value) h)
+    ∙ (ap (λ (old : List LandmarkView). noted c.row_of-counts.result.row b (c.len-row.result + 1) (landmark_at old i)) c.deref_mut.ensures.value
+    ∙ ap₂ (λ (counts : List ℕ) (e : ℕ). noted counts b e (landmark_at s.landmarks.items i)) row_is end_place) in
     record {
       branches = rw (c.push-2.ensures, c.push-3.ensures, makers_are, ends_are, c.of.ensures)
           (branches_hold s.members L s.branches.items s.makers.items s.ends.items held.branches link fits b serves short);
@@ -225,16 +225,16 @@ invariant_of-self c =
           (counts_hold s.members L s.branches.items s.makers.items s.ends.items held.branches link fits b serves s.counts.rows row held.counts wide end others);
       counts_members = c.push.ensures.2 ∙ held.counts_members;
       forks = rw (c.push-2.ensures, c.push-4.ensures, c.of.ensures) (forks_more L link s.forked.items c.forked_next-forked.result held.forks told);
-      kept = rw (c.push-2.ensures, c.push-3.ensures, makers_are, c.of.ensures, c.open_branch.ensures, c.push_reserved.ensures.items)
-          (subst (λ (kept : List Kept). HoldsKept s.members (L ++ link ∷ []) (s.branches.items ++ b ∷ []) (with_branch s.makers.items b by) kept (with_branch s.newest.items b 0) (s.numbers.items ++ 0 ∷ []))
-          (sym (refilled_kept s.kept.len c.note_all.new.kept s.kept.items (omega (arith, kept_long))))
-          (kept_more s.members L s.branches.items s.makers.items s.ends.items held.branches link fits b serves row counted short s.kept.items c.note_all.new.kept s.newest.items s.numbers.items held.kept kept_long each));
+      landmarks = rw (c.push-2.ensures, c.push-3.ensures, makers_are, c.of.ensures, c.open_branch.ensures, c.push_reserved.ensures.items)
+          (subst (λ (landmarks : List LandmarkView). HoldsLandmarks s.members (L ++ link ∷ []) (s.branches.items ++ b ∷ []) (with_branch s.makers.items b by) landmarks (with_branch s.newest.items b 0) (s.numbers.items ++ 0 ∷ []))
+          (sym (refilled s.landmarks.len c.note_all.new.landmarks s.landmarks.items (omega (arith, landmarks_long))))
+          (landmarks_more s.members L s.branches.items s.makers.items s.ends.items held.branches link fits b serves row counted short s.landmarks.items c.note_all.new.landmarks s.newest.items s.numbers.items held.landmarks landmarks_long each));
       tops = rw c.open_branch-2.ensures
-          (subst (λ (kept : List Kept). HoldsTops kept (with_branch s.tops.items b 0)) (sym (refilled_kept s.kept.len c.note_all.new.kept s.kept.items (omega (arith, kept_long))))
-          (tops_noted s.kept.items c.note_all.new.kept (λ i h. (ap (λ (k : Kept). k.end) (each i h), ap (λ (k : Kept). k.branch) (each i h), ap (λ (k : Kept). k.before) (each i h))) kept_long s.tops.items b held.tops));
+          (subst (λ (landmarks : List LandmarkView). HoldsTops landmarks (with_branch s.tops.items b 0)) (sym (refilled s.landmarks.len c.note_all.new.landmarks s.landmarks.items (omega (arith, landmarks_long))))
+          (tops_noted s.landmarks.items c.note_all.new.landmarks (λ i h. (ap (λ (k : LandmarkView). k.end) (each i h), ap (λ (k : LandmarkView). k.branch) (each i h), ap (λ (k : LandmarkView). k.before) (each i h))) landmarks_long s.tops.items b held.tops));
       tops_all = rw (c.open_branch-2.ensures, makers_are)
           (opened_long s.makers.items s.tops.items b by (reach s.members L s.branches.items s.makers.items s.ends.items held.branches c.args.parents by fits b b_is) held.tops_all);
-      spare_kept = held.spare_kept;
+      spare = held.spare;
       links_room = omega arith;
       branches_room = omega arith;
       makers_room = omega arith;
@@ -244,5 +244,5 @@ invariant_of-self c =
       newest_room = omega arith;
       tops_room = omega arith;
       numbers_room = omega arith;
-      kept_room = held.kept_room;
+      landmarks_room = held.landmarks_room;
     }

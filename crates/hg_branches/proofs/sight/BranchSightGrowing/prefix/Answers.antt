@@ -2,7 +2,7 @@ use Rattle.std.proofs.Common.{◌≡◌, ◌<◌, ◌≤◌, ◌∙◌, ◌+◌,
 use Rattle.std.proofs.lemmas.List.{length-take-le, length-replicate, get_or-take}
 use Rattle.hg_model.specs.Shape.{ShapeWithRoom}
 use Rattle.hg_branches.proofs.TakeLaws.{branches_take, counts_take, forks_take}
-use Rattle.hg_branches.proofs.KeptLaws.{kept_none}
+use Rattle.hg_branches.proofs.LandmarkLaws.{landmarks_none}
 use Rattle.hg_branches.proofs.sight.BranchSightGrowing.prefix.Goals as goal
 
 pub invariant_of-result : goal.invariant_of-result
@@ -25,19 +25,19 @@ invariant_of-result c =
     let early = held.branches.early x (omega arith) in
     let was = held.branches.end x (omega arith) in
     let is = ends_are (get_or s.branches.items x 0) in
-    let kept = get_or-take many s.ends.items (get_or s.branches.items x 0) 0 (omega arith) in
+    let landmarks = get_or-take many s.ends.items (get_or s.branches.items x 0) 0 (omega arith) in
     omega arith in
     record {
       branches = rw (c.in_ok-cloned_prefix.ensures, c.in_ok-prefix.ensures, makers) (branches_take s.members s.links.items s.branches.items s.makers.items s.ends.items held.branches len many le is_many c.in_ok-ends_within.field-0.items ends_len end);
       counts = rw (c.in_ok-cloned_prefix.ensures, c.in_ok-prefix.ensures, makers, c.in_ok-prefix-2.ensures.rows) (counts_take s.members s.links.items s.branches.items s.makers.items s.ends.items held.branches len many le is_many s.counts.rows held.counts);
       forks = rw (c.in_ok-cloned_prefix.ensures, c.in_ok-prefix-3.ensures) (forks_take s.members s.links.items s.branches.items s.makers.items s.ends.items held.branches len many le is_many s.forked.items held.forks);
-      kept = rw (c.in_ok-cloned_prefix.ensures, c.in_ok-prefix.ensures, makers, c.new.ensures.items, c.new-2.ensures.items)
-          (kept_none s.members (take len s.links.items) (take len s.branches.items) (take many s.makers.items) c.in_ok-zeros.field-0.items
+      landmarks = rw (c.in_ok-cloned_prefix.ensures, c.in_ok-prefix.ensures, makers, c.new.ensures.items, c.new-2.ensures.items)
+          (landmarks_none s.members (take len s.links.items) (take len s.branches.items) (take many s.makers.items) c.in_ok-zeros.field-0.items
           (c.in_ok-zeros.ensures ∙ ap (λ k. replicate k 0) (sym (length-take-le many s.makers.items (omega arith)))));
       tops = rw c.new.ensures.items (λ i h. absurd (omega arith));
       tops_all = ap length c.in_ok-zeros-2.ensures ∙ (length-replicate many 0 ∙ sym (ap length makers ∙ length-take-le many s.makers.items (omega arith)));
       counts_members = c.in_ok-prefix-2.ensures.members ∙ held.counts_members;
-      spare_kept = tt;
+      spare = tt;
       links_room = omega arith;
       branches_room = omega arith;
       makers_room = omega arith;
@@ -47,5 +47,5 @@ invariant_of-result c =
       newest_room = omega arith;
       tops_room = omega arith;
       numbers_room = omega arith;
-      kept_room = omega arith;
+      landmarks_room = omega arith;
     }

@@ -1,6 +1,6 @@
 use Rattle.std.proofs.Common.{◌≡◌, ◌<◌, ℕ, length, slice_index}
-use Rattle.hg_branches.specs.Kept.{no_first}
-use Rattle.hg_branches.proofs.kept.clear.Given as goal
+use Rattle.hg_branches.specs.Landmarks.{no_first}
+use Rattle.hg_branches.proofs.landmarks.clear.Given as goal
 
 abbrev pub invariant-loop-b : goal.invariant-loop-b
 invariant-loop-b l = record {

@@ -1,6 +1,6 @@
 use Rattle.std.proofs.Common.{arith}
 use Rattle.hg_branches.proofs.ReachedLaws.{more_few}
-use Rattle.hg_branches.proofs.kept.KeptRow.note.Goals as goal
+use Rattle.hg_branches.proofs.landmarks.Landmark.note.Goals as goal
 
 pub invariant_of-self : goal.invariant_of-self
 invariant_of-self c =

@@ -1,25 +1,26 @@
 ghost use Rattle.std.specs.Prelude.{◌≡◌, ◌≢◌, ◌<◌, ◌≤◌, ◌-◌, ℕ, length, slice_index, IfOk};
-ghost use Rattle.hg_branches.specs.Kept.{kept_at, no_first, noted, noted_once, AreNews, AreNotedBy, AreNotedOn, HoldsChains, HoldsNewest, HoldsTops, IsLastOn, NotesBy, NotesOn};
+ghost use Rattle.hg_branches.specs.Landmarks.{landmark_at, no_first, noted_once, AreNews, AreNotedBy, AreNotedOn, HoldsChains, HoldsNewest, HoldsTops, IsLastOn, LeavesBelow, LeavesFrom, NotesAll, NotesBy, NotesOn};
 ghost use Rattle.hg_branches.specs.Lines.{is_strong_by_own};
 
 use crate::branches::zeros;
 use crate::counts::{RowCounts, count_at};
-use hg_bits::kernels::count_ge;
-use hg_model::{Memory, is_supermajority};
+use hg_bits::StakeTable;
+use hg_model::Memory;
 use std::alloc::Global;
 use std::marker::Model;
 
 /// In place of a first descendant where there is none. A graph's ends are lower.
 const NO_FIRST: u16 = 65_535;
 
-/// The first descendants of a row, one on each member's own branch. The number of a kept row is one more than its index.
+/// What is noted of a row for strongly seeing it: its first descendants, one on each member's own branch. The number of a
+/// landmark is one more than its index.
 #[derive(Drop)]
-pub struct KeptRow {
+pub struct Landmark {
     /// One more than the place of the row.
     end: u16,
     /// The row's branch.
     branch: usize,
-    /// The number of the kept row before it on its branch, or 0.
+    /// The number of the landmark before it on its branch, or 0.
     before: u16,
     /// For each member's own branch one more than the place of the first descendant there.
     firsts: Vec<u16>,
@@ -27,24 +28,24 @@ pub struct KeptRow {
     reached: u32,
 }
 
-impl Model for KeptRow {
-    ghost use Rattle.hg_branches.specs.Kept.{Kept, ReachesFew};
+impl Model for Landmark {
+    ghost use Rattle.hg_branches.specs.Landmarks.{LandmarkView, ReachesFew};
 
-    ghost Value = { Kept };
+    ghost Value = { LandmarkView };
 
     ghost view = { λ s. record { end = s.end; branch = s.branch; before = s.before; firsts = s.firsts.items } };
 
     ghost invariant = { λ s. ReachesFew s.firsts.items s.reached };
 }
 
-impl KeptRow {
-    /// The memory of a kept row, for a graph of so many members.
-    pub fn new(alloc: Global, members: usize) -> Result<KeptRow, Memory>
+impl Landmark {
+    /// The memory of a landmark, for a graph of so many members.
+    pub fn new(alloc: Global, members: usize) -> Result<Landmark, Memory>
         requires { members ≤ 128 }
         ensures { IfOk result (λ k. length k.firsts ≡ members) }
     {
         let firsts = zeros(alloc, members)?;
-        Ok(KeptRow {
+        Ok(Landmark {
             end: 0,
             branch: 0,
             before: 0,
@@ -53,7 +54,7 @@ impl KeptRow {
         })
     }
 
-    /// Takes the last row of the graph, on this branch, behind the kept row of this number.
+    /// Takes the last row of the graph, on this branch, behind the landmark of this number.
     pub fn begin(&mut self, branch: usize, end: u16, before: u16)
         ensures end { self.new.end ≡ end }
         ensures branch { self.new.branch ≡ branch }
@@ -83,18 +84,18 @@ impl KeptRow {
         }
     }
 
-    /// Whether these counts tell of the first descendants on more than two thirds of the members' own branches. They are not
-    /// looked at where there are not so many first descendants.
-    pub fn is_strong_by(&self, counts: &[u16]) -> bool
+    /// Whether these counts tell of first descendants on the own branches of members with more than two thirds of the stake.
+    /// They are not looked at where first descendants are on too few branches for that.
+    pub fn is_strong_by(&self, stakes: &StakeTable, counts: &[u16]) -> bool
+        requires wide { length stakes.now ≡ length self.now.firsts }
         requires same { length counts.now ≡ length self.now.firsts }
         requires low { (b : ℕ) → b < length counts.now → slice_index counts.now b < no_first }
-        ensures { result ≡ is_strong_by_own self.now.firsts counts.now }
+        ensures { result ≡ is_strong_by_own stakes.now self.now.firsts counts.now }
     {
-        let members = self.firsts.len() as u32;
-        if !is_supermajority(members, self.reached) {
+        if !stakes.is_over(stakes.at_most(self.reached)) {
             return false;
         }
-        is_supermajority(members, u32::from(count_ge(counts, &self.firsts)))
+        stakes.is_over(stakes.weigh_ge(counts, &self.firsts))
     }
 
     /// One more than the place of the row.
@@ -104,7 +105,7 @@ impl KeptRow {
         self.end
     }
 
-    /// The number of the kept row before it on its branch, or 0.
+    /// The number of the landmark before it on its branch, or 0.
     pub fn before(&self) -> u16
         ensures { result ≡ self.now.before }
     {
@@ -129,10 +130,10 @@ fn clear(firsts: &mut [u16])
     }
 }
 
-/// Notes in all kept rows that the next row has come, with these counts, on this branch. A branch is looked at only where the
+/// Notes in all landmarks that the next row has come, with these counts, on this branch. A branch is looked at only where the
 /// row counts more than its self-parent, which counts what is `known`.
 pub fn note_all(
-    kept: &mut [KeptRow],
+    landmarks: &mut [Landmark],
     newest: &[u16],
     tops: &[u16],
     known: &RowCounts,
@@ -144,15 +145,15 @@ pub fn note_all(
     requires few { counts.now.members ≤ 128 }
     requires newest_all { counts.now.members ≤ length newest.now }
     requires tops_all { counts.now.members ≤ length tops.now }
-    requires chains { HoldsChains kept.old }
-    requires newest { HoldsNewest kept.old newest.now }
-    requires tops { HoldsTops kept.old tops.now }
-    requires noted { (c : ℕ) → AreNotedBy known.now.row counts.now.row branch end kept.old c }
-    ensures len { length kept.new ≡ length kept.old }
-    ensures each { (i : ℕ) → i < length kept.old → kept_at kept.new i ≡ noted counts.now.row branch end (kept_at kept.old i) }
+    requires chains { HoldsChains landmarks.old }
+    requires newest { HoldsNewest landmarks.old newest.now }
+    requires tops { HoldsTops landmarks.old tops.now }
+    requires noted { (c : ℕ) → AreNotedBy known.now.row counts.now.row branch end landmarks.old c }
+    ensures len { length landmarks.new ≡ length landmarks.old }
+    ensures each { NotesAll counts.now.row branch end landmarks.old landmarks.new }
 {
-    note_own(kept, newest, tops, known.own(), counts.own(), branch, end);
-    note_others(kept, newest, known, counts, branch, end);
+    note_own(landmarks, newest, tops, known.own(), counts.own(), branch, end);
+    note_others(landmarks, newest, known, counts, branch, end);
 }
 
 /// Marks with 1, and else 0, each lane in which a row counts more than is known, below the top. One loop without a branch,
@@ -170,9 +171,9 @@ fn mark_news(known: &[u16], tops: &[u16], counts: &[u16], news: &mut [u16])
     }
 }
 
-/// Notes it in the kept rows of the members' own branches, of which these are the counts.
+/// Notes it in the landmarks of the members' own branches, of which these are the counts.
 fn note_own(
-    kept: &mut [KeptRow],
+    landmarks: &mut [Landmark],
     newest: &[u16],
     tops: &[u16],
     known: &[u16],
@@ -184,52 +185,52 @@ fn note_own(
     requires few { length counts.now ≤ 128 }
     requires newest_all { length counts.now ≤ length newest.now }
     requires tops_all { length counts.now ≤ length tops.now }
-    requires chains { HoldsChains kept.old }
-    requires newest { HoldsNewest kept.old newest.now }
-    requires tops { HoldsTops kept.old tops.now }
-    requires noted { (c : ℕ) → c < length counts.now → AreNotedBy known.now counts.now branch end kept.old c }
-    ensures len { length kept.new ≡ length kept.old }
-    ensures done { (c : ℕ) → c < length counts.now → NotesBy counts.now branch end kept.old kept.new c }
-    ensures left { (i : ℕ) → length counts.now ≤ (kept_at kept.old i).branch → kept_at kept.new i ≡ kept_at kept.old i }
+    requires chains { HoldsChains landmarks.old }
+    requires newest { HoldsNewest landmarks.old newest.now }
+    requires tops { HoldsTops landmarks.old tops.now }
+    requires noted { (c : ℕ) → c < length counts.now → AreNotedBy known.now counts.now branch end landmarks.old c }
+    ensures len { length landmarks.new ≡ length landmarks.old }
+    ensures done { (c : ℕ) → c < length counts.now → NotesBy counts.now branch end landmarks.old landmarks.new c }
+    ensures left { LeavesFrom (length counts.now) landmarks.old landmarks.new }
 {
     let mut news = [0; 128];
     mark_news(known, tops, counts, &mut news);
     for c in 0..counts.len() {
         if news[c] > 0 {
-            note_branch(kept, newest, c, known[c], counts[c], branch, end);
+            note_branch(landmarks, newest, c, known[c], counts[c], branch, end);
         }
     }
 }
 
-/// Notes it in the kept rows of the other branches that are counted.
+/// Notes it in the landmarks of the other branches that are counted.
 fn note_others(
-    kept: &mut [KeptRow],
+    landmarks: &mut [Landmark],
     newest: &[u16],
     known: &RowCounts,
     counts: &RowCounts,
     branch: usize,
     end: u16,
 )
-    requires chains { HoldsChains kept.old }
-    requires newest { HoldsNewest kept.old newest.now }
-    requires noted { (c : ℕ) → counts.now.members ≤ c → AreNotedBy known.now.row counts.now.row branch end kept.old c }
-    ensures len { length kept.new ≡ length kept.old }
-    ensures done { (c : ℕ) → counts.now.members ≤ c → NotesBy counts.now.row branch end kept.old kept.new c }
-    ensures left { (i : ℕ) → (kept_at kept.old i).branch < counts.now.members → kept_at kept.new i ≡ kept_at kept.old i }
+    requires chains { HoldsChains landmarks.old }
+    requires newest { HoldsNewest landmarks.old newest.now }
+    requires noted { (c : ℕ) → counts.now.members ≤ c → AreNotedBy known.now.row counts.now.row branch end landmarks.old c }
+    ensures len { length landmarks.new ≡ length landmarks.old }
+    ensures done { (c : ℕ) → counts.now.members ≤ c → NotesBy counts.now.row branch end landmarks.old landmarks.new c }
+    ensures left { LeavesBelow counts.now.members landmarks.old landmarks.new }
 {
     for c in counts.own().len()..counts.reach(newest.len()) {
         let least = known.at(c);
         let count = counts.at(c);
         if least < count {
-            note_branch(kept, newest, c, least, count, branch, end);
+            note_branch(landmarks, newest, c, least, count, branch, end);
         }
     }
 }
 
-/// Notes it in the kept rows of branch `c`, of which the next row counts so much, from the last down to the first that the
+/// Notes it in the landmarks of branch `c`, of which the next row counts so much, from the last down to the first that the
 /// self-parent has as ancestor, which ends at `least` or before.
 fn note_branch(
-    kept: &mut [KeptRow],
+    landmarks: &mut [Landmark],
     newest: &[u16],
     c: usize,
     least: u16,
@@ -238,16 +239,16 @@ fn note_branch(
     end: u16,
 )
     requires there { c < length newest.now }
-    requires chains { HoldsChains kept.old }
-    requires newest { IsLastOn kept.old (length kept.old) c (slice_index newest.now c) }
-    requires noted { AreNotedOn c least count branch end kept.old }
-    ensures len { length kept.new ≡ length kept.old }
-    ensures on { NotesOn c count branch end kept.old kept.new }
-    ensures off { (i : ℕ) → (kept_at kept.old i).branch ≢ c → kept_at kept.new i ≡ kept_at kept.old i }
+    requires chains { HoldsChains landmarks.old }
+    requires newest { IsLastOn landmarks.old (length landmarks.old) c (slice_index newest.now c) }
+    requires noted { AreNotedOn c least count branch end landmarks.old }
+    ensures len { length landmarks.new ≡ length landmarks.old }
+    ensures on { NotesOn c count branch end landmarks.old landmarks.new }
+    ensures off { (i : ℕ) → (landmark_at landmarks.old i).branch ≢ c → landmark_at landmarks.new i ≡ landmark_at landmarks.old i }
 {
     let mut number = newest[c] as usize;
     'chain: while number > 0 {
-        let row = &mut kept[number - 1];
+        let row = &mut landmarks[number - 1];
         if row.end() <= least {
             return;
         }
@@ -256,30 +257,30 @@ fn note_branch(
     }
 }
 
-/// The kept row with this index.
-pub fn kept_row(kept: &[KeptRow], index: usize) -> &KeptRow
-    requires { index < length kept.now }
-    ensures { result.now ≡ kept_at kept.now index }
+/// The landmark with this index.
+pub fn landmark_of(landmarks: &[Landmark], index: usize) -> &Landmark
+    requires { index < length landmarks.now }
+    ensures { result.now ≡ landmark_at landmarks.now index }
 {
-    &kept[index]
+    &landmarks[index]
 }
 
-/// The first descendants of the kept row with this index.
-pub fn firsts_at(kept: &[KeptRow], index: usize) -> &[u16]
-    requires { index < length kept.now }
-    ensures { result.now ≡ (kept_at kept.now index).firsts }
+/// The first descendants of the landmark with this index.
+pub fn firsts_at(landmarks: &[Landmark], index: usize) -> &[u16]
+    requires { index < length landmarks.now }
+    ensures { result.now ≡ (landmark_at landmarks.now index).firsts }
 {
-    kept[index].firsts()
+    landmarks[index].firsts()
 }
 
-/// One more than the place of the last kept row, or 0 where none is kept.
-pub fn last_end(kept: &[KeptRow]) -> u16
-    ensures none { length kept.now ≡ 0 → result ≡ 0 }
-    ensures last { 0 < length kept.now → result ≡ (kept_at kept.now (length kept.now - 1)).end }
+/// One more than the place of the last landmark, or 0 where there is none.
+pub fn last_end(landmarks: &[Landmark]) -> u16
+    ensures none { length landmarks.now ≡ 0 → result ≡ 0 }
+    ensures last { 0 < length landmarks.now → result ≡ (landmark_at landmarks.now (length landmarks.now - 1)).end }
 {
-    if kept.is_empty() {
+    if landmarks.is_empty() {
         0
     } else {
-        kept[kept.len() - 1].end()
+        landmarks[landmarks.len() - 1].end()
     }
 }

@@ -1,5 +1,5 @@
 use Rattle.std.proofs.Common.{◌≡◌, ◌<◌, ℕ, cond, nat_lt, min, length, slice_index}
-use Rattle.hg_branches.proofs.kept.mark_news.Given as goal
+use Rattle.hg_branches.proofs.landmarks.mark_news.Given as goal
 
 abbrev pub invariant-loop-c : goal.invariant-loop-c
 invariant-loop-c l = record {

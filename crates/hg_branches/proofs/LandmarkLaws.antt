@@ -1,4 +1,4 @@
--- The first descendants that are kept once a row has come, and what they tell
+-- The first descendants that are landmarks once a row has come, and what they tell
 use Rattle.std.proofs.Common.{◌≡◌, ◌≢◌, ℕ, zero, suc, ◌+◌, ◌-◌, ◌<◌, ◌≤◌, ◌^◌, ◌||◌, ◌&&◌, eqb, nat_lt, nat_le, not, true, false, Bool, cond, min, List, [], ◌∷◌, ◌++◌, length, get_or, replicate, slice_index, slice_set, take, drop, sym, ap, ap₂, ◌∙◌, refl, subst, inl, inr, arith}
 use Rattle.std.proofs.Math.Seq.{take-append_seam}
 use Rattle.std.proofs.lemmas.Bool.{cases_eq, cases_lt, cases_Bool, and_parts, and_from, or_cases, or_left, or_right, ltb-true, lt-ltb, leb-true, le-leb, eqb-true, eq-eqb, not-true, not_from_false, false_from_ne_true, both_ways}
@@ -15,7 +15,7 @@ use Rattle.hg_model.proofs.ReachLaws.{bool_iff, has_place_first}
 use Rattle.hg_branches.specs.Branches.{Branching, CountsAncestors, FirstDescendants, greatest_count}
 use Rattle.hg_branches.specs.Rows.{known_place}
 use Rattle.hg_branches.specs.Columns.{branching_of, count_in, next_branch, HoldsBranches, HoldsCounts, with_branch}
-use Rattle.hg_branches.specs.Kept.{Kept, kept_at, no_first, is_first, noted, noted_once, AreNotedOn, IsLastOn, HoldsFirsts, HoldsKept, HoldsTops}
+use Rattle.hg_branches.specs.Landmarks.{LandmarkView, landmark_at, no_first, is_first, noted, noted_once, AreNotedOn, IsLastOn, HoldsFirsts, HoldsLandmarks, HoldsTops}
 use Rattle.hg_branches.specs.Lines.{sees_on, own_sees, others_see}
 use Rattle.hg_branches.proofs.FirstLaws.{firsts_begin, firsts_next}
 use Rattle.hg_branches.proofs.SeenLaws.{by_branches, seen_by_branches, counted_sound, counted_complete}
@@ -31,7 +31,7 @@ le_is_lt e count some = bool_iff (nat_le e count) (nat_lt (e - 1) count)
     (λ h. (let le : e ≤ count = leb-true e count h in lt-ltb (e - 1) count (omega arith)))
     (λ h. (let less : e - 1 < count = ltb-true (e - 1) count h in le-leb e count (omega arith)))
 
-module _ (count b end : ℕ) (k : Kept) where
+module _ (count b end : ℕ) (k : LandmarkView) where
   first_set : is_first count b end k ≡ true → (noted_once count b end k).firsts ≡ slice_set k.firsts b end
   first_set h = ap (λ c. cond c (slice_set k.firsts b end) k.firsts) h
 
@@ -64,12 +64,12 @@ module _ (count b end : ℕ) (k : Kept) where
 
   noted_here : b < length k.firsts → slice_index (noted_once count b end k).firsts b ≡ cond (nat_le k.end count) (min (slice_index k.firsts b) end) (slice_index k.firsts b)
   noted_here inside = elim (cases_lt count k.end) [
-    | inl less ↦ ap (λ (k : Kept). slice_index k.firsts b) (not_counted less)
+    | inl less ↦ ap (λ (k : LandmarkView). slice_index k.firsts b) (not_counted less)
         ∙ ap (λ c. cond c (min (slice_index k.firsts b) end) (slice_index k.firsts b)) (sym (false_from_ne_true (nat_le k.end count) (λ h. (let le : k.end ≤ count = leb-true k.end count h in absurd (omega arith)))))
     | inr counted ↦ elim (cases_lt end (slice_index k.firsts b)) [
       | inl later ↦ ap (λ (f : List ℕ). slice_index f b) (first_set (and_from (nat_le k.end count) (nat_lt end (slice_index k.firsts b)) (le-leb k.end count counted) (lt-ltb end (slice_index k.firsts b) later)))
           ∙ (get_or-set_same k.firsts b end 0 inside ∙ (lesser later ∙ by_count counted))
-      | inr no_later ↦ ap (λ (k : Kept). slice_index k.firsts b) (not_later no_later) ∙ (greater no_later ∙ by_count counted)
+      | inr no_later ↦ ap (λ (k : LandmarkView). slice_index k.firsts b) (not_later no_later) ∙ (greater no_later ∙ by_count counted)
     ]
   ]
     where
@@ -98,7 +98,7 @@ module _ (n : Stakes) (L : List Link) (branches makers ends : List ℕ) (held : 
       ap (λ k. nat_lt y (slice_index row k)) (sym (get_or_append_left branches (b ∷ []) 0 y (omega arith)))
       ∙ counted.told y (omega (arith, length_push L link))
 
-  pub holds_noted : (k : Kept) → HoldsFirsts n L branches makers k → HoldsFirsts n (L ++ link ∷ []) (branches ++ b ∷ []) (with_branch makers b link.creator) (noted row b end k)
+  pub holds_noted : (k : LandmarkView) → HoldsFirsts n L branches makers k → HoldsFirsts n (L ++ link ∷ []) (branches ++ b ∷ []) (with_branch makers b link.creator) (noted row b end k)
   holds_noted k holds =
       let some = holds.some in
       let inside = holds.inside in
@@ -124,32 +124,32 @@ module _ (n : Stakes) (L : List Link) (branches makers ends : List ℕ) (held : 
             ∙ ap (λ j. cond (is_ancestor (L ++ link ∷ []) (length L) y) (min (slice_index k.firsts j) end) (slice_index k.firsts j)) (sym last))));
       }
 
-  pub kept_more : (old new : List Kept) (newest numbers : List ℕ) → HoldsKept n L branches makers old newest numbers → length new ≡ length old →
-      ((i : ℕ) → i < length old → kept_at new i ≡ noted row b (length L + 1) (kept_at old i)) →
-      HoldsKept n (L ++ link ∷ []) (branches ++ b ∷ []) (with_branch makers b link.creator) new (with_branch newest b 0) (numbers ++ 0 ∷ [])
-  kept_more old new newest numbers kept long each =
+  pub landmarks_more : (old new : List LandmarkView) (newest numbers : List ℕ) → HoldsLandmarks n L branches makers old newest numbers → length new ≡ length old →
+      ((i : ℕ) → i < length old → landmark_at new i ≡ noted row b (length L + 1) (landmark_at old i)) →
+      HoldsLandmarks n (L ++ link ∷ []) (branches ++ b ∷ []) (with_branch makers b link.creator) new (with_branch newest b 0) (numbers ++ 0 ∷ [])
+  landmarks_more old new newest numbers landmarks long each =
       let reach = in_reach n L branches makers ends held link fits b serves in
-      let same : (i : ℕ) → i < length old → StandsAs (kept_at new i) (kept_at old i) =
-      λ i h. (ap (λ (k : Kept). k.end) (each i h), ap (λ (k : Kept). k.branch) (each i h), ap (λ (k : Kept). k.before) (each i h)) in
+      let same : (i : ℕ) → i < length old → StandsAs (landmark_at new i) (landmark_at old i) =
+      λ i h. (ap (λ (k : LandmarkView). k.end) (each i h), ap (λ (k : LandmarkView). k.branch) (each i h), ap (λ (k : LandmarkView). k.before) (each i h)) in
       record {
         each = λ i h. (let low : i < length old = omega arith in
-            subst (HoldsFirsts n (L ++ link ∷ []) (branches ++ b ∷ []) (with_branch makers b link.creator)) (sym (each i low)) (holds_noted (kept_at old i) (kept.each i low)));
-        chains = chains_noted old new same long kept.chains;
-        by_branch = λ c. subst (IsLastOn new (length new) c) (sym (opened_reads newest b c)) (newest_noted old new same long newest kept.by_branch c);
-        newest_all = opened_long makers newest b link.creator reach kept.newest_all;
+            subst (HoldsFirsts n (L ++ link ∷ []) (branches ++ b ∷ []) (with_branch makers b link.creator)) (sym (each i low)) (holds_noted (landmark_at old i) (landmarks.each i low)));
+        chains = chains_noted old new same long landmarks.chains;
+        by_branch = λ c. subst (IsLastOn new (length new) c) (sym (opened_reads newest b c)) (newest_noted old new same long newest landmarks.by_branch c);
+        newest_all = opened_long makers newest b link.creator reach landmarks.newest_all;
         by_place = λ y some. (let is = zero_behind numbers y in
-            let was = numbers_noted old new same (omega arith) numbers kept.by_place y (subst (λ j. 0 < j) is some) in
-            (subst (λ j. j ≤ length new) (sym is) was.0, subst (λ j. (kept_at new (j - 1)).end ≡ y + 1) (sym is) was.1));
-        numbers_all = (let all = kept.numbers_all in omega (arith, length_push numbers 0, length_push L link));
+            let was = numbers_noted old new same (omega arith) numbers landmarks.by_place y (subst (λ j. 0 < j) is some) in
+            (subst (λ j. j ≤ length new) (sym is) was.0, subst (λ j. (landmark_at new (j - 1)).end ≡ y + 1) (sym is) was.1));
+        numbers_all = (let all = landmarks.numbers_all in omega (arith, length_push numbers 0, length_push L link));
       }
 
 -- what the self-parent has as ancestor needs no note: on the next row's branch it has a descendant already
 pub noted_on : (n : Stakes) (L : List Link) (branches makers ends : List ℕ) → HoldsBranches n L branches makers ends → (counts : List (List ℕ)) → HoldsCounts n L branches makers counts →
-    (kept : List Kept) (newest numbers : List ℕ) → HoldsKept n L branches makers kept newest numbers → (on : List ℕ) (by : ℕ) → FitsLink n L (link_of by on) → (row : List ℕ) →
+    (landmarks : List LandmarkView) (newest numbers : List ℕ) → HoldsLandmarks n L branches makers landmarks newest numbers → (on : List ℕ) (by : ℕ) → FitsLink n L (link_of by on) → (row : List ℕ) →
     ((i : ℕ) → i ≢ next_branch branches ends on by → get_or row i 0 ≡ greatest_count (count_in counts) on i) → (c : ℕ) →
-    AreNotedOn c (get_or (get_or (counts ++ row ∷ []) (known_place on (length L)) []) c 0) (get_or row c 0) (next_branch branches ends on by) (length L + 1) kept
-noted_on n L branches makers ends held counts rows kept newest numbers holds [] by fits row others c i h is_on le =
-    let k : Kept = kept_at kept i in
+    AreNotedOn c (get_or (get_or (counts ++ row ∷ []) (known_place on (length L)) []) c 0) (get_or row c 0) (next_branch branches ends on by) (length L + 1) landmarks
+noted_on n L branches makers ends held counts rows landmarks newest numbers holds [] by fits row others c i h is_on le =
+    let k : LandmarkView = landmark_at landmarks i in
     let firsts = holds.each i h in
     let some = firsts.some in
     let inside = firsts.inside in
@@ -172,8 +172,8 @@ noted_on n L branches makers ends held counts rows kept newest numbers holds [] 
           ])
       | inr other ↦ (let none : get_or row c 0 ≡ 0 = others c other in absurd (omega arith))
     ]
-noted_on n L branches makers ends held counts rows kept newest numbers holds (p ∷ ps) by fits row others c i h is_on le =
-    let k : Kept = kept_at kept i in
+noted_on n L branches makers ends held counts rows landmarks newest numbers holds (p ∷ ps) by fits row others c i h is_on le =
+    let k : LandmarkView = landmark_at landmarks i in
     let firsts = holds.each i h in
     let some = firsts.some in
     let inside = firsts.inside in
@@ -199,19 +199,19 @@ noted_on n L branches makers ends held counts rows kept newest numbers holds (p 
     ])
 
 -- the tops stay, and a new branch has none
-pub tops_noted : (old new : List Kept) → ((i : ℕ) → i < length old → StandsAs (kept_at new i) (kept_at old i)) → length new ≡ length old → (tops : List ℕ) (b : ℕ) → HoldsTops old tops →
+pub tops_noted : (old new : List LandmarkView) → ((i : ℕ) → i < length old → StandsAs (landmark_at new i) (landmark_at old i)) → length new ≡ length old → (tops : List ℕ) (b : ℕ) → HoldsTops old tops →
     HoldsTops new (with_branch tops b 0)
 tops_noted old new same long tops b holds i h =
     let low : i < length old = omega arith in
     let is = (same i low).0 in
     let was = holds i low in
-    let branch_is : slice_index tops (kept_at new i).branch ≡ slice_index tops (kept_at old i).branch = ap (slice_index tops) (same i low).1 in
-    let reads : slice_index (with_branch tops b 0) (kept_at new i).branch ≡ slice_index tops (kept_at new i).branch = opened_reads tops b (kept_at new i).branch in
+    let branch_is : slice_index tops (landmark_at new i).branch ≡ slice_index tops (landmark_at old i).branch = ap (slice_index tops) (same i low).1 in
+    let reads : slice_index (with_branch tops b 0) (landmark_at new i).branch ≡ slice_index tops (landmark_at new i).branch = opened_reads tops b (landmark_at new i).branch in
     omega arith
 
--- nothing is kept
-pub kept_none : (n : Stakes) (L : List Link) (branches makers newest : List ℕ) → newest ≡ replicate (length makers) 0 → HoldsKept n L branches makers [] newest []
-kept_none n L branches makers newest newest_are = record {
+-- nothing is landmarks
+pub landmarks_none : (n : Stakes) (L : List Link) (branches makers newest : List ℕ) → newest ≡ replicate (length makers) 0 → HoldsLandmarks n L branches makers [] newest []
+landmarks_none n L branches makers newest newest_are = record {
   each = λ i h. absurd (omega arith);
   chains = record { low = λ i h. absurd (omega arith); rise = λ i j le h. absurd (omega arith); before = λ j h. absurd (omega arith) };
   by_branch = λ c. (let is = read_zeros newest (length makers) c newest_are in record { inside = omega arith; on = λ some. absurd (omega arith); none_later = λ i from below on. absurd (omega arith) });
@@ -221,11 +221,11 @@ kept_none n L branches makers newest newest_are = record {
 }
 
 -- a list of which each place was written
-pub refilled_kept : (n : ℕ) (new old : List Kept) → length new ≡ n → take n (new ++ drop (length new) old) ≡ new
-refilled_kept n new old long = ap (λ k. take k (new ++ drop (length new) old)) (sym long) ∙ take-append_seam new (drop (length new) old)
+pub refilled : (n : ℕ) (new old : List LandmarkView) → length new ≡ n → take n (new ++ drop (length new) old) ≡ new
+refilled n new old long = ap (λ k. take k (new ++ drop (length new) old)) (sym long) ∙ take-append_seam new (drop (length new) old)
 
--- the last row, when it begins to be kept
-pub holds_begun : (n : Stakes) (L : List Link) (branches makers ends : List ℕ) → HoldsBranches n L branches makers ends → (k : Kept) → 0 < k.end → length L ≡ k.end → length k.firsts ≡ n →
+-- the last row, when it begins to be landmarks
+pub holds_begun : (n : Stakes) (L : List Link) (branches makers ends : List ℕ) → HoldsBranches n L branches makers ends → (k : LandmarkView) → 0 < k.end → length L ≡ k.end → length k.firsts ≡ n →
     slice_index branches (k.end - 1) ≡ k.branch → (k.branch < n → slice_index k.firsts k.branch ≡ k.end) → ((b : ℕ) → b < n → b ≢ k.branch → slice_index k.firsts b ≡ no_first) →
     HoldsFirsts n L branches makers k
 holds_begun n L branches makers ends held k some last long on own others = record {
@@ -241,23 +241,23 @@ holds_begun n L branches makers ends held k some last long on own others = recor
     ends_some : (e : ℕ) → 0 < e → e ≡ (e - 1) + 1
     ends_some e h = omega arith
 
-pub kept_begun : (n : Stakes) (L : List Link) (branches makers : List ℕ) (kept : List Kept) (newest numbers : List ℕ) → HoldsKept n L branches makers kept newest numbers → (k : Kept) → HoldsFirsts n L branches makers k →
-    length L ≡ k.end → length numbers ≡ k.end → k.branch < length makers → (0 < length kept → (kept_at kept (length kept - 1)).end < k.end) → k.before ≡ slice_index newest k.branch →
-    HoldsKept n L branches makers (kept ++ k ∷ []) (slice_set newest k.branch (length kept + 1)) (slice_set numbers (k.end - 1) (length kept + 1))
-kept_begun n L branches makers kept newest numbers holds k first last entries known later before =
+pub landmarks_begun : (n : Stakes) (L : List Link) (branches makers : List ℕ) (landmarks : List LandmarkView) (newest numbers : List ℕ) → HoldsLandmarks n L branches makers landmarks newest numbers → (k : LandmarkView) → HoldsFirsts n L branches makers k →
+    length L ≡ k.end → length numbers ≡ k.end → k.branch < length makers → (0 < length landmarks → (landmark_at landmarks (length landmarks - 1)).end < k.end) → k.before ≡ slice_index newest k.branch →
+    HoldsLandmarks n L branches makers (landmarks ++ k ∷ []) (slice_set newest k.branch (length landmarks + 1)) (slice_set numbers (k.end - 1) (length landmarks + 1))
+landmarks_begun n L branches makers landmarks newest numbers holds k first last entries known later before =
     let all = holds.newest_all in
     let numbers_all = holds.numbers_all in
     let some = first.some in
     record {
-      each = λ i h. elim (cases_lt i (length kept)) [
-        | inl earlier ↦ subst (HoldsFirsts n L branches makers) (sym (get_or_append_left kept (k ∷ []) (record { end = 0; branch = 0; before = 0; firsts = [] }) i earlier)) (holds.each i earlier)
-        | inr past ↦ subst (HoldsFirsts n L branches makers) (sym (begun_last kept k holds.chains i (omega (arith, length_push kept k)))) first
+      each = λ i h. elim (cases_lt i (length landmarks)) [
+        | inl earlier ↦ subst (HoldsFirsts n L branches makers) (sym (get_or_append_left landmarks (k ∷ []) (record { end = 0; branch = 0; before = 0; firsts = [] }) i earlier)) (holds.each i earlier)
+        | inr past ↦ subst (HoldsFirsts n L branches makers) (sym (begun_last landmarks k holds.chains i (omega (arith, length_push landmarks k)))) first
       ];
-      chains = chains_begun kept k holds.chains some later (subst (IsLastOn kept (length kept) k.branch) (sym before) (holds.by_branch k.branch));
-      by_branch = newest_begun kept k holds.chains newest holds.by_branch (omega arith);
-      newest_all = length-set newest k.branch (length kept + 1) ∙ all;
-      by_place = numbers_begun kept k holds.chains numbers (k.end - 1) holds.by_place (omega arith) (omega arith);
-      numbers_all = omega (arith, length-set numbers (k.end - 1) (length kept + 1), numbers_all);
+      chains = chains_begun landmarks k holds.chains some later (subst (IsLastOn landmarks (length landmarks) k.branch) (sym before) (holds.by_branch k.branch));
+      by_branch = newest_begun landmarks k holds.chains newest holds.by_branch (omega arith);
+      newest_all = length-set newest k.branch (length landmarks + 1) ∙ all;
+      by_place = numbers_begun landmarks k holds.chains numbers (k.end - 1) holds.by_place (omega arith) (omega arith);
+      numbers_all = omega (arith, length-set numbers (k.end - 1) (length landmarks + 1), numbers_all);
     }
 
 -- where no place passes both of two tests, those that pass either are counted one after the other
@@ -276,7 +276,7 @@ count_apart (suc n) one two apart =
     plain k = omega arith
 
 module _ (n : Stakes) (L : List Link) (branches makers ends : List ℕ) (held : HoldsBranches n L branches makers ends) (counts : List (List ℕ)) (rows : HoldsCounts n L branches makers counts)
-    (x y : ℕ) (hx : x < length L) (free : has_fork_below L x (creator L y) ≡ false) (k : Kept) (holds : HoldsFirsts n L branches makers k) (is : k.end ≡ y + 1) where
+    (x y : ℕ) (hx : x < length L) (free : has_fork_below L x (creator L y) ≡ false) (k : LandmarkView) (holds : HoldsFirsts n L branches makers k) (is : k.end ≡ y + 1) where
   abbrev count : ℕ → ℕ
   count = count_in counts x
 

@@ -1,7 +1,7 @@
 use Rattle.std.proofs.Common.{◌∙◌, drop, length, arith}
 use Rattle.std.proofs.lemmas.List.{take_at}
 use Rattle.hg_branches.proofs.ReachedLaws.{none_few, more_few}
-use Rattle.hg_branches.proofs.kept.KeptRow.begin.Goals as goal
+use Rattle.hg_branches.proofs.landmarks.Landmark.begin.Goals as goal
 
 pub invariant_of-self : goal.invariant_of-self
 invariant_of-self c =

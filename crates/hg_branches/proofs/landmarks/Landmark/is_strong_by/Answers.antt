@@ -1,15 +1,15 @@
 use Rattle.std.proofs.Common.{◌≡◌, ◌≤◌, ◌∙◌, List, ℕ, sym, ap, subst, length, arith}
 use Rattle.hg_model.specs.Places.{count_below}
 use Rattle.hg_model.specs.Seeing.{is_supermajority}
-use Rattle.hg_branches.specs.Kept.{Kept, is_reached}
+use Rattle.hg_branches.specs.Landmarks.{LandmarkView, is_reached}
 use Rattle.hg_branches.proofs.ReachedLaws.{few_reached}
-use Rattle.hg_branches.proofs.kept.KeptRow.is_strong_by.Goals as goal
+use Rattle.hg_branches.proofs.landmarks.Landmark.is_strong_by.Goals as goal
 
 pub returns-then-not-is_supermajority : goal.returns-then-not-is_supermajority
 returns-then-not-is_supermajority c =
     let reached = c.self.inside.reached in
     let firsts = c.args.self.now.firsts in
-    let firsts_is : c.self.inside.firsts.items ≡ firsts = ap (λ (k : Kept). k.firsts) c.self.view_is in
+    let firsts_is : c.self.inside.firsts.items ≡ firsts = ap (λ (k : LandmarkView). k.firsts) c.self.view_is in
     let long : c.len-members.result ≡ length firsts = omega (arith, ap length firsts_is) in
     sym (few_reached firsts c.args.counts.now reached
     (subst (λ (f : List ℕ). count_below (length f) (is_reached f) ≤ reached) firsts_is c.self.invariant.most)
