@@ -3,14 +3,15 @@ use Rattle.std.proofs.Common.{◌≡◌, ◌≢◌, ℕ, zero, suc, ◌+◌, ◌
 use Rattle.std.proofs.Math.Seq.{take-append_seam}
 use Rattle.std.proofs.lemmas.Bool.{cases_eq, cases_lt, cases_Bool, and_parts, and_from, or_cases, or_left, or_right, ltb-true, lt-ltb, leb-true, le-leb, eqb-true, eq-eqb, not-true, not_from_false, false_from_ne_true, both_ways}
 use Rattle.std.proofs.lemmas.List.{length_push, length-set, length-replicate, get_or-set_same, get_or-set_other, get_or_append_left, get_or_push, get_or_past}
-use Rattle.hg_model.specs.Places.{count_below, weight_below, some_below}
-use Rattle.hg_model.specs.Stakes.{Stakes, member_count, stake_where}
+use Rattle.hg_model.specs.Places.{weight_below, some_below}
+use Rattle.hg_model.specs.Stakes.{Stakes, member_count, stake_of, stake_where, total}
 use Rattle.hg_model.specs.Links.{Link, creator}
 use Rattle.hg_model.specs.Ancestry.{is_ancestor}
 use Rattle.hg_model.specs.Forks.{has_fork_below}
 use Rattle.hg_model.specs.Seeing.{sees_through, strongly_sees, is_supermajority}
 use Rattle.hg_model.specs.Shape.{FitsLink, link_of}
-use Rattle.hg_model.proofs.PlacesLaws.{some_below_from, some_below_found, weight_below-same, weight_below_none, weight_below-longer, total-count}
+use Rattle.hg_model.proofs.PlacesLaws.{some_below_from, some_below_found, weight_below-same, weight_below_none}
+use Rattle.hg_model.proofs.WeightLaws.{weight_below_both}
 use Rattle.hg_model.proofs.ReachLaws.{bool_iff, has_place_first}
 use Rattle.hg_branches.specs.Branches.{Branching, CountsAncestors, FirstDescendants, greatest_count}
 use Rattle.hg_branches.specs.Rows.{known_place}
@@ -115,11 +116,11 @@ module _ (n : Stakes) (L : List Link) (branches makers ends : List ℕ) (held : 
         inside = omega (arith, length_push L link);
         long = noted_long count b end k ∙ long;
         on = get_or_append_left branches (b ∷ []) 0 y (omega arith) ∙ holds.on;
-        told = firsts_next n L link held.shaped fits (branching_of branches makers) C held.lines (row_taken n L branches makers ends held link fits b serves) n no_first y
+        told = firsts_next n L link held.shaped fits (branching_of branches makers) C held.lines (row_taken n L branches makers ends held link fits b serves) (member_count n) no_first y
             (slice_index k.firsts) (slice_index (noted row b end k).firsts) below (omega arith) holds.told
             (λ i hi off. noted_other count b end k i (λ e. off (e ∙ sym last)))
             (λ hb. ap (slice_index (noted row b end k).firsts) last
-            ∙ (noted_here count b end k (let low = subst (λ k. k < n) last hb in omega arith)
+            ∙ (noted_here count b end k (let low = subst (λ k. k < member_count n) last hb in omega arith)
             ∙ (ap (λ c. cond c (min (slice_index k.firsts b) end) (slice_index k.firsts b)) up
             ∙ ap (λ j. cond (is_ancestor (L ++ link ∷ []) (length L) y) (min (slice_index k.firsts j) end) (slice_index k.firsts j)) (sym last))));
       }
@@ -187,7 +188,7 @@ noted_on n L branches makers ends held counts rows landmarks newest numbers hold
     let all = held.ends_all in
     let wide = held.all in
     not_later (get_or row c 0) (next_branch branches ends (p ∷ ps) by) (length L + 1) k
-    (elim (cases_lt (next_branch branches ends (p ∷ ps) by) n) [
+    (elim (cases_lt (next_branch branches ends (p ∷ ps) by) (member_count n)) [
       | inl own ↦ elim (cases_Bool (eqb (get_or ends branch 0) (p + 1))) [
         | inl last ↦
             (let is : next_branch branches ends (p ∷ ps) by ≡ branch = ap (λ c. cond c branch (length ends)) last in
@@ -225,16 +226,16 @@ pub refilled : (n : ℕ) (new old : List LandmarkView) → length new ≡ n → 
 refilled n new old long = ap (λ k. take k (new ++ drop (length new) old)) (sym long) ∙ take-append_seam new (drop (length new) old)
 
 -- the last row, when it begins to be landmarks
-pub holds_begun : (n : Stakes) (L : List Link) (branches makers ends : List ℕ) → HoldsBranches n L branches makers ends → (k : LandmarkView) → 0 < k.end → length L ≡ k.end → length k.firsts ≡ n →
-    slice_index branches (k.end - 1) ≡ k.branch → (k.branch < n → slice_index k.firsts k.branch ≡ k.end) → ((b : ℕ) → b < n → b ≢ k.branch → slice_index k.firsts b ≡ no_first) →
+pub holds_begun : (n : Stakes) (L : List Link) (branches makers ends : List ℕ) → HoldsBranches n L branches makers ends → (k : LandmarkView) → 0 < k.end → length L ≡ k.end → length k.firsts ≡ member_count n →
+    slice_index branches (k.end - 1) ≡ k.branch → (k.branch < member_count n → slice_index k.firsts k.branch ≡ k.end) → ((b : ℕ) → b < member_count n → b ≢ k.branch → slice_index k.firsts b ≡ no_first) →
     HoldsFirsts n L branches makers k
 holds_begun n L branches makers ends held k some last long on own others = record {
   some = some;
   inside = omega arith;
   long = long;
   on = on;
-  told = firsts_begin n no_first L (branching_of branches makers) (k.end - 1) (slice_index k.firsts) held.shaped.earlier held.lines (omega arith) (let short = held.short in omega arith)
-      (λ low. ap (slice_index k.firsts) on ∙ (own (subst (λ c. c < n) on low) ∙ ends_some k.end some))
+  told = firsts_begin (member_count n) no_first L (branching_of branches makers) (k.end - 1) (slice_index k.firsts) held.shaped.earlier held.lines (omega arith) (let short = held.short in omega arith)
+      (λ low. ap (slice_index k.firsts) on ∙ (own (subst (λ c. c < member_count n) on low) ∙ ends_some k.end some))
       (λ b low other. others b low (λ e. other (e ∙ sym on)));
 }
   where
@@ -260,20 +261,13 @@ landmarks_begun n L branches makers landmarks newest numbers holds k first last 
       numbers_all = omega (arith, length-set numbers (k.end - 1) (length landmarks + 1), numbers_all);
     }
 
--- where no place passes both of two tests, those that pass either are counted one after the other
-pub count_apart : (n : ℕ) (one two : ℕ → Bool) → ((m : ℕ) → m < n → one m ≡ true → two m ≡ false) → count_below n (λ m. one m || two m) ≡ count_below n one + count_below n two
-unfolding weight_below
-count_apart zero one two apart = refl
-count_apart (suc n) one two apart =
-    let before = count_apart n one two (λ m h. apart m (omega arith)) in
-    let here : cond (one n || two n) 1 0 ≡ cond (one n) 1 0 + cond (two n) 1 0 = elim (cases_Bool (one n)) [
-      | inl yes_one ↦ (let no_two = apart n (omega arith) yes_one in rw (yes_one, no_two) refl)
-      | inr no_one ↦ rw no_one (plain (cond (two n) 1 0))
-    ] in
-    omega (arith, before, here)
-  where
-    plain : (k : ℕ) → k ≡ 0 + k
-    plain k = omega arith
+-- where no place passes both of two tests, those that pass either weigh what both weigh
+pub weight_apart : (weight : ℕ → ℕ) (n : ℕ) (one two : ℕ → Bool) → ((m : ℕ) → m < n → one m ≡ true → two m ≡ false) →
+    weight_below weight n (λ m. one m || two m) ≡ weight_below weight n one + weight_below weight n two
+weight_apart weight n one two apart =
+    let none = weight_below_none weight n (λ m. one m && two m)
+    (λ m h both. (let parts = and_parts (one m) (two m) both in both_ways (two m) (apart m h parts.0) parts.1)) in
+    omega (arith, none, weight_below_both weight n one two)
 
 module _ (n : Stakes) (L : List Link) (branches makers ends : List ℕ) (held : HoldsBranches n L branches makers ends) (counts : List (List ℕ)) (rows : HoldsCounts n L branches makers counts)
     (x y : ℕ) (hx : x < length L) (free : has_fork_below L x (creator L y) ≡ false) (k : LandmarkView) (holds : HoldsFirsts n L branches makers k) (is : k.end ≡ y + 1) where
@@ -282,16 +276,16 @@ module _ (n : Stakes) (L : List Link) (branches makers ends : List ℕ) (held : 
 
   -- a member's own branch passes by its first descendant, any other one by its last counted row
   passes : ℕ → Bool
-  passes b = cond (nat_lt b n) (nat_le (slice_index k.firsts b) (count b)) (sees_on L (get_or counts x []) y b)
+  passes b = cond (nat_lt b (member_count n)) (nat_le (slice_index k.firsts b) (count b)) (sees_on L (get_or counts x []) y b)
 
-  passes_own : (b : ℕ) → b < n → passes b ≡ nat_le (slice_index k.firsts b) (count b)
+  passes_own : (b : ℕ) → b < member_count n → passes b ≡ nat_le (slice_index k.firsts b) (count b)
   unfolding passes
-  passes_own b h = ap (λ c. cond c (nat_le (slice_index k.firsts b) (count b)) (sees_on L (get_or counts x []) y b)) (lt-ltb b n h)
+  passes_own b h = ap (λ c. cond c (nat_le (slice_index k.firsts b) (count b)) (sees_on L (get_or counts x []) y b)) (lt-ltb b (member_count n) h)
 
-  passes_other : (b : ℕ) → n ≤ b → passes b ≡ sees_on L (get_or counts x []) y b
+  passes_other : (b : ℕ) → member_count n ≤ b → passes b ≡ sees_on L (get_or counts x []) y b
   unfolding passes
   passes_other b h = ap (λ c. cond c (nat_le (slice_index k.firsts b) (count b)) (sees_on L (get_or counts x []) y b))
-      (false_from_ne_true (nat_lt b n) (λ t. absurd (omega (arith, ltb-true b n t))))
+      (false_from_ne_true (nat_lt b (member_count n)) (λ t. absurd (omega (arith, ltb-true b (member_count n) t))))
 
   low : length L < no_first
   low = (let short = held.short in omega arith)
@@ -299,16 +293,16 @@ module _ (n : Stakes) (L : List Link) (branches makers ends : List ℕ) (held : 
   through_passes : (m : ℕ) → by_branches (length makers) (branching_of branches makers) passes m ≡ sees_through L x y m
   through_passes m =
       let same : k.end - 1 ≡ y = omega arith in
-      let firsts = subst (λ z. FirstDescendants n no_first L (branching_of branches makers) z (slice_index k.firsts)) same holds.told in
+      let firsts = subst (λ z. FirstDescendants (member_count n) no_first L (branching_of branches makers) z (slice_index k.firsts)) same holds.told in
       seen_by_branches L held.shaped.earlier (branching_of branches makers) held.lines (length makers) held.known x y hx passes
-      (λ b h p. elim (cases_lt b n) [
-        | inl own ↦ counted_sound L held.shaped.earlier (branching_of branches makers) held.lines (length makers) held.known n no_first x y count (slice_index k.firsts) hx (rows.row x hx) firsts low
+      (λ b h p. elim (cases_lt b (member_count n)) [
+        | inl own ↦ counted_sound L held.shaped.earlier (branching_of branches makers) held.lines (length makers) held.known (member_count n) no_first x y count (slice_index k.firsts) hx (rows.row x hx) firsts low
             free b own (sym (passes_own b own) ∙ p)
         | inr other ↦ sound_on n L branches makers ends held counts rows x y b hx (sym (passes_other b other) ∙ p)
       ])
-      (λ z hz up seen. elim (cases_lt (get_or branches z 0) n) [
+      (λ z hz up seen. elim (cases_lt (get_or branches z 0) (member_count n)) [
         | inl own ↦ passes_own (get_or branches z 0) own
-            ∙ counted_complete L held.shaped.earlier (branching_of branches makers) held.lines (length makers) held.known n no_first x y count (slice_index k.firsts) hx (rows.row x hx) firsts low z own up seen
+            ∙ counted_complete L held.shaped.earlier (branching_of branches makers) held.lines (length makers) held.known (member_count n) no_first x y count (slice_index k.firsts) hx (rows.row x hx) firsts low z own up seen
         | inr other ↦ passes_other (get_or branches z 0) other ∙ complete_on n L branches makers ends held counts rows x y z hx hz up seen
       ])
       m
@@ -319,18 +313,18 @@ module _ (n : Stakes) (L : List Link) (branches makers ends : List ℕ) (held : 
 
   -- member m is not, and is seen through another one
   abbrev pub on_other : ℕ → Bool
-  on_other m = some_below (length makers) (λ b. (nat_le n b && not (on_own (get_or makers b 0)) && sees_on L (get_or counts x []) y b) && eqb (get_or makers b 0) m)
+  on_other m = some_below (length makers) (λ b. (nat_le (member_count n) b && not (on_own (get_or makers b 0)) && sees_on L (get_or counts x []) y b) && eqb (get_or makers b 0) m)
 
-  other_found : (m : ℕ) → on_other m ≡ true → (b : ℕ) × (b < length makers) × (n ≤ b) × (on_own m ≡ false) × (sees_on L (get_or counts x []) y b ≡ true) × (get_or makers b 0 ≡ m)
+  other_found : (m : ℕ) → on_other m ≡ true → (b : ℕ) × (b < length makers) × (member_count n ≤ b) × (on_own m ≡ false) × (sees_on L (get_or counts x []) y b ≡ true) × (get_or makers b 0 ≡ m)
   other_found m h =
-      let b = some_below_found (length makers) (λ b. (nat_le n b && not (on_own (get_or makers b 0)) && sees_on L (get_or counts x []) y b) && eqb (get_or makers b 0) m) h in
-      let one = and_parts (nat_le n b.0 && not (on_own (get_or makers b.0 0)) && sees_on L (get_or counts x []) y b.0) (eqb (get_or makers b.0 0) m) b.2 in
-      let two = and_parts (nat_le n b.0 && not (on_own (get_or makers b.0 0))) (sees_on L (get_or counts x []) y b.0) one.0 in
-      let three = and_parts (nat_le n b.0) (not (on_own (get_or makers b.0 0))) two.0 in
+      let b = some_below_found (length makers) (λ b. (nat_le (member_count n) b && not (on_own (get_or makers b 0)) && sees_on L (get_or counts x []) y b) && eqb (get_or makers b 0) m) h in
+      let one = and_parts (nat_le (member_count n) b.0 && not (on_own (get_or makers b.0 0)) && sees_on L (get_or counts x []) y b.0) (eqb (get_or makers b.0 0) m) b.2 in
+      let two = and_parts (nat_le (member_count n) b.0 && not (on_own (get_or makers b.0 0))) (sees_on L (get_or counts x []) y b.0) one.0 in
+      let three = and_parts (nat_le (member_count n) b.0) (not (on_own (get_or makers b.0 0))) two.0 in
       let by_m = eqb-true (get_or makers b.0 0) m one.1 in
-      (b.0, b.1, leb-true n b.0 three.0, subst (λ j. on_own j ≡ false) by_m (not-true (on_own (get_or makers b.0 0)) three.1), two.1, by_m)
+      (b.0, b.1, leb-true (member_count n) b.0 three.0, subst (λ j. on_own j ≡ false) by_m (not-true (on_own (get_or makers b.0 0)) three.1), two.1, by_m)
 
-  pub split_told : (m : ℕ) → m < n → (on_own m || on_other m) ≡ sees_through L x y m
+  pub split_told : (m : ℕ) → m < member_count n → (on_own m || on_other m) ≡ sees_through L x y m
   split_told m hm =
       let all = held.all in
       bool_iff (on_own m || on_other m) (by_branches (length makers) (branching_of branches makers) passes m)
@@ -345,45 +339,37 @@ module _ (n : Stakes) (L : List Link) (branches makers ends : List ℕ) (held : 
       let b = some_below_found (length makers) (λ b. passes b && eqb (get_or makers b 0) m) h in
       let parts = and_parts (passes b.0) (eqb (get_or makers b.0 0) m) b.2 in
       let by_m = eqb-true (get_or makers b.0 0) m parts.1 in
-      elim (cases_lt b.0 n) [
+      elim (cases_lt b.0 (member_count n)) [
         | inl own ↦ or_left (on_own m) (on_other m) (subst (λ j. on_own j ≡ true) (sym (held.own b.0 own) ∙ by_m) (sym (passes_own b.0 own) ∙ parts.0))
         | inr other ↦ elim (cases_Bool (on_own m)) [
           | inl is_own ↦ or_left (on_own m) (on_other m) is_own
           | inr not_own ↦ or_right (on_own m) (on_other m)
-              (some_below_from (length makers) (λ b. (nat_le n b && not (on_own (get_or makers b 0)) && sees_on L (get_or counts x []) y b) && eqb (get_or makers b 0) m) b.0 b.1
-              (and_from (nat_le n b.0 && not (on_own (get_or makers b.0 0)) && sees_on L (get_or counts x []) y b.0) (eqb (get_or makers b.0 0) m)
-              (and_from (nat_le n b.0 && not (on_own (get_or makers b.0 0))) (sees_on L (get_or counts x []) y b.0)
-              (and_from (nat_le n b.0) (not (on_own (get_or makers b.0 0))) (le-leb n b.0 other)
+              (some_below_from (length makers) (λ b. (nat_le (member_count n) b && not (on_own (get_or makers b 0)) && sees_on L (get_or counts x []) y b) && eqb (get_or makers b 0) m) b.0 b.1
+              (and_from (nat_le (member_count n) b.0 && not (on_own (get_or makers b.0 0)) && sees_on L (get_or counts x []) y b.0) (eqb (get_or makers b.0 0) m)
+              (and_from (nat_le (member_count n) b.0 && not (on_own (get_or makers b.0 0))) (sees_on L (get_or counts x []) y b.0)
+              (and_from (nat_le (member_count n) b.0) (not (on_own (get_or makers b.0 0))) (le-leb (member_count n) b.0 other)
               (not_from_false (on_own (get_or makers b.0 0)) (subst (λ j. on_own j ≡ false) (sym by_m) not_own)))
               (sym (passes_other b.0 other) ∙ parts.0)) parts.1))
         ]
       ])
       ∙ through_passes m
 
-  -- both counts together tell whether x strongly sees y
-  pub strong_by_firsts : (ones others : ℕ) → ones ≡ count_below (member_count n) on_own → others ≡ count_below 128 on_other → is_supermajority (member_count n) (ones + others) ≡ strongly_sees n L x y
+  -- both stakes together tell whether x strongly sees y
+  pub strong_by_firsts : is_supermajority (total n) (stake_where n on_own + stake_where n on_other) ≡ strongly_sees n L x y
   unfolding strongly_sees
-  strong_by_firsts ones others ones_are others_are =
-      let members : ℕ = member_count n in
-      let fewer : others ≡ count_below members on_other = others_are ∙ weight_below-longer (λ _. 1) members 128 on_other held.few (λ m past below. false_from_ne_true (on_other m) (λ h.
-      let b = other_found m h in
-      let member = held.members b.0 b.1 in
-      let by_m : get_or makers b.0 0 ≡ m = b.5 in
-      absurd (omega arith))) in
-      ap₂ (λ j k. is_supermajority members (j + k)) ones_are fewer
-      ∙ (ap (is_supermajority members) (sym (count_apart members on_own on_other (λ m h own. false_from_ne_true (on_other m) (λ h. both_ways (on_own m) (other_found m h).3 own))))
-      ∙ (ap (is_supermajority members) (weight_below-same (λ _. 1) members (λ m. on_own m || on_other m) (sees_through L x y) split_told)
-      ∙ ap (λ all. is_supermajority all (stake_where n (sees_through L x y))) (sym (total-count n))))
+  strong_by_firsts =
+      let apart = weight_apart (stake_of n) (member_count n) on_own on_other
+      (λ m h own. false_from_ne_true (on_other m) (λ h. both_ways (on_own m) (other_found m h).3 own)) in
+      ap (is_supermajority (total n))
+      (sym apart ∙ weight_below-same (stake_of n) (member_count n) (λ m. on_own m || on_other m) (sees_through L x y) split_told)
 
   pub on_other_is : (m : ℕ) → others_see L makers k.firsts (get_or counts x []) y m ≡ on_other m
   on_other_is m = ap (λ j. some_below (length makers) (λ b. (nat_le j b && not (on_own (get_or makers b 0)) && sees_on L (get_or counts x []) y b) && eqb (get_or makers b 0) m)) holds.long
 
   -- the members' own branches alone tell it, where x counts no others
-  pub strong_alone : ((b : ℕ) → member_count n ≤ b → b < length makers → count b ≡ 0) → is_supermajority (member_count n) (count_below (member_count n) on_own) ≡ strongly_sees n L x y
+  pub strong_alone : ((b : ℕ) → member_count n ≤ b → b < length makers → count b ≡ 0) → is_supermajority (total n) (stake_where n on_own) ≡ strongly_sees n L x y
   strong_alone alone =
-      let none : count_below 128 on_other ≡ 0 = weight_below_none (λ _. 1) 128 on_other (λ m below h. (let b = other_found m h in
+      let none : stake_where n on_other ≡ 0 = weight_below_none (stake_of n) (member_count n) on_other (λ m below h. (let b = other_found m h in
       both_ways (sees_on L (get_or counts x []) y b.0) (none_on L (get_or counts x []) y b.0 (alone b.0 b.2 b.1)) b.4)) in
-      ap (is_supermajority (member_count n)) (add_zero (count_below (member_count n) on_own)) ∙ strong_by_firsts (count_below (member_count n) on_own) 0 refl (sym none)
-    where
-      add_zero : (k : ℕ) → k ≡ k + 0
-      add_zero k = omega arith
+      let sum : stake_where n on_own ≡ stake_where n on_own + stake_where n on_other = omega (arith, none) in
+      ap (is_supermajority (total n)) sum ∙ strong_by_firsts

@@ -1,5 +1,6 @@
 -- What a graph of branches keeps to
-use Rattle.std.specs.Prelude.{◌≡◌, ◌+◌, ◌≤◌, length, vec_len, vec_capacity}
+use Rattle.std.specs.Prelude.{◌≡◌, ◌+◌, ◌-◌, ◌^◌, ◌<◌, ◌≤◌, length, vec_len, vec_capacity}
+use Rattle.hg_model.specs.Stakes.{member_count}
 use Rattle.hg_ancestry.specs.Held.{HoldsForks}
 use Rattle.hg_branches.specs.declared.sight.BranchSight.TheInside.{Inside}
 use Rattle.hg_branches.specs.Columns.{HoldsBranches, HoldsCounts, room_of}
@@ -7,14 +8,15 @@ use Rattle.hg_branches.specs.Landmarks.{HoldsLandmarks, HoldsTops, IsSpareLandma
 
 -- each column holds what it is to hold, and has memory for a row where that was taken
 pub record HoldsBranchSight (s : Inside) : Type 0 where
-  pub branches : HoldsBranches s.members s.links.items s.branches.items s.makers.items s.ends.items
-  pub counts : HoldsCounts s.members s.links.items s.branches.items s.makers.items s.counts.rows
-  pub counts_members : s.counts.members ≡ s.members
+  pub branches : HoldsBranches s.stakes s.links.items s.branches.items s.makers.items s.ends.items
+  pub counts : HoldsCounts s.stakes s.links.items s.branches.items s.makers.items s.counts.rows
+  pub counts_members : s.counts.stakes ≡ member_count s.stakes
   pub forks : HoldsForks s.links.items s.forked.items
-  pub landmarks : HoldsLandmarks s.members s.links.items s.branches.items s.makers.items s.landmarks.items s.newest.items s.numbers.items
+  pub landmarks : HoldsLandmarks s.stakes s.links.items s.branches.items s.makers.items s.landmarks.items s.newest.items s.numbers.items
   pub tops : HoldsTops s.landmarks.items s.tops.items
   pub tops_all : length s.tops.items ≡ length s.makers.items
-  pub spare : IsSpareLandmark s.members s.spare
+  pub spare : IsSpareLandmark (member_count s.stakes) s.spare
+  pub rows_room : length s.links.items + room_of s.ready < 2 ^ 16 - 1
   pub links_room : room_of s.ready ≤ s.links.room
   pub branches_room : room_of s.ready ≤ s.branches.room
   pub makers_room : vec_len s.makers + room_of s.ready ≤ vec_capacity s.makers

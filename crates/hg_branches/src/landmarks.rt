@@ -152,7 +152,15 @@ pub fn note_all(
     ensures len { length landmarks.new ≡ length landmarks.old }
     ensures each { NotesAll counts.now.row branch end landmarks.old landmarks.new }
 {
-    note_own(landmarks, newest, tops, known.own(), counts.own(), branch, end);
+    note_own(
+        landmarks,
+        newest,
+        tops,
+        known.own(),
+        counts.own(),
+        branch,
+        end,
+    );
     note_others(landmarks, newest, known, counts, branch, end);
 }
 

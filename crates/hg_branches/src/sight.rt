@@ -160,8 +160,7 @@ impl BranchSight {
     pub(crate) fn is_shaped(&self)
         ensures shaped { IsShapedIn self.now.shape }
         ensures few { member_count self.now.shape.members ≤ 128 }
-    {
-    }
+    {}
 
     /// The members' stakes.
     pub(crate) fn stakes(&self) -> &StakeTable

@@ -1,5 +1,6 @@
 use Rattle.std.proofs.Common.{◌≡◌, ◌<◌, ◌-◌, ◌+◌, ◌∙◌, ℕ, List, [], ◌∷◌, ◌++◌, sym, ap, subst, length, slice_index, slice_set, arith}
 use Rattle.std.proofs.lemmas.List.{get_or_read, length-set}
+use Rattle.hg_model.specs.Stakes.{member_count}
 use Rattle.hg_branches.specs.Landmarks.{LandmarkView, landmark_at, HoldsFirsts, HoldsLandmarks, HoldsTops, IsSpareLandmark, spare_room}
 use Rattle.hg_branches.proofs.LandmarkLaws.{landmarks_begun, holds_begun}
 use Rattle.hg_branches.proofs.ChainLaws.{tops_begun}
@@ -8,7 +9,7 @@ use Rattle.hg_branches.proofs.sight.BranchSight.mark_last.Goals as goal
 pub invariant_of-self : goal.invariant_of-self
 invariant_of-self c =
     let s = c.self.inside in
-    let n = s.members in
+    let n = s.stakes in
     let L = s.links.items in
     let branches = s.branches.items in
     let makers = s.makers.items in
@@ -27,7 +28,7 @@ invariant_of-self c =
     let known : slice_index branches y < length makers = held.branches.known y (omega arith) in
     let newest_all = held.landmarks.newest_all in
     let before : c.index.result.now ≡ slice_index s.newest.items branch = get_or_read s.newest.items branch c.index.result.now (omega arith) c.index.ensures 0 in
-    let row_long : length c.in-Some.row.firsts ≡ n = subst (IsSpareLandmark n) (sym c.take.ensures.value ∙ c.in-Some.is) held.spare in
+    let row_long : length c.in-Some.landmark.firsts ≡ member_count n = subst (IsSpareLandmark (member_count n)) (sym c.take.ensures.value ∙ c.in-Some.is) held.spare in
     let one : spare_room s.spare ≡ 1 = ap spare_room (sym c.take.ensures.value ∙ c.in-Some.is) in
     let none : spare_room c.take.new.self ≡ 0 = ap spare_room c.take.ensures.after in
     let entries : length s.numbers.items ≡ k.end = omega arith in
@@ -57,7 +58,8 @@ invariant_of-self c =
           (tops_begun landmarks k held.landmarks.chains first.some later s.tops.items held.tops (let tops_all = held.tops_all in omega arith))));
       tops_all = length-set s.tops.items branch end ∙ held.tops_all;
       counts_members = held.counts_members;
-      spare = subst (IsSpareLandmark n) (sym c.take.ensures.after) tt;
+      spare = subst (IsSpareLandmark (member_count n)) (sym c.take.ensures.after) tt;
+      rows_room = held.rows_room;
       links_room = held.links_room;
       branches_room = held.branches_room;
       makers_room = held.makers_room;
