@@ -1,4 +1,4 @@
--- The landmarks rows of each branch, when one more is landmarks, and when the next row is noted
+-- The landmarks of each branch, when one more is landmarks, and when the next row is noted
 use Rattle.std.proofs.Common.{◌≡◌, ℕ, ◌+◌, ◌-◌, ◌<◌, ◌≤◌, List, [], ◌∷◌, ◌++◌, length, get_or, replicate, slice_index, slice_set, sym, ap, ◌∙◌, subst, refl, inl, inr, arith}
 use Rattle.std.proofs.lemmas.Bool.{cases_eq, cases_lt}
 use Rattle.std.proofs.lemmas.List.{length_push, length-replicate, get_or-replicate, get_or-set_same, get_or-set_other, get_or_append_left, get_or_push, get_or_past}
@@ -21,7 +21,7 @@ read_zeros xs many i are = elim (cases_lt i many) [
   | inr past ↦ get_or_past xs i 0 (let long = ap length are ∙ length-replicate many 0 in omega arith)
 ]
 
--- both are of one row, and name one landmarks row before it
+-- both are of one row, and name one landmark before it
 abbrev pub StandsAs : LandmarkView → LandmarkView → Type 0
 StandsAs k other = (k.end ≡ other.end) × (k.branch ≡ other.branch) × (k.before ≡ other.before)
 
@@ -56,7 +56,7 @@ module _ (old new : List LandmarkView) (same : (i : ℕ) → i < length old → 
       let le : slice_index numbers y ≤ length old = was.0 in
       (omega arith, (same (slice_index numbers y - 1) (omega arith)).0 ∙ was.1))
 
--- landmarks rows of which those of the first branches are noted stand as they stood
+-- landmarks of which those of the first branches are noted stand as they stood
 pub stands_noted : (counts : List ℕ) (b end : ℕ) (old new : List LandmarkView) → ((c : ℕ) → c < length counts → NotesBy counts b end old new c) →
     ((i : ℕ) → length counts ≤ (landmark_at old i).branch → landmark_at new i ≡ landmark_at old i) → (i : ℕ) → i < length old → StandsAs (landmark_at new i) (landmark_at old i)
 stands_noted counts b end old new done left i h = elim (cases_lt (landmark_at old i).branch (length counts)) [
@@ -73,7 +73,7 @@ left_noted known count b end c old new same long left noted i h on le =
     let end_is = (same i low).0 in
     subst (λ (k : LandmarkView). noted_once count b end k ≡ k) (sym (left i was)) (noted i low was (omega arith))
 
--- one more landmarks row, later than the others
+-- one more landmark, later than the others
 module _ (old : List LandmarkView) (k : LandmarkView) (chains : HoldsChains old) where
   stays : (i : ℕ) → i < length old → StandsAs (landmark_at (old ++ k ∷ []) i) (landmark_at old i)
   stays i h =
@@ -87,7 +87,7 @@ module _ (old : List LandmarkView) (k : LandmarkView) (chains : HoldsChains old)
     all_before : (i : ℕ) → i < length old → (landmark_at old i).end < k.end
     all_before i h = (let le = chains.rise i (length old - 1) (omega arith) (omega arith) in let less = later (omega arith) in omega arith)
 
-    -- there are fewer landmarks rows than rows
+    -- there are fewer landmarks than rows
     pub few_kept : length old < k.end
     few_kept = elim (cases_lt 0 (length old)) [
       | inl one ↦ (let low = chains.low (length old - 1) (omega arith) in let less = later one in omega arith)

@@ -5,7 +5,7 @@ use Rattle.hg_branches.specs.Landmarks.{landmark_at, noted_once}
 use Rattle.hg_branches.proofs.LandmarkLaws.{not_counted}
 use Rattle.hg_branches.proofs.landmarks.note_others.Goals as goal
 
--- each landmarks row stands on a branch that has a number, and one on a branch that is not counted stays
+-- each landmark stands on a branch that has a number, and one on a branch that is not counted stays
 pub returns-clause-done : goal.returns-clause-done
 returns-clause-done c = λ b past i h on.
     elim (cases_lt b c.loop-c.c) [
