@@ -2,6 +2,7 @@
 use Rattle.std.proofs.Common.{◌≡◌, ℕ, ◌+◌, ◌-◌, ◌<◌, ◌≤◌, List, [], ◌∷◌, ◌++◌, length, get_or, replicate, slice_index, slice_set, sym, ap, ◌∙◌, subst, refl, inl, inr, arith}
 use Rattle.std.proofs.lemmas.Bool.{cases_eq, cases_lt}
 use Rattle.std.proofs.lemmas.List.{length_push, length-replicate, get_or-replicate, get_or-set_same, get_or-set_other, get_or_append_left, get_or_push, get_or_past}
+use Rattle.hg_branches.specs.declared.landmarks.NextRow.{NextRow}
 use Rattle.hg_branches.specs.Landmarks.{LandmarkView, landmark_at, noted_once, AreNotedOn, NotesBy, IsLastOn, HoldsChains, HoldsNewest, HoldsTops, HoldsNumbers}
 
 -- a zero behind a list changes nothing that is read
@@ -57,9 +58,9 @@ module _ (old new : List LandmarkView) (same : (i : ℕ) → i < length old → 
       (omega arith, (same (slice_index numbers y - 1) (omega arith)).0 ∙ was.1))
 
 -- landmarks of which those of the first branches are noted stand as they stood
-pub stands_noted : (counts : List ℕ) (b end : ℕ) (old new : List LandmarkView) → ((c : ℕ) → c < length counts → NotesBy counts b end old new c) →
+pub stands_noted : (counts : List ℕ) (next : NextRow) (old new : List LandmarkView) → ((c : ℕ) → c < length counts → NotesBy counts next old new c) →
     ((i : ℕ) → length counts ≤ (landmark_at old i).branch → landmark_at new i ≡ landmark_at old i) → (i : ℕ) → i < length old → StandsAs (landmark_at new i) (landmark_at old i)
-stands_noted counts b end old new done left i h = elim (cases_lt (landmark_at old i).branch (length counts)) [
+stands_noted counts next old new done left i h = elim (cases_lt (landmark_at old i).branch (length counts)) [
   | inl own ↦ (let is = done (landmark_at old i).branch own i h refl in (ap (λ (k : LandmarkView). k.end) is, ap (λ (k : LandmarkView). k.branch) is, ap (λ (k : LandmarkView). k.before) is))
   | inr other ↦ (let is = left i other in (ap (λ (k : LandmarkView). k.end) is, ap (λ (k : LandmarkView). k.branch) is, ap (λ (k : LandmarkView). k.before) is))
 ]

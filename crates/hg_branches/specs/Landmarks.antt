@@ -5,6 +5,7 @@ use Rattle.hg_model.specs.Stakes.{Stakes, member_count}
 use Rattle.hg_model.specs.Links.{Link}
 use Rattle.hg_branches.specs.Branches.{FirstDescendants}
 use Rattle.hg_branches.specs.Columns.{branching_of}
+use Rattle.hg_branches.specs.declared.landmarks.NextRow.{NextRow}
 
 -- what stands where a branch has no descendant
 abbrev pub no_first : ℕ
@@ -78,20 +79,20 @@ AreNotedOn c known count b end landmarks =
     (i : ℕ) → i < length landmarks → (landmark_at landmarks i).branch ≡ c → (landmark_at landmarks i).end ≤ known → noted_once count b end (landmark_at landmarks i) ≡ landmark_at landmarks i
 
 -- the same where these are the counts of the self-parent and of the row
-abbrev pub AreNotedBy : List ℕ → List ℕ → ℕ → ℕ → List LandmarkView → ℕ → Type 0
-AreNotedBy known counts b end landmarks c = AreNotedOn c (slice_index known c) (slice_index counts c) b end landmarks
+abbrev pub AreNotedBy : List ℕ → List ℕ → NextRow → List LandmarkView → ℕ → Type 0
+AreNotedBy known counts next landmarks c = AreNotedOn c (slice_index known c) (slice_index counts c) next.branch next.end landmarks
 
 -- the landmarks of branch c are noted
 abbrev pub NotesOn : ℕ → ℕ → ℕ → ℕ → List LandmarkView → List LandmarkView → Type 0
 NotesOn c count b end old new = (i : ℕ) → i < length old → (landmark_at old i).branch ≡ c → landmark_at new i ≡ noted_once count b end (landmark_at old i)
 
 -- the same by the counts of the row
-abbrev pub NotesBy : List ℕ → ℕ → ℕ → List LandmarkView → List LandmarkView → ℕ → Type 0
-NotesBy counts b end old new c = NotesOn c (slice_index counts c) b end old new
+abbrev pub NotesBy : List ℕ → NextRow → List LandmarkView → List LandmarkView → ℕ → Type 0
+NotesBy counts next old new c = NotesOn c (slice_index counts c) next.branch next.end old new
 
 -- each landmark is noted
-abbrev pub NotesAll : List ℕ → ℕ → ℕ → List LandmarkView → List LandmarkView → Type 0
-NotesAll counts b end old new = (i : ℕ) → i < length old → landmark_at new i ≡ noted counts b end (landmark_at old i)
+abbrev pub NotesAll : List ℕ → NextRow → List LandmarkView → List LandmarkView → Type 0
+NotesAll counts next old new = (i : ℕ) → i < length old → landmark_at new i ≡ noted counts next.branch next.end (landmark_at old i)
 
 -- those of branch k and the ones behind it stay
 abbrev pub LeavesFrom : ℕ → List LandmarkView → List LandmarkView → Type 0

@@ -12,6 +12,13 @@ use std::marker::Model;
 /// In place of a first descendant where there is none. A graph's ends are lower.
 const NO_FIRST: u16 = 65_535;
 
+/// Where the next row stands: its branch, and one more than its place.
+#[derive(Clone, Copy, Debug)]
+pub struct NextRow {
+    pub branch: usize,
+    pub end: u16,
+}
+
 /// What is noted of a row for strongly seeing it: its first descendants, one on each member's own branch. The number of a
 /// landmark is one more than its index.
 #[derive(Drop)]
@@ -74,12 +81,12 @@ impl Landmark {
         }
     }
 
-    /// Notes that the next row has come, which counts so much of this row's branch, on this branch.
-    pub fn note(&mut self, count: u16, branch: usize, end: u16)
-        ensures { self.new ≡ noted_once count branch end self.old }
+    /// Notes that the next row has come, which counts so much of this row's branch.
+    pub fn note(&mut self, count: u16, next: NextRow)
+        ensures { self.new ≡ noted_once count next.branch next.end self.old }
     {
-        if self.end <= count && end < count_at(&self.firsts, branch) {
-            self.firsts[branch] = end;
+        if self.end <= count && next.end < count_at(&self.firsts, next.branch) {
+            self.firsts[next.branch] = next.end;
             self.reached = self.reached.saturating_add(1);
         }
     }
@@ -130,7 +137,7 @@ fn clear(firsts: &mut [u16])
     }
 }
 
-/// Notes in all landmarks that the next row has come, with these counts, on this branch. A branch is looked at only where the
+/// Notes in all landmarks that the next row has come, with these counts. A branch is looked at only where the
 /// row counts more than its self-parent, which counts what is `known`.
 pub fn note_all(
     landmarks: &mut [Landmark],
@@ -138,8 +145,7 @@ pub fn note_all(
     tops: &[u16],
     known: &RowCounts,
     counts: &RowCounts,
-    branch: usize,
-    end: u16,
+    next: NextRow,
 )
     requires same { known.now.members ≡ counts.now.members }
     requires few { counts.now.members ≤ 128 }
@@ -148,20 +154,12 @@ pub fn note_all(
     requires chains { HoldsChains landmarks.old }
     requires newest { HoldsNewest landmarks.old newest.now }
     requires tops { HoldsTops landmarks.old tops.now }
-    requires noted { (c : ℕ) → AreNotedBy known.now.row counts.now.row branch end landmarks.old c }
+    requires noted { (c : ℕ) → AreNotedBy known.now.row counts.now.row next landmarks.old c }
     ensures len { length landmarks.new ≡ length landmarks.old }
-    ensures each { NotesAll counts.now.row branch end landmarks.old landmarks.new }
+    ensures each { NotesAll counts.now.row next landmarks.old landmarks.new }
 {
-    note_own(
-        landmarks,
-        newest,
-        tops,
-        known.own(),
-        counts.own(),
-        branch,
-        end,
-    );
-    note_others(landmarks, newest, known, counts, branch, end);
+    note_own(landmarks, newest, tops, known.own(), counts.own(), next);
+    note_others(landmarks, newest, known, counts, next);
 }
 
 /// Marks with 1, and else 0, each lane in which a row counts more than is known, below the top. One loop without a branch,
@@ -186,8 +184,7 @@ fn note_own(
     tops: &[u16],
     known: &[u16],
     counts: &[u16],
-    branch: usize,
-    end: u16,
+    next: NextRow,
 )
     requires same { length known.now ≡ length counts.now }
     requires few { length counts.now ≤ 128 }
@@ -196,16 +193,16 @@ fn note_own(
     requires chains { HoldsChains landmarks.old }
     requires newest { HoldsNewest landmarks.old newest.now }
     requires tops { HoldsTops landmarks.old tops.now }
-    requires noted { (c : ℕ) → c < length counts.now → AreNotedBy known.now counts.now branch end landmarks.old c }
+    requires noted { (c : ℕ) → c < length counts.now → AreNotedBy known.now counts.now next landmarks.old c }
     ensures len { length landmarks.new ≡ length landmarks.old }
-    ensures done { (c : ℕ) → c < length counts.now → NotesBy counts.now branch end landmarks.old landmarks.new c }
+    ensures done { (c : ℕ) → c < length counts.now → NotesBy counts.now next landmarks.old landmarks.new c }
     ensures left { LeavesFrom (length counts.now) landmarks.old landmarks.new }
 {
     let mut news = [0; 128];
     mark_news(known, tops, counts, &mut news);
     for c in 0..counts.len() {
         if news[c] > 0 {
-            note_branch(landmarks, newest, c, known[c], counts[c], branch, end);
+            note_branch(landmarks, newest, c, known[c], counts[c], next);
         }
     }
 }
@@ -216,21 +213,20 @@ fn note_others(
     newest: &[u16],
     known: &RowCounts,
     counts: &RowCounts,
-    branch: usize,
-    end: u16,
+    next: NextRow,
 )
     requires chains { HoldsChains landmarks.old }
     requires newest { HoldsNewest landmarks.old newest.now }
-    requires noted { (c : ℕ) → counts.now.members ≤ c → AreNotedBy known.now.row counts.now.row branch end landmarks.old c }
+    requires noted { (c : ℕ) → counts.now.members ≤ c → AreNotedBy known.now.row counts.now.row next landmarks.old c }
     ensures len { length landmarks.new ≡ length landmarks.old }
-    ensures done { (c : ℕ) → counts.now.members ≤ c → NotesBy counts.now.row branch end landmarks.old landmarks.new c }
+    ensures done { (c : ℕ) → counts.now.members ≤ c → NotesBy counts.now.row next landmarks.old landmarks.new c }
     ensures left { LeavesBelow counts.now.members landmarks.old landmarks.new }
 {
     for c in counts.own().len()..counts.reach(newest.len()) {
         let least = known.at(c);
         let count = counts.at(c);
         if least < count {
-            note_branch(landmarks, newest, c, least, count, branch, end);
+            note_branch(landmarks, newest, c, least, count, next);
         }
     }
 }
@@ -243,25 +239,24 @@ fn note_branch(
     c: usize,
     least: u16,
     count: u16,
-    branch: usize,
-    end: u16,
+    next: NextRow,
 )
     requires there { c < length newest.now }
     requires chains { HoldsChains landmarks.old }
     requires newest { IsLastOn landmarks.old (length landmarks.old) c (slice_index newest.now c) }
-    requires noted { AreNotedOn c least count branch end landmarks.old }
+    requires noted { AreNotedOn c least count next.branch next.end landmarks.old }
     ensures len { length landmarks.new ≡ length landmarks.old }
-    ensures on { NotesOn c count branch end landmarks.old landmarks.new }
+    ensures on { NotesOn c count next.branch next.end landmarks.old landmarks.new }
     ensures off { (i : ℕ) → (landmark_at landmarks.old i).branch ≢ c → landmark_at landmarks.new i ≡ landmark_at landmarks.old i }
 {
     let mut number = newest[c] as usize;
     'chain: while number > 0 {
-        let row = &mut landmarks[number - 1];
-        if row.end() <= least {
+        let landmark = &mut landmarks[number - 1];
+        if landmark.end() <= least {
             return;
         }
-        row.note(count, branch, end);
-        number = row.before() as usize;
+        landmark.note(count, next);
+        number = landmark.before() as usize;
     }
 }
 

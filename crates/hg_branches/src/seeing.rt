@@ -59,61 +59,61 @@ pub fn strong_by_firsts(
     if stakes.is_over(own) {
         return true;
     }
-    let beside = stakes.weigh(others(sight, makers, counts, firsts, y));
+    let beside = stakes.weigh(others(sight, makers, counts, Target { row: y, firsts }));
     stakes.is_over(own + beside)
 }
 
-/// The members with another branch that sees row `y`, while their own does not.
+/// A row with its first descendants.
+#[derive(Clone, Copy, Debug)]
+struct Target<'a> {
+    row: usize,
+    firsts: &'a [u16],
+}
+
+/// The members with another branch that sees the row, while their own does not.
 #[tactic(auto, using(hg_model::proofs::PlacesLaws::some_steps))]
-fn others(
-    sight: &BranchSight,
-    makers: &[Member],
-    counts: &RowCounts,
-    firsts: &[u16],
-    y: usize,
-) -> u128
-    requires place { y < length sight.now.shape.links }
+fn others(sight: &BranchSight, makers: &[Member], counts: &RowCounts, target: Target) -> u128
+    requires place { target.row < length sight.now.shape.links }
     requires members { (b : ℕ) → b < length makers.now → slice_index makers.now b < 128 }
     requires places { (b : ℕ) → slice_index counts.now.row b ≤ length sight.now.shape.links }
-    requires few { length firsts.now ≤ length makers.now }
-    requires wide { length firsts.now ≡ counts.now.members }
-    ensures { (m : ℕ) → mask_has result m ≡ others_see sight.now.shape.links makers.now firsts.now counts.now.row y m }
+    requires few { length target.firsts.now ≤ length makers.now }
+    requires wide { length target.firsts.now ≡ counts.now.members }
+    ensures { (m : ℕ) → mask_has result m ≡ others_see sight.now.shape.links makers.now target.firsts.now counts.now.row target.row m }
 {
     let mut mask = 0;
     for b in counts.own().len()..counts.reach(makers.len()) {
-        mask = with_other(mask, sight, makers, counts, firsts, b, y);
+        mask = with_other(mask, sight, makers, counts, target, b);
     }
     mask
 }
 
-/// The set with the maker of the branch, if the branch sees row `y` and the maker's own does not.
+/// The set with the maker of the branch, if the branch sees the row and the maker's own does not.
 fn with_other(
     mask: u128,
     sight: &BranchSight,
     makers: &[Member],
     counts: &RowCounts,
-    firsts: &[u16],
+    target: Target,
     b: usize,
-    y: usize,
 ) -> u128
-    requires place { y < length sight.now.shape.links }
+    requires place { target.row < length sight.now.shape.links }
     requires branch { b < length makers.now }
-    requires other { length firsts.now ≤ b }
+    requires other { length target.firsts.now ≤ b }
     requires member { slice_index makers.now b < 128 }
     requires there { slice_index counts.now.row b ≤ length sight.now.shape.links }
-    ensures { AddsOther sight.now.shape.links makers.now firsts.now counts.now.row y b mask result }
+    ensures { AddsOther sight.now.shape.links makers.now target.firsts.now counts.now.row target.row b mask result }
 {
     // No row before y sees it.
     sight.is_shaped();
-    if counts.at(b) as usize <= y {
+    if counts.at(b) as usize <= target.row {
         return mask;
     }
     let maker = makers[b];
     let own = usize::from(maker);
-    if count_at(firsts, own) <= counts.at(own) {
+    if count_at(target.firsts, own) <= counts.at(own) {
         return mask;
     }
-    with_seer(mask, sight, counts, b, maker, y)
+    with_seer(mask, sight, counts, b, maker, target.row)
 }
 
 /// The set with the maker of the branch, if the branch sees row `y`.

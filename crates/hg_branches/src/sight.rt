@@ -8,7 +8,7 @@ ghost use Rattle.hg_bits.specs.Masks.{mask_has};
 use crate::branches::{branch_for, ends_within, move_end, open_branch, zeros};
 use crate::counts::{count_at, known_place, row_of};
 use crate::forks::forked_next;
-use crate::landmarks::{Landmark, firsts_at, landmark_of, last_end, note_all};
+use crate::landmarks::{Landmark, NextRow, firsts_at, landmark_of, last_end, note_all};
 use crate::links::{creator_at, self_parent_at};
 use crate::seeing;
 use crate::table::CountTable;
@@ -290,8 +290,7 @@ impl Growing for BranchSight {
             &self.tops,
             &known,
             &counts,
-            branch,
-            end,
+            NextRow { branch, end },
         );
         self.links.push(PlacedLink::of(creator, parents));
         self.branches.push(branch);
