@@ -35,9 +35,9 @@ pub fn forged_event(
     node: &Node<SharedTable>,
     beside: Member,
     time: u64,
-    payload: Bytes,
+    payload: &[u8],
 ) -> Result<Option<Forged>, Memory> {
-    if payload.as_slice().len() > PAYLOAD_LIMIT {
+    if payload.len() > PAYLOAD_LIMIT {
         return Ok(None);
     }
     let creator = node.own();
@@ -45,10 +45,10 @@ pub fn forged_event(
         return Ok(None);
     };
     let parents = Some((own, other));
-    let event = signed_bytes(alloc, keys, creator, &parents, time, payload.as_slice())?;
-    let name = name_of(event.bytes.as_slice());
+    let signed = signed_bytes(alloc, keys, creator, &parents, time, payload)?;
+    let name = name_of(signed.bytes.as_slice());
     Ok(Some(Forged {
-        bytes: Bytes::from_vec(event.bytes),
+        bytes: Bytes::from_vec(signed.bytes),
         name,
     }))
 }

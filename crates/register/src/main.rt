@@ -52,6 +52,7 @@ fn entries_of(alloc: Global) -> Result<Vec<MemberEntry>, Memory> {
             balance: 0,
             stake: 1,
             has_node: true,
+            stake: 1,
         })?;
     }
     Ok(entries)
@@ -95,7 +96,7 @@ fn play(world: &mut World) -> Result<(), Memory>
         world.sync(taker, peer, u64::from(step) + 4, payload_at(step))?;
         world.settle(taker)?;
     }
-    world.members();
+    world.is_world();
     Ok(())
 }
 
