@@ -13,7 +13,7 @@ fn add_forked(both: &mut Both, from: usize, every: usize) -> Result<bool, Memory
             return Ok(false);
         }
         if every > 0 && i % every == 0 {
-            both.sight.keep_last();
+            both.sight.mark_last();
         }
     }
     Ok(true)
@@ -83,7 +83,7 @@ fn add_turns(both: &mut Both, fork: bool) -> Result<bool, Memory> {
         if !both.add(parents, member as Member)? {
             return Ok(false);
         }
-        both.sight.keep_last();
+        both.sight.mark_last();
         last[member] = i;
     }
     Ok(true)

@@ -59,7 +59,7 @@ fn play(both: &mut Both, number: u32, turns: u32) -> Result<(), Memory> {
         let early = number % 3 > 0 && u32::from(member) < members / 3 && below(state, 4) == 0;
         let parents = parents_by(&both.sight, state, member, early);
         if both.add(parents, member)? && below(state, 3) > 0 {
-            both.sight.keep_last();
+            both.sight.mark_last();
         }
     }
     Ok(())

@@ -21,6 +21,7 @@ fn entries_of(alloc: Global) -> Result<Vec<MemberEntry>, Memory> {
             secret: Bytes::from_vec(Vec::from_slice(alloc, &[number as u8])?),
             balance: 0,
             has_node: true,
+            stake: 1,
         })?;
     }
     Ok(entries)

@@ -51,6 +51,7 @@ fn entries_of(alloc: Global) -> Result<Vec<MemberEntry>, Memory> {
             secret: Bytes::from_vec(Vec::from_slice(alloc, &[number as u8])?),
             balance: 0,
             has_node: true,
+            stake: 1,
         })?;
     }
     Ok(entries)
@@ -94,7 +95,7 @@ fn play(world: &mut World) -> Result<(), Memory>
         world.sync(taker, peer, u64::from(step) + 4, payload_at(step))?;
         world.settle(taker)?;
     }
-    world.members();
+    world.is_world();
     Ok(())
 }
 
