@@ -131,11 +131,7 @@ fn next_below(left: u32, bound: u32) -> u16
     requires { left < 2 ^ 16 }
     ensures { result ≡ cond (nat_le left bound) left 0 }
 {
-    if left <= bound {
-        left as u16
-    } else {
-        0
-    }
+    if left <= bound { left as u16 } else { 0 }
 }
 
 /// The lane that comes to this row.

@@ -55,16 +55,16 @@ module _ (g : Graph) (x y : ℕ) (e : IsEarlier (parents (links_of g))) (there :
     ballot_far voters above all c bit tally weighed witness voters_is above_is far all_is c_is bit_is tally_is weighed_is witness_is =
         let L = links_of g in
         let coin = coin_at g.rows in
-        let yes = yes_votes g.members L (vote_of g.members g.coin L coin x) y in
-        let no = no_votes g.members L (vote_of g.members g.coin L coin x) y in
-        let yes_same : tally.yes ≡ yes = ap (λ (t : Tally). t.yes) (tally_is ∙ ap (tally_of (slice_index stakes) ballots) voters_is) ∙ weighed_as (λ v. v) in
-        let no_same : tally.no ≡ no = ap (λ (t : Tally). t.no) (tally_is ∙ ap (tally_of (slice_index stakes) ballots) voters_is) ∙ weighed_as not in
+        let yes_sum = yes_votes g.members L (vote_of g.members g.coin L coin x) y in
+        let no_sum = no_votes g.members L (vote_of g.members g.coin L coin x) y in
+        let yes_same : tally.yes ≡ yes_sum = ap (λ (t : Tally). t.yes) (tally_is ∙ ap (tally_of (slice_index stakes) ballots) voters_is) ∙ weighed_as (λ v. v) in
+        let no_same : tally.no ≡ no_sum = ap (λ (t : Tally). t.no) (tally_is ∙ ap (tally_of (slice_index stakes) ballots) voters_is) ∙ weighed_as not in
         let not_one : eqb (rounds_above g.members L x y) 1 ≡ false = ne_eqb (rounds_above g.members L x y) 1 (λ e. far (above_is ∙ e)) in
         let vote_same : weighed.vote ≡ vote_of g.members g.coin L coin x y =
         ap (λ (b : Ballot). b.vote) weighed_is ∙ (rw (all_is, c_is, above_is, yes_same, no_same, bit_is) refl
         ∙ sym (vote_of-at g.members g.coin L coin x y
-        ∙ ap (λ b. cond b (sees L y x) (weighed_vote (total g.members) g.coin (rounds_above g.members L x y) yes no (coin y))) not_one)) in
-        let decides_same : weighed.decides ≡ weighed_decides (total g.members) g.coin (rounds_above g.members L x y) yes no =
+        ∙ ap (λ b. cond b (sees L y x) (weighed_vote (total g.members) g.coin (rounds_above g.members L x y) yes_sum no_sum (coin y))) not_one)) in
+        let decides_same : weighed.decides ≡ weighed_decides (total g.members) g.coin (rounds_above g.members L x y) yes_sum no_sum =
         ap (λ (b : Ballot). b.decides) weighed_is ∙ rw (all_is, c_is, above_is, yes_same, no_same) refl in
         ap₂ (λ v d. record { vote = v; decides = d }) vote_same (ap₂ (λ a b. a && b) witness_is decides_same)
 

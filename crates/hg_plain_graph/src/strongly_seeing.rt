@@ -48,10 +48,7 @@ fn is_strong(seeing: &Seeing, through: &[Vec<bool>], x: usize, y: usize) -> bool
     requires known { IsThroughTable seeing.now y through.now }
     ensures { result ≡ strongly_sees_in seeing.now x y }
 {
-    is_supermajority(
-        seeing.total(),
-        weigh_through(through, seeing.stakes(), x),
-    )
+    is_supermajority(seeing.total(), weigh_through(through, seeing.stakes(), x))
 }
 
 /// What the members weigh whose columns hold row `x`.

@@ -92,16 +92,16 @@ module _ (g : Graph) (x y : ℕ) (counted : IsCounted g x (round_of g.members (l
         let n = g.members in
         let L = links_of g in
         let coin = coin_at g.rows in
-        let yes = yes_votes n L (vote_of n g.coin L coin x) y in
-        let no = no_votes n L (vote_of n g.coin L coin x) y in
-        let yes_same : tally.yes ≡ yes = ap (λ (t : Tally). t.yes) tally_is ∙ weighed_as (λ b. b) in
-        let no_same : tally.no ≡ no = ap (λ (t : Tally). t.no) tally_is ∙ weighed_as not in
-        let vote_same : weighed_vote (total n) g.coin (rounds_above n L x y) yes no (coin y) ≡ vote_of n g.coin L coin x y =
+        let yes_sum = yes_votes n L (vote_of n g.coin L coin x) y in
+        let no_sum = no_votes n L (vote_of n g.coin L coin x) y in
+        let yes_same : tally.yes ≡ yes_sum = ap (λ (t : Tally). t.yes) tally_is ∙ weighed_as (λ b. b) in
+        let no_same : tally.no ≡ no_sum = ap (λ (t : Tally). t.no) tally_is ∙ weighed_as not in
+        let vote_same : weighed_vote (total n) g.coin (rounds_above n L x y) yes_sum no_sum (coin y) ≡ vote_of n g.coin L coin x y =
         sym (vote_of-at n g.coin L coin x y
-        ∙ ap (λ b. cond b (sees L y x) (weighed_vote (total n) g.coin (rounds_above n L x y) yes no (coin y))) (ne_eqb (rounds_above n L x y) 1 far)) in
-        let decides_same : weighed_decides (total n) g.coin (rounds_above n L x y) yes no ≡ decides n g.coin L coin x y =
+        ∙ ap (λ b. cond b (sees L y x) (weighed_vote (total n) g.coin (rounds_above n L x y) yes_sum no_sum (coin y))) (ne_eqb (rounds_above n L x y) 1 far)) in
+        let decides_same : weighed_decides (total n) g.coin (rounds_above n L x y) yes_sum no_sum ≡ decides n g.coin L coin x y =
         (let witness : is_witness n L y ≡ true = counted.witness in rw witness refl) in
-        let same : weighed_ballot all period above tally.yes tally.no bit ≡ weighed_ballot (total n) g.coin (rounds_above n L x y) yes no (coin y) =
+        let same : weighed_ballot all period above tally.yes tally.no bit ≡ weighed_ballot (total n) g.coin (rounds_above n L x y) yes_sum no_sum (coin y) =
         rw (all_is, period_is, above_is, yes_same, no_same, bit_is) refl in
         weighed_is ∙ (same ∙ ap₂ (λ (v d : Bool). record { vote = v; decides = d }) vote_same decides_same)
 

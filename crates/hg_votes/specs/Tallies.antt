@@ -40,7 +40,7 @@ tally_in shape len rows voters voted = slot_tally len (slot_weight (stake_in sha
 
 -- the ballot of a witness d rounds above the candidate, with a coin period of c rounds
 abbrev pub weighed_ballot : ℕ → ℕ → ℕ → ℕ → ℕ → Bool → Ballot
-weighed_ballot all c d yes no coin = record { vote = weighed_vote all c d yes no coin; decides = weighed_decides all c d yes no }
+weighed_ballot all c d yes_votes no_votes coin = record { vote = weighed_vote all c d yes_votes no_votes coin; decides = weighed_decides all c d yes_votes no_votes }
 
 -- the same, where it is told whether that is a normal round
 abbrev pub weighed_where : Bool → ℕ → ℕ → ℕ → ℕ → Bool → Ballot

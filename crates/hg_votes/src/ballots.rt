@@ -38,14 +38,7 @@ fn next_ballot<P: Prefix>(
         };
     }
     let tally = weigh_slots(p, voted.rows, voters, voted.yes);
-    weigh_where(
-        normal,
-        above,
-        tally.yes,
-        tally.no,
-        p.total(),
-        &p.row(y).sig,
-    )
+    weigh_where(normal, above, tally.yes, tally.no, p.total(), &p.row(y).sig)
 }
 
 /// Counts the votes on `x` of the witnesses of round `r`, where those of the rounds before are counted: their ballots,
