@@ -1,7 +1,6 @@
 -- What a watch keeps, and how one row more changes it
-use Rattle.std.proofs.Common.{◌≡◌, ◌≢◌, inl, inr, ℕ, zero, suc, ◌+◌, ◌*◌, ◌<◌, ◌≤◌, ◌^◌, Bool, true, false, cond, List, [], ◌∷◌, ◌++◌, length, get_or, Option, refl, sym, ap, ◌∙◌, subst, arith, replicate, slice_set}
+use Rattle.std.proofs.Common.{◌≡◌, ◌≢◌, inl, inr, ℕ, zero, suc, ◌+◌, ◌<◌, ◌≤◌, ◌^◌, Bool, true, false, cond, List, [], ◌∷◌, ◌++◌, length, get_or, Option, refl, sym, ap, ◌∙◌, subst, arith, replicate, slice_set}
 use Rattle.std.specs.Int.{from_bool}
-use Rattle.std.proofs.Math.Nat.{mul-add}
 use Rattle.std.proofs.lemmas.Bool.{cases_eq, true≢false}
 use Rattle.std.proofs.lemmas.List.{length-set, get_or-set_same, get_or-set_other, get_or-replicate, length-replicate}
 use Rattle.hg_model.specs.Places.{weight_below, some_below}
@@ -10,7 +9,8 @@ use Rattle.hg_model.specs.Links.{Link, creator, parents, self_parent, other_pare
 use Rattle.hg_model.specs.Forks.{has_fork, forkers, forking}
 use Rattle.hg_model.specs.Graph.{IsShaped}
 use Rattle.hg_model.specs.Shape.{FitsLink}
-use Rattle.hg_model.proofs.PlacesLaws.{weight_below-same, weight_below_none, weight_below-all, count_below-le, total-all}
+use Rattle.hg_model.proofs.PlacesLaws.{weight_below-same, weight_below_none, count_below-le}
+use Rattle.hg_model.proofs.StakeLaws.{stake_where-total, total-low}
 use Rattle.hg_model.proofs.PushLaws.{shape-push}
 use Rattle.hg_forks.specs.declared.line.Line.{Line}
 use Rattle.hg_forks.specs.declared.line.Line.TheVariants.{Empty, Ends, Forked}
@@ -97,7 +97,7 @@ module _ (n : Stakes) (L : List Link) (lines : List Line) (forks weight : ℕ) (
 
     pub forking-fit : weight + new_forking n lines m self_parent_of < 2 ^ 64
     unfolding forking
-    forking-fit = (let low = keeps.low in omega (arith, forking_next, total-all n, weight_below-all (stake_of n) (member_count n) (has_fork M)))
+    forking-fit = (let low = keeps.low in omega (arith, forking_next, stake_where-total n (has_fork M)))
 
     -- one row more
     pub keeps_next : KeepsLines n M (lengthened lines m self_parent_of (length L)) (forks + new_forkers lines m self_parent_of) (weight + new_forking n lines m self_parent_of)
@@ -121,22 +121,12 @@ module _ (n : Stakes) (L : List Link) (lines : List Line) (forks weight : ℕ) (
     keeps_added links longer count stake at is_links is_at is_longer is_count is_stake =
         rw (is_links, is_count, is_stake, is_longer ∙ ap (λ i. slice_set lines i next) is_at) keeps_next
 
--- at most so many weights, each at most `most`
-weight-bounded : (weight : ℕ → ℕ) (most n : ℕ) (test : ℕ → Bool) → ((k : ℕ) → k < n → weight k ≤ most) → weight_below weight n test ≤ most * n
-unfolding weight_below
-weight-bounded weight most zero test low = omega arith
-weight-bounded weight most (suc n) test low = (let one = bounded (test n) (weight n) (low n (omega arith)) in omega (arith, weight-bounded weight most n test (λ k h. low k (omega arith)), one, mul-add most n 1))
-  where
-    bounded : (b : Bool) (w : ℕ) → w ≤ most → cond b w 0 ≤ most
-    bounded true w h = h
-    bounded false w h = omega arith
-
 -- no rows
-pub keeps_none : (n : Stakes) (many : ℕ) → many ≡ member_count n → member_count n ≤ 128 → ((m : ℕ) → stake_of n m < 2 ^ 32) → KeepsLines n [] (replicate many Empty) 0 0
+pub keeps_none : (n : Stakes) (many : ℕ) → many ≡ member_count n → member_count n ≤ 128 → ((m : ℕ) → m < member_count n → stake_of n m < 2 ^ 32) → KeepsLines n [] (replicate many Empty) 0 0
 unfolding forkers forking has_fork creator parents self_parent other_parents some_below
 keeps_none n many is few low = record {
   few = omega arith;
-  low = omega (arith, total-all n, weight-bounded (stake_of n) (2 ^ 32 - 1) (member_count n) (λ _. true) (λ m h. (let l = low m in omega arith)));
+  low = total-low n few low;
   long = length-replicate many Empty ∙ is;
   shaped = record {
     members = λ x inside. absurd (omega arith);

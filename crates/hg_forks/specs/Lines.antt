@@ -64,7 +64,7 @@ IsLineOf L m (Forked a b) = IsForkOf L m a b
 -- a line for each member of a shaped graph, how many members have a fork, and the stake of these
 pub record KeepsLines (n : Stakes) (L : List Link) (lines : List Line) (forks weight : ℕ) : Type 0 where
   pub few : member_count n < 2 ^ 32
-  pub low : total n < 2 ^ 64
+  pub low : total n ≤ 2 ^ 39
   pub long : length lines ≡ member_count n
   pub shaped : IsShaped n L
   pub matches : (m : ℕ) → m < member_count n → IsLineOf L m (line_at lines m)

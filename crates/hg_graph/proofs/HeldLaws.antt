@@ -1,5 +1,5 @@
 -- What a graph keeps beside its rows, at first and with a row more
-use Rattle.std.proofs.Common.{◌≡◌, inl, inr, ℕ, ◌+◌, ◌-◌, ◌<◌, ◌≤◌, Option, List, [], ◌∷◌, ◌++◌, length, map, take, get_or, Bool, Some, slice_get, sym, refl, ap, ◌∙◌, ap₂, subst, arith, zero-add}
+use Rattle.std.proofs.Common.{◌≡◌, inl, inr, ℕ, ◌+◌, ◌-◌, ◌^◌, ◌<◌, ◌≤◌, Option, List, [], ◌∷◌, ◌++◌, length, map, take, get_or, Bool, Some, slice_get, sym, refl, ap, ◌∙◌, ap₂, subst, arith, zero-add}
 use Rattle.std.proofs.lemmas.Bool.{cases_lt, true≢false}
 use Rattle.std.specs.List.{range_with_len}
 use Rattle.std.proofs.lemmas.List.{length_push, get_or_push, length-take-le, ext_get_or}
@@ -90,7 +90,7 @@ self_forking n L m parents self_place is = ap (forking n) (self_push n L m paren
 -- what a row needs, and does, that may come into a graph with these parents; it is read of a shared event
 pub record Comes (g : Graph) (row shared : Row) (parents : List ℕ) (sight watched : Shape) : Type 0 where
   pub fits : FitsLink sight.members sight.links (link_of row.creator parents)
-  pub short : length sight.links + 1 < 65535
+  pub short : length sight.links + 1 < 2 ^ 32 - 1
   pub self_fits : (self_place : Option ℕ) → place_list self_place ≡ first_place parents → FitsLink watched.members watched.links (self_link_of row.creator self_place)
   pub fresh : place_of g.rows shared.name ≡ length g.rows
   pub last : (after : Shape) → after ≡ with_link sight (link_of row.creator parents) → parents ≡ last_parents after

@@ -1,4 +1,4 @@
-ghost use Rattle.std.specs.Prelude.{◌≡◌, ◌<◌, ◌≤◌, ◌++◌, ◌∷◌, [], Some, length, option_map, slice_get, IfOk, IfSome, OnOk, refl};
+ghost use Rattle.std.specs.Prelude.{◌≡◌, ◌<◌, ◌≤◌, ◌-◌, ◌/◌, ◌++◌, ◌∷◌, [], Some, length, option_map, slice_get, IfOk, IfSome, OnOk, refl};
 ghost use Rattle.hg_model.specs.Stakes.{total};
 ghost use Rattle.hg_model.specs.Links.{link_in, links};
 ghost use Rattle.hg_model.specs.Forks.{forkers, forking};
@@ -176,7 +176,8 @@ impl EventGraph {
     /// The first `len` rows as a value of its own, with their sight and their rounds.
     pub fn prefix(&self, len: usize) -> Result<FrozenGraph, Memory>
         requires { len ≤ length self.now.graph.rows }
-        ensures { IfOk result (λ frozen. frozen.graph ≡ first_graph self.now.graph len) }
+        ensures graph { IfOk result (λ frozen. frozen.graph ≡ first_graph self.now.graph len) }
+        ensures sealed { IfOk result (λ frozen. frozen.sealed ≡ (len - 1) / 64) }
     {
         let (blocks, tail) = self.store.prefix(len)?.into_parts();
         Ok(Frozen::of(
