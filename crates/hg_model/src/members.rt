@@ -18,6 +18,8 @@ pub struct MemberEntry {
     pub balance: u64,
     /// Whether the program runs a node for the member.
     pub has_node: bool,
+    /// What the member weighs, at least 1.
+    pub stake: u32,
 }
 
 /// The members and the coin period, always within the ranges of the member file.
@@ -58,8 +60,8 @@ impl Members {
     }
 
     /// The members, where these are lawful: 2 to 128 of them, each with a name of 1 to 16 ASCII letters, digits and `_`,
-    /// the first a letter, no name twice, a secret of 1 to 128 bytes, all balances together below 2^63; and a coin period
-    /// of 3 to 100 rounds. Else the entries come back.
+    /// the first a letter, no name twice, a secret of 1 to 128 bytes, a stake of at least 1, all balances together below
+    /// 2^63; and a coin period of 3 to 100 rounds. Else the entries come back.
     pub fn try_new(entries: Vec<MemberEntry>, coin: u32) -> Result<Members, Vec<MemberEntry>>
         ensures made { IfOk result (λ members. members ≡ listed entries.items coin) }
         ensures back { IfErr result (λ again. again.items ≡ entries.items) }
