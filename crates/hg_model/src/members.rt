@@ -1,10 +1,12 @@
-ghost use Rattle.std.specs.Prelude.{◌≡◌, ◌<◌, length, position, IfErr, IfOk, IfSome, IsOk, ◌↔◌};
+ghost use Rattle.std.specs.Prelude.{◌≡◌, ◌<◌, length, map, position, IfErr, IfOk, IfSome, IsOk, ◌↔◌};
 ghost use Rattle.std.specs.Str.{bytes_eq};
 ghost use Rattle.hg_model.specs.declared.members.MemberEntry.{MemberEntry};
 
 use crate::items::Bytes;
 use crate::lawful::is_member_list;
+use crate::memory::Memory;
 use crate::row::Member;
+use std::alloc::Global;
 use std::marker::Model;
 
 /// A member as the member file has it.
@@ -48,8 +50,20 @@ fn place_in(entries: &[MemberEntry], name: &[u8]) -> Option<usize>
         .position(|entry| entry.name.as_slice() == name)
 }
 
+/// The stakes of these members.
+fn stakes_in(alloc: Global, entries: &[MemberEntry]) -> Result<Vec<u32>, Memory>
+    ensures { IfOk result (λ stakes. stakes.items ≡ map (λ (e : MemberEntry). e.stake) entries.now) }
+{
+    let mut stakes = Vec::with_capacity(alloc, entries.len())?;
+    for entry in entries {
+        stakes.push(entry.stake)?;
+    }
+    Ok(stakes)
+}
+
 impl Members {
-    ghost use Rattle.hg_model.specs.Members.{MemberList, IsMemberList, has_node, listed, member_named};
+    ghost use Rattle.hg_model.specs.Members.{MemberList, IsMemberList, has_node, listed, member_named, stakes_of};
+    ghost use Rattle.hg_model.specs.Stakes.{total};
 
     /// The members, of whom there are 2 to 128, and the coin period, 3 to 100 rounds.
     pub fn new(entries: Vec<MemberEntry>, coin: u32) -> Members
@@ -88,6 +102,15 @@ impl Members {
         ensures lawful { IsMemberList self.now }
     {
         self.entries.len() as u32
+    }
+
+    /// The members' stakes, in their order.
+    pub fn stakes(&self, alloc: Global) -> Result<Vec<u32>, Memory>
+        ensures value { IfOk result (λ stakes. stakes.items ≡ stakes_of self.now) }
+        ensures some { 0 < total (stakes_of self.now) }
+        ensures lawful { IsMemberList self.now }
+    {
+        stakes_in(alloc, self.entries.as_slice())
     }
 
     /// The coin period, in rounds.
