@@ -202,7 +202,7 @@ fn keep_witness(sight: &mut NodeSight, witness: bool)
     ensures { sight.new ≡ sight.old }
 {
     if witness {
-        sight.keep_last();
+        sight.mark_last();
     }
 }
 
