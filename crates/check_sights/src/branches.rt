@@ -1,7 +1,8 @@
 use crate::both::{Both, has_counts};
-use crate::forking::{has_both_branches, strongly_sees_two};
-use crate::growing::{FORKED, on};
+use crate::forking::{has_both_branches, strongly_sees_by_stake, strongly_sees_two};
+use crate::growing::{FORKED, Made, on};
 use crate::telling::equal;
+use hg_branches::BranchSight;
 use hg_model::{Member, Memory, Parents, Sight};
 use std::alloc::Global;
 
@@ -19,9 +20,9 @@ fn add_forked(both: &mut Both, from: usize, every: usize) -> Result<bool, Memory
     Ok(true)
 }
 
-/// The rows in both sights, if they fit.
-fn forked(alloc: Global, every: usize) -> Result<Both, Memory> {
-    let mut both = Both::new(alloc, 4)?;
+/// The rows in both sights, if they fit, among members of these stakes.
+fn forked(alloc: Global, stakes: &[u32; 4], every: usize) -> Result<Both, Memory> {
+    let mut both = Both::new(alloc, stakes)?;
     add_forked(&mut both, 0, every)?;
     Ok(both)
 }
@@ -43,7 +44,7 @@ fn agree_on_forked(both: &Both) -> Result<bool, Memory> {
 
 /// What both tell of the rows, of which each of so many is kept, or none.
 fn tells_forked(alloc: Global, every: usize) -> Result<[bool; 4], Memory> {
-    let both = forked(alloc, every)?;
+    let both = forked(alloc, &[1; 4], every)?;
     Ok([
         agree_on_forked(&both)?,
         has_both_branches(&both.sight),
@@ -52,12 +53,68 @@ fn tells_forked(alloc: Global, every: usize) -> Result<[bool; 4], Memory> {
     ])
 }
 
+/// The same where the third member has 7 of 10.
+fn tells_by_stake(alloc: Global, every: usize) -> Result<[bool; 3], Memory> {
+    let both = forked(alloc, &[1, 1, 7, 1], every)?;
+    Ok([
+        agree_on_forked(&both)?,
+        has_both_branches(&both.sight),
+        strongly_sees_by_stake(&both.sight),
+    ])
+}
+
 // No row, every row, every second or every third one is kept.
 #[test]
 fn tells_what_bit_rows_tell(rt: HostRuntime) -> Result<(), Memory> {
     for every in 0..4 {
         equal(&rt, every, tells_forked(rt.alloc(), every)?, [true; 4]);
+        equal(&rt, every, tells_by_stake(rt.alloc(), every)?, [true; 3]);
     }
+    Ok(())
+}
+
+/// Three members, of whom the first weighs 3 of 5: two rows strongly see another by its rows and a second member's, which
+/// the first member's alone do not do.
+const THREE: [Made; 6] = [
+    (0, None),
+    (1, None),
+    (2, None),
+    (0, Some((0, 1))),
+    (1, Some((1, 3))),
+    (2, Some((2, 4))),
+];
+
+/// Adds these rows, and marks each.
+fn add_three(both: &mut Both) -> Result<bool, Memory> {
+    for (creator, pair) in &THREE {
+        if !both.add(on(*pair), *creator)? {
+            return Ok(false);
+        }
+        both.sight.mark_last();
+    }
+    Ok(true)
+}
+
+fn tells_three(sight: &BranchSight) -> bool {
+    sight.rows() == 6
+        && !sight.strongly_sees(3, 0)
+        && sight.strongly_sees(4, 0)
+        && sight.strongly_sees(3, 1)
+        && sight.strongly_sees(4, 1)
+        && sight.strongly_sees(5, 1)
+        && !sight.strongly_sees(5, 2)
+        && sight.total() == 5
+}
+
+#[test]
+fn weighs_three_of_five(rt: HostRuntime) -> Result<(), Memory> {
+    let mut both = Both::new(rt.alloc(), &[3, 1, 1])?;
+    let told = [
+        add_three(&mut both)?,
+        tells_three(&both.sight),
+        both.agree(),
+    ];
+    equal(&rt, 0, told, [true; 3]);
     Ok(())
 }
 
@@ -98,11 +155,12 @@ fn counts_tell(both: &Both, x: usize, y: usize) -> bool {
     {
         return false;
     }
-    let member = usize::from(both.sight.creator(y));
+    let member = both.sight.creator(y);
     match both.sight.counts(x) {
         None => false,
         Some(counts) => {
-            member < counts.len() && (y < counts[member] as usize) == both.bits.ancestor(x, y)
+            usize::from(member) < counts.len()
+                && (y < counts.at(member)) == both.bits.ancestor(x, y)
         }
     }
 }
@@ -130,7 +188,7 @@ fn counts_turns_in(both: &mut Both, fork: bool) -> Result<[bool; 4], Memory> {
 }
 
 fn counts_turns(alloc: Global, fork: bool) -> Result<[bool; 4], Memory> {
-    let mut both = Both::new(alloc, 4)?;
+    let mut both = Both::new(alloc, &[1; 4])?;
     counts_turns_in(&mut both, fork)
 }
 

@@ -13,6 +13,9 @@ const GRAPHS: u32 = 50;
 /// And of how many rows.
 const ROWS: u32 = 72;
 
+/// What the members of every second graph weigh; of the others each weighs 7.
+const STAKES: [u32; 9] = [2, 7, 1, 8, 2, 8, 1, 8, 2];
+
 /// The next number of a linear congruence, of which the high bits are used.
 fn next(state: u64) -> u64 {
     state
@@ -67,7 +70,9 @@ fn play(both: &mut Both, number: u32, turns: u32) -> Result<(), Memory> {
 
 /// A made graph in both sights: how many rows they took, whether a row has a fork below it, and whether they agree.
 fn made(alloc: Global, number: u32) -> Result<(usize, bool, bool), Memory> {
-    let mut both = Both::new(alloc, 3 + number % 7)?;
+    let members = (3 + number % 7) as usize;
+    let stakes = if number / 7 % 2 == 0 { [7; 9] } else { STAKES };
+    let mut both = Both::new(alloc, &stakes[..members])?;
     made_in(&mut both, number)
 }
 
@@ -97,7 +102,7 @@ fn grows(first: &mut Both, len: usize) -> Result<bool, Memory> {
 
 /// A graph past two whole blocks, cut at each place about their ends.
 fn agrees_at_seams(alloc: Global) -> Result<bool, Memory> {
-    let mut both = Both::new(alloc, 7)?;
+    let mut both = Both::new(alloc, &STAKES[..7])?;
     agrees_at_seams_in(&mut both)
 }
 

@@ -191,7 +191,7 @@ impl<V: Signer + Drop> Shared<V> {
         requires { IsOf self.now seat.old }
         ensures stays { Stays V.accepts self.now seat.old seat.new }
         ensures waits { SeatWaits V.accepts self.now seat.old seat.new }
-        ensures graph { IfOk result (λ frozen. frozen ≡ graph_in (seen_by self.now seat.new).node) }
+        ensures graph { IfOk result (λ frozen. frozen.graph ≡ graph_in (seen_by self.now seat.new).node) }
     {
         let board = &self.table.shared;
         let raw = &mut seat.raw;

@@ -190,7 +190,7 @@ impl<V: Signer> Node<V> {
 
     /// The node's graph as a value of its own, which speaks of its rows whatever comes then.
     pub fn freeze(&self) -> Result<FrozenGraph, Memory>
-        ensures { IfOk result (λ frozen. frozen ≡ graph_in self.now) }
+        ensures { IfOk result (λ frozen. frozen.graph ≡ graph_in self.now) }
     {
         self.chronicle.graph().freeze()
     }
@@ -198,7 +198,7 @@ impl<V: Signer> Node<V> {
     /// The graph of the node's first `len` rows, at most all, as a value of its own.
     pub fn prefix(&self, len: usize) -> Result<FrozenGraph, Memory>
         requires { len ≤ length (node_rows self.now) }
-        ensures { IfOk result (λ frozen. frozen ≡ first_graph (graph_in self.now) len) }
+        ensures { IfOk result (λ frozen. frozen.graph ≡ first_graph (graph_in self.now) len) }
     {
         self.chronicle.graph().prefix(len)
     }
