@@ -1,3 +1,4 @@
 pub mod WordLaws
 pub mod MaskLaws
 pub mod RowLaws
+pub mod StakeLaws

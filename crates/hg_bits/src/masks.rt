@@ -1,9 +1,7 @@
-ghost use Rattle.std.specs.Prelude.{◌≡◌, ◌<◌, ◌&&◌, ◌||◌, ◌==◌, ℕ, count_ones};
-ghost use Rattle.hg_model.specs.Places.{count_below};
-ghost use Rattle.hg_model.specs.Seeing.{is_supermajority};
+ghost use Rattle.std.specs.Prelude.{◌≡◌, ◌<◌, ◌&&◌, ◌||◌, ◌==◌, ℕ};
 ghost use Rattle.hg_bits.specs.Masks.{mask_has};
 
-use hg_model::{Member, is_supermajority};
+use hg_model::Member;
 
 /// Whether the member is in the set.
 pub fn mask_has(mask: u128, member: Member) -> bool
@@ -35,12 +33,4 @@ pub fn meet_masks(mask: u128, other: u128) -> u128
     ensures { (m : ℕ) → mask_has result m ≡ (mask_has mask m && mask_has other m) }
 {
     mask & other
-}
-
-/// Whether the set has more than two thirds of `n` members.
-pub fn members_over(mask: u128, n: u32) -> bool
-    ensures ones { result ≡ is_supermajority n (count_ones mask) }
-    ensures members { result ≡ is_supermajority n (count_below 128 (mask_has mask)) }
-{
-    is_supermajority(n, mask.count_ones())
 }

@@ -15,8 +15,8 @@ module _ {T A : Type 0} where
   pub length_joined : (sealed : List (Arc (Block T) A)) (tail : List T) → length (joined sealed tail) ≡ 64 * length sealed + length tail
   length_joined sealed tail = length-append (flat_map items_of sealed) tail ∙ ap (λ n. n + length tail) (length_flat items_of 64 sealed (all_full sealed))
 
-  pub is_split : (len : ℕ) (sealed : List (Arc (Block T) A)) (tail : List T) → HoldsItems len sealed tail → IsSplit len (length sealed) (length tail)
-  is_split len sealed tail holds = record { whole = sym (holds.counted ∙ length_joined sealed tail); few = holds.few }
+  pub is_split : (len : ℕ) (sealed : List (Arc (Block T) A)) (tail : List T) → HoldsItems len sealed tail → IsSplit (length (joined sealed tail)) (length sealed) (length tail)
+  is_split len sealed tail holds = record { whole = sym (length_joined sealed tail); few = holds.few }
 
   pub block_at : (sealed : List (Arc (Block T) A)) (tail : List T) (n : ℕ) (e : Arc (Block T) A) → n < length sealed → take 64 (drop (64 * n) (joined sealed tail)) ≡ items_of (get_or sealed n e)
   block_at sealed tail n e lt = list_flat items_of 64 sealed tail n e (all_full sealed) lt

@@ -4,10 +4,12 @@ use Rattle.std.specs.List.{flat_map}
 use Rattle.std.specs.declared.sync.Arc.{Arc}
 use Rattle.hg_blocks.specs.declared.block.Block.{Block}
 
--- items, and for how many more there is memory at least
+-- items, for how many more there is memory at least, how many blocks are sealed, and how many items stand behind them
 pub record WithRoom (T : Type 0) : Type 0 where
   pub items : List T
   pub room : ℕ
+  pub sealed : ℕ
+  pub tail : ℕ
 
 -- the items of a block that is shared
 abbrev pub items_of : {T A : Type 0} → Arc (Block T) A → List T

@@ -1,4 +1,4 @@
-ghost use Rattle.std.specs.Prelude.{◌≡◌, ◌<◌, ◌≤◌, ◌+◌, ◌*◌, ℕ, List, [], ◌∷◌, ◌++◌, length, take, drop, slice_index_or, IfOk, OnOk};
+ghost use Rattle.std.specs.Prelude.{◌≡◌, ◌<◌, ◌≤◌, ◌+◌, ◌-◌, ◌*◌, ◌/◌, List, [], ◌∷◌, ◌++◌, length, take, drop, slice_index_or, IfOk, OnOk};
 ghost use Rattle.std.specs.List.{flat_map};
 ghost use Rattle.hg_blocks.specs.Joined.{IsSplit, items_of, joined};
 
@@ -20,12 +20,12 @@ pub struct Blocks<T> {
 }
 
 impl<T> Model for Blocks<T> {
-    ghost use Rattle.std.specs.Prelude.{vec_capacity};
+    ghost use Rattle.std.specs.Prelude.{length, vec_capacity};
     ghost use Rattle.hg_blocks.specs.Joined.{HoldsItems, WithRoom, joined, room_by};
 
     ghost Value = { WithRoom T };
 
-    ghost view = { λ s. record { items = joined s.sealed.items s.tail.items; room = room_by s.len s.tail.items (vec_capacity s.tail) } };
+    ghost view = { λ s. record { items = joined s.sealed.items s.tail.items; room = room_by s.len s.tail.items (vec_capacity s.tail); sealed = length s.sealed.items; tail = length s.tail.items } };
 
     ghost invariant = { λ s. HoldsItems s.len s.sealed.items s.tail.items };
 }
@@ -45,7 +45,9 @@ impl<T> Blocks<T> {
     /// The items of these blocks, and then those of the tail; all of them are so many. Takes no memory.
     pub fn of(sealed: Vec<Arc<Block<T>>>, tail: Tail<T>, len: usize) -> Blocks<T>
         requires { len ≡ length (joined sealed.items tail) }
-        ensures { result.items ≡ joined sealed.items tail }
+        ensures items { result.items ≡ joined sealed.items tail }
+        ensures sealed { result.sealed ≡ length sealed.items }
+        ensures tail { result.tail ≡ length tail }
     {
         Blocks {
             len,
@@ -56,7 +58,9 @@ impl<T> Blocks<T> {
 
     /// The sealed blocks, and the tail.
     pub fn into_parts(self) -> (Vec<Arc<Block<T>>>, Tail<T>)
-        ensures { joined result.0.items result.1 ≡ self.items }
+        ensures items { joined result.0.items result.1 ≡ self.items }
+        ensures sealed { length result.0.items ≡ self.sealed }
+        ensures tail { length result.1 ≡ self.tail }
     {
         (self.sealed, Tail::of(self.tail))
     }
@@ -70,14 +74,16 @@ impl<T> Blocks<T> {
 
     /// How many blocks are sealed.
     pub fn sealed(&self) -> usize
-        ensures { (tail : ℕ) × IsSplit (length self.now.items) result tail }
+        ensures value { result ≡ self.now.sealed }
+        ensures split { IsSplit (length self.now.items) self.now.sealed self.now.tail }
     {
         self.sealed.len()
     }
 
     /// How many items are in the tail: those that are in no sealed block.
     pub fn tail_len(&self) -> usize
-        ensures { (sealed : ℕ) × IsSplit (length self.now.items) sealed result }
+        ensures value { result ≡ self.now.tail }
+        ensures split { IsSplit (length self.now.items) self.now.sealed self.now.tail }
     {
         self.tail.len()
     }
@@ -113,7 +119,8 @@ impl<T: Copy> Blocks<T> {
     /// The first `len` items, as a value of its own: it shares the sealed blocks, and copies at most 64 items.
     pub fn prefix(&self, len: usize) -> Result<Blocks<T>, Memory>
         requires { len ≤ length self.now.items }
-        ensures { IfOk result (λ first. first.items ≡ take len self.now.items) }
+        ensures items { IfOk result (λ first. first.items ≡ take len self.now.items) }
+        ensures sealed { IfOk result (λ first. first.sealed ≡ (len - 1) / 64) }
     {
         let alloc = *self.tail.allocator();
         let (sealed, open) = first_of(alloc, &self.sealed, &self.tail, len)?;
@@ -130,7 +137,8 @@ impl<T: Clone> Blocks<T> {
     pub fn cloned_prefix(&self, len: usize) -> Result<Blocks<T>, Memory>
         requires equal { (x y : T) → T.is_clone x y → y ≡ x }
         requires within { len ≤ length self.now.items }
-        ensures { IfOk result (λ first. first.items ≡ take len self.now.items) }
+        ensures items { IfOk result (λ first. first.items ≡ take len self.now.items) }
+        ensures sealed { IfOk result (λ first. first.sealed ≡ (len - 1) / 64) }
     {
         let alloc = *self.tail.allocator();
         let (sealed, open) = first_of(alloc, &self.sealed, &self.tail, len)?;
@@ -178,6 +186,7 @@ fn first_of<'a, T: Drop>(
     requires few { length tail.now ≤ 64 }
     requires within { len ≤ length (joined sealed.now tail.now) }
     ensures value { IfOk result (λ first. joined first.0.items first.1.now ≡ take len (joined sealed.now tail.now)) }
+    ensures sealed { IfOk result (λ first. length first.0.items ≡ (len - 1) / 64) }
     ensures few { IfOk result (λ first. length first.1.now ≤ 64) }
 {
     let whole = len.saturating_sub(1) / 64;
@@ -187,7 +196,8 @@ fn first_of<'a, T: Drop>(
 
 /// The blocks, each shared.
 fn shared<T: Drop>(alloc: Global, sealed: &[Arc<Block<T>>]) -> Result<Vec<Arc<Block<T>>>, Memory>
-    ensures { IfOk result (λ same. flat_map items_of same.items ≡ flat_map items_of sealed.now) }
+    ensures items { IfOk result (λ same. flat_map items_of same.items ≡ flat_map items_of sealed.now) }
+    ensures len { IfOk result (λ same. length same.items ≡ length sealed.now) }
 {
     Ok(Vec::from_clones(alloc, sealed)?)
 }

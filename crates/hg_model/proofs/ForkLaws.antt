@@ -5,15 +5,10 @@ use Rattle.hg_model.specs.Places.{has_place, some_below, IsEarlier}
 use Rattle.hg_model.specs.Stakes.{Stakes}
 use Rattle.hg_model.specs.Links.{Link, parents, self_parent, first_place, creator}
 use Rattle.hg_model.specs.Ancestry.{is_ancestor, is_self_ancestor, some_ancestor}
-use Rattle.hg_model.specs.Forks.{is_fork, has_fork_below, has_fork, forkers, forking}
+use Rattle.hg_model.specs.Forks.{is_fork, has_fork_below, has_fork}
 use Rattle.hg_model.proofs.PlacesLaws.{some_below_from, some_below_found, some_below_none}
 use Rattle.hg_model.proofs.ReachLaws.{has_place_first, none_there, one_there}
 use Rattle.hg_model.proofs.AncestryLaws.{self_parent_is_parent, is_self_ancestor_self, is_self_ancestor_by, is_self_ancestor_cases, is_self_ancestor-le}
-
--- each member weighs 1, so the stake of the members that have a fork is how many they are
-pub forking-count : (n : Stakes) (L : List Link) → forking n L ≡ forkers n L
-unfolding forking forkers
-forking-count n L = refl
 
 -- what a fork is
 pub record Fork (L : List Link) (m a b : ℕ) : Type 0 where

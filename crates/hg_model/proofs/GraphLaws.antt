@@ -41,7 +41,7 @@ shaped_is n L x h =
 module _ (n : Stakes) (L : List Link) (passes : (x : ℕ) → x < length L → is_shaped_at n L x ≡ true) where
   pub shaped_from_tests : IsShaped n L
   shaped_from_tests = record {
-    members = λ x h. ltb-true (creator L x) n (shaped_is n L x (passes x h)).member;
+    members = λ x h. ltb-true (creator L x) (member_count n) (shaped_is n L x (passes x h)).member;
     earlier = record {
       earlier = λ x p h. elim (cases_lt x (length L)) [
         | inl inside ↦ ltb-true p x (list_all_at (λ p. ltb p x) (parents L x) p h (shaped_is n L x (passes x inside)).earlier)

@@ -1,5 +1,6 @@
 pub mod LinkLaws
 pub mod PlacesLaws
+pub mod StakeLaws
 pub mod WeightLaws
 pub mod SortLaws
 pub mod SplitLaws

@@ -182,14 +182,11 @@ unfolding weight_below
 count_below-all zero = refl
 count_below-all (suc n) = omega (arith, count_below-all n)
 
--- the stake of all members, as a weight; each weighs 1, so it is how many they are
+-- the stake of all members, as a weight
 
 pub total-all : (n : Stakes) → total n ≡ stake_where n (λ _. true)
 unfolding total
 total-all n = refl
-
-pub total-count : (n : Stakes) → total n ≡ member_count n
-total-count n = total-all n ∙ count_below-all n
 
 -- the steps of a loop that counts or weighs
 
@@ -205,6 +202,8 @@ pub weight_below_fails : (weight : ℕ → ℕ) (n : ℕ) (test : ℕ → Bool) 
 unfolding weight_below
 weight_below_fails weight n test h =
     rw (add-one n) (ap (λ b. weight_below weight n test + cond b (weight n) 0) h ∙ add-zero (weight_below weight n test))
+
+pub ruleset weight_steps = (weight_below_zero, weight_below_passes, weight_below_fails)
 
 pub count_below-le : (n : ℕ) (test : ℕ → Bool) → count_below n test ≤ n
 count_below-le n test = omega (arith, weight_below-all (λ _. 1) n test, count_below-all n)

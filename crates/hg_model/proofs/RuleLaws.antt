@@ -6,7 +6,7 @@ use Rattle.std.specs.Option.{option_or}
 use Rattle.std.proofs.lemmas.Bool.Decides.{nat_tests}
 use Rattle.std.proofs.lemmas.Bool.{cases_Bool, eqb-true, eqb-false, ltb-true, not-true, not-false}
 use Rattle.hg_model.specs.declared.row.Row.{Row}
-use Rattle.hg_model.specs.Stakes.{Stakes}
+use Rattle.hg_model.specs.Stakes.{Stakes, member_count}
 use Rattle.hg_model.specs.Links.{parent_names, place_of, ParentNames}
 use Rattle.hg_model.specs.Graph.{HasDistinctNames}
 use Rattle.hg_model.specs.Fits.{AreHeld, ParentsFit, Fits}
@@ -102,7 +102,7 @@ arrives accepts n own G row none =
     let parents = parents_fit G row.creator row.parents e.0 e.1 in
     record {
       fits = record {
-        member = below_from_test n row.creator (one_test (nat_le n row.creator) _ a.0);
+        member = below_from_test (member_count n) row.creator (one_test (nat_le (member_count n) row.creator) _ a.0);
         present = record { held = parents.0 };
         parents_fit = parents.1;
       };

@@ -5,7 +5,7 @@ use Rattle.std.specs.Fmt.{digits}
 use Rattle.hg_model.specs.declared.row.Row.{Row}
 use Rattle.hg_model.specs.declared.row.Placed.{Placed}
 use Rattle.hg_model.specs.declared.answers.Fault.TheVariants as fault
-use Rattle.hg_model.specs.declared.answers.PutAnswer.TheVariants.{Refused}
+use Rattle.hg_model.specs.declared.answers.PutAnswer.TheVariants.{Accepted, Refused}
 use Rattle.hg_model.specs.declared.answers.MakeAnswer.TheVariants as make_answer
 use Rattle.hg_model.specs.declared.answers.SyncMade.TheVariants as sync_made
 use Rattle.hg_model.specs.declared.outcome.OrderLine.{OrderLine}
@@ -33,7 +33,7 @@ use Rattle.hg_model.specs.Report.{printed_texts}
 
 -- the stakes of so many members
 abbrev pub members : ℕ → Stakes
-members k = k
+members k = replicate k 1
 
 -- an event with no parents, and one with parents of these names; a name is one byte here, and so is a signature
 abbrev pub first : ℕ → ℕ → Row
@@ -63,6 +63,11 @@ two_is_graph = graph_from_test (members 2) two_members two_graph
 two_rounds : table (round_of (members 2) (links two_members)) 8 ≡ 1 ∷ 1 ∷ 1 ∷ 2 ∷ 2 ∷ 3 ∷ 3 ∷ 4 ∷ []
 unfolding round_of strongly_sees sees_through sees has_fork_below is_fork is_ancestor is_self_ancestor total weight_below some_below reaches by_place values_below parents self_parent creator links
 two_rounds = refl
+
+-- where the first of the two has 3 of 4, its witnesses alone make the next round
+heavy_rounds : table (round_of (3 ∷ 1 ∷ []) (links two_members)) 8 ≡ 1 ∷ 1 ∷ 2 ∷ 3 ∷ 3 ∷ 4 ∷ 4 ∷ 5 ∷ []
+unfolding round_of strongly_sees sees_through sees has_fork_below is_fork is_ancestor is_self_ancestor total weight_below some_below reaches by_place values_below parents self_parent creator links
+heavy_rounds = refl
 
 two_fame : fame_marks (members 2) 10 (links two_members) (coin_at two_members) ≡ Some true ∷ Some true ∷ None ∷ Some true ∷ Some true ∷ None ∷ None ∷ None ∷ []
 unfolding fame_marks fame_of least_below decides vote_of is_witness coin_at sig_at round_of strongly_sees sees_through sees has_fork_below is_fork is_ancestor is_self_ancestor total weight_below some_below reaches by_place values_below parents self_parent creator links
@@ -102,7 +107,7 @@ unfolding last_round maximum_below round_of strongly_sees sees_through sees has_
 two_greatest = refl
 
 abbrev pub entry : List ℕ → ℕ → MemberEntry
-entry name balance = record { name = name; secret = 1 ∷ []; balance = balance; has_node = true }
+entry name balance = record { name = name; secret = 1 ∷ []; balance = balance; stake = 1; has_node = true }
 
 abbrev pub two_line : ℕ → ℕ → ℕ → OrderLine
 two_line creator sequence time =
@@ -170,6 +175,11 @@ coin_votes = (refl, refl, refl, refl, refl)
 coin_decisions : (weighed_decides 4 3 2 3 0 ≡ true) × (weighed_decides 4 3 3 3 0 ≡ false) × (weighed_decides 4 3 1 3 0 ≡ false) × (weighed_decides 4 3 2 2 1 ≡ false)
 coin_decisions = (refl, refl, refl, refl)
 
+-- of 5 in all, the votes of 4 decide in a normal round, and those of 3 only outweigh
+stake_votes : (weighed_vote 5 3 2 4 1 false ≡ true) × (weighed_decides 5 3 2 4 1 ≡ true) × (weighed_vote 5 3 2 3 2 false ≡ true)
+    × (weighed_decides 5 3 2 3 2 ≡ false) × (weighed_vote 5 3 2 2 3 true ≡ false) × (weighed_decides 5 3 2 2 3 ≡ false)
+stake_votes = (refl, refl, refl, refl, refl, refl)
+
 -- four members, of whom the last makes two second events, at the places 3 and 7; the first member takes the one and
 -- the second the other, and the third syncs from both
 abbrev pub forked_members : List Row
@@ -197,6 +207,16 @@ fork_seen_in_report = refl
 second_forker : row_verdict (λ m body sig. true) (members 4) 0 forked_members (made 2 3 1 12) ≡ Refused (fault.TooManyForkers 2)
 unfolding forking total has_fork is_fork is_self_ancestor weight_below some_below reaches by_place values_below self_parent parents creator links
 second_forker = refl
+
+-- of three members the first has 3 of 5 and makes a second event without parents: that is one forker, with too much stake
+heavy_forker : row_verdict (λ m body sig. true) (3 ∷ 1 ∷ 1 ∷ []) 1 (first 0 1 ∷ []) (first 0 2) ≡ Refused (fault.TooManyForkers 3)
+unfolding forking total has_fork is_fork is_self_ancestor weight_below some_below reaches by_place values_below self_parent parents creator links
+heavy_forker = refl
+
+-- the last of four, with 2 of 7, may
+light_forker : row_verdict (λ m body sig. true) (2 ∷ 1 ∷ 2 ∷ 2 ∷ []) 1 (first 3 1 ∷ []) (first 3 2) ≡ Accepted 1
+unfolding forking total has_fork is_fork is_self_ancestor weight_below some_below reaches by_place values_below self_parent parents creator links
+light_forker = refl
 
 -- a first event, a sync with a peer without events, a node's block
 texts : printed_texts (codes "A" ∷ codes "B" ∷ [])

@@ -5,6 +5,13 @@ use Rattle.hg_model.specs.Stakes.{Stakes, member_count}
 use Rattle.hg_model.specs.Links.{Link, creator}
 use Rattle.hg_model.specs.Ancestry.{is_ancestor, is_self_ancestor}
 use Rattle.hg_model.specs.Shape.{Shape}
+use Rattle.hg_model.specs.declared.counts.Counts.{Counts}
+use Rattle.hg_model.specs.declared.counts.Counts.TheVariants.{Narrow, Wide}
+
+-- the numbers, of either width
+abbrev pub numbers_of : Counts → List ℕ
+numbers_of (Narrow numbers) = numbers.now
+numbers_of (Wide numbers) = numbers.now
 
 -- for each member one more than the place of the last of its rows that is an ancestor of x, or 0 where none is; and each
 -- member's rows are in one line

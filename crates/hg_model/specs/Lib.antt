@@ -1,6 +1,7 @@
 pub mod Members
 pub mod Places
 pub mod Stakes
+pub mod Among
 pub mod Links
 pub mod Ancestry
 pub mod Forks

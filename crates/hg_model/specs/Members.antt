@@ -18,9 +18,9 @@ listed entries coin = record { entries = entries; coin = coin }
 abbrev pub balances_of : MemberList → List ℕ
 balances_of members = map (λ (e : MemberEntry). e.balance) members.entries
 
--- their stakes: each weighs 1, so how many they are
+-- their stakes, in their order
 abbrev pub stakes_of : MemberList → Stakes
-stakes_of members = length members.entries
+stakes_of members = map (λ (e : MemberEntry). e.stake) members.entries
 
 abbrev pub names_of : MemberList → List (List ℕ)
 names_of members = map (λ (e : MemberEntry). e.name) members.entries
@@ -48,6 +48,8 @@ pub record IsEntry (e : MemberEntry) : Type 0 where
   pub name : is_member_name e.name ≡ true
   pub secret_some : 1 ≤ length e.secret
   pub secret_fits : length e.secret ≤ 128
+  pub stake_some : 1 ≤ e.stake
+  pub stake_fits : e.stake < 2 ^ 32
 
 -- what a list of members keeps to
 pub record IsMemberList (m : MemberList) : Type 0 where
@@ -69,7 +71,9 @@ has_node members m = option_map_or (λ (e : MemberEntry). e.has_node) (slice_get
 
 -- the same rules as a test: of one member, of a name among members, of names that differ, and of a whole list
 abbrev pub is_entry : MemberEntry → Bool
-is_entry e = is_member_name e.name && nat_le 1 (length e.secret) && nat_le (length e.secret) 128
+is_entry e =
+    is_member_name e.name && nat_le 1 (length e.secret) && nat_le (length e.secret) 128
+    && nat_le 1 e.stake && nat_lt e.stake (2 ^ 32)
 
 abbrev pub has_name : List MemberEntry → List ℕ → Bool
 has_name entries name = list_any (λ (e : MemberEntry). bytes_eq e.name name) entries

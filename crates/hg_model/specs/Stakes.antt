@@ -1,19 +1,18 @@
--- The members' stakes. Today each member weighs 1, so that a `Stakes` is how many members there are; what stands above
--- speaks of weights of members and of witnesses, and reads as it will once members have stakes of their own.
-use Rattle.std.specs.Prelude.{ℕ, Bool, true}
+-- The members' stakes: what each member weighs
+use Rattle.std.specs.Prelude.{ℕ, ◌≡◌, ◌<◌, Bool, true, List, length, get_or}
 use Rattle.hg_model.specs.Places.{weight_below}
 
 -- each member's stake, in the members' order
 abbrev pub Stakes : Type 0
-Stakes = ℕ
+Stakes = List ℕ
 
 -- how many members there are
 abbrev pub member_count : Stakes → ℕ
-member_count n = n
+member_count n = length n
 
--- the stake of member m
+-- the stake of member m, 0 for a number that is no member's
 abbrev pub stake_of : Stakes → ℕ → ℕ
-stake_of n m = 1
+stake_of n m = get_or n m 0
 
 -- the stake of the members that pass the test
 abbrev pub stake_where : Stakes → (ℕ → Bool) → ℕ
@@ -22,3 +21,7 @@ stake_where n test = weight_below (stake_of n) (member_count n) test
 -- the stake of all members
 unfoldable pub total : Stakes → ℕ
 total n = stake_where n (λ _. true)
+
+-- every member has this stake
+abbrev pub AllWeigh : Stakes → ℕ → Type 0
+AllWeigh n stake = (m : ℕ) → m < member_count n → stake_of n m ≡ stake

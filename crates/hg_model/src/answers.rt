@@ -36,8 +36,8 @@ pub enum Fault {
     SelfCreator(usize),
     /// The other-parent, at this place, is by the same creator.
     OtherCreator(usize),
-    /// With the event so many members would have a fork, a third of all or more.
-    TooManyForkers(u32),
+    /// With the event members of so much stake would have a fork, a third of all or more.
+    TooManyForkers(u64),
     /// The node holds so many rows, the most that it takes.
     Full(usize),
 }

@@ -11,7 +11,7 @@ fn is_entry(entry: &MemberEntry) -> bool
     ensures { result ≡ is_entry entry.now }
 {
     let size = entry.secret.as_slice().len();
-    is_member_name(entry.name.as_slice()) && 1 <= size && size <= 128
+    is_member_name(entry.name.as_slice()) && 1 <= size && size <= 128 && 1 <= entry.stake
 }
 
 fn are_entries(entries: &[MemberEntry]) -> bool

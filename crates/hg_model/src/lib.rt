@@ -20,6 +20,7 @@
 
 mod answers;
 mod ballot;
+mod counts;
 mod entry;
 mod gossip;
 mod items;
@@ -41,6 +42,7 @@ mod votes;
 
 pub use answers::{ByteFault, Fault, MakeAnswer, MakeFault, PutAnswer, SyncMade, SyncReport};
 pub use ballot::Ballot;
+pub use counts::Counts;
 pub use entry::Entry;
 pub use gossip::Parcel;
 pub use items::{Bytes, Items};
@@ -56,6 +58,6 @@ pub use rounds::Rounds;
 pub use row::{Member, Name, Placed, Row, Sig};
 pub use seeing::is_supermajority;
 pub use share::{Found, Share};
-pub use sight::{Growing, Sight};
+pub use sight::{Growing, Sight, is_shaped};
 pub use stop::Stop;
 pub use votes::Votes;

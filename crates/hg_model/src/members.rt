@@ -1,10 +1,12 @@
-ghost use Rattle.std.specs.Prelude.{◌≡◌, ◌<◌, length, position, IfErr, IfOk, IfSome, IsOk, ◌↔◌};
+ghost use Rattle.std.specs.Prelude.{◌≡◌, ◌<◌, length, map, position, IfErr, IfOk, IfSome, IsOk, ◌↔◌};
 ghost use Rattle.std.specs.Str.{bytes_eq};
 ghost use Rattle.hg_model.specs.declared.members.MemberEntry.{MemberEntry};
 
 use crate::items::Bytes;
 use crate::lawful::is_member_list;
+use crate::memory::Memory;
 use crate::row::Member;
+use std::alloc::Global;
 use std::marker::Model;
 
 /// A member as the member file has it.
@@ -18,6 +20,8 @@ pub struct MemberEntry {
     pub balance: u64,
     /// Whether the program runs a node for the member.
     pub has_node: bool,
+    /// What the member weighs, at least 1.
+    pub stake: u32,
 }
 
 /// The members and the coin period, always within the ranges of the member file.
@@ -46,8 +50,20 @@ fn place_in(entries: &[MemberEntry], name: &[u8]) -> Option<usize>
         .position(|entry| entry.name.as_slice() == name)
 }
 
+/// The stakes of these members.
+fn stakes_in(alloc: Global, entries: &[MemberEntry]) -> Result<Vec<u32>, Memory>
+    ensures { IfOk result (λ stakes. stakes.items ≡ map (λ (e : MemberEntry). e.stake) entries.now) }
+{
+    let mut stakes = Vec::with_capacity(alloc, entries.len())?;
+    for entry in entries {
+        stakes.push(entry.stake)?;
+    }
+    Ok(stakes)
+}
+
 impl Members {
-    ghost use Rattle.hg_model.specs.Members.{MemberList, IsMemberList, has_node, listed, member_named};
+    ghost use Rattle.hg_model.specs.Members.{MemberList, IsMemberList, has_node, listed, member_named, stakes_of};
+    ghost use Rattle.hg_model.specs.Stakes.{total};
 
     /// The members, of whom there are 2 to 128, and the coin period, 3 to 100 rounds.
     pub fn new(entries: Vec<MemberEntry>, coin: u32) -> Members
@@ -58,8 +74,8 @@ impl Members {
     }
 
     /// The members, where these are lawful: 2 to 128 of them, each with a name of 1 to 16 ASCII letters, digits and `_`,
-    /// the first a letter, no name twice, a secret of 1 to 128 bytes, all balances together below 2^63; and a coin period
-    /// of 3 to 100 rounds. Else the entries come back.
+    /// the first a letter, no name twice, a secret of 1 to 128 bytes, a stake of at least 1, all balances together below
+    /// 2^63; and a coin period of 3 to 100 rounds. Else the entries come back.
     pub fn try_new(entries: Vec<MemberEntry>, coin: u32) -> Result<Members, Vec<MemberEntry>>
         ensures made { IfOk result (λ members. members ≡ listed entries.items coin) }
         ensures back { IfErr result (λ again. again.items ≡ entries.items) }
@@ -86,6 +102,15 @@ impl Members {
         ensures lawful { IsMemberList self.now }
     {
         self.entries.len() as u32
+    }
+
+    /// The members' stakes, in their order.
+    pub fn stakes(&self, alloc: Global) -> Result<Vec<u32>, Memory>
+        ensures value { IfOk result (λ stakes. stakes.items ≡ stakes_of self.now) }
+        ensures some { 0 < total (stakes_of self.now) }
+        ensures lawful { IsMemberList self.now }
+    {
+        stakes_in(alloc, self.entries.as_slice())
     }
 
     /// The coin period, in rounds.

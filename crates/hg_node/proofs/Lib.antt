@@ -1,8 +1,6 @@
 pub mod BookLaws
-pub mod PlaceLaws
 pub mod LastLaws
 pub mod RecordLaws
-pub mod ArrivalLaws
 pub mod PutLaws
 pub mod CheckLaws
 pub mod MakeLaws

@@ -20,7 +20,8 @@ use Rattle.hg_model.specs.Signing.{Accepts}
 use Rattle.hg_model.proofs.RuleLaws.{admitted}
 use Rattle.hg_history.proofs.CallLaws.{with_none}
 use Rattle.hg_history.proofs.MakeLaws.{makes_leave_a_node}
-use Rattle.hg_node.specs.Draft.{IsSigned, draft_body, draft_names}
+use Rattle.hg_sign.specs.Signed.{IsSigned}
+use Rattle.hg_node.specs.Draft.{draft_body, draft_names}
 use Rattle.hg_node.specs.ChronicleView.{ChronicleView, chronicle_with, node_view, IsRecorded}
 use Rattle.hg_node.proofs.RecordLaws.{shown_after, recorded_after}
 use Rattle.hg_node.proofs.PutLaws.{recorded_graph}

@@ -5,7 +5,7 @@ use Rattle.std.proofs.lemmas.List.{length-map}
 use Rattle.hg_model.specs.declared.members.MemberEntry.{MemberEntry}
 use Rattle.hg_model.specs.declared.row.Row.{Row}
 use Rattle.hg_model.specs.Stakes.{Stakes}
-use Rattle.hg_model.specs.Members.{MemberList, IsMemberList, stakes_of}
+use Rattle.hg_model.specs.Members.{MemberList, IsMemberList}
 use Rattle.hg_model.specs.Prefix.{graph_of}
 use Rattle.hg_model.specs.declared.entry.Entry.{Entry}
 use Rattle.hg_model.specs.declared.entry.Entry.TheVariants as entry
@@ -21,7 +21,7 @@ use Rattle.hg_history.proofs.StateLaws.{replay-push}
 use Rattle.hg_history.proofs.SoundLaws.{sound}
 use Rattle.hg_history.proofs.LogLaws.{log_spells_history}
 use Rattle.hg_node.specs.ChronicleView.{ChronicleView, chronicle_view, no_chronicle, book_in, chronicle_state, node_view, IsRecorded}
-use Rattle.hg_model.proofs.PlacesLaws.{total-count}
+use Rattle.hg_model.proofs.MemberLaws.{length-stakes, total_some}
 
 module _ (n : Stakes) (c : ℕ) where
   next : (s : State) (row : Row) → suc (length s.rows) ≡ length (s.rows ++ row ∷ [])
@@ -109,10 +109,10 @@ begins : {K : Type 0} (accepts : K → Accepts) (members : MemberList) (own : �
 unfolding replay
 begins accepts members own keys lawful member = record {
   node = record {
-    few_members = lawful.few;
+    few_members = omega (arith, length-stakes members, lawful.few);
     coin = lawful.coin_low;
-    balances = length-map members.entries (λ (e : MemberEntry). e.balance);
-    history = record { member = member; stake = omega (arith, total-count (stakes_of members), member); steps = tt };
+    balances = length-map members.entries (λ (e : MemberEntry). e.balance) ∙ sym (length-stakes members);
+    history = record { member = omega (arith, length-stakes members, member); stake = total_some members lawful; steps = tt };
   };
   rows = refl;
   log = refl;

@@ -1,12 +1,11 @@
 -- What a node makes of its records: the event's parents, what is signed of it, and what is wrong with it
-use Rattle.std.specs.Prelude.{ℕ, ◌≡◌, true, List, [], ◌∷◌, map, Option, Some, None}
+use Rattle.std.specs.Prelude.{ℕ, List, [], ◌∷◌, map, Option, Some, None}
 use Rattle.std.specs.Option.{option_or}
 use Rattle.hg_model.specs.declared.row.Row.{Row}
 use Rattle.hg_model.specs.declared.answers.MakeFault.{MakeFault}
 use Rattle.hg_model.specs.Links.{ParentNames, parent_names, place_of}
 use Rattle.hg_model.specs.Spelling.{body_bytes}
 use Rattle.hg_model.specs.Verdict.{last_name, parents_on, draft_rule, collision_rule, room_rule}
-use Rattle.hg_model.specs.Signing.{Accepts}
 use Rattle.hg_node.specs.ChronicleView.{ChronicleView}
 
 -- what is wrong with an event on these others before it is signed
@@ -30,10 +29,6 @@ both_places (Some own) (Some other) = own ∷ other ∷ []
 -- what is signed of it
 abbrev pub draft_body : ChronicleView → List (List ℕ) → ℕ → List ℕ → List ℕ
 draft_body r others time payload = body_bytes r.own (draft_names r others) time payload
-
--- the signature of such an event by the member is accepted
-abbrev pub IsSigned : Accepts → ℕ → ParentNames → ℕ → List ℕ → List ℕ → Type 0
-IsSigned accepts m names time payload sig = accepts m (body_bytes m names time payload) sig ≡ true
 
 -- what is wrong with the row once it is signed
 abbrev pub row_fault : List Row → Row → Option MakeFault

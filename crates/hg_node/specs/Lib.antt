@@ -1,5 +1,4 @@
 pub mod ChronicleView
-pub mod Arrival
 pub mod Checked
 pub mod Draft
 pub mod Laws

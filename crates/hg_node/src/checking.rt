@@ -4,7 +4,7 @@ ghost use Rattle.hg_event.specs.View.{row_of};
 ghost use Rattle.hg_model.specs.Members.{stakes_of};
 ghost use Rattle.hg_node.specs.Checked.{IsChecked, IsSignedRow, unfit, unfit_row};
 
-use crate::arrival::{member_rule, signature_rule};
+use hg_arrival::{member_rule, signature_rule};
 use hg_event::{Event, EventView, decode};
 use hg_model::{Fault, Members, Memory, PutAnswer};
 use hg_name::name_of;

@@ -10,7 +10,7 @@ ghost use Rattle.hg_model.specs.GraphWords.{last_closed_in};
 ghost use Rattle.hg_kept.specs.Published.{FindsNewsOf};
 ghost use Rattle.hg_node.specs.Opening.{AreUnmarked, Opens};
 ghost use Rattle.hg_node.specs.ChronicleView.{book_in, last_own_place, last_own_row, news_in, no_chronicle, chronicle_news, chronicle_with, chronicle_state};
-ghost use Rattle.hg_node.specs.Arrival.{StandsOn};
+ghost use Rattle.hg_arrival.specs.Arrival.{StandsOn};
 
 use crate::open::{Open, found_in, open_in};
 use hg_event::Event;
@@ -56,9 +56,10 @@ impl Chronicle {
     pub fn new(alloc: Global, members: &Members, own: Member) -> Result<Chronicle, Memory>
         ensures { IfOk result (λ c. c ≡ no_chronicle members.now own) }
     {
+        let stakes = members.stakes(alloc)?;
         Ok(Chronicle {
             own,
-            graph: EventGraph::new(alloc, members.count(), members.coin())?,
+            graph: EventGraph::new(alloc, stakes.as_slice(), members.coin())?,
             kept: Kept::new(alloc, members.count()),
             ledger: Ledger::new(alloc, members)?,
             last_own: None,

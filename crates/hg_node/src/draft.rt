@@ -4,16 +4,17 @@ ghost use Rattle.std.specs.Result.{result_err};
 ghost use Rattle.hg_model.specs.Links.{place_of};
 ghost use Rattle.hg_model.specs.Spelling.{payload_limit};
 ghost use Rattle.hg_model.specs.Verdict.{first_rule, other_rule, parents_on, payload_rule, signed_row};
-ghost use Rattle.hg_node.specs.Draft.{IsSigned, both_places, draft_fault, draft_names, draft_places, row_fault};
+ghost use Rattle.hg_sign.specs.Signed.{IsSigned};
+ghost use Rattle.hg_node.specs.Draft.{both_places, draft_fault, draft_names, draft_places, row_fault};
 
 use crate::ROW_LIMIT;
-use crate::arrival::creator_at;
 use crate::chronicle::Chronicle;
-use hg_event::{Event, PAYLOAD_LIMIT, encode_body};
+use hg_arrival::creator_at;
+use hg_event::{Event, PAYLOAD_LIMIT};
 use hg_graph::EventGraph;
 use hg_model::{Items, MakeFault, Member, Memory, Name, Parents, Row};
 use hg_name::name_of;
-use hg_sign::Signer;
+use hg_sign::{Signer, signed_bytes};
 use std::alloc::Global;
 use std::sync::Arc;
 
@@ -117,21 +118,20 @@ pub fn signed_event<V: Signer>(
 ) -> Result<Arc<Event>, Memory>
     requires { length payload.now ≤ payload_limit }
     ensures row { IfOk result (λ event. event.value ≡ signed_row creator parents time payload.now event.value.sig) }
-    ensures accepted { IfOk result (λ e. IsSigned (V.accepts keys.now) creator parents time payload.now e.value.sig) }
+    ensures signed { IfOk result (λ e. IsSigned (V.accepts keys.now) creator parents time payload.now e.value.sig) }
     ensures sized { IfOk result (λ event. length event.value.sig ≡ 64) }
 {
-    let mut bytes = encode_body(alloc, creator, &parents, time, payload)?;
-    let sig = keys.sign(creator, bytes.as_slice());
-    bytes.extend_from_slice(&sig).unwrap();
+    let signed = signed_bytes(alloc, keys, creator, &parents, time, payload)?;
     let row = Row {
         creator,
         parents,
         time,
         payload: Items::from_vec(Vec::from_slice(alloc, payload)?),
-        sig,
-        name: name_of(bytes.as_slice()),
+        sig: signed.sig,
+        name: name_of(signed.bytes.as_slice()),
     };
-    Ok(Arc::new(alloc, Event::new(row, Items::from_vec(bytes)))?)
+    let event = Event::new(row, Items::from_vec(signed.bytes));
+    Ok(Arc::new(alloc, event)?)
 }
 
 /// What is wrong with an event that is signed. Takes no memory.

@@ -9,7 +9,7 @@ ghost use Rattle.hg_model.specs.Spelling.{Spells, spelling};
 ghost use Rattle.hg_model.specs.Graph.{IsGraph};
 ghost use Rattle.hg_model.specs.Verdict.{last_name, row_limit};
 ghost use Rattle.hg_graph.specs.Held.{first_graph};
-ghost use Rattle.hg_node.specs.Arrival.{StandsOn};
+ghost use Rattle.hg_arrival.specs.Arrival.{StandsOn};
 ghost use Rattle.hg_node.specs.ChronicleView.{IsFoundBy, chronicle_took, graph_in};
 ghost use Rattle.hg_node.specs.Opening.{AreUnmarked, Opens};
 ghost use Rattle.hg_node.specs.Puts.{WouldAccept, after_put, is_signed};
@@ -18,10 +18,10 @@ ghost use Rattle.hg_model.specs.Fame.{mark_at};
 ghost use Rattle.hg_model.specs.NodeView.{book_kept, node_rows, kept_of, last_closed_of, node_links, log, node_marks, start_of, with_changes, IsNode};
 ghost use Rattle.hg_model.specs.Calls.{IsMaking, make_draft, publish_answer, publish_changes, put_answer, settle_changes, IsSettled};
 
-use crate::arrival::{parents_of_arrival, parents_of_signed};
 use crate::chronicle::Chronicle;
 use crate::draft::{draft_of, row_rule, signed_event};
 use crate::open::Open;
+use crate::putting::{parents_of_put, parents_of_put_event};
 use hg_event::{Event, EventView, decode};
 use hg_graph::{EventGraph, FrozenGraph};
 use hg_model::{
@@ -89,9 +89,7 @@ impl<V: Signer> Node<V> {
             Err(fault) => return Ok(PutAnswer::Refused(Fault::Bytes(fault))),
         };
         let name = name_of(bytes);
-        let graph = self.chronicle.graph();
-        let own = Some(self.chronicle.own());
-        match parents_of_arrival(&self.keys, graph, own, &view, &name, bytes) {
+        match parents_of_put(&self.keys, &*self.chronicle, &view, &name, bytes) {
             Ok(parents) => take(
                 self.alloc,
                 &mut *self.chronicle,
@@ -117,9 +115,7 @@ impl<V: Signer> Node<V> {
         // That its bytes are bytes, and those of an event.
         event.row();
         are_bytes(event.bytes());
-        let graph = self.chronicle.graph();
-        let own = Some(self.chronicle.own());
-        match parents_of_signed(graph, own, event) {
+        match parents_of_put_event(&*self.chronicle, event) {
             Ok(parents) => take_shared(&mut *self.chronicle, event, parents),
             Err(answer) => Ok(answer),
         }

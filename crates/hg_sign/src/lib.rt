@@ -1,4 +1,4 @@
-//! Signatures: what checks them, what makes them, and the program's own, by the members' secrets.
+//! Signatures: what checks them, what makes them, an event's bytes under one, and the program's own, by the members' secrets.
 //! A signer is told by the test `accepts`, of which nothing else is supposed, so that any scheme can take its place.
 //! The layers above use that `check` is `accepts`, and that `accepts` takes what `sign` gives.
 //!
@@ -16,10 +16,12 @@
 mod key;
 mod laws;
 mod shared;
+mod signed;
 mod signer;
 mod table;
 
 pub use laws::one_signature;
 pub use shared::SharedTable;
+pub use signed::{SignedBytes, signed_bytes};
 pub use signer::{Signer, Verifier};
 pub use table::MacTable;

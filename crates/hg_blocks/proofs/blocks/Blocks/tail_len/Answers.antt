@@ -1,9 +1,7 @@
-use Rattle.std.proofs.Common.{length, ap, arith}
-use Rattle.hg_blocks.specs.Joined.{WithRoom}
+use Rattle.std.proofs.Common.{length, subst}
+use Rattle.hg_blocks.specs.Joined.{IsSplit, WithRoom}
 use Rattle.hg_blocks.proofs.JoinedLaws.{is_split}
 use Rattle.hg_blocks.proofs.blocks.Blocks.tail_len.Goals as goal
 
-pub returns : goal.returns
-returns g c =
-    let s = is_split _ _ _ c.self.invariant in
-    (length c.self.inside.sealed.items, record { whole = omega (arith, s.whole, c.self.invariant.counted, ap (λ (v : WithRoom _). length v.items) c.self.view_is); few = omega (arith, s.few) })
+pub returns-clause-split : goal.returns-clause-split
+returns-clause-split g c = subst (λ (v : WithRoom _). IsSplit (length v.items) v.sealed v.tail) c.self.view_is (is_split _ _ _ c.self.invariant)

@@ -3,20 +3,20 @@ ghost use Rattle.std.specs.Result.{result_err};
 ghost use Rattle.hg_event.specs.View.{row_of};
 ghost use Rattle.hg_model.specs.Graph.{creator_at};
 ghost use Rattle.hg_model.specs.Spelling.{Spells};
-ghost use Rattle.hg_model.specs.Verdict.{forkers_rule, full_rule, member_rule, name_rule, signature_rule};
-ghost use Rattle.hg_node.specs.Arrival.{IsNameAnswer, LinkComes, StandsOn, all_rules, arrival_places, impostor_by, later_rules, parents_rule, signed_rules};
+ghost use Rattle.hg_model.specs.Stakes.{member_count};
+ghost use Rattle.hg_model.specs.Verdict.{forkers_rule, name_rule, signature_rule};
+ghost use Rattle.hg_arrival.specs.Arrival.{IsNameAnswer, LinkComes, StandsOn, all_rules, arrival_places, impostor_by, later_rules, member_answer, parents_rule, signed_rules};
 
-use crate::ROW_LIMIT;
 use hg_event::{Event, EventView, body_of};
 use hg_graph::EventGraph;
-use hg_model::{Fault, Member, Name, Parents, PutAnswer, Sight};
-use hg_sign::{Signer, Verifier};
+use hg_model::{Fault, Member, Name, Parents, PutAnswer, Sight, is_shaped};
+use hg_sign::Verifier;
 use std::sync::Arc;
 
-/// The places of the parents of an event that is put to a graph, or the answer of the first rule that speaks against
-/// it. At the node of the member `own` an event of that member is an impostor's. Takes no memory; before the name is known
-/// to be new it does not look at the signature.
-pub fn parents_of_arrival<V: Signer>(
+/// The places of the parents of an event that comes to a graph, or the answer of the first rule that speaks against it. At
+/// the node of the member `own` an event of that member is an impostor's. Takes no memory; before the name is known to be
+/// new it does not look at the signature.
+pub fn parents_of_arrival<V: Verifier>(
     keys: &V,
     graph: &EventGraph,
     own: Option<Member>,
@@ -41,7 +41,7 @@ pub fn parents_of_signed(
     own: Option<Member>,
     event: &Arc<Event>,
 ) -> Result<Parents, PutAnswer>
-    requires { event.now.value.creator < graph.now.graph.members }
+    requires { event.now.value.creator < member_count graph.now.graph.members }
     ensures answer { result_err result ≡ signed_rules own graph.now.graph event.now.value }
     ensures link { IfOk result (λ on. StandsOn graph.now.graph.rows event.now.value on) }
 {
@@ -55,23 +55,21 @@ fn parents_of_new(
     own: Option<Member>,
     view: &EventView<'_>,
 ) -> Result<Parents, PutAnswer>
-    requires member { view.now.creator < graph.now.graph.members }
+    requires member { view.now.creator < member_count graph.now.graph.members }
     requires fresh { None ≡ name_rule graph.now.graph.rows (row_of view.now) }
     ensures answer { result_err result ≡ later_rules own graph.now.graph (row_of view.now) }
     ensures link { IfOk result (λ on. StandsOn graph.now.graph.rows (row_of view.now) on) }
 {
-    // That the graph is shaped.
-    graph.members();
+    is_shaped(graph);
     impostor_rule(own, view)?;
     let parents = parent_places(graph, view)?;
     forkers_rule(graph, view, parents)?;
-    full_rule(graph)?;
     Ok(parents)
 }
 
 /// Whether a member made it.
 pub fn member_rule(members: u32, view: &EventView<'_>) -> Result<(), PutAnswer>
-    ensures answer { result_err result ≡ member_rule members (row_of view.now) }
+    ensures answer { result_err result ≡ member_answer members (row_of view.now) }
     ensures member { OnOk result (view.now.creator < members) }
 {
     if members <= u32::from(view.creator) {
@@ -153,25 +151,15 @@ pub fn creator_at(graph: &EventGraph, place: usize) -> Member
     graph.creator(place)
 }
 
-/// Whether with the event too many members would have a fork.
-#[tactic(auto, using(crate::proofs::ArrivalLaws::by_count))]
+/// Whether with the event the forking members would have a third of the stake or more.
+#[tactic(auto, using(crate::proofs::ArrivalLaws::forking_low))]
 fn forkers_rule(graph: &EventGraph, view: &EventView<'_>, parents: Parents) -> Result<(), PutAnswer>
     requires { LinkComes graph.now.graph (row_of view.now) parents }
     ensures { result_err result ≡ forkers_rule graph.now.graph.members graph.now.graph.rows (row_of view.now) }
 {
-    let members = graph.members();
-    let forkers = graph.would(view.creator, parents);
-    if u64::from(members) <= 3 * u64::from(forkers) {
-        return Err(PutAnswer::Refused(Fault::TooManyForkers(forkers)));
-    }
-    Ok(())
-}
-
-fn full_rule(graph: &EventGraph) -> Result<(), PutAnswer>
-    ensures { result_err result ≡ full_rule graph.now.graph.rows }
-{
-    if ROW_LIMIT <= graph.len() {
-        return Err(PutAnswer::Refused(Fault::Full(ROW_LIMIT)));
+    let forking = graph.would(view.creator, parents);
+    if graph.total() <= 3 * forking {
+        return Err(PutAnswer::Refused(Fault::TooManyForkers(forking)));
     }
     Ok(())
 }

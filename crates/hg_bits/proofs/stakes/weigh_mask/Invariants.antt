@@ -1,0 +1,11 @@
+use Rattle.std.proofs.Common.{◌≡◌, ◌≤◌, ◌*◌}
+use Rattle.hg_model.specs.Places.{weight_below}
+use Rattle.hg_model.specs.Stakes.{stake_of}
+use Rattle.hg_bits.specs.Masks.{mask_has}
+use Rattle.hg_bits.proofs.stakes.weigh_mask.Given as goal
+
+abbrev pub invariant-loop-m : goal.invariant-loop-m
+invariant-loop-m l = record {
+  sum : l.sum ≡ weight_below (stake_of l.stakes) l.m (mask_has l.mask);
+  low : l.sum ≤ 4294967295 * l.m;
+}

@@ -1,0 +1,59 @@
+ghost use Rattle.std.specs.Prelude.{◌≡◌, ◌<◌, IfOk};
+ghost use Rattle.std.specs.Result.{result_err};
+ghost use Rattle.hg_arrival.specs.Arrival.{StandsOn};
+ghost use Rattle.hg_event.specs.View.{row_of};
+ghost use Rattle.hg_model.specs.Spelling.{Spells};
+ghost use Rattle.hg_model.specs.Stakes.{member_count};
+ghost use Rattle.hg_model.specs.Verdict.{full_rule};
+ghost use Rattle.hg_node.specs.Puts.{put_rules, signed_put_rules};
+
+use crate::ROW_LIMIT;
+use crate::chronicle::Chronicle;
+use hg_arrival::{parents_of_arrival, parents_of_signed};
+use hg_event::{Event, EventView};
+use hg_graph::EventGraph;
+use hg_model::{Fault, Name, Parents, PutAnswer};
+use hg_sign::Signer;
+use std::sync::Arc;
+
+/// The places of the parents of an event that is put to a member's node, or the answer of the first rule that speaks
+/// against it. Takes no memory.
+pub fn parents_of_put<V: Signer>(
+    keys: &V,
+    chronicle: &Chronicle,
+    view: &EventView<'_>,
+    name: &Name,
+    bytes: &[u8],
+) -> Result<Parents, PutAnswer>
+    requires spelled { Spells bytes.now (row_of view.now) }
+    requires name { name.now ≡ (row_of view.now).name }
+    ensures answer { result_err result ≡ put_rules (V.accepts keys.now) chronicle.now (row_of view.now) }
+    ensures link { IfOk result (λ on. StandsOn chronicle.now.graph.rows (row_of view.now) on) }
+{
+    let graph = chronicle.graph();
+    let parents = parents_of_arrival(keys, graph, Some(chronicle.own()), view, name, bytes)?;
+    full_rule(graph)?;
+    Ok(parents)
+}
+
+/// The same of an event of a member whose signature is accepted.
+pub fn parents_of_put_event(chronicle: &Chronicle, event: &Arc<Event>) -> Result<Parents, PutAnswer>
+    requires { event.now.value.creator < member_count chronicle.now.graph.members }
+    ensures answer { result_err result ≡ signed_put_rules chronicle.now event.now.value }
+    ensures link { IfOk result (λ on. StandsOn chronicle.now.graph.rows event.now.value on) }
+{
+    let graph = chronicle.graph();
+    let parents = parents_of_signed(graph, Some(chronicle.own()), event)?;
+    full_rule(graph)?;
+    Ok(parents)
+}
+
+/// Whether the graph has room for one row more.
+fn full_rule(graph: &EventGraph) -> Result<(), PutAnswer>
+    ensures { result_err result ≡ full_rule graph.now.graph.rows }
+{
+    if ROW_LIMIT <= graph.len() {
+        return Err(PutAnswer::Refused(Fault::Full(ROW_LIMIT)));
+    }
+    Ok(())
+}
