@@ -1,6 +1,7 @@
 use crate::telling::equal;
 use hg_event::{Event, body_of, decode, encode, encode_body};
-use hg_model::{ByteFault, Bytes, Row};
+use hg_life::ByteFault;
+use hg_model::{Bytes, Row};
 use sha2::{Digest, Sha384};
 use std::test::Fail;
 

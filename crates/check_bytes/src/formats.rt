@@ -2,13 +2,14 @@
 //! SHA-2 and HMAC.
 
 ghost use Rattle.std.specs.Prelude.{◌≤◌, length};
-ghost use Rattle.hg_model.specs.Spelling.{payload_limit};
+ghost use Rattle.hg_life.specs.Spelling.{payload_limit};
 
 use crate::members::{entry, members_of};
 use crate::telling::equal;
 use hg_event::{encode, encode_body};
+use hg_life::Transfer;
 use hg_made::generate;
-use hg_model::{Bytes, Memory, Name, Row, Transfer};
+use hg_model::{Bytes, Memory, Name, Row};
 use hg_name::name_of;
 use hg_pay::write_pay;
 use hg_script::{Action, Gossip, Line, Part};

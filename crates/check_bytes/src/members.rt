@@ -1,8 +1,9 @@
 //! Members, read from a file or made for the other tests.
 
 use crate::telling::equal;
+use hg_life::{MemberEntry, Members};
 use hg_members::{MemberFault, read_members};
-use hg_model::{Bytes, MemberEntry, Members, Memory};
+use hg_model::{Bytes, Memory};
 use std::alloc::Global;
 use std::process::Abort;
 use std::test::Fail;

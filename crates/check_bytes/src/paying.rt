@@ -1,6 +1,6 @@
 use crate::members::two_members;
 use crate::telling::equal;
-use hg_model::{Effect, Transfer};
+use hg_life::{Effect, Transfer};
 use hg_pay::{Book, Ledger, read_pay, write_pay};
 use std::test::Fail;
 

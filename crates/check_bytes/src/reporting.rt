@@ -1,9 +1,8 @@
 use crate::telling::equal;
 use hg_io::{Failed, SinkMem};
-use hg_model::{
-    Block, Bytes, Effect, Items, MakeAnswer, MakeFault, Memory, OrderLine, Outcome, Printed,
-    SyncMade, SyncReport,
-};
+use hg_life::{Effect, MakeAnswer, MakeFault, SyncMade, SyncReport};
+use hg_model::{Bytes, Items, Memory};
+use hg_outcome::{Block, OrderLine, Outcome, Printed};
 use hg_report::{summary_of, text_of};
 use std::alloc::Global;
 use std::test::Fail;

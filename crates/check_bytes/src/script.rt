@@ -1,6 +1,7 @@
 use crate::members::{entry, members_of};
 use crate::telling::equal;
-use hg_model::{Items, Members, Memory};
+use hg_life::Members;
+use hg_model::{Items, Memory};
 use hg_reading::read_script;
 use hg_script::{Line, ScriptFault, Why};
 use std::alloc::{AllocError, Global};

@@ -1,12 +1,13 @@
 //! Events that are checked outside of nodes.
 
 ghost use Rattle.std.specs.Prelude.{◌≡◌};
-ghost use Rattle.hg_model.specs.NodeView.{start_of};
+ghost use Rattle.hg_life.specs.NodeView.{start_of};
 
 use crate::damaged::{altered, shortest_event};
 use crate::members::two_members;
 use crate::playing::{bytes_of, equal, give, make, name_at, player_of, two_players};
-use hg_model::{ByteFault, Fault, MakeAnswer, Members, Memory, PutAnswer};
+use hg_life::{ByteFault, Fault, MakeAnswer, Members, PutAnswer};
+use hg_model::Memory;
 use hg_node::{Node, checked};
 use hg_sign::MacTable;
 use std::alloc::Global;

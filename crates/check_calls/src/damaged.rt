@@ -1,7 +1,8 @@
 //! Events that were cut or altered on the way.
 
 use crate::playing::{begin, bytes_of, equal, give, two_players};
-use hg_model::{ByteFault, Fault, Memory, PutAnswer};
+use hg_life::{ByteFault, Fault, PutAnswer};
+use hg_model::Memory;
 use hg_node::Node;
 use hg_sign::MacTable;
 use std::alloc::Global;

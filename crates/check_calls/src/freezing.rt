@@ -1,6 +1,7 @@
 use crate::full_node::make_rows;
 use crate::playing::{equal, give, make, name_at, two_players};
-use hg_model::{MakeAnswer, Memory, PutAnswer};
+use hg_life::{MakeAnswer, PutAnswer};
+use hg_model::Memory;
 use hg_node::Node;
 use hg_sign::MacTable;
 use std::process::Abort;

@@ -1,5 +1,6 @@
 use crate::playing::{equal, give, make, name_at, two_players};
-use hg_model::{Fault, MakeAnswer, MakeFault, Memory, Name, PutAnswer};
+use hg_life::{Fault, MakeAnswer, MakeFault, PutAnswer};
+use hg_model::{Memory, Name};
 use hg_node::{Node, ROW_LIMIT};
 use hg_sign::MacTable;
 use std::process::Abort;

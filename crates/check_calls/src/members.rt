@@ -1,4 +1,5 @@
-use hg_model::{Bytes, MemberEntry, Members, Memory};
+use hg_life::{MemberEntry, Members};
+use hg_model::{Bytes, Memory};
 use std::alloc::Global;
 use std::process::Abort;
 

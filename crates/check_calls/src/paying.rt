@@ -1,5 +1,6 @@
 use crate::playing::{begin, equal, sync, two_players};
-use hg_model::{Effect, Memory};
+use hg_life::Effect;
+use hg_model::Memory;
 use hg_node::Node;
 use hg_sign::MacTable;
 use std::process::Abort;

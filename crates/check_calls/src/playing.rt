@@ -1,11 +1,12 @@
 //! What the tests of nodes share: players, and what they do.
 
 ghost use Rattle.std.specs.Prelude.{◌≡◌, IfOk};
-ghost use Rattle.hg_model.specs.Signing.{secrets_of};
-ghost use Rattle.hg_model.specs.NodeView.{start_of};
+ghost use Rattle.hg_life.specs.Signing.{secrets_of};
+ghost use Rattle.hg_life.specs.NodeView.{start_of};
 
 use crate::members::two_members;
-use hg_model::{MakeAnswer, Members, Memory, Name, Placed, PutAnswer};
+use hg_life::{MakeAnswer, Members, PutAnswer};
+use hg_model::{Memory, Name, Placed};
 use hg_node::Node;
 use hg_sign::MacTable;
 use std::alloc::Global;

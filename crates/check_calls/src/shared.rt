@@ -1,8 +1,8 @@
 //! Events that seats put to a shared node as they stand.
 
 ghost use Rattle.std.specs.Prelude.{◌≡◌, IfOk};
-ghost use Rattle.hg_model.specs.Signing.{secrets_of};
-ghost use Rattle.hg_model.specs.NodeView.{start_of};
+ghost use Rattle.hg_life.specs.Signing.{secrets_of};
+ghost use Rattle.hg_life.specs.NodeView.{start_of};
 ghost use Rattle.hg_node.specs.Checked.{IsSignedRow};
 ghost use Rattle.hg_board.specs.Seats.{IsOf};
 ghost use Rattle.hg_board.specs.Table.{all_parts};
@@ -13,7 +13,8 @@ use crate::playing::{Player, bytes_of, equal, name_at, player_of, two_players};
 use hg_board::{Seat, Shared};
 use hg_event::Event;
 use hg_gossip::Taken;
-use hg_model::{Fault, MakeAnswer, Members, Memory, Name, PutAnswer};
+use hg_life::{Fault, MakeAnswer, Members, PutAnswer};
+use hg_model::{Memory, Name};
 use hg_node::{Node, checked};
 use hg_sign::{MacTable, Verifier};
 use std::alloc::Global;

@@ -1,5 +1,6 @@
 use crate::playing::{equal, give, make, name_at, two_players};
-use hg_model::{Entry, Fault, MakeAnswer, MakeFault, Memory, PutAnswer};
+use hg_life::{Entry, Fault, MakeAnswer, MakeFault, PutAnswer};
+use hg_model::Memory;
 use hg_node::Node;
 use hg_sign::MacTable;
 use std::process::Abort;

@@ -1,15 +1,13 @@
 ghost use Rattle.std.specs.Prelude.{◌≡◌, IfOk, length};
-ghost use Rattle.hg_model.specs.NodeView.{kept_of};
+ghost use Rattle.hg_life.specs.NodeView.{kept_of};
 ghost use Rattle.hg_world.specs.Parts.{AreOfOneList};
 ghost use Rattle.hg_world.specs.World.{IsMemberOf, node_at};
 
 use crate::members::two_members;
 use crate::playing::{equal, placed};
 use hg_gossip::Taken;
-use hg_model::{
-    ByteFault, Bytes, Fault, MakeAnswer, Member, Memory, Placed, PutAnswer, Share, SyncMade,
-    SyncReport,
-};
+use hg_life::{ByteFault, Fault, MakeAnswer, PutAnswer, SyncMade, SyncReport};
+use hg_model::{Bytes, Member, Memory, Placed, Share};
 use hg_node::Node;
 use hg_sign::SharedTable;
 use hg_world::{Reply, Step, World, steps_keep_sites};

@@ -1,8 +1,8 @@
 -- The members of a made graph are members
 use Rattle.std.proofs.Common.{◌≡◌, ◌<◌, ◌≤◌, ◌+◌, ℕ, zero, suc, true, List, [], ◌∷◌, ◌++◌, get_or, length, sum_by, refl, sym, ap, ◌∙◌, subst, arith}
 use Rattle.std.proofs.lemmas.List.FromFn.{length-map-range_with_len, get_or-map-range_with_len, map-range_with_len_more, sum_by-map-range_with_len_more}
-use Rattle.hg_model.specs.declared.members.MemberEntry.{MemberEntry}
-use Rattle.hg_model.specs.Members.{IsEntry, IsMemberList, is_member_name, listed}
+use Rattle.hg_life.specs.declared.members.MemberEntry.{MemberEntry}
+use Rattle.hg_life.specs.Members.{IsEntry, IsMemberList, is_member_name, listed}
 use Rattle.check_graphs.specs.Made.{made_entry, made_entries}
 
 made_name : (k : ℕ) → k < 7 → is_member_name ((65 + k) ∷ []) ≡ true

@@ -6,11 +6,11 @@ use Rattle.hg_model.specs.Links.{Link, links}
 use Rattle.hg_model.specs.Prefix.{Graph}
 use Rattle.hg_model.specs.Prefix.{graph_of}
 use Rattle.hg_model.specs.Shares.{Speaks}
-use Rattle.hg_model.specs.History.{Change}
-use Rattle.hg_model.specs.declared.answers.MakeAnswer.{MakeAnswer}
-use Rattle.hg_model.specs.Calls.{IsMaking, make_changes}
-use Rattle.hg_model.specs.NodeView.{NodeView, IsNode, node_rows, with_changes}
-use Rattle.hg_model.specs.Signing.{Accepts}
+use Rattle.hg_life.specs.History.{Change}
+use Rattle.hg_life.specs.declared.answers.MakeAnswer.{MakeAnswer}
+use Rattle.hg_life.specs.Calls.{IsMaking, make_changes}
+use Rattle.hg_life.specs.NodeView.{NodeView, IsNode, node_rows, with_changes}
+use Rattle.hg_life.specs.Signing.{Accepts}
 use Rattle.hg_history.specs.Laws.{FoundLasts, LinksAreThoseOfTheRows}
 use Rattle.check_graphs.specs.Moments.{IsMomentOf}
 

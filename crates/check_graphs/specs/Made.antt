@@ -1,6 +1,6 @@
 -- The members of a made graph
 use Rattle.std.specs.Prelude.{ℕ, ◌+◌, true, List, [], ◌∷◌}
-use Rattle.hg_model.specs.declared.members.MemberEntry.{MemberEntry}
+use Rattle.hg_life.specs.declared.members.MemberEntry.{MemberEntry}
 use Rattle.hg_model.specs.Places.{table}
 
 -- a member with a letter as its name, A, B, C and so on, and a secret of one byte

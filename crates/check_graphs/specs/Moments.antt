@@ -3,8 +3,8 @@ use Rattle.std.specs.Prelude.{ℕ, ◌≡◌, Bool, List, Some, IfSome, slice_ge
 use Rattle.hg_model.specs.Fame.{mark_at}
 use Rattle.hg_model.specs.Prefix.{Graph, links_of}
 use Rattle.hg_model.specs.Shares.{Share, Speaks}
-use Rattle.hg_model.specs.NodeView as node
-use Rattle.hg_model.specs.NodeView.{NodeView, node_rows, node_marks}
+use Rattle.hg_life.specs.NodeView as node
+use Rattle.hg_life.specs.NodeView.{NodeView, node_rows, node_marks}
 
 -- what any share finds in the first rows of the graph speaks of the node's rows, so that it may be published
 abbrev pub IsMomentOf : {K : Type 0} → NodeView K → Graph → Type 0

@@ -2,7 +2,7 @@
 use Rattle.std.specs.Prelude.{ℕ, ◌<◌, List, [], get_or, length, slice_get, IfSome}
 use Rattle.std.specs.List.{AllPairs}
 use Rattle.hg_model.specs.Places.{table}
-use Rattle.hg_model.specs.NodeView.{NodeView}
+use Rattle.hg_life.specs.NodeView.{NodeView}
 use Rattle.hg_model.specs.Order.{Ordered}
 use Rattle.hg_model.specs.Orders.{IsPrefix}
 use Rattle.hg_runs.specs.Safety.{IsOnePrefix, order_after}

@@ -1,5 +1,5 @@
 ghost use Rattle.std.specs.Prelude.{◌≡◌, IfOk, IsTrue};
-ghost use Rattle.hg_model.specs.NodeView.{kept_of, last_closed_of};
+ghost use Rattle.hg_life.specs.NodeView.{kept_of, last_closed_of};
 ghost use Rattle.check_graphs.specs.Published.{IsPublished};
 
 use crate::carried::is_carried;
@@ -10,7 +10,8 @@ use crate::plain::{is_published, rows_of, tables_of, whole_of};
 use crate::plan::{Plan, asks_for_fork, members_of, plan_of};
 use crate::watched::Watched;
 use hg_check::Dice;
-use hg_model::{Members, Memory, PutAnswer, Share};
+use hg_life::{Members, PutAnswer};
+use hg_model::{Memory, Share};
 use hg_node::Node;
 use hg_plain::{PlainPrefix, PlainWhole};
 use hg_sign::MacTable;

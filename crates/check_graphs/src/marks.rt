@@ -1,7 +1,7 @@
 ghost use Rattle.std.specs.Prelude.{◌≡◌, ◌<◌, ℕ, Some, IsTrue, is_some, length};
 ghost use Rattle.hg_model.specs.Fame.{mark_at};
 ghost use Rattle.hg_model.specs.Places.{count_below};
-ghost use Rattle.hg_model.specs.NodeView.{node_rows, node_marks};
+ghost use Rattle.hg_life.specs.NodeView.{node_rows, node_marks};
 ghost use Rattle.check_graphs.specs.Moments.{IsMarkedSo};
 
 use hg_node::Node;

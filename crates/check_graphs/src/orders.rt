@@ -1,6 +1,6 @@
 ghost use Rattle.std.specs.Prelude.{◌≡◌, ◌<◌, IfOk, length};
 ghost use Rattle.hg_model.specs.Order.{named_in};
-ghost use Rattle.hg_model.specs.NodeView.{node_rows};
+ghost use Rattle.hg_life.specs.NodeView.{node_rows};
 ghost use Rattle.hg_world.specs.World.{IsMemberOf, node_at};
 ghost use Rattle.check_graphs.specs.Orders.{kept_order, orders_in};
 

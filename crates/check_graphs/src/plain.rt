@@ -1,8 +1,7 @@
 ghost use Rattle.std.specs.Prelude.{◌≡◌, IfOk, IsTrue};
-ghost use Rattle.hg_model.specs.Ledger.{closed_of};
-ghost use Rattle.hg_model.specs.Order.{order_of};
+ghost use Rattle.hg_model.specs.Order.{closed_of, order_of};
 ghost use Rattle.hg_model.specs.Prefix.{graph_of};
-ghost use Rattle.hg_model.specs.NodeView.{kept_of, last_closed_of, node_rows};
+ghost use Rattle.hg_life.specs.NodeView.{kept_of, last_closed_of, node_rows};
 
 use hg_check::are_equal;
 use hg_model::{Memory, Prefix, Row, Sight};

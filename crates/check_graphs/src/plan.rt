@@ -1,9 +1,10 @@
 ghost use Rattle.std.specs.Prelude.{◌≡◌, ◌≤◌, ◌<◌, IfOk};
-ghost use Rattle.hg_model.specs.Members.{listed};
+ghost use Rattle.hg_life.specs.Members.{listed};
 ghost use Rattle.check_graphs.specs.Made.{made_entry, made_entries};
 
 use hg_check::Dice;
-use hg_model::{Bytes, MemberEntry, Members, Memory};
+use hg_life::{MemberEntry, Members};
+use hg_model::{Bytes, Memory};
 use std::alloc::Global;
 
 /// What a graph is made by.

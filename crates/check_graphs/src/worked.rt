@@ -4,7 +4,8 @@ use crate::drafting::{Draft, signed_event};
 use crate::plain::whole_of;
 use crate::plan::entry_of;
 use crate::watched::Watched;
-use hg_model::{Members, Memory, Name, Placed};
+use hg_life::Members;
+use hg_model::{Memory, Name, Placed};
 use hg_sign::MacTable;
 use std::alloc::Global;
 

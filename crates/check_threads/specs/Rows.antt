@@ -1,7 +1,7 @@
 -- The rows of two nodes
 use Rattle.std.specs.Prelude.{ℕ, ◌≡◌, ◌<◌, length, option_map, slice_get}
-use Rattle.hg_model.specs.Spelling.{spelling}
-use Rattle.hg_model.specs.NodeView.{NodeView, kept_of, node_rows}
+use Rattle.hg_life.specs.Spelling.{spelling}
+use Rattle.hg_life.specs.NodeView.{NodeView, kept_of, node_rows}
 
 -- the row at this place has the same bytes in both
 abbrev pub IsSpelledAlike : {K : Type 0} → NodeView K → NodeView K → ℕ → Type 0

@@ -1,7 +1,7 @@
 //! A node that is shared by two threads: one puts and makes the events of a node that was alone, the other votes.
 
 ghost use Rattle.std.specs.Prelude.{◌≡◌, ◌<◌, length};
-ghost use Rattle.hg_model.specs.NodeView.{node_rows};
+ghost use Rattle.hg_life.specs.NodeView.{node_rows};
 ghost use Rattle.hg_board.specs.Seats.{IsOf};
 
 use crate::players::Player;

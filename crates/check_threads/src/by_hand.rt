@@ -5,7 +5,8 @@ ghost use Rattle.hg_board.specs.Seats.{IsOf};
 
 use crate::players::Player;
 use hg_board::{Seat, Shared};
-use hg_model::{MakeAnswer, Memory, Row, Sight};
+use hg_life::MakeAnswer;
+use hg_model::{Memory, Row, Sight};
 use hg_node::Node;
 use hg_sign::MacTable;
 use std::alloc::Global;

@@ -22,7 +22,7 @@ use crate::players::{Player, are_same, made_alone, node_of, played_alone, two_me
 use crate::seated::{sync_alone, sync_by_seats};
 use hg_check::{Tally, Trouble, exit};
 use hg_io::{Gate, NoGate};
-use hg_model::Members;
+use hg_life::Members;
 use std::alloc::Global;
 use std::process::ExitCode;
 use std::sync::Wait;

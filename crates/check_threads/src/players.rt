@@ -1,11 +1,12 @@
 //! Two members, the nodes that they play with, and what a node does that no one shares.
 
 ghost use Rattle.std.specs.Prelude.{◌≡◌, ◌<◌, IfOk, IsTrue, length};
-ghost use Rattle.hg_model.specs.NodeView.{kept_of, node_rows};
+ghost use Rattle.hg_life.specs.NodeView.{kept_of, node_rows};
 ghost use Rattle.check_threads.specs.Rows.{HaveSameRows, IsSpelledAlike};
 
 use hg_check::{Trouble, are_equal};
-use hg_model::{Bytes, Member, MemberEntry, Members, Memory};
+use hg_life::{MemberEntry, Members};
+use hg_model::{Bytes, Member, Memory};
 use hg_node::Node;
 use hg_sign::MacTable;
 use std::alloc::Global;

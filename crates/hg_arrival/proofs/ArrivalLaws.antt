@@ -8,16 +8,16 @@ use Rattle.hg_model.specs.Links.{Link, links, link_in}
 use Rattle.hg_model.specs.Forks.{forking, has_fork}
 use Rattle.hg_model.specs.Graph.{IsShaped}
 use Rattle.hg_model.specs.Shape.{FitsLink, link_of}
-use Rattle.hg_model.specs.Spelling.{body_of}
+use Rattle.hg_life.specs.Spelling.{body_of}
 use Rattle.hg_model.specs.Stakes.{Stakes, member_count, total}
-use Rattle.hg_model.specs.Verdict.{forkers_rule, impostor_rule, member_rule, name_rule, signature_rule}
-use Rattle.hg_model.specs.Signing.{Accepts}
+use Rattle.hg_life.specs.Verdict.{forkers_rule, impostor_rule, member_rule, name_rule, signature_rule}
+use Rattle.hg_life.specs.Signing.{Accepts}
 use Rattle.hg_model.specs.Fits.{Fits}
-use Rattle.hg_model.specs.declared.answers.Fault.TheVariants as fault
-use Rattle.hg_model.specs.declared.answers.PutAnswer.{PutAnswer}
-use Rattle.hg_model.specs.declared.answers.PutAnswer.TheVariants.{Refused}
+use Rattle.hg_life.specs.declared.answers.Fault.TheVariants as fault
+use Rattle.hg_life.specs.declared.answers.PutAnswer.{PutAnswer}
+use Rattle.hg_life.specs.declared.answers.PutAnswer.TheVariants.{Refused}
 use Rattle.hg_model.specs.Prefix.{Graph}
-use Rattle.hg_model.proofs.RuleLaws.{arrives}
+use Rattle.hg_life.proofs.RuleLaws.{arrives}
 use Rattle.hg_model.proofs.StakeLaws.{stake_where-total}
 use Rattle.hg_graph.proofs.NextLaws.{adds_link}
 use Rattle.hg_arrival.specs.Arrival.{LinkComes, all_rules, arrival_places, impostor_by, parents_rule, signed_rules}

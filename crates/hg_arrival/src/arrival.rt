@@ -2,14 +2,15 @@ ghost use Rattle.std.specs.Prelude.{◌≡◌, ◌<◌, None, length, IfOk, OnOk
 ghost use Rattle.std.specs.Result.{result_err};
 ghost use Rattle.hg_event.specs.View.{row_of};
 ghost use Rattle.hg_model.specs.Graph.{creator_at};
-ghost use Rattle.hg_model.specs.Spelling.{Spells};
+ghost use Rattle.hg_life.specs.Spelling.{Spells};
 ghost use Rattle.hg_model.specs.Stakes.{member_count};
-ghost use Rattle.hg_model.specs.Verdict.{forkers_rule, name_rule, signature_rule};
+ghost use Rattle.hg_life.specs.Verdict.{forkers_rule, name_rule, signature_rule};
 ghost use Rattle.hg_arrival.specs.Arrival.{IsNameAnswer, LinkComes, StandsOn, all_rules, arrival_places, impostor_by, later_rules, member_answer, parents_rule, signed_rules};
 
 use hg_event::{Event, EventView, body_of};
 use hg_graph::EventGraph;
-use hg_model::{Fault, Member, Name, Parents, PutAnswer, Sight, is_shaped};
+use hg_life::{Fault, PutAnswer};
+use hg_model::{Member, Name, Parents, Sight, is_shaped};
 use hg_sign::Verifier;
 use std::sync::Arc;
 

@@ -2,16 +2,16 @@
 use Rattle.std.proofs.Common.{◌≡◌, ℕ, ◌<◌, Bool, cond, eqb, List, [], ◌∷◌, ◌++◌, length, None, sym, ap, ◌∙◌, subst, arith}
 use Rattle.std.proofs.lemmas.Bool.{ne_eqb}
 use Rattle.std.proofs.lemmas.List.{append-nil}
-use Rattle.hg_model.specs.declared.answers.MakeFault.{MakeFault}
-use Rattle.hg_model.specs.declared.answers.MakeAnswer.TheVariants as made
+use Rattle.hg_life.specs.declared.answers.MakeFault.{MakeFault}
+use Rattle.hg_life.specs.declared.answers.MakeAnswer.TheVariants as made
 use Rattle.hg_model.specs.Orders.{IsPrefix}
-use Rattle.hg_model.specs.Verdict.{made_row}
-use Rattle.hg_model.specs.History.{Change}
-use Rattle.hg_model.specs.History.Change.{Made, Marked}
-use Rattle.hg_model.specs.NodeView.{NodeView, Start, node_rows}
-use Rattle.hg_model.specs.Calls.{make_answer, make_changes, make_draft, publish_answer, publish_changes, put_answer, put_changes}
+use Rattle.hg_life.specs.Verdict.{made_row}
+use Rattle.hg_life.specs.History.{Change}
+use Rattle.hg_life.specs.History.Change.{Made, Marked}
+use Rattle.hg_life.specs.NodeView.{NodeView, Start, node_rows}
+use Rattle.hg_life.specs.Calls.{make_answer, make_changes, make_draft, publish_answer, publish_changes, put_answer, put_changes}
 use Rattle.hg_model.specs.Shares.{Share}
-use Rattle.hg_model.specs.Signing.{Accepts}
+use Rattle.hg_life.specs.Signing.{Accepts}
 use Rattle.hg_history.proofs.CallLaws as node
 use Rattle.hg_history.proofs.RuleLaws.{made_draft}
 use Rattle.hg_gossip.specs.Holding.{Seen, Waits, positions_from, with_own}

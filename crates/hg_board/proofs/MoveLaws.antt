@@ -8,9 +8,9 @@ use prog.Atomic.{either}
 use Rattle.atomic_table.specs.Table.{State, step, Act, keeps, takes, gives, Valid, carried_after, stepped, opening, Allows, Splits, Joins}
 use Rattle.atomic_table.proofs.Lists.{at_set, set_else, set_again, at_snoc, exchanged}
 use Rattle.hg_model.specs.Orders.{IsPrefix}
-use Rattle.hg_model.specs.History.{Change}
-use Rattle.hg_model.specs.NodeView.{NodeView, IsNode}
-use Rattle.hg_model.specs.Signing.{Accepts}
+use Rattle.hg_life.specs.History.{Change}
+use Rattle.hg_life.specs.NodeView.{NodeView, IsNode}
+use Rattle.hg_life.specs.Signing.{Accepts}
 use Rattle.hg_history.proofs.SoundLaws.{moment}
 use Rattle.hg_history.proofs.StateLaws.{prefix_more}
 use Rattle.hg_board.specs.Positions.{times, once_from}

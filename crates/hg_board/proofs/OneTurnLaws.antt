@@ -6,17 +6,17 @@ use Rattle.std.proofs.lemmas.List.{append-nil, map-append}
 use Rattle.std.proofs.lemmas.List.Folds.{list_any-append}
 use Rattle.std.proofs.lemmas.Slice.Eq.{bytes_eq-Decides}
 use Rattle.hg_model.specs.declared.row.Row.{Row}
-use Rattle.hg_model.specs.declared.answers.PutAnswer.{PutAnswer}
-use Rattle.hg_model.specs.declared.answers.PutAnswer.TheVariants.{Accepted, Known, Refused}
-use Rattle.hg_model.specs.Gossip.{lacking}
+use Rattle.hg_life.specs.declared.answers.PutAnswer.{PutAnswer}
+use Rattle.hg_life.specs.declared.answers.PutAnswer.TheVariants.{Accepted, Known, Refused}
+use Rattle.hg_model.specs.Held.{lacking, is_held}
 use Rattle.hg_model.specs.Graph.{HasDistinctNames, name_at}
-use Rattle.hg_model.specs.History.{Change, State}
-use Rattle.hg_model.specs.History.Change.{Took}
-use Rattle.hg_model.specs.NodeView.{NodeView, node_rows, with_changes}
-use Rattle.hg_model.specs.Calls.{put_changes, taken_by, taken_from}
-use Rattle.hg_model.specs.Signing.{Accepts}
-use Rattle.hg_model.specs.Spelling.{Spells, spelling}
-use Rattle.hg_model.specs.Verdict.{is_held, row_verdict}
+use Rattle.hg_life.specs.History.{Change, State}
+use Rattle.hg_life.specs.History.Change.{Took}
+use Rattle.hg_life.specs.NodeView.{NodeView, node_rows, with_changes}
+use Rattle.hg_life.specs.Calls.{put_changes, taken_by, taken_from}
+use Rattle.hg_life.specs.Signing.{Accepts}
+use Rattle.hg_life.specs.Spelling.{Spells, spelling}
+use Rattle.hg_life.specs.Verdict.{row_verdict}
 use Rattle.hg_event.proofs.Spells.{Spells-read_event}
 use Rattle.hg_history.proofs.StateLaws.{replay-push}
 use Rattle.hg_gossip.specs.Gossip.{none_taken}

@@ -4,7 +4,7 @@ use Rattle.std.proofs.lemmas.Bool.Decides.{nat_tests}
 use Rattle.std.proofs.lemmas.List.Sums.{sum_by-append, sum_by-cons}
 use mathlib.Core.Option.{some, some-injective, some-ne-none}
 use lib.ListN.{get_elem?}
-use Rattle.hg_model.specs.History.{Change}
+use Rattle.hg_life.specs.History.{Change}
 use Rattle.hg_gossip.specs.Holding.{positions_from}
 use Rattle.hg_board.specs.Positions.{times, once_from, AreBelow}
 

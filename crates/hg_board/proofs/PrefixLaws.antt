@@ -3,7 +3,7 @@ use Rattle.std.proofs.Common.{◌≡◌, ◌≤◌, List, [], ◌∷◌, ◌++�
 use Rattle.std.proofs.lemmas.List.{append-nil}
 use Rattle.std.proofs.lemmas.Bool.Decides.{nat_tests}
 use Rattle.hg_model.specs.Orders.{IsPrefix}
-use Rattle.hg_model.specs.History.{Change}
+use Rattle.hg_life.specs.History.{Change}
 use Rattle.hg_history.proofs.StateLaws.{prefix_same}
 use Rattle.hg_board.specs.Steps.{longer, shorter}
 

@@ -5,22 +5,22 @@ use Rattle.std.proofs.lemmas.Bool.{true≢false}
 use Rattle.std.proofs.lemmas.List.{append-nil}
 use Rattle.atomic_table.specs.Seated.{TableId}
 use Rattle.hg_model.specs.declared.row.Row.{Row}
-use Rattle.hg_model.specs.declared.answers.ByteFault.{ByteFault}
-use Rattle.hg_model.specs.declared.answers.PutAnswer.{PutAnswer}
-use Rattle.hg_model.specs.declared.answers.PutAnswer.TheVariants.{Accepted, Known, Refused}
-use Rattle.hg_model.specs.declared.answers.MakeAnswer.{MakeAnswer}
-use Rattle.hg_model.specs.declared.answers.MakeAnswer.TheVariants as made
+use Rattle.hg_life.specs.declared.answers.ByteFault.{ByteFault}
+use Rattle.hg_life.specs.declared.answers.PutAnswer.{PutAnswer}
+use Rattle.hg_life.specs.declared.answers.PutAnswer.TheVariants.{Accepted, Known, Refused}
+use Rattle.hg_life.specs.declared.answers.MakeAnswer.{MakeAnswer}
+use Rattle.hg_life.specs.declared.answers.MakeAnswer.TheVariants as made
 use Rattle.hg_model.specs.declared.share.Found.{Found}
 use Rattle.hg_model.specs.Orders.{IsPrefix}
-use Rattle.hg_model.specs.Reading.{read_event}
-use Rattle.hg_model.specs.Spelling.{spelling}
+use Rattle.hg_life.specs.Reading.{read_event}
+use Rattle.hg_life.specs.Spelling.{spelling}
 use Rattle.hg_model.specs.Shares.{Share}
-use Rattle.hg_model.specs.Verdict.{made_row, row_verdict}
-use Rattle.hg_model.specs.History.{Change}
-use Rattle.hg_model.specs.History.Change.{Marked}
-use Rattle.hg_model.specs.NodeView.{NodeView, IsNode, node_rows, with_changes}
-use Rattle.hg_model.specs.Calls.{IsMaking, made_by, make_answer, make_changes, publish_answer, publish_changes, put_answer, put_changes, taken_by, taken_from}
-use Rattle.hg_model.specs.Signing.{Accepts}
+use Rattle.hg_life.specs.Verdict.{made_row, row_verdict}
+use Rattle.hg_life.specs.History.{Change}
+use Rattle.hg_life.specs.History.Change.{Marked}
+use Rattle.hg_life.specs.NodeView.{NodeView, IsNode, node_rows, with_changes}
+use Rattle.hg_life.specs.Calls.{IsMaking, made_by, make_answer, make_changes, publish_answer, publish_changes, put_answer, put_changes, taken_by, taken_from}
+use Rattle.hg_life.specs.Signing.{Accepts}
 use Rattle.hg_node.specs.ChronicleView.{IsFoundBy}
 use Rattle.hg_node.specs.Puts.{WouldAccept}
 use Rattle.hg_history.proofs.FoundLaws.{news_lasts}

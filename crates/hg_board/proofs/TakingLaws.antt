@@ -6,13 +6,13 @@ use Rattle.std.proofs.lemmas.List.{append-nil, get_or-map, length-map, take-appe
 use Rattle.std.proofs.lemmas.List.Sums.{fold-append}
 use Rattle.std.proofs.Math.Seq.{take-suc}
 use Rattle.hg_model.specs.declared.row.Row.{Row}
-use Rattle.hg_model.specs.declared.answers.PutAnswer.{PutAnswer}
-use Rattle.hg_model.specs.Spelling.{spelling}
-use Rattle.hg_model.specs.Verdict.{is_held}
-use Rattle.hg_model.specs.History.{Change}
-use Rattle.hg_model.specs.NodeView.{NodeView, Start, node_rows, with_changes}
-use Rattle.hg_model.specs.Calls.{put_answer}
-use Rattle.hg_model.specs.Signing.{Accepts}
+use Rattle.hg_life.specs.declared.answers.PutAnswer.{PutAnswer}
+use Rattle.hg_life.specs.Spelling.{spelling}
+use Rattle.hg_model.specs.Held.{is_held}
+use Rattle.hg_life.specs.History.{Change}
+use Rattle.hg_life.specs.NodeView.{NodeView, Start, node_rows, with_changes}
+use Rattle.hg_life.specs.Calls.{put_answer}
+use Rattle.hg_life.specs.Signing.{Accepts}
 use Rattle.hg_graph.specs.RowsWithRoom.{rows_of}
 use Rattle.hg_node.specs.Puts.{WouldAccept, after_put}
 use Rattle.hg_gossip.specs.declared.gossip.Taken.{Taken}

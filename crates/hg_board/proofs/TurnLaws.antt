@@ -4,9 +4,9 @@ use Rattle.std.specs.Prelude.{IsSome}
 use Rattle.std.proofs.lemmas.List.{append-nil}
 use Rattle.atomic_table.specs.Table.{Step, rest}
 use Rattle.hg_model.specs.Orders.{IsPrefix}
-use Rattle.hg_model.specs.History.{Change}
-use Rattle.hg_model.specs.NodeView.{NodeView, IsNode, with_changes}
-use Rattle.hg_model.specs.Signing.{Accepts}
+use Rattle.hg_life.specs.History.{Change}
+use Rattle.hg_life.specs.NodeView.{NodeView, IsNode, with_changes}
+use Rattle.hg_life.specs.Signing.{Accepts}
 use Rattle.hg_gossip.specs.Holding.{positions_from}
 use Rattle.hg_board.specs.declared.view.Hold.TheVariants.{Free, Taken, Loaded}
 use Rattle.hg_board.specs.declared.view.View.{View}

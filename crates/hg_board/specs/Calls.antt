@@ -1,12 +1,12 @@
 -- What each call of a shared node promises its seat
 use Rattle.std.specs.Prelude.{◌≡◌, ℕ, ◌+◌, ◌-◌, ◌≤◌, true, List, [], ◌++◌, length}
-use Rattle.hg_model.specs.declared.answers.PutAnswer.{PutAnswer}
-use Rattle.hg_model.specs.declared.answers.MakeAnswer.{MakeAnswer}
+use Rattle.hg_life.specs.declared.answers.PutAnswer.{PutAnswer}
+use Rattle.hg_life.specs.declared.answers.MakeAnswer.{MakeAnswer}
 use Rattle.hg_model.specs.Shares.{Share}
 use Rattle.hg_model.specs.Orders.{IsPrefix}
-use Rattle.hg_model.specs.NodeView.{NodeView, IsNode}
-use Rattle.hg_model.specs.Calls.{publish_answer, publish_changes}
-use Rattle.hg_model.specs.Signing.{Accepts}
+use Rattle.hg_life.specs.NodeView.{NodeView, IsNode}
+use Rattle.hg_life.specs.Calls.{publish_answer, publish_changes}
+use Rattle.hg_life.specs.Signing.{Accepts}
 use Rattle.hg_gossip.specs.Holding.{Makes, PutsBytes, Rules, Seen, Waits, with_own}
 use Rattle.hg_board.specs.Positions.{times, once_from, AreBelow}
 use Rattle.hg_board.specs.Table.{all_parts, node_at}

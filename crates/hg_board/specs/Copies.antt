@@ -2,10 +2,10 @@
 use Rattle.std.specs.Prelude.{ℕ, ◌≡◌, List, drop, Option, option_map}
 use Rattle.std.specs.declared.sync.Arc.{Arc}
 use Rattle.hg_model.specs.declared.row.Row.{Row}
-use Rattle.hg_model.specs.Gossip.{lacking}
+use Rattle.hg_model.specs.Held.{lacking}
 use Rattle.hg_model.specs.Shares.{Share}
-use Rattle.hg_model.specs.Verdict.{last_name}
-use Rattle.hg_model.specs.NodeView.{NodeView, node_marks, node_rows}
+use Rattle.hg_life.specs.Verdict.{last_name}
+use Rattle.hg_life.specs.NodeView.{NodeView, node_marks, node_rows}
 use Rattle.hg_graph.specs.RowsWithRoom.{rows_of}
 use Rattle.hg_node.specs.declared.open.Open.{Open}
 use Rattle.hg_node.specs.ChronicleView.{graph_in, last_own_row}

@@ -3,10 +3,10 @@ use Rattle.std.specs.Prelude.{◌≡◌, ℕ, Bool, List, ◌++◌, take, sum_by
 use Rattle.std.specs.List.{AllByRecursion}
 use Rattle.hg_model.specs.Shares.{Share, share_fame}
 use Rattle.hg_model.specs.Fame.{mark_at}
-use Rattle.hg_model.specs.History.{Change}
-use Rattle.hg_model.specs.History.Change.{Took, Made, Marked}
-use Rattle.hg_model.specs.NodeView.{NodeView, node_rows, node_links, node_marks}
-use Rattle.hg_model.specs.Calls.{publish_answer}
+use Rattle.hg_life.specs.History.{Change}
+use Rattle.hg_life.specs.History.Change.{Took, Made, Marked}
+use Rattle.hg_life.specs.NodeView.{NodeView, node_rows, node_links, node_marks}
+use Rattle.hg_life.specs.Calls.{publish_answer}
 use Rattle.hg_board.specs.Table.{node_at}
 use Rattle.hg_board.specs.Seats.{SharedNode, SeatView}
 

@@ -1,22 +1,22 @@
 -- The calls that may change a shared node, in the plain words of a history and one change more
 use Rattle.std.specs.Prelude.{ℕ, ◌≡◌, ◌<◌, true, List, [], ◌∷◌, ◌++◌, length, map, None, Ok}
 use Rattle.hg_model.specs.declared.row.Row.{Row}
-use Rattle.hg_model.specs.declared.answers.PutAnswer.{PutAnswer}
-use Rattle.hg_model.specs.declared.answers.PutAnswer.TheVariants.{Accepted}
-use Rattle.hg_model.specs.declared.answers.MakeFault.{MakeFault}
-use Rattle.hg_model.specs.declared.answers.MakeAnswer.TheVariants as made
+use Rattle.hg_life.specs.declared.answers.PutAnswer.{PutAnswer}
+use Rattle.hg_life.specs.declared.answers.PutAnswer.TheVariants.{Accepted}
+use Rattle.hg_life.specs.declared.answers.MakeFault.{MakeFault}
+use Rattle.hg_life.specs.declared.answers.MakeAnswer.TheVariants as made
 use Rattle.hg_model.specs.Orders.{IsPrefix}
-use Rattle.hg_model.specs.Reading.{read_event}
+use Rattle.hg_life.specs.Reading.{read_event}
 use Rattle.hg_model.specs.Shares.{Share}
-use Rattle.hg_model.specs.Gossip.{lacking}
+use Rattle.hg_model.specs.Held.{lacking}
 use Rattle.hg_model.specs.Graph.{HasDistinctNames}
-use Rattle.hg_model.specs.Spelling.{spelling}
-use Rattle.hg_model.specs.Verdict.{made_row}
-use Rattle.hg_model.specs.History.{Change}
-use Rattle.hg_model.specs.History.Change.{Took, Made, Marked}
-use Rattle.hg_model.specs.NodeView.{NodeView, node_rows}
-use Rattle.hg_model.specs.Calls.{make_answer, make_body, make_draft, publish_answer, put_answer}
-use Rattle.hg_model.specs.Signing.{Accepts}
+use Rattle.hg_life.specs.Spelling.{spelling}
+use Rattle.hg_life.specs.Verdict.{made_row}
+use Rattle.hg_life.specs.History.{Change}
+use Rattle.hg_life.specs.History.Change.{Took, Made, Marked}
+use Rattle.hg_life.specs.NodeView.{NodeView, node_rows}
+use Rattle.hg_life.specs.Calls.{make_answer, make_body, make_draft, publish_answer, put_answer}
+use Rattle.hg_life.specs.Signing.{Accepts}
 use Rattle.hg_gossip.specs.Nodes.{taking}
 use Rattle.hg_board.specs.Table.{node_at}
 use Rattle.hg_board.specs.Seats.{SharedNode, SeatView}

@@ -1,8 +1,8 @@
 -- A shared node and its seats, as callers see them
 use Rattle.std.specs.Prelude.{◌≡◌, ℕ, List, Option, Some}
 use Rattle.atomic_table.specs.Seated.{TableId}
-use Rattle.hg_model.specs.History.{Change}
-use Rattle.hg_model.specs.NodeView.{NodeView}
+use Rattle.hg_life.specs.History.{Change}
+use Rattle.hg_life.specs.NodeView.{NodeView}
 use Rattle.hg_gossip.specs.Holding.{Seen}
 use Rattle.hg_board.specs.Table.{node_at}
 use Rattle.hg_board.specs.declared.view.View.{View}

@@ -2,9 +2,9 @@
 use Rattle.std.specs.Prelude.{◌≡◌, ◌≢◌, ℕ, ◌+◌, ◌-◌, ◌<◌, ◌≤◌, List, [], ◌∷◌, ◌++◌, length, cond, nat_le, Option, Some}
 use Rattle.atomic_table.specs.Table.{Me, Step}
 use Rattle.hg_model.specs.Orders.{IsPrefix}
-use Rattle.hg_model.specs.History.{Change}
-use Rattle.hg_model.specs.NodeView.{NodeView, IsNode}
-use Rattle.hg_model.specs.Signing.{Accepts}
+use Rattle.hg_life.specs.History.{Change}
+use Rattle.hg_life.specs.NodeView.{NodeView, IsNode}
+use Rattle.hg_life.specs.Signing.{Accepts}
 use Rattle.hg_board.specs.Positions.{times, AreBelow}
 use Rattle.hg_board.specs.declared.view.Hold.{Hold}
 use Rattle.hg_board.specs.declared.view.Hold.TheVariants.{Free, Taken, Loaded}

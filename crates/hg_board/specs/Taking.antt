@@ -3,11 +3,11 @@ use Rattle.std.specs.Prelude.{◌≡◌, ◌<◌, true, cond, List, ◌∷◌, �
 use Rattle.std.specs.List.{AllByRecursion}
 use Rattle.hg_model.specs.declared.row.Row.{Row}
 use Rattle.hg_model.specs.Stakes.{member_count}
-use Rattle.hg_model.specs.Spelling.{Spells, spelling}
-use Rattle.hg_model.specs.Verdict.{is_held}
-use Rattle.hg_model.specs.History.{Change}
-use Rattle.hg_model.specs.NodeView.{NodeView, Start, node_rows, with_changes}
-use Rattle.hg_model.specs.Signing.{Accepts}
+use Rattle.hg_life.specs.Spelling.{Spells, spelling}
+use Rattle.hg_model.specs.Held.{is_held}
+use Rattle.hg_life.specs.History.{Change}
+use Rattle.hg_life.specs.NodeView.{NodeView, Start, node_rows, with_changes}
+use Rattle.hg_life.specs.Signing.{Accepts}
 use Rattle.hg_node.specs.Puts.{WouldAccept, is_signed}
 use Rattle.hg_gossip.specs.declared.gossip.Taken.{Taken}
 use Rattle.hg_gossip.specs.Gossip.{none_taken}

@@ -2,11 +2,11 @@
 use Rattle.std.specs.Prelude.{◌≡◌, ℕ, ◌<◌, ◌≤◌, List, [], ◌∷◌, ◌++◌, length, drop, None}
 use Rattle.atomic_table.specs.Seated.{TableId}
 use Rattle.hg_model.specs.Orders.{IsPrefix}
-use Rattle.hg_model.specs.History.{Change}
-use Rattle.hg_model.specs.History.Change.{Marked}
-use Rattle.hg_model.specs.NodeView.{NodeView, IsNode, with_changes}
+use Rattle.hg_life.specs.History.{Change}
+use Rattle.hg_life.specs.History.Change.{Marked}
+use Rattle.hg_life.specs.NodeView.{NodeView, IsNode, with_changes}
 use Rattle.hg_model.specs.Shares.{whole}
-use Rattle.hg_model.specs.Signing.{Accepts}
+use Rattle.hg_life.specs.Signing.{Accepts}
 use Rattle.hg_gossip.specs.Holding.{positions_from}
 use Rattle.hg_board.specs.Table.{HasSeen, node_at, view}
 use Rattle.hg_board.specs.Steps.{Hand}

@@ -1,7 +1,7 @@
 // Copies of what a node has, made while it is out.
 ghost use Rattle.std.specs.Prelude.{◌≡◌, ◌<◌, IfOk, Some, drop, length, slice_get};
 ghost use Rattle.hg_graph.specs.RowsWithRoom.{rows_of};
-ghost use Rattle.hg_model.specs.NodeView.{node_rows};
+ghost use Rattle.hg_life.specs.NodeView.{node_rows};
 ghost use Rattle.hg_board.specs.Copies.{IsLastRow, IsParcelFrom};
 
 use hg_event::Event;

@@ -1,6 +1,6 @@
 // The rule of the table, and what each kind of step tells its seat.
-ghost use Rattle.hg_model.specs.History.{Change};
-ghost use Rattle.hg_model.specs.History.Change.{Marked};
+ghost use Rattle.hg_life.specs.History.{Change};
+ghost use Rattle.hg_life.specs.History.Change.{Marked};
 ghost use Rattle.hg_model.specs.Shares.{whole};
 ghost use Rattle.hg_board.specs.Table.{Orderly, first_view, spent};
 ghost use Rattle.hg_board.specs.Steps.{taken, loaded, raised, given, compared, after_split, split_off, joined};

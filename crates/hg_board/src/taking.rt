@@ -1,8 +1,8 @@
 // How a seat that holds the turn puts events to its node.
 ghost use Rattle.std.specs.Prelude.{◌≡◌, ◌<◌, ◌+◌, ◌-◌, ◌^◌, ◌≤◌, true, IfOk, OnErr, OnOk};
 ghost use Rattle.hg_graph.specs.RowsWithRoom.{rows_of};
-ghost use Rattle.hg_model.specs.Spelling.{spelling};
-ghost use Rattle.hg_model.specs.Calls.{put_answer};
+ghost use Rattle.hg_life.specs.Spelling.{spelling};
+ghost use Rattle.hg_life.specs.Calls.{put_answer};
 ghost use Rattle.hg_node.specs.Puts.{WouldAccept, after_put};
 ghost use Rattle.hg_gossip.specs.Nodes.{taking_of};
 ghost use Rattle.hg_board.specs.Table.{node_at};
@@ -13,7 +13,8 @@ use crate::rule::{RawSeat, Steps};
 use crate::turn::raise_if_changed;
 use hg_event::Event;
 use hg_gossip::{Taken, with_answer};
-use hg_model::{Memory, PutAnswer, Sight};
+use hg_life::PutAnswer;
+use hg_model::{Memory, Sight};
 use hg_node::Node;
 use hg_sign::Signer;
 use std::sync::Arc;

@@ -1,6 +1,6 @@
 // How a seat comes in, with the turn and the node, and goes out.
 ghost use Rattle.std.specs.Prelude.{◌≡◌, ◌++◌, ◌∷◌, [], length};
-ghost use Rattle.hg_model.specs.NodeView.{IsNode};
+ghost use Rattle.hg_life.specs.NodeView.{IsNode};
 ghost use Rattle.hg_board.specs.Table.{node_at};
 ghost use Rattle.hg_board.specs.Steps.{IsAtRest};
 ghost use Rattle.hg_board.specs.Turns.{Enters, IsGrown, IsInside, IsSized, inside_at, mine_with, outside_at};

@@ -9,7 +9,7 @@ pub struct Changes;
 
 impl Model for Changes {
     ghost use Rattle.std.specs.Prelude.{List, []};
-    ghost use Rattle.hg_model.specs.History.{Change};
+    ghost use Rattle.hg_life.specs.History.{Change};
 
     ghost Value = { List Change };
 

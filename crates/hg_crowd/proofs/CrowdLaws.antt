@@ -14,11 +14,11 @@ use Rattle.hg_model.specs.Rounds.{is_witness}
 use Rattle.hg_model.specs.Fame.{fame_of}
 use Rattle.hg_model.specs.Order.{coin_at}
 use Rattle.hg_model.specs.Shares.{Share, is_of_share, share_fame, whole}
-use Rattle.hg_model.specs.Signing.{Accepts}
-use Rattle.hg_model.specs.NodeView.{NodeView, node_links, node_rows}
+use Rattle.hg_life.specs.Signing.{Accepts}
+use Rattle.hg_life.specs.NodeView.{NodeView, node_links, node_rows}
 use Rattle.hg_board.specs.Table.{node_at}
-use Rattle.hg_model.specs.NodeView.{IsNode}
-use Rattle.hg_model.specs.History.{Change}
+use Rattle.hg_life.specs.NodeView.{IsNode}
+use Rattle.hg_life.specs.History.{Change}
 use Rattle.hg_history.proofs.StateLaws.{prefix_same}
 use Rattle.hg_board.specs.Positions.{AreBelow}
 use Rattle.hg_board.specs.Table.{all_parts}

@@ -7,8 +7,8 @@ use native.Mathlib.Decide.{ℕ_discrete}
 use Rattle.hg_model.specs.Orders.{IsPrefix}
 use Rattle.hg_model.specs.Shares.{Share}
 use Rattle.hg_model.specs.Stakes.{Stakes}
-use Rattle.hg_model.specs.History.{Change, State, replay, step, with_marks}
-use Rattle.hg_model.specs.History.Change.{Took, Made, Marked}
+use Rattle.hg_life.specs.History.{Change, State, replay, step, with_marks}
+use Rattle.hg_life.specs.History.Change.{Took, Made, Marked}
 use Rattle.hg_history.proofs.StateLaws.{replay-append}
 use Rattle.hg_board.specs.Positions.{times}
 use Rattle.hg_board.specs.Crews.{AreMarks}

@@ -1,7 +1,7 @@
 -- A call of one node of a party, through the seat at its place
 use Rattle.std.proofs.Common.{◌≡◌, ℕ, ◌<◌, List, length, get_or, set, refl, ap, ◌∙◌, subst, arith, length-set}
 use Rattle.std.proofs.lemmas.List.{get_or_default}
-use Rattle.hg_model.specs.Signing.{Accepts}
+use Rattle.hg_life.specs.Signing.{Accepts}
 use Rattle.hg_board.specs.Seats.{SharedNode, SeatView}
 use Rattle.hg_board.specs.Calls.{Stays}
 use Rattle.hg_crowd.specs.Crowd.{AreSeats, IsSeat}

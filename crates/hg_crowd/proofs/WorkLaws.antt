@@ -3,9 +3,9 @@ use Rattle.std.proofs.Common.{ℕ, ◌<◌, List, [], ◌++◌, refl, sym, ap, �
 use Rattle.std.proofs.lemmas.List.{append-nil}
 use Rattle.hg_model.specs.Orders.{IsPrefix}
 use Rattle.hg_model.specs.Shares.{Share}
-use Rattle.hg_model.specs.Signing.{Accepts}
-use Rattle.hg_model.specs.History.{Change}
-use Rattle.hg_model.specs.NodeView.{node_marks}
+use Rattle.hg_life.specs.Signing.{Accepts}
+use Rattle.hg_life.specs.History.{Change}
+use Rattle.hg_life.specs.NodeView.{node_marks}
 use Rattle.hg_model.specs.Fame.{mark_at}
 use Rattle.hg_history.proofs.StateLaws.{marks_stay, prefix_more}
 use Rattle.hg_board.specs.Table.{node_at}

@@ -2,10 +2,10 @@
 use Rattle.std.specs.Prelude.{◌≡◌, ℕ, ◌<◌, ◌≤◌, List, length, get_or, Some, slice_get}
 use Rattle.hg_model.specs.Orders.{IsPrefix}
 use Rattle.hg_model.specs.Shares.{Share}
-use Rattle.hg_model.specs.Signing.{Accepts}
-use Rattle.hg_model.specs.History.{Change}
-use Rattle.hg_model.specs.History.Change.{Marked}
-use Rattle.hg_model.specs.NodeView.{NodeView, IsNode, node_rows}
+use Rattle.hg_life.specs.Signing.{Accepts}
+use Rattle.hg_life.specs.History.{Change}
+use Rattle.hg_life.specs.History.Change.{Marked}
+use Rattle.hg_life.specs.NodeView.{NodeView, IsNode, node_rows}
 use Rattle.hg_board.specs.Positions.{times, AreBelow}
 use Rattle.hg_board.specs.Table.{node_at}
 use Rattle.hg_board.specs.Seats.{IsOf, SharedNode, SeatView}

@@ -1,7 +1,7 @@
 -- What becomes of many nodes whose lines are played through one seat each, beside workers
 use Rattle.std.specs.Prelude.{◌≡◌, ℕ, ◌<◌, List, length, get_or, map}
-use Rattle.hg_model.specs.Signing.{Accepts}
-use Rattle.hg_model.specs.NodeView.{NodeView}
+use Rattle.hg_life.specs.Signing.{Accepts}
+use Rattle.hg_life.specs.NodeView.{NodeView}
 use Rattle.hg_model.specs.Shares.{whole}
 use Rattle.hg_board.specs.Seats.{SharedNode, SeatView}
 use Rattle.hg_board.specs.Calls.{after_split, split_off}

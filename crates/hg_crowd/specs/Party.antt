@@ -1,10 +1,10 @@
 -- Many shared nodes with a seat of each, as one value, and what a call of one of them leaves
 use Rattle.std.specs.Prelude.{◌≡◌, ℕ, ◌<◌, List, Result, IfOk, OnErr, length, get_or, set}
 use Rattle.hg_model.specs.declared.row.Row.{Row}
-use Rattle.hg_model.specs.declared.answers.PutAnswer.{PutAnswer}
-use Rattle.hg_model.specs.declared.answers.MakeAnswer.{MakeAnswer}
-use Rattle.hg_model.specs.Signing.{Accepts}
-use Rattle.hg_model.specs.NodeView.{NodeView}
+use Rattle.hg_life.specs.declared.answers.PutAnswer.{PutAnswer}
+use Rattle.hg_life.specs.declared.answers.MakeAnswer.{MakeAnswer}
+use Rattle.hg_life.specs.Signing.{Accepts}
+use Rattle.hg_life.specs.NodeView.{NodeView}
 use Rattle.hg_gossip.specs.declared.gossip.Taken.{Taken}
 use Rattle.hg_gossip.specs.Holding.{WouldSign, WouldTake}
 use Rattle.hg_board.specs.Seats.{SharedNode, SeatView, seen_by}

@@ -3,8 +3,8 @@ use Rattle.std.specs.Prelude.{◌≡◌, ℕ, ◌<◌, ◌≤◌, Bool, List, []
 use Rattle.std.specs.List.{AllByRecursion}
 use Rattle.hg_model.specs.Shares.{Share, share_fame, whole}
 use Rattle.hg_model.specs.Fame.{mark_at}
-use Rattle.hg_model.specs.Signing.{Accepts}
-use Rattle.hg_model.specs.NodeView.{NodeView, node_links, node_marks, node_rows}
+use Rattle.hg_life.specs.Signing.{Accepts}
+use Rattle.hg_life.specs.NodeView.{NodeView, node_links, node_marks, node_rows}
 use Rattle.hg_board.specs.Table.{all_parts}
 use Rattle.hg_board.specs.Seats.{SharedNode, SeatView}
 use Rattle.hg_board.specs.Calls.{Absorbs, IsStarted, IsWhole}

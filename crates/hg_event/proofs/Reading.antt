@@ -8,11 +8,11 @@ use Rattle.std.proofs.lemmas.List.{take_at, drop_at, take-append-drop, length-ap
 use Rattle.std.proofs.lemmas.Nat.{be_bytes_2, be_bytes_8, from_be_bytes-to_be_bytes_2, from_be_bytes-to_be_bytes_8}
 use Rattle.std.proofs.lemmas.Slice.Eq.{bytes_eq-Decides}
 use Rattle.hg_model.specs.Links.{ParentNames}
-use Rattle.hg_model.specs.declared.answers.ByteFault.{ByteFault}
-use Rattle.hg_model.specs.declared.answers.ByteFault.TheVariants.{Short, BadMagic, BadLength}
-use Rattle.hg_model.specs.Spelling.{magic, parent_bytes, payload_bytes, payload_limit}
-use Rattle.hg_model.specs.Results.{◌>>=◌}
-use Rattle.hg_model.specs.Reading.{bytes_field, number_field, after_magic, parents_field, payload_field}
+use Rattle.hg_life.specs.declared.answers.ByteFault.{ByteFault}
+use Rattle.hg_life.specs.declared.answers.ByteFault.TheVariants.{Short, BadMagic, BadLength}
+use Rattle.hg_life.specs.Spelling.{magic, parent_bytes, payload_bytes, payload_limit}
+use Rattle.hg_life.specs.Results.{◌>>=◌}
+use Rattle.hg_life.specs.Reading.{bytes_field, number_field, after_magic, parents_field, payload_field}
 
 -- ---- a reading that went on
 

@@ -6,12 +6,12 @@ use Rattle.std.proofs.lemmas.List.{append-nil, nil_from_length, take_at, length-
 use Rattle.sha2.specs.Sha512.{sha384}
 use Rattle.hg_model.specs.declared.row.Row.{Row}
 use Rattle.hg_model.specs.Links.{ParentNames}
-use Rattle.hg_model.specs.declared.answers.ByteFault.{ByteFault}
-use Rattle.hg_model.specs.declared.answers.ByteFault.TheVariants.{Trailing}
-use Rattle.hg_model.specs.Spelling.{Spells, body_bytes, body_of, magic, parent_bytes, payload_bytes, spelling}
-use Rattle.hg_model.specs.Verdict.{signed_row}
-use Rattle.hg_model.specs.Reading.{after_magic, bytes_field, number_field, parents_field, payload_field, read_event}
-use Rattle.hg_model.specs.Results.{Reads}
+use Rattle.hg_life.specs.declared.answers.ByteFault.{ByteFault}
+use Rattle.hg_life.specs.declared.answers.ByteFault.TheVariants.{Trailing}
+use Rattle.hg_life.specs.Spelling.{Spells, body_bytes, body_of, magic, parent_bytes, payload_bytes, spelling}
+use Rattle.hg_life.specs.Verdict.{signed_row}
+use Rattle.hg_life.specs.Reading.{after_magic, bytes_field, number_field, parents_field, payload_field, read_event}
+use Rattle.hg_life.specs.Results.{Reads}
 use Rattle.std.specs.Prelude.{IfOk}
 use Rattle.hg_event.specs.declared.view.EventView.{EventView}
 use Rattle.hg_event.specs.View.{row_of}

@@ -2,8 +2,8 @@
 use Rattle.std.specs.Prelude.{◌≡◌, ℕ, List, Ok}
 use Rattle.sha2.specs.Sha512.{sha384}
 use Rattle.hg_model.specs.declared.row.Row.{Row}
-use Rattle.hg_model.specs.Spelling.{HasSpelling, Spells, spelling}
-use Rattle.hg_model.specs.Reading.{read_event}
+use Rattle.hg_life.specs.Spelling.{HasSpelling, Spells, spelling}
+use Rattle.hg_life.specs.Reading.{read_event}
 
 -- a row that has its sizes and its name has a spelling
 abbrev pub RowsAreSpelled : Type 0

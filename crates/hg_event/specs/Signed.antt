@@ -1,8 +1,8 @@
 -- What a creator signs.
 use Rattle.std.specs.Prelude.{◌≡◌, ℕ, List, ◌++◌, length}
 use Rattle.hg_model.specs.Links.{ParentNames}
-use Rattle.hg_model.specs.Spelling.{Spells}
-use Rattle.hg_model.specs.Verdict.{signed_row}
+use Rattle.hg_life.specs.Spelling.{Spells}
+use Rattle.hg_life.specs.Verdict.{signed_row}
 
 -- with any signature behind it the body spells the row of these fields and that signature
 abbrev pub SpellsSigned : List ℕ → ℕ → ParentNames → ℕ → List ℕ → Type 0

@@ -1,6 +1,6 @@
 -- What a view shows: a row.
 use Rattle.hg_model.specs.declared.row.Row.{Row}
-use Rattle.hg_model.specs.Verdict.{signed_row}
+use Rattle.hg_life.specs.Verdict.{signed_row}
 use Rattle.hg_event.specs.declared.view.EventView.{EventView}
 use Rattle.hg_event.specs.Names.{names_lent}
 

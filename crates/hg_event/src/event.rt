@@ -1,5 +1,5 @@
 ghost use Rattle.std.specs.Prelude.{◌≡◌, IfOk};
-ghost use Rattle.hg_model.specs.Spelling.{Spells, spelling};
+ghost use Rattle.hg_life.specs.Spelling.{Spells, spelling};
 ghost use Rattle.hg_event.specs.Names.{names_lent};
 ghost use Rattle.hg_event.specs.View.{row_of};
 
@@ -17,7 +17,7 @@ pub struct Event {
 
 impl Model for Event {
     ghost use Rattle.hg_model.specs.declared.row.Row.{Row};
-    ghost use Rattle.hg_model.specs.Spelling.{Spells};
+    ghost use Rattle.hg_life.specs.Spelling.{Spells};
 
     ghost Value = { Row };
 

@@ -1,10 +1,11 @@
 ghost use Rattle.std.specs.Prelude.{◌≡◌};
 ghost use Rattle.std.specs.Int.{w16, w64};
-ghost use Rattle.hg_model.specs.Reading.{after_magic, bytes_field, number_field, parents_field, payload_field};
-ghost use Rattle.hg_model.specs.Results.{Reads};
+ghost use Rattle.hg_life.specs.Reading.{after_magic, bytes_field, number_field, parents_field, payload_field};
+ghost use Rattle.hg_life.specs.Results.{Reads};
 ghost use Rattle.hg_event.specs.Names.{names_lent};
 
-use hg_model::{ByteFault, Name};
+use hg_life::ByteFault;
+use hg_model::Name;
 
 /// The first four bytes of every event.
 pub(crate) const MAGIC: [u8; 4] = *b"HGE1";
@@ -13,7 +14,7 @@ pub(crate) const MAGIC: [u8; 4] = *b"HGE1";
 pub const PAYLOAD_LIMIT: usize = 1024;
 
 /// The bytes behind the magic.
-#[tactic(auto, unfolding(hg_model::specs::Reading::after_magic))]
+#[tactic(auto, unfolding(hg_life::specs::Reading::after_magic))]
 pub(crate) fn behind_magic(bytes: &[u8], size: usize) -> Result<&[u8], ByteFault>
     ensures { Reads (λ rest. rest.now) result (after_magic size bytes.now) }
 {
@@ -27,7 +28,7 @@ pub(crate) fn behind_magic(bytes: &[u8], size: usize) -> Result<&[u8], ByteFault
 }
 
 /// The first `N` bytes, and the others.
-#[tactic(auto, unfolding(hg_model::specs::Reading::bytes_field))]
+#[tactic(auto, unfolding(hg_life::specs::Reading::bytes_field))]
 pub(crate) fn array_of<const N: usize>(
     bytes: &[u8],
     size: usize,
@@ -41,7 +42,7 @@ pub(crate) fn array_of<const N: usize>(
 }
 
 /// The number in the first two bytes, and the other bytes.
-#[tactic(auto, unfolding(hg_model::specs::Reading::number_field))]
+#[tactic(auto, unfolding(hg_life::specs::Reading::number_field))]
 pub(crate) fn u16_of(bytes: &[u8], size: usize) -> Result<(u16, &[u8]), ByteFault>
     ensures { Reads (λ field. (field.0, field.1.now)) result (number_field size w16 bytes.now) }
 {
@@ -50,7 +51,7 @@ pub(crate) fn u16_of(bytes: &[u8], size: usize) -> Result<(u16, &[u8]), ByteFaul
 }
 
 /// The number in the first eight bytes, and the other bytes.
-#[tactic(auto, unfolding(hg_model::specs::Reading::number_field))]
+#[tactic(auto, unfolding(hg_life::specs::Reading::number_field))]
 pub(crate) fn u64_of(bytes: &[u8], size: usize) -> Result<(u64, &[u8]), ByteFault>
     ensures { Reads (λ field. (field.0, field.1.now)) result (number_field size w64 bytes.now) }
 {
@@ -59,7 +60,7 @@ pub(crate) fn u64_of(bytes: &[u8], size: usize) -> Result<(u64, &[u8]), ByteFaul
 }
 
 /// The parents' names by the kind, and the bytes behind them.
-#[tactic(auto, unfolding(hg_model::specs::Reading::parents_field))]
+#[tactic(auto, unfolding(hg_life::specs::Reading::parents_field))]
 pub(crate) fn parents_of(
     bytes: &[u8],
     size: usize,
@@ -79,7 +80,7 @@ pub(crate) fn parents_of(
 }
 
 /// The payload by its length, and the bytes behind it.
-#[tactic(auto, unfolding(hg_model::specs::Reading::payload_field, hg_model::specs::Reading::bytes_field))]
+#[tactic(auto, unfolding(hg_life::specs::Reading::payload_field, hg_life::specs::Reading::bytes_field))]
 pub(crate) fn payload_of(bytes: &[u8], size: usize) -> Result<(&[u8], &[u8]), ByteFault>
     ensures { Reads (λ field. (field.0.now, field.1.now)) result (payload_field size bytes.now) }
 {

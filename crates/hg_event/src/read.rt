@@ -1,13 +1,13 @@
 ghost use Rattle.std.specs.Prelude.{◌≡◌, IfOk, Ok};
 ghost use Rattle.hg_model.specs.declared.row.Row.{Row};
-ghost use Rattle.hg_model.specs.Spelling.{Spells, body_of};
-ghost use Rattle.hg_model.specs.Reading.{read_event};
-ghost use Rattle.hg_model.specs.Results.{Reads};
+ghost use Rattle.hg_life.specs.Spelling.{Spells, body_of};
+ghost use Rattle.hg_life.specs.Reading.{read_event};
+ghost use Rattle.hg_life.specs.Results.{Reads};
 ghost use Rattle.hg_event.specs.View.{row_of};
 
 use crate::fields::{array_of, behind_magic, parents_of, payload_of, u16_of, u64_of};
 use crate::view::EventView;
-use hg_model::ByteFault;
+use hg_life::ByteFault;
 
 /// The event that these bytes spell, all of them, or the first fault from left to right.
 /// What it gives is borrowed from the bytes. Takes no memory.
@@ -23,7 +23,7 @@ pub fn decode(bytes: &[u8]) -> Result<EventView<'_>, ByteFault>
 }
 
 // The same, with the one clause from which the others follow.
-#[tactic(auto, unfolding(hg_model::specs::Reading::read_event))]
+#[tactic(auto, unfolding(hg_life::specs::Reading::read_event))]
 fn event_of(bytes: &[u8]) -> Result<EventView<'_>, ByteFault>
     ensures { Reads row_of result (read_event bytes.now) }
 {
@@ -49,7 +49,7 @@ fn event_of(bytes: &[u8]) -> Result<EventView<'_>, ByteFault>
 }
 
 /// The part of the event's bytes that its creator signed: all but the signature.
-#[tactic(auto, unfolding(hg_model::specs::Spelling::body_of))]
+#[tactic(auto, unfolding(hg_life::specs::Spelling::body_of))]
 pub fn body_of<'a>(view: &EventView<'a>) -> &'a [u8]
     ensures { result.now ≡ body_of (row_of view.now) }
 {

@@ -1,5 +1,5 @@
 ghost use Rattle.std.specs.Prelude.{◌≡◌};
-ghost use Rattle.hg_model.specs.Spelling.{body_bytes};
+ghost use Rattle.hg_life.specs.Spelling.{body_bytes};
 ghost use Rattle.hg_event.specs.Names.{names_lent};
 
 use hg_model::{Member, Name, Sig};

@@ -1,6 +1,6 @@
 ghost use Rattle.std.specs.Prelude.{◌≡◌, ◌+◌, ◌++◌, ◌≤◌, IfOk, IfSome, OnOk, length, vec_capacity, vec_len};
 ghost use Rattle.sha2.specs.Sha512.{sha384};
-ghost use Rattle.hg_model.specs.Spelling.{body_bytes, Spells, parent_bytes, payload_limit, spelling};
+ghost use Rattle.hg_life.specs.Spelling.{body_bytes, Spells, parent_bytes, payload_limit, spelling};
 ghost use Rattle.hg_event.specs.Signed.{SpellsSigned};
 
 use crate::fields::MAGIC;
@@ -11,7 +11,7 @@ use std::alloc::Global;
 const SIZE_WITH_PARENTS: usize = 177;
 
 /// The row's fields, one after the other: its spelling, where the row's name is theirs. The name may be any.
-#[tactic(auto, unfolding(hg_model::specs::Spelling::spelling, hg_model::specs::Spelling::body_of))]
+#[tactic(auto, unfolding(hg_life::specs::Spelling::spelling, hg_life::specs::Spelling::body_of))]
 pub fn encode(alloc: Global, row: &Row) -> Result<Vec<u8>, Memory>
     requires { length row.now.payload ≤ payload_limit }
     ensures fields { IfOk result (λ bytes. bytes.items ≡ spelling row.now) }
@@ -30,7 +30,7 @@ pub fn encode(alloc: Global, row: &Row) -> Result<Vec<u8>, Memory>
 
 /// What the creator of an event with these fields signs.
 /// The `Vec` has room for the 64 bytes of the signature, with which the event is whole.
-#[tactic(auto, unfolding(hg_model::specs::Spelling::spelling, hg_model::specs::Spelling::body_of))]
+#[tactic(auto, unfolding(hg_life::specs::Spelling::spelling, hg_life::specs::Spelling::body_of))]
 pub fn encode_body(
     alloc: Global,
     creator: Member,

@@ -1,12 +1,12 @@
 -- Gossip of nodes that have one holder each
 use Rattle.std.proofs.Common.{◌≡◌, ℕ, List, [], ◌∷◌, map, fold, Option, Some, None, Result, Ok, Err, sym, refl, ap, ap₂, ◌∙◌, subst}
-use Rattle.hg_model.specs.declared.answers.PutAnswer.{PutAnswer}
-use Rattle.hg_model.specs.declared.answers.SyncMade.{SyncMade}
-use Rattle.hg_model.specs.Signing.{Accepts}
-use Rattle.hg_model.specs.Spelling.{spelling}
-use Rattle.hg_model.specs.Verdict.{last_name}
-use Rattle.hg_model.specs.NodeView.{NodeView, node_rows, with_changes}
-use Rattle.hg_model.specs.Calls.{IsMaking, put_answer, put_changes}
+use Rattle.hg_life.specs.declared.answers.PutAnswer.{PutAnswer}
+use Rattle.hg_life.specs.declared.answers.SyncMade.{SyncMade}
+use Rattle.hg_life.specs.Signing.{Accepts}
+use Rattle.hg_life.specs.Spelling.{spelling}
+use Rattle.hg_life.specs.Verdict.{last_name}
+use Rattle.hg_life.specs.NodeView.{NodeView, node_rows, with_changes}
+use Rattle.hg_life.specs.Calls.{IsMaking, put_answer, put_changes}
 use Rattle.hg_gossip.specs.declared.gossip.Taken.{Taken}
 use Rattle.hg_gossip.specs.Holding.{PutsBytes, Seen, Waits, names_in, parcel_beyond, rules_alone, seen_whole, with_others, with_own}
 use Rattle.std.specs.Prelude.{IfOk}

@@ -13,10 +13,9 @@ use Rattle.std.proofs.lemmas.Option.{slice_get_within, slice_get-get_or, get_or_
 use Rattle.std.proofs.Math.Seq.{drop-cons, take-suc}
 use Rattle.std.proofs.lemmas.Slice.Eq.{bytes_eq-Decides}
 use Rattle.hg_model.specs.declared.row.Row.{Row}
-use Rattle.hg_model.specs.Gossip.{lacking}
+use Rattle.hg_model.specs.Held.{lacking, is_held}
 use Rattle.hg_model.specs.Links.{no_row}
 use Rattle.hg_model.specs.Orders.{IsPrefix}
-use Rattle.hg_model.specs.Verdict.{is_held}
 use Rattle.hg_graph.specs.RowsWithRoom.{rows_of}
 use Rattle.hg_gossip.specs.Holding.{row_names}
 use Rattle.hg_gossip.specs.Handing.{AreKnown, HeardView, Knows, all_heard, none_heard, unheld}

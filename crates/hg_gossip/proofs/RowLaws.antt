@@ -13,8 +13,8 @@ use Rattle.std.proofs.Math.Seq.{drop-cons, take-suc}
 use Rattle.indexmap.specs.IndexSet.{insert_key}
 use Rattle.hg_model.specs.declared.row.Row.{Row}
 use Rattle.hg_model.specs.Links.{is_named, no_row, place_of}
-use Rattle.hg_model.specs.Verdict.{is_held}
-use Rattle.hg_model.specs.Spelling.{spelling}
+use Rattle.hg_model.specs.Held.{is_held}
+use Rattle.hg_life.specs.Spelling.{spelling}
 use Rattle.hg_gossip.specs.Holding.{HaveSame, row_names, unnamed, unnamed_bytes}
 use Rattle.hg_gossip.specs.Nodes.{UnnamedAreLacking}
 

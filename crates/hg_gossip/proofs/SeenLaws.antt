@@ -2,12 +2,12 @@
 use Rattle.std.proofs.Common.{◌≡◌, ℕ, suc, ◌+◌, List, [], ◌∷◌, ◌++◌, length, Result, Ok, Err, sym, refl, ap, ◌∙◌, subst, arith}
 use Rattle.std.specs.Prelude.{IfOk, OnErr, OnOk}
 use Rattle.std.proofs.lemmas.List.{append-nil}
-use Rattle.hg_model.specs.declared.answers.PutAnswer.{PutAnswer}
-use Rattle.hg_model.specs.declared.answers.MakeAnswer.{MakeAnswer}
-use Rattle.hg_model.specs.Signing.{Accepts}
-use Rattle.hg_model.specs.History.{Change}
-use Rattle.hg_model.specs.NodeView.{IsNode, NodeView, with_changes}
-use Rattle.hg_model.specs.Calls.{IsMaking, make_changes, put_answer, put_changes}
+use Rattle.hg_life.specs.declared.answers.PutAnswer.{PutAnswer}
+use Rattle.hg_life.specs.declared.answers.MakeAnswer.{MakeAnswer}
+use Rattle.hg_life.specs.Signing.{Accepts}
+use Rattle.hg_life.specs.History.{Change}
+use Rattle.hg_life.specs.NodeView.{IsNode, NodeView, with_changes}
+use Rattle.hg_life.specs.Calls.{IsMaking, make_changes, put_answer, put_changes}
 use Rattle.hg_gossip.specs.Holding.{Makes, PutsBytes, Rules, Seen, Waits, positions_from, rules_alone, seen_whole, with_others, with_own}
 
 module _ {K : Type 0} where

@@ -3,16 +3,16 @@ use Rattle.std.specs.Prelude.{ℕ, suc, ◌≡◌, Bool, false, not, cond, List,
 use Rattle.std.specs.List.{list_any}
 use Rattle.std.specs.Str.{bytes_eq}
 use Rattle.hg_model.specs.declared.row.Row.{Row}
-use Rattle.hg_model.specs.declared.answers.PutAnswer.{PutAnswer}
-use Rattle.hg_model.specs.declared.answers.PutAnswer.TheVariants.{Accepted}
-use Rattle.hg_model.specs.declared.answers.MakeAnswer.{MakeAnswer}
-use Rattle.hg_model.specs.declared.gossip.Parcel.{Parcel}
-use Rattle.hg_model.specs.Spelling.{spelling}
-use Rattle.hg_model.specs.Verdict.{last_name}
-use Rattle.hg_model.specs.Signing.{Accepts}
-use Rattle.hg_model.specs.History.{Change}
-use Rattle.hg_model.specs.NodeView.{IsNode, NodeView, node_rows, with_changes}
-use Rattle.hg_model.specs.Calls.{IsMaking, make_changes, make_draft, put_answer, put_changes}
+use Rattle.hg_life.specs.declared.answers.PutAnswer.{PutAnswer}
+use Rattle.hg_life.specs.declared.answers.PutAnswer.TheVariants.{Accepted}
+use Rattle.hg_life.specs.declared.answers.MakeAnswer.{MakeAnswer}
+use Rattle.hg_life.specs.declared.gossip.Parcel.{Parcel}
+use Rattle.hg_life.specs.Spelling.{spelling}
+use Rattle.hg_life.specs.Verdict.{last_name}
+use Rattle.hg_life.specs.Signing.{Accepts}
+use Rattle.hg_life.specs.History.{Change}
+use Rattle.hg_life.specs.NodeView.{IsNode, NodeView, node_rows, with_changes}
+use Rattle.hg_life.specs.Calls.{IsMaking, make_changes, make_draft, put_answer, put_changes}
 
 -- what a holder has seen of its node, and the positions in the history of the changes that its own calls added
 pub record Seen (K : Type 0) : Type 0 where

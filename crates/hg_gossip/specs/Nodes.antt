@@ -2,16 +2,17 @@
 -- SWIRLDS-TR-2016-01, section 3
 use Rattle.std.specs.Prelude.{ℕ, ◌≡◌, List, [], ◌∷◌, fold, map, Option, Some, None}
 use Rattle.hg_model.specs.declared.row.Row.{Row}
-use Rattle.hg_model.specs.declared.answers.MakeAnswer.{MakeAnswer}
-use Rattle.hg_model.specs.declared.answers.SyncMade.{SyncMade}
-use Rattle.hg_model.specs.declared.answers.SyncMade.TheVariants as sync_made
-use Rattle.hg_model.specs.declared.answers.SyncReport.{SyncReport}
-use Rattle.hg_model.specs.Signing.{Accepts}
-use Rattle.hg_model.specs.Spelling.{spelling}
-use Rattle.hg_model.specs.Verdict.{last_name}
-use Rattle.hg_model.specs.NodeView.{NodeView, node_rows, with_changes}
-use Rattle.hg_model.specs.Calls.{IsMaking, put_answer, put_changes}
-use Rattle.hg_model.specs.Gossip.{lacking, made_in_sync}
+use Rattle.hg_life.specs.declared.answers.MakeAnswer.{MakeAnswer}
+use Rattle.hg_life.specs.declared.answers.SyncMade.{SyncMade}
+use Rattle.hg_life.specs.declared.answers.SyncMade.TheVariants as sync_made
+use Rattle.hg_life.specs.declared.answers.SyncReport.{SyncReport}
+use Rattle.hg_life.specs.Signing.{Accepts}
+use Rattle.hg_life.specs.Spelling.{spelling}
+use Rattle.hg_life.specs.Verdict.{last_name}
+use Rattle.hg_life.specs.NodeView.{NodeView, node_rows, with_changes}
+use Rattle.hg_life.specs.Calls.{IsMaking, put_answer, put_changes}
+use Rattle.hg_model.specs.Held.{lacking}
+use Rattle.hg_life.specs.Gossip.{made_in_sync}
 use Rattle.hg_gossip.specs.declared.gossip.Taken.{Taken}
 use Rattle.hg_gossip.specs.Holding.{Waits, row_names, rules_alone, seen_whole, unnamed}
 use Rattle.hg_gossip.specs.Gossip.{MakesAfter, Pulls, Syncs, none_taken, with_answer}

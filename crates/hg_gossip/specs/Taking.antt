@@ -3,10 +3,10 @@ use Rattle.std.specs.Prelude.{◌≡◌, ◌<◌, ℕ, true, List, ◌++◌, map
 use Rattle.std.specs.List.{AllByRecursion}
 use Rattle.std.specs.declared.sync.Arc.{Arc}
 use Rattle.hg_model.specs.declared.row.Row.{Row}
-use Rattle.hg_model.specs.Signing.{Accepts}
+use Rattle.hg_life.specs.Signing.{Accepts}
 use Rattle.hg_model.specs.Stakes.{member_count}
-use Rattle.hg_model.specs.Spelling.{body_of, spelling}
-use Rattle.hg_model.specs.NodeView.{NodeView, Start}
+use Rattle.hg_life.specs.Spelling.{body_of, spelling}
+use Rattle.hg_life.specs.NodeView.{NodeView, Start}
 use Rattle.hg_graph.specs.RowsWithRoom.{rows_of}
 use Rattle.hg_gossip.specs.Nodes.{taking}
 

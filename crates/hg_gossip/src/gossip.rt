@@ -1,11 +1,12 @@
 ghost use Rattle.std.specs.Prelude.{◌≡◌, ◌+◌, ◌-◌, ◌<◌, ◌^◌, IfOk, OnErr};
-ghost use Rattle.hg_model.specs.Gossip.{made_in_sync};
+ghost use Rattle.hg_life.specs.Gossip.{made_in_sync};
 ghost use Rattle.hg_gossip.specs.Gossip.{Pulls, PullsSome, Syncs, with_answer};
 ghost use Rattle.hg_gossip.specs.Holding.{Waits, names_in, parcel_beyond};
 
 use crate::holder::Holder;
 use crate::taking::{make_after, take};
-use hg_model::{MakeAnswer, Memory, Parcel, PutAnswer, SyncMade, SyncReport};
+use hg_life::{MakeAnswer, Parcel, PutAnswer, SyncMade, SyncReport};
+use hg_model::Memory;
 use std::alloc::Global;
 
 /// How many events were taken, and how many refused. Those that were known count as neither.

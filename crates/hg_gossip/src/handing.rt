@@ -1,7 +1,6 @@
 ghost use Rattle.std.specs.Prelude.{◌≡◌, ◌++◌, ◌<◌, ◌≤◌, IfOk, OnOk, Some, drop, is_some, length, slice_get};
-ghost use Rattle.hg_model.specs.Gossip.{lacking};
-ghost use Rattle.hg_model.specs.NodeView.{node_rows};
-ghost use Rattle.hg_model.specs.Verdict.{is_held};
+ghost use Rattle.hg_model.specs.Held.{lacking, is_held};
+ghost use Rattle.hg_life.specs.NodeView.{node_rows};
 ghost use Rattle.hg_graph.specs.RowsWithRoom.{rows_of};
 ghost use Rattle.hg_gossip.specs.Handing.{Knows, PushesLacked, PushesUnheld, lacked_backwards};
 

@@ -2,7 +2,8 @@ ghost use Rattle.std.specs.Prelude.{◌≡◌, IfOk, OnErr};
 ghost use Rattle.std.specs.Option.{option_to_list};
 ghost use Rattle.hg_gossip.specs.Holding.{Makes, PutsBytes, Rules, Seen, Waits, WouldSign, WouldTake, names_in, parcel_beyond};
 
-use hg_model::{MakeAnswer, Memory, Name, Parcel, PutAnswer};
+use hg_life::{MakeAnswer, Parcel, PutAnswer};
+use hg_model::{Memory, Name};
 use std::alloc::Global;
 
 /// Who calls a node: its only holder, or one of several. Others may change the node before each call, and each answer

@@ -1,10 +1,11 @@
 ghost use Rattle.std.specs.Prelude.{◌≡◌, ◌<◌, ◌++◌, ◌∷◌, [], IfOk, OnOk, Some, length, map};
-ghost use Rattle.hg_model.specs.NodeView.{node_rows};
-ghost use Rattle.hg_model.specs.Spelling.{spelling};
+ghost use Rattle.hg_life.specs.NodeView.{node_rows};
+ghost use Rattle.hg_life.specs.Spelling.{spelling};
 ghost use Rattle.hg_gossip.specs.Holding.{row_names, unnamed, with_row_at, HaveSame};
 
 use crate::holder::Holder;
-use hg_model::{Bytes, Items, MakeAnswer, Memory, Name, Parcel, PutAnswer};
+use hg_life::{MakeAnswer, Parcel, PutAnswer};
+use hg_model::{Bytes, Items, Memory, Name};
 use hg_node::Node;
 use hg_sign::Signer;
 use indexmap::IndexSet;

@@ -3,7 +3,7 @@ use Rattle.std.specs.Prelude.{ℕ, List, map, min, Option, Some, None, if◌then
 use Rattle.std.specs.declared.sync.Arc.{Arc}
 use Rattle.hg_model.specs.declared.row.Row.{Row}
 use Rattle.hg_model.specs.Links.{place_of}
-use Rattle.hg_model.specs.Verdict.{is_held}
+use Rattle.hg_model.specs.Held.{is_held}
 
 -- rows, and for how many more there is memory at least
 pub record RowsWithRoom : Type 0 where

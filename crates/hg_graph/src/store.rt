@@ -1,6 +1,6 @@
 ghost use Rattle.std.specs.Prelude.{◌≡◌, ◌<◌, ◌≤◌, ◌++◌, ◌∷◌, [], Some, length, option_map, slice_get, take, IfOk, OnOk};
 ghost use Rattle.hg_model.specs.Links.{place_of};
-ghost use Rattle.hg_model.specs.Spelling.{spelling};
+ghost use Rattle.hg_life.specs.Spelling.{spelling};
 ghost use Rattle.hg_graph.specs.RowsWithRoom.{found_place};
 
 use crate::names::NameIndex;

@@ -15,7 +15,7 @@ use Rattle.hg_model.specs.Rounds.{is_witness}
 use Rattle.hg_model.specs.Fame.{Marks, mark_at, fame_of}
 use Rattle.hg_model.specs.Order.{coin_at}
 use Rattle.hg_model.specs.Shares.{Share, is_of_share, share_fame, early_fame}
-use Rattle.hg_model.specs.History.{State, news, new_mark, with_marks, replay}
+use Rattle.hg_life.specs.History.{State, news, new_mark, with_marks, replay}
 use Rattle.hg_model.proofs.PlacesLaws.{weight_below-same, weight_below-longer, count_below-le}
 use Rattle.hg_history.specs.Adding.{Adding, add_mark, add_marks}
 use Rattle.hg_history.specs.News.{FindsNews}

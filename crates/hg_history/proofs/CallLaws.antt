@@ -3,19 +3,19 @@ use Rattle.std.proofs.Common.{◌≡◌, inl, inr, ℕ, ◌<◌, Bool, cond, eqb
 use Rattle.std.proofs.lemmas.Bool.{cases_Bool, eqb-false}
 use Rattle.std.proofs.lemmas.List.{append-nil}
 use Rattle.hg_model.specs.declared.row.Row.{Row}
-use Rattle.hg_model.specs.declared.answers.ByteFault.{ByteFault}
-use Rattle.hg_model.specs.declared.answers.PutAnswer.{PutAnswer}
-use Rattle.hg_model.specs.declared.answers.PutAnswer.TheVariants.{Accepted, Known, Refused}
-use Rattle.hg_model.specs.declared.answers.MakeAnswer.{MakeAnswer}
-use Rattle.hg_model.specs.declared.answers.MakeAnswer.TheVariants as answer
-use Rattle.hg_model.specs.Reading.{read_event}
-use Rattle.hg_model.specs.Spelling.{Spells}
-use Rattle.hg_model.specs.Verdict.{arrival_rule, forkers_rule, full_rule, row_verdict, made_row, making, made_or}
-use Rattle.hg_model.specs.History.{Change, IsStep}
-use Rattle.hg_model.specs.History.Change.{Took, Marked}
-use Rattle.hg_model.specs.NodeView.{NodeView, with_changes, node_rows, node_state, IsNode}
-use Rattle.hg_model.specs.Calls.{put_answer, put_changes, taken_by, taken_from, make_answer, make_changes, made_by, publish_answer, publish_changes}
-use Rattle.hg_model.specs.Signing.{Accepts}
+use Rattle.hg_life.specs.declared.answers.ByteFault.{ByteFault}
+use Rattle.hg_life.specs.declared.answers.PutAnswer.{PutAnswer}
+use Rattle.hg_life.specs.declared.answers.PutAnswer.TheVariants.{Accepted, Known, Refused}
+use Rattle.hg_life.specs.declared.answers.MakeAnswer.{MakeAnswer}
+use Rattle.hg_life.specs.declared.answers.MakeAnswer.TheVariants as answer
+use Rattle.hg_life.specs.Reading.{read_event}
+use Rattle.hg_life.specs.Spelling.{Spells}
+use Rattle.hg_life.specs.Verdict.{arrival_rule, forkers_rule, full_rule, row_verdict, made_row, making, made_or}
+use Rattle.hg_life.specs.History.{Change, IsStep}
+use Rattle.hg_life.specs.History.Change.{Took, Marked}
+use Rattle.hg_life.specs.NodeView.{NodeView, with_changes, node_rows, node_state, IsNode}
+use Rattle.hg_life.specs.Calls.{put_answer, put_changes, taken_by, taken_from, make_answer, make_changes, made_by, publish_answer, publish_changes}
+use Rattle.hg_life.specs.Signing.{Accepts}
 use Rattle.hg_event.proofs.Reading.{AreBytes}
 use Rattle.hg_event.proofs.Spells.{read_event-Spells}
 use Rattle.hg_history.specs.Laws.{PutsAddOne, OtherPutsAddNone, PutsLeaveANode, MakesAddOne, OtherMakesAddNone, PublishesLeaveANode}
@@ -55,9 +55,9 @@ module _ (K : Type 0) (accepts : K → Accepts) (v : NodeView K) (bytes : List �
       (place ≡ length (node_rows v)) × ((row : Row) × (read_event bytes ≡ Ok row) × (put_changes accepts v bytes ≡ Took row ∷ []))
   unfolding put_answer put_changes
   one_of_read (Err e) is place accepted =
-      (let no_row : Refused _ ≡ Accepted place = sym (ap (λ (r : Result Row ByteFault). Rattle.hg_model.specs.Verdict.verdict_of (accepts v.start.keys) v.start.members v.start.own (node_rows v) r) is) ∙ accepted in cc)
+      (let no_row : Refused _ ≡ Accepted place = sym (ap (λ (r : Result Row ByteFault). Rattle.hg_life.specs.Verdict.verdict_of (accepts v.start.keys) v.start.members v.start.own (node_rows v) r) is) ∙ accepted in cc)
   one_of_read (Ok row) is place accepted =
-      let row_is : here row ≡ Accepted place = sym (ap (λ (r : Result Row ByteFault). Rattle.hg_model.specs.Verdict.verdict_of (accepts v.start.keys) v.start.members v.start.own (node_rows v) r) is) ∙ accepted in (
+      let row_is : here row ≡ Accepted place = sym (ap (λ (r : Result Row ByteFault). Rattle.hg_life.specs.Verdict.verdict_of (accepts v.start.keys) v.start.members v.start.own (node_rows v) r) is) ∙ accepted in (
         accepted_place (accepts v.start.keys) v.start.members v.start.own (node_rows v) row place row_is,
         (row, is, ap (taken_from accepts v) is ∙ taken_accepted (here row) row place row_is),
       )
@@ -67,7 +67,7 @@ module _ (K : Type 0) (accepts : K → Accepts) (v : NodeView K) (bytes : List �
   none_of_read (Err e) is other = ap (taken_from accepts v) is
   none_of_read (Ok row) is other =
       ap (taken_from accepts v) is
-      ∙ taken_other (here row) row (λ place row_is. other place (ap (λ (r : Result Row ByteFault). Rattle.hg_model.specs.Verdict.verdict_of (accepts v.start.keys) v.start.members v.start.own (node_rows v) r) is ∙ row_is))
+      ∙ taken_other (here row) row (λ place row_is. other place (ap (λ (r : Result Row ByteFault). Rattle.hg_life.specs.Verdict.verdict_of (accepts v.start.keys) v.start.members v.start.own (node_rows v) r) is ∙ row_is))
 
   module _ (fit : AreBytes bytes) (node : IsNode accepts v) where
     node_of_answer : (row : Row) → read_event bytes ≡ Ok row → (answer : PutAnswer) → here row ≡ answer → IsNode accepts (with_changes v (taken_by answer row))

@@ -4,13 +4,13 @@ use Rattle.std.proofs.lemmas.Bool.{cases_lt}
 use Rattle.std.proofs.lemmas.List.{length_push}
 use Rattle.std.proofs.lemmas.Option.{slice_get_within}
 use Rattle.hg_model.specs.declared.row.Row.{Row}
-use Rattle.hg_model.specs.History.{Change, State, empty, with_row, with_marks, step, replay, AreSteps}
+use Rattle.hg_life.specs.History.{Change, State, empty, with_row, with_marks, step, replay, AreSteps}
 use Rattle.hg_model.specs.Stakes.{Stakes}
-use Rattle.hg_model.specs.History.Change.{Took, Made, Marked}
+use Rattle.hg_life.specs.History.Change.{Took, Made, Marked}
 use Rattle.hg_model.proofs.LongerLaws.{slice_get-append}
 use Rattle.hg_model.proofs.PushLaws.{nobody, slice_get-before, slice_get-last}
-use Rattle.hg_model.specs.Verdict.{verdict_of}
-use Rattle.hg_model.specs.Signing.{Accepts}
+use Rattle.hg_life.specs.Verdict.{verdict_of}
+use Rattle.hg_life.specs.Signing.{Accepts}
 use Rattle.hg_event.proofs.Spells.{Spells-read_event}
 use Rattle.hg_history.specs.Laws.{HasChange, RowsCameByChanges, ChangesLeftRows, VerdictsAreOfBytes}
 use Rattle.hg_history.proofs.StateLaws.{rows_from}

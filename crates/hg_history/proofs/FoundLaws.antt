@@ -10,7 +10,7 @@ use Rattle.hg_model.specs.Stakes.{Stakes}
 use Rattle.hg_model.specs.Links.{Link}
 use Rattle.hg_model.specs.Fame.{mark_at, is_yes}
 use Rattle.hg_model.specs.Shares.{Share, Speaks, share_fame, early_fame, found_in}
-use Rattle.hg_model.specs.History.{Change, replay}
+use Rattle.hg_life.specs.History.{Change, replay}
 use Rattle.hg_model.specs.Orders.{IsPrefix}
 use Rattle.hg_model.proofs.ListLaws.{all_list_below}
 use Rattle.hg_history.specs.Laws.{FoundIsNews, NewsLasts}

@@ -12,9 +12,9 @@ use Rattle.hg_model.specs.Links.{Link, links, place_of}
 use Rattle.hg_model.specs.Graph.{name_in, name_at, HasDistinctNames}
 use Rattle.hg_model.specs.Fame.{Marks, fame_marks, is_closed}
 use Rattle.hg_model.specs.Order.{sort_by, comes_before, keyed_at, is_received_in, ordered_in, ordered, Ordered, named_in, last_closed, coin_at, order_of}
-use Rattle.hg_model.specs.History.{Change, replay, IsHistory}
-use Rattle.hg_model.specs.Kept.{kept, kept_by_names}
-use Rattle.hg_model.specs.Signing.{Accepts}
+use Rattle.hg_life.specs.History.{Change, replay, IsHistory}
+use Rattle.hg_life.specs.Kept.{kept, kept_by_names}
+use Rattle.hg_life.specs.Signing.{Accepts}
 use Rattle.hg_model.specs.Orders.{IsPrefix, marked_order_by_names}
 use Rattle.hg_model.proofs.LinkLaws.{length-links}
 use Rattle.hg_model.proofs.ListLaws.{all_list_below}

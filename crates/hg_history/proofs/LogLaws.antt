@@ -3,9 +3,9 @@ use Rattle.std.proofs.Common.{◌≡◌, ℕ, suc, List, [], ◌∷◌, ◌++◌
 use Rattle.std.proofs.lemmas.List.{length_push, get_or_append_left, get_or_push}
 use Rattle.hg_model.specs.declared.row.Row.{Row}
 use Rattle.hg_model.specs.Stakes.{Stakes}
-use Rattle.hg_model.specs.History.{Change, State, empty, with_row, with_marks, step, replay}
-use Rattle.hg_model.specs.History.Change.{Took, Made, Marked}
-use Rattle.hg_model.specs.NodeView.{log_from, history_of}
+use Rattle.hg_life.specs.History.{Change, State, empty, with_row, with_marks, step, replay}
+use Rattle.hg_life.specs.History.Change.{Took, Made, Marked}
+use Rattle.hg_life.specs.NodeView.{log_from, history_of}
 use Rattle.hg_model.specs.Links.{no_row}
 use Rattle.hg_history.specs.Laws.{LogSpellsHistory}
 use Rattle.hg_history.proofs.StateLaws.{rows_from}

@@ -2,20 +2,20 @@
 use Rattle.std.proofs.Common.{◌≡◌, ℕ, ◌^◌, ◌<◌, ◌≤◌, true, List, length, Some, None, sym, refl, ap, ◌∙◌, subst, arith}
 use Rattle.std.specs.Prelude.{IfSome}
 use Rattle.hg_model.specs.declared.row.Row.{Row}
-use Rattle.hg_model.specs.declared.answers.MakeAnswer.{MakeAnswer}
-use Rattle.hg_model.specs.declared.answers.MakeAnswer.TheVariants as answer
+use Rattle.hg_life.specs.declared.answers.MakeAnswer.{MakeAnswer}
+use Rattle.hg_life.specs.declared.answers.MakeAnswer.TheVariants as answer
 use Rattle.hg_model.specs.Links.{ParentNames, parent_names, place_of}
 use Rattle.hg_model.specs.Stakes.{member_count}
 use Rattle.hg_model.specs.Fits.{AreHeld}
-use Rattle.hg_model.specs.Spelling.{body_of, spelling, Spells}
-use Rattle.hg_model.specs.Verdict.{last_name, parents_on, made_row, making}
-use Rattle.hg_model.specs.History.{Change, IsMade}
-use Rattle.hg_model.specs.History.Change.{Made}
-use Rattle.hg_model.specs.NodeView.{NodeView, with_changes, node_rows, IsNode}
-use Rattle.hg_model.specs.Calls.{make_answer, make_changes, make_body, make_draft, made_by}
-use Rattle.hg_model.specs.Signing.{Accepts}
+use Rattle.hg_life.specs.Spelling.{body_of, spelling, Spells}
+use Rattle.hg_life.specs.Verdict.{last_name, parents_on, made_row, making}
+use Rattle.hg_life.specs.History.{Change, IsMade}
+use Rattle.hg_life.specs.History.Change.{Made}
+use Rattle.hg_life.specs.NodeView.{NodeView, with_changes, node_rows, IsNode}
+use Rattle.hg_life.specs.Calls.{make_answer, make_changes, make_body, make_draft, made_by}
+use Rattle.hg_life.specs.Signing.{Accepts}
 use Rattle.hg_model.specs.Orders.{HasNameSizes}
-use Rattle.hg_model.proofs.RuleLaws.{Drafted, drafted}
+use Rattle.hg_life.proofs.RuleLaws.{Drafted, drafted}
 use Rattle.hg_prefix.proofs.StandingLaws.{name_at_place}
 use Rattle.hg_history.specs.Laws.{MakesLeaveANode}
 use Rattle.hg_history.proofs.RuleLaws.{made_draft, made_place}

@@ -12,7 +12,7 @@ use Rattle.hg_model.specs.Rounds.{round_of, is_witness}
 use Rattle.hg_model.specs.Fame.{Marks, mark_at, fame_of, is_closed}
 use Rattle.hg_model.specs.Order.{coin_at}
 use Rattle.hg_model.specs.Shares.{Share, is_of_share, share_fame, early_fame}
-use Rattle.hg_model.specs.History.{State, links_with, is_late, first_mark, with_row, new_mark, with_marks}
+use Rattle.hg_life.specs.History.{State, links_with, is_late, first_mark, with_row, new_mark, with_marks}
 use Rattle.hg_model.specs.Orders.{AreFame}
 use Rattle.hg_agree.proofs.LateLaws.{closed_mark}
 use Rattle.hg_model.proofs.LinkLaws.{length-links}

@@ -8,12 +8,12 @@ use Rattle.hg_model.specs.Links.{Link, links}
 use Rattle.hg_model.specs.Fame.{Marks, fame_marks}
 use Rattle.hg_model.specs.Order.{coin_at, ordered, order_of}
 use Rattle.hg_model.specs.Shares.{whole}
-use Rattle.hg_model.specs.History.{Change, State, news, replay}
-use Rattle.hg_model.specs.Kept.{kept}
-use Rattle.hg_model.specs.History.Change.{Marked}
-use Rattle.hg_model.specs.NodeView.{NodeView, with_changes, node_rows, node_state, IsNode}
-use Rattle.hg_model.specs.Calls.{publish_answer, publish_changes, settle_changes, IsSettled}
-use Rattle.hg_model.specs.Signing.{Accepts}
+use Rattle.hg_life.specs.History.{Change, State, news, replay}
+use Rattle.hg_life.specs.Kept.{kept}
+use Rattle.hg_life.specs.History.Change.{Marked}
+use Rattle.hg_life.specs.NodeView.{NodeView, with_changes, node_rows, node_state, IsNode}
+use Rattle.hg_life.specs.Calls.{publish_answer, publish_changes, settle_changes, IsSettled}
+use Rattle.hg_life.specs.Signing.{Accepts}
 use Rattle.hg_history.specs.Laws.{SettlesAll}
 use Rattle.hg_history.proofs.StateLaws.{replay-push}
 use Rattle.hg_history.proofs.SettleLaws.{share, HasNoNews, marks_are_all, published}

@@ -7,7 +7,7 @@ use Rattle.hg_model.specs.Stakes.{Stakes, member_count, stake_of}
 use Rattle.hg_model.specs.Links.{links, creator}
 use Rattle.hg_model.specs.Forks.{has_fork, forking}
 use Rattle.hg_model.specs.Graph.{name_in, name_at, HasDistinctNames, IsShaped}
-use Rattle.hg_model.specs.Verdict.{later_name, last_name}
+use Rattle.hg_life.specs.Verdict.{later_name, last_name}
 use Rattle.hg_model.specs.Graph.{creator_at, creator_of_row}
 use Rattle.hg_model.specs.Chains.{self_parent_name_in, self_parent_name, IsChain}
 use Rattle.hg_model.proofs.ForkLaws.{has_fork_found, has_fork_from, is_fork_from}

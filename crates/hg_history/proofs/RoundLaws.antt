@@ -7,8 +7,8 @@ use Rattle.hg_model.specs.Places.{IsEarlier}
 use Rattle.hg_model.specs.Stakes.{Stakes}
 use Rattle.hg_model.specs.Links.{parents}
 use Rattle.hg_model.specs.Order.{ordered_in, round_received, last_closed}
-use Rattle.hg_model.specs.History.{State}
-use Rattle.hg_model.specs.Kept.{kept, kept_up_to}
+use Rattle.hg_life.specs.History.{State}
+use Rattle.hg_life.specs.Kept.{kept, kept_up_to}
 use Rattle.hg_model.proofs.OrderLaws.{ordered_in-split, ordered_in-same, ordered_in-none}
 use Rattle.hg_prefix.proofs.ClosedLaws.{closed_last}
 use Rattle.hg_prefix.proofs.FamousLaws.{received_is}

@@ -4,22 +4,23 @@ use Rattle.std.specs.Prelude.{nat_le, nat_lt, unwrap_or, IfSome, ◌++◌, ◌�
 use Rattle.std.specs.Option.{option_or}
 use Rattle.std.proofs.lemmas.Bool.{true≢false, eqb-false}
 use Rattle.hg_model.specs.declared.row.Row.{Row}
-use Rattle.hg_model.specs.declared.answers.PutAnswer.{PutAnswer}
-use Rattle.hg_model.specs.declared.answers.PutAnswer.TheVariants.{Accepted, Known, Refused}
-use Rattle.hg_model.specs.declared.answers.MakeAnswer.TheVariants as answer
-use Rattle.hg_model.specs.declared.answers.MakeFault.{MakeFault}
-use Rattle.hg_model.specs.declared.answers.Fault.TheVariants as fault
+use Rattle.hg_life.specs.declared.answers.PutAnswer.{PutAnswer}
+use Rattle.hg_life.specs.declared.answers.PutAnswer.TheVariants.{Accepted, Known, Refused}
+use Rattle.hg_life.specs.declared.answers.MakeAnswer.TheVariants as answer
+use Rattle.hg_life.specs.declared.answers.MakeFault.{MakeFault}
+use Rattle.hg_life.specs.declared.answers.Fault.TheVariants as fault
 use Rattle.hg_model.specs.Links.{ParentNames, links, place_of}
 use Rattle.hg_model.specs.Forks.{forking}
 use Rattle.hg_model.specs.Graph.{HasDistinctNames}
 use Rattle.hg_model.specs.Fits.{Fits}
-use Rattle.hg_model.specs.Spelling.{body_of}
-use Rattle.hg_model.specs.Verdict.{row_limit, has_bytes, is_held, first_missing, first_by, member_rule, name_rule, signature_rule, impostor_rule, missing_rule, creator_rule, arrival_rule, forkers_rule, full_rule, row_verdict, last_name, parents_on, made_row, first_rule, other_rule, payload_rule, draft_rule, collision_rule, room_rule, made_or, making, forking_with}
+use Rattle.hg_life.specs.Spelling.{body_of}
+use Rattle.hg_life.specs.Verdict.{row_limit, has_bytes, first_missing, first_by, member_rule, name_rule, signature_rule, impostor_rule, missing_rule, creator_rule, arrival_rule, forkers_rule, full_rule, row_verdict, last_name, parents_on, made_row, first_rule, other_rule, payload_rule, draft_rule, collision_rule, room_rule, made_or, making, forking_with}
+use Rattle.hg_model.specs.Held.{is_held}
 use Rattle.hg_model.specs.Stakes.{Stakes, member_count, total}
 use Rattle.hg_model.specs.Graph.{creator_at}
-use Rattle.hg_model.specs.History.{IsTaken, IsMade}
-use Rattle.hg_model.specs.Signing.{Accepts}
-use Rattle.hg_model.proofs.RuleLaws.{option_or_none, one_test, below_from_test, arrives, has_room, drafted, admitted}
+use Rattle.hg_life.specs.History.{IsTaken, IsMade}
+use Rattle.hg_life.specs.Signing.{Accepts}
+use Rattle.hg_life.proofs.RuleLaws.{option_or_none, one_test, below_from_test, arrives, has_room, drafted, admitted}
 
 -- no rule of putting accepts
 
@@ -75,7 +76,7 @@ unfolding is_accepted
 none_of_rules accepts n own G row =
     let p = place_of G row.name in
     let member = none_of_one (nat_le (member_count n) row.creator) (Refused (fault.Member row.creator)) refl in
-    let name = none_of_rest (not (nat_lt p (length G))) (has_bytes G p (Rattle.hg_model.specs.Spelling.spelling row)) (Known p) (Refused (fault.Collision p)) refl refl in
+    let name = none_of_rest (not (nat_lt p (length G))) (has_bytes G p (Rattle.hg_life.specs.Spelling.spelling row)) (Known p) (Refused (fault.Collision p)) refl refl in
     let signature = none_of_other (accepts row.creator (body_of row) row.sig) (Refused fault.Signature) refl in
     let impostor = none_of_one (eqb row.creator own) (Refused fault.Impostor) refl in
     let forks = none_of_one (nat_le (total n) (3 * forking_with n G row)) (Refused (fault.TooManyForkers (forking_with n G row))) refl in

@@ -14,7 +14,7 @@ use Rattle.hg_model.specs.Rounds.{is_witness}
 use Rattle.hg_model.specs.Fame.{mark_at, fame_of, fame_marks}
 use Rattle.hg_model.specs.Order.{coin_at}
 use Rattle.hg_model.specs.Shares.{Share, is_of_share, share_fame, early_fame}
-use Rattle.hg_model.specs.History.{State, is_news, news, new_mark, with_marks}
+use Rattle.hg_life.specs.History.{State, is_news, news, new_mark, with_marks}
 use Rattle.hg_model.specs.Orders.{AreFame}
 use Rattle.hg_model.proofs.FameLaws.{fame_of_other}
 use Rattle.hg_model.proofs.LinkLaws.{length-links}

@@ -11,8 +11,8 @@ use Rattle.hg_model.specs.Graph.{IsGraph}
 use Rattle.hg_model.specs.Fame.{mark_at, fame_marks}
 use Rattle.hg_model.specs.Order.{coin_at}
 use Rattle.hg_model.specs.Shares.{share_fame, early_fame}
-use Rattle.hg_model.specs.History.{Change, State, is_news, news, new_mark, with_marks, step, replay}
-use Rattle.hg_model.specs.History.Change.{Marked}
+use Rattle.hg_life.specs.History.{Change, State, is_news, news, new_mark, with_marks, step, replay}
+use Rattle.hg_life.specs.History.Change.{Marked}
 use Rattle.hg_model.specs.Orders.{AreFame}
 use Rattle.hg_history.specs.Laws.{shares_published, SharesAreAll, PublishedIsNoNews}
 use Rattle.hg_history.proofs.StateLaws.{IsEven, even_step, even_after, rows_grow, links_grow, marks_stay, mark_of_table, replay-append, replay-push}

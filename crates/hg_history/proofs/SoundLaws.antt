@@ -12,10 +12,10 @@ use Rattle.hg_model.specs.Stakes.{Stakes, member_count, stake_of, total}
 use Rattle.hg_model.specs.Forks.{has_fork, forking}
 use Rattle.hg_model.specs.Graph.{name_in, name_at, IsGraph}
 use Rattle.hg_model.specs.Fame.{is_closed}
-use Rattle.hg_model.specs.Verdict.{row_limit}
-use Rattle.hg_model.specs.History.{Change, State, empty, links_with, with_row, with_marks, step, replay, IsStep, AreSteps, IsHistory, IsTaken, IsMade}
-use Rattle.hg_model.specs.History.Change.{Took, Made, Marked}
-use Rattle.hg_model.specs.Signing.{Accepts}
+use Rattle.hg_life.specs.Verdict.{row_limit}
+use Rattle.hg_life.specs.History.{Change, State, empty, links_with, with_row, with_marks, step, replay, IsStep, AreSteps, IsHistory, IsTaken, IsMade}
+use Rattle.hg_life.specs.History.Change.{Took, Made, Marked}
+use Rattle.hg_life.specs.Signing.{Accepts}
 use Rattle.hg_model.specs.Orders.{AreFame}
 use Rattle.hg_model.specs.Chains.{IsChain}
 use Rattle.hg_model.proofs.PlacesLaws.{weight_below_none}

@@ -11,8 +11,8 @@ use Rattle.hg_model.specs.Stakes.{Stakes}
 use Rattle.hg_model.specs.Links.{link_in}
 use Rattle.hg_model.specs.Fame.{Marks, mark_at}
 use Rattle.hg_model.specs.Shares.{early_fame}
-use Rattle.hg_model.specs.History.{Change, State, empty, first_mark, with_row, new_mark, step, replay}
-use Rattle.hg_model.specs.History.Change.{Took, Made, Marked}
+use Rattle.hg_life.specs.History.{Change, State, empty, first_mark, with_row, new_mark, step, replay}
+use Rattle.hg_life.specs.History.Change.{Took, Made, Marked}
 use Rattle.hg_model.specs.Orders.{IsPrefix}
 
 pub prefix_same : {A : Type 0} (xs ys : List A) → xs ≡ ys → IsPrefix xs ys

@@ -10,10 +10,10 @@ use Rattle.hg_model.specs.Links.{Link, links, parents}
 use Rattle.hg_model.specs.Graph.{name_in, name_at, IsGraph}
 use Rattle.hg_model.specs.Fame.{Marks, is_closed}
 use Rattle.hg_model.specs.Order.{sort_by, comes_before, keyed_at, is_received_in, ordered_in, round_received, last_closed}
-use Rattle.hg_model.specs.History.{Change, State, with_row, replay, IsHistory}
-use Rattle.hg_model.specs.Kept.{kept, kept_in, kept_up_to}
-use Rattle.hg_model.specs.History.Change.{Took, Made, Marked}
-use Rattle.hg_model.specs.Signing.{Accepts}
+use Rattle.hg_life.specs.History.{Change, State, with_row, replay, IsHistory}
+use Rattle.hg_life.specs.Kept.{kept, kept_in, kept_up_to}
+use Rattle.hg_life.specs.History.Change.{Took, Made, Marked}
+use Rattle.hg_life.specs.Signing.{Accepts}
 use Rattle.hg_model.specs.Orders.{IsPrefix}
 use Rattle.hg_model.proofs.LinkLaws.{length-links}
 use Rattle.hg_model.proofs.LongerLaws.{slice_get-append}

@@ -6,7 +6,7 @@ use Rattle.std.specs.Int.{w64, to_be_bytes}
 use Rattle.std.proofs.lemmas.List.{length-replicate}
 use Rattle.sha2.specs.Sha512.{sha384, first_words, schedule, rounds, compress, hash_after, digest_bytes}
 use Rattle.hg_model.specs.declared.row.Row.{Row}
-use Rattle.hg_model.specs.declared.answers.MakeAnswer.TheVariants as answer
+use Rattle.hg_life.specs.declared.answers.MakeAnswer.TheVariants as answer
 use Rattle.hg_model.specs.Places.{weight_below, some_below, least_below, values_below, by_place, reaches}
 use Rattle.hg_model.specs.Links.{ParentNames, links, parents, self_parent, creator}
 use Rattle.hg_model.specs.Stakes.{Stakes, total}
@@ -17,12 +17,12 @@ use Rattle.hg_model.specs.Rounds.{round_of, is_witness}
 use Rattle.hg_model.specs.Votes.{vote_of, decides}
 use Rattle.hg_model.specs.Fame.{fame_of, is_closed}
 use Rattle.hg_model.specs.Order.{coin_at, sig_at}
-use Rattle.hg_model.specs.Spelling.{body_of, spelling, Spells}
-use Rattle.hg_model.specs.Verdict.{making}
+use Rattle.hg_life.specs.Spelling.{body_of, spelling, Spells}
+use Rattle.hg_life.specs.Verdict.{making}
 use Rattle.hg_model.specs.Shares.{whole, share_fame}
-use Rattle.hg_model.specs.History.{Change, replay, news, IsTaken, IsMade, MarksSome, IsHistory}
-use Rattle.hg_model.specs.History.Change.{Took, Made, Marked}
-use Rattle.hg_model.specs.Signing.{Accepts}
+use Rattle.hg_life.specs.History.{Change, replay, news, IsTaken, IsMade, MarksSome, IsHistory}
+use Rattle.hg_life.specs.History.Change.{Took, Made, Marked}
+use Rattle.hg_life.specs.Signing.{Accepts}
 
 -- the stakes of so many members
 abbrev pub members : ℕ → Stakes

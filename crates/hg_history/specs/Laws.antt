@@ -1,25 +1,25 @@
 -- What holds of every history, and of every node, as public functions state it. No law here asks anything of the other members
 use Rattle.std.specs.Prelude.{ℕ, zero, suc, ◌≡◌, ◌≢◌, ◌<◌, ◌≤◌, ◌^◌, ◌⊎◌, Bool, true, List, [], ◌∷◌, ◌++◌, length, take, get_or, Some, None, Ok, slice_get, IsTrue}
 use Rattle.hg_model.specs.declared.row.Row.{Row}
-use Rattle.hg_model.specs.declared.answers.PutAnswer.TheVariants.{Accepted}
-use Rattle.hg_model.specs.declared.answers.MakeAnswer.TheVariants as made
+use Rattle.hg_life.specs.declared.answers.PutAnswer.TheVariants.{Accepted}
+use Rattle.hg_life.specs.declared.answers.MakeAnswer.TheVariants as made
 use Rattle.hg_model.specs.Stakes.{Stakes}
 use Rattle.hg_model.specs.Links.{links}
 use Rattle.hg_model.specs.Graph.{IsGraph}
 use Rattle.hg_model.specs.Fame.{mark_at, fame_marks, is_closed}
 use Rattle.hg_model.specs.Order.{coin_at, order_of, last_closed}
-use Rattle.hg_model.specs.Spelling.{body_of, spelling, Spells}
-use Rattle.hg_model.specs.Reading.{read_event}
-use Rattle.hg_model.specs.Verdict.{row_limit, verdict, row_verdict, made_row}
+use Rattle.hg_life.specs.Spelling.{body_of, spelling, Spells}
+use Rattle.hg_life.specs.Reading.{read_event}
+use Rattle.hg_life.specs.Verdict.{row_limit, verdict, row_verdict, made_row}
 use Rattle.hg_model.specs.Shares.{Share, Speaks}
 use Rattle.hg_history.specs.Adding.{add_marks}
 use Rattle.hg_history.specs.News.{FindsNews}
-use Rattle.hg_model.specs.History.{Change, State, with_marks, replay, news, IsHistory}
-use Rattle.hg_model.specs.Kept.{kept, kept_in, kept_up_to, kept_by_names}
-use Rattle.hg_model.specs.History.Change.{Took, Made, Marked}
-use Rattle.hg_model.specs.NodeView.{NodeView, with_changes, node_rows, log_from, history_of, IsNode}
-use Rattle.hg_model.specs.Calls.{put_answer, put_changes, make_answer, make_changes, make_body, make_draft, publish_changes, settle_changes, IsSettled}
-use Rattle.hg_model.specs.Signing.{Accepts}
+use Rattle.hg_life.specs.History.{Change, State, with_marks, replay, news, IsHistory}
+use Rattle.hg_life.specs.Kept.{kept, kept_in, kept_up_to, kept_by_names}
+use Rattle.hg_life.specs.History.Change.{Took, Made, Marked}
+use Rattle.hg_life.specs.NodeView.{NodeView, with_changes, node_rows, log_from, history_of, IsNode}
+use Rattle.hg_life.specs.Calls.{put_answer, put_changes, make_answer, make_changes, make_body, make_draft, publish_changes, settle_changes, IsSettled}
+use Rattle.hg_life.specs.Signing.{Accepts}
 use Rattle.hg_model.specs.Orders.{IsPrefix, HasNameSizes, AreFame}
 use Rattle.hg_model.specs.Chains.{IsChain}
 

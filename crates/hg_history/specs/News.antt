@@ -3,7 +3,7 @@ use Rattle.std.specs.Prelude.{ℕ, ◌≡◌, ◌≤◌, Bool, List, length, All
 use Rattle.hg_model.specs.Stakes.{Stakes}
 use Rattle.hg_model.specs.Fame.{mark_at}
 use Rattle.hg_model.specs.Shares.{Share, early_fame}
-use Rattle.hg_model.specs.History.{State}
+use Rattle.hg_life.specs.History.{State}
 
 -- of what the share finds in the first `len` rows this is all that has no mark, and maybe more
 pub record FindsNews (n : Stakes) (c : ℕ) (s : State) (len : ℕ) (share : Share) (found : List (ℕ × Bool)) : Type 0 where

@@ -8,10 +8,10 @@ use Rattle.hg_model.specs.Links.{links}
 use Rattle.hg_model.specs.Graph.{IsGraph}
 use Rattle.hg_model.specs.Fame.{Marks, is_closed}
 use Rattle.hg_model.specs.Order.{is_received_in, round_received}
-use Rattle.hg_model.specs.Kept.{kept_up_to}
+use Rattle.hg_life.specs.Kept.{kept_up_to}
 use Rattle.hg_model.specs.Prefix.{graph_of}
 use Rattle.hg_model.specs.Orders.{IsPrefix}
-use Rattle.hg_model.specs.GraphWords.{state_by}
+use Rattle.hg_life.specs.StateWords.{state_by}
 use Rattle.hg_model.proofs.ReachLaws.{bool_iff}
 use Rattle.hg_prefix.specs.Standing.{IsMarkedPart}
 use Rattle.hg_prefix.proofs.FamousLaws.{received_is, closed_bounds}

@@ -9,11 +9,11 @@ use Rattle.hg_model.specs.Fame.{Marks, mark_at, is_closed}
 use Rattle.hg_model.specs.Prefix.{Graph, links_of}
 use Rattle.hg_model.specs.declared.share.Found.{Found}
 use Rattle.hg_model.specs.Shares.{Share}
-use Rattle.hg_model.specs.History.{State, with_marks, new_mark}
-use Rattle.hg_model.specs.History.Change.{Marked}
-use Rattle.hg_model.specs.Kept.{kept_up_to, kept_in}
+use Rattle.hg_life.specs.History.{State, with_marks, new_mark}
+use Rattle.hg_life.specs.History.Change.{Marked}
+use Rattle.hg_life.specs.Kept.{kept_up_to, kept_in}
 use Rattle.hg_model.specs.Orders.{IsPrefix, AreFame}
-use Rattle.hg_model.specs.GraphWords.{state_by, news_by, marks_by}
+use Rattle.hg_life.specs.StateWords.{state_by, news_by, marks_by}
 use Rattle.hg_model.proofs.LinkLaws.{length-links}
 use Rattle.hg_model.proofs.PlacesLaws.{list_below-same}
 use Rattle.hg_prefix.specs.Standing.{IsMarkedPart}

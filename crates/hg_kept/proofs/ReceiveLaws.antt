@@ -14,8 +14,9 @@ use Rattle.hg_model.specs.Ancestry.{is_ancestor}
 use Rattle.hg_model.specs.Fame.{Marks, is_closed, is_unique_famous}
 use Rattle.hg_model.specs.Order.{sort_by, comes_before, keyed_at, is_received_in, ordered_in, can_receive, famous_places}
 use Rattle.hg_model.specs.Prefix.{Graph, links_of}
-use Rattle.hg_model.specs.Kept.{kept_up_to}
-use Rattle.hg_model.specs.GraphWords.{famous_of, received_order, state_by}
+use Rattle.hg_life.specs.Kept.{kept_up_to}
+use Rattle.hg_model.specs.GraphWords.{famous_of, received_order}
+use Rattle.hg_life.specs.StateWords.{state_by}
 use Rattle.hg_model.proofs.AncestryLaws.{is_ancestor-le}
 use Rattle.hg_model.proofs.LinkLaws.{length-links}
 use Rattle.hg_model.proofs.OrderLaws.{length-ordered_in, length-ordered_in-le}

@@ -13,10 +13,10 @@ use Rattle.hg_model.specs.Rounds.{round_of, is_witness}
 use Rattle.hg_model.specs.Fame.{Marks, is_closed}
 use Rattle.hg_model.specs.Order.{ordered, last_closed}
 use Rattle.hg_model.specs.Prefix.{Graph, graph_of}
-use Rattle.hg_model.specs.History.{State, links_with, first_mark, with_row}
-use Rattle.hg_model.specs.Kept.{kept_up_to}
+use Rattle.hg_life.specs.History.{State, links_with, first_mark, with_row}
+use Rattle.hg_life.specs.Kept.{kept_up_to}
 use Rattle.hg_model.specs.Orders.{IsPrefix, AreFame}
-use Rattle.hg_model.specs.GraphWords.{state_by}
+use Rattle.hg_life.specs.StateWords.{state_by}
 use Rattle.hg_model.proofs.LinkLaws.{length-links}
 use Rattle.hg_model.proofs.PlacesLaws.{list_below-same}
 use Rattle.hg_model.proofs.PushLaws.{nobody, links-push, link_at, all_present}

@@ -7,10 +7,11 @@ use Rattle.hg_model.specs.declared.share.Found.{Found}
 use Rattle.hg_model.specs.Places.{list_below}
 use Rattle.hg_model.specs.Fame.{Marks}
 use Rattle.hg_model.specs.Prefix.{Graph, graph_of}
-use Rattle.hg_model.specs.History.{with_row}
-use Rattle.hg_model.specs.Kept.{kept_up_to}
+use Rattle.hg_life.specs.History.{with_row}
+use Rattle.hg_life.specs.Kept.{kept_up_to}
 use Rattle.hg_model.specs.Orders.{AreFame}
-use Rattle.hg_model.specs.GraphWords.{round_in, is_witness_in, is_closed_in, last_closed_in, is_received_by, ordered_by, IsLawfulGraph, state_by}
+use Rattle.hg_model.specs.GraphWords.{round_in, is_witness_in, is_closed_in, last_closed_in, is_received_by, ordered_by, IsLawfulGraph}
+use Rattle.hg_life.specs.StateWords.{state_by}
 use Rattle.hg_history.specs.News.{FindsNews}
 
 pub record Published : Type 0 where

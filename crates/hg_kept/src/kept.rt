@@ -3,7 +3,7 @@ ghost use Rattle.hg_model.specs.Stakes.{Stakes, total};
 ghost use Rattle.hg_model.specs.Fame.{mark_at};
 ghost use Rattle.hg_model.specs.Prefix.{graph_of};
 ghost use Rattle.hg_model.specs.Orders.{IsPrefix};
-ghost use Rattle.hg_model.specs.GraphWords.{news_by, marks_by};
+ghost use Rattle.hg_life.specs.StateWords.{news_by, marks_by};
 ghost use Rattle.hg_kept.specs.Published.{FindsNewsOf, HasCome, Keeps, TookRow, is_last_late, mark_by, unpublished};
 
 use crate::closing::close_rounds;

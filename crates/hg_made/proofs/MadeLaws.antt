@@ -10,10 +10,10 @@ use Rattle.std.proofs.lemmas.List.Folds.{list_all_at}
 use Rattle.std.proofs.lemmas.List.FromFn.{get_or-map-range_with_len, get_or-range_with_len, length-map-range_with_len, length-range_with_len}
 use Rattle.std.proofs.lemmas.List.Sums.{sum_by-le}
 use Rattle.std.proofs.lemmas.Option.{slice_get-get_or}
-use Rattle.hg_model.specs.declared.members.MemberEntry.{MemberEntry}
-use Rattle.hg_model.specs.declared.pay.Transfer.{Transfer}
-use Rattle.hg_model.specs.Members.{IsEntry, IsMemberList, is_member_name}
-use Rattle.hg_model.specs.Pay.{pay_bytes}
+use Rattle.hg_life.specs.declared.members.MemberEntry.{MemberEntry}
+use Rattle.hg_life.specs.declared.pay.Transfer.{Transfer}
+use Rattle.hg_life.specs.Members.{IsEntry, IsMemberList, is_member_name}
+use Rattle.hg_life.specs.Pay.{pay_bytes}
 use Rattle.hg_model.specs.Places.{table}
 use Rattle.hg_script.specs.declared.line.Gossip.TheVariants.{Create}
 use Rattle.hg_script.specs.declared.line.Line.{Line}

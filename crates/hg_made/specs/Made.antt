@@ -2,10 +2,10 @@
 use Rattle.std.specs.Prelude.{ℕ, zero, suc, true, ◌+◌, ◌-◌, ◌%◌, cond, nat_lt, List, [], ◌∷◌, ◌++◌, codes}
 use Rattle.std.specs.Fmt.{decimal}
 use Rattle.std.specs.Int.{w64, to_be_bytes}
-use Rattle.hg_model.specs.declared.members.MemberEntry.{MemberEntry}
-use Rattle.hg_model.specs.declared.pay.Transfer.{Transfer}
-use Rattle.hg_model.specs.Members.{MemberList, listed}
-use Rattle.hg_model.specs.Pay.{pay_bytes}
+use Rattle.hg_life.specs.declared.members.MemberEntry.{MemberEntry}
+use Rattle.hg_life.specs.declared.pay.Transfer.{Transfer}
+use Rattle.hg_life.specs.Members.{MemberList, listed}
+use Rattle.hg_life.specs.Pay.{pay_bytes}
 use Rattle.hg_model.specs.Places.{table}
 use Rattle.hg_script.specs.declared.line.Part.TheVariants as part
 use Rattle.hg_script.specs.declared.line.Action.TheVariants as action

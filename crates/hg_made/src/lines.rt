@@ -3,7 +3,8 @@ ghost use Rattle.hg_made.specs.Draws.{state_after};
 ghost use Rattle.hg_made.specs.Made.{first_lines, made_gossip, made_sync, peer_of, state_behind};
 
 use crate::draws::Draws;
-use hg_model::{Bytes, Items, Member, Memory, Transfer};
+use hg_life::Transfer;
+use hg_model::{Bytes, Items, Member, Memory};
 use hg_pay::write_pay;
 use hg_script::{Action, Gossip, Line, Part};
 use std::alloc::Global;

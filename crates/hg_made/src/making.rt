@@ -4,7 +4,8 @@ ghost use Rattle.hg_made.specs.Made.{generate};
 
 use crate::lines::made_lines;
 use crate::members::made_members;
-use hg_model::{Members, Memory};
+use hg_life::Members;
+use hg_model::Memory;
 use hg_script::Line;
 use std::alloc::Global;
 

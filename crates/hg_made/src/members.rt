@@ -1,7 +1,8 @@
 ghost use Rattle.std.specs.Prelude.{◌≡◌, ◌≤◌, ◌<◌, IfOk};
 ghost use Rattle.hg_made.specs.Made.{made_member, made_members, member_name, member_secret};
 
-use hg_model::{Bytes, Items, MemberEntry, Members, Memory};
+use hg_life::{MemberEntry, Members};
+use hg_model::{Bytes, Items, Memory};
 use itoa::Buffer;
 use std::alloc::Global;
 

@@ -11,9 +11,9 @@ use Rattle.std.specs.Option.{ok_or}
 use Rattle.std.specs.Result.{result_ok}
 use Rattle.hex.proofs.HexLemmas.{decode_of-ok}
 use Rattle.toml.specs.Data.{Data, Items, no_items, item, as_integer, get}
-use Rattle.hg_model.specs.declared.members.MemberEntry.{MemberEntry}
-use Rattle.hg_model.specs.Members.{IsEntry, IsMemberList, is_member_name, listed, has_name}
-use Rattle.hg_model.specs.Results.{◌>>=◌}
+use Rattle.hg_life.specs.declared.members.MemberEntry.{MemberEntry}
+use Rattle.hg_life.specs.Members.{IsEntry, IsMemberList, is_member_name, listed, has_name}
+use Rattle.hg_life.specs.Results.{◌>>=◌}
 use Rattle.hg_members.specs.declared.fault.MemberFault.{MemberFault}
 use Rattle.hg_members.specs.declared.fault.MemberFault.TheVariants.{BadCoin, Count, BadName, DoubleName, BadSecret, BadBalance, BadNode}
 use Rattle.hg_members.specs.MemberFile.{coin_number, coin_of, count_of, checked_count, name_form, entry_name, name_of, secret_form, entry_secret, balance_of, node_flag, text_at, checked_member, members_after}

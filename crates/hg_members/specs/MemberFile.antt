@@ -7,9 +7,9 @@ use Rattle.std.specs.Str.{is_utf8}
 use Rattle.hex.specs.Hex.{decode_of}
 use Rattle.toml.specs.Data.{Data, Items, no_items, item, table, get, as_array, as_bool, as_integer, as_str}
 use Rattle.toml.specs.Parse.{parse_document}
-use Rattle.hg_model.specs.declared.members.MemberEntry.{MemberEntry}
-use Rattle.hg_model.specs.Members.{MemberList, listed, is_member_name, has_name}
-use Rattle.hg_model.specs.Results.{◌>>=◌}
+use Rattle.hg_life.specs.declared.members.MemberEntry.{MemberEntry}
+use Rattle.hg_life.specs.Members.{MemberList, listed, is_member_name, has_name}
+use Rattle.hg_life.specs.Results.{◌>>=◌}
 use Rattle.hg_members.specs.declared.fault.MemberFault.{MemberFault}
 use Rattle.hg_members.specs.declared.fault.MemberFault.TheVariants.{NotToml, BadCoin, Count, BadName, DoubleName, BadSecret, BadBalance, BadNode, SumTooLarge}
 

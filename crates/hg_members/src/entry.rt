@@ -2,12 +2,13 @@ ghost use Rattle.std.specs.Prelude.{◌≡◌, codes, IfOk};
 ghost use Rattle.std.specs.Option.{option_copied};
 ghost use Rattle.toml.specs.Data.{get};
 ghost use Rattle.toml.specs.View.{view};
-ghost use Rattle.hg_model.specs.Results.{Reads, Gives};
+ghost use Rattle.hg_life.specs.Results.{Reads, Gives};
 ghost use Rattle.hg_members.specs.MemberFile as spec;
 
 use crate::fault::MemberFault;
 use hex::FromHexError;
-use hg_model::{Bytes, MemberEntry, Stop, has_name, is_member_name};
+use hg_life::{MemberEntry, has_name, is_member_name};
+use hg_model::{Bytes, Stop};
 use std::alloc::{AllocError, Global};
 use toml::Value;
 

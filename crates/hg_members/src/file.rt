@@ -2,14 +2,15 @@ ghost use Rattle.std.specs.Prelude.{◌≡◌, ◌≤◌, [], codes, length, opt
 ghost use Rattle.std.specs.Option.{ok_or};
 ghost use Rattle.toml.specs.Data.{as_array, get};
 ghost use Rattle.toml.specs.View.{array_view, view};
-ghost use Rattle.hg_model.specs.declared.members.MemberEntry.{MemberEntry};
-ghost use Rattle.hg_model.specs.Members.{IsMemberList, listed};
-ghost use Rattle.hg_model.specs.Results.{Reads, Gives};
+ghost use Rattle.hg_life.specs.declared.members.MemberEntry.{MemberEntry};
+ghost use Rattle.hg_life.specs.Members.{IsMemberList, listed};
+ghost use Rattle.hg_life.specs.Results.{Reads, Gives};
 ghost use Rattle.hg_members.specs.MemberFile as spec;
 
 use crate::entry::checked_member;
 use crate::fault::MemberFault;
-use hg_model::{MemberEntry, Members, Memory, Stop};
+use hg_life::{MemberEntry, Members};
+use hg_model::{Memory, Stop};
 use std::alloc::Global;
 use toml::Value;
 use toml::value::Array;

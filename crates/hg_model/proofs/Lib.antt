@@ -6,7 +6,6 @@ pub mod SortLaws
 pub mod SplitLaws
 pub mod CompareLaws
 pub mod ListLaws
-pub mod MemberLaws
 pub mod OrderLaws
 pub mod RowLaws
 pub mod VoteLaws
@@ -25,9 +24,7 @@ pub mod StandingLaws
 pub mod PrefixLaws
 pub mod ShapeLaws
 pub mod GraphLaws
-mod Worked
+pub mod Worked
 pub mod NameLaws
-pub mod RuleLaws
 pub mod PushLaws
 pub mod TestLaws
-mod WorkedHistory

@@ -1,18 +1,8 @@
 -- Worked examples, computed: two members who sync in turn, three who sync in a ring and a fourth who comes late,
--- a tie and a fork among four, the report's text, and transfers
-use Rattle.std.proofs.Common.{◌≡◌, ℕ, true, false, List, [], ◌∷◌, ◌++◌, take, map, replicate, codes, Some, None, refl}
-use Rattle.std.specs.Fmt.{digits}
+-- a tie and a fork among four
+use Rattle.std.proofs.Common.{◌≡◌, ℕ, true, false, List, [], ◌∷◌, ◌++◌, take, replicate, Some, None, refl}
 use Rattle.hg_model.specs.declared.row.Row.{Row}
 use Rattle.hg_model.specs.declared.row.Placed.{Placed}
-use Rattle.hg_model.specs.declared.answers.Fault.TheVariants as fault
-use Rattle.hg_model.specs.declared.answers.PutAnswer.TheVariants.{Accepted, Refused}
-use Rattle.hg_model.specs.declared.answers.MakeAnswer.TheVariants as make_answer
-use Rattle.hg_model.specs.declared.answers.SyncMade.TheVariants as sync_made
-use Rattle.hg_model.specs.declared.outcome.OrderLine.{OrderLine}
-use Rattle.hg_model.specs.declared.outcome.Printed.TheVariants as printed
-use Rattle.hg_model.specs.declared.members.MemberEntry.{MemberEntry}
-use Rattle.hg_model.specs.declared.pay.Transfer.{Transfer}
-use Rattle.hg_model.specs.declared.pay.Effect.TheVariants as effect
 use Rattle.hg_model.specs.Places.{weight_below, some_below, list_below, least_below, greatest_below, maximum_below, values_below, by_place, reaches, table}
 use Rattle.hg_model.specs.Stakes.{Stakes, total}
 use Rattle.hg_model.specs.Links.{links, parents, self_parent, other_parents, creator}
@@ -24,12 +14,7 @@ use Rattle.hg_model.specs.Graph.{IsGraph, name_at}
 use Rattle.hg_model.specs.Rounds.{round_of, is_witness, is_seen_witness, last_round}
 use Rattle.hg_model.specs.Votes.{weighed_vote, weighed_decides, yes_votes, no_votes, vote_of, decides}
 use Rattle.hg_model.specs.Fame.{fame_of, fame_marks, is_closed, is_unique_famous, Marks}
-use Rattle.hg_model.specs.Order.{coin_at, sig_at, time_at, sort_by, median, can_receive, round_received, consensus_time, whitening, ordered_in, ordered, last_closed, sequence_of}
-use Rattle.hg_model.specs.Verdict.{row_verdict}
-use Rattle.hg_model.specs.Pay.{pay_bytes, read_pay, paid, book_of}
-use Rattle.hg_model.specs.Members.{listed}
-use Rattle.hg_model.specs.Ledger.{block_of, marked_block}
-use Rattle.hg_model.specs.Report.{printed_texts}
+use Rattle.hg_model.specs.Order.{coin_at, sig_at, time_at, sort_by, median, can_receive, round_received, consensus_time, whitening, ordered_in, ordered, last_closed}
 
 -- the stakes of so many members
 abbrev pub members : ℕ → Stakes
@@ -105,26 +90,6 @@ two_closed = refl
 two_greatest : last_round (members 2) (links two_members) ≡ 4
 unfolding last_round maximum_below round_of strongly_sees sees_through sees has_fork_below is_fork is_ancestor is_self_ancestor total weight_below some_below reaches by_place values_below parents self_parent creator links
 two_greatest = refl
-
-abbrev pub entry : List ℕ → ℕ → MemberEntry
-entry name balance = record { name = name; secret = 1 ∷ []; balance = balance; stake = 1; has_node = true }
-
-abbrev pub two_line : ℕ → ℕ → ℕ → OrderLine
-two_line creator sequence time =
-    record { creator = creator; sequence = sequence; received = 2; time = time; effect = effect.Empty; name = time ∷ [] }
-
--- the second member's block
-two_block : block_of (listed (entry (codes "A") 5 ∷ entry (codes "B") 6 ∷ []) 10) 1 two_members ≡ record {
-  member = 1;
-  events = 8;
-  forkers = 0;
-  greatest = 4;
-  closed = 2;
-  order = two_line 0 0 1 ∷ two_line 1 0 2 ∷ two_line 0 1 3 ∷ two_line 1 1 4 ∷ [];
-  balances = 5 ∷ 6 ∷ [];
-}
-unfolding marked_block last_closed greatest_below last_round maximum_below sequence_of forkers has_fork book_of fame_marks fame_of least_below decides vote_of is_witness coin_at sig_at ordered_in whitening consensus_time median sort_by round_received can_receive is_closed is_unique_famous round_of strongly_sees sees_through sees has_fork_below is_fork is_ancestor is_self_ancestor total weight_below some_below list_below reaches by_place values_below parents self_parent creator links time_at name_at
-two_block = refl
 
 -- three first events, two of them by one member: where both of these are famous, neither is a unique famous witness
 abbrev pub rival_rows : List Row
@@ -202,77 +167,3 @@ fork_strongly_seen = refl
 fork_seen_in_report : list_below (λ y. y) 10 (strongly_sees_in_report (members 4) (links forked_members) 9) ≡ 1 ∷ []
 unfolding list_below strongly_sees_in_report sees_by sees has_fork_below is_fork is_ancestor is_self_ancestor total weight_below some_below reaches by_place values_below parents self_parent creator links
 fork_seen_in_report = refl
-
--- a second event on the third member's first would be a second fork, and two of four are not below a third
-second_forker : row_verdict (λ m body sig. true) (members 4) 0 forked_members (made 2 3 1 12) ≡ Refused (fault.TooManyForkers 2)
-unfolding forking total has_fork is_fork is_self_ancestor weight_below some_below reaches by_place values_below self_parent parents creator links
-second_forker = refl
-
--- of three members the first has 3 of 5 and makes a second event without parents: that is one forker, with too much stake
-heavy_forker : row_verdict (λ m body sig. true) (3 ∷ 1 ∷ 1 ∷ []) 1 (first 0 1 ∷ []) (first 0 2) ≡ Refused (fault.TooManyForkers 3)
-unfolding forking total has_fork is_fork is_self_ancestor weight_below some_below reaches by_place values_below self_parent parents creator links
-heavy_forker = refl
-
--- the last of four, with 2 of 7, may
-light_forker : row_verdict (λ m body sig. true) (2 ∷ 1 ∷ 2 ∷ 2 ∷ []) 1 (first 3 1 ∷ []) (first 3 2) ≡ Accepted 1
-unfolding forking total has_fork is_fork is_self_ancestor weight_below some_below reaches by_place values_below self_parent parents creator links
-light_forker = refl
-
--- a first event, a sync with a peer without events, a node's block
-texts : printed_texts (codes "A" ∷ codes "B" ∷ [])
-    (printed.Create 1 (make_answer.Made 0)
-    ∷ printed.Sync 12 (record { taken = 3; refused = 0; made = sync_made.PeerBare })
-    ∷ printed.Block (record {
-      member = 1;
-      events = 8;
-      forkers = 0;
-      greatest = 4;
-      closed = 2;
-      order =
-          record { creator = 0; sequence = 1; received = 2; time = 3; effect = effect.Empty; name = 171 ∷ 1 ∷ [] }
-          ∷ record { creator = 1; sequence = 0; received = 2; time = 4; effect = effect.Unread; name = 171 ∷ 2 ∷ [] }
-          ∷ record { creator = 1; sequence = 1; received = 2; time = 5; effect = effect.Paid 1 2; name = 171 ∷ 3 ∷ [] } ∷ [];
-      balances = 100 ∷ 0 ∷ [];
-    }) ∷ [])
-    ≡ codes "1 create made 0" ++ 10 ∷ (codes "12 sync taken 3 refused 0 made none peer-bare" ++ 10 ∷ (
-    codes "node B events 8 forkers 0 round 4 closed 2 ordered 3" ++ 10 ∷ (codes "1 A 1 round 2 time 3 -" ++ 10 ∷ (
-    codes "2 B 0 round 2 time 4 unread" ++ 10 ∷ (codes "3 B 1 round 2 time 5 paid 1 of 2" ++ 10 ∷ (
-    codes "balance A 100" ++ 10 ∷ (codes "balance B 0" ++ 10 ∷ [])))))))
-unfolding digits
-texts = refl
-
--- transfers between two members, and to a third who is none
-abbrev pub to : ℕ → ℕ → Transfer
-to receiver amount = record { receiver = receiver; amount = amount }
-
-pay_read : read_pay (pay_bytes (to 1 30 ∷ to 2 80 ∷ [])) ≡ Some (to 1 30 ∷ to 2 80 ∷ [])
-unfolding read_pay pay_bytes
-pay_read = refl
-
-pay_spelled : pay_bytes (to 258 1027 ∷ []) ≡ 1 ∷ 1 ∷ 2 ∷ 0 ∷ 0 ∷ 0 ∷ 0 ∷ 0 ∷ 0 ∷ 4 ∷ 3 ∷ []
-unfolding pay_bytes
-pay_spelled = refl
-
--- a byte short, a byte long, 65 transfers
-pay_refused : (read_pay (1 ∷ 0 ∷ 1 ∷ []) ∷ read_pay (0 ∷ 0 ∷ []) ∷ read_pay (pay_bytes (replicate 65 (to 1 0))) ∷ []) ≡ None ∷ None ∷ None ∷ []
-unfolding read_pay pay_bytes
-pay_refused = refl
-
--- the first two events' transfers, one of each above what the payer holds, one to oneself and one to no member, and
--- three bytes that are no transfers
-abbrev pub paying : ℕ → List ℕ → Row
-paying m payload = record { creator = m; parents = None; time = 0; payload = payload; sig = []; name = [] }
-
-abbrev pub ordered_at : ℕ → Placed
-ordered_at place = record { place = place; received = 2; time = 0 }
-
-four_paid : book_of (100 ∷ 0 ∷ [])
-    (paying 0 (pay_bytes (to 1 30 ∷ to 1 80 ∷ [])) ∷ paying 1 (pay_bytes (to 0 31 ∷ to 0 0 ∷ []))
-    ∷ paying 0 (pay_bytes (to 0 70 ∷ to 2 1 ∷ [])) ∷ paying 1 (1 ∷ 2 ∷ 3 ∷ []) ∷ paying 1 [] ∷ [])
-    (map ordered_at (0 ∷ 1 ∷ 2 ∷ 3 ∷ 4 ∷ []))
-    ≡ record {
-      balances = 70 ∷ 30 ∷ [];
-      effects = effect.Paid 1 2 ∷ effect.Paid 1 2 ∷ effect.Paid 1 2 ∷ effect.Unread ∷ effect.Empty ∷ [];
-    }
-unfolding book_of paid read_pay pay_bytes
-four_paid = refl

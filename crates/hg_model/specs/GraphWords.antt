@@ -1,5 +1,5 @@
--- The words in which clauses speak of a graph, of a shape, and of what a node keeps of them. Each is a definition of the
--- files above, said of the record in one word
+-- The words in which clauses speak of a graph and of a shape. Each is a definition of the files above, said of the record
+-- in one word
 use Rattle.std.specs.Prelude.{ℕ, Bool, ◌==◌, List, Option}
 use Rattle.hg_model.specs.declared.row.Placed.{Placed}
 use Rattle.hg_model.specs.declared.share.Found.{Found}
@@ -13,7 +13,6 @@ use Rattle.hg_model.specs.Fame.{Marks, fame_of, fame_marks, is_closed}
 use Rattle.hg_model.specs.Order.{coin_at, round_received, can_receive, consensus_time, is_received_in, famous_places, ordered, ordered_in, last_closed}
 use Rattle.hg_model.specs.Prefix.{Graph, links_of}
 use Rattle.hg_model.specs.Shares.{Share, share_fame, Speaks}
-use Rattle.hg_model.specs.History.{State, news, with_marks}
 
 -- Of a shape
 
@@ -112,14 +111,3 @@ ordered_by g marks = ordered g.members g.rows (links_of g) marks
 -- the rows that just round r received, in order
 abbrev pub received_order : Graph → Marks → ℕ → List Placed
 received_order g marks r = ordered_in g.members g.rows (links_of g) marks (λ k. k == r)
-
--- the state of a node with this graph and these marks, how many marks come new where it publishes what was found, and the
--- marks then
-abbrev pub state_by : Graph → Marks → State
-state_by g marks = record { rows = g.rows; links = links_of g; marks = marks }
-
-abbrev pub news_by : Graph → Marks → ℕ → Share → ℕ
-news_by g marks len share = news g.members g.coin (state_by g marks) len share
-
-abbrev pub marks_by : Graph → Marks → ℕ → Share → Marks
-marks_by g marks len share = (with_marks g.members g.coin (state_by g marks) len share).marks

@@ -1,4 +1,3 @@
-pub mod Members
 pub mod Places
 pub mod Stakes
 pub mod Among
@@ -17,19 +16,7 @@ pub mod Order
 pub mod Orders
 pub mod Chains
 pub mod Prefix
-pub mod Pay
-pub mod Spelling
-pub mod Results
-pub mod Reading
-pub mod Signing
-pub mod Verdict
-pub mod Gossip
-pub mod Ledger
-pub mod Report
+pub mod Held
 pub mod Fits
 pub mod Shares
-pub mod History
-pub mod Kept
 pub mod GraphWords
-pub mod NodeView
-pub mod Calls

@@ -151,6 +151,10 @@ order_by_names n c G = map (named_in G) (order_of n c G)
 unfoldable pub last_closed : Stakes → List Link → Marks → ℕ
 last_closed n L marks = greatest_below (suc (length L)) (is_closed n L marks)
 
+-- the greatest round that the graph's own fame closes, or 0
+unfoldable pub closed_of : Stakes → ℕ → List Row → ℕ
+closed_of n c G = let L = links G in last_closed n L (fame_marks n c L (coin_at G))
+
 -- how many self-ancestors x has other than itself
 unfoldable pub sequence_of : List Link → ℕ → ℕ
 sequence_of L x = count_below x (is_self_ancestor L x)

@@ -1,5 +1,6 @@
-//! The hashgraph's types and definitions: what the contracts of the crates above speak of.
-//! `specs/` is the text that a reader must believe; it follows SWIRLDS-TR-2016-01 and computes on written-out graphs.
+//! What the report says of a graph: stakes, places, links, ancestry, forks, seeing, rounds, votes, fame and order, and the
+//! types and traits of the algorithm. `specs/` is the text that a reader must believe; it follows SWIRLDS-TR-2016-01 and
+//! computes on written-out graphs. A node's life stands in `hg_life`, what is printed in `hg_outcome`.
 //! The layers above use the types below, the words of `specs/` and the lemmas of `proofs/`.
 //!
 //! From `holder_time` of `hg_order`, over a `Prefix` and in the words of this crate:
@@ -18,19 +19,11 @@
 //! ```
 #![tactic(auto)]
 
-mod answers;
 mod ballot;
 mod counts;
-mod entry;
-mod gossip;
 mod items;
-mod lawful;
-mod members;
 mod memory;
-mod names;
-mod outcome;
 mod parents;
-mod pay;
 mod prefix;
 mod rounds;
 mod row;
@@ -40,19 +33,11 @@ mod sight;
 mod stop;
 mod votes;
 
-pub use answers::{ByteFault, Fault, MakeAnswer, MakeFault, PutAnswer, SyncMade, SyncReport};
 pub use ballot::Ballot;
 pub use counts::Counts;
-pub use entry::Entry;
-pub use gossip::Parcel;
 pub use items::{Bytes, Items};
-pub use lawful::has_name;
-pub use members::{MemberEntry, Members};
 pub use memory::Memory;
-pub use names::is_member_name;
-pub use outcome::{Block, OrderLine, Outcome, Printed};
 pub use parents::Parents;
-pub use pay::{Effect, Transfer};
 pub use prefix::{Prefix, is_of_graph};
 pub use rounds::Rounds;
 pub use row::{Member, Name, Placed, Row, Sig};

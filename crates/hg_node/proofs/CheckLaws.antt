@@ -2,12 +2,12 @@
 use Rattle.std.proofs.Common.{◌≡◌, List, ℕ, Option, Some, Result, Ok, Err, ap, sym, ◌∙◌}
 use Rattle.std.specs.Prelude.{OnErr}
 use Rattle.hg_model.specs.declared.row.Row.{Row}
-use Rattle.hg_model.specs.declared.answers.ByteFault.{ByteFault}
-use Rattle.hg_model.specs.declared.answers.Fault.TheVariants as fault
-use Rattle.hg_model.specs.declared.answers.PutAnswer.{PutAnswer}
-use Rattle.hg_model.specs.declared.answers.PutAnswer.TheVariants.{Refused}
-use Rattle.hg_model.specs.Reading.{read_event}
-use Rattle.hg_model.specs.Signing.{Accepts}
+use Rattle.hg_life.specs.declared.answers.ByteFault.{ByteFault}
+use Rattle.hg_life.specs.declared.answers.Fault.TheVariants as fault
+use Rattle.hg_life.specs.declared.answers.PutAnswer.{PutAnswer}
+use Rattle.hg_life.specs.declared.answers.PutAnswer.TheVariants.{Refused}
+use Rattle.hg_life.specs.Reading.{read_event}
+use Rattle.hg_life.specs.Signing.{Accepts}
 use Rattle.hg_model.specs.Stakes.{Stakes}
 use Rattle.hg_node.specs.Checked.{unfit, unfit_read, unfit_row}
 

@@ -2,14 +2,14 @@
 use Rattle.std.proofs.Common.{◌≡◌, ℕ, ◌+◌, ◌*◌, ◌<◌, ◌≤◌, cond, eqb, List, [], ◌∷◌, ◌++◌, length, Option, Some, None, is_some, sym, refl, ap, ◌∙◌, subst, arith}
 use Rattle.std.proofs.lemmas.List.{length_push}
 use Rattle.hg_model.specs.declared.row.Row.{Row}
-use Rattle.hg_model.specs.declared.entry.Entry.{Entry}
+use Rattle.hg_life.specs.declared.entry.Entry.{Entry}
 use Rattle.hg_model.specs.Stakes.{Stakes}
 use Rattle.hg_model.specs.Graph.{IsGraph}
 use Rattle.hg_model.specs.Fame.{Marks, mark_at}
 use Rattle.hg_model.specs.Prefix.{Graph, graph_of}
 use Rattle.hg_model.specs.Shares.{Share}
-use Rattle.hg_model.specs.History.{news, with_row, with_marks, first_mark}
-use Rattle.hg_model.specs.GraphWords.{state_by}
+use Rattle.hg_life.specs.History.{news, with_row, with_marks, first_mark}
+use Rattle.hg_life.specs.StateWords.{state_by}
 use Rattle.hg_model.proofs.LinkLaws.{length-links}
 use Rattle.hg_model.proofs.PlacesLaws.{count_below-le}
 use Rattle.hg_graph.specs.Held.{graph_with}

@@ -5,8 +5,9 @@ use Rattle.std.proofs.lemmas.List.Sums.{fold-append}
 use Rattle.hg_model.specs.declared.row.Row.{Row}
 use Rattle.hg_model.specs.Links.{place_of}
 use Rattle.hg_model.specs.Graph.{name_in, name_at, HasDistinctNames}
-use Rattle.hg_model.specs.Verdict.{later_name, last_name}
-use Rattle.hg_model.proofs.NameLaws.{place_of_at, last_is_own}
+use Rattle.hg_life.specs.Verdict.{later_name, last_name}
+use Rattle.hg_model.proofs.NameLaws.{place_of_at}
+use Rattle.hg_life.proofs.LastLaws.{last_is_own}
 use Rattle.hg_model.proofs.PushLaws.{place_of-append, slice_get-last}
 use Rattle.hg_prefix.proofs.StandingLaws.{name_at_place}
 use Rattle.hg_node.specs.ChronicleView.{last_own_place}

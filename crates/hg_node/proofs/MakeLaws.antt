@@ -4,20 +4,20 @@ use Rattle.std.specs.Prelude.{replicate, OnErr}
 use Rattle.std.specs.Option.{option_or}
 use Rattle.std.proofs.lemmas.List.{length-replicate}
 use Rattle.hg_model.specs.declared.row.Row.{Row}
-use Rattle.hg_model.specs.declared.entry.Entry.TheVariants as entry
-use Rattle.hg_model.specs.declared.answers.MakeAnswer.{MakeAnswer}
-use Rattle.hg_model.specs.declared.answers.MakeAnswer.TheVariants as answer
-use Rattle.hg_model.specs.declared.answers.MakeFault.{MakeFault}
+use Rattle.hg_life.specs.declared.entry.Entry.TheVariants as entry
+use Rattle.hg_life.specs.declared.answers.MakeAnswer.{MakeAnswer}
+use Rattle.hg_life.specs.declared.answers.MakeAnswer.TheVariants as answer
+use Rattle.hg_life.specs.declared.answers.MakeFault.{MakeFault}
 use Rattle.hg_model.specs.Graph.{IsGraph}
 use Rattle.hg_model.specs.Links.{ParentNames}
-use Rattle.hg_model.specs.Spelling.{body_bytes}
-use Rattle.hg_model.specs.Verdict.{row_limit, last_name, made_row, draft_rule, collision_rule, room_rule, made_or, making, parents_on, signed_row}
-use Rattle.hg_model.specs.History.{Change}
-use Rattle.hg_model.specs.History.Change.{Made}
-use Rattle.hg_model.specs.NodeView.{NodeView, with_changes, node_rows, IsNode}
-use Rattle.hg_model.specs.Calls.{IsMaking, make_answer, make_changes, make_body, make_draft, made_by}
-use Rattle.hg_model.specs.Signing.{Accepts}
-use Rattle.hg_model.proofs.RuleLaws.{admitted}
+use Rattle.hg_life.specs.Spelling.{body_bytes}
+use Rattle.hg_life.specs.Verdict.{row_limit, last_name, made_row, draft_rule, collision_rule, room_rule, made_or, making, parents_on, signed_row}
+use Rattle.hg_life.specs.History.{Change}
+use Rattle.hg_life.specs.History.Change.{Made}
+use Rattle.hg_life.specs.NodeView.{NodeView, with_changes, node_rows, IsNode}
+use Rattle.hg_life.specs.Calls.{IsMaking, make_answer, make_changes, make_body, make_draft, made_by}
+use Rattle.hg_life.specs.Signing.{Accepts}
+use Rattle.hg_life.proofs.RuleLaws.{admitted}
 use Rattle.hg_history.proofs.CallLaws.{with_none}
 use Rattle.hg_history.proofs.MakeLaws.{makes_leave_a_node}
 use Rattle.hg_sign.specs.Signed.{IsSigned}

@@ -8,7 +8,7 @@ use Rattle.std.proofs.lemmas.List.FromFn.{length-map-range_with_len}
 use Rattle.hg_model.specs.Stakes.{Stakes}
 use Rattle.hg_model.specs.Fame.{Marks, mark_at}
 use Rattle.hg_model.specs.Shares.{Share, early_fame}
-use Rattle.hg_model.specs.History.{State, is_news, news, new_mark, with_marks}
+use Rattle.hg_life.specs.History.{State, is_news, news, new_mark, with_marks}
 use Rattle.hg_model.proofs.WeightLaws.{weight_below_split}
 use Rattle.hg_model.proofs.PlacesLaws.{weight_below_grows}
 use Rattle.hg_history.proofs.AddLaws.{found_below}

@@ -1,14 +1,14 @@
 -- An event that is made under the one accepted signature
 use Rattle.std.proofs.Common.{◌≡◌, ℕ, List, [], length, Option, Some, None, sym, refl, ap, ◌∙◌}
-use Rattle.hg_model.specs.declared.answers.MakeAnswer.{MakeAnswer}
-use Rattle.hg_model.specs.declared.answers.MakeAnswer.TheVariants as answer
-use Rattle.hg_model.specs.declared.answers.MakeFault.{MakeFault}
+use Rattle.hg_life.specs.declared.answers.MakeAnswer.{MakeAnswer}
+use Rattle.hg_life.specs.declared.answers.MakeAnswer.TheVariants as answer
+use Rattle.hg_life.specs.declared.answers.MakeFault.{MakeFault}
 use Rattle.std.specs.Option.{option_or}
-use Rattle.hg_model.specs.Verdict.{made_row, made_or, collision_rule, room_rule}
-use Rattle.hg_model.specs.History.{Change}
-use Rattle.hg_model.specs.NodeView.{NodeView, with_changes, node_rows}
-use Rattle.hg_model.specs.Calls.{IsMaking, make_answer, make_changes, make_body, make_draft, made_by}
-use Rattle.hg_model.specs.Signing.{Accepts, AcceptOne}
+use Rattle.hg_life.specs.Verdict.{made_row, made_or, collision_rule, room_rule}
+use Rattle.hg_life.specs.History.{Change}
+use Rattle.hg_life.specs.NodeView.{NodeView, with_changes, node_rows}
+use Rattle.hg_life.specs.Calls.{IsMaking, make_answer, make_changes, make_body, make_draft, made_by}
+use Rattle.hg_life.specs.Signing.{Accepts, AcceptOne}
 use Rattle.hg_node.specs.Laws.{signature_made, MakingIsOne}
 
 module _ {K : Type 0} (v : NodeView K) (others : List (List ℕ)) (time : ℕ) (payload : List ℕ) where

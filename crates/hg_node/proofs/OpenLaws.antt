@@ -17,7 +17,8 @@ use Rattle.hg_model.specs.Order.{coin_at}
 use Rattle.hg_model.specs.Orders.{AreFame}
 use Rattle.hg_model.specs.Standings.{Standing, standings_of, witnesses_in}
 use Rattle.hg_model.specs.Prefix.{Graph, graph_of, links_of}
-use Rattle.hg_model.specs.GraphWords.{fame_in, is_witness_in, last_closed_in, last_round_in, round_in, share_fame_in, state_by}
+use Rattle.hg_model.specs.GraphWords.{fame_in, is_witness_in, last_closed_in, last_round_in, round_in, share_fame_in}
+use Rattle.hg_life.specs.StateWords.{state_by}
 use Rattle.hg_model.specs.Shares.{Share, early_fame, is_of_share, share_fame}
 use Rattle.hg_model.proofs.LinkLaws.{length-links}
 use Rattle.hg_model.proofs.ListLaws.{filter-list_below}
@@ -33,9 +34,9 @@ use Rattle.hg_votes.specs.Counting.{Counting, IsMadeFor}
 use Rattle.hg_kept.proofs.NextLaws.{last_reached}
 use Rattle.hg_history.specs.News.{FindsNews}
 use Rattle.hg_history.proofs.SoundLaws.{sound}
-use Rattle.hg_model.specs.History.{State}
-use Rattle.hg_model.specs.NodeView.{node_marks, node_rows, node_state}
-use Rattle.hg_model.specs.Signing.{Accepts}
+use Rattle.hg_life.specs.History.{State}
+use Rattle.hg_life.specs.NodeView.{node_marks, node_rows, node_state}
+use Rattle.hg_life.specs.Signing.{Accepts}
 use Rattle.hg_model.specs.declared.share.Found.{Found}
 use Rattle.hg_kept.specs.Published.{FindsNewsOf}
 use Rattle.hg_fame.proofs.ShareLaws.{whole_fames}

@@ -3,15 +3,15 @@ use Rattle.std.proofs.Common.{◌≡◌, ℕ, ◌≤◌, Bool, true, false, cond
 use Rattle.std.proofs.lemmas.Bool.{eqb-true}
 use Rattle.std.proofs.lemmas.List.{append-nil}
 use Rattle.hg_model.specs.declared.row.Row.{Row}
-use Rattle.hg_model.specs.declared.entry.Entry.{Entry}
-use Rattle.hg_model.specs.declared.entry.Entry.TheVariants as entry
+use Rattle.hg_life.specs.declared.entry.Entry.{Entry}
+use Rattle.hg_life.specs.declared.entry.Entry.TheVariants as entry
 use Rattle.hg_model.specs.Fame.{Marks}
 use Rattle.hg_model.specs.Shares.{Share, whole}
-use Rattle.hg_model.specs.History.{Change, State, news, with_marks}
-use Rattle.hg_model.specs.History.Change.{Marked}
-use Rattle.hg_model.specs.NodeView.{NodeView, with_changes, node_state, node_rows, IsNode}
-use Rattle.hg_model.specs.Calls.{publish_answer, publish_changes, settle_changes, IsSettled}
-use Rattle.hg_model.specs.Signing.{Accepts}
+use Rattle.hg_life.specs.History.{Change, State, news, with_marks}
+use Rattle.hg_life.specs.History.Change.{Marked}
+use Rattle.hg_life.specs.NodeView.{NodeView, with_changes, node_state, node_rows, IsNode}
+use Rattle.hg_life.specs.Calls.{publish_answer, publish_changes, settle_changes, IsSettled}
+use Rattle.hg_life.specs.Signing.{Accepts}
 use Rattle.hg_history.specs.News.{FindsNews}
 use Rattle.hg_history.proofs.NodeLaws.{settles_all}
 use Rattle.hg_history.proofs.StateLaws.{IsEven, even_after}

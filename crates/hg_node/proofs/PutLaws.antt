@@ -3,22 +3,22 @@ use Rattle.std.proofs.Common.{◌≡◌, ℕ, ◌<◌, List, [], ◌∷◌, ◌+
 use Rattle.std.specs.Prelude.{unwrap_or, IfOk, OnOk, OnErr}
 use Rattle.std.specs.Option.{option_or}
 use Rattle.hg_model.specs.declared.row.Row.{Row}
-use Rattle.hg_model.specs.declared.entry.Entry.TheVariants as entry
-use Rattle.hg_model.specs.declared.answers.ByteFault.{ByteFault}
-use Rattle.hg_model.specs.declared.answers.Fault.TheVariants as fault
-use Rattle.hg_model.specs.declared.answers.PutAnswer.{PutAnswer}
-use Rattle.hg_model.specs.declared.answers.PutAnswer.TheVariants.{Accepted, Refused}
+use Rattle.hg_life.specs.declared.entry.Entry.TheVariants as entry
+use Rattle.hg_life.specs.declared.answers.ByteFault.{ByteFault}
+use Rattle.hg_life.specs.declared.answers.Fault.TheVariants as fault
+use Rattle.hg_life.specs.declared.answers.PutAnswer.{PutAnswer}
+use Rattle.hg_life.specs.declared.answers.PutAnswer.TheVariants.{Accepted, Refused}
 use Rattle.hg_model.specs.Graph.{IsGraph}
-use Rattle.hg_model.specs.Reading.{read_event}
-use Rattle.hg_model.specs.Spelling.{Spells, body_of, spelling}
+use Rattle.hg_life.specs.Reading.{read_event}
+use Rattle.hg_life.specs.Spelling.{Spells, body_of, spelling}
 use Rattle.hg_model.specs.Stakes.{member_count}
-use Rattle.hg_model.specs.Verdict.{arrival_rule, forkers_rule, full_rule, row_limit, verdict_of, row_verdict}
-use Rattle.hg_model.specs.History.{Change}
-use Rattle.hg_model.specs.History.Change.{Took}
-use Rattle.hg_model.specs.NodeView.{NodeView, with_changes, node_rows, IsNode}
-use Rattle.hg_model.specs.Calls.{put_answer, put_changes, taken_by, taken_from}
-use Rattle.hg_model.specs.Signing.{Accepts}
-use Rattle.hg_model.proofs.RuleLaws.{option_or_none, has_room}
+use Rattle.hg_life.specs.Verdict.{arrival_rule, forkers_rule, full_rule, row_limit, verdict_of, row_verdict}
+use Rattle.hg_life.specs.History.{Change}
+use Rattle.hg_life.specs.History.Change.{Took}
+use Rattle.hg_life.specs.NodeView.{NodeView, with_changes, node_rows, IsNode}
+use Rattle.hg_life.specs.Calls.{put_answer, put_changes, taken_by, taken_from}
+use Rattle.hg_life.specs.Signing.{Accepts}
+use Rattle.hg_life.proofs.RuleLaws.{option_or_none, has_room}
 use Rattle.hg_event.proofs.Reading.{AreBytes}
 use Rattle.hg_event.proofs.Spells.{Spells-read_event}
 use Rattle.hg_history.proofs.RuleLaws.{rule_accepts_none}

@@ -2,26 +2,26 @@
 use Rattle.std.proofs.Common.{◌≡◌, ℕ, suc, ◌<◌, List, [], ◌∷◌, ◌++◌, length, fold, refl, sym, ap, ap₂, ◌∙◌, subst, arith}
 use Rattle.std.proofs.lemmas.List.{length_push}
 use Rattle.std.proofs.lemmas.List.{length-map}
-use Rattle.hg_model.specs.declared.members.MemberEntry.{MemberEntry}
+use Rattle.hg_life.specs.declared.members.MemberEntry.{MemberEntry}
 use Rattle.hg_model.specs.declared.row.Row.{Row}
 use Rattle.hg_model.specs.Stakes.{Stakes}
-use Rattle.hg_model.specs.Members.{MemberList, IsMemberList}
+use Rattle.hg_life.specs.Members.{MemberList, IsMemberList}
 use Rattle.hg_model.specs.Prefix.{graph_of}
-use Rattle.hg_model.specs.declared.entry.Entry.{Entry}
-use Rattle.hg_model.specs.declared.entry.Entry.TheVariants as entry
-use Rattle.hg_model.specs.History.{Change, State, empty, step, replay, with_row, with_marks}
-use Rattle.hg_model.specs.History.Change.{Took, Made, Marked}
+use Rattle.hg_life.specs.declared.entry.Entry.{Entry}
+use Rattle.hg_life.specs.declared.entry.Entry.TheVariants as entry
+use Rattle.hg_life.specs.History.{Change, State, empty, step, replay, with_row, with_marks}
+use Rattle.hg_life.specs.History.Change.{Took, Made, Marked}
 use Rattle.hg_model.specs.Links.{Link, links}
 use Rattle.hg_model.specs.Fame.{Marks}
-use Rattle.hg_model.specs.Kept.{kept}
-use Rattle.hg_model.specs.Pay.{book_of}
-use Rattle.hg_model.specs.NodeView.{NodeView, with_changes, node_state, node_rows, node_marks, book_kept, log_from, history_of, IsNode}
-use Rattle.hg_model.specs.Signing.{Accepts}
+use Rattle.hg_life.specs.Kept.{kept}
+use Rattle.hg_life.specs.Pay.{book_of}
+use Rattle.hg_life.specs.NodeView.{NodeView, with_changes, node_state, node_rows, node_marks, book_kept, log_from, history_of, IsNode}
+use Rattle.hg_life.specs.Signing.{Accepts}
 use Rattle.hg_history.proofs.StateLaws.{replay-push}
 use Rattle.hg_history.proofs.SoundLaws.{sound}
 use Rattle.hg_history.proofs.LogLaws.{log_spells_history}
 use Rattle.hg_node.specs.ChronicleView.{ChronicleView, chronicle_view, no_chronicle, book_in, chronicle_state, node_view, IsRecorded}
-use Rattle.hg_model.proofs.MemberLaws.{length-stakes, total_some}
+use Rattle.hg_life.proofs.MemberLaws.{length-stakes, total_some}
 
 module _ (n : Stakes) (c : ℕ) where
   next : (s : State) (row : Row) → suc (length s.rows) ≡ length (s.rows ++ row ∷ [])

@@ -2,16 +2,16 @@
 use Rattle.std.specs.Prelude.{ℕ, ◌≡◌, ◌<◌, true, List, Option, Some, Result, Ok, Err}
 use Rattle.std.specs.Option.{option_or}
 use Rattle.hg_model.specs.declared.row.Row.{Row}
-use Rattle.hg_model.specs.declared.answers.ByteFault.{ByteFault}
-use Rattle.hg_model.specs.declared.answers.Fault.TheVariants as fault
-use Rattle.hg_model.specs.declared.answers.PutAnswer.{PutAnswer}
-use Rattle.hg_model.specs.declared.answers.PutAnswer.TheVariants.{Refused}
+use Rattle.hg_life.specs.declared.answers.ByteFault.{ByteFault}
+use Rattle.hg_life.specs.declared.answers.Fault.TheVariants as fault
+use Rattle.hg_life.specs.declared.answers.PutAnswer.{PutAnswer}
+use Rattle.hg_life.specs.declared.answers.PutAnswer.TheVariants.{Refused}
 use Rattle.hg_model.specs.Stakes.{Stakes, member_count}
-use Rattle.hg_model.specs.Members.{MemberList, stakes_of}
-use Rattle.hg_model.specs.Reading.{read_event}
-use Rattle.hg_model.specs.Spelling.{body_of, spelling}
-use Rattle.hg_model.specs.Verdict.{member_rule, signature_rule}
-use Rattle.hg_model.specs.Signing.{Accepts}
+use Rattle.hg_life.specs.Members.{MemberList, stakes_of}
+use Rattle.hg_life.specs.Reading.{read_event}
+use Rattle.hg_life.specs.Spelling.{body_of, spelling}
+use Rattle.hg_life.specs.Verdict.{member_rule, signature_rule}
+use Rattle.hg_life.specs.Signing.{Accepts}
 
 -- that it is of no member, else that its signature is not accepted
 abbrev pub unfit_row : Accepts → Stakes → Row → Option PutAnswer

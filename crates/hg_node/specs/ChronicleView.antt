@@ -2,23 +2,23 @@
 use Rattle.std.specs.Prelude.{ℕ, ◌≡◌, ◌≤◌, ◌+◌, ◌*◌, ◌==◌, cond, List, [], ◌∷◌, ◌++◌, length, slice_get, Option, option_and_then, option_map, is_some}
 use Rattle.hg_model.specs.declared.row.Row.{Row}
 use Rattle.hg_model.specs.declared.row.Placed.{Placed}
-use Rattle.hg_model.specs.declared.entry.Entry.{Entry}
-use Rattle.hg_model.specs.declared.entry.Entry.TheVariants as entry
+use Rattle.hg_life.specs.declared.entry.Entry.{Entry}
+use Rattle.hg_life.specs.declared.entry.Entry.TheVariants as entry
 use Rattle.hg_model.specs.Places.{count_below}
 use Rattle.hg_model.specs.Links.{place_of}
 use Rattle.hg_model.specs.Fame.{Marks, mark_at}
 use Rattle.hg_model.specs.declared.share.Found.{Found}
 use Rattle.hg_model.specs.Shares.{Share}
-use Rattle.hg_model.specs.Verdict.{last_name}
-use Rattle.hg_model.specs.Members.{MemberList, balances_of, stakes_of}
+use Rattle.hg_life.specs.Verdict.{last_name}
+use Rattle.hg_life.specs.Members.{MemberList, balances_of, stakes_of}
 use Rattle.hg_model.specs.Prefix.{Graph, graph_of}
-use Rattle.hg_model.specs.Pay.{Book, book_of}
-use Rattle.hg_model.specs.Kept.{kept}
+use Rattle.hg_life.specs.Pay.{Book, book_of}
+use Rattle.hg_life.specs.Kept.{kept}
 use Rattle.hg_graph.specs.Held.{graph_with}
-use Rattle.hg_model.specs.History.{State, news, with_row, with_marks}
-use Rattle.hg_model.specs.NodeView.{NodeView, node_rows, node_marks, node_state, log, history_of, IsNode}
-use Rattle.hg_model.specs.Signing.{Accepts}
-use Rattle.hg_model.specs.GraphWords.{state_by}
+use Rattle.hg_life.specs.History.{State, news, with_row, with_marks}
+use Rattle.hg_life.specs.NodeView.{NodeView, node_rows, node_marks, node_state, log, history_of, IsNode}
+use Rattle.hg_life.specs.Signing.{Accepts}
+use Rattle.hg_life.specs.StateWords.{state_by}
 use Rattle.hg_history.specs.News.{FindsNews}
 use Rattle.hg_kept.specs.Published.{Published, Keeps}
 use Rattle.hg_pay.specs.Account.{Account}

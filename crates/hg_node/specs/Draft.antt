@@ -2,10 +2,10 @@
 use Rattle.std.specs.Prelude.{ℕ, List, [], ◌∷◌, map, Option, Some, None}
 use Rattle.std.specs.Option.{option_or}
 use Rattle.hg_model.specs.declared.row.Row.{Row}
-use Rattle.hg_model.specs.declared.answers.MakeFault.{MakeFault}
+use Rattle.hg_life.specs.declared.answers.MakeFault.{MakeFault}
 use Rattle.hg_model.specs.Links.{ParentNames, parent_names, place_of}
-use Rattle.hg_model.specs.Spelling.{body_bytes}
-use Rattle.hg_model.specs.Verdict.{last_name, parents_on, draft_rule, collision_rule, room_rule}
+use Rattle.hg_life.specs.Spelling.{body_bytes}
+use Rattle.hg_life.specs.Verdict.{last_name, parents_on, draft_rule, collision_rule, room_rule}
 use Rattle.hg_node.specs.ChronicleView.{ChronicleView}
 
 -- what is wrong with an event on these others before it is signed

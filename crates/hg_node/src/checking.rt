@@ -1,12 +1,13 @@
 ghost use Rattle.std.specs.Prelude.{◌≡◌, None, IfOk, OnErr, OnOk};
 ghost use Rattle.std.specs.Result.{result_err};
 ghost use Rattle.hg_event.specs.View.{row_of};
-ghost use Rattle.hg_model.specs.Members.{stakes_of};
+ghost use Rattle.hg_life.specs.Members.{stakes_of};
 ghost use Rattle.hg_node.specs.Checked.{IsChecked, IsSignedRow, unfit, unfit_row};
 
 use hg_arrival::{member_rule, signature_rule};
 use hg_event::{Event, EventView, decode};
-use hg_model::{Fault, Members, Memory, PutAnswer};
+use hg_life::{Fault, Members, PutAnswer};
+use hg_model::Memory;
 use hg_name::name_of;
 use hg_sign::Verifier;
 use std::alloc::Global;

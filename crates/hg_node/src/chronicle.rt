@@ -1,10 +1,10 @@
 ghost use Rattle.std.specs.Prelude.{◌≡◌, ◌<◌, ◌≤◌, ◌++◌, ◌∷◌, ◌==◌, [], All, Some, cond, length, option_map, IfOk, OnOk, OnErr};
-ghost use Rattle.hg_model.specs.declared.entry.Entry.{Entry};
+ghost use Rattle.hg_life.specs.declared.entry.Entry.{Entry};
 ghost use Rattle.hg_model.specs.declared.row.Placed.{Placed};
 ghost use Rattle.hg_model.specs.Graph.{IsGraph};
-ghost use Rattle.hg_model.specs.Verdict.{last_name, row_limit};
+ghost use Rattle.hg_life.specs.Verdict.{last_name, row_limit};
 ghost use Rattle.hg_model.specs.Fame.{mark_at};
-ghost use Rattle.hg_model.specs.Kept.{kept};
+ghost use Rattle.hg_life.specs.Kept.{kept};
 ghost use Rattle.hg_model.specs.Shares.{whole};
 ghost use Rattle.hg_model.specs.GraphWords.{last_closed_in};
 ghost use Rattle.hg_kept.specs.Published.{FindsNewsOf};
@@ -16,9 +16,8 @@ use crate::open::{Open, found_in, open_in};
 use hg_event::Event;
 use hg_graph::EventGraph;
 use hg_kept::Kept;
-use hg_model::{
-    Effect, Entry, Found, Member, Members, Memory, Name, Parents, Placed, Prefix, Share,
-};
+use hg_life::{Effect, Entry, Members};
+use hg_model::{Found, Member, Memory, Name, Parents, Placed, Prefix, Share};
 use hg_pay::{Book, Ledger};
 use hg_votes::VoteTable;
 use std::alloc::Global;

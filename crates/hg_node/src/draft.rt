@@ -2,8 +2,8 @@ ghost use Rattle.std.specs.Prelude.{◌≡◌, ◌≤◌, ◌<◌, length, optio
 ghost use Rattle.std.specs.Option.{option_to_list};
 ghost use Rattle.std.specs.Result.{result_err};
 ghost use Rattle.hg_model.specs.Links.{place_of};
-ghost use Rattle.hg_model.specs.Spelling.{payload_limit};
-ghost use Rattle.hg_model.specs.Verdict.{first_rule, other_rule, parents_on, payload_rule, signed_row};
+ghost use Rattle.hg_life.specs.Spelling.{payload_limit};
+ghost use Rattle.hg_life.specs.Verdict.{first_rule, other_rule, parents_on, payload_rule, signed_row};
 ghost use Rattle.hg_sign.specs.Signed.{IsSigned};
 ghost use Rattle.hg_node.specs.Draft.{both_places, draft_fault, draft_names, draft_places, row_fault};
 
@@ -12,7 +12,8 @@ use crate::chronicle::Chronicle;
 use hg_arrival::creator_at;
 use hg_event::{Event, PAYLOAD_LIMIT};
 use hg_graph::EventGraph;
-use hg_model::{Items, MakeFault, Member, Memory, Name, Parents, Row};
+use hg_life::MakeFault;
+use hg_model::{Items, Member, Memory, Name, Parents, Row};
 use hg_name::name_of;
 use hg_sign::{Signer, signed_bytes};
 use std::alloc::Global;

@@ -5,18 +5,18 @@ ghost use Rattle.hg_event.specs.View.{row_of};
 ghost use Rattle.hg_model.specs.Forks.{forkers};
 ghost use Rattle.hg_model.specs.Rounds.{last_round};
 ghost use Rattle.hg_model.specs.Stakes.{member_count};
-ghost use Rattle.hg_model.specs.Spelling.{Spells, spelling};
+ghost use Rattle.hg_life.specs.Spelling.{Spells, spelling};
 ghost use Rattle.hg_model.specs.Graph.{IsGraph};
-ghost use Rattle.hg_model.specs.Verdict.{last_name, row_limit};
+ghost use Rattle.hg_life.specs.Verdict.{last_name, row_limit};
 ghost use Rattle.hg_graph.specs.Held.{first_graph};
 ghost use Rattle.hg_arrival.specs.Arrival.{StandsOn};
 ghost use Rattle.hg_node.specs.ChronicleView.{IsFoundBy, chronicle_took, graph_in};
 ghost use Rattle.hg_node.specs.Opening.{AreUnmarked, Opens};
 ghost use Rattle.hg_node.specs.Puts.{WouldAccept, after_put, is_signed};
-ghost use Rattle.hg_model.specs.declared.answers.PutAnswer.TheVariants.{Accepted};
+ghost use Rattle.hg_life.specs.declared.answers.PutAnswer.TheVariants.{Accepted};
 ghost use Rattle.hg_model.specs.Fame.{mark_at};
-ghost use Rattle.hg_model.specs.NodeView.{book_kept, node_rows, kept_of, last_closed_of, node_links, log, node_marks, start_of, with_changes, IsNode};
-ghost use Rattle.hg_model.specs.Calls.{IsMaking, make_draft, publish_answer, publish_changes, put_answer, settle_changes, IsSettled};
+ghost use Rattle.hg_life.specs.NodeView.{book_kept, node_rows, kept_of, last_closed_of, node_links, log, node_marks, start_of, with_changes, IsNode};
+ghost use Rattle.hg_life.specs.Calls.{IsMaking, make_draft, publish_answer, publish_changes, put_answer, settle_changes, IsSettled};
 
 use crate::chronicle::Chronicle;
 use crate::draft::{draft_of, row_rule, signed_event};
@@ -24,10 +24,8 @@ use crate::open::Open;
 use crate::putting::{parents_of_put, parents_of_put_event};
 use hg_event::{Event, EventView, decode};
 use hg_graph::{EventGraph, FrozenGraph};
-use hg_model::{
-    Effect, Entry, Fault, Found, MakeAnswer, Member, Members, Memory, Name, Parents, Placed,
-    Prefix, PutAnswer, Rounds, Row, Share,
-};
+use hg_life::{Effect, Entry, Fault, MakeAnswer, Members, PutAnswer};
+use hg_model::{Found, Member, Memory, Name, Parents, Placed, Prefix, Rounds, Row, Share};
 use hg_name::name_of;
 use hg_pay::Book;
 use hg_sign::Signer;
@@ -45,7 +43,7 @@ pub struct Node<V: Signer> {
 }
 
 impl<V: Signer> Model for Node<V> {
-    ghost use Rattle.hg_model.specs.NodeView.{NodeView};
+    ghost use Rattle.hg_life.specs.NodeView.{NodeView};
     ghost use Rattle.hg_node.specs.ChronicleView.{IsRecorded, node_view};
 
     ghost Value = { NodeView V };

@@ -2,9 +2,9 @@ ghost use Rattle.std.specs.Prelude.{◌≡◌, ◌<◌, IfOk};
 ghost use Rattle.std.specs.Result.{result_err};
 ghost use Rattle.hg_arrival.specs.Arrival.{StandsOn};
 ghost use Rattle.hg_event.specs.View.{row_of};
-ghost use Rattle.hg_model.specs.Spelling.{Spells};
+ghost use Rattle.hg_life.specs.Spelling.{Spells};
 ghost use Rattle.hg_model.specs.Stakes.{member_count};
-ghost use Rattle.hg_model.specs.Verdict.{full_rule};
+ghost use Rattle.hg_life.specs.Verdict.{full_rule};
 ghost use Rattle.hg_node.specs.Puts.{put_rules, signed_put_rules};
 
 use crate::ROW_LIMIT;
@@ -12,7 +12,8 @@ use crate::chronicle::Chronicle;
 use hg_arrival::{parents_of_arrival, parents_of_signed};
 use hg_event::{Event, EventView};
 use hg_graph::EventGraph;
-use hg_model::{Fault, Name, Parents, PutAnswer};
+use hg_life::{Fault, PutAnswer};
+use hg_model::{Name, Parents};
 use hg_sign::Signer;
 use std::sync::Arc;
 

@@ -13,9 +13,9 @@ use Rattle.std.proofs.lemmas.Option.{get_or_from_slice_get, slice_get_within}
 use Rattle.std.proofs.lemmas.Simd.{ones-mask_l_cons}
 use Rattle.hg_model.specs.declared.row.Row.{Row}
 use Rattle.hg_model.specs.declared.row.Placed.{Placed}
-use Rattle.hg_model.specs.declared.pay.Transfer.{Transfer}
-use Rattle.hg_model.specs.declared.pay.Effect.TheVariants as effect
-use Rattle.hg_model.specs.Pay.{Book, Paying, can_pay, moved, pay_one, paid, read_pay, with_payload, with_placed, with_pay, book_of}
+use Rattle.hg_life.specs.declared.pay.Transfer.{Transfer}
+use Rattle.hg_life.specs.declared.pay.Effect.TheVariants as effect
+use Rattle.hg_life.specs.Pay.{Book, Paying, can_pay, moved, pay_one, paid, read_pay, with_payload, with_placed, with_pay, book_of}
 use Rattle.hg_pay.specs.Applied.{Leaves, done_bits, book_with}
 use Rattle.hg_pay.proofs.HasCome.{HasCome}
 

@@ -1,6 +1,6 @@
 -- Where a walk over a payload's transfers has come to
 use Rattle.std.proofs.Common.{◌≡◌, ℕ, List}
-use Rattle.hg_model.specs.Pay.{Paying}
+use Rattle.hg_life.specs.Pay.{Paying}
 use Rattle.hg_pay.specs.Applied.{done_bits}
 
 -- the balances and the bits are those of p

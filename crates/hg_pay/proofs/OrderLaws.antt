@@ -7,10 +7,10 @@ use Rattle.std.proofs.lemmas.List.Sums.{fold-append}
 use Rattle.std.proofs.lemmas.Option.{slice_get-get_or}
 use Rattle.hg_model.specs.declared.row.Row.{Row}
 use Rattle.hg_model.specs.declared.row.Placed.{Placed}
-use Rattle.hg_model.specs.declared.pay.Effect.{Effect}
-use Rattle.hg_model.specs.declared.pay.Transfer.{Transfer}
+use Rattle.hg_life.specs.declared.pay.Effect.{Effect}
+use Rattle.hg_life.specs.declared.pay.Transfer.{Transfer}
 use Rattle.hg_model.specs.Links.{no_row}
-use Rattle.hg_model.specs.Pay.{Book, with_placed, with_payload, with_pay, opened, book_of, read_pay}
+use Rattle.hg_life.specs.Pay.{Book, with_placed, with_payload, with_pay, opened, book_of, read_pay}
 use Rattle.hg_pay.specs.Applied.{Leaves, LeavesAt}
 use Rattle.hg_pay.specs.Account.{with_rest}
 

@@ -7,8 +7,8 @@ use Rattle.std.proofs.lemmas.Bool.{and_parts, cases_lt, eq-eqb, eqb-true, le-leb
 use Rattle.std.proofs.lemmas.List.{take-append-drop, take-take, drop-take, drop-drop, length-take, length-take-le, length-drop, nil_from_length, get_or_past, length-append, get_or-drop, get_or-take, append-nil, take_all, take_more}
 use Rattle.std.proofs.lemmas.List.Elements.{All-cons}
 use Rattle.std.proofs.lemmas.Nat.{be_bytes_2, be_bytes_8, from_be_bytes-to_be_bytes_2, from_be_bytes-to_be_bytes_8}
-use Rattle.hg_model.specs.declared.pay.Transfer.{Transfer}
-use Rattle.hg_model.specs.Pay.{pay_bytes, read_pay, transfer_bytes, transfer_in, transfer_limit, transfers_bytes, transfers_in}
+use Rattle.hg_life.specs.declared.pay.Transfer.{Transfer}
+use Rattle.hg_life.specs.Pay.{pay_bytes, read_pay, transfer_bytes, transfer_in, transfer_limit, transfers_bytes, transfers_in}
 use Rattle.hg_pay.specs.Laws.{AreBytes, ArePayable, IsTransfer}
 
 -- ---- chunks of ten bytes

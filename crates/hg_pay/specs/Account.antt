@@ -2,7 +2,7 @@
 use Rattle.std.specs.Prelude.{ℕ, List, length, drop, fold}
 use Rattle.hg_model.specs.declared.row.Row.{Row}
 use Rattle.hg_model.specs.declared.row.Placed.{Placed}
-use Rattle.hg_model.specs.Pay.{Book, with_placed}
+use Rattle.hg_life.specs.Pay.{Book, with_placed}
 
 -- what the members held at the start, the book so far, and for how many effects in all there is memory
 pub record Account : Type 0 where

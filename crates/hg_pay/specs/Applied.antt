@@ -1,9 +1,9 @@
 -- What applying a payload to the balances leaves and answers
 use Rattle.std.specs.Prelude.{ℕ, zero, ◌+◌, ◌*◌, ◌≡◌, Bool, cond, List, [], ◌∷◌, ◌++◌, get_or}
 use Rattle.hg_model.specs.declared.row.Row.{Row}
-use Rattle.hg_model.specs.declared.pay.Effect.{Effect}
+use Rattle.hg_life.specs.declared.pay.Effect.{Effect}
 use Rattle.hg_model.specs.Links.{no_row}
-use Rattle.hg_model.specs.Pay.{Book, with_payload}
+use Rattle.hg_life.specs.Pay.{Book, with_payload}
 
 -- the number whose bit i, counted from the lowest, is set just where entry i is true
 abbrev pub done_bits : List Bool → ℕ

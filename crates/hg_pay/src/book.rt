@@ -1,12 +1,13 @@
 ghost use Rattle.std.specs.Prelude.{◌≡◌, ◌<◌, ◌^◌, get_or, length, IfOk};
 ghost use Rattle.std.specs.List.{sum};
-ghost use Rattle.hg_model.specs.Members.{balances_of};
-ghost use Rattle.hg_model.specs.Pay.{paid};
+ghost use Rattle.hg_life.specs.Members.{balances_of};
+ghost use Rattle.hg_life.specs.Pay.{paid};
 ghost use Rattle.hg_pay.specs.Applied.{done_bits, Leaves};
 
 use crate::pay::{Pay, read_pay};
 use crate::paying::{balance_of, pay_all};
-use hg_model::{Effect, Member, Members, Memory};
+use hg_life::{Effect, Members};
+use hg_model::{Member, Memory};
 use std::alloc::Global;
 use std::marker::Model;
 

@@ -1,12 +1,13 @@
 ghost use Rattle.std.specs.Prelude.{◌≡◌, ◌≤◌, ◌<◌, ◌+◌, All, fold, length, vec_capacity, vec_len, IfOk, OnOk};
 ghost use Rattle.hg_model.specs.declared.row.Placed.{Placed};
-ghost use Rattle.hg_model.specs.Members.{balances_of};
-ghost use Rattle.hg_model.specs.Pay.{opened, with_placed};
+ghost use Rattle.hg_life.specs.Members.{balances_of};
+ghost use Rattle.hg_life.specs.Pay.{opened, with_placed};
 ghost use Rattle.hg_pay.specs.Applied.{book_with, LeavesAt};
 ghost use Rattle.hg_pay.specs.Account.{with_rest};
 
 use crate::book::Book;
-use hg_model::{Effect, Members, Memory, Placed, Prefix};
+use hg_life::{Effect, Members};
+use hg_model::{Memory, Placed, Prefix};
 use std::alloc::Global;
 use std::marker::Model;
 

@@ -1,8 +1,9 @@
 ghost use Rattle.std.specs.Prelude.{◌≡◌, ◌<◌, ◌≤◌, ◌+◌, ◌*◌, ◌∷◌, ◌++◌, length, slice_get, IfOk, OnOk, Some};
-ghost use Rattle.hg_model.specs.Pay.{pay_bytes, read_pay, transfer_bytes, transfer_in, transfer_limit};
+ghost use Rattle.hg_life.specs.Pay.{pay_bytes, read_pay, transfer_bytes, transfer_in, transfer_limit};
 
 use byteorder::{BigEndian, ByteOrder};
-use hg_model::{Bytes, Memory, Transfer};
+use hg_life::Transfer;
+use hg_model::{Bytes, Memory};
 use std::alloc::Global;
 use std::marker::Model;
 
@@ -17,8 +18,8 @@ pub struct Pay<'a> {
 
 impl<'a> Model for Pay<'a> {
     ghost use Rattle.std.specs.Prelude.{◌≤◌, List, length, map};
-    ghost use Rattle.hg_model.specs.declared.pay.Transfer.{Transfer};
-    ghost use Rattle.hg_model.specs.Pay.{transfer_in, transfer_limit};
+    ghost use Rattle.hg_life.specs.declared.pay.Transfer.{Transfer};
+    ghost use Rattle.hg_life.specs.Pay.{transfer_in, transfer_limit};
 
     ghost Value = { List Transfer };
 
@@ -29,7 +30,7 @@ impl<'a> Model for Pay<'a> {
 
 /// The transfers that these bytes spell: a byte that tells how many, and of each the receiver in two bytes and the
 /// amount in eight, big-endian. `None` where they are no such payload. Takes no memory.
-#[tactic(auto, unfolding(hg_model::specs::Pay::read_pay))]
+#[tactic(auto, unfolding(hg_life::specs::Pay::read_pay))]
 pub fn read_pay(bytes: &[u8]) -> Option<Pay<'_>>
     ensures { result ≡ read_pay bytes.now }
 {
@@ -40,7 +41,7 @@ pub fn read_pay(bytes: &[u8]) -> Option<Pay<'_>>
 }
 
 /// So many transfers, where these bytes spell just them.
-#[tactic(auto, unfolding(hg_model::specs::Pay::read_pay))]
+#[tactic(auto, unfolding(hg_life::specs::Pay::read_pay))]
 fn pay_in(count: u8, rest: &[u8]) -> Option<Pay<'_>>
     ensures { result ≡ read_pay (count ∷ rest.now) }
 {
@@ -92,7 +93,7 @@ fn write_transfer(bytes: &mut Vec<u8>, transfer: &Transfer) -> Result<(), Memory
 
 /// The bytes of the payload of these transfers, at most 64, which `read_pay` reads as them. The only error is want of
 /// memory.
-#[tactic(auto, unfolding(hg_model::specs::Pay::pay_bytes), using(crate::proofs::PayLaws::transfers_bytes_more))]
+#[tactic(auto, unfolding(hg_life::specs::Pay::pay_bytes), using(crate::proofs::PayLaws::transfers_bytes_more))]
 pub fn write_pay(alloc: Global, transfers: &[Transfer]) -> Result<Bytes, Memory>
     requires { length transfers.now ≤ transfer_limit }
     ensures spelled { IfOk result (λ payload. payload ≡ pay_bytes transfers.now) }

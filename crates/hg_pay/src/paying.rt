@@ -1,10 +1,11 @@
 ghost use Rattle.std.specs.Prelude.{◌≡◌, ◌<◌, ◌^◌, bit_or, cond, get_or, slice_set};
 ghost use Rattle.std.specs.List.{sum};
-ghost use Rattle.hg_model.specs.Pay.{can_pay, moved, paid};
+ghost use Rattle.hg_life.specs.Pay.{can_pay, moved, paid};
 ghost use Rattle.hg_pay.specs.Applied.{done_bits};
 
 use crate::pay::Pay;
-use hg_model::{Member, Transfer};
+use hg_life::Transfer;
+use hg_model::Member;
 
 /// What the member holds, or 0 of a number that is no member's.
 pub fn balance_of(balances: &[u64], member: Member) -> u64

@@ -1,8 +1,8 @@
 -- The first of what is left of a text, and the others
 use Rattle.std.proofs.Common.{◌≡◌, ◌∙◌, ◌+◌, ◌<◌, ◌++◌, ℕ, Bool, List, [], ◌∷◌, length, drop, get_or, sym, ap, add-one, append_assoc, arith}
 use Rattle.std.proofs.Math.Seq.{drop-cons}
-use Rattle.hg_model.specs.Report.{balance_text, balances_text, order_line_text, order_text}
-use Rattle.hg_model.specs.declared.outcome.OrderLine.{OrderLine}
+use Rattle.hg_outcome.specs.Report.{balance_text, balances_text, order_line_text, order_text}
+use Rattle.hg_outcome.specs.declared.outcome.OrderLine.{OrderLine}
 use Rattle.hg_pieces.specs.Pieces.{piece_text, pieces_text}
 use Rattle.hg_pieces.specs.declared.pieces.Piece.{Piece}
 

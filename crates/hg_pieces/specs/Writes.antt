@@ -2,9 +2,9 @@
 use Rattle.std.specs.Prelude.{ℕ, Bool, List, Result}
 use Rattle.hg_io.specs.Printing.{PutsOn}
 use Rattle.hg_io.specs.declared.sink.Sink as sink
-use Rattle.hg_model.specs.declared.outcome.Block.{Block}
-use Rattle.hg_model.specs.declared.outcome.OrderLine.{OrderLine}
-use Rattle.hg_model.specs.Report.{block_text, order_line_text, order_text}
+use Rattle.hg_outcome.specs.declared.outcome.Block.{Block}
+use Rattle.hg_outcome.specs.declared.outcome.OrderLine.{OrderLine}
+use Rattle.hg_outcome.specs.Report.{block_text, order_line_text, order_text}
 
 -- the line of a row of the order, of this number
 abbrev pub PutsLine : {S T E : Type 0} → sink.Ghosts S → S → S → List ℕ → List ℕ → Bool → List (List ℕ) → ℕ → OrderLine → Result T E → Type 0

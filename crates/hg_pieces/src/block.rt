@@ -1,12 +1,14 @@
 ghost use Rattle.hg_io.specs.Printing.{PutsOn};
 ghost use Rattle.std.specs.Prelude.{◌≡◌, ◌++◌, codes, length};
-ghost use Rattle.hg_model.specs.Report.{balance_text, balances_text, effect_text, head_text, line_end};
+ghost use Rattle.hg_outcome.specs.Report.{balance_text, balances_text, effect_text, head_text, line_end};
 ghost use Rattle.hg_pieces.specs.Pieces.{pieces_text};
 ghost use Rattle.hg_pieces.specs.Writes.{PutsBlock, PutsOrder, PutsLine};
 
 use crate::pieces::{Piece, name_of, write_pieces};
 use hg_io::{Failed, Page, Sink};
-use hg_model::{Block, Bytes, Effect, OrderLine};
+use hg_life::Effect;
+use hg_model::Bytes;
+use hg_outcome::{Block, OrderLine};
 
 /// What came of an event's payload, behind a blank.
 fn effect_pieces(effect: &Effect) -> [Piece<'_>; 4]

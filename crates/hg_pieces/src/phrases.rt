@@ -1,11 +1,11 @@
 ghost use Rattle.std.specs.Prelude.{◌≡◌, ◌++◌};
 ghost use Rattle.std.specs.Fmt.{decimal};
-ghost use Rattle.hg_model.specs.Report.{byte_fault_text, fault_text, make_answer_text, make_fault_text, put_answer_text, sync_made_text};
+ghost use Rattle.hg_outcome.specs.Report.{byte_fault_text, fault_text, make_answer_text, make_fault_text, put_answer_text, sync_made_text};
 ghost use Rattle.hg_pieces.specs.Phrases.{phrase_text};
 ghost use Rattle.hg_pieces.specs.Pieces.{piece_text};
 
 use crate::pieces::Piece;
-use hg_model::{ByteFault, Fault, MakeAnswer, MakeFault, PutAnswer, SyncMade};
+use hg_life::{ByteFault, Fault, MakeAnswer, MakeFault, PutAnswer, SyncMade};
 
 /// What is told of an answer: two texts, each of which may be empty, and then a piece.
 #[derive(Clone, Copy)]

@@ -1,6 +1,6 @@
 ghost use Rattle.std.specs.Prelude.{◌≡◌};
 ghost use Rattle.hg_io.specs.Printing.{Prints, PutsOn};
-ghost use Rattle.hg_model.specs.Report.{name_of_member};
+ghost use Rattle.hg_outcome.specs.Report.{name_of_member};
 ghost use Rattle.hg_pieces.specs.Pieces.{piece_text, pieces_text};
 
 use hg_io::{Failed, Page, Sink};

@@ -8,22 +8,22 @@ use Rattle.std.proofs.lemmas.Option.{slice_get_within}
 use Rattle.std.proofs.Math.Seq.{map-set_same}
 use Rattle.hg_model.specs.declared.row.Row.{Row}
 use Rattle.hg_model.specs.declared.row.Placed.{Placed}
-use Rattle.hg_model.specs.declared.pay.Effect.{Effect}
-use Rattle.hg_model.specs.declared.outcome.Block.{Block}
-use Rattle.hg_model.specs.declared.outcome.Printed.{Printed}
-use Rattle.hg_model.specs.declared.outcome.Printed.TheVariants as printed
+use Rattle.hg_life.specs.declared.pay.Effect.{Effect}
+use Rattle.hg_outcome.specs.declared.outcome.Block.{Block}
+use Rattle.hg_outcome.specs.declared.outcome.Printed.{Printed}
+use Rattle.hg_outcome.specs.declared.outcome.Printed.TheVariants as printed
 use Rattle.hg_model.specs.Places.{list_below}
 use Rattle.hg_model.specs.Links.{Link, links}
 use Rattle.hg_model.specs.Fame.{Marks}
-use Rattle.hg_model.specs.Ledger.{block_of, marked_block, order_lines}
-use Rattle.hg_model.specs.Members.{MemberList, balances_of, has_node, stakes_of}
+use Rattle.hg_outcome.specs.Ledger.{block_of, marked_block, order_lines}
+use Rattle.hg_life.specs.Members.{MemberList, balances_of, has_node, stakes_of}
 use Rattle.hg_model.specs.Order.{Ordered, named_in, ordered}
-use Rattle.hg_model.specs.Pay.{book_of}
+use Rattle.hg_life.specs.Pay.{book_of}
 use Rattle.hg_model.specs.Shares.{whole}
-use Rattle.hg_model.specs.Signing.{accepts_by}
-use Rattle.hg_model.specs.History.{Change, State, replay}
-use Rattle.hg_model.specs.NodeView.{NodeView, Start, IsNode, with_changes}
-use Rattle.hg_model.specs.Calls.{IsSettled}
+use Rattle.hg_life.specs.Signing.{accepts_by}
+use Rattle.hg_life.specs.History.{Change, State, replay}
+use Rattle.hg_life.specs.NodeView.{NodeView, Start, IsNode, with_changes}
+use Rattle.hg_life.specs.Calls.{IsSettled}
 use Rattle.hg_history.proofs.NodeLaws.{settles_all}
 use Rattle.hg_history.proofs.SoundLaws.{moment, sound}
 use Rattle.hg_pay.proofs.OrderLaws.{many_effects}

@@ -4,21 +4,22 @@ use Rattle.std.specs.Option.{option_to_list}
 use Rattle.std.proofs.lemmas.Bool.{cases_eq, cases_lt}
 use Rattle.std.proofs.lemmas.List.{append-nil, length-set, get_or-set_same, get_or-set_other, get_or_past}
 use Rattle.hg_model.specs.declared.row.Row.{Row}
-use Rattle.hg_model.specs.declared.answers.SyncMade.{SyncMade}
-use Rattle.hg_model.specs.declared.answers.SyncReport.{SyncReport}
-use Rattle.hg_model.specs.Gossip.{lacking, made_in_sync}
+use Rattle.hg_life.specs.declared.answers.SyncMade.{SyncMade}
+use Rattle.hg_life.specs.declared.answers.SyncReport.{SyncReport}
+use Rattle.hg_model.specs.Held.{lacking}
+use Rattle.hg_life.specs.Gossip.{made_in_sync}
 use Rattle.hg_model.specs.Stakes.{Stakes}
 use Rattle.hg_model.specs.Shares.{Share}
-use Rattle.hg_model.specs.Signing.{accepts_by, signature_by}
-use Rattle.hg_model.specs.declared.answers.ByteFault.{ByteFault}
-use Rattle.hg_model.specs.declared.answers.PutAnswer.{PutAnswer}
-use Rattle.hg_model.specs.Reading.{read_event}
-use Rattle.hg_model.specs.Spelling.{body_bytes, spelling}
-use Rattle.hg_model.specs.Verdict.{last_name, made_row, making, parents_on, row_verdict, verdict}
-use Rattle.hg_model.specs.History.{Change, State, step, with_marks, with_row}
-use Rattle.hg_model.specs.History.Change.{Took, Made, Marked}
-use Rattle.hg_model.specs.NodeView.{NodeView, Start, node_rows, node_state, with_changes}
-use Rattle.hg_model.specs.Calls.{made_by, make_answer, make_body, make_changes, put_answer, put_changes, taken_by, taken_from}
+use Rattle.hg_life.specs.Signing.{accepts_by, signature_by}
+use Rattle.hg_life.specs.declared.answers.ByteFault.{ByteFault}
+use Rattle.hg_life.specs.declared.answers.PutAnswer.{PutAnswer}
+use Rattle.hg_life.specs.Reading.{read_event}
+use Rattle.hg_life.specs.Spelling.{body_bytes, spelling}
+use Rattle.hg_life.specs.Verdict.{last_name, made_row, making, parents_on, row_verdict, verdict}
+use Rattle.hg_life.specs.History.{Change, State, step, with_marks, with_row}
+use Rattle.hg_life.specs.History.Change.{Took, Made, Marked}
+use Rattle.hg_life.specs.NodeView.{NodeView, Start, node_rows, node_state, with_changes}
+use Rattle.hg_life.specs.Calls.{made_by, make_answer, make_body, make_changes, put_answer, put_changes, taken_by, taken_from}
 use Rattle.hg_history.proofs.StateLaws.{replay-append}
 use Rattle.hg_gossip.specs.declared.gossip.Taken.{Taken}
 use Rattle.hg_gossip.specs.Gossip.{none_taken, with_answer}

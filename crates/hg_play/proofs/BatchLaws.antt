@@ -5,11 +5,11 @@ use Rattle.std.proofs.Math.Seq.{take-add}
 use Rattle.std.proofs.lemmas.Bool.{cases_lt, true≢false}
 use Rattle.std.proofs.lemmas.List.Sums.{fold-append, fold_more}
 use Rattle.std.proofs.lemmas.List.{ext_get_or, get_or-drop, get_or-map, get_or_past, length-map, take_all}
-use Rattle.hg_model.specs.declared.outcome.Printed.{Printed}
-use Rattle.hg_model.specs.Members.{MemberList}
+use Rattle.hg_outcome.specs.declared.outcome.Printed.{Printed}
+use Rattle.hg_life.specs.Members.{MemberList}
 use Rattle.hg_model.specs.Shares.{whole}
-use Rattle.hg_model.specs.Signing.{accepts_by}
-use Rattle.hg_model.specs.NodeView.{NodeView, Start, node_rows}
+use Rattle.hg_life.specs.Signing.{accepts_by}
+use Rattle.hg_life.specs.NodeView.{NodeView, Start, node_rows}
 use Rattle.hg_script.specs.declared.line.Part.{Part}
 use Rattle.hg_script.specs.declared.line.Action.TheVariants as action
 use Rattle.hg_script.specs.declared.line.Line.{Line}

@@ -2,19 +2,19 @@
 use Rattle.std.proofs.Common.{◌≡◌, ℕ, List, length, ap, ap₂, refl, ◌∙◌}
 use Rattle.hg_model.specs.declared.row.Row.{Row}
 use Rattle.hg_model.specs.declared.row.Placed.{Placed}
-use Rattle.hg_model.specs.declared.outcome.OrderLine.{OrderLine}
-use Rattle.hg_model.specs.declared.outcome.Block.{Block}
+use Rattle.hg_outcome.specs.declared.outcome.OrderLine.{OrderLine}
+use Rattle.hg_outcome.specs.declared.outcome.Block.{Block}
 use Rattle.hg_model.specs.Links.{Link, links}
 use Rattle.hg_model.specs.Fame.{Marks, fame_marks}
 use Rattle.hg_model.specs.Order.{coin_at, last_closed, ordered}
-use Rattle.hg_model.specs.Members.{MemberList, balances_of, stakes_of}
+use Rattle.hg_life.specs.Members.{MemberList, balances_of, stakes_of}
 use Rattle.hg_model.specs.Forks.{forkers}
 use Rattle.hg_model.specs.Rounds.{last_round}
-use Rattle.hg_model.specs.Pay.{Book, book_of}
-use Rattle.hg_model.specs.Ledger.{block_of, marked_block, order_lines}
-use Rattle.hg_model.specs.NodeView.{NodeView, Start, node_rows, node_links, node_marks, kept_of, book_kept, last_closed_of, IsNode}
-use Rattle.hg_model.specs.Calls.{IsSettled}
-use Rattle.hg_model.specs.Signing.{accepts_by}
+use Rattle.hg_life.specs.Pay.{Book, book_of}
+use Rattle.hg_outcome.specs.Ledger.{block_of, marked_block, order_lines}
+use Rattle.hg_life.specs.NodeView.{NodeView, Start, node_rows, node_links, node_marks, kept_of, book_kept, last_closed_of, IsNode}
+use Rattle.hg_life.specs.Calls.{IsSettled}
+use Rattle.hg_life.specs.Signing.{accepts_by}
 use Rattle.hg_history.proofs.SoundLaws.{sound}
 use Rattle.hg_world.specs.World.{Secrets}
 use Rattle.hg_play.specs.Lines.{kept_block}

@@ -5,14 +5,14 @@ use Rattle.std.specs.Option.{option_and_then, option_to_list}
 use Rattle.std.specs.declared.sync.Arc.{Arc}
 use Rattle.std.proofs.lemmas.List.{get_or-set_same, length-set}
 use Rattle.hg_model.specs.declared.row.Row.{Row}
-use Rattle.hg_model.specs.declared.answers.PutAnswer.{PutAnswer}
-use Rattle.hg_model.specs.declared.answers.MakeAnswer.{MakeAnswer}
-use Rattle.hg_model.specs.Gossip.{lacking}
+use Rattle.hg_life.specs.declared.answers.PutAnswer.{PutAnswer}
+use Rattle.hg_life.specs.declared.answers.MakeAnswer.{MakeAnswer}
+use Rattle.hg_model.specs.Held.{lacking}
 use Rattle.hg_model.specs.Links.{place_of}
-use Rattle.hg_model.specs.Signing.{accepts_by}
-use Rattle.hg_model.specs.Spelling.{spelling}
-use Rattle.hg_model.specs.Verdict.{last_name}
-use Rattle.hg_model.specs.NodeView.{NodeView, node_rows}
+use Rattle.hg_life.specs.Signing.{accepts_by}
+use Rattle.hg_life.specs.Spelling.{spelling}
+use Rattle.hg_life.specs.Verdict.{last_name}
+use Rattle.hg_life.specs.NodeView.{NodeView, node_rows}
 use Rattle.hg_gossip.specs.declared.gossip.Taken.{Taken}
 use Rattle.hg_gossip.specs.Gossip.{none_taken}
 use Rattle.hg_gossip.specs.Nodes.{taking, taking_of}

@@ -6,12 +6,11 @@ use Rattle.std.proofs.lemmas.List.{get_or-map, get_or_default, length-map}
 use Rattle.hg_model.specs.declared.row.Row.{Row}
 use Rattle.hg_model.specs.Links.{no_row}
 use Rattle.hg_model.specs.Stakes.{Stakes, member_count}
-use Rattle.hg_model.specs.Signing.{Accepts, accepts_by}
-use Rattle.hg_model.specs.Gossip.{lacking}
+use Rattle.hg_life.specs.Signing.{Accepts, accepts_by}
+use Rattle.hg_model.specs.Held.{lacking, is_held}
 use Rattle.hg_model.specs.Graph.{HasDistinctNames, name_at}
-use Rattle.hg_model.specs.Verdict.{is_held}
-use Rattle.hg_model.specs.Spelling.{Spells, body_of, spelling}
-use Rattle.hg_model.specs.NodeView.{NodeView, Start, IsNode, node_rows}
+use Rattle.hg_life.specs.Spelling.{Spells, body_of, spelling}
+use Rattle.hg_life.specs.NodeView.{NodeView, Start, IsNode, node_rows}
 use Rattle.hg_model.proofs.LinkLaws.{creator-links, length-links}
 use Rattle.hg_history.specs.Laws.{IsEvent}
 use Rattle.hg_history.proofs.SoundLaws.{sound}

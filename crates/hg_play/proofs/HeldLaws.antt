@@ -4,20 +4,21 @@ use Rattle.std.specs.Prelude.{nat_le, ◌==◌}
 use Rattle.std.specs.Option.{option_or}
 use Rattle.std.proofs.lemmas.Bool.{cases_Bool, true≢false}
 use Rattle.hg_model.specs.declared.row.Row.{Row}
-use Rattle.hg_model.specs.declared.answers.ByteFault.{ByteFault}
-use Rattle.hg_model.specs.declared.answers.Fault.{Fault}
-use Rattle.hg_model.specs.declared.answers.Fault.TheVariants as fault
-use Rattle.hg_model.specs.declared.answers.PutAnswer.{PutAnswer}
-use Rattle.hg_model.specs.declared.answers.PutAnswer.TheVariants.{Accepted, Known, Refused}
+use Rattle.hg_life.specs.declared.answers.ByteFault.{ByteFault}
+use Rattle.hg_life.specs.declared.answers.Fault.{Fault}
+use Rattle.hg_life.specs.declared.answers.Fault.TheVariants as fault
+use Rattle.hg_life.specs.declared.answers.PutAnswer.{PutAnswer}
+use Rattle.hg_life.specs.declared.answers.PutAnswer.TheVariants.{Accepted, Known, Refused}
 use Rattle.hg_model.specs.Graph.{creator_at}
 use Rattle.hg_model.specs.Links.{ParentNames, place_of}
 use Rattle.hg_model.specs.Orders.{IsPrefix}
-use Rattle.hg_model.specs.Signing.{Accepts, accepts_by}
-use Rattle.hg_model.specs.Spelling.{Spells, body_of, spelling}
+use Rattle.hg_life.specs.Signing.{Accepts, accepts_by}
+use Rattle.hg_life.specs.Spelling.{Spells, body_of, spelling}
 use Rattle.hg_model.specs.Stakes.{Stakes, member_count, total}
-use Rattle.hg_model.specs.Verdict.{arrival_rule, creator_rule, first_by, first_missing, forkers_rule, forking_with, full_rule, has_bytes, impostor_rule, is_held, member_rule, missing_rule, name_rule, row_limit, row_verdict, signature_rule, verdict_of}
-use Rattle.hg_model.specs.Calls.{put_answer, put_changes}
-use Rattle.hg_model.specs.NodeView.{NodeView, node_rows}
+use Rattle.hg_life.specs.Verdict.{arrival_rule, creator_rule, first_by, first_missing, forkers_rule, forking_with, full_rule, has_bytes, impostor_rule, member_rule, missing_rule, name_rule, row_limit, row_verdict, signature_rule, verdict_of}
+use Rattle.hg_model.specs.Held.{is_held}
+use Rattle.hg_life.specs.Calls.{put_answer, put_changes}
+use Rattle.hg_life.specs.NodeView.{NodeView, node_rows}
 use Rattle.hg_event.proofs.Spells.{Spells-read_event}
 use Rattle.hg_history.proofs.StateLaws.{prefix_more, prefix_same, rows_grow}
 use Rattle.hg_gossip.specs.declared.gossip.Taken.{Taken}

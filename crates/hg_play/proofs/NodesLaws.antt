@@ -2,8 +2,8 @@
 use Rattle.std.proofs.Common.{◌≡◌, ℕ, ◌+◌, ◌<◌, cond, List, [], ◌∷◌, ◌++◌, length, get_or, take, Result, Ok, Err, sym, refl, ap, ap₂, ◌∙◌, subst, add-one, arith}
 use Rattle.std.specs.Prelude.{All, IfOk, OnErr, OnOk}
 use Rattle.std.proofs.lemmas.List.Sums.{fold_more}
-use Rattle.hg_model.specs.declared.outcome.Printed.{Printed}
-use Rattle.hg_model.specs.Members.{MemberList, has_node}
+use Rattle.hg_outcome.specs.declared.outcome.Printed.{Printed}
+use Rattle.hg_life.specs.Members.{MemberList, has_node}
 use Rattle.hg_model.specs.Places.{list_below}
 use Rattle.hg_script.specs.declared.line.Part.{Part}
 use Rattle.hg_script.specs.declared.line.Action.{Action}

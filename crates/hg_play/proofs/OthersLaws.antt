@@ -3,16 +3,16 @@ use Rattle.std.proofs.Common.{◌≡◌, ◌≢◌, ℕ, zero, suc, ◌+◌, ◌
 use Rattle.std.proofs.lemmas.Bool.{ne_eqb}
 use Rattle.std.proofs.lemmas.List.{append-nil, length-append}
 use Rattle.hg_model.specs.declared.row.Row.{Row}
-use Rattle.hg_model.specs.declared.answers.PutAnswer.{PutAnswer}
-use Rattle.hg_model.specs.declared.answers.MakeAnswer.{MakeAnswer}
-use Rattle.hg_model.specs.Gossip.{lacking}
+use Rattle.hg_life.specs.declared.answers.PutAnswer.{PutAnswer}
+use Rattle.hg_life.specs.declared.answers.MakeAnswer.{MakeAnswer}
+use Rattle.hg_model.specs.Held.{lacking}
 use Rattle.hg_model.specs.Graph.{HasDistinctNames}
-use Rattle.hg_model.specs.Signing.{accepts_by}
-use Rattle.hg_model.specs.Spelling.{spelling}
-use Rattle.hg_model.specs.History.{Change}
-use Rattle.hg_model.specs.History.Change.{Took, Made, Marked}
-use Rattle.hg_model.specs.NodeView.{NodeView, node_rows, with_changes}
-use Rattle.hg_model.specs.Calls.{make_changes, put_answer, put_changes}
+use Rattle.hg_life.specs.Signing.{accepts_by}
+use Rattle.hg_life.specs.Spelling.{spelling}
+use Rattle.hg_life.specs.History.{Change}
+use Rattle.hg_life.specs.History.Change.{Took, Made, Marked}
+use Rattle.hg_life.specs.NodeView.{NodeView, node_rows, with_changes}
+use Rattle.hg_life.specs.Calls.{make_changes, put_answer, put_changes}
 use Rattle.hg_gossip.specs.declared.gossip.Taken.{Taken}
 use Rattle.hg_gossip.specs.Gossip.{none_taken}
 use Rattle.hg_gossip.specs.Nodes.{Taking, taking, taking_of}

@@ -3,12 +3,13 @@ use Rattle.std.proofs.Common.{◌≡◌, ℕ, ◌<◌, List, length, map, take, 
 use Rattle.std.specs.declared.sync.Arc.{Arc}
 use Rattle.std.specs.Prelude.{IfOk}
 use Rattle.hg_model.specs.declared.row.Row.{Row}
-use Rattle.hg_model.specs.declared.answers.MakeAnswer.{MakeAnswer}
-use Rattle.hg_model.specs.declared.answers.SyncMade.{SyncMade}
-use Rattle.hg_model.specs.Gossip.{lacking, made_in_sync}
-use Rattle.hg_model.specs.Members.{MemberList}
-use Rattle.hg_model.specs.Spelling.{spelling}
-use Rattle.hg_model.specs.Verdict.{last_name}
+use Rattle.hg_life.specs.declared.answers.MakeAnswer.{MakeAnswer}
+use Rattle.hg_life.specs.declared.answers.SyncMade.{SyncMade}
+use Rattle.hg_model.specs.Held.{lacking}
+use Rattle.hg_life.specs.Gossip.{made_in_sync}
+use Rattle.hg_life.specs.Members.{MemberList}
+use Rattle.hg_life.specs.Spelling.{spelling}
+use Rattle.hg_life.specs.Verdict.{last_name}
 use Rattle.hg_graph.specs.RowsWithRoom.{rows_of}
 use Rattle.hg_gossip.specs.declared.gossip.Taken.{Taken}
 use Rattle.hg_world.specs.World.{Secrets, WorldView, node_at, rows_at}

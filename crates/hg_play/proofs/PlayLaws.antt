@@ -5,9 +5,9 @@ use Rattle.std.specs.Option.{option_map_or}
 use Rattle.std.proofs.lemmas.Bool.{true≢false, cases_lt}
 use Rattle.std.proofs.lemmas.List.{append-nil}
 use Rattle.std.proofs.lemmas.Option.{slice_get_past}
-use Rattle.hg_model.specs.declared.members.MemberEntry.{MemberEntry}
-use Rattle.hg_model.specs.declared.outcome.Printed.{Printed}
-use Rattle.hg_model.specs.Members.{MemberList, has_node}
+use Rattle.hg_life.specs.declared.members.MemberEntry.{MemberEntry}
+use Rattle.hg_outcome.specs.declared.outcome.Printed.{Printed}
+use Rattle.hg_life.specs.Members.{MemberList, has_node}
 use Rattle.hg_model.specs.Places.{list_below}
 use Rattle.hg_script.specs.declared.line.Line.{Line}
 use Rattle.hg_script.specs.declared.line.Gossip.{Gossip}

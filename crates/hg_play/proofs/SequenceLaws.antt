@@ -11,11 +11,11 @@ use Rattle.hg_model.specs.Shape.{place_list}
 use Rattle.hg_model.specs.Order.{sequence_of}
 use Rattle.hg_model.specs.declared.row.Row.{Row}
 use Rattle.hg_model.specs.declared.row.Placed.{Placed}
-use Rattle.hg_model.specs.declared.pay.Effect.{Effect}
-use Rattle.hg_model.specs.declared.outcome.OrderLine.{OrderLine}
+use Rattle.hg_life.specs.declared.pay.Effect.{Effect}
+use Rattle.hg_outcome.specs.declared.outcome.OrderLine.{OrderLine}
 use Rattle.hg_model.specs.Graph.{name_at, name_in}
 use Rattle.hg_model.specs.Links.{creator}
-use Rattle.hg_model.specs.Ledger.{order_line}
+use Rattle.hg_outcome.specs.Ledger.{order_line}
 use Rattle.hg_model.proofs.PlacesLaws.{weight_below-same, weight_below_none, count_below_passes, count_below_fails, count_below-le}
 use Rattle.hg_model.proofs.ReachLaws.{has_place_first, bool_iff}
 use Rattle.hg_model.proofs.AncestryLaws.{self_parent_earlier, is_self_ancestor_self, is_self_ancestor_by, is_self_ancestor_cases, is_self_ancestor-le}

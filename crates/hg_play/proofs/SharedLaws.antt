@@ -2,8 +2,8 @@
 use Rattle.std.proofs.Common.{◌≡◌, inl, inr, ℕ, zero, suc, ◌<◌, List, [], ◌∷◌, length, get_or, set, sym, refl, ap, ◌∙◌, subst, arith}
 use Rattle.std.proofs.lemmas.Bool.{cases_eq}
 use Rattle.std.proofs.lemmas.List.{length-set, get_or-set_same, get_or-set_other}
-use Rattle.hg_model.specs.Signing.{accepts_by}
-use Rattle.hg_model.specs.NodeView.{NodeView}
+use Rattle.hg_life.specs.Signing.{accepts_by}
+use Rattle.hg_life.specs.NodeView.{NodeView}
 use Rattle.hg_history.proofs.StateLaws.{prefix_more, prefix_same}
 use Rattle.hg_board.specs.Seats.{SharedNode, SeatView}
 use Rattle.hg_world.specs.declared.step.Step.{Step}

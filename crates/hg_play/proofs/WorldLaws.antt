@@ -6,15 +6,15 @@ use Rattle.std.proofs.lemmas.List.Sums.{fold-append}
 use Rattle.std.proofs.lemmas.List.FromFn.{get_or-map-range_with_len, length-map-range_with_len}
 use Rattle.std.proofs.Math.Seq.{map-set_same}
 use Rattle.hg_model.specs.declared.row.Row.{Row}
-use Rattle.hg_model.specs.declared.outcome.Printed.{Printed}
-use Rattle.hg_model.specs.declared.outcome.Printed.TheVariants as printed
-use Rattle.hg_model.specs.Ledger.{block_of}
-use Rattle.hg_model.specs.Members.{MemberList, has_node, stakes_of}
+use Rattle.hg_outcome.specs.declared.outcome.Printed.{Printed}
+use Rattle.hg_outcome.specs.declared.outcome.Printed.TheVariants as printed
+use Rattle.hg_outcome.specs.Ledger.{block_of}
+use Rattle.hg_life.specs.Members.{MemberList, has_node, stakes_of}
 use Rattle.hg_model.specs.Shares.{Share, whole}
-use Rattle.hg_model.specs.History.{State}
-use Rattle.hg_model.specs.History.Change.{Marked}
-use Rattle.hg_model.specs.NodeView.{NodeView, Start, node_rows, with_changes}
-use Rattle.hg_model.specs.Calls.{publish_answer, publish_changes}
+use Rattle.hg_life.specs.History.{State}
+use Rattle.hg_life.specs.History.Change.{Marked}
+use Rattle.hg_life.specs.NodeView.{NodeView, Start, node_rows, with_changes}
+use Rattle.hg_life.specs.Calls.{publish_answer, publish_changes}
 use Rattle.hg_history.proofs.CallLaws.{with_none}
 use Rattle.hg_history.proofs.StateLaws.{replay-push}
 use Rattle.hg_world.specs.declared.step.Step.{Step}

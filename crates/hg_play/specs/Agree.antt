@@ -1,13 +1,13 @@
 -- What a play prints agrees: of the orders that any two of its blocks show one is a prefix of the other.
 -- SWIRLDS-TR-2016-01, section 5. And what ties the lines to the run
 use Rattle.std.specs.Prelude.{ℕ, ◌≡◌, ◌*◌, ◌<◌, ◌⊎◌, List, map, Some, slice_get}
-use Rattle.hg_model.specs.declared.outcome.OrderLine.{OrderLine}
-use Rattle.hg_model.specs.declared.outcome.Block.{Block}
-use Rattle.hg_model.specs.declared.outcome.Printed.{Printed}
-use Rattle.hg_model.specs.declared.outcome.Printed.TheVariants as printed
-use Rattle.hg_model.specs.declared.outcome.Outcome.{Outcome}
+use Rattle.hg_outcome.specs.declared.outcome.OrderLine.{OrderLine}
+use Rattle.hg_outcome.specs.declared.outcome.Block.{Block}
+use Rattle.hg_outcome.specs.declared.outcome.Printed.{Printed}
+use Rattle.hg_outcome.specs.declared.outcome.Printed.TheVariants as printed
+use Rattle.hg_outcome.specs.declared.outcome.Outcome.{Outcome}
 use Rattle.hg_model.specs.Stakes.{total}
-use Rattle.hg_model.specs.Members.{MemberList, stakes_of}
+use Rattle.hg_life.specs.Members.{MemberList, stakes_of}
 use Rattle.hg_model.specs.Order.{Ordered}
 use Rattle.hg_script.specs.declared.line.Line.{Line}
 use Rattle.hg_runs.specs.Honest.{dishonest, AreApart}

@@ -2,7 +2,7 @@
 -- and of their rows
 use Rattle.std.specs.Prelude.{ℕ, ◌≡◌, ⊤, List, length}
 use Rattle.hg_model.specs.Shares.{Share}
-use Rattle.hg_model.specs.NodeView.{NodeView, node_rows}
+use Rattle.hg_life.specs.NodeView.{NodeView, node_rows}
 use Rattle.hg_world.specs.declared.step.Step.{Step}
 use Rattle.hg_world.specs.declared.step.Step.TheVariants.{Publish}
 use Rattle.hg_world.specs.World.{Secrets, WorldView, node_at}

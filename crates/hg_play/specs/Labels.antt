@@ -4,9 +4,9 @@ use Rattle.std.specs.declared.sync.Arc.{Arc}
 use Rattle.sha2.specs.Sha512.{sha384}
 use Rattle.hg_model.specs.declared.row.Row.{Row}
 use Rattle.hg_model.specs.Links.{ParentNames, place_of}
-use Rattle.hg_model.specs.Spelling.{body_bytes, spelling}
-use Rattle.hg_model.specs.Signing.{signature_by}
-use Rattle.hg_model.specs.NodeView.{NodeView, node_rows}
+use Rattle.hg_life.specs.Spelling.{body_bytes, spelling}
+use Rattle.hg_life.specs.Signing.{signature_by}
+use Rattle.hg_life.specs.NodeView.{NodeView, node_rows}
 use Rattle.hg_script.specs.declared.line.Source.{Source}
 use Rattle.hg_script.specs.declared.line.Source.TheVariants.{Last, Forged, Raw, Altered, Front}
 use Rattle.hg_world.specs.World.{Secrets, WorldView, node_at}

@@ -1,15 +1,15 @@
 -- What a line of a script is: a list of steps of a run, and what it prints
 use Rattle.std.specs.Prelude.{ℕ, ◌<◌, ◌≤◌, ⊤, List, [], ◌∷◌, ◌++◌, length, Some, None}
-use Rattle.hg_model.specs.declared.outcome.Printed.{Printed}
-use Rattle.hg_model.specs.declared.outcome.Printed.TheVariants as printed
-use Rattle.hg_model.specs.declared.outcome.Block.{Block}
-use Rattle.hg_model.specs.Members.{MemberList}
+use Rattle.hg_outcome.specs.declared.outcome.Printed.{Printed}
+use Rattle.hg_outcome.specs.declared.outcome.Printed.TheVariants as printed
+use Rattle.hg_outcome.specs.declared.outcome.Block.{Block}
+use Rattle.hg_life.specs.Members.{MemberList}
 use Rattle.hg_model.specs.Shares.{whole}
-use Rattle.hg_model.specs.Spelling.{payload_limit}
-use Rattle.hg_model.specs.Signing.{secrets_of}
-use Rattle.hg_model.specs.Ledger.{block_of, marked_block}
-use Rattle.hg_model.specs.NodeView.{NodeView, node_rows, node_marks}
-use Rattle.hg_model.specs.Calls.{publish_answer}
+use Rattle.hg_life.specs.Spelling.{payload_limit}
+use Rattle.hg_life.specs.Signing.{secrets_of}
+use Rattle.hg_outcome.specs.Ledger.{block_of, marked_block}
+use Rattle.hg_life.specs.NodeView.{NodeView, node_rows, node_marks}
+use Rattle.hg_life.specs.Calls.{publish_answer}
 use Rattle.hg_script.specs.declared.line.Gossip.{Gossip}
 use Rattle.hg_script.specs.declared.line.Gossip.TheVariants.{Create, Sync, Pull, Join, Give}
 use Rattle.hg_script.specs.declared.line.Source.{Source}

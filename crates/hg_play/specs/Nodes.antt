@@ -2,15 +2,15 @@
 -- answers is told once it is known that others did no more. Lines that need the marks are played over a world
 use Rattle.std.specs.Prelude.{ℕ, ◌≡◌, ⊤, cond, List, [], ◌∷◌, ◌++◌, length, Option}
 use Rattle.std.specs.Option.{option_to_list}
-use Rattle.hg_model.specs.declared.answers.PutAnswer.{PutAnswer}
-use Rattle.hg_model.specs.declared.answers.MakeAnswer.{MakeAnswer}
-use Rattle.hg_model.specs.declared.answers.SyncReport.{SyncReport}
-use Rattle.hg_model.specs.declared.outcome.Block.{Block}
-use Rattle.hg_model.specs.declared.outcome.Printed.{Printed}
-use Rattle.hg_model.specs.declared.outcome.Outcome.{Outcome}
-use Rattle.hg_model.specs.Members.{MemberList, has_node, names_of}
-use Rattle.hg_model.specs.Ledger.{block_of}
-use Rattle.hg_model.specs.NodeView.{NodeView}
+use Rattle.hg_life.specs.declared.answers.PutAnswer.{PutAnswer}
+use Rattle.hg_life.specs.declared.answers.MakeAnswer.{MakeAnswer}
+use Rattle.hg_life.specs.declared.answers.SyncReport.{SyncReport}
+use Rattle.hg_outcome.specs.declared.outcome.Block.{Block}
+use Rattle.hg_outcome.specs.declared.outcome.Printed.{Printed}
+use Rattle.hg_outcome.specs.declared.outcome.Outcome.{Outcome}
+use Rattle.hg_life.specs.Members.{MemberList, has_node, names_of}
+use Rattle.hg_outcome.specs.Ledger.{block_of}
+use Rattle.hg_life.specs.NodeView.{NodeView}
 use Rattle.hg_gossip.specs.declared.gossip.Taken.{Taken}
 use Rattle.hg_script.specs.declared.line.Gossip.{Gossip}
 use Rattle.hg_script.specs.declared.line.Source.{Source}

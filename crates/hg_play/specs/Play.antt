@@ -1,11 +1,11 @@
 -- A script played over the members' nodes: the run of its lines' steps, and all that it prints
 use Rattle.std.specs.Prelude.{ℕ, zero, suc, cond, List, [], ◌∷◌, ◌++◌, fold, length}
-use Rattle.hg_model.specs.declared.outcome.Printed.{Printed}
-use Rattle.hg_model.specs.declared.outcome.Printed.TheVariants as printed
-use Rattle.hg_model.specs.declared.outcome.Outcome.{Outcome}
-use Rattle.hg_model.specs.Members.{MemberList, has_node, names_of, stakes_of}
+use Rattle.hg_outcome.specs.declared.outcome.Printed.{Printed}
+use Rattle.hg_outcome.specs.declared.outcome.Printed.TheVariants as printed
+use Rattle.hg_outcome.specs.declared.outcome.Outcome.{Outcome}
+use Rattle.hg_life.specs.Members.{MemberList, has_node, names_of, stakes_of}
 use Rattle.hg_model.specs.Places.{list_below}
-use Rattle.hg_model.specs.Ledger.{block_of}
+use Rattle.hg_outcome.specs.Ledger.{block_of}
 use Rattle.hg_script.specs.declared.line.Line.{Line}
 use Rattle.hg_runs.specs.Run.{Run}
 use Rattle.hg_runs.specs.Safety.{IsSafe}

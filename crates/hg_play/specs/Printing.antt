@@ -1,9 +1,9 @@
 -- What is printed of an order
 use Rattle.std.specs.Prelude.{List}
-use Rattle.hg_model.specs.declared.outcome.OrderLine.{OrderLine}
+use Rattle.hg_outcome.specs.declared.outcome.OrderLine.{OrderLine}
 use Rattle.hg_model.specs.declared.row.Placed.{Placed}
-use Rattle.hg_model.specs.declared.pay.Effect.{Effect}
-use Rattle.hg_model.specs.Ledger.{order_lines}
+use Rattle.hg_life.specs.declared.pay.Effect.{Effect}
+use Rattle.hg_outcome.specs.Ledger.{order_lines}
 use Rattle.hg_model.specs.Prefix.{Graph, links_of}
 
 -- the rows of an order with what came of them

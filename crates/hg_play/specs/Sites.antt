@@ -1,9 +1,9 @@
 -- What the nodes of a world began with
 use Rattle.std.specs.Prelude.{ℕ, List, length, map}
 use Rattle.hg_model.specs.Places.{table}
-use Rattle.hg_model.specs.Members.{MemberList}
-use Rattle.hg_model.specs.Signing.{secrets_of}
-use Rattle.hg_model.specs.NodeView.{Start, start_of}
+use Rattle.hg_life.specs.Members.{MemberList}
+use Rattle.hg_life.specs.Signing.{secrets_of}
+use Rattle.hg_life.specs.NodeView.{Start, start_of}
 use Rattle.hg_world.specs.World.{Secrets, Site, WorldView}
 
 -- what the node of member m begins with

@@ -1,6 +1,6 @@
 -- What lines leave beside their steps
 use Rattle.std.specs.Prelude.{ℕ, List, [], ◌∷◌, ◌++◌}
-use Rattle.hg_model.specs.declared.outcome.Printed.{Printed}
+use Rattle.hg_outcome.specs.declared.outcome.Printed.{Printed}
 
 -- the bytes of the labels so far, and what was printed so far
 pub record TapeView : Type 0 where

@@ -1,14 +1,14 @@
 -- Lines that are played over nodes between threads, while others mark: what they print is that of the rows alone
 use Rattle.std.specs.Prelude.{ℕ, ◌≡◌, ◌<◌, ⊤, List, [], length, map, get_or, Option, Some, None}
 use Rattle.std.specs.declared.sync.Arc.{Arc}
-use Rattle.hg_model.specs.declared.answers.SyncMade.{SyncMade}
+use Rattle.hg_life.specs.declared.answers.SyncMade.{SyncMade}
 use Rattle.hg_model.specs.declared.row.Row.{Row}
-use Rattle.hg_model.specs.Gossip.{lacking}
+use Rattle.hg_model.specs.Held.{lacking}
 use Rattle.hg_model.specs.Graph.{HasDistinctNames}
-use Rattle.hg_model.specs.Members.{MemberList}
-use Rattle.hg_model.specs.Signing.{accepts_by}
-use Rattle.hg_model.specs.NodeView.{NodeView}
-use Rattle.hg_model.specs.Spelling.{spelling}
+use Rattle.hg_life.specs.Members.{MemberList}
+use Rattle.hg_life.specs.Signing.{accepts_by}
+use Rattle.hg_life.specs.NodeView.{NodeView}
+use Rattle.hg_life.specs.Spelling.{spelling}
 use Rattle.hg_gossip.specs.declared.gossip.Taken.{Taken}
 use Rattle.hg_script.specs.declared.line.Gossip.TheVariants.{Create, Sync, Pull, Join, Give}
 use Rattle.hg_script.specs.declared.line.Source.TheVariants.{Last}

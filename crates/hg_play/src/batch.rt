@@ -1,5 +1,5 @@
 ghost use Rattle.std.specs.Prelude.{◌≡◌, ◌<◌, All, IfOk, length, take};
-ghost use Rattle.hg_model.specs.Signing.{accepts_by, secrets_of};
+ghost use Rattle.hg_life.specs.Signing.{accepts_by, secrets_of};
 ghost use Rattle.hg_crowd.specs.Crowd.{AreSeats, AreStill, Each};
 ghost use Rattle.hg_crowd.specs.Workers.{HasMore, Worked};
 ghost use Rattle.hg_world.specs.World.{new_world};

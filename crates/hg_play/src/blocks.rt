@@ -6,8 +6,9 @@ ghost use Rattle.hg_play.specs.Nodes.{IsBlockOf, IsKept, IsKeptBlock, IsShownBlo
 use crate::game::Game;
 use crate::printing::order_lines;
 use crate::tape::Tape;
-use hg_model::{Block, Items, Member, Memory, Printed};
+use hg_model::{Items, Member, Memory};
 use hg_node::Node;
+use hg_outcome::{Block, Printed};
 use hg_sign::SharedTable;
 use hg_world::World;
 

@@ -1,7 +1,7 @@
 ghost use Rattle.std.specs.Prelude.{◌≡◌};
-ghost use Rattle.hg_model.specs.Signing.{secrets_of};
+ghost use Rattle.hg_life.specs.Signing.{secrets_of};
 
-use hg_model::Members;
+use hg_life::Members;
 use hg_sign::MacTable;
 use std::alloc::Global;
 

@@ -4,7 +4,8 @@ ghost use Rattle.hg_play.specs.Nodes.{IsKept, MatchesGossip};
 
 use crate::labels::{bytes_at, name_of_label};
 use crate::nodes::Nodes;
-use hg_model::{Bytes, Memory, Printed};
+use hg_model::{Bytes, Memory};
+use hg_outcome::Printed;
 use hg_script::Gossip;
 
 /// Plays a line of gossip, and gives what it prints.

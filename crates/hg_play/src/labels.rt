@@ -1,6 +1,6 @@
 ghost use Rattle.std.specs.Prelude.{◌≡◌, ◌≤◌, IfOk, length, option_map, take};
-ghost use Rattle.hg_model.specs.Spelling.{payload_limit};
-ghost use Rattle.hg_model.specs.NodeView.{node_rows};
+ghost use Rattle.hg_life.specs.Spelling.{payload_limit};
+ghost use Rattle.hg_life.specs.NodeView.{node_rows};
 ghost use Rattle.hg_play.specs.Labels.{altered, bytes_at, bytes_named, bytes_of_event, forged, last_bytes, name_of_label, names_of_labels};
 
 use hg_event::{Event, encode_body};

@@ -8,7 +8,8 @@ use crate::gossip::play_gossip;
 use crate::labels::{altered, bytes_at, copied, forged, front, names_of_labels};
 use crate::nodes::Nodes;
 use crate::tape::Tape;
-use hg_model::{Bytes, Memory, Printed, Share};
+use hg_model::{Bytes, Memory, Share};
+use hg_outcome::Printed;
 use hg_script::{Action, Line, Part, Source};
 use hg_world::World;
 

@@ -3,7 +3,8 @@ ghost use Rattle.hg_play.specs.Nodes.{IsKept, NodesView, MatchesLast, MatchesMak
 
 use crate::labels;
 use hg_gossip::Taken;
-use hg_model::{Bytes, MakeAnswer, Member, Memory, Name, PutAnswer, SyncReport};
+use hg_life::{MakeAnswer, PutAnswer, SyncReport};
+use hg_model::{Bytes, Member, Memory, Name};
 use hg_world::World;
 use std::alloc::Global;
 

@@ -1,5 +1,5 @@
 ghost use Rattle.std.specs.Prelude.{◌≡◌, ◌≤◌, All, IfOk, OnOk, length};
-ghost use Rattle.hg_model.specs.Members.{names_of};
+ghost use Rattle.hg_life.specs.Members.{names_of};
 ghost use Rattle.hg_script.specs.Lawful.{IsLine};
 ghost use Rattle.hg_world.specs.Parts.{IsWorld};
 ghost use Rattle.hg_world.specs.World.{new_world};
@@ -16,7 +16,9 @@ use crate::lines::play_lines;
 use crate::tape::Tape;
 use hg_board::Crew;
 use hg_io::Gate;
-use hg_model::{Bytes, Items, Members, Memory, Outcome};
+use hg_life::Members;
+use hg_model::{Bytes, Items, Memory};
+use hg_outcome::Outcome;
 use hg_script::Line;
 use hg_sign::MacTable;
 use hg_world::World;

@@ -3,11 +3,13 @@ ghost use Rattle.hg_model.specs.declared.row.Placed.{Placed};
 ghost use Rattle.hg_model.specs.Places.{table};
 ghost use Rattle.hg_model.specs.Links.{self_parent};
 ghost use Rattle.hg_model.specs.Order.{sequence_of};
-ghost use Rattle.hg_model.specs.Ledger.{order_line};
+ghost use Rattle.hg_outcome.specs.Ledger.{order_line};
 ghost use Rattle.hg_model.specs.Prefix.{links_of};
 ghost use Rattle.hg_play.specs.Printing.{lines_of};
 
-use hg_model::{Effect, Items, Memory, OrderLine, Placed, Prefix, Sight, is_of_graph};
+use hg_life::Effect;
+use hg_model::{Items, Memory, Placed, Prefix, Sight, is_of_graph};
+use hg_outcome::OrderLine;
 use std::alloc::Global;
 
 /// How many self-ancestors the next row has, other than itself, where its self-parent is at this place.

@@ -1,7 +1,8 @@
 ghost use Rattle.std.specs.Prelude.{◌≡◌, OnOk};
 ghost use Rattle.hg_play.specs.Tape.{no_tape, with_label, with_piece};
 
-use hg_model::{Bytes, Memory, Printed};
+use hg_model::{Bytes, Memory};
+use hg_outcome::Printed;
 use std::alloc::Global;
 use std::marker::Model;
 

@@ -1,5 +1,5 @@
 ghost use Rattle.std.specs.Prelude.{◌≡◌, ◌≤◌, All, IfOk, OnOk, length, take};
-ghost use Rattle.hg_model.specs.Signing.{accepts_by};
+ghost use Rattle.hg_life.specs.Signing.{accepts_by};
 ghost use Rattle.hg_gossip.specs.Known.{KeepsKnown};
 ghost use Rattle.hg_crowd.specs.Crowd.{AreSeats, AreStill};
 ghost use Rattle.hg_crowd.specs.Party.{party_view};

@@ -9,7 +9,7 @@ use Rattle.hg_model.specs.Places.{has_place}
 use Rattle.hg_model.specs.Stakes.{Stakes}
 use Rattle.hg_model.specs.Links.{parent_names, place_of, links, first_place, later_places, creator, parents, self_parent, other_parents}
 use Rattle.hg_model.specs.Graph.{name_in, name_at, HasDistinctNames, IsShaped}
-use Rattle.hg_model.specs.Verdict.{is_held}
+use Rattle.hg_model.specs.Held.{is_held}
 use Rattle.hg_model.specs.Graph.{creator_at, creator_of_row}
 use Rattle.hg_model.specs.Fits.{AreHeld, ParentsFit, Fits}
 use Rattle.hg_model.proofs.LinkLaws.{length-links, parents-links}

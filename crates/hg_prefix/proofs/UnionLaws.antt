@@ -9,8 +9,7 @@ use Rattle.hg_model.specs.declared.row.Row.{Row}
 use Rattle.hg_model.specs.Stakes.{Stakes}
 use Rattle.hg_model.specs.Links.{is_named, links, place_of}
 use Rattle.hg_model.specs.Graph.{HasDistinctNames, IsShaped}
-use Rattle.hg_model.specs.Verdict.{is_held}
-use Rattle.hg_model.specs.Gossip.{lacking}
+use Rattle.hg_model.specs.Held.{is_held, lacking}
 use Rattle.hg_model.proofs.NameLaws.{bytes_same, name-at}
 use Rattle.hg_model.proofs.PushLaws.{nobody}
 use Rattle.hg_prefix.specs.Chains.{HaveEqualRows, union}

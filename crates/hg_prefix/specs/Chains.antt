@@ -1,7 +1,7 @@
 -- Two graphs of which each member but a few has made one chain of rows
 use Rattle.std.specs.Prelude.{ℕ, ◌≡◌, ◌<◌, List, ◌++◌, length, slice_get}
 use Rattle.hg_model.specs.declared.row.Row.{Row}
-use Rattle.hg_model.specs.Gossip.{lacking}
+use Rattle.hg_model.specs.Held.{lacking}
 use Rattle.hg_model.specs.Graph.{name_at, creator_at}
 use Rattle.hg_model.specs.Chains.{IsChain}
 use Rattle.hg_prefix.specs.Standing.{IsRowOf}

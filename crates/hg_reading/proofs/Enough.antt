@@ -1,8 +1,8 @@
 -- The first few words of a line are enough: with more of them the line is refused alike.
 use Rattle.std.proofs.Common.{◌≡◌, ℕ, List, [], ◌∷◌, take, Option, Result, Ok, Err, refl}
 use Rattle.std.specs.Option.{ok_or}
-use Rattle.hg_model.specs.Members.{MemberList}
-use Rattle.hg_model.specs.Results.{◌>>=◌}
+use Rattle.hg_life.specs.Members.{MemberList}
+use Rattle.hg_life.specs.Results.{◌>>=◌}
 use Rattle.hg_script.specs.declared.fault.Why.{Why}
 use Rattle.hg_script.specs.declared.fault.Why.TheVariants.{Word}
 use Rattle.hg_script.specs.declared.verb.Verb.{Verb}

@@ -8,10 +8,10 @@ use Rattle.std.specs.List.{list_all}
 use Rattle.std.specs.Prelude.{◌&&◌}
 use Rattle.std.proofs.lemmas.List.Folds.{list_all-map}
 use Rattle.std.proofs.lemmas.List.Splits.{length-slice_split}
-use Rattle.hg_model.specs.declared.pay.Transfer.{Transfer}
-use Rattle.hg_model.specs.Members.{MemberList}
-use Rattle.hg_model.specs.Pay.{transfer_limit}
-use Rattle.hg_model.specs.Results.{◌>>=◌}
+use Rattle.hg_life.specs.declared.pay.Transfer.{Transfer}
+use Rattle.hg_life.specs.Members.{MemberList}
+use Rattle.hg_life.specs.Pay.{transfer_limit}
+use Rattle.hg_life.specs.Results.{◌>>=◌}
 use Rattle.hg_script.specs.declared.fault.Why.{Why}
 use Rattle.hg_script.specs.declared.fault.Why.TheVariants.{Payload}
 use Rattle.hg_script.specs.Payload.{are_items, is_comma, is_item, parts_of, pay_in, pay_of, transfer_of, transfers_of}

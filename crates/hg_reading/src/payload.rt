@@ -1,13 +1,14 @@
 ghost use Rattle.std.specs.Prelude.{◌≡◌, ◌≤◌, count_by, length, nat_le, position, IfOk};
 ghost use Rattle.std.specs.List.{after_first, before_first, list_all};
 ghost use Rattle.std.specs.Option.{option_copied};
-ghost use Rattle.hg_model.specs.Pay.{transfer_limit};
-ghost use Rattle.hg_model.specs.Spelling.{payload_limit};
-ghost use Rattle.hg_model.specs.Results.{Gives};
+ghost use Rattle.hg_life.specs.Pay.{transfer_limit};
+ghost use Rattle.hg_life.specs.Spelling.{payload_limit};
+ghost use Rattle.hg_life.specs.Results.{Gives};
 ghost use Rattle.hg_script.specs.Words.{ReadsAs, bytes_in};
 ghost use Rattle.hg_script.specs.Payload as spec;
 
-use hg_model::{Bytes, Member, Members, Memory, Stop, Transfer};
+use hg_life::{Members, Transfer};
+use hg_model::{Bytes, Member, Memory, Stop};
 use hg_pay::write_pay;
 use hg_script::Why;
 use hg_script::argument::{digits_form, member_of, number_of};

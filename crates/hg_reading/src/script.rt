@@ -3,12 +3,13 @@ ghost use Rattle.std.specs.Str.{is_utf8};
 ghost use Rattle.std.specs.Str.Lines.{lines};
 ghost use Rattle.hg_script.specs.Words.{ReadsAs, bytes_in};
 ghost use Rattle.hg_script.specs.Lawful.{HasLawful, IsAllowed, IsLine};
-ghost use Rattle.hg_model.specs.Results.{Gives};
+ghost use Rattle.hg_life.specs.Results.{Gives};
 ghost use Rattle.hg_script.specs.Script as spec;
 
 use crate::table::found_by;
 use crate::words::{first_line, words_of};
-use hg_model::{Items, Members, Memory, Stop};
+use hg_life::Members;
+use hg_model::{Items, Memory, Stop};
 use hg_script::{Above, Found, Line, ScriptFault, Why};
 use std::alloc::Global;
 

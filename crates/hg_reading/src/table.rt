@@ -1,12 +1,13 @@
 ghost use Rattle.std.specs.Prelude.{◌≡◌, IfOk};
 ghost use Rattle.std.specs.Option.{option_copied};
-ghost use Rattle.hg_model.specs.Members.{MemberList};
+ghost use Rattle.hg_life.specs.Members.{MemberList};
 ghost use Rattle.hg_script.specs.Words.{ReadsAs, bytes_in};
 ghost use Rattle.hg_script.specs.Lawful.{IsFound};
 ghost use Rattle.hg_script.specs.Table as spec;
 
 use crate::payload::payload_of;
-use hg_model::{Members, Stop};
+use hg_life::Members;
+use hg_model::Stop;
 use hg_script::argument::{
     byte_of, label_of, member_of, new_label, node_of, number_of, parents_of, peer_of, raw_bytes,
     worker_of,

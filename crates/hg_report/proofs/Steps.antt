@@ -3,9 +3,9 @@ use Rattle.std.proofs.Common.{inl, inr, true, false, not, ◌≡◌, ◌∙◌, 
 use Rattle.std.proofs.lemmas.Bool.{cases_Bool, true≢false}
 use Rattle.std.proofs.lemmas.Slice.Eq.{bytes_eq-Decides}
 use Rattle.std.specs.Str.{bytes_eq}
-use Rattle.hg_model.specs.Report.{printed_text, printed_texts}
-use Rattle.hg_model.specs.declared.outcome.OrderLine.{OrderLine}
-use Rattle.hg_model.specs.declared.outcome.Printed.{Printed}
+use Rattle.hg_outcome.specs.Report.{printed_text, printed_texts}
+use Rattle.hg_outcome.specs.declared.outcome.OrderLine.{OrderLine}
+use Rattle.hg_outcome.specs.declared.outcome.Printed.{Printed}
 use Rattle.hg_report.specs.Summary.{names_together, piece_summary, pieces_summary}
 use Rattle.hg_pieces.proofs.Steps.{first_left}
 

@@ -4,12 +4,12 @@ use Rattle.std.specs.Fmt.{decimal}
 use Rattle.std.specs.List.{sum}
 use Rattle.hex.specs.Hex.{encode_lower}
 use Rattle.sha2.specs.Sha512.{sha384}
-use Rattle.hg_model.specs.declared.outcome.OrderLine.{OrderLine}
-use Rattle.hg_model.specs.declared.outcome.Block.{Block}
-use Rattle.hg_model.specs.declared.outcome.Printed.{Printed}
-use Rattle.hg_model.specs.declared.outcome.Printed.TheVariants as printed
-use Rattle.hg_model.specs.declared.outcome.Outcome.{Outcome}
-use Rattle.hg_model.specs.Report.{head_text}
+use Rattle.hg_outcome.specs.declared.outcome.OrderLine.{OrderLine}
+use Rattle.hg_outcome.specs.declared.outcome.Block.{Block}
+use Rattle.hg_outcome.specs.declared.outcome.Printed.{Printed}
+use Rattle.hg_outcome.specs.declared.outcome.Printed.TheVariants as printed
+use Rattle.hg_outcome.specs.declared.outcome.Outcome.{Outcome}
+use Rattle.hg_outcome.specs.Report.{head_text}
 
 -- the names of the rows of an order, one after the other
 abbrev pub names_together : List OrderLine → List ℕ

@@ -2,7 +2,7 @@
 use Rattle.std.specs.Prelude.{ℕ, List, Result}
 use Rattle.hg_io.specs.Printing.{PutsOn}
 use Rattle.hg_io.specs.declared.sink.Sink as sink
-use Rattle.hg_model.specs.Report.{answer_line}
+use Rattle.hg_outcome.specs.Report.{answer_line}
 use Rattle.hg_pieces.specs.Phrases.{phrase_text}
 use Rattle.hg_pieces.specs.declared.phrases.Phrase.{Phrase}
 

@@ -1,9 +1,11 @@
 ghost use Rattle.hg_io.specs.Printing.{Prints, PutsOn};
-ghost use Rattle.hg_model.specs.Report.{printed_text, printed_texts, pull_line, report_text, sync_line};
+ghost use Rattle.hg_outcome.specs.Report.{printed_text, printed_texts, pull_line, report_text, sync_line};
 ghost use Rattle.hg_report.specs.Writes.{PutsAnswer};
 
 use hg_io::{Failed, Page, Sink};
-use hg_model::{Bytes, Outcome, Printed, SyncReport};
+use hg_life::SyncReport;
+use hg_model::Bytes;
+use hg_outcome::{Outcome, Printed};
 use hg_pieces::{
     Phrase, Piece, make_answer_phrase, number_phrase, put_answer_phrase, sync_made_phrase,
     write_block, write_pieces,

@@ -4,7 +4,8 @@ ghost use Rattle.hg_io.specs.Printing.{Prints, PutsOn};
 ghost use Rattle.hg_report.specs.Summary.{digest_line, names_together, node_summary, order_digest, piece_summary, pieces_summary, summary_text, total_line};
 
 use hg_io::{Failed, Page, Sink};
-use hg_model::{Block, Bytes, Name, OrderLine, Outcome, Printed};
+use hg_model::{Bytes, Name};
+use hg_outcome::{Block, OrderLine, Outcome, Printed};
 use hg_pieces::{Piece, write_head, write_pieces};
 use sha2::{Digest, Sha384};
 use std::marker::Model;

@@ -6,18 +6,18 @@ use Rattle.std.specs.Int.{w64, to_be_bytes}
 use Rattle.std.proofs.lemmas.List.{length-replicate}
 use Rattle.sha2.specs.Sha512.{sha384, first_words, schedule, rounds, compress, hash_after, digest_bytes}
 use Rattle.hg_model.specs.declared.row.Row.{Row}
-use Rattle.hg_model.specs.declared.answers.MakeAnswer.TheVariants as answer
+use Rattle.hg_life.specs.declared.answers.MakeAnswer.TheVariants as answer
 use Rattle.hg_model.specs.Places.{weight_below, some_below, values_below, by_place, reaches}
 use Rattle.hg_model.specs.Links.{links, parents, self_parent, other_parents, creator}
 use Rattle.hg_model.specs.Stakes.{total}
 use Rattle.hg_model.specs.Ancestry.{is_self_ancestor}
 use Rattle.hg_model.specs.Forks.{is_fork, has_fork, forking}
 use Rattle.hg_model.specs.Graph.{name_at, IsGraph}
-use Rattle.hg_model.specs.Spelling.{body_of, spelling, Spells}
-use Rattle.hg_model.specs.Verdict.{making}
-use Rattle.hg_model.specs.Signing.{Accepts}
-use Rattle.hg_model.specs.History.{replay, IsTaken, IsMade, IsHistory}
-use Rattle.hg_model.specs.History.Change.{Took, Made}
+use Rattle.hg_life.specs.Spelling.{body_of, spelling, Spells}
+use Rattle.hg_life.specs.Verdict.{making}
+use Rattle.hg_life.specs.Signing.{Accepts}
+use Rattle.hg_life.specs.History.{replay, IsTaken, IsMade, IsHistory}
+use Rattle.hg_life.specs.History.Change.{Took, Made}
 use Rattle.hg_model.proofs.TestLaws.{is_graph, graph_from_test}
 use Rattle.hg_prefix.specs.Standing.{StandsIn, IsRowOf}
 use Rattle.hg_prefix.specs.Chains.{union}

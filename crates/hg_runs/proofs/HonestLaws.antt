@@ -5,10 +5,10 @@ use Rattle.std.proofs.lemmas.Bool.{cases_Bool, or_cases, and_from, and_parts, eq
 use Rattle.std.proofs.lemmas.Map.Keys.{any_passes_from_place}
 use Rattle.hg_model.specs.declared.row.Row.{Row}
 use Rattle.hg_model.specs.Stakes.{Stakes, member_count}
-use Rattle.hg_model.specs.Spelling.{spelling, Spells}
-use Rattle.hg_model.specs.Signing.{Accepts}
-use Rattle.hg_model.specs.History.{Change}
-use Rattle.hg_model.specs.History.Change.{Took, Made, Marked}
+use Rattle.hg_life.specs.Spelling.{spelling, Spells}
+use Rattle.hg_life.specs.Signing.{Accepts}
+use Rattle.hg_life.specs.History.{Change}
+use Rattle.hg_life.specs.History.Change.{Took, Made, Marked}
 use Rattle.hg_model.proofs.PlacesLaws.{some_below_from, some_below_found}
 use Rattle.hg_model.proofs.NameLaws.{bytes_eq-same, bytes_same}
 use Rattle.hg_event.proofs.Reading.{same_done}

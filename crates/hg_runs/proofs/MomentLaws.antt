@@ -7,8 +7,8 @@ use Rattle.hg_model.specs.Links.{Link}
 use Rattle.hg_model.specs.Graph.{name_in, name_at, creator_of_row, creator_at}
 use Rattle.hg_model.specs.Order.{named_in, ordered}
 use Rattle.hg_model.specs.Orders.{AreFame, marked_order_by_names}
-use Rattle.hg_model.specs.Signing.{Accepts}
-use Rattle.hg_model.specs.History.{Change, replay, IsHistory}
+use Rattle.hg_life.specs.Signing.{Accepts}
+use Rattle.hg_life.specs.History.{Change, replay, IsHistory}
 use Rattle.hg_model.proofs.LongerLaws.{slice_get-append}
 use Rattle.hg_model.proofs.PushLaws.{nobody}
 use Rattle.hg_prefix.specs.Standing.{IsRowOf}

@@ -1,7 +1,7 @@
 -- Every run is safe
 use Rattle.std.proofs.Common.{List}
 use Rattle.hg_model.specs.declared.row.Row.{Row}
-use Rattle.hg_model.specs.History.{replay}
+use Rattle.hg_life.specs.History.{replay}
 use Rattle.hg_prefix.proofs.CoreLaws.{chain_no_fork, chain_orders, stand_in_one}
 use Rattle.hg_prefix.proofs.UnionLaws.{union_joined}
 use Rattle.hg_runs.specs.Honest.{is_dishonest, dishonest}

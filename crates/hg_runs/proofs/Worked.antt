@@ -4,7 +4,7 @@ use Rattle.std.proofs.Common.{◌≡◌, ℕ, zero, suc, ◌<◌, List, [], ◌�
 use Rattle.std.specs.Prelude.{replicate}
 use Rattle.sha2.specs.Sha512.{sha384, first_words, schedule, rounds, compress, hash_after, digest_bytes}
 use Rattle.hg_model.specs.declared.row.Row.{Row}
-use Rattle.hg_model.specs.declared.answers.MakeAnswer.TheVariants as answer
+use Rattle.hg_life.specs.declared.answers.MakeAnswer.TheVariants as answer
 use Rattle.hg_model.specs.Places.{weight_below, some_below, list_below, least_below, values_below, by_place, reaches}
 use Rattle.hg_model.specs.Links.{links, parents, self_parent, creator}
 use Rattle.hg_model.specs.Stakes.{total}
@@ -16,12 +16,12 @@ use Rattle.hg_model.specs.Rounds.{round_of, is_witness}
 use Rattle.hg_model.specs.Votes.{vote_of, decides}
 use Rattle.hg_model.specs.Fame.{fame_of, is_closed, is_unique_famous}
 use Rattle.hg_model.specs.Order.{coin_at, sig_at, time_at, sort_by, median, can_receive, round_received, consensus_time, whitening, famous_places, ordered_in, Ordered}
-use Rattle.hg_model.specs.Spelling.{body_of, spelling}
-use Rattle.hg_model.specs.Verdict.{making}
+use Rattle.hg_life.specs.Spelling.{body_of, spelling}
+use Rattle.hg_life.specs.Verdict.{making}
 use Rattle.hg_model.specs.Shares.{whole, share_fame}
-use Rattle.hg_model.specs.Signing.{Accepts}
-use Rattle.hg_model.specs.History.{Change, replay, news, IsTaken, IsMade, MarksSome, IsHistory}
-use Rattle.hg_model.specs.History.Change.{Took, Made, Marked}
+use Rattle.hg_life.specs.Signing.{Accepts}
+use Rattle.hg_life.specs.History.{Change, replay, news, IsTaken, IsMade, MarksSome, IsHistory}
+use Rattle.hg_life.specs.History.Change.{Took, Made, Marked}
 use Rattle.hg_prefix.specs.Standing.{StandsIn, IsRowOf}
 use Rattle.hg_prefix.specs.Chains.{HaveEqualRows}
 use Rattle.hg_prefix.proofs.GrowthLaws.{stands_in_itself}

@@ -7,9 +7,9 @@ use Rattle.std.specs.Str.{bytes_eq}
 use Rattle.hg_model.specs.declared.row.Row.{Row}
 use Rattle.hg_model.specs.Places.{some_below}
 use Rattle.hg_model.specs.Stakes.{Stakes, member_count, stake_where}
-use Rattle.hg_model.specs.Spelling.{spelling}
-use Rattle.hg_model.specs.History.{Change}
-use Rattle.hg_model.specs.History.Change.{Took, Made, Marked}
+use Rattle.hg_life.specs.Spelling.{spelling}
+use Rattle.hg_life.specs.History.{Change}
+use Rattle.hg_life.specs.History.Change.{Took, Made, Marked}
 use Rattle.hg_prefix.specs.Chains.{HaveEqualRows}
 use Rattle.hg_runs.specs.Run.{Run, graph_at}
 

@@ -5,8 +5,8 @@ use Rattle.hg_model.specs.Stakes.{Stakes, member_count, stake_where, total}
 use Rattle.hg_model.specs.Links.{links}
 use Rattle.hg_model.specs.Forks.{has_fork}
 use Rattle.hg_model.specs.Graph.{IsGraph}
-use Rattle.hg_model.specs.Signing.{Accepts}
-use Rattle.hg_model.specs.History.{Change, replay}
+use Rattle.hg_life.specs.Signing.{Accepts}
+use Rattle.hg_life.specs.History.{Change, replay}
 use Rattle.hg_prefix.specs.Standing.{StandsIn}
 use Rattle.hg_prefix.specs.Chains.{union}
 use Rattle.hg_runs.specs.Run.{Run, IsRun, IsMoment}

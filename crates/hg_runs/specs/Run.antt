@@ -2,8 +2,8 @@
 use Rattle.std.specs.Prelude.{ℕ, ◌≡◌, ◌<◌, List, ◌++◌}
 use Rattle.hg_model.specs.declared.row.Row.{Row}
 use Rattle.hg_model.specs.Stakes.{Stakes, member_count}
-use Rattle.hg_model.specs.Signing.{Accepts}
-use Rattle.hg_model.specs.History.{Change, replay, IsHistory}
+use Rattle.hg_life.specs.Signing.{Accepts}
+use Rattle.hg_life.specs.History.{Change, replay, IsHistory}
 
 -- the history of each member's node, by the member's number; that of a member without a node is empty
 abbrev pub Run : Type 0

@@ -1,8 +1,8 @@
 -- Safety: no two nodes ever order otherwise. SWIRLDS-TR-2016-01, section 5
 use Rattle.std.specs.Prelude.{ℕ, ◌*◌, ◌<◌, ◌⊎◌, List}
 use Rattle.hg_model.specs.Stakes.{Stakes, total}
-use Rattle.hg_model.specs.History.{Change, replay}
-use Rattle.hg_model.specs.Kept.{kept_by_names}
+use Rattle.hg_life.specs.History.{Change, replay}
+use Rattle.hg_life.specs.Kept.{kept_by_names}
 use Rattle.hg_model.specs.Order.{Ordered}
 use Rattle.hg_model.specs.Orders.{IsPrefix}
 use Rattle.hg_runs.specs.Run.{Run, IsMoment}

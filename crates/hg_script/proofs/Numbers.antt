@@ -2,7 +2,7 @@
 use Rattle.std.proofs.Common.{◌≡◌, ℕ, ◌<◌, ◌≤◌, ◌+◌, ◌-◌, ◌*◌, ◌^◌, List, [], ◌∷◌, length, get_or, drop, true, Err, sym, arith, inl, inr}
 use Rattle.std.proofs.lemmas.Bool.{cases_Bool, le-ltb}
 use Rattle.std.proofs.lemmas.List.{drop_more}
-use Rattle.hg_model.specs.Members.{is_digit}
+use Rattle.hg_life.specs.Members.{is_digit}
 use Rattle.hg_script.specs.declared.fault.Why.TheVariants.{Number}
 use Rattle.hg_script.specs.Argument.{below, value_after}
 

@@ -3,7 +3,7 @@ use Rattle.std.specs.Char.{encode_utf8}
 use Rattle.std.specs.Prelude.{⊤}
 use Rattle.std.specs.Str.{chars, is_utf8}
 use Rattle.hex.specs.Hex.{decode_pairs}
-use Rattle.hg_model.specs.Pay.{pay_bytes}
+use Rattle.hg_life.specs.Pay.{pay_bytes}
 use Rattle.hg_script.specs.Payload.{transfer_of}
 use Rattle.hg_script.specs.Script.{lines_of}
 use Rattle.hg_script.specs.Table.{alter, create, cut, forge, freeze, give, join, name, names, publish, pull, raw, show, show_kept, sync}

@@ -1,7 +1,7 @@
 -- Worked scripts, computed: what is taken, and one for each why
 use Rattle.std.proofs.Common.{◌≡◌, ℕ, zero, suc, replicate, true, false, List, [], ◌∷◌, ◌++◌, codes, Result, Ok, Err, Some, None, refl}
-use Rattle.hg_model.specs.Members.{MemberList, listed}
-use Rattle.hg_model.specs.Pay.{pay_bytes}
+use Rattle.hg_life.specs.Members.{MemberList, listed}
+use Rattle.hg_life.specs.Pay.{pay_bytes}
 use Rattle.hg_script.specs.declared.fault.ScriptFault.{ScriptFault}
 use Rattle.hg_script.specs.declared.fault.Why.{Why}
 use Rattle.hg_script.specs.declared.fault.Why.TheVariants.{Utf8, Word, Arity, Member, NoNode, Number, Payload, Label, DoubleLabel, NotFirst, First, Workers}

@@ -5,8 +5,8 @@ use Rattle.std.specs.Option.{ok_or}
 use Rattle.std.specs.Result.{result_ok}
 use Rattle.std.specs.Str.{bytes_eq}
 use Rattle.hex.specs.Hex.{decode_of}
-use Rattle.hg_model.specs.Members.{MemberList, is_digit, is_member_name, has_node, member_named}
-use Rattle.hg_model.specs.Results.{◌>>=◌}
+use Rattle.hg_life.specs.Members.{MemberList, is_digit, is_member_name, has_node, member_named}
+use Rattle.hg_life.specs.Results.{◌>>=◌}
 use Rattle.hg_script.specs.declared.fault.Why.{Why}
 use Rattle.hg_script.specs.declared.fault.Why.TheVariants.{Member, NoNode, Number, Payload, Label, DoubleLabel}
 

@@ -2,8 +2,8 @@
 use Rattle.std.specs.Prelude.{◌≡◌, ◌≢◌, ◌<◌, ◌≤◌, ℕ, List, length, false, true, Option, None, Some, ⊤}
 use Rattle.std.specs.List.{All, list_any}
 use Rattle.std.specs.Str.{bytes_eq}
-use Rattle.hg_model.specs.Members.{MemberList, has_node}
-use Rattle.hg_model.specs.Spelling.{payload_limit}
+use Rattle.hg_life.specs.Members.{MemberList, has_node}
+use Rattle.hg_life.specs.Spelling.{payload_limit}
 use Rattle.hg_script.specs.declared.line.Gossip.{Gossip}
 use Rattle.hg_script.specs.declared.line.Gossip.TheVariants.{Create, Sync, Pull, Join, Give}
 use Rattle.hg_script.specs.declared.line.Source.{Source}

@@ -3,8 +3,8 @@ use Rattle.std.specs.Prelude.{ℕ, suc, Bool, true, false, not, ◌&&◌, ◌||�
 use Rattle.std.specs.List.{slice_split}
 use Rattle.std.specs.Str.{is_utf8}
 use Rattle.std.specs.Str.Lines.{lines}
-use Rattle.hg_model.specs.Members.{MemberList}
-use Rattle.hg_model.specs.Results.{◌>>=◌}
+use Rattle.hg_life.specs.Members.{MemberList}
+use Rattle.hg_life.specs.Results.{◌>>=◌}
 use Rattle.hg_script.specs.declared.fault.ScriptFault.{ScriptFault}
 use Rattle.hg_script.specs.declared.fault.Why.{Why}
 use Rattle.hg_script.specs.declared.fault.Why.TheVariants.{Utf8, Workers}

@@ -2,7 +2,7 @@
 use Rattle.std.specs.Prelude.{ℕ, List, map, Result}
 use Rattle.std.specs.Borrow.{Bor}
 use Rattle.hg_model.specs.declared.stop.Stop.{Stop}
-use Rattle.hg_model.specs.Results.{Gives}
+use Rattle.hg_life.specs.Results.{Gives}
 
 abbrev pub bytes_in : List (Bor (List ℕ)) → List (List ℕ)
 bytes_in words = map (λ word. word.now) words

@@ -1,8 +1,8 @@
 ghost use Rattle.std.specs.Prelude.{◌≡◌, ◌<◌, ◌≤◌, ◌+◌, ◌-◌, ◌*◌, ◌^◌, ◌≢◌, false, length, IfOk, IfSome, IsTrue, SomeIff};
 ghost use Rattle.std.specs.List.{list_any};
 ghost use Rattle.std.specs.Str.{bytes_eq};
-ghost use Rattle.hg_model.specs.Members.{is_digit};
-ghost use Rattle.hg_model.specs.Results.{Reads};
+ghost use Rattle.hg_life.specs.Members.{is_digit};
+ghost use Rattle.hg_life.specs.Results.{Reads};
 ghost use Rattle.hg_script.specs.Words.{ReadsAs};
 ghost use Rattle.hg_script.specs.Lawful.{HasNode, IsWorker};
 ghost use Rattle.hg_script.specs.Argument as spec;
@@ -10,7 +10,8 @@ ghost use Rattle.hg_script.specs.Argument as spec;
 use crate::above::Above;
 use crate::fault::Why;
 use hex::FromHexError;
-use hg_model::{Bytes, Member, Members, Stop, is_member_name};
+use hg_life::{Members, is_member_name};
+use hg_model::{Bytes, Member, Stop};
 use std::alloc::{AllocError, Global};
 
 fn is_digit(byte: u8) -> bool

@@ -3,7 +3,8 @@ ghost use Rattle.hg_board.specs.Seats.{IsOf};
 
 use hg_board::{Seat, Shared};
 use hg_gossip::Holder;
-use hg_model::{MakeAnswer, Memory, Name, Parcel, PutAnswer};
+use hg_life::{MakeAnswer, Parcel, PutAnswer};
+use hg_model::{Memory, Name};
 use hg_sign::Signer;
 use std::alloc::Global;
 use std::sync::Wait;

@@ -5,9 +5,9 @@ use Rattle.std.specs.Prelude.{unwrap_or}
 use Rattle.std.specs.Str.{bytes_eq}
 use Rattle.std.proofs.lemmas.Option.{slice_get-map}
 use Rattle.std.proofs.lemmas.Slice.Eq.{bytes_eq-Decides}
-use Rattle.hg_model.specs.declared.members.MemberEntry.{MemberEntry}
-use Rattle.hg_model.specs.Members.{MemberList}
-use Rattle.hg_model.specs.Signing.{accepts_signature, hmac_sha512, signature_of, secrets_of, signature_by, accepts_by}
+use Rattle.hg_life.specs.declared.members.MemberEntry.{MemberEntry}
+use Rattle.hg_life.specs.Members.{MemberList}
+use Rattle.hg_life.specs.Signing.{accepts_signature, hmac_sha512, signature_of, secrets_of, signature_by, accepts_by}
 
 pub signs_alike : (secrets : List (List ℕ)) (members : MemberList) → secrets ≡ secrets_of members → signature_by secrets ≡ signature_of members
 unfolding signature_of

@@ -1,7 +1,7 @@
 -- Under the members' secrets a body has one signature of a member.
 use Rattle.std.specs.Prelude.{◌≡◌, ℕ, List, true}
-use Rattle.hg_model.specs.Members.{MemberList}
-use Rattle.hg_model.specs.Signing.{accepts_signature, signature_of}
+use Rattle.hg_life.specs.Members.{MemberList}
+use Rattle.hg_life.specs.Signing.{accepts_signature, signature_of}
 
 -- what is accepted is the signature
 abbrev pub SignaturesAreOne : Type 0

@@ -1,5 +1,5 @@
 ghost use Rattle.std.specs.Prelude.{◌≡◌, ◌≤◌, ◌++◌, IfOk, length, drop};
-ghost use Rattle.hg_model.specs.Signing.{hmac_sha512, masked, padded_secret};
+ghost use Rattle.hg_life.specs.Signing.{hmac_sha512, masked, padded_secret};
 ghost use Rattle.hg_sign.specs.Masked.{HoldsMasked};
 
 use hg_model::{Memory, Sig};
@@ -45,7 +45,7 @@ impl Key {
     }
 
     /// HMAC-SHA-512 of the message. Takes no memory.
-    #[tactic(auto, unfolding(hg_model::specs::Signing::hmac_sha512))]
+    #[tactic(auto, unfolding(hg_life::specs::Signing::hmac_sha512))]
     pub(crate) fn mac(&self, message: &[u8]) -> Sig
         ensures { result ≡ hmac_sha512 self.now message.now }
     {

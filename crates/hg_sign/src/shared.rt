@@ -1,9 +1,10 @@
 ghost use Rattle.std.specs.Prelude.{◌≡◌, true, IfOk};
-ghost use Rattle.hg_model.specs.Signing.{accepts_signature, signature_of, secrets_of, signature_by, accepts_by};
+ghost use Rattle.hg_life.specs.Signing.{accepts_signature, signature_of, secrets_of, signature_by, accepts_by};
 
 use crate::signer::{Signer, Verifier};
 use crate::table::MacTable;
-use hg_model::{Member, Members, Memory, Sig};
+use hg_life::Members;
+use hg_model::{Member, Memory, Sig};
 use std::alloc::Global;
 use std::marker::Model;
 use std::sync::Arc;

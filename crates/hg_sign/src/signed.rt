@@ -1,6 +1,6 @@
 ghost use Rattle.std.specs.Prelude.{◌≡◌, ◌++◌, ◌≤◌, length, IfOk};
-ghost use Rattle.hg_model.specs.Spelling.{Spells, body_bytes, payload_limit};
-ghost use Rattle.hg_model.specs.Verdict.{signed_row};
+ghost use Rattle.hg_life.specs.Spelling.{Spells, body_bytes, payload_limit};
+ghost use Rattle.hg_life.specs.Verdict.{signed_row};
 ghost use Rattle.hg_sign.specs.Signed.{IsSigned};
 
 use crate::signer::Signer;

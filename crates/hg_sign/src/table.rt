@@ -1,12 +1,13 @@
 ghost use Rattle.std.specs.Prelude.{◌≡◌, true, All, IfOk, map, slice_get, unwrap_or, []};
 ghost use Rattle.std.specs.Str.{bytes_eq};
-ghost use Rattle.hg_model.specs.declared.members.MemberEntry.{MemberEntry};
-ghost use Rattle.hg_model.specs.Members.{IsEntry};
-ghost use Rattle.hg_model.specs.Signing.{accepts_signature, signature_of, secrets_of, signature_by, accepts_by};
+ghost use Rattle.hg_life.specs.declared.members.MemberEntry.{MemberEntry};
+ghost use Rattle.hg_life.specs.Members.{IsEntry};
+ghost use Rattle.hg_life.specs.Signing.{accepts_signature, signature_of, secrets_of, signature_by, accepts_by};
 
 use crate::key::Key;
 use crate::signer::{Signer, Verifier};
-use hg_model::{Member, MemberEntry, Members, Memory, Sig};
+use hg_life::{MemberEntry, Members};
+use hg_model::{Member, Memory, Sig};
 use std::alloc::Global;
 use std::marker::Model;
 

@@ -1,8 +1,8 @@
 -- The commands: what each of them does, as a work
 use Rattle.std.specs.Prelude.{ℕ, ◌≡◌, List, Option, Some, None, Result, String}
 use Rattle.std.specs.Global.{Global}
-use Rattle.hg_model.specs.Members.{MemberList}
-use Rattle.hg_model.specs.Report.{report_text}
+use Rattle.hg_life.specs.Members.{MemberList}
+use Rattle.hg_outcome.specs.Report.{report_text}
 use Rattle.hg_members.specs.declared.fault.MemberFault.{MemberFault}
 use Rattle.hg_members.specs.MemberFile.{members_of}
 use Rattle.hg_script.specs.declared.fault.ScriptFault.{ScriptFault}

@@ -10,8 +10,9 @@ ghost use Rattle.hg_top.specs.declared.status.File.TheVariants as file;
 
 use crate::status::{File, Refusal, Status};
 use hg_io::{FileAnswer, Shelf, read_file};
+use hg_life::Members;
 use hg_members::read_members;
-use hg_model::{Bytes, Items, Members, Memory};
+use hg_model::{Bytes, Items, Memory};
 use hg_reading::read_script;
 use hg_script::Line;
 use std::alloc::Global;

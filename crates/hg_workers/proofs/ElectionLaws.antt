@@ -6,9 +6,9 @@ use Rattle.hg_model.specs.Order.{coin_at}
 use Rattle.hg_model.specs.Links.{Link}
 use Rattle.hg_model.specs.Prefix.{Graph}
 use Rattle.hg_model.specs.GraphWords.{fame_in}
-use Rattle.hg_model.specs.NodeView.{NodeView, IsNode, node_links, node_marks, node_rows, node_state}
+use Rattle.hg_life.specs.NodeView.{NodeView, IsNode, node_links, node_marks, node_rows, node_state}
 use Rattle.hg_model.specs.Shares.{Share, share_fame}
-use Rattle.hg_model.specs.Signing.{Accepts}
+use Rattle.hg_life.specs.Signing.{Accepts}
 use Rattle.hg_fame.specs.Decisions.{AreWitnesses, fames_among}
 use Rattle.hg_votes.specs.Counting.{IsMadeFor}
 use Rattle.hg_history.specs.News.{FindsNews}

@@ -4,9 +4,9 @@ use Rattle.std.proofs.lemmas.List.{append-nil, take-append-le}
 use Rattle.std.proofs.lemmas.List.Sums.{sum_by-append, sum_by-cons}
 use Rattle.hg_model.specs.Orders.{IsPrefix}
 use Rattle.hg_model.specs.Shares.{Share}
-use Rattle.hg_model.specs.History.{Change}
-use Rattle.hg_model.specs.History.Change.{Marked}
-use Rattle.hg_model.specs.Signing.{Accepts}
+use Rattle.hg_life.specs.History.{Change}
+use Rattle.hg_life.specs.History.Change.{Marked}
+use Rattle.hg_life.specs.Signing.{Accepts}
 use Rattle.hg_history.proofs.StateLaws.{prefix_more}
 use Rattle.hg_model.specs.declared.share.Found.{Found}
 use Rattle.hg_gossip.specs.Holding.{Seen}

@@ -14,11 +14,11 @@ use Rattle.hg_model.specs.Fame.{Marks, mark_at, fame_of}
 use Rattle.hg_model.specs.Order.{coin_at}
 use Rattle.hg_model.specs.Orders.{AreFame, IsPrefix}
 use Rattle.hg_model.specs.Shares.{Share, early_fame, found_in, is_of_share, share_fame}
-use Rattle.hg_model.specs.History.{Change, State, news, new_mark, replay, with_marks}
-use Rattle.hg_model.specs.History.Change.{Marked}
-use Rattle.hg_model.specs.NodeView.{NodeView, IsNode, node_marks, node_rows, node_state, with_changes}
-use Rattle.hg_model.specs.Calls.{publish_answer, publish_changes}
-use Rattle.hg_model.specs.Signing.{Accepts}
+use Rattle.hg_life.specs.History.{Change, State, news, new_mark, replay, with_marks}
+use Rattle.hg_life.specs.History.Change.{Marked}
+use Rattle.hg_life.specs.NodeView.{NodeView, IsNode, node_marks, node_rows, node_state, with_changes}
+use Rattle.hg_life.specs.Calls.{publish_answer, publish_changes}
+use Rattle.hg_life.specs.Signing.{Accepts}
 use Rattle.hg_model.proofs.LongerLaws.{IsLonger, is_witness-longer, longer-append}
 use Rattle.hg_model.proofs.PlacesLaws.{count_below-le, count_below_zero, list_below_zero, weight_below-same, weight_below_grows}
 use Rattle.hg_model.proofs.ShapeLaws.{shaped-shorter}

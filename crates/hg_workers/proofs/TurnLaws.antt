@@ -8,11 +8,11 @@ use Rattle.hg_model.specs.Fame.{Marks, mark_at}
 use Rattle.hg_model.specs.Stakes.{Stakes}
 use Rattle.hg_model.specs.Orders.{IsPrefix}
 use Rattle.hg_model.specs.Shares.{Share, share_fame}
-use Rattle.hg_model.specs.History.{Change, replay, with_marks}
-use Rattle.hg_model.specs.History.Change.{Marked}
-use Rattle.hg_model.specs.NodeView.{NodeView, IsNode, node_marks, node_rows, node_state, with_changes}
-use Rattle.hg_model.specs.Calls.{publish_answer, publish_changes}
-use Rattle.hg_model.specs.Signing.{Accepts}
+use Rattle.hg_life.specs.History.{Change, replay, with_marks}
+use Rattle.hg_life.specs.History.Change.{Marked}
+use Rattle.hg_life.specs.NodeView.{NodeView, IsNode, node_marks, node_rows, node_state, with_changes}
+use Rattle.hg_life.specs.Calls.{publish_answer, publish_changes}
+use Rattle.hg_life.specs.Signing.{Accepts}
 use Rattle.hg_history.proofs.StateLaws.{even_after, links_grow, marks_stay, rows_grow}
 use Rattle.hg_node.specs.ChronicleView.{marked}
 use Rattle.hg_gossip.specs.Holding.{Seen}

@@ -2,7 +2,7 @@
 use Rattle.std.specs.Prelude.{ℕ, ◌≡◌, [], length, Option, None, Some}
 use Rattle.hg_model.specs.declared.share.Found.{Found}
 use Rattle.hg_model.specs.GraphWords.{fame_in}
-use Rattle.hg_model.specs.NodeView.{node_marks}
+use Rattle.hg_life.specs.NodeView.{node_marks}
 use Rattle.hg_model.specs.Shares.{Share}
 use Rattle.hg_fame.specs.Decisions.{AreWitnesses, fames_among}
 use Rattle.hg_votes.specs.Counting.{IsMadeFor}

@@ -9,20 +9,20 @@ use Rattle.std.proofs.lemmas.Option.{slice_get_within}
 use Rattle.std.proofs.lemmas.Slice.Eq.{bytes_eq-Decides}
 use Rattle.sha2.proofs.Facts512.{length-sha512}
 use Rattle.hg_model.specs.declared.row.Row.{Row}
-use Rattle.hg_model.specs.declared.answers.ByteFault.{ByteFault}
-use Rattle.hg_model.specs.declared.answers.PutAnswer.{PutAnswer}
-use Rattle.hg_model.specs.declared.answers.PutAnswer.TheVariants.{Accepted, Known, Refused}
-use Rattle.hg_model.specs.declared.answers.MakeAnswer.{MakeAnswer}
-use Rattle.hg_model.specs.declared.answers.MakeAnswer.TheVariants as answer
+use Rattle.hg_life.specs.declared.answers.ByteFault.{ByteFault}
+use Rattle.hg_life.specs.declared.answers.PutAnswer.{PutAnswer}
+use Rattle.hg_life.specs.declared.answers.PutAnswer.TheVariants.{Accepted, Known, Refused}
+use Rattle.hg_life.specs.declared.answers.MakeAnswer.{MakeAnswer}
+use Rattle.hg_life.specs.declared.answers.MakeAnswer.TheVariants as answer
 use Rattle.hg_model.specs.Orders.{IsPrefix}
-use Rattle.hg_model.specs.Reading.{read_event}
-use Rattle.hg_model.specs.Spelling.{Spells, body_of, spelling}
-use Rattle.hg_model.specs.Signing.{Accepts, accepts_by, hmac_sha512, signature_by}
-use Rattle.hg_model.specs.Verdict.{made_row, row_verdict}
-use Rattle.hg_model.specs.History.{Change}
-use Rattle.hg_model.specs.History.Change.{Took, Made}
-use Rattle.hg_model.specs.NodeView.{NodeView, IsNode, node_rows, with_changes}
-use Rattle.hg_model.specs.Calls.{make_answer, make_body, make_changes, made_by, put_changes, taken_by, taken_from}
+use Rattle.hg_life.specs.Reading.{read_event}
+use Rattle.hg_life.specs.Spelling.{Spells, body_of, spelling}
+use Rattle.hg_life.specs.Signing.{Accepts, accepts_by, hmac_sha512, signature_by}
+use Rattle.hg_life.specs.Verdict.{made_row, row_verdict}
+use Rattle.hg_life.specs.History.{Change}
+use Rattle.hg_life.specs.History.Change.{Took, Made}
+use Rattle.hg_life.specs.NodeView.{NodeView, IsNode, node_rows, with_changes}
+use Rattle.hg_life.specs.Calls.{make_answer, make_body, make_changes, made_by, put_changes, taken_by, taken_from}
 use Rattle.hg_model.proofs.LongerLaws.{slice_get-append}
 use Rattle.hg_model.proofs.PushLaws.{slice_get-last}
 use Rattle.hg_history.proofs.RuleLaws.{accepted_place, made_place}

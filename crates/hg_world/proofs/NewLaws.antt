@@ -5,11 +5,11 @@ use Rattle.std.specs.List.{range_with_len}
 use Rattle.std.proofs.lemmas.Bool.{cases_lt}
 use Rattle.std.proofs.lemmas.List.{length-map, length-replicate, get_or-map, get_or-replicate, get_or_past}
 use Rattle.std.proofs.lemmas.List.FromFn.{get_or-map-range_with_len, length-map-range_with_len}
-use Rattle.hg_model.specs.Members.{MemberList, IsMemberList, stakes_of}
+use Rattle.hg_life.specs.Members.{MemberList, IsMemberList, stakes_of}
 use Rattle.hg_model.specs.Places.{table}
 use Rattle.hg_model.specs.Stakes.{Stakes, member_count}
-use Rattle.hg_model.specs.Signing.{accepts_by, secrets_of}
-use Rattle.hg_model.specs.NodeView.{NodeView, IsNode}
+use Rattle.hg_life.specs.Signing.{accepts_by, secrets_of}
+use Rattle.hg_life.specs.NodeView.{NodeView, IsNode}
 use Rattle.hg_gossip.specs.Handing.{HeardView}
 use Rattle.hg_gossip.specs.Known.{KeepsKnown}
 use Rattle.hg_world.specs.World.{Secrets, Site, WorldView, new_node, new_site, new_world, no_site, nodes_of, site_of, worker_limit}

@@ -2,10 +2,10 @@
 use Rattle.std.proofs.Common.{◌≡◌, ℕ, ◌<◌, true, List, length, get_or, Some, slice_get, subst}
 use Rattle.std.proofs.lemmas.Option.{slice_get-get_or}
 use Rattle.std.proofs.lemmas.Slice.Eq.{bytes_eq-Decides}
-use Rattle.hg_model.specs.declared.answers.MakeAnswer.{MakeAnswer}
-use Rattle.hg_model.specs.Signing.{accepts_by, signature_by}
-use Rattle.hg_model.specs.Calls.{IsMaking}
-use Rattle.hg_model.specs.NodeView.{NodeView}
+use Rattle.hg_life.specs.declared.answers.MakeAnswer.{MakeAnswer}
+use Rattle.hg_life.specs.Signing.{accepts_by, signature_by}
+use Rattle.hg_life.specs.Calls.{IsMaking}
+use Rattle.hg_life.specs.NodeView.{NodeView}
 use Rattle.hg_node.proofs.OneLaws.{making_is_one}
 use Rattle.hg_world.specs.World.{Secrets}
 use Rattle.hg_world.specs.Steps.{making_at, node_made}

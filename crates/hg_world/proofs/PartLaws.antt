@@ -2,13 +2,13 @@
 use Rattle.std.proofs.Common.{◌≡◌, ℕ, zero, suc, ◌<◌, List, [], ◌∷◌, length, get_or, slice_set, sym, refl, ap, ◌∙◌, subst, arith}
 use Rattle.std.proofs.lemmas.List.{length-map, length-set}
 use Rattle.hg_model.specs.declared.row.Row.{Row}
-use Rattle.hg_model.specs.Gossip.{lacking}
-use Rattle.hg_model.specs.History.{Change}
+use Rattle.hg_model.specs.Held.{lacking}
+use Rattle.hg_life.specs.History.{Change}
 use Rattle.hg_model.specs.Orders.{IsPrefix}
-use Rattle.hg_model.specs.Calls.{publish_changes}
+use Rattle.hg_life.specs.Calls.{publish_changes}
 use Rattle.hg_model.specs.Shares.{whole}
-use Rattle.hg_model.specs.Signing.{accepts_by}
-use Rattle.hg_model.specs.NodeView.{NodeView, IsNode, node_rows, with_changes}
+use Rattle.hg_life.specs.Signing.{accepts_by}
+use Rattle.hg_life.specs.NodeView.{NodeView, IsNode, node_rows, with_changes}
 use Rattle.hg_history.proofs.CallLaws.{with_none}
 use Rattle.hg_history.proofs.StateLaws.{prefix_same}
 use Rattle.hg_gossip.specs.Handing.{AreKnown, HeardView, Knows, LacksOf}

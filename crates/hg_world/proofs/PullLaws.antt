@@ -2,10 +2,10 @@
 use Rattle.std.proofs.Common.{◌≡◌, ℕ, ◌<◌, List, [], ◌∷◌, length, fold, Option, Result, Ok, Err, sym, ap, ap₂, ◌∙◌, arith}
 use Rattle.std.specs.Prelude.{OnErr, IfOk}
 use Rattle.std.proofs.lemmas.List.{get_or-set_same, length-set, set-get_or, set-set}
-use Rattle.hg_model.specs.declared.answers.SyncMade.{SyncMade}
-use Rattle.hg_model.specs.declared.answers.SyncReport.{SyncReport}
-use Rattle.hg_model.specs.Signing.{accepts_by}
-use Rattle.hg_model.specs.NodeView.{NodeView}
+use Rattle.hg_life.specs.declared.answers.SyncMade.{SyncMade}
+use Rattle.hg_life.specs.declared.answers.SyncReport.{SyncReport}
+use Rattle.hg_life.specs.Signing.{accepts_by}
+use Rattle.hg_life.specs.NodeView.{NodeView}
 use Rattle.hg_gossip.specs.declared.gossip.Taken.{Taken}
 use Rattle.hg_gossip.specs.Gossip.{none_taken, with_answer}
 use Rattle.hg_gossip.specs.Nodes.{Taking, lacked, take_event, taking, taking_of}

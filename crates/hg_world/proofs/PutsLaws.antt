@@ -4,19 +4,19 @@ use Rattle.std.specs.List.{AllByRecursion}
 use Rattle.std.proofs.lemmas.Bool.{cases_eq}
 use Rattle.std.proofs.lemmas.List.{get_or-set_other, length-map}
 use Rattle.hg_model.specs.declared.row.Row.{Row}
-use Rattle.hg_model.specs.declared.answers.ByteFault.{ByteFault}
-use Rattle.hg_model.specs.declared.answers.PutAnswer.{PutAnswer}
-use Rattle.hg_model.specs.declared.answers.PutAnswer.TheVariants.{Accepted, Known, Refused}
-use Rattle.hg_model.specs.Gossip.{count_taken, lacking}
+use Rattle.hg_life.specs.declared.answers.ByteFault.{ByteFault}
+use Rattle.hg_life.specs.declared.answers.PutAnswer.{PutAnswer}
+use Rattle.hg_life.specs.declared.answers.PutAnswer.TheVariants.{Accepted, Known, Refused}
+use Rattle.hg_life.specs.Gossip.{count_taken}
+use Rattle.hg_model.specs.Held.{lacking, is_held}
 use Rattle.hg_model.specs.Orders.{IsPrefix}
-use Rattle.hg_model.specs.Signing.{Accepts, accepts_by}
-use Rattle.hg_model.specs.Spelling.{Spells, spelling}
-use Rattle.hg_model.specs.Reading.{read_event}
-use Rattle.hg_model.specs.Verdict.{is_held}
-use Rattle.hg_model.specs.History.{Change, State}
-use Rattle.hg_model.specs.History.Change.{Took}
-use Rattle.hg_model.specs.NodeView.{NodeView, IsNode, node_rows, with_changes}
-use Rattle.hg_model.specs.Calls.{put_answer, put_changes}
+use Rattle.hg_life.specs.Signing.{Accepts, accepts_by}
+use Rattle.hg_life.specs.Spelling.{Spells, spelling}
+use Rattle.hg_life.specs.Reading.{read_event}
+use Rattle.hg_life.specs.History.{Change, State}
+use Rattle.hg_life.specs.History.Change.{Took}
+use Rattle.hg_life.specs.NodeView.{NodeView, IsNode, node_rows, with_changes}
+use Rattle.hg_life.specs.Calls.{put_answer, put_changes}
 use Rattle.hg_event.proofs.Spells.{Spells-read_event}
 use Rattle.hg_history.specs.Laws.{IsEvent}
 use Rattle.hg_history.proofs.CallLaws.{puts_add_one}

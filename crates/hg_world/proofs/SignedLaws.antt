@@ -3,13 +3,12 @@ use Rattle.std.proofs.Common.{◌≡◌, ℕ, suc, ◌<◌, true, false, not, co
 use Rattle.std.specs.List.{AllByRecursion, filter}
 use Rattle.std.proofs.lemmas.List.{get_or_default}
 use Rattle.hg_model.specs.declared.row.Row.{Row}
-use Rattle.hg_model.specs.Gossip.{lacking}
+use Rattle.hg_model.specs.Held.{lacking, is_held}
 use Rattle.hg_model.specs.Links.{no_row}
 use Rattle.hg_model.specs.Stakes.{member_count}
-use Rattle.hg_model.specs.Signing.{accepts_by}
-use Rattle.hg_model.specs.Spelling.{body_of}
-use Rattle.hg_model.specs.Verdict.{is_held}
-use Rattle.hg_model.specs.NodeView.{NodeView, Start, IsNode, node_rows}
+use Rattle.hg_life.specs.Signing.{accepts_by}
+use Rattle.hg_life.specs.Spelling.{body_of}
+use Rattle.hg_life.specs.NodeView.{NodeView, Start, IsNode, node_rows}
 use Rattle.hg_model.proofs.LinkLaws.{creator-links, length-links}
 use Rattle.hg_history.specs.Laws.{IsEvent}
 use Rattle.hg_history.proofs.SoundLaws.{sound}

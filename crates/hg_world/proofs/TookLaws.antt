@@ -2,12 +2,12 @@
 use Rattle.std.proofs.Common.{◌≡◌, ℕ, ◌<◌, List, [], ◌∷◌, length, get_or, Option, None, Some, Result, Ok, Err, sym, refl, ap, ◌∙◌}
 use Rattle.std.specs.Prelude.{IfOk, OnErr}
 use Rattle.std.proofs.lemmas.List.{get_or-set_same, map-append, set-get_or}
-use Rattle.hg_model.specs.declared.answers.SyncMade.{SyncMade}
-use Rattle.hg_model.specs.Calls.{make_changes}
-use Rattle.hg_model.specs.Gossip.{made_in_sync}
-use Rattle.hg_model.specs.Signing.{accepts_by}
-use Rattle.hg_model.specs.History.{Change}
-use Rattle.hg_model.specs.NodeView.{NodeView, with_changes}
+use Rattle.hg_life.specs.declared.answers.SyncMade.{SyncMade}
+use Rattle.hg_life.specs.Calls.{make_changes}
+use Rattle.hg_life.specs.Gossip.{made_in_sync}
+use Rattle.hg_life.specs.Signing.{accepts_by}
+use Rattle.hg_life.specs.History.{Change}
+use Rattle.hg_life.specs.NodeView.{NodeView, with_changes}
 use Rattle.hg_gossip.specs.declared.gossip.Taken.{Taken}
 use Rattle.hg_gossip.specs.Gossip.{none_taken}
 use Rattle.hg_history.proofs.CallLaws.{with_none}

@@ -4,10 +4,10 @@ use Rattle.std.proofs.lemmas.Bool.{cases_eq, cases_lt}
 use Rattle.std.proofs.lemmas.List.{length-append, length-set, set-set, get_or-set_same, get_or-set_other, get_or_past}
 use Rattle.std.proofs.lemmas.Option.{slice_get-get_or}
 use Rattle.hg_model.specs.Stakes.{Stakes}
-use Rattle.hg_model.specs.Signing.{accepts_by}
-use Rattle.hg_model.specs.History.{Change, IsHistory}
+use Rattle.hg_life.specs.Signing.{accepts_by}
+use Rattle.hg_life.specs.History.{Change, IsHistory}
 use Rattle.hg_model.specs.Shares.{whole}
-use Rattle.hg_model.specs.NodeView.{NodeView, IsNode, node_rows, with_changes}
+use Rattle.hg_life.specs.NodeView.{NodeView, IsNode, node_rows, with_changes}
 use Rattle.hg_history.proofs.StateLaws.{rows_grow}
 use Rattle.hg_runs.specs.Safety.{IsSafe}
 use Rattle.hg_runs.proofs.SafetyLaws.{runs_safe}

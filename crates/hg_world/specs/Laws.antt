@@ -1,7 +1,7 @@
 -- What holds of every world, as public functions state it
 use Rattle.std.specs.Prelude.{ℕ, ◌≡◌, ◌++◌, ◌<◌, ◌^◌, List, get_or, length}
 use Rattle.std.specs.List.{AllByRecursion}
-use Rattle.hg_model.specs.History.{Change}
+use Rattle.hg_life.specs.History.{Change}
 use Rattle.hg_runs.specs.Safety.{IsSafe}
 use Rattle.hg_world.specs.declared.step.Step.{Step}
 use Rattle.hg_world.specs.declared.step.Step.TheVariants.{Make, Deliver, Freeze, Publish}

@@ -2,8 +2,8 @@
 use Rattle.std.specs.Prelude.{ℕ, ◌≡◌, ◌<◌, ◌≤◌, List, length, map, get_or, replicate}
 use Rattle.hg_model.specs.declared.row.Row.{Row}
 use Rattle.hg_model.specs.Stakes.{Stakes, member_count}
-use Rattle.hg_model.specs.Signing.{accepts_by}
-use Rattle.hg_model.specs.NodeView.{NodeView, IsNode, node_rows}
+use Rattle.hg_life.specs.Signing.{accepts_by}
+use Rattle.hg_life.specs.NodeView.{NodeView, IsNode, node_rows}
 use Rattle.hg_graph.specs.Held.{AreEvents}
 use Rattle.hg_gossip.specs.Handing.{HeardView}
 use Rattle.hg_gossip.specs.Known.{KeepsKnown}

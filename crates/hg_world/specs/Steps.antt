@@ -2,12 +2,12 @@
 -- Publishing by workers, of rows that they froze before, is our own
 use Rattle.std.specs.Prelude.{ℕ, ◌≡◌, ◌<◌, List, [], ◌∷◌, ◌++◌, fold, length}
 use Rattle.std.specs.Option.{option_to_list}
-use Rattle.hg_model.specs.declared.answers.PutAnswer.{PutAnswer}
-use Rattle.hg_model.specs.declared.answers.MakeAnswer.{MakeAnswer}
+use Rattle.hg_life.specs.declared.answers.PutAnswer.{PutAnswer}
+use Rattle.hg_life.specs.declared.answers.MakeAnswer.{MakeAnswer}
 use Rattle.hg_model.specs.Shares.{Share, whole}
-use Rattle.hg_model.specs.Signing.{signature_by, accepts_by}
-use Rattle.hg_model.specs.NodeView.{NodeView, with_changes, node_rows}
-use Rattle.hg_model.specs.Calls.{put_answer, put_changes, make_answer, make_changes, publish_answer, publish_changes}
+use Rattle.hg_life.specs.Signing.{signature_by, accepts_by}
+use Rattle.hg_life.specs.NodeView.{NodeView, with_changes, node_rows}
+use Rattle.hg_life.specs.Calls.{put_answer, put_changes, make_answer, make_changes, publish_answer, publish_changes}
 use Rattle.hg_node.specs.Laws.{signature_made}
 use Rattle.hg_world.specs.declared.step.Step.{Step}
 use Rattle.hg_world.specs.declared.step.Step.TheVariants.{Make, Deliver, Freeze, Publish}

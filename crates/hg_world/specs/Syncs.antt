@@ -1,13 +1,13 @@
 -- Gossip as steps of a run: what one member's node takes from another's, and the event that it makes then.
 -- SWIRLDS-TR-2016-01, section 3
 use Rattle.std.specs.Prelude.{ℕ, ◌≡◌, List, [], ◌∷◌, ◌++◌, map, Option, Some, None}
-use Rattle.hg_model.specs.declared.answers.SyncMade.{SyncMade}
-use Rattle.hg_model.specs.declared.answers.SyncMade.TheVariants as sync_made
-use Rattle.hg_model.specs.declared.answers.SyncReport.{SyncReport}
-use Rattle.hg_model.specs.Gossip.{made_in_sync}
-use Rattle.hg_model.specs.Signing.{accepts_by}
-use Rattle.hg_model.specs.Verdict.{last_name}
-use Rattle.hg_model.specs.NodeView.{NodeView, node_rows}
+use Rattle.hg_life.specs.declared.answers.SyncMade.{SyncMade}
+use Rattle.hg_life.specs.declared.answers.SyncMade.TheVariants as sync_made
+use Rattle.hg_life.specs.declared.answers.SyncReport.{SyncReport}
+use Rattle.hg_life.specs.Gossip.{made_in_sync}
+use Rattle.hg_life.specs.Signing.{accepts_by}
+use Rattle.hg_life.specs.Verdict.{last_name}
+use Rattle.hg_life.specs.NodeView.{NodeView, node_rows}
 use Rattle.hg_gossip.specs.declared.gossip.Taken.{Taken}
 use Rattle.hg_gossip.specs.Nodes.{Taking, lacked, pulling, taking, taking_of}
 use Rattle.hg_world.specs.declared.step.Step.{Step}

@@ -3,9 +3,9 @@ use Rattle.std.specs.Prelude.{ℕ, ◌≡◌, ◌<◌, List, [], length, map, ge
 use Rattle.hg_model.specs.declared.row.Row.{Row}
 use Rattle.hg_model.specs.Places.{table}
 use Rattle.hg_model.specs.Stakes.{Stakes}
-use Rattle.hg_model.specs.Members.{MemberList, stakes_of}
-use Rattle.hg_model.specs.Signing.{secrets_of}
-use Rattle.hg_model.specs.NodeView.{NodeView, start_of, node_rows}
+use Rattle.hg_life.specs.Members.{MemberList, stakes_of}
+use Rattle.hg_life.specs.Signing.{secrets_of}
+use Rattle.hg_life.specs.NodeView.{NodeView, start_of, node_rows}
 use Rattle.hg_runs.specs.Run.{Run}
 use Rattle.hg_world.specs.declared.site.Site as declared
 

@@ -1,12 +1,13 @@
 ghost use Rattle.std.specs.Prelude.{◌≡◌, ◌<◌, ◌≤◌, [], All, IfOk, length, vec_capacity};
-ghost use Rattle.hg_model.specs.NodeView.{IsNode};
+ghost use Rattle.hg_life.specs.NodeView.{IsNode};
 ghost use Rattle.hg_model.specs.Places.{table};
-ghost use Rattle.hg_model.specs.Signing.{accepts_by, secrets_of};
+ghost use Rattle.hg_life.specs.Signing.{accepts_by, secrets_of};
 ghost use Rattle.hg_world.specs.World.{new_node};
 ghost use Rattle.hg_world.specs.Parts.{nodes_in, unfrozen};
 
 use crate::site::Site;
-use hg_model::{Member, Members, Memory};
+use hg_life::Members;
+use hg_model::{Member, Memory};
 use hg_node::Node;
 use hg_sign::SharedTable;
 use std::alloc::Global;

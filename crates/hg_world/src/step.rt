@@ -1,4 +1,5 @@
-use hg_model::{Bytes, MakeAnswer, Member, Name, PutAnswer, Share};
+use hg_life::{MakeAnswer, PutAnswer};
+use hg_model::{Bytes, Member, Name, Share};
 
 /// A step of a run, on the node of a member.
 #[derive(Debug, Drop)]

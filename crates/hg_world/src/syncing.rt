@@ -6,7 +6,8 @@ ghost use Rattle.hg_world.specs.Syncs.{HasPulled, HasSynced, pull_steps};
 
 use crate::world::World;
 use hg_gossip::Taken;
-use hg_model::{Member, Memory, SyncReport};
+use hg_life::SyncReport;
+use hg_model::{Member, Memory};
 
 impl World {
     fn pull_rows(&mut self, taker: Member, peer: Member) -> Result<Taken, Memory>

@@ -1,7 +1,7 @@
 ghost use Rattle.std.specs.Prelude.{◌≡◌, ◌<◌, IfErr, IfOk, OnErr, OnOk, length};
 ghost use Rattle.std.specs.Option.{option_to_list};
-ghost use Rattle.hg_model.specs.Calls.{IsSettled};
-ghost use Rattle.hg_model.specs.Signing.{accepts_by};
+ghost use Rattle.hg_life.specs.Calls.{IsSettled};
+ghost use Rattle.hg_life.specs.Signing.{accepts_by};
 ghost use Rattle.hg_runs.specs.Safety.{IsSafe};
 ghost use Rattle.hg_gossip.specs.Handing.{AreKnown, LacksOf};
 ghost use Rattle.hg_gossip.specs.Holding.{WouldSign, WouldTake, rules_alone, seen_whole};
@@ -10,7 +10,7 @@ ghost use Rattle.hg_gossip.specs.Taking.{AreSigned, bytes_of};
 ghost use Rattle.hg_world.specs.declared.step.Step.TheVariants.{Make, Deliver, Freeze, Publish};
 ghost use Rattle.hg_graph.specs.RowsWithRoom.{rows_of};
 ghost use Rattle.hg_world.specs.Parts.{AreOfOneList, IsWorld, nth_node, rows_of_each, unfrozen};
-ghost use Rattle.hg_model.specs.Gossip.{lacking};
+ghost use Rattle.hg_model.specs.Held.{lacking};
 ghost use Rattle.hg_world.specs.World.{IsMemberOf, IsSiteOf, new_world, node_at, nodes_of, rows_at, run_of, site_at, worker_limit};
 ghost use Rattle.hg_world.specs.Steps.{RanSome, after_step, after_steps, making_at, publishing_by, putting_at, settle_steps};
 ghost use Rattle.hg_world.specs.Syncs.{HasMadeAfter, HasTaken, deliver_steps};
@@ -19,9 +19,8 @@ use crate::nodes::{into_nodes, into_sites, new_nodes, room_for, see_all};
 use crate::site::Site;
 use hg_event::Event;
 use hg_gossip::{Known, Taken, lacked, make_after, still_lacked, take_events};
-use hg_model::{
-    MakeAnswer, Member, Members, Memory, Name, Prefix, PutAnswer, Share, Sight, SyncMade,
-};
+use hg_life::{MakeAnswer, Members, PutAnswer, SyncMade};
+use hg_model::{Member, Memory, Name, Prefix, Share, Sight};
 use hg_node::Node;
 use hg_sign::SharedTable;
 use std::alloc::Global;

@@ -1,5 +1,6 @@
 use hg_check::Trouble;
-use hg_model::{Bytes, Member, MemberEntry, Members, Memory, Name};
+use hg_life::{MemberEntry, Members};
+use hg_model::{Bytes, Member, Memory, Name};
 use order_market::Action;
 use order_match::{Book, Request, Side, write_request};
 use std::alloc::Global;

@@ -7,9 +7,9 @@ use Rattle.hg_model.specs.declared.row.Row.{Row}
 use Rattle.hg_model.specs.declared.row.Placed.{Placed}
 use Rattle.hg_model.specs.Stakes.{Stakes}
 use Rattle.hg_model.specs.Links.{no_row}
-use Rattle.hg_model.specs.Kept.{kept}
-use Rattle.hg_model.specs.History.{Change, IsHistory, replay}
-use Rattle.hg_model.specs.Signing.{Accepts, accepts_by}
+use Rattle.hg_life.specs.Kept.{kept}
+use Rattle.hg_life.specs.History.{Change, IsHistory, replay}
+use Rattle.hg_life.specs.Signing.{Accepts, accepts_by}
 use Rattle.hg_model.specs.Orders.{IsPrefix}
 use Rattle.hg_model.proofs.OrderLaws.{ordered_within}
 use Rattle.hg_history.proofs.StateLaws.{even_after, rows_grow}

@@ -7,7 +7,7 @@ use Rattle.std.proofs.lemmas.List.Sums.{fold-append}
 use Rattle.hg_model.specs.declared.row.Row.{Row}
 use Rattle.hg_model.specs.declared.row.Placed.{Placed}
 use Rattle.hg_model.specs.Stakes.{Stakes, member_count}
-use Rattle.hg_model.specs.NodeView.{NodeView, kept_of, node_rows}
+use Rattle.hg_life.specs.NodeView.{NodeView, kept_of, node_rows}
 use Rattle.hg_world.specs.Parts.{IsWorld, KeepsSite}
 use Rattle.hg_world.specs.World.{Secrets, WorldView, IsSiteOf, node_at, site_at}
 use Rattle.order_match.specs.Books.{BookView, Event, book_of, no_book, with_event, with_events}

@@ -9,9 +9,9 @@ use Rattle.hg_model.specs.declared.row.Placed.{Placed}
 use Rattle.hg_model.specs.Graph.{name_at}
 use Rattle.hg_model.specs.Links.{no_row}
 use Rattle.hg_model.specs.Order.{Ordered, named_in}
-use Rattle.hg_model.specs.Kept.{kept}
+use Rattle.hg_life.specs.Kept.{kept}
 use Rattle.hg_model.specs.Orders.{IsPrefix}
-use Rattle.hg_model.specs.History.{replay}
+use Rattle.hg_life.specs.History.{replay}
 use Rattle.hg_prefix.specs.Chains.{HaveEqualRows}
 use Rattle.hg_runs.specs.Safety.{IsSafe, order_after}
 use Rattle.hg_world.specs.World.{WorldView, run_of}

@@ -4,9 +4,9 @@ use Rattle.hg_model.specs.declared.row.Row.{Row}
 use Rattle.hg_model.specs.declared.row.Placed.{Placed}
 use Rattle.hg_model.specs.Stakes.{Stakes, total}
 use Rattle.hg_model.specs.Links.{no_row}
-use Rattle.hg_model.specs.History.{Change, State, replay}
-use Rattle.hg_model.specs.Kept.{kept}
-use Rattle.hg_model.specs.NodeView.{NodeView}
+use Rattle.hg_life.specs.History.{Change, State, replay}
+use Rattle.hg_life.specs.Kept.{kept}
+use Rattle.hg_life.specs.NodeView.{NodeView}
 use Rattle.hg_model.specs.Orders.{IsPrefix}
 use Rattle.hg_runs.specs.Honest.{dishonest, AreApart}
 use Rattle.hg_world.specs.declared.step.Step.{Step}

@@ -7,7 +7,8 @@ ghost use Rattle.order_market.specs.Market.{AreOneBook, action_steps, after_acti
 
 use crate::action::Action;
 use crate::reading::{member_count, read_all};
-use hg_model::{Member, Members, Memory};
+use hg_life::Members;
+use hg_model::{Member, Memory};
 use hg_world::World;
 use order_match::{Book, nothing_is_lost};
 use std::alloc::Global;

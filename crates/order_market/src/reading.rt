@@ -1,6 +1,6 @@
 ghost use Rattle.std.specs.Prelude.{◌≡◌, ◌<◌, ◌+◌, ◌^◌, All, OnOk, length, map};
 ghost use Rattle.hg_model.specs.declared.row.Placed.{Placed};
-ghost use Rattle.hg_model.specs.NodeView.{node_rows};
+ghost use Rattle.hg_life.specs.NodeView.{node_rows};
 ghost use Rattle.order_match.specs.Books.{book_of, with_event, with_events};
 ghost use Rattle.order_market.specs.Market.{AreBehind, HasBooks, IsBehind, event_at, event_in, events_of};
 

@@ -11,10 +11,10 @@ use Rattle.hg_model.specs.Stakes.{Stakes}
 use Rattle.hg_model.specs.Graph.{name_at}
 use Rattle.hg_model.specs.Links.{no_row}
 use Rattle.hg_model.specs.Order.{Ordered, named_in}
-use Rattle.hg_model.specs.Kept.{kept}
+use Rattle.hg_life.specs.Kept.{kept}
 use Rattle.hg_model.specs.Orders.{IsPrefix}
-use Rattle.hg_model.specs.History.{Change, replay}
-use Rattle.hg_model.specs.NodeView.{kept_of, node_rows}
+use Rattle.hg_life.specs.History.{Change, replay}
+use Rattle.hg_life.specs.NodeView.{kept_of, node_rows}
 use Rattle.hg_model.proofs.OrderLaws.{ordered_within}
 use Rattle.hg_history.proofs.StateLaws.{even_after}
 use Rattle.hg_prefix.specs.Chains.{HaveEqualRows}

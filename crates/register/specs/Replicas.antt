@@ -4,8 +4,8 @@ use Rattle.hg_model.specs.declared.row.Row.{Row}
 use Rattle.hg_model.specs.declared.row.Placed.{Placed}
 use Rattle.hg_model.specs.Stakes.{total}
 use Rattle.hg_model.specs.Links.{no_row}
-use Rattle.hg_model.specs.History.{State, replay}
-use Rattle.hg_model.specs.Kept.{kept}
+use Rattle.hg_life.specs.History.{State, replay}
+use Rattle.hg_life.specs.Kept.{kept}
 use Rattle.hg_runs.specs.Honest.{dishonest, AreApart}
 use Rattle.hg_world.specs.World.{WorldView, IsMemberOf, run_of}
 use Rattle.register.specs.declared.replica.Register.{Register}

@@ -19,7 +19,8 @@ mod trouble;
 
 use crate::replica::register_at;
 use crate::trouble::Trouble;
-use hg_model::{Bytes, Member, MemberEntry, Members, Memory};
+use hg_life::{MemberEntry, Members};
+use hg_model::{Bytes, Member, Memory};
 use hg_world::{World, steps_keep_sites};
 use std::alloc::Global;
 use std::process::ExitCode;

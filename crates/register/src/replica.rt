@@ -1,5 +1,5 @@
 ghost use Rattle.std.specs.Prelude.{◌≡◌, ◌<◌, ◌+◌, ◌^◌, length};
-ghost use Rattle.hg_model.specs.NodeView.{kept_of, node_rows};
+ghost use Rattle.hg_life.specs.NodeView.{kept_of, node_rows};
 ghost use Rattle.hg_world.specs.World.{IsMemberOf};
 ghost use Rattle.register.specs.Replicas.{after_payload, after_row, register_at, register_in};
 

@@ -2,7 +2,7 @@ use Rattle.std.proofs.Common.{List, sym, subst}
 use Rattle.hg_model.specs.Links.{Link}
 use Rattle.hg_model.specs.Prefix.{Graph, links_of}
 use Rattle.hg_model.specs.Shares.{Share, Speaks}
-use Rattle.hg_model.specs.NodeView.{node_rows, node_state}
+use Rattle.hg_life.specs.NodeView.{node_rows, node_state}
 use Rattle.hg_history.proofs.FoundLaws.{found_is_news}
 use Rattle.hg_history.proofs.SoundLaws.{sound}
 use Rattle.check_calls.proofs.publishing.publish_all.Goals as goal

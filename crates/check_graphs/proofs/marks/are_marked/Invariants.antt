@@ -1,6 +1,6 @@
 use Rattle.std.proofs.Common.{◌≡◌, ◌<◌, ℕ, Some, IfSome, slice_get}
 use Rattle.hg_model.specs.Fame.{mark_at}
-use Rattle.hg_model.specs.NodeView.{node_marks}
+use Rattle.hg_life.specs.NodeView.{node_marks}
 use Rattle.check_graphs.proofs.marks.are_marked.Given as goal
 
 abbrev pub invariant-loop-x : goal.invariant-loop-x

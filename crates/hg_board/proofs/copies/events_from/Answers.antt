@@ -1,6 +1,6 @@
 use Rattle.std.proofs.Common.{arith}
 use Rattle.std.proofs.lemmas.Grind.{common_steps}
-use Rattle.hg_model.specs.NodeView.{node_rows}
+use Rattle.hg_life.specs.NodeView.{node_rows}
 use Rattle.hg_board.proofs.CopyLaws.{copied_more}
 use Rattle.hg_board.proofs.copies.events_from.Goals as goal
 

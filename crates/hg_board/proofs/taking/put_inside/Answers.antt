@@ -1,5 +1,5 @@
 use Rattle.std.proofs.Common.{arith, ap, length, subst}
-use Rattle.hg_model.specs.Spelling.{spelling}
+use Rattle.hg_life.specs.Spelling.{spelling}
 use Rattle.hg_board.specs.Turns.{IsGrown}
 use Rattle.hg_board.proofs.SeatLaws.{put_grown}
 use Rattle.hg_board.proofs.TakingLaws.{adds_grown}

@@ -1,7 +1,7 @@
 use Rattle.std.proofs.Common.{◌<◌, ◌+◌, ◌^◌, [], ◌∷◌, length, length-append, ap, subst, arith}
 use mathlib.Core.Option.{none}
 use Rattle.atomic_table.specs.Table.{step}
-use Rattle.hg_model.specs.NodeView.{IsNode}
+use Rattle.hg_life.specs.NodeView.{IsNode}
 use Rattle.hg_board.proofs.MoveLaws.{raises}
 use Rattle.hg_board.proofs.TurnLaws.{raised_one}
 use Rattle.hg_board.proofs.turn.raise.Goals as goal

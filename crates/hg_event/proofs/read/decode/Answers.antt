@@ -1,7 +1,7 @@
 use Rattle.std.proofs.Common.{subst, arith}
 use Rattle.hg_event.specs.View.{row_of}
 use Rattle.hg_event.proofs.Spells.{Spells-read_event, IfOk-Spells}
-use Rattle.hg_model.specs.Results.{Reads}
+use Rattle.hg_life.specs.Results.{Reads}
 use Rattle.hg_event.proofs.read.decode.Goals as goal
 
 pub returns-clause-found : goal.returns-clause-found

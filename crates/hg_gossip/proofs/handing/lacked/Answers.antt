@@ -1,8 +1,8 @@
 use Rattle.std.proofs.Common.{◌≡◌, ◌∙◌, ◌++◌, ℕ, List, ap, ap₂, drop, subst}
 use Rattle.std.specs.Prelude.{IfOk}
 use Rattle.hg_model.specs.declared.row.Row.{Row}
-use Rattle.hg_model.specs.Gossip.{lacking}
-use Rattle.hg_model.specs.NodeView.{node_rows}
+use Rattle.hg_model.specs.Held.{lacking}
+use Rattle.hg_life.specs.NodeView.{node_rows}
 use Rattle.hg_graph.specs.RowsWithRoom.{rows_of}
 use Rattle.hg_gossip.specs.Handing.{HeardView}
 use Rattle.hg_gossip.proofs.HandLaws.{lacks_heard}

@@ -1,8 +1,8 @@
 use Rattle.std.proofs.Common.{◌∙◌, ap, drop}
 use Rattle.std.specs.Prelude.{reverse}
 use Rattle.std.proofs.lemmas.List.{reverse-reverse}
-use Rattle.hg_model.specs.Gossip.{lacking}
-use Rattle.hg_model.specs.NodeView.{node_rows}
+use Rattle.hg_model.specs.Held.{lacking}
+use Rattle.hg_life.specs.NodeView.{node_rows}
 use Rattle.hg_graph.specs.RowsWithRoom.{rows_of}
 use Rattle.hg_gossip.proofs.HandLaws.{rows_reversed}
 use Rattle.hg_gossip.proofs.handing.lacked_behind.Goals as goal

@@ -1,5 +1,5 @@
 use Rattle.std.proofs.Common.{rules, ◌≡◌, sym}
-use Rattle.hg_model.specs.NodeView.{node_rows}
+use Rattle.hg_life.specs.NodeView.{node_rows}
 use Rattle.hg_gossip.proofs.HandLaws.{held_at}
 use Rattle.hg_gossip.proofs.handing.place_near.Goals as goal
 

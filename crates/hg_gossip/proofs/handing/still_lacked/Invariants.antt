@@ -1,6 +1,6 @@
 use Rattle.std.proofs.Common.{◌≡◌, take}
-use Rattle.hg_model.specs.Gossip.{lacking}
-use Rattle.hg_model.specs.NodeView.{node_rows}
+use Rattle.hg_model.specs.Held.{lacking}
+use Rattle.hg_life.specs.NodeView.{node_rows}
 use Rattle.hg_graph.specs.RowsWithRoom.{rows_of}
 use Rattle.hg_gossip.proofs.handing.still_lacked.Given as goal
 

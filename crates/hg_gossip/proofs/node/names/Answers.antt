@@ -1,4 +1,4 @@
-use Rattle.hg_model.specs.NodeView.{node_rows}
+use Rattle.hg_life.specs.NodeView.{node_rows}
 use Rattle.hg_gossip.proofs.RowLaws.{names_more}
 use Rattle.hg_gossip.proofs.node.names.Goals as goal
 

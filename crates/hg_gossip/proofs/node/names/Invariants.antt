@@ -1,5 +1,5 @@
 use Rattle.std.proofs.Common.{◌≡◌, take}
-use Rattle.hg_model.specs.NodeView.{node_rows}
+use Rattle.hg_life.specs.NodeView.{node_rows}
 use Rattle.hg_gossip.specs.Holding.{row_names}
 use Rattle.hg_gossip.proofs.node.names.Given as goal
 

@@ -1,4 +1,4 @@
-use Rattle.hg_model.specs.NodeView.{node_rows}
+use Rattle.hg_life.specs.NodeView.{node_rows}
 use Rattle.hg_gossip.proofs.RowLaws.{outside_is_beyond}
 use Rattle.hg_gossip.proofs.node.rows_beyond.Goals as goal
 

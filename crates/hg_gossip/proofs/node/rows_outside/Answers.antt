@@ -1,5 +1,5 @@
 use Rattle.std.proofs.Common.{arith}
-use Rattle.hg_model.specs.NodeView.{node_rows}
+use Rattle.hg_life.specs.NodeView.{node_rows}
 use Rattle.hg_gossip.proofs.RowLaws.{bytes_more}
 use Rattle.hg_gossip.proofs.node.rows_outside.Goals as goal
 

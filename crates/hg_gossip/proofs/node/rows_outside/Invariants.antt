@@ -1,6 +1,6 @@
 use Rattle.std.proofs.Common.{◌≡◌, ◌++◌, drop, map}
-use Rattle.hg_model.specs.Spelling.{spelling}
-use Rattle.hg_model.specs.NodeView.{node_rows}
+use Rattle.hg_life.specs.Spelling.{spelling}
+use Rattle.hg_life.specs.NodeView.{node_rows}
 use Rattle.hg_gossip.specs.Holding.{unnamed}
 use Rattle.hg_gossip.proofs.node.rows_outside.Given as goal
 

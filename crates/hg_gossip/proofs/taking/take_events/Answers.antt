@@ -1,6 +1,6 @@
 use Rattle.std.proofs.Common.{◌<◌, ◌∙◌, ℕ, List, ap, length, take, arith}
 use Rattle.std.proofs.lemmas.List.{take_all}
-use Rattle.hg_model.specs.Spelling.{spelling}
+use Rattle.hg_life.specs.Spelling.{spelling}
 use Rattle.hg_gossip.specs.Nodes.{taking}
 use Rattle.hg_gossip.specs.Taking.{bytes_of}
 use Rattle.hg_gossip.proofs.TakeLaws.{errs, few_more}

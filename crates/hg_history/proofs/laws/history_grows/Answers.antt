@@ -1,6 +1,6 @@
 use Rattle.std.proofs.Common.{ap}
-use Rattle.hg_model.specs.History.{State}
-use Rattle.hg_model.specs.History.Change.{Marked}
+use Rattle.hg_life.specs.History.{State}
+use Rattle.hg_life.specs.History.Change.{Marked}
 use Rattle.hg_history.proofs.StateLaws.{rows_grow, links_grow, marks_stay, replay-push}
 use Rattle.hg_history.proofs.SoundLaws.{closed_later}
 use Rattle.hg_history.proofs.laws.history_grows.Goals as goal

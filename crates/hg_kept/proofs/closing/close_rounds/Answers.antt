@@ -1,9 +1,9 @@
 use Rattle.std.proofs.Common.{◌<◌, ◌≤◌, ◌+◌, ◌-◌, length, sym, refl, subst, arith, List, ℕ}
 use Rattle.hg_model.specs.declared.row.Placed.{Placed}
 use Rattle.hg_model.specs.Prefix.{links_of}
-use Rattle.hg_model.specs.Kept.{kept_up_to}
+use Rattle.hg_life.specs.Kept.{kept_up_to}
 use Rattle.hg_model.specs.Orders.{IsPrefix}
-use Rattle.hg_model.specs.GraphWords.{state_by}
+use Rattle.hg_life.specs.StateWords.{state_by}
 use Rattle.hg_model.proofs.LinkLaws.{length-links}
 use Rattle.hg_prefix.proofs.FamousLaws.{closed_bounds}
 use Rattle.hg_kept.proofs.NextLaws.{reached_low}

@@ -1,7 +1,7 @@
 use Rattle.std.proofs.Common.{◌≡◌, List, arith, refl, sym, subst}
 use Rattle.std.proofs.lemmas.List.FromFn.{map-range_with_len_more}
-use Rattle.hg_model.specs.declared.members.MemberEntry.{MemberEntry}
-use Rattle.hg_model.specs.Members.{IsMemberList, listed}
+use Rattle.hg_life.specs.declared.members.MemberEntry.{MemberEntry}
+use Rattle.hg_life.specs.Members.{IsMemberList, listed}
 use Rattle.hg_made.specs.Made.{made_member}
 use Rattle.hg_made.proofs.MadeLaws.{made_lawful}
 use Rattle.hg_made.proofs.members.made_members.Goals as goal

@@ -1,5 +1,5 @@
 use Rattle.std.proofs.Common.{◌≡◌, ◌+◌, fold, take, vec_len, vec_capacity}
-use Rattle.hg_model.specs.Pay.{with_placed}
+use Rattle.hg_life.specs.Pay.{with_placed}
 use Rattle.hg_pay.specs.Applied.{book_with}
 use Rattle.hg_pay.proofs.ledger.pay_each.Given as goal
 

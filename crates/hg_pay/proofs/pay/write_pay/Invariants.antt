@@ -1,5 +1,5 @@
 use Rattle.std.proofs.Common.{◌≡◌, ◌∷◌, length, take}
-use Rattle.hg_model.specs.Pay.{transfers_bytes}
+use Rattle.hg_life.specs.Pay.{transfers_bytes}
 use Rattle.hg_pay.proofs.pay.write_pay.Given as goal
 
 abbrev pub invariant-loop-transfer : goal.invariant-loop-transfer

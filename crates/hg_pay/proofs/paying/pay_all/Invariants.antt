@@ -1,5 +1,5 @@
 use Rattle.std.proofs.Common.{take}
-use Rattle.hg_model.specs.Pay.{paid}
+use Rattle.hg_life.specs.Pay.{paid}
 use Rattle.hg_pay.proofs.HasCome.{HasCome}
 use Rattle.hg_pay.proofs.paying.pay_all.Given as goal
 

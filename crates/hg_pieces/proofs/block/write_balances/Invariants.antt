@@ -1,6 +1,6 @@
 use Rattle.std.proofs.Common.{drop}
 use Rattle.hg_io.specs.Printing.{IsPutUpTo, desk}
-use Rattle.hg_model.specs.Report.{balances_text}
+use Rattle.hg_outcome.specs.Report.{balances_text}
 use Rattle.hg_pieces.proofs.block.write_balances.Given as goal
 
 abbrev pub invariant-loop-i : goal.invariant-loop-i

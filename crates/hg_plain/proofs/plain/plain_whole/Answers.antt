@@ -1,6 +1,5 @@
 use Rattle.std.proofs.Common.{◌∙◌, ap₂}
-use Rattle.hg_model.specs.Order.{last_closed, ordered, order_of}
-use Rattle.hg_model.specs.Ledger.{closed_of}
+use Rattle.hg_model.specs.Order.{last_closed, ordered, order_of, closed_of}
 use Rattle.hg_model.specs.Prefix.{Graph, links_of}
 use Rattle.hg_plain.proofs.plain.plain_whole.Goals as goal
 

@@ -1,6 +1,6 @@
 use Rattle.std.proofs.Common.{rules, arith, sym, subst, get_or, take}
 use Rattle.std.specs.Prelude.{IfOk, OnOk}
-use Rattle.hg_model.specs.Signing.{accepts_by}
+use Rattle.hg_life.specs.Signing.{accepts_by}
 use Rattle.hg_model.specs.Shares.{whole}
 use Rattle.hg_gossip.specs.Known.{KeepsKnown}
 use Rattle.hg_crowd.specs.Crowd.{AreSeats}

@@ -1,5 +1,5 @@
 use Rattle.std.proofs.Common.{◌∙◌, ap}
-use Rattle.hg_model.specs.NodeView.{NodeView}
+use Rattle.hg_life.specs.NodeView.{NodeView}
 use Rattle.hg_play.specs.Lines.{kept_block}
 use Rattle.hg_world.specs.World.{Secrets}
 use Rattle.hg_play.proofs.WorldLaws.{start_read}

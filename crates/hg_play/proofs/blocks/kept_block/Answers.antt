@@ -1,8 +1,8 @@
 use Rattle.std.proofs.Common.{◌<◌, ◌∙◌, All, List, ap, length, subst, sym}
-use Rattle.hg_model.specs.declared.pay.Effect.{Effect}
+use Rattle.hg_life.specs.declared.pay.Effect.{Effect}
 use Rattle.hg_model.specs.declared.row.Placed.{Placed}
 use Rattle.hg_model.specs.Prefix.{Graph, links_of}
-use Rattle.hg_model.specs.Ledger.{order_lines}
+use Rattle.hg_outcome.specs.Ledger.{order_lines}
 use Rattle.hg_play.proofs.PlayLaws.{ap_three}
 use Rattle.hg_play.proofs.BlockLaws.{block_is}
 use Rattle.hg_play.proofs.blocks.kept_block.Goals as goal

@@ -1,7 +1,7 @@
 use Rattle.std.proofs.Common.{◌∙◌, ◌∷◌, [], ℕ, ap}
-use Rattle.hg_model.specs.declared.outcome.Block.{Block}
-use Rattle.hg_model.specs.declared.outcome.Printed.TheVariants as printed
-use Rattle.hg_model.specs.Calls.{publish_answer}
+use Rattle.hg_outcome.specs.declared.outcome.Block.{Block}
+use Rattle.hg_outcome.specs.declared.outcome.Printed.TheVariants as printed
+use Rattle.hg_life.specs.Calls.{publish_answer}
 use Rattle.hg_model.specs.Shares.{Share, whole}
 use Rattle.hg_script.specs.declared.line.Action.TheVariants as action
 use Rattle.hg_world.specs.declared.step.Step.TheVariants.{Freeze, Publish}

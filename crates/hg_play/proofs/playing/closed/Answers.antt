@@ -1,5 +1,5 @@
 use Rattle.std.proofs.Common.{◌∙◌, List, subst, sym}
-use Rattle.hg_model.specs.declared.outcome.Printed.{Printed}
+use Rattle.hg_outcome.specs.declared.outcome.Printed.{Printed}
 use Rattle.hg_play.specs.Nodes.{MatchesBlocks, seen_alone}
 use Rattle.hg_play.proofs.playing.closed.Goals as goal
 

@@ -1,6 +1,6 @@
 use Rattle.std.proofs.Common.{◌∙◌, ◌++◌, List, ℕ, ap, ap₂}
-use Rattle.hg_model.specs.declared.outcome.Outcome.{Outcome}
-use Rattle.hg_model.specs.declared.outcome.Printed.{Printed}
+use Rattle.hg_outcome.specs.declared.outcome.Outcome.{Outcome}
+use Rattle.hg_outcome.specs.declared.outcome.Printed.{Printed}
 use Rattle.hg_play.specs.Play.{after_lines, end_blocks, first_stage, summary}
 use Rattle.hg_play.specs.Tape.{TapeView}
 use Rattle.hg_play.proofs.LawfulLaws.{ended, played_count}

@@ -1,5 +1,5 @@
 use Rattle.std.proofs.Common.{◌≡◌, ◌++◌, drop}
-use Rattle.hg_model.specs.Ledger.{order_lines}
+use Rattle.hg_outcome.specs.Ledger.{order_lines}
 use Rattle.hg_model.specs.Prefix.{links_of}
 use Rattle.hg_play.proofs.printing.order_lines.Given as goal
 

@@ -1,7 +1,7 @@
 use Rattle.std.proofs.Common.{◌∙◌, ◌++◌, List, ℕ, ap, codes, subst, sym, append_assoc}
 use Rattle.std.specs.Fmt.{decimal}
 use Rattle.hg_io.specs.Printing.{Puts, desk}
-use Rattle.hg_model.specs.Report.{with_number}
+use Rattle.hg_outcome.specs.Report.{with_number}
 use Rattle.hg_pieces.specs.Pieces.{piece_text}
 use Rattle.hg_report.proofs.printed.write_sync.Goals as goal
 

@@ -1,6 +1,6 @@
 use Rattle.std.proofs.Common.{drop}
 use Rattle.hg_io.specs.Printing.{IsPutUpTo, desk}
-use Rattle.hg_model.specs.Report.{printed_texts}
+use Rattle.hg_outcome.specs.Report.{printed_texts}
 use Rattle.hg_report.proofs.printed.write_texts.Given as goal
 
 abbrev pub invariant-loop-printed : goal.invariant-loop-printed

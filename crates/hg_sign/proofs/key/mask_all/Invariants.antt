@@ -1,5 +1,5 @@
 use Rattle.std.proofs.Common.{◌≡◌, ◌++◌, take, drop}
-use Rattle.hg_model.specs.Signing.{masked}
+use Rattle.hg_life.specs.Signing.{masked}
 use Rattle.hg_sign.proofs.key.mask_all.Given as goal
 
 abbrev pub invariant-loop-byte : goal.invariant-loop-byte

@@ -1,5 +1,5 @@
 use Rattle.std.proofs.lemmas.Slice.Eq.{bytes_eq-Decides}
-use Rattle.hg_model.specs.Signing.{signature_of}
+use Rattle.hg_life.specs.Signing.{signature_of}
 use Rattle.hg_sign.proofs.laws.one_signature.Goals as goal
 
 pub returns : goal.returns

@@ -1,5 +1,5 @@
 use Rattle.std.proofs.Common.{◌≡◌, ◌∙◌, List, ap, ap₂, subst}
-use Rattle.hg_model.specs.Members.{MemberList}
+use Rattle.hg_life.specs.Members.{MemberList}
 use Rattle.hg_script.specs.declared.line.Line.{Line}
 use Rattle.hg_play.specs.Play.{IsSafePlay, summary}
 use Rattle.hg_report.specs.Summary.{summary_text}

@@ -1,5 +1,5 @@
 use Rattle.std.proofs.Common.{◌≡◌, ◌∙◌, List, ap, refl, subst}
-use Rattle.hg_model.specs.Report.{report_text}
+use Rattle.hg_outcome.specs.Report.{report_text}
 use Rattle.hg_script.specs.declared.line.Line.{Line}
 use Rattle.hg_play.specs.Agree.{IsAgreed}
 use Rattle.hg_play.specs.Play.{IsSafePlay, play}

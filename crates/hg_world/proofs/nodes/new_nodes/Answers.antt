@@ -1,6 +1,6 @@
 use Rattle.std.proofs.Common.{◌∙◌, ◌++◌, ◌∷◌, [], List, ap₂, sym, zero-add}
 use Rattle.std.proofs.lemmas.List.FromFn.{map-range_with_len_more}
-use Rattle.hg_model.specs.NodeView.{NodeView}
+use Rattle.hg_life.specs.NodeView.{NodeView}
 use Rattle.hg_world.specs.World.{Secrets, new_node}
 use Rattle.hg_world.proofs.nodes.new_nodes.Goals as goal
 

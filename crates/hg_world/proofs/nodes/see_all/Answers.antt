@@ -1,8 +1,8 @@
 use Rattle.std.proofs.Common.{◌∙◌, All, List, ap, get_or, subst, sym, take, arith}
 use Rattle.std.proofs.lemmas.List.{take_all}
 use Rattle.std.proofs.lemmas.List.Elements.{All-push}
-use Rattle.hg_model.specs.NodeView.{NodeView, IsNode}
-use Rattle.hg_model.specs.Signing.{accepts_by}
+use Rattle.hg_life.specs.NodeView.{NodeView, IsNode}
+use Rattle.hg_life.specs.Signing.{accepts_by}
 use Rattle.hg_world.specs.World.{Secrets}
 use Rattle.hg_world.proofs.StepLaws.{taken_more}
 use Rattle.hg_world.proofs.nodes.see_all.Goals as goal

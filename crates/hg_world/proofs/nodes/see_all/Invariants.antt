@@ -1,6 +1,6 @@
 use Rattle.std.proofs.Common.{All, take}
-use Rattle.hg_model.specs.NodeView.{IsNode}
-use Rattle.hg_model.specs.Signing.{accepts_by}
+use Rattle.hg_life.specs.NodeView.{IsNode}
+use Rattle.hg_life.specs.Signing.{accepts_by}
 use Rattle.hg_world.proofs.nodes.see_all.Given as goal
 
 abbrev pub invariant-loop-node : goal.invariant-loop-node

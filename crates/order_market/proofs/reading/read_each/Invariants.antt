@@ -1,5 +1,5 @@
 use Rattle.std.proofs.Common.{◌≡◌, map, take}
-use Rattle.hg_model.specs.NodeView.{node_rows}
+use Rattle.hg_life.specs.NodeView.{node_rows}
 use Rattle.order_match.specs.Books.{with_events}
 use Rattle.order_market.specs.Market.{event_in}
 use Rattle.order_market.proofs.reading.read_each.Given as goal

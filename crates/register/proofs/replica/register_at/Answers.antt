@@ -1,5 +1,5 @@
 use Rattle.std.proofs.Common.{◌∙◌, ap}
-use Rattle.hg_model.specs.NodeView.{NodeView, kept_of, node_rows}
+use Rattle.hg_life.specs.NodeView.{NodeView, kept_of, node_rows}
 use Rattle.hg_world.specs.World.{Secrets}
 use Rattle.register.specs.Replicas.{register_in}
 use Rattle.register.proofs.ReplicaLaws.{site_register}

@@ -1,5 +1,5 @@
 use Rattle.std.proofs.Common.{◌≡◌, take}
-use Rattle.hg_model.specs.NodeView.{kept_of, node_rows}
+use Rattle.hg_life.specs.NodeView.{kept_of, node_rows}
 use Rattle.register.specs.Replicas.{register_in}
 use Rattle.register.proofs.replica.register_of.Given as goal
 

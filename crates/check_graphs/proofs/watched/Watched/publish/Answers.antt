@@ -1,6 +1,6 @@
 use Rattle.std.proofs.Common.{arith, subst, sym}
 use Rattle.hg_model.specs.Prefix.{Graph}
-use Rattle.hg_model.specs.NodeView.{node_state}
+use Rattle.hg_life.specs.NodeView.{node_state}
 use Rattle.check_graphs.specs.Moments.{IsMomentOf}
 use Rattle.check_graphs.proofs.MomentLaws.{speaks_later}
 use Rattle.check_graphs.proofs.watched.Watched.publish.Goals as goal

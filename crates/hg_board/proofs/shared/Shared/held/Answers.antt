@@ -1,6 +1,6 @@
 use Rattle.std.proofs.Common.{◌≡◌, ◌∙◌, subst}
 use Rattle.std.specs.Prelude.{IfOk}
-use Rattle.hg_model.specs.NodeView.{node_rows}
+use Rattle.hg_life.specs.NodeView.{node_rows}
 use Rattle.hg_gossip.specs.Holding.{row_names}
 use Rattle.hg_board.specs.Seats.{seat_view_of}
 use Rattle.hg_board.proofs.CallLaws.{HasRead, reads_at}

@@ -1,6 +1,6 @@
 use Rattle.std.proofs.Common.{◌≡◌, ◌∙◌, subst}
 use Rattle.std.specs.Prelude.{IfOk}
-use Rattle.hg_model.specs.NodeView.{kept_of}
+use Rattle.hg_life.specs.NodeView.{kept_of}
 use Rattle.hg_board.specs.Seats.{seat_view_of}
 use Rattle.hg_board.proofs.CallLaws.{HasRead, reads_at}
 use Rattle.hg_board.proofs.SeatLaws.{node_inside}

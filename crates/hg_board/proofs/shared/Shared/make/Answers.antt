@@ -1,7 +1,7 @@
 use Rattle.std.proofs.Common.{◌≡◌, ◌∙◌, None}
 use Rattle.std.specs.Prelude.{IfOk, OnErr}
 use Rattle.std.specs.Option.{option_to_list}
-use Rattle.hg_model.specs.Calls.{make_draft}
+use Rattle.hg_life.specs.Calls.{make_draft}
 use Rattle.hg_board.specs.Seats.{seat_view_of}
 use Rattle.hg_gossip.specs.Holding.{WouldSign}
 use Rattle.hg_board.specs.Seats.{seen_by}

@@ -1,5 +1,5 @@
 use Rattle.std.proofs.Common.{◌≡◌, ◌<◌, ◌∙◌, true, subst, sym}
-use Rattle.hg_model.specs.Spelling.{spelling}
+use Rattle.hg_life.specs.Spelling.{spelling}
 use Rattle.hg_model.specs.Stakes.{member_count}
 use Rattle.hg_node.specs.Puts.{is_signed}
 use Rattle.hg_board.specs.Seats.{seat_view_of}

@@ -1,5 +1,5 @@
 use Rattle.std.proofs.Common.{◌≡◌, [], ◌∷◌, ◌++◌, length, Some, sym, ap, ◌∙◌, subst}
-use Rattle.hg_model.specs.NodeView.{IsNode}
+use Rattle.hg_life.specs.NodeView.{IsNode}
 use Rattle.hg_board.proofs.MoveLaws.{starts}
 use Rattle.hg_board.proofs.shared.Shared.start.Goals as goal
 

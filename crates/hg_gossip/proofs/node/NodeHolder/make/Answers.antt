@@ -1,6 +1,6 @@
 use Rattle.std.proofs.Common.{◌≡◌, None}
 use Rattle.std.specs.Option.{option_to_list}
-use Rattle.hg_model.specs.Calls.{make_draft}
+use Rattle.hg_life.specs.Calls.{make_draft}
 use Rattle.hg_gossip.proofs.SeenLaws.{still_so, whole_made}
 use Rattle.hg_gossip.proofs.node.NodeHolder.make.Goals as goal
 

@@ -1,7 +1,7 @@
 use Rattle.std.proofs.Common.{◌≡◌, length}
-use Rattle.hg_model.specs.declared.answers.PutAnswer.TheVariants.{Accepted}
-use Rattle.hg_model.specs.Calls.{put_answer}
-use Rattle.hg_model.specs.NodeView.{node_rows}
+use Rattle.hg_life.specs.declared.answers.PutAnswer.TheVariants.{Accepted}
+use Rattle.hg_life.specs.Calls.{put_answer}
+use Rattle.hg_life.specs.NodeView.{node_rows}
 use Rattle.hg_gossip.proofs.SeenLaws.{still_so, whole_put}
 use Rattle.hg_gossip.proofs.node.NodeHolder.put.Goals as goal
 

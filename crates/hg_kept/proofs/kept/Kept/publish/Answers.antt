@@ -1,5 +1,5 @@
 use Rattle.std.proofs.Common.{◌≡◌, subst, sym, arith}
-use Rattle.hg_model.specs.GraphWords.{news_by, marks_by}
+use Rattle.hg_life.specs.StateWords.{news_by, marks_by}
 use Rattle.hg_kept.specs.Published.{PublishedWithRoom, Keeps, FindsNewsOf}
 use Rattle.hg_kept.proofs.PublishLaws.{inside, marks_published, count_published, keeps_published}
 use Rattle.hg_kept.proofs.kept.Kept.publish.Goals as goal

@@ -2,9 +2,9 @@ use Rattle.std.proofs.Common.{◌≡◌, ◌∙◌, ◌+◌, ◌*◌, ◌≤◌,
 use Rattle.std.specs.Vec.{vec_capacity}
 use Rattle.hg_model.specs.declared.row.Row.{Row}
 use Rattle.hg_model.specs.Graph.{IsGraph}
-use Rattle.hg_model.specs.History.{with_row}
+use Rattle.hg_life.specs.History.{with_row}
 use Rattle.hg_model.specs.Prefix.{Graph}
-use Rattle.hg_model.specs.GraphWords.{state_by}
+use Rattle.hg_life.specs.StateWords.{state_by}
 use Rattle.hg_graph.specs.Held.{graph_with}
 use Rattle.hg_kept.specs.Published.{Published, Keeps, TookRow}
 use Rattle.hg_pay.specs.Account.{Account}

@@ -1,5 +1,5 @@
 use Rattle.std.proofs.Common.{◌∙◌, ap, sym}
-use Rattle.hg_model.specs.History.{State}
+use Rattle.hg_life.specs.History.{State}
 use Rattle.hg_model.specs.Order.{last_closed}
 use Rattle.hg_model.specs.GraphWords.{last_closed_in}
 use Rattle.hg_node.specs.ChronicleView.{ChronicleView}

@@ -1,5 +1,5 @@
 use Rattle.std.proofs.Common.{◌∙◌, ap, length, sym}
-use Rattle.hg_model.specs.Pay.{Book}
+use Rattle.hg_life.specs.Pay.{Book}
 use Rattle.hg_pay.proofs.OrderLaws.{many_effects}
 use Rattle.hg_node.specs.ChronicleView.{ChronicleView, book_in}
 use Rattle.hg_node.proofs.RecordLaws.{book_is}

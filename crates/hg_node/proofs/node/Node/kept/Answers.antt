@@ -1,7 +1,7 @@
 use Rattle.std.proofs.Common.{◌<◌, ◌∙◌, All, List, length, ap, subst, sym}
 use Rattle.hg_model.specs.declared.row.Placed.{Placed}
 use Rattle.hg_model.specs.declared.row.Row.{Row}
-use Rattle.hg_model.specs.Kept.{kept}
+use Rattle.hg_life.specs.Kept.{kept}
 use Rattle.hg_node.specs.ChronicleView.{ChronicleView, chronicle_state}
 use Rattle.hg_node.proofs.RecordLaws.{state_is}
 use Rattle.hg_node.proofs.node.Node.kept.Goals as goal

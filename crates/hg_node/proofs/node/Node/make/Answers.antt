@@ -1,6 +1,6 @@
 use Rattle.std.proofs.Common.{◌≡◌, ◌∙◌, [], ◌∷◌, ◌++◌, ℕ, length, ap, subst, sym, arith}
 use Rattle.std.specs.Option.{option_to_list}
-use Rattle.hg_model.specs.declared.entry.Entry.TheVariants as entry
+use Rattle.hg_life.specs.declared.entry.Entry.TheVariants as entry
 use Rattle.hg_model.specs.Graph.{IsGraph}
 use Rattle.hg_model.specs.Prefix.{Graph}
 use Rattle.hg_node.specs.ChronicleView.{ChronicleView, chronicle_with, node_view, IsRecorded}

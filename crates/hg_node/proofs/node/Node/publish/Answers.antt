@@ -1,5 +1,5 @@
 use Rattle.std.proofs.Common.{◌∙◌, ap, subst, sym}
-use Rattle.hg_model.specs.NodeView.{NodeView, node_state}
+use Rattle.hg_life.specs.NodeView.{NodeView, node_state}
 use Rattle.hg_history.specs.News.{FindsNews}
 use Rattle.hg_kept.specs.Published.{FindsNewsOf}
 use Rattle.hg_node.specs.ChronicleView.{ChronicleView, chronicle_news, news_in, node_view}

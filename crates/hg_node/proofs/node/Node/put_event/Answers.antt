@@ -1,5 +1,5 @@
 use Rattle.std.proofs.Common.{[], ◌∷◌, ◌++◌, ◌∙◌, ap, subst, sym}
-use Rattle.hg_model.specs.Spelling.{spelling}
+use Rattle.hg_life.specs.Spelling.{spelling}
 use Rattle.hg_model.specs.Graph.{IsGraph}
 use Rattle.hg_node.specs.ChronicleView.{ChronicleView, node_view}
 use Rattle.hg_node.proofs.PutLaws.{IsPut, event_ends, event_refused, event_taken}

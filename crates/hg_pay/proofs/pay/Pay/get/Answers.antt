@@ -2,8 +2,8 @@ use Rattle.std.proofs.Common.{◌≡◌, ◌<◌, ◌∙◌, [], arith, length, 
 use Rattle.std.specs.Option.{option_map}
 use Rattle.std.proofs.lemmas.List.{length-map}
 use Rattle.std.proofs.lemmas.Option.{slice_get-get_or, slice_get-map}
-use Rattle.hg_model.specs.declared.pay.Transfer.{Transfer}
-use Rattle.hg_model.specs.Pay.{transfer_in}
+use Rattle.hg_life.specs.declared.pay.Transfer.{Transfer}
+use Rattle.hg_life.specs.Pay.{transfer_in}
 use Rattle.hg_pay.proofs.pay.Pay.get.Goals as goal
 
 pub returns : goal.returns

@@ -1,5 +1,5 @@
 use Rattle.std.proofs.Common.{ap, map, ◌∙◌}
-use Rattle.hg_model.specs.declared.members.MemberEntry.{MemberEntry}
+use Rattle.hg_life.specs.declared.members.MemberEntry.{MemberEntry}
 use Rattle.hg_sign.proofs.Secrets.{accepts_alike, signs_alike}
 use Rattle.hg_sign.proofs.table.MacTable.new.Goals as goal
 

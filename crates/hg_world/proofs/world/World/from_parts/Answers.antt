@@ -1,6 +1,6 @@
 use Rattle.std.proofs.Common.{◌≡◌, ◌∙◌, List, ap, subst, sym, arith}
 use Rattle.std.specs.Prelude.{vec_capacity}
-use Rattle.hg_model.specs.NodeView.{NodeView}
+use Rattle.hg_life.specs.NodeView.{NodeView}
 use Rattle.hg_model.specs.Prefix.{Graph}
 use Rattle.hg_model.specs.Stakes.{member_count}
 use Rattle.hg_world.specs.World.{Secrets, Site}

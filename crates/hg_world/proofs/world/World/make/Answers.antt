@@ -1,7 +1,7 @@
 use Rattle.std.proofs.Common.{◌≡◌, ◌<◌, ◌∙◌, length, refl, ap}
 use Rattle.std.specs.Prelude.{vec_capacity}
 use Rattle.std.specs.Option.{option_to_list}
-use Rattle.hg_model.specs.Calls.{make_changes}
+use Rattle.hg_life.specs.Calls.{make_changes}
 use Rattle.hg_world.specs.World.{Site, WorldView, node_at, with_node_at}
 use Rattle.hg_world.specs.Steps.{node_made, own_signature}
 use Rattle.hg_world.specs.Parts.{world_of}

@@ -1,6 +1,6 @@
 use Rattle.std.proofs.Common.{◌≡◌, ◌<◌, ◌∙◌, length, subst, sym}
 use Rattle.std.specs.Prelude.{vec_capacity}
-use Rattle.hg_model.specs.Signing.{accepts_by}
+use Rattle.hg_life.specs.Signing.{accepts_by}
 use Rattle.hg_gossip.proofs.AloneLaws.{made_alone, waits_alone}
 use Rattle.hg_world.specs.World.{Secrets, WorldView, site_of, with_site}
 use Rattle.hg_world.specs.Syncs.{HasMadeAfter}

@@ -1,6 +1,6 @@
 use Rattle.std.proofs.Common.{◌<◌, ◌∙◌, length, subst, sym, ap}
 use Rattle.std.specs.Prelude.{vec_capacity}
-use Rattle.hg_model.specs.NodeView.{node_rows}
+use Rattle.hg_life.specs.NodeView.{node_rows}
 use Rattle.hg_gossip.specs.Handing.{AreKnown}
 use Rattle.hg_world.specs.World.{Site, WorldView, nodes_of, rows_at}
 use Rattle.hg_world.specs.Parts.{rows_of_each, world_of}

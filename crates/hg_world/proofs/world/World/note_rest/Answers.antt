@@ -1,7 +1,7 @@
 use Rattle.std.proofs.Common.{◌<◌, ◌∙◌, length, subst, sym, ap}
 use Rattle.std.specs.Prelude.{vec_capacity}
-use Rattle.hg_model.specs.Gossip.{lacking}
-use Rattle.hg_model.specs.NodeView.{node_rows}
+use Rattle.hg_model.specs.Held.{lacking}
+use Rattle.hg_life.specs.NodeView.{node_rows}
 use Rattle.hg_graph.specs.RowsWithRoom.{rows_of}
 use Rattle.hg_gossip.specs.Handing.{LacksOf}
 use Rattle.hg_world.specs.World.{Site, WorldView, nodes_of, rows_at}

@@ -1,7 +1,7 @@
 use Rattle.std.proofs.Common.{◌<◌, ◌∙◌, ap, length}
 use Rattle.std.specs.Prelude.{vec_capacity}
-use Rattle.hg_model.specs.Calls.{publish_changes}
-use Rattle.hg_model.specs.NodeView.{NodeView, with_changes}
+use Rattle.hg_life.specs.Calls.{publish_changes}
+use Rattle.hg_life.specs.NodeView.{NodeView, with_changes}
 use Rattle.hg_world.specs.World.{Secrets, WorldView}
 use Rattle.hg_world.specs.Parts.{world_of}
 use Rattle.hg_world.proofs.PartLaws.{changed, low_in}

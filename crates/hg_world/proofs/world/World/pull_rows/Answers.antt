@@ -1,5 +1,5 @@
 use Rattle.std.proofs.Common.{◌∙◌, ap, map, arith}
-use Rattle.hg_model.specs.Spelling.{spelling}
+use Rattle.hg_life.specs.Spelling.{spelling}
 use Rattle.hg_graph.specs.RowsWithRoom.{rows_of}
 use Rattle.hg_gossip.specs.Taking.{bytes_of}
 use Rattle.hg_gossip.proofs.TakingLaws.{bytes_length}

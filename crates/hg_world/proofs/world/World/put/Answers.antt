@@ -1,7 +1,7 @@
 use Rattle.std.proofs.Common.{◌<◌, length}
 use Rattle.std.specs.Prelude.{vec_capacity}
-use Rattle.hg_model.specs.Calls.{put_changes}
-use Rattle.hg_model.specs.Signing.{accepts_by}
+use Rattle.hg_life.specs.Calls.{put_changes}
+use Rattle.hg_life.specs.Signing.{accepts_by}
 use Rattle.hg_world.specs.World.{WorldView}
 use Rattle.hg_world.specs.Parts.{world_of}
 use Rattle.hg_world.proofs.PartLaws.{changed, low_in}

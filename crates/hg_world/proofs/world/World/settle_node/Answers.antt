@@ -1,6 +1,6 @@
 use Rattle.std.proofs.Common.{◌<◌, ◌∙◌, ℕ, length, slice_set, ap, ap₂}
 use Rattle.std.specs.Prelude.{vec_capacity}
-use Rattle.hg_model.specs.NodeView.{NodeView}
+use Rattle.hg_life.specs.NodeView.{NodeView}
 use Rattle.hg_world.specs.World.{Secrets, WorldView, site_of, with_site}
 use Rattle.hg_world.specs.Steps.{after_steps, settle_steps}
 use Rattle.hg_world.specs.Parts.{world_of}

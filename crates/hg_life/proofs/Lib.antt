@@ -1,0 +1,5 @@
+pub mod LastLaws
+pub mod MemberLaws
+pub mod RuleLaws
+mod WorkedHistory
+mod Worked

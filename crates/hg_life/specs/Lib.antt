@@ -1,0 +1,13 @@
+pub mod Members
+pub mod Pay
+pub mod Spelling
+pub mod Results
+pub mod Reading
+pub mod Signing
+pub mod Verdict
+pub mod Gossip
+pub mod History
+pub mod Kept
+pub mod NodeView
+pub mod Calls
+pub mod StateWords

@@ -1,5 +1,0 @@
-use Rattle.std.proofs.Common.{length}
-use Rattle.hg_model.proofs.lawful.+are_named_apart.Given as goal
-
-abbrev pub decreases-are_named_apart : goal.decreases-are_named_apart
-decreases-are_named_apart l = length l.entries.now
