@@ -6,14 +6,14 @@ ghost use Rattle.hg_life.specs.Spelling.{payload_limit};
 
 use crate::members::{entry, members_of};
 use crate::telling::equal;
-use hg_event::{encode, encode_body};
+use hg_event::encode_body;
 use hg_life::Transfer;
-use hg_made::generate;
-use hg_model::{Bytes, Memory, Name, Row};
+use hg_made::{Draws, generate};
+use hg_model::{Memory, Name, Sig};
 use hg_name::name_of;
 use hg_pay::write_pay;
 use hg_script::{Action, Gossip, Line, Part};
-use hg_sign::{MacTable, Signer};
+use hg_sign::{MacTable, signed_bytes};
 use std::alloc::Global;
 use std::process::Abort;
 use std::test::Fail;
@@ -26,28 +26,19 @@ fn keys_of_two(rt: &impl Abort, alloc: Global) -> Result<MacTable, Memory> {
     MacTable::new(alloc, &members_of(rt, entries))
 }
 
-/// An event of these fields, signed by its creator, and named.
-fn event_of(
+/// The signature and the name of an event of these fields, signed by its creator.
+fn signed(
     alloc: Global,
     keys: &MacTable,
     creator: u16,
     parents: Option<(Name, Name)>,
     time: u64,
     payload: &[u8],
-) -> Result<Row, Memory>
+) -> Result<(Sig, Name), Memory>
     requires { length payload.now ≤ payload_limit }
 {
-    let body = encode_body(alloc, creator, &parents, time, payload)?;
-    let mut row = Row {
-        creator,
-        parents,
-        time,
-        payload: Bytes::from_vec(Vec::from_slice(alloc, payload)?),
-        sig: keys.sign(creator, body.as_slice()),
-        name: [0; 48],
-    };
-    row.name = name_of(encode(alloc, &row)?.as_slice());
-    Ok(row)
+    let event = signed_bytes(alloc, keys, creator, &parents, time, payload)?;
+    Ok((event.sig, name_of(event.bytes.as_slice())))
 }
 
 /// The bytes are those of these digits.
@@ -85,11 +76,11 @@ fn first_events_have_these_digits(rt: HostRuntime) -> Result<(), Fail> {
     let alloc = rt.alloc();
     let keys = keys_of_two(&rt, alloc)?;
     for (creator, time, body, sig, name) in &FIRST {
-        let row = event_of(alloc, &keys, *creator, None, *time, &[])?;
+        let (found, called) = signed(alloc, &keys, *creator, None, *time, &[])?;
         let spelled = encode_body(alloc, *creator, &None, *time, &[])?;
         reads(&rt, alloc, 0, spelled.as_slice(), *body)?;
-        reads(&rt, alloc, 1, row.sig.as_slice(), *sig)?;
-        reads(&rt, alloc, 2, row.name.as_slice(), *name)?;
+        reads(&rt, alloc, 1, found.as_slice(), *sig)?;
+        reads(&rt, alloc, 2, called.as_slice(), *name)?;
     }
     Ok(())
 }
@@ -98,18 +89,18 @@ fn first_events_have_these_digits(rt: HostRuntime) -> Result<(), Fail> {
 fn the_sixth_event_has_a_coin_of_one(rt: HostRuntime) -> Result<(), Fail> {
     let alloc = rt.alloc();
     let keys = keys_of_two(&rt, alloc)?;
-    let mut own = event_of(alloc, &keys, 0, None, 1, &[])?.name;
-    let mut other = event_of(alloc, &keys, 1, None, 2, &[])?.name;
+    let (_, mut own) = signed(alloc, &keys, 0, None, 1, &[])?;
+    let (_, mut other) = signed(alloc, &keys, 1, None, 2, &[])?;
     for time in 3..7 {
         let creator = ((time + 1) % 2) as u16;
-        let row = event_of(alloc, &keys, creator, Some((own, other)), time, &[])?;
+        let (sig, name) = signed(alloc, &keys, creator, Some((own, other)), time, &[])?;
         if time == 3 {
-            reads(&rt, alloc, 0, &row.sig[..8], "246d65de200df602")?;
-            reads(&rt, alloc, 1, &row.name[..8], "e770aec0061280e1")?;
+            reads(&rt, alloc, 0, &sig[..8], "246d65de200df602")?;
+            reads(&rt, alloc, 1, &name[..8], "e770aec0061280e1")?;
         }
-        equal(&rt, 2, row.sig[32] >= 128, time == 6);
+        equal(&rt, 2, sig[32] >= 128, time == 6);
         own = other;
-        other = row.name;
+        other = name;
     }
     Ok(())
 }
@@ -130,11 +121,11 @@ fn transfers_have_these_digits(rt: HostRuntime) -> Result<(), Fail> {
         payload.as_slice(),
         "020001000000000000001e00010000000000000050",
     )?;
-    let row = event_of(alloc, &keys, 0, None, 1, payload.as_slice())?;
+    let (_, name) = signed(alloc, &keys, 0, None, 1, payload.as_slice())?;
     let spelled = encode_body(alloc, 0, &None, 1, payload.as_slice())?;
     let digits = "4847453100000000000000000000010015020001000000000000001e00010000000000000050";
     reads(&rt, alloc, 1, spelled.as_slice(), digits)?;
-    reads(&rt, alloc, 2, &row.name[..8], "c426c4e827faab19")?;
+    reads(&rt, alloc, 2, &name[..8], "c426c4e827faab19")?;
     Ok(())
 }
 
@@ -179,5 +170,7 @@ fn made_lines_are_drawn_so(rt: HostRuntime) -> Result<(), Fail> {
         second.secret.as_slice(),
         "00000000000000010000000000000001",
     )?;
+    equal(&rt, 4, second.stake, 1);
+    equal(&rt, 5, Draws::new(0).below(1 << 32), 335_903_614);
     Ok(())
 }

@@ -19,6 +19,7 @@ pub(crate) fn entry(
         name: Bytes::from_vec(Vec::from_slice(alloc, name)?),
         secret: Bytes::from_vec(Vec::from_slice(alloc, secret)?),
         balance,
+        stake: 1,
         has_node,
     })
 }
@@ -45,12 +46,13 @@ fn fault_of(alloc: Global, text: &str) -> Result<Option<MemberFault>, Memory> {
     }
 }
 
-/// The entry has this name, this secret, this balance, and a node or none.
-fn is_entry(rt: &impl Abort, entry: &MemberEntry, wanted: (&[u8], &[u8], u64, bool)) {
+/// The entry has this name, this secret, this balance, this stake, and a node or none.
+fn is_entry(rt: &impl Abort, entry: &MemberEntry, wanted: (&[u8], &[u8], u64, u32, bool)) {
     let found = (
         entry.name.as_slice(),
         entry.secret.as_slice(),
         entry.balance,
+        entry.stake,
         entry.has_node,
     );
     equal(rt, 0, found, wanted);
@@ -59,7 +61,7 @@ fn is_entry(rt: &impl Abort, entry: &MemberEntry, wanted: (&[u8], &[u8], u64, bo
 #[test]
 fn members_are_read(rt: HostRuntime) -> Result<(), Fail> {
     let text =
-        "coin = 100\n[[member]]\nname = \"\\u0041\"\nsecret = \"0b0C\"\nbalance = 9223372036854775807\n[[member]]\nname = 'm_1'\nsecret = \"\"\"0d\"\"\"\nnode = false\nstake = 0\n";
+        "coin = 100\n[[member]]\nname = \"\\u0041\"\nsecret = \"0b0C\"\nbalance = 9223372036854775807\n[[member]]\nname = 'm_1'\nsecret = \"\"\"0d\"\"\"\nnode = false\nstake = 4_294_967_295\nother = 0\n";
     let Ok(members) = read_members(rt.alloc(), text.as_bytes())? else {
         return Err("refused".into());
     };
@@ -70,14 +72,18 @@ fn members_are_read(rt: HostRuntime) -> Result<(), Fail> {
     is_entry(
         &rt,
         first,
-        (b"A", &[0x0b, 0x0c], 9_223_372_036_854_775_807, true),
+        (b"A", &[0x0b, 0x0c], 9_223_372_036_854_775_807, 1, true),
     );
-    is_entry(&rt, &members.entries()[1], (b"m_1", &[0x0d], 0, false));
+    is_entry(
+        &rt,
+        &members.entries()[1],
+        (b"m_1", &[0x0d], 0, 4_294_967_295, false),
+    );
     Ok(())
 }
 
 // What an implementation in another language answers to these files.
-const FAULTS: [(&str, MemberFault); 11] = [
+const FAULTS: [(&str, MemberFault); 14] = [
     (
         "coin = 10\ncoin = 10\n[[member]]\nname = \"A\"\nsecret = \"0b0b\"\n",
         MemberFault::NotToml,
@@ -104,6 +110,18 @@ const FAULTS: [(&str, MemberFault); 11] = [
     ),
     (
         "[[member]]\nname = \"B\"\nsecret = \"0c0c\"\n[[member]]\nname = \"A\"\nsecret = \"0b\"\nnode = 1\n",
+        MemberFault::BadNode(1),
+    ),
+    (
+        "[[member]]\nname = \"A\"\nsecret = \"0b\"\nstake = 4294967296\n[[member]]\nname = \"B\"\nsecret = \"0c0c\"\nbalance = -1\n",
+        MemberFault::BadStake(0),
+    ),
+    (
+        "[[member]]\nname = \"B\"\nsecret = \"0c0c\"\n[[member]]\nname = \"A\"\nsecret = \"0b\"\nstake = true\n",
+        MemberFault::BadStake(1),
+    ),
+    (
+        "[[member]]\nname = \"B\"\nsecret = \"0c0c\"\n[[member]]\nname = \"A\"\nsecret = \"0b\"\nstake = 1.0\nnode = 1\n",
         MemberFault::BadNode(1),
     ),
     (

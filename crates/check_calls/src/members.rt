@@ -15,6 +15,7 @@ pub(crate) fn entry(
         name: Bytes::from_vec(Vec::from_slice(alloc, name)?),
         secret: Bytes::from_vec(Vec::from_slice(alloc, &[secret])?),
         balance,
+        stake: 1,
         has_node,
     })
 }

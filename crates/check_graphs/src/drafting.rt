@@ -2,11 +2,10 @@ ghost use Rattle.std.specs.Prelude.{◌<◌};
 
 use crate::plan::Plan;
 use hg_check::Dice;
-use hg_event::{encode, encode_body};
-use hg_model::{Bytes, Member, Memory, Name, Row};
+use hg_model::{Member, Memory, Name};
 use hg_name::name_of;
 use hg_node::Node;
-use hg_sign::{MacTable, Signer};
+use hg_sign::{MacTable, signed_bytes};
 use std::alloc::Global;
 
 /// An event to come.
@@ -126,16 +125,7 @@ pub fn signed_event(
     keys: &MacTable,
     draft: &Draft,
 ) -> Result<(Vec<u8>, Name), Memory> {
-    let body = encode_body(alloc, draft.creator, &draft.parents, draft.time, &[])?;
-    let row = Row {
-        creator: draft.creator,
-        parents: draft.parents,
-        time: draft.time,
-        payload: Bytes::new(alloc),
-        sig: keys.sign(draft.creator, body.as_slice()),
-        name: [0; 48],
-    };
-    let bytes = encode(alloc, &row)?;
-    let name = name_of(bytes.as_slice());
-    Ok((bytes, name))
+    let event = signed_bytes(alloc, keys, draft.creator, &draft.parents, draft.time, &[])?;
+    let name = name_of(event.bytes.as_slice());
+    Ok((event.bytes, name))
 }

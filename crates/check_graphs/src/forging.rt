@@ -1,8 +1,7 @@
 use hg_check::Dice;
-use hg_event::{encode, encode_body};
-use hg_model::{Bytes, Member, Memory, Name, Row};
+use hg_model::{Member, Memory, Name};
 use hg_node::Node;
-use hg_sign::{MacTable, SharedTable, Signer};
+use hg_sign::{MacTable, SharedTable, signed_bytes};
 use std::alloc::Global;
 
 /// The name of the row by a member that is so many before the last one at the node.
@@ -50,16 +49,8 @@ pub fn forged_event(
         return Ok(None);
     };
     let time = u64::from(dice.below(24));
-    let body = encode_body(alloc, creator, &parents, time, &[])?;
-    let row = Row {
-        creator,
-        parents,
-        time,
-        payload: Bytes::new(alloc),
-        sig: keys.sign(creator, body.as_slice()),
-        name: [0; 48],
-    };
-    Ok(Some(encode(alloc, &row)?))
+    let event = signed_bytes(alloc, keys, creator, &parents, time, &[])?;
+    Ok(Some(event.bytes))
 }
 
 /// Changes one of the bytes.

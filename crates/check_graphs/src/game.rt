@@ -192,7 +192,7 @@ fn is_told_alike(node: &Node<&MacTable>, whole: &PlainWhole, tables: &PlainPrefi
 pub fn play(alloc: Global, number: u32) -> Result<bool, Memory> {
     let mut dice = Dice::new(number);
     let plan = plan_of(number, &mut dice);
-    let members = members_of(alloc, plan.members, plan.coin)?;
+    let members = members_of(alloc, plan.members, plan.coin, plan.weighed)?;
     let keys = MacTable::new(alloc, &members)?;
     play_plan(alloc, number, dice, plan, &members, &keys)
 }

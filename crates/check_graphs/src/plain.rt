@@ -4,7 +4,7 @@ ghost use Rattle.hg_model.specs.Prefix.{graph_of};
 ghost use Rattle.hg_life.specs.NodeView.{kept_of, last_closed_of, node_rows};
 
 use hg_check::are_equal;
-use hg_model::{Memory, Prefix, Row, Sight};
+use hg_model::{Member, Memory, Prefix, Row, Sight, is_of_graph};
 use hg_node::Node;
 use hg_plain::{PlainPrefix, PlainSight, PlainWhole, plain_whole};
 use hg_sign::MacTable;
@@ -28,6 +28,18 @@ fn copy_of(row: &Row) -> Result<Row, Memory>
     Ok(row.clone()?)
 }
 
+/// What the members of the node's graph weigh.
+fn stakes_of(alloc: Global, node: &Node<&MacTable>) -> Result<Vec<u32>, Memory>
+    ensures { IfOk result (λ stakes. stakes.items ≡ node.now.start.members) }
+{
+    let graph = node.graph();
+    let mut stakes = Vec::new(alloc);
+    for member in 0..graph.members() {
+        stakes.push(graph.stake(member as Member))?;
+    }
+    Ok(stakes)
+}
+
 /// All that the plain program tells of the node's rows.
 #[tactic(auto, using(hg_model::proofs::LinkLaws::link_lengths))]
 pub fn whole_of(alloc: Global, node: &Node<&MacTable>) -> Result<PlainWhole, Memory>
@@ -35,10 +47,10 @@ pub fn whole_of(alloc: Global, node: &Node<&MacTable>) -> Result<PlainWhole, Mem
     ensures closed { IfOk result (λ whole. whole.state.closed ≡ closed_of node.now.start.members node.now.start.coin (node_rows node.now)) }
 {
     let rows = rows_of(alloc, node)?;
+    let stakes = stakes_of(alloc, node)?;
     let graph = node.graph();
-    // A graph has few rows.
-    graph.rows();
-    plain_whole(alloc, &rows, graph.members(), graph.coin())
+    is_of_graph(graph);
+    plain_whole(alloc, &rows, &stakes, graph.coin())
 }
 
 /// Whether the node's kept order and last closed round are those that the plain program tells.
@@ -59,9 +71,9 @@ pub fn tables_of<'b>(
     requires { rows.now ≡ node_rows node.now }
     ensures { IfOk result (λ tables. tables ≡ graph_of node.now.start.members node.now.start.coin (node_rows node.now)) }
 {
+    let stakes = stakes_of(alloc, node)?;
     let graph = node.graph();
-    // A graph has few rows.
-    graph.rows();
-    let sight = PlainSight::new(alloc, rows, graph.members())?;
+    is_of_graph(graph);
+    let sight = PlainSight::new(alloc, rows, &stakes)?;
     PlainPrefix::new(alloc, rows, sight, graph.coin())
 }

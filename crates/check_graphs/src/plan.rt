@@ -1,6 +1,6 @@
 ghost use Rattle.std.specs.Prelude.{◌≡◌, ◌≤◌, ◌<◌, IfOk};
 ghost use Rattle.hg_life.specs.Members.{listed};
-ghost use Rattle.check_graphs.specs.Made.{made_entry, made_entries};
+ghost use Rattle.check_graphs.specs.Made.{made_entries, made_entry, made_stake};
 
 use hg_check::Dice;
 use hg_life::{MemberEntry, Members};
@@ -14,9 +14,12 @@ pub struct Plan {
     pub members: u32,
     /// 3 to 6 rounds.
     pub coin: u32,
+    /// Whether members have stakes that differ, as those of every second graph. Of any stake less than a third is one
+    /// member's who may fork.
+    pub weighed: bool,
     /// How many events are made. Some of them are refused.
     pub events: u32,
-    /// The members who fork. Where both would be a third of all or more, one does not come to it.
+    /// The members who fork. Where both would have a third of the stake or more, one does not come to it.
     pub forkers: Option<(u32, u32)>,
     /// Times rise with the rows, so that they fall on no line. Else they are drawn.
     pub rising: bool,
@@ -42,36 +45,49 @@ pub fn plan_of(number: u32, dice: &mut Dice) -> Plan {
     Plan {
         members,
         coin: 3 + dice.below(4),
+        weighed: number / 2 % 2 == 1,
         events: 44 + 11 * members + dice.below(12),
         forkers,
         rising: number % 2 == 0,
     }
 }
 
-/// So many members, A, B, C and so on.
-pub fn members_of(alloc: Global, count: u32, coin: u32) -> Result<Members, Memory>
+/// So many members, A, B, C and so on, of stakes that differ or of 1 each.
+pub fn members_of(alloc: Global, count: u32, coin: u32, weighed: bool) -> Result<Members, Memory>
     requires some { 4 ≤ count }
     requires few { count ≤ 7 }
     requires coin_low { 3 ≤ coin }
     requires coin_high { coin ≤ 6 }
-    ensures { IfOk result (λ members. members ≡ listed (made_entries count) coin) }
+    ensures { IfOk result (λ members. members ≡ listed (made_entries weighed count) coin) }
 {
     let mut entries = Vec::new(alloc);
     for number in 0..count {
-        entries.push(entry_of(alloc, number as u8)?)?;
+        entries.push(entry_of(alloc, number as u8, weighed)?)?;
     }
     Ok(Members::new(entries, coin))
 }
 
+/// What the member of this number weighs.
+fn stake_of(number: u8, weighed: bool) -> u32
+    ensures { result ≡ made_stake weighed number }
+{
+    if weighed {
+        1 + (u32::from(number) + 3) % 4
+    } else {
+        1
+    }
+}
+
 /// The member of this number.
-pub fn entry_of(alloc: Global, number: u8) -> Result<MemberEntry, Memory>
+pub fn entry_of(alloc: Global, number: u8, weighed: bool) -> Result<MemberEntry, Memory>
     requires { number < 7 }
-    ensures { IfOk result (λ entry. entry ≡ made_entry number) }
+    ensures { IfOk result (λ entry. entry ≡ made_entry weighed number) }
 {
     Ok(MemberEntry {
         name: Bytes::from_vec(Vec::from_slice(alloc, &[b'A' + number])?),
         secret: Bytes::from_vec(Vec::from_slice(alloc, &[number])?),
         balance: 0,
+        stake: stake_of(number, weighed),
         has_node: true,
     })
 }

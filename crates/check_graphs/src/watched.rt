@@ -36,8 +36,7 @@ impl<'a> Watched<'a> {
         members: &Members,
         keys: &'a MacTable,
     ) -> Result<Watched<'a>, Memory> {
-        // There are members.
-        members.count();
+        members.is_lawful();
         Ok(Watched {
             node: Node::new(alloc, members, 0, keys)?,
             held: Vec::new(alloc),
@@ -68,7 +67,7 @@ impl<'a> Watched<'a> {
     /// Holds the graph as it is now, in the place of the moment with this number, where there is one.
     pub fn hold(&mut self, number: usize) -> Result<(), Memory> {
         rows_are_a_graph();
-        self.node.rows();
+        self.node.is_node();
         let frozen = self.node.freeze()?;
         if number < self.held.len() {
             self.held[number] = frozen;

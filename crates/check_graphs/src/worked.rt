@@ -92,8 +92,8 @@ fn play_pair(alloc: Global, members: &Members, keys: &MacTable) -> Result<bool, 
 /// Plays it, and tells whether the plain program finds in it what was worked.
 pub fn play_worked(alloc: Global) -> Result<bool, Memory> {
     let mut entries = Vec::new(alloc);
-    entries.push(entry_of(alloc, 0)?)?;
-    entries.push(entry_of(alloc, 1)?)?;
+    entries.push(entry_of(alloc, 0, false)?)?;
+    entries.push(entry_of(alloc, 1, false)?)?;
     let Ok(members) = Members::try_new(entries, 10) else {
         return Ok(false);
     };

@@ -259,7 +259,7 @@ fn publish_some(dice: &mut Dice, world: &mut World) -> Result<(), Memory> {
 pub fn play_world(alloc: Global, number: u32) -> Result<Played, Memory> {
     let mut dice = Dice::new(number);
     let plan = world_plan(number, &mut dice);
-    let members = members_of(alloc, plan.members, plan.coin)?;
+    let members = members_of(alloc, plan.members, plan.coin, false)?;
     let keys = MacTable::new(alloc, &members)?;
     play_plan(alloc, &mut dice, plan, &members, &keys)
 }

@@ -76,6 +76,18 @@ fn expect(rt: &impl Abort, ran: &Ran, status: Status, out: &str, err: &str) {
     assert!(rt; ran.err.bytes() == err.as_bytes());
 }
 
+const OF_SEVEN: &str =
+    "coin = 10\n[[member]]\nname = \"A\"\nsecret = \"0b0b0b0b\"\nbalance = 100\nstake = 7\n[[member]]\nname = \"B\"\nsecret = \"0c0c0c0c\"\nstake = 7\n";
+
+// Of two members with as much stake each no more is decided than of two with none given.
+#[test]
+fn two_members_of_a_greater_stake(rt: HostRuntime) -> Result<(), Fail> {
+    let alloc = rt.alloc();
+    let ran = run(&rt, alloc, RUN, OF_SEVEN, SCRIPT, &[], ample(alloc)?)?;
+    expect(&rt, &ran, Status::Done, REPORT, "");
+    Ok(())
+}
+
 // The last row of the table of failing reads: both files take six calls of the shelf, so that the seventh is none of them.
 #[test]
 fn two_members(rt: HostRuntime) -> Result<(), Fail> {
@@ -260,6 +272,11 @@ fn refused_member_files(rt: HostRuntime) -> Result<(), Fail> {
             "coin\n",
             MemberFault::NotToml,
             "hashgraph: members: not-toml\n",
+        ),
+        (
+            "[[member]]\nname = \"A\"\nsecret = \"0b\"\n[[member]]\nname = \"B\"\nsecret = \"0c\"\nstake = 0\n",
+            MemberFault::BadStake(1),
+            "hashgraph: members: stake 1\n",
         ),
     ] {
         let status = Status::Members(Refusal::Fault(fault));

@@ -1,4 +1,6 @@
-use crate::forking::{has_both_branches, sees_one_branch, strongly_sees_two};
+use crate::forking::{
+    has_both_branches, sees_one_branch, strongly_sees_by_stake, strongly_sees_two,
+};
 use crate::growing::{FORKED, add_all, fits};
 use crate::telling::equal;
 use hg_ancestry::BitSight;
@@ -7,7 +9,7 @@ use std::process::Abort;
 
 #[test]
 fn sees_none_by_who_forked(rt: HostRuntime) -> Result<(), Memory> {
-    let mut sight = BitSight::new(rt.alloc(), 4)?;
+    let mut sight = BitSight::new(rt.alloc(), &[1; 4])?;
     let told = [
         add_all(&mut sight, &FORKED)?,
         has_both_branches(&sight),
@@ -16,6 +18,19 @@ fn sees_none_by_who_forked(rt: HostRuntime) -> Result<(), Memory> {
     ];
     equal(&rt, 0, told, [true; 4]);
     equal(&rt, 1, (sight.rows(), sight.members()), (10, 4));
+    Ok(())
+}
+
+#[test]
+fn weighs_members_by_their_stakes(rt: HostRuntime) -> Result<(), Memory> {
+    let mut sight = BitSight::new(rt.alloc(), &[1, 1, 7, 1])?;
+    let told = [
+        add_all(&mut sight, &FORKED)?,
+        has_both_branches(&sight),
+        strongly_sees_by_stake(&sight),
+    ];
+    equal(&rt, 0, told, [true; 3]);
+    equal(&rt, 1, (sight.total(), sight.even()), (10, None));
     Ok(())
 }
 
@@ -38,7 +53,7 @@ fn goes_on(rt: &impl Abort, first: &mut BitSight) -> Result<(), Memory> {
 
 #[test]
 fn tells_of_the_first_rows_alone(rt: HostRuntime) -> Result<(), Memory> {
-    let mut sight = BitSight::new(rt.alloc(), 4)?;
+    let mut sight = BitSight::new(rt.alloc(), &[1; 4])?;
     assert!(rt; add_all(&mut sight, &FORKED)? && sight.rows() == 10);
     let mut first = sight.prefix(6)?;
     goes_on(&rt, &mut first)
@@ -46,7 +61,7 @@ fn tells_of_the_first_rows_alone(rt: HostRuntime) -> Result<(), Memory> {
 
 #[test]
 fn two_members_who_sync_in_turn(rt: HostRuntime) -> Result<(), Memory> {
-    let mut sight = BitSight::new(rt.alloc(), 2)?;
+    let mut sight = BitSight::new(rt.alloc(), &[1; 2])?;
     let rows = [
         (1, None),
         (0, None),

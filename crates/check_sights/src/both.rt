@@ -16,12 +16,12 @@ pub(crate) struct Both {
 }
 
 impl Both {
-    pub(crate) fn new(alloc: Global, members: u32) -> Result<Both, Memory>
-        requires { members ≤ 128 }
+    pub(crate) fn new(alloc: Global, stakes: &[u32]) -> Result<Both, Memory>
+        requires { length stakes.now ≤ 128 }
     {
         Ok(Both {
-            sight: BranchSight::new(alloc, members)?,
-            bits: BitSight::new(alloc, members)?,
+            sight: BranchSight::new(alloc, stakes)?,
+            bits: BitSight::new(alloc, stakes)?,
         })
     }
 

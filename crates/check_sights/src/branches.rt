@@ -1,5 +1,5 @@
 use crate::both::{Both, has_counts};
-use crate::forking::{has_both_branches, strongly_sees_two};
+use crate::forking::{has_both_branches, strongly_sees_by_stake, strongly_sees_two};
 use crate::growing::{FORKED, on};
 use crate::telling::equal;
 use hg_model::{Member, Memory, Parents, Sight};
@@ -13,15 +13,15 @@ fn add_forked(both: &mut Both, from: usize, every: usize) -> Result<bool, Memory
             return Ok(false);
         }
         if every > 0 && i % every == 0 {
-            both.sight.keep_last();
+            both.sight.mark_last();
         }
     }
     Ok(true)
 }
 
-/// The rows in both sights, if they fit.
-fn forked(alloc: Global, every: usize) -> Result<Both, Memory> {
-    let mut both = Both::new(alloc, 4)?;
+/// The rows in both sights, if they fit, among members of these stakes.
+fn forked(alloc: Global, stakes: &[u32; 4], every: usize) -> Result<Both, Memory> {
+    let mut both = Both::new(alloc, stakes)?;
     add_forked(&mut both, 0, every)?;
     Ok(both)
 }
@@ -43,7 +43,7 @@ fn agree_on_forked(both: &Both) -> Result<bool, Memory> {
 
 /// What both tell of the rows, of which each of so many is kept, or none.
 fn tells_forked(alloc: Global, every: usize) -> Result<[bool; 4], Memory> {
-    let both = forked(alloc, every)?;
+    let both = forked(alloc, &[1; 4], every)?;
     Ok([
         agree_on_forked(&both)?,
         has_both_branches(&both.sight),
@@ -52,11 +52,22 @@ fn tells_forked(alloc: Global, every: usize) -> Result<[bool; 4], Memory> {
     ])
 }
 
+/// The same where the third member has 7 of 10.
+fn tells_by_stake(alloc: Global, every: usize) -> Result<[bool; 3], Memory> {
+    let both = forked(alloc, &[1, 1, 7, 1], every)?;
+    Ok([
+        agree_on_forked(&both)?,
+        has_both_branches(&both.sight),
+        strongly_sees_by_stake(&both.sight),
+    ])
+}
+
 // No row, every row, every second or every third one is kept.
 #[test]
 fn tells_what_bit_rows_tell(rt: HostRuntime) -> Result<(), Memory> {
     for every in 0..4 {
         equal(&rt, every, tells_forked(rt.alloc(), every)?, [true; 4]);
+        equal(&rt, every, tells_by_stake(rt.alloc(), every)?, [true; 3]);
     }
     Ok(())
 }
@@ -83,7 +94,7 @@ fn add_turns(both: &mut Both, fork: bool) -> Result<bool, Memory> {
         if !both.add(parents, member as Member)? {
             return Ok(false);
         }
-        both.sight.keep_last();
+        both.sight.mark_last();
         last[member] = i;
     }
     Ok(true)
@@ -98,11 +109,12 @@ fn counts_tell(both: &Both, x: usize, y: usize) -> bool {
     {
         return false;
     }
-    let member = usize::from(both.sight.creator(y));
+    let member = both.sight.creator(y);
     match both.sight.counts(x) {
         None => false,
         Some(counts) => {
-            member < counts.len() && (y < counts[member] as usize) == both.bits.ancestor(x, y)
+            usize::from(member) < counts.len()
+                && (y < counts.at(member)) == both.bits.ancestor(x, y)
         }
     }
 }
@@ -130,7 +142,7 @@ fn counts_turns_in(both: &mut Both, fork: bool) -> Result<[bool; 4], Memory> {
 }
 
 fn counts_turns(alloc: Global, fork: bool) -> Result<[bool; 4], Memory> {
-    let mut both = Both::new(alloc, 4)?;
+    let mut both = Both::new(alloc, &[1; 4])?;
     counts_turns_in(&mut both, fork)
 }
 

@@ -1,4 +1,4 @@
-ghost use Rattle.std.specs.Prelude.{◌<◌};
+ghost use Rattle.std.specs.Prelude.{◌<◌, length};
 
 use crate::growing::{add, on};
 use crate::telling::{equal, holds};
@@ -25,7 +25,7 @@ const ROWS: [(Option<(usize, usize)>, usize); 12] = [
 ];
 
 /// One more than the last place that each row has among its ancestors on branches 0 to 3.
-const COUNTS: [[u16; 4]; 12] = [
+const COUNTS: [[usize; 4]; 12] = [
     [1, 0, 0, 0],
     [0, 2, 0, 0],
     [3, 2, 0, 0],
@@ -47,18 +47,29 @@ fn maker(x: usize) -> Member
     if ROWS[x].1 == 1 { 1 } else { 0 }
 }
 
-/// Adds a row. While no member has a fork, the sight gives the numbers of the members' own branches.
+/// Whether the sight gives the numbers of the members' own branches: it does while no member has a fork.
+fn is_counted(sight: &BranchSight, x: usize) -> bool
+    requires place { x < length sight.now.shape.links }
+    requires few { x < 12 }
+{
+    match sight.counts(x) {
+        None => 4 <= x,
+        Some(counts) => {
+            x < 4
+                && counts.len() == 2
+                && counts.at(0) == COUNTS[x][0]
+                && counts.at(1) == COUNTS[x][1]
+        }
+    }
+}
+
+/// Adds a row.
 fn grow(rt: &impl Abort, sight: &mut BranchSight, x: usize) -> Result<(), Memory>
     requires { x < 12 }
 {
     holds(rt, x, add(sight, on(ROWS[x].0), maker(x))?);
     assert!(rt; x < sight.rows());
-    equal(
-        rt,
-        x,
-        sight.counts(x),
-        if x < 4 { Some(&COUNTS[x][..2]) } else { None },
-    );
+    holds(rt, x, is_counted(sight, x));
     Ok(())
 }
 
@@ -68,14 +79,14 @@ fn matches(rt: &impl Abort, sight: &BranchSight, len: usize) {
     assert!(rt; sight.rows() == len && len <= 12);
     for x in 0..len {
         for y in 0..len {
-            let is_below = y < COUNTS[x][ROWS[y].1 % 4] as usize;
+            let is_below = y < COUNTS[x][ROWS[y].1 % 4];
             equal(rt, x, sight.ancestor(x, y), is_below);
         }
     }
 }
 
 fn forked(rt: &impl Abort, alloc: Global) -> Result<BranchSight, Memory> {
-    let mut sight = BranchSight::new(alloc, 2)?;
+    let mut sight = BranchSight::new(alloc, &[1; 2])?;
     for x in 0..12 {
         grow(rt, &mut sight, x)?;
     }

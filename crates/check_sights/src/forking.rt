@@ -28,6 +28,18 @@ pub(crate) fn strongly_sees_two<S: Sight>(sight: &S) -> bool {
         && !sight.strongly_sees(9, 6)
 }
 
+/// Where the third of the four members has 7 of 10, its own rows are enough to strongly see its first row, and the second
+/// member's beside them; the rows of the first and the fourth are not.
+pub(crate) fn strongly_sees_by_stake<S: Sight>(sight: &S) -> bool {
+    sight.rows() == 10
+        && sight.strongly_sees(0, 0)
+        && sight.strongly_sees(9, 0)
+        && sight.strongly_sees(9, 6)
+        && sight.strongly_sees(5, 2)
+        && !sight.strongly_sees(4, 2)
+        && !sight.strongly_sees(8, 6)
+}
+
 /// The third member's second row has one branch alone, and three members strongly see from there on.
 pub(crate) fn sees_one_branch<S: Sight>(sight: &S) -> bool {
     sight.rows() == 10

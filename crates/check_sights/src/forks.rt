@@ -9,20 +9,35 @@ use hg_forks::Watch;
 use hg_model::{Growing, Member, Memory, Parents, Sight};
 use std::process::Abort;
 
-/// How many members have a fork once each of the rows is there: the last member's rows 3 and 7 stand on one row.
-const FORKERS: [u32; 10] = [0, 0, 0, 0, 0, 0, 0, 1, 1, 1];
+/// What the four members weigh.
+const STAKES: [u32; 4] = [2, 3, 5, 7];
 
-/// The creator of a row that is not added, its parents, and how many members would have a fork with it: on the last row,
-/// on an earlier one, and on none; the last by a member that has a fork already.
-const OTHERS: [(Member, Option<(usize, usize)>, u32); 4] = [
-    (2, Some((9, 8)), 1),
-    (2, Some((5, 8)), 2),
-    (1, None, 2),
-    (3, None, 1),
+/// How many members have a fork once each of the rows is there, and their stake: the last member's rows 3 and 7 stand on
+/// one row.
+const FORKERS: [(u32, u64); 10] = [
+    (0, 0),
+    (0, 0),
+    (0, 0),
+    (0, 0),
+    (0, 0),
+    (0, 0),
+    (0, 0),
+    (1, 7),
+    (1, 7),
+    (1, 7),
+];
+
+/// The creator of a row that is not added, its parents, and what the members weigh that would have a fork with it: on the
+/// last row, on an earlier one, and on none; the last by a member that has a fork already.
+const OTHERS: [(Member, Option<(usize, usize)>, u64); 4] = [
+    (2, Some((9, 8)), 7),
+    (2, Some((5, 8)), 12),
+    (1, None, 10),
+    (3, None, 7),
 ];
 
 /// What the watch says of a row that fits the same rows in the sight.
-fn would(watch: &Watch, sight: &BitSight, parents: Parents, creator: Member) -> u32
+fn would(watch: &Watch, sight: &BitSight, parents: Parents, creator: Member) -> u64
     requires same { watch.now.shape ≡ self_shape sight.now.shape }
     requires fits { FitsLink sight.now.shape.members sight.now.shape.links (link_of creator parents) }
 {
@@ -60,7 +75,7 @@ fn grow(
     Ok(())
 }
 
-/// Each row would make so many members fork, and does once it is there.
+/// With each row members of so much stake would fork, and do once it is there.
 fn tells_all(rt: &impl Abort, watch: &mut Watch, sight: &mut BitSight) -> Result<(), Memory>
     requires { watch.old.shape ≡ self_shape sight.old.shape }
     ensures { OnOk result (watch.new.shape ≡ self_shape sight.new.shape) }
@@ -69,9 +84,9 @@ fn tells_all(rt: &impl Abort, watch: &mut Watch, sight: &mut BitSight) -> Result
         let (creator, pair) = FORKED[x];
         let parents = on(pair);
         assert!(rt; fits(&*sight, parents, creator));
-        equal(rt, x, would(watch, sight, parents, creator), FORKERS[x]);
+        equal(rt, x, would(watch, sight, parents, creator), FORKERS[x].1);
         grow(rt, watch, sight, parents, creator)?;
-        equal(rt, x, watch.forkers(), FORKERS[x]);
+        equal(rt, x, (watch.forkers(), watch.forking()), FORKERS[x]);
     }
     Ok(())
 }
@@ -80,11 +95,11 @@ fn tells_all(rt: &impl Abort, watch: &mut Watch, sight: &mut BitSight) -> Result
 fn tells_others(rt: &impl Abort, watch: &Watch, sight: &BitSight)
     requires { watch.now.shape ≡ self_shape sight.now.shape }
 {
-    for (creator, pair, forkers) in &OTHERS {
+    for (creator, pair, stake) in &OTHERS {
         let parents = on(*pair);
         assert!(rt; fits(sight, parents, *creator));
         let found = would(watch, sight, parents, *creator);
-        equal(rt, usize::from(*creator), found, *forkers);
+        equal(rt, usize::from(*creator), found, *stake);
     }
 }
 
@@ -100,8 +115,8 @@ fn tells_pairs(rt: &impl Abort, watch: &Watch, sight: &BitSight)
 
 #[test]
 fn tells_a_fork_when_its_second_row_comes(rt: HostRuntime) -> Result<(), Memory> {
-    let mut watch = Watch::new(rt.alloc(), 4)?;
-    let mut sight = BitSight::new(rt.alloc(), 4)?;
+    let mut watch = Watch::new(rt.alloc(), &STAKES)?;
+    let mut sight = BitSight::new(rt.alloc(), &STAKES)?;
     tells_all(&rt, &mut watch, &mut sight)?;
     tells_others(&rt, &watch, &sight);
     tells_pairs(&rt, &watch, &sight);

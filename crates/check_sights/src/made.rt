@@ -13,6 +13,9 @@ const GRAPHS: u32 = 50;
 /// And of how many rows.
 const ROWS: u32 = 72;
 
+/// What the members of every second graph weigh; of the others each weighs 1.
+const STAKES: [u32; 9] = [2, 7, 1, 8, 2, 8, 1, 8, 2];
+
 /// The next number of a linear congruence, of which the high bits are used.
 fn next(state: u64) -> u64 {
     state
@@ -59,7 +62,7 @@ fn play(both: &mut Both, number: u32, turns: u32) -> Result<(), Memory> {
         let early = number % 3 > 0 && u32::from(member) < members / 3 && below(state, 4) == 0;
         let parents = parents_by(&both.sight, state, member, early);
         if both.add(parents, member)? && below(state, 3) > 0 {
-            both.sight.keep_last();
+            both.sight.mark_last();
         }
     }
     Ok(())
@@ -67,7 +70,9 @@ fn play(both: &mut Both, number: u32, turns: u32) -> Result<(), Memory> {
 
 /// A made graph in both sights: how many rows they took, whether a row has a fork below it, and whether they agree.
 fn made(alloc: Global, number: u32) -> Result<(usize, bool, bool), Memory> {
-    let mut both = Both::new(alloc, 3 + number % 7)?;
+    let members = (3 + number % 7) as usize;
+    let stakes = if number / 7 % 2 == 0 { [1; 9] } else { STAKES };
+    let mut both = Both::new(alloc, &stakes[..members])?;
     made_in(&mut both, number)
 }
 
@@ -97,7 +102,7 @@ fn grows(first: &mut Both, len: usize) -> Result<bool, Memory> {
 
 /// A graph past two whole blocks, cut at each place about their ends.
 fn agrees_at_seams(alloc: Global) -> Result<bool, Memory> {
-    let mut both = Both::new(alloc, 7)?;
+    let mut both = Both::new(alloc, &STAKES[..7])?;
     agrees_at_seams_in(&mut both)
 }
 

@@ -8,18 +8,21 @@ fn sig_with(byte: u8) -> Sig {
     sig
 }
 
-// Four members, and a coin round each third one above the candidate.
+// A stake of four in all, and of five, and a coin round each third one above the candidate.
 #[test]
-fn weighs_the_votes_of_four_members(rt: HostRuntime) {
-    for (d, yes, no, byte, wanted) in [
-        (2, 3, 0, 0, (true, true)),
-        (2, 2, 2, 0, (true, false)),
-        (3, 1, 2, 0x80, (true, false)),
-        (3, 1, 2, 0x7f, (false, false)),
-        (3, 0, 3, 0x80, (false, false)),
-        (4, 0, 3, 0x80, (false, true)),
+fn weighs_votes_by_stake(rt: HostRuntime) {
+    for (total, d, yes, no, byte, wanted) in [
+        (4, 2, 3, 0, 0, (true, true)),
+        (4, 2, 2, 2, 0, (true, false)),
+        (4, 3, 1, 2, 0x80, (true, false)),
+        (4, 3, 1, 2, 0x7f, (false, false)),
+        (4, 3, 0, 3, 0x80, (false, false)),
+        (4, 4, 0, 3, 0x80, (false, true)),
+        (5, 2, 4, 1, 0, (true, true)),
+        (5, 2, 3, 2, 0, (true, false)),
+        (5, 2, 2, 3, 0, (false, false)),
     ] {
-        let Ballot { vote, decides } = weigh(d, 3, yes, no, 4, &sig_with(byte));
+        let Ballot { vote, decides } = weigh(d, 3, yes, no, total, &sig_with(byte));
         equal(&rt, d as usize, (vote, decides), wanted);
     }
 }

@@ -31,6 +31,7 @@ fn entry(alloc: Global, name: u8, secret: u8, balance: u64) -> Result<MemberEntr
         name: Bytes::from_vec(Vec::from_slice(alloc, &[name])?),
         secret: Bytes::from_vec(Vec::from_slice(alloc, &[secret; 4])?),
         balance,
+        stake: 1,
         has_node: true,
     })
 }

@@ -5,7 +5,7 @@ use Rattle.hg_ancestry.specs.Held.{HoldsSight, IsSpare, spare_room}
 
 -- the rows hold what they are to, and where there is a spare row of bits there is memory for a row
 pub record HoldsBitSight (s : Inside) : Type 0 where
-  pub sight : HoldsSight s.members s.links.items s.ancestors.items s.forked.items
+  pub sight : HoldsSight s.stakes s.links.items s.ancestors.items s.forked.items
   pub spare : IsSpare (vec_len s.links) s.spare
   pub links_room : vec_len s.links + spare_room s.spare ≤ vec_capacity s.links
   pub ancestors_room : vec_len s.ancestors + spare_room s.spare ≤ vec_capacity s.ancestors

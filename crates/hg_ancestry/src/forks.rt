@@ -14,8 +14,7 @@ pub fn forked_below_next(sight: &BitSight, on: Parents, by: Member) -> u128
     requires { FitsLink sight.now.shape.members sight.now.shape.links (link_of by on) }
     ensures { IsForkMask sight.now.shape.links (link_of by on) result }
 {
-    // That the graph is shaped.
-    sight.rows();
+    sight.is_shaped();
     match on.pair() {
         None => 0,
         Some((self_place, other)) => {
@@ -33,8 +32,7 @@ fn new_forks(sight: &BitSight, self_place: usize, other: usize, by: Member) -> u
     requires other { other < length sight.now.shape.links }
     ensures { IsApartMask sight.now.shape.links by self_place other result }
 {
-    // That there are at most 128 members.
-    sight.members();
+    sight.is_shaped();
     let here = with_member(members_apart(sight, self_place, other), by);
     meet_masks(here, members_apart(sight, other, self_place))
 }
@@ -45,9 +43,7 @@ fn members_apart(sight: &BitSight, x: usize, z: usize) -> u128
     requires other { z < length sight.now.shape.links }
     ensures { (m : ℕ) → mask_has result m ≡ is_apart sight.now.shape.links x z m }
 {
-    // That there are at most 128 members, and fewer than 2^32 - 1 rows.
-    sight.members();
-    sight.rows();
+    sight.is_shaped();
     let row = sight.ancestors_of(x);
     let other = sight.ancestors_of(z);
     let mut mask = 0;

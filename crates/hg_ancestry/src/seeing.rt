@@ -1,13 +1,11 @@
 ghost use Rattle.std.specs.Prelude.{◌≡◌, ◌<◌, ◌≤◌, ◌&&◌, length};
 ghost use Rattle.hg_model.specs.Stakes.{member_count};
-ghost use Rattle.hg_model.specs.Links.{creator};
-ghost use Rattle.hg_model.specs.Seeing.{sees, strongly_sees};
 ghost use Rattle.hg_model.specs.GraphWords.{strongly_sees_in, sees_in};
 ghost use Rattle.hg_ancestry.specs.Held.{AddsSeer};
 ghost use Rattle.hg_bits.specs.Masks.{mask_has};
 
 use crate::sight::BitSight;
-use hg_bits::{mask_has, members_over, with_member};
+use hg_bits::{mask_has, with_member};
 use hg_model::Sight;
 
 /// Whether row `x` sees row `y`.
@@ -17,27 +15,26 @@ pub fn sees(sight: &BitSight, x: usize, y: usize) -> bool
     requires right { y < length sight.now.shape.links }
     ensures { result ≡ sees_in sight.now.shape x y }
 {
-    // That there are at most 128 members.
-    sight.members();
+    sight.is_shaped();
     sight.ancestor(x, y) && !mask_has(sight.forked_below(x), sight.creator(y))
 }
 
-/// Whether row `x` strongly sees row `y`. It looks no further than the first rows by more than two thirds of the members.
+/// Whether row `x` strongly sees row `y`. It looks no further than the first rows by members of more
+/// than two thirds of the stake.
 pub fn strongly_sees(sight: &BitSight, x: usize, y: usize) -> bool
     requires left { x < length sight.now.shape.links }
     requires right { y < length sight.now.shape.links }
     ensures { result ≡ strongly_sees_in sight.now.shape x y }
 {
-    // That there are fewer than 2^32 - 1 rows.
-    sight.rows();
-    let members = sight.members();
+    sight.is_shaped();
+    let stakes = sight.stakes();
     if !sight.ancestor(x, y) {
         return false;
     }
     let mut mask = 0;
     for z in y..x + 1 {
         let seers = with_seer(mask, sight, x, y, z);
-        if seers != mask && members_over(seers, members) {
+        if seers != mask && stakes.over(seers) {
             return true;
         }
         mask = seers;

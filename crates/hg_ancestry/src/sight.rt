@@ -1,4 +1,6 @@
-ghost use Rattle.std.specs.Prelude.{◌≡◌, ◌<◌, ◌≤◌, ◌+◌, ℕ, [], length, IfOk};
+ghost use Rattle.std.specs.Prelude.{◌≡◌, ◌<◌, ◌≤◌, ◌+◌, ◌-◌, ◌^◌, ℕ, [], length, IfOk};
+ghost use Rattle.hg_model.specs.Stakes.{member_count};
+ghost use Rattle.hg_model.specs.GraphWords.{IsShapedIn};
 ghost use Rattle.hg_model.specs.Places.{table};
 ghost use Rattle.hg_model.specs.Ancestry.{is_ancestor};
 ghost use Rattle.hg_model.specs.Forks.{has_fork_below};
@@ -9,7 +11,7 @@ use crate::ancestry::{copy_rows, fill, row_of};
 use crate::forks::{copy_masks, forked_below_next};
 use crate::links::{PlacedLink, copy_links, creator_of, self_parent_of};
 use crate::seeing;
-use hg_bits::BitRow;
+use hg_bits::{BitRow, StakeTable};
 use hg_model::{Growing, Member, Memory, Parents, Sight};
 use std::alloc::Global;
 use std::marker::Model;
@@ -18,7 +20,7 @@ use std::marker::Model;
 #[derive(Drop)]
 pub struct BitSight {
     alloc: Global,
-    members: u32,
+    stakes: StakeTable,
     links: Vec<PlacedLink>,
     /// For each row its ancestors.
     ancestors: Vec<BitRow>,
@@ -35,20 +37,20 @@ impl Model for BitSight {
 
     ghost Value = { ShapeWithRoom };
 
-    ghost view = { λ s. record { shape = shape_of s.members s.links.items; room = spare_room s.spare } };
+    ghost view = { λ s. record { shape = shape_of s.stakes s.links.items; room = spare_room s.spare } };
 
     ghost invariant = { HoldsBitSight };
 }
 
 impl BitSight {
-    /// The graph of no rows by `members` members. Takes no memory.
-    pub fn new(alloc: Global, members: u32) -> Result<BitSight, Memory>
-        requires { members ≤ 128 }
-        ensures { IfOk result (λ s. s.shape ≡ shape_of members []) }
+    /// The graph of no rows by members with these stakes.
+    pub fn new(alloc: Global, stakes: &[u32]) -> Result<BitSight, Memory>
+        requires { length stakes.now ≤ 128 }
+        ensures { IfOk result (λ s. s.shape ≡ shape_of stakes.now []) }
     {
         Ok(BitSight {
             alloc,
-            members,
+            stakes: StakeTable::new(alloc, stakes)?,
             links: Vec::new(alloc),
             ancestors: Vec::new(alloc),
             forked: Vec::new(alloc),
@@ -62,6 +64,23 @@ impl BitSight {
         ensures { result.now ≡ table (is_ancestor self.now.shape.links x) (x + 1) }
     {
         row_of(&self.ancestors, x)
+    }
+
+    /// A law: the graph is shaped, its members are at most 128, and its rows fewer than 2^32 - 1.
+    pub(crate) fn is_shaped(&self)
+        ensures shaped { IsShapedIn self.now.shape }
+        ensures few { member_count self.now.shape.members ≤ 128 }
+        ensures short { length self.now.shape.links < 2 ^ 32 - 1 }
+    {
+        self.rows();
+        self.members();
+    }
+
+    /// The members' stakes.
+    pub(crate) fn stakes(&self) -> &StakeTable
+        ensures { result.now ≡ self.now.shape.members }
+    {
+        &self.stakes
     }
 
     /// The members with a fork among the ancestors of row `x`.
@@ -81,11 +100,23 @@ impl Sight for BitSight {
     }
 
     fn members(&self) -> u32 {
-        self.members
+        self.stakes.len() as u32
+    }
+
+    fn stake(&self, member: Member) -> u32 {
+        self.stakes.at(member)
+    }
+
+    fn total(&self) -> u64 {
+        self.stakes.total()
+    }
+
+    fn even(&self) -> Option<u32> {
+        self.stakes.even()
     }
 
     fn creator(&self, x: usize) -> Member {
-        creator_of(&self.links, self.members, x)
+        creator_of(&self.links, &self.stakes, x)
     }
 
     fn self_parent(&self, x: usize) -> Option<usize> {
@@ -133,7 +164,7 @@ impl Growing for BitSight {
     fn prefix(&self, len: usize) -> Result<BitSight, Memory> {
         Ok(BitSight {
             alloc: self.alloc,
-            members: self.members,
+            stakes: self.stakes.copy(self.alloc)?,
             links: copy_links(self.alloc, &self.links, len)?,
             ancestors: copy_rows(self.alloc, &self.ancestors, len)?,
             forked: copy_masks(self.alloc, &self.forked, len)?,

@@ -1,5 +1,5 @@
 -- The laws of bits in words
-use Rattle.std.proofs.Common.{◌≡◌, ℕ, ◌+◌, ◌-◌, ◌*◌, ◌/◌, ◌%◌, ◌^◌, ◌<◌, ◌≤◌, ◌||◌, ◌&&◌, not, min, max, Bool, true, false, eqb, List, length, get_or, set, replicate, Some, None, refl, sym, ap, ap₂, ◌∙◌, inl, inr, arith, eq-eqb, w64}
+use Rattle.std.proofs.Common.{◌≡◌, ℕ, ◌+◌, ◌-◌, ◌*◌, ◌/◌, ◌%◌, ◌^◌, ◌<◌, ◌≤◌, ◌||◌, ◌&&◌, not, min, max, Bool, false, eqb, List, length, get_or, set, replicate, Some, None, refl, sym, ap, ap₂, ◌∙◌, inl, inr, arith, eq-eqb, w64}
 use Rattle.std.specs.Prelude.{bit_and, bit_or}
 use Rattle.std.specs.Int.{Width, bit_at, bit_not, trailing_zeros}
 use mir.Val.{bits}

@@ -27,8 +27,13 @@ impl<V: Signer> TableRule<Option<Node<V>>, View<V>, Snapshot<Node<V>>> for Rule<
 /// The turn and the count are its words; its one slot has the node, unless a caller has it.
 pub type Board<V> = Table<Option<Node<V>>, View<V>, Snapshot<Node<V>>, Rule<V>, Global>;
 
-/// The board as its callers step on it.
-pub type Steps<V> = atomic_table::Shared<Option<Node<V>>, View<V>, Snapshot<Node<V>>, Rule<V>>;
+/// The board as its callers share it.
+pub type SharedBoard<V> = atomic_table::Shared<
+    Option<Node<V>>,
+    View<V>,
+    Snapshot<Node<V>>,
+    Rule<V>,
+>;
 
 pub type RawSeat<V> = atomic_table::Seat<Option<Node<V>>, View<V>>;
 

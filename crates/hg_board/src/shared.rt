@@ -59,7 +59,7 @@ impl<V: Signer + Drop> Shared<V> {
         ensures ok { IfOk result (λ r. IsStarted V.accepts r.0 node r.1) }
         ensures err { IfErr result (λ back. back ≡ node) }
     {
-        node.rows();
+        node.is_node();
         let key = Snapshot::of(&node);
         let count = node.changes() as u64;
         let Ok(mut slots) = Vec::with_capacity(alloc, 1) else {
@@ -91,11 +91,11 @@ impl<V: Signer + Drop> Shared<V> {
         ensures err { OnErr result (SeatWaits V.accepts self.now seat.old seat.new) }
         ensures free { OnErr result (WouldTake (rules_shared V.accepts) (seen_by self.now seat.new) bytes.now) }
     {
-        let steps = &self.table.shared;
+        let board = &self.table.shared;
         let raw = &mut seat.raw;
-        let (mut node, count) = enter(rt, steps, raw);
+        let (mut node, count) = enter(rt, board, raw);
         let answer = node.put(bytes);
-        leave_changed(steps, raw, node, count);
+        leave_changed(board, raw, node, count);
         answer
     }
 
@@ -115,11 +115,11 @@ impl<V: Signer + Drop> Shared<V> {
         ensures err { OnErr result (SeatWaits V.accepts self.now seat.old seat.new) }
         ensures free { OnErr result (WouldTakeRow V.accepts (seen_by self.now seat.new) event.now.value) }
     {
-        let steps = &self.table.shared;
+        let board = &self.table.shared;
         let raw = &mut seat.raw;
-        let (mut node, count) = enter(rt, steps, raw);
+        let (mut node, count) = enter(rt, board, raw);
         let answer = node.put_event(event);
-        leave_changed(steps, raw, node, count);
+        leave_changed(board, raw, node, count);
         answer
     }
 
@@ -136,12 +136,12 @@ impl<V: Signer + Drop> Shared<V> {
         ensures ok { IfOk result (SeatTakes V.accepts self.now seat.old (rows_of events.now) seat.new) }
         ensures err { OnErr result (SeatTakesFirst V.accepts self.now seat.old (rows_of events.now) seat.new) }
     {
-        let steps = &self.table.shared;
+        let board = &self.table.shared;
         let raw = &mut seat.raw;
-        let (mut node, _count) = enter(rt, steps, raw);
-        let taken = take_each(steps, raw, &mut node, events);
-        node.rows();
-        leave(steps, raw, node);
+        let (mut node, _count) = enter(rt, board, raw);
+        let taken = take_each(board, raw, &mut node, events);
+        node.is_node();
+        leave(board, raw, node);
         taken
     }
 
@@ -161,11 +161,11 @@ impl<V: Signer + Drop> Shared<V> {
         ensures err { OnErr result (SeatWaits V.accepts self.now seat.old seat.new) }
         ensures free { OnErr result (WouldSign (seen_by self.now seat.new) (option_to_list other) payload.now) }
     {
-        let steps = &self.table.shared;
+        let board = &self.table.shared;
         let raw = &mut seat.raw;
-        let (mut node, count) = enter(rt, steps, raw);
+        let (mut node, count) = enter(rt, board, raw);
         let answer = node.make(other, time, payload);
-        leave_changed(steps, raw, node, count);
+        leave_changed(board, raw, node, count);
         answer
     }
 
@@ -178,11 +178,11 @@ impl<V: Signer + Drop> Shared<V> {
         ensures stays { Stays V.accepts self.now seat.old seat.new }
         ensures marks { SeatPublishes V.accepts self.now seat.old found.now.len found.now.share seat.new result }
     {
-        let steps = &self.table.shared;
+        let board = &self.table.shared;
         let raw = &mut seat.raw;
-        let (mut node, count) = enter(rt, steps, raw);
+        let (mut node, count) = enter(rt, board, raw);
         let marked = node.publish(found);
-        leave_changed(steps, raw, node, count);
+        leave_changed(board, raw, node, count);
         marked
     }
 
@@ -191,13 +191,13 @@ impl<V: Signer + Drop> Shared<V> {
         requires { IsOf self.now seat.old }
         ensures stays { Stays V.accepts self.now seat.old seat.new }
         ensures waits { SeatWaits V.accepts self.now seat.old seat.new }
-        ensures graph { IfOk result (λ frozen. frozen ≡ graph_in (seen_by self.now seat.new).node) }
+        ensures graph { IfOk result (λ frozen. frozen.graph ≡ graph_in (seen_by self.now seat.new).node) }
     {
-        let steps = &self.table.shared;
+        let board = &self.table.shared;
         let raw = &mut seat.raw;
-        let (node, _count) = enter(rt, steps, raw);
+        let (node, _count) = enter(rt, board, raw);
         let frozen = node.freeze();
-        leave(steps, raw, node);
+        leave(board, raw, node);
         frozen
     }
 
@@ -214,11 +214,11 @@ impl<V: Signer + Drop> Shared<V> {
         ensures waits { SeatWaits V.accepts self.now seat.old seat.new }
         ensures opens { IfOk result (OpensIn share (seen_by self.now seat.new).node) }
     {
-        let steps = &self.table.shared;
+        let board = &self.table.shared;
         let raw = &mut seat.raw;
-        let (mut node, _count) = enter(rt, steps, raw);
+        let (mut node, _count) = enter(rt, board, raw);
         let opened = node.open(share);
-        leave(steps, raw, node);
+        leave(board, raw, node);
         opened
     }
 
@@ -234,11 +234,11 @@ impl<V: Signer + Drop> Shared<V> {
         ensures waits { SeatWaits V.accepts self.now seat.old seat.new }
         ensures names { IfOk result (λ names. names.items ≡ names_in (seen_by self.now seat.new)) }
     {
-        let steps = &self.table.shared;
+        let board = &self.table.shared;
         let raw = &mut seat.raw;
-        let (mut node, _count) = enter(rt, steps, raw);
+        let (mut node, _count) = enter(rt, board, raw);
         let names = node.held(alloc);
-        leave(steps, raw, node);
+        leave(board, raw, node);
         names
     }
 
@@ -256,11 +256,11 @@ impl<V: Signer + Drop> Shared<V> {
         ensures waits { SeatWaits V.accepts self.now seat.old seat.new }
         ensures parcel { IfOk result (λ parcel. parcel ≡ parcel_beyond names.now (seen_by self.now seat.new)) }
     {
-        let steps = &self.table.shared;
+        let board = &self.table.shared;
         let raw = &mut seat.raw;
-        let (mut node, _count) = enter(rt, steps, raw);
+        let (mut node, _count) = enter(rt, board, raw);
         let parcel = node.missing(alloc, names);
-        leave(steps, raw, node);
+        leave(board, raw, node);
         parcel
     }
 
@@ -275,11 +275,11 @@ impl<V: Signer + Drop> Shared<V> {
         ensures waits { SeatWaits V.accepts self.now seat.old seat.new }
         ensures event { IfOk result (IsLastRow (seen_by self.now seat.new).node) }
     {
-        let steps = &self.table.shared;
+        let board = &self.table.shared;
         let raw = &mut seat.raw;
-        let (node, _count) = enter(rt, steps, raw);
+        let (node, _count) = enter(rt, board, raw);
         let event = last_event(&node);
-        leave(steps, raw, node);
+        leave(board, raw, node);
         event
     }
 
@@ -297,11 +297,11 @@ impl<V: Signer + Drop> Shared<V> {
         ensures waits { SeatWaits V.accepts self.now seat.old seat.new }
         ensures parcel { IfOk result (IsParcelFrom from (seen_by self.now seat.new).node) }
     {
-        let steps = &self.table.shared;
+        let board = &self.table.shared;
         let raw = &mut seat.raw;
-        let (node, _count) = enter(rt, steps, raw);
+        let (node, _count) = enter(rt, board, raw);
         let parcel = parcel_from(alloc, &node, from);
-        leave(steps, raw, node);
+        leave(board, raw, node);
         parcel
     }
 
@@ -318,11 +318,11 @@ impl<V: Signer + Drop> Shared<V> {
         ensures waits { SeatWaits V.accepts self.now seat.old seat.new }
         ensures lacked { IfOk result (λ lacked. AreLacked (rows_of events.now) (seen_by self.now seat.new).node lacked.items) }
     {
-        let steps = &self.table.shared;
+        let board = &self.table.shared;
         let raw = &mut seat.raw;
-        let (node, _count) = enter(rt, steps, raw);
+        let (node, _count) = enter(rt, board, raw);
         let lacked = still_lacked(alloc, &node, events);
-        leave(steps, raw, node);
+        leave(board, raw, node);
         lacked
     }
 
@@ -338,11 +338,11 @@ impl<V: Signer + Drop> Shared<V> {
         ensures waits { SeatWaits V.accepts self.now seat.old seat.new }
         ensures order { IfOk result (λ order. order.items ≡ kept_of (seen_by self.now seat.new).node) }
     {
-        let steps = &self.table.shared;
+        let board = &self.table.shared;
         let raw = &mut seat.raw;
-        let (node, _count) = enter(rt, steps, raw);
+        let (node, _count) = enter(rt, board, raw);
         let order = copied(alloc, node.kept());
-        leave(steps, raw, node);
+        leave(board, raw, node);
         order
     }
 
@@ -368,11 +368,11 @@ impl<V: Signer + Drop> Shared<V> {
         requires other { IsOf self.now other }
         ensures { Absorbs V.accepts self.now seat.old other seat.new }
     {
-        let steps = &self.table.shared;
+        let board = &self.table.shared;
         let Seat { raw: other, parts } = other;
         let raw = &mut seat.raw;
-        steps.join_seat::<Both>(raw, other);
-        steps.load::<Compare>(raw, 1);
+        board.join_seat::<Both>(raw, other);
+        board.load::<Compare>(raw, 1);
         seat.parts += parts;
     }
 

@@ -9,7 +9,7 @@ ghost use Rattle.hg_board.specs.Table.{node_at};
 ghost use Rattle.hg_board.specs.Taking.{AddsInside, AreSignedFor, IsSignedFor, TakesFirst, take_row, taking_rows};
 ghost use Rattle.hg_board.specs.Turns.{IsInside, IsSized};
 
-use crate::rule::{RawSeat, Steps};
+use crate::rule::{RawSeat, SharedBoard};
 use crate::turn::raise_if_changed;
 use hg_event::Event;
 use hg_gossip::{Taken, with_answer};
@@ -21,15 +21,15 @@ use std::sync::Arc;
 
 /// Puts an event, and raises the count if it was accepted.
 fn put_inside<V: Signer + Drop>(
-    steps: &Steps<V>,
+    board: &SharedBoard<V>,
     raw: &mut RawSeat<V>,
     node: &mut Node<V>,
     event: &Arc<Event>,
 ) -> Result<PutAnswer, Memory>
-    requires size { IsSized steps.now.table_id }
-    requires table { raw.old.table_id ≡ steps.now.table_id }
+    requires size { IsSized board.now.table_id }
+    requires table { raw.old.table_id ≡ board.now.table_id }
     requires inside { IsInside raw.old.me }
-    requires node { node.old ≡ node_at steps.now.key.value raw.old.me.0.seen }
+    requires node { node.old ≡ node_at board.now.key.value raw.old.me.0.seen }
     requires signed { IsSignedFor V.accepts node.old.start event.now.value }
     ensures table { raw.new.table_id ≡ raw.old.table_id }
     ensures adds { AddsInside raw.old.me raw.new.me node.old node.new }
@@ -40,22 +40,22 @@ fn put_inside<V: Signer + Drop>(
 {
     let count = node.changes() as u64;
     let answer = node.put_event(event);
-    raise_if_changed(steps, raw, node, count);
+    raise_if_changed(board, raw, node, count);
     answer
 }
 
 /// The same, unless the node has the event's name, with the counts.
 fn take_one<V: Signer + Drop>(
-    steps: &Steps<V>,
+    board: &SharedBoard<V>,
     raw: &mut RawSeat<V>,
     node: &mut Node<V>,
     event: &Arc<Event>,
     counts: Taken,
 ) -> Result<Taken, Memory>
-    requires size { IsSized steps.now.table_id }
-    requires table { raw.old.table_id ≡ steps.now.table_id }
+    requires size { IsSized board.now.table_id }
+    requires table { raw.old.table_id ≡ board.now.table_id }
     requires inside { IsInside raw.old.me }
-    requires node { node.old ≡ node_at steps.now.key.value raw.old.me.0.seen }
+    requires node { node.old ≡ node_at board.now.key.value raw.old.me.0.seen }
     requires signed { IsSignedFor V.accepts node.old.start event.now.value }
     requires few { counts.taken + counts.refused < 2 ^ 64 - 1 }
     ensures table { raw.new.table_id ≡ raw.old.table_id }
@@ -69,21 +69,21 @@ fn take_one<V: Signer + Drop>(
     if node.graph().place_by(&row.name, row.creator).is_some() {
         return Ok(counts);
     }
-    let answer = put_inside(steps, raw, node, event)?;
+    let answer = put_inside(board, raw, node, event)?;
     Ok(with_answer(counts, answer))
 }
 
 /// Puts the events whose names the node has not, one after the other, and raises the count for each that is accepted.
 pub fn take_each<V: Signer + Drop>(
-    steps: &Steps<V>,
+    board: &SharedBoard<V>,
     raw: &mut RawSeat<V>,
     node: &mut Node<V>,
     events: &[Arc<Event>],
 ) -> Result<Taken, Memory>
-    requires size { IsSized steps.now.table_id }
-    requires table { raw.old.table_id ≡ steps.now.table_id }
+    requires size { IsSized board.now.table_id }
+    requires table { raw.old.table_id ≡ board.now.table_id }
     requires inside { IsInside raw.old.me }
-    requires node { node.old ≡ node_at steps.now.key.value raw.old.me.0.seen }
+    requires node { node.old ≡ node_at board.now.key.value raw.old.me.0.seen }
     requires signed { AreSignedFor V.accepts node.old.start (rows_of events.now) }
     ensures table { raw.new.table_id ≡ raw.old.table_id }
     ensures adds { AddsInside raw.old.me raw.new.me node.old node.new }
@@ -95,7 +95,7 @@ pub fn take_each<V: Signer + Drop>(
         refused: 0,
     };
     for event in events {
-        counts = take_one(steps, raw, node, event, counts)?;
+        counts = take_one(board, raw, node, event, counts)?;
     }
     Ok(counts)
 }

@@ -5,7 +5,7 @@ ghost use Rattle.hg_board.specs.Table.{node_at};
 ghost use Rattle.hg_board.specs.Steps.{IsAtRest};
 ghost use Rattle.hg_board.specs.Turns.{Enters, IsGrown, IsInside, IsSized, inside_at, mine_with, outside_at};
 
-use crate::rule::{Give, Look, Naming, Raise, RawSeat, Steps, Take};
+use crate::rule::{Give, Look, Naming, Raise, RawSeat, SharedBoard, Take};
 use hg_node::Node;
 use hg_sign::Signer;
 use std::marker::Brand;
@@ -24,20 +24,20 @@ const NODE: usize = 0;
 /// Takes the turn, loads the count and moves the node out.
 pub fn enter<V: Signer + Drop, R: Wait>(
     rt: &R,
-    steps: &Steps<V>,
+    board: &SharedBoard<V>,
     raw: &mut RawSeat<V>,
 ) -> (Node<V>, u64)
-    requires size { IsSized steps.now.table_id }
-    requires table { raw.old.table_id ≡ steps.now.table_id }
+    requires size { IsSized board.now.table_id }
+    requires table { raw.old.table_id ≡ board.now.table_id }
     requires rest { IsAtRest raw.old.me }
-    requires start { raw.old.me.0.start ≡ Some steps.now.key.value }
+    requires start { raw.old.me.0.start ≡ Some board.now.key.value }
     ensures table { raw.new.table_id ≡ raw.old.table_id }
-    ensures seat { Enters V.accepts steps.now.key.value raw.old.me raw.new.me result.0 result.1 }
+    ensures seat { Enters V.accepts board.now.key.value raw.old.me raw.new.me result.0 result.1 }
 {
     for _ in rt.forever() {
-        if steps.compare_exchange::<Take>(raw, TURN, 0, 1) == 0 {
-            let count = steps.load::<Look>(raw, COUNT);
-            let node = steps.exchange(raw, NODE, None).unwrap();
+        if board.compare_exchange::<Take>(raw, TURN, 0, 1) == 0 {
+            let count = board.load::<Look>(raw, COUNT);
+            let node = board.exchange(raw, NODE, None).unwrap();
             return (node, count);
         }
         thread::yield_now();
@@ -46,70 +46,70 @@ pub fn enter<V: Signer + Drop, R: Wait>(
 }
 
 /// Moves the node in and gives the turn. The node has the history that the seat has seen.
-pub fn leave<V: Signer + Drop>(steps: &Steps<V>, raw: &mut RawSeat<V>, node: Node<V>)
-    requires size { IsSized steps.now.table_id }
-    requires table { raw.old.table_id ≡ steps.now.table_id }
+pub fn leave<V: Signer + Drop>(board: &SharedBoard<V>, raw: &mut RawSeat<V>, node: Node<V>)
+    requires size { IsSized board.now.table_id }
+    requires table { raw.old.table_id ≡ board.now.table_id }
     requires inside { IsInside raw.old.me }
-    requires node { node ≡ node_at steps.now.key.value raw.old.me.0.seen }
+    requires node { node ≡ node_at board.now.key.value raw.old.me.0.seen }
     ensures table { raw.new.table_id ≡ raw.old.table_id }
     ensures seat { raw.new.me ≡ outside_at raw.old.me.0 raw.old.me.0.seen raw.old.me.0.mine }
 {
-    drop(steps.exchange(raw, NODE, Some(node)));
-    steps.store::<Give>(raw, TURN, 0);
+    drop(board.exchange(raw, NODE, Some(node)));
+    board.store::<Give>(raw, TURN, 0);
 }
 
 /// Raises the count for the one change that the node has more than the seat has seen.
-fn raise<V: Signer + Drop, N: Naming>(steps: &Steps<V>, raw: &mut RawSeat<V>, node: &Node<V>)
-    requires size { IsSized steps.now.table_id }
-    requires table { raw.old.table_id ≡ steps.now.table_id }
+fn raise<V: Signer + Drop, N: Naming>(board: &SharedBoard<V>, raw: &mut RawSeat<V>, node: &Node<V>)
+    requires size { IsSized board.now.table_id }
+    requires table { raw.old.table_id ≡ board.now.table_id }
     requires inside { IsInside raw.old.me }
-    requires node { node.now ≡ node_at steps.now.key.value (raw.old.me.0.seen ++ N.change ∷ []) }
+    requires node { node.now ≡ node_at board.now.key.value (raw.old.me.0.seen ++ N.change ∷ []) }
     ensures table { raw.new.table_id ≡ raw.old.table_id }
     ensures seat { raw.new.me ≡ inside_at raw.old.me.0 node.now.history (mine_with raw.old.me.0 node.now.history) }
 {
-    // It is a node's history, and its length fits the word.
-    node.rows();
+    node.is_node();
+    // Their number fits the word.
     node.changes();
-    steps.fetch_add::<Raise<N>>(raw, COUNT, 1);
+    board.fetch_add::<Raise<N>>(raw, COUNT, 1);
 }
 
 /// Raises the count where the node has a change that the count has not.
 pub fn raise_if_changed<V: Signer + Drop>(
-    steps: &Steps<V>,
+    board: &SharedBoard<V>,
     raw: &mut RawSeat<V>,
     node: &Node<V>,
     count: u64,
 )
-    requires size { IsSized steps.now.table_id }
-    requires table { raw.old.table_id ≡ steps.now.table_id }
+    requires size { IsSized board.now.table_id }
+    requires table { raw.old.table_id ≡ board.now.table_id }
     requires inside { IsInside raw.old.me }
     requires count { count ≡ length raw.old.me.0.seen }
-    requires node { IsGrown (node_at steps.now.key.value raw.old.me.0.seen) node.now }
+    requires node { IsGrown (node_at board.now.key.value raw.old.me.0.seen) node.now }
     ensures table { raw.new.table_id ≡ raw.old.table_id }
     ensures seat { raw.new.me ≡ inside_at raw.old.me.0 node.now.history (mine_with raw.old.me.0 node.now.history) }
 {
     if node.changes() as u64 > count {
-        raise::<V, Brand>(steps, raw, node);
+        raise::<V, Brand>(board, raw, node);
     }
 }
 
 /// The same as `leave`, after a call that may have changed the node once: then the count is raised first.
 pub fn leave_changed<V: Signer + Drop>(
-    steps: &Steps<V>,
+    board: &SharedBoard<V>,
     raw: &mut RawSeat<V>,
     node: Node<V>,
     count: u64,
 )
-    requires size { IsSized steps.now.table_id }
-    requires table { raw.old.table_id ≡ steps.now.table_id }
+    requires size { IsSized board.now.table_id }
+    requires table { raw.old.table_id ≡ board.now.table_id }
     requires inside { IsInside raw.old.me }
     requires count { count ≡ length raw.old.me.0.seen }
-    requires node { IsGrown (node_at steps.now.key.value raw.old.me.0.seen) node }
+    requires node { IsGrown (node_at board.now.key.value raw.old.me.0.seen) node }
     ensures table { raw.new.table_id ≡ raw.old.table_id }
     ensures seat { raw.new.me ≡ outside_at raw.old.me.0 node.history (mine_with raw.old.me.0 node.history) }
     ensures node { IsNode V.accepts node }
 {
-    node.rows();
-    raise_if_changed(steps, raw, &node, count);
-    leave(steps, raw, node);
+    node.is_node();
+    raise_if_changed(board, raw, &node, count);
+    leave(board, raw, node);
 }

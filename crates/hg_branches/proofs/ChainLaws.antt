@@ -1,8 +1,9 @@
--- The kept rows of each branch, when one more is kept, and when the next row is noted
+-- The landmarks of each branch, when one more is landmarks, and when the next row is noted
 use Rattle.std.proofs.Common.{◌≡◌, ℕ, ◌+◌, ◌-◌, ◌<◌, ◌≤◌, List, [], ◌∷◌, ◌++◌, length, get_or, replicate, slice_index, slice_set, sym, ap, ◌∙◌, subst, refl, inl, inr, arith}
 use Rattle.std.proofs.lemmas.Bool.{cases_eq, cases_lt}
 use Rattle.std.proofs.lemmas.List.{length_push, length-replicate, get_or-replicate, get_or-set_same, get_or-set_other, get_or_append_left, get_or_push, get_or_past}
-use Rattle.hg_branches.specs.Kept.{Kept, kept_at, noted_once, AreNotedOn, NotesBy, IsLastOn, HoldsChains, HoldsNewest, HoldsTops, HoldsNumbers}
+use Rattle.hg_branches.specs.declared.landmarks.NextRow.{NextRow}
+use Rattle.hg_branches.specs.Landmarks.{LandmarkView, landmark_at, noted_once, AreNotedOn, NotesBy, IsLastOn, HoldsChains, HoldsNewest, HoldsTops, HoldsNumbers}
 
 -- a zero behind a list changes nothing that is read
 pub zero_behind : (xs : List ℕ) (i : ℕ) → get_or (xs ++ 0 ∷ []) i 0 ≡ get_or xs i 0
@@ -21,12 +22,12 @@ read_zeros xs many i are = elim (cases_lt i many) [
   | inr past ↦ get_or_past xs i 0 (let long = ap length are ∙ length-replicate many 0 in omega arith)
 ]
 
--- both are of one row, and name one kept row before it
-abbrev pub StandsAs : Kept → Kept → Type 0
+-- both are of one row, and name one landmark before it
+abbrev pub StandsAs : LandmarkView → LandmarkView → Type 0
 StandsAs k other = (k.end ≡ other.end) × (k.branch ≡ other.branch) × (k.before ≡ other.before)
 
 -- rows that stand as they stood
-module _ (old new : List Kept) (same : (i : ℕ) → i < length old → StandsAs (kept_at new i) (kept_at old i)) where
+module _ (old new : List LandmarkView) (same : (i : ℕ) → i < length old → StandsAs (landmark_at new i) (landmark_at old i)) where
   pub last_same : (many c number : ℕ) → many ≤ length old → IsLastOn old many c number → IsLastOn new many c number
   last_same many c number le last = record {
     inside = last.inside;
@@ -34,11 +35,11 @@ module _ (old new : List Kept) (same : (i : ℕ) → i < length old → StandsAs
     none_later = λ i from below on. last.none_later i from below (sym (same i (omega arith)).1 ∙ on);
   }
 
-  pub before_same : (j : ℕ) → j < length old → HoldsChains old → IsLastOn new j (kept_at new j).branch (kept_at new j).before
+  pub before_same : (j : ℕ) → j < length old → HoldsChains old → IsLastOn new j (landmark_at new j).branch (landmark_at new j).before
   before_same j h chains =
-      subst (λ number. IsLastOn new j (kept_at new j).branch number) (sym (same j h).2)
-      (subst (λ c. IsLastOn new j c (kept_at old j).before) (sym (same j h).1)
-      (last_same j (kept_at old j).branch (kept_at old j).before (omega arith) (chains.before j h)))
+      subst (λ number. IsLastOn new j (landmark_at new j).branch number) (sym (same j h).2)
+      (subst (λ c. IsLastOn new j c (landmark_at old j).before) (sym (same j h).1)
+      (last_same j (landmark_at old j).branch (landmark_at old j).before (omega arith) (chains.before j h)))
 
   pub chains_noted : length new ≡ length old → HoldsChains old → HoldsChains new
   chains_noted long chains = record {
@@ -56,38 +57,38 @@ module _ (old new : List Kept) (same : (i : ℕ) → i < length old → StandsAs
       let le : slice_index numbers y ≤ length old = was.0 in
       (omega arith, (same (slice_index numbers y - 1) (omega arith)).0 ∙ was.1))
 
--- kept rows of which those of the first branches are noted stand as they stood
-pub stands_noted : (counts : List ℕ) (b end : ℕ) (old new : List Kept) → ((c : ℕ) → c < length counts → NotesBy counts b end old new c) →
-    ((i : ℕ) → length counts ≤ (kept_at old i).branch → kept_at new i ≡ kept_at old i) → (i : ℕ) → i < length old → StandsAs (kept_at new i) (kept_at old i)
-stands_noted counts b end old new done left i h = elim (cases_lt (kept_at old i).branch (length counts)) [
-  | inl own ↦ (let is = done (kept_at old i).branch own i h refl in (ap (λ (k : Kept). k.end) is, ap (λ (k : Kept). k.branch) is, ap (λ (k : Kept). k.before) is))
-  | inr other ↦ (let is = left i other in (ap (λ (k : Kept). k.end) is, ap (λ (k : Kept). k.branch) is, ap (λ (k : Kept). k.before) is))
+-- landmarks of which those of the first branches are noted stand as they stood
+pub stands_noted : (counts : List ℕ) (next : NextRow) (old new : List LandmarkView) → ((c : ℕ) → c < length counts → NotesBy counts next old new c) →
+    ((i : ℕ) → length counts ≤ (landmark_at old i).branch → landmark_at new i ≡ landmark_at old i) → (i : ℕ) → i < length old → StandsAs (landmark_at new i) (landmark_at old i)
+stands_noted counts next old new done left i h = elim (cases_lt (landmark_at old i).branch (length counts)) [
+  | inl own ↦ (let is = done (landmark_at old i).branch own i h refl in (ap (λ (k : LandmarkView). k.end) is, ap (λ (k : LandmarkView). k.branch) is, ap (λ (k : LandmarkView). k.before) is))
+  | inr other ↦ (let is = left i other in (ap (λ (k : LandmarkView). k.end) is, ap (λ (k : LandmarkView). k.branch) is, ap (λ (k : LandmarkView). k.before) is))
 ]
 
 -- what needed no note needs none while it stands
-pub left_noted : (known count b end c : ℕ) (old new : List Kept) → ((i : ℕ) → i < length old → StandsAs (kept_at new i) (kept_at old i)) → length new ≡ length old →
-    ((i : ℕ) → (kept_at old i).branch ≡ c → kept_at new i ≡ kept_at old i) → AreNotedOn c known count b end old → AreNotedOn c known count b end new
+pub left_noted : (known count b end c : ℕ) (old new : List LandmarkView) → ((i : ℕ) → i < length old → StandsAs (landmark_at new i) (landmark_at old i)) → length new ≡ length old →
+    ((i : ℕ) → (landmark_at old i).branch ≡ c → landmark_at new i ≡ landmark_at old i) → AreNotedOn c known count b end old → AreNotedOn c known count b end new
 left_noted known count b end c old new same long left noted i h on le =
     let low : i < length old = omega arith in
-    let was : (kept_at old i).branch ≡ c = sym (same i low).1 ∙ on in
+    let was : (landmark_at old i).branch ≡ c = sym (same i low).1 ∙ on in
     let end_is = (same i low).0 in
-    subst (λ (k : Kept). noted_once count b end k ≡ k) (sym (left i was)) (noted i low was (omega arith))
+    subst (λ (k : LandmarkView). noted_once count b end k ≡ k) (sym (left i was)) (noted i low was (omega arith))
 
--- one more kept row, later than the others
-module _ (old : List Kept) (k : Kept) (chains : HoldsChains old) where
-  stays : (i : ℕ) → i < length old → StandsAs (kept_at (old ++ k ∷ []) i) (kept_at old i)
+-- one more landmark, later than the others
+module _ (old : List LandmarkView) (k : LandmarkView) (chains : HoldsChains old) where
+  stays : (i : ℕ) → i < length old → StandsAs (landmark_at (old ++ k ∷ []) i) (landmark_at old i)
   stays i h =
-      let is : kept_at (old ++ k ∷ []) i ≡ kept_at old i = get_or_append_left old (k ∷ []) (record { end = 0; branch = 0; before = 0; firsts = [] }) i h in
-      (ap (λ (k : Kept). k.end) is, ap (λ (k : Kept). k.branch) is, ap (λ (k : Kept). k.before) is)
+      let is : landmark_at (old ++ k ∷ []) i ≡ landmark_at old i = get_or_append_left old (k ∷ []) (record { end = 0; branch = 0; before = 0; firsts = [] }) i h in
+      (ap (λ (k : LandmarkView). k.end) is, ap (λ (k : LandmarkView). k.branch) is, ap (λ (k : LandmarkView). k.before) is)
 
-  pub begun_last : (i : ℕ) → i ≡ length old → kept_at (old ++ k ∷ []) i ≡ k
+  pub begun_last : (i : ℕ) → i ≡ length old → landmark_at (old ++ k ∷ []) i ≡ k
   begun_last i is = get_or_push old k (record { end = 0; branch = 0; before = 0; firsts = [] }) i (sym is)
 
-  module _ (some : 0 < k.end) (later : 0 < length old → (kept_at old (length old - 1)).end < k.end) where
-    all_before : (i : ℕ) → i < length old → (kept_at old i).end < k.end
+  module _ (some : 0 < k.end) (later : 0 < length old → (landmark_at old (length old - 1)).end < k.end) where
+    all_before : (i : ℕ) → i < length old → (landmark_at old i).end < k.end
     all_before i h = (let le = chains.rise i (length old - 1) (omega arith) (omega arith) in let less = later (omega arith) in omega arith)
 
-    -- there are fewer kept rows than rows
+    -- there are fewer landmarks than rows
     pub few_kept : length old < k.end
     few_kept = elim (cases_lt 0 (length old)) [
       | inl one ↦ (let low = chains.low (length old - 1) (omega arith) in let less = later one in omega arith)
@@ -98,15 +99,15 @@ module _ (old : List Kept) (k : Kept) (chains : HoldsChains old) where
     chains_begun last = record {
       low = λ i h. elim (cases_lt i (length old)) [
         | inl before ↦ (let is = (stays i before).0 in let was = chains.low i before in omega arith)
-        | inr past ↦ (let is : (kept_at (old ++ k ∷ []) i).end ≡ k.end = ap (λ (k : Kept). k.end) (begun_last i (omega (arith, length_push old k))) in let few = few_kept in omega (arith, length_push old k))
+        | inr past ↦ (let is : (landmark_at (old ++ k ∷ []) i).end ≡ k.end = ap (λ (k : LandmarkView). k.end) (begun_last i (omega (arith, length_push old k))) in let few = few_kept in omega (arith, length_push old k))
       ];
       rise = λ i j le h. elim (cases_lt j (length old)) [
         | inl before ↦ (let is_i = (stays i (omega arith)).0 in let is_j = (stays j before).0 in let was = chains.rise i j le before in omega arith)
         | inr past ↦
-            (let is_j : (kept_at (old ++ k ∷ []) j).end ≡ k.end = ap (λ (k : Kept). k.end) (begun_last j (omega (arith, length_push old k))) in
+            (let is_j : (landmark_at (old ++ k ∷ []) j).end ≡ k.end = ap (λ (k : LandmarkView). k.end) (begun_last j (omega (arith, length_push old k))) in
             elim (cases_lt i (length old)) [
               | inl before ↦ (let is_i = (stays i before).0 in let less = all_before i before in omega arith)
-              | inr past_i ↦ (let is_i : (kept_at (old ++ k ∷ []) i).end ≡ k.end = ap (λ (k : Kept). k.end) (begun_last i (omega (arith, length_push old k))) in omega arith)
+              | inr past_i ↦ (let is_i : (landmark_at (old ++ k ∷ []) i).end ≡ k.end = ap (λ (k : LandmarkView). k.end) (begun_last i (omega (arith, length_push old k))) in omega arith)
             ])
       ];
       before = λ j h. elim (cases_lt j (length old)) [
@@ -114,7 +115,7 @@ module _ (old : List Kept) (k : Kept) (chains : HoldsChains old) where
         | inr past ↦
             (let at_end : j ≡ length old = omega (arith, length_push old k) in
             let is = begun_last j at_end in
-            subst (λ (other : Kept). IsLastOn (old ++ k ∷ []) j other.branch other.before) (sym is)
+            subst (λ (other : LandmarkView). IsLastOn (old ++ k ∷ []) j other.branch other.before) (sym is)
             (subst (λ many. IsLastOn (old ++ k ∷ []) many k.branch k.before) (sym at_end)
             (last_same old (old ++ k ∷ []) stays (length old) k.branch k.before (omega arith) last)))
       ];
@@ -122,21 +123,21 @@ module _ (old : List Kept) (k : Kept) (chains : HoldsChains old) where
 
     pub tops_begun : (tops : List ℕ) → HoldsTops old tops → k.branch < length tops → HoldsTops (old ++ k ∷ []) (slice_set tops k.branch k.end)
     tops_begun tops holds inside i h =
-        let c : ℕ = (kept_at (old ++ k ∷ []) i).branch in
-        let end_low : (kept_at (old ++ k ∷ []) i).end ≤ k.end = elim (cases_lt i (length old)) [
+        let c : ℕ = (landmark_at (old ++ k ∷ []) i).branch in
+        let end_low : (landmark_at (old ++ k ∷ []) i).end ≤ k.end = elim (cases_lt i (length old)) [
           | inl before ↦ (let is = (stays i before).0 in let less = all_before i before in omega arith)
-          | inr past ↦ (let is : (kept_at (old ++ k ∷ []) i).end ≡ k.end = ap (λ (k : Kept). k.end) (begun_last i (omega (arith, length_push old k))) in omega arith)
+          | inr past ↦ (let is : (landmark_at (old ++ k ∷ []) i).end ≡ k.end = ap (λ (k : LandmarkView). k.end) (begun_last i (omega (arith, length_push old k))) in omega arith)
         ] in
         elim (cases_eq c k.branch) [
           | inl here ↦ (let top : slice_index (slice_set tops k.branch k.end) c ≡ k.end =
               ap (slice_index (slice_set tops k.branch k.end)) here ∙ get_or-set_same tops k.branch k.end 0 inside in omega arith)
           | inr other ↦ elim (cases_lt i (length old)) [
             | inl before ↦ (let is = (stays i before).0 in
-                let branch_is : slice_index tops c ≡ slice_index tops (kept_at old i).branch = ap (slice_index tops) (stays i before).1 in
+                let branch_is : slice_index tops c ≡ slice_index tops (landmark_at old i).branch = ap (slice_index tops) (stays i before).1 in
                 let top : slice_index (slice_set tops k.branch k.end) c ≡ slice_index tops c = get_or-set_other tops k.branch c k.end 0 other in
                 let was = holds i before in
                 omega arith)
-            | inr past ↦ absurd (other (ap (λ (k : Kept). k.branch) (begun_last i (omega (arith, length_push old k)))))
+            | inr past ↦ absurd (other (ap (λ (k : LandmarkView). k.branch) (begun_last i (omega (arith, length_push old k)))))
           ]
         ]
 
@@ -147,7 +148,7 @@ module _ (old : List Kept) (k : Kept) (chains : HoldsChains old) where
         ap (slice_index (slice_set newest k.branch (length old + 1))) here ∙ get_or-set_same newest k.branch (length old + 1) 0 inside in
         record {
           inside = omega (arith, length_push old k);
-          on = λ some. ap (λ (k : Kept). k.branch) (begun_last (slice_index (slice_set newest k.branch (length old + 1)) c - 1) (omega arith)) ∙ sym here;
+          on = λ some. ap (λ (k : LandmarkView). k.branch) (begun_last (slice_index (slice_set newest k.branch (length old + 1)) c - 1) (omega arith)) ∙ sym here;
           none_later = λ i from below on. absurd (omega (arith, length_push old k));
         })
     | inr other ↦
@@ -157,7 +158,7 @@ module _ (old : List Kept) (k : Kept) (chains : HoldsChains old) where
           on = was.on;
           none_later = λ i from below on. elim (cases_lt i (length old)) [
             | inl before ↦ was.none_later i from before on
-            | inr past ↦ other (sym on ∙ ap (λ (k : Kept). k.branch) (begun_last i (omega (arith, length_push old k))))
+            | inr past ↦ other (sym on ∙ ap (λ (k : LandmarkView). k.branch) (begun_last i (omega (arith, length_push old k))))
           ];
         }))
   ]
@@ -167,9 +168,9 @@ module _ (old : List Kept) (k : Kept) (chains : HoldsChains old) where
     | inl here ↦
         (let is : slice_index (slice_set numbers y (length old + 1)) z ≡ length old + 1 =
         ap (slice_index (slice_set numbers y (length old + 1))) here ∙ get_or-set_same numbers y (length old + 1) 0 inside in
-        (omega (arith, length_push old k), ap (λ (k : Kept). k.end) (begun_last (slice_index (slice_set numbers y (length old + 1)) z - 1) (omega arith)) ∙ (end ∙ ap (λ (j : ℕ). j + 1) (sym here))))
+        (omega (arith, length_push old k), ap (λ (k : LandmarkView). k.end) (begun_last (slice_index (slice_set numbers y (length old + 1)) z - 1) (omega arith)) ∙ (end ∙ ap (λ (j : ℕ). j + 1) (sym here))))
     | inr other ↦
         (let is : slice_index (slice_set numbers y (length old + 1)) z ≡ slice_index numbers z = get_or-set_other numbers y z (length old + 1) 0 other in
         let was = numbers_noted old (old ++ k ∷ []) stays (omega (arith, length_push old k)) numbers holds z (omega arith) in
-        (subst (λ j. j ≤ length (old ++ k ∷ [])) (sym is) was.0, subst (λ j. (kept_at (old ++ k ∷ []) (j - 1)).end ≡ z + 1) (sym is) was.1))
+        (subst (λ j. j ≤ length (old ++ k ∷ [])) (sym is) was.0, subst (λ j. (landmark_at (old ++ k ∷ []) (j - 1)).end ≡ z + 1) (sym is) was.1))
   ]

@@ -3,9 +3,10 @@ use Rattle.std.proofs.Common.{◌≡◌, ◌≢◌, ℕ, zero, suc, ◌+◌, ◌
 use Rattle.std.proofs.lemmas.Bool.{cases_eq, ltb-true, lt-ltb, leb-true, false_from_ne_true, both_ways}
 use Rattle.std.proofs.lemmas.List.{get_or-take, get_or-set_other, length-set}
 use Rattle.hg_model.specs.Places.{count_below, weight_below}
+use Rattle.hg_model.specs.Stakes.{Stakes, member_count, stake_of, stake_where, total}
 use Rattle.hg_model.specs.Seeing.{is_supermajority}
 use Rattle.hg_model.proofs.PlacesLaws.{weight_below-le, weight_below-same, weight_below_none, count_below-le}
-use Rattle.hg_branches.specs.Kept.{is_reached, no_first, ReachesFew}
+use Rattle.hg_branches.specs.Landmarks.{is_reached, no_first, ReachesFew}
 use Rattle.hg_branches.specs.Lines.{own_sees, is_strong_by_own}
 
 -- none, where no branch has one
@@ -62,18 +63,24 @@ seen_is_reached n firsts counts low = weight_below-le (λ _. 1) n (own_sees firs
     let less = low b h in
     lt-ltb (slice_index firsts b) no_first (omega arith))
 
--- where too few are reached, too few are seen
-pub few_reached : (firsts counts : List ℕ) (reached : ℕ) → count_below (length firsts) (is_reached firsts) ≤ reached → ((b : ℕ) → b < length firsts → slice_index counts b < no_first) →
-    is_supermajority (length firsts) reached ≡ false → is_strong_by_own firsts counts ≡ false
-few_reached firsts counts reached most low few =
-    let count : ℕ = count_below (length firsts) (own_sees firsts counts) in
-    false_from_ne_true (is_strong_by_own firsts counts) (λ h.
-    let over : 2 * length firsts < 3 * count = ltb-true (2 * length firsts) (3 * count) h in
+-- where those that are reached weigh too little, so do those that are seen
+pub few_reached : (n : Stakes) (firsts counts : List ℕ) (reached most : ℕ) → member_count n ≡ length firsts → count_below (length firsts) (is_reached firsts) ≤ reached →
+    ((b : ℕ) → b < length firsts → slice_index counts b < no_first) → ((test : ℕ → Bool) → count_below (member_count n) test ≤ reached → stake_where n test ≤ most) →
+    is_supermajority (total n) most ≡ false → is_strong_by_own n firsts counts ≡ false
+few_reached n firsts counts reached most wide reach low at_most few =
+    let stake : ℕ = stake_where n (own_sees firsts counts) in
     let seen = seen_is_reached (length firsts) firsts counts low in
-    both_ways (is_supermajority (length firsts) reached) few (lt-ltb (2 * length firsts) (3 * reached) (omega (arith, over, seen, most))))
+    let count : count_below (member_count n) (own_sees firsts counts) ≤ reached = rw wide (omega (arith, seen, reach)) in
+    false_from_ne_true (is_strong_by_own n firsts counts) (λ h.
+    let over : 2 * total n < 3 * stake = ltb-true (2 * total n) (3 * stake) h in
+    let le : stake ≤ most = at_most (own_sees firsts counts) count in
+    both_ways (is_supermajority (total n) most) few (lt-ltb (2 * total n) (3 * most) (omega (arith, over, le))))
 
--- of the counts of all branches the first ones tell it
-pub strong_by_taken : (n : ℕ) (firsts row : List ℕ) → length firsts ≡ n → is_strong_by_own firsts (take n row) ≡ is_supermajority n (count_below n (own_sees firsts row))
-strong_by_taken n firsts row is =
-    ap (λ k. is_supermajority k (count_below k (own_sees firsts (take n row)))) is
-    ∙ ap (is_supermajority n) (weight_below-same (λ _. 1) n (own_sees firsts (take n row)) (own_sees firsts row) (λ m h. ap (λ v. nat_le (slice_index firsts m) v) (get_or-take n row m 0 h)))
+-- of the counts of all branches the first ones tell who sees
+pub own_taken : (n : Stakes) (firsts row : List ℕ) → stake_where n (own_sees firsts (take (member_count n) row)) ≡ stake_where n (own_sees firsts row)
+own_taken n firsts row = weight_below-same (stake_of n) (member_count n) (own_sees firsts (take (member_count n) row)) (own_sees firsts row)
+    (λ m member. ap (nat_le (slice_index firsts m)) (get_or-take (member_count n) row m 0 member))
+
+-- and whether they are enough
+pub strong_by_taken : (n : Stakes) (firsts row : List ℕ) → is_strong_by_own n firsts (take (member_count n) row) ≡ is_supermajority (total n) (stake_where n (own_sees firsts row))
+strong_by_taken n firsts row = ap (is_supermajority (total n)) (own_taken n firsts row)

@@ -1,6 +1,6 @@
 pub mod Branches
 pub mod Columns
-pub mod Kept
+pub mod Landmarks
 pub mod Lines
 pub mod Rows
 pub mod Sight

@@ -1,7 +1,7 @@
 -- Which branches have a row that sees another
 use Rattle.std.specs.Prelude.{◌≡◌, ℕ, suc, ◌+◌, ◌-◌, Bool, not, ◌&&◌, ◌||◌, ◌==◌, nat_lt, nat_le, List, length, slice_index}
-use Rattle.hg_model.specs.Places.{count_below, some_below}
-use Rattle.hg_model.specs.Stakes.{member_count}
+use Rattle.hg_model.specs.Places.{some_below}
+use Rattle.hg_model.specs.Stakes.{Stakes, stake_where, total}
 use Rattle.hg_model.specs.Links.{Link}
 use Rattle.hg_model.specs.Ancestry.{is_self_ancestor}
 use Rattle.hg_model.specs.Seeing.{sees, is_supermajority}
@@ -20,9 +20,9 @@ sees_on L counts y b = nat_lt 0 (slice_index counts b) && line_sees L (slice_ind
 abbrev pub own_sees : List ℕ → List ℕ → ℕ → Bool
 own_sees firsts counts m = nat_le (slice_index firsts m) (slice_index counts m)
 
--- more than two thirds of the members are so by their own branches
-abbrev pub is_strong_by_own : List ℕ → List ℕ → Bool
-is_strong_by_own firsts counts = is_supermajority (length firsts) (count_below (length firsts) (own_sees firsts counts))
+-- the members of whom it is have more than two thirds of the stake
+abbrev pub is_strong_by_own : Stakes → List ℕ → List ℕ → Bool
+is_strong_by_own n firsts counts = is_supermajority (total n) (stake_where n (own_sees firsts counts))
 
 -- a row counted of branch b, which is no member's own, sees y, and the first descendant on its maker's own is not counted
 abbrev pub other_sees : List Link → List ℕ → List ℕ → List ℕ → ℕ → ℕ → Bool
@@ -41,7 +41,7 @@ abbrev pub AddsOther : List Link → List ℕ → List ℕ → List ℕ → ℕ 
 AddsOther L makers firsts counts y b before after =
     (m : ℕ) → mask_has after m ≡ (mask_has before m || (other_sees L makers firsts counts y b && slice_index makers b == m))
 
--- the members that see y, by their own branches or by others, are more than two thirds
+-- the members that see y, by their own branches or by others, have more than two thirds of the stake
 abbrev pub is_strong_by_firsts : Shape → List ℕ → List ℕ → List ℕ → ℕ → Bool
 is_strong_by_firsts shape makers firsts counts y =
-    is_supermajority (member_count shape.members) (count_below (length firsts) (own_sees firsts counts) + count_below 128 (others_see shape.links makers firsts counts y))
+    is_supermajority (total shape.members) (stake_where shape.members (own_sees firsts counts) + stake_where shape.members (others_see shape.links makers firsts counts y))

@@ -1,20 +1,22 @@
 -- What a graph of branches keeps to
-use Rattle.std.specs.Prelude.{◌≡◌, ◌+◌, ◌≤◌, length, vec_len, vec_capacity}
+use Rattle.std.specs.Prelude.{◌≡◌, ◌+◌, ◌-◌, ◌^◌, ◌<◌, ◌≤◌, length, vec_len, vec_capacity}
+use Rattle.hg_model.specs.Stakes.{member_count}
 use Rattle.hg_ancestry.specs.Held.{HoldsForks}
 use Rattle.hg_branches.specs.declared.sight.BranchSight.TheInside.{Inside}
 use Rattle.hg_branches.specs.Columns.{HoldsBranches, HoldsCounts, room_of}
-use Rattle.hg_branches.specs.Kept.{HoldsKept, HoldsTops, IsSpareKept, spare_kept_room}
+use Rattle.hg_branches.specs.Landmarks.{HoldsLandmarks, HoldsTops, IsSpareLandmark, spare_room}
 
 -- each column holds what it is to hold, and has memory for a row where that was taken
 pub record HoldsBranchSight (s : Inside) : Type 0 where
-  pub branches : HoldsBranches s.members s.links.items s.branches.items s.makers.items s.ends.items
-  pub counts : HoldsCounts s.members s.links.items s.branches.items s.makers.items s.counts.rows
-  pub counts_members : s.counts.members ≡ s.members
+  pub branches : HoldsBranches s.stakes s.links.items s.branches.items s.makers.items s.ends.items
+  pub counts : HoldsCounts s.stakes s.links.items s.branches.items s.makers.items s.counts.rows
+  pub counts_members : s.counts.stakes ≡ member_count s.stakes
   pub forks : HoldsForks s.links.items s.forked.items
-  pub kept : HoldsKept s.members s.links.items s.branches.items s.makers.items s.kept.items s.newest.items s.numbers.items
-  pub tops : HoldsTops s.kept.items s.tops.items
+  pub landmarks : HoldsLandmarks s.stakes s.links.items s.branches.items s.makers.items s.landmarks.items s.newest.items s.numbers.items
+  pub tops : HoldsTops s.landmarks.items s.tops.items
   pub tops_all : length s.tops.items ≡ length s.makers.items
-  pub spare_kept : IsSpareKept s.members s.spare_kept
+  pub spare : IsSpareLandmark (member_count s.stakes) s.spare
+  pub rows_room : length s.links.items + room_of s.ready < 2 ^ 16 - 1
   pub links_room : room_of s.ready ≤ s.links.room
   pub branches_room : room_of s.ready ≤ s.branches.room
   pub makers_room : vec_len s.makers + room_of s.ready ≤ vec_capacity s.makers
@@ -24,4 +26,4 @@ pub record HoldsBranchSight (s : Inside) : Type 0 where
   pub newest_room : vec_len s.newest + room_of s.ready ≤ vec_capacity s.newest
   pub tops_room : vec_len s.tops + room_of s.ready ≤ vec_capacity s.tops
   pub numbers_room : vec_len s.numbers + room_of s.ready ≤ vec_capacity s.numbers
-  pub kept_room : vec_len s.kept + spare_kept_room s.spare_kept ≤ vec_capacity s.kept
+  pub landmarks_room : vec_len s.landmarks + spare_room s.spare ≤ vec_capacity s.landmarks

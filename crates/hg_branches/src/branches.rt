@@ -54,7 +54,7 @@ pub fn move_end(makers: &mut Vec<Member>, ends: &mut Vec<u16>, branch: usize, by
     }
 }
 
-/// Opens the branch for kept rows, of which it has none, if it is a new one.
+/// Opens the branch for landmarks, of which it has none, if it is a new one.
 pub fn open_branch(newest: &mut Vec<u16>, branch: usize)
     requires there { branch ≤ length newest.old.items }
     requires room { vec_len newest.old < vec_capacity newest.old }

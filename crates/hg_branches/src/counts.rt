@@ -4,7 +4,7 @@ ghost use Rattle.hg_branches.specs.Rows.{row_in, known_place};
 
 use crate::row_tail::RowTail;
 use crate::table::CountTable;
-use hg_bits::kernels::max_into;
+use hg_bits::kernels::narrow::max_into;
 use std::marker::Model;
 
 /// What a row counts of each branch.

@@ -1,6 +1,6 @@
 //! What the rows of a graph see of each other, told by branches, which are lines of self-parents.
 //! A layer above uses `BranchSight` as a graph that grows (`Growing` of `hg_model`). It may besides tell it which rows it
-//! will ask of often (`keep_last`), which changes no answer.
+//! will ask of often (`mark_last`), which changes no answer.
 //! The first branches are the members' own, so that a branch's number is its member; the others are opened by forks. A row
 //! keeps a number for each branch, and an ancestor is told by one comparison.
 //!
@@ -13,7 +13,7 @@
 //!         return Ok(false);
 //!     }
 //!     if every > 0 && i % every == 0 {
-//!         both.sight.keep_last();
+//!         both.sight.mark_last();
 //!     }
 //! }
 //! ```
@@ -22,7 +22,7 @@
 mod branches;
 mod counts;
 mod forks;
-mod kept;
+mod landmarks;
 mod links;
 mod next_row;
 mod row_tail;

@@ -1,4 +1,5 @@
 ghost use Rattle.std.specs.Prelude.{◌≡◌, ◌<◌, length};
+ghost use Rattle.hg_model.specs.Stakes.{Stakes, member_count};
 ghost use Rattle.hg_model.specs.Links.{creator, self_parent};
 ghost use Rattle.hg_model.specs.Graph.{IsShaped};
 ghost use Rattle.hg_model.specs.Shape.{place_list};
@@ -7,13 +8,12 @@ use hg_ancestry::PlacedLink;
 use hg_blocks::Blocks;
 use hg_model::Member;
 
-/// The creator of row `x` of a shaped graph.
+/// The creator of row `x`.
 #[tactic(auto, using(hg_model::proofs::LinkLaws::link_reads))]
-pub fn creator_at(links: &Blocks<PlacedLink>, members: u32, x: usize) -> Member
-    requires shaped { IsShaped members links.now.items }
+pub fn creator_at(links: &Blocks<PlacedLink>, x: usize) -> Member
     requires place { x < length links.now.items }
     ensures value { result ≡ creator links.now.items x }
-    ensures member { result < members }
+    ensures member { (n : Stakes) → IsShaped n links.now.items → result < member_count n }
 {
     let link = &links[x];
     link.creator()

@@ -1,5 +1,6 @@
 ghost use Rattle.std.specs.Prelude.{◌≡◌, ◌<◌, ◌≤◌, ◌||◌, ◌&&◌, ◌==◌, ◌+◌, ◌^◌, ℕ, not, nat_le, length, slice_index};
-ghost use Rattle.hg_model.specs.Places.{some_below, count_below};
+ghost use Rattle.hg_model.specs.Places.{some_below};
+ghost use Rattle.hg_model.specs.Stakes.{member_count};
 ghost use Rattle.hg_model.specs.Seeing.{sees};
 ghost use Rattle.hg_model.specs.GraphWords.{sees_in};
 ghost use Rattle.hg_bits.specs.Masks.{mask_has};
@@ -7,9 +8,8 @@ ghost use Rattle.hg_branches.specs.Lines.{line_sees, sees_on, own_sees, others_s
 
 use crate::counts::{RowCounts, count_at};
 use crate::sight::BranchSight;
-use hg_bits::kernels::count_ge;
 use hg_bits::{mask_has, with_member};
-use hg_model::{Member, Sight, is_supermajority};
+use hg_model::{Member, Sight};
 
 /// Whether row `x` sees row `y`.
 #[tactic(auto, unfolding(hg_model::specs::Seeing::sees))]
@@ -18,8 +18,7 @@ pub fn sees(sight: &BranchSight, x: usize, y: usize) -> bool
     requires right { y < length sight.now.shape.links }
     ensures { result ≡ sees_in sight.now.shape x y }
 {
-    // That there are at most 128 members.
-    sight.members();
+    sight.is_shaped();
     sight.ancestor(x, y) && !mask_has(sight.forked_below(x), sight.creator(y))
 }
 
@@ -38,8 +37,8 @@ pub fn seers(sight: &BranchSight, makers: &[Member], counts: &RowCounts, y: usiz
     mask
 }
 
-/// Whether more than two thirds of the members have a branch that sees row `y`, whose first descendants are given: one
-/// comparison for each member's own branch and, where these are too few, a look at each other branch that is counted.
+/// Whether members with more than two thirds of the stake have a branch that sees row `y`, whose first descendants are given:
+/// one comparison for each member's own branch and, where these weigh too little, a look at each other branch that is counted.
 pub fn strong_by_firsts(
     sight: &BranchSight,
     makers: &[Member],
@@ -50,89 +49,71 @@ pub fn strong_by_firsts(
     requires place { y < length sight.now.shape.links }
     requires members { (b : ℕ) → b < length makers.now → slice_index makers.now b < 128 }
     requires places { (b : ℕ) → slice_index counts.now.row b ≤ length sight.now.shape.links }
-    requires few { length firsts.now ≤ 128 }
+    requires all { length firsts.now ≡ member_count sight.now.shape.members }
     requires own { length firsts.now ≤ length makers.now }
     requires wide { length firsts.now ≡ counts.now.members }
     ensures { result ≡ is_strong_by_firsts sight.now.shape makers.now firsts.now counts.now.row y }
 {
-    let own = count_own(counts, firsts);
-    if is_supermajority(sight.members(), own) {
+    let stakes = sight.stakes();
+    let own = stakes.weigh_ge(counts.own(), firsts);
+    if stakes.is_over(own) {
         return true;
     }
-    let others = members_in(others(sight, makers, counts, firsts, y));
-    is_supermajority(sight.members(), own + others)
+    let beside = stakes.weigh(others(sight, makers, counts, Target { row: y, firsts }));
+    stakes.is_over(own + beside)
 }
 
-/// How many members' own branches have their first descendant counted.
-#[tactic(auto, using(hg_model::proofs::PlacesLaws::count_steps))]
-fn count_own(counts: &RowCounts, firsts: &[u16]) -> u32
-    requires few { length firsts.now ≤ 128 }
-    requires wide { length firsts.now ≡ counts.now.members }
-    ensures value { result ≡ count_below (length firsts.now) (own_sees firsts.now counts.now.row) }
-    ensures few { result ≤ 128 }
-{
-    u32::from(count_ge(counts.own(), firsts))
+/// A row with its first descendants.
+#[derive(Clone, Copy, Debug)]
+struct Target<'a> {
+    row: usize,
+    firsts: &'a [u16],
 }
 
-/// How many members are in the set.
-fn members_in(mask: u128) -> u32
-    ensures value { result ≡ count_below 128 (mask_has mask) }
-    ensures few { result ≤ 128 }
-{
-    mask.count_ones()
-}
-
-/// The members with another branch that sees row `y`, while their own does not.
+/// The members with another branch that sees the row, while their own does not.
 #[tactic(auto, using(hg_model::proofs::PlacesLaws::some_steps))]
-fn others(
-    sight: &BranchSight,
-    makers: &[Member],
-    counts: &RowCounts,
-    firsts: &[u16],
-    y: usize,
-) -> u128
-    requires place { y < length sight.now.shape.links }
+fn others(sight: &BranchSight, makers: &[Member], counts: &RowCounts, target: Target) -> u128
+    requires place { target.row < length sight.now.shape.links }
     requires members { (b : ℕ) → b < length makers.now → slice_index makers.now b < 128 }
     requires places { (b : ℕ) → slice_index counts.now.row b ≤ length sight.now.shape.links }
-    requires few { length firsts.now ≤ length makers.now }
-    requires wide { length firsts.now ≡ counts.now.members }
-    ensures { (m : ℕ) → mask_has result m ≡ others_see sight.now.shape.links makers.now firsts.now counts.now.row y m }
+    requires few { length target.firsts.now ≤ length makers.now }
+    requires wide { length target.firsts.now ≡ counts.now.members }
+    ensures { (m : ℕ) → mask_has result m ≡ others_see sight.now.shape.links makers.now target.firsts.now counts.now.row target.row m }
 {
     let mut mask = 0;
     for b in counts.own().len()..counts.reach(makers.len()) {
-        mask = with_other(mask, sight, makers, counts, firsts, b, y);
+        mask = with_other(mask, sight, makers, counts, target, b);
     }
     mask
 }
 
-/// The set with the maker of the branch, if the branch sees row `y` and the maker's own does not.
+/// The set with the maker of the branch, if the branch sees the row and the maker's own does not.
 fn with_other(
     mask: u128,
     sight: &BranchSight,
     makers: &[Member],
     counts: &RowCounts,
-    firsts: &[u16],
+    target: Target,
     b: usize,
-    y: usize,
 ) -> u128
-    requires place { y < length sight.now.shape.links }
+    requires place { target.row < length sight.now.shape.links }
     requires branch { b < length makers.now }
-    requires other { length firsts.now ≤ b }
+    requires other { length target.firsts.now ≤ b }
     requires member { slice_index makers.now b < 128 }
     requires there { slice_index counts.now.row b ≤ length sight.now.shape.links }
-    ensures { AddsOther sight.now.shape.links makers.now firsts.now counts.now.row y b mask result }
+    ensures { AddsOther sight.now.shape.links makers.now target.firsts.now counts.now.row target.row b mask result }
 {
-    // That the graph is shaped: no row before y sees it.
-    sight.rows();
-    if counts.at(b) as usize <= y {
+    // No row before y sees it.
+    sight.is_shaped();
+    if counts.at(b) as usize <= target.row {
         return mask;
     }
     let maker = makers[b];
     let own = usize::from(maker);
-    if count_at(firsts, own) <= counts.at(own) {
+    if count_at(target.firsts, own) <= counts.at(own) {
         return mask;
     }
-    with_seer(mask, sight, counts, b, maker, y)
+    with_seer(mask, sight, counts, b, maker, target.row)
 }
 
 /// The set with the maker of the branch, if the branch sees row `y`.
@@ -152,8 +133,8 @@ fn with_seer(
     if mask_has(mask, maker) {
         return mask;
     }
-    // That the graph is shaped: no row before y sees it.
-    sight.rows();
+    // No row before y sees it.
+    sight.is_shaped();
     let end = counts.at(b) as usize;
     if end <= y {
         return mask;
@@ -171,8 +152,7 @@ fn line_sees(sight: &BranchSight, z: usize, y: usize) -> bool
     requires right { y < length sight.now.shape.links }
     ensures { result ≡ line_sees sight.now.shape.links z y }
 {
-    // That the graph is shaped.
-    sight.rows();
+    sight.is_shaped();
     let mut at = z;
     'line: loop {
         if sight.sees(at, y) {

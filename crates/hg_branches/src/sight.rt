@@ -1,28 +1,32 @@
 ghost use Rattle.std.specs.Prelude.{◌≡◌, ◌<◌, ◌≤◌, ◌+◌, ℕ, [], length, slice_index, IfOk};
 ghost use Rattle.hg_model.specs.Forks.{has_fork_below};
 ghost use Rattle.hg_model.specs.Shape.{shape_of};
-ghost use Rattle.hg_model.specs.GraphWords.{strongly_sees_in};
+ghost use Rattle.hg_model.specs.GraphWords.{strongly_sees_in, IsShapedIn};
+ghost use Rattle.hg_model.specs.Stakes.{member_count};
 ghost use Rattle.hg_bits.specs.Masks.{mask_has};
 
 use crate::branches::{branch_for, ends_within, move_end, open_branch, zeros};
 use crate::counts::{count_at, known_place, row_of};
 use crate::forks::forked_next;
-use crate::kept::{KeptRow, firsts_at, kept_row, last_end, note_all};
+use crate::landmarks::{Landmark, NextRow, firsts_at, landmark_of, last_end, note_all};
 use crate::links::{creator_at, self_parent_at};
 use crate::seeing;
 use crate::table::CountTable;
 use hg_ancestry::PlacedLink;
-use hg_bits::{mask_has, members_over};
+use hg_bits::{StakeTable, mask_has};
 use hg_blocks::Blocks;
-use hg_model::{Growing, Member, Memory, Parents, Sight};
+use hg_model::{Counts, Growing, Member, Memory, Parents, Sight};
 use std::alloc::Global;
 use std::marker::Model;
+
+/// With as many rows a graph takes no more: their places and one stand in 16 bits, of which the greatest is no place.
+const MOST_ROWS: usize = 65_534;
 
 /// A graph that tells its ancestry by branches. A prefix shares its sealed blocks of 64 rows.
 #[derive(Drop)]
 pub struct BranchSight {
     alloc: Global,
-    members: u32,
+    stakes: StakeTable,
     links: Blocks<PlacedLink>,
     /// For each row its branch. There may be more branches than 16 bits count: one for each member and each row.
     branches: Blocks<usize>,
@@ -35,18 +39,18 @@ pub struct BranchSight {
     counts: CountTable,
     /// For each row the members with a fork among its ancestors.
     forked: Blocks<u128>,
-    /// The rows of which the first descendants are kept, in the order of the graph; a prefix has none.
-    kept: Vec<KeptRow>,
-    /// For each branch the number of its last kept row, or 0.
+    /// What is noted of rows for strongly seeing them, in the order of the graph; a prefix has none.
+    landmarks: Vec<Landmark>,
+    /// For each branch the number of its last landmark, or 0.
     newest: Vec<u16>,
-    /// For each branch the end of its last kept row, or 0.
+    /// For each branch the end of its last landmark, or 0.
     tops: Vec<u16>,
-    /// For each row its number among the kept rows, or 0. Rows past its end have 0 too: a prefix has no entries.
+    /// For each row the number of its landmark, or 0. Rows past its end have 0 too: a prefix has no entries.
     numbers: Vec<u16>,
     /// Whether there is memory for a row.
     ready: bool,
-    /// The next kept row, if there is memory for one.
-    spare_kept: Option<KeptRow>,
+    /// The next landmark, if there is memory for one.
+    spare: Option<Landmark>,
 }
 
 impl Model for BranchSight {
@@ -56,47 +60,48 @@ impl Model for BranchSight {
 
     ghost Value = { ShapeWithRoom };
 
-    ghost view = { λ s. record { shape = shape_of s.members s.links.items; room = room_of s.ready } };
+    ghost view = { λ s. record { shape = shape_of s.stakes s.links.items; room = room_of s.ready } };
 
     ghost invariant = { HoldsBranchSight };
 }
 
 impl BranchSight {
-    /// The graph of no rows by `members` members.
-    pub fn new(alloc: Global, members: u32) -> Result<BranchSight, Memory>
-        requires { members ≤ 128 }
-        ensures { IfOk result (λ s. s.shape ≡ shape_of members []) }
+    /// The graph of no rows by members with these stakes.
+    pub fn new(alloc: Global, stakes: &[u32]) -> Result<BranchSight, Memory>
+        requires { length stakes.now ≤ 128 }
+        ensures { IfOk result (λ s. s.shape ≡ shape_of stakes.now []) }
     {
+        let members = stakes.len();
         Ok(BranchSight {
             alloc,
-            members,
+            stakes: StakeTable::new(alloc, stakes)?,
             links: Blocks::new(alloc),
             branches: Blocks::new(alloc),
             makers: own_branches(alloc, members)?,
-            ends: zeros(alloc, members as usize)?,
-            counts: CountTable::new(alloc, members as usize),
+            ends: zeros(alloc, members)?,
+            counts: CountTable::new(alloc, members),
             forked: Blocks::new(alloc),
-            kept: Vec::new(alloc),
-            newest: zeros(alloc, members as usize)?,
-            tops: zeros(alloc, members as usize)?,
+            landmarks: Vec::new(alloc),
+            newest: zeros(alloc, members)?,
+            tops: zeros(alloc, members)?,
             numbers: Vec::new(alloc),
             ready: false,
-            spare_kept: None,
+            spare: None,
         })
     }
 
-    /// Keeps the first descendants of the last row from now on, so that `strongly_sees` of it is quick. It changes no answer,
-    /// and takes no memory: where `reserve` has taken none for it, it keeps nothing, and a prefix keeps nothing.
-    pub fn keep_last(&mut self)
+    /// Makes the last row a landmark, of which the first descendants are noted from now on, so that `strongly_sees` of it is
+    /// quick. It changes no answer, and takes no memory: where `reserve` has taken none for it, and in a prefix, none is made.
+    pub fn mark_last(&mut self)
         ensures { self.new ≡ self.old }
     {
         let end = self.links.len();
-        if self.numbers.len() == end && last_end(&self.kept) < end as u16 {
-            if let Some(mut row) = self.spare_kept.take() {
+        if self.numbers.len() == end && last_end(&self.landmarks) < end as u16 {
+            if let Some(mut landmark) = self.spare.take() {
                 let branch = self.branches[end - 1];
-                row.begin(branch, end as u16, self.newest[branch]);
-                self.kept.push_reserved(row);
-                let number = self.kept.len() as u16;
+                landmark.begin(branch, end as u16, self.newest[branch]);
+                self.landmarks.push_reserved(landmark);
+                let number = self.landmarks.len() as u16;
                 self.newest[branch] = number;
                 self.tops[branch] = end as u16;
                 self.numbers[end - 1] = number;
@@ -113,28 +118,27 @@ impl BranchSight {
         }
     }
 
-    /// Takes the memory of one more kept row.
-    fn reserve_kept(&mut self) -> Result<(), Memory>
+    /// Takes the memory of one more landmark.
+    fn reserve_landmark(&mut self) -> Result<(), Memory>
         ensures { self.new ≡ self.old }
     {
-        if self.spare_kept.is_none() {
-            self.kept.reserve(1)?;
-            let row = KeptRow::new(self.alloc, self.members as usize)?;
-            self.spare_kept = Some(row);
+        if self.spare.is_none() {
+            self.landmarks.reserve(1)?;
+            let landmark = Landmark::new(self.alloc, self.stakes.len())?;
+            self.spare = Some(landmark);
         }
         Ok(())
     }
 
-    /// Whether row `x` strongly sees row `y`, where row `x` counts branches beside the members' own, or the first descendants of
-    /// row `y` are not kept. A call of its own, so that the other case is short.
+    /// Whether row `x` strongly sees row `y`, where row `x` counts branches beside the members' own, or row `y` has no landmark.
+    /// A call of its own, so that the other case is short.
     #[inline(never)]
     fn strongly_sees_beside(&self, x: usize, y: usize) -> bool
         requires left { x < length self.now.shape.links }
         requires right { y < length self.now.shape.links }
         ensures { result ≡ strongly_sees_in self.now.shape x y }
     {
-        // That the graph is shaped.
-        self.members();
+        self.is_shaped();
         let number = count_at(&self.numbers, y);
         if !self.ancestor(x, y) {
             return false;
@@ -144,12 +148,25 @@ impl BranchSight {
         if !mask_has(self.forked_below(x), member) {
             let slot = number as usize;
             if slot > 0 {
-                let firsts = firsts_at(&self.kept, slot - 1);
+                let firsts = firsts_at(&self.landmarks, slot - 1);
                 return seeing::strong_by_firsts(self, &self.makers, &counts, firsts, y);
             }
         }
         let seers = seeing::seers(self, &self.makers, &counts, y);
-        members_over(seers, self.members)
+        self.stakes.over(seers)
+    }
+
+    /// That the graph is shaped, of at most 128 members.
+    pub(crate) fn is_shaped(&self)
+        ensures shaped { IsShapedIn self.now.shape }
+        ensures few { member_count self.now.shape.members ≤ 128 }
+    {}
+
+    /// The members' stakes.
+    pub(crate) fn stakes(&self) -> &StakeTable
+        ensures { result.now ≡ self.now.shape.members }
+    {
+        &self.stakes
     }
 
     /// The members with a fork among the ancestors of row `x`.
@@ -162,12 +179,12 @@ impl BranchSight {
 }
 
 /// The makers of the members' own branches.
-fn own_branches(alloc: Global, members: u32) -> Result<Vec<Member>, Memory>
+fn own_branches(alloc: Global, members: usize) -> Result<Vec<Member>, Memory>
     requires { members ≤ 128 }
     ensures len { IfOk result (λ v. length v.items ≡ members) }
     ensures own { IfOk result (λ v. (m : ℕ) → m < members → slice_index v.items m ≡ m) }
 {
-    let mut makers = Vec::with_capacity(alloc, members as usize)?;
+    let mut makers = Vec::with_capacity(alloc, members)?;
     for m in 0..members {
         makers.push(m as Member)?;
     }
@@ -182,11 +199,23 @@ impl Sight for BranchSight {
     }
 
     fn members(&self) -> u32 {
-        self.members
+        self.stakes.len() as u32
+    }
+
+    fn stake(&self, member: Member) -> u32 {
+        self.stakes.at(member)
+    }
+
+    fn total(&self) -> u64 {
+        self.stakes.total()
+    }
+
+    fn even(&self) -> Option<u32> {
+        self.stakes.even()
     }
 
     fn creator(&self, x: usize) -> Member {
-        creator_at(&self.links, self.members, x)
+        creator_at(&self.links, x)
     }
 
     fn self_parent(&self, x: usize) -> Option<usize> {
@@ -202,18 +231,18 @@ impl Sight for BranchSight {
     }
 
     fn strongly_sees(&self, x: usize, y: usize) -> bool {
-        // That the graph is shaped.
-        self.members();
+        self.is_shaped();
         let number = count_at(&self.numbers, y);
-        if number > 0 && (self.makers.len() == self.members as usize || self.counts.is_own(x)) {
-            return kept_row(&self.kept, number as usize - 1).is_strong_by(self.counts.own(x));
+        if number > 0 && (self.makers.len() == self.stakes.len() || self.counts.is_own(x)) {
+            let landmark = landmark_of(&self.landmarks, number as usize - 1);
+            return landmark.is_strong_by(&self.stakes, self.counts.own(x));
         }
         self.strongly_sees_beside(x, y)
     }
 
-    fn counts(&self, x: usize) -> Option<&[u16]> {
-        if self.makers.len() == self.members as usize {
-            Some(self.counts.own(x))
+    fn counts(&self, x: usize) -> Option<Counts<'_>> {
+        if self.makers.len() == self.stakes.len() {
+            Some(Counts::Narrow(self.counts.own(x)))
         } else {
             None
         }
@@ -224,8 +253,11 @@ impl Growing for BranchSight {
     ghost room = { λ s. s.room };
 
     fn reserve(&mut self) -> Result<(), Memory> {
-        self.reserve_kept()?;
+        self.reserve_landmark()?;
         if !self.ready {
+            if self.links.len() >= MOST_ROWS {
+                return Err(Memory);
+            }
             self.links.reserve()?;
             self.branches.reserve()?;
             self.makers.reserve(1)?;
@@ -241,7 +273,7 @@ impl Growing for BranchSight {
     }
 
     fn extend(&mut self, parents: Parents, creator: Member) {
-        let members = self.members as usize;
+        let members = self.stakes.len();
         let on = parents.pair();
         let branch = branch_for(&self.branches, &self.ends, on, creator);
         let many = members < self.makers.len() || members <= branch;
@@ -253,13 +285,12 @@ impl Growing for BranchSight {
         let known = row_of(&self.counts, known_place(on, row));
         let counts = row_of(&self.counts, row);
         note_all(
-            &mut self.kept,
+            &mut self.landmarks,
             &self.newest,
             &self.tops,
             &known,
             &counts,
-            branch,
-            end,
+            NextRow { branch, end },
         );
         self.links.push(PlacedLink::of(creator, parents));
         self.branches.push(branch);
@@ -271,22 +302,22 @@ impl Growing for BranchSight {
     }
 
     fn prefix(&self, len: usize) -> Result<BranchSight, Memory> {
-        let many = self.makers.len().min(self.members as usize + len);
+        let many = self.makers.len().min(self.stakes.len() + len);
         Ok(BranchSight {
             alloc: self.alloc,
-            members: self.members,
+            stakes: self.stakes.copy(self.alloc)?,
             links: self.links.cloned_prefix(len)?,
             branches: self.branches.prefix(len)?,
             makers: Vec::from_slice(self.alloc, &self.makers[..many])?,
             ends: ends_within(self.alloc, &self.ends[..many], len as u16)?,
             counts: self.counts.prefix(self.alloc, len)?,
             forked: self.forked.prefix(len)?,
-            kept: Vec::new(self.alloc),
+            landmarks: Vec::new(self.alloc),
             newest: zeros(self.alloc, many)?,
             tops: zeros(self.alloc, many)?,
             numbers: Vec::new(self.alloc),
             ready: false,
-            spare_kept: None,
+            spare: None,
         })
     }
 }

@@ -58,6 +58,13 @@ impl Event {
         Ok(Event::new(row, bytes))
     }
 
+    /// A law: the row is spelled, and has its name.
+    pub fn is_event(&self)
+        ensures { Spells (spelling self.now) self.now }
+    {
+        let _bytes = self.bytes.as_slice();
+    }
+
     /// The row: the event's fields and its name.
     pub fn row(&self) -> &Row
         ensures value { result.now ≡ self.now }

@@ -195,7 +195,7 @@ fn keep_witness(sight: &mut NodeSight, witness: bool)
     ensures { sight.new ≡ sight.old }
 {
     if witness {
-        sight.keep_last();
+        sight.mark_last();
     }
 }
 

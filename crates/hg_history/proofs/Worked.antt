@@ -26,7 +26,7 @@ use Rattle.hg_life.specs.Signing.{Accepts}
 
 -- the stakes of so many members
 abbrev pub members : ℕ → Stakes
-members k = k
+members k = replicate k 1
 
 -- a name of 48 bytes, as six words
 abbrev name : ℕ → ℕ → ℕ → ℕ → ℕ → ℕ → List ℕ

@@ -86,6 +86,13 @@ impl Members {
         }
     }
 
+    /// A law: what every list of members keeps to.
+    pub fn is_lawful(&self)
+        ensures { IsMemberList self.now }
+    {
+        self.entries();
+    }
+
     /// The members in their order.
     pub fn entries(&self) -> &[MemberEntry]
         ensures value { result.now ≡ self.now.entries }

@@ -41,7 +41,7 @@ named i few = elim (cases_Bool (is_named i)) [
 ]
 
 entry_lawful : (seed i : ℕ) → i < 128 → IsEntry (made_member seed i)
-entry_lawful seed i few = record { name = named i few; secret_some = omega arith; secret_fits = omega arith }
+entry_lawful seed i few = record { name = named i few; secret_some = omega arith; secret_fits = omega arith; stake_some = omega arith; stake_fits = omega arith }
 
 named_apart : (i j : ℕ) → i < 128 → j < 128 → member_name i ≡ member_name j → i ≡ j
 named_apart i j few_i few_j same = decimal_injective i j (omega arith) (omega arith) (ap (drop 1) same)

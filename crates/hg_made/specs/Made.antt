@@ -25,7 +25,7 @@ abbrev pub member_secret : ℕ → ℕ → List ℕ
 member_secret seed i = to_be_bytes w64 seed ++ to_be_bytes w64 i
 
 abbrev pub made_member : ℕ → ℕ → MemberEntry
-made_member seed i = record { name = member_name i; secret = member_secret seed i; balance = 1000; has_node = true }
+made_member seed i = record { name = member_name i; secret = member_secret seed i; balance = 1000; stake = 1; has_node = true }
 
 -- so many members, of whom each has a node
 abbrev pub made_members : ℕ → ℕ → MemberList

@@ -1,6 +1,7 @@
 //! Members and the lines of a script, made from a number, for a large run without files.
 //! The layer above uses `generate`, whose answer is the definition of the same name in `specs/Made.antt`, and whose
-//! lines are lawful for its members. Drawn are the members of the syncs and their transfers, and nothing else.
+//! lines are lawful for its members. Drawn are the members of the syncs and their transfers, and nothing else. Who draws
+//! more in the same way uses `Draws`, and `peer_of` for another member than one.
 //!
 //! From `make` of `hg_top`:
 //!
@@ -22,4 +23,6 @@ mod lines;
 mod making;
 mod members;
 
+pub use draws::Draws;
+pub use lines::peer_of;
 pub use making::generate;

@@ -10,7 +10,7 @@ use hg_script::{Action, Gossip, Line, Part};
 use std::alloc::Global;
 
 /// Another member than the taker, for a number below their count less one.
-fn peer_of(taker: u64, b: u64) -> u64
+pub fn peer_of(taker: u64, b: u64) -> u64
     requires { b < 128 }
     ensures { result ≡ peer_of taker b }
 {
@@ -21,8 +21,8 @@ fn peer_of(taker: u64, b: u64) -> u64
 fn made_sync(alloc: Global, draws: &mut Draws, members: u64, time: u64) -> Result<Gossip, Memory>
     requires some { 2 ≤ members }
     requires few { members ≤ 128 }
-    ensures gossip { IfOk result (λ gossip. gossip ≡ made_sync members draws.old.state time) }
-    ensures state { OnOk result (draws.new.state ≡ state_after draws.old.state 4) }
+    ensures gossip { IfOk result (λ gossip. gossip ≡ made_sync members draws.old time) }
+    ensures state { OnOk result (draws.new ≡ state_after draws.old 4) }
 {
     let taker = draws.below(members);
     let peer = peer_of(taker, draws.below(members - 1));
@@ -41,8 +41,8 @@ fn made_sync(alloc: Global, draws: &mut Draws, members: u64, time: u64) -> Resul
 fn made_gossip(alloc: Global, draws: &mut Draws, members: u32, j: u32) -> Result<Gossip, Memory>
     requires some { 2 ≤ members }
     requires few { members ≤ 128 }
-    ensures gossip { IfOk result (λ gossip. gossip ≡ made_gossip members draws.old.state j) }
-    ensures state { OnOk result (draws.new.state ≡ state_behind members draws.old.state j) }
+    ensures gossip { IfOk result (λ gossip. gossip ≡ made_gossip members draws.old j) }
+    ensures state { OnOk result (draws.new ≡ state_behind members draws.old j) }
 {
     let time = u64::from(j) + 1;
     if j < members {

@@ -32,6 +32,7 @@ fn made_member(alloc: Global, seed: u64, member: u32) -> Result<MemberEntry, Mem
         name: member_name(alloc, member)?,
         secret: member_secret(alloc, seed, member)?,
         balance: 1000,
+        stake: 1,
         has_node: true,
     })
 }

@@ -1,6 +1,6 @@
 -- Members that are read keep to what every list of members keeps to.
-use Rattle.std.proofs.Common.{◌≡◌, ℕ, ℤ, pos, negsuc, ◌+◌, ◌<◌, ◌≤◌, ◌^◌, true, false, nat_le, ◌&&◌, List, [], ◌∷◌, ◌++◌, length, get_or, Option, Some, None, option_and_then, unwrap_or, codes, Result, Ok, Err, sum_by, length-append, refl, arith, inl, inr}
-use Rattle.std.proofs.lemmas.Bool.{and_parts, both_ways, cases_Bool, leb-true}
+use Rattle.std.proofs.Common.{◌≡◌, ℕ, ℤ, pos, negsuc, ◌+◌, ◌<◌, ◌≤◌, ◌^◌, true, false, nat_le, nat_lt, ◌&&◌, List, [], ◌∷◌, ◌++◌, length, get_or, Option, Some, None, option_and_then, unwrap_or, codes, Result, Ok, Err, sum_by, length-append, refl, arith, inl, inr}
+use Rattle.std.proofs.lemmas.Bool.{and_parts, both_ways, cases_Bool, leb-true, ltb-true}
 use Rattle.std.proofs.lemmas.List.Elements.{All-nil, All-push}
 use Rattle.std.proofs.lemmas.List.Folds.{list_any_at}
 use Rattle.std.proofs.lemmas.List.Quantifiers.{all_pairs_push}
@@ -15,8 +15,8 @@ use Rattle.hg_life.specs.declared.members.MemberEntry.{MemberEntry}
 use Rattle.hg_life.specs.Members.{IsEntry, IsMemberList, is_member_name, listed, has_name}
 use Rattle.hg_life.specs.Results.{◌>>=◌}
 use Rattle.hg_members.specs.declared.fault.MemberFault.{MemberFault}
-use Rattle.hg_members.specs.declared.fault.MemberFault.TheVariants.{BadCoin, Count, BadName, DoubleName, BadSecret, BadBalance, BadNode}
-use Rattle.hg_members.specs.MemberFile.{coin_number, coin_of, count_of, checked_count, name_form, entry_name, name_of, secret_form, entry_secret, balance_of, node_flag, text_at, checked_member, members_after}
+use Rattle.hg_members.specs.declared.fault.MemberFault.TheVariants.{BadCoin, Count, BadName, DoubleName, BadSecret, BadBalance, BadNode, BadStake}
+use Rattle.hg_members.specs.MemberFile.{coin_number, coin_of, count_of, checked_count, name_form, entry_name, name_of, secret_form, entry_secret, balance_of, node_flag, stake_number, given_stake, text_at, checked_member, members_after}
 
 -- what the first check gave, where both pass
 bind_ok : {A B : Type 0} (r : Result A MemberFault) (next : A → Result B MemberFault) (y : B) → (r >>= next) ≡ Ok y → (x : A) × (r ≡ Ok x) × (next x ≡ Ok y)
@@ -68,6 +68,23 @@ coin_of-ok : (found : Option Data) (coin : ℕ) → coin_of found ≡ Ok coin �
 coin_of-ok None coin h = let e : 10 ≡ coin = cc in (omega arith, omega arith)
 coin_of-ok (Some value) coin h = coin_number-ok (unwrap_or (as_integer value) (pos 0)) coin h
 
+stake_number-some : (z : ℤ) (stake : ℕ) → stake_number z ≡ Some stake → (1 ≤ stake) × (stake < 2 ^ 32)
+stake_number-some (pos n) stake h =
+    elim (cases_Bool (nat_le 1 n && nat_lt n (2 ^ 32))) [
+      | inl lawful ↦
+          let (low, high) = and_parts (nat_le 1 n) (nat_lt n (2 ^ 32)) lawful in
+          let same : Some n ≡ Some stake = rw lawful at h in
+          let e : n ≡ stake = cc in
+          rw (← e) (leb-true 1 n low, ltb-true n (2 ^ 32) high)
+      | inr other ↦ absurd (let none : None ≡ Some stake = rw other at h in cc)
+    ]
+stake_number-some (negsuc n) stake h = absurd cc
+
+given_stake-some : (found : Option Data) (stake : ℕ) → given_stake found ≡ Some stake → (1 ≤ stake) × (stake < 2 ^ 32)
+given_stake-some None stake h = let e : 1 ≡ stake = cc in rw (← e) (omega arith, omega arith)
+given_stake-some (Some value) stake h =
+    let (number, given) = and_then-some stake_number (as_integer value) stake h in stake_number-some number stake given
+
 counted-ok : (found entries : Items) → checked_count found ≡ Ok entries → (2 ≤ count_of entries) × (count_of entries ≤ 128)
 counted-ok found entries h =
     elim (cases_Bool (nat_le 2 (count_of found) && nat_le (count_of found) 128)) [
@@ -104,10 +121,12 @@ member_of-ok earlier entry m h =
     let (secret, read, with_secret) = bind_ok (ok_or (entry_secret entry) (BadSecret place)) _ m with_name in
     let (balance, given, with_balance) = bind_ok (ok_or (balance_of (get (codes "balance") entry)) (BadBalance place)) _ m with_secret in
     let (has_node, matches, with_node) = bind_ok (ok_or (node_flag (get (codes "node") entry)) (BadNode place)) _ m with_balance in
-    let e : record { name = name; secret = secret; balance = balance; has_node = has_node } ≡ m = cc in
+    let (stake, held, with_stake) = bind_ok (ok_or (given_stake (get (codes "stake") entry)) (BadStake place)) _ m with_node in
+    let e : record { name = name; secret = secret; balance = balance; stake = stake; has_node = has_node } ≡ m = cc in
     let (form, new) = name_of-ok earlier entry name named in
     let (some, fits) = secret_in-some entry secret (ok_or-ok (entry_secret entry) (BadSecret place) secret read) in
-    rw (← e) (record { name = form; secret_some = some; secret_fits = fits }, new)
+    let (weighs, low) = given_stake-some (get (codes "stake") entry) stake (ok_or-ok (given_stake (get (codes "stake") entry)) (BadStake place) stake held) in
+    rw (← e) (record { name = form; secret_some = some; secret_fits = fits; stake_some = weighs; stake_fits = low }, new)
 
 -- members that are each lawful, and have names of their own
 record AreMembers (members : List MemberEntry) : Type 0 where

@@ -5,7 +5,7 @@ use Rattle.std.specs.Str.{chars, is_utf8}
 use Rattle.hex.proofs.OnLiterals.{hex_on_literals}
 use Rattle.toml.proofs.OnLiterals.{toml_on_literals}
 use Rattle.hg_life.specs.Members.{listed}
-use Rattle.hg_members.specs.declared.fault.MemberFault.TheVariants.{NotToml, BadCoin, Count, BadName, DoubleName, BadSecret, BadBalance, BadNode, SumTooLarge}
+use Rattle.hg_members.specs.declared.fault.MemberFault.TheVariants.{NotToml, BadCoin, Count, BadName, DoubleName, BadSecret, BadBalance, BadNode, BadStake, SumTooLarge}
 use Rattle.hg_members.specs.MemberFile.{members_of}
 
 -- two entries that are taken
@@ -13,17 +13,17 @@ abbrev a : List ℕ
 a = codes "[[member]]\nname = \"A\"\nsecret = \"0b0b\"\n"
 
 abbrev b : List ℕ
-b = codes "[[member]]\nname = \"B\"\nsecret = \"0C0c\"\nbalance = 7\nnode = false\n"
+b = codes "[[member]]\nname = \"B\"\nsecret = \"0C0c\"\nbalance = 7\nnode = false\nstake = 3\n"
 
 two_members : members_of (codes "coin = 0x10\nother = 1\n" ++ (a ++ b)) ≡ Ok (listed
-    (record { name = codes "A"; secret = 0x0b ∷ 0x0b ∷ []; balance = 0; has_node = true }
-    ∷ record { name = codes "B"; secret = 0x0c ∷ 0x0c ∷ []; balance = 7; has_node = false } ∷ []) 16)
+    (record { name = codes "A"; secret = 0x0b ∷ 0x0b ∷ []; balance = 0; stake = 1; has_node = true }
+    ∷ record { name = codes "B"; secret = 0x0c ∷ 0x0c ∷ []; balance = 7; stake = 3; has_node = false } ∷ []) 16)
 unfolding members_of toml_on_literals hex_on_literals is_utf8 chars encode_utf8
 two_members = refl
 
-in_one_line : members_of (codes "member = [{name='a_1',secret='0b',stake='x'},{name='B',secret='0c',balance=0x7FFFFFFFFFFFFFFF}]") ≡ Ok (listed
-    (record { name = codes "a_1"; secret = 0x0b ∷ []; balance = 0; has_node = true }
-    ∷ record { name = codes "B"; secret = 0x0c ∷ []; balance = 0x7FFFFFFFFFFFFFFF; has_node = true } ∷ []) 10)
+in_one_line : members_of (codes "member = [{name='a_1',secret='0b',other='x'},{name='B',secret='0c',balance=0x7FFFFFFFFFFFFFFF,stake=0xFFFFFFFF}]") ≡ Ok (listed
+    (record { name = codes "a_1"; secret = 0x0b ∷ []; balance = 0; stake = 1; has_node = true }
+    ∷ record { name = codes "B"; secret = 0x0c ∷ []; balance = 0x7FFFFFFFFFFFFFFF; stake = 0xFFFFFFFF; has_node = true } ∷ []) 10)
 unfolding members_of toml_on_literals hex_on_literals is_utf8 chars encode_utf8
 in_one_line = refl
 
@@ -80,9 +80,25 @@ balance_negative : members_of (b ++ codes "[[member]]\nname = \"A\"\nsecret = \"
 unfolding members_of toml_on_literals hex_on_literals is_utf8 chars encode_utf8
 balance_negative = refl
 
-node_of_number : members_of (b ++ codes "[[member]]\nname = \"A\"\nsecret = \"0b\"\nnode = 1\n") ≡ Err (BadNode 1)
+node_of_number : members_of (b ++ codes "[[member]]\nname = \"A\"\nsecret = \"0b\"\nnode = 1\nstake = 0\n") ≡ Err (BadNode 1)
 unfolding members_of toml_on_literals hex_on_literals is_utf8 chars encode_utf8
 node_of_number = refl
+
+no_stake : members_of (codes "[[member]]\nname = \"A\"\nsecret = \"0b\"\nstake = 0\n" ++ b) ≡ Err (BadStake 0)
+unfolding members_of toml_on_literals hex_on_literals is_utf8 chars encode_utf8
+no_stake = refl
+
+stake_negative : members_of (b ++ codes "[[member]]\nname = \"A\"\nsecret = \"0b\"\nstake = -1\n") ≡ Err (BadStake 1)
+unfolding members_of toml_on_literals hex_on_literals is_utf8 chars encode_utf8
+stake_negative = refl
+
+stake_too_great : members_of (b ++ codes "[[member]]\nname = \"A\"\nsecret = \"0b\"\nstake = 4294967296\n") ≡ Err (BadStake 1)
+unfolding members_of toml_on_literals hex_on_literals is_utf8 chars encode_utf8
+stake_too_great = refl
+
+stake_of_no_number : members_of (b ++ codes "[[member]]\nname = \"A\"\nsecret = \"0b\"\nstake = 1.0\n") ≡ Err (BadStake 1)
+unfolding members_of toml_on_literals hex_on_literals is_utf8 chars encode_utf8
+stake_of_no_number = refl
 
 sum_large : members_of (b ++ codes "[[member]]\nname = \"A\"\nsecret = \"0b\"\nbalance = 9223372036854775801\n") ≡ Err SumTooLarge
 unfolding members_of toml_on_literals hex_on_literals is_utf8 chars encode_utf8

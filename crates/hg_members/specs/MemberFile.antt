@@ -11,7 +11,7 @@ use Rattle.hg_life.specs.declared.members.MemberEntry.{MemberEntry}
 use Rattle.hg_life.specs.Members.{MemberList, listed, is_member_name, has_name}
 use Rattle.hg_life.specs.Results.{◌>>=◌}
 use Rattle.hg_members.specs.declared.fault.MemberFault.{MemberFault}
-use Rattle.hg_members.specs.declared.fault.MemberFault.TheVariants.{NotToml, BadCoin, Count, BadName, DoubleName, BadSecret, BadBalance, BadNode, SumTooLarge}
+use Rattle.hg_members.specs.declared.fault.MemberFault.TheVariants.{NotToml, BadCoin, Count, BadName, DoubleName, BadSecret, BadBalance, BadNode, BadStake, SumTooLarge}
 
 -- the document that the bytes are, if they are one
 abbrev pub document_of : List ℕ → Option Data
@@ -80,6 +80,16 @@ abbrev pub node_flag : Option Data → Option Bool
 node_flag None = Some true
 node_flag (Some value) = as_bool value
 
+-- a whole number from 1 to 2^32 - 1
+abbrev pub stake_number : ℤ → Option ℕ
+stake_number (pos n) = if nat_le 1 n && nat_lt n (2 ^ 32) then Some n else None
+stake_number (negsuc n) = None
+
+-- 1 where none is given
+abbrev pub given_stake : Option Data → Option ℕ
+given_stake None = Some 1
+given_stake (Some value) = option_and_then stake_number (as_integer value)
+
 -- a name that no earlier member has
 abbrev pub name_of : List MemberEntry → Data → Result (List ℕ) MemberFault
 name_of earlier entry = do
@@ -93,7 +103,8 @@ checked_member earlier entry = do
   secret ← ok_or (entry_secret entry) (BadSecret (length earlier))
   balance ← ok_or (balance_of (get (codes "balance") entry)) (BadBalance (length earlier))
   has_node ← ok_or (node_flag (get (codes "node") entry)) (BadNode (length earlier))
-  Ok (record { name = name; secret = secret; balance = balance; has_node = has_node })
+  stake ← ok_or (given_stake (get (codes "stake") entry)) (BadStake (length earlier))
+  Ok (record { name = name; secret = secret; balance = balance; stake = stake; has_node = has_node })
 
 -- the earlier members, and those of the entries
 abbrev pub members_after : List MemberEntry → Items → Result (List MemberEntry) MemberFault

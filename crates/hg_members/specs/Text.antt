@@ -2,7 +2,7 @@
 use Rattle.std.specs.Prelude.{ℕ, List, ◌++◌, codes}
 use Rattle.std.specs.Fmt.{decimal, signed_decimal}
 use Rattle.hg_members.specs.declared.fault.MemberFault.{MemberFault}
-use Rattle.hg_members.specs.declared.fault.MemberFault.TheVariants.{NotToml, BadCoin, Count, BadName, DoubleName, BadSecret, BadBalance, BadNode, SumTooLarge}
+use Rattle.hg_members.specs.declared.fault.MemberFault.TheVariants.{NotToml, BadCoin, Count, BadName, DoubleName, BadSecret, BadBalance, BadNode, BadStake, SumTooLarge}
 
 -- a fault of one member, by its number
 abbrev pub of_member : List ℕ → ℕ → List ℕ
@@ -17,4 +17,5 @@ member_fault_text (DoubleName i) = of_member (codes "double-name") i
 member_fault_text (BadSecret i) = of_member (codes "secret") i
 member_fault_text (BadBalance i) = of_member (codes "balance") i
 member_fault_text (BadNode i) = of_member (codes "node") i
+member_fault_text (BadStake i) = of_member (codes "stake") i
 member_fault_text SumTooLarge = codes "sum"

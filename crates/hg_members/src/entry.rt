@@ -71,6 +71,25 @@ fn node_in(entry: &Value) -> Option<bool>
     }
 }
 
+fn stake_number(number: i64) -> Option<u32>
+    ensures { result ≡ spec.stake_number number }
+{
+    if 1 <= number && number < 1 << 32 {
+        Some(number as u32)
+    } else {
+        None
+    }
+}
+
+fn stake_in(entry: &Value) -> Option<u32>
+    ensures { result ≡ spec.given_stake (get (codes "stake") (view entry.now)) }
+{
+    match entry.get("stake") {
+        Some(value) => stake_number(value.as_integer()?),
+        None => Some(1),
+    }
+}
+
 fn name_of<'a>(earlier: &[MemberEntry], entry: &'a Value) -> Result<&'a str, MemberFault>
     ensures { Reads (λ name. name.now) result (spec.name_of earlier.now (view entry.now)) }
 {
@@ -94,11 +113,13 @@ pub fn checked_member(
     let secret = entry_secret(alloc, entry)?.ok_or(MemberFault::BadSecret(place))?;
     let balance = balance_in(entry).ok_or(MemberFault::BadBalance(place))?;
     let has_node = node_in(entry).ok_or(MemberFault::BadNode(place))?;
+    let stake = stake_in(entry).ok_or(MemberFault::BadStake(place))?;
     let name = Bytes::from_vec(Vec::from_slice(alloc, name.as_bytes())?);
     Ok(MemberEntry {
         name,
         secret,
         balance,
+        stake,
         has_node,
     })
 }

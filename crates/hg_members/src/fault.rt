@@ -22,6 +22,8 @@ pub enum MemberFault {
     BadBalance(usize),
     /// `node` is neither true nor false.
     BadNode(usize),
+    /// `stake` is no whole number from 1 to 2^32 - 1.
+    BadStake(usize),
     /// The balances add up to 2^63 or more.
     SumTooLarge,
 }

@@ -1,6 +1,6 @@
 //! The names of events: SHA-384 (FIPS 180-4, section 6.5) of all of an event's bytes.
 //! A name can be written out as text and compared byte by byte; no call takes memory.
-//! The layers above use that `name_of` is `sha384`, the word by which `Spells` of hg_model names a row.
+//! The layers above use that `name_of` is `sha384`, the word by which `Spells` of hg_life names a row.
 //!
 //! From `names_abc` in the tests of `check_bytes`:
 //!

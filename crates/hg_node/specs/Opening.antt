@@ -27,7 +27,7 @@ pub record OpensAll (g : Graph) (marks : Marks) (share : Share) (len : ℕ) (pla
 
 -- the graph, votes on it, and such places of all its rows, at least one
 pub record IsOpening (g : Graph) (marks : Marks) (share : Share) (opened : Open) : Type 0 where
-  pub graph : opened.graph ≡ g
+  pub graph : opened.graph.graph ≡ g
   pub votes : IsMadeFor opened.votes g
   pub places : OpensAll g marks share (length g.rows) opened.places.items
   pub some : 0 < length opened.places.items

@@ -66,7 +66,7 @@ impl<V: Signer> Node<V> {
         ensures start { IfOk result (λ node. node.start ≡ start_of members.now own keys) }
         ensures history { IfOk result (λ node. node.history ≡ []) }
     {
-        members.entries();
+        members.is_lawful();
         let chronicle = Box::new(alloc, Chronicle::new(alloc, members, own)?)?;
         Ok(Node {
             alloc,
@@ -110,8 +110,7 @@ impl<V: Signer> Node<V> {
         ensures err { OnErr result (self.new ≡ self.old) }
         ensures free { OnErr result (WouldAccept V.accepts self.old (spelling event.now.value)) }
     {
-        // That its bytes are bytes, and those of an event.
-        event.row();
+        event.is_event();
         are_bytes(event.bytes());
         match parents_of_put_event(&*self.chronicle, event) {
             Ok(parents) => take_shared(&mut *self.chronicle, event, parents),
@@ -191,7 +190,7 @@ impl<V: Signer> Node<V> {
 
     /// The node's graph as a value of its own, which speaks of its rows whatever comes then.
     pub fn freeze(&self) -> Result<FrozenGraph, Memory>
-        ensures { IfOk result (λ frozen. frozen ≡ graph_in self.now) }
+        ensures { IfOk result (λ frozen. frozen.graph ≡ graph_in self.now) }
     {
         self.chronicle.graph().freeze()
     }
@@ -199,7 +198,7 @@ impl<V: Signer> Node<V> {
     /// The graph of the node's first `len` rows, at most all, as a value of its own.
     pub fn prefix(&self, len: usize) -> Result<FrozenGraph, Memory>
         requires { len ≤ length (node_rows self.now) }
-        ensures { IfOk result (λ frozen. frozen ≡ first_graph (graph_in self.now) len) }
+        ensures { IfOk result (λ frozen. frozen.graph ≡ first_graph (graph_in self.now) len) }
     {
         self.chronicle.graph().prefix(len)
     }
@@ -256,10 +255,16 @@ impl<V: Signer> Node<V> {
         self.chronicle.graph()
     }
 
+    /// A law: what every node keeps to.
+    pub fn is_node(&self)
+        ensures { IsNode V.accepts self.now }
+    {
+        self.chronicle.own();
+    }
+
     /// How many rows there are.
     pub fn rows(&self) -> usize
-        ensures value { result ≡ length (node_rows self.now) }
-        ensures node { IsNode V.accepts self.now }
+        ensures { result ≡ length (node_rows self.now) }
     {
         self.chronicle.graph().len()
     }
@@ -367,7 +372,7 @@ fn take(
     take_shared(chronicle, &Arc::new(alloc, event)?, parents)
 }
 
-/// Bytes are below 256.
+/// A law: bytes are below 256.
 fn are_bytes(bytes: &[u8])
     ensures { (i : ℕ) → get_or bytes.now i 0 < 256 }
 {

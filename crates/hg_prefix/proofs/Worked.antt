@@ -1,6 +1,6 @@
 -- A worked example: two graphs of two members in which rows stand at other places, and the one has more rows. They meet
 -- all premises of the core law, and the order of the one is a proper prefix of the other's.
-use Rattle.std.proofs.Common.{map, ◌≡◌, ◌⊎◌, ℕ, zero, suc, ◌<◌, true, false, eqb, List, [], ◌∷◌, ◌++◌, length, Some, None, refl, arith}
+use Rattle.std.proofs.Common.{replicate, map, ◌≡◌, ◌⊎◌, ℕ, zero, suc, ◌<◌, true, false, eqb, List, [], ◌∷◌, ◌++◌, length, Some, None, refl, arith}
 use Rattle.std.specs.List.{list_all}
 use Rattle.std.proofs.lemmas.Bool.{and_parts, eqb-true}
 use Rattle.hg_model.specs.declared.row.Row.{Row}
@@ -26,7 +26,7 @@ use Rattle.hg_prefix.proofs.CoreLaws.{own_chain_orders}
 
 -- the stakes of so many members
 abbrev members : ℕ → Stakes
-members k = k
+members k = replicate k 1
 
 -- an event with no parents, and one with parents of these names; names and signatures are of one byte, the time
 abbrev first : ℕ → ℕ → Row

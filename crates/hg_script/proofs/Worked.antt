@@ -19,9 +19,9 @@ use Rattle.hg_script.proofs.OnLiterals.{script_on_literals}
 -- A and B have nodes, N has none
 abbrev members : MemberList
 members = listed
-    (record { name = codes "A"; secret = 1 ∷ []; balance = 0; has_node = true }
-    ∷ record { name = codes "B"; secret = 2 ∷ []; balance = 0; has_node = true }
-    ∷ record { name = codes "N"; secret = 3 ∷ []; balance = 0; has_node = false } ∷ []) 10
+    (record { name = codes "A"; secret = 1 ∷ []; balance = 0; stake = 1; has_node = true }
+    ∷ record { name = codes "B"; secret = 2 ∷ []; balance = 0; stake = 1; has_node = true }
+    ∷ record { name = codes "N"; secret = 3 ∷ []; balance = 0; stake = 1; has_node = false } ∷ []) 10
 
 abbrev script : List ℕ → Result (List Line) ScriptFault
 script bytes = lines_of bytes members 0

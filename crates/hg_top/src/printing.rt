@@ -23,6 +23,7 @@ fn member_fault_parts(fault: MemberFault) -> (&'static [u8], Piece<'static>)
         MemberFault::BadSecret(i) => (b"secret ", Piece::Number(i as u64)),
         MemberFault::BadBalance(i) => (b"balance ", Piece::Number(i as u64)),
         MemberFault::BadNode(i) => (b"node ", Piece::Number(i as u64)),
+        MemberFault::BadStake(i) => (b"stake ", Piece::Number(i as u64)),
         MemberFault::SumTooLarge => (b"sum", Piece::Bytes(b"")),
     }
 }

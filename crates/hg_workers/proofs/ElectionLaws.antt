@@ -27,7 +27,7 @@ none_in (x ∷ xs) none = absurd (omega (arith, none))
 
 -- of what is open nothing is decided
 pub none_decided : (share : Share) (opened : Option Open) (some : Open) → opened ≡ Some some → (marks : List (ℕ × Bool)) →
-    marks ≡ fames_among (fame_in some.graph) some.places.items → length marks ≡ 0 → Elects share opened None
+    marks ≡ fames_among (fame_in some.graph.graph) some.places.items → length marks ≡ 0 → Elects share opened None
 none_decided share opened some is marks fames none = subst (λ (o : Option Open). Elects share o None) (sym is) (sym fames ∙ none_in marks none)
 
 -- what a share found in the whole graph of a node, to be published
@@ -48,8 +48,8 @@ module _ {V : Type 0} (accepts : V → Accepts) (v : NodeView V) (node : IsNode 
     subst (λ (g : Graph). AreWitnesses g (length g.rows) opened.places.items) (sym is.graph) is.places.witnesses,
   )
 
-  found_open : (opened : Open) (found : Found) → OpensIn share v (Some opened) → found.len ≡ length opened.graph.rows → found.share ≡ share →
-      found.marks ≡ fames_among (fame_in opened.graph) opened.places.items → IsFoundBy v found
+  found_open : (opened : Open) (found : Found) → OpensIn share v (Some opened) → found.len ≡ length opened.graph.graph.rows → found.share ≡ share →
+      found.marks ≡ fames_among (fame_in opened.graph.graph) opened.places.items → IsFoundBy v found
   found_open opened found is len same marks =
       opened_is_found V accepts v share opened.places.items found node is.places (len ∙ ap (λ (g : Graph). length g.rows) is.graph) same
       (marks ∙ ap (λ (g : Graph). fames_among (fame_in g) opened.places.items) is.graph)
@@ -93,4 +93,4 @@ module _ {V : Type 0} (accepts : V → Accepts) (v : NodeView V) (node : IsNode 
   elected_none None is none = marks_tied is
   elected_none (Some opened) is none =
       nothing_new (subst (λ (k : ℕ). FindsNews v.start.members v.start.coin (node_state v) k share []) (ap (λ (g : Graph). length g.rows) is.graph)
-      (found_open opened (record { len = length opened.graph.rows; share = share; marks = [] }) is (λ i. length opened.graph.rows) (λ i. share) (sym none)))
+      (found_open opened (record { len = length opened.graph.graph.rows; share = share; marks = [] }) is (λ i. length opened.graph.graph.rows) (λ i. share) (sym none)))

@@ -14,18 +14,18 @@ use Rattle.hg_board.specs.Seats.{SharedNode, SeatView}
 -- what is open can be elected: the votes are those on the graph, and the places are witnesses of it
 abbrev pub IsElectable : Option Open → Type 0
 IsElectable None = Unit {0}
-IsElectable (Some opened) = IsMadeFor opened.votes opened.graph × AreWitnesses opened.graph (length opened.graph.rows) opened.places.items
+IsElectable (Some opened) = IsMadeFor opened.votes opened.graph.graph × AreWitnesses opened.graph.graph (length opened.graph.graph.rows) opened.places.items
 
 -- these are the fames of the open places
 pub record ElectsAll (share : Share) (opened : Open) (found : Found) : Type 0 where
-  pub len : found.len ≡ length opened.graph.rows
+  pub len : found.len ≡ length opened.graph.graph.rows
   pub mine : found.share ≡ share
-  pub marks : found.marks ≡ fames_among (fame_in opened.graph) opened.places.items
+  pub marks : found.marks ≡ fames_among (fame_in opened.graph.graph) opened.places.items
 
 -- nothing is found only where nothing is open, or where of all that is open nothing is decided
 abbrev pub Elects : Share → Option Open → Option Found → Type 0
 Elects share None found = found ≡ None
-Elects share (Some opened) None = fames_among (fame_in opened.graph) opened.places.items ≡ []
+Elects share (Some opened) None = fames_among (fame_in opened.graph.graph) opened.places.items ≡ []
 Elects share (Some opened) (Some found) = ElectsAll share opened found
 
 -- how many rows have a mark where the seat is

@@ -10,6 +10,7 @@ use Rattle.hg_model.specs.Places.{table}
 use Rattle.hg_model.specs.Stakes.{Stakes, member_count}
 use Rattle.hg_life.specs.Signing.{accepts_by, secrets_of}
 use Rattle.hg_life.specs.NodeView.{NodeView, IsNode}
+use Rattle.hg_life.proofs.MemberLaws.{length-stakes}
 use Rattle.hg_gossip.specs.Handing.{HeardView}
 use Rattle.hg_gossip.specs.Known.{KeepsKnown}
 use Rattle.hg_world.specs.World.{Secrets, Site, WorldView, new_node, new_site, new_world, no_site, nodes_of, site_of, worker_limit}
@@ -102,7 +103,7 @@ module _ (members : MemberList) (nodes : List (NodeView Secrets)) (lawful : IsMe
     secrets_of members,
     record {
       some = omega (arith, lawful.some, many);
-      count = many;
+      count = many ∙ sym (length-stakes members);
       each = λ m low. subst (HasStart (stakes_of members) members.coin (secrets_of members) m) (sym (new_at m (omega (arith, low, many)))) (record { own = refl; members = refl; coin = refl; keyed = refl });
     },
   )

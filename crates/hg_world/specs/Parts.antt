@@ -12,6 +12,10 @@ use Rattle.hg_world.specs.World.{Secrets, Site, WorldView, IsSiteOf, no_site, no
 abbrev pub world_of : Stakes → ℕ → List Site → WorldView
 world_of n c sites = record { members = n; coin = c; sites = sites }
 
+-- among the members of this node, with its coin period
+abbrev pub world_like : NodeView Secrets → List Site → WorldView
+world_like v sites = world_of v.start.members v.start.coin sites
+
 -- the site is the member's, and its node is one, with these keys, whose workers froze no more rows than it has
 pub record KeepsSite (w : WorldView) (keys : Secrets) (m : ℕ) (site : Site) : Type 0 where
   pub is : IsSiteOf w m site

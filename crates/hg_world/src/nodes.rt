@@ -43,7 +43,7 @@ pub(crate) fn see_all(nodes: &Vec<Node<SharedTable>>)
     ensures { All (IsNode accepts_by) nodes.now.items }
 {
     for node in nodes {
-        node.rows();
+        node.is_node();
     }
 }
 

@@ -48,8 +48,7 @@ impl World {
         ensures safe { IsSafe self.new.members self.new.coin (run_of self.new) }
     {
         let reply = self.apply(step);
-        // That it is safe.
-        self.members();
+        self.is_world();
         reply
     }
 
@@ -74,7 +73,7 @@ impl World {
         ensures safe { IsSafe self.new.members self.new.coin (run_of self.new) }
     {
         let replies = self.apply_all(alloc, steps);
-        self.members();
+        self.is_world();
         replies
     }
 }

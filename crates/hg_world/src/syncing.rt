@@ -18,8 +18,7 @@ impl World {
     {
         let events = self.lacked(taker, peer)?;
         let number = events.len() as u64;
-        // That the peer's node is one, and has the taker's members and keys.
-        self.members();
+        self.is_world();
         let counts = self.take(taker, events.as_slice())?;
         if counts.taken == number {
             self.note_all(taker, peer);
@@ -39,7 +38,7 @@ impl World {
         ensures safe { IsSafe self.new.members self.new.coin (run_of self.new) }
     {
         let counts = self.pull_rows(taker, peer);
-        self.members();
+        self.is_world();
         counts
     }
 
@@ -81,7 +80,7 @@ impl World {
         ensures safe { IsSafe self.new.members self.new.coin (run_of self.new) }
     {
         let report = self.sync_rows(taker, peer, time, payload);
-        self.members();
+        self.is_world();
         report
     }
 }

@@ -1,4 +1,4 @@
-ghost use Rattle.std.specs.Prelude.{◌≡◌, ◌<◌, IfErr, IfOk, OnErr, OnOk, length};
+ghost use Rattle.std.specs.Prelude.{◌≡◌, ◌<◌, ◌≤◌, IfErr, IfOk, OnErr, OnOk, length};
 ghost use Rattle.std.specs.Option.{option_to_list};
 ghost use Rattle.hg_life.specs.Calls.{IsSettled};
 ghost use Rattle.hg_life.specs.Signing.{accepts_by};
@@ -25,14 +25,15 @@ use hg_node::Node;
 use hg_sign::SharedTable;
 use std::alloc::Global;
 use std::marker::Model;
+use std::snapshot::Snapshot;
 use std::sync::Arc;
 
 /// The members' nodes, each with what its workers have frozen.
 #[derive(Drop)]
 pub struct World {
     alloc: Global,
-    members: u32,
-    coin: u32,
+    /// The first member's node as it was when the world began, for contracts: its members and coin period are the world's.
+    first: Snapshot<Node<SharedTable>>,
     sites: Vec<Site>,
     /// The rows of a node only get more, so what a node has it has for good.
     known: Known,
@@ -43,13 +44,13 @@ pub struct World {
 impl Model for World {
     ghost use Rattle.std.specs.Prelude.{◌≡◌, [], vec_capacity};
     ghost use Rattle.hg_world.specs.World.{WorldView};
-    ghost use Rattle.hg_world.specs.Parts.{KeepsParts, world_of};
+    ghost use Rattle.hg_world.specs.Parts.{KeepsParts, world_like};
 
     ghost Value = { WorldView };
 
-    ghost view = { λ s. world_of s.members s.coin s.sites.items };
+    ghost view = { λ s. world_like s.first.value s.sites.items };
 
-    ghost invariant = { λ s. KeepsParts (world_of s.members s.coin s.sites.items) s.known (vec_capacity s.spare) × (s.spare.items ≡ []) };
+    ghost invariant = { λ s. KeepsParts (world_like s.first.value s.sites.items) s.known (vec_capacity s.spare) × (s.spare.items ≡ []) };
 }
 
 impl World {
@@ -57,8 +58,7 @@ impl World {
     pub fn new(alloc: Global, members: &Members) -> Result<World, Memory>
         ensures { IfOk result (λ w. w ≡ new_world members.now) }
     {
-        // That they are a list of members.
-        members.count();
+        members.is_lawful();
         let nodes = new_nodes(alloc, members)?;
         match World::from_nodes(alloc, nodes) {
             Ok(world) => Ok(world),
@@ -66,13 +66,20 @@ impl World {
         }
     }
 
-    /// How many members there are.
-    pub fn members(&self) -> u32
-        ensures value { result ≡ length self.now.sites }
+    /// A law: what every world keeps to, and that its run is safe.
+    pub fn is_world(&self)
         ensures world { IsWorld self.now }
         ensures safe { IsSafe self.now.members self.now.coin (run_of self.now) }
     {
-        self.members
+        self.sites.len();
+    }
+
+    /// How many members there are, at most 128.
+    pub fn members(&self) -> u32
+        ensures value { result ≡ length self.now.sites }
+        ensures few { result ≤ 128 }
+    {
+        self.sites.len() as u32
     }
 
     /// The node of a member.
@@ -101,8 +108,7 @@ impl World {
     {
         let node = &mut self.sites[member as usize].node;
         let answer = node.make(other, time, payload)?;
-        // That it is a node still.
-        node.rows();
+        node.is_node();
         Ok(answer)
     }
 
@@ -116,8 +122,7 @@ impl World {
     {
         let node = &mut self.sites[member as usize].node;
         let answer = node.put(bytes)?;
-        // That it is a node still.
-        node.rows();
+        node.is_node();
         Ok(answer)
     }
 
@@ -147,8 +152,7 @@ impl World {
         let len = site.frozen[worker as usize];
         let found = site.node.found(len, share)?;
         let count = site.node.publish(&found);
-        // That it is a node still.
-        site.node.rows();
+        site.node.is_node();
         Ok(count)
     }
 
@@ -161,8 +165,7 @@ impl World {
     {
         let taker = &mut self.sites[member as usize].node;
         let counts = take_events(taker, events);
-        // That it is a node still.
-        taker.rows();
+        taker.is_node();
         counts
     }
 
@@ -180,8 +183,7 @@ impl World {
     {
         let maker = &mut self.sites[member as usize].node;
         let made = make_after(maker, other, time, payload)?;
-        // That it is a node still.
-        maker.rows();
+        maker.is_node();
         Ok(made)
     }
 
@@ -233,7 +235,7 @@ impl World {
         ensures safe { IsSafe self.new.members self.new.coin (run_of self.new) }
     {
         let settled = self.settle_node(member);
-        self.members();
+        self.is_world();
         settled
     }
 
@@ -246,8 +248,7 @@ impl World {
         let site = &mut self.sites[member as usize];
         let len = site.node.rows();
         site.node.settle()?;
-        // That it is a node still.
-        site.node.rows();
+        site.node.is_node();
         site.frozen[0] = len;
         Ok(())
     }
@@ -302,12 +303,11 @@ impl World {
         ensures back { IfErr result (λ back. back.items ≡ nodes.items) }
     {
         see_all(&nodes);
-        let (members, coin) = (nodes[0].graph().members(), nodes[0].graph().coin());
+        let first = Snapshot::of(&nodes[0]);
         match room_for(alloc, nodes.len()) {
             Ok((spare, sites)) => Ok(World {
                 alloc,
-                members,
-                coin,
+                first,
                 sites: into_sites(nodes, sites),
                 known,
                 spare,

@@ -1,8 +1,8 @@
-use hg_event::{PAYLOAD_LIMIT, encode, encode_body};
-use hg_model::{Bytes, Member, Memory, Name, Row};
+use hg_event::PAYLOAD_LIMIT;
+use hg_model::{Bytes, Member, Memory, Name};
 use hg_name::name_of;
 use hg_node::Node;
-use hg_sign::{MacTable, SharedTable, Signer};
+use hg_sign::{MacTable, SharedTable, signed_bytes};
 use std::alloc::Global;
 
 /// An event in bytes, and its name.
@@ -35,9 +35,9 @@ pub fn forged_event(
     node: &Node<SharedTable>,
     beside: Member,
     time: u64,
-    payload: Bytes,
+    payload: &[u8],
 ) -> Result<Option<Forged>, Memory> {
-    if payload.as_slice().len() > PAYLOAD_LIMIT {
+    if payload.len() > PAYLOAD_LIMIT {
         return Ok(None);
     }
     let creator = node.own();
@@ -45,19 +45,10 @@ pub fn forged_event(
         return Ok(None);
     };
     let parents = Some((own, other));
-    let body = encode_body(alloc, creator, &parents, time, payload.as_slice())?;
-    let row = Row {
-        creator,
-        parents,
-        time,
-        payload,
-        sig: keys.sign(creator, body.as_slice()),
-        name: [0; 48],
-    };
-    let bytes = encode(alloc, &row)?;
-    let name = name_of(&bytes);
+    let signed = signed_bytes(alloc, keys, creator, &parents, time, payload)?;
+    let name = name_of(signed.bytes.as_slice());
     Ok(Some(Forged {
-        bytes: Bytes::from_vec(bytes),
+        bytes: Bytes::from_vec(signed.bytes),
         name,
     }))
 }

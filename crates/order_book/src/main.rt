@@ -48,7 +48,7 @@ fn fork(alloc: Global, keys: &MacTable, market: Market) -> Result<Market, Memory
     }
     let node = market.world().node(D);
     let payload = placing(alloc, Side::Sell, 8, 9)?;
-    match forged_event(alloc, keys, node, C, time_of(FORK), payload)? {
+    match forged_event(alloc, keys, node, C, time_of(FORK), payload.as_slice())? {
         None => Ok(market),
         Some(forged) => {
             let actions = passing(alloc, B, forged.bytes, forged.name, FORK)?;

@@ -20,7 +20,9 @@ fn entries_of(alloc: Global) -> Result<Vec<MemberEntry>, Memory> {
             name: Bytes::from_vec(Vec::from_slice(alloc, &[*name])?),
             secret: Bytes::from_vec(Vec::from_slice(alloc, &[number as u8])?),
             balance: 0,
+            stake: 1,
             has_node: true,
+            stake: 1,
         })?;
     }
     Ok(entries)

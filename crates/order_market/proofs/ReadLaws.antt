@@ -6,9 +6,8 @@ use Rattle.std.proofs.lemmas.List.{length-append, length-map, length-replicate, 
 use Rattle.std.proofs.lemmas.List.Sums.{fold-append}
 use Rattle.hg_model.specs.declared.row.Row.{Row}
 use Rattle.hg_model.specs.declared.row.Placed.{Placed}
-use Rattle.hg_model.specs.Stakes.{Stakes, member_count}
+use Rattle.hg_model.specs.Stakes.{Stakes}
 use Rattle.hg_life.specs.NodeView.{NodeView, kept_of, node_rows}
-use Rattle.hg_world.specs.Parts.{IsWorld, KeepsSite}
 use Rattle.hg_world.specs.World.{Secrets, WorldView, IsSiteOf, node_at, site_at}
 use Rattle.order_match.specs.Books.{BookView, Event, book_of, no_book, with_event, with_events}
 use Rattle.order_match.proofs.BookLaws.{more_count}
@@ -63,13 +62,6 @@ rest_read b after v order counted on is now same =
 -- the events of a member's node are those of the member
 pub site_events : (w : WorldView) (m : ℕ) → IsSiteOf w m (site_at w m) → events_of (node_at w m) ≡ events_at w m
 site_events w m is = ap₂ (λ (n : Stakes) (c : ℕ). events_after n c (node_at w m).history) is.members is.coin
-
--- a world has few members
-pub few_sites : (w : WorldView) → IsWorld w → length w.sites ≤ 128
-few_sites w is =
-    let site : KeepsSite w is.keys 0 (site_at w 0) = is.sites 0 is.some in
-    let few : member_count w.members ≤ 128 = subst (λ (n : Stakes). member_count n ≤ 128) site.is.members site.node.few_members in
-    omega (arith, few, is.count)
 
 -- books of no events are behind
 none_there : (count m : ℕ) → get_or (replicate count no_book) m no_book ≡ no_book

@@ -52,7 +52,7 @@ impl Market {
         for action in actions {
             market = market.with(action)?;
         }
-        market.world.members();
+        market.world.is_world();
         Ok(market)
     }
 
@@ -65,7 +65,7 @@ impl Market {
             mut books,
         } = self;
         act(&mut world, action)?;
-        world.members();
+        world.is_world();
         read_all(&mut books, &world)?;
         Ok(Market { world, books })
     }

@@ -48,7 +48,7 @@ fn read_rest(book: &mut Book, node: &Node<SharedTable>) -> Result<(), Memory>
 pub fn member_count(world: &World) -> Member
     ensures { result ≡ length world.now.sites }
 {
-    world.members().min(128) as Member
+    world.members() as Member
 }
 
 /// Reads what the nodes' orders have behind the events of their books.

@@ -50,7 +50,9 @@ fn entries_of(alloc: Global) -> Result<Vec<MemberEntry>, Memory> {
             name: Bytes::from_vec(Vec::from_slice(alloc, &[*name])?),
             secret: Bytes::from_vec(Vec::from_slice(alloc, &[number as u8])?),
             balance: 0,
+            stake: 1,
             has_node: true,
+            stake: 1,
         })?;
     }
     Ok(entries)
@@ -94,7 +96,7 @@ fn play(world: &mut World) -> Result<(), Memory>
         world.sync(taker, peer, u64::from(step) + 4, payload_at(step))?;
         world.settle(taker)?;
     }
-    world.members();
+    world.is_world();
     Ok(())
 }
 

@@ -23,7 +23,7 @@ pub returns-in-None : goal.returns-in-None
 returns-in-None c = λ m.
     let shape = c.args.sight.now.shape in
     subst (λ (on : List ℕ). mask_has 0 m ≡ has_fork_below (shape.links ++ link_of c.args.by on ∷ []) (length shape.links) m) (sym (ap pair_list c.in-None.is) ∙ c.pair.ensures)
-    (mask_none m ∙ sym (no_fork_alone shape.members shape.links m c.args.by c.rows.ensures.shaped
+    (mask_none m ∙ sym (no_fork_alone shape.members shape.links m c.args.by c.is_shaped.ensures.shaped
     (subst (λ (on : List ℕ). FitsLink shape.members shape.links (link_of c.args.by on)) (sym c.pair.ensures ∙ ap pair_list c.in-None.is) c.requires)))
 
 pub returns-in-Some : goal.returns-in-Some
@@ -35,4 +35,4 @@ returns-in-Some c = λ m.
     ∙ (ap₂ (λ (a b : Bool). a || b)
     (c.join_masks-known.ensures m ∙ ap₂ (λ (a b : Bool). a || b) (c.forked_below.ensures m) (c.forked_below-in-Some.ensures m))
     (c.new_forks.ensures m)
-    ∙ forks_are shape.members shape.links c.rows.ensures.shaped c.args.by c.in-Some.self_place c.in-Some.other fits m))
+    ∙ forks_are shape.members shape.links c.is_shaped.ensures.shaped c.args.by c.in-Some.self_place c.in-Some.other fits m))

@@ -19,7 +19,7 @@ creator-requires c = omega (arith, c.in-Some.ensures.0, row_long c.args.sight.no
 
 pub overflow_add-from : goal.overflow_add-from
 overflow_add-from c =
-    omega (arith, c.in-Some.ensures.0, row_long c.args.sight.now.shape.links c.args.x c.ancestors_of-row.result.now c.ancestors_of-row.ensures, c.requires.row, c.rows.ensures.short, c.rows.ensures.value)
+    omega (arith, c.in-Some.ensures.0, row_long c.args.sight.now.shape.links c.args.x c.ancestors_of-row.result.now c.ancestors_of-row.ensures, c.requires.row, c.is_shaped.ensures.short)
 
 pub places-preserved : goal.places-preserved
 places-preserved c = record {
@@ -31,4 +31,4 @@ places-preserved c = record {
 pub returns : goal.returns
 returns c =
     apart_all c.args.sight.now.shape.links c.ancestors_of-row.result.now c.ancestors_of-other.result.now c.places.from (mask_has c.places.mask) c.places.invariant.matches c.places.invariant.within c.in_default.ensures
-    c.rows.ensures.shaped.earlier c.args.x c.args.z c.ancestors_of-row.ensures c.ancestors_of-other.ensures
+    c.is_shaped.ensures.shaped.earlier c.args.x c.args.z c.ancestors_of-row.ensures c.ancestors_of-other.ensures

@@ -21,6 +21,6 @@ raise_if_changed-requires-clause-node g c =
 
 pub returns-clause-adds : goal.returns-clause-adds
 returns-clause-adds g c =
-    adds_grown c.args.steps.now.key.value c.args.raw.now.me c.raise_if_changed.new.raw.me c.args.node.now c.put_event-answer.new.self c.requires.node
+    adds_grown c.args.board.now.key.value c.args.raw.now.me c.raise_if_changed.new.raw.me c.args.node.now c.put_event-answer.new.self c.requires.node
     (put_grown g.V.Verifier.accepts c.args.node.now c.put_event-answer.new.self (spelling c.args.event.now.value) c.put_event-answer.result c.put_event-answer.ensures.ok c.put_event-answer.ensures.err)
     c.raise_if_changed.ensures.seat

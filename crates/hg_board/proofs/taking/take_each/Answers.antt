@@ -15,7 +15,7 @@ take_one-requires-clause-inside g c = inside_still c.args.raw.now.me c.loop-even
 
 pub take_one-requires-clause-node : goal.take_one-requires-clause-node
 take_one-requires-clause-node g c =
-    node_still c.args.steps.now.key.value c.args.raw.now.me c.loop-event.raw.me c.args.node.now c.loop-event.node c.requires.node c.loop-event.invariant.adds
+    node_still c.args.board.now.key.value c.args.raw.now.me c.loop-event.raw.me c.args.node.now c.loop-event.node c.requires.node c.loop-event.invariant.adds
 
 pub take_one-requires-clause-signed : goal.take_one-requires-clause-signed
 take_one-requires-clause-signed g c =

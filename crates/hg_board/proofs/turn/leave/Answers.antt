@@ -8,7 +8,7 @@ use Rattle.hg_board.proofs.turn.leave.Goals as goal
 
 pub store-requires : goal.store-requires
 store-requires g c =
-    let start = c.args.steps.now.key.value in
+    let start = c.args.board.now.key.value in
     let m = c.args.raw.now.me in
     let n = c.exchange.new.seat.me in
     let e = put_in g.V.Verifier.accepts start m n c.args.node c.requires.inside c.exchange.ensures.3 in
@@ -22,7 +22,7 @@ store-requires g c =
 
 pub returns-clause-seat : goal.returns-clause-seat
 returns-clause-seat g c =
-    let start = c.args.steps.now.key.value in
+    let start = c.args.board.now.key.value in
     let m = c.args.raw.now.me in
     let e = put_in g.V.Verifier.accepts start m c.exchange.new.seat.me c.args.node c.requires.inside c.exchange.ensures.3 in
     went_out g.V.Verifier.accepts start m c.exchange.new.seat.me c.store.new.seat.me c.args.node (step 1 0 0 0 none) e c.store.ensures.2

@@ -12,10 +12,10 @@ fetch_add-requires g c =
     let e = g.N.Naming.change in
     let grown = ap (λ v. v.history) c.requires.node in
     let short : length m.0.seen + 1 < 2 ^ 64 = omega (arith, c.changes.ensures, ap length grown, length-append m.0.seen (e ∷ [])) in
-    let lawful = subst (λ v. IsNode g.V.Verifier.accepts v) c.requires.node c.rows.ensures.node in (
+    let lawful = subst (λ v. IsNode g.V.Verifier.accepts v) c.requires.node c.is_node.ensures in (
       c.requires.table,
       omega (arith, c.requires.size.words),
-      raises g.V.Verifier.accepts c.args.steps.now.key.value _ _ m.0 m.1 e (ap (λ x. x.0.hold) c.requires.inside.inside) c.requires.inside.alive short lawful,
+      raises g.V.Verifier.accepts c.args.board.now.key.value _ _ m.0 m.1 e (ap (λ x. x.0.hold) c.requires.inside.inside) c.requires.inside.alive short lawful,
     )
 
 pub returns-clause-seat : goal.returns-clause-seat

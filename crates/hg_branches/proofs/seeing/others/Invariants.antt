@@ -5,4 +5,4 @@ use Rattle.hg_branches.specs.Lines.{other_sees}
 use Rattle.hg_branches.proofs.seeing.others.Given as goal
 
 abbrev pub invariant-loop-b : goal.invariant-loop-b
-invariant-loop-b l = (m : ℕ) → mask_has l.mask m ≡ some_below l.b (λ b. other_sees l.sight.shape.links l.makers l.firsts l.counts.row l.y b && eqb (slice_index l.makers b) m)
+invariant-loop-b l = (m : ℕ) → mask_has l.mask m ≡ some_below l.b (λ b. other_sees l.sight.shape.links l.makers l.target.firsts.now l.counts.row l.target.row b && eqb (slice_index l.makers b) m)

@@ -8,6 +8,6 @@ pub returns-then-at-y : goal.returns-then-at-y
 returns-then-at-y c = λ m.
     let shape = c.args.sight.now.shape in
     let counts = c.args.counts.now.row in
-    let unseen = line_low shape.members shape.links counts c.args.y c.args.b c.rows.ensures.shaped (omega (arith, c.at.ensures, c.if-at-y.true)) in
-    sym (ap (λ added. mask_has c.args.mask m || added) (other_unseen shape.links c.args.makers.now c.args.firsts.now counts c.args.y c.args.b m unseen)
+    let unseen = line_low shape.members shape.links counts c.args.target.row c.args.b c.is_shaped.ensures.shaped (omega (arith, c.at.ensures, c.if-at-y.true)) in
+    sym (ap (λ added. mask_has c.args.mask m || added) (other_unseen shape.links c.args.makers.now c.args.target.firsts.now counts c.args.target.row c.args.b m unseen)
     ∙ or-false (mask_has c.args.mask m))

@@ -13,6 +13,6 @@ returns-then-is_empty c =
     let items = c.in-Some.places-is in
     let all = c.as_slice.ensures.value in
     let fames = c.in_ok-found.ensures.fames in
-    let decided : found ≡ fames_among (fame_in some.graph) some.places.items = cc in
+    let decided : found ≡ fames_among (fame_in some.graph.graph) some.places.items = cc in
     none_decided c.args.share c.args.opened some c.in-Some.is found decided
     (ap length (sym c.as_slice-2.ensures) ∙ eqb-true (length c.as_slice-2.result.now) 0 (sym c.is_empty.ensures ∙ c.if-is_empty.true))

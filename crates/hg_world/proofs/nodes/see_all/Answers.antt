@@ -11,7 +11,7 @@ pub loop-node-preserved : goal.loop-node-preserved
 loop-node-preserved c =
     subst (All (IsNode accepts_by)) (sym (taken_more c.args.nodes.now.items c.loop-node.node-index c.node-item.result (omega arith)
     (c.node-item.is ∙ ap (λ (nodes : List (NodeView Secrets)). get_or nodes c.loop-node.node-index c.node-item.result) c.deref-node-items.ensures.value)))
-    (All-push (IsNode accepts_by) (take c.loop-node.node-index c.args.nodes.now.items) c.node-item.result c.loop-node.invariant c.rows.ensures.node)
+    (All-push (IsNode accepts_by) (take c.loop-node.node-index c.args.nodes.now.items) c.node-item.result c.loop-node.invariant c.is_node.ensures)
 
 pub returns : goal.returns
 returns c = subst (All (IsNode accepts_by)) (take_all c.loop-node.node-index c.args.nodes.now.items (omega arith)) c.loop-node.invariant

@@ -14,20 +14,20 @@ pub fill-requires-clause-places : goal.fill-requires-clause-places
 fill-requires-clause-places c =
     let fits = subst (λ (g : ShapeWithRoom). FitsLink g.shape.members g.shape.links (link_of c.args.creator c.args.parents)) (sym c.self.view_is) c.requires.fits in
     subst (λ (L : List Link). AllByRecursion (λ p. p < length L) c.args.parents) (sym c.deref.ensures.value)
-    (places_fit c.self.inside.members c.self.inside.links.items c.args.creator c.args.parents fits)
+    (places_fit c.self.inside.stakes c.self.inside.links.items c.args.creator c.args.parents fits)
 
 pub of-requires : goal.of-requires
 of-requires c =
     let fits = subst (λ (g : ShapeWithRoom). FitsLink g.shape.members g.shape.links (link_of c.args.creator c.args.parents)) (sym c.self.view_is) c.requires.fits in
-    let few = subst (λ (g : ShapeWithRoom). length g.shape.links + 1 < 65535) (sym c.self.view_is) c.requires.short in
+    let few = subst (λ (g : ShapeWithRoom). length g.shape.links + 1 < 4294967295) (sym c.self.view_is) c.requires.short in
     let short : length c.self.inside.links.items + 1 < 4294967295 = omega (arith, few) in
-    places_kept c.self.inside.members c.self.inside.links.items c.args.creator c.args.parents fits short
+    places_kept c.self.inside.stakes c.self.inside.links.items c.args.creator c.args.parents fits short
 
 pub invariant_of-self : goal.invariant_of-self
 invariant_of-self c =
     let L = c.self.inside.links.items in
     let fits = subst (λ (g : ShapeWithRoom). FitsLink g.shape.members g.shape.links (link_of c.args.creator c.args.parents)) (sym c.self.view_is) c.requires.fits in
-    let few = subst (λ (g : ShapeWithRoom). length g.shape.links + 1 < 65535) (sym c.self.view_is) c.requires.short in
+    let few = subst (λ (g : ShapeWithRoom). length g.shape.links + 1 < 4294967295) (sym c.self.view_is) c.requires.short in
     let short : length L + 1 < 4294967295 = omega (arith, few) in
     let row_is : c.fill.new.row ≡ table (λ k. eqb k (length L) || is_above L c.args.parents k) (length L + 1) =
     subst (λ (L : List Link). c.fill.new.row ≡ table (λ k. eqb k (length L) || is_above L c.args.parents k) (length L + 1)) c.deref.ensures.value c.fill.ensures in
@@ -37,7 +37,7 @@ invariant_of-self c =
     let none : spare_room c.take.new.self ≡ 0 = ap spare_room c.take.ensures.after in
     record {
       sight = rw (c.push_reserved.ensures.items, c.push_reserved-in-Some.ensures.items, c.push_reserved-in-Some-2.ensures.items, c.of.ensures)
-          (sight_grown c.self.inside.members L c.args.creator c.args.parents c.self.inside.ancestors.items c.self.inside.forked.items c.fill.new.row c.forked_below_next-forked.result
+          (sight_grown c.self.inside.stakes L c.args.creator c.args.parents c.self.inside.ancestors.items c.self.inside.forked.items c.fill.new.row c.forked_below_next-forked.result
           c.self.invariant.sight fits short row_is mask_is);
       spare = subst (IsSpare (vec_len c.push_reserved.new.self)) (sym c.take.ensures.after) tt;
       links_room = omega (arith, none);

@@ -11,7 +11,7 @@ invariant_of-result c =
     let masks = c.in_ok-copy_masks.ensures ∙ ap (take len) c.deref-3.ensures.value in
     let le = subst (λ (g : ShapeWithRoom). len ≤ length g.shape.links) (sym c.self.view_is) c.requires in
     record {
-      sight = rw (links, rows, masks) (sight_take c.self.inside.members c.self.inside.links.items c.self.inside.ancestors.items c.self.inside.forked.items len le c.self.invariant.sight);
+      sight = rw (c.in_ok-copy.ensures, links, rows, masks) (sight_take c.self.inside.stakes c.self.inside.links.items c.self.inside.ancestors.items c.self.inside.forked.items len le c.self.invariant.sight);
       spare = tt;
       links_room = omega arith;
       ancestors_room = omega arith;

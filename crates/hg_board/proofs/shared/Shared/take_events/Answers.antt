@@ -29,7 +29,7 @@ leave-requires-clause-node g c =
 left : (g : given.Over) (c : goal.After-leave g) → HasTakenRows g.V.Verifier.accepts c.args.self.now c.args.seat.now (seat_view_of c.leave.new.raw.table_id c.leave.new.raw.me.0) (rows_of c.args.events.now) c.take_each-taken.result
 left g c =
     takes_at g.V.Verifier.accepts c.self.view_is c.seat.view_is c.requires.seat c.enter-node.ensures.seat (c.leave.ensures.table ∙ (c.take_each-taken.ensures.table ∙ c.enter-node.ensures.table)) (rows_of c.args.events.now)
-    c.take_each-taken.result c.take_each-taken.ensures.adds c.leave.ensures.seat c.rows.ensures.node c.take_each-taken.ensures.ok c.take_each-taken.ensures.err
+    c.take_each-taken.result c.take_each-taken.ensures.adds c.leave.ensures.seat c.is_node.ensures c.take_each-taken.ensures.ok c.take_each-taken.ensures.err
 
 pub returns-clause-stays : goal.returns-clause-stays
 returns-clause-stays g c = (left g c).stays

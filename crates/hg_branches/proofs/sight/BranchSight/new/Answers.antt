@@ -1,21 +1,25 @@
 use Rattle.std.proofs.Common.{◌∙◌, [], ap, sym, length, replicate, arith}
 use Rattle.std.proofs.lemmas.List.{length-replicate}
+use Rattle.hg_model.specs.Stakes.{member_count}
 use Rattle.hg_branches.proofs.TakeLaws.{branches_none, counts_none, forks_none}
-use Rattle.hg_branches.proofs.KeptLaws.{kept_none}
+use Rattle.hg_branches.proofs.LandmarkLaws.{landmarks_none}
 use Rattle.hg_branches.proofs.sight.BranchSight.new.Goals as goal
 
 pub invariant_of-result : goal.invariant_of-result
 invariant_of-result c = record {
-  branches = rw (c.new.ensures, c.new-2.ensures)
-      (branches_none c.args.members c.in_ok-own_branches.field-0.items c.in_ok-zeros.field-0.items c.requires c.in_ok-own_branches.ensures.len (ap length c.in_ok-zeros.ensures ∙ length-replicate c.args.members 0) c.in_ok-own_branches.ensures.own);
-  counts = rw (c.new.ensures, c.new-2.ensures, c.new-3.ensures.rows) (counts_none c.args.members c.in_ok-own_branches.field-0.items);
-  forks = rw (c.new.ensures, c.new-4.ensures) forks_none;
-  kept = rw (c.new.ensures, c.new-2.ensures, c.new-5.ensures.items, c.new-6.ensures.items)
-      (kept_none c.args.members [] [] c.in_ok-own_branches.field-0.items c.in_ok-zeros-2.field-0.items (c.in_ok-zeros-2.ensures ∙ ap (λ k. replicate k 0) (sym c.in_ok-own_branches.ensures.len)));
-  counts_members = c.new-3.ensures.members;
-  tops = rw c.new-5.ensures.items (λ i h. absurd (omega arith));
-  tops_all = ap length c.in_ok-zeros-3.ensures ∙ (length-replicate c.args.members 0 ∙ sym c.in_ok-own_branches.ensures.len);
-  spare_kept = tt;
+  branches = rw (c.in_ok-new.ensures, c.new-2.ensures, c.new-3.ensures)
+      (branches_none c.args.stakes.now c.in_ok-own_branches.field-0.items c.in_ok-zeros.field-0.items c.requires c.in_ok-own_branches.ensures.len
+      (ap length c.in_ok-zeros.ensures ∙ length-replicate _ 0) c.in_ok-own_branches.ensures.own);
+  counts = rw (c.in_ok-new.ensures, c.new-2.ensures, c.new-3.ensures, c.new-4.ensures.rows) (counts_none c.args.stakes.now c.in_ok-own_branches.field-0.items);
+  forks = rw (c.new-2.ensures, c.new-5.ensures) forks_none;
+  landmarks = rw (c.in_ok-new.ensures, c.new-2.ensures, c.new-3.ensures, c.new-6.ensures.items, c.new-7.ensures.items)
+      (landmarks_none c.args.stakes.now [] [] c.in_ok-own_branches.field-0.items c.in_ok-zeros-2.field-0.items
+      (c.in_ok-zeros-2.ensures ∙ ap (λ k. replicate k 0) (sym c.in_ok-own_branches.ensures.len)));
+  counts_members = c.new-4.ensures.members ∙ ap member_count (sym c.in_ok-new.ensures);
+  tops = rw c.new-6.ensures.items (λ i h. absurd (omega arith));
+  tops_all = ap length c.in_ok-zeros-3.ensures ∙ (length-replicate _ 0 ∙ sym c.in_ok-own_branches.ensures.len);
+  spare = tt;
+  rows_room = rw c.new-2.ensures (omega arith);
   links_room = omega arith;
   branches_room = omega arith;
   makers_room = omega arith;
@@ -25,5 +29,5 @@ invariant_of-result c = record {
   newest_room = omega arith;
   tops_room = omega arith;
   numbers_room = omega arith;
-  kept_room = omega arith;
+  landmarks_room = omega arith;
 }

@@ -2,18 +2,18 @@ use Rattle.std.proofs.Common.{◌≡◌, ◌<◌, ◌≤◌, ◌+◌, ◌∙◌,
 use Rattle.std.proofs.lemmas.Bool.{true≢false, cases_lt, le-leb, lt-ltb}
 use Rattle.std.proofs.lemmas.List.{length_push, get_or_push}
 use Rattle.std.specs.List.{AllByRecursion}
-use Rattle.hg_model.specs.Stakes.{Stakes}
+use Rattle.hg_model.specs.Stakes.{Stakes, member_count}
 use Rattle.hg_model.specs.Links.{Link}
 use Rattle.hg_model.specs.Forks.{has_fork_below}
 use Rattle.hg_model.specs.Shape.{ShapeWithRoom, FitsLink, link_of, pair_list}
 use Rattle.hg_bits.specs.Masks.{mask_has}
 use Rattle.hg_ancestry.proofs.HeldLaws.{places_fit, places_kept}
 use Rattle.hg_branches.specs.Branches.{greatest_count}
-use Rattle.hg_branches.specs.Columns.{HoldsBranches, next_branch, with_branch, put_at, count_in, forks_next}
+use Rattle.hg_branches.specs.Columns.{HoldsBranches, room_of, next_branch, with_branch, put_at, count_in, forks_next}
 use Rattle.hg_branches.proofs.HeldLaws.{Serves, next_serves, in_reach, branches_hold, counts_hold, counts_last}
 use Rattle.hg_branches.specs.Rows.{RowView, known_place}
-use Rattle.hg_branches.specs.Kept.{Kept, kept_at, noted, AreNotedOn, HoldsChains, HoldsNewest, HoldsTops, HoldsKept}
-use Rattle.hg_branches.proofs.KeptLaws.{noted_on, kept_more, refilled_kept, tops_noted}
+use Rattle.hg_branches.specs.Landmarks.{LandmarkView, landmark_at, noted, AreNotedOn, HoldsChains, HoldsNewest, HoldsTops, HoldsLandmarks}
+use Rattle.hg_branches.proofs.LandmarkLaws.{noted_on, landmarks_more, refilled, tops_noted}
 use Rattle.hg_branches.proofs.PutLaws.{opened_long}
 use Rattle.hg_branches.proofs.NextForkLaws.{forks_told}
 use Rattle.hg_branches.proofs.TakeLaws.{forks_more}
@@ -43,21 +43,21 @@ branch_for-branch-requires-clause-places c =
     let s = c.self.inside in
     let fits = subst (λ (g : ShapeWithRoom). FitsLink g.shape.members g.shape.links (link_of c.args.creator c.args.parents)) (sym c.self.view_is) c.requires.fits in
     subst (λ k. AllByRecursion (λ p. p < k) (pair_list c.pair-on.result)) (sym c.self.invariant.branches.rows)
-    (subst (λ (on : List ℕ). AllByRecursion (λ p. p < length s.links.items) on) (sym c.pair-on.ensures) (places_fit s.members s.links.items c.args.creator c.args.parents fits))
+    (subst (λ (on : List ℕ). AllByRecursion (λ p. p < length s.links.items) on) (sym c.pair-on.ensures) (places_fit s.stakes s.links.items c.args.creator c.args.parents fits))
 
 pub forked_next-forked-requires-clause-places : goal.forked_next-forked-requires-clause-places
 forked_next-forked-requires-clause-places c =
     let s = c.self.inside in
     let fits = subst (λ (g : ShapeWithRoom). FitsLink g.shape.members g.shape.links (link_of c.args.creator c.args.parents)) (sym c.self.view_is) c.requires.fits in
     subst (λ k. AllByRecursion (λ p. p < k) (pair_list c.pair-on.result)) (sym c.self.invariant.forks.len)
-    (subst (λ (on : List ℕ). AllByRecursion (λ p. p < length s.links.items) on) (sym c.pair-on.ensures) (places_fit s.members s.links.items c.args.creator c.args.parents fits))
+    (subst (λ (on : List ℕ). AllByRecursion (λ p. p < length s.links.items) on) (sym c.pair-on.ensures) (places_fit s.stakes s.links.items c.args.creator c.args.parents fits))
 
 pub push-requires-clause-places : goal.push-requires-clause-places
 push-requires-clause-places c =
     let s = c.self.inside in
     let fits = subst (λ (g : ShapeWithRoom). FitsLink g.shape.members g.shape.links (link_of c.args.creator c.args.parents)) (sym c.self.view_is) c.requires.fits in
     subst (λ k. AllByRecursion (λ p. p < k) (pair_list c.pair-on.result)) (sym c.self.invariant.counts.len)
-    (subst (λ (on : List ℕ). AllByRecursion (λ p. p < length s.links.items) on) (sym c.pair-on.ensures) (places_fit s.members s.links.items c.args.creator c.args.parents fits))
+    (subst (λ (on : List ℕ). AllByRecursion (λ p. p < length s.links.items) on) (sym c.pair-on.ensures) (places_fit s.stakes s.links.items c.args.creator c.args.parents fits))
 
 pub push-requires-clause-fits : goal.push-requires-clause-fits
 push-requires-clause-fits c =
@@ -67,7 +67,7 @@ push-requires-clause-fits c =
     let link = link_of by c.args.parents in
     let fits = subst (λ (g : ShapeWithRoom). FitsLink g.shape.members g.shape.links link) (sym c.self.view_is) c.requires.fits in
     let b_is = branch_is s.branches.items s.ends.items by c.pair-on.result c.args.parents s.branches.items c.deref.result.now c.branch_for-branch.result c.branch_for-branch.ensures refl c.deref.ensures.value c.pair-on.ensures in
-    let low = reach s.members s.links.items s.branches.items s.makers.items s.ends.items held c.args.parents by fits c.branch_for-branch.result b_is in
+    let low = reach s.stakes s.links.items s.branches.items s.makers.items s.ends.items held c.args.parents by fits c.branch_for-branch.result b_is in
     let sparse = held.sparse in
     let few = held.few in
     let short = held.short in
@@ -78,7 +78,7 @@ row_of-known-requires c =
     let s = c.self.inside in
     let rows_len = c.self.invariant.counts.len in
     let fits = subst (λ (g : ShapeWithRoom). FitsLink g.shape.members g.shape.links (link_of c.args.creator c.args.parents)) (sym c.self.view_is) c.requires.fits in
-    let places = subst (λ (on : List ℕ). AllByRecursion (λ p. p < length s.links.items) on) (sym c.pair-on.ensures) (places_fit s.members s.links.items c.args.creator c.args.parents fits) in
+    let places = subst (λ (on : List ℕ). AllByRecursion (λ p. p < length s.links.items) on) (sym c.pair-on.ensures) (places_fit s.stakes s.links.items c.args.creator c.args.parents fits) in
     let place : c.len-row.result ≡ length s.links.items = omega arith in
     let low : c.known_place.result < length s.links.items + 1 = subst (λ j. j < length s.links.items + 1) (sym c.known_place.ensures)
     (subst (λ x. known_place (pair_list c.pair-on.result) x < length s.links.items + 1) (sym place) (known_below (pair_list c.pair-on.result) (length s.links.items) places)) in
@@ -93,17 +93,17 @@ row_of-counts-requires c =
     omega arith
 
 pub note_all-requires-clause-chains : goal.note_all-requires-clause-chains
-note_all-requires-clause-chains c = subst HoldsChains (sym c.deref_mut.ensures.value) c.self.invariant.kept.chains
+note_all-requires-clause-chains c = subst HoldsChains (sym c.deref_mut.ensures.value) c.self.invariant.landmarks.chains
 
 pub note_all-requires-clause-newest : goal.note_all-requires-clause-newest
 note_all-requires-clause-newest c =
-    subst (λ (kept : List Kept). HoldsNewest kept c.deref-3.result.now) (sym c.deref_mut.ensures.value)
-    (subst (HoldsNewest c.self.inside.kept.items) (sym c.deref-3.ensures.value) c.self.invariant.kept.by_branch)
+    subst (λ (landmarks : List LandmarkView). HoldsNewest landmarks c.deref-3.result.now) (sym c.deref_mut.ensures.value)
+    (subst (HoldsNewest c.self.inside.landmarks.items) (sym c.deref-3.ensures.value) c.self.invariant.landmarks.by_branch)
 
 pub note_all-requires-clause-tops : goal.note_all-requires-clause-tops
 note_all-requires-clause-tops c =
-    subst (λ (kept : List Kept). HoldsTops kept c.deref-4.result.now) (sym c.deref_mut.ensures.value)
-    (subst (HoldsTops c.self.inside.kept.items) (sym c.deref-4.ensures.value) c.self.invariant.tops)
+    subst (λ (landmarks : List LandmarkView). HoldsTops landmarks c.deref-4.result.now) (sym c.deref_mut.ensures.value)
+    (subst (HoldsTops c.self.inside.landmarks.items) (sym c.deref-4.ensures.value) c.self.invariant.tops)
 
 pub note_all-requires-clause-noted : goal.note_all-requires-clause-noted
 note_all-requires-clause-noted c = λ i.
@@ -127,11 +127,11 @@ note_all-requires-clause-noted c = λ i.
     let others : (i : ℕ) → (i ≡ next_branch s.branches.items s.ends.items on by → ⊥) → get_or row i 0 ≡ greatest_count (count_in s.counts.rows) on i =
     λ i off. c.push.ensures.3.others i (λ e. off (e ∙ b_is)) ∙ ap (λ (ps : List ℕ). greatest_count (count_in s.counts.rows) ps i) c.pair-on.ensures in
     subst (AreNotedOn i (get_or c.row_of-known.result.row i 0) (get_or c.row_of-counts.result.row i 0) b (c.len-row.result + 1)) (sym c.deref_mut.ensures.value)
-    (subst (λ (k : List ℕ). AreNotedOn i (get_or k i 0) (get_or c.row_of-counts.result.row i 0) b (c.len-row.result + 1) s.kept.items) (sym known_is)
-    (subst (λ (r : List ℕ). AreNotedOn i (get_or known i 0) (get_or r i 0) b (c.len-row.result + 1) s.kept.items) (sym row_is)
-    (subst (λ j. AreNotedOn i (get_or known i 0) (get_or row i 0) j (c.len-row.result + 1) s.kept.items) (sym b_is)
-    (subst (λ x. AreNotedOn i (get_or known i 0) (get_or row i 0) (next_branch s.branches.items s.ends.items on by) (x + 1) s.kept.items) (sym place)
-    (noted_on s.members L s.branches.items s.makers.items s.ends.items held.branches s.counts.rows held.counts s.kept.items s.newest.items s.numbers.items held.kept on by fits row others i)))))
+    (subst (λ (k : List ℕ). AreNotedOn i (get_or k i 0) (get_or c.row_of-counts.result.row i 0) b (c.len-row.result + 1) s.landmarks.items) (sym known_is)
+    (subst (λ (r : List ℕ). AreNotedOn i (get_or known i 0) (get_or r i 0) b (c.len-row.result + 1) s.landmarks.items) (sym row_is)
+    (subst (λ j. AreNotedOn i (get_or known i 0) (get_or row i 0) j (c.len-row.result + 1) s.landmarks.items) (sym b_is)
+    (subst (λ x. AreNotedOn i (get_or known i 0) (get_or row i 0) (next_branch s.branches.items s.ends.items on by) (x + 1) s.landmarks.items) (sym place)
+    (noted_on s.stakes L s.branches.items s.makers.items s.ends.items held.branches s.counts.rows held.counts s.landmarks.items s.newest.items s.numbers.items held.landmarks on by fits row others i)))))
 
 pub move_end-requires-clause-there : goal.move_end-requires-clause-there
 move_end-requires-clause-there c =
@@ -139,7 +139,7 @@ move_end-requires-clause-there c =
     let held = c.self.invariant.branches in
     let fits = subst (λ (g : ShapeWithRoom). FitsLink g.shape.members g.shape.links (link_of c.args.creator c.args.parents)) (sym c.self.view_is) c.requires.fits in
     let b_is = branch_is s.branches.items s.ends.items c.args.creator c.pair-on.result c.args.parents s.branches.items c.deref.result.now c.branch_for-branch.result c.branch_for-branch.ensures refl c.deref.ensures.value c.pair-on.ensures in
-    let low = reach s.members s.links.items s.branches.items s.makers.items s.ends.items held c.args.parents c.args.creator fits c.branch_for-branch.result b_is in
+    let low = reach s.stakes s.links.items s.branches.items s.makers.items s.ends.items held c.args.parents c.args.creator fits c.branch_for-branch.result b_is in
     let all = held.ends_all in
     omega arith
 
@@ -149,8 +149,8 @@ open_branch-requires-clause-there c =
     let held = c.self.invariant.branches in
     let fits = subst (λ (g : ShapeWithRoom). FitsLink g.shape.members g.shape.links (link_of c.args.creator c.args.parents)) (sym c.self.view_is) c.requires.fits in
     let b_is = branch_is s.branches.items s.ends.items c.args.creator c.pair-on.result c.args.parents s.branches.items c.deref.result.now c.branch_for-branch.result c.branch_for-branch.ensures refl c.deref.ensures.value c.pair-on.ensures in
-    let low = reach s.members s.links.items s.branches.items s.makers.items s.ends.items held c.args.parents c.args.creator fits c.branch_for-branch.result b_is in
-    let all = c.self.invariant.kept.newest_all in
+    let low = reach s.stakes s.links.items s.branches.items s.makers.items s.ends.items held c.args.parents c.args.creator fits c.branch_for-branch.result b_is in
+    let all = c.self.invariant.landmarks.newest_all in
     omega arith
 
 pub open_branch-requires-2-clause-there : goal.open_branch-requires-2-clause-there
@@ -159,16 +159,15 @@ open_branch-requires-2-clause-there c =
     let held = c.self.invariant.branches in
     let fits = subst (λ (g : ShapeWithRoom). FitsLink g.shape.members g.shape.links (link_of c.args.creator c.args.parents)) (sym c.self.view_is) c.requires.fits in
     let b_is = branch_is s.branches.items s.ends.items c.args.creator c.pair-on.result c.args.parents s.branches.items c.deref.result.now c.branch_for-branch.result c.branch_for-branch.ensures refl c.deref.ensures.value c.pair-on.ensures in
-    let low = reach s.members s.links.items s.branches.items s.makers.items s.ends.items held c.args.parents c.args.creator fits c.branch_for-branch.result b_is in
+    let low = reach s.stakes s.links.items s.branches.items s.makers.items s.ends.items held c.args.parents c.args.creator fits c.branch_for-branch.result b_is in
     let all = c.self.invariant.tops_all in
     omega arith
 
 pub of-requires : goal.of-requires
 of-requires c =
     let fits = subst (λ (g : ShapeWithRoom). FitsLink g.shape.members g.shape.links (link_of c.args.creator c.args.parents)) (sym c.self.view_is) c.requires.fits in
-    let few = subst (λ (g : ShapeWithRoom). length g.shape.links + 1 < 65535) (sym c.self.view_is) c.requires.short in
-    let short : length c.self.inside.links.items + 1 < 4294967295 = omega (arith, few) in
-    places_kept c.self.inside.members c.self.inside.links.items c.args.creator c.args.parents fits short
+    let short = subst (λ (g : ShapeWithRoom). length g.shape.links + 1 < 4294967295) (sym c.self.view_is) c.requires.short in
+    places_kept c.self.inside.stakes c.self.inside.links.items c.args.creator c.args.parents fits short
 
 pub invariant_of-self : goal.invariant_of-self
 invariant_of-self c =
@@ -180,11 +179,12 @@ invariant_of-self c =
     let on = c.pair-on.result in
     let on_is : pair_list on ≡ c.args.parents = c.pair-on.ensures in
     let fits = subst (λ (g : ShapeWithRoom). FitsLink g.shape.members g.shape.links link) (sym c.self.view_is) c.requires.fits in
-    let short = subst (λ (g : ShapeWithRoom). length g.shape.links + 1 < 65535) (sym c.self.view_is) c.requires.short in
+    let ready : 1 ≤ room_of s.ready = subst (λ (g : ShapeWithRoom). 1 ≤ g.room) (sym c.self.view_is) c.requires.room in
+    let short : length L + 1 < 65535 = (let rows_room = held.rows_room in omega arith) in
     let b = c.branch_for-branch.result in
     let b_is = branch_is s.branches.items s.ends.items by on c.args.parents s.branches.items c.deref.result.now b c.branch_for-branch.ensures refl c.deref.ensures.value on_is in
     let serves : Serves L s.branches.items s.makers.items link b = subst (λ k. Serves L s.branches.items s.makers.items link k) (sym b_is)
-    (next_serves s.members L s.branches.items s.makers.items s.ends.items held.branches c.args.parents by fits) in
+    (next_serves s.stakes L s.branches.items s.makers.items s.ends.items held.branches c.args.parents by fits) in
     let place : c.len-row.result ≡ length L = omega arith in
     let end_place : c.len-row.result + 1 ≡ length L + 1 = ap (λ (j : ℕ). j + 1) place in
     let makers_are = c.move_end.ensures.makers in
@@ -195,7 +195,7 @@ invariant_of-self c =
     let next = c.push.ensures.3 in
     let rows_len = held.counts.len in
     let end : get_or row b 0 ≡ length L + 1 = next.end ∙ ap (λ (j : ℕ). j + 1) rows_len in
-    let wide : s.members ≤ length row = subst (λ n. n ≤ length row) held.counts_members next.wide in
+    let wide : member_count s.stakes ≤ length row = subst (λ n. n ≤ length row) held.counts_members next.wide in
     let others : (i : ℕ) → (i ≡ b → ⊥) → get_or row i 0 ≡ greatest_count (count_in s.counts.rows) link.parents i =
     λ i off. next.others i off ∙ ap (λ (ps : List ℕ). greatest_count (count_in s.counts.rows) ps i) on_is in
     let row_is : c.row_of-counts.result.row ≡ row = ap (λ (r : RowView). r.row) c.row_of-counts.ensures
@@ -203,38 +203,42 @@ invariant_of-self c =
     let told : (m : ℕ) → mask_has c.forked_next-forked.result m ≡ has_fork_below (L ++ link ∷ []) (length L) m = λ m.
     c.forked_next-forked.ensures m
     ∙ (ap (λ (ms : List ℕ). forks_next ms s.counts.rows s.forked.items c.if-members-len.many on by m) c.deref-2.ensures.value
-    ∙ (forks_told s.members L s.branches.items s.makers.items s.ends.items held.branches s.counts.rows held.counts s.forked.items held.forks short on by
-    (subst (λ (on : List ℕ). FitsLink s.members L (link_of by on)) (sym on_is) fits) b (subst (λ (on : List ℕ). Serves L s.branches.items s.makers.items (link_of by on) b) (sym on_is) serves)
+    ∙ (forks_told s.stakes L s.branches.items s.makers.items s.ends.items held.branches s.counts.rows held.counts s.forked.items held.forks short on by
+    (subst (λ (on : List ℕ). FitsLink s.stakes L (link_of by on)) (sym on_is) fits) b (subst (λ (on : List ℕ). Serves L s.branches.items s.makers.items (link_of by on) b) (sym on_is) serves)
     c.if-members-len.many
     (λ one. elim c.if-members-len.branch [
-      | then-members-len w ↦ (let over : s.members < c.len.result = w.if-members-len.true in absurd (true≢false (sym (lt-ltb s.members c.len.result over) ∙ (sym w.many-is ∙ one))))
-      | else-members-len w ↦ (let low : b < s.members = lower s.members b (sym w.many-is ∙ one) in (omega (arith, all), λ same. omega (arith, all)))
+      | then-members-len w ↦ (let over : c.len-members.result < c.len.result = w.if-members-len.true in absurd (true≢false (sym (lt-ltb c.len-members.result c.len.result over) ∙ (sym w.many-is ∙ one))))
+      | else-members-len w ↦ (
+          let low : b < c.len-members.result = lower c.len-members.result b (sym w.many-is ∙ one) in
+          let is = c.len-members.ensures.value in
+          (omega (arith, all, is), λ same. omega (arith, all, is)))
     ])
     m
     ∙ ap (λ (on : List ℕ). has_fork_below (L ++ link_of by on ∷ []) (length L) m) on_is)) in
-    let counted = counts_last s.members L s.branches.items s.makers.items s.ends.items held.branches link fits b serves s.counts.rows row held.counts end others in
-    let kept_long : length c.note_all.new.kept ≡ length s.kept.items = c.note_all.ensures.len ∙ ap length c.deref_mut.ensures.value in
-    let each : (i : ℕ) → i < length s.kept.items → kept_at c.note_all.new.kept i ≡ noted row b (length L + 1) (kept_at s.kept.items i) = λ i h.
-    c.note_all.ensures.each i (subst (λ (old : List Kept). i < length old) (sym c.deref_mut.ensures.value) h)
-    ∙ (ap (λ (old : List Kept). noted c.row_of-counts.result.row b (c.len-row.result + 1) (kept_at old i)) c.deref_mut.ensures.value
-    ∙ ap₂ (λ (counts : List ℕ) (e : ℕ). noted counts b e (kept_at s.kept.items i)) row_is end_place) in
+    let counted = counts_last s.stakes L s.branches.items s.makers.items s.ends.items held.branches link fits b serves s.counts.rows row held.counts end others in
+    let landmarks_long : length c.note_all.new.landmarks ≡ length s.landmarks.items = c.note_all.ensures.len ∙ ap length c.deref_mut.ensures.value in
+    let each : (i : ℕ) → i < length s.landmarks.items → landmark_at c.note_all.new.landmarks i ≡ noted row b (length L + 1) (landmark_at s.landmarks.items i) = λ i h.
+    c.note_all.ensures.each i (subst (λ (old : List LandmarkView). i < length old) (sym c.deref_mut.ensures.value) h)
+    ∙ (ap (λ (old : List LandmarkView). noted c.row_of-counts.result.row b (c.len-row.result + 1) (landmark_at old i)) c.deref_mut.ensures.value
+    ∙ ap₂ (λ (counts : List ℕ) (e : ℕ). noted counts b e (landmark_at s.landmarks.items i)) row_is end_place) in
     record {
       branches = rw (c.push-2.ensures, c.push-3.ensures, makers_are, ends_are, c.of.ensures)
-          (branches_hold s.members L s.branches.items s.makers.items s.ends.items held.branches link fits b serves short);
+          (branches_hold s.stakes L s.branches.items s.makers.items s.ends.items held.branches link fits b serves short);
       counts = rw (c.push-2.ensures, c.push-3.ensures, makers_are, c.of.ensures, rows_are)
-          (counts_hold s.members L s.branches.items s.makers.items s.ends.items held.branches link fits b serves s.counts.rows row held.counts wide end others);
+          (counts_hold s.stakes L s.branches.items s.makers.items s.ends.items held.branches link fits b serves s.counts.rows row held.counts wide end others);
       counts_members = c.push.ensures.2 ∙ held.counts_members;
       forks = rw (c.push-2.ensures, c.push-4.ensures, c.of.ensures) (forks_more L link s.forked.items c.forked_next-forked.result held.forks told);
-      kept = rw (c.push-2.ensures, c.push-3.ensures, makers_are, c.of.ensures, c.open_branch.ensures, c.push_reserved.ensures.items)
-          (subst (λ (kept : List Kept). HoldsKept s.members (L ++ link ∷ []) (s.branches.items ++ b ∷ []) (with_branch s.makers.items b by) kept (with_branch s.newest.items b 0) (s.numbers.items ++ 0 ∷ []))
-          (sym (refilled_kept s.kept.len c.note_all.new.kept s.kept.items (omega (arith, kept_long))))
-          (kept_more s.members L s.branches.items s.makers.items s.ends.items held.branches link fits b serves row counted short s.kept.items c.note_all.new.kept s.newest.items s.numbers.items held.kept kept_long each));
+      landmarks = rw (c.push-2.ensures, c.push-3.ensures, makers_are, c.of.ensures, c.open_branch.ensures, c.push_reserved.ensures.items)
+          (subst (λ (landmarks : List LandmarkView). HoldsLandmarks s.stakes (L ++ link ∷ []) (s.branches.items ++ b ∷ []) (with_branch s.makers.items b by) landmarks (with_branch s.newest.items b 0) (s.numbers.items ++ 0 ∷ []))
+          (sym (refilled s.landmarks.len c.note_all.new.landmarks s.landmarks.items (omega (arith, landmarks_long))))
+          (landmarks_more s.stakes L s.branches.items s.makers.items s.ends.items held.branches link fits b serves row counted short s.landmarks.items c.note_all.new.landmarks s.newest.items s.numbers.items held.landmarks landmarks_long each));
       tops = rw c.open_branch-2.ensures
-          (subst (λ (kept : List Kept). HoldsTops kept (with_branch s.tops.items b 0)) (sym (refilled_kept s.kept.len c.note_all.new.kept s.kept.items (omega (arith, kept_long))))
-          (tops_noted s.kept.items c.note_all.new.kept (λ i h. (ap (λ (k : Kept). k.end) (each i h), ap (λ (k : Kept). k.branch) (each i h), ap (λ (k : Kept). k.before) (each i h))) kept_long s.tops.items b held.tops));
+          (subst (λ (landmarks : List LandmarkView). HoldsTops landmarks (with_branch s.tops.items b 0)) (sym (refilled s.landmarks.len c.note_all.new.landmarks s.landmarks.items (omega (arith, landmarks_long))))
+          (tops_noted s.landmarks.items c.note_all.new.landmarks (λ i h. (ap (λ (k : LandmarkView). k.end) (each i h), ap (λ (k : LandmarkView). k.branch) (each i h), ap (λ (k : LandmarkView). k.before) (each i h))) landmarks_long s.tops.items b held.tops));
       tops_all = rw (c.open_branch-2.ensures, makers_are)
-          (opened_long s.makers.items s.tops.items b by (reach s.members L s.branches.items s.makers.items s.ends.items held.branches c.args.parents by fits b b_is) held.tops_all);
-      spare_kept = held.spare_kept;
+          (opened_long s.makers.items s.tops.items b by (reach s.stakes L s.branches.items s.makers.items s.ends.items held.branches c.args.parents by fits b b_is) held.tops_all);
+      spare = held.spare;
+      rows_room = rw c.push-2.ensures (omega (arith, short, length_push L c.of.result));
       links_room = omega arith;
       branches_room = omega arith;
       makers_room = omega arith;
@@ -244,5 +248,5 @@ invariant_of-self c =
       newest_room = omega arith;
       tops_room = omega arith;
       numbers_room = omega arith;
-      kept_room = held.kept_room;
+      landmarks_room = held.landmarks_room;
     }

@@ -1,8 +1,9 @@
 use Rattle.std.proofs.Common.{◌≡◌, ◌<◌, ◌≤◌, ◌∙◌, ◌+◌, ℕ, List, sym, ap, subst, take, min, length, get_or, replicate, arith}
 use Rattle.std.proofs.lemmas.List.{length-take-le, length-replicate, get_or-take}
+use Rattle.hg_model.specs.Stakes.{member_count}
 use Rattle.hg_model.specs.Shape.{ShapeWithRoom}
 use Rattle.hg_branches.proofs.TakeLaws.{branches_take, counts_take, forks_take}
-use Rattle.hg_branches.proofs.KeptLaws.{kept_none}
+use Rattle.hg_branches.proofs.LandmarkLaws.{landmarks_none}
 use Rattle.hg_branches.proofs.sight.BranchSightGrowing.prefix.Goals as goal
 
 pub invariant_of-result : goal.invariant_of-result
@@ -13,7 +14,7 @@ invariant_of-result c =
     let le = subst (λ (g : ShapeWithRoom). len ≤ length g.shape.links) (sym c.self.view_is) c.requires in
     let rows = held.branches.rows in
     let many : ℕ = c.min-many.result in
-    let is_many : c.min-many.result ≡ min (length s.makers.items) (s.members + len) = omega arith in
+    let is_many : c.min-many.result ≡ min (length s.makers.items) (member_count s.stakes + len) = omega arith in
     let makers : c.in_ok-from_slice.field-0.items ≡ take many s.makers.items = c.in_ok-from_slice.ensures.items ∙ ap (take many) c.deref.ensures.value in
     let all = held.branches.ends_all in
     let ends_are : (b : ℕ) → get_or c.in_ok-ends_within.field-0.items b 0 ≡ min (get_or (take many s.ends.items) b 0) len = λ b.
@@ -25,19 +26,20 @@ invariant_of-result c =
     let early = held.branches.early x (omega arith) in
     let was = held.branches.end x (omega arith) in
     let is = ends_are (get_or s.branches.items x 0) in
-    let kept = get_or-take many s.ends.items (get_or s.branches.items x 0) 0 (omega arith) in
+    let cut = get_or-take many s.ends.items (get_or s.branches.items x 0) 0 (omega arith) in
     omega arith in
     record {
-      branches = rw (c.in_ok-cloned_prefix.ensures, c.in_ok-prefix.ensures, makers) (branches_take s.members s.links.items s.branches.items s.makers.items s.ends.items held.branches len many le is_many c.in_ok-ends_within.field-0.items ends_len end);
-      counts = rw (c.in_ok-cloned_prefix.ensures, c.in_ok-prefix.ensures, makers, c.in_ok-prefix-2.ensures.rows) (counts_take s.members s.links.items s.branches.items s.makers.items s.ends.items held.branches len many le is_many s.counts.rows held.counts);
-      forks = rw (c.in_ok-cloned_prefix.ensures, c.in_ok-prefix-3.ensures) (forks_take s.members s.links.items s.branches.items s.makers.items s.ends.items held.branches len many le is_many s.forked.items held.forks);
-      kept = rw (c.in_ok-cloned_prefix.ensures, c.in_ok-prefix.ensures, makers, c.new.ensures.items, c.new-2.ensures.items)
-          (kept_none s.members (take len s.links.items) (take len s.branches.items) (take many s.makers.items) c.in_ok-zeros.field-0.items
+      branches = rw (c.in_ok-copy.ensures, c.in_ok-cloned_prefix.ensures.items, c.in_ok-prefix.ensures.items, makers) (branches_take s.stakes s.links.items s.branches.items s.makers.items s.ends.items held.branches len many le is_many c.in_ok-ends_within.field-0.items ends_len end);
+      counts = rw (c.in_ok-copy.ensures, c.in_ok-cloned_prefix.ensures.items, c.in_ok-prefix.ensures.items, makers, c.in_ok-prefix-2.ensures.rows) (counts_take s.stakes s.links.items s.branches.items s.makers.items s.ends.items held.branches len many le is_many s.counts.rows held.counts);
+      forks = rw (c.in_ok-cloned_prefix.ensures.items, c.in_ok-prefix-3.ensures.items) (forks_take s.stakes s.links.items s.branches.items s.makers.items s.ends.items held.branches len many le is_many s.forked.items held.forks);
+      landmarks = rw (c.in_ok-copy.ensures, c.in_ok-cloned_prefix.ensures.items, c.in_ok-prefix.ensures.items, makers, c.new.ensures.items, c.new-2.ensures.items)
+          (landmarks_none s.stakes (take len s.links.items) (take len s.branches.items) (take many s.makers.items) c.in_ok-zeros.field-0.items
           (c.in_ok-zeros.ensures ∙ ap (λ k. replicate k 0) (sym (length-take-le many s.makers.items (omega arith)))));
       tops = rw c.new.ensures.items (λ i h. absurd (omega arith));
       tops_all = ap length c.in_ok-zeros-2.ensures ∙ (length-replicate many 0 ∙ sym (ap length makers ∙ length-take-le many s.makers.items (omega arith)));
-      counts_members = c.in_ok-prefix-2.ensures.members ∙ held.counts_members;
-      spare_kept = tt;
+      counts_members = c.in_ok-prefix-2.ensures.stakes ∙ held.counts_members;
+      spare = tt;
+      rows_room = rw c.in_ok-cloned_prefix.ensures.items (let short = held.branches.short in omega (arith, length-take-le len s.links.items le));
       links_room = omega arith;
       branches_room = omega arith;
       makers_room = omega arith;
@@ -47,5 +49,5 @@ invariant_of-result c =
       newest_room = omega arith;
       tops_room = omega arith;
       numbers_room = omega arith;
-      kept_room = omega arith;
+      landmarks_room = omega arith;
     }

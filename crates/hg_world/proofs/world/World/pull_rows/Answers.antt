@@ -17,13 +17,13 @@ note_all-requires-clause-peer c = still_member c.args.self.now c.take.new.self (
 
 pub note_all-requires-clause-all : goal.note_all-requires-clause-all
 note_all-requires-clause-all c =
-    noted c.args.self.now c.take.new.self c.args.taker c.args.peer (bytes_of c.in_ok-events.events.items) (bytes_of c.as_slice.result.now) c.in_ok-counts.counts c.members.ensures.world c.requires.peer
+    noted c.args.self.now c.take.new.self c.args.taker c.args.peer (bytes_of c.in_ok-events.events.items) (bytes_of c.as_slice.result.now) c.in_ok-counts.counts c.is_world.ensures.world c.requires.peer
     (ap (map spelling) c.in_ok-events.ensures) (ap (λ events. bytes_of events) c.as_slice.ensures.value) c.in_ok-counts.ensures.ok
     (omega (arith, c.if-counts-number.true, c.len-number.ensures, c.in_ok-events.events.ok.0, bytes_length c.in_ok-events.events.items))
 
 pub take-requires-clause-signed : goal.take-requires-clause-signed
 take-requires-clause-signed c =
-    lacked_signed c.args.self.now c.args.taker c.args.peer (rows_of c.as_slice.result.now) c.members.ensures.world c.requires.taker c.requires.peer
+    lacked_signed c.args.self.now c.args.taker c.args.peer (rows_of c.as_slice.result.now) c.is_world.ensures.world c.requires.taker c.requires.peer
     (ap (λ events. rows_of events) c.as_slice.ensures.value ∙ c.in_ok-events.ensures)
 
 pub note_rest-requires-clause-taker : goal.note_rest-requires-clause-taker

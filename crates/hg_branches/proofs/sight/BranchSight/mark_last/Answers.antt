@@ -1,0 +1,73 @@
+use Rattle.std.proofs.Common.{◌≡◌, ◌<◌, ◌-◌, ◌+◌, ◌∙◌, ℕ, List, [], ◌∷◌, ◌++◌, sym, ap, subst, length, slice_index, slice_set, arith}
+use Rattle.std.proofs.lemmas.List.{get_or_read, length-set}
+use Rattle.hg_model.specs.Stakes.{member_count}
+use Rattle.hg_branches.specs.Landmarks.{LandmarkView, landmark_at, HoldsFirsts, HoldsLandmarks, HoldsTops, IsSpareLandmark, spare_room}
+use Rattle.hg_branches.proofs.LandmarkLaws.{landmarks_begun, holds_begun}
+use Rattle.hg_branches.proofs.ChainLaws.{tops_begun}
+use Rattle.hg_branches.proofs.sight.BranchSight.mark_last.Goals as goal
+
+pub invariant_of-self : goal.invariant_of-self
+invariant_of-self c =
+    let s = c.self.inside in
+    let n = s.stakes in
+    let L = s.links.items in
+    let branches = s.branches.items in
+    let makers = s.makers.items in
+    let landmarks = s.landmarks.items in
+    let held = c.self.invariant in
+    let end : ℕ = c.len-end.result in
+    let y : ℕ = end - 1 in
+    let k = c.begin.new.self in
+    let some : 0 < end = (let less = c.if-last_end-end.true in omega arith) in
+    let last : length L ≡ end = omega arith in
+    let end_is : k.end ≡ end = c.begin.ensures.end in
+    let rows = held.branches.rows in
+    let branch : ℕ = c.index-branch.result.now in
+    let branch_is : k.branch ≡ branch = c.begin.ensures.branch in
+    let on : branch ≡ slice_index branches y = get_or_read branches y branch (omega arith) c.index-branch.ensures 0 in
+    let known : slice_index branches y < length makers = held.branches.known y (omega arith) in
+    let newest_all = held.landmarks.newest_all in
+    let before : c.index.result.now ≡ slice_index s.newest.items branch = get_or_read s.newest.items branch c.index.result.now (omega arith) c.index.ensures 0 in
+    let row_long : length c.in-Some.landmark.firsts ≡ member_count n = subst (IsSpareLandmark (member_count n)) (sym c.take.ensures.value ∙ c.in-Some.is) held.spare in
+    let one : spare_room s.spare ≡ 1 = ap spare_room (sym c.take.ensures.value ∙ c.in-Some.is) in
+    let none : spare_room c.take.new.self ≡ 0 = ap spare_room c.take.ensures.after in
+    let entries : length s.numbers.items ≡ k.end = omega arith in
+    let number : c.len-number.result ≡ length landmarks + 1 = omega arith in
+    let first : HoldsFirsts n L branches makers k = holds_begun n L branches makers s.ends.items held.branches k (omega arith) (omega arith) (c.begin.ensures.long ∙ row_long)
+    (ap (λ e. slice_index branches (e - 1)) end_is ∙ (sym on ∙ sym branch_is))
+    (λ low. ap (slice_index k.firsts) branch_is ∙ (c.begin.ensures.itself (omega (arith, row_long, branch_is, low)) ∙ sym end_is))
+    (λ b low other. c.begin.ensures.others b (omega (arith, row_long, low)) (λ e. other (e ∙ sym branch_is))) in
+    let later : 0 < length landmarks → (landmark_at landmarks (length landmarks - 1)).end < k.end = λ some.
+    let kept_is = c.deref.ensures.value in
+    let less = c.if-last_end-end.true in
+    let is : c.last_end.result ≡ (landmark_at landmarks (length landmarks - 1)).end = subst (λ (ks : List LandmarkView). 0 < length ks → c.last_end.result ≡ (landmark_at ks (length ks - 1)).end) kept_is c.last_end.ensures.last some in
+    omega arith in
+    let begun = landmarks_begun n L branches makers landmarks s.newest.items s.numbers.items held.landmarks k first (omega arith) entries (omega arith) later
+    (c.begin.ensures.before ∙ (before ∙ ap (slice_index s.newest.items) (sym branch_is))) in
+    record {
+      branches = held.branches;
+      counts = held.counts;
+      forks = held.forks;
+      landmarks = subst (λ (items : List LandmarkView). HoldsLandmarks n L branches makers items (slice_set s.newest.items branch c.len-number.result) (slice_set s.numbers.items y c.len-number.result)) (sym c.push_reserved.ensures.items)
+          (subst (λ j. HoldsLandmarks n L branches makers (landmarks ++ k ∷ []) (slice_set s.newest.items branch j) (slice_set s.numbers.items y j)) (sym number)
+          (subst (λ b. HoldsLandmarks n L branches makers (landmarks ++ k ∷ []) (slice_set s.newest.items b (length landmarks + 1)) (slice_set s.numbers.items y (length landmarks + 1))) branch_is
+          (subst (λ e. HoldsLandmarks n L branches makers (landmarks ++ k ∷ []) (slice_set s.newest.items k.branch (length landmarks + 1)) (slice_set s.numbers.items (e - 1) (length landmarks + 1))) end_is begun)));
+      tops = subst (λ (items : List LandmarkView). HoldsTops items (slice_set s.tops.items branch end)) (sym c.push_reserved.ensures.items)
+          (subst (λ b. HoldsTops (landmarks ++ k ∷ []) (slice_set s.tops.items b end)) branch_is
+          (subst (λ e. HoldsTops (landmarks ++ k ∷ []) (slice_set s.tops.items k.branch e)) end_is
+          (tops_begun landmarks k held.landmarks.chains first.some later s.tops.items held.tops (let tops_all = held.tops_all in omega arith))));
+      tops_all = length-set s.tops.items branch end ∙ held.tops_all;
+      counts_members = held.counts_members;
+      spare = subst (IsSpareLandmark (member_count n)) (sym c.take.ensures.after) tt;
+      rows_room = held.rows_room;
+      links_room = held.links_room;
+      branches_room = held.branches_room;
+      makers_room = held.makers_room;
+      ends_room = held.ends_room;
+      counts_room = held.counts_room;
+      forked_room = held.forked_room;
+      newest_room = held.newest_room;
+      tops_room = held.tops_room;
+      numbers_room = held.numbers_room;
+      landmarks_room = omega (arith, none, one);
+    }
