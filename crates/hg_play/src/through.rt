@@ -1,26 +1,16 @@
-ghost use Rattle.std.specs.Prelude.{◌≡◌, ◌≤◌, All, IfOk, OnOk, length, take};
-ghost use Rattle.hg_life.specs.Signing.{accepts_by};
-ghost use Rattle.hg_gossip.specs.Known.{KeepsKnown};
-ghost use Rattle.hg_crowd.specs.Crowd.{AreSeats, AreStill};
-ghost use Rattle.hg_crowd.specs.Party.{party_view};
+ghost use Rattle.std.specs.Prelude.{◌≡◌, ◌≤◌, All, IfOk};
 ghost use Rattle.hg_play.specs.Batch.{IsBatch};
-ghost use Rattle.hg_play.specs.Lines.{IsLineBelow, IsPartBelow, part_line};
-ghost use Rattle.hg_play.specs.Nodes.{IsKept, MatchesLine};
-ghost use Rattle.hg_play.specs.Heard.{rows_seen};
-ghost use Rattle.hg_play.specs.Through.{MatchesParts, MatchesThrough, worked_on};
+ghost use Rattle.hg_play.specs.Lines.{IsLineBelow, IsPartBelow};
+ghost use Rattle.hg_play.specs.Nodes.{IsKept, Plays};
+ghost use Rattle.hg_play.specs.Through.{PlaysFirst, worked_on};
 
 use crate::game::Game;
 use crate::lines::play_part;
 use crate::nodes::Nodes;
-use crate::shared::SharedNodes;
 use crate::tape::Tape;
-use hg_board::Seat;
-use hg_gossip::Known;
 use hg_io::Gate;
 use hg_model::{Member, Memory};
 use hg_script::{Action, Gossip, Line, Part, Source};
-use hg_sign::SharedTable;
-use std::sync::Wait;
 
 /// How many lines a batch has at most.
 const MOST_LINES: usize = 32;
@@ -61,7 +51,7 @@ fn play_watched<N: Nodes, G: Gate>(
 ) -> Result<(), Memory>
     requires { IsPartBelow (N.seen nodes.old).count part.now }
     ensures kept { IsKept (N.seen nodes.old) (N.seen nodes.new) }
-    ensures told { OnOk result (MatchesLine game.now.members.now (part_line line part.now) (N.seen nodes.old) tape.old (N.seen nodes.new) tape.new) }
+    ensures told { Plays result game.now.members.now line part.now (N.seen nodes.old) tape.old (N.seen nodes.new) tape.new }
 {
     let member = worked_on(part);
     reach(gate, 1000, member);
@@ -72,46 +62,25 @@ fn play_watched<N: Nodes, G: Gate>(
 
 /// Plays the first batch of these lines, one after the other, behind what others left, and tells how many lines it has: at
 /// most 32, and none from one on that may stand in no batch.
-fn play_parts<N: Nodes, G: Gate>(
+pub(crate) fn play_parts<N: Nodes, G: Gate>(
     game: &Game,
     nodes: &mut N,
-    mut tape: Tape,
+    tape: &mut Tape,
     lines: &[Line],
     gate: &G,
-) -> Result<(Tape, usize), Memory>
+) -> Result<usize, Memory>
     requires { All (IsLineBelow (N.seen nodes.old).count) lines.now }
     ensures kept { IsKept (N.seen nodes.old) (N.seen nodes.new) }
-    ensures batch { IfOk result (λ r. IsBatch lines.now r.1) }
-    ensures told { IfOk result (λ r. MatchesParts game.now.members.now (take r.1 lines.now) (N.seen nodes.old) tape (N.seen nodes.new) r.0) }
+    ensures batch { IfOk result (IsBatch lines.now) }
+    ensures ok { PlaysFirst result game.now.members.now lines.now (N.seen nodes.old) tape.old (N.seen nodes.new) tape.new }
 {
     let most = lines.len().min(MOST_LINES);
     'lines: for i in 0..most {
         let line = &lines[i];
         let Action::Part(part) = &line.action else {
-            return Ok((tape, i));
+            return Ok(i);
         };
-        play_watched(game, nodes, &mut tape, line.number, part, gate)?;
+        play_watched(game, nodes, tape, line.number, part, gate)?;
     }
-    Ok((tape, most))
-}
-
-/// Plays the first batch of these lines over nodes between threads, through their seats, while others mark. The seats come
-/// back, and what each node has heard of each, also without memory.
-pub(crate) fn play_through<R: Wait, G: Gate>(
-    game: &Game,
-    mut nodes: SharedNodes<'_, R>,
-    tape: Tape,
-    lines: &[Line],
-    gate: &G,
-) -> (Vec<Seat<SharedTable>>, Known, Result<(Tape, usize), Memory>)
-    requires { All (IsLineBelow (length nodes.seats)) lines.now }
-    ensures seats { AreSeats accepts_by nodes.entry.places result.0.items }
-    ensures still { AreStill nodes.entry.seats result.0.items }
-    ensures known { KeepsKnown (rows_seen (party_view nodes.entry.places result.0.items)) result.1 }
-    ensures batch { IfOk result.2 (λ r. IsBatch lines.now r.1) }
-    ensures played { IfOk result.2 (λ r. MatchesThrough game.now.members.now (take r.1 lines.now) nodes.entry.places nodes.entry.seats tape result.0.items r.0) }
-{
-    let played = play_parts(game, &mut nodes, tape, lines, gate);
-    let (seats, known) = nodes.into_parts();
-    (seats, known, played)
+    Ok(most)
 }
