@@ -35,15 +35,20 @@ class Event:
 class Web:
     """All events of a run."""
 
-    def __init__(self, n, coin):
-        self.n, self.coin = n, coin
+    def __init__(self, stakes, coin):
+        self.n, self.coin = len(stakes), coin
+        self.stakes, self.total = stakes, sum(stakes)
         self.events, self.known = [], {}
-        self.by_creator = [0] * n
+        self.by_creator = [0] * self.n
         self.witnesses = {}     # by round
 
-    def most(self, count):
-        """Are so many of the members more than two thirds?"""
-        return 3 * count > 2 * self.n
+    def most(self, stake):
+        """Is it more than two thirds of all stake?"""
+        return 3 * stake > 2 * self.total
+
+    def weight(self, events):
+        """The stake of the events' creators, of each event by itself."""
+        return sum(self.stakes[event.creator] for event in events)
 
     def event(self, data, name, fields, own, other):
         """The event of these bytes on these parents."""
@@ -66,9 +71,9 @@ class Web:
         return x.ancestors & y.bit != 0 and y.creator not in x.forked
 
     def strongly_sees(self, x, y):
-        """Has x for more than two thirds of the members an ancestor by them that sees the witness y?"""
+        """Has x for members of more than two thirds of stake an ancestor by them that sees the witness y?"""
         through = x.ancestors & y.seers
-        return self.most(sum(through & mine != 0 for mine in self.by_creator))
+        return self.most(sum(stake for mine, stake in zip(self.by_creator, self.stakes) if through & mine))
 
     def place_round(self, x):
         """The round of x, whether it is a witness, and the witnesses of the round before that it strongly sees."""
@@ -78,7 +83,7 @@ class Web:
                     w.seers |= x.bit
         base = max((parent.round for parent in x.parents), default=1)
         seen = [w for w in self.witnesses.get(base, []) if self.strongly_sees(x, w)]
-        x.round = base + 1 if self.most(len(seen)) else base
+        x.round = base + 1 if self.most(self.weight(seen)) else base
         x.witness = x.own is None or x.round > x.own.round
         x.voters = []
         if x.witness:
@@ -96,12 +101,12 @@ class Web:
         apart = y.round - x.round
         if apart == 1:
             return Vote(self.sees(y, x), False, False)
-        yes = sum(self.vote(w, x).value for w in y.voters)
-        no = len(y.voters) - yes
-        majority, count = (True, yes) if yes >= no else (False, no)
+        yes = self.weight(w for w in y.voters if self.vote(w, x).value)
+        no = self.weight(y.voters) - yes
+        majority, stake = (True, yes) if yes >= no else (False, no)
         if apart % self.coin > 0:
-            return Vote(majority, self.most(count), False)
-        if self.most(count):
+            return Vote(majority, self.most(stake), False)
+        if self.most(stake):
             return Vote(majority, False, False)
         return Vote(y.middle_bit(), False, True)
 

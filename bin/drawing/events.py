@@ -18,6 +18,7 @@ class Member:
         self.number, self.name = number, entry["name"]
         self.secret = bytes.fromhex(entry["secret"])
         self.balance, self.has_node = entry.get("balance", 0), entry.get("node", True)
+        self.stake = entry.get("stake", 1)
 
 
 class Members:
@@ -30,6 +31,7 @@ class Members:
         self.all = [Member(number, entry) for number, entry in enumerate(tables["member"])]
         self.numbers = {member.name: member.number for member in self.all}
         self.n = len(self.all)
+        self.stakes = [member.stake for member in self.all]
 
 
 def name_of(data):

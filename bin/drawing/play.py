@@ -62,9 +62,9 @@ class Node:
         if creator is self.member:
             raise Refused("impostor")
         own, other = self.parents_of(fields)
-        forkers = self.forkers_with(fields.creator, own)
-        if len(forkers) > len(self.forkers) and 3 * len(forkers) >= self.members.n:
-            raise Refused(f"too-many-forkers {len(forkers)}")
+        forking = sum(self.members.stakes[m] for m in self.forkers_with(fields.creator, own))
+        if 3 * forking >= sum(self.members.stakes):
+            raise Refused(f"too-many-forkers {forking}")
         self.check_room()
         return f"accepted {self.add(self.web.event(data, name, fields, own, other), line)}"
 
@@ -185,7 +185,7 @@ class Play:
     def __init__(self, members, script):
         self.members = members
         self.script = script
-        self.web = Web(members.n, members.coin)
+        self.web = Web(members.stakes, members.coin)
         self.nodes = {m.name: Node(members, self.web, m) for m in members.all if m.has_node}
         self.labels = {}
         self.label_lines = []       # (line, label, bytes)

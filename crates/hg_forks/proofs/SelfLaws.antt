@@ -4,10 +4,10 @@ use Rattle.std.proofs.lemmas.Bool.{true≢false}
 use Rattle.std.proofs.lemmas.List.{map-append, length-map}
 use Rattle.std.proofs.lemmas.Option.{slice_get-map}
 use Rattle.hg_model.specs.Places.{has_place, some_below}
-use Rattle.hg_model.specs.Stakes.{Stakes, member_count}
+use Rattle.hg_model.specs.Stakes.{Stakes, member_count, stake_of}
 use Rattle.hg_model.specs.Links.{Link, first_place, later_places, parents_in, creator_in, parents, self_parent, creator}
 use Rattle.hg_model.specs.Ancestry.{is_self_ancestor}
-use Rattle.hg_model.specs.Forks.{is_fork, has_fork, forkers}
+use Rattle.hg_model.specs.Forks.{is_fork, has_fork, forkers, forking}
 use Rattle.hg_model.specs.Shape.{FitsLink}
 use Rattle.hg_model.proofs.PlacesLaws.{some_below-same, weight_below-same}
 use Rattle.hg_model.proofs.PushLaws.{first_of_places}
@@ -64,6 +64,10 @@ module _ (L : List Link) where
   unfolding forkers
   forkers-self_place n = weight_below-same (λ _. 1) (member_count n) (has_fork (self_links L)) (has_fork L) (λ m h. has_fork-self_place m)
 
+  forking-self_place : (n : Stakes) → forking n (self_links L) ≡ forking n L
+  unfolding forking
+  forking-self_place n = weight_below-same (stake_of n) (member_count n) (has_fork (self_links L)) (has_fork L) (λ m h. has_fork-self_place m)
+
   fits-self_place : (n : Stakes) (link : Link) → FitsLink n L link → FitsLink n (self_links L) (self_link link)
   fits-self_place n link fits = record {
     member = fits.member;
@@ -84,6 +88,7 @@ self_links_serve n L = record {
   is_fork = is_fork-self_place L;
   has_fork = has_fork-self_place L;
   forkers = forkers-self_place L n;
+  forking = forking-self_place L n;
 }
 
 -- a row on no self-parent fits where its creator is a member

@@ -1,9 +1,10 @@
 -- The rows of a member stand in one line until a row stands on another than the last of them
-use Rattle.std.specs.Prelude.{ℕ, ◌≡◌, ◌≢◌, ◌<◌, ◌^◌, Bool, true, false, not, cond, ◌==◌, List, length, get_or, slice_set, Option, Some, None}
+use Rattle.std.specs.Prelude.{ℕ, ◌≡◌, ◌≢◌, ◌<◌, ◌≤◌, ◌^◌, Bool, true, false, not, cond, ◌==◌, List, length, get_or, slice_set, Option, Some, None}
 use Rattle.std.specs.Int.{from_bool}
+use Rattle.hg_model.specs.Stakes.{Stakes, member_count, stake_of, total}
 use Rattle.hg_model.specs.Links.{Link, creator}
 use Rattle.hg_model.specs.Ancestry.{is_self_ancestor}
-use Rattle.hg_model.specs.Forks.{forkers}
+use Rattle.hg_model.specs.Forks.{forkers, forking}
 use Rattle.hg_model.specs.Graph.{IsShaped}
 use Rattle.hg_forks.specs.declared.line.Line.{Line}
 use Rattle.hg_forks.specs.declared.line.Line.TheVariants.{Empty, Ends, Forked}
@@ -40,6 +41,10 @@ line_at lines m = get_or lines m Empty
 abbrev pub new_forkers : List Line → ℕ → Option ℕ → ℕ
 new_forkers lines m self_parent = from_bool (makes_fork (line_at lines m) self_parent)
 
+-- the stake of m where a row by m on this self-parent makes the first fork of m, else 0
+abbrev pub new_forking : Stakes → List Line → ℕ → Option ℕ → ℕ
+new_forking n lines m self_parent = cond (makes_fork (line_at lines m) self_parent) (stake_of n m) 0
+
 -- the lines once m has made row x on this self-parent
 abbrev pub lengthened : List Line → ℕ → Option ℕ → ℕ → List Line
 lengthened lines m self_parent x = slice_set lines m (next_line (line_at lines m) self_parent x)
@@ -56,9 +61,12 @@ IsLineOf L m Empty = (x : ℕ) → x < length L → creator L x ≢ m
 IsLineOf L m (Ends last) = IsLast L m last
 IsLineOf L m (Forked a b) = IsForkOf L m a b
 
--- a line for each member of a shaped graph, and how many members have a fork
-pub record KeepsLines (L : List Link) (lines : List Line) (forking : ℕ) : Type 0 where
-  pub few : length lines < 2 ^ 32
-  pub shaped : IsShaped (length lines) L
-  pub matches : (m : ℕ) → m < length lines → IsLineOf L m (line_at lines m)
-  pub count : forking ≡ forkers (length lines) L
+-- a line for each member of a shaped graph, how many members have a fork, and the stake of these
+pub record KeepsLines (n : Stakes) (L : List Link) (lines : List Line) (forks weight : ℕ) : Type 0 where
+  pub few : member_count n < 2 ^ 32
+  pub low : total n ≤ 2 ^ 39
+  pub long : length lines ≡ member_count n
+  pub shaped : IsShaped n L
+  pub matches : (m : ℕ) → m < member_count n → IsLineOf L m (line_at lines m)
+  pub count : forks ≡ forkers n L
+  pub stake : weight ≡ forking n L

@@ -2,7 +2,7 @@
 use Rattle.std.specs.Prelude.{ℕ, ◌≡◌, List, [], ◌∷◌, ◌++◌, length, map, Option}
 use Rattle.hg_model.specs.Stakes.{Stakes}
 use Rattle.hg_model.specs.Links.{Link, first_place}
-use Rattle.hg_model.specs.Forks.{is_fork, has_fork, forkers}
+use Rattle.hg_model.specs.Forks.{is_fork, has_fork, forkers, forking}
 use Rattle.hg_model.specs.Shape.{Shape, FitsLink, shape_of, place_list}
 
 -- the link of a row by this member on this self-parent, if it has one
@@ -29,6 +29,7 @@ pub record SelfLinksServe (n : Stakes) (L : List Link) : Type 0 where
   pub is_fork : (m a b : ℕ) → is_fork (self_links L) m a b ≡ is_fork L m a b
   pub has_fork : (m : ℕ) → has_fork (self_links L) m ≡ has_fork L m
   pub forkers : forkers n (self_links L) ≡ forkers n L
+  pub forking : forking n (self_links L) ≡ forking n L
 
 abbrev pub SelfLinksHaveForks : Type 0
 SelfLinksHaveForks = (n : Stakes) (L : List Link) → SelfLinksServe n L

@@ -1,5 +1,6 @@
 //! Which members have a fork, told as rows come one by one, in constant time for each row.
-//! The layer above uses that a `Watch` counts the `forkers` of the graph that it saw, also with one row more.
+//! The layer above uses that a `Watch` has the number and the stake of those members, `forkers` and `forking` of the graph that
+//! it saw, and the stake also with one row more.
 //! A member's rows stand in one line until a row stands on another than the last: that row and the last are a fork.
 //!
 //! From `would` and then `push` of the `EventGraph` of `hg_graph`, whose `watch` is a `Watch`, shortened:

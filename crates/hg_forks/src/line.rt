@@ -1,5 +1,5 @@
 ghost use Rattle.std.specs.Prelude.{◌≡◌, ◌<◌, length};
-ghost use Rattle.hg_forks.specs.Lines.{fork_in, line_at, makes_fork, new_forkers, next_line};
+ghost use Rattle.hg_forks.specs.Lines.{fork_in, line_at, makes_fork, new_forkers, new_forking, next_line};
 
 use hg_model::Member;
 
@@ -65,4 +65,17 @@ pub fn new_forkers(lines: &[Line], m: Member, self_parent: Option<usize>) -> u32
     ensures { result ≡ new_forkers lines.now m self_parent }
 {
     u32::from(makes_fork(line_at(lines, m), self_parent))
+}
+
+/// The member's stake where a row by it on this self-parent makes its first fork, else 0.
+pub fn new_forking(lines: &[Line], stakes: &[u32], m: Member, self_parent: Option<usize>) -> u64
+    requires line { m < length lines.now }
+    requires stake { m < length stakes.now }
+    ensures { result ≡ new_forking stakes.now lines.now m self_parent }
+{
+    if makes_fork(line_at(lines, m), self_parent) {
+        u64::from(stakes[usize::from(m)])
+    } else {
+        0
+    }
 }

@@ -1,11 +1,11 @@
-ghost use Rattle.std.specs.Prelude.{◌≡◌, ◌<◌, ◌≤◌, [], ◌∷◌, ◌++◌, Some, IfOk, OnOk};
+ghost use Rattle.std.specs.Prelude.{◌≡◌, ◌<◌, ◌≤◌, [], ◌∷◌, ◌++◌, length, Some, IfOk, OnOk};
 ghost use Rattle.hg_model.specs.Stakes.{member_count};
-ghost use Rattle.hg_model.specs.Forks.{forkers, has_fork};
+ghost use Rattle.hg_model.specs.Forks.{forkers, forking, has_fork};
 ghost use Rattle.hg_model.specs.Shape.{FitsLink, shape_of, with_link};
 ghost use Rattle.hg_forks.specs.SelfLinks.{self_link_of};
 ghost use Rattle.hg_forks.specs.Pairs.{IsForkPair};
 
-use crate::line::{Line, fork_in, line_at, new_forkers, next_line};
+use crate::line::{Line, fork_in, line_at, new_forkers, new_forking, next_line};
 use crate::self_row::SelfRow;
 use hg_model::{Member, Memory};
 use std::alloc::Global;
@@ -17,14 +17,18 @@ use std::marker::Model;
 pub struct Watch {
     /// The rows so far: what contracts speak of.
     rows: Vec<SelfRow>,
+    /// Each member's stake.
+    stakes: Vec<u32>,
     /// Each member's line.
     lines: Vec<Line>,
     /// How many of the lines are forked.
     forkers: u32,
+    /// The stake of the members whose lines are forked.
+    forking: u64,
 }
 
 impl Model for Watch {
-    ghost use Rattle.std.specs.Prelude.{length, vec_capacity, vec_len};
+    ghost use Rattle.std.specs.Prelude.{vec_capacity, vec_len};
     ghost use Rattle.hg_model.specs.Shape.{ShapeWithRoom, shape_of};
 
     ghost Value = { ShapeWithRoom };
@@ -32,29 +36,32 @@ impl Model for Watch {
     ghost use Rattle.hg_forks.specs.Kept.{room_after};
     ghost use Rattle.hg_forks.specs.Lines.{KeepsLines};
 
-    ghost view = { λ s. record { shape = shape_of (length s.lines.items) s.rows.items; room = room_after (vec_len s.rows) (vec_capacity s.rows) } };
+    ghost view = { λ s. record { shape = shape_of s.stakes.items s.rows.items; room = room_after (vec_len s.rows) (vec_capacity s.rows) } };
 
-    ghost invariant = { λ s. KeepsLines s.rows.items s.lines.items s.forkers };
+    ghost invariant = { λ s. KeepsLines s.stakes.items s.rows.items s.lines.items s.forkers s.forking };
 }
 
 impl Watch {
-    /// A graph of `n` members, without rows.
-    pub fn new(alloc: Global, n: u32) -> Result<Watch, Memory>
-        ensures { IfOk result (λ w. w.shape ≡ shape_of n []) }
+    /// A graph of at most 128 members with these stakes, without rows.
+    pub fn new(alloc: Global, stakes: &[u32]) -> Result<Watch, Memory>
+        requires { length stakes.now ≤ 128 }
+        ensures { IfOk result (λ w. w.shape ≡ shape_of stakes.now []) }
     {
         Ok(Watch {
             rows: Vec::new(alloc),
-            lines: vec![in alloc; Line::Empty; n as usize]?,
+            stakes: Vec::from_slice(alloc, stakes)?,
+            lines: vec![in alloc; Line::Empty; stakes.len()]?,
             forkers: 0,
+            forking: 0,
         })
     }
 
-    /// How many members have a fork once the member has made one row more, on this self-parent.
-    pub fn would(&self, creator: Member, self_parent: Option<usize>) -> u32
+    /// The stake of the members that have a fork once the member has made one row more, on this self-parent.
+    pub fn would(&self, creator: Member, self_parent: Option<usize>) -> u64
         requires { FitsLink self.now.shape.members self.now.shape.links (self_link_of creator self_parent) }
-        ensures { result ≡ forkers self.now.shape.members (self.now.shape.links ++ self_link_of creator self_parent ∷ []) }
+        ensures { result ≡ forking self.now.shape.members (self.now.shape.links ++ self_link_of creator self_parent ∷ []) }
     {
-        self.forkers + new_forkers(&self.lines, creator, self_parent)
+        self.forking + new_forking(&self.lines, &self.stakes, creator, self_parent)
     }
 
     /// Takes the memory of one more row. There is none for more than 2^32 - 1 rows.
@@ -76,6 +83,7 @@ impl Watch {
         ensures { self.new.shape ≡ with_link self.old.shape (self_link_of creator self_parent) }
     {
         self.forkers += new_forkers(&self.lines, creator, self_parent);
+        self.forking += new_forking(&self.lines, &self.stakes, creator, self_parent);
         let line = next_line(line_at(&self.lines, creator), self_parent, self.rows.len());
         self.lines[usize::from(creator)] = line;
         self.rows.push_reserved(SelfRow::of(creator, self_parent));
@@ -86,6 +94,13 @@ impl Watch {
         ensures { result ≡ forkers self.now.shape.members self.now.shape.links }
     {
         self.forkers
+    }
+
+    /// The stake of the members that have a fork.
+    pub fn forking(&self) -> u64
+        ensures { result ≡ forking self.now.shape.members self.now.shape.links }
+    {
+        self.forking
     }
 
     /// Two rows that are a fork by the member, the later one second; none exactly where it has no fork.

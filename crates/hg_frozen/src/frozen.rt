@@ -1,4 +1,4 @@
-ghost use Rattle.std.specs.Prelude.{◌≡◌, ◌<◌, ℕ, length, refl};
+ghost use Rattle.std.specs.Prelude.{◌≡◌, ◌<◌, length, refl};
 ghost use Rattle.hg_blocks.specs.Joined.{IsSplit, joined};
 ghost use Rattle.hg_model.specs.Links.{links};
 ghost use Rattle.hg_model.specs.Prefix.{graph_of};
@@ -8,7 +8,7 @@ ghost use Rattle.hg_model.specs.GraphWords.{standings_in, shape_in};
 
 use crate::shared::{RowBlock, RowTail, SharedEvent};
 use hg_blocks::Blocks;
-use hg_model::{Member, Prefix, Rounds, Row, Sight};
+use hg_model::{Counts, Member, Prefix, Rounds, Row, Sight};
 use std::marker::Model;
 use std::sync::Arc;
 
@@ -22,11 +22,12 @@ pub struct Frozen<S: Sight, R: Rounds> {
 }
 
 impl<S: Sight, R: Rounds> Model for Frozen<S, R> {
-    ghost use Rattle.hg_model.specs.Prefix.{Graph, IsOfGraph, graph_of};
+    ghost use Rattle.hg_model.specs.Prefix.{IsOfGraph, graph_of};
+    ghost use Rattle.hg_frozen.specs.View.{FrozenView};
 
-    ghost Value = { Graph };
+    ghost Value = { FrozenView };
 
-    ghost view = { λ s. graph_of (S.shape s.sight).members s.coin s.rows.items };
+    ghost view = { λ s. record { graph = graph_of (S.shape s.sight).members s.coin s.rows.items; sealed = s.rows.sealed; tail = s.rows.tail } };
 
     ghost invariant = { λ s. IsOfGraph (S.shape s.sight) (R.standings s.rounds) (graph_of (S.shape s.sight).members s.coin s.rows.items) };
 }
@@ -44,7 +45,9 @@ impl<S: Sight, R: Rounds> Frozen<S, R> {
         requires sight { S.shape sight ≡ shape_of (S.shape sight).members (links (joined blocks.items tail)) }
         requires rounds { R.standings rounds ≡ standings_of (S.shape sight).members (links (joined blocks.items tail)) }
         requires coin { 2 < coin }
-        ensures { result ≡ graph_of (S.shape sight).members coin (joined blocks.items tail) }
+        ensures graph { result.graph ≡ graph_of (S.shape sight).members coin (joined blocks.items tail) }
+        ensures sealed { result.sealed ≡ length blocks.items }
+        ensures tail { result.tail ≡ length tail }
     {
         let len = sight.rows();
         Frozen {
@@ -57,28 +60,30 @@ impl<S: Sight, R: Rounds> Frozen<S, R> {
 
     /// How many rows there are.
     pub fn len(&self) -> usize
-        ensures { result ≡ length self.now.rows }
+        ensures { result ≡ length self.now.graph.rows }
     {
         self.rows.len()
     }
 
     /// How many blocks of 64 rows are shared.
     pub fn sealed(&self) -> usize
-        ensures { (tail : ℕ) × IsSplit (length self.now.rows) result tail }
+        ensures value { result ≡ self.now.sealed }
+        ensures split { IsSplit (length self.now.graph.rows) self.now.sealed self.now.tail }
     {
         self.rows.sealed()
     }
 
     /// How many rows stand behind those blocks.
     pub fn tail_len(&self) -> usize
-        ensures { (sealed : ℕ) × IsSplit (length self.now.rows) sealed result }
+        ensures value { result ≡ self.now.tail }
+        ensures split { IsSplit (length self.now.graph.rows) self.now.sealed self.now.tail }
     {
         self.rows.tail_len()
     }
 }
 
 impl<S: Sight, R: Rounds> Sight for Frozen<S, R> {
-    ghost shape = { λ g. shape_in g };
+    ghost shape = { λ f. shape_in f.graph };
 
     fn rows(&self) -> usize {
         self.sight.rows()
@@ -86,6 +91,18 @@ impl<S: Sight, R: Rounds> Sight for Frozen<S, R> {
 
     fn members(&self) -> u32 {
         self.sight.members()
+    }
+
+    fn stake(&self, member: Member) -> u32 {
+        self.sight.stake(member)
+    }
+
+    fn total(&self) -> u64 {
+        self.sight.total()
+    }
+
+    fn even(&self) -> Option<u32> {
+        self.sight.even()
     }
 
     fn creator(&self, x: usize) -> Member {
@@ -108,13 +125,13 @@ impl<S: Sight, R: Rounds> Sight for Frozen<S, R> {
         self.sight.strongly_sees(x, y)
     }
 
-    fn counts(&self, x: usize) -> Option<&[u16]> {
+    fn counts(&self, x: usize) -> Option<Counts<'_>> {
         self.sight.counts(x)
     }
 }
 
 impl<S: Sight, R: Rounds> Rounds for Frozen<S, R> {
-    ghost standings = { λ g. standings_in (shape_in g) };
+    ghost standings = { λ f. standings_in (shape_in f.graph) };
 
     fn round(&self, x: usize) -> u32 {
         self.rounds.round(x)
@@ -134,11 +151,11 @@ impl<S: Sight, R: Rounds> Rounds for Frozen<S, R> {
 }
 
 impl<S: Sight, R: Rounds> Prefix for Frozen<S, R> {
-    ghost graph = { λ g. g };
+    ghost graph = { λ f. f.graph };
 
-    ghost sees_graph = { λ g. refl };
+    ghost sees_graph = { λ f. refl };
 
-    ghost has_rounds = { λ g. refl };
+    ghost has_rounds = { λ f. refl };
 
     fn row(&self, x: usize) -> &Row {
         self.rows[x].row()

@@ -8,7 +8,8 @@
 //! ```text
 //! pub fn prefix(&self, len: usize) -> Result<FrozenGraph, Memory>
 //!     requires { len ≤ length self.now.graph.rows }
-//!     ensures { IfOk result (λ frozen. frozen ≡ first_graph self.now.graph len) }
+//!     ensures graph { IfOk result (λ frozen. frozen.graph ≡ first_graph self.now.graph len) }
+//!     ensures sealed { IfOk result (λ frozen. frozen.sealed ≡ (len - 1) / 64) }
 //! {
 //!     let (blocks, tail) = self.store.prefix(len)?.into_parts();
 //!     Ok(Frozen::of(

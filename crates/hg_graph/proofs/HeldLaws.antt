@@ -1,5 +1,5 @@
 -- What a graph keeps beside its rows, at first and with a row more
-use Rattle.std.proofs.Common.{◌≡◌, inl, inr, ℕ, ◌+◌, ◌-◌, ◌<◌, ◌≤◌, Option, List, [], ◌∷◌, ◌++◌, length, map, take, get_or, Bool, Some, slice_get, sym, refl, ap, ◌∙◌, ap₂, subst, arith, zero-add}
+use Rattle.std.proofs.Common.{◌≡◌, inl, inr, ℕ, ◌+◌, ◌-◌, ◌^◌, ◌<◌, ◌≤◌, Option, List, [], ◌∷◌, ◌++◌, length, map, take, get_or, Bool, Some, slice_get, sym, refl, ap, ◌∙◌, ap₂, subst, arith, zero-add}
 use Rattle.std.proofs.lemmas.Bool.{cases_lt, true≢false}
 use Rattle.std.specs.List.{range_with_len}
 use Rattle.std.proofs.lemmas.List.{length_push, get_or_push, length-take-le, ext_get_or}
@@ -9,7 +9,7 @@ use Rattle.hg_model.specs.declared.row.Row.{Row}
 use Rattle.hg_model.specs.Places.{some_below}
 use Rattle.hg_model.specs.Stakes.{Stakes, member_count, stake_of, total}
 use Rattle.hg_model.specs.Links.{Link, place_of, link_in, links, first_place, parents as parents_at}
-use Rattle.hg_model.specs.Forks.{has_fork, forkers, forking}
+use Rattle.hg_model.specs.Forks.{has_fork, forking}
 use Rattle.hg_model.specs.Graph.{IsShaped, IsGraph}
 use Rattle.hg_model.specs.Shape.{Shape, FitsLink, first_links, shape_of, link_of, place_list, with_link}
 use Rattle.hg_model.specs.Standings.{Standing, standing_of, standings_of}
@@ -84,13 +84,13 @@ self_push : (n : Stakes) (L : List Link) (m : ℕ) (parents : List ℕ) (self_pl
 self_push n L m parents self_place is =
     ap (λ (ps : List ℕ). self_links L ++ record { creator = m; parents = ps } ∷ []) is ∙ sym ((self_links_serve n L).push (link_of m parents))
 
-pub self_forkers : (n : Stakes) (L : List Link) (m : ℕ) (parents : List ℕ) (self_place : Option ℕ) → place_list self_place ≡ first_place parents → forkers n (self_links L ++ self_link_of m self_place ∷ []) ≡ forkers n (L ++ link_of m parents ∷ [])
-self_forkers n L m parents self_place is = ap (forkers n) (self_push n L m parents self_place is) ∙ (self_links_serve n (L ++ link_of m parents ∷ [])).forkers
+pub self_forking : (n : Stakes) (L : List Link) (m : ℕ) (parents : List ℕ) (self_place : Option ℕ) → place_list self_place ≡ first_place parents → forking n (self_links L ++ self_link_of m self_place ∷ []) ≡ forking n (L ++ link_of m parents ∷ [])
+self_forking n L m parents self_place is = ap (forking n) (self_push n L m parents self_place is) ∙ (self_links_serve n (L ++ link_of m parents ∷ [])).forking
 
 -- what a row needs, and does, that may come into a graph with these parents; it is read of a shared event
 pub record Comes (g : Graph) (row shared : Row) (parents : List ℕ) (sight watched : Shape) : Type 0 where
   pub fits : FitsLink sight.members sight.links (link_of row.creator parents)
-  pub short : length sight.links + 1 < 65535
+  pub short : length sight.links + 1 < 2 ^ 32 - 1
   pub self_fits : (self_place : Option ℕ) → place_list self_place ≡ first_place parents → FitsLink watched.members watched.links (self_link_of row.creator self_place)
   pub fresh : place_of g.rows shared.name ≡ length g.rows
   pub last : (after : Shape) → after ≡ with_link sight (link_of row.creator parents) → parents ≡ last_parents after

@@ -1,6 +1,7 @@
-ghost use Rattle.std.specs.Prelude.{◌≡◌, ◌<◌, ◌≤◌, ◌++◌, ◌∷◌, [], Some, length, option_map, slice_get, IfOk, IfSome, OnOk, refl};
+ghost use Rattle.std.specs.Prelude.{◌≡◌, ◌<◌, ◌≤◌, ◌-◌, ◌/◌, ◌++◌, ◌∷◌, [], Some, length, option_map, slice_get, IfOk, IfSome, OnOk, refl};
+ghost use Rattle.hg_model.specs.Stakes.{total};
 ghost use Rattle.hg_model.specs.Links.{link_in, links};
-ghost use Rattle.hg_model.specs.Forks.{forkers};
+ghost use Rattle.hg_model.specs.Forks.{forkers, forking};
 ghost use Rattle.hg_model.specs.Graph.{IsGraph};
 ghost use Rattle.hg_model.specs.Shape.{FitsLink, link_of};
 ghost use Rattle.hg_life.specs.Spelling.{spelling};
@@ -15,7 +16,7 @@ use hg_branches::BranchSight;
 use hg_event::Event;
 use hg_forks::Watch;
 use hg_frozen::Frozen;
-use hg_model::{Growing, Member, Memory, Name, Parents, Prefix, Rounds, Row, Sight};
+use hg_model::{Counts, Growing, Member, Memory, Name, Parents, Prefix, Rounds, Row, Sight};
 use hg_rounds::{RoundTable, place_round};
 use std::alloc::Global;
 use std::marker::Model;
@@ -27,10 +28,9 @@ type NodeSight = BranchSight;
 /// The first rows of a node's graph, as a value of its own: what workers read.
 pub type FrozenGraph = Frozen<NodeSight, RoundTable>;
 
-/// A node's graph. Of its members fewer than a third have a fork, and each row is an event.
+/// A node's graph. Those of its members that have a fork have less than a third of the stake, and each row is an event.
 #[derive(Drop)]
 pub struct EventGraph {
-    members: u32,
     coin: u32,
     store: RowStore,
     sight: NodeSight,
@@ -46,25 +46,24 @@ impl Model for EventGraph {
 
     ghost Value = { GraphWithRoom };
 
-    ghost view = { λ s. record { graph = graph_of s.members s.coin s.store.rows; room = min s.store.room (least_of s.sight.room s.watch.room s.rounds.room) } };
+    ghost view = { λ s. record { graph = graph_of s.sight.shape.members s.coin s.store.rows; room = min s.store.room (least_of s.sight.room s.watch.room s.rounds.room) } };
 
-    ghost invariant = { λ s. KeepsGraph (graph_of s.members s.coin s.store.rows) s.sight.shape s.watch.shape s.rounds.standings };
+    ghost invariant = { λ s. KeepsGraph (graph_of s.sight.shape.members s.coin s.store.rows) s.sight.shape s.watch.shape s.rounds.standings };
 }
 
 impl EventGraph {
-    /// The graph of no rows by so many members, with a coin period in rounds.
-    pub fn new(alloc: Global, members: u32, coin: u32) -> Result<EventGraph, Memory>
-        requires some { 0 < members }
-        requires few { members ≤ 128 }
+    /// The graph of no rows by members with these stakes, at most 128, with a coin period in rounds.
+    pub fn new(alloc: Global, stakes: &[u32], coin: u32) -> Result<EventGraph, Memory>
+        requires some { 0 < total stakes.now }
+        requires few { length stakes.now ≤ 128 }
         requires coin { 2 < coin }
-        ensures { IfOk result (λ g. g.graph ≡ graph_of members coin []) }
+        ensures { IfOk result (λ g. g.graph ≡ graph_of stakes.now coin []) }
     {
         Ok(EventGraph {
-            members,
             coin,
             store: RowStore::new(alloc),
-            sight: NodeSight::new(alloc, members)?,
-            watch: Watch::new(alloc, members)?,
+            sight: NodeSight::new(alloc, stakes)?,
+            watch: Watch::new(alloc, stakes)?,
             rounds: RoundTable::new(alloc)?,
         })
     }
@@ -123,10 +122,10 @@ impl EventGraph {
         Some(end - 1)
     }
 
-    /// How many members have a fork once the member has made one row more, on these parents.
-    pub fn would(&self, creator: Member, parents: Parents) -> u32
+    /// The stake of the members that have a fork once the member has made one row more, on these parents.
+    pub fn would(&self, creator: Member, parents: Parents) -> u64
         requires { FitsLink self.now.graph.members (links self.now.graph.rows) (link_of creator parents) }
-        ensures { result ≡ forkers self.now.graph.members (links self.now.graph.rows ++ link_of creator parents ∷ []) }
+        ensures { result ≡ forking self.now.graph.members (links self.now.graph.rows ++ link_of creator parents ∷ []) }
     {
         self.watch.would(creator, parents.self_parent())
     }
@@ -136,6 +135,13 @@ impl EventGraph {
         ensures { result ≡ forkers self.now.graph.members (links self.now.graph.rows) }
     {
         self.watch.forkers()
+    }
+
+    /// The stake of the members that have a fork.
+    pub fn forking(&self) -> u64
+        ensures { result ≡ forking self.now.graph.members (links self.now.graph.rows) }
+    {
+        self.watch.forking()
     }
 
     /// Takes the memory of one more row.
@@ -170,7 +176,8 @@ impl EventGraph {
     /// The first `len` rows as a value of its own, with their sight and their rounds.
     pub fn prefix(&self, len: usize) -> Result<FrozenGraph, Memory>
         requires { len ≤ length self.now.graph.rows }
-        ensures { IfOk result (λ frozen. frozen ≡ first_graph self.now.graph len) }
+        ensures graph { IfOk result (λ frozen. frozen.graph ≡ first_graph self.now.graph len) }
+        ensures sealed { IfOk result (λ frozen. frozen.sealed ≡ (len - 1) / 64) }
     {
         let (blocks, tail) = self.store.prefix(len)?.into_parts();
         Ok(Frozen::of(
@@ -184,7 +191,7 @@ impl EventGraph {
 
     /// The same rows as a value of its own.
     pub fn freeze(&self) -> Result<FrozenGraph, Memory>
-        ensures { IfOk result (λ frozen. frozen ≡ self.now.graph) }
+        ensures { IfOk result (λ frozen. frozen.graph ≡ self.now.graph) }
     {
         self.prefix(self.store.len())
     }
@@ -210,6 +217,18 @@ impl Sight for EventGraph {
         self.sight.members()
     }
 
+    fn stake(&self, member: Member) -> u32 {
+        self.sight.stake(member)
+    }
+
+    fn total(&self) -> u64 {
+        self.sight.total()
+    }
+
+    fn even(&self) -> Option<u32> {
+        self.sight.even()
+    }
+
     fn creator(&self, x: usize) -> Member {
         self.sight.creator(x)
     }
@@ -230,7 +249,7 @@ impl Sight for EventGraph {
         self.sight.strongly_sees(x, y)
     }
 
-    fn counts(&self, x: usize) -> Option<&[u16]> {
+    fn counts(&self, x: usize) -> Option<Counts<'_>> {
         self.sight.counts(x)
     }
 }

@@ -1,4 +1,4 @@
-ghost use Rattle.std.specs.Prelude.{◌≡◌, ◌<◌, ◌≤◌, ◌++◌, ◌∷◌, [], Some, length, option_map, slice_get, take, IfOk, OnOk};
+ghost use Rattle.std.specs.Prelude.{◌≡◌, ◌<◌, ◌≤◌, ◌-◌, ◌/◌, ◌++◌, ◌∷◌, [], Some, length, option_map, slice_get, take, IfOk, OnOk};
 ghost use Rattle.hg_model.specs.Links.{place_of};
 ghost use Rattle.hg_life.specs.Spelling.{spelling};
 ghost use Rattle.hg_graph.specs.RowsWithRoom.{found_place};
@@ -103,7 +103,8 @@ impl RowStore {
     /// The first `len` rows, as a value of its own: it shares the sealed blocks, and points to at most 64 events more.
     pub fn prefix(&self, len: usize) -> Result<Blocks<SharedEvent>, Memory>
         requires { len ≤ length self.now.rows }
-        ensures { IfOk result (λ first. first.items ≡ take len self.now.rows) }
+        ensures rows { IfOk result (λ first. first.items ≡ take len self.now.rows) }
+        ensures sealed { IfOk result (λ first. first.sealed ≡ (len - 1) / 64) }
     {
         self.events.cloned_prefix(len)
     }

@@ -16,8 +16,8 @@ use Rattle.hg_model.proofs.ShapeLaws.{shaped-shorter}
 use Rattle.hg_model.proofs.PushLaws.{nobody}
 use Rattle.hg_history.specs.Laws.{FirstRowsAreAGraph}
 
-fork_of_front : (n m : ℕ) (L M : List Link) → IsLonger L M → has_fork L m ≡ true → has_fork M m ≡ true
-fork_of_front n m L M longer forks =
+fork_of_front : (m : ℕ) (L M : List Link) → IsLonger L M → has_fork L m ≡ true → has_fork M m ≡ true
+fork_of_front m L M longer forks =
     let f = has_fork_found L m forks in
     let a : ℕ = f.0 in
     let b : ℕ = f.1 in
@@ -49,7 +49,7 @@ module _ (n : Stakes) (G more : List Row) (u : IsGraph n (G ++ more)) where
           u.distinct.one x y (omega arith) (omega arith) (ap name_in (slice_get-append G more nobody x hx) ∙ (same ∙ sym (ap name_in (slice_get-append G more nobody y hy))));
     };
     shaped = shaped-shorter n (links G) (links (G ++ more)) longer u.shaped;
-    few_forkers = omega (arith, u.few_forkers, weight_below-le (stake_of n) (member_count n) (has_fork (links G)) (has_fork (links (G ++ more))) (λ m inside forks. fork_of_front n m (links G) (links (G ++ more)) longer forks));
+    few_forkers = omega (arith, u.few_forkers, weight_below-le (stake_of n) (member_count n) (has_fork (links G)) (has_fork (links (G ++ more))) (λ m inside forks. fork_of_front m (links G) (links (G ++ more)) longer forks));
   }
 
 -- a length past the end gives all rows

@@ -5,7 +5,7 @@ use Rattle.hg_model.specs.declared.row.Row.{Row}
 use Rattle.hg_life.specs.declared.answers.MakeAnswer.{MakeAnswer}
 use Rattle.hg_life.specs.declared.answers.MakeAnswer.TheVariants as answer
 use Rattle.hg_model.specs.Links.{ParentNames, parent_names, place_of}
-use Rattle.hg_model.specs.Stakes.{member_count}
+use Rattle.hg_model.specs.Stakes.{Stakes, member_count}
 use Rattle.hg_model.specs.Fits.{AreHeld}
 use Rattle.hg_life.specs.Spelling.{body_of, spelling, Spells}
 use Rattle.hg_life.specs.Verdict.{last_name, parents_on, made_row, making}
@@ -31,7 +31,7 @@ parent_sizes : (G : List Row) (parents : ParentNames) → HasNameSizes 48 G → 
 parent_sizes G None sizes held = tt
 parent_sizes G (Some names) sizes held = (held_size G names.0 sizes held.0, held_size G names.1 sizes held.1.0)
 
-made_spells : (n own : ℕ) (G : List Row) (others : List (List ℕ)) (time : ℕ) (payload sig : List ℕ) → own < 2 ^ 16 → time < 2 ^ 64 → length sig ≡ 64 → HasNameSizes 48 G →
+made_spells : (n : Stakes) (own : ℕ) (G : List Row) (others : List (List ℕ)) (time : ℕ) (payload sig : List ℕ) → own < 2 ^ 16 → time < 2 ^ 64 → length sig ≡ 64 → HasNameSizes 48 G →
     Drafted n own G others payload → Spells (spelling (made_row own G others time payload sig)) (made_row own G others time payload sig)
 unfolding spelling body_of
 made_spells n own G others time payload sig small early sized sizes draft = record {

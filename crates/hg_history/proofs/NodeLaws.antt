@@ -27,7 +27,7 @@ one_share n c s none = record {
 }
 
 module _ (K : Type 0) (accepts : K → Accepts) (v : NodeView K) (node : IsNode accepts v) where
-  n : ℕ
+  n : Stakes
   n = v.start.members
 
   c : ℕ

@@ -42,7 +42,7 @@ fn fault_parts(fault: &Fault) -> (&[u8], Piece<'_>)
         Fault::MissingOther(name) => (b"missing-other ", Piece::Name(name)),
         Fault::SelfCreator(place) => (b"self-creator ", Piece::Number(*place as u64)),
         Fault::OtherCreator(place) => (b"other-creator ", Piece::Number(*place as u64)),
-        Fault::TooManyForkers(count) => (b"too-many-forkers ", Piece::Number(u64::from(*count))),
+        Fault::TooManyForkers(stake) => (b"too-many-forkers ", Piece::Number(*stake)),
         Fault::Full(limit) => (b"full ", Piece::Number(*limit as u64)),
     }
 }

@@ -3,3 +3,4 @@ pub mod KeepLaws
 pub mod PlaceLaws
 pub mod ByRowLaws
 pub mod CutLaws
+pub mod SeenLaws

@@ -1,17 +1,19 @@
 -- The round of the last row, from the standings of the rows before it
-use Rattle.std.proofs.Common.{◌≡◌, ℕ, ◌+◌, ◌-◌, ◌<◌, ◌≤◌, Bool, cond, ◌&&◌, eqb, ltb, ◌⊎◌, inl, inr, List, [], ◌∷◌, ◌++◌, length, take, count_by, refl, sym, ap, ◌∙◌, subst, arith}
+use Rattle.std.proofs.Common.{◌≡◌, ℕ, ◌+◌, ◌-◌, ◌<◌, ◌≤◌, Bool, cond, ◌&&◌, eqb, ltb, ◌⊎◌, inl, inr, List, [], ◌∷◌, ◌++◌, length, take, refl, sym, ap, ◌∙◌, subst, arith}
 use Rattle.std.specs.List.{list_all, AllByRecursion}
 use Rattle.std.proofs.lemmas.Bool.{cases_eq}
 use Rattle.std.proofs.lemmas.List.{length-take-le}
 use Rattle.hg_model.specs.Places.{list_below}
-use Rattle.hg_model.specs.Stakes.{Stakes, member_count, total}
+use Rattle.hg_model.specs.Stakes.{Stakes, total}
 use Rattle.hg_model.specs.Links.{Link, first_place, parents, self_parent}
 use Rattle.hg_model.specs.Seeing.{is_supermajority, strongly_sees}
-use Rattle.hg_model.specs.Rounds.{parent_round, is_seen_witness, round_of, is_witness, weight_of}
+use Rattle.hg_model.specs.Rounds.{parent_round, is_seen_witness, round_of, is_witness, stake_at, weight_of}
+use Rattle.hg_model.specs.Among.{weight_among}
 use Rattle.hg_model.specs.Graph.{IsShaped}
 use Rattle.hg_model.specs.Standings.{Standing, standings_of, round_at, witnesses_in, greatest_in}
-use Rattle.hg_model.proofs.PlacesLaws.{list_below-same, maximum_below_bounds, total-count}
-use Rattle.hg_model.proofs.ListLaws.{count_by-list_below, all_list_below}
+use Rattle.hg_model.proofs.PlacesLaws.{list_below-same, maximum_below_bounds}
+use Rattle.hg_model.proofs.ListLaws.{all_list_below}
+use Rattle.hg_model.proofs.StakeLaws.{weight_among-list_below}
 use Rattle.hg_model.proofs.LinkLaws.{parents_below}
 use Rattle.hg_model.proofs.RoundLaws.{greatest_round-same, greatest_round_found, list_all-same, round_of-at, round_of_cases, round_of-pos, round_of-le}
 use Rattle.hg_model.proofs.ShapeLaws.{shaped-take}
@@ -63,19 +65,20 @@ module _ (n : Stakes) (L : List Link) (shaped : IsShaped n L) (some : 0 < length
   witnesses_below r = subst (AllByRecursion (λ y. y < last)) (sym (witnesses_known r))
       (all_list_below (λ y. y < last) (λ x. x) last (λ x. is_witness n L x && eqb (round_of n L x) r) (λ k h t. h))
 
-  -- what those weigh that the last row strongly sees: each 1
-  pub seen_known : (r : ℕ) → count_by (strongly_sees n L last) (witnesses_in S r) ≡ weight_of n L last (is_seen_witness (round_of n L) n L r last)
+  -- what those weigh that the last row strongly sees
+  pub seen_known : (r : ℕ) → weight_among (stake_at n L) (strongly_sees n L last) (witnesses_in S r) ≡ weight_of n L last (is_seen_witness (round_of n L) n L r last)
   unfolding is_witness
-  seen_known r = ap (count_by (strongly_sees n L last)) (witnesses_known r) ∙ count_by-list_below (strongly_sees n L last) last (λ x. is_witness n L x && eqb (round_of n L x) r)
+  seen_known r =
+      ap (weight_among (stake_at n L) (strongly_sees n L last)) (witnesses_known r)
+      ∙ weight_among-list_below (stake_at n L) (strongly_sees n L last) last (λ x. is_witness n L x && eqb (round_of n L x) r)
 
   -- the round of the last row
-  pub last_round_known : (r seen : ℕ) (many : Bool) → r ≡ parent_round (round_at S) (parents L last) → seen ≡ count_by (strongly_sees n L last) (witnesses_in S r) →
-      many ≡ is_supermajority (member_count n) seen → cond many (r + 1) r ≡ round_of n L last
+  pub last_round_known : (r seen : ℕ) (many : Bool) → r ≡ parent_round (round_at S) (parents L last) → seen ≡ weight_among (stake_at n L) (strongly_sees n L last) (witnesses_in S r) →
+      many ≡ is_supermajority (total n) seen → cond many (r + 1) r ≡ round_of n L last
   last_round_known r seen many r_is seen_is many_is =
       let r_known : r ≡ parent_round (round_of n L) (parents L last) = r_is ∙ greatest_known in
-      let seen_count : seen ≡ weight_of n L last (is_seen_witness (round_of n L) n L r last) = seen_is ∙ seen_known r in
-      let over : many ≡ is_supermajority (total n) seen = many_is ∙ ap (λ all. is_supermajority all seen) (sym (total-count n)) in
-      sym (round_of-at n L shaped.earlier last ∙ rw (← r_known, ← seen_count, ← over) refl)
+      let weight : seen ≡ weight_of n L last (is_seen_witness (round_of n L) n L r last) = seen_is ∙ seen_known r in
+      sym (round_of-at n L shaped.earlier last ∙ rw (← r_known, ← weight, ← many_is) refl)
 
   last_round_fits : round_of n L last ≤ last + 1
   last_round_fits = round_of-le n L shaped.earlier last

@@ -3,7 +3,9 @@ use Rattle.std.specs.Prelude.{ℕ, ◌≡◌, ◌<◌, ◌≤◌, ◌+◌, ◌-�
 use Rattle.hg_model.specs.Links.{parents}
 use Rattle.hg_model.specs.Shape.{Shape, first_links}
 use Rattle.hg_model.specs.Standings.{Standing, round_at, witnesses_in, greatest_in}
-use Rattle.hg_model.specs.Rounds.{round_of, is_witness}
+use Rattle.hg_model.specs.Seeing.{strongly_sees}
+use Rattle.hg_model.specs.Rounds.{round_of, is_witness, stake_at}
+use Rattle.hg_model.specs.Among.{weight_among}
 
 -- the standings of the rows, and for how many more there is memory at least
 pub record Tabled : Type 0 where
@@ -20,6 +22,10 @@ last_place shape = length shape.links - 1
 -- the places of the parents of the graph's last row
 abbrev pub last_parents : Shape → List ℕ
 last_parents shape = parents shape.links (last_place shape)
+
+-- the weight of those of these rows that x strongly sees
+abbrev pub seen_weight : Shape → ℕ → List ℕ → ℕ
+seen_weight shape x rows = weight_among (stake_at shape.members shape.links) (strongly_sees shape.members shape.links x) rows
 
 -- the graph without its last row
 abbrev pub before_last : Shape → Shape

@@ -1,12 +1,12 @@
 -- A node among others, and what its calls make of it
-use Rattle.std.proofs.Common.{◌≡◌, ℕ, ◌<◌, true, List, length, get_or, Some, slice_get, subst}
+use Rattle.std.proofs.Common.{◌≡◌, ℕ, ◌<◌, List, length, get_or, Some, slice_get, subst}
 use Rattle.std.proofs.lemmas.Option.{slice_get-get_or}
-use Rattle.std.proofs.lemmas.Slice.Eq.{bytes_eq-Decides}
 use Rattle.hg_life.specs.declared.answers.MakeAnswer.{MakeAnswer}
 use Rattle.hg_life.specs.Signing.{accepts_by, signature_by}
 use Rattle.hg_life.specs.Calls.{IsMaking}
 use Rattle.hg_life.specs.NodeView.{NodeView}
 use Rattle.hg_node.proofs.OneLaws.{making_is_one}
+use Rattle.hg_sign.proofs.Secrets.{accepted_is_signature}
 use Rattle.hg_world.specs.World.{Secrets}
 use Rattle.hg_world.specs.Steps.{making_at, node_made}
 use Rattle.hg_world.specs.Parts.{no_node, nth_node}
@@ -18,12 +18,9 @@ node_here nodes m d inside =
     let b : slice_get nodes m ≡ Some (nth_node nodes m) = slice_get-get_or nodes m no_node inside in
     cc
 
-one_accepted : (secrets : Secrets) (m : ℕ) (body sig : List ℕ) → accepts_by secrets m body sig ≡ true → sig ≡ signature_by secrets m body
-one_accepted secrets m body sig is = (bytes_eq-Decides sig (signature_by secrets m body)).0 is
-
 -- an event is made under the one signature that is accepted
 pub makes : (v u w : NodeView Secrets) (others : List (List ℕ)) (time : ℕ) (payload : List ℕ) (a : MakeAnswer) → u ≡ v → IsMaking accepts_by u others time payload a w →
     (a ≡ making_at v others time payload) × (w ≡ node_made v others time payload)
 makes v u w others time payload a same is =
-    making_is_one Secrets accepts_by (signature_by v.start.keys) v w others time payload a (one_accepted v.start.keys)
+    making_is_one Secrets accepts_by (signature_by v.start.keys) v w others time payload a (accepted_is_signature v.start.keys)
     (subst (λ (x : NodeView Secrets). IsMaking accepts_by x others time payload a w) same is)

@@ -20,7 +20,7 @@ use crate::site::Site;
 use hg_event::Event;
 use hg_gossip::{Known, Taken, lacked, make_after, still_lacked, take_events};
 use hg_life::{MakeAnswer, Members, PutAnswer, SyncMade};
-use hg_model::{Member, Memory, Name, Prefix, Share, Sight};
+use hg_model::{Member, Memory, Name, Share};
 use hg_node::Node;
 use hg_sign::SharedTable;
 use std::alloc::Global;

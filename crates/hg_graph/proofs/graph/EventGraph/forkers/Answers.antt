@@ -10,5 +10,5 @@ pub returns : goal.returns
 returns c =
     c.forkers.ensures
     ∙ (ap (λ (s : Shape). forkers s.members s.links) c.self.invariant.forked
-    ∙ ((self_links_serve c.self.inside.members (links c.self.inside.store.rows)).forkers
+    ∙ ((self_links_serve c.self.inside.sight.shape.members (links c.self.inside.store.rows)).forkers
     ∙ ap (λ (v : GraphWithRoom). forkers v.graph.members (links v.graph.rows)) c.self.view_is))

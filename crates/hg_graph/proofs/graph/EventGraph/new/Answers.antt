@@ -1,9 +1,6 @@
-use Rattle.std.proofs.Common.{arith}
-use Rattle.hg_model.proofs.PlacesLaws.{total-count}
 use Rattle.hg_graph.proofs.HeldLaws.{keeps_none}
 use Rattle.hg_graph.proofs.graph.EventGraph.new.Goals as goal
 
 pub invariant_of-result : goal.invariant_of-result
 invariant_of-result c =
-    rw (c.new.ensures, c.in_ok-new.ensures, c.in_ok-new-2.ensures, c.in_ok-new-3.ensures)
-    (keeps_none c.args.members c.args.coin (omega (arith, total-count c.args.members, c.requires.some)) c.requires.few c.requires.coin)
+    rw (c.new.ensures, c.in_ok-new.ensures, c.in_ok-new-2.ensures, c.in_ok-new-3.ensures) (keeps_none c.args.stakes.now c.args.coin c.requires.some c.requires.few c.requires.coin)

@@ -1,6 +1,9 @@
-use Rattle.std.proofs.Common.{◌∙◌, ap, sym}
-use Rattle.hg_model.specs.Shape.{ShapeWithRoom}
+use Rattle.std.proofs.Common.{◌∙◌, ap, subst, sym}
+use Rattle.hg_model.specs.Stakes.{Stakes}
+use Rattle.hg_model.specs.Shape.{Shape, ShapeWithRoom}
+use Rattle.hg_model.specs.Prefix.{graph_of}
 use Rattle.hg_model.specs.GraphWords.{standings_in}
+use Rattle.hg_graph.specs.Held.{KeepsGraph}
 use Rattle.hg_graph.proofs.HeldLaws.{comes}
 use Rattle.hg_graph.proofs.graph.EventGraph.push.Goals as goal
 
@@ -32,5 +35,8 @@ push-requires-clause-new c =
 pub invariant_of-self : goal.invariant_of-self
 invariant_of-self c =
     let p = comes c.self.view_is c.self.invariant c.row.ensures.value c.deref.ensures c.args.parents c.requires.limit c.row.ensures.spelled c.requires.link c.requires.graph in
-    p.keeps c.self_parent.result c.self_parent.ensures c.push.new.self.rows c.keep_witness.new.sight.shape c.add.new.self.shape c.add-2.new.self.standings
-    c.push.ensures (ap (λ (s : ShapeWithRoom). s.shape) c.keep_witness.ensures ∙ c.extend.ensures) c.add.ensures (c.add-2.ensures ∙ c.place_round-round.ensures.whole ∙ ap (λ (s : ShapeWithRoom). standings_in s.shape) (sym c.keep_witness.ensures))
+    let after = ap (λ (s : ShapeWithRoom). s.shape) c.keep_witness.ensures ∙ c.extend.ensures in
+    let keeps = p.keeps c.self_parent.result c.self_parent.ensures c.push.new.self.rows c.keep_witness.new.sight.shape c.add.new.self.shape c.add-2.new.self.standings
+    c.push.ensures after c.add.ensures (c.add-2.ensures ∙ c.place_round-round.ensures.whole ∙ ap (λ (s : ShapeWithRoom). standings_in s.shape) (sym c.keep_witness.ensures)) in
+    subst (λ (n : Stakes). KeepsGraph (graph_of n c.self.inside.coin c.push.new.self.rows) c.keep_witness.new.sight.shape c.add.new.self.shape c.add-2.new.self.standings)
+    (ap (λ (s : Shape). s.members) (sym after)) keeps

@@ -16,6 +16,6 @@ pub invariant_of-result : goal.invariant_of-result
 invariant_of-result c =
     let rows = c.self.inside.rows.items in
     let le : c.args.len ≤ length rows = omega (arith, ap (λ (t : Tabled). length t.standings) c.self.view_is) in
-    rw (c.in_ok-prefix.ensures, c.in_ok-prefix-2.ensures)
+    rw (c.in_ok-prefix.ensures.items, c.in_ok-prefix-2.ensures.items)
     (table_first rows c.self.inside.tops.items c.self.inside.lists.items c.in_ok-first_lists.field-0.items _ _ _ c.args.len _ _ _ c.self.invariant le
     (c.greatest_first-greatest.ensures rows c.self.invariant.tops_kept) c.in_ok-first_lists.ensures.count (rw (← c.deref.ensures.value) c.in_ok-first_lists.ensures.each) c.new.ensures.items)
