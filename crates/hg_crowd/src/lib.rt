@@ -29,3 +29,5 @@ mod working;
 pub use laws::sessions_end;
 pub use party::Party;
 pub use sharing::{finish_all, start_all};
+pub use splitting::{absorb_all, split_all};
+pub use working::work_beside;

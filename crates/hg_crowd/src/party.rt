@@ -161,20 +161,22 @@ impl<'a, V: Signer + Drop> Party<'a, V> {
 
 impl<'a, V: Signer + Drop + Send> Party<'a, V> {
     /// So many workers beside each other, each of whom works one turn on every node, in order, for a share of its own. They
-    /// add marks alone.
+    /// add marks alone. All seats that they work with come back in these, also where memory runs out.
     pub fn work_beside<C: Crew + Sync, R: Threads + Wait + Sync>(
-        &mut self,
+        self,
         rt: &R,
         alloc: Global,
         workers: u32,
         crew: &C,
-    ) -> Result<(), Memory>
-        requires parts { All (HasMore workers) self.old.seats }
+    ) -> (Party<'a, V>, Result<(), Memory>)
+        requires parts { All (HasMore workers) self.seats }
         requires workers { 0 < workers }
-        ensures places { self.new.places ≡ self.old.places }
-        ensures worked { Each Worked self.old.seats self.new.seats }
-        ensures marked { OnOk result (AllMark self.old.places whole self.old.seats self.new.seats) }
+        ensures places { result.0.places ≡ self.entry.places }
+        ensures worked { Each Worked self.entry.seats result.0.seats }
+        ensures marked { OnOk result.1 (AllMark self.entry.places whole self.entry.seats result.0.seats) }
     {
-        work_beside(rt, alloc, self.shared, &mut self.seats, workers, crew)
+        let Party { shared, seats } = self;
+        let (seats, done) = work_beside(rt, alloc, shared, seats, workers, crew);
+        (Party { shared, seats }, done)
     }
 }

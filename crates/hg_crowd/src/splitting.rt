@@ -9,7 +9,7 @@ use hg_sign::Signer;
 use std::alloc::Global;
 
 /// A seat more of each node, split off the one that is there. Without memory none is split.
-pub(crate) fn split_all<V: Signer + Drop>(
+pub fn split_all<V: Signer + Drop>(
     alloc: Global,
     shared: &[Shared<V>],
     seats: &mut Vec<Seat<V>>,
@@ -31,7 +31,7 @@ pub(crate) fn split_all<V: Signer + Drop>(
 }
 
 /// Takes another seat of each node into the one that is there.
-pub(crate) fn absorb_all<V: Signer + Drop>(
+pub fn absorb_all<V: Signer + Drop>(
     shared: &[Shared<V>],
     seats: &mut Vec<Seat<V>>,
     mut others: Vec<Seat<V>>,

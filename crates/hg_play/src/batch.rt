@@ -1,65 +1,41 @@
 ghost use Rattle.std.specs.Prelude.{◌≡◌, ◌<◌, All, IfOk, length, take};
-ghost use Rattle.hg_crowd.specs.Crowd.{Each};
+ghost use Rattle.hg_life.specs.Signing.{accepts_by, secrets_of};
+ghost use Rattle.hg_crowd.specs.Crowd.{AreSeats, AreStill, Each};
 ghost use Rattle.hg_crowd.specs.Workers.{HasMore, Worked};
 ghost use Rattle.hg_world.specs.World.{new_world};
+ghost use Rattle.hg_gossip.specs.Known.{KeepsKnown};
+ghost use Rattle.hg_crowd.specs.Party.{party_view};
 ghost use Rattle.hg_play.specs.Batch.{AllAreMarked, IsBatch, IsLineOfRows, IsPlayed, MatchesBatch, PlaysNext};
+ghost use Rattle.hg_play.specs.Heard.{rows_seen};
 ghost use Rattle.hg_play.specs.Lines.{IsLineBelow};
-ghost use Rattle.hg_play.specs.Nodes.{IsKept};
-ghost use Rattle.hg_play.specs.Through.{PlaysShared, seen_shared};
+ghost use Rattle.hg_play.specs.Through.{AreNodes, PlaysThrough};
 
 use crate::band::Band;
 use crate::game::Game;
 use crate::lines::play_line;
 use crate::shared::SharedNodes;
 use crate::tape::Tape;
-use crate::through::play_parts;
-use hg_board::Crew;
-use hg_crowd::{Party, finish_all, start_all};
+use crate::through::play_through;
+use hg_board::{Crew, Seat};
+use hg_crowd::{Party, absorb_all, finish_all, split_all, start_all, work_beside};
+use hg_gossip::Known;
 use hg_io::Gate;
 use hg_model::Memory;
 use hg_script::{Action, Line};
 use hg_sign::SharedTable;
 use hg_world::World;
 use std::sync::Wait;
-use std::thread::{Threads, join_mut};
+use std::thread::{Threads, join};
 
-/// Plays the first batch of these lines through a seat of each node, beside so many workers who work one turn on every
-/// node, and tells how many lines it has.
-fn play_beside<R: Threads + Wait + Sync, C: Crew + Sync, G: Gate>(
-    game: &Game,
-    band: &Band<R, C, G>,
-    party: &mut Party<'_, SharedTable>,
-    nodes: &mut SharedNodes<'_, R>,
-    tape: &mut Tape,
-    lines: &[Line],
-) -> Result<usize, Memory>
-    requires parts { All (HasMore band.now.workers) party.old.seats }
-    requires lines { All (IsLineBelow (length nodes.old.seats)) lines.now }
-    ensures places { party.new.places ≡ party.old.places }
-    ensures worked { Each Worked party.old.seats party.new.seats }
-    ensures kept { IsKept (seen_shared nodes.old) (seen_shared nodes.new) }
-    ensures batch { IfOk result (IsBatch lines.now) }
-    ensures told { PlaysShared result game.now.members.now lines.now nodes.old tape.old nodes.new tape.new }
-{
-    let (rt, alloc) = (band.rt, game.alloc);
-    let (workers, crew, gate) = (band.workers, band.crew, band.gate);
-    // The second runs in the thread of the caller, as all lines do that stand in no batch.
-    let (_, played) = join_mut(
-        rt,
-        &mut || party.work_beside(rt, alloc, workers, crew),
-        &mut || play_parts(game, nodes, tape, lines, gate),
-    );
-    played
-}
-
-/// Plays the first batch of these lines over a world's nodes, and tells how many lines it has. The nodes are shared, and
-/// the lines are played through a seat of each, beside the workers. Once all seats have come back the workers work one turn
-/// more, so that all that the nodes' rows decide is marked, and the nodes are a world again. Without memory they are dropped.
-fn play_batch<R: Threads + Wait + Sync, C: Crew + Sync, G: Gate>(
+/// Plays the first batch of these lines over a world's nodes, and tells how many lines it has. The nodes are shared, one
+/// branch plays the lines through a seat of each, and beside it so many workers work one turn on every node. Once all seats
+/// have come back the workers work one turn more, so that all that the nodes' rows decide is marked, and the nodes are a
+/// world again. Without memory they are dropped.
+fn play_batch<R: Threads + Wait + Sync, C: Crew + Sync, G: Gate + Sync>(
     game: &Game,
     band: &Band<R, C, G>,
     world: World,
-    mut tape: Tape,
+    tape: Tape,
     lines: &[Line],
 ) -> Result<(World, Tape, usize), Memory>
     requires { All (IsLineBelow (length world.sites)) lines.now }
@@ -68,20 +44,47 @@ fn play_batch<R: Threads + Wait + Sync, C: Crew + Sync, G: Gate>(
     ensures batch { IfOk result (λ r. IsBatch lines.now r.2) }
     ensures told { IfOk result (λ r. MatchesBatch game.now.members.now (take r.2 lines.now) world tape r.0 r.1) }
 {
-    let (rt, alloc) = (band.rt, game.alloc);
+    let (rt, workers, crew, gate) = (band.rt, band.workers, band.crew, band.gate);
+    let (alloc, members, keys) = (game.alloc, game.members, game.keys);
     let (nodes, known) = world.into_parts();
-    let (shared, seats) = start_all(alloc, nodes)?;
-    let mut party = Party::new(shared.as_slice(), seats);
-    let own = party.split(alloc)?;
-    let mut nodes = SharedNodes::new(rt, alloc, own, known);
-    let played = play_beside(game, band, &mut party, &mut nodes, &mut tape, lines);
-    let (own, known) = nodes.into_parts();
-    party.absorb(own);
-    let done = party.work_beside(rt, alloc, band.workers, band.crew);
-    let seats = party.into_seats();
+    let (shared, mut seats) = start_all(alloc, nodes)?;
+    let own = split_all(alloc, shared.as_slice(), &mut seats)?;
+    let places = shared.as_slice();
+    // The second runs in the thread of the caller, as all lines do that stand in no batch.
+    let ((mut seats, _), (own, known, played)) = join(
+        rt,
+        move || -> (Vec<Seat<SharedTable>>, Result<(), Memory>)
+            requires seats { AreSeats accepts_by places.now seats.items }
+            requires parts { All (HasMore workers) seats.items }
+            requires some { 0 < workers }
+            ensures seats { AreSeats accepts_by places.entry.now result.0.items }
+            ensures worked { Each Worked seats.items result.0.items }
+        { work_beside(rt, alloc, places, seats, workers, crew) },
+        move || -> (Vec<Seat<SharedTable>>, Known, Result<(Tape, usize), Memory>)
+            requires seats { AreNodes places.now own.items }
+            requires known { KeepsKnown (rows_seen (party_view places.now own.items)) known }
+            requires lines { All (IsLineBelow (length own.items)) lines.now }
+            requires keys { keys.now ≡ secrets_of members.now }
+            ensures seats { AreSeats accepts_by places.entry.now result.0.items }
+            ensures still { AreStill own.items result.0.items }
+            ensures known { KeepsKnown (rows_seen (party_view places.entry.now result.0.items)) result.1 }
+            ensures batch { IfOk result.2 (λ r. IsBatch lines.entry.now r.1) }
+            ensures told { PlaysThrough result.2 members.entry.now lines.entry.now places.entry.now own.items tape result.0.items }
+        {
+            let game = Game {
+                alloc,
+                members,
+                keys,
+            };
+            let nodes = SharedNodes::new(rt, alloc, Party::new(places, own), known);
+            play_through(&game, nodes, tape, lines, gate)
+        },
+    );
+    absorb_all(places, &mut seats, own);
+    let (seats, done) = work_beside(rt, alloc, places, seats, workers, crew);
     let nodes = finish_all(rt, alloc, shared, seats)?;
     done?;
-    let count = played?;
+    let (tape, count) = played?;
     let Ok(world) = World::from_parts(alloc, nodes, known) else {
         return Err(Memory);
     };
@@ -89,7 +92,7 @@ fn play_batch<R: Threads + Wait + Sync, C: Crew + Sync, G: Gate>(
 }
 
 /// Plays the next batch, or the one line that stands in none, from a place on. Gives the place of the line after it.
-fn play_next<R: Threads + Wait + Sync, C: Crew + Sync, G: Gate>(
+fn play_next<R: Threads + Wait + Sync, C: Crew + Sync, G: Gate + Sync>(
     game: &Game,
     band: &Band<R, C, G>,
     mut world: World,
@@ -112,7 +115,7 @@ fn play_next<R: Threads + Wait + Sync, C: Crew + Sync, G: Gate>(
 }
 
 /// Plays the lines over the members' nodes in batches, beside workers. The nodes, and what the lines leave.
-pub(crate) fn play_batches<R: Threads + Wait + Sync, C: Crew + Sync, G: Gate>(
+pub(crate) fn play_batches<R: Threads + Wait + Sync, C: Crew + Sync, G: Gate + Sync>(
     game: &Game,
     band: &Band<R, C, G>,
     world: World,

@@ -1,12 +1,15 @@
 ghost use Rattle.std.specs.Prelude.{◌≡◌, ◌<◌, IfOk, length};
-ghost use Rattle.hg_play.specs.Heard.{KeepsNodes};
+ghost use Rattle.hg_crowd.specs.Party.{party_view};
+ghost use Rattle.hg_gossip.specs.Known.{KeepsKnown};
+ghost use Rattle.hg_play.specs.Heard.{KeepsNodes, rows_seen};
 ghost use Rattle.hg_play.specs.Nodes.{IsKept};
-ghost use Rattle.hg_play.specs.Through.{MatchesLastEvent, MatchesMade, MatchesPulled, seen_shared};
+ghost use Rattle.hg_play.specs.Through.{AreNodes, MatchesLastEvent, MatchesMade, MatchesPulled, seen_shared};
 
 use crate::handing::lacked;
 use crate::labels::bytes_of_event;
 use crate::nodes::Nodes;
 use crate::taking::{note, take};
+use hg_board::Seat;
 use hg_crowd::Party;
 use hg_event::Event;
 use hg_gossip::{Known, Taken, sync_made};
@@ -57,12 +60,13 @@ impl<'a, R: Wait> SharedNodes<'a, R> {
         }
     }
 
-    /// The nodes, as they are then, and what each has heard of each.
-    pub(crate) fn into_parts(self) -> (Party<'a, SharedTable>, Known)
-        ensures same { result.0 ≡ self.entry }
-        ensures known { KeepsNodes self.entry result.1 }
+    /// The seats, as they are then, and what each node has heard of each.
+    pub(crate) fn into_parts(self) -> (Vec<Seat<SharedTable>>, Known)
+        ensures same { result.0.items ≡ self.entry.seats }
+        ensures seats { AreNodes self.entry.places result.0.items }
+        ensures known { KeepsKnown (rows_seen (party_view self.entry.places result.0.items)) result.1 }
     {
-        (self.party, self.known)
+        (self.party.into_seats(), self.known)
     }
 
     /// The taker's node takes from the peer's the rows that it lacks. What of them it took and refused, and the name of the
