@@ -32,6 +32,7 @@ pub(crate) fn first_members(
 
 /// Publishes what the node's graph, frozen as it is, has found; tells how many were marked.
 fn publish_all(alloc: Global, node: &mut Node<MacTable>) -> Result<u32, Memory> {
+    node.is_node();
     let rows = node.rows();
     let frozen = node.freeze()?;
     let mut votes = VoteTable::new(alloc, &frozen)?;
@@ -87,8 +88,8 @@ fn carry_votes(
     all: &FrozenGraph,
     votes: &mut VoteTable,
 ) -> Result<(), Memory>
-    requires made { IsMadeFor votes.old six.now }
-    requires later { (table : Counting) → IsMadeFor table six.now → CarriesTo table all.now }
+    requires made { IsMadeFor votes.old six.now.graph }
+    requires later { (table : Counting) → IsMadeFor table six.now.graph → CarriesTo table all.now.graph }
 {
     let share = Share::new(0, 1);
     let early = elect_share(alloc, six, votes, share)?;
@@ -106,7 +107,7 @@ fn carry_to(
     six: &FrozenGraph,
     all: &FrozenGraph,
 ) -> Result<(), Memory>
-    requires { (table : Counting) → IsMadeFor table six.now → CarriesTo table all.now }
+    requires { (table : Counting) → IsMadeFor table six.now.graph → CarriesTo table all.now.graph }
 {
     let mut votes = VoteTable::new(alloc, six)?;
     carry_votes(rt, alloc, six, all, &mut votes)
@@ -119,7 +120,7 @@ fn carry_from(
     node: &Node<MacTable>,
     six: &FrozenGraph,
 ) -> Result<(), Memory>
-    requires { six.now ≡ first_graph (graph_in node.now) 6 }
+    requires { six.now.graph ≡ first_graph (graph_in node.now) 6 }
 {
     tables_last();
     let all = node.freeze()?;

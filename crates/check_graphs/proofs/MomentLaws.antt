@@ -6,16 +6,17 @@ use Rattle.hg_model.specs.Links.{Link, links}
 use Rattle.hg_model.specs.Prefix.{Graph}
 use Rattle.hg_model.specs.Prefix.{graph_of}
 use Rattle.hg_model.specs.Shares.{Speaks}
+use Rattle.hg_frozen.specs.View.{FrozenView}
 use Rattle.hg_life.specs.History.{Change}
 use Rattle.hg_life.specs.declared.answers.MakeAnswer.{MakeAnswer}
 use Rattle.hg_life.specs.Calls.{IsMaking, make_changes}
 use Rattle.hg_life.specs.NodeView.{NodeView, IsNode, node_rows, with_changes}
 use Rattle.hg_life.specs.Signing.{Accepts}
 use Rattle.hg_history.specs.Laws.{FoundLasts, LinksAreThoseOfTheRows}
-use Rattle.check_graphs.specs.Moments.{IsMomentOf}
+use Rattle.check_graphs.specs.Moments.{IsFrozenOf, IsMomentOf}
 
-pub speaks_later : {K : Type 0} (v w : NodeView K) (es : List Change) → w ≡ with_changes v es → FoundLasts → (gs : List Graph) → All (IsMomentOf v) gs → All (IsMomentOf w) gs
-speaks_later {K} v w es grown lasts gs all = subst (λ (s : NodeView K). All (IsMomentOf s) gs) (sym grown)
+pub speaks_later : {K : Type 0} (v w : NodeView K) (es : List Change) → w ≡ with_changes v es → FoundLasts → (fs : List FrozenView) → All (IsFrozenOf v) fs → All (IsFrozenOf w) fs
+speaks_later {K} v w es grown lasts fs all = subst (λ (s : NodeView K). All (IsFrozenOf s) fs) (sym grown)
     (λ k d lt len share found speaks. lasts v.start.members v.start.coin v.history es len share found (all k d lt len share found speaks))
 
 pub speaks_now : {K : Type 0} (accepts : K → Accepts) (v : NodeView K) (g : Graph) → IsNode accepts v → LinksAreThoseOfTheRows → g ≡ graph_of v.start.members v.start.coin (node_rows v) → IsMomentOf v g
@@ -27,14 +28,14 @@ speaks_now accepts v g node law same len share found speaks =
     subst (λ (L : List Link). Speaks n c G L len share found) (sym (law (accepts v.start.keys) n c v.start.own v.history node.coin node.history)) now
 
 pub speaks_after : {K R E : Type 0} (v w : NodeView K) (es : List Change) (r : Result R E) → OnOk r (w ≡ with_changes v es) → OnErr r (w ≡ v) → FoundLasts →
-    (gs : List Graph) → All (IsMomentOf v) gs → All (IsMomentOf w) gs
-speaks_after v w es (Ok x) ok err lasts gs all = speaks_later v w es ok lasts gs all
-speaks_after {K} v w es (Err e) ok err lasts gs all = subst (λ (s : NodeView K). All (IsMomentOf s) gs) (sym err) all
+    (fs : List FrozenView) → All (IsFrozenOf v) fs → All (IsFrozenOf w) fs
+speaks_after v w es (Ok x) ok err lasts fs all = speaks_later v w es ok lasts fs all
+speaks_after {K} v w es (Err e) ok err lasts fs all = subst (λ (s : NodeView K). All (IsFrozenOf s) fs) (sym err) all
 
 pub speaks_made : {K E : Type 0} (accepts : K → Accepts) (v w : NodeView K) (others : List (List ℕ)) (time : ℕ) (payload : List ℕ) (r : Result MakeAnswer E) →
-    IfOk r (λ answer. IsMaking accepts v others time payload answer w) → OnErr r (w ≡ v) → FoundLasts → (gs : List Graph) → All (IsMomentOf v) gs → All (IsMomentOf w) gs
-speaks_made accepts v w others time payload (Ok answer) ok err lasts gs all = speaks_later v w (make_changes v others time payload ok.sig) ok.grown lasts gs all
-speaks_made {K} accepts v w others time payload (Err e) ok err lasts gs all = subst (λ (s : NodeView K). All (IsMomentOf s) gs) (sym err) all
+    IfOk r (λ answer. IsMaking accepts v others time payload answer w) → OnErr r (w ≡ v) → FoundLasts → (fs : List FrozenView) → All (IsFrozenOf v) fs → All (IsFrozenOf w) fs
+speaks_made accepts v w others time payload (Ok answer) ok err lasts fs all = speaks_later v w (make_changes v others time payload ok.sig) ok.grown lasts fs all
+speaks_made {K} accepts v w others time payload (Err e) ok err lasts fs all = subst (λ (s : NodeView K). All (IsFrozenOf s) fs) (sym err) all
 
 pub all_pushed : {X : Type 0} (P : X → Type 0) (xs ys : List X) (x : X) (b : Bool) → ys ≡ (if b then xs ++ x ∷ [] else xs) → P x → All P xs → All P ys
 all_pushed P xs ys x true is one all = subst (All P) (sym is) (All-push P xs x all one)

@@ -40,21 +40,21 @@ fn finds_alike(
 }
 
 /// The same in a graph that ends here.
-fn finds_in(alloc: Global, graph: FrozenGraph, votes: &mut VoteTable) -> Result<bool, Memory>
-    requires { CarriesTo votes.old graph }
-    ensures { OnOk result (IsMadeFor votes.new graph) }
+fn finds_in(alloc: Global, frozen: FrozenGraph, votes: &mut VoteTable) -> Result<bool, Memory>
+    requires { CarriesTo votes.old frozen.graph }
+    ensures { OnOk result (IsMadeFor votes.new frozen.graph) }
 {
-    is_found_alike(alloc, &graph, votes)
+    is_found_alike(alloc, &frozen, votes)
 }
 
 /// Whether the table, carried to the graph, finds there what a new one finds.
-fn is_found_alike(alloc: Global, graph: &FrozenGraph, votes: &mut VoteTable) -> Result<bool, Memory>
-    requires { CarriesTo votes.old graph.now }
-    ensures { OnOk result (IsMadeFor votes.new graph.now) }
+fn is_found_alike(alloc: Global, frozen: &FrozenGraph, votes: &mut VoteTable) -> Result<bool, Memory>
+    requires { CarriesTo votes.old frozen.now.graph }
+    ensures { OnOk result (IsMadeFor votes.new frozen.now.graph) }
 {
     let all = Share::new(0, 1);
-    votes.carry(alloc, graph)?;
-    let carried = elect_share(alloc, graph, votes, all)?;
-    let anew = elect_in(alloc, graph, all)?;
+    votes.carry(alloc, frozen)?;
+    let carried = elect_share(alloc, frozen, votes, all)?;
+    let anew = elect_in(alloc, frozen, all)?;
     Ok(carried.marks.as_slice() == anew.marks.as_slice())
 }

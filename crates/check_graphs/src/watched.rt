@@ -1,6 +1,6 @@
 ghost use Rattle.std.specs.Prelude.{◌≡◌, All, IfOk};
 ghost use Rattle.hg_model.specs.GraphWords.{SpeaksOf};
-ghost use Rattle.check_graphs.specs.Moments.{IsMomentOf};
+ghost use Rattle.check_graphs.specs.Moments.{IsFrozenOf};
 
 use hg_fame::elect_share;
 use hg_graph::FrozenGraph;
@@ -26,7 +26,7 @@ pub struct Published {
 pub struct Watched<'a> {
     node: Node<&'a MacTable>,
     held: Vec<FrozenGraph>,
-    ghost moments: { All (IsMomentOf node) held.items },
+    ghost moments: { All (IsFrozenOf node) held.items },
 }
 
 impl<'a> Watched<'a> {
@@ -96,7 +96,7 @@ impl<'a> Watched<'a> {
 
 /// What the share finds in a held graph.
 pub fn elect_in(alloc: Global, held: &FrozenGraph, share: Share) -> Result<Found, Memory>
-    ensures { IfOk result (λ found. SpeaksOf held.now found) }
+    ensures { IfOk result (λ found. SpeaksOf held.now.graph found) }
 {
     let mut votes = VoteTable::new(alloc, held)?;
     elect_share(alloc, held, &mut votes, share)

@@ -40,10 +40,27 @@ impl Both {
         })
     }
 
-    /// Whether both answer alike for any two rows.
+    /// Whether the members have the same stakes in both.
+    fn weigh_alike(&self) -> bool {
+        let (sight, bits) = (&self.sight, &self.bits);
+        if sight.members() != bits.members()
+            || sight.total() != bits.total()
+            || sight.even() != bits.even()
+        {
+            return false;
+        }
+        for member in 0..sight.members() {
+            if sight.stake(member as Member) != bits.stake(member as Member) {
+                return false;
+            }
+        }
+        true
+    }
+
+    /// Whether both answer alike, of rows for any two.
     pub(crate) fn agree(&self) -> bool {
         let rows = self.sight.rows();
-        if self.bits.rows() != rows {
+        if self.bits.rows() != rows || !self.weigh_alike() {
             return false;
         }
         for x in 0..rows {

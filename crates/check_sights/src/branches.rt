@@ -1,7 +1,8 @@
 use crate::both::{Both, has_counts};
 use crate::forking::{has_both_branches, strongly_sees_by_stake, strongly_sees_two};
-use crate::growing::{FORKED, on};
+use crate::growing::{FORKED, Made, on};
 use crate::telling::equal;
+use hg_branches::BranchSight;
 use hg_model::{Member, Memory, Parents, Sight};
 use std::alloc::Global;
 
@@ -69,6 +70,51 @@ fn tells_what_bit_rows_tell(rt: HostRuntime) -> Result<(), Memory> {
         equal(&rt, every, tells_forked(rt.alloc(), every)?, [true; 4]);
         equal(&rt, every, tells_by_stake(rt.alloc(), every)?, [true; 3]);
     }
+    Ok(())
+}
+
+/// Three members, of whom the first weighs 3 of 5: two rows strongly see another by its rows and a second member's, which
+/// the first member's alone do not do.
+const THREE: [Made; 6] = [
+    (0, None),
+    (1, None),
+    (2, None),
+    (0, Some((0, 1))),
+    (1, Some((1, 3))),
+    (2, Some((2, 4))),
+];
+
+/// Adds these rows, and marks each.
+fn add_three(both: &mut Both) -> Result<bool, Memory> {
+    for (creator, pair) in &THREE {
+        if !both.add(on(*pair), *creator)? {
+            return Ok(false);
+        }
+        both.sight.mark_last();
+    }
+    Ok(true)
+}
+
+fn tells_three(sight: &BranchSight) -> bool {
+    sight.rows() == 6
+        && !sight.strongly_sees(3, 0)
+        && sight.strongly_sees(4, 0)
+        && sight.strongly_sees(3, 1)
+        && sight.strongly_sees(4, 1)
+        && sight.strongly_sees(5, 1)
+        && !sight.strongly_sees(5, 2)
+        && sight.total() == 5
+}
+
+#[test]
+fn weighs_three_of_five(rt: HostRuntime) -> Result<(), Memory> {
+    let mut both = Both::new(rt.alloc(), &[3, 1, 1])?;
+    let told = [
+        add_three(&mut both)?,
+        tells_three(&both.sight),
+        both.agree(),
+    ];
+    equal(&rt, 0, told, [true; 3]);
     Ok(())
 }
 

@@ -13,7 +13,7 @@ const GRAPHS: u32 = 50;
 /// And of how many rows.
 const ROWS: u32 = 72;
 
-/// What the members of every second graph weigh; of the others each weighs 1.
+/// What the members of every second graph weigh; of the others each weighs 7.
 const STAKES: [u32; 9] = [2, 7, 1, 8, 2, 8, 1, 8, 2];
 
 /// The next number of a linear congruence, of which the high bits are used.
@@ -71,7 +71,7 @@ fn play(both: &mut Both, number: u32, turns: u32) -> Result<(), Memory> {
 /// A made graph in both sights: how many rows they took, whether a row has a fork below it, and whether they agree.
 fn made(alloc: Global, number: u32) -> Result<(usize, bool, bool), Memory> {
     let members = (3 + number % 7) as usize;
-    let stakes = if number / 7 % 2 == 0 { [1; 9] } else { STAKES };
+    let stakes = if number / 7 % 2 == 0 { [7; 9] } else { STAKES };
     let mut both = Both::new(alloc, &stakes[..members])?;
     made_in(&mut both, number)
 }

@@ -10,7 +10,7 @@ use Rattle.hg_branches.specs.Landmarks.{HoldsLandmarks, HoldsTops, IsSpareLandma
 pub record HoldsBranchSight (s : Inside) : Type 0 where
   pub branches : HoldsBranches s.stakes s.links.items s.branches.items s.makers.items s.ends.items
   pub counts : HoldsCounts s.stakes s.links.items s.branches.items s.makers.items s.counts.rows
-  pub counts_members : s.counts.stakes ≡ member_count s.stakes
+  pub counts_members : s.counts.members ≡ member_count s.stakes
   pub forks : HoldsForks s.links.items s.forked.items
   pub landmarks : HoldsLandmarks s.stakes s.links.items s.branches.items s.makers.items s.landmarks.items s.newest.items s.numbers.items
   pub tops : HoldsTops s.landmarks.items s.tops.items

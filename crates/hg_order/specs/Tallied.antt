@@ -11,6 +11,8 @@ use Rattle.hg_order.specs.declared.tally.Tally.{Tally}
 use Rattle.hg_order.specs.declared.tally.Holder.{Holder}
 use Rattle.hg_model.specs.Links.{Link, creator, self_parent}
 use Rattle.hg_model.specs.Ancestry.{is_ancestor, is_self_ancestor}
+use Rattle.hg_model.specs.declared.counts.Counts.{Counts}
+use Rattle.hg_model.specs.Counts.{numbers_of}
 use Rattle.hg_model.specs.Shape.{Shape}
 use Rattle.hg_model.specs.Prefix.{Graph, links_of}
 use Rattle.hg_model.specs.Order.{median, time_at}
@@ -57,6 +59,10 @@ abbrev pub AreEnds : List Link → List ℕ → List ℕ → Type 0
 AreEnds L counts least =
     (m : ℕ) → 0 < min (slice_index counts m) (slice_index least m) → (slice_index counts m ≤ length L) × (creator L (min (slice_index counts m) (slice_index least m) - 1) ≡ m)
 
+-- of each member the lesser of these numbers is at most `top`
+abbrev pub ReachesTop : List ℕ → List ℕ → ℕ → Type 0
+ReachesTop counts least top = (m : ℕ) → min (slice_index counts m) (slice_index least m) ≤ top
+
 -- the tallies stand for the rows from `low` on: those of the rows that pass the test have one time more
 pub record AreTallied (low time : ℕ) (test : ℕ → Bool) (old new : List Tally) : Type 0 where
   pub each : (k : ℕ) → tally_at new k ≡ cond (test (low + k)) (tallied time (tally_at old k)) (tally_at old k)
@@ -74,6 +80,10 @@ pub record AreTalliedByAll (L : List Link) (least : List ℕ) (low : ℕ) (holde
 -- the rows that are not below the first number of their creator, and below both others, have one time more
 abbrev pub TalliesBetween : Shape → List ℕ → List ℕ → List ℕ → ℕ → ℕ → List Tally → List Tally → Type 0
 TalliesBetween s before counts least low time old new = AreTallied low time (is_between s.links before counts least) old new
+
+-- the same, where the numbers are counts of either width
+abbrev pub TalliesAt : Shape → Counts → Counts → List ℕ → ℕ → ℕ → List Tally → List Tally → Type 0
+TalliesAt s before counts least low time old new = TalliesBetween s (numbers_of before) (numbers_of counts) least low time old new
 
 -- if all ancestors are counted, these holders are tallied
 abbrev pub TalliesAll : Bool → Shape → List ℕ → ℕ → List Holder → List Tally → List Tally → Type 0

@@ -5,7 +5,7 @@ ghost use Rattle.hg_order.specs.Counted.{AreLines, JustBelow};
 ghost use Rattle.hg_order.specs.Tallied.{holder_cmp, holders_below, is_earlier, is_on_some_line};
 
 use crate::tally::Holder;
-use hg_model::{Prefix, Sight, is_of_graph};
+use hg_model::{Prefix, Sight, is_of_graph, is_shaped};
 use std::cmp::Ordering;
 
 /// Makes zeros the ends of the lines of these rows: for each creator one more than the place of the last of them. It
@@ -19,8 +19,7 @@ pub fn raise_ends<S: Sight>(sight: &S, places: &[usize], ends: &mut [usize]) -> 
     ensures within { (m : ℕ) → slice_index ends.new m ≤ result }
     ensures end { result ≤ length (S.shape sight.now).links }
 {
-    sight.rows();
-    sight.members();
+    is_shaped(sight);
     let mut last: usize = 0;
     for w in places {
         let member = sight.creator(*w) as usize;

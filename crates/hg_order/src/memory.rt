@@ -83,7 +83,7 @@ fn clear_tallies(tallies: &mut Vec<Tally>, count: usize, need: u32)
 fn find_times<S: Sight>(
     sight: &S,
     holders: &[Holder],
-    least: &[u16; 128],
+    least: &[u32; 128],
     low: usize,
     rows: usize,
     need: u16,
@@ -113,7 +113,7 @@ fn find_times<S: Sight>(
 pub fn count_times<P: Prefix>(
     p: &P,
     famous: &[usize],
-    least: &[u16; 128],
+    least: &[u32; 128],
     low: usize,
     holders: &mut Vec<Holder>,
     lanes: &mut Lanes,

@@ -1,11 +1,12 @@
-ghost use Rattle.std.specs.Prelude.{◌≡◌, ◌<◌, ◌≤◌, ◌+◌, ◌-◌, ◌^◌, ℕ, true, cond, nat_le, nat_lt, All, count_by, length, replicate, slice_index, vec_capacity, OnOk};
+ghost use Rattle.std.specs.Prelude.{◌≡◌, ◌<◌, ◌≤◌, ◌+◌, ◌-◌, ◌^◌, ℕ, true, cond, nat_le, nat_lt, All, count_by, length, replicate, slice_index, vec_capacity, IfSome, OnOk};
+ghost use Rattle.hg_model.specs.Counts.{CountsMembersIn};
 ghost use Rattle.hg_model.specs.Links.{self_parent};
 ghost use Rattle.hg_model.specs.Stakes.{member_count};
 ghost use Rattle.hg_order.specs.Tallied.{ReachAll};
 ghost use Rattle.hg_order.specs.Swept.{reached, parent_end, AdvancesLane, AdvancesLanes, AreClear, AreFew, AreFirsts, AreGained, AreLanesOver, AreLast, AreLinked, ArePast, FindsTimes, IsLaneFrom, IsSweptBySome, Sweeps};
 
 use crate::tally::{Holder, Tally};
-use hg_model::{Memory, Sight};
+use hg_model::{Counts, Memory, Sight, is_shaped};
 use std::alloc::Global;
 
 /// Of a member, one more than the place of the row whose time is to be found next, or 0 where none is left, and how
@@ -67,7 +68,7 @@ fn link_rows<S: Sight>(sight: &S, low: usize, tallies: &mut [Tally], next: &mut 
     ensures first { AreFirsts (S.shape sight.now).links low (low + length tallies.new) next.new }
     ensures long { length tallies.new ≡ length tallies.old }
 {
-    sight.members();
+    is_shaped(sight);
     let mut x = low + tallies.len();
     while low < x {
         x -= 1;
@@ -99,7 +100,7 @@ fn reached<S: Sight>(sight: &S, last: &[[u16; 128]], x: u16) -> u16
     requires place { x < length (S.shape sight.now).links }
     ensures { result ≡ reached (S.shape sight.now).links last.now x }
 {
-    sight.members();
+    is_shaped(sight);
     count_above(last, sight.creator(x as usize) as usize, x)
 }
 
@@ -126,14 +127,11 @@ pub fn count_gains(before: &[u16], counts: &[u16], next: &[u16], above: &mut [u1
 }
 
 /// One more than the place of a row, if the row stands below the bound, else 0.
-fn next_below(left: u32, bound: u16) -> u16
+fn next_below(left: u32, bound: u32) -> u16
+    requires { left < 2 ^ 16 }
     ensures { result ≡ cond (nat_le left bound) left 0 }
 {
-    if left <= u32::from(bound) {
-        left as u16
-    } else {
-        0
-    }
+    if left <= bound { left as u16 } else { 0 }
 }
 
 /// The lane that comes to this row.
@@ -158,7 +156,7 @@ fn lane_at<S: Sight>(sight: &S, last: &[[u16; 128]], next: u16) -> Lane
 fn advance<S: Sight>(
     sight: &S,
     last: &[[u16; 128]],
-    bound: u16,
+    bound: u32,
     low: usize,
     need: u16,
     time: u64,
@@ -167,6 +165,7 @@ fn advance<S: Sight>(
 ) -> Lane
     requires members { length last.now ≤ 128 }
     requires inside { low + length tallies.old ≤ length (S.shape sight.now).links }
+    requires short { low + length tallies.old ≤ 2 ^ 16 - 1 }
     requires linked { AreLinked (S.shape sight.now).links low tallies.old }
     requires lane { IsLaneFrom (S.shape sight.now).links last.now low tallies.old start.next start.above }
     requires some { 0 < need }
@@ -186,7 +185,7 @@ fn advance<S: Sight>(
 /// Goes on with each lane whose row enough lines have as ancestor.
 fn advance_lanes<S: Sight>(
     sight: &S,
-    least: &[u16; 128],
+    least: &[u32; 128],
     low: usize,
     need: u16,
     time: u64,
@@ -195,6 +194,7 @@ fn advance_lanes<S: Sight>(
 )
     requires members { length lanes.old.last.items ≡ member_count (S.shape sight.now).members }
     requires inside { low + length tallies.old ≤ length (S.shape sight.now).links }
+    requires short { low + length tallies.old ≤ 2 ^ 16 - 1 }
     requires linked { AreLinked (S.shape sight.now).links low tallies.old }
     requires lanes { AreLanesOver (S.shape sight.now) low lanes.old tallies.old }
     requires some { 0 < need }
@@ -202,7 +202,7 @@ fn advance_lanes<S: Sight>(
     ensures few { AreFew need lanes.new.above }
     ensures last { lanes.new.last ≡ lanes.old.last }
 {
-    sight.members();
+    is_shaped(sight);
     for m in 0..lanes.last.len() {
         if lanes.above[m] < need {
             continue;
@@ -231,7 +231,7 @@ fn parent_end<S: Sight>(sight: &S, low: usize, z: usize) -> usize
     requires { z < length (S.shape sight.now).links }
     ensures { result ≡ parent_end low (self_parent (S.shape sight.now).links z) }
 {
-    sight.rows();
+    is_shaped(sight);
     match sight.self_parent(z) {
         None => 0,
         Some(parent) => { if parent < low { 0 } else { parent + 1 } }
@@ -246,12 +246,23 @@ fn copy_counts(counts: &[u16], to: &mut [u16; 128])
     to[..counts.len()].copy_from_slice(counts);
 }
 
-/// One holder more. It answers whether it could: ancestors are counted, and the holder follows its self-parent, as it
+/// The counts of a row, where 16 bits hold them.
+fn narrow_counts<S: Sight>(sight: &S, x: usize) -> Option<&[u16]>
+    requires { x < length (S.shape sight.now).links }
+    ensures { IfSome result (λ counts. CountsMembersIn (S.shape sight.now) x counts.now) }
+{
+    match sight.counts(x) {
+        Some(Counts::Narrow(counts)) => Some(counts),
+        _ => None,
+    }
+}
+
+/// One holder more. It answers whether it could: ancestors are counted in 16 bits, and the holder follows its self-parent, as it
 /// does where the times along a line do not fall.
 fn sweep_holder<S: Sight>(
     sight: &S,
     holder: Holder,
-    least: &[u16; 128],
+    least: &[u32; 128],
     low: usize,
     need: u16,
     lanes: &mut Lanes,
@@ -261,6 +272,7 @@ fn sweep_holder<S: Sight>(
     requires members { length lanes.old.last.items ≡ member_count (S.shape sight.now).members }
     requires last { AreLast (S.shape sight.now).links low lanes.old.last.items }
     requires inside { low + length tallies.old ≤ length (S.shape sight.now).links }
+    requires short { low + length tallies.old ≤ 2 ^ 16 - 1 }
     requires some { 0 < need }
     requires swept { IsSweptBySome (S.shape sight.now) least.now low need lanes.old tallies.old }
     ensures on { Sweeps result (S.shape sight.now) least.now low need holder lanes.old lanes.new tallies.old tallies.new }
@@ -268,14 +280,13 @@ fn sweep_holder<S: Sight>(
     ensures members { result ≡ true → length lanes.new.last.items ≡ length lanes.old.last.items }
     ensures long { result ≡ true → length tallies.new ≡ length tallies.old }
 {
-    sight.rows();
-    sight.members();
+    is_shaped(sight);
     let member = sight.creator(holder.place) as usize;
     let last = &mut lanes.last[member];
     if last[member] as usize != parent_end(sight, low, holder.place) {
         return false;
     }
-    let Some(counts) = sight.counts(holder.place) else {
+    let Some(counts) = narrow_counts(sight, holder.place) else {
         return false;
     };
     let most = count_gains(last, counts, &lanes.next, &mut lanes.above);
@@ -287,12 +298,12 @@ fn sweep_holder<S: Sight>(
 }
 
 /// Whether none of the first lanes, of so many, is left at a row below its bound.
-fn are_past(next: &[u16; 128], least: &[u16; 128], members: usize) -> bool
+fn are_past(next: &[u16; 128], least: &[u32; 128], members: usize) -> bool
     requires { members ≤ 128 }
     ensures { result ≡ true → ArePast members next.now least.now }
 {
     for m in 0..members {
-        if 0 < next[m] && next[m] <= least[m] {
+        if 0 < next[m] && u32::from(next[m]) <= least[m] {
             return false;
         }
     }
@@ -303,7 +314,7 @@ fn are_past(next: &[u16; 128], least: &[u16; 128], members: usize) -> bool
 fn sweep_lanes<S: Sight>(
     sight: &S,
     holders: &[Holder],
-    least: &[u16; 128],
+    least: &[u32; 128],
     low: usize,
     need: u16,
     lanes: &mut Lanes,
@@ -316,8 +327,7 @@ fn sweep_lanes<S: Sight>(
     requires clear { AreClear (member_count (S.shape sight.now).members) lanes.old }
     ensures { FindsTimes result (S.shape sight.now) least.now low need holders.now tallies.new }
 {
-    sight.rows();
-    sight.members();
+    is_shaped(sight);
     if low + tallies.len() > u16::MAX as usize {
         return false;
     }
@@ -337,7 +347,7 @@ fn sweep_lanes<S: Sight>(
 pub fn sweep_holders<S: Sight>(
     sight: &S,
     holders: &[Holder],
-    least: &[u16; 128],
+    least: &[u32; 128],
     low: usize,
     need: u16,
     lanes: &mut Lanes,

@@ -1,9 +1,10 @@
-ghost use Rattle.std.specs.Prelude.{◌≡◌, ◌<◌, ◌≤◌, ◌+◌, ℕ, true, All, length, min, replicate, slice_index, vec_capacity};
+ghost use Rattle.std.specs.Prelude.{◌≡◌, ◌<◌, ◌≤◌, ◌+◌, ℕ, true, All, length, replicate, vec_capacity};
+ghost use Rattle.hg_model.specs.Counts.{numbers_of};
 ghost use Rattle.hg_model.specs.GraphWords.{IsShapedIn};
 ghost use Rattle.hg_order.specs.Counted.{AreLines, EndAtRows, EndsBefore};
-ghost use Rattle.hg_order.specs.Tallied.{tallied, is_in_line_below, AreEnds, AreTallied, AreTalliedBy, ReachAll, TalliesAll, TalliesBetween};
+ghost use Rattle.hg_order.specs.Tallied.{tallied, is_in_line_below, AreEnds, AreTallied, AreTalliedBy, ReachAll, ReachesTop, TalliesAll, TalliesAt};
 
-use hg_model::Sight;
+use hg_model::{Counts, Member, Sight, is_shaped};
 
 /// A row on the line of a unique famous witness, and the time that its creator claims.
 #[derive(Clone, Copy)]
@@ -70,24 +71,25 @@ fn tally_line<S: Sight>(
 /// Tallies the rows that are not below `before`, and below `counts` and `least`, member by member.
 fn tally_between<S: Sight>(
     sight: &S,
-    before: &[u16],
-    counts: &[u16],
-    least: &[u16],
+    before: Counts<'_>,
+    counts: Counts<'_>,
+    least: &[u32; 128],
     low: usize,
     time: u64,
     tallies: &mut [Tally],
 )
     requires shaped { IsShapedIn (S.shape sight.now) }
     requires lines { AreLines (S.shape sight.now).links }
-    requires wide { length counts.now ≤ length least.now }
-    requires before { length counts.now ≤ length before.now }
-    requires ends { AreEnds (S.shape sight.now).links counts.now least.now }
-    requires reach { (m : ℕ) → min (slice_index counts.now m) (slice_index least.now m) ≤ low + length tallies.old }
-    ensures { TalliesBetween (S.shape sight.now) before.now counts.now least.now low time tallies.old tallies.new }
+    requires few { length (numbers_of counts) ≤ 128 }
+    requires before { length (numbers_of counts) ≤ length (numbers_of before) }
+    requires ends { AreEnds (S.shape sight.now).links (numbers_of counts) least.now }
+    requires reach { ReachesTop (numbers_of counts) least.now (low + length tallies.old) }
+    ensures { TalliesAt (S.shape sight.now) before.entry counts.entry least.now low time tallies.old tallies.new }
 {
     for m in 0..counts.len() {
-        let top = counts[m].min(least[m]) as usize;
-        let bottom = low.max(before[m] as usize);
+        let member = m as Member;
+        let top = counts.at(member).min(least[m] as usize);
+        let bottom = low.max(before.at(member));
         tally_line(sight, bottom, top, low, time, tallies);
     }
 }
@@ -104,7 +106,7 @@ fn no_counts() -> [u16; 128]
 fn tally_holder<S: Sight>(
     sight: &S,
     holder: Holder,
-    least: &[u16; 128],
+    least: &[u32; 128],
     low: usize,
     tallies: &mut [Tally],
 ) -> bool
@@ -113,14 +115,14 @@ fn tally_holder<S: Sight>(
     requires reach { ReachAll (S.shape sight.now).links least.now low tallies.old }
     ensures { result ≡ true → AreTalliedBy (S.shape sight.now).links least.now low holder tallies.old tallies.new }
 {
-    sight.members();
+    is_shaped(sight);
     let Some(counts) = sight.counts(holder.place) else {
         return false;
     };
     match sight.self_parent(holder.place) {
         None => tally_between(
             sight,
-            &no_counts(),
+            Counts::Narrow(&no_counts()),
             counts,
             least,
             low,
@@ -141,7 +143,7 @@ fn tally_holder<S: Sight>(
 fn tally_slice<S: Sight>(
     sight: &S,
     holders: &[Holder],
-    least: &[u16; 128],
+    least: &[u32; 128],
     low: usize,
     tallies: &mut [Tally],
 ) -> bool
@@ -162,7 +164,7 @@ fn tally_slice<S: Sight>(
 pub fn tally_holders<S: Sight>(
     sight: &S,
     holders: &[Holder],
-    least: &[u16; 128],
+    least: &[u32; 128],
     low: usize,
     tallies: &mut Vec<Tally>,
 ) -> bool

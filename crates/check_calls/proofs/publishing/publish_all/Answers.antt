@@ -12,8 +12,8 @@ pub publish-requires : goal.publish-requires
 publish-requires c =
     let node = c.args.node.now in
     let found = c.in_ok-found.found in
-    let is = c.rows-rows.ensures.node in
-    let of_share = subst (λ (s : Share). Speaks c.in_ok-frozen.frozen.members c.in_ok-frozen.frozen.coin c.in_ok-frozen.frozen.rows (links_of c.in_ok-frozen.frozen) found.len s found.marks)
+    let is = c.is_node.ensures in
+    let of_share = subst (λ (s : Share). Speaks c.in_ok-frozen.frozen.graph.members c.in_ok-frozen.frozen.graph.coin c.in_ok-frozen.frozen.graph.rows (links_of c.in_ok-frozen.frozen.graph) found.len s found.marks)
     (sym c.in_ok-found.ensures.share) c.in_ok-found.ensures.speaks in
     let of_rows = subst (λ (g : Graph). Speaks g.members g.coin g.rows (links_of g) found.len found.share found.marks) c.in_ok-frozen.ensures of_share in
     found_is_news node.start.members node.start.coin (node_state node) found.len found.share found.marks

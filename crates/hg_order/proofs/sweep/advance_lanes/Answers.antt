@@ -24,7 +24,7 @@ loop-m-preserved g c =
 
 pub returns-clause-few : goal.returns-clause-few
 returns-clause-few g c m =
-    let s = c.members.ensures.shaped in
+    let s = c.is_shaped.ensures.shaped in
     let a = c.loop-m.invariant.advanced in
     let long = a.long in
     let wide = c.requires.members in

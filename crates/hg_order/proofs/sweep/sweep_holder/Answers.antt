@@ -10,9 +10,9 @@ advance_lanes-requires-clause-lanes g c =
     let read = get_or_default c.args.lanes.now.last.items c.creator-member.result c.index_mut-last.result.now [] room in
     let line = c.index_mut-last.ensures.value ∙ read in
     let ends = c.if-last-member.false ∙ c.parent_end.ensures in
-    let on = line_on _ _ c.members.ensures.shaped c.args.low c.args.lanes.now.last.items c.requires.last c.args.holder.place c.requires.place c.creator-member.result by room _ line ends c.in-Some.counts.now c.in-Some.ensures _ c.copy_counts.ensures in
+    let on = line_on _ _ c.is_shaped.ensures.shaped c.args.low c.args.lanes.now.last.items c.requires.last c.args.holder.place c.requires.place c.creator-member.result by room _ line ends c.in-Some.counts.now c.in-Some.ensures _ c.copy_counts.ensures in
     let most = c.count_gains-most.ensures in
-    let gains = line_gains _ _ c.members.ensures.shaped c.args.low c.args.lanes.now.last.items c.requires.last c.args.holder.place c.requires.place c.creator-member.result by room _ line ends c.in-Some.counts.now c.in-Some.ensures _ _ _ _ most.gained most.rest most.most in
+    let gains = line_gains _ _ c.is_shaped.ensures.shaped c.args.low c.args.lanes.now.last.items c.requires.last c.args.holder.place c.requires.place c.creator-member.result by room _ line ends c.in-Some.counts.now c.in-Some.ensures _ _ _ _ most.gained most.rest most.most in
     lanes_gained _ _ c.args.least.now c.args.low c.args.need c.requires.swept.0 c.args.lanes.now.last.items c.args.lanes.now.next c.args.lanes.now.above c.args.tallies.now c.requires.swept.1 c.args.holder c.requires.inside (set c.args.lanes.now.last.items c.creator-member.result c.copy_counts.new.to) on _ _ gains
 
 pub returns-then-most-need-clause-last : goal.returns-then-most-need-clause-last
@@ -22,7 +22,7 @@ returns-then-most-need-clause-last g c = λ _.
     let read = get_or_default c.args.lanes.now.last.items c.creator-member.result c.index_mut-last.result.now [] room in
     let line = c.index_mut-last.ensures.value ∙ read in
     let ends = c.if-last-member.false ∙ c.parent_end.ensures in
-    rw c.advance_lanes.ensures.last (line_last _ _ c.members.ensures.shaped c.args.low c.args.lanes.now.last.items c.requires.last c.args.holder.place c.requires.place c.creator-member.result by room _ line ends c.in-Some.counts.now c.in-Some.ensures _ c.copy_counts.ensures)
+    rw c.advance_lanes.ensures.last (line_last _ _ c.is_shaped.ensures.shaped c.args.low c.args.lanes.now.last.items c.requires.last c.args.holder.place c.requires.place c.creator-member.result by room _ line ends c.in-Some.counts.now c.in-Some.ensures _ c.copy_counts.ensures)
 
 pub returns-else-most-need-clause-last : goal.returns-else-most-need-clause-last
 returns-else-most-need-clause-last g c = λ _.
@@ -31,7 +31,7 @@ returns-else-most-need-clause-last g c = λ _.
     let read = get_or_default c.args.lanes.now.last.items c.creator-member.result c.index_mut-last.result.now [] room in
     let line = c.index_mut-last.ensures.value ∙ read in
     let ends = c.if-last-member.false ∙ c.parent_end.ensures in
-    line_last _ _ c.members.ensures.shaped c.args.low c.args.lanes.now.last.items c.requires.last c.args.holder.place c.requires.place c.creator-member.result by room _ line ends c.in-Some.counts.now c.in-Some.ensures _ c.copy_counts.ensures
+    line_last _ _ c.is_shaped.ensures.shaped c.args.low c.args.lanes.now.last.items c.requires.last c.args.holder.place c.requires.place c.creator-member.result by room _ line ends c.in-Some.counts.now c.in-Some.ensures _ c.copy_counts.ensures
 
 pub returns-then-most-need-clause-on : goal.returns-then-most-need-clause-on
 returns-then-most-need-clause-on g c = λ _ holders swept.
@@ -40,7 +40,7 @@ returns-then-most-need-clause-on g c = λ _ holders swept.
     let read = get_or_default c.args.lanes.now.last.items c.creator-member.result c.index_mut-last.result.now [] room in
     let line = c.index_mut-last.ensures.value ∙ read in
     let ends = c.if-last-member.false ∙ c.parent_end.ensures in
-    let on = line_on _ _ c.members.ensures.shaped c.args.low c.args.lanes.now.last.items c.requires.last c.args.holder.place c.requires.place c.creator-member.result by room _ line ends c.in-Some.counts.now c.in-Some.ensures _ c.copy_counts.ensures in
+    let on = line_on _ _ c.is_shaped.ensures.shaped c.args.low c.args.lanes.now.last.items c.requires.last c.args.holder.place c.requires.place c.creator-member.result by room _ line ends c.in-Some.counts.now c.in-Some.ensures _ c.copy_counts.ensures in
     rw c.advance_lanes.ensures.last (swept_next (g.S.Sight.shape c.args.sight.now).members _ c.args.least.now c.args.low c.args.need holders c.args.lanes.now.last.items c.args.lanes.now.next c.args.lanes.now.above c.args.tallies.now swept c.args.holder c.requires.inside (set c.args.lanes.now.last.items c.creator-member.result c.copy_counts.new.to) on _ _ _ (rw c.advance_lanes.ensures.last at c.advance_lanes.ensures.moved) c.advance_lanes.ensures.few)
 
 pub returns-else-most-need-clause-on : goal.returns-else-most-need-clause-on
@@ -50,9 +50,9 @@ returns-else-most-need-clause-on g c = λ _ holders swept.
     let read = get_or_default c.args.lanes.now.last.items c.creator-member.result c.index_mut-last.result.now [] room in
     let line = c.index_mut-last.ensures.value ∙ read in
     let ends = c.if-last-member.false ∙ c.parent_end.ensures in
-    let on = line_on _ _ c.members.ensures.shaped c.args.low c.args.lanes.now.last.items c.requires.last c.args.holder.place c.requires.place c.creator-member.result by room _ line ends c.in-Some.counts.now c.in-Some.ensures _ c.copy_counts.ensures in
+    let on = line_on _ _ c.is_shaped.ensures.shaped c.args.low c.args.lanes.now.last.items c.requires.last c.args.holder.place c.requires.place c.creator-member.result by room _ line ends c.in-Some.counts.now c.in-Some.ensures _ c.copy_counts.ensures in
     let most = c.count_gains-most.ensures in
-    let gains = line_gains _ _ c.members.ensures.shaped c.args.low c.args.lanes.now.last.items c.requires.last c.args.holder.place c.requires.place c.creator-member.result by room _ line ends c.in-Some.counts.now c.in-Some.ensures _ _ _ _ most.gained most.rest most.most in
+    let gains = line_gains _ _ c.is_shaped.ensures.shaped c.args.low c.args.lanes.now.last.items c.requires.last c.args.holder.place c.requires.place c.creator-member.result by room _ line ends c.in-Some.counts.now c.in-Some.ensures _ _ _ _ most.gained most.rest most.most in
     let lanes = lanes_gained _ _ c.args.least.now c.args.low c.args.need holders c.args.lanes.now.last.items c.args.lanes.now.next c.args.lanes.now.above c.args.tallies.now swept c.args.holder c.requires.inside (set c.args.lanes.now.last.items c.creator-member.result c.copy_counts.new.to) on _ _ gains in
     let few = few_still _ _ c.args.least.now c.args.low c.args.need holders c.args.lanes.now.last.items c.args.lanes.now.next c.args.lanes.now.above c.args.tallies.now swept c.args.holder c.requires.inside (set c.args.lanes.now.last.items c.creator-member.result c.copy_counts.new.to) on _ _ gains c.if-most-need.false in
     swept_next (g.S.Sight.shape c.args.sight.now).members _ c.args.least.now c.args.low c.args.need holders c.args.lanes.now.last.items c.args.lanes.now.next c.args.lanes.now.above c.args.tallies.now swept c.args.holder c.requires.inside (set c.args.lanes.now.last.items c.creator-member.result c.copy_counts.new.to) on _ _ _ (advanced_still _ _ _ _ _ _ _ _ _ lanes swept.linked) few

@@ -5,11 +5,11 @@ use Rattle.hg_order.proofs.tally.tally_holder.Goals as goal
 
 pub counts-requires-in-Some-self_parent : goal.counts-requires-in-Some-self_parent
 counts-requires-in-Some-self_parent g c =
-    let before = self_parent_before _ c.members.ensures.shaped.earlier _ _ c.in-Some-self_parent.ensures in
+    let before = self_parent_before _ c.is_shaped.ensures.shaped.earlier _ _ c.in-Some-self_parent.ensures in
     let place = c.requires.place in
     omega arith
 
 pub returns-in-None : goal.returns-in-None
 returns-in-None g c = λ _.
-    tallied_by _ _ c.members.ensures.shaped _ _ c.in-Some.ensures c.args.holder refl _ _ _ _ _ (new_of_first _ _ 128 c.in-None.ensures)
+    tallied_by _ _ c.is_shaped.ensures.shaped _ _ c.in-Some.ensures c.args.holder refl _ _ _ _ _ (new_of_first _ _ 128 c.in-None.ensures)
     (rw c.no_counts.ensures at c.tally_between.ensures)

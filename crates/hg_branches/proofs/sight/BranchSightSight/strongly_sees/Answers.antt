@@ -21,7 +21,7 @@ is_strong_by-requires-clause-low c = λ b h.
     let left : c.args.x < length s.links.items = subst (λ (g : ShapeWithRoom). c.args.x < length g.shape.links) (sym c.self.view_is) c.requires.left in
     let small = count_small s.stakes s.links.items s.branches.items s.makers.items s.ends.items held.branches s.counts.rows held.counts c.args.x b left in
     let taken : get_or c.own.result.now b 0 ≡ get_or (get_or s.counts.rows c.args.x []) b 0 =
-    ap (λ (r : List ℕ). get_or r b 0) c.own.ensures.value ∙ get_or-take s.counts.stakes (get_or s.counts.rows c.args.x []) b 0 (let long = c.own.ensures.len in omega arith) in
+    ap (λ (r : List ℕ). get_or r b 0) c.own.ensures.value ∙ get_or-take s.counts.members (get_or s.counts.rows c.args.x []) b 0 (let long = c.own.ensures.len in omega arith) in
     let short = held.branches.short in
     omega arith
 
@@ -37,7 +37,7 @@ returns-then-is_own c =
     let alone : (b : ℕ) → member_count s.stakes ≤ b → b < length s.makers.items → get_or row b 0 ≡ 0 = elim c.if-len.branch [
       | then-len w ↦ (λ b past low. absurd (omega (arith, past, low, w.if-len.true)))
       | else-len w ↦ (λ b past low. get_or_past row b 0
-          (omega (arith, past, held.counts_members, eqb-true (length row) s.counts.stakes (sym w.is_own.ensures ∙ (sym w.value-is ∙ c.if-is_own.true)))))
+          (omega (arith, past, held.counts_members, eqb-true (length row) s.counts.members (sym w.is_own.ensures ∙ (sym w.value-is ∙ c.if-is_own.true)))))
     ] in
     let number = c.count_at-number.ensures ∙ ap (λ (ns : List ℕ). slice_index ns y) c.deref.ensures.value in
     let found = held.landmarks.by_place y (let some = c.if-number-gt0.true in omega arith) in
