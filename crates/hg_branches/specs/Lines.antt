@@ -36,6 +36,10 @@ seen_on L makers counts y m = some_below (length makers) (λ b. sees_on L counts
 abbrev pub others_see : List Link → List ℕ → List ℕ → List ℕ → ℕ → ℕ → Bool
 others_see L makers firsts counts y m = some_below (length makers) (λ b. other_sees L makers firsts counts y b && slice_index makers b == m)
 
+-- the mask has these members
+abbrev pub HasOthers : List Link → List ℕ → List ℕ → List ℕ → ℕ → ℕ → Type 0
+HasOthers L makers firsts counts y mask = (m : ℕ) → mask_has mask m ≡ others_see L makers firsts counts y m
+
 -- the mask has these members, and the maker of branch b if that sees y and its own does not
 abbrev pub AddsOther : List Link → List ℕ → List ℕ → List ℕ → ℕ → ℕ → ℕ → ℕ → Type 0
 AddsOther L makers firsts counts y b before after =

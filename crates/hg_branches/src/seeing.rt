@@ -4,7 +4,7 @@ ghost use Rattle.hg_model.specs.Stakes.{member_count};
 ghost use Rattle.hg_model.specs.Seeing.{sees};
 ghost use Rattle.hg_model.specs.GraphWords.{sees_in};
 ghost use Rattle.hg_bits.specs.Masks.{mask_has};
-ghost use Rattle.hg_branches.specs.Lines.{line_sees, sees_on, own_sees, others_see, seen_on, AddsOther, is_strong_by_firsts};
+ghost use Rattle.hg_branches.specs.Lines.{line_sees, sees_on, seen_on, AddsOther, HasOthers, is_strong_by_firsts};
 
 use crate::counts::{RowCounts, count_at};
 use crate::sight::BranchSight;
@@ -78,7 +78,7 @@ fn others(sight: &BranchSight, makers: &[Member], counts: &RowCounts, target: Ta
     requires places { (b : ℕ) → slice_index counts.now.row b ≤ length sight.now.shape.links }
     requires few { length target.firsts.now ≤ length makers.now }
     requires wide { length target.firsts.now ≡ counts.now.members }
-    ensures { (m : ℕ) → mask_has result m ≡ others_see sight.now.shape.links makers.now target.firsts.now counts.now.row target.row m }
+    ensures { HasOthers sight.now.shape.links makers.now target.entry.firsts.now counts.now.row target.entry.row result }
 {
     let mut mask = 0;
     for b in counts.own().len()..counts.reach(makers.len()) {
@@ -101,7 +101,7 @@ fn with_other(
     requires other { length target.firsts.now ≤ b }
     requires member { slice_index makers.now b < 128 }
     requires there { slice_index counts.now.row b ≤ length sight.now.shape.links }
-    ensures { AddsOther sight.now.shape.links makers.now target.firsts.now counts.now.row target.row b mask result }
+    ensures { AddsOther sight.now.shape.links makers.now target.entry.firsts.now counts.now.row target.entry.row b mask result }
 {
     // No row before y sees it.
     sight.is_shaped();

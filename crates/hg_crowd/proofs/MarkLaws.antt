@@ -18,12 +18,12 @@ use Rattle.hg_crowd.specs.Crowd.{IsMark}
 -- elements of lists
 
 module _ {A : Type 0} where
-  get_front : (xs ys : List A) (k : ℕ) → k < length xs → slice_get (xs ++ ys) k ≡ slice_get xs k
+  pub get_front : (xs ys : List A) (k : ℕ) → k < length xs → slice_get (xs ++ ys) k ≡ slice_get xs k
   get_front [] ys k inside = absurd (omega arith)
   get_front (x ∷ xs) ys zero inside = refl
   get_front (x ∷ xs) ys (suc k) inside = get_front xs ys k (omega arith)
 
-  get_behind : (xs ys : List A) (k q : ℕ) → k ≡ length xs + q → slice_get (xs ++ ys) k ≡ slice_get ys q
+  pub get_behind : (xs ys : List A) (k q : ℕ) → k ≡ length xs + q → slice_get (xs ++ ys) k ≡ slice_get ys q
   get_behind [] ys k q at = let same : k ≡ q = omega (arith, at) in ap (slice_get ys) same
   get_behind (x ∷ xs) ys zero q at = absurd (omega (arith, at))
   get_behind (x ∷ xs) ys (suc k) q at = get_behind xs ys k q (omega (arith, at))

@@ -64,3 +64,7 @@ module _ {V : Type 0} (accepts : V → Accepts) where
     pub stays : Stays accepts p old new
     pub waits : SeatWaits accepts p old new
     pub found : IsFound (seen_by p new).node
+
+  -- the node at k was read, and unless memory ran out this was found
+  abbrev pub ReadsOne : {A E : Type 0} → ℕ → PartyView V → PartyView V → Result A E → (NodeView V → A → Type 0) → Type 0
+  ReadsOne k old new result IsFound = MovesOne (Reads (λ v. IfOk result (IsFound v))) k old new

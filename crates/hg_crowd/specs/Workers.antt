@@ -41,8 +41,8 @@ module _ {V : Type 0} where
         IsStarted accepts (get_or shared k p) (get_or nodes k node) (get_or seats k s)
 
   -- one node more is started, behind those that were
-  abbrev pub StartsBehind : (V → Accepts) → NodeView V → List (SharedNode V) → List (SeatView V) → List (SharedNode V) → List (SeatView V) → Type 0
-  StartsBehind accepts node shared seats more_shared more_seats =
+  abbrev pub StartsOne : (V → Accepts) → NodeView V → List (SharedNode V) → List (SeatView V) → List (SharedNode V) → List (SeatView V) → Type 0
+  StartsOne accepts node shared seats more_shared more_seats =
       (nodes : List (NodeView V)) → AreStarted accepts nodes shared seats → AreStarted accepts (nodes ++ node ∷ []) more_shared more_seats
 
   -- these are the nodes again, in order

@@ -6,7 +6,7 @@ ghost use Rattle.hg_board.specs.Calls.{after_split, split_off};
 ghost use Rattle.hg_board.specs.Copies.{AreLacked, IsLastRow, IsParcelFrom};
 ghost use Rattle.hg_crowd.specs.Crowd.{AreSeats, Each};
 ghost use Rattle.hg_crowd.specs.Workers.{AllAbsorb, AllMark, HasMore, Worked};
-ghost use Rattle.hg_crowd.specs.Party.{AreSignedAt, Makes, MovesOne, Puts, Reads, Takes, party_view};
+ghost use Rattle.hg_crowd.specs.Party.{AreSignedAt, Makes, MovesOne, Puts, ReadsOne, Takes, party_view};
 
 use crate::splitting::{absorb_all, split_all};
 use crate::working::work_beside;
@@ -112,7 +112,7 @@ impl<'a, V: Signer + Drop> Party<'a, V> {
         from: usize,
     ) -> Result<EventParcel, Memory>
         requires { k < length self.old.seats }
-        ensures { MovesOne V.accepts (Reads V.accepts (λ v. IfOk result (IsParcelFrom from v))) k self.old self.new }
+        ensures { ReadsOne V.accepts k self.old self.new result (IsParcelFrom from) }
     {
         let shared = self.shared;
         shared[k].events_from(rt, alloc, &mut self.seats[k], from)
@@ -143,7 +143,7 @@ impl<'a, V: Signer + Drop> Party<'a, V> {
         events: &[Arc<Event>],
     ) -> Result<Vec<Arc<Event>>, Memory>
         requires { k < length self.old.seats }
-        ensures { MovesOne V.accepts (Reads V.accepts (λ v. IfOk result (λ lacked. AreLacked (rows_of events.now) v lacked.items))) k self.old self.new }
+        ensures { ReadsOne V.accepts k self.old self.new result (λ v lacked. AreLacked (rows_of events.now) v lacked.items) }
     {
         let shared = self.shared;
         shared[k].still_lacked(rt, alloc, &mut self.seats[k], events)
@@ -152,7 +152,7 @@ impl<'a, V: Signer + Drop> Party<'a, V> {
     /// The last event that the node at a place made, if it made any.
     pub fn last_event<R: Wait>(&mut self, rt: &R, k: usize) -> Result<Option<Arc<Event>>, Memory>
         requires { k < length self.old.seats }
-        ensures { MovesOne V.accepts (Reads V.accepts (λ v. IfOk result (IsLastRow v))) k self.old self.new }
+        ensures { ReadsOne V.accepts k self.old self.new result IsLastRow }
     {
         let shared = self.shared;
         shared[k].last_event(rt, &mut self.seats[k])

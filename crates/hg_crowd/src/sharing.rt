@@ -1,6 +1,6 @@
 ghost use Rattle.std.specs.Prelude.{◌≡◌, ◌<◌, ◌≤◌, [], All, IfOk, OnOk, vec_capacity, vec_len};
 ghost use Rattle.hg_crowd.specs.Crowd.{AreSeats};
-ghost use Rattle.hg_crowd.specs.Workers.{AreStarted, AreWhole, HasAll, StartsBehind};
+ghost use Rattle.hg_crowd.specs.Workers.{AreStarted, AreWhole, HasAll, StartsOne};
 
 use hg_board::{Seat, Shared};
 use hg_model::Memory;
@@ -18,7 +18,7 @@ fn start_behind<V: Signer + Drop>(
 ) -> Result<(), Memory>
     requires shared_room { vec_len shared.old < vec_capacity shared.old }
     requires seats_room { vec_len seats.old < vec_capacity seats.old }
-    ensures started { OnOk result (StartsBehind V.accepts node shared.old.items seats.old.items shared.new.items seats.new.items) }
+    ensures ok { OnOk result (StartsOne V.accepts node shared.old.items seats.old.items shared.new.items seats.new.items) }
     ensures shared_room { vec_capacity shared.new ≡ vec_capacity shared.old }
     ensures seats_room { vec_capacity seats.new ≡ vec_capacity seats.old }
 {

@@ -49,6 +49,10 @@ PushesLacked taker peer place old new = with_lacked (node_rows taker) (node_rows
 abbrev pub PushesUnheld : {K : Type 0} → NodeView K → Row → List Row → List Row → Type 0
 PushesUnheld taker row old new = new ≡ old ++ unheld (node_rows taker) row
 
--- the peer's rows from a place on whose names the taker lacks, the last one first
+-- the peer's rows from a place on whose names the taker lacks
+abbrev pub lacked_behind : {K L : Type 0} → NodeView K → NodeView L → ℕ → List Row
+lacked_behind taker peer from = lacking (node_rows taker) (drop from (node_rows peer))
+
+-- the last one first
 abbrev pub lacked_backwards : {K L : Type 0} → NodeView K → NodeView L → ℕ → List Row
-lacked_backwards taker peer from = reverse (lacking (node_rows taker) (drop from (node_rows peer)))
+lacked_backwards taker peer from = reverse (lacked_behind taker peer from)

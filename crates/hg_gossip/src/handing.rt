@@ -1,8 +1,8 @@
-ghost use Rattle.std.specs.Prelude.{◌≡◌, ◌++◌, ◌<◌, ◌≤◌, IfOk, OnOk, Some, drop, is_some, length, slice_get};
+ghost use Rattle.std.specs.Prelude.{◌≡◌, ◌++◌, ◌<◌, ◌≤◌, IfOk, OnOk, Some, is_some, length, slice_get};
 ghost use Rattle.hg_model.specs.Held.{lacking, is_held};
 ghost use Rattle.hg_life.specs.NodeView.{node_rows};
 ghost use Rattle.hg_graph.specs.RowsWithRoom.{rows_of};
-ghost use Rattle.hg_gossip.specs.Handing.{Knows, PushesLacked, PushesUnheld, lacked_backwards};
+ghost use Rattle.hg_gossip.specs.Handing.{Knows, PushesLacked, PushesUnheld, lacked_backwards, lacked_behind};
 
 use hg_event::Event;
 use hg_model::{Member, Memory, Name, Sight};
@@ -165,7 +165,7 @@ fn lacked_behind<V: Signer, W: Signer>(
     from: usize,
 ) -> Result<Vec<Arc<Event>>, Memory>
     requires { from ≤ length (node_rows peer.now) }
-    ensures { IfOk result (λ events. rows_of events.items ≡ lacking (node_rows taker.now) (drop from (node_rows peer.now))) }
+    ensures { IfOk result (λ events. rows_of events.items ≡ lacked_behind taker.now peer.now from) }
 {
     let mut events = lacked_backwards(alloc, taker, peer, from)?;
     events.reverse();

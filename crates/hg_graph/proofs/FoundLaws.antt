@@ -9,8 +9,8 @@ use Rattle.hg_model.specs.declared.row.Row.{Row}
 use Rattle.hg_model.specs.Links.{is_named, place_of, no_row}
 use Rattle.hg_model.specs.Graph.{name_at}
 use Rattle.hg_model.proofs.NameLaws.{bytes_same, distinct-push, name-at}
-use Rattle.hg_graph.specs.declared.names.Entry.{Entry}
-use Rattle.hg_graph.specs.Names.{HoldsNames, IsLastIn, bucket_at, bucket_of, entry_at, hash_of, hashes_of, row_hash}
+use Rattle.hg_graph.specs.declared.names.HashedRow.{HashedRow}
+use Rattle.hg_graph.specs.Names.{HoldsNames, IsLastIn, bucket_at, bucket_of, hashed_at, hash_of, hashes_of, row_hash}
 use Rattle.hg_graph.specs.RowsWithRoom.{found_place}
 
 -- one more row, with a name that no other has
@@ -20,29 +20,29 @@ names_pushed G hashes row names new = record {
   distinct = distinct-push G row names.distinct (omega arith);
 }
 
-module _ (G : List Row) (entries : List Entry) (names : HoldsNames G (hashes_of entries)) where
-  pub many_rows : length entries ≡ length G
-  many_rows = sym (length-map entries (λ (e : Entry). e.hash)) ∙ (ap length names.same ∙ length-map G row_hash)
+module _ (G : List Row) (hashed : List HashedRow) (names : HoldsNames G (hashes_of hashed)) where
+  pub many_rows : length hashed ≡ length G
+  many_rows = sym (length-map hashed (λ (e : HashedRow). e.hash)) ∙ (ap length names.same ∙ length-map G row_hash)
 
-  hash_at : (x : ℕ) → x < length G → (entry_at entries x).hash ≡ hash_of (name_at G x)
+  hash_at : (x : ℕ) → x < length G → (hashed_at hashed x).hash ≡ hash_of (name_at G x)
   hash_at x low =
-      sym (map_read (λ (e : Entry). e.hash) entries x (record { hash = 0; before = 0 }))
+      sym (map_read (λ (e : HashedRow). e.hash) hashed x (record { hash = 0; before = 0 }))
       ∙ (ap (λ (hs : List ℕ). get_or hs x 0) names.same ∙ (get_or-map row_hash G x no_row 0 low ∙ ap hash_of (sym (name-at G x low))))
 
   module _ (buckets : ℕ) (name : List ℕ) where
     -- a row of this name stands in the bucket of its hash
-    in_bucket : (x : ℕ) → x < length G → name_at G x ≡ name → bucket_at buckets entries x ≡ bucket_of buckets (hash_of name)
+    in_bucket : (x : ℕ) → x < length G → name_at G x ≡ name → bucket_at buckets hashed x ≡ bucket_of buckets (hash_of name)
     in_bucket x low is = ap (bucket_of buckets) (hash_at x low ∙ ap hash_of is)
 
-    pub none_first : (number : ℕ) → IsLastIn (bucket_at buckets entries) (length entries) (bucket_of buckets (hash_of name)) number →
+    pub none_first : (number : ℕ) → IsLastIn (bucket_at buckets hashed) (length hashed) (bucket_of buckets (hash_of name)) number →
         (x : ℕ) → number ≤ x → x < length G → name_at G x ≢ name
     none_first number last x from low is = last.none_later x from (omega (arith, many_rows)) (in_bucket x low is)
 
     -- where the row at hand has another name, none has it down to the row before it in the bucket
-    pub none_next : (number : ℕ) → 0 < number → bucket_at buckets entries (number - 1) ≡ bucket_of buckets (hash_of name) →
-        IsLastIn (bucket_at buckets entries) (number - 1) (bucket_at buckets entries (number - 1)) (entry_at entries (number - 1)).before →
+    pub none_next : (number : ℕ) → 0 < number → bucket_at buckets hashed (number - 1) ≡ bucket_of buckets (hash_of name) →
+        IsLastIn (bucket_at buckets hashed) (number - 1) (bucket_at buckets hashed (number - 1)) (hashed_at hashed (number - 1)).before →
         ((x : ℕ) → number ≤ x → x < length G → name_at G x ≢ name) → (name_at G (number - 1) ≢ name) →
-        (x : ℕ) → (entry_at entries (number - 1)).before ≤ x → x < length G → name_at G x ≢ name
+        (x : ℕ) → (hashed_at hashed (number - 1)).before ≤ x → x < length G → name_at G x ≢ name
     none_next number some on last none other x from low is = elim (cases_lt x (number - 1)) [
       | inl below ↦ last.none_later x from below (in_bucket x low is ∙ sym on)
       | inr above ↦ elim (cases_lt (number - 1) x) [
@@ -52,7 +52,7 @@ module _ (G : List Row) (entries : List Entry) (names : HoldsNames G (hashes_of 
     ]
 
   -- another hash is that of another name
-  pub other_hash : (x : ℕ) (name : List ℕ) → x < length G → (entry_at entries x).hash ≢ hash_of name → name_at G x ≢ name
+  pub other_hash : (x : ℕ) (name : List ℕ) → x < length G → (hashed_at hashed x).hash ≢ hash_of name → name_at G x ≢ name
   other_hash x name low other is = other (hash_at x low ∙ ap hash_of is)
 
 -- where no row has the name, none is found

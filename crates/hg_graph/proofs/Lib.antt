@@ -1,5 +1,5 @@
 mod ChainLaws
-mod EntryLaws
+mod HashedLaws
 mod FoundLaws
 pub mod NextLaws
 pub mod HeldLaws

@@ -4,7 +4,7 @@ use Rattle.std.specs.Int.{from_le_bytes, w32}
 use Rattle.std.specs.Int.Bits.{bit_and}
 use Rattle.hg_model.specs.declared.row.Row.{Row}
 use Rattle.hg_model.specs.Graph.{HasDistinctNames}
-use Rattle.hg_graph.specs.declared.names.Entry.{Entry}
+use Rattle.hg_graph.specs.declared.names.HashedRow.{HashedRow}
 
 -- the first four bytes of a name, as a number
 abbrev pub hash_of : List ℕ → ℕ
@@ -27,16 +27,16 @@ pub record HashesWithRoom : Type 0 where
   pub hashes : List ℕ
   pub room : ℕ
 
--- the entry of the row at this place
-abbrev pub entry_at : List Entry → ℕ → Entry
-entry_at entries x = get_or entries x (record { hash = 0; before = 0 })
+-- the hashed row at this place
+abbrev pub hashed_at : List HashedRow → ℕ → HashedRow
+hashed_at hashed x = get_or hashed x (record { hash = 0; before = 0 })
 
-abbrev pub hashes_of : List Entry → List ℕ
-hashes_of entries = map (λ (entry : Entry). entry.hash) entries
+abbrev pub hashes_of : List HashedRow → List ℕ
+hashes_of hashed = map (λ (hashed_row : HashedRow). hashed_row.hash) hashed
 
 -- the bucket of the row at this place
-abbrev pub bucket_at : ℕ → List Entry → ℕ → ℕ
-bucket_at buckets entries x = bucket_of buckets (entry_at entries x).hash
+abbrev pub bucket_at : ℕ → List HashedRow → ℕ → ℕ
+bucket_at buckets hashed x = bucket_of buckets (hashed_at hashed x).hash
 
 -- of the first `many` places the last in this bucket is one less than the number, or the number is 0 where none is
 pub record IsLastIn (bucket_at : ℕ → ℕ) (many bucket number : ℕ) : Type 0 where
@@ -49,15 +49,15 @@ pub record HoldsChains (bucket_at before : ℕ → ℕ) (heads : List ℕ) (many
   pub each : (x : ℕ) → x < many → IsLastIn bucket_at x (bucket_at x) (before x)
   pub last : (bucket : ℕ) → bucket < length heads → IsLastIn bucket_at many bucket (slice_index heads bucket)
 
--- the first `many` entries in chains
-abbrev pub AreLinked : List ℕ → List Entry → ℕ → Type 0
-AreLinked heads entries many =
-    HoldsChains (bucket_at (length heads) entries) (λ x. (entry_at entries x).before) heads many
+-- the first `many` hashed rows in chains
+abbrev pub AreLinked : List ℕ → List HashedRow → ℕ → Type 0
+AreLinked heads hashed many =
+    HoldsChains (bucket_at (length heads) hashed) (λ x. (hashed_at hashed x).before) heads many
 
 -- what the index keeps to
-pub record HoldsIndex (heads : List ℕ) (entries : List Entry) : Type 0 where
-  pub linked : AreLinked heads entries (length entries)
-  pub few : length entries ≤ length heads
+pub record HoldsIndex (heads : List ℕ) (hashed : List HashedRow) : Type 0 where
+  pub linked : AreLinked heads hashed (length hashed)
+  pub few : length hashed ≤ length heads
   pub low : length heads ≤ 2 ^ 31
 
 -- for how many more rows there are buckets, and memory

@@ -16,14 +16,14 @@ const MOST_BUCKETS: usize = 2_147_483_648;
 
 /// What an index keeps of a row.
 #[derive(Clone, Copy, Drop)]
-pub struct Entry {
+pub struct HashedRow {
     /// The hash of its name.
     hash: u32,
     /// The number of the row before it in its bucket, or 0. The number of a row is one more than its place.
     before: u32,
 }
 
-/// The places of rows by their names, of which it keeps hashes alone: 8 bytes for the entry of a row, and 4 to 8 for its share of
+/// The places of rows by their names, of which it keeps hashes alone: 8 bytes for each row, and 4 to 8 for its share of
 /// the buckets. Names are digests, so their first bytes spread. A maker who tries many events can have names that fall into one
 /// bucket, and with some four thousand million tries each names of one hash: a look-up then walks them all, at most as many as
 /// a node holds rows, 16,384.
@@ -31,8 +31,8 @@ pub struct Entry {
 pub struct NameIndex {
     /// For each bucket the number of its last row, or 0. There is a power of two of them.
     heads: Vec<u32>,
-    /// For each row its entry.
-    entries: Vec<Entry>,
+    /// The rows, each hashed.
+    hashed: Vec<HashedRow>,
 }
 
 impl Model for NameIndex {
@@ -41,9 +41,9 @@ impl Model for NameIndex {
 
     ghost Value = { HashesWithRoom };
 
-    ghost view = { λ s. record { hashes = hashes_of s.entries.items; room = index_room (length s.heads.items) (vec_capacity s.entries) (length s.entries.items) } };
+    ghost view = { λ s. record { hashes = hashes_of s.hashed.items; room = index_room (length s.heads.items) (vec_capacity s.hashed) (length s.hashed.items) } };
 
-    ghost invariant = { λ s. HoldsIndex s.heads.items s.entries.items };
+    ghost invariant = { λ s. HoldsIndex s.heads.items s.hashed.items };
 }
 
 impl NameIndex {
@@ -53,7 +53,7 @@ impl NameIndex {
     {
         NameIndex {
             heads: Vec::new(alloc),
-            entries: Vec::new(alloc),
+            hashed: Vec::new(alloc),
         }
     }
 
@@ -62,7 +62,7 @@ impl NameIndex {
         requires { HoldsNames events.now.items self.now.hashes }
         ensures { result ≡ found_place events.now.items name.now }
     {
-        find(&self.heads, &self.entries, events, name)
+        find(&self.heads, &self.hashed, events, name)
     }
 
     /// Takes the memory of one more row. Where there are as many rows as buckets, there are twice as many buckets from then on,
@@ -71,9 +71,9 @@ impl NameIndex {
         ensures room { OnOk result (1 ≤ self.new.room) }
         ensures same { self.new.hashes ≡ self.old.hashes }
     {
-        self.entries.reserve(1)?;
+        self.hashed.reserve(1)?;
         let buckets = self.heads.len();
-        if self.entries.len() < buckets {
+        if self.hashed.len() < buckets {
             return Ok(());
         }
         let buckets = (2 * buckets).max(FIRST_BUCKETS);
@@ -81,7 +81,7 @@ impl NameIndex {
             return Err(Memory);
         }
         let mut heads = vec![in *self.heads.allocator(); 0u32; buckets]?;
-        link_all(&mut heads, &mut self.entries);
+        link_all(&mut heads, &mut self.hashed);
         self.heads = heads;
         Ok(())
     }
@@ -92,9 +92,9 @@ impl NameIndex {
         ensures { self.new.hashes ≡ self.old.hashes ++ hash_of name.now ∷ [] }
     {
         let hash = hash_of(name);
-        let number = self.entries.len() as u32 + 1;
+        let number = self.hashed.len() as u32 + 1;
         let before = enter(&mut self.heads, hash, number);
-        self.entries.push_reserved(Entry { hash, before });
+        self.hashed.push_reserved(HashedRow { hash, before });
     }
 }
 
@@ -102,12 +102,12 @@ impl NameIndex {
 /// where its name has the same hash.
 fn find(
     heads: &[u32],
-    entries: &[Entry],
+    hashed: &[HashedRow],
     events: &Blocks<SharedEvent>,
     name: &Name,
 ) -> Option<usize>
-    requires index { HoldsIndex heads.now entries.now }
-    requires names { HoldsNames events.now.items (hashes_of entries.now) }
+    requires index { HoldsIndex heads.now hashed.now }
+    requires names { HoldsNames events.now.items (hashes_of hashed.now) }
     ensures { result ≡ found_place events.now.items name.now }
 {
     if heads.is_empty() {
@@ -117,11 +117,11 @@ fn find(
     let mut number = heads[bucket_of(heads.len(), hash)] as usize;
     'chain: while number > 0 {
         let x = number - 1;
-        let entry = entries[x];
-        if entry.hash == hash && events[x].row().name == *name {
+        let hashed_row = hashed[x];
+        if hashed_row.hash == hash && events[x].row().name == *name {
             return Some(x);
         }
-        number = entry.before as usize;
+        number = hashed_row.before as usize;
     }
     None
 }
@@ -157,17 +157,17 @@ fn enter(heads: &mut [u32], hash: u32, number: u32) -> u32
     before
 }
 
-/// Links all entries anew, in buckets that are empty.
-fn link_all(heads: &mut [u32], entries: &mut [Entry])
+/// Links all hashed rows anew, in buckets that are empty.
+fn link_all(heads: &mut [u32], hashed: &mut [HashedRow])
     requires some { 0 < length heads.old }
     requires empty { heads.old ≡ replicate (length heads.old) 0 }
-    requires few { length entries.old ≤ 2 ^ 31 }
-    ensures same { hashes_of entries.new ≡ hashes_of entries.old }
+    requires few { length hashed.old ≤ 2 ^ 31 }
+    ensures same { hashes_of hashed.new ≡ hashes_of hashed.old }
     ensures len { length heads.new ≡ length heads.old }
-    ensures linked { AreLinked heads.new entries.new (length entries.new) }
+    ensures linked { AreLinked heads.new hashed.new (length hashed.new) }
 {
-    for x in 0..entries.len() {
-        let before = enter(heads, entries[x].hash, x as u32 + 1);
-        entries[x].before = before;
+    for x in 0..hashed.len() {
+        let before = enter(heads, hashed[x].hash, x as u32 + 1);
+        hashed[x].before = before;
     }
 }

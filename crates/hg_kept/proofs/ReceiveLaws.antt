@@ -9,6 +9,7 @@ use Rattle.std.proofs.lemmas.List.Elements.{All-from_recursion, All-append}
 use Rattle.std.proofs.lemmas.List.FromFn.{length-range_with_len, get_or-range_with_len}
 use Rattle.hg_model.specs.declared.row.Placed.{Placed}
 use Rattle.hg_model.specs.Places.{list_below}
+use Rattle.hg_model.specs.Stakes.{Stakes}
 use Rattle.hg_model.specs.Links.{Link}
 use Rattle.hg_model.specs.Ancestry.{is_ancestor}
 use Rattle.hg_model.specs.Fame.{Marks, is_closed, is_unique_famous}
@@ -67,7 +68,7 @@ famous_first g famous are some =
     0 0 some
 
 module _ (g : Graph) (marks : Marks) (closed : ℕ) (order : List Placed) (w : Waiting) (keeps : KeepsUpTo g (published_as marks closed order w)) where
-  abbrev n : ℕ
+  abbrev n : Stakes
   n = g.members
 
   abbrev L : List Link

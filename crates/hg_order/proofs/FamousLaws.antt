@@ -111,7 +111,7 @@ famous_within g places f =
     All-same (λ w. w < length (links_of g)) places (famous_of g f.marks f.round) f.are
     (All-from_recursion (λ w. w < length (links_of g)) (famous_of g f.marks f.round) (famous_all g.members (links_of g) f.marks f.round (λ w. w < length (links_of g)) (λ w h e. h)))
 
-pub famous_at_most : (g : Graph) (places : List ℕ) → AreFamous g places → IsShaped g.members (links_of g) → length places ≤ g.members
+pub famous_at_most : (g : Graph) (places : List ℕ) → AreFamous g places → IsShaped g.members (links_of g) → length places ≤ member_count g.members
 famous_at_most g places f s = rw f.are (famous_few g.members (links_of g) f.marks f.round s)
 
 -- the loop over the witnesses of a round, which a table of standings lists
@@ -132,7 +132,7 @@ module _ (shape : Shape) (standings : List Standing) (g : Graph) (matches : IsOf
   pub lone_counted : count_by (is_lone shape.links marks (witnesses_in standings r)) (witnesses_in standings r) ≡ length (famous_of g marks r)
   lone_counted = sym (length-filter (is_lone shape.links marks (witnesses_in standings r)) (witnesses_in standings r)) ∙ ap (λ (xs : List ℕ). length xs) lone_is
 
-  pub lone_few : count_by (is_lone shape.links marks (witnesses_in standings r)) (witnesses_in standings r) ≤ g.members
+  pub lone_few : count_by (is_lone shape.links marks (witnesses_in standings r)) (witnesses_in standings r) ≤ member_count g.members
   lone_few = rw lone_counted (famous_few g.members (links_of g) marks r s)
 
 -- all of them are of the round

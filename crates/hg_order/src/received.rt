@@ -23,7 +23,7 @@ pub fn received_in<P: Prefix>(p: &P, famous: &[usize], x: usize) -> bool
 pub fn received_below<P: Prefix>(
     p: &P,
     famous: &[usize],
-    least: &Option<[u16; 128]>,
+    least: &Option<[u32; 128]>,
     x: usize,
 ) -> bool
     requires famous { AreFamous (P.graph p.now) famous.now }

@@ -6,17 +6,15 @@
 //! From `whole_of` of `check_graphs`:
 //!
 //! ```text
-//! fn whole_of(alloc: Global, node: &Node<&MacTable>) -> Result<PlainWhole, Memory>
-//!     ensures order { IfOk result (λ whole. whole.order ≡
-//!         order_of node.now.start.members node.now.start.coin (node_rows node.now)) }
-//!     ensures closed { IfOk result (λ whole. whole.state.closed ≡
-//!         closed_of node.now.start.members node.now.start.coin (node_rows node.now)) }
+//! pub fn whole_of(alloc: Global, node: &Node<&MacTable>) -> Result<PlainWhole, Memory>
+//!     ensures order { IfOk result (λ whole. whole.order ≡ order_of node.now.start.members node.now.start.coin (node_rows node.now)) }
+//!     ensures closed { IfOk result (λ whole. whole.state.closed ≡ closed_of node.now.start.members node.now.start.coin (node_rows node.now)) }
 //! {
 //!     let rows = rows_of(alloc, node)?;
+//!     let stakes = stakes_of(alloc, node)?;
 //!     let graph = node.graph();
-//!     // A graph has few rows.
-//!     graph.rows();
-//!     plain_whole(alloc, &rows, graph.members(), graph.coin())
+//!     is_of_graph(graph);
+//!     plain_whole(alloc, &rows, &stakes, graph.coin())
 //! }
 //! ```
 #![tactic(auto)]

@@ -46,16 +46,21 @@ struct Elected<'a> {
 
 /// Elects the famous witnesses of the rows, and closes rounds.
 #[tactic(auto, using(hg_model::proofs::LinkLaws::link_lengths))]
-fn elect<'a>(alloc: Global, rows: &'a [Row], members: u32, coin: u32) -> Result<Elected<'a>, Memory>
-    requires shaped { IsShaped members (links rows.now) }
+fn elect<'a>(
+    alloc: Global,
+    rows: &'a [Row],
+    stakes: &[u32],
+    coin: u32,
+) -> Result<Elected<'a>, Memory>
+    requires shaped { IsShaped stakes.now (links rows.now) }
     requires short { length rows.now < 2 ^ 32 - 1 }
-    requires few { members ≤ 128 }
+    requires few { length stakes.now ≤ 128 }
     requires coin { 2 < coin }
-    ensures graph { IfOk result (λ e. e.prefix ≡ graph_of members coin rows.now) }
-    ensures marks { IfOk result (λ e. e.marks.items ≡ fame_marks members coin (links rows.now) (coin_at rows.now)) }
-    ensures closed { IfOk result (λ e. IsClosedTable (shape_of members (links rows.now)) e.marks.items e.closed.items) }
+    ensures graph { IfOk result (λ e. e.prefix ≡ graph_of stakes.now coin rows.now) }
+    ensures marks { IfOk result (λ e. e.marks.items ≡ fame_marks stakes.now coin (links rows.now) (coin_at rows.now)) }
+    ensures closed { IfOk result (λ e. IsClosedTable (shape_of stakes.now (links rows.now)) e.marks.items e.closed.items) }
 {
-    let sight = PlainSight::new(alloc, rows, members)?;
+    let sight = PlainSight::new(alloc, rows, stakes)?;
     let prefix = PlainPrefix::new(alloc, rows, sight, coin)?;
     let marks = marks(alloc, &prefix)?;
     let closed = closed_rounds(alloc, prefix.tables(), &marks)?;
@@ -81,23 +86,23 @@ fn state_of(graph: &Elected<'_>) -> PlainState
     }
 }
 
-/// All that the procedures tell of a graph, from one set of tables.
+/// All that the procedures tell of a graph by members with these stakes, from one set of tables.
 pub fn plain_whole(
     alloc: Global,
     rows: &[Row],
-    members: u32,
+    stakes: &[u32],
     coin: u32,
 ) -> Result<PlainWhole, Memory>
-    requires shaped { IsShaped members (links rows.now) }
+    requires shaped { IsShaped stakes.now (links rows.now) }
     requires short { length rows.now < 2 ^ 32 - 1 }
-    requires few { members ≤ 128 }
+    requires few { length stakes.now ≤ 128 }
     requires coin { 2 < coin }
-    ensures forkers { IfOk result (λ whole. whole.state.forkers ≡ forkers members (links rows.now)) }
-    ensures greatest { IfOk result (λ whole. whole.state.greatest ≡ last_round members (links rows.now)) }
-    ensures closed { IfOk result (λ whole. whole.state.closed ≡ closed_of members coin rows.now) }
-    ensures order { IfOk result (λ whole. whole.order ≡ order_of members coin rows.now) }
+    ensures forkers { IfOk result (λ whole. whole.state.forkers ≡ forkers stakes.now (links rows.now)) }
+    ensures greatest { IfOk result (λ whole. whole.state.greatest ≡ last_round stakes.now (links rows.now)) }
+    ensures closed { IfOk result (λ whole. whole.state.closed ≡ closed_of stakes.now coin rows.now) }
+    ensures order { IfOk result (λ whole. whole.order ≡ order_of stakes.now coin rows.now) }
 {
-    let graph = elect(alloc, rows, members, coin)?;
+    let graph = elect(alloc, rows, stakes, coin)?;
     let order = ordered_rows(alloc, &graph.prefix, &graph.marks, &graph.closed)?;
     Ok(PlainWhole {
         state: state_of(&graph),

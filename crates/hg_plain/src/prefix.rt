@@ -4,7 +4,7 @@ ghost use Rattle.hg_model.specs.Graph.{IsShaped};
 ghost use Rattle.hg_model.specs.Fame.{is_witness_of_round};
 ghost use Rattle.hg_model.specs.Prefix.{graph_of};
 ghost use Rattle.hg_model.specs.GraphWords.{standings_in, shape_in};
-ghost use Rattle.hg_plain.specs.Held.{IsWitnessTable, witnesses_of};
+ghost use Rattle.hg_plain.specs.Held.{IsStakeTable, IsWitnessTable, witnesses_of};
 ghost use Rattle.hg_model.specs.Stakes.{member_count};
 
 use hg_model::{Items, Member, Memory, Prefix, Rounds, Row, Sight};
@@ -20,6 +20,8 @@ pub struct PlainPrefix<'a> {
     coin: u32,
     /// For each round from 0 to the greatest its witnesses.
     witnesses: Vec<Items<usize>>,
+    /// For each row the stake of its creator.
+    row_stakes: Vec<u32>,
 }
 
 impl<'a> Model for PlainPrefix<'a> {
@@ -30,7 +32,7 @@ impl<'a> Model for PlainPrefix<'a> {
 
     ghost view = { λ s. graph_of s.sight.members s.coin s.rows.now };
 
-    ghost invariant = { λ s. HoldsPrefix s.rows.now s.sight s.coin s.witnesses.items };
+    ghost invariant = { λ s. HoldsPrefix s.rows.now s.sight s.coin s.witnesses.items s.row_stakes.items };
 }
 
 impl<'a> PlainPrefix<'a> {
@@ -49,11 +51,13 @@ impl<'a> PlainPrefix<'a> {
         ensures { IfOk result (λ p. p ≡ graph_of sight.members coin rows.now) }
     {
         let witnesses = witness_lists(alloc, &sight)?;
+        let row_stakes = row_stakes(alloc, &sight)?;
         Ok(PlainPrefix {
             rows,
             sight,
             coin,
             witnesses,
+            row_stakes,
         })
     }
 
@@ -63,6 +67,25 @@ impl<'a> PlainPrefix<'a> {
     {
         &self.sight
     }
+
+    /// For each row the stake of its creator.
+    pub fn row_stakes(&self) -> &[u32]
+        ensures { IsStakeTable (shape_in self.now) result.now }
+    {
+        &self.row_stakes
+    }
+}
+
+/// For each row the stake of its creator.
+#[tactic(auto, using(hg_plain_graph::proofs::TableLaws::table_steps))]
+fn row_stakes(alloc: Global, sight: &PlainSight) -> Result<Vec<u32>, Memory>
+    ensures { IfOk result (λ v. IsStakeTable sight.now v.items) }
+{
+    let mut stakes = Vec::new(alloc);
+    for x in 0..sight.len() {
+        stakes.push(sight.stake_at(x))?;
+    }
+    Ok(stakes)
 }
 
 /// The witnesses of each round, from 0 to the greatest.
@@ -116,7 +139,19 @@ impl<'a> Sight for PlainPrefix<'a> {
     }
 
     fn members(&self) -> u32 {
-        self.sight.members()
+        self.sight.stakes().len() as u32
+    }
+
+    fn stake(&self, member: Member) -> u32 {
+        self.sight.stakes()[usize::from(member)]
+    }
+
+    fn total(&self) -> u64 {
+        self.sight.total()
+    }
+
+    fn even(&self) -> Option<u32> {
+        None
     }
 
     fn creator(&self, x: usize) -> Member {

@@ -65,7 +65,7 @@ fn can_receive(
 ) -> bool
     requires closed { decided ≡ is_closed_in p.now marks.now r }
     requires row { x < length (links_of p.now) }
-    requires room { p.now.members ≤ length places.old }
+    requires room { member_count p.now.members ≤ length places.old }
     ensures { result ≡ can_receive_in p.now marks.now x r }
 {
     if !decided {

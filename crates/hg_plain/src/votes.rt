@@ -5,7 +5,7 @@ ghost use Rattle.hg_votes.specs.Tallies.{voters_of};
 ghost use Rattle.hg_plain.specs.Elections.{IsBallotTable, IsVoterTable};
 
 use crate::prefix::PlainPrefix;
-use hg_model::{Ballot, Items, Memory, Prefix, Sight};
+use hg_model::{Ballot, Items, Memory, Prefix, Sight, is_shaped};
 use hg_plain_graph::PlainSight;
 use hg_votes::{count_votes, weigh};
 use std::alloc::Global;
@@ -75,8 +75,7 @@ fn next_ballot(
     ensures { result ≡ ballot_of p.now x y }
 {
     let sight = p.tables();
-    // A graph is shaped.
-    p.rows();
+    is_shaped(p);
     let above = rounds_above(sight, x, y);
     if above == 1 {
         return Ballot {
@@ -84,13 +83,13 @@ fn next_ballot(
             decides: false,
         };
     }
-    let tally = count_votes(voters, ballots);
+    let tally = count_votes(voters, p.row_stakes(), ballots);
     let weighed = weigh(
         above,
         p.coin(),
         tally.yes,
         tally.no,
-        sight.members(),
+        sight.total(),
         &p.row(y).sig,
     );
     Ballot {

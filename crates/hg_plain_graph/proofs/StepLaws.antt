@@ -3,14 +3,14 @@ use Rattle.std.proofs.Common.{◌≡◌, ◌≢◌, ℕ, ◌+◌, ◌<◌, Bool,
 use Rattle.std.specs.List.{list_any}
 use Rattle.std.specs.Global.{Vec}
 use Rattle.std.proofs.lemmas.Bool.{eq-eqb, ne_eqb}
-use Rattle.hg_model.specs.Places.{count_below, maximum_below, IsEarlier}
-use Rattle.hg_model.specs.Stakes.{Stakes, member_count, total}
+use Rattle.hg_model.specs.Places.{maximum_below, IsEarlier}
+use Rattle.hg_model.specs.Stakes.{Stakes, member_count, stake_of, stake_where, total}
 use Rattle.hg_model.specs.Links.{Link, creator, parents, self_parent}
 use Rattle.hg_model.specs.Ancestry.{is_ancestor, is_self_ancestor}
 use Rattle.hg_model.specs.Seeing.{sees, sees_through, is_supermajority}
 use Rattle.hg_model.specs.Rounds.{parent_round, is_witness_by, is_seen_witness, round_of, is_witness, last_round, weight_of}
 use Rattle.hg_model.proofs.RoundLaws.{is_witness_by-same, round_of-at, round_from-same}
-use Rattle.hg_model.proofs.PlacesLaws.{weight_below-same, maximum_below-same, total-count}
+use Rattle.hg_model.proofs.PlacesLaws.{weight_below-same, maximum_below-same}
 use Rattle.hg_model.proofs.ReachLaws.{list_any-same}
 use Rattle.hg_model.proofs.AncestryLaws.{self_parent_earlier, is_ancestor-at, is_ancestor_self, is_self_ancestor-at, is_self_ancestor_self, some_ancestor-at}
 use Rattle.hg_plain_graph.specs.By.{is_ancestor_by, parents_by}
@@ -52,23 +52,21 @@ module _ (L : List Link) (e : IsEarlier (parents L)) (x y m : ℕ) (here : Bool)
   through_above column above matches missed is =
       is ∙ (table_of_earlier (parents L) (λ k. sees_through L k y m) x column e matches ∙ sym (rw (through-at, missed)))
 
--- how many members are found in their columns
-pub count_of_columns : (L : List Link) (n x y : ℕ) (through : List (Vec Bool)) → IsTableOfPairs (λ x m. sees_through L x y m) (length L) n through → x < length L →
-    count_below n (cell_at through x) ≡ count_below n (sees_through L x y)
-count_of_columns L n x y through matches hx =
-    weight_below-same (λ _. 1) n (cell_at through x) (sees_through L x y) (λ m h. cell_read (λ x m. sees_through L x y m) (length L) n through x m matches hx h)
+-- what the members weigh that are found in their columns
+pub weight_of_columns : (L : List Link) (n : Stakes) (x y : ℕ) (through : List (Vec Bool)) → IsTableOfPairs (λ x m. sees_through L x y m) (length L) (member_count n) through → x < length L →
+    stake_where n (cell_at through x) ≡ stake_where n (sees_through L x y)
+weight_of_columns L n x y through matches hx =
+    weight_below-same (stake_of n) (member_count n) (cell_at through x) (sees_through L x y) (λ m h. cell_read (λ x m. sees_through L x y m) (length L) (member_count n) through x m matches hx h)
 
 -- what is seen where the first test passes
 pub and_given : (a s v : Bool) → a ≡ true → v ≡ s → v ≡ (a && s)
 and_given a s v passes is = is ∙ sym (ap (λ b. b && s) passes)
 
 -- the next round, from the rounds before it
-pub round_next : (n : Stakes) (L : List Link) → IsEarlier (parents L) → (rounds : List ℕ) (x r count : ℕ) (many : Bool) → IsTableOf 0 (round_of n L) x rounds →
-    r ≡ parent_round (λ p. get_or rounds p 0) (parents L x) → count ≡ count_below x (is_seen_witness (λ k. get_or rounds k 0) n L r x) →
-    many ≡ is_supermajority (member_count n) count → cond many (r + 1) r ≡ round_of n L x
-round_next n L e rounds x r count many matches r_is count_is many_is =
-    let weighs : count ≡ weight_of n L x (is_seen_witness (λ k. get_or rounds k 0) n L r x) = count_is in
-    let over : many ≡ is_supermajority (total n) count = many_is ∙ ap (λ all. is_supermajority all count) (sym (total-count n)) in
+pub round_next : (n : Stakes) (L : List Link) → IsEarlier (parents L) → (rounds : List ℕ) (x r weight : ℕ) (many : Bool) → IsTableOf 0 (round_of n L) x rounds →
+    r ≡ parent_round (λ p. get_or rounds p 0) (parents L x) → weight ≡ weight_of n L x (is_seen_witness (λ k. get_or rounds k 0) n L r x) →
+    many ≡ is_supermajority (total n) weight → cond many (r + 1) r ≡ round_of n L x
+round_next n L e rounds x r weight many matches r_is weighs over =
     sym (round_of-at n L e x
     ∙ (round_from-same n L e (round_of n L) (λ k. get_or rounds k 0) x (λ p h. sym (matches.at p h))
     ∙ rw (← r_is, ← weighs, ← over) refl))

@@ -1,4 +1,4 @@
-ghost use Rattle.std.specs.Prelude.{◌≡◌, ◌<◌, ◌==◌, length};
+ghost use Rattle.std.specs.Prelude.{◌≡◌, ◌<◌, ◌≤◌, ◌==◌, length};
 ghost use Rattle.hg_model.specs.Places.{IsEarlier};
 ghost use Rattle.hg_model.specs.Links.{links, parents};
 ghost use Rattle.hg_model.specs.Forks.{forkers, has_fork};
@@ -11,12 +11,13 @@ use hg_model::{Name, Row};
 /// How many of the members have a fork: twins tell it, so no table is filled.
 /// The time grows with the square of the rows, by a step of two comparisons.
 #[tactic(auto, using(hg_model::proofs::PlacesLaws::count_steps), unfolding(hg_model::specs::Forks::forkers))]
-pub fn plain_forkers(rows: &[Row], members: u32) -> u32
-    requires { IsShaped members (links rows.now) }
-    ensures { result ≡ forkers members (links rows.now) }
+pub fn plain_forkers(rows: &[Row], stakes: &[u32]) -> u32
+    requires shaped { IsShaped stakes.now (links rows.now) }
+    requires few { length stakes.now ≤ 128 }
+    ensures { result ≡ forkers stakes.now (links rows.now) }
 {
     let mut count = 0;
-    for member in 0..members {
+    for member in 0..stakes.len() as u32 {
         if has_fork(rows, member) {
             count += 1;
         }

@@ -5,7 +5,7 @@
 //! From `elect` of `hg_plain`:
 //!
 //! ```text
-//! let sight = PlainSight::new(alloc, rows, members)?;
+//! let sight = PlainSight::new(alloc, rows, stakes)?;
 //! let prefix = PlainPrefix::new(alloc, rows, sight, coin)?;
 //! let marks = marks(alloc, &prefix)?;
 //! let closed = closed_rounds(alloc, prefix.tables(), &marks)?;

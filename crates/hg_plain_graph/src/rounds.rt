@@ -1,10 +1,10 @@
 ghost use Rattle.std.specs.Prelude.{◌≡◌, ◌<◌, ◌≤◌, ◌-◌, ◌^◌, ◌&&◌, ◌==◌, length, slice_index, IfOk};
 ghost use Rattle.hg_model.specs.Places.{IsEarlier, maximum_below};
 ghost use Rattle.hg_model.specs.Links.{parents};
-ghost use Rattle.hg_model.specs.Rounds.{parent_round, is_seen_witness, is_witness_by, round_of};
-ghost use Rattle.hg_plain_graph.specs.Held.{IsRoundTable, IsStrongTable, seen_witnesses};
+ghost use Rattle.hg_model.specs.Rounds.{parent_round, is_seen_witness, is_witness_by, round_of, stake_at};
+ghost use Rattle.hg_plain_graph.specs.Held.{IsRoundTable, IsStrongTable, seen_weight};
 
-use crate::links::{PlainLink, parents_of, self_parent_of};
+use crate::links::{PlainLink, creator_of, parents_of, self_parent_of};
 use crate::seeing::Seeing;
 use crate::tables::cell;
 use hg_model::{Memory, is_supermajority};
@@ -34,7 +34,7 @@ fn next_round(seeing: &Seeing, strong: &[Vec<bool>], rounds: &[u32], x: usize) -
     ensures { result ≡ round_of seeing.now.members seeing.now.links x }
 {
     let r = parent_round(seeing.ancestry().links(), rounds, x);
-    if is_supermajority(seeing.members(), count_seen(seeing, strong, rounds, r, x)) {
+    if is_supermajority(seeing.total(), weigh_seen(seeing, strong, rounds, r, x)) {
         r + 1
     } else {
         r
@@ -54,22 +54,30 @@ fn parent_round(links: &[PlainLink], rounds: &[u32], x: usize) -> u32
     }
 }
 
-/// How many witnesses of round `r` row `x` strongly sees.
-#[tactic(auto, using(hg_model::proofs::PlacesLaws::count_steps))]
-fn count_seen(seeing: &Seeing, strong: &[Vec<bool>], rounds: &[u32], r: u32, x: usize) -> u32
+/// What the witnesses of round `r` weigh that row `x` strongly sees.
+#[tactic(auto, using(hg_model::proofs::PlacesLaws::weight_steps))]
+fn weigh_seen(seeing: &Seeing, strong: &[Vec<bool>], rounds: &[u32], r: u32, x: usize) -> u64
     requires place { x < length seeing.now.links }
     requires strong { IsStrongTable seeing.now strong.now }
     requires known { x ≤ length rounds.now }
     requires short { x < 2 ^ 32 - 1 }
-    ensures { result ≡ seen_witnesses seeing.now rounds.now r x }
+    ensures { result ≡ seen_weight seeing.now rounds.now r x }
 {
-    let mut count = 0;
+    let mut weight = 0;
     for y in 0..x {
         if is_seen_witness(seeing, strong, rounds, r, x, y) {
-            count += 1;
+            weight += u64::from(stake_at(seeing, y));
         }
     }
-    count
+    weight
+}
+
+/// The stake of the creator of row `y`.
+pub fn stake_at(seeing: &Seeing, y: usize) -> u32
+    requires { y < length seeing.now.links }
+    ensures { result ≡ stake_at seeing.now.members seeing.now.links y }
+{
+    seeing.stakes()[usize::from(creator_of(seeing.ancestry().links(), y))]
 }
 
 /// Whether row `y` is a witness of round `r` that row `x` strongly sees.

@@ -1,4 +1,4 @@
-ghost use Rattle.std.specs.Prelude.{◌≡◌, ◌<◌, ◌^◌, ◌&&◌, ◌==◌, false, length, IfOk};
+ghost use Rattle.std.specs.Prelude.{◌≡◌, ◌<◌, ◌≤◌, ◌^◌, ◌&&◌, ◌==◌, false, length, IfOk};
 ghost use Rattle.hg_model.specs.Links.{creator, links};
 ghost use Rattle.hg_model.specs.Graph.{IsShaped};
 ghost use Rattle.hg_model.specs.Ancestry.{is_ancestor, some_ancestor};
@@ -11,6 +11,7 @@ use crate::ancestry::Ancestry;
 use crate::forks::has_fork;
 use crate::links::{creator_of, links_of};
 use crate::tables::cell;
+use hg_bits::sum_stakes;
 use hg_model::{Memory, Row};
 use std::alloc::Global;
 use std::marker::Model;
@@ -18,7 +19,9 @@ use std::marker::Model;
 /// The ancestry of a shaped graph, and below which rows a member has a fork.
 #[derive(Drop)]
 pub struct Seeing {
-    members: u32,
+    stakes: Vec<u32>,
+    /// The sum of these.
+    total: u64,
     ancestry: Ancestry,
     /// For each member its column: below which rows it has a fork.
     forked: Vec<Vec<bool>>,
@@ -30,33 +33,46 @@ impl Model for Seeing {
 
     ghost Value = { Shape };
 
-    ghost view = { λ s. shape_of s.members s.ancestry };
+    ghost view = { λ s. shape_of s.stakes.items s.ancestry };
 
-    ghost invariant = { λ s. HoldsForkTable s.members s.ancestry s.forked.items };
+    ghost invariant = { λ s. HoldsForkTable s.stakes.items s.total s.ancestry s.forked.items };
 }
 
 impl Seeing {
+    ghost use Rattle.hg_model.specs.Stakes.{member_count, total};
     ghost use Rattle.hg_model.specs.Seeing.{sees};
     ghost use Rattle.hg_model.specs.Shape.{shape_of};
 
-    pub fn new(alloc: Global, rows: &[Row], members: u32) -> Result<Seeing, Memory>
-        requires { IsShaped members (links rows.now) }
-        ensures { IfOk result (λ s. s ≡ shape_of members (links rows.now)) }
+    pub fn new(alloc: Global, rows: &[Row], stakes: &[u32]) -> Result<Seeing, Memory>
+        requires shaped { IsShaped stakes.now (links rows.now) }
+        requires few { length stakes.now ≤ 128 }
+        ensures { IfOk result (λ s. s ≡ shape_of stakes.now (links rows.now)) }
     {
         let ancestry = Ancestry::new(alloc, links_of(alloc, rows)?)?;
-        let forked = forked_columns(alloc, rows, &ancestry, members)?;
+        let forked = forked_columns(alloc, rows, &ancestry, stakes)?;
         Ok(Seeing {
-            members,
+            stakes: Vec::from_slice(alloc, stakes)?,
+            total: sum_stakes(stakes),
             ancestry,
             forked,
         })
     }
 
-    pub fn members(&self) -> u32
-        ensures value { result ≡ self.now.members }
+    /// The stake of each member.
+    pub fn stakes(&self) -> &[u32]
+        ensures value { result.now ≡ self.now.members }
+        ensures few { length result.now ≤ 128 }
         ensures shaped { IsShapedIn self.now }
     {
-        self.members
+        &self.stakes
+    }
+
+    /// The stake of all members.
+    pub fn total(&self) -> u64
+        ensures value { result ≡ total self.now.members }
+        ensures low { result ≤ 2 ^ 39 }
+    {
+        self.total
     }
 
     pub fn ancestry(&self) -> &Ancestry
@@ -92,14 +108,15 @@ fn forked_columns(
     alloc: Global,
     rows: &[Row],
     ancestry: &Ancestry,
-    members: u32,
+    stakes: &[u32],
 ) -> Result<Vec<Vec<bool>>, Memory>
-    requires shaped { IsShaped members (links rows.now) }
+    requires shaped { IsShaped stakes.now (links rows.now) }
+    requires few { length stakes.now ≤ 128 }
     requires same { ancestry.now ≡ links rows.now }
-    ensures { IfOk result (λ v. IsForkTable members ancestry.now v.items) }
+    ensures { IfOk result (λ v. IsForkTable stakes.now ancestry.now v.items) }
 {
     let mut columns = Vec::new(alloc);
-    for member in 0..members {
+    for member in 0..stakes.len() as u32 {
         columns.push(forked_column(alloc, ancestry, member, has_fork(rows, member))?)?;
     }
     Ok(columns)

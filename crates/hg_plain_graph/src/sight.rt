@@ -1,5 +1,4 @@
-ghost use Rattle.std.specs.Prelude.{◌≡◌, ◌<◌, ◌-◌, ◌^◌, length, IfOk};
-ghost use Rattle.hg_model.specs.Stakes.{member_count};
+ghost use Rattle.std.specs.Prelude.{◌≡◌, ◌<◌, ◌≤◌, ◌-◌, ◌^◌, length, IfOk};
 ghost use Rattle.hg_model.specs.Links.{links};
 ghost use Rattle.hg_model.specs.Graph.{IsShaped};
 ghost use Rattle.hg_model.specs.Shape.{shape_of};
@@ -7,7 +6,7 @@ ghost use Rattle.hg_model.specs.GraphWords.{strongly_sees_in, sees_in};
 
 use crate::forks::plain_forkers;
 use crate::links::{creator_of, self_parent_of};
-use crate::rounds::{greatest_of, is_witness_by, rounds_of};
+use crate::rounds::{greatest_of, is_witness_by, rounds_of, stake_at};
 use crate::seeing::Seeing;
 use crate::strongly_seeing::strong_columns;
 use crate::tables::cell;
@@ -42,16 +41,18 @@ impl PlainSight {
     ghost use Rattle.hg_model.specs.Ancestry.{is_ancestor};
     ghost use Rattle.hg_model.specs.Forks.{forkers};
     ghost use Rattle.hg_model.specs.Seeing.{sees, strongly_sees};
-    ghost use Rattle.hg_model.specs.Rounds.{is_witness, last_round, round_of};
+    ghost use Rattle.hg_model.specs.Rounds.{is_witness, last_round, round_of, stake_at};
+    ghost use Rattle.hg_model.specs.Stakes.{total};
     ghost use Rattle.hg_model.specs.Shape.{place_list};
 
-    /// The tables of these rows, by `members` members.
-    pub fn new(alloc: Global, rows: &[Row], members: u32) -> Result<PlainSight, Memory>
-        requires shaped { IsShaped members (links rows.now) }
+    /// The tables of these rows, by members with these stakes.
+    pub fn new(alloc: Global, rows: &[Row], stakes: &[u32]) -> Result<PlainSight, Memory>
+        requires shaped { IsShaped stakes.now (links rows.now) }
+        requires few { length stakes.now ≤ 128 }
         requires short { length rows.now < 2 ^ 32 - 1 }
-        ensures { IfOk result (λ s. s ≡ shape_of members (links rows.now)) }
+        ensures { IfOk result (λ s. s ≡ shape_of stakes.now (links rows.now)) }
     {
-        let seeing = Seeing::new(alloc, rows, members)?;
+        let seeing = Seeing::new(alloc, rows, stakes)?;
         let strong = strong_columns(alloc, &seeing)?;
         let rounds = rounds_of(alloc, &seeing, &strong)?;
         let greatest = greatest_of(&rounds);
@@ -59,7 +60,7 @@ impl PlainSight {
             seeing,
             strong,
             rounds,
-            forkers: plain_forkers(rows, members),
+            forkers: plain_forkers(rows, stakes),
             greatest,
         })
     }
@@ -71,11 +72,28 @@ impl PlainSight {
         self.seeing.ancestry().links().len()
     }
 
-    /// How many members there are.
-    pub fn members(&self) -> u32
-        ensures { result ≡ member_count self.now.members }
+    /// The stake of each member.
+    pub fn stakes(&self) -> &[u32]
+        ensures value { result.now ≡ self.now.members }
+        ensures few { length result.now ≤ 128 }
     {
-        self.seeing.members()
+        self.seeing.stakes()
+    }
+
+    /// The stake of all members.
+    pub fn total(&self) -> u64
+        ensures value { result ≡ total self.now.members }
+        ensures low { result ≤ 2 ^ 39 }
+    {
+        self.seeing.total()
+    }
+
+    /// The stake of the creator of row `x`.
+    pub fn stake_at(&self, x: usize) -> u32
+        requires { x < length self.now.links }
+        ensures { result ≡ stake_at self.now.members self.now.links x }
+    {
+        stake_at(&self.seeing, x)
     }
 
     pub fn creator(&self, x: usize) -> Member

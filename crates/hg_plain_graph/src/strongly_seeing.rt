@@ -1,5 +1,5 @@
 ghost use Rattle.std.specs.Prelude.{◌≡◌, ℕ, ◌<◌, ◌≤◌, ◌&&◌, ◌==◌, length, IfOk};
-ghost use Rattle.hg_model.specs.Places.{count_below};
+ghost use Rattle.hg_model.specs.Stakes.{stake_where};
 ghost use Rattle.hg_model.specs.Links.{creator};
 ghost use Rattle.hg_model.specs.Seeing.{sees, sees_through, strongly_sees};
 ghost use Rattle.hg_model.specs.GraphWords.{strongly_sees_in, sees_in};
@@ -40,31 +40,32 @@ fn strong_column(alloc: Global, seeing: &Seeing, y: usize) -> Result<Vec<bool>, 
     Ok(column)
 }
 
-/// Whether more than two thirds of the members have an event among the ancestors of row `x` that sees row `y`.
+/// Whether the members with an event among the ancestors of row `x` that sees row `y` have more than two thirds of the
+/// stake.
 #[tactic(auto, unfolding(hg_model::specs::Seeing::strongly_sees))]
 fn is_strong(seeing: &Seeing, through: &[Vec<bool>], x: usize, y: usize) -> bool
     requires place { x < length seeing.now.links }
     requires known { IsThroughTable seeing.now y through.now }
     ensures { result ≡ strongly_sees_in seeing.now x y }
 {
-    let members = seeing.members();
-    is_supermajority(members, count_through(through, members, x))
+    is_supermajority(seeing.total(), weigh_through(through, seeing.stakes(), x))
 }
 
-/// How many of the members' columns hold row `x`.
-#[tactic(auto, using(hg_model::proofs::PlacesLaws::count_steps))]
-fn count_through(through: &[Vec<bool>], members: u32, x: usize) -> u32
-    requires columns { members ≤ length through.now }
-    requires place { (m : ℕ) → m < members → x < length (column_at through.now m) }
-    ensures { result ≡ count_below members (cell_at through.now x) }
+/// What the members weigh whose columns hold row `x`.
+#[tactic(auto, using(hg_model::proofs::PlacesLaws::weight_steps))]
+fn weigh_through(through: &[Vec<bool>], stakes: &[u32], x: usize) -> u64
+    requires few { length stakes.now ≤ 128 }
+    requires columns { length stakes.now ≤ length through.now }
+    requires place { (m : ℕ) → m < length stakes.now → x < length (column_at through.now m) }
+    ensures { result ≡ stake_where stakes.now (cell_at through.now x) }
 {
-    let mut count = 0;
-    for member in 0..members {
-        if cell(through, x, member as usize) {
-            count += 1;
+    let mut weight = 0;
+    for member in 0..stakes.len() {
+        if cell(through, x, member) {
+            weight += u64::from(stakes[member]);
         }
     }
-    count
+    weight
 }
 
 /// For each member the rows that see row `y` through it.
@@ -73,7 +74,7 @@ fn through_columns(alloc: Global, seeing: &Seeing, y: usize) -> Result<Vec<Vec<b
     ensures { IfOk result (λ v. IsThroughTable seeing.now y v.items) }
 {
     let mut columns = Vec::new(alloc);
-    for member in 0..seeing.members() {
+    for member in 0..seeing.stakes().len() as u32 {
         columns.push(through_column(alloc, seeing, y, member)?)?;
     }
     Ok(columns)

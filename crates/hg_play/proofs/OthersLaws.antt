@@ -1,6 +1,5 @@
 -- What a call through a seat leaves, where others only mark
-use Rattle.std.proofs.Common.{◌≡◌, ◌≢◌, ℕ, zero, suc, ◌+◌, ◌<◌, ◌≤◌, eqb, cond, List, [], ◌∷◌, ◌++◌, length, map, Some, slice_get, sym, refl, ap, ◌∙◌, subst, append_assoc, arith}
-use Rattle.std.proofs.lemmas.Bool.{ne_eqb}
+use Rattle.std.proofs.Common.{◌≡◌, ℕ, suc, ◌+◌, ◌<◌, List, [], ◌∷◌, ◌++◌, length, map, Some, slice_get, sym, refl, ap, ◌∙◌, subst, append_assoc, arith}
 use Rattle.std.proofs.lemmas.List.{append-nil, length-append}
 use Rattle.hg_model.specs.declared.row.Row.{Row}
 use Rattle.hg_life.specs.declared.answers.PutAnswer.{PutAnswer}
@@ -17,7 +16,7 @@ use Rattle.hg_gossip.specs.declared.gossip.Taken.{Taken}
 use Rattle.hg_gossip.specs.Gossip.{none_taken}
 use Rattle.hg_gossip.specs.Nodes.{Taking, taking, taking_of}
 use Rattle.hg_gossip.specs.Holding.{Seen, positions_from, with_others, with_own}
-use Rattle.hg_board.specs.Positions.{times, AreBelow}
+use Rattle.hg_board.specs.Positions.{times}
 use Rattle.hg_board.specs.Seats.{SharedNode, SeatView, seen_by}
 use Rattle.hg_board.specs.Calls.{SeatMakes, SeatPuts, SeatWaits, Stays}
 use Rattle.hg_board.specs.Taking.{AreSpelled, SeatTakes}
@@ -28,6 +27,7 @@ use Rattle.hg_world.specs.World.{Secrets}
 use Rattle.hg_world.specs.Steps.{making_at, node_made, node_put, putting_at}
 use Rattle.hg_world.proofs.NodeLaws.{makes}
 use Rattle.hg_crowd.specs.Crowd.{IsMark, IsSeat, IsStill, OthersMark}
+use Rattle.hg_crowd.proofs.MarkLaws.{get_behind, get_front}
 use Rattle.hg_play.specs.Alike.{AreAlike}
 use Rattle.hg_play.specs.Through.{node_seen}
 use Rattle.hg_play.proofs.AlikeLaws.{added, rows_changed, stay_alike, taking_alike}
@@ -41,35 +41,11 @@ alike_both v u t a b = record { start = a.start ∙ b.start; rows = a.rows ∙ b
 pub alike_same : (v u : NodeView Secrets) → v ≡ u → AreAlike v u
 alike_same v u same = record { start = ap (λ (w : NodeView Secrets). w.start) same; rows = ap (λ (w : NodeView Secrets). node_rows w) same }
 
--- how often a position stands in lists
-times_cons : (q p : ℕ) (ps : List ℕ) → times q (p ∷ ps) ≡ times q (p ∷ []) + times q ps
-times_cons q p ps = positions.times-append q (p ∷ []) ps
-
-times_other : (q p : ℕ) → p ≢ q → times q (p ∷ []) ≡ 0
-times_other q p other =
-    let none : (◌≡◌ {A = ℕ} (cond (eqb p q) 1 0) 0) = ap (λ b. cond b 1 0) (ne_eqb p q other) in
-    omega (arith, positions.times_push q [] p, positions.times_none q, none)
-
--- no position past the end stands in a list of positions below it
-times_past : (n q : ℕ) (ps : List ℕ) → AreBelow n ps → n ≤ q → times q ps ≡ 0
-times_past n q [] below past = positions.times_none q
-times_past n q (p ∷ ps) below past = omega (arith, times_cons q p ps, times_other q p (λ e. omega (arith, below.0)), times_past n q ps below.1 past)
-
--- nor does one before the first in those that go on from it
+-- no position before the first stands in those that go on from it
 times_before : (n q : ℕ) (es : List Change) → q < n → times q (positions_from n es) ≡ 0
 times_before n q [] before = positions.times_none q
 times_before n q (e ∷ es) before =
-    omega (arith, times_cons q n (positions_from (suc n) es), times_other q n (λ e. omega arith), times_before (suc n) q es (omega arith))
-
-module _ {A : Type 0} where
-  get_front : (xs ys : List A) (k : ℕ) → k < length xs → slice_get (xs ++ ys) k ≡ slice_get xs k
-  get_front [] ys k low = absurd (omega arith)
-  get_front (x ∷ xs) ys zero low = refl
-  get_front (x ∷ xs) ys (suc k) low = get_front xs ys k (omega arith)
-
-  get_back : (xs ys : List A) (k : ℕ) → slice_get (xs ++ ys) (length xs + k) ≡ slice_get ys k
-  get_back [] ys k = let same : 0 + k ≡ k = omega arith in ap (slice_get ys) same
-  get_back (x ∷ xs) ys k = let same : suc (length xs) + k ≡ suc (length xs + k) = omega arith in ap (slice_get (x ∷ (xs ++ ys))) same ∙ get_back xs ys k
+    omega (arith, positions.times_cons q n (positions_from (suc n) es), positions.times_apart q n (λ e. let same : n ≡ q = e in omega (arith, same, before)), times_before (suc n) q es (omega arith))
 
 -- marks add no row
 marks_add_none : (es : List Change) → ((k : ℕ) → k < length es → IsMark es k) → added es ≡ []
@@ -111,8 +87,8 @@ module _ (p : SharedNode Secrets) (old new : SeatView Secrets) (others own : Lis
       let q : ℕ = length old.seen + k in
       let here : q < length (old.seen ++ others) = omega (arith, long, low) in
       let m = mark q (omega (arith, prefix_length p.start.history old.seen seat.begun)) (omega (arith, here, ap length called.seen, length-append (old.seen ++ others) own))
-      (times_mine q here (times_past (length old.seen) q old.mine seat.within (omega arith))) in
-      (m.0, m.1, sym (get_back old.seen others k) ∙ (sym (get_front (old.seen ++ others) own q here) ∙ (ap (λ (h : List Change). slice_get h q) (sym called.seen) ∙ m.2))))
+      (times_mine q here (positions.times_past (length old.seen) q old.mine seat.within (omega arith))) in
+      (m.0, m.1, sym (get_behind old.seen others (length old.seen + k) k refl) ∙ (sym (get_front (old.seen ++ others) own q here) ∙ (ap (λ (h : List Change). slice_get h q) (sym called.seen) ∙ m.2))))
 
   -- what others made of the node is alike
   reached_alike : IsSeat accepts_by p old → OthersMark p new → AreAlike (with_changes (node_seen p old) others) (node_seen p old)

@@ -1,6 +1,6 @@
 -- Many nodes that lines are played over: of one thread, or shared with others who add nothing but marks. What a call
 -- answers is told once it is known that others did no more. Lines that need the marks are played over a world
-use Rattle.std.specs.Prelude.{ℕ, ◌≡◌, ⊤, cond, List, [], ◌∷◌, ◌++◌, length, Option}
+use Rattle.std.specs.Prelude.{ℕ, ◌≡◌, ⊤, cond, List, [], ◌∷◌, ◌++◌, length, Option, OnOk, Result}
 use Rattle.std.specs.Option.{option_to_list}
 use Rattle.hg_life.specs.declared.answers.PutAnswer.{PutAnswer}
 use Rattle.hg_life.specs.declared.answers.MakeAnswer.{MakeAnswer}
@@ -14,6 +14,7 @@ use Rattle.hg_life.specs.NodeView.{NodeView}
 use Rattle.hg_gossip.specs.declared.gossip.Taken.{Taken}
 use Rattle.hg_script.specs.declared.line.Gossip.{Gossip}
 use Rattle.hg_script.specs.declared.line.Source.{Source}
+use Rattle.hg_script.specs.declared.line.Part.{Part}
 use Rattle.hg_script.specs.declared.line.Line.{Line}
 use Rattle.hg_world.specs.declared.step.Step.{Step}
 use Rattle.hg_world.specs.declared.step.Step.TheVariants.{Make, Deliver}
@@ -22,7 +23,7 @@ use Rattle.hg_world.specs.Steps.{after_steps, making_at, putting_at, settle_step
 use Rattle.hg_world.specs.Syncs.{pull_steps, pulled, sync_report, sync_steps}
 use Rattle.hg_world.specs.Parts.{IsWorld}
 use Rattle.hg_play.specs.Labels.{last_bytes, source_bytes}
-use Rattle.hg_play.specs.Lines.{gossip_printed, gossip_steps, kept_block}
+use Rattle.hg_play.specs.Lines.{gossip_printed, gossip_steps, kept_block, part_line}
 use Rattle.hg_play.specs.Play.{Stage, after_line, after_lines, block_at, end_blocks, end_steps, stage, tape_of}
 use Rattle.hg_play.specs.Sites.{start_in, starts, starts_of}
 use Rattle.hg_play.specs.Tape.{TapeView}
@@ -102,6 +103,14 @@ pub record IsStage {N : Type 0} (members : MemberList) (v : NodesView N) (t : Ta
 abbrev pub MatchesLine : {N : Type 0} → MemberList → Line → NodesView N → TapeView → NodesView N → TapeView → Type 0
 MatchesLine members line old t new t_new = new.Alone → (s : Stage) → IsStage members old t s → IsStage members new t_new (after_line members s line)
 
+-- so it is of nodes of one thread
+abbrev pub PlaysLine : MemberList → Line → WorldView → TapeView → WorldView → TapeView → Type 0
+PlaysLine members line old t new t_new = MatchesLine members line (seen_alone old) t (seen_alone new) t_new
+
+-- so it is of what may stand in a batch, under its number, unless memory ran out
+abbrev pub Plays : {N A E : Type 0} → Result A E → MemberList → ℕ → Part → NodesView N → TapeView → NodesView N → TapeView → Type 0
+Plays result members number p old t new t_new = OnOk result (MatchesLine members (part_line number p) old t new t_new)
+
 -- what is told of lines that were played over nodes that began as those of these members: all that they print, and that the
 -- nodes are those of the world after them
 abbrev pub MatchesLines : {N : Type 0} → NodesView N → NodesView N → MemberList → List Line → List Printed → Type 0
@@ -109,16 +118,26 @@ MatchesLines old new members lines printed =
     new.Alone → (w : WorldView) → old.Agrees w → starts_of w ≡ starts members →
     (let s = after_lines members (stage w [] []) lines in (printed ≡ s.printed) × new.Agrees s.world)
 
+-- the same of nodes of one thread
+abbrev pub PlaysLines : MemberList → List Line → WorldView → WorldView → List Printed → Type 0
+PlaysLines members lines old new printed = MatchesLines (seen_alone old) (seen_alone new) members lines printed
+
 -- of the block of a node behind what was printed, if the member has one
 abbrev pub MatchesBlock : {N : Type 0} → NodesView N → NodesView N → MemberList → ℕ → List Printed → List Printed → Type 0
 MatchesBlock old new members m before after =
     Matched old new (λ w. cond (has_node members m) (settle_steps m) [])
     (λ w. starts_of w ≡ starts members → after ≡ before ++ cond (has_node members m) (block_at members w m ∷ []) [])
 
+abbrev pub Shows : MemberList → ℕ → WorldView → List Printed → WorldView → List Printed → Type 0
+Shows members m old before new after = MatchesBlock (seen_alone old) (seen_alone new) members m before after
+
 -- of the blocks of all nodes
 abbrev pub MatchesBlocks : {N : Type 0} → NodesView N → NodesView N → MemberList → List Printed → List Printed → Type 0
 MatchesBlocks old new members before after =
     Matched old new (λ w. end_steps members (length members.entries)) (λ w. starts_of w ≡ starts members → after ≡ before ++ end_blocks members w)
+
+abbrev pub ShowsAll : MemberList → WorldView → List Printed → WorldView → List Printed → Type 0
+ShowsAll members old before new after = MatchesBlocks (seen_alone old) (seen_alone new) members before after
 
 -- the outcome has the members' names, what was printed, and behind it the blocks of all nodes, which are lawful then
 pub record Closes (members : MemberList) (old : WorldView) (before : List Printed) (outcome : Outcome) : Type 0 where

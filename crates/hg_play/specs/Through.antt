@@ -1,5 +1,5 @@
 -- Lines that are played over nodes between threads, while others mark: what they print is that of the rows alone
-use Rattle.std.specs.Prelude.{ℕ, ◌≡◌, ◌<◌, ⊤, List, [], length, map, get_or, Option, Some, None}
+use Rattle.std.specs.Prelude.{ℕ, ◌≡◌, ◌<◌, ⊤, List, [], length, map, get_or, take, IfOk, Option, Some, None, Result}
 use Rattle.std.specs.declared.sync.Arc.{Arc}
 use Rattle.hg_life.specs.declared.answers.SyncMade.{SyncMade}
 use Rattle.hg_model.specs.declared.row.Row.{Row}
@@ -113,10 +113,20 @@ LinesNeedRowsAlone =
 abbrev pub MatchesParts : {N : Type 0} → MemberList → List Line → NodesView N → TapeView → NodesView N → TapeView → Type 0
 MatchesParts members lines old t new t_new = new.Alone → (s : Stage) → IsStage members old t s → IsStage members new t_new (after_lines members s lines)
 
+-- so it is of the first of these lines, as many as were played, unless memory ran out
+abbrev pub PlaysFirst : {N E : Type 0} → Result (TapeView × ℕ) E → MemberList → List Line → NodesView N → TapeView → NodesView N → Type 0
+PlaysFirst result members lines old t new = IfOk result (λ r. MatchesParts members (take r.1 lines) old t new r.0)
+
 -- the same of nodes between threads
 abbrev pub MatchesThrough : MemberList → List Line → List (SharedNode Secrets) → List (SeatView Secrets) → TapeView → List (SeatView Secrets) → TapeView → Type 0
 MatchesThrough members lines places seats t seats_new t_new =
     AllOthersMark places seats_new → (s : Stage) → IsStageOf members places seats t s → IsStageOf members places seats_new t_new (after_lines members s lines)
+
+abbrev pub PlaysThrough : {E : Type 0} → Result (TapeView × ℕ) E → MemberList → List Line → List (SharedNode Secrets) → List (SeatView Secrets) → TapeView → List (SeatView Secrets) → Type 0
+PlaysThrough result members lines places seats t seats_new = IfOk result (λ r. MatchesThrough members (take r.1 lines) places seats t seats_new r.0)
+
+abbrev pub PlaysShared : {E : Type 0} → Result (TapeView × ℕ) E → MemberList → List Line → PartyView Secrets → TapeView → List (SeatView Secrets) → Type 0
+PlaysShared result members lines old t seats_new = PlaysThrough result members lines old.places old.seats t seats_new
 
 -- nothing was added: they are the nodes of the same worlds
 abbrev pub MatchesNone : {N : Type 0} → NodesView N → NodesView N → Type 0

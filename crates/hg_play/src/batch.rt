@@ -8,7 +8,7 @@ ghost use Rattle.hg_crowd.specs.Party.{party_view};
 ghost use Rattle.hg_play.specs.Batch.{AllAreMarked, IsBatch, IsLineOfRows, IsPlayed, MatchesBatch, PlaysNext};
 ghost use Rattle.hg_play.specs.Heard.{rows_seen};
 ghost use Rattle.hg_play.specs.Lines.{IsLineBelow};
-ghost use Rattle.hg_play.specs.Through.{AreNodes, MatchesThrough};
+ghost use Rattle.hg_play.specs.Through.{AreNodes, PlaysThrough};
 
 use crate::band::Band;
 use crate::game::Game;
@@ -69,7 +69,7 @@ fn play_batch<R: Threads + Wait + Sync, C: Crew + Sync, G: Gate + Sync>(
             ensures still { AreStill own.items result.0.items }
             ensures known { KeepsKnown (rows_seen (party_view places.entry.now result.0.items)) result.1 }
             ensures batch { IfOk result.2 (λ r. IsBatch lines.entry.now r.1) }
-            ensures played { IfOk result.2 (λ r. MatchesThrough members.entry.now (take r.1 lines.entry.now) places.entry.now own.items tape result.0.items r.0) }
+            ensures told { PlaysThrough result.2 members.entry.now lines.entry.now places.entry.now own.items tape result.0.items }
         {
             let game = Game {
                 alloc,

@@ -1,7 +1,7 @@
 ghost use Rattle.std.specs.Prelude.{◌≡◌, ◌<◌, ◌^◌, IfOk, OnOk, length};
 ghost use Rattle.hg_world.specs.World.{IsMemberOf};
 ghost use Rattle.hg_world.specs.Steps.{after_steps, settle_steps};
-ghost use Rattle.hg_play.specs.Nodes.{IsBlockOf, IsKept, IsKeptBlock, IsShownBlock, MatchesBlock, MatchesBlocks, seen_alone};
+ghost use Rattle.hg_play.specs.Nodes.{IsBlockOf, IsKept, IsKeptBlock, IsShownBlock, Shows, ShowsAll, seen_alone};
 
 use crate::game::Game;
 use crate::printing::order_lines;
@@ -16,7 +16,7 @@ use hg_world::World;
 fn kept_block(game: &Game, member: Member, node: &Node<SharedTable>) -> Result<Block, Memory>
     ensures { IfOk result (IsBlockOf game.now.members.now member node.now) }
 {
-    // That it is a node, whose links are those of its rows.
+    node.is_node();
     let events = node.rows() as u64;
     let lines = order_lines(game.alloc, node.graph(), node.kept(), node.effects())?;
     let balances = Vec::from_slice(game.alloc, node.book().balances())?;
@@ -57,7 +57,7 @@ fn push_block(game: &Game, world: &mut World, member: usize, tape: &mut Tape) ->
     requires below { IsMemberOf world.old member }
     requires few { member < 2 ^ 16 }
     ensures kept { IsKept (seen_alone world.old) (seen_alone world.new) }
-    ensures told { OnOk result (MatchesBlock (seen_alone world.old) (seen_alone world.new) game.now.members.now member tape.old.printed tape.new.printed) }
+    ensures told { OnOk result (Shows game.now.members.now member world.old tape.old.printed world.new tape.new.printed) }
 {
     if game.members.has_node(member as Member) {
         let block = settled_at(game, world, member as Member)?;
@@ -70,7 +70,7 @@ fn push_block(game: &Game, world: &mut World, member: usize, tape: &mut Tape) ->
 pub(crate) fn push_blocks(game: &Game, world: &mut World, tape: &mut Tape) -> Result<(), Memory>
     requires { length world.old.sites ≡ length game.now.members.now.entries }
     ensures kept { IsKept (seen_alone world.old) (seen_alone world.new) }
-    ensures told { OnOk result (MatchesBlocks (seen_alone world.old) (seen_alone world.new) game.now.members.now tape.old.printed tape.new.printed) }
+    ensures told { OnOk result (ShowsAll game.now.members.now world.old tape.old.printed world.new tape.new.printed) }
 {
     for member in 0..game.members.count() as usize {
         push_block(game, world, member, tape)?;

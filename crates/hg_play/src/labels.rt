@@ -3,11 +3,11 @@ ghost use Rattle.hg_life.specs.Spelling.{payload_limit};
 ghost use Rattle.hg_life.specs.NodeView.{node_rows};
 ghost use Rattle.hg_play.specs.Labels.{altered, bytes_at, bytes_named, bytes_of_event, forged, last_bytes, name_of_label, names_of_labels};
 
-use hg_event::{Event, encode_body};
+use hg_event::Event;
 use hg_model::{Bytes, Items, Member, Memory, Name};
 use hg_name::name_of;
 use hg_node::Node;
-use hg_sign::{MacTable, SharedTable, Signer};
+use hg_sign::{MacTable, SharedTable, signed_bytes};
 use std::alloc::Global;
 use std::sync::Arc;
 
@@ -53,10 +53,8 @@ pub(crate) fn forged(
     requires { length payload.now ≤ payload_limit }
     ensures { IfOk result (λ bytes. bytes ≡ forged keys.now creator parents.now time payload.now) }
 {
-    let mut bytes = encode_body(alloc, creator, parents, time, payload)?;
-    let sig = keys.sign(creator, bytes.as_slice());
-    bytes.extend_from_slice(&sig)?;
-    Ok(Items::from_vec(bytes))
+    let event = signed_bytes(alloc, keys, creator, parents, time, payload)?;
+    Ok(Items::from_vec(event.bytes))
 }
 
 /// The byte at a place XORed with the mask, if there is one.

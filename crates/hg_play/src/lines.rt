@@ -1,6 +1,6 @@
 ghost use Rattle.std.specs.Prelude.{◌≡◌, All, IfOk, OnOk, length};
-ghost use Rattle.hg_play.specs.Lines.{IsBelow, IsLineBelow, IsPartBelow, IsSourceBelow, part_line};
-ghost use Rattle.hg_play.specs.Nodes.{IsKept, MatchesLine, MatchesLines, MatchesSource, seen_alone};
+ghost use Rattle.hg_play.specs.Lines.{IsBelow, IsLineBelow, IsPartBelow, IsSourceBelow};
+ghost use Rattle.hg_play.specs.Nodes.{IsKept, MatchesSource, Plays, PlaysLine, PlaysLines, seen_alone};
 
 use crate::blocks::{kept_at, settled_at};
 use crate::game::Game;
@@ -22,7 +22,7 @@ fn source_bytes<N: Nodes>(
 ) -> Result<Bytes, Memory>
     requires { IsSourceBelow (N.seen nodes.old).count source.now }
     ensures kept { IsKept (N.seen nodes.old) (N.seen nodes.new) }
-    ensures told { IfOk result (MatchesSource (N.seen nodes.old) (N.seen nodes.new) game.now.keys.now labels.now source.now) }
+    ensures ok { IfOk result (MatchesSource (N.seen nodes.old) (N.seen nodes.new) game.now.keys.now labels.now source.now) }
 {
     let alloc = game.alloc;
     match source {
@@ -59,7 +59,7 @@ pub(crate) fn play_part<N: Nodes>(
 ) -> Result<(), Memory>
     requires { IsPartBelow (N.seen nodes.old).count part.now }
     ensures kept { IsKept (N.seen nodes.old) (N.seen nodes.new) }
-    ensures told { OnOk result (MatchesLine game.now.members.now (part_line line part.now) (N.seen nodes.old) tape.old (N.seen nodes.new) tape.new) }
+    ensures told { Plays result game.now.members.now line part.now (N.seen nodes.old) tape.old (N.seen nodes.new) tape.new }
 {
     match part {
         Part::Gossip(gossip) => {
@@ -83,7 +83,7 @@ pub(crate) fn play_line(
 ) -> Result<(), Memory>
     requires { IsBelow (length world.old.sites) line.now.action }
     ensures kept { IsKept (seen_alone world.old) (seen_alone world.new) }
-    ensures told { OnOk result (MatchesLine game.now.members.now line.now (seen_alone world.old) tape.old (seen_alone world.new) tape.new) }
+    ensures told { OnOk result (PlaysLine game.now.members.now line.now world.old tape.old world.new tape.new) }
 {
     match &line.action {
         Action::Part(part) => {
@@ -123,7 +123,7 @@ pub(crate) fn play_line(
 pub(crate) fn play_lines(game: &Game, world: &mut World, lines: &[Line]) -> Result<Tape, Memory>
     requires { All (IsLineBelow (length world.old.sites)) lines.now }
     ensures kept { IsKept (seen_alone world.old) (seen_alone world.new) }
-    ensures told { IfOk result (λ t. MatchesLines (seen_alone world.old) (seen_alone world.new) game.now.members.now lines.now t.printed) }
+    ensures told { IfOk result (λ t. PlaysLines game.now.members.now lines.now world.old world.new t.printed) }
 {
     let mut tape = Tape::new(game.alloc);
     for line in lines {

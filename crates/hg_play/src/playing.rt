@@ -52,8 +52,7 @@ fn play_all<R: Threads + Wait + Sync, C: Crew + Sync, G: Gate + Sync>(
     ensures played { IfOk result (λ r. IsPlayed game.now.members.now lines.now r.0 r.1.printed) }
 {
     let mut world = World::new(game.alloc, game.members)?;
-    // That it is a lawful one.
-    world.members();
+    world.is_world();
     if workers > 0 {
         let band = Band {
             rt,
@@ -74,8 +73,7 @@ fn closed(game: &Game, mut world: World, mut tape: Tape) -> Result<Outcome, Memo
 {
     push_blocks(game, &mut world, &mut tape)?;
     let names = names(game.alloc, game.members)?;
-    // That the nodes are lawful up to here.
-    world.members();
+    world.is_world();
     Ok(Outcome {
         names,
         printed: Items::from_vec(tape.into_printed()),

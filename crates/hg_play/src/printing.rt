@@ -8,7 +8,7 @@ ghost use Rattle.hg_model.specs.Prefix.{links_of};
 ghost use Rattle.hg_play.specs.Printing.{lines_of};
 
 use hg_life::Effect;
-use hg_model::{Items, Memory, Placed, Prefix, Sight, is_of_graph};
+use hg_model::{Items, Memory, Placed, Prefix, Sight, is_of_graph, is_shaped};
 use hg_outcome::OrderLine;
 use std::alloc::Global;
 
@@ -19,8 +19,7 @@ fn next_sequence<S: Sight>(sight: &S, sequences: &[u64], x: usize) -> u64
     requires before { sequences.now ≡ table (sequence_of (S.shape sight.now).links) x }
     ensures { result ≡ sequence_of (S.shape sight.now).links x }
 {
-    // A shape's links lead back, and are few.
-    sight.rows();
+    is_shaped(sight);
     match sight.self_parent(x) {
         None => 0,
         Some(own) => sequences[own] + 1,

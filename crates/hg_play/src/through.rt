@@ -1,13 +1,13 @@
-ghost use Rattle.std.specs.Prelude.{◌≡◌, ◌≤◌, All, IfOk, OnOk, length, take};
+ghost use Rattle.std.specs.Prelude.{◌≡◌, ◌≤◌, All, IfOk, length};
 ghost use Rattle.hg_life.specs.Signing.{accepts_by};
 ghost use Rattle.hg_gossip.specs.Known.{KeepsKnown};
 ghost use Rattle.hg_crowd.specs.Crowd.{AreSeats, AreStill};
 ghost use Rattle.hg_crowd.specs.Party.{party_view};
 ghost use Rattle.hg_play.specs.Batch.{IsBatch};
-ghost use Rattle.hg_play.specs.Lines.{IsLineBelow, IsPartBelow, part_line};
-ghost use Rattle.hg_play.specs.Nodes.{IsKept, MatchesLine};
+ghost use Rattle.hg_play.specs.Lines.{IsLineBelow, IsPartBelow};
+ghost use Rattle.hg_play.specs.Nodes.{IsKept, Plays};
 ghost use Rattle.hg_play.specs.Heard.{rows_seen};
-ghost use Rattle.hg_play.specs.Through.{MatchesParts, MatchesThrough, worked_on};
+ghost use Rattle.hg_play.specs.Through.{PlaysFirst, PlaysShared, worked_on};
 
 use crate::game::Game;
 use crate::lines::play_part;
@@ -61,7 +61,7 @@ fn play_watched<N: Nodes, G: Gate>(
 ) -> Result<(), Memory>
     requires { IsPartBelow (N.seen nodes.old).count part.now }
     ensures kept { IsKept (N.seen nodes.old) (N.seen nodes.new) }
-    ensures told { OnOk result (MatchesLine game.now.members.now (part_line line part.now) (N.seen nodes.old) tape.old (N.seen nodes.new) tape.new) }
+    ensures told { Plays result game.now.members.now line part.now (N.seen nodes.old) tape.old (N.seen nodes.new) tape.new }
 {
     let member = worked_on(part);
     reach(gate, 1000, member);
@@ -82,7 +82,7 @@ fn play_parts<N: Nodes, G: Gate>(
     requires { All (IsLineBelow (N.seen nodes.old).count) lines.now }
     ensures kept { IsKept (N.seen nodes.old) (N.seen nodes.new) }
     ensures batch { IfOk result (λ r. IsBatch lines.now r.1) }
-    ensures told { IfOk result (λ r. MatchesParts game.now.members.now (take r.1 lines.now) (N.seen nodes.old) tape (N.seen nodes.new) r.0) }
+    ensures told { PlaysFirst result game.now.members.now lines.now (N.seen nodes.old) tape (N.seen nodes.new) }
 {
     let most = lines.len().min(MOST_LINES);
     'lines: for i in 0..most {
@@ -109,7 +109,7 @@ pub(crate) fn play_through<R: Wait, G: Gate>(
     ensures still { AreStill nodes.entry.seats result.0.items }
     ensures known { KeepsKnown (rows_seen (party_view nodes.entry.places result.0.items)) result.1 }
     ensures batch { IfOk result.2 (λ r. IsBatch lines.now r.1) }
-    ensures played { IfOk result.2 (λ r. MatchesThrough game.now.members.now (take r.1 lines.now) nodes.entry.places nodes.entry.seats tape result.0.items r.0) }
+    ensures played { PlaysShared result.2 game.now.members.now lines.now nodes.entry tape result.0.items }
 {
     let played = play_parts(game, &mut nodes, tape, lines, gate);
     let (seats, known) = nodes.into_parts();

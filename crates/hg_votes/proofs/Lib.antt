@@ -1,5 +1,6 @@
 pub mod SlotLaws
 pub mod SetLaws
+pub mod EvenLaws
 pub mod VoterLaws
 pub mod BallotLaws
 pub mod CountLaws

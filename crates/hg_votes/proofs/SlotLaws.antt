@@ -1,18 +1,20 @@
--- Sets of slots: how many slots they share
-use Rattle.std.proofs.Common.{◌≡◌, ℕ, zero, suc, ◌+◌, ◌*◌, ◌^◌, ◌<◌, ◌≤◌, Bool, true, false, not, ◌&&◌, ◌||◌, eqb, ltb, max, List, length, take, get_or, count_by, replicate, refl, sym, ap, ap₂, ◌∙◌, inl, inr, arith, add-zero, add-suc, add-one, w64}
+-- Sets of slots: what the slots weigh that they share
+use Rattle.std.proofs.Common.{◌≡◌, ℕ, zero, suc, ◌+◌, ◌*◌, ◌^◌, ◌<◌, ◌≤◌, Bool, true, false, not, ◌&&◌, ◌||◌, eqb, ltb, max, List, [], ◌∷◌, cond, sum_by, length, take, get_or, replicate, refl, sym, ap, ap₂, ◌∙◌, inl, inr, arith, add-zero, add-suc, add-one, w64}
 use Rattle.std.specs.Prelude.{bit_and, count_ones}
 use Rattle.std.specs.Int.{bit_not}
-use Rattle.std.proofs.lemmas.Bool.{cases_Bool, cases_order, and_left, and_parts, eq-eqb, ne_eqb, lt-ltb, le-ltb}
-use Rattle.std.proofs.lemmas.List.Sums.{count_by_more_yes, count_by_more_no}
+use Rattle.std.proofs.lemmas.Bool.{cases_order, and_left, and_parts, eq-eqb, false_from_ne_true, ne_eqb, lt-ltb, ltb-true, le-ltb}
+use Rattle.std.proofs.lemmas.List.{take_more}
+use Rattle.std.proofs.lemmas.List.Sums.{sum_by-append, sum_by-cons}
 use Rattle.std.proofs.lemmas.Nat.{and_le_l}
 use Rattle.std.proofs.Math.Seq.{take-length}
 use Rattle.hg_model.specs.Places.{count_below, weight_below}
+use Rattle.hg_model.specs.Among.{weight_among}
 use Rattle.hg_model.proofs.PlacesLaws.{count_below-le, weight_below-same, weight_below-longer, weight_below_grows}
 use Rattle.hg_bits.specs.Words.{has_bit, is_set}
 use Rattle.hg_bits.specs.Masks.{mask_has}
 use Rattle.hg_bits.proofs.WordLaws.{has_bit-in_word, has_bit-past, has_bit-zeros, is_set-and, is_set-over}
 use Rattle.hg_bits.proofs.MaskLaws.{ones_counted}
-use Rattle.hg_votes.specs.Slots.{HoldsSlots}
+use Rattle.hg_votes.specs.Slots.{HoldsSlots, slot_weight}
 
 -- an empty set
 pub none_marked : (words : List ℕ) (n : ℕ) (test : ℕ → Bool) → words ≡ replicate n 0 → (i : ℕ) → has_bit words i ≡ (ltb i 0 && test i)
@@ -38,48 +40,51 @@ marked_more old new slot is_in test before is made i =
     none_before true b = refl
     none_before false b = refl
 
--- so many places, counted from the first
-count_below-take : (test : ℕ → Bool) (xs : List ℕ) (k : ℕ) → k ≤ length xs → count_below k (λ i. test (get_or xs i 0)) ≡ count_by test (take k xs)
+-- so many places, weighed from the first
+weight_below-take : (weight : ℕ → ℕ) (test : ℕ → Bool) (xs : List ℕ) (k : ℕ) → k ≤ length xs →
+    weight_below (slot_weight weight xs) k (λ i. test (get_or xs i 0)) ≡ weight_among weight test (take k xs)
 unfolding weight_below
-count_below-take test xs zero le = refl
-count_below-take test xs (suc k) le =
-    let before = count_below-take test xs k (omega arith) in
+weight_below-take weight test xs zero le = refl
+weight_below-take weight test xs (suc k) le =
+    let one : ℕ → ℕ = λ w. cond (test w) (weight w) 0 in
     let inside : k < length xs = omega arith in
-    elim (cases_Bool (test (get_or xs k 0))) [
-      | inl passes ↦ rw passes (ap (λ n. n + 1) before ∙ (sym (count_by_more_yes test xs k 0 inside passes) ∙ ap (λ j. count_by test (take j xs)) (add-one k)))
-      | inr fails ↦ rw fails (omega (arith, before, count_by_more_no test xs k 0 inside fails, ap (λ j. count_by test (take j xs)) (add-one k)))
-    ]
+    let last : weight_among weight test (take (suc k) xs) ≡ weight_among weight test (take k xs) + sum_by one (get_or xs k 0 ∷ []) =
+    ap (λ j. weight_among weight test (take j xs)) (sym (add-one k)) ∙ (ap (weight_among weight test) (take_more xs k 0 inside) ∙ sum_by-append one (take k xs) (get_or xs k 0 ∷ [])) in
+    omega (arith, weight_below-take weight test xs k (omega arith), last, sum_by-cons one (get_or xs k 0) [])
 
--- the places that pass are the slots that do
-pub count_by_slots : (test : ℕ → Bool) (xs : List ℕ) → count_below (length xs) (λ i. test (get_or xs i 0)) ≡ count_by test xs
-count_by_slots test xs = count_below-take test xs (length xs) (omega arith) ∙ ap (count_by test) (take-length xs)
+-- the places that pass weigh what their slots do
+pub weight_by_slots : (weight : ℕ → ℕ) (test : ℕ → Bool) (xs : List ℕ) → weight_below (slot_weight weight xs) (length xs) (λ i. test (get_or xs i 0)) ≡ weight_among weight test xs
+weight_by_slots weight test xs = weight_below-take weight test xs (length xs) (omega arith) ∙ ap (weight_among weight test) (take-length xs)
+
+-- where no slot is behind so many, what bits of the set weigh is what slots do
+pub weighed_slots : (weight : ℕ → ℕ) (words : List ℕ) (len : ℕ) (passes : ℕ → Bool) → ((i : ℕ) → has_bit words i ≡ true → i < len) → ((i : ℕ) → has_bit words i ≡ false → passes i ≡ false) →
+    weight_below weight (64 * length words) passes ≡ weight_below weight len passes
+weighed_slots weight words len passes within none =
+    let top : ℕ = max (64 * length words) len in
+    let out : (k : ℕ) → len ≤ k → has_bit words k ≡ false = λ k past. false_from_ne_true (has_bit words k) (λ has. absurd (let low = within k has in omega arith)) in
+    sym (weight_below-longer weight (64 * length words) top passes (omega arith) (λ k past h. none k (has_bit-past words k (omega arith))))
+    ∙ weight_below-longer weight len top passes (omega arith) (λ k past h. none k (out k past))
 
 module _ (words places : List ℕ) (test : ℕ → Bool) (holds : HoldsSlots words places test) where
   in_slot : (i : ℕ) → i < length places → has_bit words i ≡ test (get_or places i 0)
   in_slot i h = holds.bits i ∙ ap (λ b. b && test (get_or places i 0)) (lt-ltb i (length places) h)
 
-  past_slots : (i : ℕ) → length places ≤ i → has_bit words i ≡ false
-  past_slots i h = holds.bits i ∙ and_left (ltb i (length places)) (test (get_or places i 0)) (le-ltb i (length places) h)
+  -- each slot is that of a place
+  pub within_slots : (i : ℕ) → has_bit words i ≡ true → i < length places
+  within_slots i h = ltb-true i (length places) (and_parts (ltb i (length places)) (test (get_or places i 0)) (sym (holds.bits i) ∙ h)).0
 
-  -- what is counted of the bits is counted of the slots
-  counted_slots : (counts : ℕ → Bool) → ((i : ℕ) → has_bit words i ≡ false → counts i ≡ false) → count_below (64 * length words) counts ≡ count_below (length places) counts
-  counted_slots counts none =
-      let top : ℕ = max (64 * length words) (length places) in
-      sym (weight_below-longer (λ _. 1) (64 * length words) top counts (omega arith) (λ k past h. none k (has_bit-past words k (omega arith))))
-      ∙ weight_below-longer (λ _. 1) (length places) top counts (omega arith) (λ k past h. none k (past_slots k past))
-
-  -- no more slots than places
-  pub few_slots : count_below (64 * length words) (has_bit words) ≤ length places
-  few_slots = omega (arith, counted_slots (has_bit words) (λ i h. h), count_below-le (length places) (has_bit words))
-
-  -- the slots that are in another set of them too, by a function of that
-  pub shared_slots : (others : List ℕ) (other : ℕ → Bool) → HoldsSlots others places other → (f : Bool → Bool) →
-      count_below (64 * length words) (λ i. has_bit words i && f (has_bit others i)) ≡ count_by (λ p. test p && f (other p)) places
-  shared_slots others other held f =
-      counted_slots (λ i. has_bit words i && f (has_bit others i)) (λ i h. and_left (has_bit words i) (f (has_bit others i)) h)
-      ∙ (weight_below-same (λ _. 1) (length places) (λ i. has_bit words i && f (has_bit others i)) (λ i. test (get_or places i 0) && f (other (get_or places i 0)))
+  -- what the slots weigh that are in another set of them too, by a function of that
+  pub shared_slots : (weight : ℕ → ℕ) (others : List ℕ) (other : ℕ → Bool) → HoldsSlots others places other → (f : Bool → Bool) →
+      weight_below (slot_weight weight places) (64 * length words) (λ i. has_bit words i && f (has_bit others i)) ≡ weight_among weight (λ p. test p && f (other p)) places
+  shared_slots weight others other held f =
+      weighed_slots (slot_weight weight places) words (length places) (λ i. has_bit words i && f (has_bit others i)) within_slots (λ i h. and_left (has_bit words i) (f (has_bit others i)) h)
+      ∙ (weight_below-same (slot_weight weight places) (length places) (λ i. has_bit words i && f (has_bit others i)) (λ i. test (get_or places i 0) && f (other (get_or places i 0)))
       (λ i h. ap₂ (λ a b. a && f b) (in_slot i h) (held.bits i ∙ ap (λ b. b && other (get_or places i 0)) (lt-ltb i (length places) h)))
-      ∙ count_by_slots (λ p. test p && f (other p)) places)
+      ∙ weight_by_slots weight (λ p. test p && f (other p)) places)
+
+-- there are no more slots than places
+pub few_slots : (words : List ℕ) (len : ℕ) → ((i : ℕ) → has_bit words i ≡ true → i < len) → count_below (64 * length words) (has_bit words) ≤ len
+few_slots words len within = omega (arith, weighed_slots (λ _. 1) words len (has_bit words) within (λ i h. h), count_below-le len (has_bit words))
 
 -- one word more
 

@@ -1,6 +1,6 @@
 -- Sets of slots. A slot is an index in a list of places, as in that of the witnesses of a round
 use Rattle.std.specs.Prelude.{ℕ, ◌≡◌, ◌+◌, ◌*◌, ◌<◌, ◌≤◌, Bool, ◌&&◌, not, nat_lt, List, [], ◌∷◌, ◌++◌, length, slice_index, slice_range, get_or}
-use Rattle.hg_model.specs.Places.{count_below}
+use Rattle.hg_model.specs.Places.{weight_below}
 use Rattle.hg_bits.specs.Words.{has_bit}
 use Rattle.hg_votes.specs.declared.sets.Span.{Span}
 use Rattle.hg_votes.specs.declared.tally.Tally.{Tally}
@@ -9,11 +9,15 @@ use Rattle.hg_votes.specs.declared.tally.Tally.{Tally}
 pub record HoldsSlots (words places : List ℕ) (test : ℕ → Bool) : Type 0 where
   pub bits : (i : ℕ) → has_bit words i ≡ (nat_lt i (length places) && test (slice_index places i))
 
--- how many slots of the first set are in the other, and how many are not
-abbrev pub slot_tally : List ℕ → List ℕ → Tally
-slot_tally voters voted = record {
-  yes = count_below (64 * length voters) (λ i. has_bit voters i && has_bit voted i);
-  no = count_below (64 * length voters) (λ i. has_bit voters i && not (has_bit voted i));
+-- what a slot weighs by the weight of its place
+abbrev pub slot_weight : (ℕ → ℕ) → List ℕ → ℕ → ℕ
+slot_weight weight places i = weight (slice_index places i)
+
+-- what the first slots, so many, weigh that are in both sets, and what those weigh that are in the first alone
+abbrev pub slot_tally : ℕ → (ℕ → ℕ) → List ℕ → List ℕ → Tally
+slot_tally len weight voters voted = record {
+  yes = weight_below weight len (λ i. has_bit voters i && has_bit voted i);
+  no = weight_below weight len (λ i. has_bit voters i && not (has_bit voted i));
 }
 
 -- the words of this stretch

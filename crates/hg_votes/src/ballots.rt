@@ -2,10 +2,10 @@ ghost use Rattle.std.specs.Prelude.{◌≡◌, ◌<◌, ◌≤◌, ◌-◌, ◌^
 ghost use Rattle.hg_model.specs.Prefix.{IsCounted, ballot_of};
 ghost use Rattle.hg_model.specs.GraphWords.{round_in};
 ghost use Rattle.hg_model.specs.Votes.{is_normal};
-ghost use Rattle.hg_votes.specs.Counting.{HasRoom, HoldsBallots, HoldsVoted, HoldsVoters, IsOpened, IsVotersOf};
+ghost use Rattle.hg_votes.specs.Counting.{HasRoom, HoldsBallots, HoldsVoted, HoldsVoters, IsOpened, IsVotersOf, witnesses_of};
 
 use crate::slots::mark;
-use crate::tally::count_slots;
+use crate::tally::{Voted, weigh_slots};
 use crate::voters::Voters;
 use crate::weighing::{is_normal, weigh_where};
 use hg_model::{Ballot, Prefix};
@@ -14,7 +14,7 @@ use hg_model::{Ballot, Prefix};
 fn next_ballot<P: Prefix>(
     p: &P,
     voters: &[u64],
-    voted: &[u64],
+    voted: Voted<'_>,
     x: usize,
     y: usize,
     above: u32,
@@ -26,8 +26,9 @@ fn next_ballot<P: Prefix>(
     requires above { above ≡ round_in (P.graph p.now) y - round_in (P.graph p.now) x }
     requires normal { normal ≡ is_normal (P.graph p.now).coin above }
     requires voters { IsVotersOf (P.graph p.now) y voters.now }
-    requires wide { length voters.now ≤ length voted.now }
-    requires before { HoldsVoted (P.graph p.now) x (round_in (P.graph p.now) y - 1) voted.now }
+    requires wide { length voters.now ≤ length voted.yes.now }
+    requires rows { voted.rows.now ≡ witnesses_of (P.graph p.now) (round_in (P.graph p.now) y - 1) }
+    requires before { HoldsVoted (P.graph p.now) x (round_in (P.graph p.now) y - 1) voted.yes.now }
     ensures { result ≡ ballot_of (P.graph p.now) x y }
 {
     if above == 1 {
@@ -36,15 +37,8 @@ fn next_ballot<P: Prefix>(
             decides: false,
         };
     }
-    let tally = count_slots(voters, voted);
-    weigh_where(
-        normal,
-        above,
-        tally.yes,
-        tally.no,
-        p.members(),
-        &p.row(y).sig,
-    )
+    let tally = weigh_slots(p, voted.rows, voters, voted.yes);
+    weigh_where(normal, above, tally.yes, tally.no, p.total(), &p.row(y).sig)
 }
 
 /// Counts the votes on `x` of the witnesses of round `r`, where those of the rounds before are counted: their ballots,
@@ -72,11 +66,13 @@ pub fn count_round<P: Prefix>(
     next.fill(0);
     let above = r - p.round(x);
     let normal = is_normal(above, p.coin());
+    let rows = p.witnesses(r - 1);
+    let before = Voted { rows, yes: voted };
     let witnesses = p.witnesses(r);
     for slot in 0..witnesses.len() {
         let y = witnesses[slot];
         let number = voters.number(y);
-        let ballot = next_ballot(p, voters.voters(number), voted, x, y, above, normal);
+        let ballot = next_ballot(p, voters.voters(number), before, x, y, above, normal);
         mark(next, slot, ballot.vote);
         ballots[number] = ballot;
     }

@@ -1,7 +1,7 @@
 ghost use Rattle.std.specs.Prelude.{◌≡◌, ◌<◌};
 ghost use Rattle.hg_model.specs.Order.{middle_bit};
-ghost use Rattle.hg_model.specs.Votes.{is_normal, weighed_decides, weighed_vote};
-ghost use Rattle.hg_votes.specs.Tallies.{weighed_where};
+ghost use Rattle.hg_model.specs.Votes.{is_normal};
+ghost use Rattle.hg_votes.specs.Tallies.{weighed_ballot, weighed_where};
 
 use hg_model::{Ballot, Sig, is_supermajority};
 
@@ -13,14 +13,14 @@ pub fn coin_bit(sig: &Sig) -> bool
     sig[32] >= 128
 }
 
-/// The ballot of a witness `d` rounds above the candidate, `d` not 1, of whose voters `yes` vote yes and `no` no.
-/// There are `n` members, the coin period is `c` rounds, and `sig` is the witness's signature.
+/// The ballot of a witness `d` rounds above the candidate, `d` not 1. Of its voters those who vote yes have the stake `yes`,
+/// and the others `no`, of a `total`; the coin period is `c` rounds, and `sig` is the witness's signature.
 /// SWIRLDS-TR-2016-01, procedure decideFame.
-pub fn weigh(d: u32, c: u32, yes: u32, no: u32, n: u32, sig: &Sig) -> Ballot
+pub fn weigh(d: u32, c: u32, yes: u64, no: u64, total: u64, sig: &Sig) -> Ballot
     requires { 0 < c }
-    ensures { result ≡ record { vote = weighed_vote n c d yes no (middle_bit sig.now); decides = weighed_decides n c d yes no } }
+    ensures { result ≡ weighed_ballot total c d yes no (middle_bit sig.now) }
 {
-    weigh_where(is_normal(d, c), d, yes, no, n, sig)
+    weigh_where(is_normal(d, c), d, yes, no, total, sig)
 }
 
 /// Whether a witness `d` rounds above the candidate throws no coin, with a coin period of `c` rounds.
@@ -32,11 +32,11 @@ pub fn is_normal(d: u32, c: u32) -> bool
 }
 
 /// The same as `weigh`, where it is known whether that round is a normal one.
-pub fn weigh_where(normal: bool, d: u32, yes: u32, no: u32, n: u32, sig: &Sig) -> Ballot
-    ensures { result ≡ weighed_where normal n d yes no (middle_bit sig.now) }
+pub fn weigh_where(normal: bool, d: u32, yes: u64, no: u64, total: u64, sig: &Sig) -> Ballot
+    ensures { result ≡ weighed_where normal total d yes no (middle_bit sig.now) }
 {
     let majority = no <= yes;
-    let is_strong = is_supermajority(n, yes.max(no));
+    let is_strong = is_supermajority(total, yes.max(no));
     Ballot {
         vote: if normal || is_strong {
             majority

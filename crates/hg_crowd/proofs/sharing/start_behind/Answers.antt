@@ -3,8 +3,8 @@ use Rattle.hg_crowd.specs.Workers.{AreStarted}
 use Rattle.hg_crowd.proofs.CrowdLaws.{started_one}
 use Rattle.hg_crowd.proofs.sharing.start_behind.Goals as goal
 
-pub returns-in-Ok-clause-started : goal.returns-in-Ok-clause-started
-returns-in-Ok-clause-started g c = λ nodes so.
+pub returns-in-Ok-clause-ok : goal.returns-in-Ok-clause-started
+returns-in-Ok-clause-ok g c = λ nodes so.
     let accepts = g.V.Verifier.accepts in
     let ps = c.args.shared.now.items in
     let ss = c.args.seats.now.items in

@@ -5,8 +5,8 @@ use Rattle.hg_graph.proofs.names.find.Given as goal
 
 abbrev pub invariant-chain : goal.invariant-chain
 invariant-chain l = record {
-  inside : l.number ≤ length l.entries;
-  on : 0 < l.number → bucket_at (length l.heads) l.entries (l.number - 1) ≡ bucket_of (length l.heads) l.hash;
+  inside : l.number ≤ length l.hashed;
+  on : 0 < l.number → bucket_at (length l.heads) l.hashed (l.number - 1) ≡ bucket_of (length l.heads) l.hash;
   none : (x : ℕ) → l.number ≤ x → x < length l.events.items → name_at l.events.items x ≢ l.name;
 }
 

@@ -4,7 +4,7 @@ use Rattle.hg_graph.proofs.names.link_all.Given as goal
 
 abbrev pub invariant-loop-x : goal.invariant-loop-x
 invariant-loop-x l = record {
-  same : hashes_of l.entries ≡ hashes_of l.initial.entries;
+  same : hashes_of l.hashed ≡ hashes_of l.initial.hashed;
   len : length l.heads ≡ length l.initial.heads;
-  linked : AreLinked l.heads l.entries l.x;
+  linked : AreLinked l.heads l.hashed l.x;
 }

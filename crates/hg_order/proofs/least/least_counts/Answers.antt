@@ -12,6 +12,6 @@ loop-w-preserved g c =
     let counts = rw e.matches.shaped at c.in-Some.ensures in
     record {
       none = λ is. absurd (omega arith);
-      bounds = λ _. bounds_next _ _ e.shaped _ _ _ _ c.loop-w.w-index 0 65535 c.loop-w-test.true c.loop-w.invariant.none e.few c.loop-w.invariant.bounds counts c.lower_to.ensures.short c.lower_to.ensures.lowered;
+      bounds = λ _. bounds_next _ _ e.shaped _ _ _ _ c.loop-w.w-index 0 4294967295 c.loop-w-test.true c.loop-w.invariant.none e.few c.loop-w.invariant.bounds counts c.lower.ensures.short c.lower.ensures.lowered;
       lines = λ some. record { line = counts.line };
     }

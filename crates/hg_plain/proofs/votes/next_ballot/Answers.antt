@@ -1,4 +1,5 @@
 use Rattle.std.proofs.Common.{arith, ap, ◌∙◌}
+use Rattle.hg_model.specs.Stakes.{total}
 use Rattle.hg_model.specs.Rounds.{is_witness}
 use Rattle.hg_model.specs.Seeing.{sees}
 use Rattle.hg_model.specs.Shape.{Shape}
@@ -18,18 +19,22 @@ returns-then-above-eq1 c =
 
 pub count_votes-tally-requires-clause-known : goal.count_votes-tally-requires-clause-known
 count_votes-tally-requires-clause-known c =
-    rw c.requires.known.len (voters_before c.args.p.now c.args.y _ c.rows.ensures.shaped.earlier c.requires.voters)
+    rw c.requires.known.len (voters_before c.args.p.now c.args.y _ c.is_shaped.ensures.shaped.earlier c.requires.voters)
 
 pub count_votes-tally-requires-clause-short : goal.count_votes-tally-requires-clause-short
 count_votes-tally-requires-clause-short c = omega (arith, few_voters c.args.p.now c.args.y _ c.requires.voters, length-links c.args.p.now.rows)
+
+pub count_votes-tally-requires-clause-stakes : goal.count_votes-tally-requires-clause-stakes
+count_votes-tally-requires-clause-stakes c = omega (arith, c.row_stakes.ensures.len, c.requires.known.len)
 
 pub returns : goal.returns
 returns c =
     let x = c.args.x in
     let y = c.args.y in
     let p = c.args.p.now in
-    ballot_far p x y c.rows.ensures.shaped.earlier (rw (← length-links p.rows) c.requires.row) c.args.ballots.now c.requires.known c.args.voters.now c.rounds_above-above.result c.members.result c.coin.result _ c.count_votes-tally.result
+    ballot_far p x y c.is_shaped.ensures.shaped.earlier (rw (← length-links p.rows) c.requires.row) c.args.ballots.now c.requires.known c.row_stakes.result.now c.row_stakes.ensures
+    c.args.voters.now c.rounds_above-above.result c.total.result c.coin.result _ c.count_votes-tally.result
     c.weigh-weighed.result c.is_witness.result c.requires.voters
     (c.rounds_above-above.ensures ∙ ap (λ (s : Shape). rounds_above s.members s.links x y) c.tables-sight.ensures) c.if-above-eq1.false
-    (c.members.ensures ∙ ap (λ (s : Shape). s.members) c.tables-sight.ensures) c.coin.ensures.value (coin_read p.rows y c.row.result.now c.row.ensures)
+    (c.total.ensures.value ∙ ap (λ (s : Shape). total s.members) c.tables-sight.ensures) c.coin.ensures.value (coin_read p.rows y c.row.result.now c.row.ensures)
     c.count_votes-tally.ensures c.weigh-weighed.ensures (c.is_witness.ensures ∙ ap (λ (s : Shape). is_witness s.members s.links y) c.tables-sight.ensures)

@@ -13,9 +13,9 @@ next c =
     let L = c.args.seeing.now.links in
     let same = c.links.ensures ∙ c.ancestry.ensures.value in
     let r_is = c.parent_round-r.ensures ∙ ap (λ links. parent_round (λ p. slice_index c.args.rounds.now p) (parents links c.args.x)) same in
-    let many = c.is_supermajority.ensures ∙ ap (λ k. is_supermajority k c.count_seen.result) c.members.ensures.value in
+    let many = c.is_supermajority.ensures ∙ ap (λ k. is_supermajority k c.weigh_seen.result) c.total.ensures.value in
     sym (ap (λ b. cond b (c.parent_round-r.result + 1) c.parent_round-r.result) c.if-is_supermajority.true)
-    ∙ round_next n L c.ancestry.ensures.shaped.earlier c.args.rounds.now c.args.x _ _ _ c.requires.known r_is c.count_seen.ensures many
+    ∙ round_next n L c.ancestry.ensures.shaped.earlier c.args.rounds.now c.args.x _ _ _ c.requires.known r_is c.weigh_seen.ensures many
 
 pub overflow_add-result : goal.overflow_add-result
 overflow_add-result c =
@@ -31,6 +31,6 @@ returns-else-is_supermajority c =
     let L = c.args.seeing.now.links in
     let same = c.links.ensures ∙ c.ancestry.ensures.value in
     let r_is = c.parent_round-r.ensures ∙ ap (λ links. parent_round (λ p. slice_index c.args.rounds.now p) (parents links c.args.x)) same in
-    let many = c.is_supermajority.ensures ∙ ap (λ k. is_supermajority k c.count_seen.result) c.members.ensures.value in
+    let many = c.is_supermajority.ensures ∙ ap (λ k. is_supermajority k c.weigh_seen.result) c.total.ensures.value in
     sym (ap (λ b. cond b (c.parent_round-r.result + 1) c.parent_round-r.result) c.if-is_supermajority.false)
-    ∙ round_next n L c.ancestry.ensures.shaped.earlier c.args.rounds.now c.args.x _ _ _ c.requires.known r_is c.count_seen.ensures many
+    ∙ round_next n L c.ancestry.ensures.shaped.earlier c.args.rounds.now c.args.x _ _ _ c.requires.known r_is c.weigh_seen.ensures many

@@ -15,7 +15,7 @@ order_lines-requires-clause-each c = c.effects.ensures.each ∙ sym (ap length c
 
 pub returns : goal.returns
 returns c = λ start.
-    block_is c.args.game.now.members.now c.args.member c.args.node.now _ _ _ _ _ _ start c.rows-events.ensures.node
+    block_is c.args.game.now.members.now c.args.member c.args.node.now _ _ _ _ _ _ start c.is_node.ensures
     (c.in_ok-lines.ensures ∙ ap_three (λ (g : Graph) (order : List Placed) (effects : List Effect). order_lines g.rows (links_of g) order effects) c.graph.ensures c.kept.ensures.order c.effects.ensures.effects)
-    c.rows-events.ensures.value c.forkers.ensures c.greatest.ensures c.closed.ensures
+    c.rows-events.ensures c.forkers.ensures c.greatest.ensures c.closed.ensures
     (c.from_vec.ensures ∙ (c.in_ok-balances.ensures.items ∙ (c.balances.ensures ∙ c.book.ensures)))

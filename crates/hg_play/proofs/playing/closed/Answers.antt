@@ -9,5 +9,5 @@ returns c = record {
   last = c.push_blocks.new.world;
   blocks = subst (λ (ps : List Printed). MatchesBlocks (seen_alone c.args.world) (seen_alone c.push_blocks.new.world) c.args.game.now.members.now c.args.tape.printed ps)
       (sym (c.from_vec.ensures ∙ c.into_printed.ensures)) c.in_ok-push_blocks.ensures.told;
-  lawful = c.members.ensures.world;
+  lawful = c.is_world.ensures.world;
 }

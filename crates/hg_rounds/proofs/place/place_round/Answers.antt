@@ -1,4 +1,4 @@
-use Rattle.std.proofs.Common.{◌≡◌, ◌∙◌, ◌-◌, sym, ap, ap₂, arith, ltb, List, ℕ}
+use Rattle.std.proofs.Common.{◌≡◌, ◌∙◌, ◌-◌, sym, ap, ap₂, arith, ltb}
 use Rattle.std.specs.List.{list_all}
 use Rattle.hg_model.specs.Links.{first_place}
 use Rattle.hg_model.specs.Rounds.{parent_round}

@@ -1,35 +1,23 @@
-use Rattle.std.proofs.Common.{◌≡◌, ◌∙◌, ◌+◌, ◌-◌, ◌*◌, ◌^◌, ◌<◌, ◌≤◌, ℕ, true, false, cond, length, take, get_or, nat_eq, nat_le, min, ap, sym, rw, arith, rules}
+use Rattle.std.proofs.Common.{◌≡◌, ◌∙◌, ◌-◌, ◌*◌, ◌^◌, ◌<◌, ℕ, false, length, take, nat_eq, nat_le, ap, sym, arith, rules}
 use Rattle.std.proofs.lemmas.Bool.{le-leb}
 use Rattle.hg_model.specs.Rounds.{stake_at}
 use Rattle.hg_model.specs.Seeing.{strongly_sees}
 use Rattle.hg_model.proofs.StakeLaws.{weight_among-most}
 use Rattle.hg_rounds.specs.Tabled.{seen_weight}
-use Rattle.hg_rounds.proofs.SeenLaws.{weight_more, found, too_little, some_left}
+use Rattle.hg_rounds.proofs.SeenLaws.{found, too_little, some_left}
 use Rattle.hg_rounds.proofs.place.sees_many.Goals as goal
 use Rattle.hg_rounds.proofs.place.sees_many.Goals.{then-loop-missing-test+else-missing-saturating_mul, else-loop-missing-test}
 
 pub loop-missing-preserved-then-strongly_sees : goal.loop-missing-preserved-then-strongly_sees
 loop-missing-preserved-then-strongly_sees g c =
     let shape = g.S.Sight.shape c.args.sight.now in
-    let rows = c.args.rows.now in
-    let left : ℕ = c.loop-missing.left - 1 in
-    let y : ℕ = get_or rows left 0 in
-    let rest : ℕ = seen_weight shape c.args.x (take left rows) in
-    let some : 0 < c.loop-missing.left = some_left c.loop-missing.left c.most_stake-most.result (2 ^ 64 - 1) c.loop-missing.missing c.loop-missing-test.true (rw (← c.saturating_mul.ensures) c.if-missing-saturating_mul.true) in
-    let seen : strongly_sees shape.members shape.links c.args.x y ≡ true = sym c.strongly_sees.ensures ∙ c.if-strongly_sees.true in
-    let stake : stake_at shape.members shape.links y ≡ c.from.result = sym (c.from.ensures ∙ c.stake_at.ensures) in
-    let more : seen_weight shape c.args.x (take c.loop-missing.left rows) ≡ rest + c.from.result =
-    ap (λ k. seen_weight shape c.args.x (take k rows)) (omega arith)
-    ∙ (weight_more (stake_at shape.members shape.links) (strongly_sees shape.members shape.links c.args.x) rows left (omega (arith, c.loop-missing.invariant.within))
-    ∙ (ap (λ b. rest + cond b (stake_at shape.members shape.links y) 0) seen
-    ∙ ap (λ s. rest + s) stake)) in
+    let some = some_left c.loop-missing.left c.most_stake-most.result (2 ^ 64 - 1) c.loop-missing.missing c.loop-missing-test.true (rw (← c.saturating_mul.ensures) c.if-missing-saturating_mul.true) in
     record {
       within = omega (arith, c.loop-missing.invariant.within);
       low = omega (arith, c.saturating_sub-missing.ensures, c.loop-missing.invariant.low);
       settled = c.loop-missing.invariant.settled
-          ∙ (ap (nat_le c.loop-missing.missing) more
-          ∙ (found c.loop-missing.missing c.from.result rest
-          ∙ ap (λ m. nat_le m rest) (sym c.saturating_sub-missing.ensures)));
+          ∙ rw c.saturating_sub-missing.ensures (found (stake_at shape.members shape.links) (strongly_sees shape.members shape.links c.args.x) c.args.rows.now c.loop-missing.left (c.loop-missing.left - 1)
+          c.loop-missing.missing c.from.result (omega (arith, some)) c.loop-missing.invariant.within (sym c.strongly_sees.ensures ∙ c.if-strongly_sees.true) (c.from.ensures ∙ c.stake_at.ensures));
     }
 
 pub returns : goal.returns

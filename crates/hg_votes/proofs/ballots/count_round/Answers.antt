@@ -1,6 +1,7 @@
 use Rattle.std.proofs.Common.{◌≡◌, ◌∙◌, ◌-◌, ℕ, List, [], length, get_or, sym, subst, ap, ap₂, arith, refl, rules, slice_index_or}
 use Rattle.std.proofs.lemmas.List.{take_all}
 use Rattle.hg_model.specs.declared.ballot.Ballot.{Ballot}
+use Rattle.hg_model.specs.Standings.{Standing, witnesses_in}
 use Rattle.hg_model.specs.GraphWords.{vote_in}
 use Rattle.hg_votes.specs.Counting.{HoldsVoted, IsVotersOf, number_of}
 use Rattle.hg_model.proofs.PrefixLaws.{IsWitnessOf, round_read, witness_read}
@@ -60,6 +61,13 @@ next_ballot-ballot-requires-clause-voters = voters_of_slot
 pub next_ballot-ballot-requires-clause-wide : goal.next_ballot-ballot-requires-clause-wide
 next_ballot-ballot-requires-clause-wide g c =
     words_fit (g.P.Prefix.graph c.args.p.now) _ (length c.args.voted.now) c.voters.result.now (voters_of_slot g c) c.requires.room
+
+pub next_ballot-ballot-requires-clause-rows : goal.next_ballot-ballot-requires-clause-rows
+next_ballot-ballot-requires-clause-rows g c =
+    let graph = g.P.Prefix.graph c.args.p.now in
+    let matches = g.met.P.Prefix.has_rounds c.args.p.now in
+    let w = witness_read graph c.args.r _ _ c.loop-slot.slot matches c.witnesses-witnesses.ensures c.loop-slot-test.true in
+    c.witnesses-rows.ensures ∙ ap₂ (λ (S : List Standing) (r : ℕ). witnesses_in S (r - 1)) matches (sym w.round)
 
 pub next_ballot-ballot-requires-clause-before : goal.next_ballot-ballot-requires-clause-before
 next_ballot-ballot-requires-clause-before g c =

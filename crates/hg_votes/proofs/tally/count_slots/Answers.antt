@@ -38,3 +38,11 @@ loop-k-preserved c =
       yes = omega (arith, c.loop-k.invariant.yes, yes_more voters voted c.loop-k.k fits);
       no = omega (arith, c.loop-k.invariant.no, no_more voters voted c.loop-k.k fits small);
     }
+
+pub returns-clause-yes : goal.returns-clause-yes
+returns-clause-yes c =
+    omega (arith, c.loop-k.invariant.yes, few_shared c.args.voters.now (has_bit c.args.voted.now) (64 * c.loop-k.k) (omega (arith, c.loop-k.auto.k-end)), c.requires.short)
+
+pub returns-clause-no : goal.returns-clause-no
+returns-clause-no c =
+    omega (arith, c.loop-k.invariant.no, few_shared c.args.voters.now (λ i. not (has_bit c.args.voted.now i)) (64 * c.loop-k.k) (omega (arith, c.loop-k.auto.k-end)), c.requires.short)

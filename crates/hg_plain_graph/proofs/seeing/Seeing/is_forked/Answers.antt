@@ -11,5 +11,5 @@ returns c =
     let left : c.args.x < length L = rw shown c.requires.left in
     let right : c.args.y < length L = rw shown c.requires.right in
     let member : c.from.result ≡ creator L c.args.y = c.from.ensures ∙ (c.creator_of-creator.ensures ∙ ap (λ links. creator links c.args.y) c.links.ensures) in
-    let inside : c.from.result < c.self.inside.members = rw member (c.self.invariant.shaped.members c.args.y right) in
+    let inside : c.from.result < length c.self.inside.stakes.items = rw member (c.self.invariant.shaped.members c.args.y right) in
     rw (← shown, ← member) (cell_known _ _ _ _ _ _ _ _ c.self.invariant.forked c.deref.ensures.value c.cell.ensures left inside)
