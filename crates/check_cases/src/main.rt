@@ -34,7 +34,7 @@ use crate::meeting::run_all;
 use crate::pack::Pack;
 use crate::playing::play;
 use crate::printing::print_difference;
-use hg_check::{Outcome, Tally, Trouble, difference, exit};
+use hg_check::{Outcome, Score, Trouble, difference, exit};
 use hg_io::NoGate;
 use std::fs;
 use std::process::ExitCode;
@@ -60,16 +60,16 @@ fn counted<R: AllocGlobal + Print>(
     name: &str,
     wanted: &Outcome<'_>,
     got: &Outcome<'_>,
-    tally: Tally,
-) -> Result<Tally, Trouble>
-    ensures none { IfOk result (λ t. t.differ ≡ 0 → tally.differ ≡ 0) }
+    score: Score,
+) -> Result<Score, Trouble>
+    ensures none { IfOk result (λ t. t.differ ≡ 0 → score.differ ≡ 0) }
     ensures same { IfOk result (λ t. t.differ ≡ 0 → AreSame wanted.now got.now) }
 {
     match difference(wanted, got) {
-        None => Ok(tally.with(true)),
+        None => Ok(score.with(true)),
         Some(part) => {
             print_difference(rt, name, part, wanted, got)?;
-            Ok(tally.with(false))
+            Ok(score.with(false))
         }
     }
 }
@@ -79,9 +79,9 @@ fn counted<R: AllocGlobal + Print>(
 fn play_case<R: AllocGlobal + Print + Threads + Wait + Sync>(
     rt: &R,
     case: Case<'_>,
-    tally: Tally,
-) -> Result<Tally, Trouble>
-    ensures none { IfOk result (λ t. t.differ ≡ 0 → tally.differ ≡ 0) }
+    score: Score,
+) -> Result<Score, Trouble>
+    ensures none { IfOk result (λ t. t.differ ≡ 0 → score.differ ≡ 0) }
     ensures same { IfOk result (λ t. t.differ ≡ 0 → MayComeTo case.entry.words.items (files_of case.entry.files.items) case.entry.wanted) }
 {
     let Case {
@@ -91,64 +91,64 @@ fn play_case<R: AllocGlobal + Print + Threads + Wait + Sync>(
         wanted,
     } = case;
     let played = play(rt, rt.alloc(), words.as_slice(), files, &NoGate)?;
-    counted(rt, name, &wanted, &played.outcome(), tally)
+    counted(rt, name, &wanted, &played.outcome(), score)
 }
 
 /// Plays all cases of a pack, to its end.
 fn play_pack<R: AllocGlobal + Print + Threads + Wait + Sync>(
     rt: &R,
     bytes: &[u8],
-    tally: Tally,
-) -> Result<Tally, Trouble>
-    ensures { IfOk result (λ t. t.differ ≡ 0 → tally.differ ≡ 0) }
+    score: Score,
+) -> Result<Score, Trouble>
+    ensures { IfOk result (λ t. t.differ ≡ 0 → score.differ ≡ 0) }
 {
-    let mut tally = tally;
+    let mut score = score;
     let mut pack = Pack::new(bytes);
     let count = pack.count()?;
     for played in 0..count {
-        tally = play_case(rt, read_case(rt.alloc(), &mut pack)?, tally)?;
+        score = play_case(rt, read_case(rt.alloc(), &mut pack)?, score)?;
     }
     pack.end()?;
-    Ok(tally)
+    Ok(score)
 }
 
 /// Plays the cases of the file of this name.
 fn play_file<R: AllocGlobal + Files + Print + Threads + Wait + Sync>(
     rt: &R,
     name: &str,
-    tally: Tally,
-) -> Result<Tally, Trouble>
-    ensures { IfOk result (λ t. t.differ ≡ 0 → tally.differ ≡ 0) }
+    score: Score,
+) -> Result<Score, Trouble>
+    ensures { IfOk result (λ t. t.differ ≡ 0 → score.differ ≡ 0) }
 {
     let bytes = fs::read(rt, name)?;
-    play_pack(rt, bytes.as_slice(), tally)
+    play_pack(rt, bytes.as_slice(), score)
 }
 
 /// Plays all packs, and tells how many cases there are and how many of them differ.
 fn play_cases<R: AllocGlobal + Files + Print + Eprint + Threads + Wait + Sync>(
     rt: &R,
-) -> Result<Tally, Trouble> {
-    let mut tally = Tally::new();
+) -> Result<Score, Trouble> {
+    let mut score = Score::new();
     for name in PACKS {
-        tally = match play_file(rt, name, tally) {
-            Ok(tally) => tally,
+        score = match play_file(rt, name, score) {
+            Ok(score) => score,
             Err(trouble) => {
                 eprintln!(rt; "{name}: {}", trouble.text())?;
                 return Err(trouble);
             }
         };
     }
-    tally.print(rt, "cases")?;
-    Ok(tally)
+    score.print(rt, "cases")?;
+    Ok(score)
 }
 
 /// Plays the cases and the runs at gates, of which each counts as one that differs if something in it does.
 fn play_all<R: AllocGlobal + Files + Print + Eprint + Threads + Wait + Sync>(
     rt: &R,
-) -> Result<Tally, Trouble> {
+) -> Result<Score, Trouble> {
     let cases = play_cases(rt)?;
     let runs = run_all(rt)?;
-    Ok(Tally::new().with(cases.differ == 0).with(runs.differ == 0))
+    Ok(Score::new().with(cases.differ == 0).with(runs.differ == 0))
 }
 
 fn main(rt: HostRuntime) -> ExitCode {

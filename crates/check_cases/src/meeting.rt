@@ -8,7 +8,7 @@ use crate::gates::{LinesMeet, WorkerHeld, WorkersMeet};
 use crate::noted::{Noted, noted_script};
 use crate::playing::Played;
 use crate::running::run_at;
-use hg_check::{Tally, Trouble};
+use hg_check::{Score, Trouble};
 use hg_io::NoGate;
 use std::sync::Wait;
 use std::thread::Threads;
@@ -77,8 +77,8 @@ fn points_are_passed<R: AllocGlobal + Threads + Wait + Sync>(
 }
 
 /// Runs the program at each gate, and tells how many runs there were and how many of them differ.
-pub fn run_all<R: AllocGlobal + Print + Threads + Wait + Sync>(rt: &R) -> Result<Tally, Trouble> {
-    let runs = Tally::new()
+pub fn run_all<R: AllocGlobal + Print + Threads + Wait + Sync>(rt: &R) -> Result<Score, Trouble> {
+    let runs = Score::new()
         .with(lines_meet(rt)?)
         .with(workers_meet(rt)?)
         .with(many_write(rt)?)

@@ -48,7 +48,11 @@ fn finds_in(alloc: Global, frozen: FrozenGraph, votes: &mut VoteTable) -> Result
 }
 
 /// Whether the table, carried to the graph, finds there what a new one finds.
-fn is_found_alike(alloc: Global, frozen: &FrozenGraph, votes: &mut VoteTable) -> Result<bool, Memory>
+fn is_found_alike(
+    alloc: Global,
+    frozen: &FrozenGraph,
+    votes: &mut VoteTable,
+) -> Result<bool, Memory>
     requires { CarriesTo votes.old frozen.now.graph }
     ensures { OnOk result (IsMadeFor votes.new frozen.now.graph) }
 {

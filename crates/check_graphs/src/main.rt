@@ -35,7 +35,7 @@ mod worlds;
 use crate::game::play;
 use crate::worked::play_worked;
 use crate::worlds::play_world;
-use hg_check::{Tally, Trouble, exit};
+use hg_check::{Score, Trouble, exit};
 use std::process::ExitCode;
 
 /// How many graphs are made.
@@ -45,8 +45,8 @@ const GRAPHS: u32 = 50;
 const WORLDS: u32 = 100;
 
 /// Plays the worked graph and all that are made, and tells how many there are and how many of them differ.
-fn play_graphs<R: AllocGlobal + Print>(rt: &R) -> Result<Tally, Trouble> {
-    let mut graphs = Tally::new().with(play_worked(rt.alloc())?);
+fn play_graphs<R: AllocGlobal + Print>(rt: &R) -> Result<Score, Trouble> {
+    let mut graphs = Score::new().with(play_worked(rt.alloc())?);
     for number in 0..GRAPHS {
         graphs = graphs.with(play(rt.alloc(), number)?);
     }
@@ -55,8 +55,8 @@ fn play_graphs<R: AllocGlobal + Print>(rt: &R) -> Result<Tally, Trouble> {
 }
 
 /// Plays all worlds, and tells how many there are, how many pairs of orders were compared, and how many worlds differ.
-fn play_worlds<R: AllocGlobal + Print>(rt: &R) -> Result<Tally, Trouble> {
-    let mut worlds = Tally::new();
+fn play_worlds<R: AllocGlobal + Print>(rt: &R) -> Result<Score, Trouble> {
+    let mut worlds = Score::new();
     let mut pairs = 0_u64;
     for number in 0..WORLDS {
         let played = play_world(rt.alloc(), number)?;
@@ -69,11 +69,11 @@ fn play_worlds<R: AllocGlobal + Print>(rt: &R) -> Result<Tally, Trouble> {
 }
 
 /// Plays both, of which each counts as one that differs if something in it does.
-fn play_all<R: AllocGlobal + Print>(rt: &R) -> Result<Tally, Trouble> {
+fn play_all<R: AllocGlobal + Print>(rt: &R) -> Result<Score, Trouble> {
     let graphs = play_graphs(rt)?;
     let worlds = play_worlds(rt)?;
     Ok(
-        Tally::new()
+        Score::new()
             .with(graphs.differ == 0)
             .with(worlds.differ == 0),
     )

@@ -6,7 +6,7 @@ use crate::agreeing::Compared;
 use crate::forging::{damage, forged_event};
 use crate::plan::members_of;
 use crate::world_plan::{WorldPlan, world_plan};
-use hg_check::{Dice, Tally};
+use hg_check::{Dice, Score};
 use hg_life::{Members, PutAnswer};
 use hg_model::{Member, Memory, Share};
 use hg_sign::MacTable;
@@ -22,7 +22,7 @@ const MORE: u32 = 400;
 /// How a world came out.
 #[derive(Clone, Copy)]
 pub struct Played {
-    pub compared: Tally,
+    pub compared: Score,
     /// Whether some node has ordered events, some node has a fork where the plan asks for one, and no damaged bytes
     /// were taken.
     pub is_worth: bool,
@@ -177,9 +177,9 @@ impl<'a> Game<'a> {
         world: &mut World,
         compared: &mut Compared,
     ) -> Result<bool, Memory>
-        ensures none { compared.new.tally.differ ≡ 0 → compared.old.tally.differ ≡ 0 }
-        ensures pairs { OnOk result (compared.new.tally.differ ≡ 0 → AreOneOrder (orders_in world.new)) }
-        ensures grown { OnOk result (compared.new.tally.differ ≡ 0 → HaveGrown compared.old.before.items (orders_in world.new)) }
+        ensures none { compared.new.score.differ ≡ 0 → compared.old.score.differ ≡ 0 }
+        ensures pairs { OnOk result (compared.new.score.differ ≡ 0 → AreOneOrder (orders_in world.new)) }
+        ensures grown { OnOk result (compared.new.score.differ ≡ 0 → HaveGrown compared.old.before.items (orders_in world.new)) }
     {
         let refused = self.step(dice, world)?;
         compared.compare(self.alloc, world)?;
@@ -193,7 +193,7 @@ impl<'a> Game<'a> {
         world: &mut World,
         compared: &mut Compared,
     ) -> Result<bool, Memory>
-        ensures { compared.new.tally.differ ≡ 0 → compared.old.tally.differ ≡ 0 }
+        ensures { compared.new.score.differ ≡ 0 → compared.old.score.differ ≡ 0 }
     {
         let mut refused = true;
         for step in 0..STEPS {
@@ -209,7 +209,7 @@ impl<'a> Game<'a> {
         world: &mut World,
         compared: &mut Compared,
     ) -> Result<bool, Memory>
-        ensures { compared.new.tally.differ ≡ 0 → compared.old.tally.differ ≡ 0 }
+        ensures { compared.new.score.differ ≡ 0 → compared.old.score.differ ≡ 0 }
     {
         let mut refused = true;
         for step in 0..MORE {
@@ -236,7 +236,7 @@ impl<'a> Game<'a> {
         }
         compared.compare(self.alloc, world)?;
         Ok(Played {
-            compared: compared.tally,
+            compared: compared.score,
             is_worth: refused && is_worth(world, self.plan.forkers.is_some()),
         })
     }

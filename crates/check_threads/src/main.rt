@@ -20,7 +20,7 @@ use crate::by_hand::is_as_by_hand;
 use crate::meeting::Meeting;
 use crate::players::{Player, are_same, made_alone, node_of, played_alone, two_members};
 use crate::seated::{sync_alone, sync_by_seats};
-use hg_check::{Tally, Trouble, exit};
+use hg_check::{Score, Trouble, exit};
 use hg_io::{Gate, NoGate};
 use hg_life::Members;
 use std::alloc::Global;
@@ -67,9 +67,9 @@ fn meets<R: Threads + Wait + Sync>(
 }
 
 /// Shares all nodes, and tells how many there are, and how many differ from what they must be.
-fn share_all<R: Threads + Wait + Sync>(rt: &R, alloc: Global) -> Result<Tally, Trouble> {
+fn share_all<R: Threads + Wait + Sync>(rt: &R, alloc: Global) -> Result<Score, Trouble> {
     let members = two_members(alloc)?;
-    let mut nodes = Tally::new()
+    let mut nodes = Score::new()
         .with(plays_by_hand(rt, alloc, &members)?)
         .with(meets(rt, alloc, &members)?)
         .with(sync_by_seats(rt, alloc, &members)?)
@@ -82,7 +82,7 @@ fn share_all<R: Threads + Wait + Sync>(rt: &R, alloc: Global) -> Result<Tally, T
 }
 
 /// The same, with its line.
-fn tell_all<R: AllocGlobal + Print + Threads + Wait + Sync>(rt: &R) -> Result<Tally, Trouble> {
+fn tell_all<R: AllocGlobal + Print + Threads + Wait + Sync>(rt: &R) -> Result<Score, Trouble> {
     let nodes = share_all(rt, rt.alloc())?;
     nodes.print(rt, "shared nodes")?;
     Ok(nodes)

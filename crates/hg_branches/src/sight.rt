@@ -160,7 +160,9 @@ impl BranchSight {
     pub(crate) fn is_shaped(&self)
         ensures shaped { IsShapedIn self.now.shape }
         ensures few { member_count self.now.shape.members ≤ 128 }
-    {}
+    {
+        let _ = &self.stakes;
+    }
 
     /// The members' stakes.
     pub(crate) fn stakes(&self) -> &StakeTable

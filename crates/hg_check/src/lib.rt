@@ -1,12 +1,12 @@
-//! What the programs of tests have in common: the tally of what they tried and what differs from what it must be, dice
+//! What the programs of tests have in common: the score of what they tried and what differs from what it must be, dice
 //! that fall the same for the same number, why they came to no end, and three comparisons: of what two runs of the program
 //! came to, of the orders of two nodes by names, and of those of one graph by places.
-//! The program above adds to a `Tally`, prints it as its last line, and ends with `exit`.
+//! The program above adds to a `Score`, prints it as its last line, and ends with `exit`.
 //!
 //! From `run_all` and `main` of `check_cases`:
 //!
 //! ```text
-//! let runs = Tally::new()
+//! let runs = Score::new()
 //!     .with(lines_meet(rt)?)
 //!     .with(workers_meet(rt)?)
 //!     .with(many_write(rt)?)
@@ -24,12 +24,12 @@ mod dice;
 mod ordered;
 mod outcome;
 mod placed;
-mod tally;
+mod score;
 mod trouble;
 
 pub use dice::Dice;
 pub use ordered::{Order, Ordered, is_prefix};
 pub use outcome::{Outcome, Part, difference};
 pub use placed::are_equal;
-pub use tally::{Tally, exit};
+pub use score::{Score, exit};
 pub use trouble::Trouble;

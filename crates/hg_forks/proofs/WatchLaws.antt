@@ -4,7 +4,7 @@ use Rattle.std.specs.Int.{from_bool}
 use Rattle.std.proofs.lemmas.Bool.{cases_eq, true≢false}
 use Rattle.std.proofs.lemmas.List.{length-set, get_or-set_same, get_or-set_other, get_or-replicate, length-replicate}
 use Rattle.hg_model.specs.Places.{weight_below, some_below}
-use Rattle.hg_model.specs.Stakes.{Stakes, member_count, stake_of, total}
+use Rattle.hg_model.specs.Stakes.{Stakes, member_count, stake_of}
 use Rattle.hg_model.specs.Links.{Link, creator, parents, self_parent, other_parents}
 use Rattle.hg_model.specs.Forks.{has_fork, forkers, forking}
 use Rattle.hg_model.specs.Graph.{IsShaped}

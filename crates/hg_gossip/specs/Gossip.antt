@@ -7,7 +7,7 @@ use Rattle.hg_life.specs.declared.answers.SyncMade.TheVariants as sync_made
 use Rattle.hg_life.specs.declared.answers.SyncReport.{SyncReport}
 use Rattle.hg_life.specs.Gossip.{count_refused, count_taken, made_in_sync}
 use Rattle.hg_gossip.specs.declared.gossip.Taken.{Taken}
-use Rattle.hg_gossip.specs.Holding.{Makes, PutsBytes, Rules, Seen, Waits, names_in, parcel_beyond}
+use Rattle.hg_gossip.specs.Holding.{Makes, PutsBytes, Rules, Seen, Waits, WouldSign, names_in, parcel_beyond}
 
 abbrev pub none_taken : Taken
 none_taken = record { taken = 0; refused = 0 }
@@ -53,6 +53,11 @@ abbrev pub MakesAfter : {K : Type 0} → Rules K → Seen K → Option (List ℕ
 MakesAfter rules old None time payload new made = (new ≡ old) × (made ≡ sync_made.PeerBare)
 MakesAfter rules old (Some other) time payload new made =
     (answer : MakeAnswer) × Makes rules old (other ∷ []) time payload new answer × (made ≡ made_in_sync answer)
+
+-- such an event would be signed
+abbrev pub WouldMakeAfter : {K : Type 0} → Seen K → Option (List ℕ) → List ℕ → Type 0
+WouldMakeAfter s None payload = ⊥
+WouldMakeAfter s (Some other) payload = WouldSign s (other ∷ []) payload
 
 -- the holder pulled from the peer, and made an event on the peer's last own row
 pub record Syncs {K L : Type 0} (rules : Rules K) (old : Seen K) (peer : Seen L) (time : ℕ) (payload : List ℕ) (new : Seen K) (report : SyncReport) : Type 0 where

@@ -1,6 +1,6 @@
 ghost use Rattle.std.specs.Prelude.{◌≡◌, IfOk, OnErr};
 ghost use Rattle.hg_graph.specs.RowsWithRoom.{rows_of};
-ghost use Rattle.hg_gossip.specs.Gossip.{MakesAfter, TakesAll, TakesSome};
+ghost use Rattle.hg_gossip.specs.Gossip.{MakesAfter, TakesAll, TakesSome, WouldMakeAfter};
 ghost use Rattle.hg_gossip.specs.Holding.{Waits};
 ghost use Rattle.hg_gossip.specs.Nodes.{taking, taking_of};
 ghost use Rattle.hg_gossip.specs.Taking.{AreSigned, TookSome, bytes_of};
@@ -48,7 +48,7 @@ pub fn take_events<V: Signer>(taker: &mut Node<V>, events: &[Arc<Event>]) -> Res
     Ok(counts)
 }
 
-/// Makes an event with this other-parent, if there is one.
+/// Makes an event with this other-parent, if there is one. Only to sign one takes memory.
 pub fn make_after<H: Holder>(
     taker: &mut H,
     other: Option<Name>,
@@ -58,6 +58,7 @@ pub fn make_after<H: Holder>(
     ensures lent { H.lent taker.new ≡ H.lent taker.old }
     ensures ok { IfOk result (MakesAfter H.rules (H.seen taker.old) other time payload.now (H.seen taker.new)) }
     ensures err { OnErr result (Waits H.rules (H.seen taker.old) (H.seen taker.new)) }
+    ensures free { OnErr result (WouldMakeAfter (H.seen taker.new) other payload.now) }
 {
     match other {
         None => Ok(SyncMade::PeerBare),

@@ -1,4 +1,4 @@
--- The tallies of a round once all its holders are tallied
+-- The timers of a round once all its line rows are counted
 use Rattle.std.proofs.Common.{◌≡◌, ℕ, ◌+◌, ◌-◌, ◌/◌, ◌<◌, ◌≤◌, true, List, [], ◌∷◌, length, get_or, map, All, refl, sym, ap₂, ◌∙◌, arith}
 use Rattle.std.specs.List.{AllByRecursion}
 use Rattle.std.proofs.lemmas.Bool.{and_parts, lt-ltb, ltb-true}
@@ -13,12 +13,12 @@ use Rattle.hg_model.specs.Order.{sort_by}
 use Rattle.hg_model.proofs.AncestryLaws.{is_ancestor-le}
 use Rattle.hg_model.proofs.ListLaws.{all_list_below}
 use Rattle.hg_model.proofs.SortLaws.{all_sorted}
-use Rattle.hg_order.specs.declared.tally.Tally.{Tally}
-use Rattle.hg_order.specs.declared.tally.Holder.{Holder}
+use Rattle.hg_order.specs.declared.timer.Timer.{Timer}
+use Rattle.hg_order.specs.declared.timer.LineRow.{LineRow}
 use Rattle.hg_order.specs.Famous.{AreFamous, IsBelowAll, all_have}
 use Rattle.hg_order.specs.Round.{placed_below}
 use Rattle.hg_order.specs.Counted.{IsBelow, JustBelow, AreShared}
-use Rattle.hg_order.specs.Tallied.{tally_at, holder_at, is_holder, is_on_some_line, holders_below, is_earlier, placed_with, HaveMedians}
+use Rattle.hg_order.specs.Timers.{timer_at, line_row_at, is_line_row, is_on_some_line, line_rows_below, is_earlier, placed_with, HaveMedians}
 use Rattle.hg_order.specs.Swept.{AreTimed, ReachTo}
 use Rattle.hg_order.proofs.MedianLaws.{median_counted}
 
@@ -28,12 +28,12 @@ below_first L e [] x some all = absurd (omega arith)
 below_first L e (w ∷ places) x some all = is_ancestor-le L e w x (and_parts (is_ancestor L w x) (all_have L places x) all).0
 
 module _ (g : Graph) (s : IsShaped g.members (links_of g)) (famous least ends : List ℕ) (low «end» : ℕ) where
-  pub holders_inside : «end» ≤ length (links_of g) → All (λ h. h.place < length (links_of g)) (sort_by is_earlier (holders_below g ends low «end»))
-  holders_inside inside =
-      let P : Holder → Type 0 = λ h. h.place < length (links_of g) in
-      let holders = holders_below g ends low «end» in
-      All-from_recursion P (sort_by is_earlier holders)
-      (all_sorted P is_earlier holders (all_list_below P (holder_at g.rows) «end» (is_holder (links_of g) ends low) (λ z h passes. omega arith)))
+  pub line_rows_inside : «end» ≤ length (links_of g) → All (λ h. h.place < length (links_of g)) (sort_by is_earlier (line_rows_below g ends low «end»))
+  line_rows_inside inside =
+      let P : LineRow → Type 0 = λ h. h.place < length (links_of g) in
+      let line_rows = line_rows_below g ends low «end» in
+      All-from_recursion P (sort_by is_earlier line_rows)
+      (all_sorted P is_earlier line_rows (all_list_below P (line_row_at g.rows) «end» (is_line_row (links_of g) ends low) (λ z h passes. omega arith)))
 
   module _ (some : 0 < length famous) (shared : AreShared g famous least) (below : All (λ w. w < «end») famous) where
     under_end : (x : ℕ) → all_have (links_of g) famous x ≡ true → x < «end»
@@ -45,7 +45,7 @@ module _ (g : Graph) (s : IsShaped g.members (links_of g)) (famous least ends : 
         omega arith
 
     pub have_medians : AreFamous g famous → JustBelow (links_of g) ends (is_on_some_line (links_of g) famous) → ((m : ℕ) → get_or ends m 0 ≤ «end») → «end» ≤ length (links_of g) →
-        (ts : List Tally) → AreTimed (links_of g) least low ((length famous + 1) / 2) (sort_by is_earlier (holders_below g ends low «end»)) ts → length ts ≡ «end» - low → HaveMedians g famous low ts
+        (ts : List Timer) → AreTimed (links_of g) least low ((length famous + 1) / 2) (sort_by is_earlier (line_rows_below g ends low «end»)) ts → length ts ≡ «end» - low → HaveMedians g famous low ts
     have_medians f just within inside ts t long = record {
       median = λ k received.
           let last = under_end (low + k) received.1 in
@@ -56,15 +56,15 @@ module _ (g : Graph) (s : IsShaped g.members (links_of g)) (famous least ends : 
           omega arith;
     }
 
--- the rows that these tallies place are those that the round places
+-- the rows that these timers place are those that the round places
 
-pub placed_alike : (g : Graph) (famous : List ℕ) (low round : ℕ) (tallies : List Tally) (fresh : List ℕ) → HaveMedians g famous low tallies → AllByRecursion (IsBelowAll g famous) fresh → AllByRecursion (λ x. low ≤ x) fresh →
-    map (placed_with low round tallies) fresh ≡ map (placed_below g famous round) fresh
-placed_alike g famous low round tallies [] have received from = refl
-placed_alike g famous low round tallies (x ∷ fresh) have received from =
-    ap₂ (λ (t : ℕ) (ps : List Placed). record { place = x; received = round; time = t } ∷ ps) time (placed_alike g famous low round tallies fresh have received.1 from.1)
+pub placed_alike : (g : Graph) (famous : List ℕ) (low round : ℕ) (timers : List Timer) (fresh : List ℕ) → HaveMedians g famous low timers → AllByRecursion (IsBelowAll g famous) fresh → AllByRecursion (λ x. low ≤ x) fresh →
+    map (placed_with low round timers) fresh ≡ map (placed_below g famous round) fresh
+placed_alike g famous low round timers [] have received from = refl
+placed_alike g famous low round timers (x ∷ fresh) have received from =
+    ap₂ (λ (t : ℕ) (ps : List Placed). record { place = x; received = round; time = t } ∷ ps) time (placed_alike g famous low round timers fresh have received.1 from.1)
   where
-    time : (tally_at tallies (x - low)).time ≡ (placed_below g famous round x).time
+    time : (timer_at timers (x - low)).time ≡ (placed_below g famous round x).time
     time =
         let above = from.0 in
         let at : low + (x - low) ≡ x = omega arith in

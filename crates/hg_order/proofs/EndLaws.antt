@@ -12,10 +12,10 @@ use Rattle.hg_model.specs.Prefix.{Graph, links_of}
 use Rattle.hg_model.proofs.AncestryLaws.{is_self_ancestor-le}
 use Rattle.hg_model.proofs.PlacesLaws.{list_below_passes, list_below_fails, list_below_none}
 use Rattle.hg_order.specs.Counted.{AreLines, JustBelow}
-use Rattle.hg_order.specs.Tallied.{holder_at, holders_below, is_holder, is_on_some_line}
+use Rattle.hg_order.specs.Timers.{line_row_at, line_rows_below, is_line_row, is_on_some_line}
 use Rattle.hg_order.proofs.BoundLaws.{no_number}
 use Rattle.hg_order.proofs.LineLaws.{creator_of_line}
-use Rattle.hg_order.proofs.TallyLaws.{same_tests}
+use Rattle.hg_order.proofs.TimerLaws.{same_tests}
 
 ltb_max : (z a w : ℕ) → ltb z (max a (w + 1)) ≡ (ltb z a || leb z w)
 ltb_max z a w = grind (arith, nat_tests)
@@ -60,14 +60,14 @@ below_next places last i k h below = elim (cases_eq k i) [
 ]
 
 module _ (g : Graph) (ends : List ℕ) (low : ℕ) where
-  pub listed_none : holders_below g ends low low ≡ []
-  listed_none = list_below_none (holder_at g.rows) low (is_holder (links_of g) ends low)
+  pub listed_none : line_rows_below g ends low low ≡ []
+  listed_none = list_below_none (line_row_at g.rows) low (is_line_row (links_of g) ends low)
       (λ z h. and_left (leb low z) (ltb z (get_or ends (creator (links_of g) z) 0)) (lt-leb low z h))
 
-  pub listed_yes : (z : ℕ) → low ≤ z → z < get_or ends (creator (links_of g) z) 0 → holders_below g ends low (z + 1) ≡ holders_below g ends low z ++ holder_at g.rows z ∷ []
-  listed_yes z from below = list_below_passes (holder_at g.rows) z (is_holder (links_of g) ends low)
+  pub listed_yes : (z : ℕ) → low ≤ z → z < get_or ends (creator (links_of g) z) 0 → line_rows_below g ends low (z + 1) ≡ line_rows_below g ends low z ++ line_row_at g.rows z ∷ []
+  listed_yes z from below = list_below_passes (line_row_at g.rows) z (is_line_row (links_of g) ends low)
       (and_from (leb low z) (ltb z (get_or ends (creator (links_of g) z) 0)) (le-leb low z from) (lt-ltb z (get_or ends (creator (links_of g) z) 0) below))
 
-  pub listed_no : (z : ℕ) → get_or ends (creator (links_of g) z) 0 ≤ z → holders_below g ends low (z + 1) ≡ holders_below g ends low z
-  listed_no z past = list_below_fails (holder_at g.rows) z (is_holder (links_of g) ends low)
+  pub listed_no : (z : ℕ) → get_or ends (creator (links_of g) z) 0 ≤ z → line_rows_below g ends low (z + 1) ≡ line_rows_below g ends low z
+  listed_no z past = list_below_fails (line_row_at g.rows) z (is_line_row (links_of g) ends low)
       (and_right (leb low z) (ltb z (get_or ends (creator (links_of g) z) 0)) (le-ltb z (get_or ends (creator (links_of g) z) 0) past))

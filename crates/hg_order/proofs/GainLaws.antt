@@ -1,4 +1,4 @@
--- What one holder tallies: the rows that it has as ancestor and its self-parent has not; and what several do
+-- What the timers of one line row count: the rows that it has as ancestor and its self-parent has not; and what several do
 use Rattle.std.proofs.Common.{◌≡◌, ℕ, ◌+◌, ◌-◌, ◌<◌, ◌≤◌, Bool, true, cond, not, ◌&&◌, ltb, leb, min, List, [], ◌∷◌, length, get_or, take, replicate, refl, sym, ap, ap₂, ◌∙◌, inl, inr, arith}
 use Rattle.std.specs.List.{list_all}
 use Rattle.std.proofs.lemmas.Bool.{cases_lt, lt-ltb, le-leb}
@@ -11,10 +11,10 @@ use Rattle.hg_model.specs.Links.{Link, creator, self_parent}
 use Rattle.hg_model.specs.Ancestry.{is_ancestor}
 use Rattle.hg_model.specs.Counts.{CountsMembers}
 use Rattle.hg_model.specs.Graph.{IsShaped}
-use Rattle.hg_order.specs.declared.tally.Tally.{Tally}
-use Rattle.hg_order.specs.declared.tally.Holder.{Holder}
+use Rattle.hg_order.specs.declared.timer.Timer.{Timer}
+use Rattle.hg_order.specs.declared.timer.LineRow.{LineRow}
 use Rattle.hg_order.specs.Counted.{IsBelow, EndAtRows}
-use Rattle.hg_order.specs.Tallied.{tally_at, tallied, tally_by, is_gained_by, is_between, AreEnds, AreTallied, AreTalliedBy, AreTalliedByAll, ReachAll}
+use Rattle.hg_order.specs.Timers.{timer_at, ticked, timer_by, is_gained_by, is_between, AreEnds, AreTicked, AreTickedBy, AreTickedByAll, ReachAll}
 use Rattle.hg_order.proofs.BoundLaws.{no_number, ltb_min, min_cases, counts_end}
 
 -- the rows that are not ancestors of the self-parent of z are those not below these numbers
@@ -48,8 +48,8 @@ module _ (n : Stakes) (L : List Link) (s : IsShaped n L) (z : ℕ) (counts : Lis
         ],
       )
 
-  pub reach_ends : (least : List ℕ) (low : ℕ) (tallies : List Tally) → AreEnds L counts least → ReachAll L least low tallies → (m : ℕ) → min (get_or counts m 0) (get_or least m 0) ≤ low + length tallies
-  reach_ends least low tallies ends reach m = elim (cases_lt 0 (min (get_or counts m 0) (get_or least m 0))) [
+  pub reach_ends : (least : List ℕ) (low : ℕ) (timers : List Timer) → AreEnds L counts least → ReachAll L least low timers → (m : ℕ) → min (get_or counts m 0) (get_or least m 0) ≤ low + length timers
+  reach_ends least low timers ends reach m = elim (cases_lt 0 (min (get_or counts m 0) (get_or least m 0))) [
     | inl some ↦
         (let end = ends m some in
         let fits = end.0 in
@@ -60,10 +60,10 @@ module _ (n : Stakes) (L : List Link) (s : IsShaped n L) (z : ℕ) (counts : Lis
     | inr none ↦ omega arith
   ]
 
-  pub tallied_by : (h : Holder) → h.place ≡ z → (before least : List ℕ) (low : ℕ) (old after : List Tally) → AreNewFrom L z before →
-      AreTallied low h.time (is_between L before counts least) old after → AreTalliedBy L least low h old after
-  tallied_by h at before least low old after new a = record {
-    each = λ k inside below. a.each k ∙ ap (λ (b : Bool). cond b (tallied h.time (tally_at old k)) (tally_at old k)) (gained (low + k) inside below);
+  pub ticked_by : (h : LineRow) → h.place ≡ z → (before least : List ℕ) (low : ℕ) (old after : List Timer) → AreNewFrom L z before →
+      AreTicked low h.time (is_between L before counts least) old after → AreTickedBy L least low h old after
+  ticked_by h at before least low old after new a = record {
+    each = λ k inside below. a.each k ∙ ap (λ (b : Bool). cond b (ticked h.time (timer_at old k)) (timer_at old k)) (gained (low + k) inside below);
     long = a.long;
   }
     where
@@ -73,15 +73,15 @@ module _ (n : Stakes) (L : List Link) (s : IsShaped n L) (z : ℕ) (counts : Lis
           let just = ltb_min x (get_or counts m 0) (get_or least m 0) ∙ (ap₂ (λ (p q : Bool). p && q) (c.told x inside) (lt-ltb x (get_or least m 0) below) ∙ and-true (is_ancestor L z x)) in
           rw at (ap₂ (λ (p q : Bool). p && q) (new.news x inside) just ∙ and_comm (list_all (λ p. not (is_ancestor L p x)) (self_parent L z)) (is_ancestor L z x))
 
-pub holders_none : (L : List Link) (least : List ℕ) (low : ℕ) (ts : List Tally) → AreTalliedByAll L least low [] ts ts
-holders_none L least low ts = record { each = λ k inside below. refl; long = refl }
+pub line_rows_none : (L : List Link) (least : List ℕ) (low : ℕ) (ts : List Timer) → AreTickedByAll L least low [] ts ts
+line_rows_none L least low ts = record { each = λ k inside below. refl; long = refl }
 
-pub holders_next : (L : List Link) (least : List ℕ) (low : ℕ) (holders : List Holder) (i : ℕ) (d : Holder) (old mid new : List Tally) → i < length holders →
-    AreTalliedByAll L least low (take i holders) old mid → AreTalliedBy L least low (get_or holders i d) mid new → AreTalliedByAll L least low (take (i + 1) holders) old new
-holders_next L least low holders i d old mid new h a b = record {
+pub line_rows_next : (L : List Link) (least : List ℕ) (low : ℕ) (line_rows : List LineRow) (i : ℕ) (d : LineRow) (old mid new : List Timer) → i < length line_rows →
+    AreTickedByAll L least low (take i line_rows) old mid → AreTickedBy L least low (get_or line_rows i d) mid new → AreTickedByAll L least low (take (i + 1) line_rows) old new
+line_rows_next L least low line_rows i d old mid new h a b = record {
   each = λ k inside below.
       b.each k inside below
-      ∙ (ap (λ (t : Tally). tally_by L (low + k) t (get_or holders i d)) (a.each k inside below)
-      ∙ sym (fold_more (tally_by L (low + k)) (tally_at old k) holders i d h));
+      ∙ (ap (λ (t : Timer). timer_by L (low + k) t (get_or line_rows i d)) (a.each k inside below)
+      ∙ sym (fold_more (timer_by L (low + k)) (timer_at old k) line_rows i d h));
   long = b.long ∙ a.long;
 }

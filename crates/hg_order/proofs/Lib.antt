@@ -1,14 +1,14 @@
 pub mod ImageLaws
 pub mod LineLaws
 pub mod FamousLaws
-pub mod HolderLaws
+pub mod FirstHolderLaws
 pub mod ReceivedLaws
 pub mod RowLaws
 pub mod WhiteLaws
 pub mod KeepLaws
 pub mod RoundLaws
 pub mod BoundLaws
-pub mod TallyLaws
+pub mod TimerLaws
 pub mod GainLaws
 pub mod EndLaws
 pub mod MedianLaws

@@ -32,37 +32,37 @@ module _ (L : List Link) (e : IsEarlier (parents L)) where
     | inr over ↦ (let le : z ≤ y = is_self_ancestor-le L e y z over in absurd (omega arith))
   ]
 
-  -- what is new to a line has no earlier holder there
+  -- what is new to a line has no earlier line row there
   none_before : (x w z : ℕ) → IsFirstHolder L x w z → (y : ℕ) → y < z → (is_self_ancestor L w y && is_ancestor L y x) ≡ true → ⊥
-  none_before x w z holder y before passes =
+  none_before x w z line_row y before passes =
       let parts = and_parts (is_self_ancestor L w y) (is_ancestor L y x) passes in
-      elim (is_self_ancestor_cases L e z y (above_on_line w z y holder.on_line parts.0 before)) [
+      elim (is_self_ancestor_cases L e z y (above_on_line w z y line_row.on_line parts.0 before)) [
         | inl same ↦ absurd (omega arith)
         | inr by ↦
             (let up : is_ancestor L by.0 x ≡ true = is_ancestor-trans L e by.0 y x (is_ancestor-from_self L e by.0 y by.2) parts.1 in
             let only : self_parent L z ≡ by.0 ∷ [] = self_parent_only L z by.0 by.1 in
-            let here = and_parts (not (is_ancestor L by.0 x)) true (subst (λ (ps : List ℕ). list_all (λ p. not (is_ancestor L p x)) ps ≡ true) only holder.first) in
+            let here = and_parts (not (is_ancestor L by.0 x)) true (subst (λ (ps : List ℕ). list_all (λ p. not (is_ancestor L p x)) ps ≡ true) only line_row.first) in
             both_ways (is_ancestor L by.0 x) (not-true (is_ancestor L by.0 x) here.0) up)
       ]
 
   pub first_holder_is : (x w z : ℕ) → IsFirstHolder L x w z → first_holder L x w ≡ z
   unfolding first_holder
-  first_holder_is x w z holder =
+  first_holder_is x w z line_row =
       let test : ℕ → Bool = λ y. is_self_ancestor L w y && is_ancestor L y x in
-      let low : z ≤ w = is_self_ancestor-le L e w z holder.on_line in
-      let none = least_below_none (λ y. y) z test (λ y before. false_from_ne_true (test y) (none_before x w z holder y before)) in
+      let low : z ≤ w = is_self_ancestor-le L e w z line_row.on_line in
+      let none = least_below_none (λ y. y) z test (λ y before. false_from_ne_true (test y) (none_before x w z line_row y before)) in
       ap (λ o. unwrap_or o w)
-      (least_number_first (suc w) z test (omega arith) none (and_from (is_self_ancestor L w z) (is_ancestor L z x) holder.on_line holder.holds))
+      (least_number_first (suc w) z test (omega arith) none (and_from (is_self_ancestor L w z) (is_ancestor L z x) line_row.on_line line_row.holds))
 
-  holder_to : (k x w : ℕ) → w < k → is_ancestor L w x ≡ true → (z : ℕ) × IsFirstHolder L x w z
-  holder_to zero x w h up = absurd (omega arith)
-  holder_to (suc k) x w h up = elim (self_parent_cases L w) [
+  line_row_to : (k x w : ℕ) → w < k → is_ancestor L w x ≡ true → (z : ℕ) × IsFirstHolder L x w z
+  line_row_to zero x w h up = absurd (omega arith)
+  line_row_to (suc k) x w h up = elim (self_parent_cases L w) [
     | inl none ↦ (w, record { on_line = is_self_ancestor_self L e w; holds = up; first = rw none refl })
     | inr one ↦ elim (cases_Bool (is_ancestor L one.0 x)) [
       | inl held ↦
           (let has : has_place (self_parent L w) one.0 ≡ true = rw one.1 (has_place_first one.0 []) in
           let before : one.0 < w = (self_parent_earlier L e).earlier w one.0 has in
-          let below = holder_to k x one.0 (omega arith) held in
+          let below = line_row_to k x one.0 (omega arith) held in
           (below.0, record { on_line = is_self_ancestor_by L e w one.0 below.0 has below.1.on_line; holds = below.1.holds; first = below.1.first }))
       | inr not_held ↦ (w, record { on_line = is_self_ancestor_self L e w; holds = up; first = rw (one.1, not_held) refl })
     ]
@@ -71,7 +71,7 @@ module _ (L : List Link) (e : IsEarlier (parents L)) where
   -- where w has x as ancestor, its line has a first holder
   pub first_holder_found : (x w : ℕ) → is_ancestor L w x ≡ true → IsFirstHolder L x w (first_holder L x w)
   first_holder_found x w up =
-      let found = holder_to (suc w) x w (omega arith) up in
+      let found = line_row_to (suc w) x w (omega arith) up in
       subst (λ z. IsFirstHolder L x w z) (sym (first_holder_is x w found.0 found.1)) found.1
 
   pub first_holder-le : (x w : ℕ) → is_ancestor L w x ≡ true → first_holder L x w ≤ w

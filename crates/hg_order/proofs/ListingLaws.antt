@@ -10,52 +10,52 @@ use Rattle.hg_model.specs.Ancestry.{is_ancestor, is_self_ancestor}
 use Rattle.hg_model.specs.Order.{time_at}
 use Rattle.hg_model.proofs.AncestryLaws.{is_ancestor-le, is_self_ancestor_self}
 use Rattle.hg_model.proofs.ForkLaws.{self_parent_cases}
-use Rattle.hg_order.specs.declared.tally.Holder.{Holder}
+use Rattle.hg_order.specs.declared.timer.LineRow.{LineRow}
 use Rattle.hg_order.specs.Famous.{all_have, first_holder}
-use Rattle.hg_order.specs.Lined.{no_holder, place_at, HasLine, HaveTimes, AddsLine, AreLinesOf, WalksLine}
-use Rattle.hg_order.specs.Tallied.{holder_at}
+use Rattle.hg_order.specs.Lined.{no_line_row, place_at, HasLine, HaveTimes, AddsLine, AreLinesOf, WalksLine}
+use Rattle.hg_order.specs.Timers.{line_row_at}
 use Rattle.hg_order.proofs.LineLaws.{is_new_to_line, first_holder_is, line_down, new_by_parent, new_without_parent}
 
--- one holder more
+-- one line row more
 
-read_before : (now : List Holder) (h : Holder) (k : ℕ) → k < length now → get_or (now ++ h ∷ []) k no_holder ≡ get_or now k no_holder
-read_before now h k lt = get_or_append_left now (h ∷ []) no_holder k lt
+read_before : (now : List LineRow) (h : LineRow) (k : ℕ) → k < length now → get_or (now ++ h ∷ []) k no_line_row ≡ get_or now k no_line_row
+read_before now h k lt = get_or_append_left now (h ∷ []) no_line_row k lt
 
-read_last : (now : List Holder) (h : Holder) (k : ℕ) → k ≡ length now → get_or (now ++ h ∷ []) k no_holder ≡ h
-read_last now h k is = get_or_push now h no_holder k (sym is)
+read_last : (now : List LineRow) (h : LineRow) (k : ℕ) → k ≡ length now → get_or (now ++ h ∷ []) k no_line_row ≡ h
+read_last now h k is = get_or_push now h no_line_row k (sym is)
 
-place_before : (now : List Holder) (h : Holder) (k : ℕ) → k < length now → place_at (now ++ h ∷ []) k ≡ place_at now k
-place_before now h k lt = ap (λ (h : Holder). h.place) (read_before now h k lt)
+place_before : (now : List LineRow) (h : LineRow) (k : ℕ) → k < length now → place_at (now ++ h ∷ []) k ≡ place_at now k
+place_before now h k lt = ap (λ (h : LineRow). h.place) (read_before now h k lt)
 
-place_last : (now : List Holder) (h : Holder) (k : ℕ) → k ≡ length now → place_at (now ++ h ∷ []) k ≡ h.place
-place_last now h k is = ap (λ (h : Holder). h.place) (read_last now h k is)
+place_last : (now : List LineRow) (h : LineRow) (k : ℕ) → k ≡ length now → place_at (now ++ h ∷ []) k ≡ h.place
+place_last now h k is = ap (λ (h : LineRow). h.place) (read_last now h k is)
 
-times_next : (G : List Row) (now : List Holder) (z : ℕ) → HaveTimes G now → HaveTimes G (now ++ holder_at G z ∷ [])
+times_next : (G : List Row) (now : List LineRow) (z : ℕ) → HaveTimes G now → HaveTimes G (now ++ line_row_at G z ∷ [])
 times_next G now z times k lt = elim (cases_lt k (length now)) [
   | inl before ↦
-      ap (λ (h : Holder). h.time) (read_before now (holder_at G z) k before) ∙ (times k before ∙ ap (time_at G) (sym (place_before now (holder_at G z) k before)))
+      ap (λ (h : LineRow). h.time) (read_before now (line_row_at G z) k before) ∙ (times k before ∙ ap (time_at G) (sym (place_before now (line_row_at G z) k before)))
   | inr past ↦
-      (let is : k ≡ length now = omega (arith, length_push now (holder_at G z)) in
-      ap (λ (h : Holder). h.time) (read_last now (holder_at G z) k is) ∙ ap (time_at G) (sym (place_last now (holder_at G z) k is)))
+      (let is : k ≡ length now = omega (arith, length_push now (line_row_at G z)) in
+      ap (λ (h : LineRow). h.time) (read_last now (line_row_at G z) k is) ∙ ap (time_at G) (sym (place_last now (line_row_at G z) k is)))
 ]
 
-module _ (G : List Row) (L : List Link) (e : IsEarlier (parents L)) (w : ℕ) (old : List Holder) where
-  pub walk_one : WalksLine G L w old (old ++ holder_at G w ∷ []) w
+module _ (G : List Row) (L : List Link) (e : IsEarlier (parents L)) (w : ℕ) (old : List LineRow) where
+  pub walk_one : WalksLine G L w old (old ++ line_row_at G w ∷ []) w
   walk_one =
-      let long = length_push old (holder_at G w) in
+      let long = length_push old (line_row_at G w) in
       record {
         some = omega arith;
-        top = place_last old (holder_at G w) (length old) refl;
-        at = place_last old (holder_at G w) (length (old ++ holder_at G w ∷ []) - 1) (omega arith);
-        on = λ k from lt. (let is : k ≡ length old = omega arith in rw (place_last old (holder_at G w) k is) (is_self_ancestor_self L e w));
+        top = place_last old (line_row_at G w) (length old) refl;
+        at = place_last old (line_row_at G w) (length (old ++ line_row_at G w ∷ []) - 1) (omega arith);
+        on = λ k from lt. (let is : k ≡ length old = omega arith in rw (place_last old (line_row_at G w) k is) (is_self_ancestor_self L e w));
         next = λ k from lt. absurd (omega arith);
-        before = take-append_seam old (holder_at G w ∷ []);
+        before = take-append_seam old (line_row_at G w ∷ []);
         times = times_next G old w;
       }
 
-  pub walk_next : (now : List Holder) (z p : ℕ) → WalksLine G L w old now z → p ∷ [] ≡ self_parent L z → WalksLine G L w old (now ++ holder_at G p ∷ []) p
+  pub walk_next : (now : List LineRow) (z p : ℕ) → WalksLine G L w old now z → p ∷ [] ≡ self_parent L z → WalksLine G L w old (now ++ line_row_at G p ∷ []) p
   walk_next now z p walk is =
-      let h = holder_at G p in
+      let h = line_row_at G p in
       let long = length_push now h in
       let some = walk.some in
       let last : place_at now (length now - 1) ≡ z = walk.at in
@@ -81,7 +81,7 @@ module _ (G : List Row) (L : List Link) (e : IsEarlier (parents L)) (w : ℕ) (o
         times = λ times. times_next G now p (walk.times times);
       }
 
-  pub walk_done : (low : ℕ) (now : List Holder) (z : ℕ) → WalksLine G L w old now z → ((p : ℕ) → p ∷ [] ≡ self_parent L z → p < low) → AddsLine G L w low old now
+  pub walk_done : (low : ℕ) (now : List LineRow) (z : ℕ) → WalksLine G L w old now z → ((p : ℕ) → p ∷ [] ≡ self_parent L z → p < low) → AddsLine G L w low old now
   walk_done low now z walk last = record {
     line = record {
       some = walk.some;
@@ -105,11 +105,11 @@ module _ (G : List Row) (L : List Link) (low : ℕ) where
     times = λ k lt. absurd (omega arith);
   }
 
-  place_same : (old new : List Holder) → take (length old) new ≡ old → (k : ℕ) → k < length old → place_at new k ≡ place_at old k
+  place_same : (old new : List LineRow) → take (length old) new ≡ old → (k : ℕ) → k < length old → place_at new k ≡ place_at old k
   place_same old new before k lt =
-      ap (λ (h : Holder). h.place) (sym (get_or-take (length old) new k no_holder lt) ∙ ap (λ (xs : List Holder). get_or xs k no_holder) before)
+      ap (λ (h : LineRow). h.place) (sym (get_or-take (length old) new k no_line_row lt) ∙ ap (λ (xs : List LineRow). get_or xs k no_line_row) before)
 
-  line_same : (old new : List Holder) (start «end» : ℕ) → take (length old) new ≡ old → length old ≤ length new → HasLine L low old start «end» → HasLine L low new start «end»
+  line_same : (old new : List LineRow) (start «end» : ℕ) → take (length old) new ≡ old → length old ≤ length new → HasLine L low old start «end» → HasLine L low new start «end»
   line_same old new start «end» before more line =
       let same = place_same old new before in
       let within = line.within in
@@ -122,7 +122,7 @@ module _ (G : List Row) (L : List Link) (low : ℕ) where
         last = λ p is. line.last p (is ∙ ap (self_parent L) (same («end» - 1) (omega arith)));
       }
 
-  pub lines_next : (places starts : List ℕ) (i : ℕ) (old new : List Holder) → AreLinesOf G L (take i places) low old starts → get_or starts i 0 ≡ length old →
+  pub lines_next : (places starts : List ℕ) (i : ℕ) (old new : List LineRow) → AreLinesOf G L (take i places) low old starts → get_or starts i 0 ≡ length old →
       AddsLine G L (get_or places i 0) low old new → i < length places → i + 1 < length starts → AreLinesOf G L (take (i + 1) places) low new (set starts (i + 1) (length new))
   lines_next places starts i old new are begins adds lt room =
       let kept : (j : ℕ) → j ≤ i → get_or (set starts (i + 1) (length new)) j 0 ≡ get_or starts j 0 = λ j le. get_or-set_other starts (i + 1) j (length new) 0 (λ is. omega arith) in
@@ -150,7 +150,7 @@ module _ (G : List Row) (L : List Link) (low : ℕ) where
       }
 
 -- a line that goes down to an earlier place goes down to a later one
-pub line_to : (L : List Link) (low x : ℕ) (lines : List Holder) (start «end» : ℕ) → HasLine L low lines start «end» → low ≤ x → HasLine L x lines start «end»
+pub line_to : (L : List Link) (low x : ℕ) (lines : List LineRow) (start «end» : ℕ) → HasLine L low lines start «end» → low ≤ x → HasLine L x lines start «end»
 line_to L low x lines start «end» line le = record {
   some = line.some;
   within = line.within;
@@ -159,7 +159,7 @@ line_to L low x lines start «end» line le = record {
   last = λ p is. (let under = line.last p is in omega arith);
 }
 
-pub lines_to : (G : List Row) (L : List Link) (places : List ℕ) (low x : ℕ) (lines : List Holder) (starts : List ℕ) → AreLinesOf G L places low lines starts → low ≤ x → AreLinesOf G L places x lines starts
+pub lines_to : (G : List Row) (L : List Link) (places : List ℕ) (low x : ℕ) (lines : List LineRow) (starts : List ℕ) → AreLinesOf G L places low lines starts → low ≤ x → AreLinesOf G L places x lines starts
 lines_to G L places low x lines starts are le = record {
   line = λ i lt. line_to L low x lines _ _ (are.line i lt) le;
   top = are.top;
@@ -173,14 +173,14 @@ one_has L (w ∷ places) x zero all lt = (and_parts (is_ancestor L w x) (all_hav
 one_has L (w ∷ places) x (suc i) all lt = one_has L places x i (and_parts (is_ancestor L w x) (all_have L places x) all).1 (omega arith)
 
 -- by halves: `has` has x as ancestor, and `lacks` has not, if it is in the line
-pub record IsBetween (L : List Link) (x : ℕ) (lines : List Holder) (start «end» has lacks : ℕ) : Type 0 where
+pub record IsBetween (L : List Link) (x : ℕ) (lines : List LineRow) (start «end» has lacks : ℕ) : Type 0 where
   pub from : start ≤ has
   pub order : has < lacks
   pub to : lacks ≤ «end»
   pub holds : is_ancestor L (place_at lines has) x ≡ true
   pub beyond : lacks < «end» → is_ancestor L (place_at lines lacks) x ≡ false
 
-pub found_by_halves : (L : List Link) (e : IsEarlier (parents L)) (x : ℕ) (lines : List Holder) (start «end» has lacks : ℕ) → HasLine L x lines start «end» →
+pub found_by_halves : (L : List Link) (e : IsEarlier (parents L)) (x : ℕ) (lines : List LineRow) (start «end» has lacks : ℕ) → HasLine L x lines start «end» →
     IsBetween L x lines start «end» has lacks → lacks ≤ has + 1 → place_at lines has ≡ first_holder L x (place_at lines start)
 found_by_halves L e x lines start «end» has lacks line between close =
     let order = between.order in

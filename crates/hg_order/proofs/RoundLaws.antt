@@ -26,7 +26,7 @@ use Rattle.hg_model.proofs.LinkLaws.{length-links}
 use Rattle.hg_order.specs.Famous.{IsBelowAll, times_of, whitening_of}
 use Rattle.hg_order.specs.Round.{placed_by, is_placed_before, placed_in, received_places, placed_below, sig_or_zeros, name_or_zeros, rows_cmp, placed_cmp, placed_less, IsWide, IsRoundOf, ArePlacedBy, AreOrderedBy}
 use Rattle.hg_order.proofs.FamousLaws.{whitening_is}
-use Rattle.hg_order.proofs.HolderLaws.{median_is_consensus}
+use Rattle.hg_order.proofs.FirstHolderLaws.{median_is_consensus}
 
 -- the comparison of a round is a total order, and rows that tie are one
 

@@ -1,4 +1,4 @@
--- The sweep: rows linked along the lines, lanes that go on, and what holders leave of tallies
+-- The sweep: rows linked along the lines, lanes that go on, and what line rows leave of timers
 use Rattle.std.proofs.Common.{◌≡◌, ◌≢◌, ℕ, zero, suc, ◌+◌, ◌-◌, ◌<◌, ◌≤◌, Bool, true, false, cond, not, ◌&&◌, ltb, leb, List, [], ◌∷◌, ◌++◌, length, get_or, set, fold, replicate, count_by, refl, sym, ap, ap₂, ◌∙◌, inl, inr, ◌⊎◌, arith}
 use Rattle.std.specs.List.{list_all}
 use Rattle.std.proofs.lemmas.Bool.{false≢true, cases_Bool, cases_eq, cases_lt, lt-ltb, le-ltb, le-leb, ltb-true, false_from_ne_true}
@@ -17,15 +17,15 @@ use Rattle.hg_model.proofs.AncestryLaws.{is_ancestor-le, is_ancestor_self, is_an
 use Rattle.hg_model.proofs.SightLaws.{is_ancestor-from_self}
 use Rattle.hg_model.proofs.ReachLaws.{has_place_first}
 use Rattle.hg_model.proofs.ForkLaws.{self_parent_cases}
-use Rattle.hg_order.specs.declared.tally.Tally.{Tally}
-use Rattle.hg_order.specs.declared.tally.Holder.{Holder}
+use Rattle.hg_order.specs.declared.timer.Timer.{Timer}
+use Rattle.hg_order.specs.declared.timer.LineRow.{LineRow}
 use Rattle.hg_order.specs.Counted.{IsBelow}
-use Rattle.hg_order.specs.Tallied.{no_tally, tally_at, tallied, tally_by, tally_of, is_gained_by, untallied, ReachAll}
+use Rattle.hg_order.specs.Timers.{no_timer, timer_at, ticked, timer_by, timer_of, is_gained_by, unticked, ReachAll}
 use Rattle.hg_order.specs.Swept.{has_reached, has_counted, reached, counts_at, end_of, parent_end, AreLast, IsNextFrom, AreLinked, IsLane, AreLanes, IsPast, IsAdvanced, IsLaneFrom, AreAdvanced, AreFew, AreGained, AreGainedBy, IsSwept, AreTimed, ArePast}
 use Rattle.hg_order.proofs.BoundLaws.{no_number, counts_end}
-use Rattle.hg_order.proofs.MedianLaws.{tally_where}
+use Rattle.hg_order.proofs.MedianLaws.{timer_where}
 
--- the doubtful law first: how many lines have x as ancestor is one more where a holder gains it that follows its self-parent
+-- the doubtful law first: how many lines have x as ancestor is one more where a line row gains it that follows its self-parent
 
 bits : (up was : Bool) → (was ≡ true → up ≡ true) → cond {A = ℕ} up 1 0 ≡ cond {A = ℕ} was 1 0 + cond {A = ℕ} (up && not was) 1 0
 bits true true h = refl
@@ -109,32 +109,32 @@ module _ (L : List Link) (top : ℕ) (next : List ℕ) (y : ℕ) (inside : y < t
         }))
   ]
 
-  pub linked_next : (low : ℕ) (ts : List Tally) → low ≤ y → y - low < length ts → ((k : ℕ) → k < length ts → y + 1 ≤ low + k → IsNextFrom L top (creator L (low + k)) (low + k + 1) (tally_at ts k).left) →
-      (k : ℕ) → k < length ts → y ≤ low + k → IsNextFrom L top (creator L (low + k)) (low + k + 1) (tally_at (set ts (y - low) (record { left = get_or next (creator L y) 0; time = 0 })) k).left
+  pub linked_next : (low : ℕ) (ts : List Timer) → low ≤ y → y - low < length ts → ((k : ℕ) → k < length ts → y + 1 ≤ low + k → IsNextFrom L top (creator L (low + k)) (low + k + 1) (timer_at ts k).left) →
+      (k : ℕ) → k < length ts → y ≤ low + k → IsNextFrom L top (creator L (low + k)) (low + k + 1) (timer_at (set ts (y - low) (record { left = get_or next (creator L y) 0; time = 0 })) k).left
   linked_next low ts from room linked k few over = elim (cases_eq k (y - low)) [
     | inl here ↦
         (let at : low + k ≡ y = omega arith in
-        rw (here, get_or-set_same ts (y - low) (record { left = get_or next (creator L y) 0; time = 0 }) no_tally room) (rw (sym here, at) (firsts (creator L y))))
-    | inr other ↦ rw (get_or-set_other ts (y - low) k (record { left = get_or next (creator L y) 0; time = 0 }) no_tally other) (linked k few (omega arith))
+        rw (here, get_or-set_same ts (y - low) (record { left = get_or next (creator L y) 0; time = 0 }) no_timer room) (rw (sym here, at) (firsts (creator L y))))
+    | inr other ↦ rw (get_or-set_other ts (y - low) k (record { left = get_or next (creator L y) 0; time = 0 }) no_timer other) (linked k few (omega arith))
   ]
 
--- a time more in a tally
+-- a time more in a timer
 
--- the tally at k with this time
-abbrev pub with_time : List Tally → ℕ → ℕ → List Tally
-with_time ts k time = set ts k (record { left = (tally_at ts k).left; time = time })
+-- the timer at k with this time
+abbrev pub with_time : List Timer → ℕ → ℕ → List Timer
+with_time ts k time = set ts k (record { left = (timer_at ts k).left; time = time })
 
-left_kept : (ts : List Tally) (k time j : ℕ) → k < length ts → (tally_at (with_time ts k time) j).left ≡ (tally_at ts j).left
+left_kept : (ts : List Timer) (k time j : ℕ) → k < length ts → (timer_at (with_time ts k time) j).left ≡ (timer_at ts j).left
 left_kept ts k time j room = elim (cases_eq j k) [
-  | inl same ↦ rw same (ap (λ (t : Tally). t.left) (get_or-set_same ts k (record { left = (tally_at ts k).left; time = time }) no_tally room))
-  | inr other ↦ ap (λ (t : Tally). t.left) (get_or-set_other ts k j (record { left = (tally_at ts k).left; time = time }) no_tally other)
+  | inl same ↦ rw same (ap (λ (t : Timer). t.left) (get_or-set_same ts k (record { left = (timer_at ts k).left; time = time }) no_timer room))
+  | inr other ↦ ap (λ (t : Timer). t.left) (get_or-set_other ts k j (record { left = (timer_at ts k).left; time = time }) no_timer other)
 ]
 
-linked_timed : (L : List Link) (low : ℕ) (ts : List Tally) (k time : ℕ) → k < length ts → AreLinked L low ts → AreLinked L low (with_time ts k time)
+linked_timed : (L : List Link) (low : ℕ) (ts : List Timer) (k time : ℕ) → k < length ts → AreLinked L low ts → AreLinked L low (with_time ts k time)
 linked_timed L low ts k time room linked j few =
-    let long = length-set ts k (record { left = (tally_at ts k).left; time = time }) in
+    let long = length-set ts k (record { left = (timer_at ts k).left; time = time }) in
     let old = linked j (rw long at few) in
-    next_same L (low + length ts) (low + length (with_time ts k time)) (creator L (low + j)) (low + j + 1) (tally_at ts j).left (tally_at (with_time ts k time) j).left (ap (λ (n : ℕ). low + n) (sym long)) (sym (left_kept ts k time j room)) old
+    next_same L (low + length ts) (low + length (with_time ts k time)) (creator L (low + j)) (low + j + 1) (timer_at ts j).left (timer_at (with_time ts k time) j).left (ap (λ (n : ℕ). low + n) (sym long)) (sym (left_kept ts k time j room)) old
   where
     next_same : (L : List Link) (top after m bottom next more : ℕ) → top ≡ after → next ≡ more → IsNextFrom L top m bottom next → IsNextFrom L after m bottom more
     next_same L top after m bottom next more e1 e2 is = rw (← e1, ← e2) is
@@ -156,7 +156,7 @@ cond_cases : (b : Bool) (n : ℕ) → (cond b n 0 ≡ 0) ⊎ (cond b n 0 ≡ n)
 cond_cases true n = inr refl
 cond_cases false n = inl refl
 
-module _ (L : List Link) (bound : ℕ) (last : List (List ℕ)) (low need time start : ℕ) (old : List Tally) where
+module _ (L : List Link) (bound : ℕ) (last : List (List ℕ)) (low need time start : ℕ) (old : List Timer) where
   pub advanced_none : (above : ℕ) → AreLinked L low old → IsLaneFrom L last low old start above → IsAdvanced L bound last low need time (creator L (start - 1)) start start above old old
   advanced_none above linked lane = record {
     lane = record { from = λ _. lane.from; to = lane.to; by = λ _. refl; counted = λ _. lane.counted; idle = λ none. (let from = lane.from in absurd (omega arith)) };
@@ -171,7 +171,7 @@ module _ (L : List Link) (bound : ℕ) (last : List (List ℕ)) (low need time s
       not_past k from (inl none) = (let some = lane.from in absurd (omega arith))
       not_past k from (inr later) = absurd (omega arith)
 
-  module _ (m here above : ℕ) (now : List Tally) (a : IsAdvanced L bound last low need time m start here above old now) (some : 0 < need) (enough : need ≤ above) where
+  module _ (m here above : ℕ) (now : List Timer) (a : IsAdvanced L bound last low need time m start here above old now) (some : 0 < need) (enough : need ≤ above) where
     pub row_there : 0 < here
     row_there = elim (cases_lt 0 here) [
       | inl there ↦ there
@@ -187,7 +187,7 @@ module _ (L : List Link) (bound : ℕ) (last : List (List ℕ)) (low need time s
     at_row : low + (here - 1 - low) ≡ here - 1
     at_row = (let there = row_there in let from = row_from in omega arith)
 
-    step_facts : IsNextFrom L (low + length now) m here (tally_at now (here - 1 - low)).left
+    step_facts : IsNextFrom L (low + length now) m here (timer_at now (here - 1 - low)).left
     step_facts =
         let there = row_there in
         let from = row_from in
@@ -195,9 +195,9 @@ module _ (L : List Link) (bound : ℕ) (last : List (List ℕ)) (low need time s
         let one : low + (here - 1 - low) + 1 ≡ here = omega arith in
         rw (one, at, a.lane.by there) at (a.linked (here - 1 - low) row_inside)
 
-    module _ (next more : ℕ) (is : next ≡ cond (leb (tally_at now (here - 1 - low)).left bound) (tally_at now (here - 1 - low)).left 0) where
-      next_is : (0 < next) → next ≡ (tally_at now (here - 1 - low)).left
-      next_is more = elim (cond_cases (leb (tally_at now (here - 1 - low)).left bound) (tally_at now (here - 1 - low)).left) [
+    module _ (next more : ℕ) (is : next ≡ cond (leb (timer_at now (here - 1 - low)).left bound) (timer_at now (here - 1 - low)).left 0) where
+      next_is : (0 < next) → next ≡ (timer_at now (here - 1 - low)).left
+      next_is more = elim (cond_cases (leb (timer_at now (here - 1 - low)).left bound) (timer_at now (here - 1 - low)).left) [
         | inl none ↦ (let zero_is = is ∙ none in absurd (omega arith))
         | inr one ↦ is ∙ one
       ]
@@ -210,7 +210,7 @@ module _ (L : List Link) (bound : ℕ) (last : List (List ℕ)) (low need time s
 
       not_later : (k : ℕ) → low + k < bound → low + k < low + length now → creator L (low + k) ≡ m → here ≤ low + k → IsPast next (low + k) → ⊥
       not_later k below inside by from past =
-          let q = (tally_at now (here - 1 - low)).left in
+          let q = (timer_at now (here - 1 - low)).left in
           let first = step_facts.first (low + k) by from inside in
           let first0 = first.0 in
           let first1 = first.1 in
@@ -219,7 +219,7 @@ module _ (L : List Link) (bound : ℕ) (last : List (List ℕ)) (low need time s
             | inr within ↦ passes past (is ∙ ap (λ (b : Bool). cond b q 0) (le-leb q bound within)) first0 first1
           ]
         where
-          passes : IsPast next (low + k) → next ≡ (tally_at now (here - 1 - low)).left → 0 < (tally_at now (here - 1 - low)).left → (tally_at now (here - 1 - low)).left ≤ low + k + 1 → ⊥
+          passes : IsPast next (low + k) → next ≡ (timer_at now (here - 1 - low)).left → 0 < (timer_at now (here - 1 - low)).left → (timer_at now (here - 1 - low)).left ≤ low + k + 1 → ⊥
           passes (inl none) same some few = absurd (omega arith)
           passes (inr later) same some few = absurd (omega arith)
 
@@ -232,7 +232,7 @@ module _ (L : List Link) (bound : ℕ) (last : List (List ℕ)) (low need time s
           let at = at_row in
           let inside = row_inside in
           let later = a.later there in
-          let long : length (with_time now k0 time) ≡ length now = length-set now k0 (record { left = (tally_at now k0).left; time = time }) in record {
+          let long : length (with_time now k0 time) ≡ length now = length-set now k0 (record { left = (timer_at now k0).left; time = time }) in record {
             lane = record {
               from = λ more. (let on = after more in omega arith);
               to = elim (cases_lt 0 next) [
@@ -247,14 +247,14 @@ module _ (L : List Link) (bound : ℕ) (last : List (List ℕ)) (low need time s
             linked = linked_timed L low now k0 time inside a.linked;
             kept = λ k before. elim (cases_eq k k0) [
               | inl same ↦ (let early = before (ap (λ (j : ℕ). creator L (low + j)) same ∙ (ap (creator L) at ∙ a.lane.by there)) in absurd (omega arith))
-              | inr other ↦ get_or-set_other now k0 k (record { left = (tally_at now k0).left; time = time }) no_tally other ∙ a.kept k before
+              | inr other ↦ get_or-set_other now k0 k (record { left = (timer_at now k0).left; time = time }) no_timer other ∙ a.kept k before
             ];
             timed = λ k below in_window by after_start past. elim (cases_eq k k0) [
               | inl same ↦ record {
-                found = rw same (ap (λ (t : Tally). t.time) (get_or-set_same now k0 (record { left = (tally_at now k0).left; time = time }) no_tally inside));
+                found = rw same (ap (λ (t : Timer). t.time) (get_or-set_same now k0 (record { left = (timer_at now k0).left; time = time }) no_timer inside));
                 enough = (let count = a.lane.counted there in rw (same, at) (omega arith));
               }
-              | inr other ↦ rw (get_or-set_other now k0 k (record { left = (tally_at now k0).left; time = time }) no_tally other) (a.timed k below (omega arith) by after_start (before_here k other (λ over. not_later k below (omega arith) by over past)))
+              | inr other ↦ rw (get_or-set_other now k0 k (record { left = (timer_at now k0).left; time = time }) no_timer other) (a.timed k below (omega arith) by after_start (before_here k other (λ over. not_later k below (omega arith) by over past)))
             ];
             long = long ∙ a.long;
           }
@@ -273,15 +273,15 @@ module _ (L : List Link) (bound : ℕ) (last : List (List ℕ)) (low need time s
 
 -- all lanes that go on
 
-pub lane_from : (L : List Link) (last : List (List ℕ)) (low m next above need : ℕ) (ts : List Tally) → IsLane L last low (low + length ts) m next above → 0 < need → need ≤ above → IsLaneFrom L last low ts next above
+pub lane_from : (L : List Link) (last : List (List ℕ)) (low m next above need : ℕ) (ts : List Timer) → IsLane L last low (low + length ts) m next above → 0 < need → need ≤ above → IsLaneFrom L last low ts next above
 lane_from L last low m next above need ts lane some enough = elim (cases_lt 0 next) [
   | inl there ↦ record { from = lane.from there; to = lane.to; counted = lane.counted there }
   | inr none ↦ (let idle = lane.idle (omega arith) in absurd (omega arith))
 ]
 
-module _ (L : List Link) (least : List ℕ) (last : List (List ℕ)) (low need time : ℕ) (start next above : List ℕ) (old now : List Tally) (a : AreAdvanced L least last low need time start next above old now)
+module _ (L : List Link) (least : List ℕ) (last : List (List ℕ)) (low need time : ℕ) (start next above : List ℕ) (old now : List Timer) (a : AreAdvanced L least last low need time start next above old now)
     (m : ℕ) (same : get_or next m 0 ≡ get_or start m 0) (room : m < length next) (room_above : m < length above) (there : 0 < get_or next m 0) where
-  pub lanes_next : (q more : ℕ) (new : List Tally) → IsAdvanced L (get_or least m 0) last low need time (creator L (get_or next m 0 - 1)) (get_or next m 0) q more now new →
+  pub lanes_next : (q more : ℕ) (new : List Timer) → IsAdvanced L (get_or least m 0) last low need time (creator L (get_or next m 0 - 1)) (get_or next m 0) q more now new →
       AreAdvanced L least last low need time start (set next m q) (set above m more) old new
   lanes_next q more new step =
       let by : creator L (get_or next m 0 - 1) ≡ m = (a.lanes m).by there in
@@ -390,39 +390,39 @@ module _ (n : Stakes) (L : List Link) (s : IsShaped n L) (low : ℕ) (last : Lis
     pub line_last : AreLast L low (set last m to)
     line_last = rw by (last_next n L s z counts c here to copied low last room_by ls)
 
--- what holders leave of tallies
+-- what line rows leave of timers
 
-tally_left : (test : Holder → Bool) (holders : List Holder) (t : Tally) → (fold (tally_where test) t holders).left ≡ t.left - count_by test holders
-tally_left test [] t = omega arith
-tally_left test (h ∷ holders) t = elim (cases_Bool (test h)) [
+timer_left : (test : LineRow → Bool) (line_rows : List LineRow) (t : Timer) → (fold (timer_where test) t line_rows).left ≡ t.left - count_by test line_rows
+timer_left test [] t = omega arith
+timer_left test (h ∷ line_rows) t = elim (cases_Bool (test h)) [
   | inl passes ↦
       (let one : cond {A = ℕ} (test h) 1 0 ≡ 1 = ap (λ (b : Bool). cond {A = ℕ} b 1 0) passes in
-      let more = sum_by-cons (λ (h : Holder). cond (test h) 1 0) h holders in
-      ap (λ (b : Bool). (fold (tally_where test) (cond b (tallied h.time t) t) holders).left) passes ∙ (tally_left test holders (tallied h.time t) ∙ omega arith))
+      let more = sum_by-cons (λ (h : LineRow). cond (test h) 1 0) h line_rows in
+      ap (λ (b : Bool). (fold (timer_where test) (cond b (ticked h.time t) t) line_rows).left) passes ∙ (timer_left test line_rows (ticked h.time t) ∙ omega arith))
   | inr fails ↦
       (let one : cond {A = ℕ} (test h) 1 0 ≡ 0 = ap (λ (b : Bool). cond {A = ℕ} b 1 0) fails in
-      let more = sum_by-cons (λ (h : Holder). cond (test h) 1 0) h holders in
-      ap (λ (b : Bool). (fold (tally_where test) (cond b (tallied h.time t) t) holders).left) fails ∙ (tally_left test holders t ∙ omega arith))
+      let more = sum_by-cons (λ (h : LineRow). cond (test h) 1 0) h line_rows in
+      ap (λ (b : Bool). (fold (timer_where test) (cond b (ticked h.time t) t) line_rows).left) fails ∙ (timer_left test line_rows t ∙ omega arith))
 ]
 
-at_last : (time : ℕ) (t : Tally) → t.left ≡ 1 → tallied time t ≡ record { left = 0; time = time }
+at_last : (time : ℕ) (t : Timer) → t.left ≡ 1 → ticked time t ≡ record { left = 0; time = time }
 at_last time t one = rw one refl
 
-decided_now : (test : Holder → Bool) (holders : List Holder) (h : Holder) (need : ℕ) → count_by test holders < need → need ≤ count_by test holders + cond (test h) 1 0 →
-    tally_where test (fold (tally_where test) (untallied need) holders) h ≡ record { left = 0; time = h.time }
-decided_now test holders h need few enough = elim (cases_Bool (test h)) [
+decided_now : (test : LineRow → Bool) (line_rows : List LineRow) (h : LineRow) (need : ℕ) → count_by test line_rows < need → need ≤ count_by test line_rows + cond (test h) 1 0 →
+    timer_where test (fold (timer_where test) (unticked need) line_rows) h ≡ record { left = 0; time = h.time }
+decided_now test line_rows h need few enough = elim (cases_Bool (test h)) [
   | inl passes ↦
       (let one : cond {A = ℕ} (test h) 1 0 ≡ 1 = ap (λ (b : Bool). cond {A = ℕ} b 1 0) passes in
-      let left = tally_left test holders (untallied need) in
-      ap (λ (b : Bool). cond b (tallied h.time (fold (tally_where test) (untallied need) holders)) (fold (tally_where test) (untallied need) holders)) passes
-      ∙ at_last h.time (fold (tally_where test) (untallied need) holders) (left ∙ omega arith))
+      let left = timer_left test line_rows (unticked need) in
+      ap (λ (b : Bool). cond b (ticked h.time (fold (timer_where test) (unticked need) line_rows)) (fold (timer_where test) (unticked need) line_rows)) passes
+      ∙ at_last h.time (fold (timer_where test) (unticked need) line_rows) (left ∙ omega arith))
   | inr fails ↦ (let none : cond {A = ℕ} (test h) 1 0 ≡ 0 = ap (λ (b : Bool). cond {A = ℕ} b 1 0) fails in absurd (omega arith))
 ]
 
-decided_before : (test : Holder → Bool) (h : Holder) (time : ℕ) (t : Tally) → t ≡ record { left = 0; time = time } → tally_where test t h ≡ record { left = 0; time = time }
+decided_before : (test : LineRow → Bool) (h : LineRow) (time : ℕ) (t : Timer) → t ≡ record { left = 0; time = time } → timer_where test t h ≡ record { left = 0; time = time }
 decided_before test h time t is = rw is (same (test h))
   where
-    same : (b : Bool) → cond b (tallied h.time (record { left = 0; time = time })) (record { left = 0; time = time }) ≡ record { left = 0; time = time }
+    same : (b : Bool) → cond b (ticked h.time (record { left = 0; time = time })) (record { left = 0; time = time }) ≡ record { left = 0; time = time }
     same true = refl
     same false = refl
 
@@ -447,10 +447,10 @@ lane_past n L s last low top m next above inside over lane = elim (cases_lt 0 ne
   | inr none ↦ omega arith
 ]
 
--- one holder more, after which the lines' counts are others
+-- one line row more, after which the lines' counts are others
 
-module _ (n : Stakes) (L : List Link) (least : List ℕ) (low need : ℕ) (holders : List Holder) (last : List (List ℕ)) (next above : List ℕ) (ts : List Tally)
-    (swept : IsSwept L least low need holders last next above ts) (h : Holder) (inside : low + length ts ≤ length L) (on : List (List ℕ))
+module _ (n : Stakes) (L : List Link) (least : List ℕ) (low need : ℕ) (line_rows : List LineRow) (last : List (List ℕ)) (next above : List ℕ) (ts : List Timer)
+    (swept : IsSwept L least low need line_rows last next above ts) (h : LineRow) (inside : low + length ts ≤ length L) (on : List (List ℕ))
     (more : (x : ℕ) → low ≤ x → x < length L → reached L on x ≡ reached L last x + cond (is_gained_by L h.place x) 1 0) where
   pub lanes_gained : (mid : List ℕ) (top : ℕ) → AreGainedBy n L low h.place next above mid top → AreLanes L on low (low + length ts) next mid
   lanes_gained mid top g m =
@@ -474,29 +474,29 @@ module _ (n : Stakes) (L : List Link) (least : List ℕ) (low need : ℕ) (holde
     | inr over ↦ rw (g.rest m over) (swept.few m)
   ]
 
-  pub swept_next : (next_after above_after : List ℕ) (after : List Tally) → AreAdvanced L least on low need h.time next next_after above_after ts after → AreFew need above_after →
-      IsSwept L least low need (holders ++ h ∷ []) on next_after above_after after
+  pub swept_next : (next_after above_after : List ℕ) (after : List Timer) → AreAdvanced L least on low need h.time next next_after above_after ts after → AreFew need above_after →
+      IsSwept L least low need (line_rows ++ h ∷ []) on next_after above_after after
   swept_next next_after above_after after a few = record {
     lanes = a.lanes;
     linked = a.linked;
     few = few;
     counted = λ x from here. count_next x ∙ (ap (λ (k : ℕ). k + cond (is_gained_by L h.place x) 1 0) (swept.counted x from here) ∙ sym (more x from here));
-    done = λ k below in_window past. fold-append (tally_by L (low + k)) (untallied need) holders (h ∷ []) ∙ done k below (rw a.long at in_window) past;
+    done = λ k below in_window past. fold-append (timer_by L (low + k)) (unticked need) line_rows (h ∷ []) ∙ done k below (rw a.long at in_window) past;
   }
     where
-      count_next : (x : ℕ) → count_by (λ h. is_gained_by L h.place x) (holders ++ h ∷ []) ≡ count_by (λ h. is_gained_by L h.place x) holders + cond (is_gained_by L h.place x) 1 0
+      count_next : (x : ℕ) → count_by (λ h. is_gained_by L h.place x) (line_rows ++ h ∷ []) ≡ count_by (λ h. is_gained_by L h.place x) line_rows + cond (is_gained_by L h.place x) 1 0
       count_next x =
-          let f : Holder → ℕ = λ h. cond (is_gained_by L h.place x) 1 0 in
-          let both = sum_by-append f holders (h ∷ []) in
+          let f : LineRow → ℕ = λ h. cond (is_gained_by L h.place x) 1 0 in
+          let both = sum_by-append f line_rows (h ∷ []) in
           let one = sum_by-cons f h [] in
           omega (arith, both, one)
 
       done : (k : ℕ) → IsBelow L least (low + k) → low + k < low + length ts → IsPast (get_or next_after (creator L (low + k)) 0) (low + k) →
-          tally_by L (low + k) (tally_of L (low + k) (untallied need) holders) h ≡ record { left = 0; time = (tally_at after k).time }
+          timer_by L (low + k) (timer_of L (low + k) (unticked need) line_rows) h ≡ record { left = 0; time = (timer_at after k).time }
       done k below in_window past =
           let m = creator L (low + k) in
-          let before : IsPast (get_or next m 0) (low + k) → tally_by L (low + k) (tally_of L (low + k) (untallied need) holders) h ≡ record { left = 0; time = (tally_at after k).time } =
-          λ was. rw (a.kept k was) (decided_before (λ h. is_gained_by L h.place (low + k)) h (tally_at ts k).time (tally_of L (low + k) (untallied need) holders) (swept.done k below in_window was)) in
+          let before : IsPast (get_or next m 0) (low + k) → timer_by L (low + k) (timer_of L (low + k) (unticked need) line_rows) h ≡ record { left = 0; time = (timer_at after k).time } =
+          λ was. rw (a.kept k was) (decided_before (λ h. is_gained_by L h.place (low + k)) h (timer_at ts k).time (timer_of L (low + k) (unticked need) line_rows) (swept.done k below in_window was)) in
           elim (cases_lt 0 (get_or next m 0)) [
             | inr none ↦ before (inl (omega arith))
             | inl some ↦ elim (cases_lt (low + k + 1) (get_or next m 0)) [
@@ -512,11 +512,11 @@ module _ (n : Stakes) (L : List Link) (least : List ℕ) (low need : ℕ) (holde
                   let is = swept.counted (low + k) from here in
                   let one = more (low + k) from here in
                   let enough = timed.enough in
-                  rw timed.found (decided_now (λ h. is_gained_by L h.place (low + k)) holders h need (omega arith) (omega arith)))
+                  rw timed.found (decided_now (λ h. is_gained_by L h.place (low + k)) line_rows h need (omega arith) (omega arith)))
             ]
           ]
 
-pub advanced_still : (L : List Link) (least : List ℕ) (last : List (List ℕ)) (low need time : ℕ) (next above : List ℕ) (ts : List Tally) → AreLanes L last low (low + length ts) next above → AreLinked L low ts →
+pub advanced_still : (L : List Link) (least : List ℕ) (last : List (List ℕ)) (low need time : ℕ) (next above : List ℕ) (ts : List Timer) → AreLanes L last low (low + length ts) next above → AreLinked L low ts →
     AreAdvanced L least last low need time next next above ts ts
 advanced_still L least last low need time next above ts lanes linked = record {
   lanes = lanes;
@@ -532,7 +532,7 @@ advanced_still L least last low need time next above ts lanes linked = record {
 
 -- the first and the last of a sweep
 
-module _ (L : List Link) (least : List ℕ) (low need : ℕ) (next : List ℕ) (ts : List Tally) (reach : ReachAll L least low ts) where
+module _ (L : List Link) (least : List ℕ) (low need : ℕ) (next : List ℕ) (ts : List Timer) (reach : ReachAll L least low ts) where
   pub swept_none : AreLinked L low ts → ((m : ℕ) → IsNextFrom L (low + length ts) m low (get_or next m 0)) → 0 < need → (members : ℕ) → IsSwept L least low need [] (replicate members (replicate 128 0)) next (replicate 128 0) ts
   swept_none linked firsts some members = record {
     lanes = λ m. let first = firsts m in record {
@@ -557,15 +557,15 @@ module _ (L : List Link) (least : List ℕ) (low need : ℕ) (next : List ℕ) (
       not_past k inside (inl none) = (let first = (firsts (creator L (low + k))).first (low + k) refl (omega arith) inside in let some = first.0 in absurd (omega arith))
       not_past k inside (inr later) = (let first = (firsts (creator L (low + k))).first (low + k) refl (omega arith) inside in let some = first.1 in absurd (omega arith))
 
-  pub times_swept : (n : Stakes) → IsShaped n L → (holders : List Holder) (last : List (List ℕ)) (above : List ℕ) → IsSwept L least low need holders last next above ts → ArePast (member_count n) next least → AreTimed L least low need holders ts
-  times_swept n s holders last above swept past k inside below =
-      sym (ap (λ (t : Tally). t.time) (swept.done k below (reach (low + k) inside below) (past_row k below (past (creator L (low + k)) (s.members (low + k) inside)))))
+  pub times_swept : (n : Stakes) → IsShaped n L → (line_rows : List LineRow) (last : List (List ℕ)) (above : List ℕ) → IsSwept L least low need line_rows last next above ts → ArePast (member_count n) next least → AreTimed L least low need line_rows ts
+  times_swept n s line_rows last above swept past k inside below =
+      sym (ap (λ (t : Timer). t.time) (swept.done k below (reach (low + k) inside below) (past_row k below (past (creator L (low + k)) (s.members (low + k) inside)))))
     where
       past_row : (k : ℕ) → IsBelow L least (low + k) → (get_or next (creator L (low + k)) 0 ≡ 0) ⊎ (get_or least (creator L (low + k)) 0 < get_or next (creator L (low + k)) 0) → IsPast (get_or next (creator L (low + k)) 0) (low + k)
       past_row k below (inl none) = inl none
       past_row k below (inr over) = inr (omega arith)
 
-pub reach_same : (L : List Link) (least : List ℕ) (low : ℕ) (old new : List Tally) → length new ≡ length old → ReachAll L least low old → ReachAll L least low new
+pub reach_same : (L : List Link) (least : List ℕ) (low : ℕ) (old new : List Timer) → length new ≡ length old → ReachAll L least low old → ReachAll L least low new
 reach_same L least low old new long reach x inside below = (let room = reach x inside below in omega arith)
 
 pub last_none : (L : List Link) (low members : ℕ) → AreLast L low (replicate members (replicate 128 0))

@@ -2,5 +2,5 @@ pub mod Counted
 pub mod Famous
 pub mod Round
 pub mod Swept
-pub mod Tallied
+pub mod Timers
 pub mod Lined

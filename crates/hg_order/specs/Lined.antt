@@ -1,20 +1,20 @@
--- Lines of self-ancestors as lists of holders, one behind the other
+-- Lines of self-ancestors as lists of line rows, one behind the other
 use Rattle.std.specs.Prelude.{ℕ, ◌≡◌, ◌<◌, ◌≤◌, ◌+◌, ◌-◌, true, List, [], ◌∷◌, length, take, slice_index, slice_index_or, Option, Some, None}
 use Rattle.hg_model.specs.declared.row.Row.{Row}
 use Rattle.hg_model.specs.Links.{Link, self_parent}
 use Rattle.hg_model.specs.Ancestry.{is_self_ancestor}
 use Rattle.hg_model.specs.Order.{time_at}
-use Rattle.hg_order.specs.declared.tally.Holder.{Holder}
+use Rattle.hg_order.specs.declared.timer.LineRow.{LineRow}
 
-abbrev pub no_holder : Holder
-no_holder = record { time = 0; place = 0 }
+abbrev pub no_line_row : LineRow
+no_line_row = record { time = 0; place = 0 }
 
--- the place and the time of holder k
-abbrev pub place_at : List Holder → ℕ → ℕ
-place_at lines k = (slice_index_or lines k no_holder).place
+-- the place and the time of line row k
+abbrev pub place_at : List LineRow → ℕ → ℕ
+place_at lines k = (slice_index_or lines k no_line_row).place
 
-abbrev pub time_in : List Holder → ℕ → ℕ
-time_in lines k = (slice_index_or lines k no_holder).time
+abbrev pub time_in : List LineRow → ℕ → ℕ
+time_in lines k = (slice_index_or lines k no_line_row).time
 
 -- the self-parent of z, unless it stands below `low`
 abbrev pub IsNextFrom : List Link → ℕ → ℕ → Option ℕ → Type 0
@@ -22,7 +22,7 @@ IsNextFrom L low z (Some p) = (p ∷ [] ≡ self_parent L z) × (low ≤ p)
 IsNextFrom L low z None = (p : ℕ) → p ∷ [] ≡ self_parent L z → p < low
 
 -- from `start` up to below `end` stands the line of the row at `start`, down to the last of it that does not stand below `low`
-pub record HasLine (L : List Link) (low : ℕ) (lines : List Holder) (start «end» : ℕ) : Type 0 where
+pub record HasLine (L : List Link) (low : ℕ) (lines : List LineRow) (start «end» : ℕ) : Type 0 where
   pub some : start < «end»
   pub within : «end» ≤ length lines
   pub on : (k : ℕ) → start ≤ k → k < «end» → is_self_ancestor L (place_at lines start) (place_at lines k) ≡ true
@@ -30,24 +30,24 @@ pub record HasLine (L : List Link) (low : ℕ) (lines : List Holder) (start «en
   pub last : (p : ℕ) → p ∷ [] ≡ self_parent L (place_at lines («end» - 1)) → p < low
 
 -- the times are those of the rows
-abbrev pub HaveTimes : List Row → List Holder → Type 0
+abbrev pub HaveTimes : List Row → List LineRow → Type 0
 HaveTimes G lines = (k : ℕ) → k < length lines → time_in lines k ≡ time_at G (place_at lines k)
 
 -- behind the old ones stands the line of row w
-pub record AddsLine (G : List Row) (L : List Link) (w low : ℕ) (old new : List Holder) : Type 0 where
+pub record AddsLine (G : List Row) (L : List Link) (w low : ℕ) (old new : List LineRow) : Type 0 where
   pub line : HasLine L low new (length old) (length new)
   pub top : place_at new (length old) ≡ w
   pub before : take (length old) new ≡ old
   pub times : HaveTimes G old → HaveTimes G new
 
 -- the lines of these rows stand one behind the other, each from its start to the next one
-pub record AreLinesOf (G : List Row) (L : List Link) (places : List ℕ) (low : ℕ) (lines : List Holder) (starts : List ℕ) : Type 0 where
+pub record AreLinesOf (G : List Row) (L : List Link) (places : List ℕ) (low : ℕ) (lines : List LineRow) (starts : List ℕ) : Type 0 where
   pub line : (i : ℕ) → i < length places → HasLine L low lines (slice_index starts i) (slice_index starts (i + 1))
   pub top : (i : ℕ) → i < length places → place_at lines (slice_index starts i) ≡ slice_index places i
   pub times : HaveTimes G lines
 
 -- the line of w so far, down to z
-pub record WalksLine (G : List Row) (L : List Link) (w : ℕ) (old now : List Holder) (z : ℕ) : Type 0 where
+pub record WalksLine (G : List Row) (L : List Link) (w : ℕ) (old now : List LineRow) (z : ℕ) : Type 0 where
   pub some : length old < length now
   pub top : place_at now (length old) ≡ w
   pub at : place_at now (length now - 1) ≡ z

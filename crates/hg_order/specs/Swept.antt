@@ -1,16 +1,16 @@
--- Medians by a sweep: the holders in the order of their times, and of each member one row, the next whose time is to be
+-- Medians by a sweep: the line rows in the order of their times, and of each member one row, the next whose time is to be
 -- found, with how many lines have it as ancestor. Of each line it keeps the counts of the last row that it went through
 use Rattle.std.specs.Prelude.{ℕ, ◌≡◌, ◌<◌, ◌≤◌, ◌+◌, ◌-◌, ◌⊎◌, Bool, true, cond, ◌&&◌, nat_le, nat_lt, List, [], ◌∷◌, ◌++◌, length, count_by, replicate, slice_index, slice_index_or}
 use Rattle.hg_model.specs.Stakes.{Stakes, member_count}
 use Rattle.hg_model.specs.Links.{Link, creator}
 use Rattle.hg_model.specs.Ancestry.{is_ancestor}
-use Rattle.hg_order.specs.declared.tally.Tally.{Tally}
-use Rattle.hg_order.specs.declared.tally.Holder.{Holder}
+use Rattle.hg_order.specs.declared.timer.Timer.{Timer}
+use Rattle.hg_order.specs.declared.timer.LineRow.{LineRow}
 use Rattle.hg_order.specs.declared.sweep.Lane.{Lane}
 use Rattle.hg_order.specs.declared.sweep.Lanes.{Lanes}
 use Rattle.hg_model.specs.Shape.{Shape}
 use Rattle.hg_order.specs.Counted.{IsBelow}
-use Rattle.hg_order.specs.Tallied.{tally_at, tally_of, is_gained_by, untallied}
+use Rattle.hg_order.specs.Timers.{timer_at, timer_of, is_gained_by, unticked}
 
 -- the row just below `end` has x as ancestor; below 0 there is none
 abbrev pub has_reached : List Link → ℕ → ℕ → Bool
@@ -64,9 +64,9 @@ pub record IsNextFrom (L : List Link) (top m bottom next : ℕ) : Type 0 where
 abbrev pub AreFirsts : List Link → ℕ → ℕ → List ℕ → Type 0
 AreFirsts L low top next = (m : ℕ) → IsNextFrom L top m low (slice_index next m)
 
--- each tally has in `left` where the next row by the same member stands
-abbrev pub AreLinked : List Link → ℕ → List Tally → Type 0
-AreLinked L low ts = (k : ℕ) → k < length ts → IsNextFrom L (low + length ts) (creator L (low + k)) (low + k + 1) (tally_at ts k).left
+-- each timer has in `left` where the next row by the same member stands
+abbrev pub AreLinked : List Link → ℕ → List Timer → Type 0
+AreLinked L low ts = (k : ℕ) → k < length ts → IsNextFrom L (low + length ts) (creator L (low + k)) (low + k + 1) (timer_at ts k).left
 
 -- a member's lane: where its row stands, and how many lines have that as ancestor
 pub record IsLane (L : List Link) (last : List (List ℕ)) (low top m next above : ℕ) : Type 0 where
@@ -79,7 +79,7 @@ pub record IsLane (L : List Link) (last : List (List ℕ)) (low top m next above
 abbrev pub AreLanes : List Link → List (List ℕ) → ℕ → ℕ → List ℕ → List ℕ → Type 0
 AreLanes L last low top next above = (m : ℕ) → IsLane L last low top m (slice_index next m) (slice_index above m)
 
-abbrev pub AreLanesOver : Shape → ℕ → Lanes → List Tally → Type 0
+abbrev pub AreLanesOver : Shape → ℕ → Lanes → List Timer → Type 0
 AreLanesOver s low lanes ts = AreLanes s.links lanes.last.items low (low + length ts) lanes.next lanes.above
 
 -- of so many members: no line has a row, and no lane
@@ -89,41 +89,41 @@ pub record AreClear (members : ℕ) (lanes : Lanes) : Type 0 where
   pub above : lanes.above ≡ replicate 128 0
 
 -- the row has this time, and enough lines have it as ancestor
-pub record IsTimed (L : List Link) (last : List (List ℕ)) (need when x : ℕ) (t : Tally) : Type 0 where
+pub record IsTimed (L : List Link) (last : List (List ℕ)) (need when x : ℕ) (t : Timer) : Type 0 where
   pub found : t.time ≡ when
   pub enough : need ≤ reached L last x
 
 -- the lane of member m went on from one row to another, and those below `bound` that it came past have the time
-pub record IsAdvanced (L : List Link) (bound : ℕ) (last : List (List ℕ)) (low need when m start next above : ℕ) (old new : List Tally) : Type 0 where
+pub record IsAdvanced (L : List Link) (bound : ℕ) (last : List (List ℕ)) (low need when m start next above : ℕ) (old new : List Timer) : Type 0 where
   pub lane : IsLane L last low (low + length new) m next above
   pub later : 0 < next → start ≤ next
   pub linked : AreLinked L low new
-  pub kept : (k : ℕ) → (creator L (low + k) ≡ m → low + k + 1 < start) → tally_at new k ≡ tally_at old k
+  pub kept : (k : ℕ) → (creator L (low + k) ≡ m → low + k + 1 < start) → timer_at new k ≡ timer_at old k
   pub timed : (k : ℕ) → low + k < bound → low + k < low + length new → creator L (low + k) ≡ m → start ≤ low + k + 1 → IsPast next (low + k) →
-      IsTimed L last need when (low + k) (tally_at new k)
+      IsTimed L last need when (low + k) (timer_at new k)
   pub long : length new ≡ length old
 
 -- there is a row, and this many lines have it as ancestor
-pub record IsLaneFrom (L : List Link) (last : List (List ℕ)) (low : ℕ) (ts : List Tally) (next above : ℕ) : Type 0 where
+pub record IsLaneFrom (L : List Link) (last : List (List ℕ)) (low : ℕ) (ts : List Timer) (next above : ℕ) : Type 0 where
   pub from : low < next
   pub to : next ≤ low + length ts
   pub counted : above ≡ reached L last (next - 1)
 
 -- the same of the member by whom the row is
-abbrev pub AdvancesLane : Shape → List (List ℕ) → ℕ → ℕ → ℕ → ℕ → Lane → Lane → List Tally → List Tally → Type 0
+abbrev pub AdvancesLane : Shape → List (List ℕ) → ℕ → ℕ → ℕ → ℕ → Lane → Lane → List Timer → List Timer → Type 0
 AdvancesLane s last bound low need when start lane old new =
     IsAdvanced s.links bound last low need when (creator s.links (start.next - 1)) start.next lane.next lane.above old new
 
 -- the same of all lanes
-pub record AreAdvanced (L : List Link) (least : List ℕ) (last : List (List ℕ)) (low need when : ℕ) (start next above : List ℕ) (old new : List Tally) : Type 0 where
+pub record AreAdvanced (L : List Link) (least : List ℕ) (last : List (List ℕ)) (low need when : ℕ) (start next above : List ℕ) (old new : List Timer) : Type 0 where
   pub lanes : AreLanes L last low (low + length new) next above
   pub linked : AreLinked L low new
-  pub kept : (k : ℕ) → IsPast (slice_index start (creator L (low + k))) (low + k) → tally_at new k ≡ tally_at old k
+  pub kept : (k : ℕ) → IsPast (slice_index start (creator L (low + k))) (low + k) → timer_at new k ≡ timer_at old k
   pub timed : (k : ℕ) → IsBelow L least (low + k) → low + k < low + length new → 0 < slice_index start (creator L (low + k)) →
-      slice_index start (creator L (low + k)) ≤ low + k + 1 → IsPast (slice_index next (creator L (low + k))) (low + k) → IsTimed L last need when (low + k) (tally_at new k)
+      slice_index start (creator L (low + k)) ≤ low + k + 1 → IsPast (slice_index next (creator L (low + k))) (low + k) → IsTimed L last need when (low + k) (timer_at new k)
   pub long : length new ≡ length old
 
-abbrev pub AdvancesLanes : Shape → List ℕ → ℕ → ℕ → ℕ → Lanes → Lanes → List Tally → List Tally → Type 0
+abbrev pub AdvancesLanes : Shape → List ℕ → ℕ → ℕ → ℕ → Lanes → Lanes → List Timer → List Timer → Type 0
 AdvancesLanes s least low need when start lanes old new =
     AreAdvanced s.links least lanes.last.items low need when start.next lanes.next lanes.above old new
 
@@ -138,38 +138,38 @@ pub record AreGainedBy (n : Stakes) (L : List Link) (low z : ℕ) (next old new 
   pub most : (m : ℕ) → m < member_count n → slice_index new m ≤ top
   pub rest : (m : ℕ) → member_count n ≤ m → slice_index new m ≡ slice_index old m
 
--- after these holders: the lanes count what they gained, and the rows that lanes came past have their time
-pub record IsSwept (L : List Link) (least : List ℕ) (low need : ℕ) (holders : List Holder) (last : List (List ℕ)) (next above : List ℕ) (ts : List Tally) : Type 0 where
+-- after these line rows: the lanes count what they gained, and the rows that lanes came past have their time
+pub record IsSwept (L : List Link) (least : List ℕ) (low need : ℕ) (line_rows : List LineRow) (last : List (List ℕ)) (next above : List ℕ) (ts : List Timer) : Type 0 where
   pub lanes : AreLanes L last low (low + length ts) next above
   pub linked : AreLinked L low ts
   pub few : AreFew need above
-  pub counted : (x : ℕ) → low ≤ x → x < length L → count_by (λ h. is_gained_by L h.place x) holders ≡ reached L last x
+  pub counted : (x : ℕ) → low ≤ x → x < length L → count_by (λ h. is_gained_by L h.place x) line_rows ≡ reached L last x
   pub done : (k : ℕ) → IsBelow L least (low + k) → low + k < low + length ts → IsPast (slice_index next (creator L (low + k))) (low + k) →
-      tally_of L (low + k) (untallied need) holders ≡ record { left = 0; time = (tally_at ts k).time }
+      timer_of L (low + k) (unticked need) line_rows ≡ record { left = 0; time = (timer_at ts k).time }
 
-abbrev pub IsSweptOver : Shape → List ℕ → ℕ → ℕ → List Holder → Lanes → List Tally → Type 0
-IsSweptOver s least low need holders lanes ts = IsSwept s.links least low need holders lanes.last.items lanes.next lanes.above ts
+abbrev pub IsSweptOver : Shape → List ℕ → ℕ → ℕ → List LineRow → Lanes → List Timer → Type 0
+IsSweptOver s least low need line_rows lanes ts = IsSwept s.links least low need line_rows lanes.last.items lanes.next lanes.above ts
 
-abbrev pub IsSweptBySome : Shape → List ℕ → ℕ → ℕ → Lanes → List Tally → Type 0
-IsSweptBySome s least low need lanes ts = (holders : List Holder) × IsSweptOver s least low need holders lanes ts
+abbrev pub IsSweptBySome : Shape → List ℕ → ℕ → ℕ → Lanes → List Timer → Type 0
+IsSweptBySome s least low need lanes ts = (line_rows : List LineRow) × IsSweptOver s least low need line_rows lanes ts
 
--- if it is swept, one holder more keeps it so
-abbrev pub Sweeps : Bool → Shape → List ℕ → ℕ → ℕ → Holder → Lanes → Lanes → List Tally → List Tally → Type 0
+-- if it is swept, one line row more keeps it so
+abbrev pub Sweeps : Bool → Shape → List ℕ → ℕ → ℕ → LineRow → Lanes → Lanes → List Timer → List Timer → Type 0
 Sweeps swept s least low need h old_lanes lanes old new =
-    swept ≡ true → (holders : List Holder) → IsSweptOver s least low need holders old_lanes old → IsSweptOver s least low need (holders ++ h ∷ []) lanes new
+    swept ≡ true → (line_rows : List LineRow) → IsSweptOver s least low need line_rows old_lanes old → IsSweptOver s least low need (line_rows ++ h ∷ []) lanes new
 
 -- the rows below these numbers stand below `top`
 abbrev pub ReachTo : List Link → List ℕ → ℕ → Type 0
 ReachTo L least top = (x : ℕ) → x < length L → IsBelow L least x → x < top
 
--- the rows below these numbers have the times that these holders leave of them
-abbrev pub AreTimed : List Link → List ℕ → ℕ → ℕ → List Holder → List Tally → Type 0
-AreTimed L least low need holders ts = (k : ℕ) → low + k < length L → IsBelow L least (low + k) →
-    (tally_at ts k).time ≡ (tally_of L (low + k) (untallied need) holders).time
+-- the rows below these numbers have the times that these line rows leave of them
+abbrev pub AreTimed : List Link → List ℕ → ℕ → ℕ → List LineRow → List Timer → Type 0
+AreTimed L least low need line_rows ts = (k : ℕ) → low + k < length L → IsBelow L least (low + k) →
+    (timer_at ts k).time ≡ (timer_of L (low + k) (unticked need) line_rows).time
 
--- if they are found, the tallies have them
-abbrev pub FindsTimes : Bool → Shape → List ℕ → ℕ → ℕ → List Holder → List Tally → Type 0
-FindsTimes found s least low need holders ts = found ≡ true → AreTimed s.links least low need holders ts
+-- if they are found, the timers have them
+abbrev pub FindsTimes : Bool → Shape → List ℕ → ℕ → ℕ → List LineRow → List Timer → Type 0
+FindsTimes found s least low need line_rows ts = found ≡ true → AreTimed s.links least low need line_rows ts
 
 -- none of the first lanes is left at a row below its bound
 abbrev pub ArePast : ℕ → List ℕ → List ℕ → Type 0

@@ -2,7 +2,7 @@
 //! The layer above uses `order_round`, which gives what the definitions order in a round, and the calls that lead to it.
 //! No call takes memory but `RoundMemory::reserve`. A round is ordered by one sort. In `order_round` each received row
 //! walks down one line for each witness; `order_round_within` goes over the lines of the witnesses once for all received
-//! rows: where the ancestors of rows are counted they are tallied on the way, else each row is found in each line by halves.
+//! rows: where a sight counts ancestors the timers of rows run on the way, else each row is found in each line by halves.
 //!
 //! From `place_fresh` of `hg_plain`:
 //!
@@ -21,16 +21,16 @@
 #![tactic(auto)]
 
 mod famous;
-mod holders;
 mod least;
+mod line_rows;
 mod lines;
 mod memory;
 mod order;
 mod placing;
 mod received;
 mod sweep;
-mod tally;
 mod time;
+mod timer;
 mod white;
 
 pub use famous::unique_famous;

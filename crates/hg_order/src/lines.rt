@@ -5,10 +5,10 @@ ghost use Rattle.hg_model.specs.Order.{median, time_at};
 ghost use Rattle.hg_model.specs.Prefix.{links_of};
 ghost use Rattle.hg_order.specs.Famous.{AreFamous, IsBelowAll, all_have, first_holder, times_of};
 ghost use Rattle.hg_order.specs.Lined.{place_at, AddsLine, AreLinesOf, HasLine, HaveTimes, IsNextFrom};
-ghost use Rattle.hg_order.specs.Tallied.{holder_at};
+ghost use Rattle.hg_order.specs.Timers.{line_row_at};
 
-use crate::tally::Holder;
 use crate::time::median_of;
+use crate::timer::LineRow;
 use hg_model::{Prefix, Sight, is_of_graph};
 
 /// The self-parent of row `z`, unless it stands below `low`.
@@ -22,17 +22,17 @@ fn parent_from<S: Sight>(sight: &S, z: usize, low: usize) -> Option<usize>
     }
 }
 
-/// One more holder, the row at `z`, if there is room; tells whether there was.
+/// One more line row, the row at `z`, if there is room; tells whether there was.
 #[tactic(auto, using(crate::proofs::RowLaws::row_known))]
-fn push_row<P: Prefix>(p: &P, z: usize, lines: &mut Vec<Holder>) -> bool
+fn push_row<P: Prefix>(p: &P, z: usize, lines: &mut Vec<LineRow>) -> bool
     requires { z < length (P.shape p.now).links }
-    ensures pushed { result ≡ true → lines.new.items ≡ lines.old.items ++ holder_at (P.graph p.now).rows z ∷ [] }
+    ensures pushed { result ≡ true → lines.new.items ≡ lines.old.items ++ line_row_at (P.graph p.now).rows z ∷ [] }
     ensures room { vec_capacity lines.new ≡ vec_capacity lines.old }
 {
     is_of_graph(p);
     let room = lines.len() < lines.capacity();
     if room {
-        lines.push_reserved(Holder {
+        lines.push_reserved(LineRow {
             time: p.row(z).time,
             place: z,
         });
@@ -42,7 +42,7 @@ fn push_row<P: Prefix>(p: &P, z: usize, lines: &mut Vec<Holder>) -> bool
 
 /// Lists the line of row `w` behind these, down to the last of it that does not stand below `low`; tells whether there was
 /// room.
-fn list_line<P: Prefix>(p: &P, w: usize, low: usize, lines: &mut Vec<Holder>) -> bool
+fn list_line<P: Prefix>(p: &P, w: usize, low: usize, lines: &mut Vec<LineRow>) -> bool
     requires { w < length (P.shape p.now).links }
     ensures line { result ≡ true → AddsLine (P.graph p.now).rows (P.shape p.now).links w low lines.old.items lines.new.items }
     ensures room { vec_capacity lines.new ≡ vec_capacity lines.old }
@@ -67,7 +67,7 @@ pub fn list_lines<P: Prefix>(
     p: &P,
     places: &[usize],
     low: usize,
-    lines: &mut Vec<Holder>,
+    lines: &mut Vec<LineRow>,
     starts: &mut [usize],
 ) -> bool
     requires places { All (λ w. w < length (P.shape p.now).links) places.now }
@@ -88,7 +88,7 @@ pub fn list_lines<P: Prefix>(
 
 /// Where in a line that is listed from `start` up to below `end` the first of it stands that has row `x` as ancestor: by
 /// halves, since what is behind it has not.
-fn find_holder<S: Sight>(sight: &S, lines: &[Holder], start: usize, end: usize, x: usize) -> usize
+fn find_first<S: Sight>(sight: &S, lines: &[LineRow], start: usize, end: usize, x: usize) -> usize
     requires shaped { IsShapedIn (S.shape sight.now) }
     requires line { HasLine (S.shape sight.now).links x lines.now start end }
     requires top { place_at lines.now start < length (S.shape sight.now).links }
@@ -111,7 +111,7 @@ fn find_holder<S: Sight>(sight: &S, lines: &[Holder], start: usize, end: usize, 
 }
 
 /// The time at which a line that is listed so first had row `x` as ancestor.
-fn listed_time<P: Prefix>(p: &P, lines: &[Holder], start: usize, end: usize, x: usize) -> u64
+fn listed_time<P: Prefix>(p: &P, lines: &[LineRow], start: usize, end: usize, x: usize) -> u64
     requires shaped { IsShapedIn (P.shape p.now) }
     requires line { HasLine (P.shape p.now).links x lines.now start end }
     requires top { place_at lines.now start < length (P.shape p.now).links }
@@ -120,14 +120,14 @@ fn listed_time<P: Prefix>(p: &P, lines: &[Holder], start: usize, end: usize, x: 
     requires times { HaveTimes (P.graph p.now).rows lines.now }
     ensures { result ≡ time_at (P.graph p.now).rows (first_holder (P.shape p.now).links x (place_at lines.now start)) }
 {
-    lines[find_holder(p, lines, start, end, x)].time
+    lines[find_first(p, lines, start, end, x)].time
 }
 
 /// The times at which these lines first had row `x` as ancestor.
 fn list_times<P: Prefix>(
     p: &P,
     places: &[usize],
-    lines: &[Holder],
+    lines: &[LineRow],
     starts: &[usize],
     x: usize,
     times: &mut [u64],
@@ -150,7 +150,7 @@ fn list_times<P: Prefix>(
 pub fn median_of_lines<P: Prefix>(
     p: &P,
     famous: &[usize],
-    lines: &[Holder],
+    lines: &[LineRow],
     starts: &[usize],
     x: usize,
 ) -> u64
@@ -168,7 +168,7 @@ pub fn median_of_lines<P: Prefix>(
 fn median_in<P: Prefix>(
     p: &P,
     places: &[usize],
-    lines: &[Holder],
+    lines: &[LineRow],
     starts: &[usize],
     x: usize,
     times: &mut [u64],

@@ -2,11 +2,11 @@ ghost use Rattle.std.specs.Prelude.{◌≡◌, ◌<◌, ◌≤◌, ◌+◌, true
 ghost use Rattle.hg_order.specs.Famous.{AreFamous};
 ghost use Rattle.hg_order.specs.Counted.{AreShared, EndAtRows};
 ghost use Rattle.hg_order.specs.Swept.{FindsTimes, ReachTo};
-ghost use Rattle.hg_order.specs.Tallied.{untallied, HaveMedians};
+ghost use Rattle.hg_order.specs.Timers.{unticked, HaveMedians};
 
-use crate::holders::{list_holders, raise_ends, sort_holders};
-use crate::sweep::{Lanes, sweep_holders};
-use crate::tally::{Holder, Tally, tally_holders};
+use crate::line_rows::{list_line_rows, raise_ends, sort_line_rows};
+use crate::sweep::{Lanes, sweep_rows};
+use crate::timer::{LineRow, Timer, tick_rows};
 use hg_model::{Memory, Prefix, Sight, is_of_graph};
 use std::alloc::Global;
 use std::marker::Model;
@@ -14,8 +14,8 @@ use std::marker::Model;
 /// The memory in which consensus timestamps are counted.
 #[derive(Drop)]
 pub struct RoundMemory {
-    pub holders: Vec<Holder>,
-    pub tallies: Vec<Tally>,
+    pub line_rows: Vec<LineRow>,
+    pub timers: Vec<Timer>,
     pub lanes: Lanes,
 }
 
@@ -24,15 +24,15 @@ impl Model for RoundMemory {
 
     ghost Value = { ℕ };
 
-    ghost view = { λ s. min (vec_capacity s.holders) (vec_capacity s.tallies) };
+    ghost view = { λ s. min (vec_capacity s.line_rows) (vec_capacity s.timers) };
 }
 
 impl RoundMemory {
     /// For no rows. Takes no memory.
     pub fn new(alloc: Global) -> RoundMemory {
         RoundMemory {
-            holders: Vec::new(alloc),
-            tallies: Vec::new(alloc),
+            line_rows: Vec::new(alloc),
+            timers: Vec::new(alloc),
             lanes: Lanes::new(alloc),
         }
     }
@@ -42,10 +42,9 @@ impl RoundMemory {
         ensures room { OnOk result (rows ≤ self.new) }
         ensures more { self.old ≤ self.new }
     {
-        self.holders
-            .reserve(rows.saturating_sub(self.holders.len()))?;
-        self.tallies
-            .reserve(rows.saturating_sub(self.tallies.len()))?;
+        self.line_rows
+            .reserve(rows.saturating_sub(self.line_rows.len()))?;
+        self.timers.reserve(rows.saturating_sub(self.timers.len()))?;
         self.lanes.reserve(members)?;
         Ok(())
     }
@@ -63,49 +62,49 @@ pub fn lowest(places: &[u32], first: usize) -> usize
     low
 }
 
-/// So many tallies without a time.
-fn clear_tallies(tallies: &mut Vec<Tally>, count: usize, need: u32)
-    requires { count ≤ vec_capacity tallies.old }
-    ensures cleared { tallies.new.items ≡ replicate count (untallied need) }
-    ensures room { vec_capacity tallies.new ≡ vec_capacity tallies.old }
+/// So many timers without a time.
+fn set_timers(timers: &mut Vec<Timer>, count: usize, need: u32)
+    requires { count ≤ vec_capacity timers.old }
+    ensures cleared { timers.new.items ≡ replicate count (unticked need) }
+    ensures room { vec_capacity timers.new ≡ vec_capacity timers.old }
 {
-    tallies.clear();
+    timers.clear();
     for _ in 0..count {
-        tallies.push_reserved(Tally {
+        timers.push_reserved(Timer {
             left: need,
             time: 0,
         });
     }
 }
 
-/// Finds the times that these holders leave of all rows below the numbers, of so many from `low` on: by a sweep, and
-/// where it cannot by tallies. It tells whether it could.
+/// Finds the times that these line rows leave of all rows below the numbers, of so many from `low` on: by a sweep, and
+/// where it cannot by timers. It tells whether it could.
 fn find_times<S: Sight>(
     sight: &S,
-    holders: &[Holder],
+    line_rows: &[LineRow],
     least: &[u32; 128],
     low: usize,
     rows: usize,
     need: u16,
     lanes: &mut Lanes,
-    tallies: &mut Vec<Tally>,
+    timers: &mut Vec<Timer>,
 ) -> bool
-    requires places { All (λ h. h.place < length (S.shape sight.now).links) holders.now }
+    requires places { All (λ h. h.place < length (S.shape sight.now).links) line_rows.now }
     requires last { EndAtRows (S.shape sight.now).members (S.shape sight.now).links least.now }
     requires inside { low + rows ≤ length (S.shape sight.now).links }
     requires reach { ReachTo (S.shape sight.now).links least.now (low + rows) }
     requires some { 0 < need }
-    requires room { rows ≤ vec_capacity tallies.old }
-    ensures times { FindsTimes result (S.shape sight.now) least.now low need holders.now tallies.new.items }
-    ensures long { result ≡ true → length tallies.new.items ≡ rows }
-    ensures room { vec_capacity tallies.new ≡ vec_capacity tallies.old }
+    requires room { rows ≤ vec_capacity timers.old }
+    ensures times { FindsTimes result (S.shape sight.now) least.now low need line_rows.now timers.new.items }
+    ensures long { result ≡ true → length timers.new.items ≡ rows }
+    ensures room { vec_capacity timers.new ≡ vec_capacity timers.old }
 {
-    clear_tallies(tallies, rows, u32::from(need));
-    if sweep_holders(sight, holders, least, low, need, lanes, tallies) {
+    set_timers(timers, rows, u32::from(need));
+    if sweep_rows(sight, line_rows, least, low, need, lanes, timers) {
         return true;
     }
-    clear_tallies(tallies, rows, u32::from(need));
-    tally_holders(sight, holders, least, low, tallies)
+    set_timers(timers, rows, u32::from(need));
+    tick_rows(sight, line_rows, least, low, timers)
 }
 
 /// Counts the consensus timestamps of all rows from `low` on that these unique famous witnesses have as ancestor; tells
@@ -115,27 +114,27 @@ pub fn count_times<P: Prefix>(
     famous: &[usize],
     least: &[u32; 128],
     low: usize,
-    holders: &mut Vec<Holder>,
+    line_rows: &mut Vec<LineRow>,
     lanes: &mut Lanes,
-    tallies: &mut Vec<Tally>,
+    timers: &mut Vec<Timer>,
 ) -> bool
     requires famous { AreFamous (P.graph p.now) famous.now }
     requires some { 0 < length famous.now }
     requires least { AreShared (P.graph p.now) famous.now least.now }
     requires low { low ≤ slice_index famous.now 0 }
-    ensures medians { result ≡ true → HaveMedians (P.graph p.now) famous.now low tallies.new.items }
-    ensures holders_room { vec_capacity holders.new ≡ vec_capacity holders.old }
-    ensures tallies_room { vec_capacity tallies.new ≡ vec_capacity tallies.old }
+    ensures medians { result ≡ true → HaveMedians (P.graph p.now) famous.now low timers.new.items }
+    ensures line_rows_room { vec_capacity line_rows.new ≡ vec_capacity line_rows.old }
+    ensures timers_room { vec_capacity timers.new ≡ vec_capacity timers.old }
 {
     is_of_graph(p);
     let mut ends = [0; 128];
     let end = raise_ends(p, famous, &mut ends);
-    if holders.capacity().min(tallies.capacity()) < end - low {
+    if line_rows.capacity().min(timers.capacity()) < end - low {
         return false;
     }
-    holders.clear();
-    list_holders(p, &ends, low, end, holders);
-    sort_holders(holders);
+    line_rows.clear();
+    list_line_rows(p, &ends, low, end, line_rows);
+    sort_line_rows(line_rows);
     let need = (famous.len() as u16 + 1) / 2;
-    find_times(p, holders, least, low, end - low, need, lanes, tallies)
+    find_times(p, line_rows, least, low, end - low, need, lanes, timers)
 }

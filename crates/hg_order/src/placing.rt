@@ -3,30 +3,30 @@ ghost use Rattle.std.specs.List.{AllByRecursion};
 ghost use Rattle.hg_model.specs.Prefix.{links_of};
 ghost use Rattle.hg_order.specs.Famous.{AreFamous, IsBelowAll};
 ghost use Rattle.hg_order.specs.Round.{placed_below, IsWide};
-ghost use Rattle.hg_order.specs.Tallied.{placed_with};
+ghost use Rattle.hg_order.specs.Timers.{placed_with};
 
 use crate::least::least_counts;
 use crate::lines::{list_lines, median_of_lines};
 use crate::memory::{RoundMemory, count_times, lowest};
 use crate::order::{is_wide, place_rows};
 use crate::sweep::Lanes;
-use crate::tally::{Holder, Tally};
+use crate::timer::{LineRow, Timer};
 use hg_model::{Placed, Prefix, is_of_graph};
 
-/// The rows at the places `fresh`, with the times of their tallies.
-fn place_tallied<P: Prefix>(
+/// The rows at the places `fresh`, with the times of their timers.
+fn place_timed<P: Prefix>(
     p: &P,
     round: u32,
     low: usize,
-    tallies: &[Tally],
+    timers: &[Timer],
     fresh: &[u32],
     out: &mut [Placed],
 )
     requires places { All (λ x. x < length (links_of (P.graph p.now))) fresh.now }
     requires low { All (λ x. low ≤ x) fresh.now }
-    requires reach { All (λ x. x < low + length tallies.now) fresh.now }
+    requires reach { All (λ x. x < low + length timers.now) fresh.now }
     requires same { length out.old ≡ length fresh.now }
-    ensures placed { out.new ≡ map (placed_with low round tallies.now) fresh.now }
+    ensures placed { out.new ≡ map (placed_with low round timers.now) fresh.now }
     ensures wide { All (IsWide (P.graph p.now).rows) fresh.now }
 {
     for (i, x) in fresh.iter().enumerate() {
@@ -35,7 +35,7 @@ fn place_tallied<P: Prefix>(
         out[i] = Placed {
             place,
             received: round,
-            time: tallies[place - low].time,
+            time: timers[place - low].time,
         };
     }
 }
@@ -46,9 +46,9 @@ fn place_by_counts<P: Prefix>(
     famous: &[usize],
     round: u32,
     fresh: &[u32],
-    holders: &mut Vec<Holder>,
+    line_rows: &mut Vec<LineRow>,
     lanes: &mut Lanes,
-    tallies: &mut Vec<Tally>,
+    timers: &mut Vec<Timer>,
     out: &mut [Placed],
 ) -> bool
     requires famous { AreFamous (P.graph p.now) famous.now }
@@ -57,17 +57,17 @@ fn place_by_counts<P: Prefix>(
     requires same { length out.old ≡ length fresh.now }
     ensures placed { result ≡ true → out.new ≡ map (placed_below (P.graph p.now) famous.now round) fresh.now }
     ensures wide { result ≡ true → All (IsWide (P.graph p.now).rows) fresh.now }
-    ensures holders_room { vec_capacity holders.new ≡ vec_capacity holders.old }
-    ensures tallies_room { vec_capacity tallies.new ≡ vec_capacity tallies.old }
+    ensures line_rows_room { vec_capacity line_rows.new ≡ vec_capacity line_rows.old }
+    ensures timers_room { vec_capacity timers.new ≡ vec_capacity timers.old }
 {
     let Some(least) = least_counts(p, famous) else {
         return false;
     };
     let low = lowest(fresh, famous[0]);
-    if !count_times(p, famous, &least, low, holders, lanes, tallies) {
+    if !count_times(p, famous, &least, low, line_rows, lanes, timers) {
         return false;
     }
-    place_tallied(p, round, low, tallies, fresh, out);
+    place_timed(p, round, low, timers, fresh, out);
     true
 }
 
@@ -78,7 +78,7 @@ fn place_by_lines<P: Prefix>(
     famous: &[usize],
     round: u32,
     fresh: &[u32],
-    lines: &mut Vec<Holder>,
+    lines: &mut Vec<LineRow>,
     out: &mut [Placed],
 ) -> bool
     requires famous { AreFamous (P.graph p.now) famous.now }
@@ -131,11 +131,11 @@ pub fn place_within<P: Prefix>(
             famous,
             round,
             fresh,
-            &mut memory.holders,
+            &mut memory.line_rows,
             &mut memory.lanes,
-            &mut memory.tallies,
+            &mut memory.timers,
             out,
-        ) || place_by_lines(p, famous, round, fresh, &mut memory.holders, out))
+        ) || place_by_lines(p, famous, round, fresh, &mut memory.line_rows, out))
     {
         return;
     }

@@ -2,10 +2,10 @@ ghost use Rattle.std.specs.Prelude.{◌≡◌, ◌<◌, ◌≤◌, ◌+◌, ◌-
 ghost use Rattle.hg_model.specs.Counts.{CountsMembersIn};
 ghost use Rattle.hg_model.specs.Links.{self_parent};
 ghost use Rattle.hg_model.specs.Stakes.{member_count};
-ghost use Rattle.hg_order.specs.Tallied.{ReachAll};
+ghost use Rattle.hg_order.specs.Timers.{ReachAll};
 ghost use Rattle.hg_order.specs.Swept.{reached, parent_end, AdvancesLane, AdvancesLanes, AreClear, AreFew, AreFirsts, AreGained, AreLanesOver, AreLast, AreLinked, ArePast, FindsTimes, IsLaneFrom, IsSweptBySome, Sweeps};
 
-use crate::tally::{Holder, Tally};
+use crate::timer::{LineRow, Timer};
 use hg_model::{Counts, Memory, Sight, is_shaped};
 use std::alloc::Global;
 
@@ -17,8 +17,8 @@ struct Lane {
     above: u16,
 }
 
-/// Of each member the counts of the last holder on its line that was gone through, or zeros, and its lane. The numbers of
-/// the lanes stand apart, so that a holder is one pass over rows of 16 bits.
+/// Of each member the counts of the last line row on its line that was gone through, or zeros, and its lane. The numbers of
+/// the lanes stand apart, so that a line row is one pass over rows of 16 bits.
 #[derive(Drop)]
 pub struct Lanes {
     last: Vec<[u16; 128]>,
@@ -58,22 +58,22 @@ impl Lanes {
     }
 }
 
-/// Of the rows that the tallies stand for each is linked to the next by its member, by one more than the place of that,
+/// Of the rows that the timers stand for each is linked to the next by its member, by one more than the place of that,
 /// or 0; and each member to the first of its rows.
-fn link_rows<S: Sight>(sight: &S, low: usize, tallies: &mut [Tally], next: &mut [u16])
-    requires inside { low + length tallies.old ≤ length (S.shape sight.now).links }
-    requires short { low + length tallies.old ≤ 2 ^ 16 - 1 }
+fn link_rows<S: Sight>(sight: &S, low: usize, timers: &mut [Timer], next: &mut [u16])
+    requires inside { low + length timers.old ≤ length (S.shape sight.now).links }
+    requires short { low + length timers.old ≤ 2 ^ 16 - 1 }
     requires none { next.old ≡ replicate 128 0 }
-    ensures linked { AreLinked (S.shape sight.now).links low tallies.new }
-    ensures first { AreFirsts (S.shape sight.now).links low (low + length tallies.new) next.new }
-    ensures long { length tallies.new ≡ length tallies.old }
+    ensures linked { AreLinked (S.shape sight.now).links low timers.new }
+    ensures first { AreFirsts (S.shape sight.now).links low (low + length timers.new) next.new }
+    ensures long { length timers.new ≡ length timers.old }
 {
     is_shaped(sight);
-    let mut x = low + tallies.len();
+    let mut x = low + timers.len();
     while low < x {
         x -= 1;
         let member = sight.creator(x) as usize;
-        tallies[x - low] = Tally {
+        timers[x - low] = Timer {
             left: u32::from(next[member]),
             time: 0,
         };
@@ -161,22 +161,22 @@ fn advance<S: Sight>(
     need: u16,
     time: u64,
     start: Lane,
-    tallies: &mut [Tally],
+    timers: &mut [Timer],
 ) -> Lane
     requires members { length last.now ≤ 128 }
-    requires inside { low + length tallies.old ≤ length (S.shape sight.now).links }
-    requires short { low + length tallies.old ≤ 2 ^ 16 - 1 }
-    requires linked { AreLinked (S.shape sight.now).links low tallies.old }
-    requires lane { IsLaneFrom (S.shape sight.now).links last.now low tallies.old start.next start.above }
+    requires inside { low + length timers.old ≤ length (S.shape sight.now).links }
+    requires short { low + length timers.old ≤ 2 ^ 16 - 1 }
+    requires linked { AreLinked (S.shape sight.now).links low timers.old }
+    requires lane { IsLaneFrom (S.shape sight.now).links last.now low timers.old start.next start.above }
     requires some { 0 < need }
-    ensures moved { AdvancesLane (S.shape sight.now) last.now bound low need time start result tallies.old tallies.new }
+    ensures moved { AdvancesLane (S.shape sight.now) last.now bound low need time start result timers.old timers.new }
     ensures few { result.above < need }
 {
     let mut lane = start;
     while need <= lane.above {
         let k = lane.next as usize - 1 - low;
-        let left = tallies[k].left;
-        tallies[k] = Tally { left, time };
+        let left = timers[k].left;
+        timers[k] = Timer { left, time };
         lane = lane_at(sight, last, next_below(left, bound));
     }
     lane
@@ -190,15 +190,15 @@ fn advance_lanes<S: Sight>(
     need: u16,
     time: u64,
     lanes: &mut Lanes,
-    tallies: &mut [Tally],
+    timers: &mut [Timer],
 )
     requires members { length lanes.old.last.items ≡ member_count (S.shape sight.now).members }
-    requires inside { low + length tallies.old ≤ length (S.shape sight.now).links }
-    requires short { low + length tallies.old ≤ 2 ^ 16 - 1 }
-    requires linked { AreLinked (S.shape sight.now).links low tallies.old }
-    requires lanes { AreLanesOver (S.shape sight.now) low lanes.old tallies.old }
+    requires inside { low + length timers.old ≤ length (S.shape sight.now).links }
+    requires short { low + length timers.old ≤ 2 ^ 16 - 1 }
+    requires linked { AreLinked (S.shape sight.now).links low timers.old }
+    requires lanes { AreLanesOver (S.shape sight.now) low lanes.old timers.old }
     requires some { 0 < need }
-    ensures moved { AdvancesLanes (S.shape sight.now) least.now low need time lanes.old lanes.new tallies.old tallies.new }
+    ensures moved { AdvancesLanes (S.shape sight.now) least.now low need time lanes.old lanes.new timers.old timers.new }
     ensures few { AreFew need lanes.new.above }
     ensures last { lanes.new.last ≡ lanes.old.last }
 {
@@ -211,16 +211,7 @@ fn advance_lanes<S: Sight>(
             next: lanes.next[m],
             above: lanes.above[m],
         };
-        let lane = advance(
-            sight,
-            &lanes.last,
-            least[m],
-            low,
-            need,
-            time,
-            start,
-            tallies,
-        );
+        let lane = advance(sight, &lanes.last, least[m], low, need, time, start, timers);
         lanes.next[m] = lane.next;
         lanes.above[m] = lane.above;
     }
@@ -257,42 +248,42 @@ fn narrow_counts<S: Sight>(sight: &S, x: usize) -> Option<&[u16]>
     }
 }
 
-/// One holder more. It answers whether it could: ancestors are counted in 16 bits, and the holder follows its self-parent, as it
+/// One line row more. It answers whether it could: ancestors are counted in 16 bits, and the line row follows its self-parent, as it
 /// does where the times along a line do not fall.
-fn sweep_holder<S: Sight>(
+fn sweep_row<S: Sight>(
     sight: &S,
-    holder: Holder,
+    line_row: LineRow,
     least: &[u32; 128],
     low: usize,
     need: u16,
     lanes: &mut Lanes,
-    tallies: &mut [Tally],
+    timers: &mut [Timer],
 ) -> bool
-    requires place { holder.place < length (S.shape sight.now).links }
+    requires place { line_row.place < length (S.shape sight.now).links }
     requires members { length lanes.old.last.items ≡ member_count (S.shape sight.now).members }
     requires last { AreLast (S.shape sight.now).links low lanes.old.last.items }
-    requires inside { low + length tallies.old ≤ length (S.shape sight.now).links }
-    requires short { low + length tallies.old ≤ 2 ^ 16 - 1 }
+    requires inside { low + length timers.old ≤ length (S.shape sight.now).links }
+    requires short { low + length timers.old ≤ 2 ^ 16 - 1 }
     requires some { 0 < need }
-    requires swept { IsSweptBySome (S.shape sight.now) least.now low need lanes.old tallies.old }
-    ensures on { Sweeps result (S.shape sight.now) least.now low need holder lanes.old lanes.new tallies.old tallies.new }
+    requires swept { IsSweptBySome (S.shape sight.now) least.now low need lanes.old timers.old }
+    ensures on { Sweeps result (S.shape sight.now) least.now low need line_row lanes.old lanes.new timers.old timers.new }
     ensures last { result ≡ true → AreLast (S.shape sight.now).links low lanes.new.last.items }
     ensures members { result ≡ true → length lanes.new.last.items ≡ length lanes.old.last.items }
-    ensures long { result ≡ true → length tallies.new ≡ length tallies.old }
+    ensures long { result ≡ true → length timers.new ≡ length timers.old }
 {
     is_shaped(sight);
-    let member = sight.creator(holder.place) as usize;
+    let member = sight.creator(line_row.place) as usize;
     let last = &mut lanes.last[member];
-    if last[member] as usize != parent_end(sight, low, holder.place) {
+    if last[member] as usize != parent_end(sight, low, line_row.place) {
         return false;
     }
-    let Some(counts) = narrow_counts(sight, holder.place) else {
+    let Some(counts) = narrow_counts(sight, line_row.place) else {
         return false;
     };
     let most = count_gains(last, counts, &lanes.next, &mut lanes.above);
     copy_counts(counts, last);
     if most >= need {
-        advance_lanes(sight, least, low, need, holder.time, lanes, tallies);
+        advance_lanes(sight, least, low, need, line_row.time, lanes, timers);
     }
     true
 }
@@ -310,61 +301,61 @@ fn are_past(next: &[u16; 128], least: &[u32; 128], members: usize) -> bool
     true
 }
 
-/// The same as `sweep_holders`, over lanes that have no row yet.
+/// The same as `sweep_rows`, over lanes that have no row yet.
 fn sweep_lanes<S: Sight>(
     sight: &S,
-    holders: &[Holder],
+    line_rows: &[LineRow],
     least: &[u32; 128],
     low: usize,
     need: u16,
     lanes: &mut Lanes,
-    tallies: &mut [Tally],
+    timers: &mut [Timer],
 ) -> bool
-    requires places { All (λ h. h.place < length (S.shape sight.now).links) holders.now }
-    requires inside { low + length tallies.old ≤ length (S.shape sight.now).links }
-    requires reach { ReachAll (S.shape sight.now).links least.now low tallies.old }
+    requires places { All (λ h. h.place < length (S.shape sight.now).links) line_rows.now }
+    requires inside { low + length timers.old ≤ length (S.shape sight.now).links }
+    requires reach { ReachAll (S.shape sight.now).links least.now low timers.old }
     requires some { 0 < need }
     requires clear { AreClear (member_count (S.shape sight.now).members) lanes.old }
-    ensures { FindsTimes result (S.shape sight.now) least.now low need holders.now tallies.new }
+    ensures { FindsTimes result (S.shape sight.now) least.now low need line_rows.now timers.new }
 {
     is_shaped(sight);
-    if low + tallies.len() > u16::MAX as usize {
+    if low + timers.len() > u16::MAX as usize {
         return false;
     }
-    link_rows(sight, low, tallies, &mut lanes.next);
-    for holder in holders {
-        if !sweep_holder(sight, *holder, least, low, need, lanes, tallies) {
+    link_rows(sight, low, timers, &mut lanes.next);
+    for line_row in line_rows {
+        if !sweep_row(sight, *line_row, least, low, need, lanes, timers) {
             return false;
         }
     }
     are_past(&lanes.next, least, lanes.last.len())
 }
 
-/// Finds the times that these holders leave of all rows below the numbers; tells whether it could: ancestors are
-/// counted, places go in 16 bits, times fall on no line, and the lanes have memory for the members. The holders come in
-/// the order of their times. Of each member it keeps one row, so that a holder costs one pass over the lanes, and a row
+/// Finds the times that these line rows leave of all rows below the numbers; tells whether it could: ancestors are
+/// counted, places go in 16 bits, times fall on no line, and the lanes have memory for the members. The line rows come in
+/// the order of their times. Of each member it keeps one row, so that a line row costs one pass over the lanes, and a row
 /// one over the lines.
-pub fn sweep_holders<S: Sight>(
+pub fn sweep_rows<S: Sight>(
     sight: &S,
-    holders: &[Holder],
+    line_rows: &[LineRow],
     least: &[u32; 128],
     low: usize,
     need: u16,
     lanes: &mut Lanes,
-    tallies: &mut Vec<Tally>,
+    timers: &mut Vec<Timer>,
 ) -> bool
-    requires places { All (λ h. h.place < length (S.shape sight.now).links) holders.now }
-    requires inside { low + length tallies.old.items ≤ length (S.shape sight.now).links }
-    requires reach { ReachAll (S.shape sight.now).links least.now low tallies.old.items }
+    requires places { All (λ h. h.place < length (S.shape sight.now).links) line_rows.now }
+    requires inside { low + length timers.old.items ≤ length (S.shape sight.now).links }
+    requires reach { ReachAll (S.shape sight.now).links least.now low timers.old.items }
     requires some { 0 < need }
-    ensures times { FindsTimes result (S.shape sight.now) least.now low need holders.now tallies.new.items }
-    ensures long { length tallies.new.items ≡ length tallies.old.items }
-    ensures room { vec_capacity tallies.new ≡ vec_capacity tallies.old }
+    ensures times { FindsTimes result (S.shape sight.now) least.now low need line_rows.now timers.new.items }
+    ensures long { length timers.new.items ≡ length timers.old.items }
+    ensures room { vec_capacity timers.new ≡ vec_capacity timers.old }
 {
     let members = sight.members() as usize;
     if lanes.last.capacity() < members {
         return false;
     }
     lanes.clear(members);
-    sweep_lanes(sight, holders, least, low, need, lanes, tallies)
+    sweep_lanes(sight, line_rows, least, low, need, lanes, timers)
 }

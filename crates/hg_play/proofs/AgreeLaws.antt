@@ -16,6 +16,7 @@ use Rattle.hg_model.specs.Places.{list_below}
 use Rattle.hg_model.specs.Links.{Link, links}
 use Rattle.hg_model.specs.Fame.{Marks}
 use Rattle.hg_outcome.specs.Ledger.{block_of, marked_block, order_lines}
+use Rattle.hg_model.specs.Stakes.{member_count}
 use Rattle.hg_life.specs.Members.{MemberList, balances_of, has_node, stakes_of}
 use Rattle.hg_model.specs.Order.{Ordered, named_in, ordered}
 use Rattle.hg_life.specs.Pay.{book_of}
@@ -174,7 +175,7 @@ module _ (members : MemberList) (last : WorldView) (world : IsWorld last) (count
     kept_is_shown = record {
       node = m;
       history = (node_at w m).history;
-      at = record { member = omega (arith, last_low, world.count, count); later = grown.0; whole = grown.1 };
+      at = record { member = omega (arith, last_low, world.count, ap member_count count); later = grown.0; whole = grown.1 };
       order = kept_shown members m (node_at w m) start is_node;
     }
 

@@ -9,6 +9,7 @@ use Rattle.hg_model.specs.declared.row.Row.{Row}
 use Rattle.hg_outcome.specs.declared.outcome.Printed.{Printed}
 use Rattle.hg_outcome.specs.declared.outcome.Printed.TheVariants as printed
 use Rattle.hg_outcome.specs.Ledger.{block_of}
+use Rattle.hg_model.specs.Stakes.{Stakes}
 use Rattle.hg_life.specs.Members.{MemberList, has_node, stakes_of}
 use Rattle.hg_model.specs.Shares.{Share, whole}
 use Rattle.hg_life.specs.History.{State}
@@ -173,7 +174,7 @@ safe-play members lines last is safe =
     let count : last.members ≡ stakes_of members = ap (λ (w : WorldView). w.members) all ∙ members-steps (new_world members) whole in
     let coin : last.coin ≡ members.coin = ap (λ (w : WorldView). w.coin) all ∙ coin-steps (new_world members) whole in
     subst (λ (w : WorldView). IsSafe (stakes_of members) members.coin (run_of w)) all
-    (subst (λ (n : ℕ). IsSafe n members.coin (run_of last)) count (subst (λ (k : ℕ). IsSafe last.members k (run_of last)) coin safe))
+    (subst (λ (n : Stakes). IsSafe n members.coin (run_of last)) count (subst (λ (k : ℕ). IsSafe last.members k (run_of last)) coin safe))
 
 -- the nodes of a new world
 starts-sites : (members : MemberList) (ms : List ℕ) → map (λ (s : Site). s.node.start) (map (new_site members) ms) ≡ map (start_in members) ms

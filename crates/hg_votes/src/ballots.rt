@@ -66,15 +66,13 @@ pub fn count_round<P: Prefix>(
     next.fill(0);
     let above = r - p.round(x);
     let normal = is_normal(above, p.coin());
-    let voted = Voted {
-        rows: p.witnesses(r - 1),
-        yes: voted,
-    };
+    let rows = p.witnesses(r - 1);
+    let before = Voted { rows, yes: voted };
     let witnesses = p.witnesses(r);
     for slot in 0..witnesses.len() {
         let y = witnesses[slot];
         let number = voters.number(y);
-        let ballot = next_ballot(p, voters.voters(number), voted, x, y, above, normal);
+        let ballot = next_ballot(p, voters.voters(number), before, x, y, above, normal);
         mark(next, slot, ballot.vote);
         ballots[number] = ballot;
     }

@@ -4,6 +4,6 @@ use Rattle.check_graphs.proofs.agreeing.with_growth.Given as goal
 
 abbrev pub invariant-loop-place : goal.invariant-loop-place
 invariant-loop-place l = record {
-  none : l.tally.differ ≡ 0 → l.fn.tally.differ ≡ 0;
-  each : l.tally.differ ≡ 0 → (m : ℕ) → m < l.place → IfSome (slice_get l.before m) (λ order. IsPrefix order (get_or l.orders m []));
+  none : l.score.differ ≡ 0 → l.fn.score.differ ≡ 0;
+  each : l.score.differ ≡ 0 → (m : ℕ) → m < l.place → IfSome (slice_get l.before m) (λ order. IsPrefix order (get_or l.orders m []));
 }

@@ -5,9 +5,9 @@ use Rattle.check_graphs.proofs.agreeing.with_pairs.Goals as goal
 
 pub loop-place-preserved : goal.loop-place-preserved
 loop-place-preserved c = record {
-  none = λ e. c.loop-place.invariant.none (c.with_earlier-tally.ensures.none e);
+  none = λ e. c.loop-place.invariant.none (c.with_earlier-score.ensures.none e);
   pairs = λ e i j before lt. below_next (λ k. i < k → IsOnePrefix (get_or c.args.orders.now i []) (get_or c.args.orders.now k [])) c.loop-place.place
-      (λ k below earlier. c.loop-place.invariant.pairs (c.with_earlier-tally.ensures.none e) i k earlier below) (c.with_earlier-tally.ensures.each e i) j lt before;
+      (λ k below earlier. c.loop-place.invariant.pairs (c.with_earlier-score.ensures.none e) i k earlier below) (c.with_earlier-score.ensures.each e i) j lt before;
 }
 
 pub returns-clause-pairs : goal.returns-clause-pairs

@@ -4,6 +4,6 @@ use Rattle.check_graphs.proofs.agreeing.with_pairs.Given as goal
 
 abbrev pub invariant-loop-place : goal.invariant-loop-place
 invariant-loop-place l = record {
-  none : l.tally.differ ≡ 0 → l.fn.tally.differ ≡ 0;
-  pairs : l.tally.differ ≡ 0 → (i j : ℕ) → i < j → j < l.place → IsOnePrefix (get_or l.orders i []) (get_or l.orders j []);
+  none : l.score.differ ≡ 0 → l.fn.score.differ ≡ 0;
+  pairs : l.score.differ ≡ 0 → (i j : ℕ) → i < j → j < l.place → IsOnePrefix (get_or l.orders i []) (get_or l.orders j []);
 }

@@ -5,6 +5,6 @@ use Rattle.hg_order.proofs.placing.place_by_counts.Goals as goal
 
 pub returns-clause-placed : goal.returns-clause-placed
 returns-clause-placed g c = λ _.
-    rw c.deref.ensures.value at c.place_tallied.ensures.placed
+    rw c.deref.ensures.value at c.place_timed.ensures.placed
     ∙ placed_alike (g.P.Prefix.graph c.args.p.now) c.args.famous.now c.lowest-low.result c.args.round _ c.args.fresh.now (c.if-not-count_times.ensures.medians refl) c.requires.received
     (recursion_from_All _ c.args.fresh.now c.lowest-low.ensures.all)

@@ -6,7 +6,7 @@ use Rattle.hg_order.proofs.sweep.advance.Given as goal
 
 abbrev pub invariant-loop-lane : goal.invariant-loop-lane
 invariant-loop-lane g l = let L = (g.S.Sight.shape l.sight).links in
-    IsAdvanced L l.bound l.last l.low l.need l.time (creator L (l.fn.start.next - 1)) l.fn.start.next l.lane.next l.lane.above l.fn.tallies l.tallies
+    IsAdvanced L l.bound l.last l.low l.need l.time (creator L (l.fn.start.next - 1)) l.fn.start.next l.lane.next l.lane.above l.fn.timers l.timers
 
 abbrev pub decreases-loop-lane : goal.decreases-loop-lane
-decreases-loop-lane g l = way_left (l.low + length l.tallies) l.lane.next
+decreases-loop-lane g l = way_left (l.low + length l.timers) l.lane.next

@@ -4,25 +4,25 @@ use Rattle.hg_model.specs.Stakes.{member_count}
 use Rattle.hg_order.proofs.SweepLaws.{swept_none, last_none, reach_same}
 use Rattle.hg_order.proofs.sweep.sweep_lanes.Goals as goal
 
-pub loop-holder-init : goal.loop-holder-init
-loop-holder-init g c =
+pub loop-line_row-init : goal.loop-line_row-init
+loop-line_row-init g c =
     let clear = c.requires.clear in
     let n = (g.S.Sight.shape c.args.sight.now).members in
-    let reach = reach_same _ _ c.args.low _ c.link_rows.new.tallies c.link_rows.ensures.long c.requires.reach in
+    let reach = reach_same _ _ c.args.low _ c.link_rows.new.timers c.link_rows.ensures.long c.requires.reach in
     let zeros : List ℕ = replicate 128 0 in
     rw (clear.last, clear.above) (record {
-      swept = swept_none _ c.args.least.now c.args.low c.args.need c.link_rows.new.next c.link_rows.new.tallies reach c.link_rows.ensures.linked c.link_rows.ensures.first c.requires.some (member_count n);
+      swept = swept_none _ c.args.least.now c.args.low c.args.need c.link_rows.new.next c.link_rows.new.timers reach c.link_rows.ensures.linked c.link_rows.ensures.first c.requires.some (member_count n);
       last = last_none _ c.args.low (member_count n);
       members = length-replicate (member_count n) zeros;
       long = c.link_rows.ensures.long;
     })
 
-pub loop-holder-preserved : goal.loop-holder-preserved
-loop-holder-preserved g c =
-    let done = c.if-not-sweep_holder.ensures in
+pub loop-line_row-preserved : goal.loop-line_row-preserved
+loop-line_row-preserved g c =
+    let done = c.if-not-sweep_row.ensures in
     record {
-      swept = rw (take_more c.args.holders.now c.loop-holder.holder-index (record { time = 0; place = 0 }) c.loop-holder-test.true) (done.on refl _ c.loop-holder.invariant.swept);
+      swept = rw (take_more c.args.line_rows.now c.loop-line_row.line_row-index (record { time = 0; place = 0 }) c.loop-line_row-test.true) (done.on refl _ c.loop-line_row.invariant.swept);
       last = done.last refl;
-      members = done.members refl ∙ c.loop-holder.invariant.members;
-      long = done.long refl ∙ c.loop-holder.invariant.long;
+      members = done.members refl ∙ c.loop-line_row.invariant.members;
+      long = done.long refl ∙ c.loop-line_row.invariant.long;
     }

@@ -3,10 +3,10 @@ use Rattle.hg_model.specs.Stakes.{member_count}
 use Rattle.hg_order.specs.Swept.{AreLast, IsSweptOver}
 use Rattle.hg_order.proofs.sweep.sweep_lanes.Given as goal
 
-abbrev pub invariant-loop-holder : goal.invariant-loop-holder
-invariant-loop-holder g l = let s = g.S.Sight.shape l.sight in record {
-  swept : IsSweptOver s l.least l.low l.need (take l.holder-index l.holders) l.lanes l.tallies;
+abbrev pub invariant-loop-line_row : goal.invariant-loop-line_row
+invariant-loop-line_row g l = let s = g.S.Sight.shape l.sight in record {
+  swept : IsSweptOver s l.least l.low l.need (take l.line_row-index l.line_rows) l.lanes l.timers;
   last : AreLast s.links l.low l.lanes.last.items;
   members : length l.lanes.last.items ≡ member_count s.members;
-  long : length l.tallies ≡ length l.fn.tallies;
+  long : length l.timers ≡ length l.fn.timers;
 }

@@ -1,5 +1,5 @@
 use Rattle.std.proofs.Common.{◌∙◌}
-use Rattle.hg_order.proofs.HolderLaws.{median_is_consensus}
+use Rattle.hg_order.proofs.FirstHolderLaws.{median_is_consensus}
 use Rattle.hg_order.proofs.time.time_of.Goals as goal
 
 pub returns : goal.returns

@@ -67,7 +67,7 @@ next_ballot-ballot-requires-clause-rows g c =
     let graph = g.P.Prefix.graph c.args.p.now in
     let matches = g.met.P.Prefix.has_rounds c.args.p.now in
     let w = witness_read graph c.args.r _ _ c.loop-slot.slot matches c.witnesses-witnesses.ensures c.loop-slot-test.true in
-    c.witnesses.ensures ∙ ap₂ (λ (S : List Standing) (r : ℕ). witnesses_in S (r - 1)) matches (sym w.round)
+    c.witnesses-rows.ensures ∙ ap₂ (λ (S : List Standing) (r : ℕ). witnesses_in S (r - 1)) matches (sym w.round)
 
 pub next_ballot-ballot-requires-clause-before : goal.next_ballot-ballot-requires-clause-before
 next_ballot-ballot-requires-clause-before g c =

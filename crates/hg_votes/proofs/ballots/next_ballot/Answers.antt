@@ -1,10 +1,10 @@
 use Rattle.std.proofs.Common.{◌∙◌, ◌<◌, ◌-◌, ◌*◌, ℕ, List, length, sym, ap, ap₂, subst, refl, arith}
-use Rattle.std.specs.List.{AllByRecursion}
 use Rattle.hg_model.specs.Places.{IsEarlier}
 use Rattle.hg_model.specs.Stakes.{total}
 use Rattle.hg_model.specs.Links.{parents}
 use Rattle.hg_model.specs.Seeing.{sees}
 use Rattle.hg_model.specs.Shape.{Shape}
+use Rattle.hg_model.specs.Prefix.{links_of}
 use Rattle.hg_model.specs.GraphWords.{round_in}
 use Rattle.hg_votes.specs.Tallies.{tally_in}
 use Rattle.hg_votes.proofs.SlotLaws.{within_slots}
@@ -25,7 +25,7 @@ weigh_slots-tally-requires-clause-short g c =
 pub weigh_slots-tally-requires-clause-places : goal.weigh_slots-tally-requires-clause-places
 weigh_slots-tally-requires-clause-places g c =
     let graph = g.P.Prefix.graph c.args.p.now in
-    witnesses_there _ _ (round_in graph c.args.y - 1) _ _ _ refl c.requires.rows (ap (λ (s : Shape). length s.links) (sym (g.met.P.Prefix.sees_graph c.args.p.now)))
+    witnesses_there graph.members (links_of graph) (round_in graph c.args.y - 1) _ _ _ refl c.requires.rows (ap (λ (s : Shape). length s.links) (sym (g.met.P.Prefix.sees_graph c.args.p.now)))
 
 pub weigh_slots-tally-requires-clause-within : goal.weigh_slots-tally-requires-clause-within
 weigh_slots-tally-requires-clause-within g c = λ i h.

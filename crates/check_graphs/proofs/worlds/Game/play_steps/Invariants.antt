@@ -2,4 +2,4 @@ use Rattle.std.proofs.Common.{◌≡◌}
 use Rattle.check_graphs.proofs.worlds.Game.play_steps.Given as goal
 
 abbrev pub invariant-loop-step : goal.invariant-loop-step
-invariant-loop-step l = l.compared.tally.differ ≡ 0 → l.fn.compared.tally.differ ≡ 0
+invariant-loop-step l = l.compared.score.differ ≡ 0 → l.fn.compared.score.differ ≡ 0

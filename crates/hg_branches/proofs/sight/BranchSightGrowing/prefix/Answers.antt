@@ -37,7 +37,7 @@ invariant_of-result c =
           (c.in_ok-zeros.ensures ∙ ap (λ k. replicate k 0) (sym (length-take-le many s.makers.items (omega arith)))));
       tops = rw c.new.ensures.items (λ i h. absurd (omega arith));
       tops_all = ap length c.in_ok-zeros-2.ensures ∙ (length-replicate many 0 ∙ sym (ap length makers ∙ length-take-le many s.makers.items (omega arith)));
-      counts_members = c.in_ok-prefix-2.ensures.stakes ∙ held.counts_members;
+      counts_members = c.in_ok-prefix-2.ensures.members ∙ (held.counts_members ∙ ap member_count (sym c.in_ok-copy.ensures));
       spare = tt;
       rows_room = rw c.in_ok-cloned_prefix.ensures.items (let short = held.branches.short in omega (arith, length-take-le len s.links.items le));
       links_room = omega arith;

@@ -44,7 +44,7 @@ returns-then-is_own c =
     let slot : ℕ = slice_index s.numbers.items y - 1 in
     let k = landmark_at s.landmarks.items slot in
     let holds = held.landmarks.each slot (let le : slice_index s.numbers.items y ≤ length s.landmarks.items = found.0 in let some = c.if-number-gt0.true in omega arith) in
-    let k_is : c.landmark_of.result.now ≡ k = c.landmark_of.ensures ∙ ap₂ (λ (landmarks : List LandmarkView) (j : ℕ). landmark_at landmarks (j - 1)) c.deref-then-is_own.ensures.value number in
+    let k_is : c.landmark_of-landmark.result.now ≡ k = c.landmark_of-landmark.ensures ∙ ap₂ (λ (landmarks : List LandmarkView) (j : ℕ). landmark_at landmarks (j - 1)) c.deref-then-is_own.ensures.value number in
     let own : c.own.result.now ≡ take (member_count s.stakes) (get_or s.counts.rows x []) = c.own.ensures.value ∙ ap (λ j. take j (get_or s.counts.rows x [])) held.counts_members in
     let free = no_fork_counted s.stakes s.links.items s.branches.items s.makers.items s.ends.items held.branches s.counts.rows held.counts x (creator s.links.items y) left alone in
     let told = strong_alone s.stakes s.links.items s.branches.items s.makers.items s.ends.items held.branches s.counts.rows held.counts x y left free k holds found.1 alone in

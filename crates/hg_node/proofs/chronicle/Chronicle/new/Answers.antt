@@ -1,4 +1,4 @@
-use Rattle.std.proofs.Common.{ℕ, List, ◌<◌, subst, sym}
+use Rattle.std.proofs.Common.{◌<◌, rules}
 use Rattle.std.specs.Vec.{vec_capacity}
 use Rattle.hg_model.specs.Stakes.{total}
 use Rattle.hg_node.proofs.BookLaws.{book_none}
