@@ -6,3 +6,4 @@ pub mod FilesOf
 pub mod ShelfState
 pub mod SinkState
 pub mod Printing
+pub mod SourceState

@@ -1,5 +1,6 @@
-//! The outside of the program: shelves of files, sinks of bytes and gates, as traits, with forms of them in memory.
-//! What a shelf holds and a sink was given are members that only clauses see, told by some; every fault has a count.
+//! The outside of the program: shelves of files, sinks and sources of bytes, and gates, as traits, with forms of them in
+//! memory. What a shelf holds, a source has left and a sink was given are members that only clauses see, told by some;
+//! every fault has a count.
 //! The layer above uses `read_file` and `write_all`: all of a file, all of the bytes, or a fault whose count rose.
 //!
 //! From `bytes_from` of `hg_top`:
@@ -22,6 +23,9 @@ mod shelf;
 mod shelf_mem;
 mod sink;
 mod sink_mem;
+mod source;
+mod source_mem;
+mod started;
 mod writing;
 
 pub use failed::Failed;
@@ -32,4 +36,7 @@ pub use shelf::Shelf;
 pub use shelf_mem::ShelfMem;
 pub use sink::Sink;
 pub use sink_mem::SinkMem;
+pub use source::Source;
+pub use source_mem::SourceMem;
+pub use started::Started;
 pub use writing::write_all;

@@ -4,7 +4,7 @@ use Rattle.std.proofs.Math.Path.{fun_ext}
 use Rattle.std.proofs.lemmas.List.{length_push, get_or_append_left, get_or_push, get_or_past, append-nil}
 use Rattle.std.proofs.lemmas.Bool.{cases_lt, cases_eq, or_cases, or_left, or_right, true≢false, false_from_ne_true, cases_Bool}
 use Rattle.hg_model.specs.Places.{weight_below, count_below, some_below, list_below, lesser_of, least_below, greatest_below, maximum_below, values_below, by_place}
-use Rattle.hg_model.specs.Stakes.{Stakes, member_count, stake_where, total}
+use Rattle.hg_model.specs.Stakes.{Stakes, stake_where, total}
 
 -- recursion over places
 

@@ -1,9 +1,19 @@
 -- Rows that are asked from the last one on: what they weigh, and when it is settled
-use Rattle.std.proofs.Common.{◌≡◌, ◌∙◌, ◌+◌, ◌-◌, ◌*◌, ◌<◌, ◌≤◌, ℕ, zero, suc, min, Bool, true, false, cond, List, [], ◌∷◌, length, take, get_or, nat_le, ap, sym, arith}
-use Rattle.std.proofs.lemmas.Bool.{leb-true, le-leb, false_from_ne_true}
+use Rattle.std.proofs.Common.{◌≡◌, ◌∙◌, ◌+◌, ◌-◌, ◌*◌, ◌<◌, ◌≤◌, ℕ, Bool, true, false, cond, List, [], ◌∷◌, length, take, get_or, count_by, nat_le, ap, sym, subst, inl, inr, arith, Option, None, Some, IfSome}
+use Rattle.std.specs.Option.{unwrap_or}
+use Rattle.std.specs.List.{AllByRecursion}
+use Rattle.std.proofs.Math.Nat.{mul-add, mul-le-mul_left}
+use Rattle.std.proofs.lemmas.Bool.{leb-true, le-leb, ltb-true, lt-ltb, cases_lt, false_from_ne_true}
 use Rattle.std.proofs.lemmas.List.{take_more}
 use Rattle.std.proofs.lemmas.List.Sums.{sum_by-append, sum_by-cons}
+use Rattle.hg_model.specs.Stakes.{Stakes, member_count, total, AllWeigh}
 use Rattle.hg_model.specs.Among.{weight_among}
+use Rattle.hg_model.specs.Links.{creator}
+use Rattle.hg_model.specs.Shape.{Shape}
+use Rattle.hg_model.specs.Seeing.{is_supermajority}
+use Rattle.hg_model.specs.Rounds.{stake_at}
+use Rattle.hg_model.specs.GraphWords.{IsShapedIn}
+use Rattle.hg_model.proofs.StakeLaws.{total-even}
 use Rattle.hg_model.proofs.ReachLaws.{bool_iff}
 
 -- one row more
@@ -29,11 +39,52 @@ found weight test rows left k missing stake last within passes is =
     weight_more weight test rows k (omega arith) ∙ (ap (λ b. rest + cond b (weight (get_or rows k 0)) 0) passes ∙ ap (λ s. rest + s) (sym is)) in
     ap (λ j. nat_le missing (weight_among weight test (take j rows))) last ∙ (ap (nat_le missing) more ∙ missing_less missing stake rest)
 
--- the rest weighs too little
-pub too_little : (missing rest : ℕ) → rest < missing → nat_le missing rest ≡ false
-too_little missing rest less = false_from_ne_true (nat_le missing rest) (λ h. (let le = leb-true missing rest h in absurd (omega arith)))
+-- where no row is left, none is found
+pub none_left : (weight : ℕ → ℕ) (test : ℕ → Bool) (rows : List ℕ) (left missing : ℕ) → left ≡ 0 → 0 < missing →
+    nat_le missing (weight_among weight test (take left rows)) ≡ false
+none_left weight test rows left missing none some =
+    ap (λ k. nat_le missing (weight_among weight test (take k rows))) none ∙ false_from_ne_true (nat_le missing 0) (λ h. (let le = leb-true missing 0 h in absurd (omega arith)))
 
--- rows are left where those left may make up for what is missing
-pub some_left : (left most cap missing : ℕ) → 0 < missing → missing ≤ min (left * most) cap → 0 < left
-some_left zero most cap missing some le = (let none : zero * most ≡ 0 = omega arith in absurd (omega (arith, none)))
-some_left (suc k) most cap missing some le = omega arith
+-- where all members have one stake
+
+even_step : (seen : Bool) (weight each rest count : ℕ) → weight ≡ each → rest ≡ each * count → cond seen weight 0 + rest ≡ each * (cond seen 1 0 + count)
+even_step true weight each rest count same before = omega (arith, same, before, mul-add each 1 count)
+even_step false weight each rest count same before = omega (arith, before, mul-add each 0 count)
+
+-- rows of one weight weigh as many times it as they are
+pub weight_among-even : (weight : ℕ → ℕ) (test : ℕ → Bool) (each : ℕ) (rows : List ℕ) → AllByRecursion (λ y. weight y ≡ each) rows →
+    weight_among weight test rows ≡ each * count_by test rows
+weight_among-even weight test each [] same = omega arith
+weight_among-even weight test each (y ∷ rows) same =
+    sum_by-cons (λ k. cond (test k) (weight k) 0) y rows
+    ∙ (even_step (test y) (weight y) each (weight_among weight test rows) (count_by test rows) same.0 (weight_among-even weight test each rows same.1)
+    ∙ ap (λ k. each * k) (sym (sum_by-cons (λ k. cond (test k) 1 0) y rows)))
+
+-- so many members of one stake have more than two thirds of it where they are more than two thirds of all
+pub supermajority-even : (n : Stakes) (each weight count : ℕ) → AllWeigh n each → 0 < each → weight ≡ each * count →
+    is_supermajority (total n) weight ≡ is_supermajority (member_count n) count
+supermajority-even n each weight count even some is =
+    let all = total-even n each even in
+    let members : ℕ = member_count n in
+    let twice : 2 * total n ≡ each * (2 * members) = omega (arith, all, mul-add each members members) in
+    let thrice : 3 * weight ≡ each * (3 * count) = omega (arith, is, mul-add each count (2 * count), mul-add each count count) in
+    bool_iff (is_supermajority (total n) weight) (is_supermajority members count)
+    (λ h. (let more = ltb-true (2 * total n) (3 * weight) h in
+    lt-ltb (2 * members) (3 * count) (elim (cases_lt (2 * members) (3 * count)) [
+      | inl less ↦ less
+      | inr past ↦ absurd (omega (arith, more, twice, thrice, mul-le-mul_left each past))
+    ])))
+    (λ h. (let more : 2 * members + 1 ≤ 3 * count = omega (arith, ltb-true (2 * members) (3 * count) h) in
+    lt-ltb (2 * total n) (3 * weight) (omega (arith, some, twice, thrice, mul-le-mul_left each more, mul-add each (2 * members) 1))))
+
+-- rows of a graph weigh their creators' stakes
+pub stakes-even : (shape : Shape) (each : ℕ) (rows : List ℕ) (x : ℕ) → IsShapedIn shape → x < length shape.links → AllWeigh shape.members each →
+    AllByRecursion (λ y. y < x) rows → AllByRecursion (λ y. stake_at shape.members shape.links y ≡ each) rows
+stakes-even shape each [] x shaped place even below = tt
+stakes-even shape each (y ∷ rows) x shaped place even below =
+    (even (creator shape.links y) (shaped.members y (omega (arith, below.0))), stakes-even shape each rows x shaped place even below.1)
+
+-- the stake that is told is each member's
+pub stake-even : (n : Stakes) (even : Option ℕ) (each : ℕ) → IfSome even (λ stake. AllWeigh n stake) → each ≡ unwrap_or even 0 → 0 < each → AllWeigh n each
+stake-even n None each all is some = absurd (omega (arith, is, some))
+stake-even n (Some stake) each all is some = subst (AllWeigh n) (sym is) all

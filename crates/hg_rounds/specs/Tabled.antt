@@ -1,5 +1,5 @@
 -- What a table of rounds tells, and what it keeps
-use Rattle.std.specs.Prelude.{ℕ, ◌≡◌, ◌<◌, ◌≤◌, ◌+◌, ◌-◌, Bool, List, [], length, take, min, get_or, Option, IfSome}
+use Rattle.std.specs.Prelude.{ℕ, ◌≡◌, ◌<◌, ◌≤◌, ◌+◌, ◌-◌, Bool, List, [], length, take, min, get_or, count_by, Option, IfSome}
 use Rattle.hg_model.specs.Links.{parents}
 use Rattle.hg_model.specs.Shape.{Shape, first_links}
 use Rattle.hg_model.specs.Standings.{Standing, round_at, witnesses_in, greatest_in}
@@ -26,6 +26,10 @@ last_parents shape = parents shape.links (last_place shape)
 -- the weight of those of these rows that x strongly sees
 abbrev pub seen_weight : Shape → ℕ → List ℕ → ℕ
 seen_weight shape x rows = weight_among (stake_at shape.members shape.links) (strongly_sees shape.members shape.links x) rows
+
+-- how many of these rows x strongly sees
+abbrev pub seen_count : Shape → ℕ → List ℕ → ℕ
+seen_count shape x rows = count_by (strongly_sees shape.members shape.links x) rows
 
 -- the graph without its last row
 abbrev pub before_last : Shape → Shape

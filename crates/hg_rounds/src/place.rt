@@ -1,12 +1,12 @@
-ghost use Rattle.std.specs.Prelude.{◌≡◌, ℕ, ◌<◌, ◌≤◌, ◌+◌, ◌-◌, ◌^◌, [], ◌∷◌, ◌++◌, cond, length, nat_le, nat_lt, IfSome};
+ghost use Rattle.std.specs.Prelude.{◌≡◌, ℕ, ◌<◌, ◌≤◌, ◌+◌, ◌-◌, ◌^◌, [], ◌∷◌, ◌++◌, cond, length, nat_le, nat_lt};
 ghost use Rattle.hg_model.specs.Links.{first_place};
-ghost use Rattle.hg_model.specs.Stakes.{AllWeigh, stake_of};
-ghost use Rattle.hg_model.specs.Rounds.{parent_round, stake_at};
+ghost use Rattle.hg_model.specs.Stakes.{total};
+ghost use Rattle.hg_model.specs.Rounds.{parent_round};
 ghost use Rattle.hg_model.specs.Seeing.{is_supermajority};
 ghost use Rattle.hg_model.specs.Standings.{greatest_in, round_at};
 ghost use Rattle.hg_model.specs.GraphWords.{standings_in};
 ghost use Rattle.std.specs.List.{AllByRecursion, list_all};
-ghost use Rattle.hg_rounds.specs.Tabled.{before_last, last_parents, seen_weight, standing, last_row_round, is_last_row_witness};
+ghost use Rattle.hg_rounds.specs.Tabled.{before_last, last_parents, seen_count, seen_weight, standing, last_row_round, is_last_row_witness};
 
 use crate::table::RoundTable;
 use hg_model::{Parents, Rounds, Sight, is_shaped};
@@ -26,8 +26,7 @@ pub fn place_round<S: Sight>(sight: &S, table: &RoundTable, parents: Parents) ->
 {
     let last = sight.rows() - 1;
     let greatest = parent_round(table, parents);
-    let wanted = least_supermajority(sight.total());
-    let many = sees_many(sight, table.witnesses(greatest), last, wanted);
+    let many = sees_many(sight, table.witnesses(greatest), last);
     let round = next_round(greatest, many);
     (round, is_first(table, parents, round))
 }
@@ -43,7 +42,7 @@ fn parent_round(table: &RoundTable, parents: Parents) -> u32
     }
 }
 
-/// The least stake that is more than two thirds of the total.
+/// The least number that is more than two thirds of the total.
 #[tactic(auto, using(hg_model::proofs::StakeLaws::least_supermajority))]
 fn least_supermajority(total: u64) -> u64
     requires { total < 2 ^ 63 }
@@ -52,46 +51,56 @@ fn least_supermajority(total: u64) -> u64
     2 * total / 3 + 1
 }
 
-/// A stake that no member's exceeds: the stake of each where all have the same, else that of all.
-fn most_stake<S: Sight>(sight: &S, even: Option<u32>) -> u64
-    requires { IfSome even (λ stake. AllWeigh (S.shape sight.now).members stake) }
-    ensures { (m : ℕ) → stake_of (S.shape sight.now).members m ≤ result }
-{
-    match even {
-        Some(stake) => u64::from(stake),
-        None => sight.total(),
-    }
-}
-
-/// The stake of the creator of row `y`, who is looked up only where stakes differ.
-fn stake_at<S: Sight>(sight: &S, even: Option<u32>, y: usize) -> u32
-    requires even { IfSome even (λ stake. AllWeigh (S.shape sight.now).members stake) }
-    requires place { y < length (S.shape sight.now).links }
-    ensures { result ≡ stake_at (S.shape sight.now).members (S.shape sight.now).links y }
+/// Whether those of these rows that row `x` strongly sees weigh more than two thirds of the total. Where all members have the
+/// same stake, rows are counted.
+fn sees_many<S: Sight>(sight: &S, rows: &[usize], x: usize) -> bool
+    requires place { x < length (S.shape sight.now).links }
+    requires places { AllByRecursion (λ y. y < x) rows.now }
+    ensures { result ≡ is_supermajority (total (S.shape sight.now).members) (seen_weight (S.shape sight.now) x rows.now) }
 {
     is_shaped(sight);
-    match even {
-        Some(stake) => stake,
-        None => sight.stake(sight.creator(y)),
+    if sight.even().unwrap_or(0) > 0 {
+        sees_count(
+            sight,
+            rows,
+            x,
+            least_supermajority(u64::from(sight.members())),
+        )
+    } else {
+        sees_weight(sight, rows, x, least_supermajority(sight.total()))
     }
 }
 
-/// Whether those of these rows that row `x` strongly sees weigh so much. Asks the last ones first, and stops where that is
-/// settled: where each of the rows left had the greatest stake, they would not make up for what is missing.
-fn sees_many<S: Sight>(sight: &S, rows: &[usize], x: usize, wanted: u64) -> bool
+/// Whether row `x` strongly sees so many of these rows. Asks the last ones first, and stops where that is settled.
+fn sees_count<S: Sight>(sight: &S, rows: &[usize], x: usize, wanted: u64) -> bool
+    requires place { x < length (S.shape sight.now).links }
+    requires places { AllByRecursion (λ y. y < x) rows.now }
+    ensures { result ≡ nat_le wanted (seen_count (S.shape sight.now) x rows.now) }
+{
+    let mut missing = wanted;
+    let mut left = rows.len();
+    while 0 < missing && missing <= left as u64 {
+        left -= 1;
+        if sight.strongly_sees(x, rows[left]) {
+            missing -= 1;
+        }
+    }
+    missing == 0
+}
+
+/// Whether those of these rows that row `x` strongly sees weigh so much. Asks the last ones first, and stops where they do.
+fn sees_weight<S: Sight>(sight: &S, rows: &[usize], x: usize, wanted: u64) -> bool
     requires place { x < length (S.shape sight.now).links }
     requires places { AllByRecursion (λ y. y < x) rows.now }
     ensures { result ≡ nat_le wanted (seen_weight (S.shape sight.now) x rows.now) }
 {
-    let even = sight.even();
-    let most = most_stake(sight, even);
     let mut missing = wanted;
     let mut left = rows.len();
-    while 0 < missing && missing <= (left as u64).saturating_mul(most) {
+    while 0 < missing && 0 < left {
         left -= 1;
         let y = rows[left];
         if sight.strongly_sees(x, y) {
-            missing = missing.saturating_sub(u64::from(stake_at(sight, even, y)));
+            missing = missing.saturating_sub(u64::from(sight.stake(sight.creator(y))));
         }
     }
     missing == 0

@@ -1,8 +1,7 @@
-use Rattle.std.proofs.Common.{◌≡◌, ◌∙◌, ◌-◌, sym, ap, ap₂, arith, ltb}
+use Rattle.std.proofs.Common.{◌≡◌, ◌∙◌, ◌-◌, ap, ap₂, arith, ltb}
 use Rattle.std.specs.List.{list_all}
 use Rattle.hg_model.specs.Links.{first_place}
 use Rattle.hg_model.specs.Rounds.{parent_round}
-use Rattle.hg_model.specs.Seeing.{is_supermajority}
 use Rattle.hg_model.specs.Standings.{round_at}
 use Rattle.hg_rounds.specs.Tabled.{last_parents, seen_weight}
 use Rattle.hg_rounds.proofs.PlaceLaws.{parents_known, witnesses_below, greatest_fits, last_round_known, last_witness_known, next_known, whole_known}
@@ -35,7 +34,7 @@ returns-clause-round g c =
     let shape = g.S.Sight.shape c.args.sight.now in
     let r_is = c.parent_round-greatest.ensures ∙ ap (parent_round (round_at c.args.table.now.standings)) c.requires.parents in
     let seen_is = ap₂ (seen_weight shape) (ap (λ k. k - 1) c.rows-last.ensures.value) c.witnesses.ensures in
-    let many_is = c.sees_many-many.ensures ∙ (sym (c.least_supermajority-wanted.ensures _) ∙ ap (λ k. is_supermajority k (seen_weight shape (c.rows-last.result - 1) c.witnesses.result.now)) c.total.ensures.value) in
+    let many_is = c.sees_many-many.ensures in
     c.next_round-round.ensures ∙ last_round_known _ _ c.rows-last.ensures.shaped c.requires.some _ c.requires.before _ _ _ r_is seen_is many_is
 
 pub returns-clause-witness : goal.returns-clause-witness
