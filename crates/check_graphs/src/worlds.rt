@@ -40,7 +40,8 @@ struct Game<'a> {
 fn member_at(world: &World, number: u32) -> Member
     ensures { IsMemberOf world.now result }
 {
-    (number % world.members().min(128)) as Member
+    world.is_world();
+    (number % world.members()) as Member
 }
 
 /// A member that the dice give.

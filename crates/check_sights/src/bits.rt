@@ -84,6 +84,7 @@ const WEIGHED: [(&[u32], u128, u64, bool); 8] = [
 #[test]
 fn members_weigh_their_stakes(rt: HostRuntime) -> Result<(), Memory> {
     for (case, (stakes, mask, weight, over)) in WEIGHED.iter().enumerate() {
+        assert!(rt; stakes.len() <= 128);
         let table = StakeTable::new(rt.alloc(), *stakes)?;
         equal(&rt, case, table.weigh(*mask), *weight);
         equal(&rt, case, table.over(*mask), *over);

@@ -77,8 +77,8 @@ fn payload_at(step: u32) -> &'static [u8] {
 fn member_at(world: &World, number: u32) -> Member
     ensures { IsMemberOf world.now result }
 {
-    let count = world.members().min(128);
-    (number % count) as Member
+    world.is_world();
+    (number % world.members()) as Member
 }
 
 /// Each member makes its first event. Then they sync by turns, and publish what they know.

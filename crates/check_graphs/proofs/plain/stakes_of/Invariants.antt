@@ -1,4 +1,4 @@
-use Rattle.std.proofs.Common.{◌≡◌, ◌≤◌, ◌×◌, take, length}
+use Rattle.std.proofs.Common.{◌≡◌, take}
 use Rattle.check_graphs.proofs.plain.stakes_of.Given as goal
 
 abbrev pub invariant-loop-member : goal.invariant-loop-member
