@@ -52,7 +52,6 @@ fn entries_of(alloc: Global) -> Result<Vec<MemberEntry>, Memory> {
             balance: 0,
             stake: 1,
             has_node: true,
-            stake: 1,
         })?;
     }
     Ok(entries)
