@@ -16,6 +16,8 @@ mod events;
 #[cfg(test)]
 mod formats;
 #[cfg(test)]
+mod fronts;
+#[cfg(test)]
 mod matching;
 #[cfg(test)]
 mod members;
@@ -29,5 +31,7 @@ mod reporting;
 mod script;
 #[cfg(test)]
 mod signing;
+#[cfg(test)]
+mod sources;
 #[cfg(test)]
 mod telling;

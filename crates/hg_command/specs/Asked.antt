@@ -6,6 +6,7 @@ use Rattle.std.specs.Str.Parse.{digits_value, without_leading_plus}
 use Rattle.clap.specs.Words.{App, Kinds, Row, Rule, Text, fault_of, first_of, one_of, subcommand_of}
 use Rattle.clap.specs.ValueTests.{accepts}
 use Rattle.clap.specs.declared.builder.ValueParser.TheVariants.{Unsigned}
+use Rattle.hg_life.specs.Workers.{most_workers}
 use Rattle.hg_command.specs.Line.{app_with, most_of_bits, needed, number_option, program_with, seed_option, text_option}
 use Rattle.hg_command.specs.declared.request.Request.{Request}
 use Rattle.hg_command.specs.declared.request.Request.TheVariants as request
@@ -46,10 +47,6 @@ most_members = 128
 -- the greatest number of lines that are made
 abbrev pub most_lines : ℕ
 most_lines = 1000000
-
--- the greatest number of workers
-abbrev pub most_workers : ℕ
-most_workers = 16
 
 -- the numbers that are asked for lie in their ranges
 abbrev pub KeepsRanges : Asked → Type 0

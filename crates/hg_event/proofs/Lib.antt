@@ -1,2 +1,6 @@
+pub mod FrontLaws
+pub mod FrontSizes
+pub mod Fronts
+pub mod FrontsStand
 pub mod Reading
 pub mod Spells

@@ -79,7 +79,7 @@ bytes_again size n text left len =
 
 -- numbers below the limit are just what the width spells
 pub record IsWidth (width : Width) (limit : ℕ) : Type 0 where
-  len : (n : ℕ) → length (to_be_bytes width n) ≡ byte_len width
+  pub len : (n : ℕ) → length (to_be_bytes width n) ≡ byte_len width
   spelled : (bytes : List ℕ) → length bytes ≡ byte_len width → AreBytes bytes → to_be_bytes width (from_be_bytes width bytes) ≡ bytes
   again : (n : ℕ) → n < limit → from_be_bytes width (to_be_bytes width n) ≡ n
   below : (bytes : List ℕ) → AreBytes bytes → from_be_bytes width bytes < limit

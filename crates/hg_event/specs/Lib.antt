@@ -1,3 +1,5 @@
+pub mod First
+pub mod FirstLaws
 pub mod Names
 pub mod Signed
 pub mod View

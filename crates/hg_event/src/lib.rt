@@ -1,6 +1,6 @@
 //! Events in bytes: their one spelling, written for a maker and read for a node, which borrows and takes no memory.
-//! The layers above use that `decode` is `read_event`, the row that the bytes spell or their first fault, and that an
-//! `Event` is a row whose bytes spell it.
+//! The layers above use that `decode` is `read_event`, the row that the bytes spell or their first fault, that an
+//! `Event` is a row whose bytes spell it, and that `decode_first` reads the event at the front of a stream.
 //!
 //! From `keeps_an_event_as_it_was_read` in the tests of `check_bytes`, shortened:
 //!
@@ -23,7 +23,7 @@ mod write;
 
 pub use event::Event;
 pub use fields::PAYLOAD_LIMIT;
-pub use laws::one_spelling;
-pub use read::{body_of, decode};
+pub use laws::{front_events, one_spelling};
+pub use read::{body_of, decode, decode_first};
 pub use view::EventView;
 pub use write::{encode, encode_body};

@@ -1,6 +1,5 @@
 -- Gossip: what a peer has that a node lacks, and how the answers of a sync are counted. SWIRLDS-TR-2016-01, section 3
 use Rattle.std.specs.Prelude.{ℕ}
-use Rattle.hg_model.specs.declared.row.Row.{Row}
 use Rattle.hg_life.specs.declared.answers.PutAnswer.{PutAnswer}
 use Rattle.hg_life.specs.declared.answers.PutAnswer.TheVariants.{Accepted, Known, Refused}
 use Rattle.hg_life.specs.declared.answers.MakeAnswer.{MakeAnswer}

@@ -11,3 +11,4 @@ pub mod Kept
 pub mod NodeView
 pub mod Calls
 pub mod StateWords
+pub mod Workers

@@ -17,12 +17,12 @@ use Rattle.hg_model.specs.Graph.{name_at}
 use Rattle.hg_model.specs.Rounds.{round_of, is_witness, last_round}
 use Rattle.hg_model.specs.Votes.{vote_of, decides}
 use Rattle.hg_model.specs.Fame.{fame_of, fame_marks, is_closed, is_unique_famous}
-use Rattle.hg_model.specs.Order.{coin_at, sig_at, time_at, sort_by, median, can_receive, round_received, consensus_time, whitening, ordered_in, ordered, last_closed, sequence_of}
-use Rattle.hg_life.specs.Pay.{paid, book_of}
+use Rattle.hg_model.specs.Order.{coin_at, sig_at, time_at, sort_by, median, can_receive, round_received, consensus_time, whitening, ordered_in, last_closed, sequence_of}
+use Rattle.hg_life.specs.Pay.{book_of}
 use Rattle.hg_life.specs.Members.{listed}
 use Rattle.hg_outcome.specs.Ledger.{block_of, marked_block}
 use Rattle.hg_outcome.specs.Report.{printed_texts}
-use Rattle.hg_model.proofs.Worked.{made, two_members}
+use Rattle.hg_model.proofs.Worked.{two_members}
 
 abbrev pub entry : List ℕ → ℕ → MemberEntry
 entry name balance = record { name = name; secret = 1 ∷ []; balance = balance; stake = 1; has_node = true }

@@ -7,7 +7,7 @@ use Rattle.hg_model.specs.Shape.{Shape, shape_of}
 use Rattle.hg_model.specs.Fame.{Marks, is_closed}
 use Rattle.hg_model.specs.Graph.{IsShaped}
 use Rattle.hg_model.specs.Forks.{has_fork_below, forkers}
-use Rattle.hg_model.specs.Seeing.{sees_through, strongly_sees}
+use Rattle.hg_model.specs.Seeing.{sees_through}
 use Rattle.hg_model.specs.Rounds.{is_seen_witness, round_of, last_round, weight_of}
 use Rattle.hg_model.specs.GraphWords.{strongly_sees_in}
 use Rattle.hg_plain_graph.specs.By.{IsAncestorTable}

@@ -13,7 +13,8 @@ use Rattle.hg_life.specs.NodeView.{NodeView, Start, node_rows}
 use Rattle.hg_script.specs.declared.line.Part.{Part}
 use Rattle.hg_script.specs.declared.line.Action.TheVariants as action
 use Rattle.hg_script.specs.declared.line.Line.{Line}
-use Rattle.hg_world.specs.World.{Secrets, Site, WorldView, no_site, node_at, nodes_of, new_world, site_of, worker_limit}
+use Rattle.hg_world.specs.World.{Secrets, Site, WorldView, no_site, node_at, nodes_of, new_world, site_of}
+use Rattle.hg_life.specs.Workers.{worker_limit}
 use Rattle.hg_world.specs.Parts.{AreOfOneList, no_node, nth_node, rows_of_each, unfrozen}
 use Rattle.hg_board.specs.Table.{all_parts}
 use Rattle.hg_board.specs.Seats.{SharedNode, SeatView}

@@ -25,10 +25,6 @@ IsLineOfRows line = IsOfRows line.action
 abbrev pub most_lines : ℕ
 most_lines = 32
 
--- at most this many workers are beside each other
-abbrev pub most_workers : ℕ
-most_workers = 16
-
 -- the line may stand in a batch
 abbrev pub is_part : Action → Bool
 is_part (action.Part p) = true

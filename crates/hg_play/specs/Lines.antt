@@ -21,7 +21,8 @@ use Rattle.hg_script.specs.declared.line.Action.TheVariants as action
 use Rattle.hg_script.specs.declared.line.Line.{Line}
 use Rattle.hg_world.specs.declared.step.Step.{Step}
 use Rattle.hg_world.specs.declared.step.Step.TheVariants as step
-use Rattle.hg_world.specs.World.{Secrets, WorldView, worker_limit, node_at, rows_at, frozen_by}
+use Rattle.hg_world.specs.World.{Secrets, WorldView, node_at, rows_at, frozen_by}
+use Rattle.hg_life.specs.Workers.{worker_limit}
 use Rattle.hg_world.specs.Steps.{making_at, putting_at, settle_steps}
 use Rattle.hg_world.specs.Syncs.{pull_steps, pulled, sync_report, sync_steps}
 use Rattle.hg_play.specs.Labels.{bytes_at, name_of_label, source_bytes}

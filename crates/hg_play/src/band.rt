@@ -1,5 +1,5 @@
 ghost use Rattle.std.specs.Prelude.{◌<◌, ◌≤◌};
-ghost use Rattle.hg_play.specs.Batch.{most_workers};
+ghost use Rattle.hg_life.specs.Workers.{most_workers};
 
 /// Who works beside the lines: so many workers of a crew, on threads of a runtime, and a gate that is told how far a line
 /// has come.

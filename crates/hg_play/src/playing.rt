@@ -4,7 +4,8 @@ ghost use Rattle.hg_script.specs.Lawful.{IsLine};
 ghost use Rattle.hg_world.specs.Parts.{IsWorld};
 ghost use Rattle.hg_world.specs.World.{new_world};
 ghost use Rattle.hg_play.specs.Agree.{IsAgreed};
-ghost use Rattle.hg_play.specs.Batch.{IsPlayed, most_workers};
+ghost use Rattle.hg_play.specs.Batch.{IsPlayed};
+ghost use Rattle.hg_life.specs.Workers.{most_workers};
 ghost use Rattle.hg_play.specs.Nodes.{Closes};
 ghost use Rattle.hg_play.specs.Play.{IsSafePlay, play, summary};
 

@@ -7,6 +7,7 @@ use Rattle.std.specs.Str.{bytes_eq}
 use Rattle.hex.specs.Hex.{decode_of}
 use Rattle.hg_life.specs.Members.{MemberList, is_digit, is_member_name, has_node, member_named}
 use Rattle.hg_life.specs.Results.{◌>>=◌}
+use Rattle.hg_life.specs.Workers.{worker_limit}
 use Rattle.hg_script.specs.declared.fault.Why.{Why}
 use Rattle.hg_script.specs.declared.fault.Why.TheVariants.{Member, NoNode, Number, Payload, Label, DoubleLabel}
 
@@ -26,10 +27,6 @@ number_of word = if nat_le 1 (length word) && nat_le (length word) 20 then below
 -- the same, with a value below 256
 abbrev pub byte_of : List ℕ → Result ℕ Why
 byte_of word = number_of word >>= (λ n. below 256 (Some n))
-
--- how many workers a node can have, numbered from 0
-abbrev pub worker_limit : ℕ
-worker_limit = 16
 
 -- the number of a worker
 abbrev pub worker_of : List ℕ → Result ℕ Why

@@ -13,7 +13,7 @@ use Rattle.hg_script.specs.declared.line.Part.TheVariants as part
 use Rattle.hg_script.specs.declared.line.Action.{Action}
 use Rattle.hg_script.specs.declared.line.Action.TheVariants as action
 use Rattle.hg_script.specs.declared.line.Line.{Line}
-use Rattle.hg_script.specs.Argument.{worker_limit}
+use Rattle.hg_life.specs.Workers.{worker_limit}
 use Rattle.hg_script.specs.Table.{Above, Found}
 
 -- the number is that of a member with a node

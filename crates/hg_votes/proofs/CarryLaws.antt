@@ -178,8 +178,8 @@ begins_empty g = record { members = refl; coin = refl; rows = (g.rows, refl) }
 pub begins_itself : (g : Graph) → Begins g g
 begins_itself g = record { members = refl; coin = refl; rows = ([], sym (append-nil g.rows)) }
 
-pub carries_on : (counting : Counting) (g later : Graph) → CarriesTo counting g → Begins g later → CarriesTo counting later
-carries_on counting g later carries two =
+pub carries_on : (counting : Counting) (g more : Graph) → CarriesTo counting g → Begins g more → CarriesTo counting more
+carries_on counting g more carries two =
     let one = carries.2 in (
       carries.0,
       carries.1,

@@ -1,5 +1,5 @@
 -- Voters that are shared, and how rows are entered in them
-use Rattle.std.specs.Prelude.{ℕ, ◌≡◌, length, vec_len, Bool, true, false, Result, Ok, Err}
+use Rattle.std.specs.Prelude.{◌≡◌, length, vec_len, Bool, true, false, Result, Ok, Err}
 use Rattle.std.specs.Global.{Vec}
 use Rattle.std.specs.Arc.{arc_value}
 use Rattle.hg_model.specs.declared.ballot.Ballot.{Ballot}

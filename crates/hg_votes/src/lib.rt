@@ -1,7 +1,8 @@
 //! Votes on the fame of a witness, round by round: a ballot for each later witness, from those of its voters.
 //! The layer above uses `VoteTable` as the `Votes` of `hg_model`; the plain program uses `count_votes` and `weigh`.
 //! Voters are found once, as sets of slots, which are indices among the witnesses of the round before; a table is carried
-//! to a longer prefix, and a ballot costs a word of voters for every 64 slots, and no memory.
+//! to a longer prefix. A ballot takes no memory: it costs a word of voters for every 64 slots where all members have one
+//! stake, and else a look at each slot.
 //!
 //! From `elect_in` of `check_graphs`, what a share of the witnesses decides in a frozen graph:
 //!

@@ -13,7 +13,8 @@ use Rattle.hg_life.specs.NodeView.{NodeView, IsNode}
 use Rattle.hg_life.proofs.MemberLaws.{length-stakes}
 use Rattle.hg_gossip.specs.Handing.{HeardView}
 use Rattle.hg_gossip.specs.Known.{KeepsKnown}
-use Rattle.hg_world.specs.World.{Secrets, Site, WorldView, new_node, new_site, new_world, no_site, nodes_of, site_of, worker_limit}
+use Rattle.hg_world.specs.World.{Secrets, Site, WorldView, new_node, new_site, new_world, no_site, nodes_of, site_of}
+use Rattle.hg_life.specs.Workers.{worker_limit}
 use Rattle.hg_world.specs.Parts.{AreOfOneList, HasStart, IsWorld, KeepsParts, KeepsSite, nodes_in, no_node, nth_node, rows_of_each, unfrozen, world_of}
 
 -- one more was moved from one list to another

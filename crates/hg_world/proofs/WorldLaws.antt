@@ -11,7 +11,8 @@ use Rattle.hg_life.specs.NodeView.{NodeView, IsNode, node_rows, with_changes}
 use Rattle.hg_history.proofs.StateLaws.{rows_grow}
 use Rattle.hg_runs.specs.Safety.{IsSafe}
 use Rattle.hg_runs.proofs.SafetyLaws.{runs_safe}
-use Rattle.hg_world.specs.World.{Secrets, Site, WorldView, no_site, site_of, site_at, node_at, with_site, with_node_at, run_of, worker_limit}
+use Rattle.hg_world.specs.World.{Secrets, Site, WorldView, no_site, site_of, site_at, node_at, with_site, with_node_at, run_of}
+use Rattle.hg_life.specs.Workers.{worker_limit}
 use Rattle.hg_world.specs.declared.step.Step.TheVariants.{Publish}
 use Rattle.hg_world.specs.Steps.{after_step, after_steps, node_published, settle_steps}
 use Rattle.hg_world.specs.Parts.{KeepsSite, IsWorld}

@@ -7,7 +7,8 @@ use Rattle.hg_life.specs.NodeView.{NodeView, IsNode, node_rows}
 use Rattle.hg_graph.specs.Held.{AreEvents}
 use Rattle.hg_gossip.specs.Handing.{HeardView}
 use Rattle.hg_gossip.specs.Known.{KeepsKnown}
-use Rattle.hg_world.specs.World.{Secrets, Site, WorldView, IsSiteOf, no_site, nodes_of, rows_at, site_at, site_of, worker_limit}
+use Rattle.hg_world.specs.World.{Secrets, Site, WorldView, IsSiteOf, no_site, nodes_of, rows_at, site_at, site_of}
+use Rattle.hg_life.specs.Workers.{worker_limit}
 
 abbrev pub world_of : Stakes → ℕ → List Site → WorldView
 world_of n c sites = record { members = n; coin = c; sites = sites }

@@ -13,7 +13,8 @@ use Rattle.hg_world.specs.declared.step.Step.{Step}
 use Rattle.hg_world.specs.declared.step.Step.TheVariants.{Make, Deliver, Freeze, Publish}
 use Rattle.hg_world.specs.declared.step.Reply.{Reply}
 use Rattle.hg_world.specs.declared.step.Reply.TheVariants as reply
-use Rattle.hg_world.specs.World.{Secrets, WorldView, worker_limit, node_at, frozen_by, with_node_at, with_frozen, IsMemberOf}
+use Rattle.hg_world.specs.World.{Secrets, WorldView, node_at, frozen_by, with_node_at, with_frozen, IsMemberOf}
+use Rattle.hg_life.specs.Workers.{worker_limit}
 
 -- the signature under which the node makes such an event
 abbrev pub own_signature : NodeView Secrets → List (List ℕ) → ℕ → List ℕ → List ℕ

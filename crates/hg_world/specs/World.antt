@@ -7,15 +7,12 @@ use Rattle.hg_life.specs.Members.{MemberList, stakes_of}
 use Rattle.hg_life.specs.Signing.{secrets_of}
 use Rattle.hg_life.specs.NodeView.{NodeView, start_of, node_rows}
 use Rattle.hg_runs.specs.Run.{Run}
+use Rattle.hg_life.specs.Workers.{worker_limit}
 use Rattle.hg_world.specs.declared.site.Site as declared
 
 -- the keys of a node: the members' secrets
 abbrev pub Secrets : Type 0
 Secrets = List (List ℕ)
-
--- how many workers each node has
-abbrev pub worker_limit : ℕ
-worker_limit = 16
 
 -- a member's node, and of each of its workers how many rows it froze last, or 0
 abbrev pub Site : Type 0

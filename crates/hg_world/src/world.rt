@@ -11,7 +11,8 @@ ghost use Rattle.hg_world.specs.declared.step.Step.TheVariants.{Make, Deliver, F
 ghost use Rattle.hg_graph.specs.RowsWithRoom.{rows_of};
 ghost use Rattle.hg_world.specs.Parts.{AreOfOneList, IsWorld, nth_node, rows_of_each, unfrozen};
 ghost use Rattle.hg_model.specs.Held.{lacking};
-ghost use Rattle.hg_world.specs.World.{IsMemberOf, IsSiteOf, new_world, node_at, nodes_of, rows_at, run_of, site_at, worker_limit};
+ghost use Rattle.hg_world.specs.World.{IsMemberOf, IsSiteOf, new_world, node_at, nodes_of, rows_at, run_of, site_at};
+ghost use Rattle.hg_life.specs.Workers.{worker_limit};
 ghost use Rattle.hg_world.specs.Steps.{RanSome, after_step, after_steps, making_at, publishing_by, putting_at, settle_steps};
 ghost use Rattle.hg_world.specs.Syncs.{HasMadeAfter, HasTaken, deliver_steps};
 

@@ -1,7 +1,8 @@
 use Rattle.std.proofs.Common.{◌≡◌, ◌∷◌, [], ap, length, replicate, length-append, arith}
 use Rattle.std.specs.Vec.Iter.{into_iter_items}
 use Rattle.hg_life.specs.NodeView.{NodeView}
-use Rattle.hg_world.specs.World.{Secrets, site_of, worker_limit}
+use Rattle.hg_world.specs.World.{Secrets, site_of}
+use Rattle.hg_life.specs.Workers.{worker_limit}
 use Rattle.hg_world.specs.Parts.{unfrozen}
 use Rattle.hg_world.proofs.NewLaws.{moved}
 use Rattle.hg_world.proofs.nodes.into_sites.Goals as goal
