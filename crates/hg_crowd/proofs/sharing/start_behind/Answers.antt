@@ -3,7 +3,7 @@ use Rattle.hg_crowd.specs.Workers.{AreStarted}
 use Rattle.hg_crowd.proofs.CrowdLaws.{started_one}
 use Rattle.hg_crowd.proofs.sharing.start_behind.Goals as goal
 
-pub returns-in-Ok-clause-ok : goal.returns-in-Ok-clause-started
+pub returns-in-Ok-clause-ok : goal.returns-in-Ok-clause-ok
 returns-in-Ok-clause-ok g c = λ nodes so.
     let accepts = g.V.Verifier.accepts in
     let ps = c.args.shared.now.items in
