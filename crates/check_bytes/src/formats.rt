@@ -85,6 +85,14 @@ fn first_events_have_these_digits(rt: HostRuntime) -> Result<(), Fail> {
     Ok(())
 }
 
+/// The first eight bytes, or all.
+fn first_eight(bytes: &[u8]) -> &[u8] {
+    match bytes.split_at_checked(8) {
+        Some((first, _)) => first,
+        None => bytes,
+    }
+}
+
 #[test]
 fn the_sixth_event_has_a_coin_of_one(rt: HostRuntime) -> Result<(), Fail> {
     let alloc = rt.alloc();
@@ -95,8 +103,8 @@ fn the_sixth_event_has_a_coin_of_one(rt: HostRuntime) -> Result<(), Fail> {
         let creator = ((time + 1) % 2) as u16;
         let (sig, name) = signed(alloc, &keys, creator, Some((own, other)), time, &[])?;
         if time == 3 {
-            reads(&rt, alloc, 0, &sig[..8], "246d65de200df602")?;
-            reads(&rt, alloc, 1, &name[..8], "e770aec0061280e1")?;
+            reads(&rt, alloc, 0, first_eight(&sig), "246d65de200df602")?;
+            reads(&rt, alloc, 1, first_eight(&name), "e770aec0061280e1")?;
         }
         equal(&rt, 2, sig[32] >= 128, time == 6);
         own = other;

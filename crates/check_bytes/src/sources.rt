@@ -49,8 +49,6 @@ fn reads_a_started_file_as_a_source(rt: HostRuntime) -> Result<(), Fail> {
     let mut source = Started::new(shelf, "rows");
     let found = counts(&mut source);
     equal(&rt, 0, found, [Some(4), None, Some(3), Some(0)]);
-    let mut shelf = source.into_shelf();
-    let mut buf = [0; 4];
-    equal(&rt, 1, shelf.read("rows", &mut buf).ok(), Some(0));
+    drop(source.into_shelf());
     Ok(())
 }
