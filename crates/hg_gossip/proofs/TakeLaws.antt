@@ -1,16 +1,15 @@
 -- Events that are put one after the other
-use Rattle.std.proofs.Common.{◌≡◌, ℕ, ◌+◌, ◌<◌, ◌≤◌, List, [], ◌∷◌, ◌++◌, length, take, drop, get_or, Result, Ok, Err, sym, refl, ap, ◌∙◌, subst, add-one, arith}
+use Rattle.std.proofs.Common.{◌≡◌, inl, inr, ℕ, suc, ◌+◌, ◌<◌, ◌≤◌, List, [], ◌∷◌, ◌++◌, length, take, drop, get_or, Result, Ok, Err, sym, refl, ap, ◌∙◌, subst, add-one, arith}
 use Rattle.std.specs.Prelude.{IfOk, OnErr}
-use Rattle.std.proofs.lemmas.List.{append-nil, take-append-drop}
-use Rattle.std.proofs.Math.Seq.{take-suc}
+use Rattle.std.proofs.lemmas.List.{take-append-drop}
+use Rattle.std.proofs.Math.Seq.{drop-cons, take-suc}
 use Rattle.hg_life.specs.declared.answers.PutAnswer.{PutAnswer}
 use Rattle.hg_life.specs.declared.answers.PutAnswer.TheVariants.{Accepted, Known, Refused}
 use Rattle.hg_life.specs.declared.answers.SyncMade.{SyncMade}
 use Rattle.hg_life.specs.declared.gossip.Parcel.{Parcel}
 use Rattle.hg_gossip.specs.declared.gossip.Taken.{Taken}
-use Rattle.hg_gossip.specs.Holding.{PutsBytes, Rules, Seen, Waits, names_in, parcel_beyond}
-use Rattle.hg_gossip.specs.Gossip.{Pulls, PullsSome, Syncs, TakesAll, TakesSome, MakesAfter, Takes, none_taken, with_answer}
-use Rattle.hg_gossip.proofs.SeenLaws.{waits_none}
+use Rattle.hg_gossip.specs.Holding.{PutsBytes, Rules, Seen, Waits, WouldTake, names_in, parcel_beyond}
+use Rattle.hg_gossip.specs.Gossip.{MakesAfter, MakesNone, Pulls, PullsSome, Syncs, Takes, TakesAll, TakesSome, WouldMakeAfter, none_taken, with_answer}
 
 module _ {K : Type 0} (rules : Rules K) where
   -- one more
@@ -25,40 +24,21 @@ module _ {K : Type 0} (rules : Rules K) where
   takes_push (first ∷ events) old mid new before counts bytes answer some put =
       (some.0, some.1, some.2, takes_push events some.0 mid new (with_answer before some.1) counts bytes answer some.3 put)
 
-  -- all of them, and then memory ran out
-  pub takes_all : (events : List (List ℕ)) (old mid new : Seen K) (counts : Taken) → TakesAll rules old events mid counts → Waits rules mid new → TakesSome rules old events new
-  takes_all events old mid new counts takes waits = record {
-    first = events;
-    rest = [];
-    whole = sym (append-nil events);
-    next = mid;
-    taken = counts;
-    takes = takes;
-    waits = waits;
-  }
-
-  -- none of them
-  pub takes_none : (events : List (List ℕ)) (old : Seen K) → TakesSome rules old events old
-  takes_none events old = record {
-    first = [];
-    rest = events;
-    whole = refl;
-    next = old;
-    taken = none_taken;
-    takes = (refl, refl);
-    waits = waits_none rules old;
-  }
-
-  -- the first of them, and then memory ran out
-  pub takes_first : (events : List (List ℕ)) (i : ℕ) (old mid new : Seen K) (counts : Taken) → TakesAll rules old (take i events) mid counts → Waits rules mid new → TakesSome rules old events new
-  takes_first events i old mid new counts takes waits = record {
+  -- the first of them, and there was no memory to accept the next one
+  pub takes_first : (events : List (List ℕ)) (i : ℕ) (item bytes : List ℕ) (old mid new : Seen K) (counts : Taken) → i < length events → item ≡ get_or events i item → bytes ≡ item →
+      TakesAll rules old (take i events) mid counts → Waits rules mid new → WouldTake rules new bytes → TakesSome rules old events new
+  takes_first events i item bytes old mid new counts within is same takes waits full = record {
     first = take i events;
-    rest = drop i events;
-    whole = sym (take-append-drop i events);
-    next = mid;
+    next = bytes;
+    rest = drop (suc i) events;
+    whole =
+        sym (take-append-drop i events)
+        ∙ ap (λ (es : List (List ℕ)). take i events ++ es) (drop-cons events i item within ∙ ap (λ (b : List ℕ). b ∷ drop (suc i) events) (sym is ∙ sym same));
+    reached = mid;
     taken = counts;
     takes = takes;
     waits = waits;
+    full = full;
   }
 
   -- the next of them
@@ -71,11 +51,12 @@ module _ {K : Type 0} (rules : Rules K) where
       (subst (λ (es : List (List ℕ)). TakesAll rules old es new (with_answer counts answer)) (sym next)
       (takes_push (take i events) old mid new none_taken counts bytes answer takes put))
 
+  -- there was no memory to hand them over
   pub pulls_none : {L : Type 0} (old reached : Seen K) (peer : Seen L) → Waits rules old reached → PullsSome rules old peer reached
   pulls_none old reached peer waits = record {
     reached = reached;
     waits = waits;
-    takes = takes_none (parcel_beyond (names_in reached) peer).rows reached;
+    stops = inl refl;
   }
 
   pub pulls_some : {L : Type 0} (old reached new : Seen K) (peer : Seen L) (parcel : Parcel) (events : List (List ℕ)) → parcel ≡ parcel_beyond (names_in reached) peer → events ≡ parcel.rows →
@@ -83,7 +64,7 @@ module _ {K : Type 0} (rules : Rules K) where
   pulls_some old reached new peer parcel events is rows waits takes = record {
     reached = reached;
     waits = waits;
-    takes = subst (λ (es : List (List ℕ)). TakesSome rules reached es new) (rows ∙ ap (λ (p : Parcel). p.rows) is) takes;
+    stops = inr (subst (λ (es : List (List ℕ)). TakesSome rules reached es new) (rows ∙ ap (λ (p : Parcel). p.rows) is) takes);
   }
 
   pub pulls_all : {L : Type 0} (old reached new : Seen K) (peer : Seen L) (parcel : Parcel) (events : List (List ℕ)) (taken : Taken) → parcel ≡ parcel_beyond (names_in reached) peer → events ≡ parcel.rows →
@@ -103,6 +84,18 @@ module _ {K : Type 0} (rules : Rules K) where
       Waits rules old reached → OnErr result (TakesSome rules reached events new) → OnErr result (PullsSome rules old peer new)
   pull_stopped old reached new peer parcel events (Ok taken) is rows waits takes = tt
   pull_stopped old reached new peer parcel events (Err e) is rows waits takes = pulls_some old reached new peer parcel events is rows waits takes
+
+  -- there was none to make the event
+  pub makes_none : {L : Type 0} (old reached full new : Seen K) (peer : Seen L) (parcel : Parcel) (events : List (List ℕ)) (payload : List ℕ) (taken : Taken) →
+      parcel ≡ parcel_beyond (names_in reached) peer → events ≡ parcel.rows → Waits rules old reached → TakesAll rules reached events full taken → Waits rules full new → WouldMakeAfter new parcel.last payload →
+      MakesNone rules old peer payload new
+  makes_none old reached full new peer parcel events payload taken is rows waits takes later signs = record {
+    full = full;
+    taken = taken;
+    pulled = pulls_all old reached full peer parcel events taken is rows waits takes;
+    waits = later;
+    signs = subst (λ (p : Parcel). WouldMakeAfter new p.last payload) is signs;
+  }
 
   pub syncs_all : {L : Type 0} (old reached full new : Seen K) (peer : Seen L) (parcel : Parcel) (events : List (List ℕ)) (time : ℕ) (payload : List ℕ) (taken : Taken) (made : SyncMade) →
       parcel ≡ parcel_beyond (names_in reached) peer → events ≡ parcel.rows → Waits rules old reached → TakesAll rules reached events full taken → MakesAfter rules full parcel.last time payload new made →

@@ -3,7 +3,7 @@ use Rattle.std.proofs.Common.{◌≡◌, ℕ, zero, suc, ◌+◌, ◌<◌, List,
 use Rattle.std.specs.declared.sync.Arc.{Arc}
 use Rattle.std.proofs.lemmas.List.{append-nil, get_or-map, length-map, take-append-drop}
 use Rattle.std.proofs.lemmas.List.Sums.{fold-append}
-use Rattle.std.proofs.Math.Seq.{take-suc}
+use Rattle.std.proofs.Math.Seq.{drop-cons, take-suc}
 use Rattle.hg_model.specs.declared.row.Row.{Row}
 use Rattle.hg_life.specs.declared.answers.PutAnswer.{PutAnswer}
 use Rattle.hg_life.specs.History.{Change}
@@ -12,6 +12,7 @@ use Rattle.hg_life.specs.Spelling.{spelling}
 use Rattle.hg_life.specs.NodeView.{NodeView, Start, with_changes}
 use Rattle.hg_life.specs.Calls.{put_answer, put_changes}
 use Rattle.hg_graph.specs.RowsWithRoom.{rows_of}
+use Rattle.hg_node.specs.Puts.{WouldAccept}
 use Rattle.hg_gossip.specs.declared.gossip.Taken.{Taken}
 use Rattle.hg_gossip.specs.Gossip.{none_taken, with_answer}
 use Rattle.hg_gossip.specs.Nodes.{Taking, take_event, taking, taking_of}
@@ -46,13 +47,18 @@ module _ {K : Type 0} (accepts : K → Accepts) where
       ∙ (ap (λ (t : Taking K). take_event accepts t bytes) taken
       ∙ (sym (fold-append (take_event accepts) (taking_of v none_taken) (take i events) (bytes ∷ [])) ∙ ap (taking accepts v) (sym all)))
 
-  -- memory ran out at the next one
-  pub took_first : (v now new : NodeView K) (events : List (List ℕ)) (i : ℕ) (counts : Taken) → taking_of now counts ≡ taking accepts v (take i events) → new ≡ now → TookSome accepts v events new
-  took_first v now new events i counts taken same = record {
+  -- there was no memory to accept the next one
+  pub took_first : (v now new : NodeView K) (events : List (List ℕ)) (i : ℕ) (bytes : List ℕ) (counts : Taken) → i < length events → bytes ≡ get_or events i bytes →
+      taking_of now counts ≡ taking accepts v (take i events) → new ≡ now → WouldAccept accepts now bytes → TookSome accepts v events new
+  took_first v now new events i bytes counts low is taken same full = record {
     first = take i events;
-    rest = drop i events;
-    whole = sym (take-append-drop i events);
+    next = bytes;
+    rest = drop (suc i) events;
+    whole =
+        sym (take-append-drop i events)
+        ∙ ap (λ (es : List (List ℕ)). take i events ++ es) (drop-cons events i bytes low ∙ ap (λ (b : List ℕ). b ∷ drop (suc i) events) (sym is));
     after = same ∙ ap (λ (t : Taking K). t.node) taken;
+    full = subst (λ (u : NodeView K). WouldAccept accepts u bytes) (sym same) full;
   }
 
   module _ {A : Type 0} where

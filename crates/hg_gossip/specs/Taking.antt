@@ -1,5 +1,5 @@
 -- Events that a node accepts as signed, and that are put to it one after the other
-use Rattle.std.specs.Prelude.{◌≡◌, ◌<◌, ℕ, true, List, ◌++◌, map}
+use Rattle.std.specs.Prelude.{◌≡◌, ◌<◌, ℕ, true, List, ◌∷◌, ◌++◌, map}
 use Rattle.std.specs.List.{AllByRecursion}
 use Rattle.std.specs.declared.sync.Arc.{Arc}
 use Rattle.hg_model.specs.declared.row.Row.{Row}
@@ -8,6 +8,7 @@ use Rattle.hg_model.specs.Stakes.{member_count}
 use Rattle.hg_life.specs.Spelling.{body_of, spelling}
 use Rattle.hg_life.specs.NodeView.{NodeView, Start}
 use Rattle.hg_graph.specs.RowsWithRoom.{rows_of}
+use Rattle.hg_node.specs.Puts.{WouldAccept}
 use Rattle.hg_gossip.specs.Nodes.{taking}
 
 -- the bytes of events that are shared
@@ -23,9 +24,11 @@ pub record IsSigned {K : Type 0} (accepts : K → Accepts) (start : Start K) (ro
 abbrev pub AreSigned : {K : Type 0} → (K → Accepts) → Start K → List Row → Type 0
 AreSigned accepts start rows = AllByRecursion (IsSigned accepts start) rows
 
--- some of the first of these were put, and then memory ran out
+-- some of the first of these were put, and there was no memory to accept the next one
 pub record TookSome {K : Type 0} (accepts : K → Accepts) (old : NodeView K) (events : List (List ℕ)) (new : NodeView K) : Type 0 where
   pub first : List (List ℕ)
+  pub next : List ℕ
   pub rest : List (List ℕ)
-  pub whole : events ≡ first ++ rest
+  pub whole : events ≡ first ++ next ∷ rest
   pub after : new ≡ (taking accepts old first).node
+  pub full : WouldAccept accepts new next

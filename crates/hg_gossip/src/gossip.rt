@@ -1,6 +1,6 @@
 ghost use Rattle.std.specs.Prelude.{◌≡◌, ◌+◌, ◌-◌, ◌<◌, ◌^◌, IfOk, OnErr};
 ghost use Rattle.hg_life.specs.Gossip.{made_in_sync};
-ghost use Rattle.hg_gossip.specs.Gossip.{Pulls, PullsSome, Syncs, with_answer};
+ghost use Rattle.hg_gossip.specs.Gossip.{Pulls, PullsSome, Syncs, SyncsSome, with_answer};
 ghost use Rattle.hg_gossip.specs.Holding.{Waits, names_in, parcel_beyond};
 
 use crate::holder::Holder;
@@ -60,8 +60,8 @@ fn parcel_for<T: Holder, P: Holder>(
     peer.missing(alloc, names.as_slice())
 }
 
-/// Takes from the peer the rows that the taker lacks, by their names, in the peer's order.
-/// After `Memory` some of the first of them are put.
+/// Takes from the peer the rows that the taker lacks, by their names, in the peer's order. After `Memory` either none of
+/// them is put, or some of the first are and the next one would be accepted.
 pub fn pull<T: Holder, P: Holder>(
     alloc: Global,
     taker: &mut T,
@@ -90,7 +90,7 @@ pub fn sync<T: Holder, P: Holder>(
     ensures peer_lent { P.lent peer.new ≡ P.lent peer.old }
     ensures peer { Waits P.rules (P.seen peer.old) (P.seen peer.new) }
     ensures ok { IfOk result (Syncs T.rules (T.seen taker.old) (P.seen peer.new) time payload.now (T.seen taker.new)) }
-    ensures err { OnErr result (PullsSome T.rules (T.seen taker.old) (P.seen peer.new) (T.seen taker.new)) }
+    ensures err { OnErr result (SyncsSome T.rules (T.seen taker.old) (P.seen peer.new) payload.now (T.seen taker.new)) }
 {
     let parcel = parcel_for(alloc, taker, peer)?;
     let counts = take(taker, parcel.rows.as_slice())?;

@@ -60,8 +60,8 @@ module _ (w : WorldView) (m : ℕ) (low : m < length w.sites) (site : Site) (rea
   pub took_some : (events : List (List ℕ)) → TookSome accepts_by site.node events u → RanSome w (deliver_steps m events) (with_site w m (site_of u site.frozen))
   took_some events some = record {
     first = deliver_steps m some.first;
-    rest = deliver_steps m some.rest;
-    whole = ap (deliver_steps m) some.whole ∙ map-append (λ (b : List ℕ). let s : Step = Deliver m b in s) some.first some.rest;
+    rest = deliver_steps m (some.next ∷ some.rest);
+    whole = ap (deliver_steps m) some.whole ∙ map-append (λ (b : List ℕ). let s : Step = Deliver m b in s) some.first (some.next ∷ some.rest);
     after = steps_are some.first some.after;
   }
 

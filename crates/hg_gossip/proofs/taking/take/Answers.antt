@@ -5,8 +5,8 @@ use Rattle.hg_gossip.proofs.taking.take.Goals as goal
 pub returns-in_err-answer-clause-err : goal.returns-in_err-answer-clause-err
 returns-in_err-answer-clause-err g c =
     errs c.from_residual.result _
-    (takes_first g.H.Holder.rules c.args.events.now c.loop-event.event-index (g.H.Holder.seen c.args.taker.now) (g.H.Holder.seen c.loop-event.taker) (g.H.Holder.seen c.put.new.self) c.loop-event.counts
-    c.loop-event.invariant.taken c.in_err-answer.ensures.err)
+    (takes_first g.H.Holder.rules c.args.events.now c.loop-event.event-index c.event-item.result c.as_slice.result.now (g.H.Holder.seen c.args.taker.now) (g.H.Holder.seen c.loop-event.taker) (g.H.Holder.seen c.put.new.self) c.loop-event.counts
+    (omega arith) c.event-item.is c.as_slice.ensures c.loop-event.invariant.taken c.in_err-answer.ensures.err c.in_err-answer.ensures.free)
 
 pub loop-event-preserved : goal.loop-event-preserved
 loop-event-preserved g c = record {

@@ -19,8 +19,10 @@ put_event-requires-clause-signed g c =
 
 pub returns-in_err-answer-clause-err : goal.returns-in_err-answer-clause-err
 returns-in_err-answer-clause-err g c =
+    let low : c.loop-event.event-index < length c.args.events.now = omega arith in
     errs c.from_residual.result _
-    (took_first g.V.Verifier.accepts c.args.taker.now c.loop-event.taker c.put_event.new.self (bytes_of c.args.events.now) c.loop-event.event-index c.loop-event.counts c.loop-event.invariant.taken c.in_err-answer.ensures.err)
+    (took_first g.V.Verifier.accepts c.args.taker.now c.loop-event.taker c.put_event.new.self (bytes_of c.args.events.now) c.loop-event.event-index (spelling c.event-item.result.value) c.loop-event.counts
+    (omega (arith, low, bytes_length c.args.events.now)) (bytes_at c.args.events.now c.loop-event.event-index c.event-item.result low c.event-item.is) c.loop-event.invariant.taken c.in_err-answer.ensures.err c.in_err-answer.ensures.free)
 
 pub loop-event-preserved : goal.loop-event-preserved
 loop-event-preserved g c =
