@@ -2,6 +2,8 @@ pub mod NextLaws
 pub mod FreshLaws
 pub mod LaterLaws
 pub mod StepLaws
+pub mod WaitLaws
+pub mod WalkLaws
 pub mod RowLaws
 pub mod PublishLaws
 pub mod ReceiveLaws

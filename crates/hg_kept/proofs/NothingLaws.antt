@@ -1,5 +1,5 @@
 -- What is published of no rows
-use Rattle.std.proofs.Common.{◌≡◌, ℕ, zero, ◌<◌, Bool, true, false, cond, [], sym, refl, arith}
+use Rattle.std.proofs.Common.{◌≡◌, ℕ, zero, ◌<◌, Bool, true, false, cond, [], length, sym, refl, arith}
 use Rattle.std.proofs.lemmas.Bool.{true≢false}
 use Rattle.hg_model.specs.Links.{links}
 use Rattle.hg_model.specs.Places.{some_below, list_below, greatest_below}
@@ -11,6 +11,7 @@ use Rattle.hg_model.specs.Prefix.{graph_of}
 use Rattle.hg_model.proofs.NameLaws.{distinct-none}
 use Rattle.hg_model.proofs.PlacesLaws.{weight_below_none, list_below_zero}
 use Rattle.hg_model.proofs.PushLaws.{shaped-none}
+use Rattle.hg_order.proofs.BoundLaws.{no_number}
 use Rattle.hg_kept.specs.Published.{Keeps, is_pending, unpublished}
 
 no_forkers : (n : Stakes) → forking n (links []) ≡ 0
@@ -29,6 +30,10 @@ none_ordered : (n : Stakes) → [] ≡ ordered_in n [] (links []) [] (λ r. true
 unfolding ordered_in sort_by list_below links
 none_ordered n = refl
 
+none_inside : (x : ℕ) → x < length (links []) → ⊥
+unfolding links
+none_inside x inside = absurd (omega arith)
+
 pub keeps_nothing : (n : Stakes) (c : ℕ) → 0 < total n → Keeps (graph_of n c []) unpublished
 keeps_nothing n c some = record {
   graph = record { distinct = distinct-none; shaped = shaped-none n; few_forkers = omega (arith, no_forkers n) };
@@ -39,6 +44,7 @@ keeps_nothing n c some = record {
   pending = record {
     looked = omega arith;
     below = sym (list_below_zero (λ x. x) (is_pending (graph_of n c []) [] 0));
-    above = λ x high inside. absurd (omega arith);
+    above = λ x high inside. absurd (none_inside x inside);
+    ends = λ m. rw (no_number 128 m) (omega arith);
   };
 }

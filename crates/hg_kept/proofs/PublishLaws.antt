@@ -15,7 +15,6 @@ use Rattle.hg_life.specs.Kept.{kept_up_to, kept_in}
 use Rattle.hg_model.specs.Orders.{IsPrefix, AreFame}
 use Rattle.hg_life.specs.StateWords.{state_by, news_by, marks_by}
 use Rattle.hg_model.proofs.LinkLaws.{length-links}
-use Rattle.hg_model.proofs.PlacesLaws.{list_below-same}
 use Rattle.hg_prefix.specs.Standing.{IsMarkedPart}
 use Rattle.hg_prefix.proofs.GrowthLaws.{stands_in_itself}
 use Rattle.hg_history.specs.Adding.{Adding, add_marks}
@@ -25,6 +24,7 @@ use Rattle.hg_history.proofs.RoundLaws.{order_by_rounds}
 use Rattle.hg_history.proofs.StateLaws.{IsEven, marks_step, prefix_same}
 use Rattle.hg_kept.specs.Published.{Published, IsReached, KeepsUpTo, Keeps, FindsNewsOf, is_pending}
 use Rattle.hg_kept.proofs.LaterLaws.{order_stays, received_stays}
+use Rattle.hg_kept.proofs.WaitLaws.{waiting_same}
 use Rattle.hg_kept.proofs.NextLaws.{last_here, last_reached, closed_to_reached}
 
 module _ (g : Graph) (three : 2 < g.coin) (v : Published) (keeps : Keeps g v) (h : Marks) (even : length h ≡ length g.rows) (fame : AreFame g.members g.coin g.rows h)
@@ -61,14 +61,7 @@ module _ (g : Graph) (three : 2 < g.coin) (v : Published) (keeps : Keeps g v) (h
         ∙ (ap (kept_up_to g.members (state_by g v.marks)) (sym keeps.closed)
         ∙ sym (order_stays g.members g.coin g.rows keeps.graph three g.rows v.marks h (part v.marks keeps.fame) (part h fame) first v.closed closed_before closed_after
         v.closed (omega arith))));
-    pending = record {
-      looked = keeps.pending.looked;
-      below =
-          keeps.pending.below
-          ∙ sym (list_below-same (λ x. x) (λ x. x) v.looked (is_pending g h v.closed) (is_pending g v.marks v.closed)
-          (λ x low. waits_on x (let le = keeps.pending.looked in omega arith)) (λ x low is. refl));
-      above = λ x high inside. waits_on x inside ∙ keeps.pending.above x high inside;
-    };
+    pending = waiting_same (links_of g) v.waiting (is_pending g v.marks v.closed) (is_pending g h v.closed) (λ x inside. sym (waits_on x (rw (← length-links g.rows) inside))) keeps.pending;
   }
 
 -- so do the marks of a share

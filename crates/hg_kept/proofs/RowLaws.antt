@@ -18,7 +18,7 @@ use Rattle.hg_life.specs.Kept.{kept_up_to}
 use Rattle.hg_model.specs.Orders.{IsPrefix, AreFame}
 use Rattle.hg_life.specs.StateWords.{state_by}
 use Rattle.hg_model.proofs.LinkLaws.{length-links}
-use Rattle.hg_model.proofs.PlacesLaws.{list_below-same}
+use Rattle.hg_model.proofs.LongerLaws.{links-longer}
 use Rattle.hg_model.proofs.PushLaws.{nobody, links-push, link_at, all_present}
 use Rattle.hg_model.proofs.ReachLaws.{bool_iff}
 use Rattle.hg_model.proofs.RoundLaws.{round_of-pos}
@@ -29,6 +29,7 @@ use Rattle.hg_history.proofs.MarkLaws.{fame_with_row, closed_with_row, closed_be
 use Rattle.hg_history.proofs.RoundLaws.{order_by_rounds}
 use Rattle.hg_history.proofs.StateLaws.{IsEven}
 use Rattle.hg_kept.specs.Published.{Published, HasCome, Keeps, TookRow, is_pending, mark_by, marks_with}
+use Rattle.hg_kept.proofs.WaitLaws.{waiting_longer}
 use Rattle.hg_kept.proofs.LaterLaws.{order_stays, received_stays, none_of_later}
 
 -- the row's parents stand before it
@@ -150,17 +151,10 @@ module _ (n : Stakes) (c : ℕ) (G : List Row) (row : Row) (u : IsGraph n (G ++ 
     fame = fame;
     closed = keeps.closed ∙ sym same_last;
     order = same_order;
-    pending = record {
-      looked = (let le = keeps.pending.looked in omega (arith, length_push G row));
-      below =
-          keeps.pending.below
-          ∙ sym (list_below-same (λ x. x) (λ x. x) v.looked (is_pending (graph_of n c U) marks v.closed) (is_pending (graph_of n c G) v.marks v.closed)
-          (λ x low. waits_on x (let le = keeps.pending.looked in omega arith)) (λ x low is. refl));
-      above = λ x high inside. elim (cases_lt x (length G)) [
-        | inl old ↦ waits_on x old ∙ keeps.pending.above x high old
-        | inr last ↦ comes x last inside
-      ];
-    };
+    pending = waiting_longer (links G) (links U) (links-longer n G (row ∷ []) keeps.graph.shaped) v.waiting
+        (is_pending (graph_of n c G) v.marks v.closed) (is_pending (graph_of n c U) marks v.closed)
+        (λ x inside. sym (waits_on x (rw (← length-links G) inside)))
+        (λ x late inside. comes x (rw (← length-links G) late) (rw (← length-links U) inside)) keeps.pending;
   }
 
   -- the row is late where its round is one of the closed ones

@@ -1,11 +1,9 @@
--- Steps of loops: of those that part a list, list places, and add marks
+-- Steps of loops: of those that part a list, and add marks
 use Rattle.std.proofs.Common.{◌≡◌, ℕ, ◌+◌, ◌-◌, ◌<◌, ◌≤◌, Bool, true, false, cond, not, List, [], ◌∷◌, ◌++◌, length, take, get_or, fold, Option, Some, None, is_none, sym, refl, ap, ap₂, ◌∙◌, arith}
 use Rattle.std.specs.Prelude.{All, filter, slice_set}
-use Rattle.std.specs.List.{range_with_len}
 use Rattle.std.specs.Option.{option_or}
-use Rattle.std.proofs.lemmas.List.{append-nil, length_push, length-set, get_or-set_other, take_more, take_more_set, take-append-le, set-get_or}
+use Rattle.std.proofs.lemmas.List.{append-nil, length_push, length-set, get_or-set_other, take_more, take_more_set, set-get_or}
 use Rattle.std.proofs.lemmas.List.Elements.{filter_more, All-take}
-use Rattle.std.proofs.lemmas.List.FromFn.{map-range_with_len_more}
 use Rattle.std.proofs.lemmas.List.Sums.{fold-append}
 use Rattle.hg_model.specs.Fame.{Marks, mark_at}
 use Rattle.hg_history.specs.Adding.{Adding, add_mark, add_marks}
@@ -68,16 +66,6 @@ parted_fails test i old places fresh kept x is inside at fails =
       later = λ k le. get_or-set_other places kept k x 0 (λ is_kept. absurd (omega arith)) ∙ is.later k (omega arith);
       same = length-set places kept x ∙ same;
     }
-
--- listing places
-
-pub range_next : (a b : ℕ) → a ≤ b → range_with_len a (b + 1 - a) ≡ range_with_len a (b - a) ++ b ∷ []
-range_next a b le =
-    let one : b + 1 - a ≡ b - a + 1 = omega arith in
-    ap (range_with_len a) one
-    ∙ (sym (Rattle.std.proofs.lemmas.List.map-id (range_with_len a (b - a + 1)))
-    ∙ (map-range_with_len_more (λ x. x) a (b - a) b (omega arith)
-    ∙ ap (λ (xs : List ℕ). xs ++ b ∷ []) (Rattle.std.proofs.lemmas.List.map-id (range_with_len a (b - a)))))
 
 -- adding marks
 

@@ -1,2 +1,3 @@
-pub mod Published
 pub mod Waiting
+pub mod Published
+pub mod Receiving

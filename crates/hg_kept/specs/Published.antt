@@ -1,18 +1,18 @@
 -- What a node has published of its graph: the marks of fame, the closed rounds, and the order that it keeps.
 -- SWIRLDS-TR-2016-01, section 4, procedures decideFame and findOrder
-use Rattle.std.specs.Prelude.{ℕ, ◌≡◌, ◌≤◌, ◌<◌, ◌-◌, ◌⊎◌, Bool, true, false, cond, not, ◌&&◌, nat_le, List, [], ◌∷◌, ◌++◌, length, Option, Some, None}
+use Rattle.std.specs.Prelude.{ℕ, ◌≡◌, ◌-◌, ◌⊎◌, Bool, true, false, cond, not, ◌&&◌, nat_le, List, [], ◌∷◌, ◌++◌, length, Option, Some, None}
 use Rattle.hg_model.specs.declared.row.Row.{Row}
 use Rattle.hg_model.specs.declared.row.Placed.{Placed}
 use Rattle.hg_model.specs.declared.share.Found.{Found}
-use Rattle.hg_model.specs.Places.{list_below}
 use Rattle.hg_model.specs.Fame.{Marks}
-use Rattle.hg_model.specs.Prefix.{Graph, graph_of}
+use Rattle.hg_model.specs.Prefix.{Graph, graph_of, links_of}
 use Rattle.hg_life.specs.History.{with_row}
 use Rattle.hg_life.specs.Kept.{kept_up_to}
 use Rattle.hg_model.specs.Orders.{AreFame}
 use Rattle.hg_model.specs.GraphWords.{round_in, is_witness_in, is_closed_in, last_closed_in, is_received_by, ordered_by, IsLawfulGraph}
 use Rattle.hg_life.specs.StateWords.{state_by}
 use Rattle.hg_history.specs.News.{FindsNews}
+use Rattle.hg_kept.specs.Waiting.{Waiting, AreWaiting, none_received}
 
 pub record Published : Type 0 where
   pub marks : Marks
@@ -20,10 +20,8 @@ pub record Published : Type 0 where
   pub closed : ℕ
   -- what the closed rounds have received, in order
   pub order : List Placed
-  -- the places below `looked` of the rows that they have not received
-  pub pending : List ℕ
-  -- they have received no row from here on
-  pub looked : ℕ
+  -- which rows they have not received
+  pub waiting : Waiting
 
 -- what is published, and for how many more rows there is memory at least
 pub record PublishedWithRoom : Type 0 where
@@ -32,7 +30,7 @@ pub record PublishedWithRoom : Type 0 where
 
 -- nothing, of no rows
 abbrev pub unpublished : Published
-unpublished = record { marks = []; closed = 0; order = []; pending = []; looked = 0 }
+unpublished = record { marks = []; closed = 0; order = []; waiting = none_received }
 
 -- no round up to r has received row x
 abbrev pub is_pending : Graph → Marks → ℕ → ℕ → Bool
@@ -42,11 +40,9 @@ is_pending g marks r x = not (is_received_by g marks (λ k. nat_le k r) x)
 abbrev pub IsReached : Graph → Marks → ℕ → Type 0
 IsReached g marks r = (r ≡ 0) ⊎ (is_closed_in g marks r ≡ true)
 
--- the places of the rows that no closed round has received
-pub record ArePending (g : Graph) (v : Published) : Type 0 where
-  pub looked : v.looked ≤ length g.rows
-  pub below : v.pending ≡ list_below (λ x. x) v.looked (is_pending g v.marks v.closed)
-  pub above : (x : ℕ) → v.looked ≤ x → x < length g.rows → is_pending g v.marks v.closed x ≡ true
+-- the rows that no closed round has received wait
+abbrev pub ArePending : Graph → Published → Type 0
+ArePending g v = AreWaiting (links_of g) v.waiting (is_pending g v.marks v.closed)
 
 -- the marks are fame of the graph, and the order is that of the rounds up to `closed`; the marks may have closed more
 pub record KeepsUpTo (g : Graph) (v : Published) : Type 0 where

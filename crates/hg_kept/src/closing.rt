@@ -5,7 +5,7 @@ ghost use Rattle.hg_model.specs.Orders.{IsPrefix};
 ghost use Rattle.hg_model.specs.GraphWords.{famous_of, is_closed_in};
 ghost use Rattle.hg_order.specs.Famous.{AreFamous, IsBelowAll};
 ghost use Rattle.hg_kept.specs.Published.{IsReached, Keeps, KeepsUpTo};
-ghost use Rattle.hg_kept.specs.Waiting.{published_as, AppendsRound};
+ghost use Rattle.hg_kept.specs.Receiving.{published_as, AppendsRound};
 
 use crate::pending::Pending;
 use hg_model::{Placed, Prefix, is_of_graph};

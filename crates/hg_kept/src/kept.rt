@@ -26,7 +26,7 @@ pub struct Kept {
 impl Model for Kept {
     ghost use Rattle.std.specs.Prelude.{◌≤◌, ◌-◌, min, vec_capacity, vec_len};
     ghost use Rattle.hg_kept.specs.Published.{PublishedWithRoom};
-    ghost use Rattle.hg_kept.specs.Waiting.{published_as};
+    ghost use Rattle.hg_kept.specs.Receiving.{published_as};
 
     ghost Value = { PublishedWithRoom };
 

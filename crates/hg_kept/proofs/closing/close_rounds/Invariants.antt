@@ -1,6 +1,6 @@
 use Rattle.std.proofs.Common.{◌≡◌, ◌≤◌, ◌-◌, length, vec_capacity}
 use Rattle.hg_kept.specs.Published.{KeepsUpTo}
-use Rattle.hg_kept.specs.Waiting.{published_as}
+use Rattle.hg_kept.specs.Receiving.{published_as}
 use Rattle.hg_kept.proofs.closing.close_rounds.Given as goal
 
 abbrev pub invariant-rounds : goal.invariant-rounds

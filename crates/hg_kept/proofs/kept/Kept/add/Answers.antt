@@ -1,6 +1,6 @@
 use Rattle.std.proofs.Common.{sym, subst}
 use Rattle.hg_kept.specs.Published.{PublishedWithRoom, HasCome, TookRow}
-use Rattle.hg_kept.specs.Waiting.{published_as}
+use Rattle.hg_kept.specs.Receiving.{published_as}
 use Rattle.hg_kept.proofs.RowLaws.{row_keeps, took}
 use Rattle.hg_kept.proofs.kept.Kept.add.Goals as goal
 
