@@ -31,6 +31,8 @@ mod playing;
 #[cfg(test)]
 mod publishing;
 #[cfg(test)]
+mod seats;
+#[cfg(test)]
 mod shared;
 #[cfg(test)]
 mod two_members;

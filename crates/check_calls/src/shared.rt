@@ -22,7 +22,7 @@ use std::process::Abort;
 use std::sync::{Arc, Wait};
 
 /// B without rows, shared.
-fn shared_b(
+pub(crate) fn shared_b(
     rt: &impl Abort,
     alloc: Global,
     members: &Members,
@@ -42,7 +42,7 @@ fn shared_b(
 }
 
 /// The tests let a shared node go here alone.
-fn end<R: Wait>(rt: &R, shared: Shared<MacTable>, seat: Seat<MacTable>)
+pub(crate) fn end<R: Wait>(rt: &R, shared: Shared<MacTable>, seat: Seat<MacTable>)
     requires seat { IsOf shared seat }
     requires parts { seat.parts ≡ all_parts }
 {
@@ -52,7 +52,7 @@ fn end<R: Wait>(rt: &R, shared: Shared<MacTable>, seat: Seat<MacTable>)
 }
 
 /// A of `play`, with three rows.
-fn played(rt: &impl Abort, alloc: Global) -> Result<Player, Memory> {
+pub(crate) fn played(rt: &impl Abort, alloc: Global) -> Result<Player, Memory> {
     let (mut a, mut b) = two_players(rt, alloc)?;
     play(rt, &mut a.node, &mut b.node)?;
     Ok(a)
@@ -93,7 +93,7 @@ fn tells_last<R: Wait + Abort>(
 }
 
 /// B makes its first event.
-fn begins<R: Wait + Abort>(
+pub(crate) fn begins<R: Wait + Abort>(
     rt: &R,
     shared: &Shared<MacTable>,
     seat: &mut Seat<MacTable>,

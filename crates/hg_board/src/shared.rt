@@ -1,12 +1,12 @@
-ghost use Rattle.std.specs.Prelude.{◌≡◌, ◌<◌, true, IfErr, IfOk, OnErr};
+ghost use Rattle.std.specs.Prelude.{◌≡◌, ◌<◌, true, IfErr, IfOk, OnErr, length};
 ghost use Rattle.std.specs.Option.{option_to_list};
-ghost use Rattle.hg_life.specs.NodeView.{kept_of};
+ghost use Rattle.hg_life.specs.NodeView.{kept_of, node_rows};
 ghost use Rattle.hg_life.specs.Spelling.{spelling};
 ghost use Rattle.hg_model.specs.Stakes.{member_count};
 ghost use Rattle.hg_node.specs.ChronicleView.{IsFoundBy, graph_in};
 ghost use Rattle.hg_node.specs.Puts.{is_signed};
 ghost use Rattle.hg_graph.specs.RowsWithRoom.{rows_of};
-ghost use Rattle.hg_board.specs.Copies.{AreLacked, IsLastRow, IsParcelFrom, OpensIn};
+ghost use Rattle.hg_board.specs.Copies.{AreLacked, IsLastRow, IsParcelFrom, OpensIn, bytes_from};
 ghost use Rattle.hg_board.specs.Taking.{AreSignedFor, SeatTakes, SeatTakesFirst, WouldTakeRow};
 ghost use Rattle.hg_gossip.specs.Holding.{names_in, parcel_beyond};
 ghost use Rattle.hg_board.specs.Seats.{IsOf, seen_by};
@@ -14,7 +14,7 @@ ghost use Rattle.hg_board.specs.Table.{all_parts};
 ghost use Rattle.hg_board.specs.Calls.{Absorbs, IsStarted, IsWhole, SeatMakes, SeatPublishes, SeatPuts, SeatWaits, Stays, after_split, rules_shared, split_off};
 ghost use Rattle.hg_gossip.specs.Holding.{WouldSign, WouldTake};
 
-use crate::copies::{EventParcel, copied, last_event, parcel_from};
+use crate::copies::{EventParcel, bytes_from, copied, last_event, parcel_from};
 use crate::rule::{Board, Both, Compare, OnePart};
 use crate::seat::Seat;
 use crate::taking::take_each;
@@ -24,7 +24,7 @@ use hg_event::Event;
 use hg_gossip::{Holder, Taken, still_lacked};
 use hg_graph::FrozenGraph;
 use hg_life::{MakeAnswer, Parcel, PutAnswer};
-use hg_model::{Found, Memory, Name, Placed, Share};
+use hg_model::{Bytes, Found, Memory, Name, Placed, Share};
 use hg_node::{Node, Open};
 use hg_sign::Signer;
 use std::alloc::Global;
@@ -91,12 +91,30 @@ impl<V: Signer + Drop> Shared<V> {
         ensures err { OnErr result (SeatWaits V.accepts self.now seat.old seat.new) }
         ensures free { OnErr result (WouldTake (rules_shared V.accepts) (seen_by self.now seat.new) bytes.now) }
     {
+        self.put_at(rt, seat, bytes).0
+    }
+
+    /// The same, with how many changes the node had then: where the event was accepted, its own is the last one.
+    pub fn put_at<R: Wait>(
+        &self,
+        rt: &R,
+        seat: &mut Seat<V>,
+        bytes: &[u8],
+    ) -> (Result<PutAnswer, Memory>, usize)
+        requires { IsOf self.now seat.old }
+        ensures stays { Stays V.accepts self.now seat.old seat.new }
+        ensures ok { IfOk result.0 (SeatPuts V.accepts self.now seat.old bytes.now seat.new) }
+        ensures err { OnErr result.0 (SeatWaits V.accepts self.now seat.old seat.new) }
+        ensures free { OnErr result.0 (WouldTake (rules_shared V.accepts) (seen_by self.now seat.new) bytes.now) }
+        ensures len { result.1 ≡ length seat.new.seen }
+    {
         let board = &self.table.shared;
         let raw = &mut seat.raw;
         let (mut node, count) = enter(rt, board, raw);
         let answer = node.put(bytes);
+        let len = node.changes();
         leave_changed(board, raw, node, count);
-        answer
+        (answer, len)
     }
 
     /// Puts an event of a member, whose signature the node's keys accept: what comes of it is what comes of its bytes, but
@@ -303,6 +321,30 @@ impl<V: Signer + Drop> Shared<V> {
         let parcel = parcel_from(alloc, &node, from);
         leave(board, raw, node);
         parcel
+    }
+
+    /// The bytes of the rows from a place on, of at most so many, and how many rows the node has in all.
+    pub fn rows_from<R: Wait>(
+        &self,
+        rt: &R,
+        alloc: Global,
+        seat: &mut Seat<V>,
+        from: usize,
+        most: usize,
+    ) -> (Result<Vec<Bytes>, Memory>, usize)
+        requires { IsOf self.now seat.old }
+        ensures stays { Stays V.accepts self.now seat.old seat.new }
+        ensures waits { SeatWaits V.accepts self.now seat.old seat.new }
+        ensures rows { IfOk result.0 (λ rows. rows.items ≡ bytes_from (seen_by self.now seat.new).node from most) }
+        ensures count { result.1 ≡ length (node_rows (seen_by self.now seat.new).node) }
+    {
+        let board = &self.table.shared;
+        let raw = &mut seat.raw;
+        let (node, _count) = enter(rt, board, raw);
+        let rows = bytes_from(alloc, &node, from, most);
+        let count = node.rows();
+        leave(board, raw, node);
+        (rows, count)
     }
 
     /// Those of these events whose names the node lacks.

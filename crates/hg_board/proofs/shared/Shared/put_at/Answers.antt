@@ -1,9 +1,9 @@
-use Rattle.std.proofs.Common.{◌∙◌}
+use Rattle.std.proofs.Common.{◌∙◌, length, sym}
 use Rattle.hg_board.specs.Seats.{seat_view_of}
 use Rattle.hg_board.proofs.CallLaws.{HasPut, puts_at}
 use Rattle.hg_board.proofs.SeatLaws.{grown_inside, put_grown}
-use Rattle.hg_board.proofs.shared.Shared.put.Given as given
-use Rattle.hg_board.proofs.shared.Shared.put.Goals as goal
+use Rattle.hg_board.proofs.shared.Shared.put_at.Given as given
+use Rattle.hg_board.proofs.shared.Shared.put_at.Goals as goal
 
 pub leave_changed-requires-clause-node : goal.leave_changed-requires-clause-node
 leave_changed-requires-clause-node g c =
@@ -27,3 +27,6 @@ returns-clause-err g c = (left g c).err
 
 pub returns-clause-free : goal.returns-clause-free
 returns-clause-free g c = (left g c).free
+
+pub returns-clause-len : goal.returns-clause-len
+returns-clause-len g c = c.changes-len.ensures ∙ (λ i. length (sym c.leave_changed.ensures.seat i).0.seen)
