@@ -10,3 +10,9 @@ pub mod NewsLaws
 pub mod PublishLaws
 pub mod TableLaws
 pub mod OpenLaws
+pub mod FlagLaws
+pub mod NextLaws
+pub mod RestoreLaws
+pub mod NextOwnLaws
+pub mod ReplayLaws
+pub mod FewLaws

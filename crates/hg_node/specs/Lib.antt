@@ -1,6 +1,11 @@
+pub mod Beyond
 pub mod ChronicleView
 pub mod Checked
 pub mod Draft
 pub mod Laws
 pub mod Opening
 pub mod Puts
+pub mod Next
+pub mod Replay
+pub mod ReplayLaws
+pub mod Restore

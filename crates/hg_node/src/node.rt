@@ -1,4 +1,4 @@
-ghost use Rattle.std.specs.Prelude.{ℕ, ◌≡◌, ◌<◌, ◌≤◌, ◌++◌, ◌∷◌, [], All, None, Some, get_or, length, option_map, slice_get, true, IfOk, OnErr, OnOk};
+ghost use Rattle.std.specs.Prelude.{ℕ, ◌≡◌, ◌<◌, ◌≤◌, ◌++◌, ◌∷◌, [], All, None, Some, get_or, length, option_map, slice_get, true, IfOk, IsSome, OnErr, OnOk};
 ghost use Rattle.std.specs.Option.{option_to_list};
 ghost use Rattle.hg_model.specs.declared.row.Placed.{Placed};
 ghost use Rattle.hg_event.specs.View.{row_of};
@@ -10,6 +10,8 @@ ghost use Rattle.hg_model.specs.Graph.{IsGraph};
 ghost use Rattle.hg_life.specs.Verdict.{last_name, row_limit};
 ghost use Rattle.hg_graph.specs.Held.{first_graph};
 ghost use Rattle.hg_arrival.specs.Arrival.{StandsOn};
+ghost use Rattle.hg_node.specs.Beyond.{beyond_of, tips_of};
+ghost use Rattle.hg_node.specs.Next.{MakesNext, MakesOn, next_others};
 ghost use Rattle.hg_node.specs.ChronicleView.{IsFoundBy, chronicle_took, graph_in};
 ghost use Rattle.hg_node.specs.Opening.{AreUnmarked, Opens};
 ghost use Rattle.hg_node.specs.Puts.{WouldAccept, after_put, is_signed};
@@ -18,14 +20,16 @@ ghost use Rattle.hg_model.specs.Fame.{mark_at};
 ghost use Rattle.hg_life.specs.NodeView.{book_kept, node_rows, kept_of, last_closed_of, node_links, log, node_marks, start_of, with_changes, IsNode};
 ghost use Rattle.hg_life.specs.Calls.{IsMaking, make_draft, publish_answer, publish_changes, put_answer, settle_changes, IsSettled};
 
+use crate::beyond::{rows_beyond, tip_names};
 use crate::chronicle::Chronicle;
 use crate::draft::{draft_of, row_rule, signed_event};
+use crate::next::last_other;
 use crate::open::Open;
 use crate::putting::{parents_of_put, parents_of_put_event};
 use hg_event::{Event, EventView, decode};
 use hg_graph::{EventGraph, FrozenGraph};
-use hg_life::{Effect, Entry, Fault, MakeAnswer, Members, PutAnswer};
-use hg_model::{Found, Member, Memory, Name, Parents, Placed, Prefix, Rounds, Row, Share};
+use hg_life::{Effect, Entry, Fault, MakeAnswer, Members, Parcel, PutAnswer};
+use hg_model::{Found, Items, Member, Memory, Name, Parents, Placed, Prefix, Rounds, Row, Share};
 use hg_name::name_of;
 use hg_pay::Book;
 use hg_sign::Signer;
@@ -146,6 +150,41 @@ impl<V: Signer> Node<V> {
         }
     }
 
+    /// The other-parent of the event that the node makes next: of its first event none, of each later one the last row that
+    /// another member made. Without such a row no event comes next, and the answer is `None`.
+    pub fn next_other(&self) -> Option<Option<Name>>
+        ensures { option_map option_to_list result ≡ next_others self.now }
+    {
+        if self.last_name().is_none() {
+            return Some(None);
+        }
+        let other = last_other(self.chronicle.graph(), self.chronicle.own())?;
+        Some(Some(other))
+    }
+
+    /// Makes the event that comes next, without payload, and answers `None` where none does. The time is any, in no unit of
+    /// ours. If it is refused, then because its name is another row's, or for want of room.
+    pub fn make_next(&mut self, time: u64) -> Result<Option<MakeAnswer>, Memory>
+        ensures ok { IfOk result (λ made. MakesNext V.accepts self.old time made self.new) }
+        ensures err { OnErr result (self.new ≡ self.old) }
+        ensures free { OnErr result (IsSome (next_others self.old)) }
+    {
+        match self.next_other() {
+            None => Ok(None),
+            Some(other) => Ok(Some(self.make_on(other, time)?)),
+        }
+    }
+
+    /// Makes the event that comes next, on this other-parent.
+    fn make_on(&mut self, other: Option<Name>, time: u64) -> Result<MakeAnswer, Memory>
+        requires { next_others self.old ≡ Some (option_to_list other) }
+        ensures ok { IfOk result (λ made. MakesOn V.accepts self.old (option_to_list other) time made self.new) }
+        ensures err { OnErr result (self.new ≡ self.old) }
+    {
+        self.is_node();
+        self.make(other, time, b"")
+    }
+
     /// Publishes what a share has found in the node's first rows: each found witness without a mark gets it, and what
     /// is ordered then is paid. What was found may leave out what has its mark. Answers how many were marked. Takes no
     /// memory.
@@ -155,6 +194,17 @@ impl<V: Signer> Node<V> {
         ensures grown { self.new ≡ with_changes self.old (publish_changes self.old found.now.len found.now.share) }
     {
         self.chronicle.publish(found)
+    }
+
+    /// Publishes what a share decides in the node's first `len` rows, at most all, and answers how many were marked.
+    pub fn remark(&mut self, len: usize, share: Share) -> Result<u32, Memory>
+        requires { len ≤ length (node_rows self.old) }
+        ensures answer { IfOk result (λ count. count ≡ publish_answer self.old len share) }
+        ensures ok { OnOk result (self.new ≡ with_changes self.old (publish_changes self.old len share)) }
+        ensures err { OnErr result (self.new ≡ self.old) }
+    {
+        let found = self.found(len, share)?;
+        Ok(self.publish(&found))
     }
 
     /// Publishes all fame that the node's graph decides.
@@ -186,6 +236,25 @@ impl<V: Signer> Node<V> {
         ensures share { IfOk result (λ found. found.share ≡ share) }
     {
         self.chronicle.found(self.alloc, len, share)
+    }
+
+    /// The names of the rows that are no row's parent, in the order of their places.
+    pub fn tips(&self) -> Result<Vec<Name>, Memory>
+        ensures { IfOk result (λ names. names.items ≡ tips_of self.now) }
+    {
+        tip_names(self.alloc, self.chronicle.graph())
+    }
+
+    /// The bytes of the rows that are ancestors of no row with one of these names, in the order in which they came, and the
+    /// name of the last row that the node made, if it made any. Names of no row count for nothing.
+    pub fn beyond(&self, names: &[Name]) -> Result<Parcel, Memory>
+        ensures { IfOk result (λ parcel. parcel ≡ beyond_of names.now self.now) }
+    {
+        let rows = rows_beyond(self.alloc, self.chronicle.graph(), names)?;
+        Ok(Parcel {
+            rows: Items::from_vec(rows),
+            last: self.last_name(),
+        })
     }
 
     /// The node's graph as a value of its own, which speaks of its rows whatever comes then.
