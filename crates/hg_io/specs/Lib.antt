@@ -1,8 +1,13 @@
 pub mod Answers
 pub mod Bytes
+pub mod DiskState
 pub mod Faults
+pub mod FileLaws
+pub mod FileView
 pub mod Files
 pub mod FilesOf
+pub mod Pending
+pub mod Recorded
 pub mod ShelfState
 pub mod SinkState
 pub mod Printing

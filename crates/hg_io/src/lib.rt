@@ -1,7 +1,8 @@
-//! The outside of the program: shelves of files, sinks and sources of bytes, and gates, as traits, with forms of them in
-//! memory. What a shelf holds, a source has left and a sink was given are members that only clauses see, told by some;
-//! every fault has a count.
-//! The layer above uses `read_file` and `write_all`: all of a file, all of the bytes, or a fault whose count rose.
+//! The outside of the program: shelves of files, sinks and sources of bytes, disks, and gates, as traits, with forms of
+//! them in memory. What a shelf holds, a source has left, a sink was given and a stop may leave on a disk are members that
+//! only clauses see, told by some; every fault has a count.
+//! The layer above uses `read_file`, `write_all`, `read_all` and `put_down`: all of a file, all of the bytes, or a fault
+//! whose count rose.
 //!
 //! From `bytes_from` of `hg_top`:
 //!
@@ -15,9 +16,13 @@
 //! ```
 #![tactic(auto)]
 
+mod disk;
+mod disk_mem;
+mod disk_reading;
 mod failed;
 mod gate;
 mod page;
+mod putting;
 mod reading;
 mod shelf;
 mod shelf_mem;
@@ -28,9 +33,13 @@ mod source_mem;
 mod started;
 mod writing;
 
+pub use disk::Disk;
+pub use disk_mem::DiskMem;
+pub use disk_reading::read_all;
 pub use failed::Failed;
 pub use gate::{Gate, NoGate};
 pub use page::Page;
+pub use putting::put_down;
 pub use reading::{FileAnswer, read_file};
 pub use shelf::Shelf;
 pub use shelf_mem::ShelfMem;

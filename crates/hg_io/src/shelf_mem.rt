@@ -150,7 +150,7 @@ fn file_place(files: &[(String, Vec<u8>)], name: &str) -> usize
 }
 
 // Copies the bytes from this one on to the buffer, as many as there are and fit, and answers where it stopped.
-fn copy_from(buf: &mut [u8], bytes: &[u8], at: usize) -> usize
+pub(crate) fn copy_from(buf: &mut [u8], bytes: &[u8], at: usize) -> usize
     requires { at ≤ length bytes.now }
     ensures end { result ≡ min (length bytes.now) (at + length buf.old) }
     ensures copied { buf.new ≡ take (result - at) (drop at bytes.now) ++ drop (result - at) buf.old }
