@@ -19,9 +19,6 @@ pub even_weighs : (n : Stakes) (each many : ℕ) (test : ℕ → Bool) → AllWe
 even_weighs n each many test even counted =
     ap (λ k. k * each) counted ∙ (mul_comm (count_below (member_count n) test) each ∙ sym (stake_where-even n each test even))
 
-pub even_at_most : (n : Stakes) (each many : ℕ) (test : ℕ → Bool) → AllWeigh n each → count_below (member_count n) test ≤ many → stake_where n test ≤ many * each
-even_at_most n each many test even few = omega (arith, stake_where-even n each test even, mul-le-mul_left each few, mul_comm many each)
-
 -- no members weigh more than 2^39 where all do not
 pub weighs_low : (n : Stakes) (sum : ℕ) (test : ℕ → Bool) → sum ≡ total n → sum ≤ 2 ^ 39 → stake_where n test ≤ 2 ^ 39
 weighs_low n sum test is low = omega (arith, stake_where-total n test)

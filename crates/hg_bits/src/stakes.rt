@@ -1,5 +1,5 @@
-ghost use Rattle.std.specs.Prelude.{◌≡◌, ◌<◌, ◌≤◌, ◌^◌, ℕ, Bool, length, IfOk, IfSome, nat_lt};
-ghost use Rattle.hg_model.specs.Places.{count_below};
+ghost use Rattle.std.specs.Prelude.{◌≡◌, ◌<◌, ◌≤◌, ◌^◌, ℕ, length, slice_index, IfOk, IfSome, nat_lt};
+ghost use Rattle.hg_model.specs.Places.{weight_below};
 ghost use Rattle.hg_model.specs.Stakes.{AllWeigh, stake_of, stake_where, total};
 ghost use Rattle.hg_model.specs.Seeing.{is_supermajority};
 ghost use Rattle.hg_bits.specs.Lanes.{is_at_least};
@@ -75,6 +75,22 @@ fn first_members(count: usize) -> u128
         all = with_member(all, m as Member);
     }
     all
+}
+
+/// What the lanes weigh in which the row is at least the other, of which all together weigh so much. Where that is below 2^32
+/// the sum has 32 bits, of which more stand in a register.
+fn weigh_lanes(row: &[u16], other: &[u16], stakes: &[u32], sum: u64) -> u64
+    requires same { length row.now ≡ length other.now }
+    requires stakes { length row.now ≡ length stakes.now }
+    requires few { length stakes.now ≤ 128 }
+    requires sum { sum ≡ total stakes.now }
+    ensures { result ≡ weight_below (slice_index stakes.now) (length row.now) (is_at_least row.now other.now) }
+{
+    if sum < 1 << 32 {
+        u64::from(narrow::weigh_light_ge(row, other, stakes))
+    } else {
+        narrow::weigh_ge(row, other, stakes)
+    }
 }
 
 /// The stakes of at most 128 members. Where all are the same, members are counted and not summed.
@@ -169,16 +185,6 @@ impl StakeTable {
         self.needed <= stake
     }
 
-    /// What so many members weigh at most.
-    pub fn at_most(&self, count: u32) -> u64
-        ensures { (test : ℕ → Bool) → count_below (length self.now) test ≤ count → stake_where self.now test ≤ result }
-    {
-        match self.even {
-            None => self.total,
-            Some(stake) => u64::from(count) * u64::from(stake),
-        }
-    }
-
     /// The stake of the members in whose lanes the row is at least the other.
     pub fn weigh_ge(&self, row: &[u16], other: &[u16]) -> u64
         requires row { length row.now ≡ length self.now }
@@ -187,7 +193,7 @@ impl StakeTable {
         ensures low { result ≤ 2 ^ 39 }
     {
         match self.even {
-            None => narrow::weigh_ge(row, other, &self.stakes),
+            None => weigh_lanes(row, other, &self.stakes, self.total),
             Some(stake) => u64::from(narrow::count_ge(row, other)) * u64::from(stake),
         }
     }

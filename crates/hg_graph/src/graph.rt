@@ -48,7 +48,7 @@ impl Model for EventGraph {
 
     ghost view = { λ s. record { graph = graph_of s.sight.shape.members s.coin s.store.rows; room = min s.store.room (least_of s.sight.room s.watch.room s.rounds.room) } };
 
-    ghost invariant = { λ s. KeepsGraph (graph_of s.sight.shape.members s.coin s.store.rows) s.sight.shape s.watch.shape s.rounds.standings };
+    ghost invariant = { λ s. KeepsGraph (graph_of s.sight.shape.members s.coin s.store.rows) s.sight.shape s.watch.shape s.rounds };
 }
 
 impl EventGraph {
@@ -168,7 +168,7 @@ impl EventGraph {
         self.sight.extend(parents, creator);
         self.watch.add(creator, parents.self_parent());
         let (round, witness) = place_round(&self.sight, &self.rounds, parents);
-        self.rounds.add(round, witness);
+        self.rounds.add(round, witness, self.sight.stake(creator));
         keep_witness(&mut self.sight, witness);
         self.store.push(event);
     }

@@ -149,19 +149,19 @@ pub still_there : (one : Option ℕ) (count top new : ℕ) → count ≡ top + 2
 still_there None count top new long more there = tt
 still_there (Some r) count top new long more there = omega arith
 
-pub table_with : (S : List Standing) (tops : List ℕ) (s : Standing) (lists : List (List ℕ)) (top longest : ℕ) (one : Option ℕ) (spare : List ℕ) → HasTops S tops → KeepsLists (S ++ s ∷ []) lists top longest →
-    IfSome one (λ r. r ≤ top + 1) → spare ≡ [] → KeepsTable (S ++ s ∷ []) (tops ++ top ∷ []) lists top longest one spare
-table_with S tops s lists top longest one spare has keeps there none =
-    record { lists_kept = keeps; tops_kept = tops_push S tops s top has keeps.greatest; there = if_there one (length lists) top keeps.long there; empty = none }
+pub table_with : (S : List Standing) (tops : List ℕ) (s : Standing) (lists : List (List ℕ)) (weights : List ℕ) (top longest : ℕ) (one : Option ℕ) (spare : List ℕ) → HasTops S tops → KeepsLists (S ++ s ∷ []) lists top longest →
+    length weights ≡ length lists → IfSome one (λ r. r ≤ top + 1) → spare ≡ [] → KeepsTable (S ++ s ∷ []) (tops ++ top ∷ []) lists weights top longest one spare
+table_with S tops s lists weights top longest one spare has keeps weighed there none =
+    record { lists_kept = keeps; tops_kept = tops_push S tops s top has keeps.greatest; weighed = weighed; there = if_there one (length lists) top keeps.long there; empty = none }
 
 pub no_tops : HasTops [] []
 no_tops = record { long = refl; each = λ x lt. absurd (omega arith) }
 
 -- the first rows as a table
-pub table_first : (S : List Standing) (tops : List ℕ) (lists cuts : List (List ℕ)) (top longest greatest len : ℕ) (one : Option ℕ) (spare none : List ℕ) → KeepsTable S tops lists top longest one spare →
-    len ≤ length S → greatest ≡ greatest_in (take len S) → length cuts ≡ greatest + 2 → ((r : ℕ) → r < greatest + 2 → IsCut (list_at lists r) len (list_at cuts r)) → none ≡ [] →
-    KeepsTable (take len S) (take len tops) cuts greatest longest None none
-table_first S tops lists cuts top longest greatest len one spare none keeps le is long each empty =
+pub table_first : (S : List Standing) (tops : List ℕ) (lists cuts : List (List ℕ)) (weights first : List ℕ) (top longest greatest len : ℕ) (one : Option ℕ) (spare none : List ℕ) → KeepsTable S tops lists weights top longest one spare →
+    len ≤ length S → greatest ≡ greatest_in (take len S) → length cuts ≡ greatest + 2 → length first ≡ greatest + 2 → ((r : ℕ) → r < greatest + 2 → IsCut (list_at lists r) len (list_at cuts r)) → none ≡ [] →
+    KeepsTable (take len S) (take len tops) cuts first greatest longest None none
+table_first S tops lists cuts weights first top longest greatest len one spare none keeps le is long weighed each empty =
     let less : greatest ≤ top = omega (arith, greatest_first S len le, is, keeps.lists_kept.greatest) in
     let all : length lists ≡ top + 2 = keeps.lists_kept.long in
     record {
@@ -175,6 +175,7 @@ table_first S tops lists cuts top longest greatest len one spare none keeps le i
             omega (arith, ap length cut.first_are, length-take-le cut.count (list_at lists r) cut.within, cut.within, keeps.lists_kept.within r (omega arith)));
       };
       tops_kept = tops_first S len le tops keeps.tops_kept;
+      weighed = weighed ∙ sym long;
       there = tt;
       empty = empty;
     }

@@ -12,7 +12,7 @@ none_of lists two zeroth one zero h = zeroth
 none_of lists two zeroth one (suc zero) h = one
 none_of lists two zeroth one (suc (suc r)) h = absurd (omega arith)
 
-no_witnesses : (r : ℕ) → witnesses_in [] r ≡ []
+pub no_witnesses : (r : ℕ) → witnesses_in [] r ≡ []
 unfolding witnesses_in list_below
 no_witnesses r = refl
 

@@ -4,3 +4,4 @@ pub mod PlaceLaws
 pub mod ByRowLaws
 pub mod CutLaws
 pub mod SeenLaws
+pub mod WeightLaws

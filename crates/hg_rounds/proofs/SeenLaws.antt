@@ -2,7 +2,7 @@
 use Rattle.std.proofs.Common.{◌≡◌, ◌∙◌, ◌+◌, ◌-◌, ◌*◌, ◌<◌, ◌≤◌, ℕ, Bool, true, false, cond, List, [], ◌∷◌, length, take, get_or, count_by, nat_le, ap, sym, subst, inl, inr, arith, Option, None, Some, IfSome}
 use Rattle.std.specs.Option.{unwrap_or}
 use Rattle.std.specs.List.{AllByRecursion}
-use Rattle.std.proofs.Math.Nat.{mul-add, mul-le-mul_left}
+use Rattle.std.proofs.Math.Nat.{mul-add, mul-le-mul_left, add-zero}
 use Rattle.std.proofs.lemmas.Bool.{leb-true, le-leb, ltb-true, lt-ltb, cases_lt, false_from_ne_true}
 use Rattle.std.proofs.lemmas.List.{take_more}
 use Rattle.std.proofs.lemmas.List.Sums.{sum_by-append, sum_by-cons}
@@ -39,11 +39,31 @@ found weight test rows left k missing stake last within passes is =
     weight_more weight test rows k (omega arith) ∙ (ap (λ b. rest + cond b (weight (get_or rows k 0)) 0) passes ∙ ap (λ s. rest + s) (sym is)) in
     ap (λ j. nat_le missing (weight_among weight test (take j rows))) last ∙ (ap (nat_le missing) more ∙ missing_less missing stake rest)
 
--- where no row is left, none is found
-pub none_left : (weight : ℕ → ℕ) (test : ℕ → Bool) (rows : List ℕ) (left missing : ℕ) → left ≡ 0 → 0 < missing →
-    nat_le missing (weight_among weight test (take left rows)) ≡ false
-none_left weight test rows left missing none some =
-    ap (λ k. nat_le missing (weight_among weight test (take k rows))) none ∙ false_from_ne_true (nat_le missing 0) (λ h. (let le = leb-true missing 0 h in absurd (omega arith)))
+-- the last row that was left is not seen
+pub passed : (weight : ℕ → ℕ) (test : ℕ → Bool) (rows : List ℕ) (left k missing : ℕ) → left ≡ k + 1 → left ≤ length rows → test (get_or rows k 0) ≡ false →
+    nat_le missing (weight_among weight test (take left rows)) ≡ nat_le missing (weight_among weight test (take k rows))
+passed weight test rows left k missing last within fails =
+    let rest = weight_among weight test (take k rows) in
+    let same : weight_among weight test (take (k + 1) rows) ≡ rest =
+    weight_more weight test rows k (omega arith) ∙ (ap (λ b. rest + cond b (weight (get_or rows k 0)) 0) fails ∙ add-zero rest) in
+    ap (λ j. nat_le missing (weight_among weight test (take j rows))) last ∙ ap (nat_le missing) same
+
+-- those that pass weigh no more than all
+among_all : (weight : ℕ → ℕ) (test : ℕ → Bool) (rows : List ℕ) → weight_among weight test rows ≤ weight_among weight (λ y. true) rows
+among_all weight test [] = omega arith
+among_all weight test (y ∷ rows) =
+    omega (arith, sum_by-cons (λ k. cond (test k) (weight k) 0) y rows, sum_by-cons (λ k. cond true (weight k) 0) y rows, among_all weight test rows, one (test y) (weight y))
+  where
+    one : (b : Bool) (w : ℕ) → cond b w 0 ≤ w
+    one true w = omega arith
+    one false w = omega arith
+
+-- where all rows that are left weigh less than what is missing, too little of them is seen
+pub too_light : (weight : ℕ → ℕ) (test : ℕ → Bool) (rows : List ℕ) (missing rest : ℕ) → rest ≡ weight_among weight (λ y. true) rows → rest < missing →
+    nat_le missing (weight_among weight test rows) ≡ false
+too_light weight test rows missing rest is less =
+    false_from_ne_true (nat_le missing (weight_among weight test rows))
+    (λ h. (let le = leb-true missing (weight_among weight test rows) h in absurd (omega (arith, among_all weight test rows))))
 
 -- where all members have one stake
 

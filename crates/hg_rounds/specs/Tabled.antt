@@ -1,5 +1,5 @@
 -- What a table of rounds tells, and what it keeps
-use Rattle.std.specs.Prelude.{ℕ, ◌≡◌, ◌<◌, ◌≤◌, ◌+◌, ◌-◌, Bool, List, [], length, take, min, get_or, count_by, Option, IfSome}
+use Rattle.std.specs.Prelude.{ℕ, ◌≡◌, ◌<◌, ◌≤◌, ◌+◌, ◌-◌, ◌*◌, ◌^◌, ◌&&◌, ◌==◌, Bool, true, cond, List, [], length, take, min, get_or, count_by, Option, IfSome}
 use Rattle.hg_model.specs.Links.{parents}
 use Rattle.hg_model.specs.Shape.{Shape, first_links}
 use Rattle.hg_model.specs.Standings.{Standing, round_at, witnesses_in, greatest_in}
@@ -7,10 +7,24 @@ use Rattle.hg_model.specs.Seeing.{strongly_sees}
 use Rattle.hg_model.specs.Rounds.{round_of, is_witness, stake_at}
 use Rattle.hg_model.specs.Among.{weight_among}
 
--- the standings of the rows, and for how many more there is memory at least
+-- the standings of the rows, of each round what it was told that its witnesses weigh, and for how many more rows there is
+-- memory at least
 pub record Tabled : Type 0 where
   pub standings : List Standing
+  pub weights : List ℕ
   pub room : ℕ
+
+-- what is told of round r
+abbrev pub weight_at : List ℕ → ℕ → ℕ
+weight_at weights r = get_or weights r 0
+
+-- no round's witnesses weigh anything
+abbrev pub WeighNothing : List ℕ → Type 0
+WeighNothing weights = (r : ℕ) → weight_at weights r ≡ 0
+
+-- a row of this round has come: where it is a witness, its stake is added to what the round's witnesses weigh
+abbrev pub AddsWeight : ℕ → Bool → ℕ → List ℕ → List ℕ → Type 0
+AddsWeight round witness stake old new = (r : ℕ) → weight_at new r ≡ weight_at old r + cond (witness && round == r) stake 0
 
 abbrev pub standing : ℕ → Bool → Standing
 standing round witness = record { round = round; witness = witness }
@@ -26,6 +40,15 @@ last_parents shape = parents shape.links (last_place shape)
 -- the weight of those of these rows that x strongly sees
 abbrev pub seen_weight : Shape → ℕ → List ℕ → ℕ
 seen_weight shape x rows = weight_among (stake_at shape.members shape.links) (strongly_sees shape.members shape.links x) rows
+
+-- what these rows weigh together
+abbrev pub rows_weight : Shape → List ℕ → ℕ
+rows_weight shape rows = weight_among (stake_at shape.members shape.links) (λ y. true) rows
+
+-- what is told of each round is what its witnesses weigh in the graph, of which no row weighs 2^32
+pub record TellsWeights (shape : Shape) (standings : List Standing) (weights : List ℕ) : Type 0 where
+  pub each : (r : ℕ) → weight_at weights r ≡ rows_weight shape (witnesses_in standings r)
+  pub low : (r : ℕ) → weight_at weights r ≤ 2 ^ 32 * length standings
 
 -- how many of these rows x strongly sees
 abbrev pub seen_count : Shape → ℕ → List ℕ → ℕ
@@ -57,10 +80,12 @@ pub record HasTops (S : List Standing) (tops : List ℕ) : Type 0 where
   pub long : length tops ≡ length S
   pub each : (x : ℕ) → x < length S → get_or tops x 0 ≡ greatest_in (take (x + 1) S)
 
--- all that a table keeps: the open list, if there is one, is that of a round, and nothing is in the spare memory
-pub record KeepsTable (S : List Standing) (tops : List ℕ) (lists : List (List ℕ)) (top longest : ℕ) (one : Option ℕ) (spare : List ℕ) : Type 0 where
+-- all that a table keeps: a weight for each list; the open list, if there is one, is that of a round; and nothing is in the
+-- spare memory
+pub record KeepsTable (S : List Standing) (tops : List ℕ) (lists : List (List ℕ)) (weights : List ℕ) (top longest : ℕ) (one : Option ℕ) (spare : List ℕ) : Type 0 where
   pub lists_kept : KeepsLists S lists top longest
   pub tops_kept : HasTops S tops
+  pub weighed : length weights ≡ length lists
   pub there : IfSome one (λ r. r < length lists)
   pub empty : spare ≡ []
 

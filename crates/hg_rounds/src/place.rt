@@ -6,7 +6,7 @@ ghost use Rattle.hg_model.specs.Seeing.{is_supermajority};
 ghost use Rattle.hg_model.specs.Standings.{greatest_in, round_at};
 ghost use Rattle.hg_model.specs.GraphWords.{standings_in};
 ghost use Rattle.std.specs.List.{AllByRecursion, list_all};
-ghost use Rattle.hg_rounds.specs.Tabled.{before_last, last_parents, seen_count, seen_weight, standing, last_row_round, is_last_row_witness};
+ghost use Rattle.hg_rounds.specs.Tabled.{before_last, is_last_row_witness, last_parents, last_row_round, rows_weight, seen_count, seen_weight, standing, TellsWeights};
 
 use crate::table::RoundTable;
 use hg_model::{Parents, Rounds, Sight, is_shaped};
@@ -17,6 +17,7 @@ pub fn place_round<S: Sight>(sight: &S, table: &RoundTable, parents: Parents) ->
     requires some { 0 < length (S.shape sight.now).links }
     requires parents { parents ≡ last_parents (S.shape sight.now) }
     requires before { table.now.standings ≡ standings_in (before_last (S.shape sight.now)) }
+    requires weights { TellsWeights (S.shape sight.now) table.now.standings table.now.weights }
     ensures round { result.0 ≡ last_row_round (S.shape sight.now) }
     ensures witness { result.1 ≡ is_last_row_witness (S.shape sight.now) }
     // What `RoundTable::add` needs, and does.
@@ -26,7 +27,12 @@ pub fn place_round<S: Sight>(sight: &S, table: &RoundTable, parents: Parents) ->
 {
     let last = sight.rows() - 1;
     let greatest = parent_round(table, parents);
-    let many = sees_many(sight, table.witnesses(greatest), last);
+    let many = sees_many(
+        sight,
+        table.witnesses(greatest),
+        last,
+        table.weight(greatest),
+    );
     let round = next_round(greatest, many);
     (round, is_first(table, parents, round))
 }
@@ -51,11 +57,12 @@ fn least_supermajority(total: u64) -> u64
     2 * total / 3 + 1
 }
 
-/// Whether those of these rows that row `x` strongly sees weigh more than two thirds of the total. Where all members have the
-/// same stake, rows are counted.
-fn sees_many<S: Sight>(sight: &S, rows: &[usize], x: usize) -> bool
+/// Whether those of these rows that row `x` strongly sees weigh more than two thirds of the total; together they weigh so much.
+/// Where all members have the same stake, rows are counted.
+fn sees_many<S: Sight>(sight: &S, rows: &[usize], x: usize, weight: u64) -> bool
     requires place { x < length (S.shape sight.now).links }
     requires places { AllByRecursion (λ y. y < x) rows.now }
+    requires weight { weight ≡ rows_weight (S.shape sight.now) rows.now }
     ensures { result ≡ is_supermajority (total (S.shape sight.now).members) (seen_weight (S.shape sight.now) x rows.now) }
 {
     is_shaped(sight);
@@ -67,7 +74,8 @@ fn sees_many<S: Sight>(sight: &S, rows: &[usize], x: usize) -> bool
             least_supermajority(u64::from(sight.members())),
         )
     } else {
-        sees_weight(sight, rows, x, least_supermajority(sight.total()))
+        let wanted = least_supermajority(sight.total());
+        sees_weight(sight, rows, x, wanted, weight)
     }
 }
 
@@ -88,19 +96,24 @@ fn sees_count<S: Sight>(sight: &S, rows: &[usize], x: usize, wanted: u64) -> boo
     missing == 0
 }
 
-/// Whether those of these rows that row `x` strongly sees weigh so much. Asks the last ones first, and stops where they do.
-fn sees_weight<S: Sight>(sight: &S, rows: &[usize], x: usize, wanted: u64) -> bool
+/// Whether those of these rows that row `x` strongly sees weigh so much; together they weigh `weight`. Asks the last ones
+/// first, and stops where that is settled.
+fn sees_weight<S: Sight>(sight: &S, rows: &[usize], x: usize, wanted: u64, weight: u64) -> bool
     requires place { x < length (S.shape sight.now).links }
     requires places { AllByRecursion (λ y. y < x) rows.now }
+    requires weight { weight ≡ rows_weight (S.shape sight.now) rows.now }
     ensures { result ≡ nat_le wanted (seen_weight (S.shape sight.now) x rows.now) }
 {
     let mut missing = wanted;
+    let mut rest = weight;
     let mut left = rows.len();
-    while 0 < missing && 0 < left {
+    while 0 < missing && missing <= rest {
         left -= 1;
         let y = rows[left];
+        let stake = u64::from(sight.stake(sight.creator(y)));
+        rest -= stake;
         if sight.strongly_sees(x, y) {
-            missing = missing.saturating_sub(u64::from(sight.stake(sight.creator(y))));
+            missing = missing.saturating_sub(stake);
         }
     }
     missing == 0

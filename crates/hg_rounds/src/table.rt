@@ -1,7 +1,7 @@
-ghost use Rattle.std.specs.Prelude.{◌≡◌, ◌<◌, ◌≤◌, ◌+◌, ◌-◌, List, [], ◌∷◌, ◌++◌, ℕ, length, take, vec_capacity, IfOk, OnOk};
+ghost use Rattle.std.specs.Prelude.{◌≡◌, ◌<◌, ◌≤◌, ◌+◌, ◌-◌, ◌^◌, List, [], ◌∷◌, ◌++◌, ℕ, length, take, vec_capacity, IfOk, OnOk};
 ghost use Rattle.hg_model.specs.Standings.{Standing, greatest_in, round_at, witness_at, witnesses_in};
 ghost use Rattle.hg_rounds.specs.Cut.{IsCut};
-ghost use Rattle.hg_rounds.specs.Tabled.{HasTops, list_at, standing};
+ghost use Rattle.hg_rounds.specs.Tabled.{AddsWeight, HasTops, WeighNothing, list_at, standing, weight_at};
 
 use crate::row_round::RowRound;
 use crate::witnesses::Witnesses;
@@ -19,6 +19,8 @@ pub struct RoundTable {
     tops: Blocks<u32>,
     /// The witnesses of each round from 0 to the next one; those of round 0 and of the next one are none.
     lists: Vec<Witnesses>,
+    /// What the witnesses of each list weigh together. In a prefix it is what those of all rows weigh.
+    weights: Vec<u64>,
     greatest: u32,
     /// The round that got the last witness, if its list is yet to be sealed.
     open: Option<usize>,
@@ -34,15 +36,16 @@ impl Model for RoundTable {
 
     ghost Value = { Tabled };
 
-    ghost view = { λ s. record { standings = s.rows.items; room = room_by (min s.rows.room s.tops.room) (vec_capacity s.lists - vec_len s.lists) (vec_capacity s.spare - s.longest) } };
+    ghost view = { λ s. record { standings = s.rows.items; weights = s.weights.items; room = room_by (min s.rows.room s.tops.room) (min (vec_capacity s.lists - vec_len s.lists) (vec_capacity s.weights - vec_len s.weights)) (vec_capacity s.spare - s.longest) } };
 
-    ghost invariant = { λ s. KeepsTable s.rows.items s.tops.items s.lists.items s.greatest s.longest s.open s.spare.items };
+    ghost invariant = { λ s. KeepsTable s.rows.items s.tops.items s.lists.items s.weights.items s.greatest s.longest s.open s.spare.items };
 }
 
 impl RoundTable {
     /// The table of no rows.
     pub fn new(alloc: Global) -> Result<RoundTable, Memory>
-        ensures { IfOk result (λ t. t.standings ≡ []) }
+        ensures standings { IfOk result (λ t. t.standings ≡ []) }
+        ensures weights { IfOk result (λ t. WeighNothing t.weights) }
     {
         let mut lists = Vec::new(alloc);
         lists.push(Witnesses::new(alloc))?;
@@ -52,6 +55,7 @@ impl RoundTable {
             rows: Blocks::new(alloc),
             tops: Blocks::new(alloc),
             lists,
+            weights: vec![in alloc; 0; 2]?,
             greatest: 0,
             open: None,
             longest: 0,
@@ -63,10 +67,12 @@ impl RoundTable {
     pub fn reserve(&mut self) -> Result<(), Memory>
         ensures room { OnOk result (1 ≤ self.new.room) }
         ensures same { self.new.standings ≡ self.old.standings }
+        ensures weights { self.new.weights ≡ self.old.weights }
     {
         self.rows.reserve()?;
         self.tops.reserve()?;
         self.lists.reserve(1)?;
+        self.weights.reserve(1)?;
         if let Some(open) = self.open {
             let next = self.greatest as usize + 1;
             self.lists[next].reserve()?;
@@ -76,25 +82,39 @@ impl RoundTable {
         reserve_spare(&mut self.spare, self.longest)
     }
 
-    /// One more row, of a round that is there or of the next one. Takes no memory.
-    pub fn add(&mut self, round: u32, witness: bool)
+    /// One more row, of a round that is there or of the next one, by a member of this stake. Takes no memory.
+    pub fn add(&mut self, round: u32, witness: bool, stake: u32)
         requires room { 1 ≤ self.old.room }
         requires first { 1 ≤ round }
         requires next { round ≤ greatest_in self.old.standings + 1 }
-        ensures { self.new.standings ≡ self.old.standings ++ standing round witness ∷ [] }
+        requires light { weight_at self.old.weights round + stake < 2 ^ 64 }
+        ensures standings { self.new.standings ≡ self.old.standings ++ standing round witness ∷ [] }
+        ensures weights { AddsWeight round witness stake self.old.weights self.new.weights }
     {
         if witness {
             let r = round as usize;
             let count = self.lists[r].push(self.rows.len(), &mut self.spare);
             self.longest = self.longest.max(count);
             self.open = Some(r);
+            self.weights[r] += u64::from(stake);
         }
         if round > self.greatest {
             self.greatest = round;
+            self.weights.push_reserved(0);
             self.lists.push_reserved(Witnesses::new(self.alloc));
         }
         self.rows.push(RowRound { round, witness });
         self.tops.push(self.greatest);
+    }
+
+    /// What the round's witnesses weigh together, as was told with them.
+    pub fn weight(&self, round: u32) -> u64
+        ensures { result ≡ weight_at self.now.weights round }
+    {
+        match self.weights.get(round as usize) {
+            None => 0,
+            Some(weight) => *weight,
+        }
     }
 
     /// The table of the first `len` rows, as a value of its own. It shares what is sealed of the rows and of the lists.
@@ -108,6 +128,7 @@ impl RoundTable {
             rows: self.rows.prefix(len)?,
             tops: self.tops.prefix(len)?,
             lists: first_lists(self.alloc, &self.lists, greatest as usize + 2, len)?,
+            weights: Vec::from_slice(self.alloc, &self.weights[..greatest as usize + 2])?,
             greatest,
             open: None,
             longest: self.longest,

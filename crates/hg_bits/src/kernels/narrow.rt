@@ -2,6 +2,7 @@
 
 ghost use Rattle.std.specs.Prelude.{◌≡◌, ◌<◌, ◌^◌, length, slice_index};
 ghost use Rattle.hg_model.specs.Places.{count_below, weight_below};
+ghost use Rattle.hg_model.specs.Stakes.{total};
 ghost use Rattle.hg_bits.specs.Lanes.{is_at_least, IsMaximum};
 
 /// In how many lanes the row is at least the other.
@@ -31,6 +32,21 @@ pub fn weigh_ge(row: &[u16], other: &[u16], weights: &[u32]) -> u64
     let mut sum = 0;
     for i in 0..row.len() {
         sum += u64::from(weights[i]) * u64::from(other[i] <= row[i]);
+    }
+    sum
+}
+
+/// The same, where all lanes together weigh less than 2^32.
+#[tactic(auto, using(crate::proofs::StakeLaws::lane_steps))]
+pub fn weigh_light_ge(row: &[u16], other: &[u16], weights: &[u32]) -> u32
+    requires same { length row.now ≡ length other.now }
+    requires weights { length row.now ≡ length weights.now }
+    requires light { total weights.now < 2 ^ 32 }
+    ensures { result ≡ weight_below (slice_index weights.now) (length row.now) (is_at_least row.now other.now) }
+{
+    let mut sum = 0;
+    for i in 0..row.len() {
+        sum += weights[i] * u32::from(other[i] <= row[i]);
     }
     sum
 }

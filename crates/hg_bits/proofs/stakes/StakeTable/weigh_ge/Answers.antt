@@ -8,7 +8,7 @@ use Rattle.hg_bits.proofs.stakes.StakeTable.weigh_ge.Goals as goal
 pub returns-in-None-clause-value : goal.returns-in-None-clause-value
 returns-in-None-clause-value c =
     let test = is_at_least c.args.row.now c.args.other.now in
-    c.weigh_ge.ensures
+    c.weigh_lanes.ensures
     ∙ (ap (λ (n : Stakes). weight_below (stake_of n) (length c.args.row.now) test) (c.deref.ensures.value ∙ c.self.view_is)
     ∙ ap (λ k. weight_below (stake_of c.args.self.now) k test) c.requires.row)
 
