@@ -23,11 +23,12 @@ use Rattle.hg_model.proofs.ShapeLaws.{shaped-take}
 use Rattle.hg_model.proofs.PlacesLaws.{weight_below_none}
 use Rattle.hg_model.proofs.LongerLaws.{slice_get-append, longer-take, round_of-longer, is_witness-longer}
 use Rattle.hg_model.proofs.NameLaws.{distinct-none}
-use Rattle.hg_model.proofs.PushLaws.{nobody, shaped-none}
+use Rattle.hg_model.proofs.PushLaws.{nobody, shaped-none, creator_last}
 use Rattle.hg_model.proofs.LinkLaws.{length-links, parents_read}
 use Rattle.hg_forks.specs.SelfLinks.{self_link_of, self_links, self_shape}
 use Rattle.hg_forks.proofs.SelfLaws.{self_links_serve}
-use Rattle.hg_rounds.specs.Tabled.{last_parents}
+use Rattle.hg_rounds.specs.Tabled.{AddsWeight, Tabled, TellsWeights, WeighNothing, last_parents, standing, weight_at}
+use Rattle.hg_rounds.proofs.WeightLaws.{tells_longer, tells_next, tells_none}
 use Rattle.hg_graph.specs.Held.{GraphWithRoom, AreEvents, IsHeld, KeepsGraph, graph_with}
 use Rattle.hg_graph.proofs.NextLaws.{links_next, fits_last, name_next}
 
@@ -50,9 +51,16 @@ held_none n c some few three = record {
     none_there : (x : ℕ) (row : Row) → slice_get [] x ≡ Some row → ⊥
     none_there x row is = (let gone = slice_get_past {X = Row} [] x (omega arith) in cc)
 
-pub keeps_none : (n : Stakes) (c : ℕ) → 0 < total n → member_count n ≤ 128 → 2 < c → KeepsGraph (graph_of n c []) (shape_of n []) (shape_of n []) []
+pub keeps_none : (n : Stakes) (c : ℕ) (rounds : Tabled) → 0 < total n → member_count n ≤ 128 → 2 < c → rounds.standings ≡ [] → WeighNothing rounds.weights →
+    KeepsGraph (graph_of n c []) (shape_of n []) (shape_of n []) rounds
 unfolding links self_links standings_of
-keeps_none n c some few three = record { held = held_none n c some few three; seen = refl; forked = refl; placed = refl }
+keeps_none n c rounds some few three none nothing = record {
+  held = held_none n c some few three;
+  seen = refl;
+  forked = refl;
+  placed = none;
+  weighed = subst (λ (S : List Standing). TellsWeights (shape_of n []) S rounds.weights) (sym none) (tells_none (shape_of n []) rounds.weights nothing);
+}
 
 -- with one more
 
@@ -87,16 +95,36 @@ self_push n L m parents self_place is =
 pub self_forking : (n : Stakes) (L : List Link) (m : ℕ) (parents : List ℕ) (self_place : Option ℕ) → place_list self_place ≡ first_place parents → forking n (self_links L ++ self_link_of m self_place ∷ []) ≡ forking n (L ++ link_of m parents ∷ [])
 self_forking n L m parents self_place is = ap (forking n) (self_push n L m parents self_place is) ∙ (self_links_serve n (L ++ link_of m parents ∷ [])).forking
 
+-- what each round's witnesses weigh
+
+weighs_longer : (g : Graph) (rounds : Tabled) (link : Link) → rounds.standings ≡ standings_of g.members (links g.rows) → TellsWeights (shape_in g) rounds.standings rounds.weights →
+    TellsWeights (with_link (shape_in g) link) rounds.standings rounds.weights
+weighs_longer g rounds link placed tells =
+    tells_longer (shape_in g) link rounds.standings rounds.weights (ap length placed ∙ length-standings g.members (links g.rows)) tells
+
+weighs_next : (g : Graph) (rounds : Tabled) (link : Link) (round : ℕ) (witness : Bool) (stake : ℕ) (weights : List ℕ) → rounds.standings ≡ standings_of g.members (links g.rows) →
+    TellsWeights (shape_in g) rounds.standings rounds.weights → stake ≡ stake_of g.members link.creator → stake < 2 ^ 32 → AddsWeight round witness stake rounds.weights weights →
+    TellsWeights (with_link (shape_in g) link) (rounds.standings ++ standing round witness ∷ []) weights
+weighs_next g rounds link round witness stake weights placed tells is low adds =
+    let L = links g.rows in
+    let long : length rounds.standings ≡ length L = ap length placed ∙ length-standings g.members L in
+    tells_next (with_link (shape_in g) link) rounds.standings rounds.weights weights round witness stake (weighs_longer g rounds link placed tells) adds
+    (is ∙ ap (stake_of g.members) (sym (creator_last g.members L link (length rounds.standings) long))) low
+
 -- what a row needs, and does, that may come into a graph with these parents; it is read of a shared event
-pub record Comes (g : Graph) (row shared : Row) (parents : List ℕ) (sight watched : Shape) : Type 0 where
+pub record Comes (g : Graph) (row shared : Row) (parents : List ℕ) (sight watched : Shape) (rounds : Tabled) : Type 0 where
   pub fits : FitsLink sight.members sight.links (link_of row.creator parents)
   pub short : length sight.links + 1 < 2 ^ 32 - 1
   pub self_fits : (self_place : Option ℕ) → place_list self_place ≡ first_place parents → FitsLink watched.members watched.links (self_link_of row.creator self_place)
   pub fresh : place_of g.rows shared.name ≡ length g.rows
   pub last : (after : Shape) → after ≡ with_link sight (link_of row.creator parents) → parents ≡ last_parents after
-  pub keeps : (self_place : Option ℕ) → place_list self_place ≡ first_place parents → (rows : List Row) (after watched_after : Shape) (standings : List Standing) →
+  pub weighs : (after : Shape) → after ≡ with_link sight (link_of row.creator parents) → TellsWeights after rounds.standings rounds.weights
+  pub light : (round stake : ℕ) → stake < 2 ^ 32 → weight_at rounds.weights round + stake < 2 ^ 64
+  pub keeps : (self_place : Option ℕ) → place_list self_place ≡ first_place parents → (rows : List Row) (after watched_after : Shape) (rounds_after : Tabled) (round : ℕ) (witness : Bool) (stake : ℕ) →
       rows ≡ g.rows ++ shared ∷ [] → after ≡ with_link sight (link_of row.creator parents) → watched_after ≡ with_link watched (self_link_of row.creator self_place) →
-      standings ≡ standings_of after.members after.links → KeepsGraph (graph_of g.members g.coin rows) after watched_after standings
+      rounds_after.standings ≡ rounds.standings ++ standing round witness ∷ [] → rounds.standings ++ standing round witness ∷ [] ≡ standings_of after.members after.links →
+      stake ≡ stake_of after.members row.creator → stake < 2 ^ 32 → AddsWeight round witness stake rounds.weights rounds_after.weights →
+      KeepsGraph (graph_of g.members g.coin rows) after watched_after rounds_after
 
 module _ (g : Graph) (row : Row) (parents : List ℕ) (held : IsHeld g) (limit : length g.rows < row_limit) (spells : Spells (spelling row) row)
     (is : link_in g.rows row ≡ link_of row.creator parents) (graph : IsGraph g.members (g.rows ++ row ∷ [])) where
@@ -123,34 +151,40 @@ module _ (g : Graph) (row : Row) (parents : List ℕ) (held : IsHeld g) (limit :
       let here : link ≡ get_or L (length L - 1) link = sym (ap (λ (M : List Link). get_or M (length L - 1) link) at ∙ get_or_push (links g.rows) link link (length L - 1) (omega arith)) in
       sym (parents_read L (length L - 1) link (omega arith) here)
 
-  comes_to : (watched : Shape) → watched ≡ self_shape (shape_in g) → Comes g row row parents (shape_in g) watched
-  comes_to watched forked = record {
+  comes_to : (watched : Shape) (rounds : Tabled) → watched ≡ self_shape (shape_in g) → rounds.standings ≡ standings_of g.members (links g.rows) →
+      TellsWeights (shape_in g) rounds.standings rounds.weights → Comes g row row parents (shape_in g) watched rounds
+  comes_to watched rounds forked before tells = record {
     fits = fits_next;
     short = omega (arith, length-links g.rows);
     self_fits = λ self_place first. rw forked (self_fits g.members (links g.rows) row.creator parents self_place first fits_next);
     fresh = name_next g.rows row graph.distinct;
     last = λ after at. last_on after.links (ap (λ (s : Shape). s.links) at);
-    keeps = λ self_place first rows after watched_after standings rows_are at watched_at placed. rw (rows_are, placed) (record {
+    weighs = λ after at. rw at (weighs_longer g rounds (link_of row.creator parents) before tells);
+    light = λ round stake low. omega (arith, tells.low round, ap length before ∙ length-standings g.members (links g.rows), length-links g.rows);
+    keeps = λ self_place first rows after watched_after rounds_after round witness stake rows_are at watched_at added placed is low adds. rw rows_are (record {
       held = held_with;
       seen = at ∙ ap (shape_of g.members) (sym linked);
       forked = watched_at
           ∙ (ap (λ (s : Shape). with_link s (self_link_of row.creator self_place)) forked
           ∙ ap (shape_of g.members) (self_push g.members (links g.rows) row.creator parents self_place first ∙ ap self_links (sym linked)));
-      placed = ap (λ (s : Shape). standings_of s.members s.links) (at ∙ ap (shape_of g.members) (sym linked));
+      placed = added ∙ (placed ∙ ap (λ (s : Shape). standings_of s.members s.links) (at ∙ ap (shape_of g.members) (sym linked)));
+      weighed = subst (λ (s : Shape). TellsWeights s rounds_after.standings rounds_after.weights) (ap (shape_of g.members) (sym linked))
+          (subst (λ (S : List Standing). TellsWeights (with_link (shape_in g) (link_of row.creator parents)) S rounds_after.weights) (sym added)
+          (weighs_next g rounds (link_of row.creator parents) round witness stake rounds_after.weights before tells (is ∙ ap (λ (s : Shape). stake_of s.members row.creator) at) low adds));
     });
   }
 
 -- the same of the graph of a value
-pub comes : {g : Graph} {room : ℕ} {v : GraphWithRoom} → record { graph = g; room = room } ≡ v → {sight watched : Shape} {standings : List Standing} → KeepsGraph g sight watched standings →
+pub comes : {g : Graph} {room : ℕ} {v : GraphWithRoom} → record { graph = g; room = room } ≡ v → {sight watched : Shape} {rounds : Tabled} → KeepsGraph g sight watched rounds →
     {row event shared : Row} → row ≡ event → event ≡ shared → (parents : List ℕ) → length v.graph.rows < row_limit → Spells (spelling event) event →
-    link_in v.graph.rows shared ≡ link_of shared.creator parents → IsGraph v.graph.members (v.graph.rows ++ shared ∷ []) → Comes g row shared parents sight watched
-comes {g} {room} {v} view {sight} {watched} keeps {row} {event} {shared} of_event of_shared parents limit spells is graph =
+    link_in v.graph.rows shared ≡ link_of shared.creator parents → IsGraph v.graph.members (v.graph.rows ++ shared ∷ []) → Comes g row shared parents sight watched rounds
+comes {g} {room} {v} view {sight} {watched} {rounds} keeps {row} {event} {shared} of_event of_shared parents limit spells is graph =
     let same : v.graph ≡ g = ap (λ (v : GraphWithRoom). v.graph) (sym view) in
-    subst (λ (s : Shape). Comes g row shared parents s watched) (sym keeps.seen)
-    (subst (λ (r : Row). Comes g r shared parents (shape_in g) watched) (sym (of_event ∙ of_shared))
+    subst (λ (s : Shape). Comes g row shared parents s watched rounds) (sym keeps.seen)
+    (subst (λ (r : Row). Comes g r shared parents (shape_in g) watched rounds) (sym (of_event ∙ of_shared))
     (comes_to g shared parents keeps.held (subst (λ (g : Graph). length g.rows < row_limit) same limit) (subst (λ (r : Row). Spells (spelling r) r) of_shared spells)
     (subst (λ (g : Graph). link_in g.rows shared ≡ link_of shared.creator parents) same is)
-    (subst (λ (g : Graph). IsGraph g.members (g.rows ++ shared ∷ [])) same graph) watched keeps.forked))
+    (subst (λ (g : Graph). IsGraph g.members (g.rows ++ shared ∷ [])) same graph) watched rounds keeps.forked keeps.placed keeps.weighed))
 
 -- the first rows
 
@@ -178,8 +212,8 @@ standings-take n L len shaped le =
     get_or-map-range_with_len (standing_of n L) 0 (length S) x x nothing inside (zero-add x)
     ∙ (same x inside ∙ sym (get_or-map-range_with_len (standing_of n S) 0 (length S) x x nothing inside (zero-add x)))))
 
-pub first_links_are : {g : Graph} {sight watched : Shape} {standings : List Standing} → KeepsGraph g sight watched standings → (len : ℕ) → len ≤ length g.rows →
-    (len ≤ length sight.links) × (len ≤ length standings) × (first_links sight len ≡ shape_of g.members (links (take len g.rows))) × (take len standings ≡ standings_of g.members (links (take len g.rows)))
+pub first_links_are : {g : Graph} {sight watched : Shape} {rounds : Tabled} → KeepsGraph g sight watched rounds → (len : ℕ) → len ≤ length g.rows →
+    (len ≤ length sight.links) × (len ≤ length rounds.standings) × (first_links sight len ≡ shape_of g.members (links (take len g.rows))) × (take len rounds.standings ≡ standings_of g.members (links (take len g.rows)))
 first_links_are {g} keeps len le =
     let n = g.members in
     let L = links g.rows in

@@ -2,13 +2,13 @@
 use Rattle.std.specs.Prelude.{ℕ, ◌≡◌, ◌<◌, ◌≤◌, List, [], ◌∷◌, ◌++◌, length, take, Some, slice_get}
 use Rattle.hg_model.specs.declared.row.Row.{Row}
 use Rattle.hg_model.specs.Shape.{Shape}
-use Rattle.hg_model.specs.Standings.{Standing}
 use Rattle.hg_model.specs.Stakes.{member_count, total}
 use Rattle.hg_life.specs.Spelling.{Spells, spelling}
 use Rattle.hg_life.specs.Verdict.{row_limit}
 use Rattle.hg_model.specs.Prefix.{Graph, graph_of}
 use Rattle.hg_model.specs.GraphWords.{IsLawfulGraph, standings_in, shape_in}
 use Rattle.hg_forks.specs.SelfLinks.{self_shape}
+use Rattle.hg_rounds.specs.Tabled.{Tabled, TellsWeights}
 
 -- a graph, and for how many more rows there is memory at least
 pub record GraphWithRoom : Type 0 where
@@ -36,9 +36,11 @@ pub record IsHeld (g : Graph) : Type 0 where
   pub events : AreEvents g.rows
   pub few : length g.rows ≤ row_limit
 
--- what is kept beside the rows: their sight, the same without other-parents, and their standings
-pub record KeepsGraph (g : Graph) (sight watched : Shape) (standings : List Standing) : Type 0 where
+-- what is kept beside the rows: their sight, the same without other-parents, their standings, and what each round's witnesses
+-- weigh
+pub record KeepsGraph (g : Graph) (sight watched : Shape) (rounds : Tabled) : Type 0 where
   pub held : IsHeld g
   pub seen : sight ≡ shape_in g
   pub forked : watched ≡ self_shape (shape_in g)
-  pub placed : standings ≡ standings_in (shape_in g)
+  pub placed : rounds.standings ≡ standings_in (shape_in g)
+  pub weighed : TellsWeights (shape_in g) rounds.standings rounds.weights
