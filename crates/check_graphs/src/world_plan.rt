@@ -9,7 +9,7 @@ pub struct WorldPlan {
     pub members: u32,
     /// 3 to 6 rounds.
     pub coin: u32,
-    /// The members who fork, fewer than a third: one, or of 7 two.
+    /// The members who fork, fewer than a third, all of one stake: one, or of 7 two.
     pub forkers: Option<(u32, u32)>,
     pub ghost some: { 4 ≤ members },
     pub ghost few: { members ≤ 7 },

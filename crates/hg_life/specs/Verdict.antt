@@ -84,7 +84,7 @@ forkers_rule n G row = forkers_answer (total n) (forking_with n G row)
 abbrev pub full_rule : List Row → Option PutAnswer
 full_rule G = if nat_le row_limit (length G) then Some (Refused (fault.Full row_limit)) else None
 
--- what the rules before the count of forks answer, if one does
+-- what the rules before that on the stake of forks answer, if one does
 abbrev pub arrival_rule : Accepts → Stakes → ℕ → List Row → Row → Option PutAnswer
 arrival_rule accepts n own G row =
     option_or (member_rule n row) (option_or (name_rule G row) (option_or (signature_rule accepts row)

@@ -1,7 +1,7 @@
 -- Seeing and strongly seeing. SWIRLDS-TR-2016-01, section 5, the definitions of these words.
 -- A departure: x strongly sees y where members of more than two thirds of the stake have an event among the ancestors of
--- x that sees y. The report counts members, and asks besides that x sees y and these events. Without forks, where each
--- member weighs 1, the two are equal, and the report's always implies this one.
+-- x that sees y. The report counts members, which here weigh, and asks besides that x sees y and these events. Weighed by
+-- stake the report's wording always implies this one, and without forks the two are equal.
 use Rattle.std.specs.Prelude.{ℕ, suc, ◌*◌, Bool, not, ◌&&◌, ◌==◌, nat_lt, List}
 use Rattle.hg_model.specs.Places.{some_below}
 use Rattle.hg_model.specs.Stakes.{Stakes, stake_where, total}

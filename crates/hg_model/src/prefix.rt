@@ -9,7 +9,7 @@ use crate::sight::Sight;
 
 /// The first rows of a node's graph, with what they see of each other and their rounds.
 pub trait Prefix: Sight + Rounds {
-    /// The rows, by how many members, and the coin period.
+    /// The rows, the stakes of the members, and the coin period.
     ghost graph: { Self → Graph };
 
     /// The row at a place below the number of rows.

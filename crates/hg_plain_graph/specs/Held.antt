@@ -59,9 +59,9 @@ pub record HoldsForkTable (n : Stakes) (sum : ℕ) (L : List Link) (below : List
   pub forked : IsForkTable n L below
 
 -- of a shaped graph what strongly sees what, the rounds, how many members have a fork, and the greatest round
-pub record HoldsRounds (n : Stakes) (L : List Link) (strong : List (Vec Bool)) (rounds : List ℕ) (forking greatest : ℕ) : Type 0 where
+pub record HoldsRounds (n : Stakes) (L : List Link) (strong : List (Vec Bool)) (rounds : List ℕ) (many greatest : ℕ) : Type 0 where
   pub shaped : IsShaped n L
   pub strongly_sees : IsStrongTable (shape_of n L) strong
   pub round_of : IsRoundTable (shape_of n L) (length L) rounds
-  pub forkers : forking ≡ forkers n L
+  pub forkers : many ≡ forkers n L
   pub last_round : greatest ≡ last_round n L

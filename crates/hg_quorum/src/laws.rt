@@ -18,7 +18,7 @@ pub fn sight_grows()
     ensures grows { SightGrows }
 {}
 
-/// A law: the report's wording of strongly seeing implies this project's, and without forks is the same.
+/// A law: the report's wording of strongly seeing, weighed by stake, implies this one, and without forks is the same.
 pub fn report_is_kept()
     ensures implies { ReportImplies }
     ensures same { ReportIsSame }

@@ -65,7 +65,7 @@ pub record HasStart (n : Stakes) (c : ℕ) (keys : Secrets) (m : ℕ) (v : NodeV
   pub coin : v.start.coin ≡ c
   pub keyed : v.start.keys ≡ keys
 
--- nodes among as many members, with one coin period and the same keys, one for each, in the members' order
+-- nodes among members of the same stakes, with one coin period and the same keys, one for each, in the members' order
 pub record AreOfMembers (n : Stakes) (c : ℕ) (keys : Secrets) (nodes : List (NodeView Secrets)) : Type 0 where
   pub some : 0 < length nodes
   pub count : length nodes ≡ member_count n
