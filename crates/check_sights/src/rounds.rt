@@ -34,7 +34,8 @@ fn ring(rt: &impl Abort, alloc: Global) -> Result<RoundTable, Memory>
         let (round, witness) = ROWS[x];
         table.reserve()?;
         assert!(rt; round > 0 && round - 1 <= table.greatest());
-        table.add(round, witness);
+        assert!(rt; table.weight(round) < 100);
+        table.add(round, witness, x as u32 + 1);
         equal(rt, x, table.greatest(), round);
     }
     Ok(table)
@@ -43,15 +44,16 @@ fn ring(rt: &impl Abort, alloc: Global) -> Result<RoundTable, Memory>
 #[test]
 fn lists_the_witnesses_of_each_round(rt: HostRuntime) -> Result<(), Memory> {
     let table = ring(&rt, rt.alloc())?;
-    for (round, places) in [
-        (0, [].as_slice()),
-        (1, [0, 1, 2].as_slice()),
-        (2, [6, 7, 8].as_slice()),
-        (3, [10, 11, 12].as_slice()),
-        (4, [14].as_slice()),
-        (5, [].as_slice()),
+    for (round, places, weight) in [
+        (0, [].as_slice(), 0),
+        (1, [0, 1, 2].as_slice(), 1 + 2 + 3),
+        (2, [6, 7, 8].as_slice(), 7 + 8 + 9),
+        (3, [10, 11, 12].as_slice(), 11 + 12 + 13),
+        (4, [14].as_slice(), 15),
+        (5, [].as_slice(), 0),
     ] {
         equal(&rt, round as usize, table.witnesses(round), places);
+        equal(&rt, round as usize, table.weight(round), weight);
     }
     for x in 0..15 {
         equal(&rt, x, (table.round(x), table.is_witness(x)), ROWS[x]);
