@@ -1,5 +1,5 @@
 -- What a call did to its seat, from the steps inside
-use Rattle.std.proofs.Common.{◌≡◌, ℕ, ◌≤◌, Bool, true, false, cond, eqb, List, [], ◌∷◌, ◌++◌, length, length-append, drop, Result, Ok, Err, Some, refl, sym, ap, ◌∙◌, subst, arith}
+use Rattle.std.proofs.Common.{◌≡◌, ℕ, ◌≤◌, Bool, true, false, cond, eqb, List, [], ◌∷◌, ◌++◌, length, length-append, drop, Result, Ok, Err, Option, None, Some, refl, sym, ap, ◌∙◌, subst, arith}
 use Rattle.std.specs.Prelude.{IfOk, OnErr, OnOk}
 use Rattle.std.proofs.lemmas.Bool.{true≢false}
 use Rattle.std.proofs.lemmas.List.{append-nil}
@@ -22,6 +22,7 @@ use Rattle.hg_life.specs.NodeView.{NodeView, IsNode, node_rows, with_changes}
 use Rattle.hg_life.specs.Calls.{IsMaking, made_by, make_answer, make_changes, publish_answer, publish_changes, put_answer, put_changes, taken_by, taken_from}
 use Rattle.hg_life.specs.Signing.{Accepts}
 use Rattle.hg_node.specs.ChronicleView.{IsFoundBy}
+use Rattle.hg_node.specs.Next.{MakesNext}
 use Rattle.hg_node.specs.Puts.{WouldAccept}
 use Rattle.hg_history.proofs.FoundLaws.{news_lasts}
 use Rattle.hg_history.proofs.StateLaws.{prefix_more}
@@ -35,7 +36,7 @@ use Rattle.hg_board.specs.Table.{node_at}
 use Rattle.hg_board.specs.Steps.{Hand}
 use Rattle.hg_board.specs.Seats.{IsOf, SharedNode, SeatView, shared_node, seen_by, seat_view_of}
 use Rattle.hg_board.specs.Turns.{Enters, IsGrown, IsInside, inside_at, mine_with, outside_at}
-use Rattle.hg_board.specs.Calls.{SeatMakes, SeatPublishes, SeatPuts, SeatWaits, Stays, rules_shared}
+use Rattle.hg_board.specs.Calls.{SeatMakes, SeatMakesNext, SeatPublishes, SeatPuts, SeatWaits, Stays, rules_shared}
 use Rattle.hg_board.specs.Taking.{AddsInside, SeatTakes, SeatTakesFirst, TakesFirst, taking_rows}
 use Rattle.hg_board.proofs.PositionLaws.{below_append, below_more, from_below}
 use Rattle.hg_board.proofs.PrefixLaws.{prefix_front, prefix_length}
@@ -91,6 +92,21 @@ module _ {V : Type 0} (accepts : V → Accepts) where
     grown = making.grown;
   }
   make_grown v w others time payload (Err e) making same = grown_none v w same
+
+  -- what the next event made of the node is a change, or none
+  next_changes : (v w : NodeView V) (time : ℕ) (next : Option MakeAnswer) → MakesNext accepts v time next w → IsGrown v w
+  next_changes v w time None none = grown_none v w none.0
+  next_changes v w time (Some a) some =
+      let making : IsMaking accepts v some.0 time [] a w = some.2.making in
+      record {
+        changes = make_changes v some.0 time [] making.sig;
+        few = few_make v some.0 time [] making.sig;
+        grown = making.grown;
+      }
+
+  pub next_grown : {E : Type 0} (v w : NodeView V) (time : ℕ) (result : Result (Option MakeAnswer) E) → IfOk result (λ next. MakesNext accepts v time next w) → OnErr result (w ≡ v) → IsGrown v w
+  next_grown v w time (Ok next) makes same = next_changes v w time next makes
+  next_grown v w time (Err e) makes same = grown_none v w same
 
   pub publish_grown : (v w : NodeView V) (len : ℕ) (share : Share) → w ≡ with_changes v (publish_changes v len share) → IsGrown v w
   publish_grown v w len share grown = record { changes = publish_changes v len share; few = few_publish v len share; grown = grown }
@@ -258,6 +274,22 @@ module _ {V : Type 0} (accepts : V → Accepts) where
               positions = ap (λ (s : Seen V). s.positions) is_new;
             }
         makes others time payload (Err e) made_one = tt
+
+        pub makes_next : {E : Type 0} (time : ℕ) (result : Result (Option MakeAnswer) E) → IfOk result (λ next. MakesNext accepts node time next w) →
+            IfOk result (SeatMakesNext accepts (shared_node table start) (seat_view_of old m.0) time (seat_view_of new o.0))
+        makes_next time (Ok next) makes =
+            let g : IsGrown node w = next_changes node w time next makes in
+            let is_new = own_new g.changes (grown_left g.changes g.grown) in
+            let same_node : w ≡ (seen_by (shared_node table start) (seat_view_of new o.0)).node =
+            g.grown ∙ (ap (λ (v : NodeView V). with_changes v g.changes) inside.found ∙ sym (ap (λ (s : Seen V). s.node) is_new)) in
+            record {
+              reached = reached;
+              waits = others_came;
+              more = g.changes;
+              grown = is_new;
+              makes = subst (MakesNext accepts reached.node time next) same_node (subst (λ (v : NodeView V). MakesNext accepts v time next w) inside.found makes);
+            }
+        makes_next time (Err e) makes = tt
 
         pub publishes : (len : ℕ) (share : Share) (marked : ℕ) → marked ≡ publish_answer node len share → w ≡ with_changes node (publish_changes node len share) →
             SeatPublishes accepts (shared_node table start) (seat_view_of old m.0) len share (seat_view_of new o.0) marked

@@ -1,5 +1,5 @@
 -- What each call of a shared node promises its seat
-use Rattle.std.specs.Prelude.{◌≡◌, ℕ, ◌+◌, ◌-◌, ◌≤◌, true, List, [], ◌++◌, length}
+use Rattle.std.specs.Prelude.{◌≡◌, ℕ, ◌+◌, ◌-◌, ◌≤◌, true, List, [], ◌++◌, length, Option}
 use Rattle.hg_life.specs.declared.answers.PutAnswer.{PutAnswer}
 use Rattle.hg_life.specs.declared.answers.MakeAnswer.{MakeAnswer}
 use Rattle.hg_model.specs.Shares.{Share}
@@ -7,6 +7,8 @@ use Rattle.hg_model.specs.Orders.{IsPrefix}
 use Rattle.hg_life.specs.NodeView.{NodeView, IsNode}
 use Rattle.hg_life.specs.Calls.{publish_answer, publish_changes}
 use Rattle.hg_life.specs.Signing.{Accepts}
+use Rattle.hg_life.specs.History.{Change}
+use Rattle.hg_node.specs.Next.{MakesNext}
 use Rattle.hg_gossip.specs.Holding.{Makes, PutsBytes, Rules, Seen, Waits, with_own}
 use Rattle.hg_board.specs.Positions.{times, once_from, AreBelow}
 use Rattle.hg_board.specs.Table.{all_parts, node_at}
@@ -46,6 +48,14 @@ module _ {V : Type 0} (accepts : V → Accepts) (p : SharedNode V) where
   -- so was the event made
   abbrev pub SeatMakes : SeatView V → List (List ℕ) → ℕ → List ℕ → SeatView V → MakeAnswer → Type 0
   SeatMakes old others time payload new answer = Makes (rules_shared accepts) (seen_by p old) others time payload (seen_by p new) answer
+
+  -- so was the event that comes next, or nothing where none does
+  pub record SeatMakesNext (old : SeatView V) (time : ℕ) (new : SeatView V) (made : Option MakeAnswer) : Type 0 where
+    pub reached : Seen V
+    pub waits : Waits (rules_shared accepts) (seen_by p old) reached
+    pub more : List Change
+    pub grown : seen_by p new ≡ with_own reached more
+    pub makes : MakesNext accepts reached.node time made (seen_by p new).node
 
   -- so was published what the share found
   abbrev pub SeatPublishes : SeatView V → ℕ → Share → SeatView V → ℕ → Type 0

@@ -22,6 +22,7 @@
 mod copies;
 mod crew;
 mod laws;
+mod reading;
 mod rule;
 mod seat;
 mod shared;

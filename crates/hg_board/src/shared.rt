@@ -1,31 +1,27 @@
-ghost use Rattle.std.specs.Prelude.{◌≡◌, ◌<◌, true, IfErr, IfOk, OnErr, length};
+ghost use Rattle.std.specs.Prelude.{◌≡◌, ◌<◌, true, IfErr, IfOk, IsSome, OnErr, length};
 ghost use Rattle.std.specs.Option.{option_to_list};
-ghost use Rattle.hg_life.specs.NodeView.{kept_of, node_rows};
 ghost use Rattle.hg_life.specs.Spelling.{spelling};
 ghost use Rattle.hg_model.specs.Stakes.{member_count};
-ghost use Rattle.hg_node.specs.ChronicleView.{IsFoundBy, graph_in};
+ghost use Rattle.hg_node.specs.ChronicleView.{IsFoundBy};
+ghost use Rattle.hg_node.specs.Next.{next_others};
 ghost use Rattle.hg_node.specs.Puts.{is_signed};
 ghost use Rattle.hg_graph.specs.RowsWithRoom.{rows_of};
-ghost use Rattle.hg_board.specs.Copies.{AreLacked, IsLastRow, IsParcelFrom, OpensIn, bytes_from};
 ghost use Rattle.hg_board.specs.Taking.{AreSignedFor, SeatTakes, SeatTakesFirst, WouldTakeRow};
-ghost use Rattle.hg_gossip.specs.Holding.{names_in, parcel_beyond};
 ghost use Rattle.hg_board.specs.Seats.{IsOf, seen_by};
 ghost use Rattle.hg_board.specs.Table.{all_parts};
-ghost use Rattle.hg_board.specs.Calls.{Absorbs, IsStarted, IsWhole, SeatMakes, SeatPublishes, SeatPuts, SeatWaits, Stays, after_split, rules_shared, split_off};
+ghost use Rattle.hg_board.specs.Calls.{Absorbs, IsStarted, IsWhole, SeatMakes, SeatMakesNext, SeatPublishes, SeatPuts, SeatWaits, Stays, after_split, rules_shared, split_off};
 ghost use Rattle.hg_gossip.specs.Holding.{WouldSign, WouldTake};
 
-use crate::copies::{EventParcel, bytes_from, copied, last_event, parcel_from};
 use crate::rule::{Board, Both, Compare, OnePart};
 use crate::seat::Seat;
 use crate::taking::take_each;
 use crate::turn::{enter, leave, leave_changed};
 use atomic_table::{Refused, Table};
 use hg_event::Event;
-use hg_gossip::{Holder, Taken, still_lacked};
-use hg_graph::FrozenGraph;
-use hg_life::{MakeAnswer, Parcel, PutAnswer};
-use hg_model::{Bytes, Found, Memory, Name, Placed, Share};
-use hg_node::{Node, Open};
+use hg_gossip::Taken;
+use hg_life::{MakeAnswer, PutAnswer};
+use hg_model::{Found, Memory, Name};
+use hg_node::Node;
 use hg_sign::Signer;
 use std::alloc::Global;
 use std::marker::Model;
@@ -36,7 +32,7 @@ use std::sync::{Arc, Wait};
 /// has seen, of which it had seen a prefix.
 #[derive(Drop)]
 pub struct Shared<V: Signer> {
-    table: Board<V>,
+    pub(crate) table: Board<V>,
 }
 
 impl<V: Signer> Model for Shared<V> {
@@ -187,6 +183,29 @@ impl<V: Signer + Drop> Shared<V> {
         answer
     }
 
+    /// Makes the node's first event, or one on the last row that another member made, without payload; `None` where it made
+    /// one and there is no such row. The time is any, in no unit of ours. If the event is refused, then because its name is
+    /// another row's, or for want of room.
+    pub fn make_next<R: Wait>(
+        &self,
+        rt: &R,
+        seat: &mut Seat<V>,
+        time: u64,
+    ) -> Result<Option<MakeAnswer>, Memory>
+        requires { IsOf self.now seat.old }
+        ensures stays { Stays V.accepts self.now seat.old seat.new }
+        ensures ok { IfOk result (SeatMakesNext V.accepts self.now seat.old time seat.new) }
+        ensures err { OnErr result (SeatWaits V.accepts self.now seat.old seat.new) }
+        ensures free { OnErr result (IsSome (next_others (seen_by self.now seat.new).node)) }
+    {
+        let board = &self.table.shared;
+        let raw = &mut seat.raw;
+        let (mut node, count) = enter(rt, board, raw);
+        let made = node.make_next(time);
+        leave_changed(board, raw, node, count);
+        made
+    }
+
     /// Publishes what a share has found in the first rows of the graph that the seat has seen: each found witness without
     /// a mark gets it, and what is ordered then is paid. What had its mark then may be left out. Answers how many were
     /// marked. Takes no memory.
@@ -202,190 +221,6 @@ impl<V: Signer + Drop> Shared<V> {
         let marked = node.publish(found);
         leave_changed(board, raw, node, count);
         marked
-    }
-
-    /// The graph that the seat then has seen, as a value of its own.
-    pub fn freeze<R: Wait>(&self, rt: &R, seat: &mut Seat<V>) -> Result<FrozenGraph, Memory>
-        requires { IsOf self.now seat.old }
-        ensures stays { Stays V.accepts self.now seat.old seat.new }
-        ensures waits { SeatWaits V.accepts self.now seat.old seat.new }
-        ensures graph { IfOk result (λ frozen. frozen.graph ≡ graph_in (seen_by self.now seat.new).node) }
-    {
-        let board = &self.table.shared;
-        let raw = &mut seat.raw;
-        let (node, _count) = enter(rt, board, raw);
-        let frozen = node.freeze();
-        leave(board, raw, node);
-        frozen
-    }
-
-    /// What a share may still decide in the graph that the seat then has seen, to be elected without the turn and
-    /// published; `None` where the share has all its marks.
-    pub fn open<R: Wait>(
-        &self,
-        rt: &R,
-        seat: &mut Seat<V>,
-        share: Share,
-    ) -> Result<Option<Open>, Memory>
-        requires { IsOf self.now seat.old }
-        ensures stays { Stays V.accepts self.now seat.old seat.new }
-        ensures waits { SeatWaits V.accepts self.now seat.old seat.new }
-        ensures opens { IfOk result (OpensIn share (seen_by self.now seat.new).node) }
-    {
-        let board = &self.table.shared;
-        let raw = &mut seat.raw;
-        let (mut node, _count) = enter(rt, board, raw);
-        let opened = node.open(share);
-        leave(board, raw, node);
-        opened
-    }
-
-    /// The names of the rows, in the order in which they came.
-    pub fn held<R: Wait>(
-        &self,
-        rt: &R,
-        alloc: Global,
-        seat: &mut Seat<V>,
-    ) -> Result<Vec<Name>, Memory>
-        requires { IsOf self.now seat.old }
-        ensures stays { Stays V.accepts self.now seat.old seat.new }
-        ensures waits { SeatWaits V.accepts self.now seat.old seat.new }
-        ensures names { IfOk result (λ names. names.items ≡ names_in (seen_by self.now seat.new)) }
-    {
-        let board = &self.table.shared;
-        let raw = &mut seat.raw;
-        let (mut node, _count) = enter(rt, board, raw);
-        let names = node.held(alloc);
-        leave(board, raw, node);
-        names
-    }
-
-    /// The bytes of the rows that have none of the names, in the order in which they came, and the name of the last row
-    /// that the node made, if it made any.
-    pub fn missing<R: Wait>(
-        &self,
-        rt: &R,
-        alloc: Global,
-        seat: &mut Seat<V>,
-        names: &[Name],
-    ) -> Result<Parcel, Memory>
-        requires { IsOf self.now seat.old }
-        ensures stays { Stays V.accepts self.now seat.old seat.new }
-        ensures waits { SeatWaits V.accepts self.now seat.old seat.new }
-        ensures parcel { IfOk result (λ parcel. parcel ≡ parcel_beyond names.now (seen_by self.now seat.new)) }
-    {
-        let board = &self.table.shared;
-        let raw = &mut seat.raw;
-        let (mut node, _count) = enter(rt, board, raw);
-        let parcel = node.missing(alloc, names);
-        leave(board, raw, node);
-        parcel
-    }
-
-    /// The last event that the node made, if it made any.
-    pub fn last_event<R: Wait>(
-        &self,
-        rt: &R,
-        seat: &mut Seat<V>,
-    ) -> Result<Option<Arc<Event>>, Memory>
-        requires { IsOf self.now seat.old }
-        ensures stays { Stays V.accepts self.now seat.old seat.new }
-        ensures waits { SeatWaits V.accepts self.now seat.old seat.new }
-        ensures event { IfOk result (IsLastRow (seen_by self.now seat.new).node) }
-    {
-        let board = &self.table.shared;
-        let raw = &mut seat.raw;
-        let (node, _count) = enter(rt, board, raw);
-        let event = last_event(&node);
-        leave(board, raw, node);
-        event
-    }
-
-    /// The events of the rows from a place on, and the name of the last row that the node made, if it made any. Where there
-    /// is no such row there is no event.
-    pub fn events_from<R: Wait>(
-        &self,
-        rt: &R,
-        alloc: Global,
-        seat: &mut Seat<V>,
-        from: usize,
-    ) -> Result<EventParcel, Memory>
-        requires { IsOf self.now seat.old }
-        ensures stays { Stays V.accepts self.now seat.old seat.new }
-        ensures waits { SeatWaits V.accepts self.now seat.old seat.new }
-        ensures parcel { IfOk result (IsParcelFrom from (seen_by self.now seat.new).node) }
-    {
-        let board = &self.table.shared;
-        let raw = &mut seat.raw;
-        let (node, _count) = enter(rt, board, raw);
-        let parcel = parcel_from(alloc, &node, from);
-        leave(board, raw, node);
-        parcel
-    }
-
-    /// The bytes of the rows from a place on, of at most so many, and how many rows the node has in all.
-    pub fn rows_from<R: Wait>(
-        &self,
-        rt: &R,
-        alloc: Global,
-        seat: &mut Seat<V>,
-        from: usize,
-        most: usize,
-    ) -> (Result<Vec<Bytes>, Memory>, usize)
-        requires { IsOf self.now seat.old }
-        ensures stays { Stays V.accepts self.now seat.old seat.new }
-        ensures waits { SeatWaits V.accepts self.now seat.old seat.new }
-        ensures rows { IfOk result.0 (λ rows. rows.items ≡ bytes_from (seen_by self.now seat.new).node from most) }
-        ensures count { result.1 ≡ length (node_rows (seen_by self.now seat.new).node) }
-    {
-        let board = &self.table.shared;
-        let raw = &mut seat.raw;
-        let (node, _count) = enter(rt, board, raw);
-        let rows = bytes_from(alloc, &node, from, most);
-        let count = node.rows();
-        leave(board, raw, node);
-        (rows, count)
-    }
-
-    /// Those of these events whose names the node lacks.
-    pub fn still_lacked<R: Wait>(
-        &self,
-        rt: &R,
-        alloc: Global,
-        seat: &mut Seat<V>,
-        events: &[Arc<Event>],
-    ) -> Result<Vec<Arc<Event>>, Memory>
-        requires { IsOf self.now seat.old }
-        ensures stays { Stays V.accepts self.now seat.old seat.new }
-        ensures waits { SeatWaits V.accepts self.now seat.old seat.new }
-        ensures lacked { IfOk result (λ lacked. AreLacked (rows_of events.now) (seen_by self.now seat.new).node lacked.items) }
-    {
-        let board = &self.table.shared;
-        let raw = &mut seat.raw;
-        let (node, _count) = enter(rt, board, raw);
-        let lacked = still_lacked(alloc, &node, events);
-        leave(board, raw, node);
-        lacked
-    }
-
-    /// What the closed rounds have received, in order.
-    pub fn kept_copy<R: Wait>(
-        &self,
-        rt: &R,
-        alloc: Global,
-        seat: &mut Seat<V>,
-    ) -> Result<Vec<Placed>, Memory>
-        requires { IsOf self.now seat.old }
-        ensures stays { Stays V.accepts self.now seat.old seat.new }
-        ensures waits { SeatWaits V.accepts self.now seat.old seat.new }
-        ensures order { IfOk result (λ order. order.items ≡ kept_of (seen_by self.now seat.new).node) }
-    {
-        let board = &self.table.shared;
-        let raw = &mut seat.raw;
-        let (node, _count) = enter(rt, board, raw);
-        let order = copied(alloc, node.kept());
-        leave(board, raw, node);
-        order
     }
 
     /// A seat for another caller, which has seen as much. It gets one part of this one, which has two at least.

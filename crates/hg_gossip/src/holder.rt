@@ -1,5 +1,6 @@
 ghost use Rattle.std.specs.Prelude.{◌≡◌, IfOk, OnErr};
 ghost use Rattle.std.specs.Option.{option_to_list};
+ghost use Rattle.hg_node.specs.Beyond.{beyond_of, tips_of};
 ghost use Rattle.hg_gossip.specs.Holding.{Makes, PutsBytes, Rules, Seen, Waits, WouldSign, WouldTake, names_in, parcel_beyond};
 
 use hg_life::{MakeAnswer, Parcel, PutAnswer};
@@ -34,6 +35,19 @@ pub trait Holder {
         ensures lent { lent self.new ≡ lent self.old }
         ensures waits { Waits rules (seen self.old) (seen self.new) }
         ensures parcel { IfOk result (λ parcel. parcel ≡ parcel_beyond names.now (seen self.new)) };
+
+    /// The names of the rows that are no row's parent, in the order in which they came.
+    fn tips(&mut self) -> Result<Vec<Name>, Memory>
+        ensures lent { lent self.new ≡ lent self.old }
+        ensures waits { Waits rules (seen self.old) (seen self.new) }
+        ensures names { IfOk result (λ names. names.items ≡ tips_of (seen self.new).node) };
+
+    /// The bytes of the rows that are ancestors of no row with one of the names, in the order in which they came, and the
+    /// name of the last row that the node made, if it made any. Names of no row count for nothing.
+    fn beyond(&mut self, names: &[Name]) -> Result<Parcel, Memory>
+        ensures lent { lent self.new ≡ lent self.old }
+        ensures waits { Waits rules (seen self.old) (seen self.new) }
+        ensures parcel { IfOk result (λ parcel. parcel ≡ beyond_of names.now (seen self.new).node) };
 
     /// Puts the bytes of an event. Only to accept it takes memory.
     fn put(&mut self, bytes: &[u8]) -> Result<PutAnswer, Memory>

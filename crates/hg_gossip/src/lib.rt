@@ -1,8 +1,8 @@
 //! Gossip: who holds a node takes from another what the node lacks (`pull`), and then makes an event on it (`sync`).
 //! The layers above use that the peer's rows whose names the taker lacks are put, in the peer's order, each at what was
 //! reached then, for others may change a shared node; of a `Node` alone `pulling_alone` and `syncing_alone` tell all.
-//! Each half stands by itself, on one node at a time: what a peer hands over (`held` and `missing`, or `lacked` between
-//! two nodes at hand), taking it (`take`, `take_events`), and the event that is made then (`make_after`).
+//! Each half stands by itself, on one node at a time: what a peer hands over (`held` and `missing`, `tips` and `beyond`, or
+//! `lacked` between two nodes at hand), taking it (`take`, `take_events`), and the event that is made then (`make_after`).
 //!
 //! From `meet` in the tests of `check_calls`:
 //!

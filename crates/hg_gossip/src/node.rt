@@ -116,6 +116,14 @@ impl<V: Signer> Holder for Node<V> {
         })
     }
 
+    fn tips(&mut self) -> Result<Vec<Name>, Memory> {
+        Node::tips(self)
+    }
+
+    fn beyond(&mut self, names: &[Name]) -> Result<Parcel, Memory> {
+        Node::beyond(self, names)
+    }
+
     fn put(&mut self, bytes: &[u8]) -> Result<PutAnswer, Memory> {
         Node::put(self, bytes)
     }

@@ -54,6 +54,14 @@ impl<'a, V: Signer + Drop, R: Wait> Holder for Seated<'a, V, R> {
         self.shared.missing(self.rt, alloc, self.seat, names)
     }
 
+    fn tips(&mut self) -> Result<Vec<Name>, Memory> {
+        self.shared.tips(self.rt, self.seat)
+    }
+
+    fn beyond(&mut self, names: &[Name]) -> Result<Parcel, Memory> {
+        self.shared.beyond(self.rt, self.seat, names)
+    }
+
     fn put(&mut self, bytes: &[u8]) -> Result<PutAnswer, Memory> {
         self.shared.put(self.rt, self.seat, bytes)
     }
