@@ -1,0 +1,99 @@
+ghost use Rattle.std.specs.Prelude.{◌≤◌};
+ghost use Rattle.hg_io.specs.Faults.{Rose};
+ghost use Rattle.hg_io.specs.FileView.{unknown};
+
+use hg_io::{Disk, Failed};
+use std::fs::{OpenFile, OpenOptions};
+use std::io;
+use std::io::{Read, Seek, SeekFrom, Write};
+use std::rt::Files;
+
+/// A file of the machine, opened for reading and writing, and made where it is not there. It tells nothing of what the
+/// file holds, nor of what a stop of the machine leaves.
+#[derive(Drop)]
+pub struct RealDisk<'a, R: Files> {
+    files: &'a R,
+    file: Option<R::File>,
+    faults: u64,
+}
+
+impl<'a, R: Files> RealDisk<'a, R> {
+    pub fn new(files: &'a R) -> RealDisk<'a, R> {
+        RealDisk {
+            files,
+            file: None,
+            faults: 0,
+        }
+    }
+}
+
+// Counts a fault.
+fn fault(faults: &mut u64) -> Failed
+    ensures rose { Rose faults.old faults.new }
+    ensures counts { faults.old ≤ faults.new }
+{
+    *faults = faults.saturating_add(1);
+    Failed
+}
+
+fn write_at<W: Write + Seek>(file: &mut W, at: u64, piece: &[u8]) -> io::Result<()> {
+    file.seek(SeekFrom::Start(at))?;
+    file.write_all(piece)
+}
+
+impl<R: Files> Disk for RealDisk<'_, R> {
+    ghost use Rattle.std.specs.Prelude.{IsSome};
+    ghost use Rattle.hg_io.specs.FileLaws.{unknown_is_file};
+
+    ghost file = { λ _. unknown };
+
+    ghost At = { λ s _. IsSome s.file };
+
+    ghost faults = { λ s _. s.faults };
+
+    ghost sound = { λ _. unknown_is_file };
+
+    fn start(&mut self, name: &str) -> Result<(), Failed> {
+        let mut how = OpenOptions::new();
+        how.read(true).write(true).create(true);
+        match how.open(self.files, name) {
+            Ok(file) => {
+                self.file = Some(file);
+                Ok(())
+            }
+            Err(_) => Err(fault(&mut self.faults)),
+        }
+    }
+
+    fn size(&mut self, _name: &str) -> Result<u64, Failed> {
+        match self.file.as_ref().unwrap().metadata() {
+            Ok(found) => Ok(found.len()),
+            Err(_) => Err(fault(&mut self.faults)),
+        }
+    }
+
+    fn read(&mut self, _name: &str, at: u64, buf: &mut [u8]) -> Result<usize, Failed> {
+        let file = self.file.as_mut().unwrap();
+        if file.seek(SeekFrom::Start(at)).is_err() {
+            return Err(fault(&mut self.faults));
+        }
+        match file.read(buf) {
+            Ok(count) => Ok(count),
+            Err(_) => Err(fault(&mut self.faults)),
+        }
+    }
+
+    fn write(&mut self, _name: &str, at: u64, piece: &[u8]) -> Result<(), Failed> {
+        match write_at(self.file.as_mut().unwrap(), at, piece) {
+            Ok(()) => Ok(()),
+            Err(_) => Err(fault(&mut self.faults)),
+        }
+    }
+
+    fn sync(&mut self, _name: &str) -> Result<(), Failed> {
+        match self.file.as_ref().unwrap().sync_all() {
+            Ok(()) => Ok(()),
+            Err(_) => Err(fault(&mut self.faults)),
+        }
+    }
+}
