@@ -3,7 +3,7 @@ use Rattle.std.proofs.Common.{◌≡◌, ℕ, ◌+◌, ◌-◌, ◌<◌, ◌≤�
 use Rattle.std.proofs.lemmas.Bool.{cases_eq, cases_lt}
 use Rattle.std.proofs.lemmas.List.{length_push, length-replicate, get_or-replicate, get_or-set_same, get_or-set_other, get_or_append_left, get_or_push, get_or_past}
 use Rattle.hg_branches.specs.declared.landmarks.NextRow.{NextRow}
-use Rattle.hg_branches.specs.Landmarks.{LandmarkView, landmark_at, noted_once, AreNotedOn, NotesBy, IsLastOn, HoldsChains, HoldsNewest, HoldsTops, HoldsNumbers}
+use Rattle.hg_branches.specs.Landmarks.{LandmarkView, landmark_at, no_landmark, noted_once, AreNotedOn, NotesBy, IsLastOn, HoldsChains, HoldsNewest, HoldsTops, HoldsNumbers}
 
 -- a zero behind a list changes nothing that is read
 pub zero_behind : (xs : List ℕ) (i : ℕ) → get_or (xs ++ 0 ∷ []) i 0 ≡ get_or xs i 0
@@ -66,23 +66,23 @@ stands_noted counts next old new done left i h = elim (cases_lt (landmark_at old
 ]
 
 -- what needed no note needs none while it stands
-pub left_noted : (known count b end c : ℕ) (old new : List LandmarkView) → ((i : ℕ) → i < length old → StandsAs (landmark_at new i) (landmark_at old i)) → length new ≡ length old →
-    ((i : ℕ) → (landmark_at old i).branch ≡ c → landmark_at new i ≡ landmark_at old i) → AreNotedOn c known count b end old → AreNotedOn c known count b end new
-left_noted known count b end c old new same long left noted i h on le =
+pub left_noted : (known count : ℕ) (next : NextRow) (c : ℕ) (old new : List LandmarkView) → ((i : ℕ) → i < length old → StandsAs (landmark_at new i) (landmark_at old i)) → length new ≡ length old →
+    ((i : ℕ) → (landmark_at old i).branch ≡ c → landmark_at new i ≡ landmark_at old i) → AreNotedOn c known count next old → AreNotedOn c known count next new
+left_noted known count next c old new same long left noted i h on le =
     let low : i < length old = omega arith in
     let was : (landmark_at old i).branch ≡ c = sym (same i low).1 ∙ on in
     let end_is = (same i low).0 in
-    subst (λ (k : LandmarkView). noted_once count b end k ≡ k) (sym (left i was)) (noted i low was (omega arith))
+    subst (λ (k : LandmarkView). noted_once count next k ≡ k) (sym (left i was)) (noted i low was (omega arith))
 
 -- one more landmark, later than the others
 module _ (old : List LandmarkView) (k : LandmarkView) (chains : HoldsChains old) where
   stays : (i : ℕ) → i < length old → StandsAs (landmark_at (old ++ k ∷ []) i) (landmark_at old i)
   stays i h =
-      let is : landmark_at (old ++ k ∷ []) i ≡ landmark_at old i = get_or_append_left old (k ∷ []) (record { end = 0; branch = 0; before = 0; firsts = [] }) i h in
+      let is : landmark_at (old ++ k ∷ []) i ≡ landmark_at old i = get_or_append_left old (k ∷ []) no_landmark i h in
       (ap (λ (k : LandmarkView). k.end) is, ap (λ (k : LandmarkView). k.branch) is, ap (λ (k : LandmarkView). k.before) is)
 
   pub begun_last : (i : ℕ) → i ≡ length old → landmark_at (old ++ k ∷ []) i ≡ k
-  begun_last i is = get_or_push old k (record { end = 0; branch = 0; before = 0; firsts = [] }) i (sym is)
+  begun_last i is = get_or_push old k no_landmark i (sym is)
 
   module _ (some : 0 < k.end) (later : 0 < length old → (landmark_at old (length old - 1)).end < k.end) where
     all_before : (i : ℕ) → i < length old → (landmark_at old i).end < k.end

@@ -1,12 +1,12 @@
 -- The columns of branches once a row has come
 use Rattle.std.proofs.Common.{◌≡◌, ◌≢◌, ℕ, ◌+◌, ◌-◌, ◌<◌, ◌≤◌, ◌^◌, eqb, true, cond, List, [], ◌∷◌, ◌++◌, length, get_or, sym, ap, ◌∙◌, subst, inl, inr, ◌⊎◌, arith}
 use Rattle.std.proofs.lemmas.Bool.{cases_eq, cases_lt, eqb-true, cases_Bool}
-use Rattle.std.proofs.lemmas.List.{length_push, get_or_append_left, get_or_push}
+use Rattle.std.proofs.lemmas.List.{length_push, get_or_append_left, get_or_past, get_or_push}
 use Rattle.hg_model.specs.Places.{has_place}
 use Rattle.hg_model.specs.Links.{Link, first_place}
 use Rattle.hg_model.specs.Ancestry.{is_self_ancestor}
 use Rattle.hg_model.specs.Shape.{FitsLink, link_of}
-use Rattle.hg_model.specs.Stakes.{Stakes, member_count}
+use Rattle.hg_model.specs.Stakes.{Stakes, member_count, stake_of}
 use Rattle.hg_model.proofs.ReachLaws.{has_place_first}
 use Rattle.hg_model.proofs.PushLaws.{shape-push}
 use Rattle.hg_branches.specs.Branches.{Branching, CountsAncestors, TakesRow, greatest_count}
@@ -22,6 +22,13 @@ pub record Serves (L : List Link) (branches makers : List ℕ) (link : Link) (b 
       (p : ℕ) × (has_place (first_place link.parents) p ≡ true) × (is_self_ancestor L p z ≡ true)
 
 module _ (n : Stakes) (L : List Link) (branches makers ends : List ℕ) (held : HoldsBranches n L branches makers ends) where
+  -- the member of a branch weighs no more than the branch's maker: it is its own, or none is
+  pub own_stake : (b : ℕ) → stake_of n b ≤ stake_of n (get_or makers b 0)
+  own_stake b = elim (cases_lt b (member_count n)) [
+    | inl own ↦ omega (arith, ap (stake_of n) (held.own b own))
+    | inr past ↦ omega (arith, get_or_past n b 0 past)
+  ]
+
   serves_new : (link : Link) → Serves L branches makers link (length ends)
   serves_new link = record {
     there = inl held.ends_all;
@@ -75,7 +82,7 @@ module _ (n : Stakes) (L : List Link) (branches makers ends : List ℕ) (held : 
     pub branch_last : get_or branches_grown (length L) 0 ≡ b
     branch_last = get_or_push branches b 0 (length L) held.rows
 
-    maker_of_last : get_or makers_grown b 0 ≡ link.creator
+    pub maker_of_last : get_or makers_grown b 0 ≡ link.creator
     maker_of_last = elim serves.there [
       | inl is ↦ maker_last makers b link.creator in_reach is
       | inr known ↦ maker_before makers b link.creator in_reach b known.0 ∙ known.1

@@ -1,5 +1,5 @@
 -- The first descendants that are landmarks once a row has come, and what they tell
-use Rattle.std.proofs.Common.{◌≡◌, ◌≢◌, ℕ, zero, suc, ◌+◌, ◌-◌, ◌<◌, ◌≤◌, ◌^◌, ◌||◌, ◌&&◌, eqb, nat_lt, nat_le, not, true, false, Bool, cond, min, List, [], ◌∷◌, ◌++◌, length, get_or, replicate, slice_index, slice_set, take, drop, sym, ap, ap₂, ◌∙◌, refl, subst, inl, inr, arith}
+use Rattle.std.proofs.Common.{◌≡◌, ◌≢◌, ℕ, ◌+◌, ◌-◌, ◌<◌, ◌≤◌, ◌^◌, ◌||◌, ◌&&◌, eqb, nat_lt, nat_le, not, true, false, Bool, cond, min, List, [], ◌∷◌, ◌++◌, length, get_or, replicate, slice_index, slice_set, take, drop, sym, ap, ◌∙◌, subst, inl, inr, arith}
 use Rattle.std.proofs.Math.Seq.{take-append_seam}
 use Rattle.std.proofs.lemmas.Bool.{cases_eq, cases_lt, cases_Bool, and_parts, and_from, or_cases, or_left, or_right, ltb-true, lt-ltb, leb-true, le-leb, eqb-true, eq-eqb, not-true, not_from_false, false_from_ne_true, both_ways}
 use Rattle.std.proofs.lemmas.List.{length_push, length-set, length-replicate, get_or-set_same, get_or-set_other, get_or_append_left, get_or_push, get_or_past}
@@ -12,16 +12,19 @@ use Rattle.hg_model.specs.Seeing.{sees_through, strongly_sees, is_supermajority}
 use Rattle.hg_model.specs.Shape.{FitsLink, link_of}
 use Rattle.hg_model.proofs.PlacesLaws.{some_below_from, some_below_found, weight_below-same, weight_below_none}
 use Rattle.hg_model.proofs.WeightLaws.{weight_below_both}
+use Rattle.hg_model.proofs.StakeLaws.{stake_where-total}
 use Rattle.hg_model.proofs.ReachLaws.{bool_iff, has_place_first}
+use Rattle.hg_branches.specs.declared.landmarks.NextRow.{NextRow}
 use Rattle.hg_branches.specs.Branches.{Branching, CountsAncestors, FirstDescendants, greatest_count}
 use Rattle.hg_branches.specs.Rows.{known_place}
-use Rattle.hg_branches.specs.Columns.{branching_of, count_in, next_branch, HoldsBranches, HoldsCounts, with_branch}
-use Rattle.hg_branches.specs.Landmarks.{LandmarkView, landmark_at, no_first, is_first, noted, noted_once, AreNotedOn, IsLastOn, HoldsFirsts, HoldsLandmarks, HoldsTops}
+use Rattle.hg_branches.specs.Columns.{branching_of, count_in, next_branch, put_at, HoldsBranches, HoldsCounts, with_branch}
+use Rattle.hg_branches.specs.Landmarks.{LandmarkView, landmark_at, no_first, no_landmark, is_first, is_reached, noted, noted_once, with_stake, AreNotedOn, IsLastOn, IsWeighed, HoldsFirsts, HoldsLandmarks, HoldsTops}
 use Rattle.hg_branches.specs.Lines.{sees_on, own_sees, others_see}
 use Rattle.hg_branches.proofs.FirstLaws.{firsts_begin, firsts_next}
+use Rattle.hg_branches.proofs.ReachedLaws.{alone_reached, one_more_reached}
 use Rattle.hg_branches.proofs.SeenLaws.{by_branches, seen_by_branches, counted_sound, counted_complete}
 use Rattle.hg_branches.proofs.LineSeenLaws.{sound_on, complete_on, none_on}
-use Rattle.hg_branches.proofs.HeldLaws.{Serves, row_taken, branch_last, in_reach}
+use Rattle.hg_branches.proofs.HeldLaws.{Serves, row_taken, branch_last, branches_hold, in_reach, maker_of_last, own_stake}
 use Rattle.hg_branches.proofs.PutLaws.{opened_reads, opened_long}
 use Rattle.hg_branches.proofs.ChainLaws.{zero_behind, read_zeros, StandsAs, chains_noted, newest_noted, numbers_noted, begun_last, chains_begun, newest_begun, numbers_begun}
 
@@ -32,45 +35,55 @@ le_is_lt e count some = bool_iff (nat_le e count) (nat_lt (e - 1) count)
     (λ h. (let le : e ≤ count = leb-true e count h in lt-ltb (e - 1) count (omega arith)))
     (λ h. (let less : e - 1 < count = ltb-true (e - 1) count h in le-leb e count (omega arith)))
 
-module _ (count b end : ℕ) (k : LandmarkView) where
-  first_set : is_first count b end k ≡ true → (noted_once count b end k).firsts ≡ slice_set k.firsts b end
-  first_set h = ap (λ c. cond c (slice_set k.firsts b end) k.firsts) h
+module _ (count : ℕ) (next : NextRow) (k : LandmarkView) where
+  abbrev set : List ℕ
+  set = slice_set k.firsts next.branch next.end
 
-  first_left : is_first count b end k ≡ false → (noted_once count b end k).firsts ≡ k.firsts
-  first_left h = ap (λ c. cond c (slice_set k.firsts b end) k.firsts) h
+  abbrev after : LandmarkView
+  after = noted_once count next k
+
+  first_set : is_first count next k ≡ true → after.firsts ≡ set
+  first_set h = ap (λ c. cond c set k.firsts) h
 
   -- nothing, where the row is no first descendant there
-  pub noted_same : is_first count b end k ≡ false → noted_once count b end k ≡ k
-  noted_same h = ap (λ (f : List ℕ). record { end = k.end; branch = k.branch; before = k.before; firsts = f }) (first_left h)
+  pub noted_same : is_first count next k ≡ false → after ≡ k
+  noted_same h = ap (λ c. record { end = k.end; branch = k.branch; before = k.before; firsts = cond c set k.firsts; reached = cond c (with_stake k.reached next.stake) k.reached }) h
 
-  pub not_counted : count < k.end → noted_once count b end k ≡ k
-  not_counted less = noted_same (false_from_ne_true (is_first count b end k) (λ h.
-      let le : k.end ≤ count = leb-true k.end count (and_parts (nat_le k.end count) (nat_lt end (slice_index k.firsts b)) h).0 in absurd (omega arith)))
+  first_left : is_first count next k ≡ false → after.firsts ≡ k.firsts
+  first_left h = ap (λ (k : LandmarkView). k.firsts) (noted_same h)
 
-  pub not_later : slice_index k.firsts b ≤ end → noted_once count b end k ≡ k
-  not_later le = noted_same (false_from_ne_true (is_first count b end k) (λ h.
-      let less : end < slice_index k.firsts b = ltb-true end (slice_index k.firsts b) (and_parts (nat_le k.end count) (nat_lt end (slice_index k.firsts b)) h).1 in absurd (omega arith)))
+  pub not_counted : count < k.end → after ≡ k
+  not_counted less = noted_same (false_from_ne_true (is_first count next k) (λ h.
+      let le : k.end ≤ count = leb-true k.end count (and_parts (nat_le k.end count) (nat_lt next.end (slice_index k.firsts next.branch)) h).0 in absurd (omega arith)))
 
-  noted_long : length (noted_once count b end k).firsts ≡ length k.firsts
-  noted_long = elim (cases_Bool (is_first count b end k)) [
-    | inl first ↦ ap length (first_set first) ∙ length-set k.firsts b end
+  pub not_later : slice_index k.firsts next.branch ≤ next.end → after ≡ k
+  not_later le = noted_same (false_from_ne_true (is_first count next k) (λ h.
+      let less : next.end < slice_index k.firsts next.branch =
+      ltb-true next.end (slice_index k.firsts next.branch) (and_parts (nat_le k.end count) (nat_lt next.end (slice_index k.firsts next.branch)) h).1 in absurd (omega arith)))
+
+  noted_long : length after.firsts ≡ length k.firsts
+  noted_long = elim (cases_Bool (is_first count next k)) [
+    | inl first ↦ ap length (first_set first) ∙ length-set k.firsts next.branch next.end
     | inr not_first ↦ ap length (first_left not_first)
   ]
 
-  noted_other : (i : ℕ) → i ≢ b → slice_index (noted_once count b end k).firsts i ≡ slice_index k.firsts i
-  noted_other i other = elim (cases_Bool (is_first count b end k)) [
-    | inl first ↦ ap (λ (f : List ℕ). slice_index f i) (first_set first) ∙ get_or-set_other k.firsts b i end 0 other
+  noted_other : (i : ℕ) → i ≢ next.branch → slice_index after.firsts i ≡ slice_index k.firsts i
+  noted_other i other = elim (cases_Bool (is_first count next k)) [
+    | inl first ↦ ap (λ (f : List ℕ). slice_index f i) (first_set first) ∙ get_or-set_other k.firsts next.branch i next.end 0 other
     | inr not_first ↦ ap (λ (f : List ℕ). slice_index f i) (first_left not_first)
   ]
 
-  noted_here : b < length k.firsts → slice_index (noted_once count b end k).firsts b ≡ cond (nat_le k.end count) (min (slice_index k.firsts b) end) (slice_index k.firsts b)
+  noted_here : next.branch < length k.firsts →
+      slice_index after.firsts next.branch ≡ cond (nat_le k.end count) (min (slice_index k.firsts next.branch) next.end) (slice_index k.firsts next.branch)
   noted_here inside = elim (cases_lt count k.end) [
-    | inl less ↦ ap (λ (k : LandmarkView). slice_index k.firsts b) (not_counted less)
-        ∙ ap (λ c. cond c (min (slice_index k.firsts b) end) (slice_index k.firsts b)) (sym (false_from_ne_true (nat_le k.end count) (λ h. (let le : k.end ≤ count = leb-true k.end count h in absurd (omega arith)))))
-    | inr counted ↦ elim (cases_lt end (slice_index k.firsts b)) [
-      | inl later ↦ ap (λ (f : List ℕ). slice_index f b) (first_set (and_from (nat_le k.end count) (nat_lt end (slice_index k.firsts b)) (le-leb k.end count counted) (lt-ltb end (slice_index k.firsts b) later)))
-          ∙ (get_or-set_same k.firsts b end 0 inside ∙ (lesser later ∙ by_count counted))
-      | inr no_later ↦ ap (λ (k : LandmarkView). slice_index k.firsts b) (not_later no_later) ∙ (greater no_later ∙ by_count counted)
+    | inl less ↦ ap (λ (k : LandmarkView). slice_index k.firsts next.branch) (not_counted less)
+        ∙ ap (λ c. cond c (min (slice_index k.firsts next.branch) next.end) (slice_index k.firsts next.branch))
+        (sym (false_from_ne_true (nat_le k.end count) (λ h. (let le : k.end ≤ count = leb-true k.end count h in absurd (omega arith)))))
+    | inr counted ↦ elim (cases_lt next.end (slice_index k.firsts next.branch)) [
+      | inl later ↦ ap (λ (f : List ℕ). slice_index f next.branch) (first_set (and_from (nat_le k.end count) (nat_lt next.end (slice_index k.firsts next.branch))
+          (le-leb k.end count counted) (lt-ltb next.end (slice_index k.firsts next.branch) later)))
+          ∙ (get_or-set_same k.firsts next.branch next.end 0 inside ∙ (lesser later ∙ by_count counted))
+      | inr no_later ↦ ap (λ (k : LandmarkView). slice_index k.firsts next.branch) (not_later no_later) ∙ (greater no_later ∙ by_count counted)
     ]
   ]
     where
@@ -80,17 +93,28 @@ module _ (count b end : ℕ) (k : LandmarkView) where
       greater : {a c : ℕ} → c ≤ a → c ≡ min c a
       greater h = omega arith
 
-      by_count : k.end ≤ count → min (slice_index k.firsts b) end ≡ cond (nat_le k.end count) (min (slice_index k.firsts b) end) (slice_index k.firsts b)
-      by_count le = ap (λ c. cond c (min (slice_index k.firsts b) end) (slice_index k.firsts b)) (sym (le-leb k.end count le))
+      by_count : k.end ≤ count → min (slice_index k.firsts next.branch) next.end ≡ cond (nat_le k.end count) (min (slice_index k.firsts next.branch) next.end) (slice_index k.firsts next.branch)
+      by_count le = ap (λ c. cond c (min (slice_index k.firsts next.branch) next.end) (slice_index k.firsts next.branch)) (sym (le-leb k.end count le))
 
-module _ (n : Stakes) (L : List Link) (branches makers ends : List ℕ) (held : HoldsBranches n L branches makers ends) (link : Link) (fits : FitsLink n L link)
+  -- the stake of the branch's member makes up for what that adds to those who are reached
+  pub weighed_noted : (n : Stakes) → total n ≤ 2 ^ 39 → stake_of n next.branch ≤ next.stake → IsWeighed n k → IsWeighed n after
+  weighed_noted n low enough weighed = elim (cases_Bool (is_first count next k)) [
+    | inl first ↦
+        (let sum : after.reached ≡ with_stake k.reached next.stake = ap (λ c. cond c (with_stake k.reached next.stake) k.reached) first in
+        let one = one_more_reached n next.branch k.firsts after.firsts noted_other in
+        omega (arith, sum, one, low, enough, weighed, stake_where-total n (is_reached after.firsts)))
+    | inr not_first ↦ subst (IsWeighed n) (sym (noted_same not_first)) weighed
+  ]
+
+module _ (n : Stakes) (L : List Link) (branches makers ends : List ℕ) (held : HoldsBranches n L branches makers ends) (low : total n ≤ 2 ^ 39) (link : Link) (fits : FitsLink n L link)
     (b : ℕ) (serves : Serves L branches makers link b) (row : List ℕ) (counted : CountsAncestors (L ++ link ∷ []) (branching_of (branches ++ b ∷ []) (with_branch makers b link.creator)) (length L) (slice_index row))
     (short : length L + 1 < 2 ^ 16 - 1) where
   abbrev C : Branching
   C = branching_of (branches ++ b ∷ []) (with_branch makers b link.creator)
 
-  abbrev end : ℕ
-  end = length L + 1
+  -- where the new row stands, and what its creator weighs
+  abbrev next : NextRow
+  next = record { branch = b; end = length L + 1; stake = stake_of n link.creator }
 
   -- the new row's counts tell its earlier ancestors
   above_is : (y : ℕ) → y < length L → nat_lt y (slice_index row (slice_index branches y)) ≡ is_ancestor (L ++ link ∷ []) (length L) y
@@ -99,7 +123,12 @@ module _ (n : Stakes) (L : List Link) (branches makers ends : List ℕ) (held : 
       ap (λ k. nat_lt y (slice_index row k)) (sym (get_or_append_left branches (b ∷ []) 0 y (omega arith)))
       ∙ counted.told y (omega (arith, length_push L link))
 
-  pub holds_noted : (k : LandmarkView) → HoldsFirsts n L branches makers k → HoldsFirsts n (L ++ link ∷ []) (branches ++ b ∷ []) (with_branch makers b link.creator) (noted row b end k)
+  -- a member's own branch has its creator as maker
+  enough : stake_of n b ≤ stake_of n link.creator
+  enough = subst (λ m. stake_of n b ≤ stake_of n m) (maker_of_last n L branches makers ends held link fits b serves)
+      (own_stake n (L ++ link ∷ []) (branches ++ b ∷ []) (with_branch makers b link.creator) (put_at ends b (length L + 1)) (branches_hold n L branches makers ends held link fits b serves short) b)
+
+  pub holds_noted : (k : LandmarkView) → HoldsFirsts n L branches makers k → HoldsFirsts n (L ++ link ∷ []) (branches ++ b ∷ []) (with_branch makers b link.creator) (noted row next k)
   holds_noted k holds =
       let some = holds.some in
       let inside = holds.inside in
@@ -114,19 +143,20 @@ module _ (n : Stakes) (L : List Link) (branches makers ends : List ℕ) (held : 
       record {
         some = some;
         inside = omega (arith, length_push L link);
-        long = noted_long count b end k ∙ long;
+        long = noted_long count next k ∙ long;
         on = get_or_append_left branches (b ∷ []) 0 y (omega arith) ∙ holds.on;
         told = firsts_next n L link held.shaped fits (branching_of branches makers) C held.lines (row_taken n L branches makers ends held link fits b serves) (member_count n) no_first y
-            (slice_index k.firsts) (slice_index (noted row b end k).firsts) below (omega arith) holds.told
-            (λ i hi off. noted_other count b end k i (λ e. off (e ∙ sym last)))
-            (λ hb. ap (slice_index (noted row b end k).firsts) last
-            ∙ (noted_here count b end k (let low = subst (λ k. k < member_count n) last hb in omega arith)
-            ∙ (ap (λ c. cond c (min (slice_index k.firsts b) end) (slice_index k.firsts b)) up
-            ∙ ap (λ j. cond (is_ancestor (L ++ link ∷ []) (length L) y) (min (slice_index k.firsts j) end) (slice_index k.firsts j)) (sym last))));
+            (slice_index k.firsts) (slice_index (noted row next k).firsts) below (omega arith) holds.told
+            (λ i hi off. noted_other count next k i (λ e. off (e ∙ sym last)))
+            (λ hb. ap (slice_index (noted row next k).firsts) last
+            ∙ (noted_here count next k (let low = subst (λ k. k < member_count n) last hb in omega arith)
+            ∙ (ap (λ c. cond c (min (slice_index k.firsts b) (length L + 1)) (slice_index k.firsts b)) up
+            ∙ ap (λ j. cond (is_ancestor (L ++ link ∷ []) (length L) y) (min (slice_index k.firsts j) (length L + 1)) (slice_index k.firsts j)) (sym last))));
+        weighed = weighed_noted count next k n low enough holds.weighed;
       }
 
   pub landmarks_more : (old new : List LandmarkView) (newest numbers : List ℕ) → HoldsLandmarks n L branches makers old newest numbers → length new ≡ length old →
-      ((i : ℕ) → i < length old → landmark_at new i ≡ noted row b (length L + 1) (landmark_at old i)) →
+      ((i : ℕ) → i < length old → landmark_at new i ≡ noted row next (landmark_at old i)) →
       HoldsLandmarks n (L ++ link ∷ []) (branches ++ b ∷ []) (with_branch makers b link.creator) new (with_branch newest b 0) (numbers ++ 0 ∷ [])
   landmarks_more old new newest numbers landmarks long each =
       let reach = in_reach n L branches makers ends held link fits b serves in
@@ -147,9 +177,10 @@ module _ (n : Stakes) (L : List Link) (branches makers ends : List ℕ) (held : 
 -- what the self-parent has as ancestor needs no note: on the next row's branch it has a descendant already
 pub noted_on : (n : Stakes) (L : List Link) (branches makers ends : List ℕ) → HoldsBranches n L branches makers ends → (counts : List (List ℕ)) → HoldsCounts n L branches makers counts →
     (landmarks : List LandmarkView) (newest numbers : List ℕ) → HoldsLandmarks n L branches makers landmarks newest numbers → (on : List ℕ) (by : ℕ) → FitsLink n L (link_of by on) → (row : List ℕ) →
-    ((i : ℕ) → i ≢ next_branch branches ends on by → get_or row i 0 ≡ greatest_count (count_in counts) on i) → (c : ℕ) →
-    AreNotedOn c (get_or (get_or (counts ++ row ∷ []) (known_place on (length L)) []) c 0) (get_or row c 0) (next_branch branches ends on by) (length L + 1) landmarks
-noted_on n L branches makers ends held counts rows landmarks newest numbers holds [] by fits row others c i h is_on le =
+    ((i : ℕ) → i ≢ next_branch branches ends on by → get_or row i 0 ≡ greatest_count (count_in counts) on i) → (stake c : ℕ) →
+    AreNotedOn c (get_or (get_or (counts ++ row ∷ []) (known_place on (length L)) []) c 0) (get_or row c 0)
+    (record { branch = next_branch branches ends on by; end = length L + 1; stake = stake }) landmarks
+noted_on n L branches makers ends held counts rows landmarks newest numbers holds [] by fits row others stake c i h is_on le =
     let k : LandmarkView = landmark_at landmarks i in
     let firsts = holds.each i h in
     let some = firsts.some in
@@ -173,7 +204,7 @@ noted_on n L branches makers ends held counts rows landmarks newest numbers hold
           ])
       | inr other ↦ (let none : get_or row c 0 ≡ 0 = others c other in absurd (omega arith))
     ]
-noted_on n L branches makers ends held counts rows landmarks newest numbers holds (p ∷ ps) by fits row others c i h is_on le =
+noted_on n L branches makers ends held counts rows landmarks newest numbers holds (p ∷ ps) by fits row others stake c i h is_on le =
     let k : LandmarkView = landmark_at landmarks i in
     let firsts = holds.each i h in
     let some = firsts.some in
@@ -187,7 +218,7 @@ noted_on n L branches makers ends held counts rows landmarks newest numbers hold
     (let same : count_in counts p (get_or branches y 0) ≡ count_in counts p c = ap (count_in counts p) (firsts.on ∙ is_on) in omega arith) in
     let all = held.ends_all in
     let wide = held.all in
-    not_later (get_or row c 0) (next_branch branches ends (p ∷ ps) by) (length L + 1) k
+    not_later (get_or row c 0) (record { branch = next_branch branches ends (p ∷ ps) by; end = length L + 1; stake = stake }) k
     (elim (cases_lt (next_branch branches ends (p ∷ ps) by) (member_count n)) [
       | inl own ↦ elim (cases_Bool (eqb (get_or ends branch 0) (p + 1))) [
         | inl last ↦
@@ -228,8 +259,8 @@ refilled n new old long = ap (λ k. take k (new ++ drop (length new) old)) (sym 
 -- the last row, when it begins to be landmarks
 pub holds_begun : (n : Stakes) (L : List Link) (branches makers ends : List ℕ) → HoldsBranches n L branches makers ends → (k : LandmarkView) → 0 < k.end → length L ≡ k.end → length k.firsts ≡ member_count n →
     slice_index branches (k.end - 1) ≡ k.branch → (k.branch < member_count n → slice_index k.firsts k.branch ≡ k.end) → ((b : ℕ) → b < member_count n → b ≢ k.branch → slice_index k.firsts b ≡ no_first) →
-    HoldsFirsts n L branches makers k
-holds_begun n L branches makers ends held k some last long on own others = record {
+    stake_of n k.branch ≤ k.reached → HoldsFirsts n L branches makers k
+holds_begun n L branches makers ends held k some last long on own others enough = record {
   some = some;
   inside = omega arith;
   long = long;
@@ -237,6 +268,7 @@ holds_begun n L branches makers ends held k some last long on own others = recor
   told = firsts_begin (member_count n) no_first L (branching_of branches makers) (k.end - 1) (slice_index k.firsts) held.shaped.earlier held.lines (omega arith) (let short = held.short in omega arith)
       (λ low. ap (slice_index k.firsts) on ∙ (own (subst (λ c. c < member_count n) on low) ∙ ends_some k.end some))
       (λ b low other. others b low (λ e. other (e ∙ sym on)));
+  weighed = omega (arith, enough, alone_reached n k.branch k.firsts others);
 }
   where
     ends_some : (e : ℕ) → 0 < e → e ≡ (e - 1) + 1
@@ -251,7 +283,7 @@ landmarks_begun n L branches makers landmarks newest numbers holds k first last 
     let some = first.some in
     record {
       each = λ i h. elim (cases_lt i (length landmarks)) [
-        | inl earlier ↦ subst (HoldsFirsts n L branches makers) (sym (get_or_append_left landmarks (k ∷ []) (record { end = 0; branch = 0; before = 0; firsts = [] }) i earlier)) (holds.each i earlier)
+        | inl earlier ↦ subst (HoldsFirsts n L branches makers) (sym (get_or_append_left landmarks (k ∷ []) no_landmark i earlier)) (holds.each i earlier)
         | inr past ↦ subst (HoldsFirsts n L branches makers) (sym (begun_last landmarks k holds.chains i (omega (arith, length_push landmarks k)))) first
       ];
       chains = chains_begun landmarks k holds.chains some later (subst (IsLastOn landmarks (length landmarks) k.branch) (sym before) (holds.by_branch k.branch));

@@ -1,27 +1,45 @@
 -- What is noted of rows for strongly seeing them
-use Rattle.std.specs.Prelude.{◌≡◌, ◌≢◌, ℕ, ◌+◌, ◌-◌, ◌<◌, ◌≤◌, ◌&&◌, nat_lt, nat_le, min, Bool, cond, List, [], length, get_or, slice_index, slice_set, Option, Some, None}
-use Rattle.hg_model.specs.Places.{count_below}
-use Rattle.hg_model.specs.Stakes.{Stakes, member_count}
+use Rattle.std.specs.Prelude.{◌≡◌, ◌≢◌, ℕ, ◌+◌, ◌-◌, ◌^◌, ◌<◌, ◌≤◌, ◌&&◌, nat_lt, nat_le, min, Bool, false, cond, List, [], length, get_or, slice_index, slice_set, Option, Some, None}
+use Rattle.hg_model.specs.Stakes.{Stakes, member_count, stake_where}
 use Rattle.hg_model.specs.Links.{Link}
 use Rattle.hg_branches.specs.Branches.{FirstDescendants}
 use Rattle.hg_branches.specs.Columns.{branching_of}
+use Rattle.hg_branches.specs.Lines.{is_strong_by_own}
 use Rattle.hg_branches.specs.declared.landmarks.NextRow.{NextRow}
 
 -- what stands where a branch has no descendant
 abbrev pub no_first : ℕ
 no_first = 65535
 
--- one more than the place of the row; its branch; the number of the landmark before it on that branch, or 0; and for each
--- member's own branch its first descendant. The number of a landmark is one more than its index
+-- one more than the place of the row; its branch; the number of the landmark before it on that branch, or 0; for each
+-- member's own branch its first descendant; and what those members weigh at most who have one. The number of a landmark is
+-- one more than its index
 pub record LandmarkView : Type 0 where
   pub end : ℕ
   pub branch : ℕ
   pub before : ℕ
   pub firsts : List ℕ
+  pub reached : ℕ
+
+-- what is read where there is no landmark
+abbrev pub no_landmark : LandmarkView
+no_landmark = record { end = 0; branch = 0; before = 0; firsts = []; reached = 0 }
 
 -- the landmark at this index
 abbrev pub landmark_at : List LandmarkView → ℕ → LandmarkView
-landmark_at landmarks i = get_or landmarks i (record { end = 0; branch = 0; before = 0; firsts = [] })
+landmark_at landmarks i = get_or landmarks i no_landmark
+
+-- member m has a descendant on its own branch
+abbrev pub is_reached : List ℕ → ℕ → Bool
+is_reached firsts m = nat_lt (slice_index firsts m) no_first
+
+-- the members who have one weigh no more than is noted
+abbrev pub IsWeighed : Stakes → LandmarkView → Type 0
+IsWeighed n k = stake_where n (is_reached k.firsts) ≤ k.reached
+
+-- no counts of a row tell of first descendants with more than two thirds of the stake
+abbrev pub IsNeverStrong : Stakes → List ℕ → Type 0
+IsNeverStrong n firsts = (counts : List ℕ) → ((b : ℕ) → b < member_count n → slice_index counts b < no_first) → is_strong_by_own n firsts counts ≡ false
 
 -- a landmark has the first descendants of a row of the graph
 pub record HoldsFirsts (n : Stakes) (L : List Link) (branches makers : List ℕ) (k : LandmarkView) : Type 0 where
@@ -30,6 +48,7 @@ pub record HoldsFirsts (n : Stakes) (L : List Link) (branches makers : List ℕ)
   pub long : length k.firsts ≡ member_count n
   pub on : slice_index branches (k.end - 1) ≡ k.branch
   pub told : FirstDescendants (member_count n) no_first L (branching_of branches makers) (k.end - 1) (slice_index k.firsts)
+  pub weighed : IsWeighed n k
 
 -- of the first `many` landmarks the last on branch c has this number, or it is 0 where none is on c
 pub record IsLastOn (landmarks : List LandmarkView) (many c number : ℕ) : Type 0 where
@@ -60,39 +79,49 @@ pub record HoldsLandmarks (n : Stakes) (L : List Link) (branches makers : List �
   pub by_place : HoldsNumbers landmarks numbers
   pub numbers_all : length numbers ≤ length L
 
--- the landmark is an ancestor of the next row, which counts so much of its branch and has this end of branch b, and of none
--- before it there
-abbrev pub is_first : ℕ → ℕ → ℕ → LandmarkView → Bool
-is_first count b end k = nat_le k.end count && nat_lt end (slice_index k.firsts b)
+-- the landmark is an ancestor of the next row, which counts so much of its branch, and of no row before it on the branch of
+-- that one
+abbrev pub is_first : ℕ → NextRow → LandmarkView → Bool
+is_first count next k = nat_le k.end count && nat_lt next.end (slice_index k.firsts next.branch)
+
+-- what members weigh at most with one of this stake more
+abbrev pub with_stake : ℕ → ℕ → ℕ
+with_stake reached stake = min (reached + stake) (2 ^ 64 - 1)
 
 -- what is noted once that row has come
-abbrev pub noted_once : ℕ → ℕ → ℕ → LandmarkView → LandmarkView
-noted_once count b end k = record { end = k.end; branch = k.branch; before = k.before; firsts = cond (is_first count b end k) (slice_set k.firsts b end) k.firsts }
+abbrev pub noted_once : ℕ → NextRow → LandmarkView → LandmarkView
+noted_once count next k = record {
+  end = k.end;
+  branch = k.branch;
+  before = k.before;
+  firsts = cond (is_first count next k) (slice_set k.firsts next.branch next.end) k.firsts;
+  reached = cond (is_first count next k) (with_stake k.reached next.stake) k.reached;
+}
 
 -- the same by what the row counts of each branch
-abbrev pub noted : List ℕ → ℕ → ℕ → LandmarkView → LandmarkView
-noted counts b end k = noted_once (slice_index counts k.branch) b end k
+abbrev pub noted : List ℕ → NextRow → LandmarkView → LandmarkView
+noted counts next k = noted_once (slice_index counts k.branch) next k
 
 -- the landmarks of branch c up to this end need no note
-abbrev pub AreNotedOn : ℕ → ℕ → ℕ → ℕ → ℕ → List LandmarkView → Type 0
-AreNotedOn c known count b end landmarks =
-    (i : ℕ) → i < length landmarks → (landmark_at landmarks i).branch ≡ c → (landmark_at landmarks i).end ≤ known → noted_once count b end (landmark_at landmarks i) ≡ landmark_at landmarks i
+abbrev pub AreNotedOn : ℕ → ℕ → ℕ → NextRow → List LandmarkView → Type 0
+AreNotedOn c known count next landmarks =
+    (i : ℕ) → i < length landmarks → (landmark_at landmarks i).branch ≡ c → (landmark_at landmarks i).end ≤ known → noted_once count next (landmark_at landmarks i) ≡ landmark_at landmarks i
 
 -- the same where these are the counts of the self-parent and of the row
 abbrev pub AreNotedBy : List ℕ → List ℕ → NextRow → List LandmarkView → ℕ → Type 0
-AreNotedBy known counts next landmarks c = AreNotedOn c (slice_index known c) (slice_index counts c) next.branch next.end landmarks
+AreNotedBy known counts next landmarks c = AreNotedOn c (slice_index known c) (slice_index counts c) next landmarks
 
 -- the landmarks of branch c are noted
-abbrev pub NotesOn : ℕ → ℕ → ℕ → ℕ → List LandmarkView → List LandmarkView → Type 0
-NotesOn c count b end old new = (i : ℕ) → i < length old → (landmark_at old i).branch ≡ c → landmark_at new i ≡ noted_once count b end (landmark_at old i)
+abbrev pub NotesOn : ℕ → ℕ → NextRow → List LandmarkView → List LandmarkView → Type 0
+NotesOn c count next old new = (i : ℕ) → i < length old → (landmark_at old i).branch ≡ c → landmark_at new i ≡ noted_once count next (landmark_at old i)
 
 -- the same by the counts of the row
 abbrev pub NotesBy : List ℕ → NextRow → List LandmarkView → List LandmarkView → ℕ → Type 0
-NotesBy counts next old new c = NotesOn c (slice_index counts c) next.branch next.end old new
+NotesBy counts next old new c = NotesOn c (slice_index counts c) next old new
 
 -- each landmark is noted
 abbrev pub NotesAll : List ℕ → NextRow → List LandmarkView → List LandmarkView → Type 0
-NotesAll counts next old new = (i : ℕ) → i < length old → landmark_at new i ≡ noted counts next.branch next.end (landmark_at old i)
+NotesAll counts next old new = (i : ℕ) → i < length old → landmark_at new i ≡ noted counts next (landmark_at old i)
 
 -- those of branch k and the ones behind it stay
 abbrev pub LeavesFrom : ℕ → List LandmarkView → List LandmarkView → Type 0
@@ -110,15 +139,6 @@ AreNews known tops counts news =
 -- no landmark of a branch is later than its top
 abbrev pub HoldsTops : List LandmarkView → List ℕ → Type 0
 HoldsTops landmarks tops = (i : ℕ) → i < length landmarks → (landmark_at landmarks i).end ≤ slice_index tops (landmark_at landmarks i).branch
-
--- member m has a descendant on its own branch
-abbrev pub is_reached : List ℕ → ℕ → Bool
-is_reached firsts m = nat_lt (slice_index firsts m) no_first
-
--- no more members than these have one
-pub record ReachesFew (firsts : List ℕ) (reached : ℕ) : Type 0 where
-  pub few : length firsts ≤ 128
-  pub most : count_below (length firsts) (is_reached firsts) ≤ reached
 
 -- the memory for one more landmark, if there is any
 abbrev pub IsSpareLandmark : ℕ → Option LandmarkView → Type 0

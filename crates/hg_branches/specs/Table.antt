@@ -1,5 +1,5 @@
 -- A table of counts in flat memory: what it shows, and what its memory tells
-use Rattle.std.specs.Prelude.{◌≡◌, ◌≢◌, ℕ, ◌+◌, ◌-◌, ◌*◌, ◌<◌, ◌≤◌, ◌^◌, ◌==◌, ◌&&◌, nat_lt, nat_le, Bool, cond, List, [], ◌∷◌, ◌++◌, length, slice_index, slice_index_or}
+use Rattle.std.specs.Prelude.{◌≡◌, ◌≢◌, ℕ, ◌+◌, ◌-◌, ◌*◌, ◌<◌, ◌≤◌, ◌^◌, ◌==◌, ◌&&◌, nat_lt, nat_le, Bool, cond, List, [], ◌∷◌, ◌++◌, length, slice_index, slice_index_or, take}
 use Rattle.std.specs.List.{AllByRecursion}
 use Rattle.hg_model.specs.Places.{table}
 use Rattle.hg_blocks.specs.Rows.{RowsWithRoom}
@@ -13,6 +13,10 @@ pub record CountsWithRoom : Type 0 where
   pub members : ℕ
   pub rows : List (List ℕ)
   pub room : ℕ
+
+-- what row x counts of the members' own branches
+abbrev pub own_counts : CountsWithRoom → ℕ → List ℕ
+own_counts t x = take t.members (slice_index_or t.rows x [])
 
 -- what a row counts on these parents, if it stands on this branch and its end is one more than the rows before it
 pub record IsNextCounts (members : ℕ) (rows : List (List ℕ)) (on : List ℕ) (branch : ℕ) (row : List ℕ) : Type 0 where

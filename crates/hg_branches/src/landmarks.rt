@@ -1,9 +1,13 @@
-ghost use Rattle.std.specs.Prelude.{◌≡◌, ◌≢◌, ◌<◌, ◌≤◌, ◌-◌, ℕ, length, slice_index, IfOk};
-ghost use Rattle.hg_branches.specs.Landmarks.{landmark_at, no_first, noted_once, AreNews, AreNotedBy, AreNotedOn, HoldsChains, HoldsNewest, HoldsTops, IsLastOn, LeavesBelow, LeavesFrom, NotesAll, NotesBy, NotesOn};
+ghost use Rattle.std.specs.Prelude.{◌≡◌, ◌≢◌, ◌<◌, ◌≤◌, ◌-◌, ℕ, cond, nat_lt, not, true, length, slice_index, IfOk};
+ghost use Rattle.hg_model.specs.Stakes.{total};
+ghost use Rattle.hg_model.specs.Seeing.{is_supermajority};
+ghost use Rattle.hg_branches.specs.Landmarks.{landmark_at, no_first, noted_once, AreNews, AreNotedBy, AreNotedOn, HoldsChains, HoldsNewest, HoldsTops, IsLastOn, IsNeverStrong, IsWeighed, LeavesBelow, LeavesFrom, NotesAll, NotesBy, NotesOn};
 ghost use Rattle.hg_branches.specs.Lines.{is_strong_by_own};
+ghost use Rattle.hg_branches.specs.Table.{own_counts};
 
 use crate::branches::zeros;
 use crate::counts::{RowCounts, count_at};
+use crate::table::CountTable;
 use hg_bits::StakeTable;
 use hg_model::Memory;
 use std::alloc::Global;
@@ -12,11 +16,12 @@ use std::marker::Model;
 /// In place of a first descendant where there is none. A graph's ends are lower.
 const NO_FIRST: u16 = 65_535;
 
-/// Where the next row stands: its branch, and one more than its place.
+/// Where the next row stands, which is its branch and one more than its place, and what its creator weighs.
 #[derive(Clone, Copy, Debug)]
 pub struct NextRow {
     pub branch: usize,
     pub end: u16,
+    pub stake: u32,
 }
 
 /// What is noted of a row for strongly seeing it: its first descendants, one on each member's own branch. The number of a
@@ -31,24 +36,21 @@ pub struct Landmark {
     before: u16,
     /// For each member's own branch one more than the place of the first descendant there.
     firsts: Vec<u16>,
-    /// How many of those there are, at most.
-    reached: u32,
+    /// What the members together weigh, at most, on whose own branches there is one.
+    reached: u64,
 }
 
 impl Model for Landmark {
-    ghost use Rattle.hg_branches.specs.Landmarks.{LandmarkView, ReachesFew};
+    ghost use Rattle.hg_branches.specs.Landmarks.{LandmarkView};
 
     ghost Value = { LandmarkView };
 
-    ghost view = { λ s. record { end = s.end; branch = s.branch; before = s.before; firsts = s.firsts.items } };
-
-    ghost invariant = { λ s. ReachesFew s.firsts.items s.reached };
+    ghost view = { λ s. record { end = s.end; branch = s.branch; before = s.before; firsts = s.firsts.items; reached = s.reached } };
 }
 
 impl Landmark {
     /// The memory of a landmark, for a graph of so many members.
     pub fn new(alloc: Global, members: usize) -> Result<Landmark, Memory>
-        requires { members ≤ 128 }
         ensures { IfOk result (λ k. length k.firsts ≡ members) }
     {
         let firsts = zeros(alloc, members)?;
@@ -57,18 +59,19 @@ impl Landmark {
             branch: 0,
             before: 0,
             firsts,
-            reached: members as u32,
+            reached: 0,
         })
     }
 
-    /// Takes the last row of the graph, on this branch, behind the landmark of this number.
-    pub fn begin(&mut self, branch: usize, end: u16, before: u16)
+    /// Takes the last row of the graph, on this branch, behind the landmark of this number. Its maker has this stake.
+    pub fn begin(&mut self, branch: usize, end: u16, before: u16, stake: u32)
         ensures end { self.new.end ≡ end }
         ensures branch { self.new.branch ≡ branch }
         ensures before { self.new.before ≡ before }
         ensures long { length self.new.firsts ≡ length self.old.firsts }
         ensures itself { branch < length self.old.firsts → slice_index self.new.firsts branch ≡ end }
         ensures others { (b : ℕ) → b < length self.old.firsts → b ≢ branch → slice_index self.new.firsts b ≡ no_first }
+        ensures reached { self.new.reached ≡ cond (nat_lt branch (length self.old.firsts)) stake 0 }
     {
         self.end = end;
         self.branch = branch;
@@ -77,32 +80,40 @@ impl Landmark {
         self.reached = 0;
         if branch < self.firsts.len() {
             self.firsts[branch] = end;
-            self.reached = 1;
+            self.reached = u64::from(stake);
         }
     }
 
     /// Notes that the next row has come, which counts so much of this row's branch.
     pub fn note(&mut self, count: u16, next: NextRow)
-        ensures { self.new ≡ noted_once count next.branch next.end self.old }
+        ensures { self.new ≡ noted_once count next self.old }
     {
         if self.end <= count && next.end < count_at(&self.firsts, next.branch) {
             self.firsts[next.branch] = next.end;
-            self.reached = self.reached.saturating_add(1);
+            self.reached = self.reached.saturating_add(u64::from(next.stake));
         }
     }
 
-    /// Whether these counts tell of first descendants on the own branches of members with more than two thirds of the stake.
-    /// They are not looked at where first descendants are on too few branches for that.
-    pub fn is_strong_by(&self, stakes: &StakeTable, counts: &[u16]) -> bool
-        requires wide { length stakes.now ≡ length self.now.firsts }
-        requires same { length counts.now ≡ length self.now.firsts }
-        requires low { (b : ℕ) → b < length counts.now → slice_index counts.now b < no_first }
-        ensures { result ≡ is_strong_by_own stakes.now self.now.firsts counts.now }
+    /// Whether the members on whose own branches there are first descendants weigh so little that no row sees it strongly by
+    /// these branches, whatever it counts.
+    pub fn is_young(&self, stakes: &StakeTable) -> bool
+        requires { IsWeighed stakes.now self.now }
+        ensures value { result ≡ not (is_supermajority (total stakes.now) self.now.reached) }
+        ensures never { result ≡ true → IsNeverStrong stakes.now self.now.firsts }
     {
-        if !stakes.is_over(stakes.at_most(self.reached)) {
-            return false;
-        }
-        stakes.is_over(stakes.weigh_ge(counts, &self.firsts))
+        !stakes.is_over(self.reached)
+    }
+
+    /// Whether the counts of row `x` tell of first descendants on the own branches of members with more than two thirds of the
+    /// stake. A call of its own, so that the way to the answer of `is_young` is short.
+    #[inline(never)]
+    pub fn is_strong_by(&self, stakes: &StakeTable, counts: &CountTable, x: usize) -> bool
+        requires place { x < length counts.now.rows }
+        requires wide { length stakes.now ≡ length self.now.firsts }
+        requires same { counts.now.members ≡ length self.now.firsts }
+        ensures { result ≡ is_strong_by_own stakes.now self.now.firsts (own_counts counts.now x) }
+    {
+        stakes.is_over(stakes.weigh_ge(counts.own(x), &self.firsts))
     }
 
     /// One more than the place of the row.
@@ -244,9 +255,9 @@ fn note_branch(
     requires there { c < length newest.now }
     requires chains { HoldsChains landmarks.old }
     requires newest { IsLastOn landmarks.old (length landmarks.old) c (slice_index newest.now c) }
-    requires noted { AreNotedOn c least count next.branch next.end landmarks.old }
+    requires noted { AreNotedOn c least count next landmarks.old }
     ensures len { length landmarks.new ≡ length landmarks.old }
-    ensures on { NotesOn c count next.branch next.end landmarks.old landmarks.new }
+    ensures on { NotesOn c count next landmarks.old landmarks.new }
     ensures off { (i : ℕ) → (landmark_at landmarks.old i).branch ≢ c → landmark_at landmarks.new i ≡ landmark_at landmarks.old i }
 {
     let mut number = newest[c] as usize;

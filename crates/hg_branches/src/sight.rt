@@ -15,7 +15,7 @@ use crate::table::CountTable;
 use hg_ancestry::PlacedLink;
 use hg_bits::{StakeTable, mask_has};
 use hg_blocks::Blocks;
-use hg_model::{Counts, Growing, Member, Memory, Parents, Sight};
+use hg_model::{Counts, Growing, Member, Memory, Parents, Sight, is_shaped};
 use std::alloc::Global;
 use std::marker::Model;
 
@@ -99,7 +99,9 @@ impl BranchSight {
         if self.numbers.len() == end && last_end(&self.landmarks) < end as u16 {
             if let Some(mut landmark) = self.spare.take() {
                 let branch = self.branches[end - 1];
-                landmark.begin(branch, end as u16, self.newest[branch]);
+                let maker = self.makers[branch];
+                let stake = self.stakes.at(maker);
+                landmark.begin(branch, end as u16, self.newest[branch], stake);
                 self.landmarks.push_reserved(landmark);
                 let number = self.landmarks.len() as u16;
                 self.newest[branch] = number;
@@ -237,7 +239,10 @@ impl Sight for BranchSight {
         let number = count_at(&self.numbers, y);
         if number > 0 && (self.makers.len() == self.stakes.len() || self.counts.is_own(x)) {
             let landmark = landmark_of(&self.landmarks, number as usize - 1);
-            return landmark.is_strong_by(&self.stakes, self.counts.own(x));
+            if landmark.is_young(&self.stakes) {
+                return false;
+            }
+            return landmark.is_strong_by(&self.stakes, &self.counts, x);
         }
         self.strongly_sees_beside(x, y)
     }
@@ -275,6 +280,8 @@ impl Growing for BranchSight {
     }
 
     fn extend(&mut self, parents: Parents, creator: Member) {
+        is_shaped(self);
+        let stake = self.stakes.at(creator);
         let members = self.stakes.len();
         let on = parents.pair();
         let branch = branch_for(&self.branches, &self.ends, on, creator);
@@ -292,7 +299,7 @@ impl Growing for BranchSight {
             &self.tops,
             &known,
             &counts,
-            NextRow { branch, end },
+            NextRow { branch, end, stake },
         );
         self.links.push(PlacedLink::of(creator, parents));
         self.branches.push(branch);

@@ -3,7 +3,7 @@ ghost use Rattle.std.specs.List.{AllByRecursion};
 ghost use Rattle.hg_model.specs.Shape.{pair_list};
 ghost use Rattle.hg_branches.specs.Columns.{count_in};
 ghost use Rattle.hg_branches.specs.Rows.{HasTail};
-ghost use Rattle.hg_branches.specs.Table.{AddsCounts};
+ghost use Rattle.hg_branches.specs.Table.{own_counts, AddsCounts};
 
 use crate::next_row::{join_own, join_tails};
 use crate::row_tail::RowTail;
@@ -76,7 +76,7 @@ impl CountTable {
     /// What row `x` counts of the members' own branches.
     pub fn own(&self, x: usize) -> &[u16]
         requires { x < length self.now.rows }
-        ensures value { result.now ≡ take self.now.members (slice_index_or self.now.rows x []) }
+        ensures value { result.now ≡ own_counts self.now x }
         ensures len { length result.now ≡ self.now.members }
     {
         self.own.row(x)

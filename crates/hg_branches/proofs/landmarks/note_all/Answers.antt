@@ -18,7 +18,7 @@ note_others-requires-clause-newest c =
 pub note_others-requires-clause-noted : goal.note_others-requires-clause-noted
 note_others-requires-clause-noted c = λ b past.
     let same = stands_noted c.own-2.result.now c.args.next c.args.landmarks.now c.note_own.new.landmarks c.note_own.ensures.done c.note_own.ensures.left in
-    left_noted (slice_index c.args.known.now.row b) (slice_index c.args.counts.now.row b) c.args.next.branch c.args.next.end b c.args.landmarks.now c.note_own.new.landmarks same c.note_own.ensures.len
+    left_noted (slice_index c.args.known.now.row b) (slice_index c.args.counts.now.row b) c.args.next b c.args.landmarks.now c.note_own.new.landmarks same c.note_own.ensures.len
     (λ i on. c.note_own.ensures.left i (omega (arith, on, past, c.own-2.ensures.len))) (c.requires.noted b)
 
 -- a member's own branch was noted first, and any other one after it
@@ -36,8 +36,8 @@ returns-clause-each c = λ i h.
           ap (λ (r : List ℕ). slice_index r old.branch) c.own-2.ensures.value ∙ get_or-take members row old.branch 0 own in
           c.note_others.ensures.left i (omega (arith, on, own))
           ∙ (c.note_own.ensures.done old.branch (omega (arith, own, c.own-2.ensures.len)) i h refl
-          ∙ ap (λ n. noted_once n c.args.next.branch c.args.next.end old) taken))
+          ∙ ap (λ n. noted_once n c.args.next old) taken))
       | inr other ↦
           c.note_others.ensures.done old.branch other i (omega (arith, h, c.note_own.ensures.len)) on
-          ∙ ap (noted_once (slice_index row old.branch) c.args.next.branch c.args.next.end) (c.note_own.ensures.left i (omega (arith, other, c.own-2.ensures.len)))
+          ∙ ap (noted_once (slice_index row old.branch) c.args.next) (c.note_own.ensures.left i (omega (arith, other, c.own-2.ensures.len)))
     ]

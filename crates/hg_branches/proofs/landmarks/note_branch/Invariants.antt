@@ -7,7 +7,7 @@ invariant-chain l = record {
   inside : l.number ≤ length l.initial.landmarks;
   len : length l.landmarks ≡ length l.initial.landmarks;
   on : 0 < l.number → (landmark_at l.initial.landmarks (l.number - 1)).branch ≡ l.c;
-  done : (i : ℕ) → l.number ≤ i → i < length l.initial.landmarks → (landmark_at l.initial.landmarks i).branch ≡ l.c → landmark_at l.landmarks i ≡ noted_once l.count l.next.branch l.next.end (landmark_at l.initial.landmarks i);
+  done : (i : ℕ) → l.number ≤ i → i < length l.initial.landmarks → (landmark_at l.initial.landmarks i).branch ≡ l.c → landmark_at l.landmarks i ≡ noted_once l.count l.next (landmark_at l.initial.landmarks i);
   left : (i : ℕ) → i < l.number → landmark_at l.landmarks i ≡ landmark_at l.initial.landmarks i;
   off : (i : ℕ) → (landmark_at l.initial.landmarks i).branch ≢ l.c → landmark_at l.landmarks i ≡ landmark_at l.initial.landmarks i;
 }

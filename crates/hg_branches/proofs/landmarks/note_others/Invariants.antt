@@ -6,7 +6,7 @@ abbrev pub invariant-loop-c : goal.invariant-loop-c
 invariant-loop-c l = record {
   len : length l.landmarks ≡ length l.initial.landmarks;
   done : (i : ℕ) → i < length l.initial.landmarks → l.counts.members ≤ (landmark_at l.initial.landmarks i).branch → (landmark_at l.initial.landmarks i).branch < l.c →
-      landmark_at l.landmarks i ≡ noted l.counts.row l.next.branch l.next.end (landmark_at l.initial.landmarks i);
+      landmark_at l.landmarks i ≡ noted l.counts.row l.next (landmark_at l.initial.landmarks i);
   left : (i : ℕ) → l.c ≤ (landmark_at l.initial.landmarks i).branch → landmark_at l.landmarks i ≡ landmark_at l.initial.landmarks i;
   own : (i : ℕ) → (landmark_at l.initial.landmarks i).branch < l.counts.members → landmark_at l.landmarks i ≡ landmark_at l.initial.landmarks i;
 }

@@ -5,6 +5,6 @@ use Rattle.hg_branches.proofs.landmarks.note_own.Given as goal
 abbrev pub invariant-loop-c : goal.invariant-loop-c
 invariant-loop-c l = record {
   len : length l.landmarks ≡ length l.initial.landmarks;
-  done : (i : ℕ) → i < length l.initial.landmarks → (landmark_at l.initial.landmarks i).branch < l.c → landmark_at l.landmarks i ≡ noted l.counts l.next.branch l.next.end (landmark_at l.initial.landmarks i);
+  done : (i : ℕ) → i < length l.initial.landmarks → (landmark_at l.initial.landmarks i).branch < l.c → landmark_at l.landmarks i ≡ noted l.counts l.next (landmark_at l.initial.landmarks i);
   left : (i : ℕ) → l.c ≤ (landmark_at l.initial.landmarks i).branch → landmark_at l.landmarks i ≡ landmark_at l.initial.landmarks i;
 }

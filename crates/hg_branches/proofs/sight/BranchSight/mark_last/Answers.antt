@@ -1,10 +1,36 @@
-use Rattle.std.proofs.Common.{◌≡◌, ◌<◌, ◌-◌, ◌+◌, ◌∙◌, ℕ, List, [], ◌∷◌, ◌++◌, sym, ap, subst, length, slice_index, slice_set, arith}
-use Rattle.std.proofs.lemmas.List.{get_or_read, length-set}
-use Rattle.hg_model.specs.Stakes.{member_count}
+use Rattle.std.proofs.Common.{◌≡◌, ◌<◌, ◌≤◌, ◌-◌, ◌+◌, ◌∙◌, ℕ, nat_lt, cond, List, [], ◌∷◌, ◌++◌, sym, ap, subst, length, slice_index, slice_set, inl, inr, arith}
+use Rattle.std.proofs.lemmas.Bool.{cases_lt, lt-ltb}
+use Rattle.std.proofs.lemmas.List.{get_or_past, get_or_read, length-set}
+use Rattle.hg_model.specs.Stakes.{Stakes, member_count, stake_of}
 use Rattle.hg_branches.specs.Landmarks.{LandmarkView, landmark_at, HoldsFirsts, HoldsLandmarks, HoldsTops, IsSpareLandmark, spare_room}
 use Rattle.hg_branches.proofs.LandmarkLaws.{landmarks_begun, holds_begun}
 use Rattle.hg_branches.proofs.ChainLaws.{tops_begun}
+use Rattle.hg_branches.proofs.HeldLaws.{own_stake}
 use Rattle.hg_branches.proofs.sight.BranchSight.mark_last.Goals as goal
+
+-- a member's own branch is there, and has its stake
+reached_begun : (n : Stakes) (b stake long reached : ℕ) → long ≡ member_count n → reached ≡ cond (nat_lt b long) stake 0 → stake_of n b ≤ stake → stake_of n b ≤ reached
+reached_begun n b stake long reached is told enough = elim (cases_lt b long) [
+  | inl own ↦ (let all : reached ≡ stake = told ∙ ap (λ t. cond t stake 0) (lt-ltb b long own) in omega arith)
+  | inr past ↦ (let none : stake_of n b ≡ 0 = get_or_past n b 0 (omega arith) in omega arith)
+]
+
+pub at-stake-requires : goal.at-stake-requires
+at-stake-requires c =
+    let s = c.self.inside in
+    let makers = s.makers.items in
+    let held = c.self.invariant in
+    let end : ℕ = c.len-end.result in
+    let y : ℕ = end - 1 in
+    let some : 0 < end = (let less = c.if-last_end-end.true in omega arith) in
+    let last : length s.links.items ≡ end = omega arith in
+    let rows = held.branches.rows in
+    let branch : ℕ = c.index-branch.result.now in
+    let on : branch ≡ slice_index s.branches.items y = get_or_read s.branches.items y branch (omega arith) c.index-branch.ensures 0 in
+    let known : slice_index s.branches.items y < length makers = held.branches.known y (omega arith) in
+    let maker : c.index-maker.result.now ≡ slice_index makers branch = get_or_read makers branch c.index-maker.result.now (omega arith) c.index-maker.ensures 0 in
+    let member : slice_index makers branch < member_count s.stakes = held.branches.members branch (omega arith) in
+    omega arith
 
 pub invariant_of-self : goal.invariant_of-self
 invariant_of-self c =
@@ -33,10 +59,14 @@ invariant_of-self c =
     let none : spare_room c.take.new.self ≡ 0 = ap spare_room c.take.ensures.after in
     let entries : length s.numbers.items ≡ k.end = omega arith in
     let number : c.len-number.result ≡ length landmarks + 1 = omega arith in
+    let maker : c.index-maker.result.now ≡ slice_index makers branch = get_or_read makers branch c.index-maker.result.now (omega arith) c.index-maker.ensures 0 in
+    let weighed : stake_of n k.branch ≤ k.reached = subst (λ b. stake_of n b ≤ k.reached) (sym branch_is)
+    (reached_begun n branch c.at-stake.result (length c.in-Some.landmark.firsts) k.reached row_long c.begin.ensures.reached
+    (subst (λ w. stake_of n branch ≤ w) (sym (c.at-stake.ensures ∙ ap (stake_of n) maker)) (own_stake n L branches makers s.ends.items held.branches branch))) in
     let first : HoldsFirsts n L branches makers k = holds_begun n L branches makers s.ends.items held.branches k (omega arith) (omega arith) (c.begin.ensures.long ∙ row_long)
     (ap (λ e. slice_index branches (e - 1)) end_is ∙ (sym on ∙ sym branch_is))
     (λ low. ap (slice_index k.firsts) branch_is ∙ (c.begin.ensures.itself (omega (arith, row_long, branch_is, low)) ∙ sym end_is))
-    (λ b low other. c.begin.ensures.others b (omega (arith, row_long, low)) (λ e. other (e ∙ sym branch_is))) in
+    (λ b low other. c.begin.ensures.others b (omega (arith, row_long, low)) (λ e. other (e ∙ sym branch_is))) weighed in
     let later : 0 < length landmarks → (landmark_at landmarks (length landmarks - 1)).end < k.end = λ some.
     let kept_is = c.deref.ensures.value in
     let less = c.if-last_end-end.true in

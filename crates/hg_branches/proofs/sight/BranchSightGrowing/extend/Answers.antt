@@ -1,13 +1,14 @@
-use Rattle.std.proofs.Common.{◌≡◌, ◌<◌, ◌≤◌, ◌+◌, ◌∙◌, ℕ, sym, ap, ap₂, subst, List, ◌++◌, ◌∷◌, [], length, get_or, nat_le, Option, false, refl, inl, inr, arith}
+use Rattle.std.proofs.Common.{◌≡◌, ◌<◌, ◌≤◌, ◌+◌, ◌^◌, ◌∙◌, ℕ, sym, ap, ap₂, subst, List, ◌++◌, ◌∷◌, [], length, get_or, nat_le, Option, false, refl, inl, inr, arith}
 use Rattle.std.proofs.lemmas.Bool.{true≢false, cases_lt, le-leb, lt-ltb}
 use Rattle.std.proofs.lemmas.List.{length_push, get_or_push}
 use Rattle.std.specs.List.{AllByRecursion}
-use Rattle.hg_model.specs.Stakes.{Stakes, member_count}
+use Rattle.hg_model.specs.Stakes.{Stakes, member_count, stake_of, total}
 use Rattle.hg_model.specs.Links.{Link}
 use Rattle.hg_model.specs.Forks.{has_fork_below}
 use Rattle.hg_model.specs.Shape.{ShapeWithRoom, FitsLink, link_of, pair_list}
 use Rattle.hg_bits.specs.Masks.{mask_has}
 use Rattle.hg_ancestry.proofs.HeldLaws.{places_fit, places_kept}
+use Rattle.hg_branches.specs.declared.landmarks.NextRow.{NextRow}
 use Rattle.hg_branches.specs.Branches.{greatest_count}
 use Rattle.hg_branches.specs.Columns.{HoldsBranches, room_of, next_branch, with_branch, put_at, count_in, forks_next}
 use Rattle.hg_branches.proofs.HeldLaws.{Serves, next_serves, in_reach, branches_hold, counts_hold, counts_last}
@@ -37,6 +38,11 @@ reach n L branches makers ends held parents by fits b is =
 known_below : (on : List ℕ) (x : ℕ) → AllByRecursion (λ p. p < x) on → known_place on x < x + 1
 known_below [] x all = omega arith
 known_below (p ∷ ps) x all = (let low : p < x = all.0 in omega arith)
+
+pub at-stake-requires : goal.at-stake-requires
+at-stake-requires c =
+    let fits = subst (λ (g : ShapeWithRoom). FitsLink g.shape.members g.shape.links (link_of c.args.creator c.args.parents)) (sym c.self.view_is) c.requires.fits in
+    fits.member
 
 pub branch_for-branch-requires-clause-places : goal.branch_for-branch-requires-clause-places
 branch_for-branch-requires-clause-places c =
@@ -126,12 +132,14 @@ note_all-requires-clause-noted c = λ i.
     ∙ (ap (λ (rows : List (List ℕ)). get_or rows c.len-row.result []) rows_are ∙ get_or_push s.counts.rows row [] c.len-row.result (rows_len ∙ sym place)) in
     let others : (i : ℕ) → (i ≡ next_branch s.branches.items s.ends.items on by → ⊥) → get_or row i 0 ≡ greatest_count (count_in s.counts.rows) on i =
     λ i off. c.push.ensures.3.others i (λ e. off (e ∙ b_is)) ∙ ap (λ (ps : List ℕ). greatest_count (count_in s.counts.rows) ps i) c.pair-on.ensures in
-    subst (AreNotedOn i (get_or c.row_of-known.result.row i 0) (get_or c.row_of-counts.result.row i 0) b (c.len-row.result + 1)) (sym c.deref_mut.ensures.value)
-    (subst (λ (k : List ℕ). AreNotedOn i (get_or k i 0) (get_or c.row_of-counts.result.row i 0) b (c.len-row.result + 1) s.landmarks.items) (sym known_is)
-    (subst (λ (r : List ℕ). AreNotedOn i (get_or known i 0) (get_or r i 0) b (c.len-row.result + 1) s.landmarks.items) (sym row_is)
-    (subst (λ j. AreNotedOn i (get_or known i 0) (get_or row i 0) j (c.len-row.result + 1) s.landmarks.items) (sym b_is)
-    (subst (λ x. AreNotedOn i (get_or known i 0) (get_or row i 0) (next_branch s.branches.items s.ends.items on by) (x + 1) s.landmarks.items) (sym place)
-    (noted_on s.stakes L s.branches.items s.makers.items s.ends.items held.branches s.counts.rows held.counts s.landmarks.items s.newest.items s.numbers.items held.landmarks on by fits row others i)))))
+    let stake = c.at-stake.result in
+    let next : ℕ → ℕ → NextRow = λ b end. record { branch = b; end = end; stake = stake } in
+    subst (AreNotedOn i (get_or c.row_of-known.result.row i 0) (get_or c.row_of-counts.result.row i 0) (next b (c.len-row.result + 1))) (sym c.deref_mut.ensures.value)
+    (subst (λ (k : List ℕ). AreNotedOn i (get_or k i 0) (get_or c.row_of-counts.result.row i 0) (next b (c.len-row.result + 1)) s.landmarks.items) (sym known_is)
+    (subst (λ (r : List ℕ). AreNotedOn i (get_or known i 0) (get_or r i 0) (next b (c.len-row.result + 1)) s.landmarks.items) (sym row_is)
+    (subst (λ j. AreNotedOn i (get_or known i 0) (get_or row i 0) (next j (c.len-row.result + 1)) s.landmarks.items) (sym b_is)
+    (subst (λ x. AreNotedOn i (get_or known i 0) (get_or row i 0) (next (next_branch s.branches.items s.ends.items on by) (x + 1)) s.landmarks.items) (sym place)
+    (noted_on s.stakes L s.branches.items s.makers.items s.ends.items held.branches s.counts.rows held.counts s.landmarks.items s.newest.items s.numbers.items held.landmarks on by fits row others stake i)))))
 
 pub move_end-requires-clause-there : goal.move_end-requires-clause-there
 move_end-requires-clause-there c =
@@ -216,11 +224,15 @@ invariant_of-self c =
     m
     ∙ ap (λ (on : List ℕ). has_fork_below (L ++ link_of by on ∷ []) (length L) m) on_is)) in
     let counted = counts_last s.stakes L s.branches.items s.makers.items s.ends.items held.branches link fits b serves s.counts.rows row held.counts end others in
+    let next_at : ℕ → ℕ → NextRow = λ end stake. record { branch = b; end = end; stake = stake } in
+    let next_row : NextRow = next_at (length L + 1) (stake_of s.stakes by) in
     let landmarks_long : length c.note_all.new.landmarks ≡ length s.landmarks.items = c.note_all.ensures.len ∙ ap length c.deref_mut.ensures.value in
-    let each : (i : ℕ) → i < length s.landmarks.items → landmark_at c.note_all.new.landmarks i ≡ noted row b (length L + 1) (landmark_at s.landmarks.items i) = λ i h.
+    let each : (i : ℕ) → i < length s.landmarks.items → landmark_at c.note_all.new.landmarks i ≡ noted row next_row (landmark_at s.landmarks.items i) = λ i h.
     c.note_all.ensures.each i (subst (λ (old : List LandmarkView). i < length old) (sym c.deref_mut.ensures.value) h)
-    ∙ (ap (λ (old : List LandmarkView). noted c.row_of-counts.result.row b (c.len-row.result + 1) (landmark_at old i)) c.deref_mut.ensures.value
-    ∙ ap₂ (λ (counts : List ℕ) (e : ℕ). noted counts b e (landmark_at s.landmarks.items i)) row_is end_place) in
+    ∙ (ap (λ (old : List LandmarkView). noted c.row_of-counts.result.row (next_at (c.len-row.result + 1) c.at-stake.result) (landmark_at old i)) c.deref_mut.ensures.value
+    ∙ (ap₂ (λ (counts : List ℕ) (e : ℕ). noted counts (next_at e c.at-stake.result) (landmark_at s.landmarks.items i)) row_is end_place
+    ∙ ap (λ w. noted row (next_at (length L + 1) w) (landmark_at s.landmarks.items i)) c.at-stake.ensures)) in
+    let low : total s.stakes ≤ 2 ^ 39 = subst (λ (g : ShapeWithRoom). total g.shape.members ≤ 2 ^ 39) (sym c.self.view_is) c.is_shaped.ensures.low in
     record {
       branches = rw (c.push-2.ensures, c.push-3.ensures, makers_are, ends_are, c.of.ensures)
           (branches_hold s.stakes L s.branches.items s.makers.items s.ends.items held.branches link fits b serves short);
@@ -231,7 +243,7 @@ invariant_of-self c =
       landmarks = rw (c.push-2.ensures, c.push-3.ensures, makers_are, c.of.ensures, c.open_branch.ensures, c.push_reserved.ensures.items)
           (subst (λ (landmarks : List LandmarkView). HoldsLandmarks s.stakes (L ++ link ∷ []) (s.branches.items ++ b ∷ []) (with_branch s.makers.items b by) landmarks (with_branch s.newest.items b 0) (s.numbers.items ++ 0 ∷ []))
           (sym (refilled s.landmarks.len c.note_all.new.landmarks s.landmarks.items (omega (arith, landmarks_long))))
-          (landmarks_more s.stakes L s.branches.items s.makers.items s.ends.items held.branches link fits b serves row counted short s.landmarks.items c.note_all.new.landmarks s.newest.items s.numbers.items held.landmarks landmarks_long each));
+          (landmarks_more s.stakes L s.branches.items s.makers.items s.ends.items held.branches low link fits b serves row counted short s.landmarks.items c.note_all.new.landmarks s.newest.items s.numbers.items held.landmarks landmarks_long each));
       tops = rw c.open_branch-2.ensures
           (subst (λ (landmarks : List LandmarkView). HoldsTops landmarks (with_branch s.tops.items b 0)) (sym (refilled s.landmarks.len c.note_all.new.landmarks s.landmarks.items (omega (arith, landmarks_long))))
           (tops_noted s.landmarks.items c.note_all.new.landmarks (λ i h. (ap (λ (k : LandmarkView). k.end) (each i h), ap (λ (k : LandmarkView). k.branch) (each i h), ap (λ (k : LandmarkView). k.before) (each i h))) landmarks_long s.tops.items b held.tops));
