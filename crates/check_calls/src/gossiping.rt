@@ -2,10 +2,10 @@ ghost use Rattle.std.specs.Prelude.{◌≡◌, IfOk};
 ghost use Rattle.hg_gossip.specs.Nodes.{pulling, taking_of};
 
 use crate::members::two_members;
-use crate::playing::{equal, player_of, two_players};
+use crate::playing::{bytes_of, equal, give, name_at, player_of, two_players};
 use hg_gossip::{Holder, Taken, pull, sync};
-use hg_life::{MakeAnswer, SyncMade, SyncReport};
-use hg_model::Memory;
+use hg_life::{MakeAnswer, PutAnswer, SyncMade, SyncReport};
+use hg_model::{Memory, Name};
 use hg_node::Node;
 use hg_sign::{MacTable, Signer};
 use std::alloc::Global;
@@ -146,4 +146,96 @@ fn takes_what_follows_a_refused_row(rt: HostRuntime) -> Result<(), Memory> {
     let members = two_members(&rt, rt.alloc())?;
     let mut other = player_of(&rt, rt.alloc(), &members, 0)?;
     takes_after_an_impostor(&rt, rt.alloc(), &mut a.node, &mut b.node, &mut other.node)
+}
+
+/// The holder has these tips.
+fn has_tips<H: Holder>(rt: &impl Abort, holder: &mut H, wanted: &[Name]) -> Result<(), Memory>
+    ensures { H.lent holder.new ≡ H.lent holder.old }
+{
+    let names = holder.tips()?;
+    equal(rt, names.as_slice(), wanted);
+    Ok(())
+}
+
+/// Beyond the rows of these names it has these rows, and its last own one has this name.
+fn has_beyond<H: Holder>(
+    rt: &impl Abort,
+    holder: &mut H,
+    names: &[Name],
+    rows: &[&[u8]],
+    last: Name,
+) -> Result<(), Memory>
+    ensures { H.lent holder.new ≡ H.lent holder.old }
+{
+    let parcel = holder.beyond(names)?;
+    equal(
+        rt,
+        (parcel.rows.as_slice().len(), parcel.last),
+        (rows.len(), Some(last)),
+    );
+    for (row, bytes) in parcel.rows.as_slice().iter().zip(rows) {
+        equal(rt, row.as_slice(), *bytes);
+    }
+    Ok(())
+}
+
+/// A has A0 B0 A1, where A1 stands on both; B has B0 and then A0, of which neither stands on the other.
+fn tells_tips(
+    rt: &impl Abort,
+    alloc: Global,
+    a: &mut Node<MacTable>,
+    b: &mut Node<MacTable>,
+) -> Result<(), Memory> {
+    has_tips(rt, a, &[])?;
+    begins(rt, a, 0)?;
+    begins(rt, b, 0)?;
+    let (first, own) = (name_at(rt, a, 0), name_at(rt, b, 0));
+    has_tips(rt, a, &[first])?;
+    has_tips(rt, b, &[own])?;
+    syncs(rt, alloc, a, b, (1, 0, SyncMade::Row(2)))?;
+    give(rt, a, 0, b, PutAnswer::Accepted(1))?;
+    has_tips(rt, b, &[own, first])?;
+    let last = name_at(rt, a, 2);
+    has_tips(rt, a, &[last])?;
+    has_beyond(
+        rt,
+        b,
+        &[last],
+        &[bytes_of(rt, a, 1), bytes_of(rt, a, 0)],
+        own,
+    )
+}
+
+/// Beyond the tips of the other each hands over what that one lacks.
+fn hands_over_beyond(
+    rt: &impl Abort,
+    alloc: Global,
+    a: &mut Node<MacTable>,
+    b: &mut Node<MacTable>,
+) -> Result<(), Memory> {
+    tells_tips(rt, alloc, a, b)?;
+    pulls(rt, alloc, b, a, (1, 0))?;
+    let (own, first, last) = (name_at(rt, a, 1), name_at(rt, a, 0), name_at(rt, a, 2));
+    has_beyond(rt, a, &[first, own], &[bytes_of(rt, b, 2)], last)?;
+    has_beyond(
+        rt,
+        a,
+        &[own],
+        &[bytes_of(rt, b, 1), bytes_of(rt, b, 2)],
+        last,
+    )?;
+    has_beyond(
+        rt,
+        a,
+        &[[0; 48]],
+        &[bytes_of(rt, b, 1), bytes_of(rt, b, 0), bytes_of(rt, b, 2)],
+        last,
+    )?;
+    has_beyond(rt, b, &[first, last], &[], own)
+}
+
+#[test]
+fn hands_over_what_is_beyond_tips(rt: HostRuntime) -> Result<(), Memory> {
+    let (mut a, mut b) = two_players(&rt, rt.alloc())?;
+    hands_over_beyond(&rt, rt.alloc(), &mut a.node, &mut b.node)
 }
