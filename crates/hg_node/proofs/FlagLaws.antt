@@ -1,9 +1,8 @@
 -- Flags of rows: those of the parents, and those of the ancestors of some rows, which a walk from the last row down sets
-use Rattle.std.proofs.Common.{◌≡◌, ◌≢◌, ◌⊎◌, inl, inr, ℕ, zero, suc, ◌+◌, ◌-◌, ◌<◌, ◌≤◌, Bool, true, false, cond, not, ◌||◌, ◌&&◌, eqb, List, [], ◌∷◌, ◌++◌, length, map, take, replicate, get_or, slice_get, Option, Some, Result, Ok, Err, option_map, refl, sym, ap, ap₂, ◌∙◌, subst, arith}
+use Rattle.std.proofs.Common.{◌≡◌, ◌⊎◌, inl, inr, ℕ, zero, suc, ◌+◌, ◌<◌, ◌≤◌, Bool, true, false, cond, not, ◌||◌, eqb, List, [], ◌∷◌, ◌++◌, length, map, take, replicate, get_or, slice_get, Some, Result, Ok, Err, option_map, refl, sym, ap, ap₂, ◌∙◌, subst, arith}
 use Rattle.std.specs.Prelude.{IfOk, slice_set}
 use Rattle.std.specs.Global.{Vec}
-use Rattle.std.specs.List.{list_any}
-use Rattle.std.proofs.lemmas.Bool.{or_cases, or_left, or_right, and_parts, and_from, true≢false, eq-eqb, eqb-true, lt-ltb, ltb-true, cases_lt}
+use Rattle.std.proofs.lemmas.Bool.{or_cases, or_left, or_right, and_parts, and_from, true≢false, eq-eqb, eqb-true, lt-ltb, ltb-true}
 use Rattle.std.proofs.lemmas.List.{map-append, length-set, get_or-set_same, get_or-set_other}
 use Rattle.std.proofs.Math.Seq.{take-suc}
 use Rattle.std.proofs.lemmas.Option.{slice_get-get_or}
@@ -236,22 +235,22 @@ flag_more G start old new names i none low before is =
     is ∙ (ap (λ (flags : List Bool). flagged flags (place_of G name ∷ [])) before
     ∙ (sym (flagged-append start (map (place_of G) (take i names)) (place_of G name ∷ [])) ∙ ap (flagged start) (sym places)))
 
--- what the flags tell
+-- what is read off the flags
 
-pub parents_told : (G : List Row) (x : ℕ) (flags : List Bool) → x ≡ length G → AreFlagged (length G) (λ y. some_below x (λ z. has_place (parents (links G) z) y)) flags → AreParentsFlagged G flags
-parents_told G x flags is are = record {
+pub parents_flagged : (G : List Row) (x : ℕ) (flags : List Bool) → x ≡ length G → AreFlagged (length G) (λ y. some_below x (λ z. has_place (parents (links G) z) y)) flags → AreParentsFlagged G flags
+parents_flagged G x flags is are = record {
   len = are.len;
   each = λ y h. are.each y h ∙ ap (λ (k : ℕ). some_below k (λ z. has_place (parents (links G) z) y)) (is ∙ sym (length-links G));
 }
 
-pub tips_told : {E : Type 0} (G : List Row) (flags : List Bool) (result : Result (Vec (List ℕ)) E) → AreParentsFlagged G flags →
+pub tips_listed : {E : Type 0} (G : List Row) (flags : List Bool) (result : Result (Vec (List ℕ)) E) → AreParentsFlagged G flags →
     IfOk result (λ names. names.items ≡ list_unflagged (name_at G) (length G) flags) → IfOk result (λ names. names.items ≡ tips G)
 unfolding tips
-tips_told G flags (Ok names) are is = is ∙ unflagged (name_at G) (length G) (is_parent (links G)) flags are
-tips_told G flags (Err e) are is = tt
+tips_listed G flags (Ok names) are is = is ∙ unflagged (name_at G) (length G) (is_parent (links G)) flags are
+tips_listed G flags (Err e) are is = tt
 
-pub beyond_told : {E : Type 0} {V : Type 0} (items : V → List (List ℕ)) (G : List Row) (names : List (List ℕ)) (flags : List Bool) (result : Result V E) → AreBehindFlagged G names flags →
+pub beyond_listed : {E : Type 0} {V : Type 0} (items : V → List (List ℕ)) (G : List Row) (names : List (List ℕ)) (flags : List Bool) (result : Result V E) → AreBehindFlagged G names flags →
     IfOk result (λ rows. items rows ≡ list_unflagged (bytes_at G) (length G) flags) → IfOk result (λ rows. items rows ≡ bytes_beyond G names)
 unfolding bytes_beyond
-beyond_told items G names flags (Ok rows) are is = is ∙ unflagged (bytes_at G) (length G) (is_behind_some G names) flags are
-beyond_told items G names flags (Err e) are is = tt
+beyond_listed items G names flags (Ok rows) are is = is ∙ unflagged (bytes_at G) (length G) (is_behind_some G names) flags are
+beyond_listed items G names flags (Err e) are is = tt

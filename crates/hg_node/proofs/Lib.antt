@@ -16,3 +16,4 @@ pub mod RestoreLaws
 pub mod NextOwnLaws
 pub mod ReplayLaws
 pub mod FewLaws
+pub mod BackLaws

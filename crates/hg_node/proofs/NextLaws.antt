@@ -10,7 +10,6 @@ use Rattle.hg_model.specs.declared.row.Row.{Row}
 use Rattle.hg_life.specs.declared.answers.MakeFault.{MakeFault}
 use Rattle.hg_life.specs.declared.answers.MakeFault.TheVariants as fault
 use Rattle.hg_life.specs.declared.answers.MakeAnswer.{MakeAnswer}
-use Rattle.hg_life.specs.declared.answers.MakeAnswer.TheVariants as answer
 use Rattle.hg_model.specs.Links.{place_of}
 use Rattle.hg_model.specs.Graph.{HasDistinctNames, creator_at, name_at}
 use Rattle.hg_model.specs.Held.{is_held}

@@ -55,6 +55,10 @@ chronicle_with r row entry = chronicle_view r.own r.balances (graph_with r.graph
 abbrev pub chronicle_took : ChronicleView → Row → ChronicleView
 chronicle_took r row = chronicle_with r row (entry.Took (length r.graph.rows))
 
+-- with one row more that the member made
+abbrev pub chronicle_made : ChronicleView → Row → ChronicleView
+chronicle_made r row = chronicle_with r row (entry.Made (length r.graph.rows))
+
 -- how many witnesses are marked when what the share finds in the first `len` rows is published
 abbrev pub news_in : ChronicleView → ℕ → Share → ℕ
 news_in r len share = news r.graph.members r.graph.coin (chronicle_state r) len share

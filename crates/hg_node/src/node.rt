@@ -12,8 +12,9 @@ ghost use Rattle.hg_graph.specs.Held.{first_graph};
 ghost use Rattle.hg_arrival.specs.Arrival.{StandsOn};
 ghost use Rattle.hg_node.specs.Beyond.{beyond_of, tips_of};
 ghost use Rattle.hg_node.specs.Next.{MakesNext, MakesOn, next_others};
-ghost use Rattle.hg_node.specs.ChronicleView.{IsFoundBy, chronicle_took, graph_in};
+ghost use Rattle.hg_node.specs.ChronicleView.{IsFoundBy, chronicle_made, chronicle_took, graph_in};
 ghost use Rattle.hg_node.specs.Opening.{AreUnmarked, Opens};
+ghost use Rattle.hg_node.specs.Restore.{WouldRestore, after_restore, restore_answer};
 ghost use Rattle.hg_node.specs.Puts.{WouldAccept, after_put, is_signed};
 ghost use Rattle.hg_life.specs.declared.answers.PutAnswer.TheVariants.{Accepted};
 ghost use Rattle.hg_model.specs.Fame.{mark_at};
@@ -25,7 +26,7 @@ use crate::chronicle::Chronicle;
 use crate::draft::{draft_of, row_rule, signed_event};
 use crate::next::last_other;
 use crate::open::Open;
-use crate::putting::{parents_of_put, parents_of_put_event};
+use crate::putting::{parents_of_put, parents_of_put_event, parents_of_restore};
 use hg_event::{Event, EventView, decode};
 use hg_graph::{EventGraph, FrozenGraph};
 use hg_life::{Effect, Entry, Fault, MakeAnswer, Members, Parcel, PutAnswer};
@@ -97,6 +98,33 @@ impl<V: Signer> Node<V> {
                 &mut *self.chronicle,
                 &view,
                 name,
+                bytes,
+                parents,
+            ),
+            Err(answer) => Ok(answer),
+        }
+    }
+
+    /// Puts the bytes of an event that the node made before, and that comes back to it, as from what it has stored. It stands
+    /// in the log as made then, and is an impostor's just where it is not the node's next one: by its member, on its last own
+    /// row, or without parents where there is none. All else is as in `put`.
+    pub fn restore(&mut self, bytes: &[u8]) -> Result<PutAnswer, Memory>
+        ensures answer { IfOk result (λ answer. answer ≡ restore_answer V.accepts self.old bytes.now) }
+        ensures ok { OnOk result (self.new ≡ after_restore V.accepts self.old bytes.now) }
+        ensures err { OnErr result (self.new ≡ self.old) }
+        ensures free { OnErr result (WouldRestore V.accepts self.old bytes.now) }
+    {
+        let view = match decode(bytes) {
+            Ok(view) => view,
+            Err(fault) => return Ok(PutAnswer::Refused(Fault::Bytes(fault))),
+        };
+        let event_name = name_of(bytes);
+        match parents_of_restore(&self.keys, &*self.chronicle, &view, &event_name, bytes) {
+            Ok(parents) => take_back(
+                self.alloc,
+                &mut *self.chronicle,
+                &view,
+                event_name,
                 bytes,
                 parents,
             ),
@@ -439,6 +467,30 @@ fn take(
 {
     let event = Event::copied(alloc, view, name, bytes)?;
     take_shared(chronicle, &Arc::new(alloc, event)?, parents)
+}
+
+/// Takes the event of these bytes as one that the node made, on its parents' places.
+fn take_back(
+    alloc: Global,
+    chronicle: &mut Chronicle,
+    view: &EventView<'_>,
+    name: Name,
+    bytes: &[u8],
+    parents: Parents,
+) -> Result<PutAnswer, Memory>
+    requires limit { length chronicle.old.graph.rows < row_limit }
+    requires spelled { Spells bytes.now (row_of view.now) }
+    requires name { name ≡ (row_of view.now).name }
+    requires link { StandsOn chronicle.old.graph.rows (row_of view.now) parents }
+    requires graph { IsGraph chronicle.old.graph.members (chronicle.old.graph.rows ++ row_of view.now ∷ []) }
+    ensures answer { IfOk result (λ answer. answer ≡ Accepted (length chronicle.old.graph.rows)) }
+    ensures ok { OnOk result (chronicle.new ≡ chronicle_made chronicle.old (row_of view.now)) }
+    ensures err { OnErr result (chronicle.new ≡ chronicle.old) }
+{
+    let event = Event::copied(alloc, view, name, bytes)?;
+    let place = chronicle.graph().len();
+    chronicle.add(Arc::new(alloc, event)?, parents, Entry::Made(place))?;
+    Ok(PutAnswer::Accepted(place))
 }
 
 /// A law: bytes are below 256.

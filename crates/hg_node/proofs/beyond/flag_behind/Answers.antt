@@ -1,4 +1,4 @@
-use Rattle.std.proofs.Common.{◌≡◌, ◌<◌, ◌+◌, ◌-◌, ◌∙◌, ℕ, length, map, ap, arith, subst, sym}
+use Rattle.std.proofs.Common.{◌-◌, ◌∙◌, ℕ, map, ap, arith, subst, sym}
 use Rattle.std.specs.Prelude.{List, Bool}
 use Rattle.hg_model.specs.Links.{place_of}
 use Rattle.hg_node.specs.Beyond.{flagged}

@@ -2,7 +2,7 @@ use Rattle.std.proofs.Common.{length, ◌∙◌, ap, arith, subst}
 use Rattle.hg_model.specs.Places.{has_place, some_below}
 use Rattle.hg_model.specs.Links.{links, parents}
 use Rattle.hg_node.specs.Beyond.{AreFlagged}
-use Rattle.hg_node.proofs.FlagLaws.{parents_none, parents_more, parents_told}
+use Rattle.hg_node.proofs.FlagLaws.{parents_none, parents_more, parents_flagged}
 use Rattle.hg_node.proofs.beyond.flag_every_parent.Goals as goal
 
 pub loop-x-init : goal.loop-x-init
@@ -17,4 +17,4 @@ loop-x-preserved c =
 
 pub returns : goal.returns
 returns c =
-    parents_told c.args.graph.now.graph.rows c.loop-x.x c.loop-x.flags (omega (arith, c.len-x-end.ensures.value, c.loop-x-test.false, c.loop-x.auto.x-end)) c.loop-x.invariant
+    parents_flagged c.args.graph.now.graph.rows c.loop-x.x c.loop-x.flags (omega (arith, c.len-x-end.ensures.value, c.loop-x-test.false, c.loop-x.auto.x-end)) c.loop-x.invariant

@@ -1,8 +1,6 @@
-use Rattle.std.proofs.Common.{◌∙◌, ap, map, sym, Some}
-use Rattle.std.specs.Prelude.{List}
+use Rattle.std.proofs.Common.{◌∙◌, ap, sym, Some}
 use Rattle.hg_model.specs.declared.row.Row.{Row}
 use Rattle.hg_event.specs.View.{row_of}
-use Rattle.hg_model.specs.Links.{parent_names, place_of}
 use Rattle.hg_node.specs.Beyond.{flagged}
 use Rattle.hg_node.proofs.FlagLaws.{parents_read}
 use Rattle.hg_node.proofs.beyond.flag_parents.Goals as goal

@@ -1,4 +1,4 @@
-use Rattle.std.proofs.Common.{[], ◌∷◌, ◌++◌, Some, None, ◌∙◌, ap, subst, sym, arith}
+use Rattle.std.proofs.Common.{[], ◌∷◌, ◌++◌, ◌∙◌, ap, subst, sym, arith}
 use Rattle.hg_event.specs.View.{row_of}
 use Rattle.hg_model.specs.Graph.{IsGraph}
 use Rattle.hg_node.specs.ChronicleView.{ChronicleView, node_view}
