@@ -7,7 +7,7 @@
 //! ```text
 //! self.sight.extend(parents, creator);
 //! let (round, witness) = place_round(&self.sight, &self.rounds, parents);
-//! self.rounds.add(round, witness);
+//! self.rounds.add(round, witness, self.sight.stake(creator));
 //! ```
 #![tactic(auto)]
 
