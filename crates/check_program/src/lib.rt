@@ -1,4 +1,4 @@
-//! Tests of public calls of `hg_io`, `hg_stream`, `hg_command` and `hg_top`: files and words, and the program in one call,
+//! Tests of public calls of `hg_io`, `hg_stream`, `hg_command` and `hg_top`: files, disks and words, and the program in one call,
 //! with values from outside.
 //! They stand above these crates so that their code is proved once; a crate with tests of its own is proved twice.
 //! There is nothing here but tests.
@@ -11,10 +11,16 @@
 #![tactic(auto)]
 
 #[cfg(test)]
+mod disk;
+#[cfg(test)]
+mod disks;
+#[cfg(test)]
 mod environment;
 #[cfg(test)]
 mod files;
 #[cfg(test)]
 mod program;
+#[cfg(test)]
+mod telling;
 #[cfg(test)]
 mod words;
