@@ -13,6 +13,8 @@
 #[cfg(test)]
 mod checked;
 #[cfg(test)]
+mod coming;
+#[cfg(test)]
 mod damaged;
 #[cfg(test)]
 mod freezing;
