@@ -1,5 +1,5 @@
-//! Tests of public calls of `hg_io`, `hg_stream`, `hg_command` and `hg_top`: files, disks and words, and the program in one
-//! call, with values from outside.
+//! Tests of public calls of `hg_io`, `hg_stream`, `hg_command`, `hg_play` and `hg_top`: files, disks and words, the program in
+//! one call, and the world in which a play ends, with values from outside.
 //! They stand above these crates so that their code is proved once; a crate with tests of its own is proved twice.
 //! There is nothing here but tests.
 //!
@@ -14,6 +14,8 @@
 mod disk;
 #[cfg(test)]
 mod disks;
+#[cfg(test)]
+mod ends;
 #[cfg(test)]
 mod environment;
 #[cfg(test)]

@@ -9,10 +9,10 @@ use std::sync::Wait;
 use std::test::Fail;
 use std::thread::Threads;
 
-const MEMBERS: &str =
+pub(crate) const MEMBERS: &str =
     "coin = 10\n[[member]]\nname = \"A\"\nsecret = \"0b0b0b0b\"\nbalance = 100\n[[member]]\nname = \"B\"\nsecret = \"0c0c0c0c\"\n";
 
-const SCRIPT: &str =
+pub(crate) const SCRIPT: &str =
     "create A 1\ncreate B 2\nsync A B 3\nsync B A 4\nsync A B 5\nsync B A 6\nsync A B 7\nsync B A 8\n";
 
 const REPORT: &str =

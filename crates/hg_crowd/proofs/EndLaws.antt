@@ -60,6 +60,8 @@ module _ {V : Type 0} (accepts : V → Accepts) (p : SharedNode V) (first called
         start = ap (λ (v : NodeView V). v.start) whole_node.seen;
         others = λ q from below other. mark_before called.seen last.seen q from_called below (marks_beside q from (omega (arith, below, longer)) other);
         rows = ap (λ (v : NodeView V). node_rows v) whole_node.seen ∙ (rows_stay p.start.start.members p.start.start.coin called.seen last.seen from_called marks_behind).0;
+        later = subst (λ (v : NodeView V). IsPrefix called.seen v.history) (sym whole_node.seen) from_called;
+        marks = subst (λ (v : NodeView V). (q : ℕ) → length p.start.history ≤ q → q < length v.history → times q called.mine ≡ 0 → IsMark v.history q) (sym whole_node.seen) marks_beside;
       }
 
   -- its marks are those that the workers' last turn made, of all that its rows decide

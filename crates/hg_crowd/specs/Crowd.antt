@@ -45,8 +45,11 @@ module _ {V : Type 0} where
   abbrev pub AreStill : List (SeatView V) → List (SeatView V) → Type 0
   AreStill olds news = Each IsStill olds news
 
-  -- if all seats come back and others only marked, the node has the rows that the seat has seen
+  -- if all seats come back and others only marked, the node has the rows that the seat has seen, and all that came to it
+  -- through other seats are marks
   pub record IsEnded (p : SharedNode V) (s : SeatView V) (node : NodeView V) : Type 0 where
     pub start : node.start ≡ p.start.start
     pub others : OthersMark p s
     pub rows : node_rows node ≡ node_rows (node_at p.start s.seen)
+    pub later : IsPrefix s.seen node.history
+    pub marks : (q : ℕ) → length p.start.history ≤ q → q < length node.history → times q s.mine ≡ 0 → IsMark node.history q

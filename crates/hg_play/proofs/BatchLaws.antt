@@ -29,12 +29,13 @@ use Rattle.hg_crowd.specs.Party.{party_view}
 use Rattle.hg_play.specs.Alike.{AreAlike, WorldsAlike}
 use Rattle.hg_play.specs.Batch.{AllAreMarked, IsBatch, IsPlayed, PlaysNext, MatchesBatch, is_part}
 use Rattle.hg_play.specs.Nodes.{MatchesLine, MatchesLines, seen_alone}
-use Rattle.hg_play.specs.Play.{Stage, after_line, after_lines, first_stage, stage}
+use Rattle.hg_play.specs.Play.{Stage, after_line, after_lines, end_steps, first_stage, play_steps, played_world, stage}
 use Rattle.hg_play.proofs.HeardLaws.{node_by, nodes_length, rows_length, rows_nth}
 use Rattle.hg_play.proofs.LikeLaws.{line_like, worlds_alike}
-use Rattle.hg_play.proofs.WorldLaws.{starts-new}
+use Rattle.hg_play.proofs.WorldLaws.{made_in, play-steps, start_read, starts-new, starts-steps}
 use Rattle.hg_play.specs.Heard.{nodes_by, rows_seen}
-use Rattle.hg_play.specs.Sites.{starts_of}
+use Rattle.hg_world.specs.Steps.{after_steps}
+use Rattle.hg_play.specs.Sites.{AreMadeWith, starts, starts_of}
 use Rattle.hg_play.specs.Tape.{TapeView, no_tape}
 use Rattle.hg_play.specs.Through.{AllOthersMark, AreNodes, AreSeen, IsOfRows, IsStageLike, IsStageOf, MatchesThrough, begun, node_seen}
 
@@ -343,6 +344,20 @@ played_by_one members lines world now printed is told =
       world = subst (λ (w : WorldView). WorldsAlike now (after_lines members (stage w [] []) lines).world) is (subst (WorldsAlike now) first.1 (worlds_alike now));
       pieces = first.0 ∙ ap (λ (w : WorldView). (after_lines members (stage w [] []) lines).printed) is;
     }
+
+-- once their nodes are settled, it is the world with which the play ends
+pub world_played : (members : MemberList) (lines : List Line) (world now last : WorldView) (printed : List Printed) → world ≡ new_world members → MatchesLines (seen_alone world) (seen_alone now) members lines printed →
+    last ≡ after_steps now (end_steps members (length members.entries)) → last ≡ played_world members lines
+world_played members lines world now last printed is told settled =
+    let first = told tt world refl (ap starts_of is ∙ starts-new members) in
+    let after : now ≡ (after_lines members (first_stage members) lines).world = first.1 ∙ ap (λ (w : WorldView). (after_lines members (stage w [] []) lines).world) is in
+    play-steps members lines last (settled ∙ ap (λ (w : WorldView). after_steps w (end_steps members (length members.entries))) after)
+
+-- whose nodes were made with these members
+pub world_made : (members : MemberList) (lines : List Line) (last : WorldView) → last ≡ played_world members lines → AreMadeWith members last
+world_made members lines last is = λ m inside.
+    let begun : starts_of last ≡ starts members = ap starts_of is ∙ (starts-steps (new_world members) (play_steps members lines) ∙ starts-new members) in
+    made_in members m (node_at last m) (start_read members last m begun inside)
 
 -- all is marked in a world of nodes in which all is
 pub batch_marked : (new : WorldView) (nodes : List (NodeView Secrets)) (places : List (SharedNode Secrets)) (called : List (SeatView Secrets)) (ends : List (NodeView Secrets)) → (run : IsSession accepts_by nodes places called ends) →

@@ -14,33 +14,33 @@ use Rattle.hg_life.specs.Pay.{Book, book_of}
 use Rattle.hg_outcome.specs.Ledger.{block_of, marked_block, order_lines}
 use Rattle.hg_life.specs.NodeView.{NodeView, Start, node_rows, node_links, node_marks, kept_of, book_kept, last_closed_of, IsNode}
 use Rattle.hg_life.specs.Calls.{IsSettled}
-use Rattle.hg_life.specs.Signing.{accepts_by}
+use Rattle.hg_life.specs.Signing.{Accepts}
 use Rattle.hg_history.proofs.SoundLaws.{sound}
 use Rattle.hg_world.specs.World.{Secrets}
 use Rattle.hg_play.specs.Lines.{kept_block}
-use Rattle.hg_play.specs.Sites.{start_in}
+use Rattle.hg_play.specs.Sites.{IsMadeWith, start_in}
 
 -- the block of a node by its marks, part by part
-pub block_is : (members : MemberList) (x : ℕ) (v : NodeView Secrets) (lines : List OrderLine) (events forking greatest closed : ℕ) (balances : List ℕ) →
-    v.start ≡ start_in members x → IsNode accepts_by v → lines ≡ order_lines (node_rows v) (links (node_rows v)) (kept_of v) (book_kept v).effects →
+pub block_is : {K : Type 0} (accepts : K → Accepts) (members : MemberList) (v : NodeView K) (x : ℕ) (lines : List OrderLine) (events forking greatest closed : ℕ) (balances : List ℕ) →
+    IsMadeWith members v → IsNode accepts v → x ≡ v.start.own → lines ≡ order_lines (node_rows v) (links (node_rows v)) (kept_of v) (book_kept v).effects →
     events ≡ length (node_rows v) → forking ≡ forkers v.start.members (links (node_rows v)) → greatest ≡ last_round v.start.members (links (node_rows v)) → closed ≡ last_closed_of v → balances ≡ (book_kept v).balances →
-    (let block : Block = record { member = x; events = events; forkers = forking; greatest = greatest; closed = closed; order = lines; balances = balances } in block) ≡ kept_block members x v
+    (let block : Block = record { member = x; events = events; forkers = forking; greatest = greatest; closed = closed; order = lines; balances = balances } in block) ≡ kept_block members v.start.own v
 unfolding marked_block
-block_is members x v lines events forking greatest closed balances start node lines_are events_are forking_is greatest_is closed_is balances_are =
+block_is {K} accepts members v x lines events forking greatest closed balances start node own_is lines_are events_are forking_is greatest_is closed_is balances_are =
     let n = stakes_of members in
     let G = node_rows v in
     let marks = node_marks v in
-    let linked : node_links v ≡ links G = (sound (accepts_by v.start.keys) v.start.members v.start.coin v.start.own v.history node.coin node.history).linked in
-    let order : kept_of v ≡ ordered n G (links G) marks = ap₂ (λ (s : Start Secrets) (L : List Link). ordered s.members G L marks) start linked in
+    let linked : node_links v ≡ links G = (sound (accepts v.start.keys) v.start.members v.start.coin v.start.own v.history node.coin node.history).linked in
+    let order : kept_of v ≡ ordered n G (links G) marks = ap₂ (λ (s : Start K) (L : List Link). ordered s.members G L marks) start linked in
     let the_book : book_kept v ≡ book_of (balances_of members) G (ordered n G (links G) marks) =
-    ap (λ (s : Start Secrets). book_of s.balances G (kept_of v)) start ∙ ap (book_of (balances_of members) G) order in
+    ap (λ (s : Start K). book_of s.balances G (kept_of v)) start ∙ ap (book_of (balances_of members) G) order in
     let all_lines : lines ≡ order_lines G (links G) (ordered n G (links G) marks) (book_of (balances_of members) G (ordered n G (links G) marks)).effects =
     lines_are ∙ ap₂ (λ (os : List Placed) (c : Book). order_lines G (links G) os c.effects) order the_book in
-    let all_forking : forking ≡ forkers n (links G) = forking_is ∙ ap (λ (s : Start Secrets). forkers s.members (links G)) start in
-    let the_greatest : greatest ≡ last_round n (links G) = greatest_is ∙ ap (λ (s : Start Secrets). last_round s.members (links G)) start in
-    let all_closed : closed ≡ last_closed n (links G) marks = closed_is ∙ ap₂ (λ (s : Start Secrets) (L : List Link). last_closed s.members L marks) start linked in
+    let all_forking : forking ≡ forkers n (links G) = forking_is ∙ ap (λ (s : Start K). forkers s.members (links G)) start in
+    let the_greatest : greatest ≡ last_round n (links G) = greatest_is ∙ ap (λ (s : Start K). last_round s.members (links G)) start in
+    let all_closed : closed ≡ last_closed n (links G) marks = closed_is ∙ ap₂ (λ (s : Start K) (L : List Link). last_closed s.members L marks) start linked in
     let all_balances : balances ≡ (book_of (balances_of members) G (ordered n G (links G) marks)).balances = balances_are ∙ ap (λ (c : Book). c.balances) the_book in
-    rw (events_are, all_forking, the_greatest, all_closed, all_lines, all_balances) refl
+    rw (own_is, events_are, all_forking, the_greatest, all_closed, all_lines, all_balances) refl
 
 -- the marks of a settled node are the fame of its graph
 pub settled_is : (members : MemberList) (x : ℕ) (old new : NodeView Secrets) → old.start ≡ start_in members x → IsSettled old new →

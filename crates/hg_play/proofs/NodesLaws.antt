@@ -1,5 +1,5 @@
 -- What is told of many nodes, call by call, and of the nodes of one thread
-use Rattle.std.proofs.Common.{◌≡◌, ℕ, ◌+◌, ◌<◌, cond, List, [], ◌∷◌, ◌++◌, length, get_or, take, Result, Ok, Err, sym, refl, ap, ap₂, ◌∙◌, subst, add-one, arith}
+use Rattle.std.proofs.Common.{inl, inr, ◌≡◌, ℕ, ◌+◌, ◌<◌, cond, List, [], ◌∷◌, ◌++◌, length, get_or, take, Result, Ok, Err, sym, refl, ap, ap₂, ◌∙◌, subst, add-one, arith}
 use Rattle.std.specs.Prelude.{All, IfOk, OnErr, OnOk}
 use Rattle.std.proofs.lemmas.List.Sums.{fold_more}
 use Rattle.hg_outcome.specs.declared.outcome.Printed.{Printed}
@@ -102,7 +102,8 @@ told_call (Err e) old new steps IsSo so is = tt
 pub kept_some : {A E : Type 0} (result : Result A E) (old new : WorldView) (steps : List Step) (P : A → Type 0) → ((a : A) → P a → new ≡ after_steps old steps) →
     (some : List Step) → IfOk result P → OnErr result (RanSome old some new) → IsKept (seen_alone old) (seen_alone new)
 kept_some (Ok a) old new steps P says some is err = kept_steps old new steps (says a is)
-kept_some (Err e) old new steps P says some is err = kept_steps old new err.first err.after
+kept_some (Err e) old new steps P says some is (inl same) = kept_steps old new [] same
+kept_some (Err e) old new steps P says some is (inr ran) = kept_steps old new ran.first ran.after
 
 -- the blocks of the first so many nodes
 abbrev pub BlocksSoFar : {N : Type 0} → MemberList → ℕ → NodesView N → NodesView N → List Printed → List Printed → Type 0

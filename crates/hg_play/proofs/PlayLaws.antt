@@ -1,5 +1,5 @@
 -- Lines of a script that are played, and the blocks at the end
-use Rattle.std.proofs.Common.{◌≡◌, cond, inl, inr, ℕ, ◌+◌, ◌<◌, true, false, List, [], ◌∷◌, ◌++◌, length, get_or, Option, slice_get, sym, ap, ap₂, ◌∙◌, subst, add-one, append_assoc}
+use Rattle.std.proofs.Common.{refl, ◌≡◌, cond, inl, inr, ℕ, ◌+◌, ◌<◌, true, false, List, [], ◌∷◌, ◌++◌, length, get_or, Option, slice_get, sym, ap, ap₂, ◌∙◌, subst, add-one, append_assoc}
 use Rattle.std.specs.Prelude.{All}
 use Rattle.std.specs.Option.{option_map_or}
 use Rattle.std.proofs.lemmas.Bool.{true≢false, cases_lt}
@@ -20,6 +20,7 @@ use Rattle.hg_script.specs.declared.line.Action.TheVariants as action
 use Rattle.hg_script.specs.Lawful.{IsGossip, IsSource, IsLawful, IsLine}
 use Rattle.hg_world.specs.World.{WorldView}
 use Rattle.hg_play.specs.Lines.{IsBelow, IsGossipBelow, IsLineBelow, IsSourceBelow}
+use Rattle.hg_play.specs.Outcomes.{kept_at, with_kept}
 use Rattle.hg_play.specs.Play.{block_at}
 
 -- what three things make is what others make that are the same
@@ -75,3 +76,14 @@ block_more members w before now m printed before_is printed_is =
 pub no_blocks : (members : MemberList) (w : WorldView) (now : List Printed) → now ≡ now ++ list_below (block_at members w) 0 (has_node members)
 unfolding list_below
 no_blocks members w now = sym (append-nil now)
+
+-- the same of nodes as they are
+pub kept_none : (members : MemberList) (w : WorldView) → [] ≡ list_below (kept_at members w) 0 (has_node members)
+unfolding list_below
+kept_none members w = refl
+
+pub kept_more : (members : MemberList) (w : WorldView) (before printed : List Printed) (m : ℕ) → before ≡ list_below (kept_at members w) m (has_node members) → printed ≡ with_kept members w before m →
+    printed ≡ list_below (kept_at members w) (m + 1) (has_node members)
+unfolding list_below
+kept_more members w before printed m before_is printed_is =
+    rw add-one (printed_is ∙ ap (λ (b : List Printed). b ++ cond (has_node members m) (kept_at members w m ∷ []) []) before_is)

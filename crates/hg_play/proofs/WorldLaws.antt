@@ -1,5 +1,5 @@
 -- What the nodes of a world began with, and that to settle nodes leaves all rows
-use Rattle.std.proofs.Common.{◌≡◌, ℕ, zero, suc, ◌+◌, ◌<◌, Bool, true, false, cond, List, [], ◌∷◌, ◌++◌, length, map, get_or, sym, refl, ap, ◌∙◌, subst, ◌==◌, arith, add-one, zero-add}
+use Rattle.std.proofs.Common.{◌≡◌, ℕ, zero, suc, ◌+◌, ◌<◌, Bool, true, false, cond, List, [], ◌∷◌, ◌++◌, length, map, get_or, sym, refl, ap, ap₂, ◌∙◌, subst, ◌==◌, arith, add-one, zero-add}
 use Rattle.std.specs.List.{range_with_len}
 use Rattle.std.proofs.lemmas.List.{length-map, get_or-map}
 use Rattle.std.proofs.lemmas.List.Sums.{fold-append}
@@ -14,7 +14,7 @@ use Rattle.hg_life.specs.Members.{MemberList, has_node, stakes_of}
 use Rattle.hg_model.specs.Shares.{Share, whole}
 use Rattle.hg_life.specs.History.{State}
 use Rattle.hg_life.specs.History.Change.{Marked}
-use Rattle.hg_life.specs.NodeView.{NodeView, Start, node_rows, with_changes}
+use Rattle.hg_life.specs.NodeView.{NodeView, Start, node_rows, start_of, with_changes}
 use Rattle.hg_life.specs.Calls.{publish_answer, publish_changes}
 use Rattle.hg_history.proofs.CallLaws.{with_none}
 use Rattle.hg_history.proofs.StateLaws.{replay-push}
@@ -25,8 +25,8 @@ use Rattle.hg_world.specs.World.{Secrets, Site, WorldView, new_site, new_world, 
 use Rattle.hg_world.specs.Steps.{after_step, after_steps, node_published, settle_steps}
 use Rattle.hg_script.specs.declared.line.Line.{Line}
 use Rattle.hg_play.specs.Lines.{action_steps}
-use Rattle.hg_play.specs.Play.{Stage, IsSafePlay, after_line, after_lines, block_at, end_steps, first_stage, lines_steps, play_run, play_steps}
-use Rattle.hg_play.specs.Sites.{start_in, starts, starts_of}
+use Rattle.hg_play.specs.Play.{Stage, IsSafePlay, after_line, after_lines, block_at, end_steps, end_steps_of, first_stage, lines_steps, play_run, play_steps}
+use Rattle.hg_play.specs.Sites.{IsMadeWith, start_in, starts, starts_of}
 
 -- one step after the others
 pub steps-append : (w : WorldView) (a b : List Step) → after_steps w (a ++ b) ≡ after_steps (after_steps w a) b
@@ -60,6 +60,10 @@ start_read members w m are inside =
     sym (get_or-map (λ (s : Site). s.node.start) w.sites m no_site none inside)
     ∙ (ap (λ (xs : List (Start Secrets)). get_or xs m none) are
     ∙ get_or-map-range_with_len (start_in members) 0 (length members.entries) m m none (omega (arith, inside, long)) (zero-add m))
+
+-- and it is a node made with these members
+pub made_in : (members : MemberList) (m : ℕ) (v : NodeView Secrets) → v.start ≡ start_in members m → IsMadeWith members v
+made_in members m v is = is ∙ sym (ap₂ (start_of members) (ap (λ (s : Start Secrets). s.own) is) (ap (λ (s : Start Secrets). s.keys) is))
 
 -- the rows of all nodes
 abbrev all_rows : WorldView → List (List Row)
@@ -132,6 +136,12 @@ lines-steps members s (line ∷ lines) =
     let now = action_steps s.world s.labels line.action in
     lines-steps members (after_line members s line) lines
     ∙ sym (steps-append s.world now (lines_steps members (after_line members s line) lines))
+
+-- one node more is settled
+pub settled_more : (members : MemberList) (w now new : WorldView) (m : ℕ) → now ≡ after_steps w (end_steps members m) → new ≡ after_steps now (end_steps_of members m) → new ≡ after_steps w (end_steps members (m + 1))
+settled_more members w now new m before step =
+    rw add-one
+    (step ∙ (ap (λ (u : WorldView). after_steps u (end_steps_of members m)) before ∙ sym (steps-append w (end_steps members m) (end_steps_of members m))))
 
 -- and after all steps of a script it is that in which the play ends
 pub play-steps : (members : MemberList) (lines : List Line) (last : WorldView) →

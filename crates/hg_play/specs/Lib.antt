@@ -5,6 +5,7 @@ pub mod Heard
 pub mod Labels
 pub mod Lines
 pub mod Nodes
+pub mod Outcomes
 pub mod Play
 pub mod Printing
 pub mod Sites

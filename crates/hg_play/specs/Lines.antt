@@ -21,7 +21,7 @@ use Rattle.hg_script.specs.declared.line.Action.TheVariants as action
 use Rattle.hg_script.specs.declared.line.Line.{Line}
 use Rattle.hg_world.specs.declared.step.Step.{Step}
 use Rattle.hg_world.specs.declared.step.Step.TheVariants as step
-use Rattle.hg_world.specs.World.{Secrets, WorldView, node_at, rows_at, frozen_by}
+use Rattle.hg_world.specs.World.{WorldView, node_at, rows_at, frozen_by}
 use Rattle.hg_life.specs.Workers.{worker_limit}
 use Rattle.hg_world.specs.Steps.{making_at, putting_at, settle_steps}
 use Rattle.hg_world.specs.Syncs.{pull_steps, pulled, sync_report, sync_steps}
@@ -56,7 +56,7 @@ gossip_printed w labels number (Join m label time payload) =
 gossip_printed w labels number (Give m label) = printed.Give number (putting_at (node_at w m) (bytes_at labels label))
 
 -- the block of a member's node by the marks that it has published
-abbrev pub kept_block : MemberList → ℕ → NodeView Secrets → Block
+abbrev pub kept_block : {K : Type 0} → MemberList → ℕ → NodeView K → Block
 kept_block members m v = marked_block members m (node_rows v) (node_marks v)
 
 -- what is printed of a line. A shown block is that of the node's graph, by the procedures computed whole

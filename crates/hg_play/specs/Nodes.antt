@@ -25,7 +25,7 @@ use Rattle.hg_world.specs.Parts.{IsWorld}
 use Rattle.hg_play.specs.Labels.{last_bytes, source_bytes}
 use Rattle.hg_play.specs.Lines.{gossip_printed, gossip_steps, kept_block, part_line}
 use Rattle.hg_play.specs.Play.{Stage, after_line, after_lines, block_at, end_blocks, end_steps, stage, tape_of}
-use Rattle.hg_play.specs.Sites.{start_in, starts, starts_of}
+use Rattle.hg_play.specs.Sites.{IsMadeWith, starts, starts_of}
 use Rattle.hg_play.specs.Tape.{TapeView}
 
 -- many nodes at a moment, as their caller sees them: how many they are; that all that others did since the beginning are
@@ -80,9 +80,9 @@ IsShownBlock members w m block = starts_of w ≡ starts members → block ≡ bl
 abbrev pub IsKeptBlock : MemberList → WorldView → ℕ → Block → Type 0
 IsKeptBlock members w m block = starts_of w ≡ starts members → block ≡ kept_block members m (node_at w m)
 
--- so it is of this node, where that began as member m's
-abbrev pub IsBlockOf : MemberList → ℕ → NodeView Secrets → Block → Type 0
-IsBlockOf members m v block = v.start ≡ start_in members m → block ≡ kept_block members m v
+-- so it is of this node, whichever members it was made with
+abbrev pub IsBlockOf : {K : Type 0} → NodeView K → Block → Type 0
+IsBlockOf v block = (members : MemberList) → IsMadeWith members v → block ≡ kept_block members v.start.own v
 
 -- of a line of gossip, under its number
 abbrev pub MatchesGossip : {N : Type 0} → NodesView N → NodesView N → List (List ℕ) → ℕ → Gossip → Printed → Type 0

@@ -43,9 +43,12 @@ abbrev pub after_lines : MemberList → Stage → List Line → Stage
 after_lines members s lines = fold (after_line members) s lines
 
 -- at the end each node is settled
+abbrev pub end_steps_of : MemberList → ℕ → List Step
+end_steps_of members m = cond (has_node members m) (settle_steps m) []
+
 abbrev pub end_steps : MemberList → ℕ → List Step
 end_steps members zero = []
-end_steps members (suc m) = end_steps members m ++ cond (has_node members m) (settle_steps m) []
+end_steps members (suc m) = end_steps members m ++ end_steps_of members m
 
 -- the blocks of all nodes, in the order of the members
 abbrev pub block_at : MemberList → WorldView → ℕ → Printed
@@ -81,9 +84,13 @@ lines_steps members s (line ∷ lines) =
 abbrev pub play_steps : MemberList → List Line → List Step
 play_steps members lines = lines_steps members (first_stage members) lines ++ end_steps members (length members.entries)
 
+-- the world that they leave
+abbrev pub played_world : MemberList → List Line → WorldView
+played_world members lines = after_steps (new_world members) (play_steps members lines)
+
 -- the run of these steps: the histories of the members' nodes
 unfoldable pub play_run : MemberList → List Line → Run
-play_run members lines = run_of (after_steps (new_world members) (play_steps members lines))
+play_run members lines = run_of (played_world members lines)
 
 -- it is safe
 abbrev pub IsSafePlay : MemberList → List Line → Type 0

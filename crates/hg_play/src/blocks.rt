@@ -9,19 +9,20 @@ use crate::tape::Tape;
 use hg_model::{Items, Member, Memory};
 use hg_node::Node;
 use hg_outcome::{Block, Printed};
-use hg_sign::SharedTable;
+use hg_sign::Signer;
 use hg_world::World;
+use std::alloc::Global;
 
-/// The block of a member's node, by the marks that it has published.
-fn kept_block(game: &Game, member: Member, node: &Node<SharedTable>) -> Result<Block, Memory>
-    ensures { IfOk result (IsBlockOf game.now.members.now member node.now) }
+/// The block of a node, by the marks that it has published.
+pub(crate) fn kept_block<V: Signer>(alloc: Global, node: &Node<V>) -> Result<Block, Memory>
+    ensures { IfOk result (IsBlockOf node.now) }
 {
     node.is_node();
     let events = node.rows() as u64;
-    let lines = order_lines(game.alloc, node.graph(), node.kept(), node.effects())?;
-    let balances = Vec::from_slice(game.alloc, node.book().balances())?;
+    let lines = order_lines(alloc, node.graph(), node.kept(), node.effects())?;
+    let balances = Vec::from_slice(alloc, node.book().balances())?;
     Ok(Block {
-        member,
+        member: node.own(),
         events,
         forkers: node.forkers(),
         greatest: node.greatest(),
@@ -31,12 +32,12 @@ fn kept_block(game: &Game, member: Member, node: &Node<SharedTable>) -> Result<B
     })
 }
 
-/// The same of a member's node in the world.
+/// That of a member's node in the world.
 pub(crate) fn kept_at(game: &Game, world: &World, member: Member) -> Result<Block, Memory>
     requires { IsMemberOf world.now member }
     ensures { IfOk result (IsKeptBlock game.now.members.now world.now member) }
 {
-    let block = kept_block(game, member, world.node(member))?;
+    let block = kept_block(game.alloc, world.node(member))?;
     Ok(block)
 }
 

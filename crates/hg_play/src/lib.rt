@@ -23,6 +23,7 @@ mod labels;
 mod laws;
 mod lines;
 mod nodes;
+mod outcomes;
 mod playing;
 mod printing;
 mod shared;
@@ -32,4 +33,5 @@ mod through;
 
 pub use hg_seat::Seated;
 pub use laws::{lines_are_steps, lines_need_rows_alone, steps_need_rows_alone};
-pub use playing::{play, summary};
+pub use outcomes::{block_of, outcome_of};
+pub use playing::{play, play_world, summary};

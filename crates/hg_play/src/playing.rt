@@ -1,24 +1,26 @@
-ghost use Rattle.std.specs.Prelude.{◌≡◌, ◌≤◌, All, IfOk, OnOk, length};
-ghost use Rattle.hg_life.specs.Members.{names_of};
+ghost use Rattle.std.specs.Prelude.{◌≡◌, ◌<◌, ◌≤◌, ◌^◌, All, IfOk, OnOk, length};
 ghost use Rattle.hg_script.specs.Lawful.{IsLine};
 ghost use Rattle.hg_world.specs.Parts.{IsWorld};
-ghost use Rattle.hg_world.specs.World.{new_world};
+ghost use Rattle.hg_world.specs.World.{IsMemberOf, new_world};
+ghost use Rattle.hg_world.specs.Steps.{after_steps};
 ghost use Rattle.hg_play.specs.Agree.{IsAgreed};
 ghost use Rattle.hg_play.specs.Batch.{IsPlayed};
 ghost use Rattle.hg_life.specs.Workers.{most_workers};
 ghost use Rattle.hg_play.specs.Nodes.{Closes};
-ghost use Rattle.hg_play.specs.Play.{IsSafePlay, play, summary};
+ghost use Rattle.hg_play.specs.Play.{IsSafePlay, end_steps, end_steps_of, play, played_world, summary};
+ghost use Rattle.hg_play.specs.Sites.{AreMadeWith};
 
 use crate::band::Band;
 use crate::batch::play_batches;
 use crate::blocks::push_blocks;
 use crate::game::Game;
 use crate::lines::play_lines;
+use crate::outcomes::names;
 use crate::tape::Tape;
 use hg_board::Crew;
 use hg_io::Gate;
 use hg_life::Members;
-use hg_model::{Bytes, Items, Memory};
+use hg_model::{Items, Member, Memory};
 use hg_outcome::Outcome;
 use hg_script::Line;
 use hg_sign::MacTable;
@@ -27,15 +29,28 @@ use std::alloc::Global;
 use std::sync::Wait;
 use std::thread::Threads;
 
-/// The members' names, in their order.
-fn names(alloc: Global, members: &Members) -> Result<Items<Bytes>, Memory>
-    ensures { IfOk result (λ names. names ≡ names_of members.now) }
+/// A member's node is settled, if the member has one.
+fn settle_at(members: &Members, world: &mut World, member: usize) -> Result<(), Memory>
+    requires below { IsMemberOf world.old member }
+    requires few { member < 2 ^ 16 }
+    ensures sites { length world.new.sites ≡ length world.old.sites }
+    ensures ok { OnOk result (world.new ≡ after_steps world.old (end_steps_of members.now member)) }
 {
-    let mut names = Vec::new(alloc);
-    for entry in members.entries() {
-        names.push(Items::from_vec(Vec::from_slice(alloc, entry.name.as_slice())?))?;
+    if members.has_node(member as Member) {
+        world.settle(member as Member)?;
     }
-    Ok(Items::from_vec(names))
+    Ok(())
+}
+
+/// All nodes are settled, in the order of the members.
+fn settle_all(members: &Members, world: &mut World) -> Result<(), Memory>
+    requires { length world.old.sites ≡ length members.now.entries }
+    ensures { OnOk result (world.new ≡ after_steps world.old (end_steps members.now (length members.now.entries))) }
+{
+    for member in 0..members.count() as usize {
+        settle_at(members, world, member)?;
+    }
+    Ok(())
 }
 
 /// Plays the lines over the members' nodes, beside so many workers. The nodes, and what the lines leave.
@@ -137,4 +152,22 @@ pub fn summary<R: Threads + Wait + Sync, C: Crew + Sync, G: Gate + Sync>(
     let (world, _) = play_all(rt, &game, lines, workers, crew, gate)?;
     let outcome = closed(&game, world, Tape::new(alloc))?;
     Ok(outcome)
+}
+
+/// The world with which `play` ends without workers: the lines are played over the members' nodes, which are settled then.
+pub fn play_world(alloc: Global, members: &Members, lines: &[Line]) -> Result<World, Memory>
+    requires { All (IsLine members.now 0) lines.now }
+    ensures world { IfOk result (λ world. world ≡ played_world members.now lines.now) }
+    ensures made { IfOk result (AreMadeWith members.now) }
+{
+    let keys = MacTable::new(alloc, members)?;
+    let game = Game {
+        alloc,
+        members,
+        keys: &keys,
+    };
+    let mut world = World::new(alloc, members)?;
+    play_lines(&game, &mut world, lines)?;
+    settle_all(members, &mut world)?;
+    Ok(world)
 }

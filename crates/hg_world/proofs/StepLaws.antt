@@ -1,5 +1,5 @@
 -- Steps one after the other
-use Rattle.std.proofs.Common.{◌≡◌, ℕ, ◌+◌, ◌<◌, List, [], ◌∷◌, ◌++◌, length, take, drop, get_or, sym, refl, ap, ap₂, ◌∙◌, subst, add-one, arith}
+use Rattle.std.proofs.Common.{append_assoc, inl, inr, ◌≡◌, ℕ, zero, suc, ◌+◌, ◌<◌, List, [], ◌∷◌, ◌++◌, length, take, drop, get_or, sym, refl, ap, ap₂, ◌∙◌, subst, add-one, arith}
 use Rattle.std.specs.Prelude.{All}
 use Rattle.std.proofs.lemmas.List.{length-set, take-append-drop}
 use Rattle.std.proofs.lemmas.List.Sums.{fold-append}
@@ -8,7 +8,7 @@ use Rattle.hg_world.specs.declared.step.Step.{Step}
 use Rattle.hg_world.specs.declared.step.Step.TheVariants.{Make, Deliver, Freeze, Publish}
 use Rattle.hg_world.specs.declared.step.Reply.{Reply}
 use Rattle.hg_world.specs.World.{WorldView}
-use Rattle.hg_world.specs.Steps.{HasRun, HasStepped, IsStepOf, RanSome, after_step, after_steps, replies_to, reply_to}
+use Rattle.hg_world.specs.Steps.{HasRun, HasStepped, IsStepOf, NeedsMemory, RanSome, after_step, after_steps, replies_to, reply_to}
 
 -- there are as many sites after a step
 pub step_sites : (w : WorldView) (step : Step) → length (after_step w step).sites ≡ length w.sites
@@ -52,19 +52,34 @@ run_more old now new steps i step before after reply low is run stepped more =
       stepped.1 ∙ (ap (λ (w : WorldView). after_step w step) run.1 ∙ (sym (after_more old first step) ∙ ap (after_steps old) (sym all))),
     )
 
--- memory ran out after the first i steps, or at the answer of the next
-pub ran_first : (old now new : WorldView) (steps : List Step) (i : ℕ) (replies : List Reply) → HasRun old (take i steps) replies now → new ≡ now → RanSome old steps new
-ran_first old now new steps i replies run same = record {
-  first = take i steps;
-  rest = drop i steps;
-  whole = sym (take-append-drop i steps);
-  after = same ∙ run.1;
-}
+drop_next : {A : Type 0} (xs : List A) (i : ℕ) (x : A) → i < length xs → x ≡ get_or xs i x → drop i xs ≡ x ∷ drop (suc i) xs
+drop_next [] i x low is = absurd (omega (arith, low))
+drop_next (y ∷ ys) zero x low is = ap (λ (z : _). z ∷ ys) (sym is)
+drop_next (y ∷ ys) (suc i) x low is = drop_next ys i x (omega (arith, low)) is
 
-pub ran_next : (old now new : WorldView) (steps : List Step) (i : ℕ) (step : Step) (before : List Reply) (reply : Reply) → i < length steps → step ≡ get_or steps i step →
-    HasRun old (take i steps) before now → HasStepped now step reply new → RanSome old steps new
-ran_next old now new steps i step before reply low is run stepped =
-    ran_first old new new steps (i + 1) (before ++ reply ∷ []) (run_more old now new steps i step before (before ++ reply ∷ []) reply low is run stepped refl) refl
+-- memory ran out at the next step
+pub ran_first : (old now new : WorldView) (steps : List Step) (i : ℕ) (step : Step) (replies : List Reply) → i < length steps → step ≡ get_or steps i step →
+    HasRun old (take i steps) replies now → new ≡ now → NeedsMemory now step → RanSome old steps new
+ran_first old now new steps i step replies low is run same needs = inr (record {
+  first = take i steps;
+  next = step;
+  rest = drop (suc i) steps;
+  whole = sym (take-append-drop i steps) ∙ ap (λ (rest : List Step). take i steps ++ rest) (drop_next steps i step low is);
+  after = same ∙ run.1;
+  needs = subst (λ (w : WorldView). NeedsMemory w step) (sym same) needs;
+})
+
+-- the first of some steps are the first of those and more
+pub ran_before : (old new : WorldView) (steps more : List Step) → RanSome old steps new → RanSome old (steps ++ more) new
+ran_before old new steps more (inl same) = inl same
+ran_before old new steps more (inr ran) = inr (record {
+  first = ran.first;
+  next = ran.next;
+  rest = ran.rest ++ more;
+  whole = ap (λ (s : List Step). s ++ more) ran.whole ∙ append_assoc ran.first (ran.next ∷ ran.rest) more;
+  after = ran.after;
+  needs = ran.needs;
+})
 
 -- the step at a place
 pub step_at : (old now : WorldView) (steps : List Step) (i : ℕ) (step : Step) (replies : List Reply) → All (IsStepOf old) steps → i < length steps → step ≡ get_or steps i step →

@@ -1,5 +1,5 @@
 -- Events that come to one node of a world, one after the other
-use Rattle.std.proofs.Common.{◌≡◌, ℕ, ◌<◌, List, [], ◌∷◌, length, get_or, Option, None, Some, Result, Ok, Err, sym, refl, ap, ◌∙◌}
+use Rattle.std.proofs.Common.{◌≡◌, ℕ, ◌<◌, List, [], ◌∷◌, length, get_or, Option, None, Some, Result, Ok, Err, sym, refl, ap, subst, ◌∙◌}
 use Rattle.std.specs.Prelude.{IfOk, OnErr}
 use Rattle.std.proofs.lemmas.List.{get_or-set_same, map-append, set-get_or}
 use Rattle.hg_life.specs.declared.answers.SyncMade.{SyncMade}
@@ -9,15 +9,17 @@ use Rattle.hg_life.specs.Signing.{accepts_by}
 use Rattle.hg_life.specs.History.{Change}
 use Rattle.hg_life.specs.NodeView.{NodeView, with_changes}
 use Rattle.hg_gossip.specs.declared.gossip.Taken.{Taken}
-use Rattle.hg_gossip.specs.Gossip.{none_taken}
+use Rattle.hg_gossip.specs.Gossip.{WouldMakeAfter, none_taken}
+use Rattle.hg_gossip.specs.Holding.{seen_whole}
 use Rattle.hg_history.proofs.CallLaws.{with_none}
+use Rattle.hg_node.specs.Puts.{WouldAccept}
 use Rattle.hg_gossip.specs.Nodes.{MakesOn, Taking, taking, taking_of}
 use Rattle.hg_gossip.specs.Taking.{TookSome}
 use Rattle.hg_gossip.proofs.TakingLaws.{takes_change}
 use Rattle.hg_world.specs.declared.step.Step.{Step}
 use Rattle.hg_world.specs.declared.step.Step.TheVariants.{Deliver}
 use Rattle.hg_world.specs.World.{Secrets, Site, WorldView, no_site, node_at, site_of, with_node_at, with_site}
-use Rattle.hg_world.specs.Steps.{RanSome, after_steps}
+use Rattle.hg_world.specs.Steps.{RanFirst, after_steps}
 use Rattle.hg_world.specs.Syncs.{HasMadeAfter, HasTaken, deliver_steps}
 use Rattle.hg_world.proofs.NodeLaws.{makes}
 use Rattle.hg_world.proofs.PullLaws.{puts_set}
@@ -38,11 +40,19 @@ module _ (w : WorldView) (m : ℕ) (low : m < length w.sites) (site : Site) (rea
   here : site.node ≡ node_at w m
   here = ap (λ (s : Site). s.node) (site_here w m low site read)
 
+  set_here : node_at (with_site w m (site_of u site.frozen)) m ≡ u
+  set_here = ap (λ (s : Site). s.node) (get_or-set_same w.sites m (site_of u site.frozen) no_site low)
+
   -- the same node
   pub same_is : u ≡ site.node → with_site w m (site_of u site.frozen) ≡ w
   same_is is =
       ap (λ (s : Site). with_site w m s) (ap (λ (v : NodeView Secrets). site_of v site.frozen) is ∙ site_here w m low site read)
       ∙ ap (λ (sites : List Site). let v : WorldView = record { members = w.members; coin = w.coin; sites = sites } in v) (set-get_or w.sites m no_site)
+
+  -- so what it would make, the world's would
+  pub would_make : (now : WorldView) → w ≡ now → u ≡ site.node → (other : Option (List ℕ)) (payload : List ℕ) → WouldMakeAfter (seen_whole u) other payload → WouldMakeAfter (seen_whole (node_at now m)) other payload
+  would_make now is same other payload would =
+      subst (λ (v : NodeView Secrets). WouldMakeAfter (seen_whole v) other payload) (same ∙ (here ∙ ap (λ (x : WorldView). node_at x m) is)) would
 
   steps_are : (events : List (List ℕ)) → u ≡ (taking accepts_by site.node events).node → with_site w m (site_of u site.frozen) ≡ after_steps w (deliver_steps m events)
   steps_are events is =
@@ -57,12 +67,14 @@ module _ (w : WorldView) (m : ℕ) (low : m < length w.sites) (site : Site) (rea
         ∙ (at ∙ ap (λ (v : NodeView Secrets). taking accepts_by v events) here);
   }
 
-  pub took_some : (events : List (List ℕ)) → TookSome accepts_by site.node events u → RanSome w (deliver_steps m events) (with_site w m (site_of u site.frozen))
+  pub took_some : (events : List (List ℕ)) → TookSome accepts_by site.node events u → RanFirst w (deliver_steps m events) (with_site w m (site_of u site.frozen))
   took_some events some = record {
     first = deliver_steps m some.first;
-    rest = deliver_steps m (some.next ∷ some.rest);
+    next = Deliver m some.next;
+    rest = deliver_steps m some.rest;
     whole = ap (deliver_steps m) some.whole ∙ map-append (λ (b : List ℕ). let s : Step = Deliver m b in s) some.first (some.next ∷ some.rest);
     after = steps_are some.first some.after;
+    needs = subst (λ (v : NodeView Secrets). WouldAccept accepts_by v some.next) (sym set_here) some.full;
   }
 
   -- an event was made on this other-parent, or none where there is no name

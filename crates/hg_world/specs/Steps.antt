@@ -1,6 +1,6 @@
 -- A run step by step: what each step makes of the world, and what it answers. SWIRLDS-TR-2016-01, sections 2 to 4.
 -- Publishing by workers, of rows that they froze before, is our own
-use Rattle.std.specs.Prelude.{ℕ, ◌≡◌, ◌<◌, List, [], ◌∷◌, ◌++◌, fold, length}
+use Rattle.std.specs.Prelude.{ℕ, ◌≡◌, ◌<◌, ◌⊎◌, List, [], ◌∷◌, ◌++◌, fold, length}
 use Rattle.std.specs.Option.{option_to_list}
 use Rattle.hg_life.specs.declared.answers.PutAnswer.{PutAnswer}
 use Rattle.hg_life.specs.declared.answers.MakeAnswer.{MakeAnswer}
@@ -9,6 +9,7 @@ use Rattle.hg_life.specs.Signing.{signature_by, accepts_by}
 use Rattle.hg_life.specs.NodeView.{NodeView, with_changes, node_rows}
 use Rattle.hg_life.specs.Calls.{put_answer, put_changes, make_answer, make_changes, publish_answer, publish_changes}
 use Rattle.hg_node.specs.Laws.{signature_made}
+use Rattle.hg_gossip.specs.Holding.{WouldSign, WouldTake, rules_alone, seen_whole}
 use Rattle.hg_world.specs.declared.step.Step.{Step}
 use Rattle.hg_world.specs.declared.step.Step.TheVariants.{Make, Deliver, Freeze, Publish}
 use Rattle.hg_world.specs.declared.step.Reply.{Reply}
@@ -88,12 +89,25 @@ HasStepped old step answer new = (answer ≡ reply_to old step) × (new ≡ afte
 abbrev pub HasRun : WorldView → List Step → List Reply → WorldView → Type 0
 HasRun old steps answers new = (answers ≡ replies_to old steps) × (new ≡ after_steps old steps)
 
--- the first of these steps were done, before memory ran out
-pub record RanSome (old : WorldView) (steps : List Step) (new : WorldView) : Type 0 where
+-- the step takes memory: the node would sign the event, or accept it, or a worker publishes
+abbrev pub NeedsMemory : WorldView → Step → Type 0
+NeedsMemory w (Make m other time payload) = WouldSign (seen_whole (node_at w m)) (option_to_list other) payload
+NeedsMemory w (Deliver m bytes) = WouldTake (rules_alone accepts_by) (seen_whole (node_at w m)) bytes
+NeedsMemory w (Freeze m worker) = ⊥
+NeedsMemory w (Publish m worker share) = Unit {0}
+
+-- the first of these steps were done, and there was no memory for the next one
+pub record RanFirst (old : WorldView) (steps : List Step) (new : WorldView) : Type 0 where
   pub first : List Step
+  pub next : Step
   pub rest : List Step
-  pub whole : steps ≡ first ++ rest
+  pub whole : steps ≡ first ++ next ∷ rest
   pub after : new ≡ after_steps old first
+  pub needs : NeedsMemory new next
+
+-- none of them was, for want of memory to begin, or the first of them were
+abbrev pub RanSome : WorldView → List Step → WorldView → Type 0
+RanSome old steps new = (new ≡ old) ⊎ RanFirst old steps new
 
 -- a member's node is settled: worker 0 freezes all rows and publishes all that they decide
 abbrev pub settle_steps : ℕ → List Step

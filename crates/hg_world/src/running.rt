@@ -1,7 +1,7 @@
 ghost use Rattle.std.specs.Prelude.{◌≡◌, All, IfOk, OnErr};
 ghost use Rattle.hg_runs.specs.Safety.{IsSafe};
 ghost use Rattle.hg_world.specs.World.{run_of};
-ghost use Rattle.hg_world.specs.Steps.{HasRun, HasStepped, IsStepOf, RanSome};
+ghost use Rattle.hg_world.specs.Steps.{HasRun, HasStepped, IsStepOf, NeedsMemory, RanSome};
 
 use crate::step::{Reply, Step};
 use crate::world::World;
@@ -13,6 +13,7 @@ impl World {
         requires { IsStepOf self.old step.now }
         ensures ok { IfOk result (λ reply. HasStepped self.old step.now reply self.new) }
         ensures err { OnErr result (self.new ≡ self.old) }
+        ensures free { OnErr result (NeedsMemory self.old step.now) }
     {
         match step {
             Step::Make {
@@ -45,6 +46,7 @@ impl World {
         requires { IsStepOf self.old step.now }
         ensures ok { IfOk result (λ reply. HasStepped self.old step.now reply self.new) }
         ensures err { OnErr result (self.new ≡ self.old) }
+        ensures free { OnErr result (NeedsMemory self.old step.now) }
         ensures safe { IsSafe self.new.members self.new.coin (run_of self.new) }
     {
         let reply = self.apply(step);
@@ -57,15 +59,15 @@ impl World {
         ensures ok { IfOk result (λ replies. HasRun self.old steps.now replies.items self.new) }
         ensures err { OnErr result (RanSome self.old steps.now self.new) }
     {
-        let mut replies = Vec::new(alloc);
+        let mut replies = Vec::with_capacity(alloc, steps.len())?;
         for step in steps {
             let reply = self.apply(step)?;
-            replies.push(reply)?;
+            replies.push_reserved(reply);
         }
         Ok(replies)
     }
 
-    /// The steps, one after the other, and what they answer. After `Memory` the first of them are done.
+    /// The steps, one after the other, and what they answer. After `Memory` the first of them are done, or none.
     pub fn run(&mut self, alloc: Global, steps: &[Step]) -> Result<Vec<Reply>, Memory>
         requires { All (IsStepOf self.old) steps.now }
         ensures ok { IfOk result (λ replies. HasRun self.old steps.now replies.items self.new) }

@@ -2,7 +2,7 @@ ghost use Rattle.std.specs.Prelude.{◌≡◌, IfOk, OnErr};
 ghost use Rattle.hg_runs.specs.Safety.{IsSafe};
 ghost use Rattle.hg_world.specs.World.{IsMemberOf, node_at, run_of};
 ghost use Rattle.hg_world.specs.Steps.{RanSome};
-ghost use Rattle.hg_world.specs.Syncs.{HasPulled, HasSynced, pull_steps};
+ghost use Rattle.hg_world.specs.Syncs.{HasPulled, HasSynced, pull_steps, sync_steps};
 
 use crate::world::World;
 use hg_gossip::Taken;
@@ -52,7 +52,7 @@ impl World {
         requires taker { IsMemberOf self.old taker }
         requires peer { IsMemberOf self.old peer }
         ensures ok { IfOk result (λ report. HasSynced self.old taker peer time payload.now report self.new) }
-        ensures err { OnErr result (RanSome self.old (pull_steps self.old taker peer) self.new) }
+        ensures err { OnErr result (RanSome self.old (sync_steps self.old taker peer time payload.now) self.new) }
     {
         let last = self.node(peer).last_name();
         let counts = self.pull_rows(taker, peer)?;
@@ -65,7 +65,7 @@ impl World {
     }
 
     /// Pulls from the peer, and makes an event whose other-parent is the peer's last own row, if it has one. The time
-    /// is any, in no unit of ours. After `Memory` some of the first of the rows are put, and no event is made.
+    /// is any, in no unit of ours. After `Memory` some of the first of the rows are put, or all, and no event is made.
     pub fn sync(
         &mut self,
         taker: Member,
@@ -76,7 +76,7 @@ impl World {
         requires taker { IsMemberOf self.old taker }
         requires peer { IsMemberOf self.old peer }
         ensures ok { IfOk result (λ report. HasSynced self.old taker peer time payload.now report self.new) }
-        ensures err { OnErr result (RanSome self.old (pull_steps self.old taker peer) self.new) }
+        ensures err { OnErr result (RanSome self.old (sync_steps self.old taker peer time payload.now) self.new) }
         ensures safe { IsSafe self.new.members self.new.coin (run_of self.new) }
     {
         let report = self.sync_rows(taker, peer, time, payload);

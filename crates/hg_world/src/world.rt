@@ -3,6 +3,7 @@ ghost use Rattle.std.specs.Option.{option_to_list};
 ghost use Rattle.hg_life.specs.Calls.{IsSettled};
 ghost use Rattle.hg_life.specs.Signing.{accepts_by};
 ghost use Rattle.hg_runs.specs.Safety.{IsSafe};
+ghost use Rattle.hg_gossip.specs.Gossip.{WouldMakeAfter};
 ghost use Rattle.hg_gossip.specs.Handing.{AreKnown, LacksOf};
 ghost use Rattle.hg_gossip.specs.Holding.{WouldSign, WouldTake, rules_alone, seen_whole};
 ghost use Rattle.hg_gossip.specs.Known.{KeepsKnown};
@@ -13,7 +14,7 @@ ghost use Rattle.hg_world.specs.Parts.{AreOfOneList, IsWorld, nth_node, rows_of_
 ghost use Rattle.hg_model.specs.Held.{lacking};
 ghost use Rattle.hg_world.specs.World.{IsMemberOf, IsSiteOf, new_world, node_at, nodes_of, rows_at, run_of, site_at};
 ghost use Rattle.hg_life.specs.Workers.{worker_limit};
-ghost use Rattle.hg_world.specs.Steps.{RanSome, after_step, after_steps, making_at, publishing_by, putting_at, settle_steps};
+ghost use Rattle.hg_world.specs.Steps.{RanFirst, after_step, after_steps, making_at, publishing_by, putting_at, settle_steps};
 ghost use Rattle.hg_world.specs.Syncs.{HasMadeAfter, HasTaken, deliver_steps};
 
 use crate::nodes::{into_nodes, into_sites, new_nodes, room_for, see_all};
@@ -162,7 +163,7 @@ impl World {
         requires member { IsMemberOf self.old member }
         requires signed { AreSigned accepts_by (node_at self.old member).start (rows_of events.now) }
         ensures ok { IfOk result (λ counts. HasTaken self.old member (bytes_of events.now) counts self.new) }
-        ensures err { OnErr result (RanSome self.old (deliver_steps member (bytes_of events.now)) self.new) }
+        ensures err { OnErr result (RanFirst self.old (deliver_steps member (bytes_of events.now)) self.new) }
     {
         let taker = &mut self.sites[member as usize].node;
         let counts = take_events(taker, events);
@@ -181,6 +182,7 @@ impl World {
         requires { IsMemberOf self.old member }
         ensures ok { IfOk result (λ made. HasMadeAfter self.old member other time payload.now made self.new) }
         ensures err { OnErr result (self.new ≡ self.old) }
+        ensures free { OnErr result (WouldMakeAfter (seen_whole (node_at self.old member)) other payload.now) }
     {
         let maker = &mut self.sites[member as usize].node;
         let made = make_after(maker, other, time, payload)?;

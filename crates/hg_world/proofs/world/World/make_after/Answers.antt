@@ -7,7 +7,7 @@ use Rattle.hg_world.specs.Syncs.{HasMadeAfter}
 use Rattle.hg_world.specs.Parts.{KeepsParts, world_like}
 use Rattle.hg_world.proofs.PartLaws.{changed, low_in}
 use Rattle.hg_world.proofs.PullLaws.{errs}
-use Rattle.hg_world.proofs.TookLaws.{made_changes, made_so, same_is}
+use Rattle.hg_world.proofs.TookLaws.{made_changes, made_so, same_is, would_make}
 use Rattle.hg_world.proofs.world.World.make_after.Goals as goal
 
 pub invariant_of-self : goal.invariant_of-self
@@ -23,6 +23,15 @@ returns-in_err-made-clause-err c =
     let low : c.args.member < length w.sites = low_in w c.args.self.now c.args.member c.self.view_is c.requires in
     let same : c.make_after.new.taker ≡ c.index_mut.result.now.node = waits_alone Secrets accepts_by c.index_mut.result.now.node c.make_after.new.taker c.in_err-made.ensures.err in
     errs c.from_residual.result _ (same_is w c.args.member low c.index_mut.result.now c.index_mut.ensures.value c.make_after.new.taker same ∙ c.self.view_is)
+
+pub returns-in_err-made-clause-free : goal.returns-in_err-made-clause-free
+returns-in_err-made-clause-free c =
+    let w : WorldView = world_like c.self.inside.first.value c.self.inside.sites.items in
+    let low : c.args.member < length w.sites = low_in w c.args.self.now c.args.member c.self.view_is c.requires in
+    let site = c.index_mut.result.now in
+    let same : c.make_after.new.taker ≡ site.node = waits_alone Secrets accepts_by site.node c.make_after.new.taker c.in_err-made.ensures.err in
+    errs c.from_residual.result _
+    (would_make w c.args.member low site c.index_mut.ensures.value c.make_after.new.taker c.args.self.now c.self.view_is same c.args.other c.args.payload.now c.in_err-made.ensures.free)
 
 pub invariant_of-self-2 : goal.invariant_of-self-2
 invariant_of-self-2 c =

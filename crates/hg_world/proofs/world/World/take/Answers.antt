@@ -2,7 +2,7 @@ use Rattle.std.proofs.Common.{◌<◌, length, subst}
 use Rattle.std.specs.Prelude.{IfOk, OnErr, vec_capacity}
 use Rattle.hg_gossip.specs.Taking.{bytes_of}
 use Rattle.hg_world.specs.World.{WorldView, site_of, with_site}
-use Rattle.hg_world.specs.Steps.{RanSome}
+use Rattle.hg_world.specs.Steps.{RanFirst}
 use Rattle.hg_world.specs.Syncs.{HasTaken, deliver_steps}
 use Rattle.hg_world.specs.Parts.{world_like}
 use Rattle.hg_world.proofs.PartLaws.{changed, low_in}
@@ -32,5 +32,5 @@ returns-clause-err c =
     let w : WorldView = world_like c.self.inside.first.value c.self.inside.sites.items in
     let low : c.args.member < length w.sites = low_in w c.args.self.now c.args.member c.self.view_is c.requires.member in
     let new = with_site w c.args.member (site_of c.take_events-counts.new.taker c.index_mut.result.now.frozen) in
-    subst (λ (u : WorldView). OnErr c.take_events-counts.result (RanSome u (deliver_steps c.args.member (bytes_of c.args.events.now)) new)) c.self.view_is
+    subst (λ (u : WorldView). OnErr c.take_events-counts.result (RanFirst u (deliver_steps c.args.member (bytes_of c.args.events.now)) new)) c.self.view_is
     (some_of c.take_events-counts.result _ _ (took_some w c.args.member low c.index_mut.result.now c.index_mut.ensures.value c.take_events-counts.new.taker (bytes_of c.args.events.now)) c.take_events-counts.ensures.err)

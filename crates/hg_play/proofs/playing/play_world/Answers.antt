@@ -1,0 +1,16 @@
+use Rattle.hg_play.proofs.BatchLaws.{world_made, world_played}
+use Rattle.hg_play.proofs.LawfulLaws.{new_count}
+use Rattle.hg_play.proofs.PlayLaws.{lines_below}
+use Rattle.hg_play.proofs.playing.play_world.Goals as goal
+
+pub play_lines-requires : goal.play_lines-requires
+play_lines-requires c = lines_below c.args.members.now 0 _ c.args.lines.now (new_count c.args.members.now c.in_ok-world.world c.in_ok-world.ensures) c.requires
+
+pub returns-clause-world : goal.returns-clause-world
+returns-clause-world c =
+    world_played c.args.members.now c.args.lines.now c.in_ok-world.world c.play_lines.new.world c.settle_all.new.world _ c.in_ok-world.ensures c.in_ok-play_lines.ensures.told c.in_ok-settle_all.ensures
+
+pub returns-clause-made : goal.returns-clause-made
+returns-clause-made c =
+    world_made c.args.members.now c.args.lines.now c.settle_all.new.world
+    (world_played c.args.members.now c.args.lines.now c.in_ok-world.world c.play_lines.new.world c.settle_all.new.world _ c.in_ok-world.ensures c.in_ok-play_lines.ensures.told c.in_ok-settle_all.ensures)
