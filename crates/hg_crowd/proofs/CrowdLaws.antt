@@ -21,7 +21,6 @@ use Rattle.hg_life.specs.NodeView.{IsNode}
 use Rattle.hg_life.specs.History.{Change}
 use Rattle.hg_history.proofs.StateLaws.{prefix_same}
 use Rattle.hg_board.specs.Positions.{AreBelow}
-use Rattle.hg_board.specs.Table.{all_parts}
 use Rattle.hg_board.specs.Seats.{IsOf, SharedNode, SeatView}
 use Rattle.hg_board.specs.Calls.{Absorbs, IsStarted, IsWhole, Stays, after_split, split_off}
 use Rattle.hg_board.specs.Crews.{MarksAll, OnlyMarks}
@@ -380,17 +379,14 @@ module _ {V : Type 0} (accepts : V → Accepts) where
       let p : SharedNode V = some_of shared k (omega (arith, inside, so.seats_count, so.shared_count)) in
       (so.each k node p s (omega (arith, inside, so.seats_count))).parts
 
-  pub more_started : (many : ℕ) (nodes : List (NodeView V)) (shared : List (SharedNode V)) (seats : List (SeatView V)) → many < all_parts → AreStarted accepts nodes shared seats → All (HasMore many) seats
-  more_started many nodes shared seats few so = λ k s inside. omega (arith, all_started nodes shared seats so k s inside, few)
-
   -- after a split, work, and the absorption of seats that are still those that were split off, they have all again
-  pub all_back : (shared : List (SharedNode V)) (firsts beside called back : List (SeatView V)) → AreSeats accepts shared firsts → All HasAll firsts → AreStill (map split_off firsts) called →
+  pub all_back : (shared : List (SharedNode V)) (firsts beside called back : List (SeatView V)) → length firsts ≡ length shared → All HasAll firsts → AreStill (map split_off firsts) called →
       Each Worked (map after_split firsts) beside → AllAbsorb accepts shared beside called back → All HasAll back
-  all_back shared firsts beside called back seats all still worked absorbs = λ k s inside.
+  all_back shared firsts beside called back count all still worked absorbs = λ k s inside.
       let after_count : length (map after_split firsts) ≡ length firsts = length-map firsts after_split in
       let split_count : length (map split_off firsts) ≡ length firsts = length-map firsts split_off in
       let there : k < length firsts = omega (arith, inside, absorbs.count, worked.count, after_count) in
-      let p : SharedNode V = some_of shared k (omega (arith, there, seats.count)) in
+      let p : SharedNode V = some_of shared k (omega (arith, there, count)) in
       let one : (get_or beside k s).parts ≡ (get_or firsts k s).parts - 1 =
       (worked.each k s s (omega (arith, there, after_count))).still.parts ∙ ap (λ (t : SeatView V). t.parts) (get_or-map after_split firsts k s s there) in
       let two : (get_or called k s).parts ≡ 1 = (still.each k s s (omega (arith, there, split_count))).parts ∙ ap (λ (t : SeatView V). t.parts) (get_or-map split_off firsts k s s there) in

@@ -93,40 +93,40 @@ module _ {V : Type 0} (accepts : V → Accepts) (nodes : List (NodeView V)) (sha
   after_count = length-map run.firsts after_split
 
   still_at : IsStill (split_off (get_or run.firsts k s)) (get_or called k s)
-  still_at = subst (λ (t : SeatView V). IsStill t (get_or called k s)) (get_or-map split_off run.firsts k s s there) (run.still.each k s s (omega (arith, there, split_count)))
+  still_at = subst (λ (t : SeatView V). IsStill t (get_or called k s)) (get_or-map split_off run.firsts k s s there) (run.calls.still.each k s s (omega (arith, there, split_count)))
 
-  worked_at : Worked (after_split (get_or run.firsts k s)) (get_or run.beside k s)
-  worked_at = subst (λ (t : SeatView V). Worked t (get_or run.beside k s)) (get_or-map after_split run.firsts k s s there) (run.worked.each k s s (omega (arith, there, after_count)))
+  worked_at : Worked (after_split (get_or run.firsts k s)) (get_or run.calls.beside k s)
+  worked_at = subst (λ (t : SeatView V). Worked t (get_or run.calls.beside k s)) (get_or-map after_split run.firsts k s s there) (run.calls.worked.each k s s (omega (arith, there, after_count)))
 
   started_at : IsStarted accepts (get_or shared k p) (get_or nodes k node) (get_or run.firsts k s)
   started_at = run.started.each k node p s (omega (arith, placed, run.started.shared_count))
 
-  absorbed_at : Absorbs accepts (get_or shared k p) (get_or run.beside k s) (get_or called k s) (get_or run.back k s)
-  absorbed_at = run.absorbed.each k p s s s (omega (arith, there, after_count, run.worked.count))
+  absorbed_at : Absorbs accepts (get_or shared k p) (get_or run.calls.beside k s) (get_or called k s) (get_or run.calls.back k s)
+  absorbed_at = run.calls.absorbed.each k p s s s (omega (arith, there, after_count, run.calls.worked.count))
 
-  back_inside : k < length run.back
-  back_inside = omega (arith, there, after_count, run.worked.count, run.absorbed.count)
+  back_inside : k < length run.calls.back
+  back_inside = omega (arith, there, after_count, run.calls.worked.count, run.calls.absorbed.count)
 
   pub ended_at : IsEnded (get_or shared k p) (get_or called k s) (get_or ends k node)
   ended_at =
-      ended accepts (get_or shared k p) (get_or run.firsts k s) (get_or called k s) (get_or run.beside k s) (get_or run.back k s) (get_or run.lasts k s) (get_or nodes k node) (get_or ends k node)
-      started_at still_at (run.seats.each k p s placed) worked_at absorbed_at (run.again.each k s s back_inside) (run.whole.each k p s node inside)
+      ended accepts (get_or shared k p) (get_or run.firsts k s) (get_or called k s) (get_or run.calls.beside k s) (get_or run.calls.back k s) (get_or run.lasts k s) (get_or nodes k node) (get_or ends k node)
+      started_at still_at (run.calls.seats.each k p s placed) worked_at absorbed_at (run.calls.again.each k s s back_inside) (run.whole.each k p s node inside)
 
-  pub marked_at_end : AllMark shared whole run.back run.lasts → HasAllMarks (get_or ends k node)
+  pub marked_at_end : AllMark shared whole run.calls.back run.lasts → HasAllMarks (get_or ends k node)
   marked_at_end marked =
-      ended_marked accepts (get_or shared k p) (get_or run.firsts k s) (get_or called k s) (get_or run.beside k s) (get_or run.back k s) (get_or run.lasts k s) (get_or nodes k node) (get_or ends k node)
-      started_at still_at (run.seats.each k p s placed) worked_at absorbed_at (run.again.each k s s back_inside) (run.whole.each k p s node inside) (marked.each k p s s back_inside)
+      ended_marked accepts (get_or shared k p) (get_or run.firsts k s) (get_or called k s) (get_or run.calls.beside k s) (get_or run.calls.back k s) (get_or run.lasts k s) (get_or nodes k node) (get_or ends k node)
+      started_at still_at (run.calls.seats.each k p s placed) worked_at absorbed_at (run.calls.again.each k s s back_inside) (run.whole.each k p s node inside) (marked.each k p s s back_inside)
 
 -- all of them
 pub sessions_end : (V : Type 0) → SessionsEnd V
 sessions_end V accepts nodes shared called ends run = record {
   shared_count = run.whole.shared_count;
-  called_count = omega (arith, run.seats.count, run.whole.shared_count);
+  called_count = omega (arith, run.calls.seats.count, run.whole.shared_count);
   each = λ k p s node inside. ended_at accepts nodes shared called ends run k p s node inside;
 }
 
 pub sessions_mark : (V : Type 0) → SessionsMark V
 sessions_mark V accepts nodes shared called ends run marked k node inside =
     let p : SharedNode V = some_of shared k (omega (arith, inside, run.whole.shared_count)) in
-    let s : SeatView V = some_of called k (omega (arith, inside, run.seats.count, run.whole.shared_count)) in
+    let s : SeatView V = some_of called k (omega (arith, inside, run.calls.seats.count, run.whole.shared_count)) in
     marked_at_end accepts nodes shared called ends run k p s node inside marked

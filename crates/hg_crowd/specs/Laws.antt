@@ -9,19 +9,23 @@ use Rattle.hg_crowd.specs.Crowd.{AreSeats, AreStill, Each, IsEnded}
 use Rattle.hg_crowd.specs.Workers.{AllAbsorb, AllMark, AreStarted, AreWhole, HasAllMarks, Worked}
 
 module _ {V : Type 0} where
-  -- nodes were started; of each first seat one was split off, and calls went through it, beside others that worked with
-  -- the first ones; all seats came back, worked again, and the nodes were finished
-  pub record IsSession (accepts : V → Accepts) (nodes : List (NodeView V)) (shared : List (SharedNode V)) (called : List (SeatView V)) (ends : List (NodeView V)) : Type 0 where
-    pub firsts : List (SeatView V)
+  -- of each of these seats one was split off, and calls went through it, beside others that worked with these; all came back, and
+  -- worked again
+  pub record CallsBeside (accepts : V → Accepts) (shared : List (SharedNode V)) (firsts called lasts : List (SeatView V)) : Type 0 where
     pub beside : List (SeatView V)
     pub back : List (SeatView V)
-    pub lasts : List (SeatView V)
-    pub started : AreStarted accepts nodes shared firsts
     pub still : AreStill (map split_off firsts) called
     pub seats : AreSeats accepts shared called
     pub worked : Each Worked (map after_split firsts) beside
     pub absorbed : AllAbsorb accepts shared beside called back
     pub again : Each Worked back lasts
+
+  -- nodes were started, calls went through seats that were split off the first ones, and the nodes were finished
+  pub record IsSession (accepts : V → Accepts) (nodes : List (NodeView V)) (shared : List (SharedNode V)) (called : List (SeatView V)) (ends : List (NodeView V)) : Type 0 where
+    pub firsts : List (SeatView V)
+    pub lasts : List (SeatView V)
+    pub started : AreStarted accepts nodes shared firsts
+    pub calls : CallsBeside accepts shared firsts called lasts
     pub whole : AreWhole shared lasts ends
 
   -- each node of the list was ended so
@@ -38,5 +42,5 @@ SessionsEnd V = (accepts : V → Accepts) (nodes : List (NodeView V)) (shared : 
 -- if the workers' last turn found memory, each witness that the rows of a node decide has its mark
 abbrev pub SessionsMark : Type 0 → Type 0
 SessionsMark V = (accepts : V → Accepts) (nodes : List (NodeView V)) (shared : List (SharedNode V)) (called : List (SeatView V)) (ends : List (NodeView V)) →
-    (run : IsSession accepts nodes shared called ends) → AllMark shared whole run.back run.lasts →
+    (run : IsSession accepts nodes shared called ends) → AllMark shared whole run.calls.back run.lasts →
     (k : ℕ) (node : NodeView V) → k < length ends → HasAllMarks (get_or ends k node)

@@ -3,20 +3,20 @@
 //! that start and finish them, and `sessions_end`: where all that others did beside the calls through one seat of
 //! each node are marks, the nodes have the rows that those seats have seen.
 //!
-//! From `play_batch` of `hg_play`, shortened:
+//! From `play_batch` and `play_beside` of `hg_play`, shortened:
 //!
 //! ```text
 //! let (nodes, known) = world.into_parts();
-//! let (shared, mut seats) = start_all(alloc, nodes)?;
-//! let own = split_all(alloc, shared.as_slice(), &mut seats)?;
-//! let places = shared.as_slice();
-//! let ((mut seats, _), (own, known, played)) = join(rt,
-//!     move || ... { work_beside(rt, alloc, places, seats, workers, crew) },
-//!     move || ... { ... play_through(&game, nodes, tape, lines, gate) },
+//! let (shared, seats) = start_all(alloc, nodes)?;
+//! let mut party = Party::new(shared.as_slice(), seats);
+//! let own = party.split(alloc)?;
+//! let ((mut party, _), (own, known, played)) = join(rt,
+//!     move || ... { party.work_beside(rt, alloc, workers, crew) },
+//!     move || ... { play_through(rt, game, own, known, tape, lines, gate) },
 //! );
-//! absorb_all(places, &mut seats, own);
-//! let (seats, done) = work_beside(rt, alloc, places, seats, workers, crew);
-//! let nodes = finish_all(rt, alloc, shared, seats)?;
+//! party.absorb(own);
+//! let (party, done) = party.work_beside(rt, alloc, workers, crew);
+//! let nodes = finish_all(rt, alloc, shared, party.into_seats())?;
 //! ```
 #![tactic(auto)]
 
@@ -29,5 +29,3 @@ mod working;
 pub use laws::sessions_end;
 pub use party::Party;
 pub use sharing::{finish_all, start_all};
-pub use splitting::{absorb_all, split_all};
-pub use working::work_beside;

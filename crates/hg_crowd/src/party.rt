@@ -1,16 +1,11 @@
-ghost use Rattle.std.specs.Prelude.{◌≡◌, ◌<◌, All, IfOk, OnErr, OnOk, length, map};
+ghost use Rattle.std.specs.Prelude.{◌≡◌, ◌<◌, length};
 ghost use Rattle.std.specs.Option.{option_to_list};
 ghost use Rattle.hg_graph.specs.RowsWithRoom.{rows_of};
-ghost use Rattle.hg_model.specs.Shares.{whole};
-ghost use Rattle.hg_board.specs.Calls.{after_split, split_off};
 ghost use Rattle.hg_board.specs.Copies.{AreLacked, IsLastRow, IsParcelFrom};
-ghost use Rattle.hg_crowd.specs.Crowd.{AreSeats, Each};
-ghost use Rattle.hg_crowd.specs.Workers.{AllAbsorb, AllMark, HasMore, Worked};
+ghost use Rattle.hg_crowd.specs.Crowd.{AreSeats};
 ghost use Rattle.hg_crowd.specs.Party.{AreSignedAt, Makes, MovesOne, Puts, ReadsOne, Takes, party_view};
 
-use crate::splitting::{absorb_all, split_all};
-use crate::working::work_beside;
-use hg_board::{Crew, EventParcel, Seat, Shared};
+use hg_board::{EventParcel, Seat, Shared};
 use hg_event::Event;
 use hg_gossip::Taken;
 use hg_life::{MakeAnswer, PutAnswer};
@@ -19,13 +14,12 @@ use hg_sign::Signer;
 use std::alloc::Global;
 use std::marker::Model;
 use std::sync::{Arc, Wait};
-use std::thread::Threads;
 
 /// Nodes between threads, with a seat of each. A call names the node by its place.
 #[derive(Drop)]
 pub struct Party<'a, V: Signer> {
-    shared: &'a [Shared<V>],
-    seats: Vec<Seat<V>>,
+    pub(crate) shared: &'a [Shared<V>],
+    pub(crate) seats: Vec<Seat<V>>,
 }
 
 impl<'a, V: Signer> Model for Party<'a, V> {
@@ -56,25 +50,11 @@ impl<'a, V: Signer + Drop> Party<'a, V> {
         self.seats
     }
 
-    /// A seat more of each node, split off the one that is there. Without memory none is split.
-    pub fn split(&mut self, alloc: Global) -> Result<Party<'a, V>, Memory>
-        requires { All (HasMore 1) self.old.seats }
-        ensures old { OnOk result (self.new ≡ party_view self.old.places (map after_split self.old.seats)) }
-        ensures new { IfOk result (λ other. other ≡ party_view self.old.places (map split_off self.old.seats)) }
-        ensures err { OnErr result (self.new ≡ self.old) }
+    /// A law: they are seats of these nodes.
+    pub(crate) fn are_seats(&self)
+        ensures { AreSeats V.accepts self.now.places self.now.seats }
     {
-        let shared = self.shared;
-        let seats = split_all(alloc, shared, &mut self.seats)?;
-        Ok(Party { shared, seats })
-    }
-
-    /// Takes other seats of the same nodes into these.
-    pub fn absorb(&mut self, other: Party<'a, V>)
-        requires { other.places ≡ self.old.places }
-        ensures places { self.new.places ≡ self.old.places }
-        ensures seats { AllAbsorb V.accepts self.old.places self.old.seats other.entry.seats self.new.seats }
-    {
-        absorb_all(self.shared, &mut self.seats, other.seats);
+        self.seats.len();
     }
 
     /// Puts the bytes of an event to the node at a place.
@@ -156,27 +136,5 @@ impl<'a, V: Signer + Drop> Party<'a, V> {
     {
         let shared = self.shared;
         shared[k].last_event(rt, &mut self.seats[k])
-    }
-}
-
-impl<'a, V: Signer + Drop + Send> Party<'a, V> {
-    /// So many workers beside each other, each of whom works one turn on every node, in order, for a share of its own. They
-    /// add marks alone. All seats that they work with come back in these, also where memory runs out.
-    pub fn work_beside<C: Crew + Sync, R: Threads + Wait + Sync>(
-        self,
-        rt: &R,
-        alloc: Global,
-        workers: u32,
-        crew: &C,
-    ) -> (Party<'a, V>, Result<(), Memory>)
-        requires parts { All (HasMore workers) self.seats }
-        requires workers { 0 < workers }
-        ensures places { result.0.places ≡ self.entry.places }
-        ensures worked { Each Worked self.entry.seats result.0.seats }
-        ensures marked { OnOk result.1 (AllMark self.entry.places whole self.entry.seats result.0.seats) }
-    {
-        let Party { shared, seats } = self;
-        let (seats, done) = work_beside(rt, alloc, shared, seats, workers, crew);
-        (Party { shared, seats }, done)
     }
 }
