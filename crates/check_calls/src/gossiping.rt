@@ -179,6 +179,21 @@ fn has_beyond<H: Holder>(
     Ok(())
 }
 
+/// The holder has this one tip, and beyond the rows of these names these rows; its last own one has this name.
+pub(crate) fn has_tip_and_beyond<H: Holder>(
+    rt: &impl Abort,
+    holder: &mut H,
+    tip: Name,
+    names: &[Name],
+    rows: &[&[u8]],
+    last: Name,
+) -> Result<(), Memory>
+    ensures { H.lent holder.new ≡ H.lent holder.old }
+{
+    has_tips(rt, holder, &[tip])?;
+    has_beyond(rt, holder, names, rows, last)
+}
+
 /// A has A0 B0 A1, where A1 stands on both; B has B0 and then A0, of which neither stands on the other.
 fn tells_tips(
     rt: &impl Abort,

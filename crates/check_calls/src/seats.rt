@@ -3,6 +3,7 @@
 ghost use Rattle.std.specs.Prelude.{◌≡◌};
 ghost use Rattle.hg_board.specs.Seats.{IsOf};
 
+use crate::gossiping::has_tip_and_beyond;
 use crate::members::two_members;
 use crate::playing::{Player, bytes_of, equal, give, name_at, player_of};
 use crate::shared::{begins, end, played, shared_b};
@@ -10,6 +11,7 @@ use hg_board::{Seat, Shared};
 use hg_life::{Fault, MakeAnswer, Members, PutAnswer};
 use hg_model::{Memory, Name};
 use hg_node::Node;
+use hg_seat::Seated;
 use hg_sign::MacTable;
 use std::alloc::Global;
 use std::process::Abort;
@@ -134,6 +136,24 @@ fn tells_beyond<R: Wait + Abort>(
     Ok(())
 }
 
+/// The same of a holder of the shared node by this seat, which comes back: there is one tip.
+fn tells_as_holder<R: Wait + Abort>(
+    rt: &R,
+    shared: &Shared<MacTable>,
+    seat: &mut Seat<MacTable>,
+    tip: Name,
+    names: &[Name],
+    rows: &[&[u8]],
+    own: Name,
+) -> Result<(), Memory>
+    requires { IsOf shared.now seat.old }
+    ensures of { IsOf shared.now seat.new }
+    ensures parts { seat.new.parts ≡ seat.old.parts }
+{
+    let mut holder = Seated::new(rt, shared, seat);
+    has_tip_and_beyond(rt, &mut holder, tip, names, rows, own)
+}
+
 /// B has its first event and A's two, of which the last stands on both.
 fn tells_three<R: Wait + Abort>(
     rt: &R,
@@ -151,7 +171,8 @@ fn tells_three<R: Wait + Abort>(
     tells_beyond(rt, shared, seat, &[tip], &[one], &[own, last], mine)?;
     tells_beyond(rt, shared, seat, &[tip], &[mine, one], &[last], mine)?;
     tells_beyond(rt, shared, seat, &[tip], &[], &[own, first, last], mine)?;
-    tells_beyond(rt, shared, seat, &[tip], &[one, tip], &[], mine)
+    tells_beyond(rt, shared, seat, &[tip], &[one, tip], &[], mine)?;
+    tells_as_holder(rt, shared, seat, tip, &[mine], &[first, last], mine)
 }
 
 #[test]
