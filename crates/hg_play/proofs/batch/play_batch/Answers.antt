@@ -24,12 +24,12 @@ new-party-requires g c =
     (seats_started accepts_by c.into_parts-nodes.result.0.items c.in_ok-shared.shared.items c.in_ok-shared.seats.items c.in_ok-shared.ensures)
 
 pub play_beside-requires-clause-parts : goal.play_beside-requires-clause-parts
-play_beside-requires-clause-parts g c =
+play_beside-requires-clause-parts g c κs within =
     subst (λ (v : PartyView Secrets). All HasAll v.seats) (sym c.new-party.ensures)
     (all_started accepts_by c.into_parts-nodes.result.0.items c.in_ok-shared.shared.items c.in_ok-shared.seats.items c.in_ok-shared.ensures)
 
 pub play_beside-requires-clause-nodes : goal.play_beside-requires-clause-nodes
-play_beside-requires-clause-nodes g c =
+play_beside-requires-clause-nodes g c κs within =
     subst (λ (v : PartyView Secrets). KeepsNodes (party_view v.places (map split_off v.seats)) c.into_parts-nodes.result.1) (sym c.new-party.ensures)
     (first_nodes c.into_parts-nodes.result.0.items c.in_ok-shared.shared.items c.as_slice.result.now c.in_ok-shared.seats.items c.into_parts-nodes.result.1 c.as_slice.ensures.value c.in_ok-shared.ensures
     c.into_parts-nodes.ensures.lawful c.into_parts-nodes.ensures.known)
@@ -75,12 +75,14 @@ returns-clause-count g c =
     batch_count c.args.world c.in-Ok.world c.into_parts-nodes.result.0.items c.as_slice.result.now beside.called c.in_ok-nodes.nodes.items c.into_parts-nodes.ensures.nodes (run g at.In_ok-nodes beside) c.in-Ok.ensures.ok
 
 pub returns-clause-marked : goal.returns-clause-marked
+unfolding run played
 returns-clause-marked g c =
     let at = goal.at.returns-clause-marked g c in
     let beside = played g at.In_ok-party in
     batch_marked c.in-Ok.world c.into_parts-nodes.result.0.items c.as_slice.result.now beside.called c.in_ok-nodes.nodes.items (run g at.In_ok-nodes beside) c.in-Ok.ensures.ok beside.marked
 
 pub returns-clause-told : goal.returns-clause-told
+unfolding run
 returns-clause-told g c =
     let at = goal.at.returns-clause-told g c in
     let beside = played g at.In_ok-party in
