@@ -6,9 +6,12 @@ use Rattle.std.proofs.lemmas.Bool.{cases_lt, true≢false}
 use Rattle.std.proofs.lemmas.List.Sums.{fold-append, fold_more}
 use Rattle.std.proofs.lemmas.List.{ext_get_or, get_or-drop, get_or-map, get_or_past, length-map, take_all}
 use Rattle.hg_outcome.specs.declared.outcome.Printed.{Printed}
+use Rattle.hg_model.specs.declared.row.Row.{Row}
 use Rattle.hg_life.specs.Members.{MemberList}
 use Rattle.hg_model.specs.Shares.{whole}
 use Rattle.hg_life.specs.Signing.{accepts_by}
+use Rattle.hg_gossip.specs.Handing.{HeardView}
+use Rattle.hg_gossip.specs.Known.{KeepsKnown}
 use Rattle.hg_life.specs.NodeView.{NodeView, Start, node_rows}
 use Rattle.hg_script.specs.declared.line.Part.{Part}
 use Rattle.hg_script.specs.declared.line.Action.TheVariants as action
@@ -21,19 +24,20 @@ use Rattle.hg_board.specs.Seats.{SharedNode, SeatView}
 use Rattle.hg_board.specs.Calls.{after_split, split_off}
 use Rattle.hg_crowd.specs.Crowd.{AreSeats, AreStill, Each}
 use Rattle.hg_crowd.specs.Workers.{AllAbsorb, AllMark, AreStarted, AreWhole, HasAll, HasAllMarks, HasMore, Worked}
-use Rattle.hg_crowd.specs.Laws.{AreEnded, IsSession}
-use Rattle.hg_crowd.proofs.CrowdLaws.{after_split_all, all_back, all_started, more_after_split, more_started, seats_started, split_off_all}
+use Rattle.hg_crowd.specs.Laws.{AreEnded, CallsBeside, IsSession}
+use Rattle.hg_crowd.proofs.CrowdLaws.{all_back, all_started, all_worked, more_after_split, seats_started, split_off_all}
 use Rattle.hg_crowd.proofs.EndLaws.{sessions_end, sessions_mark}
 use Rattle.hg_crowd.proofs.ListLaws.{some_of}
-use Rattle.hg_crowd.specs.Party.{party_view}
+use Rattle.hg_crowd.specs.Party.{PartyView, party_view}
 use Rattle.hg_play.specs.Alike.{AreAlike, WorldsAlike}
-use Rattle.hg_play.specs.Batch.{AllAreMarked, IsBatch, IsPlayed, PlaysNext, MatchesBatch, is_part}
+use Rattle.hg_play.specs.Batch.{AllAreMarked, IsBatch, IsPlayed, PlaysBeside, PlaysNext, MatchesBatch, is_part}
 use Rattle.hg_play.specs.Nodes.{MatchesLine, MatchesLines, seen_alone}
 use Rattle.hg_play.specs.Play.{Stage, after_line, after_lines, end_steps, first_stage, play_steps, played_world, stage}
 use Rattle.hg_play.proofs.HeardLaws.{node_by, nodes_length, rows_length, rows_nth}
 use Rattle.hg_play.proofs.LikeLaws.{line_like, worlds_alike}
 use Rattle.hg_play.proofs.WorldLaws.{made_in, play-steps, start_read, starts-new, starts-steps}
-use Rattle.hg_play.specs.Heard.{nodes_by, rows_seen}
+use Rattle.hg_play.specs.Heard.{KeepsNodes, nodes_by, rows_seen}
+use Rattle.hg_play.specs.Lines.{IsLineBelow}
 use Rattle.hg_world.specs.Steps.{after_steps}
 use Rattle.hg_play.specs.Sites.{AreMadeWith, starts, starts_of}
 use Rattle.hg_play.specs.Tape.{TapeView, no_tape}
@@ -235,42 +239,93 @@ plays_line members lines line from old new t t_new low is of same told = record 
 }
 
 -- the run that a batch is
-abbrev pub the_run : (nodes : List (NodeView Secrets)) (shared places : List (SharedNode Secrets)) (firsts split own called beside back lasts : List (SeatView Secrets)) (ends : List (NodeView Secrets)) → places ≡ shared →
-    AreStarted accepts_by nodes shared firsts → split ≡ map after_split firsts → own ≡ map split_off firsts → AreSeats accepts_by places called → AreStill own called → Each Worked split beside →
-    AllAbsorb accepts_by places beside called back → Each Worked back lasts → AreWhole shared lasts ends → IsSession accepts_by nodes places called ends
-the_run nodes shared places firsts split own called beside back lasts ends same started split_is own_is seats still worked absorbed again whole = record {
+abbrev pub the_run : (nodes : List (NodeView Secrets)) (shared places : List (SharedNode Secrets)) (firsts called lasts : List (SeatView Secrets)) (ends : List (NodeView Secrets)) → places ≡ shared →
+    AreStarted accepts_by nodes shared firsts → CallsBeside accepts_by places firsts called lasts → AreWhole shared lasts ends → IsSession accepts_by nodes places called ends
+the_run nodes shared places firsts called lasts ends same started calls whole = record {
   firsts = firsts;
-  beside = beside;
-  back = back;
   lasts = lasts;
   started = subst (λ (l : List (SharedNode Secrets)). AreStarted accepts_by nodes l firsts) (sym same) started;
-  still = subst (λ (l : List (SeatView Secrets)). AreStill l called) own_is still;
-  seats = seats;
-  worked = subst (λ (l : List (SeatView Secrets)). Each Worked l beside) split_is worked;
-  absorbed = absorbed;
-  again = again;
+  calls = calls;
   whole = subst (λ (l : List (SharedNode Secrets)). AreWhole l lasts ends) (sym same) whole;
 }
 
--- the seats beside the calls
-pub seats_beside : (nodes : List (NodeView Secrets)) (shared places : List (SharedNode Secrets)) (firsts split : List (SeatView Secrets)) → places ≡ shared →
-    AreStarted accepts_by nodes shared firsts → split ≡ map after_split firsts → AreSeats accepts_by places split
-seats_beside nodes shared places firsts split same started is =
-    subst (λ (l : List (SharedNode Secrets)). AreSeats accepts_by l split) (sym same)
-    (subst (AreSeats accepts_by shared) (sym is) (after_split_all accepts_by shared firsts (seats_started accepts_by nodes shared firsts started)))
+-- seats that have all parts can be split
+pub more_of_all : (many : ℕ) (firsts : List (SeatView Secrets)) → many < all_parts → All HasAll firsts → All (HasMore many) firsts
+more_of_all many firsts few all = λ k s inside. omega (arith, all k s inside, few)
 
-pub more_beside : (workers : ℕ) (nodes : List (NodeView Secrets)) (shared : List (SharedNode Secrets)) (firsts split : List (SeatView Secrets)) → workers + 1 < all_parts →
-    AreStarted accepts_by nodes shared firsts → split ≡ map after_split firsts → All (HasMore workers) split
-more_beside workers nodes shared firsts split few started is =
-    subst (All (HasMore workers)) (sym is) (more_after_split workers firsts (more_started accepts_by (workers + 1) nodes shared firsts few started))
+pub more_beside : (workers : ℕ) (places : List (SharedNode Secrets)) (firsts : List (SeatView Secrets)) (split : PartyView Secrets) → workers + 1 < all_parts → All HasAll firsts → split ≡ party_view places (map after_split firsts) →
+    All (HasMore workers) split.seats
+more_beside workers places firsts split few all is =
+    subst (λ (v : PartyView Secrets). All (HasMore workers) v.seats) (sym is) (more_after_split workers firsts (more_of_all (workers + 1) firsts few all))
 
--- once the seats of the calls are back, there are all parts
-pub all_again : (nodes : List (NodeView Secrets)) (shared places : List (SharedNode Secrets)) (firsts split own called beside back : List (SeatView Secrets)) → places ≡ shared →
-    AreStarted accepts_by nodes shared firsts → split ≡ map after_split firsts → own ≡ map split_off firsts → AreStill own called → Each Worked split beside → AllAbsorb accepts_by places beside called back → All HasAll back
-all_again nodes shared places firsts split own called beside back same started split_is own_is still worked absorbed =
-    all_back accepts_by shared firsts beside called back (seats_started accepts_by nodes shared firsts started) (all_started accepts_by nodes shared firsts started)
-    (subst (λ (l : List (SeatView Secrets)). AreStill l called) own_is still) (subst (λ (l : List (SeatView Secrets)). Each Worked l beside) split_is worked)
-    (subst (λ (l : List (SharedNode Secrets)). AllAbsorb accepts_by l beside called back) same absorbed)
+-- the seats that were split off can be called
+pub own_nodes : (places : List (SharedNode Secrets)) (firsts : List (SeatView Secrets)) (own : PartyView Secrets) (known : List (List HeardView)) → own ≡ party_view places (map split_off firsts) →
+    KeepsNodes (party_view places (map split_off firsts)) known → KeepsNodes own known
+own_nodes places firsts own known is keeps = subst (λ (v : PartyView Secrets). KeepsNodes v known) (sym is) keeps
+
+pub own_lines : (places : List (SharedNode Secrets)) (firsts : List (SeatView Secrets)) (own : PartyView Secrets) (lines : List Line) → own ≡ party_view places (map split_off firsts) → All (IsLineBelow (length firsts)) lines →
+    All (IsLineBelow (length own.seats)) lines
+own_lines places firsts own lines is low =
+    let long : length own.seats ≡ length firsts = ap (λ (v : PartyView Secrets). length v.seats) is ∙ length-map firsts split_off in
+    subst (λ (n : ℕ). All (IsLineBelow n) lines) (sym long) low
+
+-- there is a seat of each
+pub first_count : (places : List (SharedNode Secrets)) (firsts : List (SeatView Secrets)) (known : List (List HeardView)) → KeepsNodes (party_view places (map split_off firsts)) known → length firsts ≡ length places
+first_count places firsts known keeps = omega (arith, length-map firsts split_off, keeps.nodes.seated.count)
+
+-- workers beside the calls
+module _ (places : List (SharedNode Secrets)) (firsts : List (SeatView Secrets)) (split own beside called back : PartyView Secrets) (split_is : split ≡ party_view places (map after_split firsts)) (own_is : own ≡ party_view places (map split_off firsts))
+    (beside_same : beside.places ≡ split.places) (worked : Each Worked split.seats beside.seats) (called_same : called.places ≡ own.places) (still : AreStill own.seats called.seats) (absorbed : AllAbsorb accepts_by beside.places beside.seats called.seats back.seats) where
+  beside_places : beside.places ≡ places
+  beside_places = beside_same ∙ ap (λ (v : PartyView Secrets). v.places) split_is
+
+  called_places : called.places ≡ places
+  called_places = called_same ∙ ap (λ (v : PartyView Secrets). v.places) own_is
+
+  worked_from : Each Worked (map after_split firsts) beside.seats
+  worked_from = subst (λ (v : PartyView Secrets). Each Worked v.seats beside.seats) split_is worked
+
+  still_from : AreStill (map split_off firsts) called.seats
+  still_from = subst (λ (v : PartyView Secrets). AreStill v.seats called.seats) own_is still
+
+  absorbed_there : AllAbsorb accepts_by places beside.seats called.seats back.seats
+  absorbed_there = subst (λ (l : List (SharedNode Secrets)). AllAbsorb accepts_by l beside.seats called.seats back.seats) beside_places absorbed
+
+  -- once the seats of the calls are back, there are all parts
+  pub all_again : length firsts ≡ length places → All HasAll firsts → All HasAll back.seats
+  all_again count all = all_back accepts_by places firsts beside.seats called.seats back.seats count all still_from worked_from absorbed_there
+
+  -- what the calls and the workers left
+  pub beside_played : (members : MemberList) (lines : List Line) (t t_new : TapeView) (known : List (List HeardView)) (lasts : PartyView Secrets) (count : ℕ) → back.places ≡ beside.places → lasts.places ≡ back.places →
+      Each Worked back.seats lasts.seats → AllMark back.places whole back.seats lasts.seats → KeepsNodes called known → IsBatch lines count → MatchesThrough members (take count lines) own.places own.seats t called.seats t_new →
+      PlaysBeside members lines (party_view places firsts) t lasts known t_new count
+  beside_played members lines t t_new known lasts count back_same last_same again marked keeps batch told =
+      let back_places : back.places ≡ places = back_same ∙ beside_places in
+      record {
+        places = last_same ∙ back_places;
+        batch = batch;
+        called = called.seats;
+        calls = record {
+          beside = beside.seats;
+          back = back.seats;
+          still = still_from;
+          seats = subst (λ (l : List (SharedNode Secrets)). AreSeats accepts_by l called.seats) called_places keeps.nodes.seated;
+          worked = worked_from;
+          absorbed = absorbed_there;
+          again = again;
+        };
+        marked = subst (λ (l : List (SharedNode Secrets)). AllMark l whole back.seats lasts.seats) back_places marked;
+        heard = subst (λ (l : List (SharedNode Secrets)). KeepsKnown (rows_seen (party_view l called.seats)) known) called_places keeps.heard;
+        told = subst (λ (v : PartyView Secrets). MatchesThrough members (take count lines) v.places v.seats t called.seats t_new) own_is told;
+      }
+
+-- all parts are there in the end
+pub whole_again : (nodes : List (NodeView Secrets)) (shared places : List (SharedNode Secrets)) (firsts called lasts : List (SeatView Secrets)) → places ≡ shared → AreStarted accepts_by nodes shared firsts →
+    CallsBeside accepts_by places firsts called lasts → All HasAll lasts
+whole_again nodes shared places firsts called lasts same started calls =
+    let count : length firsts ≡ length places = omega (arith, ap length same, started.shared_count, started.seats_count) in
+    all_worked calls.back lasts calls.again
+    (all_back accepts_by places firsts calls.beside called calls.back count (all_started accepts_by nodes shared firsts started) calls.still calls.worked calls.absorbed)
 
 -- what the seats of the calls are
 pub seats_own : (nodes : List (NodeView Secrets)) (shared places : List (SharedNode Secrets)) (firsts own : List (SeatView Secrets)) → places ≡ shared →
@@ -328,12 +383,20 @@ rows_ended nodes places called ends run =
     rows_nth (nodes_by places called) k (omega (arith, there, nodes_length places called long))
     ∙ (ap (λ (v : NodeView Secrets). node_rows v) (node_by places called k p s inside there) ∙ (sym (ended.each k p s no_node here).rows ∙ sym (rows_nth ends k here))))
 
-pub own_count : (world : WorldView) (nodes : List (NodeView Secrets)) (shared : List (SharedNode Secrets)) (firsts own : List (SeatView Secrets)) → nodes ≡ nodes_of world → AreStarted accepts_by nodes shared firsts → own ≡ map split_off firsts →
-    length own ≡ length world.sites
-own_count world nodes shared firsts own is started own_is =
+-- there is a seat of each node of the world
+pub first_sites : (world : WorldView) (nodes : List (NodeView Secrets)) (shared : List (SharedNode Secrets)) (firsts : List (SeatView Secrets)) → nodes ≡ nodes_of world → AreStarted accepts_by nodes shared firsts →
+    length firsts ≡ length world.sites
+first_sites world nodes shared firsts is started =
     let long : length nodes ≡ length world.sites = ap length is ∙ length-map world.sites (λ (site : Site). site.node) in
-    let split : length own ≡ length firsts = ap length own_is ∙ length-map firsts split_off in
-    omega (arith, long, split, started.seats_count)
+    omega (arith, long, started.seats_count)
+
+-- the seats that are split off the first ones can be called
+pub first_nodes : (nodes : List (NodeView Secrets)) (shared places : List (SharedNode Secrets)) (firsts : List (SeatView Secrets)) (known : List (List HeardView)) → places ≡ shared → AreStarted accepts_by nodes shared firsts →
+    AreOfOneList nodes → KeepsKnown (rows_of_each nodes) known → KeepsNodes (party_view places (map split_off firsts)) known
+first_nodes nodes shared places firsts known same started of keeps = record {
+  nodes = nodes_own nodes shared places firsts (map split_off firsts) same started refl of;
+  heard = subst (λ (rows : List (List Row)). KeepsKnown rows known) (rows_begun nodes shared places firsts (map split_off firsts) same started refl) keeps;
+}
 
 -- lines that were played by one thread
 pub played_by_one : (members : MemberList) (lines : List Line) (world now : WorldView) (printed : List Printed) → world ≡ new_world members → MatchesLines (seen_alone world) (seen_alone now) members lines printed →
@@ -361,7 +424,7 @@ world_made members lines last is = λ m inside.
 
 -- all is marked in a world of nodes in which all is
 pub batch_marked : (new : WorldView) (nodes : List (NodeView Secrets)) (places : List (SharedNode Secrets)) (called : List (SeatView Secrets)) (ends : List (NodeView Secrets)) → (run : IsSession accepts_by nodes places called ends) →
-    new.sites ≡ unfrozen ends → AllMark places whole run.back run.lasts → AllAreMarked new
+    new.sites ≡ unfrozen ends → AllMark places whole run.calls.back run.lasts → AllAreMarked new
 batch_marked new nodes places called ends run is marked = λ m low.
     let long : length new.sites ≡ length ends = ap length is ∙ length-map ends (λ (v : NodeView Secrets). site_of v (replicate worker_limit 0)) in
     let inside : m < length ends = omega (arith, low, long) in

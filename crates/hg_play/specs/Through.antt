@@ -122,11 +122,8 @@ abbrev pub MatchesThrough : MemberList → List Line → List (SharedNode Secret
 MatchesThrough members lines places seats t seats_new t_new =
     AllOthersMark places seats_new → (s : Stage) → IsStageOf members places seats t s → IsStageOf members places seats_new t_new (after_lines members s lines)
 
-abbrev pub PlaysThrough : {E : Type 0} → Result (TapeView × ℕ) E → MemberList → List Line → List (SharedNode Secrets) → List (SeatView Secrets) → TapeView → List (SeatView Secrets) → Type 0
-PlaysThrough result members lines places seats t seats_new = IfOk result (λ r. MatchesThrough members (take r.1 lines) places seats t seats_new r.0)
-
-abbrev pub PlaysShared : {E : Type 0} → Result (TapeView × ℕ) E → MemberList → List Line → PartyView Secrets → TapeView → List (SeatView Secrets) → Type 0
-PlaysShared result members lines old t seats_new = PlaysThrough result members lines old.places old.seats t seats_new
+abbrev pub PlaysThrough : {E : Type 0} → Result (TapeView × ℕ) E → MemberList → List Line → PartyView Secrets → TapeView → List (SeatView Secrets) → Type 0
+PlaysThrough result members lines old t seats_new = IfOk result (λ r. MatchesThrough members (take r.1 lines) old.places old.seats t seats_new r.0)
 
 -- nothing was added: they are the nodes of the same worlds
 abbrev pub MatchesNone : {N : Type 0} → NodesView N → NodesView N → Type 0

@@ -1,23 +1,21 @@
-ghost use Rattle.std.specs.Prelude.{◌≡◌, ◌<◌, All, IfOk, length, take};
-ghost use Rattle.hg_life.specs.Signing.{accepts_by, secrets_of};
-ghost use Rattle.hg_crowd.specs.Crowd.{AreSeats, AreStill, Each};
-ghost use Rattle.hg_crowd.specs.Workers.{HasMore, Worked};
-ghost use Rattle.hg_world.specs.World.{new_world};
-ghost use Rattle.hg_gossip.specs.Known.{KeepsKnown};
+ghost use Rattle.std.specs.Prelude.{◌≡◌, ◌<◌, All, IfOk, length, map, take};
+ghost use Rattle.hg_board.specs.Calls.{split_off};
+ghost use Rattle.hg_crowd.specs.Crowd.{AreStill, Each};
 ghost use Rattle.hg_crowd.specs.Party.{party_view};
-ghost use Rattle.hg_play.specs.Batch.{AllAreMarked, IsBatch, IsLineOfRows, IsPlayed, MatchesBatch, PlaysNext};
-ghost use Rattle.hg_play.specs.Heard.{rows_seen};
+ghost use Rattle.hg_crowd.specs.Workers.{HasAll, HasMore, Worked};
+ghost use Rattle.hg_world.specs.World.{new_world};
+ghost use Rattle.hg_play.specs.Batch.{AllAreMarked, IsBatch, IsLineOfRows, IsPlayed, MatchesBatch, PlaysBeside, PlaysNext};
+ghost use Rattle.hg_play.specs.Heard.{KeepsNodes};
 ghost use Rattle.hg_play.specs.Lines.{IsLineBelow};
-ghost use Rattle.hg_play.specs.Through.{AreNodes, PlaysThrough};
+ghost use Rattle.hg_play.specs.Through.{PlaysThrough};
 
 use crate::band::Band;
 use crate::game::Game;
 use crate::lines::play_line;
-use crate::shared::SharedNodes;
 use crate::tape::Tape;
 use crate::through::play_through;
-use hg_board::{Crew, Seat};
-use hg_crowd::{Party, absorb_all, finish_all, split_all, start_all, work_beside};
+use hg_board::Crew;
+use hg_crowd::{Party, finish_all, start_all};
 use hg_gossip::Known;
 use hg_io::Gate;
 use hg_model::Memory;
@@ -27,10 +25,52 @@ use hg_world::World;
 use std::sync::Wait;
 use std::thread::{Threads, join};
 
+/// Plays the first batch of these lines through a seat of each node, which is split off, while so many workers work one turn
+/// on every node. Once all seats have come back the workers work one turn more. The nodes, what each has heard of each, and
+/// what the lines leave.
+fn play_beside<'a, R: Threads + Wait + Sync, C: Crew + Sync, G: Gate + Sync>(
+    game: &Game,
+    band: &Band<R, C, G>,
+    mut party: Party<'a, SharedTable>,
+    known: Known,
+    tape: Tape,
+    lines: &[Line],
+) -> Result<(Party<'a, SharedTable>, Known, Tape, usize), Memory>
+    requires parts { All HasAll party.seats }
+    requires nodes { KeepsNodes (party_view party.places (map split_off party.seats)) known }
+    requires lines { All (IsLineBelow (length party.seats)) lines.now }
+    ensures { IfOk result (λ r. PlaysBeside game.now.members.now lines.now party.entry tape r.0 r.1 r.2 r.3) }
+{
+    let alloc = game.alloc;
+    let own = party.split(alloc)?;
+    // The second runs in the thread of the caller, as all lines do that stand in no batch.
+    let ((mut party, _), (own, known, played)) = join(
+        band.rt,
+        move || -> (Party<'_, SharedTable>, Result<(), Memory>)
+            requires { All (HasMore band.now.workers) party.seats }
+            ensures places { result.0.places ≡ party.entry.places }
+            ensures worked { Each Worked party.entry.seats result.0.seats }
+        { party.work_beside(band.rt, alloc, band.workers, band.crew) },
+        move || -> (Party<'_, SharedTable>, Known, Result<(Tape, usize), Memory>)
+            requires nodes { KeepsNodes own known }
+            requires lines { All (IsLineBelow (length own.seats)) lines.now }
+            ensures places { result.0.places ≡ own.entry.places }
+            ensures nodes { KeepsNodes result.0 result.1 }
+            ensures still { AreStill own.entry.seats result.0.seats }
+            ensures batch { IfOk result.2 (λ r. IsBatch lines.entry.now r.1) }
+            ensures told { PlaysThrough result.2 game.entry.now.members.now lines.entry.now own.entry tape result.0.seats }
+        { play_through(band.rt, game, own, known, tape, lines, band.gate) },
+    );
+    party.absorb(own);
+    let (party, done) = party.work_beside(band.rt, alloc, band.workers, band.crew);
+    done?;
+    let (tape, count) = played?;
+    Ok((party, known, tape, count))
+}
+
 /// Plays the first batch of these lines over a world's nodes, and tells how many lines it has. The nodes are shared, one
-/// branch plays the lines through a seat of each, and beside it so many workers work one turn on every node. Once all seats
-/// have come back the workers work one turn more, so that all that the nodes' rows decide is marked, and the nodes are a
-/// world again. Without memory they are dropped.
+/// branch plays the lines through a seat of each, beside the workers, who mark in the end all that the nodes' rows decide,
+/// and the nodes are a world again. Without memory they are dropped.
 fn play_batch<R: Threads + Wait + Sync, C: Crew + Sync, G: Gate + Sync>(
     game: &Game,
     band: &Band<R, C, G>,
@@ -44,48 +84,13 @@ fn play_batch<R: Threads + Wait + Sync, C: Crew + Sync, G: Gate + Sync>(
     ensures batch { IfOk result (λ r. IsBatch lines.now r.2) }
     ensures told { IfOk result (λ r. MatchesBatch game.now.members.now (take r.2 lines.now) world tape r.0 r.1) }
 {
-    let (rt, workers, crew, gate) = (band.rt, band.workers, band.crew, band.gate);
-    let (alloc, members, keys) = (game.alloc, game.members, game.keys);
     let (nodes, known) = world.into_parts();
-    let (shared, mut seats) = start_all(alloc, nodes)?;
-    let own = split_all(alloc, shared.as_slice(), &mut seats)?;
-    let places = shared.as_slice();
-    // The second runs in the thread of the caller, as all lines do that stand in no batch.
-    let ((mut seats, _), (own, known, played)) = join(
-        rt,
-        move || -> (Vec<Seat<SharedTable>>, Result<(), Memory>)
-            requires seats { AreSeats accepts_by places.now seats.items }
-            requires parts { All (HasMore workers) seats.items }
-            requires some { 0 < workers }
-            ensures seats { AreSeats accepts_by places.entry.now result.0.items }
-            ensures worked { Each Worked seats.items result.0.items }
-        { work_beside(rt, alloc, places, seats, workers, crew) },
-        move || -> (Vec<Seat<SharedTable>>, Known, Result<(Tape, usize), Memory>)
-            requires seats { AreNodes places.now own.items }
-            requires known { KeepsKnown (rows_seen (party_view places.now own.items)) known }
-            requires lines { All (IsLineBelow (length own.items)) lines.now }
-            requires keys { keys.now ≡ secrets_of members.now }
-            ensures seats { AreSeats accepts_by places.entry.now result.0.items }
-            ensures still { AreStill own.items result.0.items }
-            ensures known { KeepsKnown (rows_seen (party_view places.entry.now result.0.items)) result.1 }
-            ensures batch { IfOk result.2 (λ r. IsBatch lines.entry.now r.1) }
-            ensures told { PlaysThrough result.2 members.entry.now lines.entry.now places.entry.now own.items tape result.0.items }
-        {
-            let game = Game {
-                alloc,
-                members,
-                keys,
-            };
-            let nodes = SharedNodes::new(rt, alloc, Party::new(places, own), known);
-            play_through(&game, nodes, tape, lines, gate)
-        },
-    );
-    absorb_all(places, &mut seats, own);
-    let (seats, done) = work_beside(rt, alloc, places, seats, workers, crew);
-    let nodes = finish_all(rt, alloc, shared, seats)?;
-    done?;
-    let (tape, count) = played?;
-    let Ok(world) = World::from_parts(alloc, nodes, known) else {
+    let (shared, seats) = start_all(game.alloc, nodes)?;
+    let party = Party::new(shared.as_slice(), seats);
+    let (party, known, tape, count) = play_beside(game, band, party, known, tape, lines)?;
+    let seats = party.into_seats();
+    let nodes = finish_all(band.rt, game.alloc, shared, seats)?;
+    let Ok(world) = World::from_parts(game.alloc, nodes, known) else {
         return Err(Memory);
     };
     Ok((world, tape, count))

@@ -1,15 +1,12 @@
 ghost use Rattle.std.specs.Prelude.{◌≡◌, ◌<◌, IfOk, length};
-ghost use Rattle.hg_crowd.specs.Party.{party_view};
-ghost use Rattle.hg_gossip.specs.Known.{KeepsKnown};
-ghost use Rattle.hg_play.specs.Heard.{KeepsNodes, rows_seen};
+ghost use Rattle.hg_play.specs.Heard.{KeepsNodes};
 ghost use Rattle.hg_play.specs.Nodes.{IsKept};
-ghost use Rattle.hg_play.specs.Through.{AreNodes, MatchesLastEvent, MatchesMade, MatchesPulled, seen_shared};
+ghost use Rattle.hg_play.specs.Through.{MatchesLastEvent, MatchesMade, MatchesPulled, seen_shared};
 
 use crate::handing::lacked;
 use crate::labels::bytes_of_event;
 use crate::nodes::Nodes;
 use crate::taking::{note, take};
-use hg_board::Seat;
 use hg_crowd::Party;
 use hg_event::Event;
 use hg_gossip::{Known, Taken, sync_made};
@@ -22,14 +19,14 @@ use std::sync::{Arc, Wait};
 
 /// Nodes between threads, with a seat of each, and what each has heard of each.
 #[derive(Drop)]
-pub(crate) struct SharedNodes<'a, R: Wait> {
-    rt: &'a R,
+pub(crate) struct SharedNodes<'r, 'a, R: Wait> {
+    rt: &'r R,
     alloc: Global,
     party: Party<'a, SharedTable>,
     known: Known,
 }
 
-impl<'a, R: Wait> Model for SharedNodes<'a, R> {
+impl<'r, 'a, R: Wait> Model for SharedNodes<'r, 'a, R> {
     ghost use Rattle.hg_world.specs.World.{Secrets};
     ghost use Rattle.hg_crowd.specs.Party.{PartyView};
     ghost use Rattle.hg_play.specs.Heard.{KeepsNodes};
@@ -41,14 +38,14 @@ impl<'a, R: Wait> Model for SharedNodes<'a, R> {
     ghost invariant = { λ s. KeepsNodes s.party s.known };
 }
 
-impl<'a, R: Wait> SharedNodes<'a, R> {
+impl<'r, 'a, R: Wait> SharedNodes<'r, 'a, R> {
     /// These nodes, of which each has of each what it has heard.
     pub(crate) fn new(
-        rt: &'a R,
+        rt: &'r R,
         alloc: Global,
         party: Party<'a, SharedTable>,
         known: Known,
-    ) -> SharedNodes<'a, R>
+    ) -> SharedNodes<'r, 'a, R>
         requires { KeepsNodes party known }
         ensures { result ≡ party.entry }
     {
@@ -60,13 +57,12 @@ impl<'a, R: Wait> SharedNodes<'a, R> {
         }
     }
 
-    /// The seats, as they are then, and what each node has heard of each.
-    pub(crate) fn into_parts(self) -> (Vec<Seat<SharedTable>>, Known)
-        ensures same { result.0.items ≡ self.entry.seats }
-        ensures seats { AreNodes self.entry.places result.0.items }
-        ensures known { KeepsKnown (rows_seen (party_view self.entry.places result.0.items)) result.1 }
+    /// The nodes, as they are then, and what each has heard of each.
+    pub(crate) fn into_parts(self) -> (Party<'a, SharedTable>, Known)
+        ensures same { result.0 ≡ self.entry }
+        ensures nodes { KeepsNodes result.0 result.1 }
     {
-        (self.party.into_seats(), self.known)
+        (self.party, self.known)
     }
 
     /// The taker's node takes from the peer's the rows that it lacks. What of them it took and refused, and the name of the
@@ -116,7 +112,7 @@ impl<'a, R: Wait> SharedNodes<'a, R> {
     }
 }
 
-impl<'a, R: Wait> Nodes for SharedNodes<'a, R> {
+impl<'r, 'a, R: Wait> Nodes for SharedNodes<'r, 'a, R> {
     ghost use Rattle.hg_play.specs.Through.{seen_shared};
 
     ghost seen = { λ v. seen_shared v };

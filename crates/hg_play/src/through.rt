@@ -1,20 +1,17 @@
 ghost use Rattle.std.specs.Prelude.{◌≡◌, ◌≤◌, All, IfOk, length};
-ghost use Rattle.hg_life.specs.Signing.{accepts_by};
-ghost use Rattle.hg_gossip.specs.Known.{KeepsKnown};
-ghost use Rattle.hg_crowd.specs.Crowd.{AreSeats, AreStill};
-ghost use Rattle.hg_crowd.specs.Party.{party_view};
+ghost use Rattle.hg_crowd.specs.Crowd.{AreStill};
 ghost use Rattle.hg_play.specs.Batch.{IsBatch};
 ghost use Rattle.hg_play.specs.Lines.{IsLineBelow, IsPartBelow};
 ghost use Rattle.hg_play.specs.Nodes.{IsKept, Plays};
-ghost use Rattle.hg_play.specs.Heard.{rows_seen};
-ghost use Rattle.hg_play.specs.Through.{PlaysFirst, PlaysShared, worked_on};
+ghost use Rattle.hg_play.specs.Heard.{KeepsNodes};
+ghost use Rattle.hg_play.specs.Through.{PlaysFirst, PlaysThrough, worked_on};
 
 use crate::game::Game;
 use crate::lines::play_part;
 use crate::nodes::Nodes;
 use crate::shared::SharedNodes;
 use crate::tape::Tape;
-use hg_board::Seat;
+use hg_crowd::Party;
 use hg_gossip::Known;
 use hg_io::Gate;
 use hg_model::{Member, Memory};
@@ -95,23 +92,27 @@ fn play_parts<N: Nodes, G: Gate>(
     Ok((tape, most))
 }
 
-/// Plays the first batch of these lines over nodes between threads, through their seats, while others mark. The seats come
-/// back, and what each node has heard of each, also without memory.
-pub(crate) fn play_through<R: Wait, G: Gate>(
+/// Plays the first batch of these lines over nodes between threads, through these seats of them, while others mark. The
+/// nodes come back, and what each has heard of each, also without memory.
+pub(crate) fn play_through<'a, R: Wait, G: Gate>(
+    rt: &R,
     game: &Game,
-    mut nodes: SharedNodes<'_, R>,
+    party: Party<'a, SharedTable>,
+    known: Known,
     tape: Tape,
     lines: &[Line],
     gate: &G,
-) -> (Vec<Seat<SharedTable>>, Known, Result<(Tape, usize), Memory>)
-    requires { All (IsLineBelow (length nodes.seats)) lines.now }
-    ensures seats { AreSeats accepts_by nodes.entry.places result.0.items }
-    ensures still { AreStill nodes.entry.seats result.0.items }
-    ensures known { KeepsKnown (rows_seen (party_view nodes.entry.places result.0.items)) result.1 }
+) -> (Party<'a, SharedTable>, Known, Result<(Tape, usize), Memory>)
+    requires nodes { KeepsNodes party known }
+    requires lines { All (IsLineBelow (length party.seats)) lines.now }
+    ensures places { result.0.places ≡ party.entry.places }
+    ensures nodes { KeepsNodes result.0 result.1 }
+    ensures still { AreStill party.entry.seats result.0.seats }
     ensures batch { IfOk result.2 (λ r. IsBatch lines.now r.1) }
-    ensures played { PlaysShared result.2 game.now.members.now lines.now nodes.entry tape result.0.items }
+    ensures told { PlaysThrough result.2 game.now.members.now lines.now party.entry tape result.0.seats }
 {
+    let mut nodes = SharedNodes::new(rt, game.alloc, party, known);
     let played = play_parts(game, &mut nodes, tape, lines, gate);
-    let (seats, known) = nodes.into_parts();
-    (seats, known, played)
+    let (party, known) = nodes.into_parts();
+    (party, known, played)
 }

@@ -1,133 +1,93 @@
-use Rattle.std.proofs.Common.{rules, arith, sym, subst, get_or, take}
-use Rattle.std.specs.Prelude.{IfOk, OnOk}
+use Rattle.std.proofs.Common.{List, map, sym, subst, take}
+use Rattle.std.specs.Prelude.{All}
+use Rattle.hg_model.specs.declared.row.Row.{Row}
 use Rattle.hg_life.specs.Signing.{accepts_by}
-use Rattle.hg_model.specs.Shares.{whole}
 use Rattle.hg_gossip.specs.Known.{KeepsKnown}
+use Rattle.hg_board.specs.Seats.{SeatView}
+use Rattle.hg_board.specs.Calls.{split_off}
+use Rattle.hg_world.specs.World.{Secrets}
 use Rattle.hg_crowd.specs.Crowd.{AreSeats}
-use Rattle.hg_crowd.specs.Workers.{AllMark}
-use Rattle.hg_crowd.proofs.CrowdLaws.{all_worked, more_started, seats_absorbed, seats_started}
-use Rattle.hg_play.specs.Batch.{IsBatch}
-use Rattle.hg_play.specs.Lines.{IsLineBelow}
-use Rattle.hg_play.specs.Through.{MatchesThrough}
-use Rattle.hg_play.proofs.BatchLaws.{all_again, batch_count, batch_marked, batch_told, ends_of_one_list, more_beside, nodes_own, own_count, rows_begun, rows_ended, seats_beside, the_run}
+use Rattle.hg_crowd.specs.Party.{PartyView, party_view}
+use Rattle.hg_crowd.specs.Laws.{IsSession}
+use Rattle.hg_crowd.specs.Workers.{AreWhole, HasAll}
+use Rattle.hg_crowd.proofs.CrowdLaws.{all_started, seats_started}
+use Rattle.hg_play.specs.Batch.{PlaysBeside}
+use Rattle.hg_play.specs.Heard.{KeepsNodes}
+use Rattle.hg_play.proofs.BatchLaws.{batch_count, batch_marked, batch_told, ends_of_one_list, first_nodes, rows_ended, the_run, whole_again}
+use Rattle.hg_play.proofs.batch.play_batch.Given as given
 use Rattle.hg_play.proofs.batch.play_batch.Goals as goal
+use Rattle.hg_play.proofs.batch.play_batch.Goals.{In_ok-nodes, In_ok-party}
 
-pub split_all-requires-clause-seats : goal.split_all-requires-clause-seats
-split_all-requires-clause-seats g c =
+pub new-party-requires : goal.new-party-requires
+new-party-requires g c =
     subst (λ l. AreSeats accepts_by l c.in_ok-shared.seats.items) (sym c.as_slice.ensures.value)
     (seats_started accepts_by c.into_parts-nodes.result.0.items c.in_ok-shared.shared.items c.in_ok-shared.seats.items c.in_ok-shared.ensures)
 
-pub split_all-requires-clause-parts : goal.split_all-requires-clause-parts
-split_all-requires-clause-parts g c = more_started accepts_by 1 c.into_parts-nodes.result.0.items c.in_ok-shared.shared.items c.in_ok-shared.seats.items (omega arith) c.in_ok-shared.ensures
+pub play_beside-requires-clause-parts : goal.play_beside-requires-clause-parts
+play_beside-requires-clause-parts g c κs within =
+    subst (λ (v : PartyView Secrets). All HasAll v.seats) (sym c.new-party.ensures)
+    (all_started accepts_by c.into_parts-nodes.result.0.items c.in_ok-shared.shared.items c.in_ok-shared.seats.items c.in_ok-shared.ensures)
 
-pub join-seats-requires-after_bounds : goal.join-seats-requires-after_bounds
-join-seats-requires-after_bounds g c κs within =
-    let nodes = c.into_parts-nodes.result.0.items in
-    let shared = c.in_ok-shared.shared.items in
-    let places = c.as_slice-places.result.now in
-    let firsts = c.in_ok-shared.seats.items in
-    let own = c.in_ok-own.own.items in
-    let few = c.args.band.now.few in
-    let long = own_count c.args.world nodes shared firsts own c.into_parts-nodes.ensures.nodes c.in_ok-shared.ensures c.in_ok-own.ensures.new in (
-      (
-        seats_beside nodes shared places firsts c.split_all.new.seats.items c.as_slice-places.ensures.value c.in_ok-shared.ensures c.in_ok-own.ensures.old,
-        (more_beside c.args.band.now.workers nodes shared firsts c.split_all.new.seats.items (omega (arith, few)) c.in_ok-shared.ensures c.in_ok-own.ensures.old, (c.args.band.now.some, (search rules, search rules))),
-      ),
-      (
-        nodes_own nodes shared places firsts own c.as_slice-places.ensures.value c.in_ok-shared.ensures c.in_ok-own.ensures.new c.into_parts-nodes.ensures.lawful,
-        (
-          subst (λ rows. KeepsKnown rows c.into_parts-nodes.result.1) (rows_begun nodes shared places firsts own c.as_slice-places.ensures.value c.in_ok-shared.ensures c.in_ok-own.ensures.new) c.into_parts-nodes.ensures.known,
-          (λ k d low. subst (λ n. IsLineBelow n (get_or c.args.lines.now k d)) (sym long) (c.requires k d low), c.args.game.now.signed),
-        ),
-      ),
-    )
+pub play_beside-requires-clause-nodes : goal.play_beside-requires-clause-nodes
+play_beside-requires-clause-nodes g c κs within =
+    subst (λ (v : PartyView Secrets). KeepsNodes (party_view v.places (map split_off v.seats)) c.into_parts-nodes.result.1) (sym c.new-party.ensures)
+    (first_nodes c.into_parts-nodes.result.0.items c.in_ok-shared.shared.items c.as_slice.result.now c.in_ok-shared.seats.items c.into_parts-nodes.result.1 c.as_slice.ensures.value c.in_ok-shared.ensures
+    c.into_parts-nodes.ensures.lawful c.into_parts-nodes.ensures.known)
 
-pub work_beside-seats-requires-clause-seats : goal.work_beside-seats-requires-clause-seats
-work_beside-seats-requires-clause-seats g c κs within =
-    seats_absorbed accepts_by c.as_slice-places.result.now c.join-seats.result.0.0.items c.join-seats.result.1.0.items c.absorb_all.new.seats.items c.join-seats.ensures.first.0 c.absorb_all.ensures
-
-pub work_beside-seats-requires-clause-parts : goal.work_beside-seats-requires-clause-parts
-work_beside-seats-requires-clause-parts g c κs within =
-    let few = c.args.band.now.few in
-    let all = all_again c.into_parts-nodes.result.0.items c.in_ok-shared.shared.items c.as_slice-places.result.now c.in_ok-shared.seats.items c.split_all.new.seats.items c.in_ok-own.own.items c.join-seats.result.1.0.items
-    c.join-seats.result.0.0.items c.absorb_all.new.seats.items c.as_slice-places.ensures.value c.in_ok-shared.ensures c.in_ok-own.ensures.old c.in_ok-own.ensures.new c.join-seats.ensures.second.1.0
-    c.join-seats.ensures.first.1 c.absorb_all.ensures in
-    λ k s inside. omega (arith, all k s inside, few)
+-- what was played beside the workers, from the first seats on
+played : (g : given.Over) (c : In_ok-party g) → PlaysBeside c.args.game.now.members.now c.args.lines.now (party_view c.as_slice.result.now c.in_ok-shared.seats.items) c.args.tape c.in_ok-party.party c.in_ok-party.known
+    c.in_ok-party.tape c.in_ok-party.count
+played g c =
+    subst (λ (v : PartyView Secrets). PlaysBeside c.args.game.now.members.now c.args.lines.now v c.args.tape c.in_ok-party.party c.in_ok-party.known c.in_ok-party.tape c.in_ok-party.count) c.new-party.ensures
+    c.in_ok-party.ensures
 
 pub finish_all-requires-clause-parts : goal.finish_all-requires-clause-parts
 finish_all-requires-clause-parts g c =
-    let all = all_again c.into_parts-nodes.result.0.items c.in_ok-shared.shared.items c.as_slice-places.result.now c.in_ok-shared.seats.items c.split_all.new.seats.items c.in_ok-own.own.items c.join-seats.result.1.0.items
-    c.join-seats.result.0.0.items c.absorb_all.new.seats.items c.as_slice-places.ensures.value c.in_ok-shared.ensures c.in_ok-own.ensures.old c.in_ok-own.ensures.new c.join-seats.ensures.second.1.0
-    c.join-seats.ensures.first.1 c.absorb_all.ensures in
-    all_worked c.absorb_all.new.seats.items c.work_beside-seats.result.0.items c.work_beside-seats.ensures.worked all
+    let beside = played g (goal.at.finish_all-requires-clause-parts g c).In_ok-party in
+    subst (All HasAll) (sym c.into_seats-seats.ensures.same)
+    (whole_again c.into_parts-nodes.result.0.items c.in_ok-shared.shared.items c.as_slice.result.now c.in_ok-shared.seats.items beside.called c.in_ok-party.party.seats c.as_slice.ensures.value c.in_ok-shared.ensures beside.calls)
+
+-- the run that the batch is
+run : (g : given.Over) (c : In_ok-nodes g) (beside : PlaysBeside c.args.game.now.members.now c.args.lines.now (party_view c.as_slice.result.now c.in_ok-shared.seats.items) c.args.tape c.in_ok-party.party c.in_ok-party.known
+    c.in_ok-party.tape c.in_ok-party.count) → IsSession accepts_by c.into_parts-nodes.result.0.items c.as_slice.result.now beside.called c.in_ok-nodes.nodes.items
+run g c beside =
+    let shared = c.in_ok-shared.shared.items in
+    the_run c.into_parts-nodes.result.0.items shared c.as_slice.result.now c.in_ok-shared.seats.items beside.called c.in_ok-party.party.seats c.in_ok-nodes.nodes.items c.as_slice.ensures.value c.in_ok-shared.ensures
+    beside.calls (subst (λ (l : List (SeatView Secrets)). AreWhole shared l c.in_ok-nodes.nodes.items) c.into_seats-seats.ensures.same c.in_ok-nodes.ensures)
 
 pub from_parts-requires-clause-nodes : goal.from_parts-requires-clause-nodes
 from_parts-requires-clause-nodes g c =
-    let nodes = c.into_parts-nodes.result.0.items in
-    let shared = c.in_ok-shared.shared.items in
-    let places = c.as_slice-places.result.now in
-    let called = c.join-seats.result.1.0.items in
-    let ends = c.in_ok-nodes.nodes.items in
-    let run = the_run nodes shared places c.in_ok-shared.seats.items c.split_all.new.seats.items c.in_ok-own.own.items called c.join-seats.result.0.0.items c.absorb_all.new.seats.items
-    c.work_beside-seats.result.0.items ends c.as_slice-places.ensures.value c.in_ok-shared.ensures c.in_ok-own.ensures.old c.in_ok-own.ensures.new c.join-seats.ensures.second.0 c.join-seats.ensures.second.1.0
-    c.join-seats.ensures.first.1 c.absorb_all.ensures c.work_beside-seats.ensures.worked c.in_ok-nodes.ensures in
-    ends_of_one_list nodes places called ends run c.into_parts-nodes.ensures.lawful
+    let at = goal.at.from_parts-requires-clause-nodes g c in
+    let beside = played g at.In_ok-party in
+    ends_of_one_list c.into_parts-nodes.result.0.items c.as_slice.result.now beside.called c.in_ok-nodes.nodes.items (run g at.In_ok-nodes beside) c.into_parts-nodes.ensures.lawful
 
 pub from_parts-requires-clause-known : goal.from_parts-requires-clause-known
 from_parts-requires-clause-known g c =
-    let nodes = c.into_parts-nodes.result.0.items in
-    let shared = c.in_ok-shared.shared.items in
-    let places = c.as_slice-places.result.now in
-    let called = c.join-seats.result.1.0.items in
-    let ends = c.in_ok-nodes.nodes.items in
-    let run = the_run nodes shared places c.in_ok-shared.seats.items c.split_all.new.seats.items c.in_ok-own.own.items called c.join-seats.result.0.0.items c.absorb_all.new.seats.items
-    c.work_beside-seats.result.0.items ends c.as_slice-places.ensures.value c.in_ok-shared.ensures c.in_ok-own.ensures.old c.in_ok-own.ensures.new c.join-seats.ensures.second.0 c.join-seats.ensures.second.1.0
-    c.join-seats.ensures.first.1 c.absorb_all.ensures c.work_beside-seats.ensures.worked c.in_ok-nodes.ensures in
-    subst (λ rows. KeepsKnown rows c.join-seats.result.1.1) (rows_ended nodes places called ends run) c.join-seats.ensures.second.1.1.0
+    let at = goal.at.from_parts-requires-clause-known g c in
+    let beside = played g at.In_ok-party in
+    subst (λ (rows : List (List Row)). KeepsKnown rows c.in_ok-party.known)
+    (rows_ended c.into_parts-nodes.result.0.items c.as_slice.result.now beside.called c.in_ok-nodes.nodes.items (run g at.In_ok-nodes beside)) beside.heard
 
 pub returns-clause-count : goal.returns-clause-count
 returns-clause-count g c =
-    let nodes = c.into_parts-nodes.result.0.items in
-    let shared = c.in_ok-shared.shared.items in
-    let places = c.as_slice-places.result.now in
-    let called = c.join-seats.result.1.0.items in
-    let ends = c.in_ok-nodes.nodes.items in
-    let run = the_run nodes shared places c.in_ok-shared.seats.items c.split_all.new.seats.items c.in_ok-own.own.items called c.join-seats.result.0.0.items c.absorb_all.new.seats.items
-    c.work_beside-seats.result.0.items ends c.as_slice-places.ensures.value c.in_ok-shared.ensures c.in_ok-own.ensures.old c.in_ok-own.ensures.new c.join-seats.ensures.second.0 c.join-seats.ensures.second.1.0
-    c.join-seats.ensures.first.1 c.absorb_all.ensures c.work_beside-seats.ensures.worked c.in_ok-nodes.ensures in
-    batch_count c.args.world c.in-Ok.world nodes places called ends c.into_parts-nodes.ensures.nodes run c.in-Ok.ensures.ok
+    let at = goal.at.returns-clause-count g c in
+    let beside = played g at.In_ok-party in
+    batch_count c.args.world c.in-Ok.world c.into_parts-nodes.result.0.items c.as_slice.result.now beside.called c.in_ok-nodes.nodes.items c.into_parts-nodes.ensures.nodes (run g at.In_ok-nodes beside) c.in-Ok.ensures.ok
 
 pub returns-clause-marked : goal.returns-clause-marked
+unfolding run played
 returns-clause-marked g c =
-    let nodes = c.into_parts-nodes.result.0.items in
-    let shared = c.in_ok-shared.shared.items in
-    let places = c.as_slice-places.result.now in
-    let called = c.join-seats.result.1.0.items in
-    let ends = c.in_ok-nodes.nodes.items in
-    let run = the_run nodes shared places c.in_ok-shared.seats.items c.split_all.new.seats.items c.in_ok-own.own.items called c.join-seats.result.0.0.items c.absorb_all.new.seats.items
-    c.work_beside-seats.result.0.items ends c.as_slice-places.ensures.value c.in_ok-shared.ensures c.in_ok-own.ensures.old c.in_ok-own.ensures.new c.join-seats.ensures.second.0 c.join-seats.ensures.second.1.0
-    c.join-seats.ensures.first.1 c.absorb_all.ensures c.work_beside-seats.ensures.worked c.in_ok-nodes.ensures in
-    let marked = subst (λ r. OnOk r (AllMark places whole c.absorb_all.new.seats.items c.work_beside-seats.result.0.items)) c.in_ok-done.was c.work_beside-seats.ensures.marked in
-    batch_marked c.in-Ok.world nodes places called ends run c.in-Ok.ensures.ok marked
+    let at = goal.at.returns-clause-marked g c in
+    let beside = played g at.In_ok-party in
+    batch_marked c.in-Ok.world c.into_parts-nodes.result.0.items c.as_slice.result.now beside.called c.in_ok-nodes.nodes.items (run g at.In_ok-nodes beside) c.in-Ok.ensures.ok beside.marked
 
 pub returns-clause-told : goal.returns-clause-told
+unfolding run
 returns-clause-told g c =
-    let nodes = c.into_parts-nodes.result.0.items in
-    let shared = c.in_ok-shared.shared.items in
-    let places = c.as_slice-places.result.now in
-    let called = c.join-seats.result.1.0.items in
-    let ends = c.in_ok-nodes.nodes.items in
-    let own = c.in_ok-own.own.items in
-    let members = c.args.game.now.members.now in
-    let lines = c.args.lines.now in
-    let t = c.args.tape in
-    let run = the_run nodes shared places c.in_ok-shared.seats.items c.split_all.new.seats.items own called c.join-seats.result.0.0.items c.absorb_all.new.seats.items
-    c.work_beside-seats.result.0.items ends c.as_slice-places.ensures.value c.in_ok-shared.ensures c.in_ok-own.ensures.old c.in_ok-own.ensures.new c.join-seats.ensures.second.0 c.join-seats.ensures.second.1.0
-    c.join-seats.ensures.first.1 c.absorb_all.ensures c.work_beside-seats.ensures.worked c.in_ok-nodes.ensures in
-    let batch = take c.in_ok-tape.count lines in
-    let told = subst (λ r. IfOk r (λ q. MatchesThrough members (take q.1 lines) places own t called q.0)) c.in_ok-tape.was c.join-seats.ensures.second.1.1.1.1 in
-    let through = subst (λ l. MatchesThrough members batch places l t called c.in_ok-tape.tape) c.in_ok-own.ensures.new told in
-    batch_told members batch c.args.world c.in-Ok.world nodes places called ends t c.in_ok-tape.tape c.into_parts-nodes.ensures.nodes run c.in-Ok.ensures.ok through
+    let at = goal.at.returns-clause-told g c in
+    let beside = played g at.In_ok-party in
+    batch_told c.args.game.now.members.now (take c.in_ok-party.count c.args.lines.now) c.args.world c.in-Ok.world c.into_parts-nodes.result.0.items c.as_slice.result.now beside.called c.in_ok-nodes.nodes.items
+    c.args.tape c.in_ok-party.tape c.into_parts-nodes.ensures.nodes (run g at.In_ok-nodes beside) c.in-Ok.ensures.ok beside.told
 
 pub returns-clause-batch : goal.returns-clause-batch
-returns-clause-batch g c = subst (λ r. IfOk r (λ q. IsBatch c.args.lines.now q.1)) c.in_ok-tape.was c.join-seats.ensures.second.1.1.1.0
+returns-clause-batch g c = (played g (goal.at.returns-clause-batch g c).In_ok-party).batch
