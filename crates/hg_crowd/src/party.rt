@@ -42,6 +42,13 @@ impl<'a, V: Signer + Drop> Party<'a, V> {
         Party { shared, seats }
     }
 
+    /// The nodes.
+    pub fn places(&self) -> &'a [Shared<V>]
+        ensures { result.now ≡ self.now.places }
+    {
+        self.shared
+    }
+
     /// The seats, as they are then.
     pub fn into_seats(self) -> Vec<Seat<V>>
         ensures same { result.items ≡ self.entry.seats }

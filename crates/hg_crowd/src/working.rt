@@ -31,7 +31,7 @@ impl<'a, V: Signer + Drop> Party<'a, V> {
         Ok(())
     }
 
-    /// The same with seats that come back.
+    /// The same with a party that comes back.
     fn worked_each<C: Crew, R: Wait>(
         mut self,
         rt: &R,
@@ -94,7 +94,7 @@ impl<'a, V: Signer + Drop + Send> Party<'a, V> {
     }
 
     /// So many workers beside each other, each of whom works one turn on every node, in order, for a share of its own. They
-    /// add marks alone. All seats that they work with come back in these, also where memory runs out.
+    /// add marks alone. All seats that they work with come back, also where memory runs out.
     pub fn work_beside<C: Crew + Sync, R: Threads + Wait + Sync>(
         self,
         rt: &R,

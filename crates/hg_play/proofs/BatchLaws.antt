@@ -319,6 +319,14 @@ module _ (places : List (SharedNode Secrets)) (firsts : List (SeatView Secrets))
         told = subst (λ (v : PartyView Secrets). MatchesThrough members (take count lines) v.places v.seats t called.seats t_new) own_is told;
       }
 
+-- seats that come back are those of the same nodes
+pub back_in : (P : List (SharedNode Secrets)) (places : List (SharedNode Secrets)) (beside own back : PartyView Secrets) (seats called : List (SeatView Secrets)) → P ≡ places → beside ≡ party_view P seats → own ≡ party_view P called →
+    AllAbsorb accepts_by beside.places beside.seats own.seats back.seats → AllAbsorb accepts_by places seats called back.seats
+back_in P places beside own back seats called same beside_is own_is absorbed =
+    subst (λ (l : List (SharedNode Secrets)). AllAbsorb accepts_by l seats called back.seats) same
+    (subst (λ (v : PartyView Secrets). AllAbsorb accepts_by P seats v.seats back.seats) own_is
+    (subst (λ (v : PartyView Secrets). AllAbsorb accepts_by v.places v.seats own.seats back.seats) beside_is absorbed))
+
 -- all parts are there in the end
 pub whole_again : (nodes : List (NodeView Secrets)) (shared places : List (SharedNode Secrets)) (firsts called lasts : List (SeatView Secrets)) → places ≡ shared → AreStarted accepts_by nodes shared firsts →
     CallsBeside accepts_by places firsts called lasts → All HasAll lasts

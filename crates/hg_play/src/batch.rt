@@ -1,6 +1,7 @@
 ghost use Rattle.std.specs.Prelude.{◌≡◌, ◌<◌, All, IfOk, length, map, take};
 ghost use Rattle.hg_board.specs.Calls.{split_off};
-ghost use Rattle.hg_crowd.specs.Crowd.{AreStill, Each};
+ghost use Rattle.hg_life.specs.Signing.{accepts_by, secrets_of};
+ghost use Rattle.hg_crowd.specs.Crowd.{AreSeats, AreStill, Each};
 ghost use Rattle.hg_crowd.specs.Party.{party_view};
 ghost use Rattle.hg_crowd.specs.Workers.{HasAll, HasMore, Worked};
 ghost use Rattle.hg_world.specs.World.{new_world};
@@ -14,7 +15,7 @@ use crate::game::Game;
 use crate::lines::play_line;
 use crate::tape::Tape;
 use crate::through::play_through;
-use hg_board::Crew;
+use hg_board::{Crew, Seat};
 use hg_crowd::{Party, finish_all, start_all};
 use hg_gossip::Known;
 use hg_io::Gate;
@@ -41,28 +42,47 @@ fn play_beside<'a, R: Threads + Wait + Sync, C: Crew + Sync, G: Gate + Sync>(
     requires lines { All (IsLineBelow (length party.seats)) lines.now }
     ensures { IfOk result (λ r. PlaysBeside game.now.members.now lines.now party.entry tape r.0 r.1 r.2 r.3) }
 {
-    let alloc = game.alloc;
-    let own = party.split(alloc)?;
+    let (rt, workers, crew, gate) = (band.rt, band.workers, band.crew, band.gate);
+    let (alloc, members, keys) = (game.alloc, game.members, game.keys);
+    let places = party.places();
+    let own = party.split(alloc)?.into_seats();
+    let seats = party.into_seats();
     // The second runs in the thread of the caller, as all lines do that stand in no batch.
-    let ((mut party, _), (own, known, played)) = join(
-        band.rt,
-        move || -> (Party<'_, SharedTable>, Result<(), Memory>)
-            requires { All (HasMore band.now.workers) party.seats }
-            ensures places { result.0.places ≡ party.entry.places }
-            ensures worked { Each Worked party.entry.seats result.0.seats }
-        { party.work_beside(band.rt, alloc, band.workers, band.crew) },
-        move || -> (Party<'_, SharedTable>, Known, Result<(Tape, usize), Memory>)
-            requires nodes { KeepsNodes own known }
-            requires lines { All (IsLineBelow (length own.seats)) lines.now }
-            ensures places { result.0.places ≡ own.entry.places }
-            ensures nodes { KeepsNodes result.0 result.1 }
-            ensures still { AreStill own.entry.seats result.0.seats }
+    let ((seats, _), (own, known, played)) = join(
+        rt,
+        move || -> (Vec<Seat<SharedTable>>, Result<(), Memory>)
+            requires seats { AreSeats accepts_by places.now seats.items }
+            requires parts { All (HasMore workers) seats.items }
+            requires some { 0 < workers }
+            ensures seats { AreSeats accepts_by places.entry.now result.0.items }
+            ensures worked { Each Worked seats.items result.0.items }
+        {
+            let party = Party::new(places, seats);
+            let (party, done) = party.work_beside(rt, alloc, workers, crew);
+            (party.into_seats(), done)
+        },
+        move || -> (Vec<Seat<SharedTable>>, Known, Result<(Tape, usize), Memory>)
+            requires nodes { KeepsNodes (party_view places.now own.items) known }
+            requires lines { All (IsLineBelow (length own.items)) lines.now }
+            requires keys { keys.now ≡ secrets_of members.now }
+            ensures nodes { KeepsNodes (party_view places.entry.now result.0.items) result.1 }
+            ensures still { AreStill own.items result.0.items }
             ensures batch { IfOk result.2 (λ r. IsBatch lines.entry.now r.1) }
-            ensures told { PlaysThrough result.2 game.entry.now.members.now lines.entry.now own.entry tape result.0.seats }
-        { play_through(band.rt, game, own, known, tape, lines, band.gate) },
+            ensures told { PlaysThrough result.2 members.entry.now lines.entry.now (party_view places.entry.now own.items) tape result.0.items }
+        {
+            let game = Game {
+                alloc,
+                members,
+                keys,
+            };
+            let own = Party::new(places, own);
+            let (own, known, played) = play_through(rt, &game, own, known, tape, lines, gate);
+            (own.into_seats(), known, played)
+        },
     );
-    party.absorb(own);
-    let (party, done) = party.work_beside(band.rt, alloc, band.workers, band.crew);
+    let mut party = Party::new(places, seats);
+    party.absorb(Party::new(places, own));
+    let (party, done) = party.work_beside(rt, alloc, workers, crew);
     done?;
     let (tape, count) = played?;
     Ok((party, known, tape, count))
