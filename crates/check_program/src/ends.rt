@@ -22,6 +22,9 @@ const BLOCK_OF_A: &str =
 const BLOCK_OF_B: &str =
     "node B events 8 forkers 0 round 4 closed 2 ordered 4\n1 A 0 round 2 time 1 -\n2 B 0 round 2 time 2 -\n3 A 1 round 2 time 3 -\n4 B 1 round 2 time 4 -\nbalance A 100\nbalance B 0\n";
 
+const BLOCKS: &str =
+    "node A events 7 forkers 0 round 3 closed 1 ordered 0\nbalance A 100\nbalance B 0\nnode B events 8 forkers 0 round 4 closed 2 ordered 4\n1 A 0 round 2 time 1 -\n2 B 0 round 2 time 2 -\n3 A 1 round 2 time 3 -\n4 B 1 round 2 time 4 -\nbalance A 100\nbalance B 0\n";
+
 /// What is printed of the block of a member's node.
 fn block_text(
     alloc: Global,
@@ -46,6 +49,7 @@ fn a_play_ends_in_a_world_of_settled_nodes(rt: HostRuntime) -> Result<(), Fail> 
     let lines = read_script(alloc, SCRIPT.as_bytes(), &members, 0)?;
     let lines = lines.ok().ok_or("the script is refused")?;
     let world = play_world(alloc, &members, lines.as_slice())?;
+    assert!(rt; members.count() == 2);
     assert!(rt; world.members() == 2);
     let a = block_text(alloc, &members, &world, 0)?;
     assert!(rt; a.bytes() == BLOCK_OF_A.as_bytes());
@@ -53,7 +57,6 @@ fn a_play_ends_in_a_world_of_settled_nodes(rt: HostRuntime) -> Result<(), Fail> 
     assert!(rt; b.bytes() == BLOCK_OF_B.as_bytes());
     let mut both = ample(alloc)?;
     text_of(&outcome_of(alloc, &members, &world)?, &mut both)?;
-    let (first, second) = both.bytes().split_at(BLOCK_OF_A.len());
-    assert!(rt; first == BLOCK_OF_A.as_bytes() && second == BLOCK_OF_B.as_bytes());
+    assert!(rt; both.bytes() == BLOCKS.as_bytes());
     Ok(())
 }
