@@ -59,6 +59,7 @@ AddsSeer L x y z before after =
 abbrev pub IsForkMask : List Link → Link → ℕ → Type 0
 IsForkMask L link mask = (m : ℕ) → mask_has mask m ≡ has_fork_below (L ++ link ∷ []) (length L) m
 
--- the mask has the members that have rows above both of two parents alone, of whom the new row's creator has its own
+-- the mask has the members of whom each of two parents has rows among its ancestors that the other has not; for the new
+-- row's creator the new row itself is one of the self-parent's
 abbrev pub IsApartMask : List Link → ℕ → ℕ → ℕ → ℕ → Type 0
 IsApartMask L by self_place other mask = (m : ℕ) → mask_has mask m ≡ ((m == by || is_apart L self_place other m) && is_apart L other self_place m)

@@ -1,5 +1,5 @@
 -- What a graph keeps of its branches: for each row its branch, its counts and who has a fork below it; for each branch its
--- maker and its end, which is one more than the place of its last row, or 0
+-- maker and its end, which is greater than the place of each of its rows, and 0 where it has none
 use Rattle.std.specs.Prelude.{◌≡◌, ℕ, ◌+◌, ◌-◌, ◌<◌, ◌≤◌, ◌^◌, ◌==◌, ◌&&◌, ◌||◌, nat_lt, Bool, false, cond, List, [], ◌∷◌, ◌++◌, length, get_or, slice_set, Option, Some, None}
 use Rattle.hg_model.specs.Stakes.{Stakes, member_count}
 use Rattle.hg_model.specs.Links.{Link}

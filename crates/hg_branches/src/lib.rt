@@ -1,8 +1,9 @@
 //! What the rows of a graph see of each other, told by branches, which are lines of self-parents.
 //! A layer above uses `BranchSight` as a graph that grows (`Growing` of `hg_model`). It may besides tell it which rows it
 //! will ask of often (`mark_last`), which changes no answer.
-//! The first branches are the members' own, so that a branch's number is its member; the others are opened by forks. A row
-//! keeps a number for each branch, and an ancestor is told by one comparison.
+//! The first branches are the members' own, and their numbers are the members'; the others are opened by forks. A row keeps
+//! a number for each member's own branch, and for the others up to the last that it knows of; an ancestor is told by one
+//! comparison.
 //!
 //! From `add_forked` in the tests of `check_sights`:
 //!

@@ -111,8 +111,8 @@ impl BranchSight {
         }
     }
 
-    /// One more than the place of the last row of the member's own branch, or 0: where to look first for its last row. No
-    /// clause speaks of it.
+    /// Where to look first for the member's last row: one more than the place of the last row of its own branch, or 0. No
+    /// clause speaks of it, since any number would do.
     pub fn own_end(&self, member: Member) -> usize {
         match self.ends.get(usize::from(member)) {
             None => 0,

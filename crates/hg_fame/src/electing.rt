@@ -52,7 +52,7 @@ pub fn elect_within<P: Prefix, V: Votes>(
     ensures fame { option_map (λ decision. decision.0) result ≡ fame_within (P.graph p.now) len x }
     ensures decider { option_map (λ decision. decision.1) result ≡ decider_within (P.graph p.now) len x }
 {
-    // That votes stay in longer graphs is known of lawful ones.
+    // Votes in the first rows are those in all rows where the graph is lawful.
     is_of_graph(p);
     votes.open(p, x);
     let mut round = p.round(x);

@@ -1,7 +1,7 @@
 //! Fame: the decision on a witness, and those on a share of all witnesses.
-//! The layer above uses `elect_first` for given witnesses in first rows, by the votes of all, `elect_open` for such in all rows,
-//! `elect_share`, whose answer speaks of a whole share, `elect_unmarked`, which has the same answer where some fame is known,
-//! and `elect` and `elect_within` for one witness.
+//! The layer above uses `elect_open` for given witnesses, and `elect_first` for such in the first rows of a prefix, with the
+//! votes of the whole one. `elect_share` elects all witnesses of a share, `elect_unmarked` those without a mark, and `elect`
+//! and `elect_within` one witness.
 //! An election opens rounds one by one and ends at the first that decides; it takes no memory.
 //!
 //! From `found_in` of `hg_node`:

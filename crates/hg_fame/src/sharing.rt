@@ -94,7 +94,8 @@ pub fn elect_unmarked<P: Prefix, V: Votes>(
     })
 }
 
-/// What the prefix decides of these witnesses: each decided one, in their order, with its fame.
+/// What the prefix decides of these witnesses: each decided one, in their order, with its fame. The share is handed on: it
+/// is the caller's word that they are of it.
 pub fn elect_open<P: Prefix, V: Votes>(
     alloc: Global,
     p: &P,
@@ -112,7 +113,7 @@ pub fn elect_open<P: Prefix, V: Votes>(
     elect_first(alloc, p, votes, share, p.rows(), places)
 }
 
-/// The same in the graph of the first `len` rows, with the votes of the whole prefix.
+/// The same in the graph of the first `len` rows, with the votes of the whole prefix. The share is handed on too.
 pub fn elect_first<P: Prefix, V: Votes>(
     alloc: Global,
     p: &P,

@@ -1,6 +1,6 @@
 //! The first rows of a graph as one value, with what they see of each other and their rounds: a frozen prefix.
-//! The layer above uses `Frozen` as a `Prefix` of `hg_model` that a thread can take along, and nothing else.
-//! Its rows are events that other graphs share, in blocks that other prefixes share. It takes no memory of its own; each call is
+//! The layer above uses `Frozen` as a `Prefix` of `hg_model` that a thread can take along; it tells besides how many of
+//! its rows stand in sealed blocks. Its rows are events that other graphs share, in blocks that other prefixes share. It takes no memory of its own; each call is
 //! the sight's, the table's, or one look at a row.
 //!
 //! From `prefix` of the `EventGraph` of `hg_graph`:

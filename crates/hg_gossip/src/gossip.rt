@@ -78,7 +78,7 @@ pub fn pull<T: Holder, P: Holder>(
 }
 
 /// Pulls from the peer, and makes an event whose other-parent is the peer's last own row, if it has one. The time is
-/// any, in no unit of ours. After `Memory` some of the first of the rows are put, and no event is made.
+/// what the event claims, in the caller's unit. After `Memory` some of the first of the rows are put, and no event is made.
 pub fn sync<T: Holder, P: Holder>(
     alloc: Global,
     taker: &mut T,

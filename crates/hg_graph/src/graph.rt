@@ -22,7 +22,7 @@ use std::alloc::Global;
 use std::marker::Model;
 use std::sync::Arc;
 
-/// What knows the sight in a node's graph. Another one that is `Growing` is a change of this line and of its import.
+/// What tells who sees what in a node's graph.
 type NodeSight = BranchSight;
 
 /// The first rows of a node's graph, as a value of its own: what workers read.

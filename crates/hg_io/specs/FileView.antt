@@ -7,7 +7,7 @@ pub record FileView : Type 1 where
   pub reads : Option (List ℕ)
   -- the bytes that a stop now may leave
   pub may_leave : List ℕ → Type 0
-  -- a number that does not fall, and grows with what a stop may leave
+  -- a number that never falls; `left_since` tells what stops at it or later might have left
   pub age : ℕ
   -- the bytes that a stop at this age of the file, or a greater one, might have left
   pub left_since : ℕ → List ℕ → Type 0

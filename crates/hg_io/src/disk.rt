@@ -47,8 +47,8 @@ pub trait Disk {
         ensures cause { OnErr result (Rose (faults self.old name.now) (faults self.new name.now)) }
         ensures counts { (other : List ℕ) → faults self.old other ≤ faults self.new other };
 
-    /// Writes the piece over the bytes from the place `at` on, which is at most the size, and past the end. At `Failed`
-    /// any part of it may be written, in any order.
+    /// Writes the piece over the bytes from the place `at` on, which is at most the size, and past the end. After `Failed`
+    /// any bytes may stand at those places, and the size is one from the old to the wanted one.
     fn write(&mut self, name: &str, at: u64, piece: &[u8]) -> Result<(), Failed>
         requires started { At self.old name.now }
         requires within { ForSome (file self.old).reads (λ bytes. at ≤ length bytes) }

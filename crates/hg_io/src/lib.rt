@@ -2,7 +2,7 @@
 //! them in memory. What a shelf holds, a source has left, a sink was given and a stop may leave on a disk are members that
 //! only clauses see, told by some; every fault has a count.
 //! The layer above uses `read_file`, `write_all`, `read_all` and `put_down`: all of a file, all of the bytes, or a fault
-//! whose count rose.
+//! whose count rose; those that give bytes may besides want memory, or find a file longer than they may take.
 //!
 //! From `bytes_from` of `hg_top`:
 //!

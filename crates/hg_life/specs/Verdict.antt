@@ -70,11 +70,11 @@ creator_rule G m (Some names) =
     if not (creator_at G (place_of G names.0) == m) then Some (Refused (fault.SelfCreator (place_of G names.0)))
     else option_map (λ place. Refused (fault.OtherCreator place)) (first_by G m (names.1 ∷ []))
 
--- the stake of the members that have a fork with the row
+-- the stake of the members that would have a fork in the graph with the row behind its last one
 abbrev pub forking_with : Stakes → List Row → Row → ℕ
 forking_with n G row = forking n (links (G ++ row ∷ []))
 
--- the answer where k of all, the stake of the forking members, is a third or more
+-- the answer where k, the stake of the forking members, is a third of all stake or more
 abbrev pub forkers_answer : ℕ → ℕ → Option PutAnswer
 forkers_answer all k = if nat_le all (3 * k) then Some (Refused (fault.TooManyForkers k)) else None
 
@@ -84,7 +84,7 @@ forkers_rule n G row = forkers_answer (total n) (forking_with n G row)
 abbrev pub full_rule : List Row → Option PutAnswer
 full_rule G = if nat_le row_limit (length G) then Some (Refused (fault.Full row_limit)) else None
 
--- what the rules before that on the stake of forks answer, if one does
+-- what the rules on the row and on its parents answer, if one does: all but those on forking stake and on room
 abbrev pub arrival_rule : Accepts → Stakes → ℕ → List Row → Row → Option PutAnswer
 arrival_rule accepts n own G row =
     option_or (member_rule n row) (option_or (name_rule G row) (option_or (signature_rule accepts row)

@@ -1,6 +1,6 @@
 use std::alloc::{AllocError, AllocFailed};
 
-/// Memory ran out: the one answer that no contract ties to a cause.
+/// Memory ran out. Any call that takes memory may answer so: no contract says that there was too little of it.
 #[derive(Clone, Copy, Debug, PartialEq, Eq)]
 pub struct Memory;
 

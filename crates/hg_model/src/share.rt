@@ -49,8 +49,8 @@ impl Share {
     }
 }
 
-/// What a share of the witnesses decides in the first `len` rows of a graph: its decided witnesses by place, each with
-/// its fame.
+/// What an election of a share of the witnesses gives for the first `len` rows of a graph: witnesses by place, each with
+/// its fame. Which of the share they are, all or some, the clause of the call says that gives it.
 #[derive(Debug, Drop)]
 pub struct Found {
     pub len: usize,

@@ -1,6 +1,7 @@
 ghost use Rattle.std.specs.Prelude.{◌≡◌};
 
 use std::alloc::{AllocError, AllocFailed};
+use crate::Memory;
 
 /// What ends a reading early: want of memory, or the first fault of what is read.
 #[derive(Clone, Copy, Debug)]
@@ -25,6 +26,16 @@ impl<T: Drop, E> From<AllocFailed<T>> for Stop<E> {
     ghost from_gives = { λ _ stop. stop ≡ Memory };
 
     fn from(_refused: AllocFailed<T>) -> Stop<E> {
+        Stop::Memory
+    }
+}
+
+impl<E> From<Memory> for Stop<E> {
+    ghost use Rattle.hg_model.specs.declared.stop.Stop.TheVariants.{Memory};
+
+    ghost from_gives = { λ _ stop. stop ≡ Memory };
+
+    fn from(_wanted: Memory) -> Stop<E> {
         Stop::Memory
     }
 }

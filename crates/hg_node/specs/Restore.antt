@@ -35,7 +35,7 @@ is_next_own own G row = (row.creator == own) && is_same_name (self_name row.pare
 abbrev pub next_own_rule : ℕ → List Row → Row → Option PutAnswer
 next_own_rule own G row = if is_next_own own G row then None else Some (Refused fault.Impostor)
 
--- what the rules before the count of forks answer, if one does
+-- what the rules on the row and on its parents answer, if one does: all but those on forking stake and on room
 abbrev pub return_rule : Accepts → Stakes → ℕ → List Row → Row → Option PutAnswer
 return_rule accepts n own G row =
     option_or (member_rule n row) (option_or (name_rule G row) (option_or (signature_rule accepts row)

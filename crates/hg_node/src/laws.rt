@@ -35,8 +35,8 @@ pub fn restores_are_makes<K>()
     ensures node { RestoresLeaveANode K }
 {}
 
-/// A law: what is stored of a node's changes, whichever they are, leads again to the node; and what is stored leads to nodes
-/// alone.
+/// A law: what is stored of a node's changes, where their shares are lawful, leads again to the node; and whatever is stored
+/// leads to nodes alone.
 pub fn histories_replay<K>()
     ensures change { ChangesReplay K }
     ensures history { HistoriesReplay K }

@@ -7,8 +7,8 @@ ghost use Rattle.hg_order.specs.Counted.{AreLowered, IfShared};
 use hg_model::{Counts, Prefix, Sight, is_of_graph};
 
 /// For each member one more than the place of the last of its rows that all unique famous witnesses of a round have as
-/// ancestor, or 0; `None` where their ancestors are not counted, or there are no witnesses. A row by the member is
-/// received where it stands below.
+/// ancestor, or 0; `None` where the ancestors of one of them are not counted, or there are no witnesses. A row by the
+/// member is received where it stands below.
 pub fn least_counts<P: Prefix>(p: &P, famous: &[usize]) -> Option<[u32; 128]>
     requires { AreFamous (P.graph p.now) famous.now }
     ensures { IfShared (P.graph p.now) famous.now result }

@@ -13,8 +13,8 @@ pub struct LineRow {
     pub place: usize,
 }
 
-/// Of one row, how many lines have yet to have it as ancestor before half of them have, and the time at which the last
-/// of these first had.
+/// Of one row: how many lines have yet to have it as ancestor until as many as are wanted have, and, once they have, the
+/// time at which the last of these first had.
 #[derive(Clone, Copy)]
 pub struct Timer {
     pub left: u32,

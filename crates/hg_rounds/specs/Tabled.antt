@@ -7,7 +7,7 @@ use Rattle.hg_model.specs.Seeing.{strongly_sees}
 use Rattle.hg_model.specs.Rounds.{round_of, is_witness, stake_at}
 use Rattle.hg_model.specs.Among.{weight_among}
 
--- the standings of the rows, of each round what it was told that its witnesses weigh, and for how many more rows there is
+-- the standings of the rows, of each round what is told of its witnesses' weight, and for how many more rows there is
 -- memory at least
 pub record Tabled : Type 0 where
   pub standings : List Standing
@@ -45,7 +45,7 @@ seen_weight shape x rows = weight_among (stake_at shape.members shape.links) (st
 abbrev pub rows_weight : Shape → List ℕ → ℕ
 rows_weight shape rows = weight_among (stake_at shape.members shape.links) (λ y. true) rows
 
--- what is told of each round is what its witnesses weigh in the graph, of which no row weighs 2^32
+-- what is told of each round is what its witnesses weigh in the graph, and at most 2^32 for each row of the graph
 pub record TellsWeights (shape : Shape) (standings : List Standing) (weights : List ℕ) : Type 0 where
   pub each : (r : ℕ) → weight_at weights r ≡ rows_weight shape (witnesses_in standings r)
   pub low : (r : ℕ) → weight_at weights r ≤ 2 ^ 32 * length standings

@@ -57,8 +57,8 @@ fn least_supermajority(total: u64) -> u64
     2 * total / 3 + 1
 }
 
-/// Whether those of these rows that row `x` strongly sees weigh more than two thirds of the total; together they weigh so much.
-/// Where all members have the same stake, rows are counted.
+/// Whether those of these rows that row `x` strongly sees weigh more than two thirds of the total. `weight` is what all of
+/// them weigh together. Where all members have the same stake, rows are counted.
 fn sees_many<S: Sight>(sight: &S, rows: &[usize], x: usize, weight: u64) -> bool
     requires place { x < length (S.shape sight.now).links }
     requires places { AllByRecursion (λ y. y < x) rows.now }
@@ -119,7 +119,7 @@ fn sees_weight<S: Sight>(sight: &S, rows: &[usize], x: usize, wanted: u64, weigh
     missing == 0
 }
 
-/// The round after this one where a row strongly sees that many of its witnesses, or this one.
+/// The round after this one where a row strongly sees many of its witnesses, or this one.
 fn next_round(round: u32, many: bool) -> u32
     requires { round < 2 ^ 32 - 1 }
     ensures { result ≡ cond many (round + 1) round }

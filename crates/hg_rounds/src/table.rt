@@ -107,7 +107,8 @@ impl RoundTable {
         self.tops.push(self.greatest);
     }
 
-    /// What the round's witnesses weigh together, as was told with them.
+    /// What is told of the round's witnesses: in a table to which each row was added, what they weigh together; in a prefix
+    /// of it, what they weigh in the whole table.
     pub fn weight(&self, round: u32) -> u64
         ensures { result ≡ weight_at self.now.weights round }
     {
@@ -117,7 +118,8 @@ impl RoundTable {
         }
     }
 
-    /// The table of the first `len` rows, as a value of its own. It shares what is sealed of the rows and of the lists.
+    /// The standings of the first `len` rows, as a value of its own, to be read: what it tells of rounds' weights is the
+    /// whole table's, so that no further row can be placed in it. It shares what is sealed of the rows and of the lists.
     pub fn prefix(&self, len: usize) -> Result<RoundTable, Memory>
         requires { len ≤ length self.now.standings }
         ensures { IfOk result (λ t. t.standings ≡ take len self.now.standings) }

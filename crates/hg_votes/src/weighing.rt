@@ -13,8 +13,9 @@ pub fn coin_bit(sig: &Sig) -> bool
     sig[32] >= 128
 }
 
-/// The ballot of a witness `d` rounds above the candidate, `d` not 1. Of its voters those who vote yes have the stake `yes`,
-/// and the others `no`, of a `total`; the coin period is `c` rounds, and `sig` is the witness's signature.
+/// The ballot of a witness `d` rounds above the candidate, by its voters; in the first round above witnesses vote by what
+/// they see, and not so. Of its voters those who vote yes have the stake `yes`, and the others `no`, of a `total`; the coin
+/// period is `c` rounds, and `sig` is the witness's signature.
 /// SWIRLDS-TR-2016-01, procedure decideFame.
 pub fn weigh(d: u32, c: u32, yes: u64, no: u64, total: u64, sig: &Sig) -> Ballot
     requires { 0 < c }
