@@ -2,10 +2,10 @@
 use Rattle.std.proofs.Common.{◌≡◌, ℕ, zero, suc, ◌+◌, ◌^◌, ◌<◌, ◌≤◌, Bool, true, false, cond, ltb, List, [], ◌∷◌, ◌++◌, length, get_or, take, drop, Some, None, Result, Ok, Err, refl, sym, ap, subst, ◌∙◌, append_assoc, arith, inl, inr}
 use Rattle.std.specs.Prelude.{IfSome, nat_eq}
 use Rattle.std.specs.List.{starts_with}
-use Rattle.std.specs.Int.{Width, w16, w64, byte_len, from_be_bytes, to_be_bytes}
+use Rattle.std.specs.Int.{Width, w16, w32, w64, byte_len, from_be_bytes, to_be_bytes}
 use Rattle.std.proofs.lemmas.Bool.{cases_lt, ltb-false, le-ltb}
 use Rattle.std.proofs.lemmas.List.{take_at, drop_at, take-append-drop, length-append, length-take, get_or-drop, get_or-take, get_or_past}
-use Rattle.std.proofs.lemmas.Nat.{be_bytes_2, be_bytes_8, from_be_bytes-to_be_bytes_2, from_be_bytes-to_be_bytes_8}
+use Rattle.std.proofs.lemmas.Nat.{be_bytes_2, be_bytes_4, be_bytes_8, from_be_bytes-to_be_bytes_2, from_be_bytes-to_be_bytes_4, from_be_bytes-to_be_bytes_8}
 use Rattle.std.proofs.lemmas.Slice.Eq.{bytes_eq-Decides}
 use Rattle.hg_model.specs.Links.{ParentNames}
 use Rattle.hg_life.specs.declared.answers.ByteFault.{ByteFault}
@@ -80,9 +80,9 @@ bytes_again size n text left len =
 -- numbers below the limit are just what the width spells
 pub record IsWidth (width : Width) (limit : ℕ) : Type 0 where
   pub len : (n : ℕ) → length (to_be_bytes width n) ≡ byte_len width
-  spelled : (bytes : List ℕ) → length bytes ≡ byte_len width → AreBytes bytes → to_be_bytes width (from_be_bytes width bytes) ≡ bytes
-  again : (n : ℕ) → n < limit → from_be_bytes width (to_be_bytes width n) ≡ n
-  below : (bytes : List ℕ) → AreBytes bytes → from_be_bytes width bytes < limit
+  pub spelled : (bytes : List ℕ) → length bytes ≡ byte_len width → AreBytes bytes → to_be_bytes width (from_be_bytes width bytes) ≡ bytes
+  pub again : (n : ℕ) → n < limit → from_be_bytes width (to_be_bytes width n) ≡ n
+  pub below : (bytes : List ℕ) → AreBytes bytes → from_be_bytes width bytes < limit
 
 pub two_bytes : IsWidth w16 (2 ^ 16)
 two_bytes = record {
@@ -90,6 +90,14 @@ two_bytes = record {
   spelled = λ bytes len fit. be_bytes_2 bytes _ len fit refl;
   again = λ n below. from_be_bytes-to_be_bytes_2 n below;
   below = λ bytes fit. omega (arith, fit 0, fit 1);
+}
+
+pub four_bytes : IsWidth w32 (2 ^ 32)
+four_bytes = record {
+  len = λ n. refl;
+  spelled = λ bytes len fit. be_bytes_4 bytes _ len fit refl;
+  again = λ n below. from_be_bytes-to_be_bytes_4 n below;
+  below = λ bytes fit. omega (arith, fit 0, fit 1, fit 2, fit 3);
 }
 
 pub eight_bytes : IsWidth w64 (2 ^ 64)

@@ -49,7 +49,7 @@ Spells-body_of bytes row spells =
     ap (take (length bytes - 64)) spells.spelled ∙ take_at (body_of row) row.sig (length bytes - 64) n
 
 -- the row's name is that of its fields
-Spells-signed_row : (bytes : List ℕ) (row : Row) → Spells bytes row → row ≡ signed_row row.creator row.parents row.time row.payload row.sig
+pub Spells-signed_row : (bytes : List ℕ) (row : Row) → Spells bytes row → row ≡ signed_row row.creator row.parents row.time row.payload row.sig
 unfolding spelling body_of
 Spells-signed_row bytes row spells = ap (λ (name : List ℕ). record row { name = name }) (spells.named ∙ ap sha384 spells.spelled)
 

@@ -20,7 +20,7 @@ use Rattle.hg_runs.specs.Laws.{HonestyIsTested}
 use Rattle.hg_runs.proofs.MomentLaws.{whole_graph}
 
 -- what passes a test of a list stands at some place
-any_found : {A : Type 0} (test : A → Bool) (xs : List A) → list_any test xs ≡ true → (i : ℕ) × (x : A) × (slice_get xs i ≡ Some x) × (test x ≡ true)
+pub any_found : {A : Type 0} (test : A → Bool) (xs : List A) → list_any test xs ≡ true → (i : ℕ) × (x : A) × (slice_get xs i ≡ Some x) × (test x ≡ true)
 any_found test [] any = absurd (true≢false (sym any))
 any_found test (x ∷ xs) any = elim (or_cases (test x) (list_any test xs) any) [
   | inl here ↦ (0, x, refl, here)
@@ -28,7 +28,7 @@ any_found test (x ∷ xs) any = elim (or_cases (test x) (list_any test xs) any) 
 ]
 
 -- the change made a row with the same bytes
-made_bytes : (row : Row) (e : Change) → is_making_of row e ≡ true → (other : Row) × (e ≡ Made other) × (spelling other ≡ spelling row)
+pub made_bytes : (row : Row) (e : Change) → is_making_of row e ≡ true → (other : Row) × (e ≡ Made other) × (spelling other ≡ spelling row)
 made_bytes row (Took other) is = absurd (true≢false (sym is))
 made_bytes row (Made other) is = (other, refl, bytes_same (spelling other) (spelling row) is)
 made_bytes row (Marked len share) is = absurd (true≢false (sym is))

@@ -78,7 +78,7 @@ module _ (accepts : ℕ → Accepts) (n : Stakes) (c : ℕ) (run : Run) (is : Is
 
   module _ (m : ℕ) (member : m < member_count n) (honest : IsHonest n c run m) where
     -- a row by an honest member is a row of its own node
-    own_row : (k : ℕ) (h : List Change) → IsMoment n run k h → (x : ℕ) → x < length (rows_after n c h) → creator_at (rows_after n c h) x ≡ m → IsRowOf (rows_after n c h) x (graph_at n c run m)
+    pub own_row : (k : ℕ) (h : List Change) → IsMoment n run k h → (x : ℕ) → x < length (rows_after n c h) → creator_at (rows_after n c h) x ≡ m → IsRowOf (rows_after n c h) x (graph_at n c run m)
     own_row k h at x inside by =
         let G : List Row = rows_after n c h in
         let row : Row = get_or G x nobody in
