@@ -1,7 +1,7 @@
 ghost use Rattle.std.specs.Prelude.{◌≡◌};
 
-use std::alloc::{AllocError, AllocFailed};
 use crate::Memory;
+use std::alloc::{AllocError, AllocFailed};
 
 /// What ends a reading early: want of memory, or the first fault of what is read.
 #[derive(Clone, Copy, Debug)]
