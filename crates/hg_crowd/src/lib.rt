@@ -3,20 +3,23 @@
 //! that start and finish them, and `sessions_end`: where all that others did beside the calls through one seat of
 //! each node are marks, the nodes have the rows that those seats have seen.
 //!
-//! From `play_batch` and `play_beside` of `hg_play`, shortened:
+//! From `play_beside` of `hg_play`, shortened:
 //!
 //! ```text
-//! let (nodes, known) = world.into_parts();
-//! let (shared, seats) = start_all(alloc, nodes)?;
-//! let mut party = Party::new(shared.as_slice(), seats);
-//! let own = party.split(alloc)?;
-//! let ((mut party, _), (own, known, played)) = join(rt,
-//!     move || ... { party.work_beside(rt, alloc, workers, crew) },
-//!     move || ... { play_through(rt, game, own, known, tape, lines, gate) },
+//! let own = party.split(alloc)?.into_seats();
+//! let seats = party.into_seats();
+//! let ((seats, _), (own, known, played)) = join(
+//!     rt,
+//!     move || ... {
+//!         let party = Party::new(places, seats);
+//!         let (party, done) = party.work_beside(rt, alloc, workers, crew);
+//!         (party.into_seats(), done)
+//!     },
+//!     ...
 //! );
-//! party.absorb(own);
+//! let mut party = Party::new(places, seats);
+//! party.absorb(Party::new(places, own));
 //! let (party, done) = party.work_beside(rt, alloc, workers, crew);
-//! let nodes = finish_all(rt, alloc, shared, party.into_seats())?;
 //! ```
 #![tactic(auto)]
 

@@ -71,3 +71,10 @@ AreBehindFlagged G names flags = AreFlagged (length G) (is_behind_some G names) 
 -- the values at the places below n that are not flagged
 abbrev pub list_unflagged : {A : Type 0} → (ℕ → A) → ℕ → List Bool → List A
 list_unflagged value n flags = list_below value n (λ x. not (get_or flags x false))
+
+-- the names, and the bytes, of the rows that are not flagged
+abbrev pub unflagged_names : List Row → List Bool → List (List ℕ)
+unflagged_names G flags = list_unflagged (name_at G) (length G) flags
+
+abbrev pub unflagged_bytes : List Row → List Bool → List (List ℕ)
+unflagged_bytes G flags = list_unflagged (bytes_at G) (length G) flags

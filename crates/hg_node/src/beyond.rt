@@ -1,8 +1,7 @@
 ghost use Rattle.std.specs.Prelude.{◌≡◌, ◌<◌, ◌∷◌, [], IfOk, false, length, map, replicate};
 ghost use Rattle.hg_event.specs.View.{row_of};
 ghost use Rattle.hg_model.specs.Links.{links, parent_names, parents, place_of};
-ghost use Rattle.hg_model.specs.Graph.{name_at};
-ghost use Rattle.hg_node.specs.Beyond.{AreBehindFlagged, AreParentsFlagged, bytes_at, bytes_beyond, flagged, list_unflagged, parents_if_flagged, tips};
+ghost use Rattle.hg_node.specs.Beyond.{AreBehindFlagged, AreParentsFlagged, bytes_beyond, flagged, parents_if_flagged, tips, unflagged_bytes, unflagged_names};
 
 use hg_event::EventView;
 use hg_graph::EventGraph;
@@ -123,7 +122,7 @@ fn flag_parents_of_flagged(graph: &EventGraph, x: usize, flags: &mut [bool])
 #[tactic(auto, using(hg_model::proofs::PlacesLaws::list_steps, crate::proofs::FlagLaws::row_reads))]
 fn names_unflagged(alloc: Global, graph: &EventGraph, flags: &[bool]) -> Result<Vec<Name>, Memory>
     requires { length flags.now ≡ length graph.now.graph.rows }
-    ensures { IfOk result (λ names. names.items ≡ list_unflagged (name_at graph.now.graph.rows) (length graph.now.graph.rows) flags.now) }
+    ensures { IfOk result (λ names. names.items ≡ unflagged_names graph.now.graph.rows flags.now) }
 {
     let mut names = Vec::new(alloc);
     for x in 0..graph.len() {
@@ -138,7 +137,7 @@ fn names_unflagged(alloc: Global, graph: &EventGraph, flags: &[bool]) -> Result<
 #[tactic(auto, using(hg_model::proofs::PlacesLaws::list_steps, crate::proofs::FlagLaws::row_reads))]
 fn bytes_unflagged(alloc: Global, graph: &EventGraph, flags: &[bool]) -> Result<Vec<Bytes>, Memory>
     requires { length flags.now ≡ length graph.now.graph.rows }
-    ensures { IfOk result (λ rows. rows.items ≡ list_unflagged (bytes_at graph.now.graph.rows) (length graph.now.graph.rows) flags.now) }
+    ensures { IfOk result (λ rows. rows.items ≡ unflagged_bytes graph.now.graph.rows flags.now) }
 {
     let mut rows = Vec::new(alloc);
     for x in 0..graph.len() {

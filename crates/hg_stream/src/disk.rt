@@ -1,4 +1,4 @@
-ghost use Rattle.std.specs.Prelude.{◌≤◌};
+ghost use Rattle.std.specs.Prelude.{◌≡◌, ◌≤◌};
 ghost use Rattle.hg_io.specs.Faults.{Rose};
 ghost use Rattle.hg_io.specs.FileView.{unknown};
 
@@ -9,7 +9,7 @@ use std::io::{Read, Seek, SeekFrom, Write};
 use std::rt::Files;
 
 /// A file of the machine, opened for reading and writing, and made where it is not there. It tells nothing of what the
-/// file holds, nor of what a stop of the machine leaves.
+/// file holds, nor of what a stop of the machine leaves; and clauses see that a file is started, and not by which name.
 #[derive(Drop)]
 pub struct RealDisk<'a, R: Files> {
     files: &'a R,
@@ -18,7 +18,10 @@ pub struct RealDisk<'a, R: Files> {
 }
 
 impl<'a, R: Files> RealDisk<'a, R> {
-    pub fn new(files: &'a R) -> RealDisk<'a, R> {
+    /// No file is started yet, and nothing has failed.
+    pub fn new(files: &'a R) -> RealDisk<'a, R>
+        ensures { result.faults ≡ 0 }
+    {
         RealDisk {
             files,
             file: None,

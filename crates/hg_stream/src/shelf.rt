@@ -1,4 +1,4 @@
-ghost use Rattle.std.specs.Prelude.{None};
+ghost use Rattle.std.specs.Prelude.{◌≡◌, None};
 
 use hg_io::{Failed, Shelf};
 use std::fs;
@@ -15,7 +15,11 @@ pub struct RealShelf<'a, R: Files> {
 }
 
 impl<'a, R: Files> RealShelf<'a, R> {
-    pub fn new(files: &'a R) -> RealShelf<'a, R> {
+    /// No file is open yet, none was started, and nothing has failed.
+    pub fn new(files: &'a R) -> RealShelf<'a, R>
+        ensures faults { result.faults ≡ 0 }
+        ensures starts { result.starts ≡ 0 }
+    {
         RealShelf {
             files,
             file: None,

@@ -1,4 +1,4 @@
-ghost use Rattle.std.specs.Prelude.{None};
+ghost use Rattle.std.specs.Prelude.{◌≡◌, None};
 
 use hg_io::{Failed, Sink};
 use std::io::Write;
@@ -11,7 +11,11 @@ pub struct Stream<W> {
 }
 
 impl<W: Write> Stream<W> {
-    pub fn new(stream: W) -> Stream<W> {
+    /// The stream as a sink that has not failed yet.
+    pub fn new(stream: W) -> Stream<W>
+        ensures stream { result.stream ≡ stream }
+        ensures faults { result.faults ≡ 0 }
+    {
         Stream { stream, faults: 0 }
     }
 }
