@@ -34,4 +34,6 @@ mod signing;
 #[cfg(test)]
 mod sources;
 #[cfg(test)]
+mod stopping;
+#[cfg(test)]
 mod telling;

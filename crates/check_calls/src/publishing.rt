@@ -1,4 +1,5 @@
 ghost use Rattle.std.specs.Prelude.{◌≡◌};
+ghost use Rattle.hg_model.specs.GraphWords.{IsLawfulGraph};
 ghost use Rattle.hg_graph.specs.Held.{first_graph};
 ghost use Rattle.hg_node.specs.ChronicleView.{graph_in};
 ghost use Rattle.hg_votes.specs.Counting.{CarriesTo, Counting, IsMadeFor};
@@ -7,6 +8,7 @@ use crate::members::{entry, members_of};
 use crate::playing::{Player, begin, equal, give, placed, player_of, sync, two_players};
 use hg_fame::elect_share;
 use hg_graph::FrozenGraph;
+use hg_kept::Kept;
 use hg_life::{Members, PutAnswer};
 use hg_model::{Memory, Placed, Share};
 use hg_node::{Node, tables_last};
@@ -57,6 +59,11 @@ fn publish(
     Ok(())
 }
 
+/// What the first two rounds of two members receive.
+fn two_order() -> [Placed; 4] {
+    [placed(1, 1), placed(0, 2), placed(2, 3), placed(3, 4)]
+}
+
 /// Round 1 of two members closes with six rows, which decide two witnesses, and round 2 with eight.
 fn play_two(
     rt: &impl Abort,
@@ -74,10 +81,40 @@ fn play_two(
     equal(rt, b.closed(), 1);
     sync(a, b, 7, b"")?;
     sync(b, a, 8, b"")?;
-    let order = [placed(1, 1), placed(0, 2), placed(2, 3), placed(3, 4)];
-    publish(rt, alloc, b, 2, &order)?;
+    publish(rt, alloc, b, 2, &two_order())?;
     equal(rt, b.closed(), 2);
     Ok(())
+}
+
+/// All that a graph decides, published behind it at once: so many marks, and this order.
+fn publish_behind(
+    rt: &impl Abort,
+    alloc: Global,
+    frozen: &FrozenGraph,
+    marked: u32,
+    order: &[Placed],
+) -> Result<(), Memory>
+    requires { IsLawfulGraph frozen.now.graph }
+{
+    let mut votes = VoteTable::new(alloc, frozen)?;
+    let found = elect_share(alloc, frozen, &mut votes, Share::new(0, 1))?;
+    let mut kept = Kept::behind(alloc, frozen)?;
+    equal(rt, kept.order(), &[]);
+    equal(rt, kept.publish(frozen, &found), marked);
+    equal(rt, kept.order(), order);
+    Ok(())
+}
+
+fn publish_frozen(
+    rt: &impl Abort,
+    alloc: Global,
+    node: &Node<MacTable>,
+    marked: u32,
+    order: &[Placed],
+) -> Result<(), Memory> {
+    node.is_node();
+    let frozen = node.freeze()?;
+    publish_behind(rt, alloc, &frozen, marked, order)
 }
 
 /// The first six rows decide two witnesses, and all eight by the same votes four.
@@ -137,6 +174,7 @@ fn carry(rt: &impl Abort, alloc: Global, node: &Node<MacTable>) -> Result<(), Me
 fn publishes_what_is_decided(rt: HostRuntime) -> Result<(), Memory> {
     let (mut a, mut b) = two_players(&rt, rt.alloc())?;
     play_two(&rt, rt.alloc(), &mut a.node, &mut b.node)?;
+    publish_frozen(&rt, rt.alloc(), &b.node, 4, &two_order())?;
     carry(&rt, rt.alloc(), &b.node)
 }
 
