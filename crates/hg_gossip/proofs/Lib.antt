@@ -5,3 +5,4 @@ pub mod AloneLaws
 pub mod HandLaws
 pub mod TakingLaws
 pub mod KnownLaws
+pub mod RefusalLaws

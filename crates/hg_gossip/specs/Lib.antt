@@ -4,3 +4,4 @@ pub mod Nodes
 pub mod Handing
 pub mod Taking
 pub mod Known
+pub mod Refusals

@@ -1,6 +1,7 @@
 //! Gossip: who holds a node takes from another what the node lacks (`pull`), and then makes an event on it (`sync`).
 //! The layers above use that the peer's rows whose names the taker lacks are put, in the peer's order, each at what was
-//! reached then, for others may change a shared node; of a `Node` alone `pulling_alone` and `syncing_alone` tell all.
+//! reached then, for others may change a shared node. Each row of the peer is held then by its name, or was refused at its
+//! turn (`pulling_holds`); of a `Node` alone `pulling_alone` and `syncing_alone` tell all.
 //! Each half stands by itself, on one node at a time: what a peer hands over (`held` and `missing`, `tips` and `beyond`, or
 //! `lacked` between two nodes at hand), taking it (`take`, `take_events`), and the event that is made then (`make_after`).
 //!
@@ -32,6 +33,7 @@ pub use handing::{Heard, joined, lacked, still_lacked};
 pub use holder::Holder;
 pub use known::Known;
 pub use laws::{
-    known_for_good, making_alone, missing_is_lacking, pulling_alone, syncing_alone, waiting_alone,
+    known_for_good, making_alone, missing_is_lacking, pulling_alone, pulling_holds, syncing_alone,
+    taking_beyond_holds, taking_holds, waiting_alone,
 };
 pub use taking::{make_after, take, take_events};
