@@ -66,3 +66,29 @@ fn tells_a_fault_whatever_follows(rt: HostRuntime) {
     );
     equal(&rt, 1, fault_of(&bytes), Some(ByteFault::BadKind(2)));
 }
+
+// An event with parents and the payload "pay", of 180 bytes, and one byte behind it.
+fn event_on_parents() -> [u8; 181] {
+    let mut bytes = [0; 181];
+    bytes[..4].copy_from_slice(b"HGE1");
+    bytes[6] = 1;
+    bytes[7..55].copy_from_slice(&[0xa1; 48]);
+    bytes[55..103].copy_from_slice(&[0xa2; 48]);
+    bytes[112] = 3;
+    bytes[113..116].copy_from_slice(b"pay");
+    bytes
+}
+
+#[test]
+fn reads_parents_and_payload(rt: HostRuntime) -> Result<(), Fail> {
+    let mut bytes = event_on_parents();
+    let (event, len) = decode_first(&bytes).ok().ok_or("a fault")?;
+    equal(&rt, 0, len, 180);
+    equal(&rt, 1, event.payload, b"pay".as_slice());
+    equal(&rt, 2, event.parents, Some((&[0xa1; 48], &[0xa2; 48])));
+    bytes[111] = 4;
+    equal(&rt, 3, fault_of(&bytes), Some(ByteFault::BadLength(1027)));
+    bytes[3] = b'3';
+    equal(&rt, 4, fault_of(&bytes), Some(ByteFault::BadMagic));
+    Ok(())
+}

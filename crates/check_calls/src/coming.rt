@@ -116,8 +116,13 @@ fn come_back(
     Ok(())
 }
 
-/// A node of A's that has nothing gets A's rows again.
-fn restore(rt: &impl Abort, a: &Node<MacTable>, again: &mut Node<MacTable>) -> Result<(), Memory> {
+/// A node of A's that has nothing gets A's rows again, and then another first event of A's.
+fn restore(
+    rt: &impl Abort,
+    a: &Node<MacTable>,
+    other: &Node<MacTable>,
+    again: &mut Node<MacTable>,
+) -> Result<(), Memory> {
     let impostor = PutAnswer::Refused(Fault::Impostor);
     come_back(rt, a, 2, again, impostor)?;
     come_back(rt, a, 1, again, impostor)?;
@@ -129,7 +134,7 @@ fn restore(rt: &impl Abort, a: &Node<MacTable>, again: &mut Node<MacTable>) -> R
     come_back(rt, a, 2, again, PutAnswer::Accepted(2))?;
     let log = [Entry::Made(0), Entry::Took(1), Entry::Made(2)];
     equal(rt, again.log(), log.as_slice());
-    Ok(())
+    come_back(rt, other, 0, again, impostor)
 }
 
 #[test]
@@ -137,8 +142,10 @@ fn restores_its_own_events(rt: HostRuntime) -> Result<(), Memory> {
     let (mut a, mut b) = two_players(&rt, rt.alloc())?;
     play(&rt, &mut a.node, &mut b.node)?;
     let members = two_members(&rt, rt.alloc())?;
+    let mut other: Player = player_of(&rt, rt.alloc(), &members, 0)?;
+    begin(&mut other.node, 9, b"")?;
     let mut again: Player = player_of(&rt, rt.alloc(), &members, 0)?;
-    restore(&rt, &a.node, &mut again.node)
+    restore(&rt, &a.node, &other.node, &mut again.node)
 }
 
 /// So many are to be marked by what the whole decides.
@@ -148,7 +155,19 @@ fn remark(rt: &impl Abort, node: &mut Node<MacTable>, marked: u32) -> Result<(),
     Ok(())
 }
 
-/// A and B take turns: six rows decide two witnesses.
+/// The same of what the first rows alone decide.
+fn remark_first(
+    rt: &impl Abort,
+    node: &mut Node<MacTable>,
+    len: usize,
+    marked: u32,
+) -> Result<(), Memory> {
+    assert!(rt; len <= node.rows());
+    equal(rt, node.remark(len, Share::new(0, 1))?, marked);
+    Ok(())
+}
+
+/// A and B take turns: six rows decide two witnesses, and eight two more.
 fn remark_two(
     rt: &impl Abort,
     a: &mut Node<MacTable>,
@@ -163,6 +182,11 @@ fn remark_two(
     remark(rt, b, 2)?;
     remark(rt, b, 0)?;
     equal(rt, b.closed(), 1);
+    sync(a, b, 7, b"")?;
+    sync(b, a, 8, b"")?;
+    remark_first(rt, b, 6, 0)?;
+    remark(rt, b, 2)?;
+    equal(rt, b.closed(), 2);
     Ok(())
 }
 

@@ -118,7 +118,7 @@ fn a_disk_has_room_for_bytes_and_calls(rt: HostRuntime) -> Result<(), Fail> {
     equal(&rt, 2, write(&mut left, 11, b"!!"), Err(Failed));
     equal(&rt, 3, write(&mut left, 11, b"!"), Ok(()));
     assert!(rt; reads(alloc, &mut left, b"seven bytes!")?);
-    // Three calls that change nothing of the file, of which two have room.
+    // Four calls that change nothing of the file, of which two have room.
     let mut calls = disk_of(alloc, 2, &[])?;
     equal(&rt, 4, write(&mut calls, 0, b""), Ok(()));
     equal(&rt, 5, calls.sync(NAME), Ok(()));

@@ -45,8 +45,8 @@ module _ {V : Type 0} where
   abbrev pub AreStill : List (SeatView V) → List (SeatView V) → Type 0
   AreStill olds news = Each IsStill olds news
 
-  -- if all seats come back and others only marked, the node has the rows that the seat has seen, and all that came to it
-  -- through other seats are marks
+  -- Once all seats are back: others only marked, the node has the rows that the seat has seen, its history goes on from
+  -- what the seat has seen, and what came to it through other seats are marks.
   pub record IsEnded (p : SharedNode V) (s : SeatView V) (node : NodeView V) : Type 0 where
     pub start : node.start ≡ p.start.start
     pub others : OthersMark p s

@@ -159,6 +159,7 @@ pub fn play_world(alloc: Global, members: &Members, lines: &[Line]) -> Result<Wo
     requires { All (IsLine members.now 0) lines.now }
     ensures world { IfOk result (λ world. world ≡ played_world members.now lines.now) }
     ensures made { IfOk result (AreMadeWith members.now) }
+    ensures count { IfOk result (λ world. length world.sites ≡ length members.now.entries) }
 {
     let keys = MacTable::new(alloc, members)?;
     let game = Game {

@@ -22,7 +22,9 @@ pub fn honesty_is_tested()
 /// A law: a graph of events that is shown beside a run, as by a certificate, counts as one more graph of the run. Its
 /// order and one that a node ever kept do not part, one being a prefix of the other, and all rows of both stand in one
 /// graph, where less than a third of the stake is dishonest by its rows or by those of the nodes, and names do not
-/// collide. Nor do the orders of two such graphs part. What a node has at any moment is such a graph.
+/// collide. Nor do the orders of two such graphs part whose names do not collide with each other's, where one names some
+/// members of less than a third of the stake and each other one is honest in both. What a node has at any moment is such
+/// a graph.
 pub fn further_graphs_agree()
     ensures safe { FurtherGraphIsSafe }
     ensures honest { HonestFurtherGraphAgrees }

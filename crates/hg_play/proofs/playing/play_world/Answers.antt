@@ -1,3 +1,7 @@
+use Rattle.std.proofs.Common.{length, ap, refl, ◌∙◌}
+use Rattle.hg_world.specs.World.{WorldView, new_world}
+use Rattle.hg_world.proofs.StepLaws.{steps_sites}
+use Rattle.hg_play.specs.Play.{play_steps}
 use Rattle.hg_play.proofs.BatchLaws.{world_made, world_played}
 use Rattle.hg_play.proofs.LawfulLaws.{new_count}
 use Rattle.hg_play.proofs.PlayLaws.{lines_below}
@@ -14,3 +18,9 @@ pub returns-clause-made : goal.returns-clause-made
 returns-clause-made c =
     world_made c.args.members.now c.args.lines.now c.settle_all.new.world
     (world_played c.args.members.now c.args.lines.now c.in_ok-world.world c.play_lines.new.world c.settle_all.new.world _ c.in_ok-world.ensures c.in_ok-play_lines.ensures.told c.in_ok-settle_all.ensures)
+
+pub returns-clause-count : goal.returns-clause-count
+returns-clause-count c =
+    let played = world_played c.args.members.now c.args.lines.now c.in_ok-world.world c.play_lines.new.world c.settle_all.new.world _ c.in_ok-world.ensures c.in_ok-play_lines.ensures.told c.in_ok-settle_all.ensures in
+    ap (λ (w : WorldView). length w.sites) played
+    ∙ (steps_sites (new_world c.args.members.now) (play_steps c.args.members.now c.args.lines.now) ∙ new_count c.args.members.now (new_world c.args.members.now) refl)
