@@ -17,3 +17,4 @@ pub mod RoundLaws
 pub mod StayLaws
 pub mod ChangeLaws
 pub mod AddLaws
+pub mod HeldLaws

@@ -1,10 +1,11 @@
 -- What holds of every history, and of every node, as public functions state it. No law here asks anything of the other members
 use Rattle.std.specs.Prelude.{ℕ, zero, suc, ◌≡◌, ◌≢◌, ◌<◌, ◌≤◌, ◌^◌, ◌⊎◌, Bool, true, List, [], ◌∷◌, ◌++◌, length, take, get_or, Some, None, Ok, slice_get, IsTrue}
 use Rattle.hg_model.specs.declared.row.Row.{Row}
-use Rattle.hg_life.specs.declared.answers.PutAnswer.TheVariants.{Accepted}
+use Rattle.hg_life.specs.declared.answers.PutAnswer.TheVariants.{Accepted, Known}
 use Rattle.hg_life.specs.declared.answers.MakeAnswer.TheVariants as made
 use Rattle.hg_model.specs.Stakes.{Stakes}
-use Rattle.hg_model.specs.Links.{links}
+use Rattle.hg_model.specs.Links.{links, place_of}
+use Rattle.hg_model.specs.Held.{is_held}
 use Rattle.hg_model.specs.Graph.{IsGraph}
 use Rattle.hg_model.specs.Fame.{mark_at, fame_marks, is_closed}
 use Rattle.hg_model.specs.Order.{coin_at, order_of, last_closed}
@@ -100,6 +101,10 @@ abbrev pub MarkingLeavesRows : Type 0
 MarkingLeavesRows = (n : Stakes) (c : ℕ) (h : List Change) (len : ℕ) (share : Share) →
     ((replay n c (h ++ Marked len share ∷ [])).rows ≡ (replay n c h).rows) × ((replay n c (h ++ Marked len share ∷ [])).links ≡ (replay n c h).links)
 
+-- a name that some row has at one moment some row has at each later one
+abbrev pub HeldStays : Type 0
+HeldStays = (n : Stakes) (c : ℕ) (a b : List Change) (name : List ℕ) → IsTrue (is_held (replay n c a).rows name) → IsTrue (is_held (replay n c (a ++ b)).rows name)
+
 -- what a share has found at one moment speaks of the rows at each later one
 abbrev pub FoundLasts : Type 0
 FoundLasts = (n : Stakes) (c : ℕ) (a b : List Change) (len : ℕ) (share : Share) (marks : List (ℕ × Bool)) →
@@ -194,10 +199,25 @@ abbrev pub PutsLeaveANode : (K : Type 0) → Type 0
 PutsLeaveANode K = (accepts : K → Accepts) (v : NodeView K) (bytes : List ℕ) → ((i : ℕ) → get_or bytes i 0 < 256) → IsNode accepts v →
     IsNode accepts (with_changes v (put_changes accepts v bytes))
 
+-- accepted bytes leave the name of their row held
+abbrev pub AcceptedIsHeld : (K : Type 0) → Type 0
+AcceptedIsHeld K = (accepts : K → Accepts) (v : NodeView K) (bytes : List ℕ) (row : Row) (place : ℕ) → read_event bytes ≡ Ok row → put_answer accepts v bytes ≡ Accepted place →
+    IsTrue (is_held (node_rows (with_changes v (put_changes accepts v bytes))) row.name)
+
+-- of bytes that are known the name was held, and the answer tells where
+abbrev pub KnownIsHeld : (K : Type 0) → Type 0
+KnownIsHeld K = (accepts : K → Accepts) (v : NodeView K) (bytes : List ℕ) (row : Row) (place : ℕ) → read_event bytes ≡ Ok row → put_answer accepts v bytes ≡ Known place →
+    (place_of (node_rows v) row.name ≡ place) × IsTrue (is_held (node_rows v) row.name)
+
 -- an event that is made adds one change, its row, at the next place
 abbrev pub MakesAddOne : (K : Type 0) → Type 0
 MakesAddOne K = (v : NodeView K) (others : List (List ℕ)) (time : ℕ) (payload sig : List ℕ) (place : ℕ) → make_answer v others time payload sig ≡ made.Made place →
     (place ≡ length (node_rows v)) × (make_changes v others time payload sig ≡ Made (made_row v.start.own (node_rows v) others time payload sig) ∷ [])
+
+-- and leaves its name held
+abbrev pub MadeIsHeld : (K : Type 0) → Type 0
+MadeIsHeld K = (v : NodeView K) (others : List (List ℕ)) (time : ℕ) (payload sig : List ℕ) (place : ℕ) → make_answer v others time payload sig ≡ made.Made place →
+    IsTrue (is_held (node_rows (with_changes v (make_changes v others time payload sig))) (made_row v.start.own (node_rows v) others time payload sig).name)
 
 -- one that is refused adds none
 abbrev pub OtherMakesAddNone : (K : Type 0) → Type 0

@@ -17,6 +17,7 @@
 mod laws;
 
 pub use laws::{
-    found_lasts, history_grows, log_spells_history, makes_add_one, marks_are_fame, order_by_rounds,
-    order_grows, puts_add_one, rows_are_a_graph, rows_came_by_changes, settles_all, shares_are_all,
+    found_lasts, history_grows, log_spells_history, makes_add_one, marks_are_fame, names_stay_held,
+    order_by_rounds, order_grows, puts_add_one, rows_are_a_graph, rows_came_by_changes,
+    settles_all, shares_are_all,
 };

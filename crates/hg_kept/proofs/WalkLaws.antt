@@ -1,9 +1,7 @@
 -- The rows of a line, listed from the last to the first, and member by member those between two ends
-use Rattle.std.proofs.Common.{◌≡◌, inl, inr, ℕ, ◌+◌, ◌-◌, ◌<◌, ◌≤◌, Bool, true, false, cond, ◌&&◌, not, max, leb, ltb, eqb, List, [], ◌∷◌, ◌++◌, length, get_or, set, take, sum_by, sym, refl, ap, ap₂, ◌∙◌, arith}
-use Rattle.std.specs.List.{list_all}
-use Rattle.std.proofs.lemmas.Bool.{cases_lt, cases_eq, and_parts, and_from, both_ways, true_from_ne_false, eq-eqb, ne_eqb, eqb-true, le-leb, leb-true, lt-ltb, le-ltb, ltb-true, ltb-false, not_from_false, not-true}
-use Rattle.std.proofs.lemmas.List.{get_or-set_same, get_or-set_other, get_or-take, length-take-le}
-use Rattle.std.proofs.lemmas.List.Folds.{list_all_at}
+use Rattle.std.proofs.Common.{◌≡◌, inl, inr, ℕ, ◌+◌, ◌-◌, ◌<◌, ◌≤◌, Bool, true, false, cond, ◌&&◌, not, max, leb, ltb, eqb, List, [], ◌∷◌, ◌++◌, length, get_or, set, sum_by, sym, refl, ap, ap₂, ◌∙◌, arith}
+use Rattle.std.proofs.lemmas.Bool.{cases_lt, cases_eq, and_parts, and_from, both_ways, eq-eqb, ne_eqb, eqb-true, le-leb, leb-true, lt-ltb, le-ltb, ltb-true, ltb-false, not_from_false, not-true}
+use Rattle.std.proofs.lemmas.List.{get_or-set_same, get_or-set_other}
 use Rattle.std.proofs.lemmas.List.Sums.{sum_by_push}
 use Rattle.std.proofs.lemmas.List.Sorted.{IsStrictWeakOrder-by_number}
 use Rattle.hg_model.specs.Places.{list_below, weight_below, count_below}
@@ -11,16 +9,14 @@ use Rattle.hg_model.specs.Stakes.{Stakes, member_count}
 use Rattle.hg_model.specs.Links.{Link, creator}
 use Rattle.hg_model.specs.Graph.{IsShaped}
 use Rattle.hg_model.specs.Order.{sort_by}
-use Rattle.hg_model.specs.Prefix.{Graph, links_of}
 use Rattle.hg_model.proofs.ListLaws.{sum_by-list_below, IsPairwise-list_below}
 use Rattle.hg_model.proofs.PlacesLaws.{weight_below-same, weight_below-le, weight_below_none, count_below-le}
 use Rattle.hg_model.proofs.SortLaws.{one_ascending, sort_by-ascending, sort_by-sums, sum_of_ones}
 use Rattle.hg_model.proofs.WeightLaws.{passes_beside, weight_below_beside, weight_below_split}
-use Rattle.hg_order.specs.Counted.{AreShared, EndsBefore}
+use Rattle.hg_order.specs.Counted.{EndsBefore}
 use Rattle.hg_order.specs.Timers.{is_in_line, is_in_line_below}
 use Rattle.hg_order.proofs.TimerLaws.{same_tests}
 use Rattle.hg_kept.specs.Waiting.{AreRaised, AreLineEnds, HoldsJust, ListsLine, is_newly_below}
-use Rattle.hg_kept.specs.Receiving.{AreLeastEnds}
 
 -- what it is to stand in a line
 
@@ -230,16 +226,3 @@ sorted_below places n test just =
     (sort_by ltb places) (list_below (λ x. x) n test) (sort_by-ascending ltb (IsStrictWeakOrder-by_number (λ x. x)) places)
     (IsPairwise-list_below (λ (x y : ℕ). ltb y x ≡ false) (λ x. x) n test (λ j k h. le-ltb k j (omega arith)))
     (λ weight. sort_by-sums ltb places weight ∙ (just weight ∙ sym (sum_by-list_below weight (λ x. x) n test)))
-
--- the least counts of unique famous witnesses end the lines
-pub least_ends_are : (g : Graph) (famous least : List ℕ) (count rows : ℕ) → AreShared g famous least → 0 < length famous → count ≡ member_count g.members → rows ≡ length (links_of g) → count ≤ length least →
-    list_all (λ k. leb k rows) (take count least) ≡ true → AreLeastEnds g famous least
-least_ends_are g famous least count rows shared some counted long wide all =
-    let within : (m : ℕ) → m < member_count g.members → get_or least m 0 ≤ length (links_of g) = λ m inside.
-    (let low : leb (get_or least m 0) rows ≡ true = true_from_ne_false (leb (get_or least m 0) rows) (λ over. both_ways (list_all (λ k. leb k rows) (take count least))
-    (list_all_at (λ k. leb k rows) (take count least) m 0 (rw (length-take-le count least wide) (omega arith)) (ap (λ (k : ℕ). leb k rows) (get_or-take count least m 0 (omega arith)) ∙ over)) all) in
-    let le = leb-true (get_or least m 0) rows low in omega arith) in
-    record {
-      just = shared.bounds.just;
-      lines = record { lines = shared.lines some; within = within; last = λ m inside pos. shared.bounds.last m inside pos (within m inside) };
-    }

@@ -1,6 +1,6 @@
 -- What a node has published of its graph: the marks of fame, the closed rounds, and the order that it keeps.
 -- SWIRLDS-TR-2016-01, section 4, procedures decideFame and findOrder
-use Rattle.std.specs.Prelude.{ℕ, ◌≡◌, ◌-◌, ◌⊎◌, Bool, true, false, cond, not, ◌&&◌, nat_le, List, [], ◌∷◌, ◌++◌, length, Option, Some, None}
+use Rattle.std.specs.Prelude.{ℕ, ◌≡◌, ◌-◌, ◌⊎◌, Bool, true, false, cond, not, ◌&&◌, nat_le, List, [], ◌∷◌, ◌++◌, length, replicate, Option, Some, None}
 use Rattle.hg_model.specs.declared.row.Row.{Row}
 use Rattle.hg_model.specs.declared.row.Placed.{Placed}
 use Rattle.hg_model.specs.declared.share.Found.{Found}
@@ -31,6 +31,10 @@ pub record PublishedWithRoom : Type 0 where
 -- nothing, of no rows
 abbrev pub unpublished : Published
 unpublished = record { marks = []; closed = 0; order = []; waiting = none_received }
+
+-- nothing, of all rows of a graph
+abbrev pub unpublished_of : Graph → Published
+unpublished_of g = record { marks = replicate (length g.rows) None; closed = 0; order = []; waiting = none_received }
 
 -- no round up to r has received row x
 abbrev pub is_pending : Graph → Marks → ℕ → ℕ → Bool

@@ -1,10 +1,11 @@
-ghost use Rattle.std.specs.Prelude.{◌≡◌, ◌<◌, ◌≤◌, ◌+◌, ◌-◌, ℕ, [], length, OnOk, vec_len, vec_capacity};
+ghost use Rattle.std.specs.Prelude.{◌≡◌, ◌<◌, ◌≤◌, ◌+◌, ◌-◌, ℕ, [], length, IfOk, OnOk, vec_len, vec_capacity};
 ghost use Rattle.hg_model.specs.Stakes.{Stakes, total};
 ghost use Rattle.hg_model.specs.Fame.{mark_at};
 ghost use Rattle.hg_model.specs.Prefix.{graph_of};
+ghost use Rattle.hg_model.specs.GraphWords.{IsLawfulGraph};
 ghost use Rattle.hg_model.specs.Orders.{IsPrefix};
 ghost use Rattle.hg_life.specs.StateWords.{news_by, marks_by};
-ghost use Rattle.hg_kept.specs.Published.{FindsNewsOf, HasCome, Keeps, TookRow, is_last_late, mark_by, unpublished};
+ghost use Rattle.hg_kept.specs.Published.{FindsNewsOf, HasCome, Keeps, TookRow, is_last_late, mark_by, unpublished, unpublished_of};
 
 use crate::closing::close_rounds;
 use crate::marking::mark_found;
@@ -36,7 +37,8 @@ impl Model for Kept {
 }
 
 impl Kept {
-    /// Nothing, of no rows, by so many members. Takes no memory.
+    /// Nothing, of no rows. Takes no memory. The number of members says only for how many `reserve` takes the memory of the
+    /// fastest way to find times: where the graph has more, the same is published in more time.
     pub fn new(alloc: Global, members: u32) -> Kept
         ensures none { result.published ≡ unpublished }
         ensures keeps { (n : Stakes) (c : ℕ) → 0 < total n → Keeps (graph_of n c []) result.published }
@@ -47,6 +49,25 @@ impl Kept {
             pending: Pending::new(alloc, members),
             order: Vec::new(alloc),
         }
+    }
+
+    /// Nothing, of all rows that the graph has, with the memory of all that may come to be published of them.
+    pub fn behind<P: Prefix>(alloc: Global, p: &P) -> Result<Kept, Memory>
+        ensures none { IfOk result (λ kept. kept.published ≡ unpublished_of (P.graph p.now)) }
+        ensures keeps { IfOk result (λ kept. IsLawfulGraph (P.graph p.now) → Keeps (P.graph p.now) kept.published) }
+    {
+        is_of_graph(p);
+        let rows = p.rows();
+        let marks = vec![in alloc; None; rows]?;
+        let mut pending = Pending::new(alloc, p.members());
+        pending.reserve(rows)?;
+        let order = Vec::with_capacity(alloc, rows)?;
+        Ok(Kept {
+            marks,
+            closed: 0,
+            pending,
+            order,
+        })
     }
 
     /// Takes the memory of one more row, and of all that may come to be published of it.

@@ -6,7 +6,7 @@ ghost use Rattle.hg_order.specs.Round.{ArePlacedBy, AreOrderedBy};
 ghost use Rattle.hg_kept.specs.Waiting.{HasWaiting, ListsTo, none_received};
 ghost use Rattle.hg_kept.specs.Receiving.{AreLeastEnds, Receives, others_of};
 
-use crate::walking::{least_ends, take_below};
+use crate::walking::take_below;
 use hg_model::{Memory, Placed, Prefix, Sight, is_of_graph};
 use hg_order::{RoundMemory, least_counts, order_round_within, received_below};
 use std::alloc::Global;
@@ -80,7 +80,7 @@ impl Pending {
         if self.looked > 0 {
             return self.receive_listed(p, famous);
         }
-        match least_ends(p, famous) {
+        match least_counts(p, famous) {
             None => self.receive_listed(p, famous),
             Some(least) => self.receive_below(p, famous, &least),
         }

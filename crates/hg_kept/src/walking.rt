@@ -1,35 +1,11 @@
-ghost use Rattle.std.specs.Prelude.{◌≡◌, ◌<◌, ◌≤◌, ◌+◌, [], length, nat_le, nat_lt, IfSome, vec_capacity, vec_len};
-ghost use Rattle.std.specs.List.{list_all};
+ghost use Rattle.std.specs.Prelude.{◌≡◌, ◌<◌, ◌≤◌, ◌+◌, [], length, nat_lt, vec_capacity, vec_len};
 ghost use Rattle.hg_model.specs.Stakes.{member_count};
 ghost use Rattle.hg_model.specs.Order.{sort_by};
 ghost use Rattle.hg_model.specs.Prefix.{links_of};
 ghost use Rattle.hg_order.specs.Counted.{AreLines, EndsBefore};
-ghost use Rattle.hg_order.specs.Famous.{AreFamous};
 ghost use Rattle.hg_kept.specs.Waiting.{AreLineEnds, AreRaised, HoldsNew, ListsLine, line_length, new_places};
-ghost use Rattle.hg_kept.specs.Receiving.{AreLeastEnds};
 
 use hg_model::{Prefix, Sight, is_of_graph};
-use hg_order::least_counts;
-
-fn are_within(ends: &[u32], rows: usize) -> bool
-    ensures { result ≡ list_all (λ n. nat_le n rows) ends.now }
-{
-    ends.iter().all(|end| *end as usize <= rows)
-}
-
-/// For each member one more than the place of the last of its rows that these unique famous witnesses all have as ancestor,
-/// or 0; `None` where a member has a fork, or the sight does not count ancestors.
-pub fn least_ends<P: Prefix>(p: &P, famous: &[usize]) -> Option<[u32; 128]>
-    requires famous { AreFamous (P.graph p.now) famous.now }
-    requires some { 0 < length famous.now }
-    ensures { IfSome result (AreLeastEnds (P.graph p.now) famous.now) }
-{
-    is_of_graph(p);
-    match least_counts(p, famous) {
-        Some(least) if are_within(&least[..p.members() as usize], p.rows()) => Some(least),
-        _ => None,
-    }
-}
 
 /// One more than the place of the last row before row `x` by its creator, or 0.
 fn end_before<P: Prefix>(p: &P, x: usize) -> usize

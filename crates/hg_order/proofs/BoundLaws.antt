@@ -42,7 +42,7 @@ module _ (n : Stakes) (L : List Link) (s : IsShaped n L) where
   bounds_first places numbers counts lower d top some none few c short each = record {
     just = λ y h.
         ap (ltb y) (is (creator L y) (s.members y h)) ∙ (c.told y h ∙ sym (list_all_more (λ w. is_ancestor L w y) places 0 d some));
-    last = λ m h some fits. (let same = is m h in rw same (counts_end (get_or places 0 d) counts c m (omega arith)).1);
+    last = λ m h some. (let same = is m h in rw same (counts_end (get_or places 0 d) counts c m (omega arith)));
   }
     where
       is : (m : ℕ) → m < member_count n → get_or lower m 0 ≡ get_or counts m 0
@@ -57,9 +57,9 @@ module _ (n : Stakes) (L : List Link) (s : IsShaped n L) where
   bounds_both one two least test other a b each = record {
     just = λ y h.
         ap (ltb y) (each (creator L y) (s.members y h)) ∙ (ltb_min y _ _ ∙ ap₂ (λ p q. p && q) (a.just y h) (b.just y h));
-    last = λ m h some fits. elim (min_cases (get_or one m 0) (get_or two m 0)) [
-      | inl first ↦ (let is = each m h ∙ first in rw is (a.last m h (omega arith) (omega arith)))
-      | inr second ↦ (let is = each m h ∙ second in rw is (b.last m h (omega arith) (omega arith)))
+    last = λ m h some. elim (min_cases (get_or one m 0) (get_or two m 0)) [
+      | inl first ↦ (let is = each m h ∙ first in rw is (a.last m h (omega arith)))
+      | inr second ↦ (let is = each m h ∙ second in rw is (b.last m h (omega arith)))
     ];
   }
 
@@ -69,7 +69,7 @@ module _ (n : Stakes) (L : List Link) (s : IsShaped n L) where
       AreBounds n L lower (all_have L (take (i + 1) places))
   bounds_lowered places least counts lower i d h bounds c each =
       let both = bounds_both least counts lower (all_have L (take i places)) (is_ancestor L (get_or places i d)) bounds
-      (record { just = c.told; last = λ m few some fits. (counts_end (get_or places i d) counts c m some).1 })
+      (record { just = c.told; last = λ m few some. counts_end (get_or places i d) counts c m some })
       (λ m few. each m (rw c.wide few)) in record {
         just = λ y low. both.just y low ∙ sym (list_all_more (λ w. is_ancestor L w y) places i d h);
         last = both.last;

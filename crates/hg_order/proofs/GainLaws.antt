@@ -44,7 +44,7 @@ module _ (n : Stakes) (L : List Link) (s : IsShaped n L) (z : ℕ) (counts : Lis
         fits,
         elim (min_cases (get_or counts m 0) (get_or least m 0)) [
           | inl first ↦ rw first here.1
-          | inr second ↦ rw second (last m (inside m (omega arith)) (omega arith) (omega arith))
+          | inr second ↦ rw second (last m (inside m (omega arith)) (omega arith)).1
         ],
       )
 

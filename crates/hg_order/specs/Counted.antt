@@ -19,10 +19,10 @@ IsBelow L bounds x = x < slice_index bounds (creator L x)
 abbrev pub JustBelow : List Link → List ℕ → (ℕ → Bool) → Type 0
 JustBelow L bounds test = (x : ℕ) → x < length L → nat_lt x (slice_index bounds (creator L x)) ≡ test x
 
--- a member's number is 0, or one more than the place of a row by that member, or more than there are rows
+-- a member's number is 0, or one more than the place of a row by that member
 abbrev pub EndAtRows : Stakes → List Link → List ℕ → Type 0
 EndAtRows n L bounds =
-    (m : ℕ) → m < member_count n → 0 < slice_index bounds m → slice_index bounds m ≤ length L → creator L (slice_index bounds m - 1) ≡ m
+    (m : ℕ) → m < member_count n → 0 < slice_index bounds m → (slice_index bounds m ≤ length L) × (creator L (slice_index bounds m - 1) ≡ m)
 
 pub record AreBounds (n : Stakes) (L : List Link) (bounds : List ℕ) (test : ℕ → Bool) : Type 0 where
   pub just : JustBelow L bounds test

@@ -16,6 +16,7 @@ use Rattle.hg_event.proofs.Spells.{Spells-read_event}
 use Rattle.hg_history.proofs.ChangeLaws.{changes_left}
 use Rattle.hg_runs.specs.Run.{Run, IsRun, graph_at}
 use Rattle.hg_runs.specs.Honest.{is_making_of, is_stray, is_dishonest, HasMade, IsHonest}
+use Rattle.hg_runs.specs.Further.{AreEvents, has_stray}
 use Rattle.hg_runs.specs.Laws.{HonestyIsTested}
 use Rattle.hg_runs.proofs.MomentLaws.{whole_graph}
 
@@ -35,31 +36,47 @@ made_bytes row (Marked len share) is = absurd (true≢false (sym is))
 
 module _ (accepts : ℕ → Accepts) (n : Stakes) (c : ℕ) (run : Run) (m : ℕ) (is : IsRun accepts n c run) (member : m < member_count n) where
   -- events with the same bytes are equal
-  made_row : (k x : ℕ) (row : Row) → k < member_count n → slice_get (graph_at n c run k) x ≡ Some row → list_any (is_making_of row) (run m) ≡ true → HasMade (run m) row
-  made_row k x row member_k at any =
+  made_row : (row : Row) → Spells (spelling row) row → list_any (is_making_of row) (run m) ≡ true → HasMade (run m) row
+  made_row row event any =
       let found = any_found (is_making_of row) (run m) any in
       let made = made_bytes row found.1 found.3 in
       let has : HasMade (run m) made.0 = (found.0, found.2 ∙ ap (λ (e : Change). Some e) made.1) in
       let own = changes_left n c (run m) made.0 (inl has) in
       let other : Spells (spelling made.0) made.0 = ((whole_graph accepts n c run is m member).events own.0 made.0 own.1).spelled in
-      let event : Spells (spelling row) row = ((whole_graph accepts n c run is k member_k).events x row at).spelled in
       subst (HasMade (run m)) (one_row made.0 row (subst (λ (bytes : List ℕ). Spells bytes made.0) made.2 other) event) has
     where
       one_row : (one two : Row) → Spells (spelling two) one → Spells (spelling two) two → one ≡ two
       one_row one two spells others = same_done one two (sym (Spells-read_event (spelling two) one spells) ∙ Spells-read_event (spelling two) two others)
 
+  -- where none of these events is stray, the own node made each of them that is by m
+  pub none_stray : (G : List Row) → AreEvents G → has_stray run G m ≡ false → (x : ℕ) (row : Row) → slice_get G x ≡ Some row → row.creator ≡ m → HasMade (run m) row
+  none_stray G events none x row at by = elim (cases_Bool (list_any (is_making_of row) (run m))) [
+    | inl any ↦ made_row row (events x row at) any
+    | inr lacks ↦ absurd (both_ways (has_stray run G m) none
+        (any_passes_from_place (is_stray m (run m)) G x row at
+        (and_from (eqb row.creator m) (not (list_any (is_making_of row) (run m))) (eq-eqb row.creator m by) (not_from_false (list_any (is_making_of row) (run m)) lacks))))
+  ]
+
+  -- and the other way round
+  pub made_not_stray : (G : List Row) → ((x : ℕ) (row : Row) → slice_get G x ≡ Some row → row.creator ≡ m → HasMade (run m) row) → has_stray run G m ≡ false
+  made_not_stray G makes = false_from_ne_true (has_stray run G m) (λ counted.
+      let found = any_found (is_stray m (run m)) G counted in
+      let row : Row = found.1 in
+      let parts = and_parts (eqb row.creator m) (not (list_any (is_making_of row) (run m))) found.3 in
+      let made = makes found.0 row found.2 (eqb-true row.creator m parts.0) in
+      both_ways (list_any (is_making_of row) (run m)) (not-true (list_any (is_making_of row) (run m)) parts.1)
+      (any_passes_from_place (is_making_of row) (run m) made.0 (Made row) made.1 (bytes_eq-same (spelling row) (spelling row) refl)))
+
   stray : (k : ℕ) → Bool
-  stray k = list_any (is_stray m (run m)) (graph_at n c run k)
+  stray k = has_stray run (graph_at n c run k) m
 
   pub honest_from : is_dishonest n c run m ≡ false → IsHonest n c run m
   unfolding is_dishonest stray
   honest_from none = record {
-    made = λ k x row member_k at by. elim (cases_Bool (list_any (is_making_of row) (run m))) [
-      | inl any ↦ made_row k x row member_k at any
-      | inr lacks ↦ absurd (both_ways (is_dishonest n c run m) none (some_below_from (member_count n) stray k member_k
-          (any_passes_from_place (is_stray m (run m)) (graph_at n c run k) x row at
-          (and_from (eqb row.creator m) (not (list_any (is_making_of row) (run m))) (eq-eqb row.creator m by) (not_from_false (list_any (is_making_of row) (run m)) lacks)))))
-    ];
+    made = λ k x row member_k.
+        let events : AreEvents (graph_at n c run k) = λ y other at. ((whole_graph accepts n c run is k member_k).events y other at).spelled in
+        none_stray (graph_at n c run k) events
+        (false_from_ne_true (stray k) (λ counted. both_ways (is_dishonest n c run m) none (some_below_from (member_count n) stray k member_k counted))) x row;
   }
 
   -- and an honest member is not counted
@@ -67,12 +84,7 @@ module _ (accepts : ℕ → Accepts) (n : Stakes) (c : ℕ) (run : Run) (m : ℕ
   unfolding is_dishonest stray
   honest_is_not honest = false_from_ne_true (is_dishonest n c run m) (λ counted.
       let k = some_below_found (member_count n) stray counted in
-      let found = any_found (is_stray m (run m)) (graph_at n c run k.0) k.2 in
-      let row : Row = found.1 in
-      let parts = and_parts (eqb row.creator m) (not (list_any (is_making_of row) (run m))) found.3 in
-      let made = honest.made k.0 found.0 row k.1 found.2 (eqb-true row.creator m parts.0) in
-      both_ways (list_any (is_making_of row) (run m)) (not-true (list_any (is_making_of row) (run m)) parts.1)
-      (any_passes_from_place (is_making_of row) (run m) made.0 (Made row) made.1 (bytes_eq-same (spelling row) (spelling row) refl)))
+      both_ways (stray k.0) (made_not_stray (graph_at n c run k.0) (λ x row at by. honest.made k.0 x row k.1 at by)) k.2)
 
 pub honesty_tested : HonestyIsTested
 honesty_tested accepts n c run m is member = (honest_from accepts n c run m is member, honest_is_not accepts n c run m is member)

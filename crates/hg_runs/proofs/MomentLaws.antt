@@ -18,7 +18,7 @@ use Rattle.hg_history.proofs.ChangeLaws.{changes_left}
 use Rattle.hg_history.proofs.SoundLaws.{moment, node_graph, sound}
 use Rattle.hg_history.proofs.StateLaws.{rows_grow}
 use Rattle.hg_runs.specs.Run.{Run, IsRun, IsMoment, graph_at}
-use Rattle.hg_runs.specs.Honest.{IsHonest, AreApart}
+use Rattle.hg_runs.specs.Honest.{HasMade, IsHonest, AreApart}
 use Rattle.hg_runs.specs.Safety.{order_after}
 
 abbrev pub rows_after : Stakes → ℕ → List Change → List Row
@@ -41,6 +41,14 @@ module _ (n : Stakes) (c : ℕ) (run : Run) (k : ℕ) (h : List Change) (at : Is
 
   pub stays_within : (x : ℕ) → x < length (rows_after n c h) → x < length (graph_at n c run k)
   stays_within x inside = slice_get_within (graph_at n c run k) x (get_or (rows_after n c h) x nobody) (stays_at x inside)
+
+-- rows by m that m's own node made are rows of that node
+pub made_rows : (n : Stakes) (c : ℕ) (run : Run) (m : ℕ) (G : List Row) → ((x : ℕ) (row : Row) → slice_get G x ≡ Some row → row.creator ≡ m → HasMade (run m) row) →
+    (x : ℕ) → x < length G → creator_at G x ≡ m → IsRowOf G x (graph_at n c run m)
+made_rows n c run m G makes x inside by =
+    let row : Row = get_or G x nobody in
+    let own = changes_left n c (run m) row (inl (makes x row (row_at G x inside) (sym (ap creator_of_row (row_at G x inside)) ∙ by))) in
+    (own.0, slice_get_within (graph_at n c run m) own.0 row own.1, own.1 ∙ sym (row_at G x inside))
 
 -- rows of equal names are equal at any two moments
 pub equal_rows : (n : Stakes) (c : ℕ) (run : Run) (j k : ℕ) (a b : List Change) → AreApart n c run → IsMoment n run j a → IsMoment n run k b → HaveEqualRows (rows_after n c a) (rows_after n c b)
@@ -79,12 +87,8 @@ module _ (accepts : ℕ → Accepts) (n : Stakes) (c : ℕ) (run : Run) (is : Is
   module _ (m : ℕ) (member : m < member_count n) (honest : IsHonest n c run m) where
     -- a row by an honest member is a row of its own node
     pub own_row : (k : ℕ) (h : List Change) → IsMoment n run k h → (x : ℕ) → x < length (rows_after n c h) → creator_at (rows_after n c h) x ≡ m → IsRowOf (rows_after n c h) x (graph_at n c run m)
-    own_row k h at x inside by =
-        let G : List Row = rows_after n c h in
-        let row : Row = get_or G x nobody in
-        let made = honest.made k x row at.member (stays_at n c run k h at x inside) (sym (ap creator_of_row (row_at G x inside)) ∙ by) in
-        let own = changes_left n c (run m) row (inl made) in
-        (own.0, slice_get_within (graph_at n c run m) own.0 row own.1, own.1 ∙ sym (row_at G x inside))
+    own_row k h at = made_rows n c run m (rows_after n c h)
+        (λ x row here. honest.made k x row at.member (stays n c run k h at x (slice_get_within (rows_after n c h) x row here) ∙ here))
 
     pub one_chain : (j k : ℕ) (a b : List Change) → IsMoment n run j a → IsMoment n run k b → HasOneChain m (rows_after n c a) (rows_after n c b)
     one_chain j k a b at_a at_b = record {
