@@ -91,8 +91,7 @@ module _ (k size at : ℕ) (buf bytes : List ℕ) (long : length buf ≡ size) (
   pub whole_body : (rest : List ℕ) → size ≤ k → k ≤ length buf → (length (take size (buf ++ rest)) ≡ size) × (take size (buf ++ rest) ≡ take size (drop 4 (drop at bytes)))
   whole_body rest many within =
       let body : take size (buf ++ rest) ≡ buf = take_at buf rest size long in
-      let all : take k buf ≡ buf = take_all k buf (omega (arith, many, long)) in
-      (
+      let all : take k buf ≡ buf = take_all k buf (omega (arith, many, long)) in (
         ap length body ∙ long,
         body ∙ sym all ∙ filled_is k buf (drop (at + 4) bytes) within filled ∙ ap (λ (n : ℕ). take n (drop (at + 4) bytes)) long ∙ ap (take size) (sym behind),
       )

@@ -7,7 +7,7 @@ use Rattle.hg_life.specs.NodeView.{NodeView, Start}
 use Rattle.hg_life.specs.Signing.{Accepts}
 use Rattle.hg_node.specs.Replay.{new_node}
 use Rattle.hg_journal.specs.Journal.{head_of, journal, next_node, reading_of}
-use Rattle.hg_journal.specs.Opening.{LeavesJournal}
+use Rattle.hg_journal.specs.Opening.{LeavesNode}
 use Rattle.hg_journal.specs.Places.{IsAt}
 use Rattle.hg_journal.specs.Reading as R
 use Rattle.hg_journal.specs.Stored.{IsStored}
@@ -27,7 +27,7 @@ module _ {K : Type 0} (accepts : K → Accepts) (start : Start K) (head : List �
   empty_is left empty = empty_state (next_node accepts) (new_node start) (head_of start) refl left (subst (λ (h : List ℕ). IsEmpty h left) is empty)
 
   -- while it is made anew
-  pub anew_leaves : (old mid new : FileView) (bytes : List ℕ) → Stays old mid → AnewCases head bytes → Leaves mid new (IsEmpty head) → LeavesJournal accepts start old new bytes
+  pub anew_leaves : (old mid new : FileView) (bytes : List ℕ) → Stays old mid → AnewCases head bytes → Leaves mid new (IsEmpty head) → LeavesNode accepts start old new bytes
   anew_leaves old mid new bytes stays cases leaves v keeps =
       goes_on (nothing_else _ stays) (weaker leaves (λ left empty. empty_is left empty ∙ sym (anew_is bytes cases) ∙ keeps))
 
@@ -35,15 +35,15 @@ module _ {K : Type 0} (accepts : K → Accepts) (start : Start K) (head : List �
   made_stored file v first synced made =
       stored_at accepts file v 9 synced (
       λ bytes told.
-          subst (λ (w : NodeView K). IsAt (next_node accepts) (new_node w.start) (head_of w.start) w 9 bytes) (sym first)
-          (empty_at (next_node accepts) (new_node start) (head_of start) refl bytes (made bytes told ∙ ap empty_file is)))
+      subst (λ (w : NodeView K). IsAt (next_node accepts) (new_node w.start) (head_of w.start) w 9 bytes) (sym first)
+      (empty_at (next_node accepts) (new_node start) (head_of start) refl bytes (made bytes told ∙ ap empty_file is)))
 
   pub foreign_is : (bytes : List ℕ) → (AnewCases head bytes → ⊥) → (take 9 bytes ≡ 1 ∷ head → ⊥) → reading_of accepts start bytes ≡ R.Foreign
   foreign_is bytes old other =
       foreign_read (next_node accepts) (new_node start) (head_of start) bytes (λ cases. old (subst (λ (h : List ℕ). AnewCases h bytes) (sym is) cases)) (λ ours. other (ours ∙ ap (λ (h : List ℕ). 1 ∷ h) (sym is)))
 
 module _ {K : Type 0} (accepts : K → Accepts) (start : Start K) (old new : FileView) (stays : Stays old new) where
-  pub still_leaves : (bytes : List ℕ) → LeavesJournal accepts start old new bytes
+  pub still_leaves : (bytes : List ℕ) → LeavesNode accepts start old new bytes
   still_leaves bytes v keeps = nothing_else _ stays
 
   -- a node that came again
@@ -52,5 +52,5 @@ module _ {K : Type 0} (accepts : K → Accepts) (start : Start K) (old new : Fil
   replayed_stored w (Ok gate) synced begins place =
       stored_at accepts new w gate (stays_synced stays synced) (
       λ bytes told.
-          subst (λ (s : Start K). IsAt (next_node accepts) (new_node s) (head_of s) w gate bytes) (sym begins) (place bytes (sym stays.reads ∙ told)))
+      subst (λ (s : Start K). IsAt (next_node accepts) (new_node s) (head_of s) w gate bytes) (sym begins) (place bytes (sym stays.reads ∙ told)))
   replayed_stored w (Err e) synced begins place = tt

@@ -49,10 +49,10 @@ module _ {K : Type 0} (accepts : K → Accepts) where
     appended_stored synced reads =
         stored_at new w (gate + 4 + length body) synced (
         λ now told.
-            let was = told_before (appended gate piece) _ _ now reads told in
-            let at = appended_at (next_node accepts) (new_node v.start) (head_of v.start) v gate was.0 (stored.place was.0 was.1) w kind body small leads piece is in
-            subst (λ (start : Start K). IsAt (next_node accepts) (new_node start) (head_of start) w (gate + 4 + length body) now) (sym begins)
-            (subst (IsAt (next_node accepts) (new_node v.start) (head_of v.start) w (gate + 4 + length body)) (sym was.2) at))
+        let was = told_before (appended gate piece) _ _ now reads told in
+        let at = appended_at (next_node accepts) (new_node v.start) (head_of v.start) v gate was.0 (stored.place was.0 was.1) w kind body small leads piece is in
+        subst (λ (start : Start K). IsAt (next_node accepts) (new_node start) (head_of start) w (gate + 4 + length body) now) (sym begins)
+        (subst (IsAt (next_node accepts) (new_node v.start) (head_of v.start) w (gate + 4 + length body)) (sym was.2) at))
 
     one_of : (bytes left : List ℕ) → old.reads ≡ Some bytes → IsCutShort gate piece bytes left → KeepsEither accepts v w left
     one_of bytes left told cut =

@@ -21,7 +21,7 @@ use Rattle.hg_node.specs.Replay.StoredChange.{StoredMade, StoredMarked}
 use Rattle.hg_node.specs.ReplayLaws.{MarksReplay, PutsReplay, SpellingsAreShort}
 use Rattle.hg_journal.specs.Journal.{marked_body, marked_in, next_node}
 use Rattle.hg_journal.specs.Stored.{AppendKeeps, AppendStores, IsNear, IsStored, MakesNode, StopsKeep, StopsKeepOne, StoredView, StoresNode}
-use Rattle.hg_journal.proofs.NodeLaws.{accepted_short, changes_few, made_is, marked_body_in, marked_some, rows_few, took_is}
+use Rattle.hg_journal.proofs.NodeLaws.{accepted_short, changes_few, made_is, marked_body_in, marked_some, next_more, rows_few, took_is}
 use Rattle.hg_journal.proofs.Steps.{gate_in_file, still_keeps, still_near}
 
 module _ {K : Type 0} (accepts : K → Accepts) where
@@ -34,13 +34,12 @@ module _ {K : Type 0} (accepts : K → Accepts) where
   pub put_none : (v w : NodeView K) (bytes : List ℕ) → ((place : ℕ) → put_answer accepts v bytes ≡ Accepted place → ⊥) → w ≡ after_put accepts v bytes → w ≡ v
   put_none v w bytes other is = is ∙ with_none v (put_changes accepts v bytes) (other_puts_add_none K accepts v bytes other)
 
-  pub make_next : (v w : NodeView K) (place : ℕ) (row : Row) (body : List ℕ)
-      → (made_row : Row) × (slice_get (node_rows w) place ≡ Some made_row) × (replay_one accepts v (StoredMade (spelling made_row)) ≡ Some w)
-      → slice_get (node_rows w) place ≡ Some row → body ≡ spelling row → next_node accepts v 2 body ≡ Some w
-  make_next v w place row body law is spelled =
-      let same : Some row ≡ Some law.0 = sym is ∙ law.1 in
-      let rows : row ≡ law.0 = cc in
-      ap (next_node accepts v 2) (spelled ∙ ap spelling rows) ∙ made_is accepts v (spelling law.0) ∙ law.2
+  -- the row at this place, that was made, leads from v to w
+  abbrev pub MadeHere : NodeView K → NodeView K → ℕ → Row → Type 0
+  MadeHere v w place row = (slice_get (node_rows w) place ≡ Some row) × (replay_one accepts v (StoredMade (spelling row)) ≡ Some w)
+
+  pub made_next : (v w : NodeView K) (place : ℕ) (row : Row) → MadeHere v w place row → next_node accepts v 2 (spelling row) ≡ Some w
+  made_next v w place row here = made_is accepts v (spelling row) ∙ here.1
 
   pub make_none : (v w : NodeView K) (others : List (List ℕ)) (time : ℕ) (payload : List ℕ) (answer : MakeAnswer) → ((place : ℕ) → answer ≡ made.Made place → ⊥)
       → IsMaking accepts v others time payload answer w → w ≡ v
@@ -105,6 +104,14 @@ module _ {K : Type 0} (accepts : K → Accepts) where
         let same : v ≡ x = cc in
         subst (λ (y : NodeView K). (z : NodeView K) × comes y z × StopsKeep accepts old old y z) same (w, has, still_keeps accepts old v w gate stored_here told)
 
+  -- a record that was made is no longer than any
+  pub near_made : (v w : NodeView K) (place : ℕ) (row : Row) (gate next : ℕ) → MadeHere v w place row → next ≤ gate + 65539 → IsNear gate v
+      → (x : NodeView K) → Some w ≡ Some x → IsNear next x
+  near_made v w place row gate next here goes near x is =
+      let same : w ≡ x = cc in
+      let near_w : IsNear next w = omega (arith, goes, near, (next_more v w accepts 2 (spelling row) (made_next v w place row here)).1) in
+      subst (IsNear next) same near_w
+
   -- the same of the node that is there then
   pub near_there : (v w : NodeView K) (kind : ℕ) (body : List ℕ) (gate next : ℕ) → length body < 65536 → next_node accepts v kind body ≡ Some w → next ≡ gate + 4 + length body
       → IsNear gate v → (x : NodeView K) → Some w ≡ Some x → IsNear next x
@@ -121,6 +128,17 @@ module _ {K : Type 0} (accepts : K → Accepts) where
 
 pub accepted_small : {K : Type 0} (accepts : K → Accepts) (v : NodeView K) (bytes : List ℕ) (place : ℕ) → AreBytes bytes → put_answer accepts v bytes ≡ Accepted place → length bytes < 65536
 accepted_small accepts v bytes place fit accepted = omega (arith, accepted_short accepts v bytes place fit accepted)
+
+pub same_body : {K : Type 0} (v : NodeView K) (place : ℕ) (event row : Row) (body : List ℕ) → slice_get (node_rows v) place ≡ Some event → slice_get (node_rows v) place ≡ Some row
+    → body ≡ spelling event → body ≡ spelling row
+same_body v place event row body is also spelled =
+    let both : Some event ≡ Some row = sym is ∙ also in
+    let same : event ≡ row = cc in
+    spelled ∙ ap spelling same
+
+-- that a node is there tells which
+pub is_there : {K : Type 0} (w x : NodeView K) → Some w ≡ Some x → x ≡ w
+is_there w x is = cc
 
 pub event_small : (row : Row) (body : List ℕ) → SpellingsAreShort → Spells (spelling row) row → body ≡ spelling row → length body < 65536
 event_small row body law spells is = omega (arith, law (spelling row) row spells, ap length is)

@@ -20,7 +20,9 @@ IsClosedAt bytes = (rest : List ℕ) × (bytes ≡ 0 ∷ rest)
 
 -- no gate does, or an open one without a record
 abbrev pub IsNothingAt : List ℕ → Type 0
-IsNothingAt bytes = (bytes ≡ []) ⊎ ((gate : ℕ) × (rest : List ℕ) × (bytes ≡ gate ∷ rest) × (gate ≡ 0 → ⊥) × (record_of rest ≡ None))
+IsNothingAt bytes =
+    (bytes ≡ [])
+    ⊎ ((gate : ℕ) × (rest : List ℕ) × (bytes ≡ gate ∷ rest) × (gate ≡ 0 → ⊥) × (record_of rest ≡ None))
 
 -- this stands at the front of the bytes; the body of a record is the front of a buffer
 abbrev pub IsAhead : List ℕ → List ℕ → Ahead → Type 0
@@ -31,5 +33,8 @@ IsAhead bytes buf Nothing = IsNothingAt bytes
 -- the same, of as many of the bytes as a gate and the beginning of a record have
 abbrev pub IsAheadOf : List ℕ → Ahead → Type 0
 IsAheadOf four Closed = IsClosedAt four
-IsAheadOf four (Record kind size) = (gate : ℕ) × (a : ℕ) × (b : ℕ) × (four ≡ gate ∷ kind ∷ a ∷ b ∷ []) × (gate ≡ 0 → ⊥) × (size_of a b ≡ size)
-IsAheadOf four Nothing = (four ≡ []) ⊎ ((length four ≤ 3) × ((gate : ℕ) × (rest : List ℕ) × (four ≡ gate ∷ rest) × (gate ≡ 0 → ⊥)))
+IsAheadOf four (Record kind size) =
+    (gate : ℕ) × (a : ℕ) × (b : ℕ) × (four ≡ gate ∷ kind ∷ a ∷ b ∷ []) × (gate ≡ 0 → ⊥) × (size_of a b ≡ size)
+IsAheadOf four Nothing =
+    (four ≡ [])
+    ⊎ ((length four ≤ 3) × ((gate : ℕ) × (rest : List ℕ) × (four ≡ gate ∷ rest) × (gate ≡ 0 → ⊥)))

@@ -1,4 +1,5 @@
 pub mod Ahead
+pub mod Faults
 pub mod Journal
 pub mod Opening
 pub mod Places

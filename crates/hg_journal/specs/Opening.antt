@@ -1,10 +1,12 @@
 -- What opening a journal answers, and what stops leave meanwhile.
-use Rattle.std.specs.Prelude.{◌≡◌, ◌⊎◌, ℕ, ◌≤◌, List, Option, Some, Result, Ok, Err}
+use Rattle.std.specs.Prelude.{◌≡◌, ◌⊎◌, ℕ, ◌≤◌, List, Option, Some, Result, Ok, Err, IsErrOf}
+use Rattle.std.specs.Option.{ForSome}
 use Rattle.hg_io.specs.FileView.{FileView, Leaves, Stays}
 use Rattle.hg_life.specs.NodeView.{NodeView, Start}
 use Rattle.hg_life.specs.Signing.{Accepts}
 use Rattle.hg_journal.specs.Journal.{journal, reading_of}
 use Rattle.hg_journal.specs.Reading as R
+use Rattle.hg_journal.specs.Writing.{AnewCases}
 use Rattle.hg_journal.specs.declared.errors.OpenError.{OpenError}
 use Rattle.hg_journal.specs.declared.errors.OpenError.TheVariants.{Disk, Memory, Foreign, Broken}
 
@@ -16,15 +18,31 @@ pub record SyncsFirst (old new : FileView) (P : List ℕ → Type 0) : Type 0 wh
   pub after : (left : List ℕ) → new.left_since since left → P left
   pub before : Leaves old new (λ left. old.may_leave left ⊎ P left)
 
--- where the file is a journal, a stop leaves its node all the time from old to new
-abbrev pub LeavesJournal : {K : Type 0} → (K → Accepts) → Start K → FileView → FileView → List ℕ → Type 0
-LeavesJournal {K} accepts start old new file =
+-- where these bytes are a journal, a stop leaves its node all the time from old to new
+abbrev pub LeavesNode : {K : Type 0} → (K → Accepts) → Start K → FileView → FileView → List ℕ → Type 0
+LeavesNode {K} accepts start old new file =
     (v : NodeView K) → journal accepts start file ≡ Some v → Leaves old new (λ left. journal accepts start left ≡ Some v)
 
--- .. or from a sync on
-abbrev pub SyncsJournal : {K : Type 0} → (K → Accepts) → Start K → FileView → FileView → List ℕ → Type 0
-SyncsJournal {K} accepts start old new file =
+-- so it does of the file, where the disk tells it
+abbrev pub LeavesJournal : {K : Type 0} → (K → Accepts) → Start K → FileView → FileView → Type 0
+LeavesJournal accepts start old new = ForSome old.reads (LeavesNode accepts start old new)
+
+-- where these bytes are a journal, a stop leaves its node from a sync on
+abbrev pub SyncsNode : {K : Type 0} → (K → Accepts) → Start K → FileView → FileView → List ℕ → Type 0
+SyncsNode {K} accepts start old new file =
     (v : NodeView K) → journal accepts start file ≡ Some v → SyncsFirst old new (λ left. journal accepts start left ≡ Some v)
+
+-- so it does of the file, where the disk tells it
+abbrev pub SyncsJournal : {K : Type 0} → (K → Accepts) → Start K → FileView → FileView → Type 0
+SyncsJournal accepts start old new = ForSome old.reads (SyncsNode accepts start old new)
+
+-- .. or the disk failed before that, and nothing was written
+abbrev pub SyncsOrFails : {K T : Type 0} → (K → Accepts) → Start K → FileView → FileView → Result T OpenError → Type 0
+SyncsOrFails accepts start old new r = SyncsJournal accepts start old new ⊎ (IsErrOf r Disk × Stays old new)
+
+-- a file is written to only if it is to be made anew, where the disk tells it
+abbrev pub WritesOnlyAnew : List ℕ → FileView → FileView → Type 0
+WritesOnlyAnew head old new = ForSome old.reads (λ file. (AnewCases head file → ⊥) → Stays old new)
 
 -- what a file is where opening it went wrong
 abbrev pub IsWrong : {K : Type 0} → (K → Accepts) → Start K → List ℕ → OpenError → Type 0

@@ -29,7 +29,8 @@ behind_gate next go s at (Some cut) = behind_record go at cut (next s cut.kind c
 abbrev pub scan_for : {S : Type 0} → Next S → ℕ → S → ℕ → List ℕ → Reading S
 scan_for next zero s at bytes = Broken at
 scan_for next (suc n) s at [] = Broken at
-scan_for next (suc n) s at (gate ∷ rest) = if nat_eq gate 0 then Holds s else behind_gate next (scan_for next n) s at (record_of rest)
+scan_for next (suc n) s at (gate ∷ rest) =
+    if nat_eq gate 0 then Holds s else behind_gate next (scan_for next n) s at (record_of rest)
 
 unfoldable pub scan : {S : Type 0} → Next S → S → ℕ → List ℕ → Reading S
 scan next s at bytes = scan_for next (suc (length bytes)) s at bytes
@@ -44,7 +45,8 @@ is_anew head file =
 -- what a file with this head stands for, from a first state on
 unfoldable pub reading : {S : Type 0} → Next S → S → List ℕ → List ℕ → Reading S
 reading next first head file =
-    if is_anew head file then Anew else (if bytes_eq (take 9 file) (1 ∷ head) then scan next first 9 (drop 9 file) else Foreign)
+    if is_anew head file then Anew
+    else (if bytes_eq (take 9 file) (1 ∷ head) then scan next first 9 (drop 9 file) else Foreign)
 
 -- the state that its records lead to, where it is neither foreign nor broken
 abbrev pub state_in : {S : Type 0} → S → Reading S → Option S

@@ -15,7 +15,9 @@ size_of a b = from_be_bytes w16 (a ∷ b ∷ [])
 -- so many of these bytes as a body, if they are there
 abbrev pub body_cut : ℕ → ℕ → List ℕ → Option Cut
 body_cut kind size bytes =
-    if nat_le size (length bytes) then Some (record { kind = kind; body = take size bytes; rest = drop size bytes }) else None
+    if nat_le size (length bytes)
+    then Some (record { kind = kind; body = take size bytes; rest = drop size bytes })
+    else None
 
 -- the record at the front of these bytes, if one is
 abbrev pub record_of : List ℕ → Option Cut

@@ -5,7 +5,8 @@ use Rattle.hg_io.specs.FileView.{FileView, Torn, with_piece}
 -- the file is to be made anew, by the cases of `is_anew`
 abbrev pub AnewCases : List ℕ → List ℕ → Type 0
 AnewCases head file =
-    ((length file ≤ 1) ⊎ ((slice_index file 0 ≡ 0) × (length file ≤ 10))) ⊎ ((slice_index file 0 ≡ 1 → ⊥) × (drop 1 file ≡ head ++ 0 ∷ []))
+    ((length file ≤ 1) ⊎ ((slice_index file 0 ≡ 0) × (length file ≤ 10)))
+    ⊎ ((slice_index file 0 ≡ 1 → ⊥) × (drop 1 file ≡ head ++ 0 ∷ []))
 
 -- it begins with a closed gate
 abbrev pub IsBegun : List ℕ → Type 0
@@ -33,7 +34,8 @@ appended gate piece bytes = with_piece gate (1 ∷ []) (with_record gate piece b
 
 -- one of the two writes was cut short
 abbrev pub IsCutShort : ℕ → List ℕ → List ℕ → List ℕ → Type 0
-IsCutShort gate piece bytes left = Torn (gate + 1) (length piece) bytes left ⊎ Torn gate 1 (with_record gate piece bytes) left
+IsCutShort gate piece bytes left =
+    Torn (gate + 1) (length piece) bytes left ⊎ Torn gate 1 (with_record gate piece bytes) left
 
 -- a stop leaves only what has P of a file
 abbrev pub LeavesOnly : FileView → (List ℕ → Type 0) → Type 0

@@ -1,9 +1,9 @@
-ghost use Rattle.std.specs.Prelude.{◌≡◌, ◌≤◌, IfOk, MatchOption, None, Some, if◌then◌else◌, length};
+ghost use Rattle.std.specs.Prelude.{◌≡◌, ◌≤◌, IfOk, MatchOption, None, Some, length};
 ghost use Rattle.std.specs.Int.{from_be_bytes, w32};
 ghost use Rattle.hg_life.specs.NodeView.{node_rows};
 ghost use Rattle.hg_node.specs.Replay.{replay_one};
 ghost use Rattle.hg_node.specs.Replay.StoredChange.{StoredMade, StoredMarked, StoredTook};
-ghost use Rattle.hg_journal.specs.Journal.{marked_body, marked_in, next_node};
+ghost use Rattle.hg_journal.specs.Journal.{marked_body, marked_in, next_node, node_if};
 
 use hg_model::{Memory, Share};
 use hg_node::Node;
@@ -11,7 +11,9 @@ use hg_sign::Signer;
 
 /// The kinds of records: an event that was taken, one that was made, and marks.
 pub(crate) const TOOK: u8 = 1;
+
 pub(crate) const MADE: u8 = 2;
+
 pub(crate) const MARKED: u8 = 3;
 
 // The number in the first four bytes.
@@ -47,7 +49,7 @@ pub(crate) fn marked_bytes(len: u32, share: Share) -> [u8; 12]
 
 // An event that was taken comes again; answers whether it changed the node.
 fn put_again<V: Signer>(node: &mut Node<V>, bytes: &[u8]) -> Result<bool, Memory>
-    ensures { IfOk result (λ came. replay_one V.accepts node.old (StoredTook bytes.now) ≡ (if came then Some node.new else None)) }
+    ensures { IfOk result (λ came. replay_one V.accepts node.old (StoredTook bytes.now) ≡ node_if came node.new) }
 {
     let before = node.changes();
     node.put(bytes)?;
@@ -56,7 +58,7 @@ fn put_again<V: Signer>(node: &mut Node<V>, bytes: &[u8]) -> Result<bool, Memory
 
 // So does one that was made.
 fn restore_again<V: Signer>(node: &mut Node<V>, bytes: &[u8]) -> Result<bool, Memory>
-    ensures { IfOk result (λ came. replay_one V.accepts node.old (StoredMade bytes.now) ≡ (if came then Some node.new else None)) }
+    ensures { IfOk result (λ came. replay_one V.accepts node.old (StoredMade bytes.now) ≡ node_if came node.new) }
 {
     let before = node.changes();
     node.restore(bytes)?;
@@ -66,7 +68,7 @@ fn restore_again<V: Signer>(node: &mut Node<V>, bytes: &[u8]) -> Result<bool, Me
 // So do marks.
 fn mark_again<V: Signer>(node: &mut Node<V>, len: usize, share: Share) -> Result<bool, Memory>
     requires { len ≤ length (node_rows node.old) }
-    ensures { IfOk result (λ came. replay_one V.accepts node.old (StoredMarked len share.k share.of) ≡ (if came then Some node.new else None)) }
+    ensures { IfOk result (λ came. replay_one V.accepts node.old (StoredMarked len share.k share.of) ≡ node_if came node.new) }
 {
     share.k();
     let before = node.changes();
@@ -76,7 +78,7 @@ fn mark_again<V: Signer>(node: &mut Node<V>, len: usize, share: Share) -> Result
 
 // So do marks as a record's body tells them.
 fn remark_again<V: Signer>(node: &mut Node<V>, body: &[u8]) -> Result<bool, Memory>
-    ensures { IfOk result (λ came. next_node V.accepts node.old 3 body.now ≡ (if came then Some node.new else None)) }
+    ensures { IfOk result (λ came. next_node V.accepts node.old 3 body.now ≡ node_if came node.new) }
 {
     let Some((len, k, of)) = marked_of(body) else {
         return Ok(false);
@@ -97,7 +99,7 @@ pub(crate) fn come_again<V: Signer>(
     kind: u8,
     body: &[u8],
 ) -> Result<bool, Memory>
-    ensures { IfOk result (λ came. next_node V.accepts node.old kind body.now ≡ (if came then Some node.new else None)) }
+    ensures { IfOk result (λ came. next_node V.accepts node.old kind body.now ≡ node_if came node.new) }
 {
     match kind {
         TOOK => put_again(node, body),

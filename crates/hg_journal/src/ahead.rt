@@ -6,8 +6,10 @@ ghost use Rattle.hg_io.specs.FileView.{Stays};
 use crate::filling::fill_from;
 use hg_io::{Disk, Failed};
 
-/// How many bytes a gate and the beginning of a record have, and how many a body at most.
+/// How many bytes a gate and the beginning of a record have.
 const FRONT: usize = 4;
+
+/// How many bytes a body has at most.
 pub(crate) const BODY: usize = 65_535;
 
 /// What stands at a place where a gate must stand.
@@ -32,9 +34,7 @@ impl Ahead {
         match four {
             [] => Ahead::Nothing,
             [0, ..] => Ahead::Closed,
-            [_, kind, a, b] => {
-                Ahead::Record(*kind, u16::from_be_bytes([*a, *b]))
-            }
+            [_, kind, a, b] => { Ahead::Record(*kind, u16::from_be_bytes([*a, *b])) }
             _ => Ahead::Nothing,
         }
     }

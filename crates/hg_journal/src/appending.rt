@@ -16,7 +16,9 @@ pub(crate) fn spell(buffer: &mut Vec<u8>, kind: u8, body: &[u8])
 {
     buffer.clear();
     buffer.push(kind).unwrap();
-    buffer.extend_from_slice(&(body.len() as u16).to_be_bytes()).unwrap();
+    buffer
+        .extend_from_slice(&(body.len() as u16).to_be_bytes())
+        .unwrap();
     buffer.extend_from_slice(body).unwrap();
     buffer.push(0).unwrap();
 }
@@ -35,7 +37,8 @@ pub(crate) fn append<D: Disk>(
     ensures appended { OnOk result ((D.file disk.new).reads ≡ option_map (appended gate piece.now) (D.file disk.old).reads) }
     ensures synced { OnOk result (IsSynced (D.file disk.new)) }
     ensures now { ForSome (D.file disk.old).reads (λ bytes. LeavesOnly (D.file disk.new) (IsCutShort gate piece.now bytes)) }
-    ensures leaves { ForSome (D.file disk.old).reads (λ bytes. Leaves (D.file disk.old) (D.file disk.new) (IsCutShort gate piece.now bytes)) }
+    ensures leaves { ForSome (D.file disk.old).reads
+        (λ bytes. Leaves (D.file disk.old) (D.file disk.new) (IsCutShort gate piece.now bytes)) }
     ensures started { D.At disk.new name.now }
     ensures cause { OnErr result (Rose (D.faults disk.old name.now) (D.faults disk.new name.now)) }
     ensures counts { (other : List ℕ) → D.faults disk.old other ≤ D.faults disk.new other }

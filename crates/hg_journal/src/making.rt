@@ -8,12 +8,7 @@ ghost use Rattle.hg_journal.specs.Writing.{AnewCases, IsBegun, IsEmpty, IsOnlyBe
 use hg_io::{Disk, Failed, put_down};
 
 // Closes the first gate, if it is not closed yet.
-fn close_first<D: Disk>(
-    disk: &mut D,
-    name: &str,
-    head: &[u8; 8],
-    begun: bool,
-) -> Result<(), Failed>
+fn close_first<D: Disk>(disk: &mut D, name: &str, head: &[u8; 8], begun: bool) -> Result<(), Failed>
     requires started { D.At disk.old name.now }
     requires synced { IsSynced (D.file disk.old) }
     requires anew { ForSome (D.file disk.old).reads (AnewCases head.now) }

@@ -1,14 +1,13 @@
-ghost use Rattle.std.specs.Prelude.{◌≡◌, ◌<◌, ◌≤◌, ◌⊎◌, ◌++◌, ℕ, List, IfOk, IsErrOf, IsSome, OnOk, codes, length};
+ghost use Rattle.std.specs.Prelude.{◌≡◌, ◌<◌, ◌≤◌, ◌++◌, ℕ, List, IfOk, IsSome, OnOk, codes, length};
 ghost use Rattle.std.specs.Int.{to_be_bytes, w16};
 ghost use Rattle.std.specs.Option.{ForSome};
-ghost use Rattle.hg_io.specs.Faults.{Rose};
-ghost use Rattle.hg_io.specs.FileView.{IsSynced, Stays};
+ghost use Rattle.hg_io.specs.FileView.{IsSynced};
 ghost use Rattle.hg_life.specs.NodeView.{start_of};
 ghost use Rattle.hg_node.specs.Replay.{new_node};
+ghost use Rattle.hg_journal.specs.Faults.{IsFaultCounted};
 ghost use Rattle.hg_journal.specs.Journal.{head_of};
-ghost use Rattle.hg_journal.specs.Opening.{Finds, LeavesJournal, Opens};
+ghost use Rattle.hg_journal.specs.Opening.{Finds, LeavesJournal, Opens, WritesOnlyAnew};
 ghost use Rattle.hg_journal.specs.Stored.{IsNear, IsStored, StoresNode};
-ghost use Rattle.hg_journal.specs.Writing.{AnewCases};
 
 use crate::errors::OpenError;
 use crate::filling::fill_from;
@@ -54,10 +53,10 @@ pub(crate) fn gate_of<V: Signer, D: Disk>(
     ensures near { IfOk result (λ gate. IsNear gate node.new) }
     ensures stored { IfOk result (λ gate. IsStored V.accepts (D.file disk.new) node.new gate) }
     ensures finds { ForSome (D.file disk.old).reads (Finds V.accepts node.old.start node.new result) }
-    ensures leaves { ForSome (D.file disk.old).reads (LeavesJournal V.accepts node.old.start (D.file disk.old) (D.file disk.new)) }
-    ensures untouched { ForSome (D.file disk.old).reads (λ bytes. (AnewCases head.now bytes → ⊥) → Stays (D.file disk.old) (D.file disk.new)) }
+    ensures leaves { LeavesJournal V.accepts node.old.start (D.file disk.old) (D.file disk.new) }
+    ensures untouched { WritesOnlyAnew head.now (D.file disk.old) (D.file disk.new) }
     ensures started { D.At disk.new name.now }
-    ensures cause { IsErrOf result OpenError.Disk → Rose (D.faults disk.old name.now) (D.faults disk.new name.now) }
+    ensures cause { IsFaultCounted result OpenError.Disk (D.faults disk.old) (D.faults disk.new) name.now }
     ensures counts { (other : List ℕ) → D.faults disk.old other ≤ D.faults disk.new other }
 {
     let mut front = [0; FRONT];
@@ -90,12 +89,10 @@ fn open_synced<V: Signer + Drop, D: Disk>(
     ensures name { IfOk result (λ s. s.name ≡ name.now) }
     ensures stored { IfOk result (StoresNode V.accepts (D.file disk.new)) }
     ensures opens { ForSome (D.file disk.old).reads (Opens V.accepts (start_of members.now own keys) (λ s. s.node) result) }
-    ensures leaves { ForSome (D.file disk.old).reads
-        (LeavesJournal V.accepts (start_of members.now own keys) (D.file disk.old) (D.file disk.new)) }
-    ensures untouched { ForSome (D.file disk.old).reads
-        (λ bytes. (AnewCases (head_of (start_of members.now own keys)) bytes → ⊥) → Stays (D.file disk.old) (D.file disk.new)) }
+    ensures leaves { LeavesJournal V.accepts (start_of members.now own keys) (D.file disk.old) (D.file disk.new) }
+    ensures untouched { WritesOnlyAnew (head_of (start_of members.now own keys)) (D.file disk.old) (D.file disk.new) }
     ensures started { D.At disk.new name.now }
-    ensures cause { IsErrOf result OpenError.Disk → Rose (D.faults disk.old name.now) (D.faults disk.new name.now) }
+    ensures cause { IsFaultCounted result OpenError.Disk (D.faults disk.old) (D.faults disk.new) name.now }
     ensures counts { (other : List ℕ) → D.faults disk.old other ≤ D.faults disk.new other }
 {
     let head = head_bytes(members.count() as u16, own);
@@ -106,7 +103,7 @@ fn open_synced<V: Signer + Drop, D: Disk>(
 }
 
 impl<V: Signer + Drop> Stored<V> {
-    ghost use Rattle.hg_journal.specs.Opening.{SyncsJournal};
+    ghost use Rattle.hg_journal.specs.Opening.{SyncsOrFails};
 
     /// Starts the file of this name, waits until it is kept, and opens the journal in it of the member `own`, or makes an
     /// empty one where none was made of it yet; else it writes nothing. The node is the one that comes again from the file's
@@ -127,16 +124,12 @@ impl<V: Signer + Drop> Stored<V> {
         ensures stored { IfOk result (StoresNode V.accepts (D.file disk.new)) }
         // The node is that of the file's journal; the file is foreign, or broken at the place, just where the answer says so.
         ensures opens { ForSome (D.file disk.old).reads (Opens V.accepts (start_of members.now own keys) (λ s. s.node) result) }
-        // From the first sync on a stop leaves a file with the same journal.
-        ensures synced { (IsErrOf result OpenError.Disk → ⊥) → ForSome (D.file disk.old).reads
-            (SyncsJournal V.accepts (start_of members.now own keys) (D.file disk.old) (D.file disk.new)) }
-        ensures disk { IsErrOf result OpenError.Disk → Stays (D.file disk.old) (D.file disk.new) ⊎ ForSome (D.file disk.old).reads
-            (SyncsJournal V.accepts (start_of members.now own keys) (D.file disk.old) (D.file disk.new)) }
+        // From the first sync on a stop leaves a file with the same journal; or the disk failed before that was done.
+        ensures synced { SyncsOrFails V.accepts (start_of members.now own keys) (D.file disk.old) (D.file disk.new) result }
         // It writes only to a file that it makes anew.
-        ensures untouched { ForSome (D.file disk.old).reads
-            (λ bytes. (AnewCases (head_of (start_of members.now own keys)) bytes → ⊥) → Stays (D.file disk.old) (D.file disk.new)) }
+        ensures untouched { WritesOnlyAnew (head_of (start_of members.now own keys)) (D.file disk.old) (D.file disk.new) }
         ensures started { IfOk result (λ s. D.At disk.new s.name) }
-        ensures cause { IsErrOf result OpenError.Disk → Rose (D.faults disk.old name.now) (D.faults disk.new name.now) }
+        ensures cause { IsFaultCounted result OpenError.Disk (D.faults disk.old) (D.faults disk.new) name.now }
         ensures counts { (other : List ℕ) → D.faults disk.old other ≤ D.faults disk.new other }
     {
         disk.start(name)?;

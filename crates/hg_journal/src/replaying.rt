@@ -1,11 +1,10 @@
-ghost use Rattle.std.specs.Prelude.{◌≡◌, ◌≤◌, ◌∷◌, [], ℕ, List, IfOk, IsErrOf, OnOk, length, take};
+ghost use Rattle.std.specs.Prelude.{◌≡◌, ◌≤◌, ◌∷◌, [], ℕ, List, IfOk, OnOk, length, take};
 ghost use Rattle.std.specs.Option.{ForSome};
-ghost use Rattle.hg_io.specs.Faults.{Rose};
 ghost use Rattle.hg_io.specs.FileView.{Stays};
 ghost use Rattle.hg_node.specs.Replay.{new_node};
-ghost use Rattle.hg_journal.specs.Journal.{head_of, next_node};
+ghost use Rattle.hg_journal.specs.Faults.{IsFaultCounted};
+ghost use Rattle.hg_journal.specs.Journal.{JournalEndsAt, head_of};
 ghost use Rattle.hg_journal.specs.Opening.{Finds};
-ghost use Rattle.hg_journal.specs.Places.{IsAt};
 ghost use Rattle.hg_journal.specs.Stored.{IsNear};
 
 use crate::again::come_again;
@@ -29,12 +28,12 @@ pub(crate) fn replay<V: Signer, D: Disk>(
     requires head { ForSome (D.file disk.old).reads (λ bytes. take 9 bytes ≡ 1 ∷ head_of node.old.start) }
     ensures start { OnOk result (node.new.start ≡ node.old.start) }
     ensures near { IfOk result (λ gate. IsNear gate node.new) }
-    ensures place { IfOk result (λ gate. ForSome (D.file disk.old).reads
-        (IsAt (next_node V.accepts) (new_node node.old.start) (head_of node.old.start) node.new gate)) }
+    ensures place { IfOk result
+        (λ gate. ForSome (D.file disk.old).reads (JournalEndsAt V.accepts node.old.start node.new gate)) }
     ensures finds { ForSome (D.file disk.old).reads (Finds V.accepts node.old.start node.new result) }
     ensures stays { Stays (D.file disk.old) (D.file disk.new) }
     ensures started { D.At disk.new name.now }
-    ensures cause { IsErrOf result OpenError.Disk → Rose (D.faults disk.old name.now) (D.faults disk.new name.now) }
+    ensures cause { IsFaultCounted result OpenError.Disk (D.faults disk.old) (D.faults disk.new) name.now }
     ensures counts { (other : List ℕ) → D.faults disk.old other ≤ D.faults disk.new other }
 {
     let mut at = 9;

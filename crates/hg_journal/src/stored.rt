@@ -1,9 +1,12 @@
-ghost use Rattle.std.specs.Prelude.{◌≡◌, ◌↔◌, ◌+◌, ◌<◌, ◌≤◌, ◌++◌, ℕ, List, None, Some, IfOk, IsErrOf, IsSome, OnOk, length, option_map};
+ghost use Rattle.std.specs.Prelude.{◌≡◌, ◌↔◌, ◌+◌, ◌<◌, ◌≤◌, ◌^◌, ℕ, List, None, Some, IfOk, IsErrOf, IsSome, OnErr, OnOk, length, option_map};
 ghost use Rattle.std.specs.Option.{ForSome, option_to_list};
 ghost use Rattle.hg_io.specs.Faults.{Rose};
+ghost use Rattle.hg_io.specs.FileView.{IsSynced};
 ghost use Rattle.hg_life.specs.Calls.{make_draft, publish_answer, publish_changes, put_answer};
 ghost use Rattle.hg_life.specs.NodeView.{node_rows, with_changes};
 ghost use Rattle.hg_node.specs.Puts.{WouldAccept, after_put};
+ghost use Rattle.hg_journal.specs.Faults.{IsFaultCounted};
+ghost use Rattle.hg_journal.specs.Stored.{MadeKeeps, MadeStores};
 
 use crate::again::{MADE, MARKED, TOOK, marked_bytes};
 use crate::errors::StoreError;
@@ -35,7 +38,7 @@ impl<V: Signer> Model for Stored<V> {
 }
 
 impl<V: Signer + Drop> Stored<V> {
-    ghost use Rattle.hg_journal.specs.Stored.{ComesOfMaking, IsNear, MakesNode, StopsKeepOne, StoresNode};
+    ghost use Rattle.hg_journal.specs.Stored.{IsNear, MakesNode, StopsKeepMaking, StopsKeepMarks, StopsKeepPut, StoresNode};
 
     /// The node, whose journal has this end.
     pub(crate) fn new(node: Node<V>, tail: Tail) -> Stored<V>
@@ -69,10 +72,10 @@ impl<V: Signer + Drop> Stored<V> {
         // A stop leaves the whole journal.
         ensures stored { StoresNode V.accepts (D.file disk.new) self.new }
         // A stop meanwhile, and one after a fault, leaves it as it was or with the event.
-        ensures stops { StopsKeepOne V.accepts (D.file disk.old) (D.file disk.new) self.old.node (λ v w. w ≡ after_put V.accepts v bytes.now) }
+        ensures stops { StopsKeepPut V.accepts bytes.now (D.file disk.old) (D.file disk.new) self.old.node }
         ensures name { self.new.name ≡ self.old.name }
         ensures started { D.At disk.new self.new.name }
-        ensures cause { IsErrOf result StoreError.Disk → Rose (D.faults disk.old self.old.name) (D.faults disk.new self.old.name) }
+        ensures cause { IsFaultCounted result StoreError.Disk (D.faults disk.old) (D.faults disk.new) self.old.name }
         ensures counts { (other : List ℕ) → D.faults disk.old other ≤ D.faults disk.new other }
     {
         let Some(node) = &mut self.node else {
@@ -104,19 +107,21 @@ impl<V: Signer + Drop> Stored<V> {
     ) -> Result<MakeAnswer, StoreError>
         requires started { D.At disk.old self.old.name }
         requires stored { StoresNode V.accepts (D.file disk.old) self.old }
-        ensures ok { IfOk result (λ a. ForSome self.old.node (MakesNode V.accepts (option_to_list other) time payload.now a self.new.node)) }
+        ensures ok { IfOk result
+            (λ a. ForSome self.old.node (MakesNode V.accepts (option_to_list other) time payload.now a self.new.node)) }
         ensures memory { IsErrOf result StoreError.Memory → self.new ≡ self.old }
-        ensures free { IsErrOf result StoreError.Memory → ForSome self.old.node (λ v. make_draft v (option_to_list other) payload.now ≡ None) }
+        ensures free { IsErrOf result StoreError.Memory
+            → ForSome self.old.node (λ v. make_draft v (option_to_list other) payload.now ≡ None) }
         ensures closed { IsErrOf result StoreError.Closed ↔ (self.old.node ≡ None) }
         ensures closes { IsErrOf result StoreError.Disk ↔ (IsSome self.old.node × (self.new.node ≡ None)) }
         // A stop leaves the whole journal.
         ensures stored { StoresNode V.accepts (D.file disk.new) self.new }
         // A stop meanwhile, and one after a fault, leaves it as it was or with an event that was made so.
-        ensures stops { StopsKeepOne V.accepts (D.file disk.old) (D.file disk.new) self.old.node
-            (λ v w. ComesOfMaking V.accepts (option_to_list other) time payload.now v w × OnOk result (self.new.node ≡ Some w)) }
+        ensures stops { StopsKeepMaking V.accepts (option_to_list other) time payload.now
+            (D.file disk.old) (D.file disk.new) self.old self.new }
         ensures name { self.new.name ≡ self.old.name }
         ensures started { D.At disk.new self.new.name }
-        ensures cause { IsErrOf result StoreError.Disk → Rose (D.faults disk.old self.old.name) (D.faults disk.new self.old.name) }
+        ensures cause { IsFaultCounted result StoreError.Disk (D.faults disk.old) (D.faults disk.new) self.old.name }
         ensures counts { (other : List ℕ) → D.faults disk.old other ≤ D.faults disk.new other }
     {
         let Some(node) = &mut self.node else {
@@ -129,9 +134,7 @@ impl<V: Signer + Drop> Stored<V> {
         let MakeAnswer::Made(place) = answer else {
             return Ok(answer);
         };
-        let event = node.event(place);
-        event.is_event();
-        match self.tail.append::<V, D>(disk, MADE, event.bytes()) {
+        match append_made(&mut self.tail, disk, node, place) {
             Ok(()) => Ok(answer),
             Err(Failed) => {
                 self.node = None;
@@ -159,11 +162,10 @@ impl<V: Signer + Drop> Stored<V> {
         // A stop leaves the whole journal.
         ensures stored { StoresNode V.accepts (D.file disk.new) self.new }
         // A stop meanwhile, and one after a fault, leaves it as it was or with these marks.
-        ensures stops { StopsKeepOne V.accepts (D.file disk.old) (D.file disk.new) self.old.node
-            (λ v w. w ≡ with_changes v (publish_changes v len share)) }
+        ensures stops { StopsKeepMarks V.accepts len share (D.file disk.old) (D.file disk.new) self.old.node }
         ensures name { self.new.name ≡ self.old.name }
         ensures started { D.At disk.new self.new.name }
-        ensures cause { IsErrOf result StoreError.Disk → Rose (D.faults disk.old self.old.name) (D.faults disk.new self.old.name) }
+        ensures cause { IsFaultCounted result StoreError.Disk (D.faults disk.old) (D.faults disk.new) self.old.name }
         ensures counts { (other : List ℕ) → D.faults disk.old other ≤ D.faults disk.new other }
     {
         let Some(node) = &mut self.node else {
@@ -187,4 +189,33 @@ impl<V: Signer + Drop> Stored<V> {
             }
         }
     }
+}
+
+// Stores the event at this place, which the node has made.
+fn append_made<V: Signer, D: Disk>(
+    tail: &mut Tail,
+    disk: &mut D,
+    node: &Node<V>,
+    place: usize,
+) -> Result<(), Failed>
+    requires place { place < length (node_rows node.now) }
+    requires started { D.At disk.old tail.old.name }
+    requires near { tail.old.gate < 2 ^ 62 }
+    requires synced { IsSynced (D.file disk.old) }
+    requires within { ForSome (D.file disk.old).reads (λ bytes. tail.old.gate < length bytes) }
+    ensures name { tail.new.name ≡ tail.old.name }
+    ensures gate { OnOk result (tail.new.gate ≤ tail.old.gate + 65539) }
+    ensures same { OnErr result (tail.new.gate ≡ tail.old.gate) }
+    ensures stored { OnOk result
+        (MadeStores V.accepts node.now place (D.file disk.old) (D.file disk.new) tail.old.gate tail.new.gate) }
+    ensures keeps { MadeKeeps V.accepts node.now place (D.file disk.old) (D.file disk.new) tail.old.gate }
+    ensures started { D.At disk.new tail.new.name }
+    ensures cause { OnErr result (Rose (D.faults disk.old tail.old.name) (D.faults disk.new tail.old.name)) }
+    ensures counts { (other : List ℕ) → D.faults disk.old other ≤ D.faults disk.new other }
+{
+    histories_are_short();
+    let event = node.event(place);
+    event.is_event();
+    tail.append::<V, D>(disk, MADE, event.bytes())?;
+    Ok(())
 }

@@ -4,8 +4,8 @@ ghost use Rattle.hg_io.specs.Faults.{Rose};
 ghost use Rattle.hg_io.specs.FileView.{IsSynced};
 ghost use Rattle.hg_journal.specs.Stored.{AppendKeeps, AppendStores};
 
-use crate::appending::{append, spell};
 use crate::ahead::BODY;
+use crate::appending::{append, spell};
 use hg_io::{Disk, Failed};
 use hg_model::Memory;
 use hg_sign::Signer;
@@ -68,7 +68,8 @@ impl Tail {
         ensures name { self.new.name ≡ self.old.name }
         ensures gate { OnOk result (self.new.gate ≡ self.old.gate + 4 + length body.now) }
         ensures same { OnErr result (self.new.gate ≡ self.old.gate) }
-        ensures stored { OnOk result (AppendStores V.accepts kind body.now (D.file disk.old) (D.file disk.new) self.old.gate self.new.gate) }
+        ensures stored { OnOk result
+            (AppendStores V.accepts kind body.now (D.file disk.old) (D.file disk.new) self.old.gate self.new.gate) }
         ensures keeps { AppendKeeps V.accepts kind body.now (D.file disk.old) (D.file disk.new) self.old.gate }
         ensures started { D.At disk.new self.new.name }
         ensures cause { OnErr result (Rose (D.faults disk.old self.old.name) (D.faults disk.new self.old.name)) }

@@ -1,4 +1,3 @@
-
 use Rattle.hg_journal.proofs.NodeLaws.{put_comes}
 use Rattle.hg_journal.proofs.again.put_again.Goals as goal
 

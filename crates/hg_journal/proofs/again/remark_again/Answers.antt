@@ -1,8 +1,9 @@
-use Rattle.std.proofs.Common.{rules, ◌≡◌, ◌<◌, ◌≤◌, ℕ, length, IfOk, if◌then◌else◌, Option, None, Some, sym, ◌∙◌, ap, subst}
+use Rattle.std.proofs.Common.{rules, ◌≡◌, ◌<◌, ◌≤◌, ℕ, length, IfOk, Option, Some, sym, ◌∙◌, ap, subst}
 use Rattle.hg_model.specs.Shares.{Share}
 use Rattle.hg_life.specs.NodeView.{NodeView, node_rows}
 use Rattle.hg_node.specs.Replay.{replay_one}
 use Rattle.hg_node.specs.Replay.StoredChange.{StoredMarked}
+use Rattle.hg_journal.specs.Journal.{node_if}
 use Rattle.hg_journal.proofs.NodeLaws.{marked_none, marked_some, marked_unfit, no_rows, no_share}
 use Rattle.hg_journal.proofs.again.remark_again.Goals as goal
 
@@ -20,5 +21,5 @@ returns-then-of-k g c =
 pub returns : goal.returns
 returns g c =
     let is = marked_some g.V.Verifier.accepts c.args.node.now c.args.body.now c.in-Some.len c.in-Some.k c.in-Some.of (search rules)
-        ∙ ap (λ (share : Share). replay_one g.V.Verifier.accepts c.args.node.now (StoredMarked c.in-Some.len share.k share.of)) (sym c.new.ensures) in
-    subst (λ (o : Option (NodeView _)). IfOk c.mark_again.result (λ came. o ≡ (if came then Some c.mark_again.new.node else None))) (sym is) c.mark_again.ensures
+    ∙ ap (λ (share : Share). replay_one g.V.Verifier.accepts c.args.node.now (StoredMarked c.in-Some.len share.k share.of)) (sym c.new.ensures) in
+    subst (λ (o : Option (NodeView _)). IfOk c.mark_again.result (λ came. o ≡ node_if came c.mark_again.new.node)) (sym is) c.mark_again.ensures

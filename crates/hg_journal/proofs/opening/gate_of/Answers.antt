@@ -11,7 +11,7 @@ use Rattle.hg_journal.proofs.opening.gate_of.Goals as goal
 pub make_anew-requires-clause-begun : goal.make_anew-requires-clause-begun
 make_anew-requires-clause-begun g c bytes told =
     let whole = says_whole c.args.head.now (search rules) bytes c.in_ok-count.count c.fill_from.new.buf (search rules)
-        (c.in_ok-count.ensures.filled bytes (sym c.fill_from.ensures.stays.reads ∙ told)) (c.is_anew.ensures.0 c.if-is_anew.true) in
+    (c.in_ok-count.ensures.filled bytes (sym c.fill_from.ensures.stays.reads ∙ told)) (c.is_anew.ensures.0 c.if-is_anew.true) in
     subst (λ (l : List ℕ). Decides c.is_begun.result (IsBegun l)) whole c.is_begun.ensures
 
 pub returns-in_err-make_anew-clause-leaves : goal.returns-in_err-make_anew-clause-leaves

@@ -1,7 +1,7 @@
 use Rattle.std.proofs.Common.{ℕ, List, sym, ◌∙◌, ap, subst}
 use Rattle.hg_life.specs.NodeView.{Start}
 use Rattle.hg_journal.specs.Journal.{journal}
-use Rattle.hg_journal.specs.Opening.{LeavesJournal}
+use Rattle.hg_journal.specs.Opening.{LeavesNode}
 use Rattle.hg_journal.specs.Stored.{StoredView}
 use Rattle.hg_journal.specs.Writing.{AnewCases}
 use Rattle.hg_journal.proofs.HeadLaws.{head_is}
@@ -9,7 +9,7 @@ use Rattle.hg_journal.proofs.opening.open_synced.Goals as goal
 
 pub returns-in_err-gate-clause-leaves : goal.returns-in_err-gate-clause-leaves
 returns-in_err-gate-clause-leaves g c bytes told =
-    subst (λ (start : Start g.row.V.Denot). LeavesJournal g.V.Verifier.accepts start (g.D.Disk.file c.args.disk.now) (g.D.Disk.file c.gate_of.new.disk) bytes) c.in_ok-node.ensures.start
+    subst (λ (start : Start g.row.V.Denot). LeavesNode g.V.Verifier.accepts start (g.D.Disk.file c.args.disk.now) (g.D.Disk.file c.gate_of.new.disk) bytes) c.in_ok-node.ensures.start
     (c.gate_of.ensures.leaves bytes told)
 
 pub returns-in_err-gate-clause-untouched : goal.returns-in_err-gate-clause-untouched
@@ -24,7 +24,7 @@ returns-clause-opens g c bytes told =
 
 pub returns-clause-leaves : goal.returns-clause-leaves
 returns-clause-leaves g c bytes told =
-    subst (λ (start : Start g.row.V.Denot). LeavesJournal g.V.Verifier.accepts start (g.D.Disk.file c.args.disk.now) (g.D.Disk.file c.gate_of.new.disk) bytes) c.in_ok-node.ensures.start
+    subst (λ (start : Start g.row.V.Denot). LeavesNode g.V.Verifier.accepts start (g.D.Disk.file c.args.disk.now) (g.D.Disk.file c.gate_of.new.disk) bytes) c.in_ok-node.ensures.start
     (c.gate_of.ensures.leaves bytes told)
 
 pub returns-clause-untouched : goal.returns-clause-untouched

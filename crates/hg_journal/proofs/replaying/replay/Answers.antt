@@ -49,7 +49,7 @@ records-init g c =
           let ours = c.requires.head bytes told in (
             omega (arith, length-take 9 bytes, ap length ours),
             subst (Leads (next_node accepts) (new_node start) (head_of start) (take 9 bytes)) (sym c.requires.first)
-            (ours_leads (next_node accepts) (new_node start) (head_of start) refl bytes ours),
+                (ours_leads (next_node accepts) (new_node start) (head_of start) refl bytes ours),
           );
       stays = stays_same _;
       started = c.requires.started;

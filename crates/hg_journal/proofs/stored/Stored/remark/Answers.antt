@@ -42,7 +42,7 @@ invariant_of-self-in-Ok g c =
     let few : c.args.share.of < 2 ^ 32 = omega (arith, c.of.type_inv, c.of.ensures.value) in
     let marked : c.in_ok-count.count ≡ 0 → ⊥ = c.if-count-eq0.false in
     let leads = remark_next accepts c.in-Some.node c.remark.new.self c.args.len c.args.share c.marked_bytes-body.result c.stored_changes_replay.ensures.marked within
-        (rows_fit accepts c.in-Some.node c.args.len c.is_node.ensures within) c.k.ensures.lawful few (omega (arith, marked, c.in_ok-count.ensures.answer)) c.marked_bytes-body.ensures c.in_ok-count.ensures.ok in
+    (rows_fit accepts c.in-Some.node c.args.len c.is_node.ensures within) c.k.ensures.lawful few (omega (arith, marked, c.in_ok-count.ensures.answer)) c.marked_bytes-body.ensures c.in_ok-count.ensures.ok in
     near_there accepts c.in-Some.node c.remark.new.self 3 c.marked_bytes-body.result c.self.inside.tail.gate c.append.new.self.gate (omega (arith, ap length c.marked_bytes-body.ensures)) leads
     c.in-Ok.ensures.gate (search rules)
 
@@ -54,7 +54,7 @@ returns-in-Ok-clause-stored g c =
     let few : c.args.share.of < 2 ^ 32 = omega (arith, c.of.type_inv, c.of.ensures.value) in
     let marked : c.in_ok-count.count ≡ 0 → ⊥ = c.if-count-eq0.false in
     let leads = remark_next accepts c.in-Some.node c.remark.new.self c.args.len c.args.share c.marked_bytes-body.result c.stored_changes_replay.ensures.marked within
-        (rows_fit accepts c.in-Some.node c.args.len c.is_node.ensures within) c.k.ensures.lawful few (omega (arith, marked, c.in_ok-count.ensures.answer)) c.marked_bytes-body.ensures c.in_ok-count.ensures.ok in
+    (rows_fit accepts c.in-Some.node c.args.len c.is_node.ensures within) c.k.ensures.lawful few (omega (arith, marked, c.in_ok-count.ensures.answer)) c.marked_bytes-body.ensures c.in_ok-count.ensures.ok in
     stored_next accepts (g.D.Disk.file c.args.disk.now) c.args.self.now c.in-Some.node c.self.inside.tail.gate there (search rules) c.requires.stored
     (g.D.Disk.file c.append.new.disk) c.remark.new.self 3 c.marked_bytes-body.result leads c.append.new.self.gate c.in-Ok.ensures.stored
 
@@ -66,7 +66,7 @@ returns-in-Ok-clause-stops g c =
     let few : c.args.share.of < 2 ^ 32 = omega (arith, c.of.type_inv, c.of.ensures.value) in
     let marked : c.in_ok-count.count ≡ 0 → ⊥ = c.if-count-eq0.false in
     let leads = remark_next accepts c.in-Some.node c.remark.new.self c.args.len c.args.share c.marked_bytes-body.result c.stored_changes_replay.ensures.marked within
-        (rows_fit accepts c.in-Some.node c.args.len c.is_node.ensures within) c.k.ensures.lawful few (omega (arith, marked, c.in_ok-count.ensures.answer)) c.marked_bytes-body.ensures c.in_ok-count.ensures.ok in
+    (rows_fit accepts c.in-Some.node c.args.len c.is_node.ensures within) c.k.ensures.lawful few (omega (arith, marked, c.in_ok-count.ensures.answer)) c.marked_bytes-body.ensures c.in_ok-count.ensures.ok in
     stops_next accepts (g.D.Disk.file c.args.disk.now) c.args.self.now c.in-Some.node c.self.inside.tail.gate there (search rules) c.requires.stored
     (g.D.Disk.file c.append.new.disk) c.remark.new.self 3 c.marked_bytes-body.result leads (λ v w. w ≡ with_changes v (publish_changes v c.args.len c.args.share)) c.append.ensures.keeps c.in_ok-count.ensures.ok
 
@@ -78,6 +78,6 @@ returns-in-Err-clause-stops g c =
     let few : c.args.share.of < 2 ^ 32 = omega (arith, c.of.type_inv, c.of.ensures.value) in
     let marked : c.in_ok-count.count ≡ 0 → ⊥ = c.if-count-eq0.false in
     let leads = remark_next accepts c.in-Some.node c.remark.new.self c.args.len c.args.share c.marked_bytes-body.result c.stored_changes_replay.ensures.marked within
-        (rows_fit accepts c.in-Some.node c.args.len c.is_node.ensures within) c.k.ensures.lawful few (omega (arith, marked, c.in_ok-count.ensures.answer)) c.marked_bytes-body.ensures c.in_ok-count.ensures.ok in
+    (rows_fit accepts c.in-Some.node c.args.len c.is_node.ensures within) c.k.ensures.lawful few (omega (arith, marked, c.in_ok-count.ensures.answer)) c.marked_bytes-body.ensures c.in_ok-count.ensures.ok in
     stops_next accepts (g.D.Disk.file c.args.disk.now) c.args.self.now c.in-Some.node c.self.inside.tail.gate there (search rules) c.requires.stored
     (g.D.Disk.file c.append.new.disk) c.remark.new.self 3 c.marked_bytes-body.result leads (λ v w. w ≡ with_changes v (publish_changes v c.args.len c.args.share)) c.append.ensures.keeps c.in_ok-count.ensures.ok
