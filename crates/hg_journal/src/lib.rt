@@ -1,6 +1,15 @@
 //! A node that is kept in a file: each of its changes stands there before it is answered, and a stop of the machine leaves a
 //! file from which the node comes again.
 //! The layers above use `Stored`: `open`, `put`, `make`, `remark`, each over a disk that they hold, and `node`.
+//!
+//! From `play` in the tests of `check_program`, shortened:
+//!
+//! ```text
+//! let Ok(mut stored) = Stored::open(alloc, disk, NAME, members, 0, keys) else {
+//!     ...
+//! if stored.put(disk, event) != Ok(PutAnswer::Accepted(1)) {
+//!     ...
+//! ```
 #![tactic(auto)]
 
 mod again;
