@@ -58,7 +58,9 @@ invariant_of-self-in-Ok g c =
 
 pub returns-in-Ok-clause-ok : goal.returns-in-Ok-clause-ok
 returns-in-Ok-clause-ok g c =
-    makes_here g.V.Verifier.accepts c.args.self.now.node c.in-Some.node c.make.new.self (option_to_list c.args.other) c.args.time c.args.payload.now _ (search rules) c.in_ok-answer.ensures.ok
+    let accepts = g.V.Verifier.accepts in
+    let making : IsMaking accepts c.in-Some.node (option_to_list c.args.other) c.args.time c.args.payload.now (Made c.in-Made.place) c.make.new.self = rw c.in-Made.is at c.in_ok-answer.ensures.ok in
+    makes_here accepts c.args.self.now.node c.in-Some.node c.make.new.self (option_to_list c.args.other) c.args.time c.args.payload.now (Made c.in-Made.place) (search rules) making
 
 pub returns-in-Ok-clause-stored : goal.returns-in-Ok-clause-stored
 returns-in-Ok-clause-stored g c =
