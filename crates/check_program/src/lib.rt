@@ -1,5 +1,5 @@
-//! Tests of public calls of `hg_io`, `hg_stream`, `hg_command`, `hg_play` and `hg_top`: files, disks and words, the program in
-//! one call, and the world in which a play ends, with values from outside.
+//! Tests of public calls of `hg_io`, `hg_stream`, `hg_journal`, `hg_command`, `hg_play` and `hg_top`: files, disks, journals and
+//! words, the program in one call, and the world in which a play ends, with values from outside.
 //! They stand above these crates so that their code is proved once; a crate with tests of its own is proved twice.
 //! There is nothing here but tests.
 //!
@@ -20,6 +20,8 @@ mod ends;
 mod environment;
 #[cfg(test)]
 mod files;
+#[cfg(test)]
+mod journal;
 #[cfg(test)]
 mod program;
 #[cfg(test)]

@@ -1,0 +1,14 @@
+pub mod AheadLaws
+pub mod Fresh
+pub mod Front
+pub mod Gates
+pub mod HeadLaws
+pub mod NodeLaws
+pub mod OpenLaws
+pub mod RecordLaws
+pub mod Scanning
+pub mod Steps
+pub mod StoredLaws
+pub mod SyncLaws
+pub mod Tears
+pub mod Told

@@ -1,0 +1,49 @@
+ghost use Rattle.std.specs.Prelude.{◌≡◌, ◌<◌, ◌≤◌, ◌+◌, ◌^◌, ◌++◌, ◌∷◌, [], ℕ, List, OnErr, OnOk, length, option_map, vec_capacity};
+ghost use Rattle.std.specs.Option.{ForSome};
+ghost use Rattle.hg_io.specs.Faults.{Rose};
+ghost use Rattle.hg_io.specs.FileView.{IsSynced, Leaves};
+ghost use Rattle.hg_journal.specs.Records.{spelled};
+ghost use Rattle.hg_journal.specs.Writing.{IsCutShort, LeavesOnly, appended};
+
+use hg_io::{Disk, Failed, put_down};
+
+/// Spells a record, and a closed gate behind it, in the buffer. Takes no memory.
+pub(crate) fn spell(buffer: &mut Vec<u8>, kind: u8, body: &[u8])
+    requires small { length body.now < 65536 }
+    requires room { length body.now + 4 ≤ vec_capacity buffer.old }
+    ensures piece { buffer.new.items ≡ spelled kind body.now ++ 0 ∷ [] }
+    ensures room { vec_capacity buffer.old ≤ vec_capacity buffer.new }
+{
+    buffer.clear();
+    buffer.push(kind).unwrap();
+    buffer
+        .extend_from_slice(&(body.len() as u16).to_be_bytes())
+        .unwrap();
+    buffer.extend_from_slice(body).unwrap();
+    buffer.push(0).unwrap();
+}
+
+/// Writes a piece behind the closed gate at this place of a synced file, waits until it is kept, and opens the gate.
+pub(crate) fn append<D: Disk>(
+    disk: &mut D,
+    name: &str,
+    gate: u64,
+    piece: &[u8],
+) -> Result<(), Failed>
+    requires started { D.At disk.old name.now }
+    requires small { gate < 2 ^ 63 }
+    requires within { ForSome (D.file disk.old).reads (λ bytes. gate < length bytes) }
+    requires synced { IsSynced (D.file disk.old) }
+    ensures appended { OnOk result ((D.file disk.new).reads ≡ option_map (appended gate piece.now) (D.file disk.old).reads) }
+    ensures synced { OnOk result (IsSynced (D.file disk.new)) }
+    ensures now { ForSome (D.file disk.old).reads (λ bytes. LeavesOnly (D.file disk.new) (IsCutShort gate piece.now bytes)) }
+    ensures leaves { ForSome (D.file disk.old).reads
+        (λ bytes. Leaves (D.file disk.old) (D.file disk.new) (IsCutShort gate piece.now bytes)) }
+    ensures started { D.At disk.new name.now }
+    ensures cause { OnErr result (Rose (D.faults disk.old name.now) (D.faults disk.new name.now)) }
+    ensures counts { (other : List ℕ) → D.faults disk.old other ≤ D.faults disk.new other }
+{
+    put_down(disk, name, gate + 1, piece)?;
+    put_down(disk, name, gate, &[1])?;
+    Ok(())
+}

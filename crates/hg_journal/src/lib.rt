@@ -1,0 +1,28 @@
+//! A node that is kept in a file: each of its changes stands there before it is answered, and a stop of the machine leaves a
+//! file from which the node comes again.
+//! The layers above use `Stored`: `open`, `put`, `make`, `remark`, each over a disk that they hold, and `node`.
+//!
+//! From `play` in the tests of `check_program`, shortened:
+//!
+//! ```text
+//! let Ok(mut stored) = Stored::open(alloc, disk, NAME, members, 0, keys) else {
+//!     ...
+//! if stored.put(disk, event) != Ok(PutAnswer::Accepted(1)) {
+//!     ...
+//! ```
+#![tactic(auto)]
+
+mod again;
+mod ahead;
+mod appending;
+mod errors;
+mod filling;
+mod head;
+mod making;
+mod opening;
+mod replaying;
+mod stored;
+mod tail;
+
+pub use errors::{OpenError, StoreError};
+pub use stored::Stored;

@@ -1,0 +1,81 @@
+ghost use Rattle.std.specs.Prelude.{◌≡◌, ◌≤◌, ◌++◌, ◌∷◌, [], ℕ, List, OnErr, OnOk, is_some, length};
+ghost use Rattle.std.specs.Bool.{Decides};
+ghost use Rattle.std.specs.Option.{ForSome};
+ghost use Rattle.hg_io.specs.Faults.{Rose};
+ghost use Rattle.hg_io.specs.FileView.{IsSynced, Leaves};
+ghost use Rattle.hg_journal.specs.Writing.{AnewCases, IsBegun, IsEmpty, IsOnlyBegun, LeavesOnly, empty_file};
+
+use hg_io::{Disk, Failed, put_down};
+
+// Closes the first gate, if it is not closed yet.
+fn close_first<D: Disk>(disk: &mut D, name: &str, head: &[u8; 8], begun: bool) -> Result<(), Failed>
+    requires started { D.At disk.old name.now }
+    requires synced { IsSynced (D.file disk.old) }
+    requires anew { ForSome (D.file disk.old).reads (AnewCases head.now) }
+    requires begun { ForSome (D.file disk.old).reads (λ bytes. Decides begun (IsBegun bytes)) }
+    ensures begun { OnOk result (ForSome (D.file disk.new).reads IsOnlyBegun) }
+    ensures synced { OnOk result (IsSynced (D.file disk.new)) }
+    ensures shown { is_some (D.file disk.new).reads ≡ is_some (D.file disk.old).reads }
+    ensures now { ForSome (D.file disk.old).reads (λ bytes. LeavesOnly (D.file disk.new) (IsEmpty head.now)) }
+    ensures leaves { ForSome (D.file disk.old).reads (λ bytes. Leaves (D.file disk.old) (D.file disk.new) (IsEmpty head.now)) }
+    ensures started { D.At disk.new name.now }
+    ensures cause { OnErr result (Rose (D.faults disk.old name.now) (D.faults disk.new name.now)) }
+    ensures counts { (other : List ℕ) → D.faults disk.old other ≤ D.faults disk.new other }
+{
+    if begun {
+        return Ok(());
+    }
+    put_down(disk, name, 0, &[0])?;
+    Ok(())
+}
+
+// The head, and a closed gate.
+fn closed_head(head: &[u8; 8]) -> [u8; 9]
+    ensures { result ≡ head.now ++ 0 ∷ [] }
+{
+    let [a, b, c, d, e, f, g, h] = *head;
+    [a, b, c, d, e, f, g, h, 0]
+}
+
+// Writes the head, and then opens the first gate.
+fn write_head<D: Disk>(disk: &mut D, name: &str, head: &[u8; 8]) -> Result<(), Failed>
+    requires started { D.At disk.old name.now }
+    requires synced { IsSynced (D.file disk.old) }
+    requires begun { ForSome (D.file disk.old).reads IsOnlyBegun }
+    ensures made { OnOk result (ForSome (D.file disk.new).reads (λ bytes. bytes ≡ empty_file head.now)) }
+    ensures synced { OnOk result (IsSynced (D.file disk.new)) }
+    ensures now { ForSome (D.file disk.old).reads (λ bytes. LeavesOnly (D.file disk.new) (IsEmpty head.now)) }
+    ensures leaves { ForSome (D.file disk.old).reads (λ bytes. Leaves (D.file disk.old) (D.file disk.new) (IsEmpty head.now)) }
+    ensures started { D.At disk.new name.now }
+    ensures cause { OnErr result (Rose (D.faults disk.old name.now) (D.faults disk.new name.now)) }
+    ensures counts { (other : List ℕ) → D.faults disk.old other ≤ D.faults disk.new other }
+{
+    let piece = closed_head(head);
+    put_down(disk, name, 1, &piece)?;
+    put_down(disk, name, 0, &[1])?;
+    Ok(())
+}
+
+/// Makes a journal without records of a file that is to be made anew.
+pub(crate) fn make_anew<D: Disk>(
+    disk: &mut D,
+    name: &str,
+    head: &[u8; 8],
+    begun: bool,
+) -> Result<(), Failed>
+    requires started { D.At disk.old name.now }
+    requires synced { IsSynced (D.file disk.old) }
+    requires anew { ForSome (D.file disk.old).reads (AnewCases head.now) }
+    requires begun { ForSome (D.file disk.old).reads (λ bytes. Decides begun (IsBegun bytes)) }
+    ensures made { OnOk result (ForSome (D.file disk.new).reads (λ bytes. bytes ≡ empty_file head.now)) }
+    ensures synced { OnOk result (IsSynced (D.file disk.new)) }
+    ensures now { ForSome (D.file disk.old).reads (λ bytes. LeavesOnly (D.file disk.new) (IsEmpty head.now)) }
+    ensures leaves { ForSome (D.file disk.old).reads (λ bytes. Leaves (D.file disk.old) (D.file disk.new) (IsEmpty head.now)) }
+    ensures started { D.At disk.new name.now }
+    ensures cause { OnErr result (Rose (D.faults disk.old name.now) (D.faults disk.new name.now)) }
+    ensures counts { (other : List ℕ) → D.faults disk.old other ≤ D.faults disk.new other }
+{
+    close_first(disk, name, head, begun)?;
+    write_head(disk, name, head)?;
+    Ok(())
+}
