@@ -1,5 +1,5 @@
 -- What a record does to a node.
-use Rattle.std.proofs.Common.{◌≡◌, ℕ, ◌+◌, ◌^◌, ◌<◌, ◌≤◌, Bool, true, false, nat_lt, nat_eq, if◌then◌else◌, List, [], ◌∷◌, ◌++◌, length, drop, Option, Some, None, refl, sym, ◌∙◌, ap, ap₂, arith, length-append}
+use Rattle.std.proofs.Common.{◌≡◌, ℕ, ◌+◌, ◌^◌, ◌<◌, ◌≤◌, Bool, true, false, nat_lt, nat_eq, if◌then◌else◌, List, [], ◌∷◌, length, Option, Some, None, refl, sym, ◌∙◌, ap, ap₂, arith, length-append}
 use Rattle.std.specs.Prelude.{◌&&◌, nat_le, option_and_then}
 use Rattle.std.proofs.lemmas.Bool.{and_from}
 use Rattle.std.specs.Int.{w32, from_be_bytes, to_be_bytes}
@@ -8,7 +8,7 @@ use Rattle.std.proofs.lemmas.Nat.{from_be_bytes-to_be_bytes_4}
 use Rattle.hg_model.specs.Shares.{Share}
 use Rattle.hg_life.specs.declared.answers.PutAnswer.TheVariants.{Accepted}
 use Rattle.hg_life.specs.Calls.{put_answer, put_changes, publish_changes}
-use Rattle.hg_life.specs.History.{Change, replay}
+use Rattle.hg_life.specs.History.{Change}
 use Rattle.hg_life.specs.NodeView.{NodeView, IsNode, node_rows, with_changes}
 use Rattle.hg_life.specs.Signing.{Accepts}
 use Rattle.hg_event.proofs.Reading.{AreBytes}

@@ -1,9 +1,9 @@
 -- What files of records stand for.
-use Rattle.std.proofs.Common.{◌≡◌, ◌≢◌, ℕ, zero, suc, ◌+◌, ◌<◌, ◌≤◌, Bool, true, false, nat_eq, nat_le, if◌then◌else◌, List, [], ◌∷◌, ◌++◌, length, take, drop, Option, Some, None, refl, sym, ◌∙◌, ap, arith, append_assoc, length-append, length-drop}
+use Rattle.std.proofs.Common.{◌≡◌, ◌≢◌, ℕ, zero, suc, ◌+◌, ◌<◌, ◌≤◌, Bool, true, false, nat_eq, nat_le, if◌then◌else◌, List, [], ◌∷◌, ◌++◌, length, take, drop, Option, Some, None, refl, ◌∙◌, ap, arith, append_assoc, length-append, length-drop}
 use Rattle.std.proofs.lemmas.Bool.Decides.{nat_tests}
 use Rattle.std.proofs.lemmas.List.{take_at, drop_at}
 use Rattle.hg_journal.specs.Records.{Cut, body_cut, record_of, size_of}
-use Rattle.hg_journal.specs.Reading.{Next, Reading, Broken, Holds, behind_record, behind_gate, scan_for, scan, reading}
+use Rattle.hg_journal.specs.Reading.{Next, Reading, Holds, behind_record, behind_gate, scan_for, scan, reading}
 use Rattle.hg_journal.specs.Places.{Leads}
 
 shorter_if : (t : Bool) (kind n : ℕ) (bytes : List ℕ) (cut : Cut)

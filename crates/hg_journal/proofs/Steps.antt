@@ -1,8 +1,8 @@
 -- What an appended record makes of a stored node.
-use Rattle.std.proofs.Common.{◌≡◌, ◌⊎◌, inl, inr, ⊎_elim, ℕ, ◌+◌, ◌*◌, ◌<◌, ◌≤◌, List, [], ◌∷◌, ◌++◌, length, Option, Some, None, option_map, sym, ◌∙◌, ap, subst, arith}
+use Rattle.std.proofs.Common.{◌≡◌, inl, inr, ⊎_elim, ℕ, ◌+◌, ◌<◌, List, [], ◌∷◌, ◌++◌, length, Option, Some, None, option_map, sym, subst, arith}
 use Rattle.std.specs.Prelude.{IsSome}
 use Rattle.std.specs.Option.{ForSome}
-use Rattle.hg_io.specs.FileView.{FileView, IsSynced, Leaves, Stays}
+use Rattle.hg_io.specs.FileView.{FileView, IsSynced, Leaves}
 use Rattle.hg_io.proofs.Going.{nothing_else, stays_same, told_before, weaker}
 use Rattle.hg_life.specs.NodeView.{NodeView, Start}
 use Rattle.hg_life.specs.Signing.{Accepts}

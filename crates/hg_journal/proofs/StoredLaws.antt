@@ -1,6 +1,6 @@
 -- What a call of a stored node makes of it, and what a stop leaves meanwhile.
 use Rattle.std.proofs.Common.{◌≡◌, ℕ, ◌+◌, ◌^◌, ◌<◌, ◌≤◌, eqb, cond, List, [], ◌∷◌, length, Option, Some, refl, sym, ◌∙◌, ap, subst, arith}
-use Rattle.std.specs.Prelude.{IsSome, slice_get}
+use Rattle.std.specs.Prelude.{slice_get}
 use Rattle.std.specs.Option.{ForSome}
 use Rattle.hg_io.specs.FileView.{FileView}
 use Rattle.hg_model.specs.declared.row.Row.{Row}

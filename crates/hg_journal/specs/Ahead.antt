@@ -1,5 +1,5 @@
 -- What stands at a place where a gate must stand.
-use Rattle.std.specs.Prelude.{◌≡◌, ◌≤◌, ◌⊎◌, ℕ, List, [], ◌∷◌, ◌++◌, length, take, Option, None}
+use Rattle.std.specs.Prelude.{◌≡◌, ◌≤◌, ◌⊎◌, ℕ, List, [], ◌∷◌, ◌++◌, length, take, None}
 use Rattle.hg_journal.specs.Records.{record_of, size_of}
 use Rattle.hg_journal.specs.declared.ahead.Ahead.{Ahead}
 use Rattle.hg_journal.specs.declared.ahead.Ahead.TheVariants.{Closed, Record, Nothing}

@@ -1,5 +1,5 @@
 -- The journal of a node: what its records tell, and the node that comes again from the bytes of a file.
-use Rattle.std.specs.Prelude.{◌≡◌, ◌⊎◌, ℕ, nat_eq, Bool, List, [], ◌∷◌, ◌++◌, length, drop, codes, Option, Some, None, option_and_then, if◌then◌else◌}
+use Rattle.std.specs.Prelude.{◌≡◌, ◌⊎◌, ℕ, nat_eq, Bool, List, ◌++◌, length, drop, codes, Option, Some, None, option_and_then, if◌then◌else◌}
 use Rattle.std.specs.Int.{w16, w32, from_be_bytes, to_be_bytes}
 use Rattle.hg_model.specs.Stakes.{member_count}
 use Rattle.hg_life.specs.NodeView.{NodeView, Start}

@@ -1,7 +1,7 @@
 -- What the bytes of a file stand for, where `next` says which state a record leads to, if it leads to one. A file begins with a
 -- gate and eight bytes of a head; records follow, each behind a gate of its own, up to a gate that is closed. A closed gate
 -- is the byte 0; the first gate is open as 1, that of a record as any other byte than 0.
-use Rattle.std.specs.Prelude.{◌≡◌, ◌≤◌, ◌⊎◌, ℕ, zero, suc, ◌+◌, nat_eq, nat_le, ◌&&◌, ◌||◌, not, if◌then◌else◌, Bool, List, [], ◌∷◌, ◌++◌, length, take, drop, slice_index, Option, Some, None}
+use Rattle.std.specs.Prelude.{ℕ, zero, suc, ◌+◌, nat_eq, nat_le, ◌&&◌, ◌||◌, not, if◌then◌else◌, Bool, List, [], ◌∷◌, ◌++◌, length, take, drop, slice_index, Option, Some, None}
 use Rattle.std.specs.Str.{bytes_eq}
 use Rattle.hg_journal.specs.Records.{Cut, record_of}
 

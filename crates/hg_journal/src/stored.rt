@@ -90,10 +90,7 @@ impl<V: Signer + Drop> Stored<V> {
         };
         match self.tail.append::<V, D>(disk, TOOK, bytes) {
             Ok(()) => Ok(answer),
-            Err(Failed) => {
-                self.node = None;
-                Err(StoreError::Disk)
-            }
+            Err(Failed) => close(&mut self.node),
         }
     }
 
@@ -136,10 +133,7 @@ impl<V: Signer + Drop> Stored<V> {
         };
         match append_made(&mut self.tail, disk, node, place) {
             Ok(()) => Ok(answer),
-            Err(Failed) => {
-                self.node = None;
-                Err(StoreError::Disk)
-            }
+            Err(Failed) => close(&mut self.node),
         }
     }
 
@@ -183,10 +177,7 @@ impl<V: Signer + Drop> Stored<V> {
         let body = marked_bytes(len as u32, share);
         match self.tail.append::<V, D>(disk, MARKED, &body) {
             Ok(()) => Ok(count),
-            Err(Failed) => {
-                self.node = None;
-                Err(StoreError::Disk)
-            }
+            Err(Failed) => close(&mut self.node),
         }
     }
 }
@@ -218,4 +209,13 @@ fn append_made<V: Signer, D: Disk>(
     event.is_event();
     tail.append::<V, D>(disk, MADE, event.bytes())?;
     Ok(())
+}
+
+// Closes a node whose disk has failed.
+fn close<V: Signer + Drop, T>(node: &mut Option<Node<V>>) -> Result<T, StoreError>
+    ensures closed { node.new ≡ None }
+    ensures disk { IsErrOf result StoreError.Disk }
+{
+    *node = None;
+    Err(StoreError::Disk)
 }

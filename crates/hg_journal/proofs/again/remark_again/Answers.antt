@@ -1,6 +1,6 @@
-use Rattle.std.proofs.Common.{rules, ◌≡◌, ◌<◌, ◌≤◌, ℕ, length, IfOk, Option, Some, sym, ◌∙◌, ap, subst}
+use Rattle.std.proofs.Common.{rules, ◌≡◌, IfOk, Option, sym, ◌∙◌, ap, subst}
 use Rattle.hg_model.specs.Shares.{Share}
-use Rattle.hg_life.specs.NodeView.{NodeView, node_rows}
+use Rattle.hg_life.specs.NodeView.{NodeView}
 use Rattle.hg_node.specs.Replay.{replay_one}
 use Rattle.hg_node.specs.Replay.StoredChange.{StoredMarked}
 use Rattle.hg_journal.specs.Journal.{node_if}

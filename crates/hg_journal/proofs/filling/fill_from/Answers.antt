@@ -1,4 +1,4 @@
-use Rattle.std.proofs.Common.{rules, ◌≡◌, ◌+◌, List, drop, take, sym, ◌∙◌, ap}
+use Rattle.std.proofs.Common.{rules, drop, take, sym, ◌∙◌, ap}
 use Rattle.std.proofs.lemmas.List.{drop-drop}
 use Rattle.hg_io.proofs.Filling.{more_filled}
 use Rattle.hg_io.proofs.Going.{stays_on}

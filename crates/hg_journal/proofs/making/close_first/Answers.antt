@@ -1,9 +1,9 @@
-use Rattle.std.proofs.Common.{rules, ◌≡◌, List, ◌∷◌, [], length, inl, sym, subst}
+use Rattle.std.proofs.Common.{rules, ◌∷◌, [], inl, sym, subst}
 use Rattle.std.proofs.lemmas.Bool.Decides.{not_from_Decides}
 use Rattle.hg_io.specs.FileView.{with_piece}
 use Rattle.hg_io.proofs.Going.{told_before, weaker}
 use Rattle.hg_journal.specs.Writing.{IsEmpty, IsOnlyBegun}
-use Rattle.hg_journal.proofs.Fresh.{first_written, only_begun, torn_first}
+use Rattle.hg_journal.proofs.Fresh.{first_written, torn_first}
 use Rattle.hg_journal.proofs.making.close_first.Goals as goal
 
 pub returns-then-begun-clause-now : goal.returns-then-begun-clause-now

@@ -1,4 +1,4 @@
-use Rattle.std.proofs.Common.{rules, ◌≡◌, List, ◌∷◌, [], length}
+use Rattle.std.proofs.Common.{rules}
 use Rattle.hg_io.specs.FileView.{with_piece}
 use Rattle.hg_io.proofs.Going.{goes_on, told_after, weaker}
 use Rattle.hg_journal.proofs.Fresh.{head_written, torn_head, torn_open}

@@ -1,4 +1,4 @@
-use Rattle.std.proofs.Common.{rules, ◌≡◌, ℕ, ◌<◌, List, length, Some, subst, arith}
+use Rattle.std.proofs.Common.{rules, ◌≡◌, ℕ, List, subst}
 use Rattle.hg_life.specs.Spelling.{spelling}
 use Rattle.hg_journal.specs.Stored.{AppendKeeps, AppendStores}
 use Rattle.hg_journal.proofs.StoredLaws.{event_small, same_body}

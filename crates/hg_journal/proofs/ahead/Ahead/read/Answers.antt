@@ -1,4 +1,4 @@
-use Rattle.std.proofs.Common.{rules, ◌≡◌, ◌+◌, ◌<◌, ◌≤◌, ℕ, List, drop, length, take, refl, sym, ◌∙◌, ap}
+use Rattle.std.proofs.Common.{rules, drop, ◌∙◌}
 use Rattle.hg_journal.proofs.AheadLaws.{ahead_is, cut_ahead, cut_short, four_is, record_ahead, whole_body}
 use Rattle.hg_journal.proofs.ahead.Ahead.read.Goals as goal
 

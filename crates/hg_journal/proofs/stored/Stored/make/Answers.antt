@@ -1,5 +1,4 @@
-use Rattle.std.proofs.Common.{rules, ◌≡◌, inl, inr, None, Some, refl, arith}
-use Rattle.std.specs.Prelude.{slice_get}
+use Rattle.std.proofs.Common.{rules, ◌≡◌, inl, inr, Some, refl, arith}
 use Rattle.std.specs.Option.{ForSome, option_to_list}
 use Rattle.std.proofs.lemmas.Option.{slice_get_within}
 use Rattle.hg_life.specs.Calls.{IsMaking}
@@ -89,8 +88,8 @@ returns-in-Err-clause-stops g c =
     let there : c.args.self.now.node ≡ Some c.in-Some.node = search rules in
     let making : IsMaking accepts c.in-Some.node (option_to_list c.args.other) c.args.time c.args.payload.now (Made c.in-Made.place) c.make.new.self = rw c.in-Made.is at c.in_ok-answer.ensures.ok in
     let law = c.stored_changes_replay.ensures.made accepts c.in-Some.node c.make.new.self (option_to_list c.args.other) c.args.time c.args.payload.now c.in-Made.place c.is_node.ensures (omega (arith, c.ranges.time)) making in
-    let none : ForSome None (λ (x : NodeView g.row.V.Denot). x ≡ c.make.new.self) = λ x is. absurd (cc is) in
+    let none : ForSome c.close.new.node (λ (x : NodeView g.row.V.Denot). x ≡ c.make.new.self) = λ x is. absurd (cc (c.close.ensures.closed, is)) in
     stops_next accepts (g.D.Disk.file c.args.disk.now) c.args.self.now c.in-Some.node c.self.inside.tail.gate there (search rules) c.requires.stored
     (g.D.Disk.file c.append_made.new.disk) c.make.new.self 2 (spelling law.0) (made_next accepts c.in-Some.node c.make.new.self c.in-Made.place law.0 (law.1, law.2))
-    (λ v w. ComesOfMaking accepts (option_to_list c.args.other) c.args.time c.args.payload.now v w × ForSome None (λ (x : NodeView g.row.V.Denot). x ≡ w)) (c.append_made.ensures.keeps law.0 law.1)
+    (λ v w. ComesOfMaking accepts (option_to_list c.args.other) c.args.time c.args.payload.now v w × ForSome c.close.new.node (λ x. x ≡ w)) (c.append_made.ensures.keeps law.0 law.1)
     (inr (Made c.in-Made.place, making), none)

@@ -1,4 +1,4 @@
-use Rattle.std.proofs.Common.{inl, List, Some, ◌≡◌, ◌∙◌}
+use Rattle.std.proofs.Common.{inl, Some, ◌≡◌, ◌∙◌}
 use Rattle.hg_io.proofs.Going.{stays_on}
 use Rattle.hg_life.specs.NodeView.{start_of}
 use Rattle.hg_journal.specs.Journal.{journal}
