@@ -16,5 +16,5 @@ mod printed;
 mod summary;
 
 pub use hg_pieces::{Piece, print_pieces};
-pub use printed::text_of;
+pub use printed::{text_of, write_outcome};
 pub use summary::summary_of;

@@ -144,6 +144,22 @@ fn write_texts<K: Sink>(
     Ok(())
 }
 
+/// Puts the text of all that a run prints on a page before a sink. It takes no memory.
+pub fn write_outcome<K: Sink>(
+    page: &mut Page,
+    sink: &mut K,
+    outcome: &Outcome,
+) -> Result<(), Failed>
+    ensures { PutsOn K.Sink sink.old sink.new page.old page.new (report_text outcome.now) result }
+{
+    write_texts(
+        page,
+        sink,
+        outcome.names.as_slice(),
+        outcome.printed.as_slice(),
+    )
+}
+
 /// Writes the text of all that a run prints. It takes no memory; the sink gets pages of up to 4,096 bytes, and a piece that
 /// is longer than a page by itself.
 /// `Failed` comes with the first fault of the sink, which has then taken a front of the text, and not all of it.
@@ -152,11 +168,6 @@ pub fn text_of<K: Sink>(outcome: &Outcome, sink: &mut K) -> Result<(), Failed>
     ensures { Prints K.Sink sink.old sink.new (report_text outcome.now) result }
 {
     let mut page = Page::new();
-    write_texts(
-        &mut page,
-        sink,
-        outcome.names.as_slice(),
-        outcome.printed.as_slice(),
-    )?;
+    write_outcome(&mut page, sink, outcome)?;
     page.send(sink)
 }

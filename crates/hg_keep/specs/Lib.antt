@@ -1,0 +1,5 @@
+pub mod Events
+pub mod Keeping
+pub mod Stops
+pub mod Stores
+pub mod Text

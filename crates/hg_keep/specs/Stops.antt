@@ -1,0 +1,73 @@
+-- What a stop leaves of a journal while work is done on its node
+use Rattle.std.specs.Prelude.{◌≡◌, ◌⊎◌, ℕ, List, Option, Some, Result, IsErrOf, IsSome}
+use Rattle.std.specs.Option.{ForSome}
+use Rattle.hg_io.specs.FileView.{FileView, IsSynced, Leaves, Stays}
+use Rattle.hg_life.specs.Members.{MemberList}
+use Rattle.hg_life.specs.NodeView.{NodeView, Start}
+use Rattle.hg_life.specs.Signing.{Accepts}
+use Rattle.hg_journal.specs.Faults.{IsFaultCounted}
+use Rattle.hg_journal.specs.Journal.{journal, reading_of}
+use Rattle.hg_journal.specs.Opening.{SyncsFirst}
+use Rattle.hg_journal.specs.Reading as R
+use Rattle.hg_journal.specs.Writing.{LeavesOnly}
+use Rattle.hg_keep.specs.Keeping.{IsKept}
+use Rattle.hg_keep.specs.declared.kept.Kept.{Kept}
+use Rattle.hg_keep.specs.declared.stop.Stop.{Stop}
+use Rattle.hg_keep.specs.declared.stop.Stop.TheVariants.{Disk, Memory, Foreign, Broken}
+
+-- the journal of a node of which this is so
+abbrev pub KeepsSome : {K : Type 0} → (K → Accepts) → Start K → (NodeView K → Type 0) → List ℕ → Type 0
+KeepsSome {K} accepts start Is left = (w : NodeView K) × Is w × (journal accepts start left ≡ Some w)
+
+-- from old to new, and still at new, a stop leaves such a journal
+pub record StopsLeave {K : Type 0} (accepts : K → Accepts) (start : Start K) (Is : NodeView K → Type 0) (old new : FileView) : Type 0 where
+  pub meanwhile : Leaves old new (KeepsSome accepts start Is)
+  pub now : LeavesOnly new (KeepsSome accepts start Is)
+
+-- so it is of the node that was there, where the disk tells the file
+abbrev pub StopsLeaveOf : {K : Type 0} → (K → Accepts) → (NodeView K → NodeView K → Type 0) → Option (NodeView K) → FileView → FileView → Type 0
+StopsLeaveOf accepts comes node old new = ForSome node (λ v. IsSome old.reads → StopsLeave accepts v.start (comes v) old new)
+
+-- where the disk stops the work, its count for this name rose
+abbrev pub IsFaultTold : {T : Type 0} → Result T Stop → (List ℕ → ℕ) → (List ℕ → ℕ) → List ℕ → Type 0
+IsFaultTold r before after name = IsFaultCounted r Disk before after name
+
+-- ---- from the opening on
+
+-- the node begins so, and the file's journal is its, where the disk tells it
+pub record Begins {K : Type 0} (accepts : K → Accepts) (start : Start K) (file : FileView) (v : NodeView K) : Type 0 where
+  pub start : v.start ≡ start
+  pub keeps : ForSome file.reads (λ bytes. journal accepts start bytes ≡ Some v)
+
+-- the file's journal is the node's, and a stop leaves the file as it reads
+pub record Stores {K : Type 0} (accepts : K → Accepts) (start : Start K) (file : FileView) (w : NodeView K) : Type 0 where
+  pub synced : IsSynced file
+  pub keeps : ForSome file.reads (λ bytes. journal accepts start bytes ≡ Some w)
+
+-- where these bytes are a node's journal, a stop leaves that of one on the way from a first sync on
+abbrev pub SyncsOnTheWay : {K : Type 0} → (K → Accepts) → Start K → (NodeView K → NodeView K → Type 0) → FileView → FileView → List ℕ → Type 0
+SyncsOnTheWay {K} accepts start comes old new file =
+    (v : NodeView K) → journal accepts start file ≡ Some v → SyncsFirst old new (KeepsSome accepts start (comes v))
+
+-- so it is of the file, where the disk tells it; or the disk failed before that, and nothing was written
+abbrev pub SyncsOrStops : {K T : Type 0} → (K → Accepts) → Start K → (NodeView K → NodeView K → Type 0) → FileView → FileView → Result T Stop → Type 0
+SyncsOrStops accepts start comes old new r = ForSome old.reads (SyncsOnTheWay accepts start comes old new) ⊎ (IsErrOf r Disk × Stays old new)
+
+-- what a file is that is refused
+abbrev pub IsRefused : {K : Type 0} → (K → Accepts) → Start K → Stop → List ℕ → Type 0
+IsRefused accepts start Disk file = Unit {0}
+IsRefused accepts start Memory file = Unit {0}
+IsRefused accepts start Foreign file = reading_of accepts start file ≡ R.Foreign
+IsRefused accepts start (Broken at) file = reading_of accepts start file ≡ R.Broken at
+
+-- it stays as it was
+abbrev pub StaysIfRefused : Stop → FileView → FileView → Type 0
+StaysIfRefused Disk old new = Unit {0}
+StaysIfRefused Memory old new = Unit {0}
+StaysIfRefused Foreign old new = Stays old new
+StaysIfRefused (Broken at) old new = Stays old new
+
+-- what came of the work is that of the node with which the file before begins, and the file after is the journal of the node then
+abbrev pub KeepsTask : {K : Type 0} → (K → Accepts) → MemberList → Start K → List (List ℕ) → Option ℕ → FileView → FileView → Kept → Type 0
+KeepsTask {K} accepts members start events time old new kept =
+    (v w : NodeView K) × Begins accepts start old v × IsKept accepts members events time v kept w × Stores accepts start new w

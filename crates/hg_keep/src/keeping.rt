@@ -1,0 +1,120 @@
+ghost use Rattle.std.specs.Prelude.{◌≡◌, ◌<◌, ◌≤◌, ℕ, List, IfErr, IfOk, IsSome, OnOk, is_some, length, map};
+ghost use Rattle.std.specs.Option.{ForSome};
+ghost use Rattle.hg_life.specs.NodeView.{start_of};
+ghost use Rattle.hg_journal.specs.Stored.{StoresNode};
+ghost use Rattle.hg_keep.specs.Keeping.{IsMadeWithOf, IsOnTheWay, IsSettledSome, KeptOf, SettlesOf};
+ghost use Rattle.hg_keep.specs.Stops.{IsFaultTold, IsRefused, KeepsTask, StaysIfRefused, StopsLeaveOf, SyncsOrStops};
+
+use crate::kept::Kept;
+use crate::making::make_at;
+use crate::putting::put_all;
+use crate::stop::{Stop, open_stop, store_stop};
+use hg_io::Disk;
+use hg_journal::Stored;
+use hg_life::Members;
+use hg_model::{Bytes, Member, Memory, Share};
+use hg_node::Node;
+use hg_outcome::Outcome;
+use hg_play::block_of;
+use hg_sign::Signer;
+use std::alloc::Global;
+
+/// What is to be done to a node.
+#[derive(Clone, Copy, Debug)]
+pub struct Task<'a> {
+    /// The name of its journal's file.
+    pub journal: &'a str,
+    /// The member whose node it is.
+    pub own: Member,
+    /// The bytes of the events that are put to it.
+    pub events: &'a [Bytes],
+    /// The time of the event that it makes, if it is to make one, in no unit of ours.
+    pub time: Option<u64>,
+}
+
+/// Publishes all that the node's graph decides.
+fn settle<V: Signer + Drop, D: Disk>(stored: &mut Stored<V>, disk: &mut D) -> Result<(), Stop>
+    requires there { IsSome stored.old.node }
+    requires started { D.At disk.old stored.old.name }
+    requires stored { StoresNode V.accepts (D.file disk.old) stored.old }
+    ensures settles { OnOk result (SettlesOf V.accepts stored.old.node stored.new.node) }
+    ensures stored { OnOk result (StoresNode V.accepts (D.file disk.new) stored.new) }
+    ensures stops { StopsLeaveOf V.accepts IsSettledSome stored.old.node (D.file disk.old) (D.file disk.new) }
+    ensures shown { is_some (D.file disk.new).reads ≡ is_some (D.file disk.old).reads }
+    ensures name { stored.new.name ≡ stored.old.name }
+    ensures started { D.At disk.new stored.new.name }
+    ensures cause { IsFaultTold result (D.faults disk.old) (D.faults disk.new) stored.old.name }
+    ensures counts { (other : List ℕ) → D.faults disk.old other ≤ D.faults disk.new other }
+{
+    let node = stored.node().unwrap();
+    node.is_node();
+    let rows = node.rows();
+    match stored.remark(disk, rows, Share::new(0, 1)) {
+        Ok(_) => Ok(()),
+        Err(error) => Err(store_stop(error)),
+    }
+}
+
+/// The work on a node that was opened.
+fn work<V: Signer + Drop, D: Disk>(
+    alloc: Global,
+    stored: &mut Stored<V>,
+    disk: &mut D,
+    members: &Members,
+    task: &Task<'_>,
+) -> Result<Kept, Stop>
+    requires there { IsSome stored.old.node }
+    requires made { IsMadeWithOf members.now stored.old.node }
+    requires started { D.At disk.old stored.old.name }
+    requires stored { StoresNode V.accepts (D.file disk.old) stored.old }
+    ensures kept { IfOk result
+        (KeptOf V.accepts members.now task.now.events.now task.now.time stored.old.node stored.new.node) }
+    ensures stored { OnOk result (StoresNode V.accepts (D.file disk.new) stored.new) }
+    ensures stops { StopsLeaveOf V.accepts (IsOnTheWay V.accepts task.now.events.now task.now.time) stored.old.node
+        (D.file disk.old) (D.file disk.new) }
+    ensures cause { IsFaultTold result (D.faults disk.old) (D.faults disk.new) stored.old.name }
+    ensures counts { (other : List ℕ) → D.faults disk.old other ≤ D.faults disk.new other }
+{
+    let opened = stored.node().unwrap().rows() as u64;
+    let counts = put_all(stored, disk, task.events)?;
+    let made = make_at(alloc, stored, disk, task.time)?;
+    settle(stored, disk)?;
+    let outcome = block_of(alloc, members, stored.node().unwrap())?;
+    Ok(Kept {
+        opened,
+        counts,
+        made,
+        outcome,
+    })
+}
+
+/// Opens the node of a member from its journal, which is made anew where there is none, puts events to it, makes the event that
+/// comes next, if a time is given for it, publishes all that the node's graph decides, and answers what came of each. Each
+/// change stands in the journal before the next one is begun.
+pub fn keep<V: Signer + Drop, D: Disk>(
+    alloc: Global,
+    disk: &mut D,
+    members: &Members,
+    keys: V,
+    task: &Task<'_>,
+) -> Result<Kept, Stop>
+    requires { task.now.own < length members.now.entries }
+    // What came of it is that of the node of the file's journal, and the journal is then the node's after it.
+    ensures kept { IfOk result (KeepsTask V.accepts members.now (start_of members.now task.now.own keys)
+        task.now.events.now task.now.time (D.file disk.old) (D.file disk.new)) }
+    // The file is foreign, or broken at the place, just where the answer says so; and it stays.
+    ensures wrong { IfErr result (λ stop. ForSome (D.file disk.old).reads
+        (IsRefused V.accepts (start_of members.now task.now.own keys) stop)) }
+    ensures refused { IfErr result (λ stop. StaysIfRefused stop (D.file disk.old) (D.file disk.new)) }
+    // From the first sync on a stop leaves the journal of a node on the way; or the disk failed before that was done.
+    ensures synced { SyncsOrStops V.accepts (start_of members.now task.now.own keys)
+        (IsOnTheWay V.accepts task.now.events.now task.now.time) (D.file disk.old) (D.file disk.new) result }
+    ensures cause { IsFaultTold result (D.faults disk.old) (D.faults disk.new) task.now.journal.now }
+    ensures counts { (other : List ℕ) → D.faults disk.old other ≤ D.faults disk.new other }
+{
+    let mut stored = match Stored::open(alloc, disk, task.journal, members, task.own, keys) {
+        Ok(stored) => stored,
+        Err(error) => return Err(open_stop(error)),
+    };
+    work(alloc, &mut stored, disk, members, task)
+}

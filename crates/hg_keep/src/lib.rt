@@ -1,0 +1,18 @@
+//! The work of the command `keep`: a node is opened from its journal, events of a file are put to it, it makes one if it is to,
+//! and publishes all that its graph decides; each change stands in the journal before the next one is begun.
+//! The layer above uses `read_events`, `keep`, which answers what came of it, and `write_kept`, which prints that.
+#![tactic(auto)]
+
+mod events;
+mod keeping;
+mod kept;
+mod making;
+mod printing;
+mod putting;
+mod stop;
+
+pub use events::{EventFault, read_events};
+pub use keeping::{Task, keep};
+pub use kept::{Counts, Kept, Making};
+pub use printing::write_kept;
+pub use stop::Stop;

@@ -1,0 +1,101 @@
+ghost use Rattle.std.specs.Prelude.{◌≡◌, ◌≤◌, ℕ, List, Some, IfOk, IsSome, OnOk, is_some};
+ghost use Rattle.std.specs.Option.{ForSome};
+ghost use Rattle.hex.specs.Hex.{encode_lower};
+ghost use Rattle.hg_journal.specs.Stored.{StoresNode};
+ghost use Rattle.hg_keep.specs.Keeping.{HasRow, IsMadeSome, MakesOf, TurnOf, told_of};
+ghost use Rattle.hg_keep.specs.Stops.{IsFaultTold, StopsLeaveOf};
+
+use crate::kept::Making;
+use crate::stop::{Stop, store_stop};
+use hg_io::Disk;
+use hg_journal::Stored;
+use hg_life::MakeAnswer;
+use hg_model::{Bytes, Items, Memory};
+use hg_node::{Node, stored_changes_replay};
+use hg_sign::Signer;
+use std::alloc::Global;
+
+/// Bytes in lower-case hexadecimal digits.
+fn digits_of(alloc: Global, bytes: &[u8]) -> Result<Bytes, Memory>
+    ensures { IfOk result (λ digits. digits ≡ encode_lower bytes.now) }
+{
+    let text = hex::encode(alloc, bytes)?;
+    Ok(Items::from_vec(Vec::from_slice(alloc, text.as_bytes())?))
+}
+
+/// What is told of the answer to making an event.
+fn told<V: Signer>(
+    alloc: Global,
+    node: &Node<V>,
+    answer: Option<MakeAnswer>,
+) -> Result<Making, Memory>
+    requires { HasRow answer (Some node.now) }
+    ensures { IfOk result (λ told. told ≡ told_of node.now answer) }
+{
+    match answer {
+        None => Ok(Making::PeerBare),
+        Some(MakeAnswer::Refused(fault)) => Ok(Making::Refused(fault)),
+        Some(MakeAnswer::Made(place)) => {
+            let digits = digits_of(alloc, node.bytes(place))?;
+            Ok(Making::Made { place, digits })
+        }
+    }
+}
+
+/// Makes the event that comes next, without payload; `None` where none does.
+fn make_next<V: Signer + Drop, D: Disk>(
+    stored: &mut Stored<V>,
+    disk: &mut D,
+    time: u64,
+) -> Result<Option<MakeAnswer>, Stop>
+    requires there { IsSome stored.old.node }
+    requires started { D.At disk.old stored.old.name }
+    requires stored { StoresNode V.accepts (D.file disk.old) stored.old }
+    ensures turn { IfOk result (TurnOf V.accepts time stored.old.node stored.new.node) }
+    ensures row { IfOk result (λ a. HasRow a stored.new.node) }
+    ensures stored { OnOk result (StoresNode V.accepts (D.file disk.new) stored.new) }
+    ensures stops { StopsLeaveOf V.accepts (IsMadeSome V.accepts (Some time)) stored.old.node (D.file disk.old) (D.file disk.new) }
+    ensures shown { is_some (D.file disk.new).reads ≡ is_some (D.file disk.old).reads }
+    ensures name { stored.new.name ≡ stored.old.name }
+    ensures started { D.At disk.new stored.new.name }
+    ensures cause { IsFaultTold result (D.faults disk.old) (D.faults disk.new) stored.old.name }
+    ensures counts { (other : List ℕ) → D.faults disk.old other ≤ D.faults disk.new other }
+{
+    stored_changes_replay::<V>();
+    let node = stored.node().unwrap();
+    node.is_node();
+    let Some(other) = node.next_other() else {
+        return Ok(None);
+    };
+    match stored.make(disk, other, time, b"") {
+        Ok(answer) => Ok(Some(answer)),
+        Err(error) => Err(store_stop(error)),
+    }
+}
+
+/// Makes the event that comes next, if a time is given for it, and answers what is told of it.
+pub(crate) fn make_at<V: Signer + Drop, D: Disk>(
+    alloc: Global,
+    stored: &mut Stored<V>,
+    disk: &mut D,
+    time: Option<u64>,
+) -> Result<Option<Making>, Stop>
+    requires there { IsSome stored.old.node }
+    requires started { D.At disk.old stored.old.name }
+    requires stored { StoresNode V.accepts (D.file disk.old) stored.old }
+    ensures makes { IfOk result (MakesOf V.accepts time stored.old.node stored.new.node) }
+    ensures stored { OnOk result (StoresNode V.accepts (D.file disk.new) stored.new) }
+    ensures stops { StopsLeaveOf V.accepts (IsMadeSome V.accepts time) stored.old.node (D.file disk.old) (D.file disk.new) }
+    ensures shown { is_some (D.file disk.new).reads ≡ is_some (D.file disk.old).reads }
+    ensures name { stored.new.name ≡ stored.old.name }
+    ensures started { D.At disk.new stored.new.name }
+    ensures cause { IsFaultTold result (D.faults disk.old) (D.faults disk.new) stored.old.name }
+    ensures counts { (other : List ℕ) → D.faults disk.old other ≤ D.faults disk.new other }
+{
+    let Some(time) = time else {
+        return Ok(None);
+    };
+    let answer = make_next(stored, disk, time)?;
+    let told = told(alloc, stored.node().unwrap(), answer)?;
+    Ok(Some(told))
+}

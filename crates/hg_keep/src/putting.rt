@@ -1,0 +1,61 @@
+ghost use Rattle.std.specs.Prelude.{◌≡◌, ◌+◌, ◌<◌, ◌≤◌, ◌^◌, ℕ, List, Some, IfOk, IsErrOf, IsSome, OnErr, OnOk, is_some};
+ghost use Rattle.std.specs.Option.{ForSome};
+ghost use Rattle.hg_io.specs.Faults.{Rose};
+ghost use Rattle.hg_journal.specs.Stored.{StoresNode};
+ghost use Rattle.hg_keep.specs.Keeping.{IsPutSome, PutsAll, counted};
+ghost use Rattle.hg_keep.specs.Stops.{IsFaultTold, StopsLeaveOf};
+
+use crate::kept::Counts;
+use crate::stop::{Stop, store_stop};
+use hg_io::Disk;
+use hg_journal::Stored;
+use hg_life::PutAnswer;
+use hg_model::Bytes;
+use hg_sign::Signer;
+
+impl Counts {
+    /// Counts one answer more.
+    fn count(&mut self, answer: PutAnswer)
+        requires { self.old.accepted + (self.old.known + self.old.refused) < 2 ^ 63 }
+        ensures counted { self.new ≡ counted self.old answer }
+        ensures one { self.new.accepted + (self.new.known + self.new.refused) ≡ self.old.accepted + (self.old.known + self.old.refused) + 1 }
+    {
+        match answer {
+            PutAnswer::Accepted(_) => self.accepted += 1,
+            PutAnswer::Known(_) => self.known += 1,
+            PutAnswer::Refused(_) => self.refused += 1,
+        }
+    }
+}
+
+/// Puts the events to the node, one after the other.
+pub(crate) fn put_all<V: Signer + Drop, D: Disk>(
+    stored: &mut Stored<V>,
+    disk: &mut D,
+    events: &[Bytes],
+) -> Result<Counts, Stop>
+    requires there { IsSome stored.old.node }
+    requires started { D.At disk.old stored.old.name }
+    requires stored { StoresNode V.accepts (D.file disk.old) stored.old }
+    ensures puts { IfOk result (PutsAll V.accepts events.now stored.old.node stored.new.node) }
+    ensures stored { OnOk result (StoresNode V.accepts (D.file disk.new) stored.new) }
+    ensures stops { StopsLeaveOf V.accepts (IsPutSome V.accepts events.now) stored.old.node (D.file disk.old) (D.file disk.new) }
+    ensures shown { is_some (D.file disk.new).reads ≡ is_some (D.file disk.old).reads }
+    ensures name { stored.new.name ≡ stored.old.name }
+    ensures started { D.At disk.new stored.new.name }
+    ensures cause { IsFaultTold result (D.faults disk.old) (D.faults disk.new) stored.old.name }
+    ensures counts { (other : List ℕ) → D.faults disk.old other ≤ D.faults disk.new other }
+{
+    let mut counts = Counts {
+        accepted: 0,
+        known: 0,
+        refused: 0,
+    };
+    for event in events {
+        match stored.put(disk, event.as_slice()) {
+            Ok(answer) => counts.count(answer),
+            Err(error) => return Err(store_stop(error)),
+        }
+    }
+    Ok(counts)
+}
