@@ -1,0 +1,3 @@
+mod EventLaws
+mod StopLaws
+mod WayLaws
