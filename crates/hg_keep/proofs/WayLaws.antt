@@ -61,17 +61,21 @@ module _ {K : Type 0} (accepts : K → Accepts) where
 
   -- one event more of these
   pub puts_more : (first : Option (NodeView K)) (events : List (List ℕ)) (i : ℕ) (bytes : List ℕ) (now next : Option (NodeView K)) (counts more : Counts) →
-      i < length events → get_or events i [] ≡ bytes → IsSome now → PutsAll accepts (take i events) first now counts →
+      i < length events → bytes ≡ get_or events i bytes → IsSome now → PutsAll accepts (take i events) first now counts →
       ForSome now (λ v. (next ≡ Some (after_put accepts v bytes)) × (more ≡ counted counts (put_answer accepts v bytes))) →
       PutsAll accepts (take (i + 1) events) first next more
   puts_more first events i bytes now next counts more within at there so_far step v is =
       let here = so_far v is in
       let last : fold (put_one accepts) (v, no_counts) (take (i + 1) events) ≡ put_one accepts (fold (put_one accepts) (v, no_counts) (take i events)) bytes =
-      fold_more (put_one accepts) (v, no_counts) events i [] within ∙ ap (put_one accepts (fold (put_one accepts) (v, no_counts) (take i events))) at in
+      fold_more (put_one accepts) (v, no_counts) events i bytes within ∙ ap (put_one accepts (fold (put_one accepts) (v, no_counts) (take i events))) (sym at) in
       let one = step (puts accepts v (take i events)).0 here.0 in (
         one.0 ∙ ap (λ (x : NodeView K × Counts). Some x.0) (sym last),
         one.1 ∙ ap (λ (c : Counts). counted c (put_answer accepts (puts accepts v (take i events)).0 bytes)) here.1 ∙ ap (λ (x : NodeView K × Counts). x.1) (sym last),
       )
+
+  pub still_there : (now next : Option (NodeView K)) (bytes : List ℕ) → IsSome now → ForSome now (λ v. next ≡ Some (after_put accepts v bytes)) → IsSome next
+  still_there None next bytes there step = absurd cc
+  still_there (Some v) next bytes there step = subst (λ (o : Option (NodeView K)). IsSome o) (sym (step v refl)) refl
 
   -- the nodes that a stop leaves before any event is put
   pub stops_none : (file : FileView) (s : StoredView K) (events : List (List ℕ)) → StoresNode accepts file s → StopsLeaveOf accepts (IsPutSome accepts events) s.node file file
@@ -79,14 +83,14 @@ module _ {K : Type 0} (accepts : K → Accepts) where
 
   -- .. and while one more is put
   pub stops_more : (first : Option (NodeView K)) (events : List (List ℕ)) (i : ℕ) (bytes : List ℕ) (now : Option (NodeView K)) (counts : Counts) (a b c : FileView) →
-      i < length events → get_or events i [] ≡ bytes → PutsAll accepts (take i events) first now counts → (is_some b.reads ≡ is_some a.reads) →
+      i < length events → bytes ≡ get_or events i bytes → PutsAll accepts (take i events) first now counts → (is_some b.reads ≡ is_some a.reads) →
       StopsLeaveOf accepts (IsPutSome accepts events) first a b → StopsKeepPut accepts bytes b c now → StopsLeaveOf accepts (IsPutSome accepts events) first a c
   stops_more first events i bytes now counts a b c within at so_far shown before step v is told =
       let so = puts accepts v (take i events) in
       let keeps = step so.0 (so_far v is).0 (told_still a.reads b.reads shown told) in
       let last : (puts accepts v (take (i + 1) events)).0 ≡ after_put accepts so.0 bytes =
       ap (λ (x : NodeView K × Counts). x.0)
-      (fold_more (put_one accepts) (v, no_counts) events i [] within ∙ ap (put_one accepts (fold (put_one accepts) (v, no_counts) (take i events))) at) in
+      (fold_more (put_one accepts) (v, no_counts) events i bytes within ∙ ap (put_one accepts (fold (put_one accepts) (v, no_counts) (take i events))) (sym at)) in
       leaves_on accepts v.start (IsPutSome accepts events v) a b c (before v is told)
       (leaves_either accepts v.start (IsPutSome accepts events v) b c so.0 keeps.0 (puts_start v (take i events))
       (ap (λ (x : NodeView K). x.start) keeps.1 ∙ puts_start v (take i events)) (i, refl) (i + 1, keeps.1 ∙ sym last) keeps.2)
@@ -108,10 +112,10 @@ module _ {K : Type 0} (accepts : K → Accepts) where
 
   row_for : (v w : NodeView K) (others : List (List ℕ)) (time : ℕ) (answer : MakeAnswer) → MakesReplay K → IsNode accepts v → time < 2 ^ 64 → IsMaking accepts v others time [] answer w
       → HasRow (Some answer) (Some w)
-  row_for v w others time (answer.Made place) law node small making x is =
-      let has = law accepts v w others time [] place node small making in
+  row_for v w others time (answer.Made place) law is_node small making = λ x is.
+      let has = law accepts v w others time [] place is_node small making in
       subst (λ (y : NodeView K). place < length (node_rows y)) (some_is w x is) (slice_get_within (node_rows w) place has.0 has.1)
-  row_for v w others time (answer.Refused fault) law node small making = tt
+  row_for v w others time (answer.Refused fault) law is_node small making = tt
 
   pub has_row : (node next : Option (NodeView K)) (v : NodeView K) (others : List (List ℕ)) (time : ℕ) (answer : MakeAnswer) → MakesReplay K → IsNode accepts v → time < 2 ^ 64 → node ≡ Some v
       → ForSome node (MakesNode accepts others time [] answer next) → HasRow (Some answer) next

@@ -12,10 +12,10 @@ invariant-loop-event g l =
     let disk = g.D.Disk in
     record {
       there : IsSome l.stored.node;
-      puts : PutsAll accepts (take l.event-index l.event-items) l.fn.stored.node l.stored.node l.counts;
+      puts : PutsAll accepts (take l.event-index l.events) l.fn.stored.node l.stored.node l.counts;
       few : l.counts.accepted + (l.counts.known + l.counts.refused) ≡ l.event-index;
       stored : StoresNode accepts (disk.file l.disk) l.stored;
-      stops : StopsLeaveOf accepts (IsPutSome accepts l.event-items) l.fn.stored.node (disk.file l.fn.disk) (disk.file l.disk);
+      stops : StopsLeaveOf accepts (IsPutSome accepts l.events) l.fn.stored.node (disk.file l.fn.disk) (disk.file l.disk);
       shown : is_some (disk.file l.disk).reads ≡ is_some (disk.file l.fn.disk).reads;
       name : l.stored.name ≡ l.fn.stored.name;
       started : disk.At l.disk l.stored.name;
