@@ -1,8 +1,8 @@
 -- Worked command lines, computed: some that are taken, and some that are refused
-use Rattle.std.proofs.Common.{◌≡◌, List, [], ◌∷◌, ◌++◌, Option, Some, None, codes, refl}
+use Rattle.std.proofs.Common.{◌≡◌, ℕ, List, [], ◌∷◌, ◌++◌, Option, Some, None, codes, refl}
 use Rattle.clap.proofs.OnLiterals.{clap_on_literals}
 use Rattle.clap.specs.Words.{Text}
-use Rattle.hg_command.specs.Asked.{Asked, make, request_of, run}
+use Rattle.hg_command.specs.Asked.{Asked, keep, make, request_of, run}
 
 -- the program's name and the command
 abbrev play : List Text
@@ -145,3 +145,48 @@ no_seed = refl
 no_files_to_make_of : request_of (codes "hashgraph" ∷ codes "make" ∷ members ++ script) ≡ None
 unfolding clap_on_literals
 no_files_to_make_of = refl
+
+-- ---- events kept in a journal
+
+abbrev keeps : List Text
+keeps = codes "hashgraph" ∷ codes "keep" ∷ members ++ codes "--events" ∷ codes "e.hex" ∷ codes "--own" ∷ codes "ada" ∷ codes "--disk" ∷ codes "d.bin" ∷ []
+
+-- the events of e.hex, kept with this time
+abbrev the_keep : Option ℕ → Option Asked
+the_keep time =
+    Some (keep (record { members = codes "m.toml"; events = codes "e.hex"; own = codes "ada"; disk = codes "d.bin"; time = time }))
+
+abbrev time : Text → List Text
+time t = codes "--time" ∷ t ∷ []
+
+kept : request_of keeps ≡ the_keep None
+unfolding clap_on_literals
+kept = refl
+
+kept_at_zero : request_of (keeps ++ time (codes "0")) ≡ the_keep (Some 0)
+unfolding clap_on_literals
+kept_at_zero = refl
+
+kept_at_the_end : request_of (keeps ++ time (codes "18446744073709551615")) ≡ the_keep (Some 18446744073709551615)
+unfolding clap_on_literals
+kept_at_the_end = refl
+
+too_late_a_time : request_of (keeps ++ time (codes "18446744073709551616")) ≡ None
+unfolding clap_on_literals
+too_late_a_time = refl
+
+time_as_a_word : request_of (keeps ++ time (codes "now")) ≡ None
+unfolding clap_on_literals
+time_as_a_word = refl
+
+time_twice : request_of (keeps ++ time (codes "1") ++ time (codes "1")) ≡ None
+unfolding clap_on_literals
+time_twice = refl
+
+no_disk : request_of (codes "hashgraph" ∷ codes "keep" ∷ members ++ codes "--events" ∷ codes "e.hex" ∷ codes "--own" ∷ codes "ada" ∷ []) ≡ None
+unfolding clap_on_literals
+no_disk = refl
+
+script_to_keep : request_of (keeps ++ script) ≡ None
+unfolding clap_on_literals
+script_to_keep = refl

@@ -1,5 +1,5 @@
 -- What the words of a command line ask for
-use Rattle.std.specs.Prelude.{ℕ, String, Bool, false, map, find, string_bytes, nat_le, ◌&&◌, ◌≤◌, List, [], ◌∷◌, Option, Some, None, option_map, option_and_then, unwrap_or, if◌then◌else◌, codes}
+use Rattle.std.specs.Prelude.{ℕ, String, Bool, true, false, ⊤, map, find, string_bytes, nat_le, ◌&&◌, ◌≤◌, List, [], ◌∷◌, Option, Some, None, option_map, option_and_then, unwrap_or, if◌then◌else◌, codes}
 use Rattle.std.specs.Global.{Global}
 use Rattle.std.specs.Str.{bytes_eq}
 use Rattle.std.specs.Str.Parse.{digits_value, without_leading_plus}
@@ -7,7 +7,7 @@ use Rattle.clap.specs.Words.{App, Kinds, Row, Rule, Text, fault_of, first_of, on
 use Rattle.clap.specs.ValueTests.{accepts}
 use Rattle.clap.specs.declared.builder.ValueParser.TheVariants.{Unsigned}
 use Rattle.hg_life.specs.Workers.{most_workers}
-use Rattle.hg_command.specs.Line.{app_with, most_of_bits, needed, number_option, program_with, seed_option, text_option}
+use Rattle.hg_command.specs.Line.{app_with, most_of_bits, needed, number_option, program_with, text_option, wide_option}
 use Rattle.hg_command.specs.declared.request.Request.{Request}
 use Rattle.hg_command.specs.declared.request.Request.TheVariants as request
 
@@ -26,16 +26,27 @@ pub record MadeRun : Type 0 where
   pub seed : ℕ
   pub workers : ℕ
 
+-- the events of one file, kept in the journal of the member of that own name on a disk, with a time or without one
+pub record KeepFiles : Type 0 where
+  pub members : Text
+  pub events : Text
+  pub own : Text
+  pub disk : Text
+  pub time : Option ℕ
+
 -- what a command asks for
 pub data Asked : Type 0 where
   run : RunFiles → Asked
   make : MadeRun → Asked
+  keep : KeepFiles → Asked
 
 -- a request, with its texts
 abbrev pub asked : Request → Asked
 asked (request.Run members script workers) = run (record { members = members.now; script = script.now; workers = workers })
 asked (request.Make members lines seed workers) =
     make (record { members = members; lines = lines; seed = seed; workers = workers })
+asked (request.Keep members events own disk time) =
+    keep (record { members = members.now; events = events.now; own = own.now; disk = disk.now; time = time })
 
 -- the least and the greatest number of members that are made
 abbrev pub least_members : ℕ
@@ -53,12 +64,14 @@ abbrev pub KeepsRanges : Asked → Type 0
 KeepsRanges (run r) = r.workers ≤ most_workers
 KeepsRanges (make m) =
     (least_members ≤ m.members) × (m.members ≤ most_members) × (m.lines ≤ most_lines) × (m.workers ≤ most_workers)
+KeepsRanges (keep k) = ⊤
 
 -- whether they do
 abbrev pub keeps_ranges : Asked → Bool
 keeps_ranges (run r) = nat_le r.workers most_workers
 keeps_ranges (make m) =
     nat_le least_members m.members && (nat_le m.members most_members && (nat_le m.lines most_lines && nat_le m.workers most_workers))
+keeps_ranges (keep k) = true
 
 -- ---- what an option was given
 
@@ -71,9 +84,13 @@ abbrev pub text_number : ℕ → Text → Option ℕ
 text_number bits text =
     if accepts false (Unsigned 0 (most_of_bits bits)) text then Some (digits_value 10 (without_leading_plus text)) else None
 
--- the number of so many bits that an option was given, and 0 where it was left out
+-- the number of so many bits that an option was given, if it was given one
+abbrev pub maybe_number_in : ℕ → Text → List Row → Option ℕ
+maybe_number_in bits option rows = option_and_then (text_number bits) (one_of option rows)
+
+-- that number, and 0 where there is none
 abbrev pub number_in : ℕ → Text → List Row → ℕ
-number_in bits option rows = unwrap_or (option_and_then (text_number bits) (one_of option rows)) 0
+number_in bits option rows = unwrap_or (maybe_number_in bits option rows) 0
 
 -- ---- the commands
 
@@ -100,7 +117,7 @@ abbrev pub make_command : Command
 make_command = record {
   name = codes "make";
   options =
-      needed (number_option (codes "members")) ∷ needed (number_option (codes "lines")) ∷ needed (seed_option (codes "seed"))
+      needed (number_option (codes "members")) ∷ needed (number_option (codes "lines")) ∷ needed (wide_option (codes "seed"))
       ∷ number_option (codes "workers") ∷ [];
   reads = λ rows. make (record {
     members = number_in 32 (codes "members") rows;
@@ -110,9 +127,25 @@ make_command = record {
   });
 }
 
+-- keep --members FILE --events FILE --own NAME --disk FILE [--time T]
+abbrev pub keep_command : Command
+keep_command = record {
+  name = codes "keep";
+  options =
+      needed (text_option (codes "members")) ∷ needed (text_option (codes "events")) ∷ needed (text_option (codes "own"))
+      ∷ needed (text_option (codes "disk")) ∷ wide_option (codes "time") ∷ [];
+  reads = λ rows. keep (record {
+    members = text_in (codes "members") rows;
+    events = text_in (codes "events") rows;
+    own = text_in (codes "own") rows;
+    disk = text_in (codes "disk") rows;
+    time = maybe_number_in 64 (codes "time") rows;
+  });
+}
+
 -- the commands of the program
 abbrev pub commands : List Command
-commands = run_command ∷ make_command ∷ []
+commands = run_command ∷ make_command ∷ keep_command ∷ []
 
 -- a command as clap is told of it
 abbrev pub app_for : Command → App

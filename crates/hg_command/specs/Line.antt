@@ -17,12 +17,12 @@ parsed_option name parser = record (text_option name) { parser = Some parser }
 abbrev pub most_of_bits : ℕ → ℕ
 most_of_bits bits = 2 ^ bits - 1
 
--- an option --NAME that takes a whole number of 32 bits, and one that takes a number of 64 bits
+-- an option --NAME that takes a whole number of 32 bits, and one that takes a wide number, of 64 bits
 abbrev pub number_option : Text → Rule
 number_option name = parsed_option name (Signed (pos 0) (pos (most_of_bits 32)))
 
-abbrev pub seed_option : Text → Rule
-seed_option name = parsed_option name (Unsigned 0 (most_of_bits 64))
+abbrev pub wide_option : Text → Rule
+wide_option name = parsed_option name (Unsigned 0 (most_of_bits 64))
 
 -- an option that must be given
 abbrev pub needed : Rule → Rule

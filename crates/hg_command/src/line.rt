@@ -35,15 +35,22 @@ fn count_option<'a>(alloc: Global, name: &'a str) -> Arg<'a>
     number_option(alloc, name).required(true)
 }
 
-/// An option that must be given, and takes a number of 64 bits.
-fn seed_option<'a>(alloc: Global, name: &'a str) -> Arg<'a>
-    ensures rule { rule_of result ≡ line.needed (line.seed_option name.entry.now) }
+/// An option that takes a wide number, of 64 bits, and may be left out.
+fn wide_option<'a>(alloc: Global, name: &'a str) -> Arg<'a>
+    ensures rule { rule_of result ≡ line.wide_option name.entry.now }
     ensures local { result.global ≡ false }
 {
     Arg::new(alloc, name)
         .long(name)
-        .required(true)
         .value_parser(ValueParser::Unsigned(0, u64::MAX))
+}
+
+/// An option that must be given, and takes a wide number, of 64 bits.
+fn seed_option<'a>(alloc: Global, name: &'a str) -> Arg<'a>
+    ensures rule { rule_of result ≡ line.needed (line.wide_option name.entry.now) }
+    ensures local { result.global ≡ false }
+{
+    wide_option(alloc, name).required(true)
 }
 
 /// `run --members FILE --script FILE [--workers K]`
@@ -71,6 +78,20 @@ fn make_command<'a>(alloc: Global) -> Result<Command<'a>, AllocError>
     Ok(make)
 }
 
+/// `keep --members FILE --events FILE --own NAME --disk FILE [--time T]`
+fn keep_command<'a>(alloc: Global) -> Result<Command<'a>, AllocError>
+    ensures app { IfOk result (λ c. app_of c ≡ app_for asked.keep_command) }
+    ensures local { IfOk result (λ c. (out-Command c).has_globals ≡ false) }
+{
+    let keep = Command::new(alloc, "keep")
+        .arg(text_option(alloc, "members"))?
+        .arg(text_option(alloc, "events"))?
+        .arg(text_option(alloc, "own"))?
+        .arg(text_option(alloc, "disk"))?
+        .arg(wide_option(alloc, "time"))?;
+    Ok(keep)
+}
+
 /// The program before it has commands: one of them is required, and nothing asks for help.
 fn program<'a>(alloc: Global) -> Command<'a>
     ensures app { app_of result ≡ line.program }
@@ -89,6 +110,10 @@ pub(crate) fn command<'a>(alloc: Global) -> Result<Command<'a>, AllocError>
 {
     let run = run_command(alloc)?;
     let make = make_command(alloc)?;
-    let whole = program(alloc).subcommand(run)?.subcommand(make)?;
+    let keep = keep_command(alloc)?;
+    let whole = program(alloc)
+        .subcommand(run)?
+        .subcommand(make)?
+        .subcommand(keep)?;
     Ok(whole)
 }

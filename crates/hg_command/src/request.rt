@@ -1,6 +1,6 @@
 ghost use Rattle.std.specs.Prelude.{◌≡◌, option_and_then, option_map, codes};
 ghost use Rattle.clap.specs.Words.{found_of, rows_of, subcommand_rows_of};
-ghost use Rattle.hg_command.specs.Asked.{asked, asked_in, keeps_ranges, make_command, number_in, run_command, text_in};
+ghost use Rattle.hg_command.specs.Asked.{asked, asked_in, keep_command, keeps_ranges, make_command, maybe_number_in, number_in, run_command, text_in};
 
 use clap::ArgMatches;
 
@@ -20,6 +20,15 @@ pub enum Request<'a> {
         seed: u64,
         workers: u32,
     },
+    /// To keep the events of one file in a journal: that of the member of the name `own`, in the file of the name `disk`, with
+    /// the time that was given, if one was.
+    Keep {
+        members: &'a str,
+        events: &'a str,
+        own: &'a str,
+        disk: &'a str,
+        time: Option<u64>,
+    },
 }
 
 impl<'a> Request<'a> {
@@ -35,6 +44,7 @@ impl<'a> Request<'a> {
                 workers,
                 ..
             } => 2 <= members && members <= 128 && lines <= 1_000_000 && workers <= 16,
+            Request::Keep { .. } => true,
         }
     }
 }
@@ -46,11 +56,18 @@ fn number_at(matches: &ArgMatches<'_>, option: &str) -> u32
     matches.get_one::<u32>(option).unwrap_or(0)
 }
 
+/// The wide number that the option was given, if it was given one.
+fn wide_at(matches: &ArgMatches<'_>, option: &str) -> Option<u64>
+    ensures { result ≡ maybe_number_in 64 option.now (rows_of (found_of matches.now)) }
+{
+    matches.get_one::<u64>(option)
+}
+
 /// The seed that the option was given, 0 where it was left out.
 fn seed_at(matches: &ArgMatches<'_>, option: &str) -> u64
     ensures { result ≡ number_in 64 option.now (rows_of (found_of matches.now)) }
 {
-    matches.get_one::<u64>(option).unwrap_or(0)
+    wide_at(matches, option).unwrap_or(0)
 }
 
 /// The text that the option was given, an empty one where it was left out.
@@ -81,6 +98,18 @@ fn make_at<'a>(matches: &ArgMatches<'a>) -> Request<'a>
     }
 }
 
+fn keep_at<'a>(matches: &ArgMatches<'a>) -> Request<'a>
+    ensures { asked result ≡ keep_command.reads (rows_of (found_of matches.now)) }
+{
+    Request::Keep {
+        members: text_at(matches, "members"),
+        events: text_at(matches, "events"),
+        own: text_at(matches, "own"),
+        disk: text_at(matches, "disk"),
+        time: wide_at(matches, "time"),
+    }
+}
+
 /// What the command that was met asks for.
 pub(crate) fn request_at<'a>(matches: &ArgMatches<'a>) -> Option<Request<'a>>
     ensures { option_map asked result ≡ option_and_then asked_in (subcommand_rows_of matches.now) }
@@ -90,6 +119,8 @@ pub(crate) fn request_at<'a>(matches: &ArgMatches<'a>) -> Option<Request<'a>>
         Some(run_at(options))
     } else if name == "make" {
         Some(make_at(options))
+    } else if name == "keep" {
+        Some(keep_at(options))
     } else {
         None
     }
