@@ -1,5 +1,5 @@
 use crate::files::{ample, shelf_of};
-use hg_io::{NoGate, SinkMem};
+use hg_io::{DiskMem, NoGate, SinkMem};
 use hg_members::MemberFault;
 use hg_script::{ScriptFault, Why};
 use hg_top::{File, NoWords, Refusal, Status, hashgraph, without_words};
@@ -21,7 +21,7 @@ const REPORT: &str =
 const RUN: &str = "hashgraph run --members members.toml --script script.txt";
 
 const USAGE: &str =
-    "hashgraph: usage: run --members FILE --script FILE [--workers K] or make --members N --lines L --seed S [--workers K]\n";
+    "hashgraph: usage: run --members FILE --script FILE [--workers K] or make --members N --lines L --seed S [--workers K] or keep --members FILE --events FILE --own NAME --disk FILE [--time T]\n";
 
 /// What a run came to, and what it wrote to standard output and standard error.
 #[derive(Drop)]
@@ -56,12 +56,14 @@ fn run<R: Threads + Wait + Sync>(
         ("script.txt", script.as_bytes()),
         Vec::from_slice(alloc, fails)?,
     )?;
+    let mut disk = DiskMem::new(alloc, 1024, Vec::new(alloc))?;
     let mut err = ample(alloc)?;
     let status = hashgraph(
         rt,
         alloc,
         words.as_slice(),
         &mut shelf,
+        &mut disk,
         &mut out,
         &mut err,
         &NoGate,
