@@ -25,13 +25,13 @@ const USAGE: &str =
 
 /// What a run came to, and what it wrote to standard output and standard error.
 #[derive(Drop)]
-struct Ran {
-    status: Status,
-    out: SinkMem,
-    err: SinkMem,
+pub(crate) struct Ran {
+    pub(crate) status: Status,
+    pub(crate) out: SinkMem,
+    pub(crate) err: SinkMem,
 }
 
-fn words_of(alloc: Global, line: &str) -> Result<Vec<String>, Fail> {
+pub(crate) fn words_of(alloc: Global, line: &str) -> Result<Vec<String>, Fail> {
     let mut owned = Vec::new(alloc);
     for word in line.split(' ') {
         owned.push(String::from_str(alloc, word)?)?;
@@ -72,7 +72,7 @@ fn run<R: Threads + Wait + Sync>(
 }
 
 /// The run came to this, and wrote just these.
-fn expect(rt: &impl Abort, ran: &Ran, status: Status, out: &str, err: &str) {
+pub(crate) fn expect(rt: &impl Abort, ran: &Ran, status: Status, out: &str, err: &str) {
     assert!(rt; ran.status == status);
     assert!(rt; ran.out.bytes() == out.as_bytes());
     assert!(rt; ran.err.bytes() == err.as_bytes());

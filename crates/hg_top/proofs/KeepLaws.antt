@@ -8,7 +8,7 @@ use Rattle.hg_io.specs.declared.sink.Sink as sink
 use Rattle.hg_life.specs.Signing.{accepts_by}
 use Rattle.hg_journal.specs.Journal.{reading_of}
 use Rattle.hg_journal.specs.Reading.{Reading, state_in}
-use Rattle.hg_journal.specs.Reading.Reading as reading
+use Rattle.hg_journal.specs.Reading as R
 use Rattle.hg_keep.specs.Keeping.{IsOnTheWay}
 use Rattle.hg_keep.specs.Stops.{IsFaultTold, IsRefused, KeepsTask, StaysIfRefused, SyncsOrStops}
 use Rattle.hg_keep.specs.Text.{kept_text}
@@ -36,10 +36,10 @@ stays_same file = record {
 
 -- of what is a node's journal the text
 text_due : {S : Type 0} (first v : S) (r : Reading S) → state_in first r ≡ Some v → Done ≡ status_for r
-text_due first v reading.Anew is = refl
-text_due first v reading.Foreign is = grind arith
-text_due first v (reading.Broken at) is = grind arith
-text_due first v (reading.Holds w) is = refl
+text_due first v R.Anew is = refl
+text_due first v R.Foreign is = grind arith
+text_due first v (R.Broken at) is = grind arith
+text_due first v (R.Holds w) is = refl
 
 -- .. and of what is refused just that
 pub refused_due : (k : KeepWork) (bytes : List ℕ) (why : JournalFault) → IsRefused accepts_by (start_for k) (stop_of why) bytes → Journal why ≡ keep_status k bytes

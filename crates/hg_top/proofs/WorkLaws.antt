@@ -123,7 +123,7 @@ unless_faulty_for stop (Err fault) next others c starts status change comes = co
 -- ---- from a call without a disk to one with a disk
 
 -- no work is done on a node
-Diskless : Work → Type 0
+abbrev pub Diskless : Work → Type 0
 Diskless (Writes Is) = ⊤
 Diskless (Stops why) = ⊤
 Diskless (Reads file name next) = (bytes : List ℕ) → Diskless (next bytes)

@@ -7,7 +7,7 @@ use Rattle.hg_life.specs.NodeView.{Start, start_of}
 use Rattle.hg_life.specs.Signing.{accepts_by, secrets_of}
 use Rattle.hg_journal.specs.Journal.{reading_of}
 use Rattle.hg_journal.specs.Reading.{Reading}
-use Rattle.hg_journal.specs.Reading.Reading as reading
+use Rattle.hg_journal.specs.Reading as R
 use Rattle.hg_keep.specs.Keeping.{IsOnTheWay}
 use Rattle.hg_keep.specs.Stops.{IsRefused, KeepsTask, SyncsOnTheWay}
 use Rattle.hg_keep.specs.Text.{kept_text}
@@ -77,10 +77,10 @@ KeptOn K before after d k status =
 
 -- the status that is due for what a file stands for
 abbrev pub status_for : {S : Type 0} → Reading S → Status
-status_for reading.Anew = Done
-status_for reading.Foreign = Journal Foreign
-status_for (reading.Broken at) = Journal (Broken at)
-status_for (reading.Holds v) = Done
+status_for R.Anew = Done
+status_for R.Foreign = Journal Foreign
+status_for (R.Broken at) = Journal (Broken at)
+status_for (R.Holds v) = Done
 
 -- .. and for the journal's file with these bytes
 abbrev pub keep_status : KeepWork → List ℕ → Status

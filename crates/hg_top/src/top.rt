@@ -108,14 +108,7 @@ fn make<R: Threads + Wait + Sync, K: Sink, G: Gate + Sync>(
 /// plays the lines; what is written does not change with their number, and what is said of the safety of the run is said
 /// of it without the marks that workers give. They pass the points of `gate`. All that memory is taken for is done before
 /// the first byte is written.
-pub fn hashgraph<
-    R: Threads + Wait + Sync,
-    F: Shelf,
-    D: Disk,
-    K: Sink,
-    E: Sink,
-    G: Gate + Sync,
->(
+pub fn hashgraph<R: Threads + Wait + Sync, F: Shelf, D: Disk, K: Sink, E: Sink, G: Gate + Sync>(
     rt: &R,
     alloc: Global,
     words: &[String],

@@ -24,7 +24,7 @@ returns-clause-ends g c =
           let request = rw (q.field-0-is, q.field-0-0-is) at q.ensures.request in
           let r : RunFiles = record { members = q.members.now; script = q.script.now; workers = q.workers } in
           let ends = with_disk (run_work r.members r.script r.workers) (course F K s w.run-status.new.shelf out w.run-status.new.out no_disk) (disk_course W disk disk)
-              (F.starts s) w.run-status.result (diskless_run r.members r.script r.workers) still w.run-status.ensures.ends in
+          (F.starts s) w.run-status.result (diskless_run r.members r.script r.workers) still w.run-status.ensures.ends in
           ends_at F K W s w.run-status.new.shelf last.shelf out w.run-status.new.out last.out disk disk last.disk (Some (run r)) asked w.run-status.result last.status request
           w.shelf-is w.out-is w.disk-is w.status-is ends)
       | in-Ok-Some-Make w ↦ (let q = w.in-Ok-Some-Make in
