@@ -21,7 +21,8 @@ disk_run before after = record {
 
 -- the course of a run over these files
 abbrev pub course_over : Files → Outside → Outside → DiskState → DiskState → Course
-course_over files before after disk left = record { holds = Some files; before = before; after = after; disk = disk_run disk left }
+course_over files before after disk left =
+    record { holds = Some files; before = before; after = after; disk = disk_run disk left }
 
 -- with these words, its name first, where these files lie, the work that they ask for may end so, and these bytes stand on
 -- standard output

@@ -40,8 +40,8 @@ Comes (Keeps k) c starts status =
 abbrev pub Ends : Work → Course → Status → Type 0
 Ends work c status = Comes work c c.before.starts status
 
--- What must come of a work if neither the shelf nor the disk nor standard output fails: its text, or the status that it stops
--- with, or that of a file that is too long or of a journal that is refused; only a want of memory may come instead.
+-- What must come of a work if neither the shelf nor the disk nor standard output fails: its text, or the status that it
+-- stops with, or that of a file that is too long or of a journal that is refused; only a want of memory may come instead.
 abbrev pub Completes : Work → Course → Status → Type 0
 Completes (Writes Is) c status = (HasWriteFault c → ⊥) → Gives Done status
 Completes (Stops why) c status = Gives why status
@@ -49,7 +49,8 @@ Completes (Reads file name next) c status =
     (bytes : List ℕ) → Tells c.holds name bytes → (HasReadFault c name → ⊥) →
     ((limit_of file < length bytes) → Gives (too_long file) status) × ((length bytes ≤ limit_of file) → Completes (next bytes) c status)
 Completes (Keeps k) c status =
-    (HasWriteFault c → ⊥) → (HasDiskFault c.disk k.journal → ⊥) → ForSome c.disk.before.reads (λ bytes. Gives (keep_status k bytes) status)
+    (HasWriteFault c → ⊥) → (HasDiskFault c.disk k.journal → ⊥)
+    → ForSome c.disk.before.reads (λ bytes. Gives (keep_status k bytes) status)
 
 -- the work begins with no file
 abbrev pub ReadsNoFile : Work → Type 0
@@ -58,7 +59,8 @@ ReadsNoFile _ = ⊤
 
 -- a work came to this status, with a shelf F alone and no disk: nothing was written, whatever standard output is
 abbrev pub StopsIn : {S : Type 0} → shelf.Ghosts S → S → S → Work → Status → Type 0
-StopsIn F before after work status = (faults : ℕ) (written : Option (List ℕ)) → Ends work (reading F before after faults written no_disk) status
+StopsIn F before after work status =
+    (faults : ℕ) (written : Option (List ℕ)) → Ends work (reading F before after faults written no_disk) status
 
 -- the file of this name was taken for this
 abbrev pub IsTaken : {A F : Type 0} → Option Files → File → (List ℕ → Result A F) → List ℕ → A → Type 0

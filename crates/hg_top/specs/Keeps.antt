@@ -32,11 +32,13 @@ abbrev pub work_on : MemberList → Task → KeepWork
 work_on members task =
     record { journal = task.journal.now; members = members; own = task.own; events = task.events.now; time = task.time }
 
--- The text tells what came of the work on the node with which the file before begins; the file after is the journal of the
--- node then, and a stop leaves it so
+-- The text tells what came of the work on the node whose journal the file was; the file is then that of the node after it,
+-- and a stop leaves it so
 abbrev pub IsKeptText : KeepWork → DiskCourse → List ℕ → Type 0
 IsKeptText k d text =
-    (kept : Kept) × KeepsTask accepts_by k.members (start_for k) k.events k.time d.before d.after kept × (text ≡ kept_text kept)
+    (kept : Kept)
+    × KeepsTask accepts_by k.members (start_for k) k.events k.time d.before d.after kept
+    × (text ≡ kept_text kept)
 
 -- the statuses of what stops the work, and which stop a fault of the journal is
 abbrev pub stop_status : Stop → Status
@@ -49,13 +51,14 @@ abbrev pub stop_of : JournalFault → Stop
 stop_of Foreign = stop.Foreign
 stop_of (Broken at) = stop.Broken at
 
--- How it ended: the disk failed at the journal's name; or the file that it tells is so refused, and stays; or the text went to
--- standard output, whose bytes and faults are told as in `Wrote`
+-- How it ended: the disk failed at the journal's name; or the file that it tells is so refused, and stays; or the text went
+-- to standard output, whose bytes and faults are told as in `Wrote`
 abbrev pub KeepEnds : KeepWork → DiskCourse → Option (List ℕ) → Option (List ℕ) → ℕ → ℕ → Status → Type 0
 KeepEnds k d before after faults_before faults_after Disk = (after ≡ before) × HasDiskFault d k.journal
 KeepEnds k d before after faults_before faults_after (Journal why) =
     (after ≡ before) × IsStill d × ForSome d.before.reads (IsRefused accepts_by (start_for k) (stop_of why))
-KeepEnds k d before after faults_before faults_after status = Wrote (IsKeptText k d) before after faults_before faults_after status
+KeepEnds k d before after faults_before faults_after status =
+    Wrote (IsKeptText k d) before after faults_before faults_after status
 
 -- such a status may come before the first sync
 abbrev pub IsEarly : Status → Type 0
@@ -63,8 +66,8 @@ IsEarly Disk = ⊤
 IsEarly Memory = ⊤
 IsEarly _ = ⊥
 
--- What stops leave meanwhile: where the file is a node's journal, from a first sync on that of a node on the way; or the work
--- ended before that, and nothing was written
+-- What stops leave meanwhile: where the file is a node's journal, from a first sync on that of a node on the way; or the
+-- work ended before that, and nothing was written
 abbrev pub KeepSyncs : KeepWork → DiskCourse → Status → Type 0
 KeepSyncs k d status =
     ForSome d.before.reads (SyncsOnTheWay accepts_by (start_for k) (IsOnTheWay accepts_by k.events k.time) d.before d.after)

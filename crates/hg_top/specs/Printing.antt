@@ -32,7 +32,8 @@ script_line (Fault f) = codes "hashgraph: script line " ++ (decimal f.line ++ (c
 
 abbrev pub events_line : Refusal EventFault → List ℕ
 events_line TooLong = codes "hashgraph: events: too-long\n"
-events_line (Fault f) = codes "hashgraph: event at " ++ (decimal f.at ++ (codes ": " ++ (byte_fault_text f.fault ++ codes "\n")))
+events_line (Fault f) =
+    codes "hashgraph: event at " ++ (decimal f.at ++ (codes ": " ++ (byte_fault_text f.fault ++ codes "\n")))
 
 -- the line that tells what is wrong with a journal
 abbrev pub journal_line : JournalFault → List ℕ

@@ -1,4 +1,4 @@
--- A command as a value: files that are read in turn, and at the end a text, the work on a node, or the status that it stops with
+-- A command as a value: files that are read in turn, and at the end a text, the work on a node, or a status to stop with
 use Rattle.std.specs.Prelude.{ℕ, List, Option, Result, Ok, Err}
 use Rattle.hg_life.specs.Members.{MemberList}
 use Rattle.hg_top.specs.declared.status.File.{File}
@@ -19,8 +19,8 @@ too_long file.Members = Members TooLong
 too_long file.Script = Script TooLong
 too_long file.Events = Events TooLong
 
--- the work on a node that is kept in a journal: the journal's file, whose node it is among these members, the events that are
--- put to it, and the time of the event that it makes, if it makes one
+-- the work on a node that is kept in a journal: the journal's file, whose node it is among these members, the events that
+-- are put to it, and the time of the event that it makes, if it makes one
 pub record KeepWork : Type 0 where
   pub journal : List ℕ
   pub members : MemberList

@@ -10,8 +10,8 @@ use Rattle.hg_top.specs.declared.status.Status.TheVariants.{Done, WriteFault, Me
 abbrev pub Gives : Status → Status → Type 0
 Gives why status = (status ≡ why) ⊎ (status ≡ Memory)
 
--- The last step of a work that writes a text with a property: the text stands whole at `Done`, and a front of it at a fault.
--- Of standard output the bytes and the count of faults are told, each before and after.
+-- The last step of a work that writes a text with a property: the text stands whole at `Done`, and a front of it at a
+-- fault. Of standard output the bytes and the count of faults are told, each before and after.
 abbrev pub Wrote : (List ℕ → Type 0) → Option (List ℕ) → Option (List ℕ) → ℕ → ℕ → Status → Type 0
 Wrote Is before after faults_before faults_after Done = (text : List ℕ) × Is text × Appends before after text
 Wrote Is before after faults_before faults_after WriteFault =

@@ -2,8 +2,8 @@
 //! `main` uses `hashgraph`, whose clauses say what it writes for which files, and the cause of each status.
 //! What the script does is `hg_play`'s; what is written `report_text`, `summary_text` and `status_line` tell.
 //! A command is a work, a value of `specs/Work.antt`: it reads files and then writes a text, works on a node, or stops.
-//! `specs/Commands.antt` has the work of each, and `specs/Ends.antt` says once what a work comes to; `specs/Keeps.antt` what the
-//! work on a node does.
+//! `specs/Commands.antt` has the work of each, and `specs/Ends.antt` says once what a work comes to, with `specs/Keeps.antt`
+//! for the work on a node.
 //!
 //! From `main` of `hg_cli`, shortened:
 //!

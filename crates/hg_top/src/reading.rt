@@ -69,7 +69,8 @@ pub(crate) fn lines_from<F: Shelf>(
 ) -> Result<Items<Line>, Status>
     ensures ok { IfOk result (IsTaken (F.holds shelf.old) file.Script (lines_for members.now workers) name.now) }
     ensures lawful { IfOk result (λ lines. All (IsLine members.now workers) lines) }
-    ensures err { IfErr result (StopsIn F.Shelf shelf.old shelf.new (lines_work name.now members.now workers (λ lines. nothing_more))) }
+    ensures err { IfErr result
+        (StopsIn F.Shelf shelf.old shelf.new (lines_work name.now members.now workers (λ lines. nothing_more))) }
     ensures starts { StartsOne F.Shelf shelf.old shelf.new }
 {
     let bytes = match bytes_from(alloc, shelf, File::Script, name) {

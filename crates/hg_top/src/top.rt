@@ -98,16 +98,17 @@ fn make<R: Threads + Wait + Sync, K: Sink, G: Gate + Sync>(
     }
 }
 
-/// Runs the program `hashgraph` over the files of a shelf and a disk. `words` has the program's name first, and then one of three
-/// commands. `run --members FILE --script FILE [--workers K]`: each member that has a node gossips as the script says; then
-/// the nodes' ledgers are written to `out`. `make --members N --lines L --seed S [--workers K]`: so many members and lines
-/// are made from the seed and played, and a summary of each node is written to `out`; no file is read.
-/// `keep --members FILE --events FILE --own NAME --disk FILE [--time T]`: the node of the member NAME is opened from its journal
-/// on the disk, takes the events of the file, makes the event that comes next, if there is a time, and publishes what its graph
-/// decides; then what came of it is written to `out`, with the node's ledger. What is wrong is written to `err`, in one line. With workers the fame of witnesses is decided by so many threads beside the one that
+/// Runs the program `hashgraph` over the files of a shelf and a disk. `words` has the program's name first, and then one
+/// of three commands. `run --members FILE --script FILE [--workers K]`: each member that has a node gossips as the
+/// script says; then the nodes' ledgers are written to `out`. `make --members N --lines L --seed S [--workers K]`: so
+/// many members and lines are made from the seed and played, and a summary of each node is written to `out`; no file is
+/// read. `keep --members FILE --events FILE --own NAME --disk FILE [--time T]`: the node of the member NAME is opened
+/// from its journal on the disk, takes the events of the file, makes the event that comes next, if there is a time, and
+/// publishes what its graph decides; then what came of it is written to `out`, with the node's ledger. What is wrong is
+/// written to `err`, in one line. With workers the fame of witnesses is decided by so many threads beside the one that
 /// plays the lines; what is written does not change with their number, and what is said of the safety of the run is said
-/// of it without the marks that workers give. They pass the points of `gate`. All that memory is taken for is done before
-/// the first byte is written.
+/// of it without the marks that workers give. They pass the points of `gate`. All that memory is taken for is done
+/// before the first byte is written to `out`.
 pub fn hashgraph<R: Threads + Wait + Sync, F: Shelf, D: Disk, K: Sink, E: Sink, G: Gate + Sync>(
     rt: &R,
     alloc: Global,
@@ -118,10 +119,9 @@ pub fn hashgraph<R: Threads + Wait + Sync, F: Shelf, D: Disk, K: Sink, E: Sink, 
     err: &mut E,
     gate: &G,
 ) -> Status
-    // How the work that the words ask for ended: with its text on `out`, or for which cause, with which files started, and with
-    // what on the disk.
-    // No two nodes' orders part ways in the run that is written, where the dishonest members have less than a third of the
-    // stake and names do not collide.
+    // How the work that the words ask for ended: with its text on `out`, or for which cause, with which files started,
+    // and what became of the disk. No two nodes' orders part ways in the run that is written, where the dishonest
+    // members have less than a third of the stake and names do not collide.
     ensures ends { Ends (work_of (asks words.now))
         (course F.Shelf K.Sink shelf.old shelf.new out.old out.new (disk_course D.Disk disk.old disk.new)) result }
     // That it must end with its text, or with the status of what is refused, if nothing fails and memory does not run out.
