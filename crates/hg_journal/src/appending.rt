@@ -1,4 +1,4 @@
-ghost use Rattle.std.specs.Prelude.{◌≡◌, ◌<◌, ◌≤◌, ◌+◌, ◌^◌, ◌++◌, ◌∷◌, [], ℕ, List, OnErr, OnOk, length, option_map, vec_capacity};
+ghost use Rattle.std.specs.Prelude.{◌≡◌, ◌<◌, ◌≤◌, ◌+◌, ◌^◌, ◌++◌, ◌∷◌, [], ℕ, List, OnErr, OnOk, is_some, length, option_map, vec_capacity};
 ghost use Rattle.std.specs.Option.{ForSome};
 ghost use Rattle.hg_io.specs.Faults.{Rose};
 ghost use Rattle.hg_io.specs.FileView.{IsSynced, Leaves};
@@ -36,6 +36,7 @@ pub(crate) fn append<D: Disk>(
     requires synced { IsSynced (D.file disk.old) }
     ensures appended { OnOk result ((D.file disk.new).reads ≡ option_map (appended gate piece.now) (D.file disk.old).reads) }
     ensures synced { OnOk result (IsSynced (D.file disk.new)) }
+    ensures shown { is_some (D.file disk.new).reads ≡ is_some (D.file disk.old).reads }
     ensures now { ForSome (D.file disk.old).reads (λ bytes. LeavesOnly (D.file disk.new) (IsCutShort gate piece.now bytes)) }
     ensures leaves { ForSome (D.file disk.old).reads
         (λ bytes. Leaves (D.file disk.old) (D.file disk.new) (IsCutShort gate piece.now bytes)) }

@@ -44,6 +44,7 @@ fn write_head<D: Disk>(disk: &mut D, name: &str, head: &[u8; 8]) -> Result<(), F
     requires begun { ForSome (D.file disk.old).reads IsOnlyBegun }
     ensures made { OnOk result (ForSome (D.file disk.new).reads (λ bytes. bytes ≡ empty_file head.now)) }
     ensures synced { OnOk result (IsSynced (D.file disk.new)) }
+    ensures shown { is_some (D.file disk.new).reads ≡ is_some (D.file disk.old).reads }
     ensures now { ForSome (D.file disk.old).reads (λ bytes. LeavesOnly (D.file disk.new) (IsEmpty head.now)) }
     ensures leaves { ForSome (D.file disk.old).reads (λ bytes. Leaves (D.file disk.old) (D.file disk.new) (IsEmpty head.now)) }
     ensures started { D.At disk.new name.now }
@@ -69,6 +70,7 @@ pub(crate) fn make_anew<D: Disk>(
     requires begun { ForSome (D.file disk.old).reads (λ bytes. Decides begun (IsBegun bytes)) }
     ensures made { OnOk result (ForSome (D.file disk.new).reads (λ bytes. bytes ≡ empty_file head.now)) }
     ensures synced { OnOk result (IsSynced (D.file disk.new)) }
+    ensures shown { is_some (D.file disk.new).reads ≡ is_some (D.file disk.old).reads }
     ensures now { ForSome (D.file disk.old).reads (λ bytes. LeavesOnly (D.file disk.new) (IsEmpty head.now)) }
     ensures leaves { ForSome (D.file disk.old).reads (λ bytes. Leaves (D.file disk.old) (D.file disk.new) (IsEmpty head.now)) }
     ensures started { D.At disk.new name.now }

@@ -1,4 +1,4 @@
-ghost use Rattle.std.specs.Prelude.{◌≡◌, ◌<◌, ◌≤◌, ◌++◌, ℕ, List, IfOk, IsSome, OnOk, codes, length};
+ghost use Rattle.std.specs.Prelude.{◌≡◌, ◌<◌, ◌≤◌, ◌++◌, ℕ, List, IfErr, IfOk, IsSome, OnOk, codes, is_some, length};
 ghost use Rattle.std.specs.Int.{to_be_bytes, w16};
 ghost use Rattle.std.specs.Option.{ForSome};
 ghost use Rattle.hg_io.specs.FileView.{IsSynced};
@@ -6,7 +6,7 @@ ghost use Rattle.hg_life.specs.NodeView.{start_of};
 ghost use Rattle.hg_node.specs.Replay.{new_node};
 ghost use Rattle.hg_journal.specs.Faults.{IsFaultCounted};
 ghost use Rattle.hg_journal.specs.Journal.{head_of};
-ghost use Rattle.hg_journal.specs.Opening.{Finds, LeavesJournal, Opens, WritesOnlyAnew};
+ghost use Rattle.hg_journal.specs.Opening.{Finds, LeavesJournal, Opens, StaysIfRefused, WritesOnlyAnew};
 ghost use Rattle.hg_journal.specs.Stored.{IsNear, IsStored, StoresNode};
 
 use crate::errors::OpenError;
@@ -52,9 +52,11 @@ pub(crate) fn gate_of<V: Signer, D: Disk>(
     ensures start { OnOk result (node.new.start ≡ node.old.start) }
     ensures near { IfOk result (λ gate. IsNear gate node.new) }
     ensures stored { IfOk result (λ gate. IsStored V.accepts (D.file disk.new) node.new gate) }
+    ensures shown { is_some (D.file disk.new).reads ≡ is_some (D.file disk.old).reads }
     ensures finds { ForSome (D.file disk.old).reads (Finds V.accepts node.old.start node.new result) }
     ensures leaves { LeavesJournal V.accepts node.old.start (D.file disk.old) (D.file disk.new) }
     ensures untouched { WritesOnlyAnew head.now (D.file disk.old) (D.file disk.new) }
+    ensures refused { IfErr result (λ e. StaysIfRefused e (D.file disk.old) (D.file disk.new)) }
     ensures started { D.At disk.new name.now }
     ensures cause { IsFaultCounted result OpenError.Disk (D.faults disk.old) (D.faults disk.new) name.now }
     ensures counts { (other : List ℕ) → D.faults disk.old other ≤ D.faults disk.new other }
@@ -88,9 +90,11 @@ fn open_synced<V: Signer + Drop, D: Disk>(
     ensures begins { IfOk result (λ s. ForSome s.node (λ v. v.start ≡ start_of members.now own keys)) }
     ensures name { IfOk result (λ s. s.name ≡ name.now) }
     ensures stored { IfOk result (StoresNode V.accepts (D.file disk.new)) }
+    ensures shown { is_some (D.file disk.new).reads ≡ is_some (D.file disk.old).reads }
     ensures opens { ForSome (D.file disk.old).reads (Opens V.accepts (start_of members.now own keys) (λ s. s.node) result) }
     ensures leaves { LeavesJournal V.accepts (start_of members.now own keys) (D.file disk.old) (D.file disk.new) }
     ensures untouched { WritesOnlyAnew (head_of (start_of members.now own keys)) (D.file disk.old) (D.file disk.new) }
+    ensures refused { IfErr result (λ e. StaysIfRefused e (D.file disk.old) (D.file disk.new)) }
     ensures started { D.At disk.new name.now }
     ensures cause { IsFaultCounted result OpenError.Disk (D.faults disk.old) (D.faults disk.new) name.now }
     ensures counts { (other : List ℕ) → D.faults disk.old other ≤ D.faults disk.new other }
@@ -122,12 +126,16 @@ impl<V: Signer + Drop> Stored<V> {
         ensures name { IfOk result (λ s. s.name ≡ name.now) }
         // A stop leaves the whole journal.
         ensures stored { IfOk result (StoresNode V.accepts (D.file disk.new)) }
+        // The disk tells the file just where it did.
+        ensures shown { is_some (D.file disk.new).reads ≡ is_some (D.file disk.old).reads }
         // The node is that of the file's journal; the file is foreign, or broken at the place, just where the answer says so.
         ensures opens { ForSome (D.file disk.old).reads (Opens V.accepts (start_of members.now own keys) (λ s. s.node) result) }
         // From the first sync on a stop leaves a file with the same journal; or the disk failed before that was done.
         ensures synced { SyncsOrFails V.accepts (start_of members.now own keys) (D.file disk.old) (D.file disk.new) result }
         // It writes only to a file that it makes anew.
         ensures untouched { WritesOnlyAnew (head_of (start_of members.now own keys)) (D.file disk.old) (D.file disk.new) }
+        // A file that it finds foreign or broken stays as it was, whether or not the disk tells it.
+        ensures refused { IfErr result (λ e. StaysIfRefused e (D.file disk.old) (D.file disk.new)) }
         ensures started { IfOk result (λ s. D.At disk.new s.name) }
         ensures cause { IsFaultCounted result OpenError.Disk (D.faults disk.old) (D.faults disk.new) name.now }
         ensures counts { (other : List ℕ) → D.faults disk.old other ≤ D.faults disk.new other }

@@ -1,4 +1,4 @@
-ghost use Rattle.std.specs.Prelude.{◌≡◌, ◌↔◌, ◌+◌, ◌<◌, ◌≤◌, ◌^◌, ℕ, List, None, Some, IfOk, IsErrOf, IsSome, OnErr, OnOk, length, option_map};
+ghost use Rattle.std.specs.Prelude.{◌≡◌, ◌↔◌, ◌+◌, ◌<◌, ◌≤◌, ◌^◌, ℕ, List, None, Some, IfOk, IsErrOf, IsSome, OnErr, OnOk, is_some, length, option_map};
 ghost use Rattle.std.specs.Option.{ForSome, option_to_list};
 ghost use Rattle.hg_io.specs.Faults.{Rose};
 ghost use Rattle.hg_io.specs.FileView.{IsSynced};
@@ -71,6 +71,8 @@ impl<V: Signer + Drop> Stored<V> {
         ensures closes { IsErrOf result StoreError.Disk ↔ (IsSome self.old.node × (self.new.node ≡ None)) }
         // A stop leaves the whole journal.
         ensures stored { StoresNode V.accepts (D.file disk.new) self.new }
+        // The disk tells the file just where it did.
+        ensures shown { is_some (D.file disk.new).reads ≡ is_some (D.file disk.old).reads }
         // A stop meanwhile, and one after a fault, leaves it as it was or with the event.
         ensures stops { StopsKeepPut V.accepts bytes.now (D.file disk.old) (D.file disk.new) self.old.node }
         ensures name { self.new.name ≡ self.old.name }
@@ -113,6 +115,8 @@ impl<V: Signer + Drop> Stored<V> {
         ensures closes { IsErrOf result StoreError.Disk ↔ (IsSome self.old.node × (self.new.node ≡ None)) }
         // A stop leaves the whole journal.
         ensures stored { StoresNode V.accepts (D.file disk.new) self.new }
+        // The disk tells the file just where it did.
+        ensures shown { is_some (D.file disk.new).reads ≡ is_some (D.file disk.old).reads }
         // A stop meanwhile, and one after a fault, leaves it as it was or with an event that was made so.
         ensures stops { StopsKeepMaking V.accepts (option_to_list other) time payload.now
             (D.file disk.old) (D.file disk.new) self.old self.new }
@@ -155,6 +159,8 @@ impl<V: Signer + Drop> Stored<V> {
         ensures closes { IsErrOf result StoreError.Disk ↔ (IsSome self.old.node × (self.new.node ≡ None)) }
         // A stop leaves the whole journal.
         ensures stored { StoresNode V.accepts (D.file disk.new) self.new }
+        // The disk tells the file just where it did.
+        ensures shown { is_some (D.file disk.new).reads ≡ is_some (D.file disk.old).reads }
         // A stop meanwhile, and one after a fault, leaves it as it was or with these marks.
         ensures stops { StopsKeepMarks V.accepts len share (D.file disk.old) (D.file disk.new) self.old.node }
         ensures name { self.new.name ≡ self.old.name }
@@ -199,6 +205,7 @@ fn append_made<V: Signer, D: Disk>(
     ensures same { OnErr result (tail.new.gate ≡ tail.old.gate) }
     ensures stored { OnOk result
         (MadeStores V.accepts node.now place (D.file disk.old) (D.file disk.new) tail.old.gate tail.new.gate) }
+    ensures shown { is_some (D.file disk.new).reads ≡ is_some (D.file disk.old).reads }
     ensures keeps { MadeKeeps V.accepts node.now place (D.file disk.old) (D.file disk.new) tail.old.gate }
     ensures started { D.At disk.new tail.new.name }
     ensures cause { OnErr result (Rose (D.faults disk.old tail.old.name) (D.faults disk.new tail.old.name)) }

@@ -1,4 +1,4 @@
-ghost use Rattle.std.specs.Prelude.{◌≡◌, ◌+◌, ◌<◌, ◌≤◌, ◌^◌, ℕ, List, IfOk, OnErr, OnOk, length, string_bytes, vec_capacity};
+ghost use Rattle.std.specs.Prelude.{◌≡◌, ◌+◌, ◌<◌, ◌≤◌, ◌^◌, ℕ, List, IfOk, OnErr, OnOk, is_some, length, string_bytes, vec_capacity};
 ghost use Rattle.std.specs.Option.{ForSome};
 ghost use Rattle.hg_io.specs.Faults.{Rose};
 ghost use Rattle.hg_io.specs.FileView.{IsSynced};
@@ -70,6 +70,7 @@ impl Tail {
         ensures same { OnErr result (self.new.gate ≡ self.old.gate) }
         ensures stored { OnOk result
             (AppendStores V.accepts kind body.now (D.file disk.old) (D.file disk.new) self.old.gate self.new.gate) }
+        ensures shown { is_some (D.file disk.new).reads ≡ is_some (D.file disk.old).reads }
         ensures keeps { AppendKeeps V.accepts kind body.now (D.file disk.old) (D.file disk.new) self.old.gate }
         ensures started { D.At disk.new self.new.name }
         ensures cause { OnErr result (Rose (D.faults disk.old self.old.name) (D.faults disk.new self.old.name)) }

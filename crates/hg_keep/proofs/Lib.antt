@@ -1,0 +1,4 @@
+mod EventLaws
+mod StopLaws
+mod TaskLaws
+mod WayLaws

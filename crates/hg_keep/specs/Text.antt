@@ -19,10 +19,14 @@ making_text (Made place digits) = decimal place ++ (codes " " ++ digits)
 making_text PeerBare = codes "none peer-bare"
 making_text (Refused fault) = codes "none " ++ make_fault_text fault
 
--- the line of an event that was to be made, if one was
+-- the line of an event that was to be made
+abbrev pub making_line : Making → List ℕ
+making_line told = codes "made " ++ (making_text told ++ codes "\n")
+
+-- the same, if one was to be
 abbrev pub made_line : Option Making → List ℕ
 made_line None = []
-made_line (Some told) = codes "made " ++ (making_text told ++ codes "\n")
+made_line (Some told) = making_line told
 
 abbrev pub kept_text : Kept → List ℕ
 kept_text kept = opened_line kept.opened ++ (counts_line kept.counts ++ (made_line kept.made ++ report_text kept.outcome))

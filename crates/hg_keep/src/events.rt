@@ -27,8 +27,9 @@ pub fn read_events(alloc: Global, bytes: &[u8]) -> Result<Result<Items<Bytes>, E
                 return Ok(Err(EventFault { at, fault }));
             }
             Ok((_, len)) => {
-                events.push(Items::from_vec(Vec::from_slice(alloc, &rest[..len])?))?;
-                rest = &rest[len..];
+                let (event, behind) = rest.split_at(len);
+                events.push(Items::from_vec(Vec::from_slice(alloc, event)?))?;
+                rest = behind;
             }
         }
     }

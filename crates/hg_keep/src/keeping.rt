@@ -1,20 +1,20 @@
-ghost use Rattle.std.specs.Prelude.{◌≡◌, ◌<◌, ◌≤◌, ℕ, List, IfErr, IfOk, IsSome, OnOk, is_some, length, map};
+ghost use Rattle.std.specs.Prelude.{◌≡◌, ◌<◌, ◌≤◌, ℕ, List, IfErr, IfOk, IsErrOf, IsSome, OnOk, length};
 ghost use Rattle.std.specs.Option.{ForSome};
 ghost use Rattle.hg_life.specs.NodeView.{start_of};
+ghost use Rattle.hg_journal.specs.Faults.{IsFaultCounted};
 ghost use Rattle.hg_journal.specs.Stored.{StoresNode};
-ghost use Rattle.hg_keep.specs.Keeping.{IsMadeWithOf, IsOnTheWay, IsSettledSome, KeptOf, SettlesOf};
+ghost use Rattle.hg_keep.specs.Keeping.{IsMadeWithOf, IsOnTheWay, KeptOf};
 ghost use Rattle.hg_keep.specs.Stops.{IsFaultTold, IsRefused, KeepsTask, StaysIfRefused, StopsLeaveOf, SyncsOrStops};
 
 use crate::kept::Kept;
 use crate::making::make_at;
 use crate::putting::put_all;
+use crate::settling::settle;
 use crate::stop::{Stop, open_stop, store_stop};
 use hg_io::Disk;
-use hg_journal::Stored;
+use hg_journal::{StoreError, Stored};
 use hg_life::Members;
-use hg_model::{Bytes, Member, Memory, Share};
-use hg_node::Node;
-use hg_outcome::Outcome;
+use hg_model::{Bytes, Member};
 use hg_play::block_of;
 use hg_sign::Signer;
 use std::alloc::Global;
@@ -32,29 +32,6 @@ pub struct Task<'a> {
     pub time: Option<u64>,
 }
 
-/// Publishes all that the node's graph decides.
-fn settle<V: Signer + Drop, D: Disk>(stored: &mut Stored<V>, disk: &mut D) -> Result<(), Stop>
-    requires there { IsSome stored.old.node }
-    requires started { D.At disk.old stored.old.name }
-    requires stored { StoresNode V.accepts (D.file disk.old) stored.old }
-    ensures settles { OnOk result (SettlesOf V.accepts stored.old.node stored.new.node) }
-    ensures stored { OnOk result (StoresNode V.accepts (D.file disk.new) stored.new) }
-    ensures stops { StopsLeaveOf V.accepts IsSettledSome stored.old.node (D.file disk.old) (D.file disk.new) }
-    ensures shown { is_some (D.file disk.new).reads ≡ is_some (D.file disk.old).reads }
-    ensures name { stored.new.name ≡ stored.old.name }
-    ensures started { D.At disk.new stored.new.name }
-    ensures cause { IsFaultTold result (D.faults disk.old) (D.faults disk.new) stored.old.name }
-    ensures counts { (other : List ℕ) → D.faults disk.old other ≤ D.faults disk.new other }
-{
-    let node = stored.node().unwrap();
-    node.is_node();
-    let rows = node.rows();
-    match stored.remark(disk, rows, Share::new(0, 1)) {
-        Ok(_) => Ok(()),
-        Err(error) => Err(store_stop(error)),
-    }
-}
-
 /// The work on a node that was opened.
 fn work<V: Signer + Drop, D: Disk>(
     alloc: Global,
@@ -62,7 +39,7 @@ fn work<V: Signer + Drop, D: Disk>(
     disk: &mut D,
     members: &Members,
     task: &Task<'_>,
-) -> Result<Kept, Stop>
+) -> Result<Kept, StoreError>
     requires there { IsSome stored.old.node }
     requires made { IsMadeWithOf members.now stored.old.node }
     requires started { D.At disk.old stored.old.name }
@@ -72,7 +49,8 @@ fn work<V: Signer + Drop, D: Disk>(
     ensures stored { OnOk result (StoresNode V.accepts (D.file disk.new) stored.new) }
     ensures stops { StopsLeaveOf V.accepts (IsOnTheWay V.accepts task.now.events.now task.now.time) stored.old.node
         (D.file disk.old) (D.file disk.new) }
-    ensures cause { IsFaultTold result (D.faults disk.old) (D.faults disk.new) stored.old.name }
+    ensures cause { IsFaultCounted result StoreError.Disk (D.faults disk.old) (D.faults disk.new) stored.old.name }
+    ensures never { IsErrOf result StoreError.Closed → ⊥ }
     ensures counts { (other : List ℕ) → D.faults disk.old other ≤ D.faults disk.new other }
 {
     let opened = stored.node().unwrap().rows() as u64;
@@ -116,5 +94,8 @@ pub fn keep<V: Signer + Drop, D: Disk>(
         Ok(stored) => stored,
         Err(error) => return Err(open_stop(error)),
     };
-    work(alloc, &mut stored, disk, members, task)
+    match work(alloc, &mut stored, disk, members, task) {
+        Ok(kept) => Ok(kept),
+        Err(error) => Err(store_stop(error)),
+    }
 }

@@ -9,6 +9,7 @@ mod kept;
 mod making;
 mod printing;
 mod putting;
+mod settling;
 mod stop;
 
 pub use events::{EventFault, read_events};

@@ -1,14 +1,13 @@
-ghost use Rattle.std.specs.Prelude.{◌≡◌, ◌≤◌, ℕ, List, Some, IfOk, IsSome, OnOk, is_some};
-ghost use Rattle.std.specs.Option.{ForSome};
+ghost use Rattle.std.specs.Prelude.{◌≡◌, ◌≤◌, ℕ, List, Some, IfOk, IsErrOf, IsSome, OnOk, is_some};
 ghost use Rattle.hex.specs.Hex.{encode_lower};
+ghost use Rattle.hg_journal.specs.Faults.{IsFaultCounted};
 ghost use Rattle.hg_journal.specs.Stored.{StoresNode};
 ghost use Rattle.hg_keep.specs.Keeping.{HasRow, IsMadeSome, MakesOf, TurnOf, told_of};
-ghost use Rattle.hg_keep.specs.Stops.{IsFaultTold, StopsLeaveOf};
+ghost use Rattle.hg_keep.specs.Stops.{StopsLeaveOf};
 
 use crate::kept::Making;
-use crate::stop::{Stop, store_stop};
 use hg_io::Disk;
-use hg_journal::Stored;
+use hg_journal::{StoreError, Stored};
 use hg_life::MakeAnswer;
 use hg_model::{Bytes, Items, Memory};
 use hg_node::{Node, stored_changes_replay};
@@ -47,7 +46,7 @@ fn make_next<V: Signer + Drop, D: Disk>(
     stored: &mut Stored<V>,
     disk: &mut D,
     time: u64,
-) -> Result<Option<MakeAnswer>, Stop>
+) -> Result<Option<MakeAnswer>, StoreError>
     requires there { IsSome stored.old.node }
     requires started { D.At disk.old stored.old.name }
     requires stored { StoresNode V.accepts (D.file disk.old) stored.old }
@@ -58,7 +57,8 @@ fn make_next<V: Signer + Drop, D: Disk>(
     ensures shown { is_some (D.file disk.new).reads ≡ is_some (D.file disk.old).reads }
     ensures name { stored.new.name ≡ stored.old.name }
     ensures started { D.At disk.new stored.new.name }
-    ensures cause { IsFaultTold result (D.faults disk.old) (D.faults disk.new) stored.old.name }
+    ensures cause { IsFaultCounted result StoreError.Disk (D.faults disk.old) (D.faults disk.new) stored.old.name }
+    ensures never { IsErrOf result StoreError.Closed → ⊥ }
     ensures counts { (other : List ℕ) → D.faults disk.old other ≤ D.faults disk.new other }
 {
     stored_changes_replay::<V>();
@@ -67,10 +67,8 @@ fn make_next<V: Signer + Drop, D: Disk>(
     let Some(other) = node.next_other() else {
         return Ok(None);
     };
-    match stored.make(disk, other, time, b"") {
-        Ok(answer) => Ok(Some(answer)),
-        Err(error) => Err(store_stop(error)),
-    }
+    let answer = stored.make(disk, other, time, b"")?;
+    Ok(Some(answer))
 }
 
 /// Makes the event that comes next, if a time is given for it, and answers what is told of it.
@@ -79,7 +77,7 @@ pub(crate) fn make_at<V: Signer + Drop, D: Disk>(
     stored: &mut Stored<V>,
     disk: &mut D,
     time: Option<u64>,
-) -> Result<Option<Making>, Stop>
+) -> Result<Option<Making>, StoreError>
     requires there { IsSome stored.old.node }
     requires started { D.At disk.old stored.old.name }
     requires stored { StoresNode V.accepts (D.file disk.old) stored.old }
@@ -89,7 +87,8 @@ pub(crate) fn make_at<V: Signer + Drop, D: Disk>(
     ensures shown { is_some (D.file disk.new).reads ≡ is_some (D.file disk.old).reads }
     ensures name { stored.new.name ≡ stored.old.name }
     ensures started { D.At disk.new stored.new.name }
-    ensures cause { IsFaultTold result (D.faults disk.old) (D.faults disk.new) stored.old.name }
+    ensures cause { IsFaultCounted result StoreError.Disk (D.faults disk.old) (D.faults disk.new) stored.old.name }
+    ensures never { IsErrOf result StoreError.Closed → ⊥ }
     ensures counts { (other : List ℕ) → D.faults disk.old other ≤ D.faults disk.new other }
 {
     let Some(time) = time else {

@@ -1,6 +1,6 @@
 ghost use Rattle.std.specs.Prelude.{◌++◌};
 ghost use Rattle.hg_io.specs.Printing.{Prints, PutsOn};
-ghost use Rattle.hg_keep.specs.Text.{counts_line, kept_text, made_line, opened_line};
+ghost use Rattle.hg_keep.specs.Text.{counts_line, kept_text, made_line, making_line, opened_line};
 
 use crate::kept::{Counts, Kept, Making};
 use hg_io::{Failed, Page, Sink};
@@ -42,17 +42,12 @@ fn write_counts<K: Sink>(page: &mut Page, sink: &mut K, counts: Counts) -> Resul
     )
 }
 
-/// The line of the event that was to be made, if one was.
-fn write_made<K: Sink>(
-    page: &mut Page,
-    sink: &mut K,
-    made: &Option<Making>,
-) -> Result<(), Failed>
-    ensures { PutsOn K.Sink sink.old sink.new page.old page.new (made_line made.now) result }
+/// The line of the event that was to be made.
+fn write_making<K: Sink>(page: &mut Page, sink: &mut K, told: &Making) -> Result<(), Failed>
+    ensures { PutsOn K.Sink sink.old sink.new page.old page.new (making_line told.now) result }
 {
-    match made {
-        None => write_pieces(page, sink, &[]),
-        Some(Making::Made { place, digits }) => write_pieces(
+    match told {
+        Making::Made { place, digits } => write_pieces(
             page,
             sink,
             &[
@@ -63,10 +58,8 @@ fn write_made<K: Sink>(
                 Piece::Bytes(b"\n"),
             ],
         ),
-        Some(Making::PeerBare) => {
-            write_pieces(page, sink, &[Piece::Bytes(b"made none peer-bare\n")])
-        }
-        Some(Making::Refused(fault)) => {
+        Making::PeerBare => write_pieces(page, sink, &[Piece::Bytes(b"made none peer-bare\n")]),
+        Making::Refused(fault) => {
             let none = SyncMade::Fault(*fault);
             let phrase = sync_made_phrase(&none);
             write_pieces(
@@ -84,6 +77,31 @@ fn write_made<K: Sink>(
     }
 }
 
+/// The same, if one was to be made.
+fn write_made<K: Sink>(
+    page: &mut Page,
+    sink: &mut K,
+    made: &Option<Making>,
+) -> Result<(), Failed>
+    ensures { PutsOn K.Sink sink.old sink.new page.old page.new (made_line made.now) result }
+{
+    match made {
+        None => write_pieces(page, sink, &[]),
+        Some(told) => write_making(page, sink, told),
+    }
+}
+
+/// All of it.
+fn write_text<K: Sink>(page: &mut Page, sink: &mut K, kept: &Kept) -> Result<(), Failed>
+    ensures { PutsOn K.Sink sink.old sink.new page.old page.new (kept_text kept.now) result }
+{
+    write_opened(page, sink, kept.opened)?;
+    write_counts(page, sink, kept.counts)?;
+    write_made(page, sink, &kept.made)?;
+    write_outcome(page, sink, &kept.outcome)?;
+    Ok(())
+}
+
 /// Writes what came of the work: how many rows the node had, how many events were accepted, known and refused, the event that
 /// was made, if one was to be, and the node's block. It takes no memory.
 /// `Failed` comes with the first fault of the sink, which has then taken a front of the text, and not all of it.
@@ -92,9 +110,6 @@ pub fn write_kept<K: Sink>(kept: &Kept, sink: &mut K) -> Result<(), Failed>
     ensures { Prints K.Sink sink.old sink.new (kept_text kept.now) result }
 {
     let mut page = Page::new();
-    write_opened(&mut page, sink, kept.opened)?;
-    write_counts(&mut page, sink, kept.counts)?;
-    write_made(&mut page, sink, &kept.made)?;
-    write_outcome(&mut page, sink, &kept.outcome)?;
+    write_text(&mut page, sink, kept)?;
     page.send(sink)
 }

@@ -1,14 +1,12 @@
-ghost use Rattle.std.specs.Prelude.{◌≡◌, ◌+◌, ◌<◌, ◌≤◌, ◌^◌, ℕ, List, Some, IfOk, IsErrOf, IsSome, OnErr, OnOk, is_some};
-ghost use Rattle.std.specs.Option.{ForSome};
-ghost use Rattle.hg_io.specs.Faults.{Rose};
+ghost use Rattle.std.specs.Prelude.{◌≡◌, ◌+◌, ◌<◌, ◌≤◌, ◌^◌, ℕ, List, IfOk, IsErrOf, IsSome, OnOk, is_some};
+ghost use Rattle.hg_journal.specs.Faults.{IsFaultCounted};
 ghost use Rattle.hg_journal.specs.Stored.{StoresNode};
 ghost use Rattle.hg_keep.specs.Keeping.{IsPutSome, PutsAll, counted};
-ghost use Rattle.hg_keep.specs.Stops.{IsFaultTold, StopsLeaveOf};
+ghost use Rattle.hg_keep.specs.Stops.{StopsLeaveOf};
 
 use crate::kept::Counts;
-use crate::stop::{Stop, store_stop};
 use hg_io::Disk;
-use hg_journal::Stored;
+use hg_journal::{StoreError, Stored};
 use hg_life::PutAnswer;
 use hg_model::Bytes;
 use hg_sign::Signer;
@@ -33,7 +31,7 @@ pub(crate) fn put_all<V: Signer + Drop, D: Disk>(
     stored: &mut Stored<V>,
     disk: &mut D,
     events: &[Bytes],
-) -> Result<Counts, Stop>
+) -> Result<Counts, StoreError>
     requires there { IsSome stored.old.node }
     requires started { D.At disk.old stored.old.name }
     requires stored { StoresNode V.accepts (D.file disk.old) stored.old }
@@ -43,7 +41,8 @@ pub(crate) fn put_all<V: Signer + Drop, D: Disk>(
     ensures shown { is_some (D.file disk.new).reads ≡ is_some (D.file disk.old).reads }
     ensures name { stored.new.name ≡ stored.old.name }
     ensures started { D.At disk.new stored.new.name }
-    ensures cause { IsFaultTold result (D.faults disk.old) (D.faults disk.new) stored.old.name }
+    ensures cause { IsFaultCounted result StoreError.Disk (D.faults disk.old) (D.faults disk.new) stored.old.name }
+    ensures never { IsErrOf result StoreError.Closed → ⊥ }
     ensures counts { (other : List ℕ) → D.faults disk.old other ≤ D.faults disk.new other }
 {
     let mut counts = Counts {
@@ -52,10 +51,8 @@ pub(crate) fn put_all<V: Signer + Drop, D: Disk>(
         refused: 0,
     };
     for event in events {
-        match stored.put(disk, event.as_slice()) {
-            Ok(answer) => counts.count(answer),
-            Err(error) => return Err(store_stop(error)),
-        }
+        let answer = stored.put(disk, event.as_slice())?;
+        counts.count(answer);
     }
     Ok(counts)
 }

@@ -2,7 +2,6 @@ ghost use Rattle.std.specs.Prelude.{◌≡◌};
 ghost use Rattle.hg_keep.specs.Stores.{open_stop, store_stop};
 
 use hg_journal::{OpenError, StoreError};
-use hg_model::Memory;
 
 /// Why the work on a node was not done to its end.
 #[derive(Clone, Copy, Debug, PartialEq, Eq)]
@@ -16,17 +15,6 @@ pub enum Stop {
     /// At this place of the file, in bytes, a gate must stand and none does, or an open one whose record is not whole, tells
     /// nothing or changes nothing.
     Broken(u64),
-}
-
-impl From<Memory> for Stop {
-    ghost use Rattle.std.specs.Prelude.{◌≡◌};
-    ghost use Rattle.hg_keep.specs.declared.stop.Stop.TheVariants as stop;
-
-    ghost from_gives = { λ _ e. e ≡ stop.Memory };
-
-    fn from(_: Memory) -> Self {
-        Stop::Memory
-    }
 }
 
 /// What stops the work where the journal is not opened.

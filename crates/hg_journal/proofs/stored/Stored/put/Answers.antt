@@ -24,6 +24,7 @@ returns-in_default-answer g c =
       closed = search rules;
       closes = search rules;
       stored = stored_still accepts (g.D.Disk.file c.args.disk.now) c.args.self.now c.in-Some.node c.self.inside.tail.gate there gate_is c.requires.stored c.put.new.self none;
+      shown = refl;
       stops = stops_still accepts (g.D.Disk.file c.args.disk.now) c.args.self.now c.in-Some.node c.args.self.now.gate there refl c.requires.stored
           (after_put accepts c.in-Some.node c.args.bytes.now) (λ v w. w ≡ after_put accepts v c.args.bytes.now) refl;
       name = search rules;

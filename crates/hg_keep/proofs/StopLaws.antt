@@ -1,0 +1,47 @@
+-- What stops leave through one piece of work after another.
+use Rattle.std.proofs.Common.{◌≡◌, inl, inr, ℕ, ◌≤◌, List, Option, Some, None, is_some, refl, sym, ◌∙◌, ap, subst, arith}
+use Rattle.std.specs.Prelude.{IsSome}
+use Rattle.std.specs.Option.{ForSome}
+use Rattle.hg_io.specs.FileView.{FileView, Leaves, Stays}
+use Rattle.hg_io.proofs.Going.{goes_on, nothing_else, weaker}
+use Rattle.hg_life.specs.NodeView.{NodeView, Start}
+use Rattle.hg_life.specs.Signing.{Accepts}
+use Rattle.hg_journal.specs.Journal.{KeepsEither, journal}
+use Rattle.hg_journal.specs.Opening.{SyncsFirst}
+use Rattle.hg_journal.specs.Stored.{IsStored, StopsKeep, StopsKeepOne, StoredView, StoresNode}
+use Rattle.hg_journal.proofs.Steps.{still_keeps}
+use Rattle.hg_keep.specs.Stops.{KeepsSome, StopsLeave, StopsLeaveOf}
+
+pub some_is : {A : Type 0} (x y : A) → (let a : Option A = Some x in a) ≡ Some y → x ≡ y
+some_is x y same = cc
+
+pub told_still : {A : Type 0} (a b : Option A) → is_some b ≡ is_some a → IsSome a → IsSome b
+told_still a b same told = same ∙ told
+
+module _ {K : Type 0} (accepts : K → Accepts) where
+  module _ (start : Start K) where
+    one_of : (Is : NodeView K → Type 0) (v w : NodeView K) → v.start ≡ start → w.start ≡ start → Is v → Is w → (left : List ℕ) → KeepsEither accepts v w left → KeepsSome accepts start Is left
+    one_of Is v w first second is also left (inl keeps) = (v, is, subst (λ (s : Start K). journal accepts s left ≡ Some v) first keeps)
+    one_of Is v w first second is also left (inr keeps) = (w, also, subst (λ (s : Start K). journal accepts s left ≡ Some w) second keeps)
+
+    pub leaves_either : (Is : NodeView K → Type 0) (a b : FileView) (v w : NodeView K) → v.start ≡ start → w.start ≡ start → Is v → Is w → StopsKeep accepts a b v w → StopsLeave accepts start Is a b
+    leaves_either Is a b v w first second is also keeps = record {
+      meanwhile = weaker keeps.meanwhile (one_of Is v w first second is also);
+      now = λ left may. one_of Is v w first second is also left (keeps.now left may);
+    }
+
+    pub leaves_on : (Is : NodeView K → Type 0) (a b c : FileView) → StopsLeave accepts start Is a b → StopsLeave accepts start Is b c → StopsLeave accepts start Is a c
+    leaves_on Is a b c before after = record { meanwhile = goes_on before.meanwhile after.meanwhile; now = after.now }
+
+    wider : (Was Is : NodeView K → Type 0) → ((w : NodeView K) → Was w → Is w) → (left : List ℕ) → KeepsSome accepts start Was left → KeepsSome accepts start Is left
+    wider Was Is then left some = (some.0, then some.0 some.1, some.2)
+
+    pub leaves_wider : (Was Is : NodeView K → Type 0) (a b : FileView) → ((w : NodeView K) → Was w → Is w) → StopsLeave accepts start Was a b → StopsLeave accepts start Is a b
+    leaves_wider Was Is a b then leaves = record {
+      meanwhile = weaker leaves.meanwhile (wider Was Is then);
+      now = λ left may. wider Was Is then left (leaves.now left may);
+    }
+
+    -- without a call on the disk
+    pub leaves_still : (Is : NodeView K → Type 0) (a : FileView) (v : NodeView K) (gate : ℕ) → v.start ≡ start → Is v → IsStored accepts a v gate → IsSome a.reads → StopsLeave accepts start Is a a
+    leaves_still Is a v gate first is stored told = leaves_either Is a a v v first first is is (still_keeps accepts a v v gate stored told)

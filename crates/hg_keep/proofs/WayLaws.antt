@@ -1,0 +1,254 @@
+-- The nodes on the way through the work.
+use Rattle.std.proofs.Common.{◌≡◌, inl, inr, ℕ, ◌+◌, ◌<◌, ◌^◌, List, [], ◌∷◌, take, length, get_or, fold, is_some, Option, Some, None, refl, sym, ◌∙◌, ap, ap₂, subst}
+use Rattle.std.proofs.lemmas.List.Sums.{fold_more}
+use Rattle.std.proofs.lemmas.Option.{slice_get_within}
+use Rattle.std.specs.Prelude.{IsSome}
+use Rattle.std.specs.Option.{ForSome}
+use Rattle.hg_io.specs.FileView.{FileView}
+use Rattle.hg_model.specs.declared.row.Row.{Row}
+use Rattle.hg_model.specs.Fame.{fame_marks}
+use Rattle.hg_model.specs.Links.{links}
+use Rattle.hg_model.specs.Order.{coin_at}
+use Rattle.hg_model.specs.Shares.{Share, whole}
+use Rattle.hg_model.specs.Stakes.{Stakes}
+use Rattle.hg_life.specs.Calls.{IsMaking, IsSettled, publish_changes, put_answer}
+use Rattle.hg_life.specs.Members.{MemberList, names_of, stakes_of}
+use Rattle.hg_life.specs.NodeView.{IsNode, NodeView, Start, node_rows, start_of, with_changes}
+use Rattle.hg_life.specs.Signing.{Accepts}
+use Rattle.hg_life.specs.declared.answers.MakeAnswer.{MakeAnswer}
+use Rattle.hg_life.specs.declared.answers.MakeAnswer.TheVariants as answer
+use Rattle.hg_life.specs.declared.answers.PutAnswer.{PutAnswer}
+use Rattle.hg_history.proofs.NodeLaws.{settles_all}
+use Rattle.hg_node.specs.Next.{next_others}
+use Rattle.hg_node.specs.Puts.{after_put}
+use Rattle.hg_node.specs.ReplayLaws.{MakesReplay}
+use Rattle.hg_outcome.specs.declared.outcome.Block.{Block}
+use Rattle.hg_outcome.specs.declared.outcome.Outcome.{Outcome}
+use Rattle.hg_outcome.specs.declared.outcome.Printed.TheVariants as printed
+use Rattle.hg_outcome.specs.Ledger.{block_of, marked_block}
+use Rattle.hg_play.specs.Lines.{kept_block}
+use Rattle.hg_play.specs.Outcomes.{kept_outcome}
+use Rattle.hg_play.specs.Sites.{IsMadeWith}
+use Rattle.hg_journal.specs.Stored.{ComesOfMaking, MakesNode, StopsKeepMaking, StopsKeepMarks, StopsKeepPut, StoredView, StoresNode}
+use Rattle.hg_keep.specs.declared.kept.Counts.{Counts}
+use Rattle.hg_keep.specs.declared.kept.Kept.{Kept}
+use Rattle.hg_keep.specs.declared.kept.Making.{Making}
+use Rattle.hg_keep.specs.Keeping.{HasRow, IsMadeSome, IsMadeWithOf, IsOnTheWay, IsPutSome, IsSettledSome, IsTurn, KeptOf, MakesAt, MakesOf, PutsAll, SettlesOf, TurnOf, counted, no_counts, put_one, puts, settled, told_of}
+use Rattle.hg_keep.specs.Stops.{StopsLeave, StopsLeaveOf}
+use Rattle.hg_keep.proofs.StopLaws.{leaves_either, leaves_on, leaves_still, leaves_wider, some_is, told_still}
+
+module _ {K : Type 0} (accepts : K → Accepts) where
+  puts_start_from : (v : NodeView K × Counts) (events : List (List ℕ)) → (fold (put_one accepts) v events).0.start ≡ v.0.start
+  puts_start_from v [] = refl
+  puts_start_from v (bytes ∷ events) = puts_start_from (put_one accepts v bytes) events
+
+  -- none of this changes with what a node began
+  pub puts_start : (v : NodeView K) (events : List (List ℕ)) → (puts accepts v events).0.start ≡ v.start
+  puts_start v events = puts_start_from _ events
+
+  pub turn_start : (v w : NodeView K) (time : ℕ) (a : Option MakeAnswer) → IsTurn accepts v time a w → w.start ≡ v.start
+  turn_start v w time None turn = ap (λ (x : NodeView K). x.start) turn.0
+  turn_start v w time (Some a) turn = ap (λ (x : NodeView K). x.start) turn.2.grown
+
+  pub makes_start : (v w : NodeView K) (time : Option ℕ) (told : Option Making) → MakesAt accepts v time told w → w.start ≡ v.start
+  makes_start v w None told makes = ap (λ (x : NodeView K). x.start) makes.1
+  makes_start v w (Some time) told makes = turn_start v w time makes.0 makes.1
+
+  -- ---- putting
+
+  pub puts_none : (node : Option (NodeView K)) → PutsAll accepts [] node node no_counts
+  puts_none node v is = (is, refl)
+
+  -- one event more of these
+  pub puts_more : (first : Option (NodeView K)) (events : List (List ℕ)) (i : ℕ) (bytes : List ℕ) (now next : Option (NodeView K)) (counts more : Counts) →
+      i < length events → bytes ≡ get_or events i bytes → IsSome now → PutsAll accepts (take i events) first now counts →
+      ForSome now (λ v. (next ≡ Some (after_put accepts v bytes)) × (more ≡ counted counts (put_answer accepts v bytes))) →
+      PutsAll accepts (take (i + 1) events) first next more
+  puts_more first events i bytes now next counts more within at there so_far step v is =
+      let here = so_far v is in
+      let last : fold (put_one accepts) (v, no_counts) (take (i + 1) events) ≡ put_one accepts (fold (put_one accepts) (v, no_counts) (take i events)) bytes =
+      fold_more (put_one accepts) (v, no_counts) events i bytes within ∙ ap (put_one accepts (fold (put_one accepts) (v, no_counts) (take i events))) (sym at) in
+      let one = step (puts accepts v (take i events)).0 here.0 in (
+        one.0 ∙ ap (λ (x : NodeView K × Counts). Some x.0) (sym last),
+        one.1 ∙ ap (λ (c : Counts). counted c (put_answer accepts (puts accepts v (take i events)).0 bytes)) here.1 ∙ ap (λ (x : NodeView K × Counts). x.1) (sym last),
+      )
+
+  pub still_there : (now next : Option (NodeView K)) (bytes : List ℕ) → IsSome now → ForSome now (λ v. next ≡ Some (after_put accepts v bytes)) → IsSome next
+  still_there None next bytes there step = absurd cc
+  still_there (Some v) next bytes there step = subst (λ (o : Option (NodeView K)). IsSome o) (sym (step v refl)) refl
+
+  -- the nodes that a stop leaves before any event is put
+  pub stops_none : (file : FileView) (s : StoredView K) (events : List (List ℕ)) → StoresNode accepts file s → StopsLeaveOf accepts (IsPutSome accepts events) s.node file file
+  stops_none file s events stores v is told = leaves_still accepts v.start (IsPutSome accepts events v) file v s.gate refl (0, refl) (stores v is) told
+
+  -- .. and while one more is put
+  pub stops_more : (first : Option (NodeView K)) (events : List (List ℕ)) (i : ℕ) (bytes : List ℕ) (now : Option (NodeView K)) (counts : Counts) (a b c : FileView) →
+      i < length events → bytes ≡ get_or events i bytes → PutsAll accepts (take i events) first now counts → (is_some b.reads ≡ is_some a.reads) →
+      StopsLeaveOf accepts (IsPutSome accepts events) first a b → StopsKeepPut accepts bytes b c now → StopsLeaveOf accepts (IsPutSome accepts events) first a c
+  stops_more first events i bytes now counts a b c within at so_far shown before step v is told =
+      let so = puts accepts v (take i events) in
+      let keeps = step so.0 (so_far v is).0 (told_still a.reads b.reads shown told) in
+      let last : (puts accepts v (take (i + 1) events)).0 ≡ after_put accepts so.0 bytes =
+      ap (λ (x : NodeView K × Counts). x.0)
+      (fold_more (put_one accepts) (v, no_counts) events i bytes within ∙ ap (put_one accepts (fold (put_one accepts) (v, no_counts) (take i events))) (sym at)) in
+      leaves_on accepts v.start (IsPutSome accepts events v) a b c (before v is told)
+      (leaves_either accepts v.start (IsPutSome accepts events v) b c so.0 keeps.0 (puts_start v (take i events))
+      (ap (λ (x : NodeView K). x.start) keeps.1 ∙ puts_start v (take i events)) (i, refl) (i + 1, keeps.1 ∙ sym last) keeps.2)
+
+  -- ---- making an event
+
+  -- where none comes next
+  pub turn_none : (time : ℕ) (node : Option (NodeView K)) (v : NodeView K) → node ≡ Some v → next_others v ≡ None → TurnOf accepts time node node None
+  turn_none time node v there none x is =
+      let same : v ≡ x = some_is v x (sym there ∙ is) in
+      (x, is, (refl, subst (λ (y : NodeView K). next_others y ≡ None) same none))
+
+  pub turn_some : (time : ℕ) (node next : Option (NodeView K)) (v : NodeView K) (others : List (List ℕ)) (answer : MakeAnswer) → node ≡ Some v → next_others v ≡ Some others
+      → ForSome node (MakesNode accepts others time [] answer next) → TurnOf accepts time node next (Some answer)
+  turn_some time node next v others answer there comes makes x is =
+      let same : v ≡ x = some_is v x (sym there ∙ is) in
+      let made = makes x is in
+      (made.0, made.1, (others, subst (λ (y : NodeView K). next_others y ≡ Some others) same comes, made.2))
+
+  row_for : (v w : NodeView K) (others : List (List ℕ)) (time : ℕ) (answer : MakeAnswer) → MakesReplay K → IsNode accepts v → time < 2 ^ 64 → IsMaking accepts v others time [] answer w
+      → HasRow (Some answer) (Some w)
+  row_for v w others time (answer.Made place) law is_node small making = λ x is.
+      let has = law accepts v w others time [] place is_node small making in
+      subst (λ (y : NodeView K). place < length (node_rows y)) (some_is w x is) (slice_get_within (node_rows w) place has.0 has.1)
+  row_for v w others time (answer.Refused fault) law is_node small making = tt
+
+  pub has_row : (node next : Option (NodeView K)) (v : NodeView K) (others : List (List ℕ)) (time : ℕ) (answer : MakeAnswer) → MakesReplay K → IsNode accepts v → time < 2 ^ 64 → node ≡ Some v
+      → ForSome node (MakesNode accepts others time [] answer next) → HasRow (Some answer) next
+  has_row node next v others time a law is_node small there makes =
+      let made = makes v there in
+      subst (λ (o : Option (NodeView K)). HasRow (Some a) o) (sym made.1) (row_for v made.0 others time a law is_node small made.2)
+
+  made_some : (v w : NodeView K) (others : List (List ℕ)) (time : ℕ) → next_others v ≡ Some others → ComesOfMaking accepts others time [] v w → IsMadeSome accepts (Some time) v w
+  made_some v w others time comes (inl same) = inl same
+  made_some v w others time comes (inr made) = inr (Some (told_of w (Some made.0)), (Some made.0, (others, comes, made.1), refl))
+
+  coming_start : (v w : NodeView K) (others : List (List ℕ)) (time : ℕ) → ComesOfMaking accepts others time [] v w → w.start ≡ v.start
+  coming_start v w others time (inl same) = ap (λ (x : NodeView K). x.start) same
+  coming_start v w others time (inr made) = ap (λ (x : NodeView K). x.start) made.1.grown
+
+  pub stops_making : (a b : FileView) (was is : StoredView K) (v : NodeView K) (others : List (List ℕ)) (time : ℕ) → was.node ≡ Some v → next_others v ≡ Some others
+      → StopsKeepMaking accepts others time [] a b was is → StopsLeaveOf accepts (IsMadeSome accepts (Some time)) was.node a b
+  stops_making a b was is v others time there comes stops x here told =
+      let same : v ≡ x = some_is v x (sym there ∙ here) in
+      let comes_x = subst (λ (y : NodeView K). next_others y ≡ Some others) same comes in
+      let keeps = stops x here told in
+      leaves_either accepts x.start (IsMadeSome accepts (Some time) x) a b x keeps.0 refl (coming_start x keeps.0 others time keeps.1.0) (inl refl)
+      (made_some x keeps.0 others time comes_x keeps.1.0) keeps.2
+
+  -- where nothing is done to the disk
+  pub stops_still : (Is : NodeView K → NodeView K → Type 0) → ((v : NodeView K) → Is v v) → (file : FileView) (s : StoredView K) → StoresNode accepts file s → StopsLeaveOf accepts Is s.node file file
+  stops_still Is own file s stores v is told = leaves_still accepts v.start (Is v) file v s.gate refl (own v) (stores v is) told
+
+  pub makes_none : (node : Option (NodeView K)) → MakesOf accepts None node node None
+  makes_none node v is = (v, is, (refl, refl))
+
+  pub makes_told : (time : ℕ) (node next : Option (NodeView K)) (w : NodeView K) (a : Option MakeAnswer) (told : Making) → next ≡ Some w → told ≡ told_of w a → TurnOf accepts time node next a
+      → MakesOf accepts (Some time) node next (Some told)
+  makes_told time node next w a told there is turn v here =
+      let one = turn v here in
+      let same : w ≡ one.0 = some_is w one.0 (sym there ∙ one.1) in
+      (one.0, one.1, (a, one.2, ap (λ (t : Making). Some t) (is ∙ ap (λ (y : NodeView K). told_of y a) same)))
+
+  -- ---- settling
+
+  pub settles : (node next : Option (NodeView K)) (v : NodeView K) (len : ℕ) (share : Share) → node ≡ Some v → IsNode accepts v → len ≡ length (node_rows v) → share ≡ whole
+      → ForSome node (λ x. next ≡ Some (with_changes x (publish_changes x len share))) → SettlesOf accepts node next
+  settles node next v len share there is_node all one changes x is =
+      let same : v ≡ x = some_is v x (sym there ∙ is) in (
+        changes x is ∙ ap₂ (λ (n : ℕ) (s : Share). Some (with_changes x (publish_changes x n s))) (all ∙ ap (λ (y : NodeView K). length (node_rows y)) same) one,
+        settles_all K accepts x (subst (IsNode accepts) same is_node),
+      )
+
+  pub stops_settling : (a b : FileView) (node : Option (NodeView K)) (v : NodeView K) (len : ℕ) (share : Share) → node ≡ Some v → len ≡ length (node_rows v) → share ≡ whole
+      → StopsKeepMarks accepts len share a b node → StopsLeaveOf accepts IsSettledSome node a b
+  stops_settling a b node v len share there all one stops x is told =
+      let same : v ≡ x = some_is v x (sym there ∙ is) in
+      let keeps = stops x is told in
+      let is_settled : keeps.0 ≡ settled x =
+      keeps.1 ∙ ap₂ (λ (n : ℕ) (s : Share). with_changes x (publish_changes x n s)) (all ∙ ap (λ (y : NodeView K). length (node_rows y)) same) one in
+      leaves_either accepts x.start (IsSettledSome x) a b x keeps.0 refl (ap (λ (y : NodeView K). y.start) is_settled) (inl refl) (inr is_settled) keeps.2
+
+  -- ---- all of it
+
+  module _ (events : List (List ℕ)) (time : Option ℕ) where
+    take_all : (xs : List (List ℕ)) → take (length xs) xs ≡ xs
+    take_all [] = refl
+    take_all (x ∷ xs) = ap (λ (ys : List (List ℕ)). x ∷ ys) (take_all xs)
+
+    way_made : (v w : NodeView K) → IsMadeSome accepts time (puts accepts v events).0 w → IsOnTheWay accepts events time v w
+    way_made v w (inl same) = inl (length events, same ∙ ap (λ (es : List (List ℕ)). (puts accepts v es).0) (sym (take_all events)))
+    way_made v w (inr made) = inr (w, made.0, made.1, inl refl)
+
+    pub stops_put : (node : Option (NodeView K)) (a b : FileView) → StopsLeaveOf accepts (IsPutSome accepts events) node a b → StopsLeaveOf accepts (IsOnTheWay accepts events time) node a b
+    stops_put node a b stops v is told = leaves_wider accepts v.start (IsPutSome accepts events v) (IsOnTheWay accepts events time v) a b (λ w some. inl some) (stops v is told)
+
+    pub stops_made : (node next : Option (NodeView K)) (counts : Counts) (a b c : FileView) → PutsAll accepts events node next counts → is_some b.reads ≡ is_some a.reads
+        → StopsLeaveOf accepts (IsPutSome accepts events) node a b → StopsLeaveOf accepts (IsMadeSome accepts time) next b c → StopsLeaveOf accepts (IsOnTheWay accepts events time) node a c
+    stops_made node next counts a b c all shown first then v is told =
+        let u = (puts accepts v events).0 in
+        let later = subst (λ (s : Start K). StopsLeave accepts s (IsMadeSome accepts time u) b c) (puts_start v events) (then u (all v is).0 (told_still a.reads b.reads shown told)) in
+        leaves_on accepts v.start (IsOnTheWay accepts events time v) a b c (stops_put node a b first v is told)
+        (leaves_wider accepts v.start (IsMadeSome accepts time u) (IsOnTheWay accepts events time v) b c (way_made v) later)
+
+    way_settled : (v m w : NodeView K) (told : Option Making) → MakesAt accepts (puts accepts v events).0 time told m → IsSettledSome m w → IsOnTheWay accepts events time v w
+    way_settled v m w told makes some = inr (m, told, makes, some)
+
+    pub stops_settled : (node next last : Option (NodeView K)) (counts : Counts) (told : Option Making) (a b c d : FileView) → PutsAll accepts events node next counts → MakesOf accepts time next last told
+        → is_some c.reads ≡ is_some a.reads → StopsLeaveOf accepts (IsOnTheWay accepts events time) node a c → StopsLeaveOf accepts IsSettledSome last c d
+        → StopsLeaveOf accepts (IsOnTheWay accepts events time) node a d
+    stops_settled node next last counts told a b c d all makes shown first then v is tells =
+        let u = (puts accepts v events).0 in
+        let made = makes u (all v is).0 in
+        let m = made.0 in
+        let start : m.start ≡ v.start = makes_start u m time told made.2 ∙ puts_start v events in
+        let later = subst (λ (s : Start K). StopsLeave accepts s (IsSettledSome m) c d) start (then m made.1 (told_still a.reads c.reads shown tells)) in
+        leaves_on accepts v.start (IsOnTheWay accepts events time v) a c d (first v is tells)
+        (leaves_wider accepts v.start (IsSettledSome m) (IsOnTheWay accepts events time v) c d (λ w some. way_settled v m w told made.2 some) later)
+
+    -- the block of a settled node
+    shown_block : (members : MemberList) (x : ℕ) (m w : NodeView K) → m.start.members ≡ stakes_of members → m.start.coin ≡ members.coin → IsSettled m w
+        → kept_block members x w ≡ block_of members x (node_rows w)
+    shown_block members x m w stakes coin is =
+        ap (marked_block members x (node_rows w))
+        (is.marks ∙ ap (λ (G : List Row). fame_marks m.start.members m.start.coin (links G) (coin_at G)) (sym is.rows)
+        ∙ ap₂ (λ (n : Stakes) (c : ℕ). fame_marks n c (links (node_rows w)) (coin_at (node_rows w))) stakes coin)
+
+    -- the node that is made with these members stays so
+    pub made_still : (members : MemberList) (node next : Option (NodeView K)) (v w : NodeView K) → node ≡ Some v → next ≡ Some w → w.start ≡ v.start → IsMadeWithOf members node → IsMadeWith members w
+    made_still members node next v w there here same made =
+        let was : v.start ≡ start_of members v.start.own v.start.keys = made v there in
+        same ∙ was ∙ ap (λ (s : Start K). start_of members s.own s.keys) (sym same)
+
+    -- what came of all of it
+    pub kept_is : (members : MemberList) (node next last settled_node : Option (NodeView K)) (v w : NodeView K) (kept : Kept) → node ≡ Some v → settled_node ≡ Some w → kept.opened ≡ length (node_rows v)
+        → PutsAll accepts events node next kept.counts → MakesOf accepts time next last kept.made → SettlesOf accepts last settled_node → IsMadeWithOf members node
+        → kept.outcome ≡ kept_outcome members w → KeptOf accepts members events time node settled_node kept
+    kept_is members node next last settled_node v w kept there here opened all makes settles_it with outcome x is =
+        let same : v ≡ x = some_is v x (sym there ∙ is) in
+        let u = (puts accepts x events).0 in
+        let made = makes u (all x is).0 in
+        let m = made.0 in
+        let done = settles_it m made.1 in
+        let last_is : w ≡ settled m = some_is w (settled m) (sym here ∙ done.0) in
+        let start : m.start ≡ x.start = makes_start u m time kept.made made.2 ∙ puts_start x events in
+        let begun : x.start ≡ start_of members x.start.own x.start.keys = with x is in
+        let stakes : m.start.members ≡ stakes_of members = ap (λ (s : Start K). s.members) (start ∙ begun) in
+        let coin : m.start.coin ≡ members.coin = ap (λ (s : Start K). s.coin) (start ∙ begun) in
+        let block : kept_block members w.start.own w ≡ block_of members w.start.own (node_rows w) =
+        shown_block members w.start.own m w stakes coin (subst (IsSettled m) (sym last_is) done.1) in (
+          w,
+          here,
+          record {
+            opened = opened ∙ ap (λ (y : NodeView K). length (node_rows y)) same;
+            counts = (all x is).1;
+            made = m;
+            makes = made.2;
+            last = last_is;
+            outcome = outcome ∙ ap (λ (b : Block). (let o : Outcome = record { names = names_of members; printed = printed.Block b ∷ [] } in o)) block;
+          },
+        )

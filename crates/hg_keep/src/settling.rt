@@ -1,0 +1,32 @@
+ghost use Rattle.std.specs.Prelude.{◌≡◌, ◌≤◌, ℕ, List, IsErrOf, IsSome, OnOk, is_some};
+ghost use Rattle.hg_journal.specs.Faults.{IsFaultCounted};
+ghost use Rattle.hg_journal.specs.Stored.{StoresNode};
+ghost use Rattle.hg_keep.specs.Keeping.{IsSettledSome, SettlesOf};
+ghost use Rattle.hg_keep.specs.Stops.{StopsLeaveOf};
+
+use hg_io::Disk;
+use hg_journal::{StoreError, Stored};
+use hg_model::Share;
+use hg_sign::Signer;
+
+/// Publishes all that the node's graph decides.
+pub(crate) fn settle<V: Signer + Drop, D: Disk>(stored: &mut Stored<V>, disk: &mut D) -> Result<(), StoreError>
+    requires there { IsSome stored.old.node }
+    requires started { D.At disk.old stored.old.name }
+    requires stored { StoresNode V.accepts (D.file disk.old) stored.old }
+    ensures settles { OnOk result (SettlesOf V.accepts stored.old.node stored.new.node) }
+    ensures stored { OnOk result (StoresNode V.accepts (D.file disk.new) stored.new) }
+    ensures stops { StopsLeaveOf V.accepts IsSettledSome stored.old.node (D.file disk.old) (D.file disk.new) }
+    ensures shown { is_some (D.file disk.new).reads ≡ is_some (D.file disk.old).reads }
+    ensures name { stored.new.name ≡ stored.old.name }
+    ensures started { D.At disk.new stored.new.name }
+    ensures cause { IsFaultCounted result StoreError.Disk (D.faults disk.old) (D.faults disk.new) stored.old.name }
+    ensures never { IsErrOf result StoreError.Closed → ⊥ }
+    ensures counts { (other : List ℕ) → D.faults disk.old other ≤ D.faults disk.new other }
+{
+    let node = stored.node().unwrap();
+    node.is_node();
+    let rows = node.rows();
+    stored.remark(disk, rows, Share::new(0, 1))?;
+    Ok(())
+}
