@@ -180,12 +180,12 @@ earlier F K s u t out written d (Reads file name next) starts status holds count
 earlier F K s u t out written d (Keeps k) starts status holds counts comes = comes
 
 -- from the work behind a file to the one that begins with it
-pub takes_on : {S T A E : Type 0} (F : shelf.Ghosts S) (K : sink.Ghosts T) (s u t : S) (out written : T) (file : File) (stop : E → Status) (read : List ℕ → Result A E) (name : List ℕ) (next : A → Work) (x : A) (status : Status) →
+pub takes_on : {S T A E : Type 0} (F : shelf.Ghosts S) (K : sink.Ghosts T) (s u t : S) (out written : T) (d : DiskCourse) (file : File) (stop : E → Status) (read : List ℕ → Result A E) (name : List ℕ) (next : A → Work) (x : A) (status : Status) →
     IsTaken (F.holds s) file read name x → StartsOne F s u →
-    Ends (next x) (course F K u t out written) status → Ends (takes file stop read name next) (course F K s t out written) status
-takes_on F K s u t out written file stop read name next x status taken started ends =
+    Ends (next x) (course F K u t out written d) status → Ends (takes file stop read name next) (course F K s t out written d) status
+takes_on F K s u t out written d file stop read name next x status taken started ends =
     let on = earlier F K s u t out written d (next x) (raised (F.starts s)) status started.1 started.2
-    (subst (λ (n : ℕ). Comes (next x) (course F K u t out written) n status) started.0 ends) in
+    (subst (λ (n : ℕ). Comes (next x) (course F K u t out written d) n status) started.0 ends) in
     inr (inr (taken.0, taken.1, rw taken.2 on))
 
 -- from what printing tells of a text to the end of a work that writes it
