@@ -4,7 +4,6 @@ use Rattle.std.specs.Prelude.{Ok, Err}
 use Rattle.hg_model.specs.declared.row.Row.{Row}
 use Rattle.hg_life.specs.declared.answers.ByteFault.{ByteFault}
 use Rattle.hg_event.specs.First.{first_event}
-use Rattle.hg_keep.specs.declared.events.EventFault.{EventFault}
 use Rattle.hg_keep.specs.Events.{Events, behind_first, events_for, events_of, with_front}
 
 front_none : (events : Events) → with_front [] events ≡ events

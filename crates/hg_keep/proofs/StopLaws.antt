@@ -1,19 +1,33 @@
 -- What stops leave through one piece of work after another.
-use Rattle.std.proofs.Common.{◌≡◌, inl, inr, ℕ, ◌≤◌, List, Option, Some, None, is_some, refl, sym, ◌∙◌, ap, subst, arith}
-use Rattle.std.specs.Prelude.{IsSome}
-use Rattle.std.specs.Option.{ForSome}
-use Rattle.hg_io.specs.FileView.{FileView, Leaves, Stays}
-use Rattle.hg_io.proofs.Going.{goes_on, nothing_else, weaker}
+use Rattle.std.proofs.Common.{◌≡◌, inl, inr, ℕ, List, Option, Some, None, is_some, option_map, refl, ◌∙◌, subst}
+use Rattle.std.specs.Prelude.{Result, Ok, Err, IsErrOf, IsSome}
+use Rattle.hg_io.specs.FileView.{FileView}
+use Rattle.hg_io.proofs.Going.{goes_on, weaker}
 use Rattle.hg_life.specs.NodeView.{NodeView, Start}
 use Rattle.hg_life.specs.Signing.{Accepts}
 use Rattle.hg_journal.specs.Journal.{KeepsEither, journal}
-use Rattle.hg_journal.specs.Opening.{SyncsFirst}
-use Rattle.hg_journal.specs.Stored.{IsStored, StopsKeep, StopsKeepOne, StoredView, StoresNode}
+use Rattle.hg_journal.specs.Stored.{IsStored, StopsKeep}
 use Rattle.hg_journal.proofs.Steps.{still_keeps}
-use Rattle.hg_keep.specs.Stops.{KeepsSome, StopsLeave, StopsLeaveOf}
+use Rattle.hg_keep.specs.Stops.{KeepsSome, StopsLeave}
 
 pub some_is : {A : Type 0} (x y : A) → (let a : Option A = Some x in a) ≡ Some y → x ≡ y
 some_is x y same = cc
+
+pub some_value : {A : Type 0} (o : Option A) → IsSome o → (x : A) × (o ≡ Some x)
+some_value None some = absurd cc
+some_value (Some x) some = (x, refl)
+
+-- an answer that is no error, and one that is
+pub no_error : {T E : Type 0} (x : T) (e : E) → IsErrOf (let r : Result T E = Ok x in r) e → ⊥
+no_error x e is = absurd cc
+
+pub error_is : {T E : Type 0} (d e : E) → IsErrOf (let r : Result T E = Err d in r) e → d ≡ e
+error_is d e is = cc
+
+-- what is there was there before it was mapped
+pub some_mapped : {A B : Type 0} (f : A → B) (o : Option A) (p : Option B) → option_map f o ≡ p → IsSome p → IsSome o
+some_mapped f None p is some = rw (← is) at some
+some_mapped f (Some x) p is some = refl
 
 pub told_still : {A : Type 0} (a b : Option A) → is_some b ≡ is_some a → IsSome a → IsSome b
 told_still a b same told = same ∙ told

@@ -1,15 +1,13 @@
 -- What comes of the whole work, from the opening on.
-use Rattle.std.proofs.Common.{◌≡◌, ◌⊎◌, inl, inr, ⊎_elim, ℕ, ◌≤◌, List, [], take, Option, Some, None, is_some, refl, sym, ◌∙◌, ap, subst, arith}
-use Rattle.std.specs.Prelude.{Result, Ok, Err, IsErrOf, IsSome}
+use Rattle.std.proofs.Common.{◌≡◌, inl, inr, ⊎_elim, ℕ, List, Option, Some, is_some, refl, sym, ◌∙◌, ap, subst, arith}
+use Rattle.std.specs.Prelude.{Result, IsErrOf, IsSome}
 use Rattle.std.specs.Option.{ForSome}
-use Rattle.hg_io.specs.FileView.{FileView, Leaves, Stays}
+use Rattle.hg_io.specs.FileView.{FileView, Leaves}
 use Rattle.hg_io.proofs.Going.{goes_on, weaker}
 use Rattle.hg_life.specs.Members.{MemberList}
 use Rattle.hg_life.specs.NodeView.{NodeView, Start, start_of}
 use Rattle.hg_life.specs.Signing.{Accepts}
-use Rattle.hg_play.specs.Sites.{IsMadeWith}
 use Rattle.hg_journal.specs.Journal.{journal}
-use Rattle.hg_journal.specs.Opening as opening
 use Rattle.hg_journal.specs.Opening.{IsWrong, SyncsFirst, SyncsOrFails}
 use Rattle.hg_journal.specs.Stored.{StoredView, StoresNode}
 use Rattle.hg_journal.specs.declared.errors.OpenError.{OpenError}
@@ -22,12 +20,8 @@ use Rattle.hg_keep.specs.declared.stop.Stop.TheVariants as stop
 use Rattle.hg_keep.specs.Keeping.{IsKept, IsMadeWithOf, IsOnTheWay, KeptOf}
 use Rattle.hg_keep.specs.Stops.{IsRefused, KeepsSome, KeepsTask, StaysIfRefused, StopsLeaveOf, SyncsOnTheWay, SyncsOrStops}
 use Rattle.hg_keep.specs.Stores.{open_stop, store_stop}
-use Rattle.hg_keep.proofs.StopLaws.{some_is, told_still}
+use Rattle.hg_keep.proofs.StopLaws.{some_value, told_still}
 use Rattle.hg_keep.proofs.WayLaws.{makes_start, puts_start}
-
-pub some_value : {A : Type 0} (o : Option A) → IsSome o → (x : A) × (o ≡ Some x)
-some_value None some = absurd cc
-some_value (Some x) some = (x, refl)
 
 pub syncs_wider : {a b : FileView} {P Q : List ℕ → Type 0} → SyncsFirst a b P → ((left : List ℕ) → P left → Q left) → SyncsFirst a b Q
 syncs_wider first then_has = record {
@@ -73,7 +67,7 @@ module _ {K : Type 0} (accepts : K → Accepts) (start : Start K) where
         → ForSome old.reads (λ bytes. journal accepts start bytes ≡ node) → ForSome node (λ v. v.start ≡ start) → StopsLeaveOf accepts comes node mid new
         → ForSome old.reads (SyncsOnTheWay accepts start comes old new)
     syncs_for old mid new r node opened (inr fails) shown opens begins leaves = absurd (opened fails.0)
-    syncs_for old mid new r node opened (inl syncs) shown opens begins leaves bytes told v is =
+    syncs_for old mid new r node opened (inl syncs) shown opens begins leaves = λ bytes told v is.
         let there : node ≡ Some v = sym (opens bytes told) ∙ is in
         let later = subst (λ (s : Start K). Leaves mid new (KeepsSome accepts s (comes v))) (begins v there) (leaves v there (told_still old.reads mid.reads shown (subst (λ (o : Option (List ℕ)). IsSome o) (sym told) refl))).meanwhile in
         syncs_on (syncs_wider (syncs bytes told v is) (begun v)) later
@@ -101,7 +95,7 @@ module _ {K : Type 0} (accepts : K → Accepts) (start : Start K) where
       let same : w.start ≡ start = kept_start members events time v.0 w kept done.2 ∙ begins v.0 v.1 in (
         v.0,
         w,
-        record { start = begins v.0 v.1; keeps = λ bytes told. opens bytes told ∙ v.1 },
+        record { begun = begins v.0 v.1; keeps = λ bytes told. opens bytes told ∙ v.1 },
         done.2,
         record { synced = stored.synced; keeps = λ bytes told. subst (λ (b : Start K). journal accepts b bytes ≡ Some w) same (stored.keeps bytes told) },
       )

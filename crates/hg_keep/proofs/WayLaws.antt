@@ -17,7 +17,6 @@ use Rattle.hg_life.specs.NodeView.{IsNode, NodeView, Start, node_rows, start_of,
 use Rattle.hg_life.specs.Signing.{Accepts}
 use Rattle.hg_life.specs.declared.answers.MakeAnswer.{MakeAnswer}
 use Rattle.hg_life.specs.declared.answers.MakeAnswer.TheVariants as answer
-use Rattle.hg_life.specs.declared.answers.PutAnswer.{PutAnswer}
 use Rattle.hg_history.proofs.NodeLaws.{settles_all}
 use Rattle.hg_node.specs.Next.{next_others}
 use Rattle.hg_node.specs.Puts.{after_put}
@@ -35,7 +34,7 @@ use Rattle.hg_keep.specs.declared.kept.Kept.{Kept}
 use Rattle.hg_keep.specs.declared.kept.Making.{Making}
 use Rattle.hg_keep.specs.Keeping.{HasRow, IsMadeSome, IsMadeWithOf, IsOnTheWay, IsPutSome, IsSettledSome, IsTurn, KeptOf, MakesAt, MakesOf, PutsAll, SettlesOf, TurnOf, counted, no_counts, put_one, puts, settled, told_of}
 use Rattle.hg_keep.specs.Stops.{StopsLeave, StopsLeaveOf}
-use Rattle.hg_keep.proofs.StopLaws.{leaves_either, leaves_on, leaves_still, leaves_wider, some_is, told_still}
+use Rattle.hg_keep.proofs.StopLaws.{leaves_either, leaves_on, leaves_still, leaves_wider, some_is, some_value, told_still}
 
 module _ {K : Type 0} (accepts : K → Accepts) where
   puts_start_from : (v : NodeView K × Counts) (events : List (List ℕ)) → (fold (put_one accepts) v events).0.start ≡ v.0.start
@@ -218,11 +217,27 @@ module _ {K : Type 0} (accepts : K → Accepts) where
         (is.marks ∙ ap (λ (G : List Row). fame_marks m.start.members m.start.coin (links G) (coin_at G)) (sym is.rows)
         ∙ ap₂ (λ (n : Stakes) (c : ℕ). fame_marks n c (links (node_rows w)) (coin_at (node_rows w))) stakes coin)
 
-    -- the node that is made with these members stays so
-    pub made_still : (members : MemberList) (node next : Option (NodeView K)) (v w : NodeView K) → node ≡ Some v → next ≡ Some w → w.start ≡ v.start → IsMadeWithOf members node → IsMadeWith members w
-    made_still members node next v w there here same made =
-        let was : v.start ≡ start_of members v.start.own v.start.keys = made v there in
-        same ∙ was ∙ ap (λ (s : Start K). start_of members s.own s.keys) (sym same)
+    -- there is still a node after each part of the work
+    pub there_puts : (node next : Option (NodeView K)) (counts : Counts) → IsSome node → PutsAll accepts events node next counts → IsSome next
+    there_puts node next counts there all = let v = some_value node there in subst (λ (o : Option (NodeView K)). IsSome o) (sym (all v.0 v.1).0) refl
+
+    pub there_makes : (node next : Option (NodeView K)) (told : Option Making) → IsSome node → MakesOf accepts time node next told → IsSome next
+    there_makes node next told there makes = let v = some_value node there in subst (λ (o : Option (NodeView K)). IsSome o) (sym (makes v.0 v.1).1) refl
+
+    pub there_settles : (node next : Option (NodeView K)) → IsSome node → SettlesOf accepts node next → IsSome next
+    there_settles node next there done = let v = some_value node there in subst (λ (o : Option (NodeView K)). IsSome o) (sym (done v.0 v.1).0) refl
+
+    -- and it is one that was made with these members
+    pub made_still : (members : MemberList) (node next last final : Option (NodeView K)) (counts : Counts) (told : Option Making) (w : NodeView K) → IsSome node → PutsAll accepts events node next counts
+        → MakesOf accepts time next last told → SettlesOf accepts last final → final ≡ Some w → IsMadeWithOf members node → IsMadeWith members w
+    made_still members node next last final counts told w there all makes settles_it here with =
+        let v = some_value node there in
+        let u = (puts accepts v.0 events).0 in
+        let made = makes u (all v.0 v.1).0 in
+        let done = settles_it made.0 made.1 in
+        let same : w.start ≡ v.0.start =
+        ap (λ (x : NodeView K). x.start) (some_is w (settled made.0) (sym here ∙ done.0)) ∙ makes_start u made.0 time told made.2 ∙ puts_start v.0 events in
+        same ∙ with v.0 v.1 ∙ ap (λ (s : Start K). start_of members s.own s.keys) (sym same)
 
     -- what came of all of it
     pub kept_is : (members : MemberList) (node next last settled_node : Option (NodeView K)) (v w : NodeView K) (kept : Kept) → node ≡ Some v → settled_node ≡ Some w → kept.opened ≡ length (node_rows v)

@@ -36,7 +36,7 @@ IsFaultTold r before after name = IsFaultCounted r Disk before after name
 
 -- the node begins so, and the file's journal is its, where the disk tells it
 pub record Begins {K : Type 0} (accepts : K → Accepts) (start : Start K) (file : FileView) (v : NodeView K) : Type 0 where
-  pub start : v.start ≡ start
+  pub begun : v.start ≡ start
   pub keeps : ForSome file.reads (λ bytes. journal accepts start bytes ≡ Some v)
 
 -- the file's journal is the node's, and a stop leaves the file as it reads

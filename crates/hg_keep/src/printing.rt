@@ -78,11 +78,7 @@ fn write_making<K: Sink>(page: &mut Page, sink: &mut K, told: &Making) -> Result
 }
 
 /// The same, if one was to be made.
-fn write_made<K: Sink>(
-    page: &mut Page,
-    sink: &mut K,
-    made: &Option<Making>,
-) -> Result<(), Failed>
+fn write_made<K: Sink>(page: &mut Page, sink: &mut K, made: &Option<Making>) -> Result<(), Failed>
     ensures { PutsOn K.Sink sink.old sink.new page.old page.new (made_line made.now) result }
 {
     match made {

@@ -10,7 +10,10 @@ use hg_model::Share;
 use hg_sign::Signer;
 
 /// Publishes all that the node's graph decides.
-pub(crate) fn settle<V: Signer + Drop, D: Disk>(stored: &mut Stored<V>, disk: &mut D) -> Result<(), StoreError>
+pub(crate) fn settle<V: Signer + Drop, D: Disk>(
+    stored: &mut Stored<V>,
+    disk: &mut D,
+) -> Result<(), StoreError>
     requires there { IsSome stored.old.node }
     requires started { D.At disk.old stored.old.name }
     requires stored { StoresNode V.accepts (D.file disk.old) stored.old }

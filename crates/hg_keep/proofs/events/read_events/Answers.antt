@@ -1,4 +1,4 @@
-use Rattle.std.proofs.Common.{rules, ◌≡◌, ◌+◌, ◌-◌, ◌<◌, ◌≤◌, length, [], ◌∷◌, ◌++◌, take, drop, ap, ◌∙◌, arith}
+use Rattle.std.proofs.Common.{rules, ◌-◌, ◌<◌, ◌≤◌, length, arith}
 use Rattle.hg_keep.specs.Events.{events_of}
 use Rattle.hg_keep.proofs.EventLaws.{begun, more}
 use Rattle.hg_keep.proofs.events.read_events.Goals as goal

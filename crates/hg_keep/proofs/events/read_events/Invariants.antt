@@ -1,4 +1,4 @@
-use Rattle.std.proofs.Common.{◌≡◌, ℕ, ◌-◌, ◌≤◌, length}
+use Rattle.std.proofs.Common.{◌-◌, ◌≤◌, length}
 use Rattle.hg_keep.specs.Events.{events_of}
 use Rattle.hg_keep.proofs.EventLaws.{IsReadTo}
 use Rattle.hg_keep.proofs.events.read_events.Given as goal

@@ -1,4 +1,4 @@
-use Rattle.std.proofs.Common.{rules, ◌≡◌, inl, ℕ, Option, Some, None, refl, sym, subst}
+use Rattle.std.proofs.Common.{rules, inl, ℕ, Option, Some, None, refl, sym, subst}
 use Rattle.hg_keep.specs.Keeping.{IsMadeSome, MakesOf}
 use Rattle.hg_keep.proofs.WayLaws.{makes_none, makes_told, stops_still}
 use Rattle.hg_keep.proofs.making.make_at.Goals as goal

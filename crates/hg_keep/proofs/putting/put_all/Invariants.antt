@@ -1,6 +1,5 @@
-use Rattle.std.proofs.Common.{◌≡◌, ℕ, ◌+◌, ◌≤◌, List, take, Some, is_some}
+use Rattle.std.proofs.Common.{◌≡◌, ℕ, ◌+◌, ◌≤◌, List, take, is_some}
 use Rattle.std.specs.Prelude.{IsSome}
-use Rattle.std.specs.Option.{ForSome}
 use Rattle.hg_journal.specs.Stored.{StoresNode}
 use Rattle.hg_keep.specs.Keeping.{IsPutSome, PutsAll}
 use Rattle.hg_keep.specs.Stops.{StopsLeaveOf}
