@@ -1,5 +1,5 @@
 //! Plays stored cases: for each, words and files, and what the program must write and end with.
-//! Each is run through `hashgraph` of hg_top over a shelf and two sinks in memory, and compared byte for byte
+//! Each is run through `hashgraph` of hg_top over a shelf, a disk and two sinks in memory, and compared byte for byte
 //! (`difference` of hg_check). Where a case does not differ, the program may come to what is stored (`play_case`).
 //!
 //! Then it runs the program beside workers at gates where a worker and the lines, or two workers, wait for each other.

@@ -4,7 +4,7 @@ ghost use Rattle.hg_top.specs.Printing.{status_code};
 ghost use Rattle.check_cases.specs.Runs.{IsFrontOfLine, MayEnd};
 
 use hg_check::Outcome;
-use hg_io::{Gate, ShelfMem, SinkMem};
+use hg_io::{DiskMem, Gate, ShelfMem, SinkMem};
 use hg_model::Memory;
 use hg_top::{Status, hashgraph};
 use std::alloc::Global;
@@ -13,6 +13,9 @@ use std::thread::Threads;
 
 /// More bytes than any case writes.
 const ROOM: usize = 1_048_576;
+
+/// More bytes than any case keeps on a disk: none of them does.
+const DISK_ROOM: usize = 1024;
 
 /// A run that ended.
 #[derive(Drop)]
@@ -43,7 +46,7 @@ fn sink(alloc: Global) -> Result<SinkMem, Memory>
     SinkMem::new(alloc, ROOM, ROOM, Vec::new(alloc))
 }
 
-/// Runs the program with these words, its name first, where these files lie, at a gate.
+/// Runs the program with these words, its name first, where these files lie and a disk is empty, at a gate.
 pub fn play<R: Threads + Wait + Sync, G: Gate + Sync>(
     rt: &R,
     alloc: Global,
@@ -55,8 +58,11 @@ pub fn play<R: Threads + Wait + Sync, G: Gate + Sync>(
     ensures told { IfOk result (λ played. IsFrontOfLine played.status played.err.bytes) }
 {
     let mut shelf = ShelfMem::new(alloc, files, Vec::new(alloc))?;
+    let mut disk = DiskMem::new(alloc, DISK_ROOM, Vec::new(alloc))?;
     let mut out = sink(alloc)?;
     let mut err = sink(alloc)?;
-    let status = hashgraph(rt, alloc, words, &mut shelf, &mut out, &mut err, gate);
+    let status = hashgraph(
+        rt, alloc, words, &mut shelf, &mut disk, &mut out, &mut err, gate,
+    );
     Ok(Played { status, out, err })
 }

@@ -23,6 +23,8 @@ mod files;
 #[cfg(test)]
 mod journal;
 #[cfg(test)]
+mod keeping;
+#[cfg(test)]
 mod program;
 #[cfg(test)]
 mod telling;

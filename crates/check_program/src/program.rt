@@ -1,5 +1,5 @@
 use crate::files::{ample, shelf_of};
-use hg_io::{NoGate, SinkMem};
+use hg_io::{DiskMem, NoGate, SinkMem};
 use hg_members::MemberFault;
 use hg_script::{ScriptFault, Why};
 use hg_top::{File, NoWords, Refusal, Status, hashgraph, without_words};
@@ -21,17 +21,17 @@ const REPORT: &str =
 const RUN: &str = "hashgraph run --members members.toml --script script.txt";
 
 const USAGE: &str =
-    "hashgraph: usage: run --members FILE --script FILE [--workers K] or make --members N --lines L --seed S [--workers K]\n";
+    "hashgraph: usage: run --members FILE --script FILE [--workers K] or make --members N --lines L --seed S [--workers K] or keep --members FILE --events FILE --own NAME --disk FILE [--time T]\n";
 
 /// What a run came to, and what it wrote to standard output and standard error.
 #[derive(Drop)]
-struct Ran {
-    status: Status,
-    out: SinkMem,
-    err: SinkMem,
+pub(crate) struct Ran {
+    pub(crate) status: Status,
+    pub(crate) out: SinkMem,
+    pub(crate) err: SinkMem,
 }
 
-fn words_of(alloc: Global, line: &str) -> Result<Vec<String>, Fail> {
+pub(crate) fn words_of(alloc: Global, line: &str) -> Result<Vec<String>, Fail> {
     let mut owned = Vec::new(alloc);
     for word in line.split(' ') {
         owned.push(String::from_str(alloc, word)?)?;
@@ -56,12 +56,14 @@ fn run<R: Threads + Wait + Sync>(
         ("script.txt", script.as_bytes()),
         Vec::from_slice(alloc, fails)?,
     )?;
+    let mut disk = DiskMem::new(alloc, 1024, Vec::new(alloc))?;
     let mut err = ample(alloc)?;
     let status = hashgraph(
         rt,
         alloc,
         words.as_slice(),
         &mut shelf,
+        &mut disk,
         &mut out,
         &mut err,
         &NoGate,
@@ -70,7 +72,7 @@ fn run<R: Threads + Wait + Sync>(
 }
 
 /// The run came to this, and wrote just these.
-fn expect(rt: &impl Abort, ran: &Ran, status: Status, out: &str, err: &str) {
+pub(crate) fn expect(rt: &impl Abort, ran: &Ran, status: Status, out: &str, err: &str) {
     assert!(rt; ran.status == status);
     assert!(rt; ran.out.bytes() == out.as_bytes());
     assert!(rt; ran.err.bytes() == err.as_bytes());

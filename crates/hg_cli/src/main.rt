@@ -1,5 +1,5 @@
 //! The program `hashgraph` over the files and the standard streams of the machine.
-//! It adds nothing to `hashgraph` of hg_top but a shelf and two sinks of hg_stream, whose faults are counted.
+//! It adds nothing to `hashgraph` of hg_top but a shelf, a disk and two sinks of hg_stream, whose faults are counted.
 //! What a real file or stream holds no clause tells.
 //!
 //! Run at the top of the repository; of what it prints (`examples/two-members/expected.txt`), three lines:
@@ -15,7 +15,7 @@
 
 use hg_io::NoGate;
 use hg_model::Memory;
-use hg_stream::{RealShelf, Stream, words_of};
+use hg_stream::{RealDisk, RealShelf, Stream, words_of};
 use hg_top::{NoWords, hashgraph, without_words};
 use std::process::ExitCode;
 
@@ -24,6 +24,7 @@ fn main(rt: HostRuntime) -> ExitCode {
     let status = match words_of(&rt) {
         Ok(Some(words)) => {
             let mut shelf = RealShelf::new(&rt);
+            let mut disk = RealDisk::new(&rt);
             let mut out = Stream::new(rt.stdout());
             let words = words.as_slice();
             hashgraph(
@@ -31,6 +32,7 @@ fn main(rt: HostRuntime) -> ExitCode {
                 rt.alloc(),
                 words,
                 &mut shelf,
+                &mut disk,
                 &mut out,
                 &mut err,
                 &NoGate,

@@ -7,8 +7,9 @@
 //! ```text
 //! let mut err = Stream::new(rt.stderr());
 //! let mut shelf = RealShelf::new(&rt);
+//! let mut disk = RealDisk::new(&rt);
 //! let mut out = Stream::new(rt.stdout());
-//! hashgraph(&rt, rt.alloc(), words, &mut shelf, &mut out, &mut err, &NoGate)
+//! hashgraph(&rt, rt.alloc(), words, &mut shelf, &mut disk, &mut out, &mut err, &NoGate)
 //! ```
 #![tactic(auto)]
 

@@ -4,16 +4,20 @@ use Rattle.std.specs.Prelude.{Result, Ok, Err, ⊤}
 use Rattle.hg_io.specs.Faults.{raised}
 use Rattle.hg_io.specs.Files.{Files}
 use Rattle.hg_io.specs.Printing.{Prints}
+use Rattle.hg_io.specs.declared.disk.Disk as disk
 use Rattle.hg_io.specs.declared.shelf.Shelf as shelf
 use Rattle.hg_io.specs.declared.sink.Sink as sink
 use Rattle.hg_top.specs.declared.status.File.{File}
 use Rattle.hg_top.specs.declared.status.Status.{Status}
-use Rattle.hg_top.specs.declared.status.Status.TheVariants.{Done, ReadFault, Usage, Members, Script, WriteFault, Memory}
-use Rattle.hg_top.specs.Course.{Course, Has, HasMore, HasWithin, IsQuiet, StartsOne, Tells, course, reading}
-use Rattle.hg_top.specs.Ends.{Comes, Completes, Ends, IsTaken, StopsAt, StopsIn, WroteOn, status_of}
+use Rattle.hg_top.specs.declared.status.Status.TheVariants.{Done, ReadFault, Usage, Members, Own, Script, Events, WriteFault, Memory, Disk, Journal}
+use Rattle.hg_top.specs.Course.{Course, DiskCourse, Has, HasMore, HasWithin, IsQuiet, IsStill, StartsOne, Tells, course, disk_course, no_disk, reading}
+use Rattle.hg_top.specs.Ends.{Comes, Completes, Ends, IsTaken, StopsAt, StopsIn}
 use Rattle.hg_top.specs.Work.{Work, limit_of, nothing_more, takes, unless_faulty}
-use Rattle.hg_top.specs.Work.Work.{Writes, Stops, Reads}
-use Rattle.hg_top.specs.Commands.{work_of}
+use Rattle.hg_top.specs.Work.Work.{Writes, Stops, Reads, Keeps}
+use Rattle.hg_top.specs.Writing.{WroteOn, status_of}
+use Rattle.hg_members.specs.MemberFile.{members_of}
+use Rattle.hg_top.specs.Commands.{bad_members, bad_script, lines_for, report_work, run_work, script_work, work_of}
+use Rattle.hg_top.proofs.KeepLaws.{completes_keep}
 use Rattle.hg_command.specs.Asked.{Asked}
 
 -- ---- what holds of each work
@@ -23,12 +27,14 @@ pub comes_short : (work : Work) (c : Course) (starts : ℕ) → IsQuiet c starts
 comes_short (Writes Is) c starts quiet = quiet
 comes_short (Stops why) c starts quiet = (inr refl, quiet)
 comes_short (Reads file name next) c starts quiet = inl (refl, quiet)
+comes_short (Keeps k) c starts quiet = (quiet.0, quiet.1, inr (tt, quiet.2))
 
 -- and this is never against what must come of a work
 completes_short : (work : Work) (c : Course) → Completes work c Memory
 completes_short (Writes Is) c = λ fine. inr refl
 completes_short (Stops why) c = inr refl
 completes_short (Reads file name next) c = λ bytes tells fine. (λ more. inr refl, λ within. completes_short (next bytes) c)
+completes_short (Keeps k) c = λ written kept bytes told. inr refl
 
 some_is : {A : Type 0} (x y : A) → (let a : Option A = Some x in a) ≡ Some y → x ≡ y
 some_is x y same = cc
@@ -50,7 +56,11 @@ completes_text Is c starts WriteFault comes fine = absurd (fine comes.1.0)
 completes_text Is c starts (ReadFault file) comes fine = absurd comes.1
 completes_text Is c starts Usage comes fine = absurd comes.1
 completes_text Is c starts (Members refusal) comes fine = absurd comes.1
+completes_text Is c starts Own comes fine = absurd comes.1
 completes_text Is c starts (Script refusal) comes fine = absurd comes.1
+completes_text Is c starts (Events refusal) comes fine = absurd comes.1
+completes_text Is c starts Disk comes fine = absurd comes.1
+completes_text Is c starts (Journal why) comes fine = absurd comes.1
 
 completes_file : (file : File) (name : List ℕ) (next : List ℕ → Work) (c : Course) (status : Status) → StopsAt c file name status → Completes (Reads file name next) c status
 completes_file file name next c status (inl fault) = λ bytes tells fine. absurd (fine fault.1)
@@ -64,6 +74,7 @@ completes_file file name next c status (inr (inr short)) = subst (Completes (Rea
 pub completes : (work : Work) (c : Course) (starts : ℕ) (status : Status) → Comes work c starts status → Completes work c status
 completes (Writes Is) c starts status comes = completes_text Is c starts status comes
 completes (Stops why) c starts status comes = comes.0
+completes (Keeps k) c starts status comes = completes_keep k c status comes.1
 completes (Reads file name next) c starts status (inl short) = subst (Completes (Reads file name next) c) (sym short.0) (completes_short (Reads file name next) c)
 completes (Reads file name next) c starts status (inr (inl stops)) = completes_file file name next c status stops.0
 completes (Reads file name next) c starts status (inr (inr read)) = λ bytes tells fine. (
@@ -82,7 +93,11 @@ stops_before work c starts Memory comes = comes_short work c starts comes
 stops_before work c starts (ReadFault file) comes = absurd comes.1
 stops_before work c starts Usage comes = absurd comes.1
 stops_before work c starts (Members refusal) comes = absurd comes.1
+stops_before work c starts Own comes = absurd comes.1
 stops_before work c starts (Script refusal) comes = absurd comes.1
+stops_before work c starts (Events refusal) comes = absurd comes.1
+stops_before work c starts Disk comes = absurd comes.1
+stops_before work c starts (Journal why) comes = absurd comes.1
 
 -- a file that is read, if what follows may be exchanged
 pub reads_for : (file : File) (name : List ℕ) (next others : List ℕ → Work) (c : Course) (starts : ℕ) (status : Status) →
@@ -96,7 +111,7 @@ reads_for file name next others c starts status change (inr (inr read)) = inr (i
 pub reads_none : {S : Type 0} (F : shelf.Ghosts S) (s t : S) (file : File) (name : List ℕ) (next : List ℕ → Work) (status : Status) →
     StopsIn F s t (Reads file name (λ bytes. nothing_more)) status → StopsIn F s t (Reads file name next) status
 reads_none F s t file name next status stops = λ faults written.
-    let c = reading F s t faults written in
+    let c = reading F s t faults written no_disk in
     reads_for file name (λ bytes. nothing_more) next c c.before.starts status (λ bytes. stops_before (next bytes) c (raised c.before.starts) status) (stops faults written)
 
 unless_faulty_for : {A F : Type 0} (stop : F → Status) (read : Result A F) (next others : A → Work) (c : Course) (starts : ℕ) (status : Status) →
@@ -105,43 +120,72 @@ unless_faulty_for : {A F : Type 0} (stop : F → Status) (read : Result A F) (ne
 unless_faulty_for stop (Ok x) next others c starts status change comes = change x comes
 unless_faulty_for stop (Err fault) next others c starts status change comes = comes
 
+-- ---- from a call without a disk to one with a disk
+
+-- no work is done on a node
+abbrev pub Diskless : Work → Type 0
+Diskless (Writes Is) = ⊤
+Diskless (Stops why) = ⊤
+Diskless (Reads file name next) = (bytes : List ℕ) → Diskless (next bytes)
+Diskless (Keeps k) = ⊥
+
+pub diskless_unless : {A F : Type 0} (stop : F → Status) (read : Result A F) (next : A → Work) → ((x : A) → Diskless (next x)) → Diskless (unless_faulty stop read next)
+diskless_unless stop (Ok x) next diskless = diskless x
+diskless_unless stop (Err fault) next diskless = tt
+
+pub diskless_run : (members script : List ℕ) (workers : ℕ) → Diskless (run_work members script workers)
+diskless_run members script workers = λ bytes. diskless_unless bad_members (members_of bytes) (script_work script workers)
+    (λ list bytes. diskless_unless bad_script (lines_for list workers bytes) (report_work list) (λ lines. tt))
+
+-- then it does not matter which disk it is that nothing is done to
+pub with_disk : (work : Work) (c : Course) (d : DiskCourse) (starts : ℕ) (status : Status) → Diskless work → IsStill d → Comes work c starts status → Comes work (record c { disk = d }) starts status
+with_disk (Writes Is) c d starts status diskless still comes = (comes.0, comes.1, still)
+with_disk (Stops why) c d starts status diskless still comes = (comes.0, (comes.1.0, comes.1.1, still))
+with_disk (Reads file name next) c d starts status diskless still (inl short) = inl (short.0, (short.1.0, short.1.1, still))
+with_disk (Reads file name next) c d starts status diskless still (inr (inl stops)) = inr (inl (stops.0, (stops.1.0, stops.1.1, still)))
+with_disk (Reads file name next) c d starts status diskless still (inr (inr read)) =
+    inr (inr (read.0, read.1, with_disk (next read.0) c d (raised starts) status (diskless read.0) still read.2))
+with_disk (Keeps k) c d starts status diskless still comes = absurd diskless
+
 -- a file that was not taken, whatever would have been done with it
-pub takes_none : {S T A E : Type 0} (F : shelf.Ghosts S) (K : sink.Ghosts T) (s t : S) (out : T) (file : File) (stop : E → Status) (read : List ℕ → Result A E) (name : List ℕ) (next : A → Work) (status : Status) →
-    StopsIn F s t (takes file stop read name (λ x. nothing_more)) status → Ends (takes file stop read name next) (course F K s t out out) status
-takes_none F K s t out file stop read name next status stops =
-    let c = course F K s t out out in
+pub takes_none : {S T A E : Type 0} (F : shelf.Ghosts S) (K : sink.Ghosts T) (s t : S) (out : T) (d : DiskCourse) (file : File) (stop : E → Status) (read : List ℕ → Result A E) (name : List ℕ) (next : A → Work) (status : Status) →
+    IsStill d → StopsIn F s t (takes file stop read name (λ x. nothing_more)) status → Ends (takes file stop read name next) (course F K s t out out d) status
+takes_none F K s t out d file stop read name next status still stops =
+    let c = course F K s t out out d in
     reads_for file name (λ bytes. unless_faulty stop (read bytes) (λ x. nothing_more)) (λ bytes. unless_faulty stop (read bytes) next) c c.before.starts status
     (λ bytes. unless_faulty_for stop (read bytes) (λ x. nothing_more) next c (raised c.before.starts) status (λ x. stops_before (next x) c (raised c.before.starts) status))
-    (stops (K.faults out) (K.written out))
+    (with_disk (takes file stop read name (λ x. nothing_more)) (course F K s t out out no_disk) d (F.starts s) status
+    (λ bytes. diskless_unless stop (read bytes) (λ x. nothing_more) (λ x. tt)) still (stops (K.faults out) (K.written out)))
 
 -- ---- from one moment to an earlier one
 
 -- the course may begin at an earlier moment, with the same files and no more faults
-pub earlier : {S T : Type 0} (F : shelf.Ghosts S) (K : sink.Ghosts T) (s u t : S) (out written : T) (work : Work) (starts : ℕ) (status : Status) →
+pub earlier : {S T : Type 0} (F : shelf.Ghosts S) (K : sink.Ghosts T) (s u t : S) (out written : T) (d : DiskCourse) (work : Work) (starts : ℕ) (status : Status) →
     F.holds u ≡ F.holds s → ((name : List ℕ) → F.faults s name ≤ F.faults u name) →
-    Comes work (course F K u t out written) starts status → Comes work (course F K s t out written) starts status
-earlier F K s u t out written (Writes Is) starts status holds counts comes = comes
-earlier F K s u t out written (Stops why) starts status holds counts comes = comes
-earlier F K s u t out written (Reads file name next) starts status holds counts (inl short) = inl short
-earlier F K s u t out written (Reads file name next) starts status holds counts (inr (inl (inl fault, quiet))) =
+    Comes work (course F K u t out written d) starts status → Comes work (course F K s t out written d) starts status
+earlier F K s u t out written d (Writes Is) starts status holds counts comes = comes
+earlier F K s u t out written d (Stops why) starts status holds counts comes = comes
+earlier F K s u t out written d (Reads file name next) starts status holds counts (inl short) = inl short
+earlier F K s u t out written d (Reads file name next) starts status holds counts (inr (inl (inl fault, quiet))) =
     (let less = counts name in inr (inl (inl (fault.0, omega (arith, fault.1, less)), quiet)))
-earlier F K s u t out written (Reads file name next) starts status holds counts (inr (inl (inr (inl long), quiet))) =
+earlier F K s u t out written d (Reads file name next) starts status holds counts (inr (inl (inr (inl long), quiet))) =
     inr (inl (inr (inl (long.0, subst (λ (h : Option Files). HasMore h name (limit_of file)) holds long.1)), quiet))
-earlier F K s u t out written (Reads file name next) starts status holds counts (inr (inl (inr (inr short), quiet))) = inr (inl (inr (inr short), quiet))
-earlier F K s u t out written (Reads file name next) starts status holds counts (inr (inr read)) =
+earlier F K s u t out written d (Reads file name next) starts status holds counts (inr (inl (inr (inr short), quiet))) = inr (inl (inr (inr short), quiet))
+earlier F K s u t out written d (Reads file name next) starts status holds counts (inr (inr read)) =
     inr (inr (
       read.0,
       subst (λ (h : Option Files). HasWithin h name (limit_of file) read.0) holds read.1,
-      earlier F K s u t out written (next read.0) (raised starts) status holds counts read.2,
+      earlier F K s u t out written d (next read.0) (raised starts) status holds counts read.2,
     ))
+earlier F K s u t out written d (Keeps k) starts status holds counts comes = comes
 
 -- from the work behind a file to the one that begins with it
-pub takes_on : {S T A E : Type 0} (F : shelf.Ghosts S) (K : sink.Ghosts T) (s u t : S) (out written : T) (file : File) (stop : E → Status) (read : List ℕ → Result A E) (name : List ℕ) (next : A → Work) (x : A) (status : Status) →
+pub takes_on : {S T A E : Type 0} (F : shelf.Ghosts S) (K : sink.Ghosts T) (s u t : S) (out written : T) (d : DiskCourse) (file : File) (stop : E → Status) (read : List ℕ → Result A E) (name : List ℕ) (next : A → Work) (x : A) (status : Status) →
     IsTaken (F.holds s) file read name x → StartsOne F s u →
-    Ends (next x) (course F K u t out written) status → Ends (takes file stop read name next) (course F K s t out written) status
-takes_on F K s u t out written file stop read name next x status taken started ends =
-    let on = earlier F K s u t out written (next x) (raised (F.starts s)) status started.1 started.2
-    (subst (λ (n : ℕ). Comes (next x) (course F K u t out written) n status) started.0 ends) in
+    Ends (next x) (course F K u t out written d) status → Ends (takes file stop read name next) (course F K s t out written d) status
+takes_on F K s u t out written d file stop read name next x status taken started ends =
+    let on = earlier F K s u t out written d (next x) (raised (F.starts s)) status started.1 started.2
+    (subst (λ (n : ℕ). Comes (next x) (course F K u t out written d) n status) started.0 ends) in
     inr (inr (taken.0, taken.1, rw taken.2 on))
 
 -- from what printing tells of a text to the end of a work that writes it
@@ -151,6 +195,8 @@ wrote K out written Is text (Ok x) is prints = (text, is, prints.0)
 wrote K out written Is text (Err e) is prints = (prints.1, (text, is, prints.0))
 
 -- what a request came to, told of the values at the end of the call
-pub ends_at : {S T : Type 0} (F : shelf.Ghosts S) (K : sink.Ghosts T) (s t last : S) (out written done : T) (asked words : Option Asked) (status same : Status) →
-    asked ≡ words → last ≡ t → done ≡ written → same ≡ status → Ends (work_of asked) (course F K s t out written) status → Ends (work_of words) (course F K s last out done) same
-ends_at F K s t last out written done asked words status same is shelf_is out_is status_is ends = rw (← is, shelf_is, out_is, status_is) ends
+pub ends_at : {S T D : Type 0} (F : shelf.Ghosts S) (K : sink.Ghosts T) (W : disk.Ghosts D) (s t last : S) (out written done : T) (disk kept left : D) (asked words : Option Asked) (status same : Status) →
+    asked ≡ words → last ≡ t → done ≡ written → left ≡ kept → same ≡ status →
+    Ends (work_of asked) (course F K s t out written (disk_course W disk kept)) status → Ends (work_of words) (course F K s last out done (disk_course W disk left)) same
+ends_at F K W s t last out written done disk kept left asked words status same is shelf_is out_is disk_is status_is ends =
+    rw (← is, shelf_is, out_is, disk_is, status_is) ends

@@ -1,7 +1,7 @@
 -- The commands: what each of them does, as a work
-use Rattle.std.specs.Prelude.{ℕ, ◌≡◌, List, Option, Some, None, Result, String}
+use Rattle.std.specs.Prelude.{ℕ, ◌≡◌, ⊤, List, Option, Some, None, Result, String, if◌then◌else◌, option_and_then}
 use Rattle.std.specs.Global.{Global}
-use Rattle.hg_life.specs.Members.{MemberList}
+use Rattle.hg_life.specs.Members.{MemberList, has_node, member_named}
 use Rattle.hg_outcome.specs.Report.{report_text}
 use Rattle.hg_members.specs.declared.fault.MemberFault.{MemberFault}
 use Rattle.hg_members.specs.MemberFile.{members_of}
@@ -9,25 +9,31 @@ use Rattle.hg_script.specs.declared.fault.ScriptFault.{ScriptFault}
 use Rattle.hg_script.specs.declared.line.Line.{Line}
 use Rattle.hg_script.specs.Script.{lines_of}
 use Rattle.hg_made.specs.Made.{generate}
-use Rattle.hg_command.specs.Asked.{Asked, MadeRun, make, request_of, run, texts}
+use Rattle.hg_command.specs.Asked.{Asked, KeepFiles, MadeRun, keep, make, request_of, run, texts}
+use Rattle.hg_keep.specs.Events.{events_of}
+use Rattle.hg_keep.specs.declared.events.EventFault.{EventFault}
 use Rattle.hg_play.specs.Agree.{IsAgreed}
 use Rattle.hg_play.specs.Play.{IsSafePlay, play, summary}
 use Rattle.hg_report.specs.Summary.{summary_text}
+use Rattle.hg_top.specs.declared.keeping.KeepRequest.{KeepRequest}
 use Rattle.hg_top.specs.declared.status.File.TheVariants as file
 use Rattle.hg_top.specs.declared.status.Refusal.TheVariants.{Fault}
 use Rattle.hg_top.specs.declared.status.Status.{Status}
-use Rattle.hg_top.specs.declared.status.Status.TheVariants.{Usage, Members, Script}
+use Rattle.hg_top.specs.declared.status.Status.TheVariants.{Usage, Members, Own, Script, Events}
 use Rattle.hg_top.specs.Work.{Work, takes}
-use Rattle.hg_top.specs.Work.Work.{Writes, Stops}
+use Rattle.hg_top.specs.Work.Work.{Writes, Stops, Keeps}
 
 -- ---- the files
 
--- the statuses of a member file and of a script that have a fault
+-- the statuses of a member file, of a script and of a file of events that have a fault
 abbrev pub bad_members : MemberFault → Status
 bad_members fault = Members (Fault fault)
 
 abbrev pub bad_script : ScriptFault → Status
 bad_script fault = Script (Fault fault)
+
+abbrev pub bad_events : EventFault → Status
+bad_events fault = Events (Fault fault)
 
 -- the member file of this name, and next with its members
 abbrev pub members_work : List ℕ → (MemberList → Work) → Work
@@ -40,6 +46,10 @@ lines_for members workers bytes = lines_of bytes members workers
 -- the script of this name for these members and so many workers, and next with its lines
 abbrev pub lines_work : List ℕ → MemberList → ℕ → (List Line → Work) → Work
 lines_work name members workers next = takes file.Script bad_script (lines_for members workers) name next
+
+-- the file of events of this name, and next with its events
+abbrev pub events_work : List ℕ → (List (List ℕ) → Work) → Work
+events_work name next = takes file.Events bad_events events_of name next
 
 -- ---- run
 
@@ -80,6 +90,34 @@ pub record IsSummaryOf (m : MadeRun) (text : List ℕ) : Type 0 where
 abbrev pub make_work : MadeRun → Work
 make_work m = Writes (IsSummaryOf m)
 
+-- ---- keep
+
+-- a number of a member that has a node
+abbrev pub if_node : MemberList → ℕ → Option ℕ
+if_node members m = if has_node members m then Some m else None
+
+-- the member of this name, if it has a node
+abbrev pub own_in : MemberList → List ℕ → Option ℕ
+own_in members name = option_and_then (if_node members) (member_named members name)
+
+-- the events are put to the node of this member
+abbrev pub node_work : KeepFiles → MemberList → ℕ → List (List ℕ) → Work
+node_work k members own events =
+    Keeps (record { journal = k.disk; members = members; own = own; events = events; time = k.time })
+
+-- reads the file of events, where there is such a member
+abbrev pub own_work : KeepFiles → MemberList → Option ℕ → Work
+own_work k members None = Stops Own
+own_work k members (Some own) = events_work k.events (node_work k members own)
+
+-- reads the member file, then the file of events, and then the journal
+abbrev pub keep_work : KeepFiles → Work
+keep_work k = members_work k.members (λ members. own_work k members (own_in members k.own))
+
+-- what `keep` was asked for
+abbrev pub files_of : KeepRequest → KeepFiles
+files_of k = record { members = k.members.now; events = k.events.now; own = k.own.now; disk = k.disk.now; time = k.time }
+
 -- ---- all commands
 
 -- the work that was asked for; words that are not accepted have their status
@@ -87,6 +125,12 @@ abbrev pub work_of : Option Asked → Work
 work_of None = Stops Usage
 work_of (Some (run r)) = run_work r.members r.script r.workers
 work_of (Some (make m)) = make_work m
+work_of (Some (keep k)) = keep_work k
+
+-- nothing of it is done to a disk
+abbrev pub KeepsNothing : Option Asked → Type 0
+KeepsNothing (Some (keep k)) = ⊥
+KeepsNothing _ = ⊤
 
 -- what the words of a command line ask for, where they are accepted
 abbrev pub asks : List (String Global) → Option Asked

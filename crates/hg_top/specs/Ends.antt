@@ -1,38 +1,17 @@
 -- What a work comes to: said once, by recursion over it, for all commands
-use Rattle.std.specs.Prelude.{ℕ, ◌≡◌, ◌<◌, ◌≤◌, ◌⊎◌, ⊤, List, length, Option, Result, Ok, Err}
-use Rattle.hg_io.specs.Bytes.{Appends, AppendsPart}
-use Rattle.hg_io.specs.Faults.{Rose, raised}
+use Rattle.std.specs.Prelude.{ℕ, ◌≡◌, ◌<◌, ◌≤◌, ◌⊎◌, ⊤, List, length, Option, Result, Ok}
+use Rattle.std.specs.Option.{ForSome}
+use Rattle.hg_io.specs.Faults.{raised}
 use Rattle.hg_io.specs.Files.{Files}
 use Rattle.hg_io.specs.declared.shelf.Shelf as shelf
-use Rattle.hg_io.specs.declared.sink.Sink as sink
 use Rattle.hg_top.specs.declared.status.File.{File}
 use Rattle.hg_top.specs.declared.status.Status.{Status}
-use Rattle.hg_top.specs.declared.status.Status.TheVariants.{Done, ReadFault, WriteFault, Memory}
-use Rattle.hg_top.specs.Course.{Course, HasMore, HasReadFault, HasWithin, HasWriteFault, IsQuiet, Tells, reading}
+use Rattle.hg_top.specs.declared.status.Status.TheVariants.{Done, ReadFault, Memory}
+use Rattle.hg_top.specs.Course.{Course, HasDiskFault, HasMore, HasReadFault, HasWithin, HasWriteFault, IsQuiet, IsStill, Tells, no_disk, reading}
+use Rattle.hg_top.specs.Keeps.{KeepEnds, KeepSyncs, keep_status}
 use Rattle.hg_top.specs.Work.{Work, limit_of, too_long}
-use Rattle.hg_top.specs.Work.Work.{Writes, Stops, Reads}
-
--- just this status, or that memory ran out
-abbrev pub Gives : Status → Status → Type 0
-Gives why status = (status ≡ why) ⊎ (status ≡ Memory)
-
--- The last step of a work that writes a text with a property: the text stands whole at `Done`, and a front of it at a fault.
--- Of standard output the bytes and the count of faults are told, each before and after.
-abbrev pub Wrote : (List ℕ → Type 0) → Option (List ℕ) → Option (List ℕ) → ℕ → ℕ → Status → Type 0
-Wrote Is before after faults_before faults_after Done = (text : List ℕ) × Is text × Appends before after text
-Wrote Is before after faults_before faults_after WriteFault =
-    Rose faults_before faults_after × ((text : List ℕ) × Is text × AppendsPart before after text)
-Wrote Is before after faults_before faults_after Memory = after ≡ before
-Wrote Is before after faults_before faults_after _ = ⊥
-
--- the same of a sink K, before and after
-abbrev pub WroteOn : {S : Type 0} → sink.Ghosts S → S → S → (List ℕ → Type 0) → Status → Type 0
-WroteOn K before after Is status = Wrote Is (K.written before) (K.written after) (K.faults before) (K.faults after) status
-
--- what a call comes to by what came of writing
-abbrev pub status_of : {A E : Type 0} → Result A E → Status
-status_of (Ok x) = Done
-status_of (Err e) = WriteFault
+use Rattle.hg_top.specs.Work.Work.{Writes, Stops, Reads, Keeps}
+use Rattle.hg_top.specs.Writing.{Gives, Wrote}
 
 -- why a file that was started gave no bytes: the shelf failed at its name, or it has too many, or memory ran out
 abbrev pub StopsAt : Course → File → List ℕ → Status → Type 0
@@ -41,37 +20,47 @@ StopsAt c file name status =
     ⊎ (((status ≡ too_long file) × HasMore c.holds name (limit_of file)) ⊎ (status ≡ Memory))
 
 -- How a work ended that began after so many starts of files. No file is started until the one before it was taken, and no
--- byte is written until the last step. A want of memory may end it at any step.
+-- byte is written, to standard output or to the disk, until the last step. A want of memory may end it at any step.
 abbrev pub Comes : Work → Course → ℕ → Status → Type 0
 Comes (Writes Is) c starts status =
-    (c.after.starts ≡ starts) × Wrote Is c.before.written c.after.written c.before.write_faults c.after.write_faults status
+    (c.after.starts ≡ starts)
+    × Wrote Is c.before.written c.after.written c.before.write_faults c.after.write_faults status
+    × IsStill c.disk
 Comes (Stops why) c starts status = Gives why status × IsQuiet c starts
 Comes (Reads file name next) c starts status =
     ((status ≡ Memory) × IsQuiet c starts)
     ⊎ ((StopsAt c file name status × IsQuiet c (raised starts))
     ⊎ ((bytes : List ℕ) × HasWithin c.holds name (limit_of file) bytes × Comes (next bytes) c (raised starts) status))
+Comes (Keeps k) c starts status =
+    (c.after.starts ≡ starts)
+    × KeepEnds k c.disk c.before.written c.after.written c.before.write_faults c.after.write_faults status
+    × KeepSyncs k c.disk status
 
 -- how a call ended whose first step is the work's
 abbrev pub Ends : Work → Course → Status → Type 0
 Ends work c status = Comes work c c.before.starts status
 
--- What must come of a work if neither the shelf nor standard output fails: its text, or the status that it stops with, or
--- that of a file that is too long; only a want of memory may come instead.
+-- What must come of a work if neither the shelf nor the disk nor standard output fails: its text, or the status that it
+-- stops with, or that of a file that is too long or of a journal that is refused; only a want of memory may come instead.
 abbrev pub Completes : Work → Course → Status → Type 0
 Completes (Writes Is) c status = (HasWriteFault c → ⊥) → Gives Done status
 Completes (Stops why) c status = Gives why status
 Completes (Reads file name next) c status =
     (bytes : List ℕ) → Tells c.holds name bytes → (HasReadFault c name → ⊥) →
     ((limit_of file < length bytes) → Gives (too_long file) status) × ((length bytes ≤ limit_of file) → Completes (next bytes) c status)
+Completes (Keeps k) c status =
+    (HasWriteFault c → ⊥) → (HasDiskFault c.disk k.journal → ⊥)
+    → ForSome c.disk.before.reads (λ bytes. Gives (keep_status k bytes) status)
 
 -- the work begins with no file
 abbrev pub ReadsNoFile : Work → Type 0
 ReadsNoFile (Reads file name next) = ⊥
 ReadsNoFile _ = ⊤
 
--- a work came to this status, with a shelf F alone: nothing was written, whatever standard output is
+-- a work came to this status, with a shelf F alone and no disk: nothing was written, whatever standard output is
 abbrev pub StopsIn : {S : Type 0} → shelf.Ghosts S → S → S → Work → Status → Type 0
-StopsIn F before after work status = (faults : ℕ) (written : Option (List ℕ)) → Ends work (reading F before after faults written) status
+StopsIn F before after work status =
+    (faults : ℕ) (written : Option (List ℕ)) → Ends work (reading F before after faults written no_disk) status
 
 -- the file of this name was taken for this
 abbrev pub IsTaken : {A F : Type 0} → Option Files → File → (List ℕ → Result A F) → List ℕ → A → Type 0

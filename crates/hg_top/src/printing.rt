@@ -1,11 +1,14 @@
 ghost use Rattle.std.specs.Prelude.{◌≡◌, ◌++◌};
 ghost use Rattle.hg_io.specs.Printing.{Prints};
 ghost use Rattle.hg_members.specs.Text.{member_fault_text};
+ghost use Rattle.hg_outcome.specs.Report.{byte_fault_text};
 ghost use Rattle.hg_pieces.specs.Pieces.{piece_text};
-ghost use Rattle.hg_top.specs.Printing.{IsPrintedOn, members_line, script_line, status_line, status_without};
+ghost use Rattle.hg_top.specs.Printing.{IsPrintedOn, events_line, journal_line, members_line, script_line, status_line, status_without};
 
-use crate::status::{File, NoWords, Refusal, Status};
+use crate::status::{File, JournalFault, NoWords, Refusal, Status};
 use hg_io::{Failed, Sink, write_all};
+use hg_keep::EventFault;
+use hg_life::ByteFault;
 use hg_members::MemberFault;
 use hg_report::{Piece, print_pieces};
 use hg_script::ScriptFault;
@@ -25,6 +28,19 @@ fn member_fault_parts(fault: MemberFault) -> (&'static [u8], Piece<'static>)
         MemberFault::BadNode(i) => (b"node ", Piece::Number(i as u64)),
         MemberFault::BadStake(i) => (b"stake ", Piece::Number(i as u64)),
         MemberFault::SumTooLarge => (b"sum", Piece::Bytes(b"")),
+    }
+}
+
+/// What is wrong with an event's bytes: its word, and its number if it has one.
+fn byte_fault_parts(fault: ByteFault) -> (&'static [u8], Piece<'static>)
+    ensures { result.0.now ++ piece_text result.1 ≡ byte_fault_text fault }
+{
+    match fault {
+        ByteFault::Short(at) => (b"short ", Piece::Number(at as u64)),
+        ByteFault::BadMagic => (b"bad-magic", Piece::Bytes(b"")),
+        ByteFault::BadKind(kind) => (b"bad-kind ", Piece::Number(u64::from(kind))),
+        ByteFault::BadLength(length) => (b"bad-length ", Piece::Number(u64::from(length))),
+        ByteFault::Trailing(count) => (b"trailing ", Piece::Number(count as u64)),
     }
 }
 
@@ -68,6 +84,41 @@ fn print_script_fault<E: Sink>(err: &mut E, fault: ScriptFault) -> Result<(), Fa
     )
 }
 
+/// Prints where a file of events has none, and why.
+fn print_event_fault<E: Sink>(err: &mut E, fault: EventFault) -> Result<(), Failed>
+    ensures { Prints E.Sink err.old err.new (events_line (Refusal.Fault fault)) result }
+{
+    let (word, number) = byte_fault_parts(fault.fault);
+    print_pieces(
+        err,
+        &[
+            Piece::Bytes(b"hashgraph: event at "),
+            Piece::Number(fault.at),
+            Piece::Bytes(b": "),
+            Piece::Bytes(word),
+            number,
+            Piece::Bytes(b"\n"),
+        ],
+    )
+}
+
+/// Prints what is wrong with the file of a journal.
+fn print_journal_fault<E: Sink>(err: &mut E, fault: JournalFault) -> Result<(), Failed>
+    ensures { Prints E.Sink err.old err.new (journal_line fault) result }
+{
+    match fault {
+        JournalFault::Foreign => print_text(err, b"hashgraph: journal: foreign\n"),
+        JournalFault::Broken(at) => print_pieces(
+            err,
+            &[
+                Piece::Bytes(b"hashgraph: journal: broken "),
+                Piece::Number(at),
+                Piece::Bytes(b"\n"),
+            ],
+        ),
+    }
+}
+
 /// Prints one line, or nothing where all went well.
 fn print_status<E: Sink>(err: &mut E, status: Status) -> Result<(), Failed>
     ensures { Prints E.Sink err.old err.new (status_line status) result }
@@ -79,16 +130,25 @@ fn print_status<E: Sink>(err: &mut E, status: Status) -> Result<(), Failed>
             b"hashgraph: cannot read the member file\n",
         ),
         Status::ReadFault(File::Script) => print_text(err, b"hashgraph: cannot read the script\n"),
+        Status::ReadFault(File::Events) => print_text(
+            err,
+            b"hashgraph: cannot read the event file\n",
+        ),
         Status::Usage => print_text(
             err,
-            b"hashgraph: usage: run --members FILE --script FILE [--workers K] or make --members N --lines L --seed S [--workers K]\n",
+            b"hashgraph: usage: run --members FILE --script FILE [--workers K] or make --members N --lines L --seed S [--workers K] or keep --members FILE --events FILE --own NAME --disk FILE [--time T]\n",
         ),
         Status::Members(Refusal::TooLong) => print_text(err, b"hashgraph: members: too-long\n"),
         Status::Members(Refusal::Fault(fault)) => print_member_fault(err, fault),
+        Status::Own => print_text(err, b"hashgraph: members: own\n"),
         Status::Script(Refusal::TooLong) => print_text(err, b"hashgraph: script: too-long\n"),
         Status::Script(Refusal::Fault(fault)) => print_script_fault(err, fault),
+        Status::Events(Refusal::TooLong) => print_text(err, b"hashgraph: events: too-long\n"),
+        Status::Events(Refusal::Fault(fault)) => print_event_fault(err, fault),
         Status::WriteFault => print_text(err, b"hashgraph: cannot write\n"),
         Status::Memory => print_text(err, b"hashgraph: out of memory\n"),
+        Status::Disk => print_text(err, b"hashgraph: disk\n"),
+        Status::Journal(fault) => print_journal_fault(err, fault),
     }
 }
 

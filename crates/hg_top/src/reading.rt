@@ -1,7 +1,8 @@
 ghost use Rattle.std.specs.Prelude.{◌≤◌, ℕ, List, All, IfOk, IfErr};
+ghost use Rattle.hg_keep.specs.Events.{events_of};
 ghost use Rattle.hg_members.specs.MemberFile.{members_of};
 ghost use Rattle.hg_script.specs.Lawful.{IsLine};
-ghost use Rattle.hg_top.specs.Commands.{lines_for, lines_work, members_work};
+ghost use Rattle.hg_top.specs.Commands.{events_work, lines_for, lines_work, members_work};
 ghost use Rattle.hg_top.specs.Course.{HasWithin, StartsOne};
 ghost use Rattle.hg_top.specs.Ends.{IsTaken, StopsIn};
 ghost use Rattle.hg_top.specs.Work.{limit_of, nothing_more};
@@ -10,6 +11,7 @@ ghost use Rattle.hg_top.specs.declared.status.File.TheVariants as file;
 
 use crate::status::{File, Refusal, Status};
 use hg_io::{FileAnswer, Shelf, read_file};
+use hg_keep::read_events;
 use hg_life::Members;
 use hg_members::read_members;
 use hg_model::{Bytes, Items, Memory};
@@ -67,7 +69,8 @@ pub(crate) fn lines_from<F: Shelf>(
 ) -> Result<Items<Line>, Status>
     ensures ok { IfOk result (IsTaken (F.holds shelf.old) file.Script (lines_for members.now workers) name.now) }
     ensures lawful { IfOk result (λ lines. All (IsLine members.now workers) lines) }
-    ensures err { IfErr result (StopsIn F.Shelf shelf.old shelf.new (lines_work name.now members.now workers (λ lines. nothing_more))) }
+    ensures err { IfErr result
+        (StopsIn F.Shelf shelf.old shelf.new (lines_work name.now members.now workers (λ lines. nothing_more))) }
     ensures starts { StartsOne F.Shelf shelf.old shelf.new }
 {
     let bytes = match bytes_from(alloc, shelf, File::Script, name) {
@@ -78,5 +81,26 @@ pub(crate) fn lines_from<F: Shelf>(
         Err(Memory) => Err(Status::Memory),
         Ok(Err(fault)) => Err(Status::Script(Refusal::Fault(fault))),
         Ok(Ok(lines)) => Ok(lines),
+    }
+}
+
+/// The events that the file of this name is.
+pub(crate) fn events_from<F: Shelf>(
+    alloc: Global,
+    shelf: &mut F,
+    name: &str,
+) -> Result<Items<Bytes>, Status>
+    ensures ok { IfOk result (IsTaken (F.holds shelf.old) file.Events events_of name.now) }
+    ensures err { IfErr result (StopsIn F.Shelf shelf.old shelf.new (events_work name.now (λ events. nothing_more))) }
+    ensures starts { StartsOne F.Shelf shelf.old shelf.new }
+{
+    let bytes = match bytes_from(alloc, shelf, File::Events, name) {
+        Ok(bytes) => bytes,
+        Err(status) => return Err(status),
+    };
+    match read_events(alloc, bytes.as_slice()) {
+        Err(Memory) => Err(Status::Memory),
+        Ok(Err(fault)) => Err(Status::Events(Refusal::Fault(fault))),
+        Ok(Ok(events)) => Ok(events),
     }
 }

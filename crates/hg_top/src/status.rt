@@ -1,15 +1,19 @@
 ghost use Rattle.std.specs.Prelude.{◌≡◌};
 ghost use Rattle.hg_top.specs.Printing.{status_code};
 ghost use Rattle.hg_top.specs.Work.{limit_of, too_long};
+ghost use Rattle.hg_top.specs.Writing as writing;
 
+use hg_io::Failed;
+use hg_keep::EventFault;
 use hg_members::MemberFault;
 use hg_script::ScriptFault;
 
-/// One of the two files of a run.
+/// One of the files that are read.
 #[derive(Clone, Copy, Debug, PartialEq, Eq)]
 pub enum File {
     Members,
     Script,
+    Events,
 }
 
 impl File {
@@ -20,6 +24,7 @@ impl File {
         match self {
             File::Members => 1_048_576,
             File::Script => 16_777_216,
+            File::Events => 16_777_216,
         }
     }
 
@@ -30,6 +35,7 @@ impl File {
         match self {
             File::Members => Status::Members(Refusal::TooLong),
             File::Script => Status::Script(Refusal::TooLong),
+            File::Events => Status::Events(Refusal::TooLong),
         }
     }
 }
@@ -41,6 +47,15 @@ pub enum Refusal<F> {
     TooLong,
     /// Its first fault.
     Fault(F),
+}
+
+/// What is wrong with the file of a journal.
+#[derive(Clone, Copy, Debug, PartialEq, Eq)]
+pub enum JournalFault {
+    /// It is no journal, or that of another member or of another number of members.
+    Foreign,
+    /// At this place, in bytes from the beginning of the file, the journal ends amiss.
+    Broken(u64),
 }
 
 /// Why the words of a command line could not be read.
@@ -63,16 +78,24 @@ pub enum Status {
     Usage,
     /// The member file has more than 1,048,576 bytes or breaks a rule.
     Members(Refusal<MemberFault>),
+    /// No member of the member file has the name whose node is wanted, or the one that has it has no node.
+    Own,
     /// The script has more than 16,777,216 bytes, or a line of it is refused.
     Script(Refusal<ScriptFault>),
+    /// The file of events has more than 16,777,216 bytes, or is not events end to end.
+    Events(Refusal<EventFault>),
     /// Standard output failed: a front of the report was written.
     WriteFault,
-    /// Memory ran out before the first write.
+    /// Memory ran out before the first write to standard output.
     Memory,
+    /// The disk failed at the journal.
+    Disk,
+    /// The file of the journal is refused, and stays as it was.
+    Journal(JournalFault),
 }
 
 impl Status {
-    /// The exit status of the program, 0 to 6.
+    /// The exit status of the program, 0 to 8.
     pub fn code(self) -> u8
         ensures { result ≡ status_code self }
     {
@@ -80,10 +103,22 @@ impl Status {
             Status::Done => 0,
             Status::ReadFault(_) => 1,
             Status::Usage => 2,
-            Status::Members(_) => 3,
-            Status::Script(_) => 4,
+            Status::Members(_) | Status::Own => 3,
+            Status::Script(_) | Status::Events(_) => 4,
             Status::WriteFault => 5,
             Status::Memory => 6,
+            Status::Disk => 7,
+            Status::Journal(_) => 8,
         }
+    }
+}
+
+/// What a call comes to by what came of writing its text.
+pub(crate) fn status_of(written: Result<(), Failed>) -> Status
+    ensures { result ≡ writing.status_of written }
+{
+    match written {
+        Ok(()) => Status::Done,
+        Err(Failed) => Status::WriteFault,
     }
 }

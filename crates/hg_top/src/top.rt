@@ -1,15 +1,16 @@
 ghost use Rattle.std.specs.Prelude.{◌≡◌, ◌≤◌, ℕ};
-ghost use Rattle.hg_top.specs.Commands.{IsSummaryOf, asks, made_run, run_work, script_work, work_of};
-ghost use Rattle.hg_top.specs.Course.{course};
-ghost use Rattle.hg_top.specs.Ends as spec;
-ghost use Rattle.hg_top.specs.Ends.{Completes, Ends, ReadsNoFile, WroteOn};
+ghost use Rattle.hg_top.specs.Commands.{IsSummaryOf, KeepsNothing, asks, made_run, run_work, script_work, work_of};
+ghost use Rattle.hg_top.specs.Course.{course, disk_course, no_disk};
+ghost use Rattle.hg_top.specs.Ends.{Completes, Ends, ReadsNoFile};
 ghost use Rattle.hg_top.specs.Printing.{IsPrintedOn, status_line};
+ghost use Rattle.hg_top.specs.Writing.{WroteOn};
 
+use crate::keeping::{KeepRequest, keep};
 use crate::printing::report_status;
 use crate::reading::{lines_from, members_from};
-use crate::status::Status;
+use crate::status::{Status, status_of};
 use hg_command::{Request, read_words};
-use hg_io::{Failed, Gate, Shelf, Sink};
+use hg_io::{Disk, Gate, Shelf, Sink};
 use hg_life::Members;
 use hg_made::generate;
 use hg_model::Memory;
@@ -19,16 +20,6 @@ use hg_workers::Voters;
 use std::alloc::Global;
 use std::sync::Wait;
 use std::thread::Threads;
-
-/// What a call comes to by what came of writing its text.
-fn status_of(written: Result<(), Failed>) -> Status
-    ensures { result ≡ spec.status_of written }
-{
-    match written {
-        Ok(()) => Status::Done,
-        Err(Failed) => Status::WriteFault,
-    }
-}
 
 /// What the script of this name comes to among these members, with so many workers.
 fn run_script<R: Threads + Wait + Sync, F: Shelf, K: Sink, G: Gate + Sync>(
@@ -42,7 +33,8 @@ fn run_script<R: Threads + Wait + Sync, F: Shelf, K: Sink, G: Gate + Sync>(
     gate: &G,
 ) -> Status
     requires { workers ≤ 16 }
-    ensures ends { Ends (script_work script.now workers members.now) (course F.Shelf K.Sink shelf.old shelf.new out.old out.new) result }
+    ensures ends { Ends (script_work script.now workers members.now)
+        (course F.Shelf K.Sink shelf.old shelf.new out.old out.new no_disk) result }
     ensures same { F.holds shelf.new ≡ F.holds shelf.old }
 {
     let lines = match lines_from(alloc, shelf, script, members, workers) {
@@ -68,7 +60,8 @@ fn run<R: Threads + Wait + Sync, F: Shelf, K: Sink, G: Gate + Sync>(
     gate: &G,
 ) -> Status
     requires { workers ≤ 16 }
-    ensures ends { Ends (run_work members.now script.now workers) (course F.Shelf K.Sink shelf.old shelf.new out.old out.new) result }
+    ensures ends { Ends (run_work members.now script.now workers)
+        (course F.Shelf K.Sink shelf.old shelf.new out.old out.new no_disk) result }
     ensures same { F.holds shelf.new ≡ F.holds shelf.old }
 {
     let list = match members_from(alloc, shelf, members) {
@@ -105,30 +98,37 @@ fn make<R: Threads + Wait + Sync, K: Sink, G: Gate + Sync>(
     }
 }
 
-/// Runs the program `hashgraph` over the files of a shelf. `words` has the program's name first, and then one of two
-/// commands. `run --members FILE --script FILE [--workers K]`: each member that has a node gossips as the script says; then
-/// the nodes' ledgers are written to `out`. `make --members N --lines L --seed S [--workers K]`: so many members and lines
-/// are made from the seed and played, and a summary of each node is written to `out`; no file is read. What is wrong is
+/// Runs the program `hashgraph` over the files of a shelf and a disk. `words` has the program's name first, and then one
+/// of three commands. `run --members FILE --script FILE [--workers K]`: each member that has a node gossips as the
+/// script says; then the nodes' ledgers are written to `out`. `make --members N --lines L --seed S [--workers K]`: so
+/// many members and lines are made from the seed and played, and a summary of each node is written to `out`; no file is
+/// read. `keep --members FILE --events FILE --own NAME --disk FILE [--time T]`: the node of the member NAME is opened
+/// from its journal on the disk, takes the events of the file, makes the event that comes next, if there is a time, and
+/// publishes what its graph decides; then what came of it is written to `out`, with the node's ledger. What is wrong is
 /// written to `err`, in one line. With workers the fame of witnesses is decided by so many threads beside the one that
 /// plays the lines; what is written does not change with their number, and what is said of the safety of the run is said
-/// of it without the marks that workers give. They pass the points of `gate`. All that memory is taken for is done before
-/// the first byte is written.
-pub fn hashgraph<R: Threads + Wait + Sync, F: Shelf, K: Sink, E: Sink, G: Gate + Sync>(
+/// of it without the marks that workers give. They pass the points of `gate`. All that memory is taken for is done
+/// before the first byte is written to `out`.
+pub fn hashgraph<R: Threads + Wait + Sync, F: Shelf, D: Disk, K: Sink, E: Sink, G: Gate + Sync>(
     rt: &R,
     alloc: Global,
     words: &[String],
     shelf: &mut F,
+    disk: &mut D,
     out: &mut K,
     err: &mut E,
     gate: &G,
 ) -> Status
-    // How the work that the words ask for ended: with its text on `out`, or for which cause, and with which files started.
-    // No two nodes' orders part ways in the run that is written, where the dishonest members have less than a third of the
-    // stake and names do not collide.
-    ensures ends { Ends (work_of (asks words.now)) (course F.Shelf K.Sink shelf.old shelf.new out.old out.new) result }
+    // How the work that the words ask for ended: with its text on `out`, or for which cause, with which files started,
+    // and what became of the disk. No two nodes' orders part ways in the run that is written, where the dishonest
+    // members have less than a third of the stake and names do not collide.
+    ensures ends { Ends (work_of (asks words.now))
+        (course F.Shelf K.Sink shelf.old shelf.new out.old out.new (disk_course D.Disk disk.old disk.new)) result }
     // That it must end with its text, or with the status of what is refused, if nothing fails and memory does not run out.
-    ensures complete { Completes (work_of (asks words.now)) (course F.Shelf K.Sink shelf.old shelf.new out.old out.new) result }
+    ensures complete { Completes (work_of (asks words.now))
+        (course F.Shelf K.Sink shelf.old shelf.new out.old out.new (disk_course D.Disk disk.old disk.new)) result }
     ensures unread { ReadsNoFile (work_of (asks words.now)) → shelf.new ≡ shelf.old }
+    ensures unkept { KeepsNothing (asks words.now) → disk.new ≡ disk.old }
     ensures matches { IsPrintedOn E.Sink err.old err.new (status_line result) }
     ensures same { F.holds shelf.new ≡ F.holds shelf.old }
 {
@@ -152,6 +152,26 @@ pub fn hashgraph<R: Threads + Wait + Sync, F: Shelf, K: Sink, E: Sink, G: Gate +
                 },
             ),
         ) => make(rt, alloc, members, lines, seed, workers, out, gate),
+        Ok(
+            Some(
+                Request::Keep {
+                    members,
+                    events,
+                    own,
+                    disk: journal,
+                    time,
+                },
+            ),
+        ) => {
+            let asked = KeepRequest {
+                members,
+                events,
+                own,
+                disk: journal,
+                time,
+            };
+            keep(alloc, &asked, shelf, disk, out)
+        }
         Ok(None) => Status::Usage,
         Err(Memory) => Status::Memory,
     };

@@ -1,0 +1,168 @@
+//! The command `keep` in the one call, over a file of events and a disk in memory. The events are those of the tests of
+//! journals, and were worked out by another implementation.
+
+use crate::files::{ample, shelf_of};
+use crate::journal::{A_FIRST, B_FIRST, bytes_of};
+use crate::program::{MEMBERS, Ran, expect, words_of};
+use hg_io::{Disk, DiskMem, Failed, NoGate, read_all};
+use hg_top::{Status, hashgraph};
+use std::alloc::Global;
+use std::process::Abort;
+use std::sync::Wait;
+use std::test::Fail;
+use std::thread::Threads;
+
+const KEEP: &str =
+    "hashgraph keep --members members.toml --events events.bin --own A --disk journal";
+
+const KEEP_AT_ONE: &str =
+    "hashgraph keep --members members.toml --events events.bin --own A --disk journal --time 1";
+
+const KEEP_OF_NOBODY: &str =
+    "hashgraph keep --members members.toml --events events.bin --own a --disk journal";
+
+// The journal of A once it has taken B's first event and made its own.
+const JOURNAL: [&str; 6] = [
+    "0148474a3100020000",
+    "01010051",
+    B_FIRST,
+    "01020051",
+    A_FIRST,
+    "00",
+];
+
+const BLOCK: &str =
+    "node A events 2 forkers 0 round 1 closed 0 ordered 0\nbalance A 100\nbalance B 0\n";
+
+/// Runs the program over the member file, a file of these events and a disk.
+fn keep<R: Threads + Wait + Sync>(
+    rt: &R,
+    alloc: Global,
+    line: &str,
+    events: &[u8],
+    disk: &mut DiskMem,
+) -> Result<Ran, Fail> {
+    let words = words_of(alloc, line)?;
+    let mut shelf = shelf_of(
+        alloc,
+        ("members.toml", MEMBERS.as_bytes()),
+        ("events.bin", events),
+        Vec::new(alloc),
+    )?;
+    let mut out = ample(alloc)?;
+    let mut err = ample(alloc)?;
+    let status = hashgraph(
+        rt,
+        alloc,
+        words.as_slice(),
+        &mut shelf,
+        disk,
+        &mut out,
+        &mut err,
+        &NoGate,
+    );
+    Ok(Ran { status, out, err })
+}
+
+/// The disk's file is this journal.
+fn expect_journal(
+    rt: &impl Abort,
+    alloc: Global,
+    disk: &mut DiskMem,
+    wanted: &[u8],
+) -> Result<(), Fail> {
+    match read_all(alloc, disk, "journal")? {
+        Ok(bytes) => assert!(rt; bytes.as_slice() == wanted),
+        Err(Failed) => return Err("a fault".into()),
+    }
+    Ok(())
+}
+
+#[test]
+fn a_node_comes_again(rt: HostRuntime) -> Result<(), Fail> {
+    let alloc = rt.alloc();
+    let events = bytes_of(alloc, &[B_FIRST])?;
+    let journal = bytes_of(alloc, &JOURNAL)?;
+    let mut disk = DiskMem::new(alloc, 512, Vec::new(alloc))?;
+    let ran = keep(&rt, alloc, KEEP_AT_ONE, events.as_slice(), &mut disk)?;
+    let first = format!(in alloc;
+        "opened 0\naccepted 1 known 0 refused 0\nmade 1 {A_FIRST}\n{BLOCK}"
+    )?;
+    expect(&rt, &ran, Status::Done, first.as_str(), "");
+    expect_journal(&rt, alloc, &mut disk, journal.as_slice())?;
+    let ran = keep(&rt, alloc, KEEP, events.as_slice(), &mut disk)?;
+    let again = format!(in alloc; "opened 2\naccepted 0 known 1 refused 0\n{BLOCK}")?;
+    expect(&rt, &ran, Status::Done, again.as_str(), "");
+    expect_journal(&rt, alloc, &mut disk, journal.as_slice())
+}
+
+/// The call over this file of events and a disk whose file has these bytes ends so, and tells this line.
+fn expect_refusal<R: Abort + Threads + Wait + Sync>(
+    rt: &R,
+    alloc: Global,
+    (line, events): (&str, &[u8]),
+    mut disk: DiskMem,
+    status: u8,
+    err: &str,
+) -> Result<(), Fail> {
+    let ran = keep(rt, alloc, line, events, &mut disk)?;
+    assert_eq!(rt; ran.status.code(), status);
+    assert!(rt; ran.out.bytes().is_empty());
+    assert!(rt; ran.err.bytes() == err.as_bytes());
+    Ok(())
+}
+
+/// A disk whose file has these bytes, of which these calls fail.
+fn disk_of(alloc: Global, bytes: &[u8], fails: &[u64]) -> Result<DiskMem, Fail> {
+    let mut disk = DiskMem::new(alloc, 512, Vec::from_slice(alloc, fails)?)?;
+    match disk.write("journal", 0, bytes) {
+        Ok(()) => Ok(disk),
+        Err(Failed) => Err("a fault".into()),
+    }
+}
+
+#[test]
+fn what_is_wrong_is_told(rt: HostRuntime) -> Result<(), Fail> {
+    let alloc = rt.alloc();
+    let events = bytes_of(alloc, &[B_FIRST])?;
+    let journal = bytes_of(alloc, &JOURNAL)?;
+    for (line, events, bytes, fails, status, err) in [
+        (
+            KEEP_OF_NOBODY,
+            events.as_slice(),
+            &[] as &[u8],
+            &[] as &[u64],
+            3,
+            "hashgraph: members: own\n",
+        ),
+        (
+            KEEP,
+            b"HGE1".as_slice(),
+            &[],
+            &[],
+            4,
+            "hashgraph: event at 0: short 4\n",
+        ),
+        (KEEP, events.as_slice(), &[], &[1], 7, "hashgraph: disk\n"),
+        (
+            KEEP,
+            events.as_slice(),
+            b"HGJ".as_slice(),
+            &[],
+            8,
+            "hashgraph: journal: foreign\n",
+        ),
+        (
+            KEEP,
+            events.as_slice(),
+            &journal.as_slice()[..179],
+            &[],
+            8,
+            "hashgraph: journal: broken 179\n",
+        ),
+    ] {
+        let disk = disk_of(alloc, bytes, fails)?;
+        expect_refusal(&rt, alloc, (line, events), disk, status, err)?;
+    }
+    Ok(())
+}

@@ -1,0 +1,98 @@
+-- Laws of the work on a node that is kept in a journal
+use Rattle.std.proofs.Common.{◌≡◌, ◌⊎◌, ℕ, List, Option, Some, None, inl, inr, refl, sym, ◌∙◌, subst, arith, IsErrOf}
+use Rattle.std.specs.Prelude.{Result, Ok, Err, ⊤}
+use Rattle.std.specs.Option.{ForSome}
+use Rattle.hg_io.specs.FileView.{FileView, Stays}
+use Rattle.hg_io.specs.Printing.{Prints}
+use Rattle.hg_io.specs.declared.sink.Sink as sink
+use Rattle.hg_life.specs.Signing.{accepts_by}
+use Rattle.hg_journal.specs.Journal.{reading_of}
+use Rattle.hg_journal.specs.Reading.{Reading, state_in}
+use Rattle.hg_journal.specs.Reading as R
+use Rattle.hg_keep.specs.Keeping.{IsOnTheWay}
+use Rattle.hg_keep.specs.Stops.{IsFaultTold, IsRefused, KeepsTask, StaysIfRefused, SyncsOrStops}
+use Rattle.hg_keep.specs.Text.{kept_text}
+use Rattle.hg_keep.specs.declared.kept.Kept.{Kept}
+use Rattle.hg_keep.specs.declared.stop.Stop.{Stop}
+use Rattle.hg_keep.specs.declared.stop.Stop.TheVariants as stop
+use Rattle.hg_top.specs.declared.status.JournalFault.{JournalFault}
+use Rattle.hg_top.specs.declared.status.JournalFault.TheVariants.{Foreign, Broken}
+use Rattle.hg_top.specs.declared.status.Status.{Status}
+use Rattle.hg_top.specs.declared.status.Status.TheVariants.{Done, ReadFault, Usage, Members, Own, Script, Events, WriteFault, Memory, Disk, Journal}
+use Rattle.hg_top.specs.Course.{Course, DiskCourse, HasDiskFault, HasWriteFault, IsStill}
+use Rattle.hg_top.specs.Keeps.{IsKeptText, KeepEnds, KeepSyncs, keep_status, start_for, status_for, stop_of, stop_status}
+use Rattle.hg_top.specs.Work.{KeepWork}
+use Rattle.hg_top.specs.Writing.{Gives, status_of}
+
+-- a file stays where nothing is done to it
+pub stays_same : (file : FileView) → Stays file file
+stays_same file = record {
+  reads = refl;
+  fewer = λ left may. may;
+  leaves = record { older = omega arith; still = λ age left before since. since; only = λ age left before since. inl since };
+}
+
+-- ---- what must come of the work
+
+-- of what is a node's journal the text
+text_due : {S : Type 0} (first v : S) (r : Reading S) → state_in first r ≡ Some v → Done ≡ status_for r
+text_due first v R.Anew is = refl
+text_due first v R.Foreign is = grind arith
+text_due first v (R.Broken at) is = grind arith
+text_due first v (R.Holds w) is = refl
+
+-- .. and of what is refused just that
+pub refused_due : (k : KeepWork) (bytes : List ℕ) (why : JournalFault) → IsRefused accepts_by (start_for k) (stop_of why) bytes → Journal why ≡ keep_status k bytes
+refused_due k bytes Foreign is = rw is refl
+refused_due k bytes (Broken at) is = rw is refl
+
+pub completes_keep : (k : KeepWork) (c : Course) (status : Status) →
+    KeepEnds k c.disk c.before.written c.after.written c.before.write_faults c.after.write_faults status →
+    (HasWriteFault c → ⊥) → (HasDiskFault c.disk k.journal → ⊥) → ForSome c.disk.before.reads (λ bytes. Gives (keep_status k bytes) status)
+completes_keep k c Done ends written kept = λ bytes told.
+    inl (text_due _ ends.1.1.0 (reading_of accepts_by (start_for k) bytes) (ends.1.1.2.keeps bytes told))
+completes_keep k c WriteFault ends written kept = absurd (written ends.0)
+completes_keep k c Memory ends written kept = λ bytes told. inr refl
+completes_keep k c Disk ends written kept = absurd (kept ends.1)
+completes_keep k c (Journal why) ends written kept = λ bytes told. inl (refused_due k bytes why (ends.2 bytes told))
+completes_keep k c (ReadFault file) ends written kept = absurd ends
+completes_keep k c Usage ends written kept = absurd ends
+completes_keep k c (Members refusal) ends written kept = absurd ends
+completes_keep k c Own ends written kept = absurd ends
+completes_keep k c (Script refusal) ends written kept = absurd ends
+completes_keep k c (Events refusal) ends written kept = absurd ends
+
+-- ---- what comes of the work
+
+-- where the disk, memory or the journal stops it
+pub stopped : {T : Type 0} (k : KeepWork) (d : DiskCourse) (before after : Option (List ℕ)) (m n : ℕ) (r : Result T Stop) (s : Stop) →
+    r ≡ Err s → after ≡ before → IsFaultTold r d.faults_before d.faults_after k.journal →
+    ForSome d.before.reads (IsRefused accepts_by (start_for k) s) → StaysIfRefused s d.before d.after → KeepEnds k d before after m n (stop_status s)
+stopped k d before after m n r stop.Disk is same cause wrong refused = (same, cause is)
+stopped k d before after m n r stop.Memory is same cause wrong refused = same
+stopped k d before after m n r stop.Foreign is same cause wrong refused = (same, refused, wrong)
+stopped k d before after m n r (stop.Broken at) is same cause wrong refused = (same, refused, wrong)
+
+-- and where its text was written
+pub told : {S E : Type 0} (K : sink.Ghosts S) (out written : S) (k : KeepWork) (d : DiskCourse) (kept : Kept) (r : Result ⊤ E) →
+    KeepsTask accepts_by k.members (start_for k) k.events k.time d.before d.after kept → Prints K out written (kept_text kept) r →
+    KeepEnds k d (K.written out) (K.written written) (K.faults out) (K.faults written) (status_of r)
+told K out written k d kept (Ok x) task prints = (kept_text kept, (kept, task, refl), prints.0)
+told K out written k d kept (Err e) task prints = (prints.1, (kept_text kept, (kept, task, refl), prints.0))
+
+-- what a stop of the machine leaves, in both cases
+early_by : {T : Type 0} (r : Result T Stop) (s : Stop) → r ≡ Err s → IsErrOf r stop.Disk → s ≡ stop.Disk
+early_by r s is other = grind arith
+
+synced_at : (k : KeepWork) (d : DiskCourse) (s : Stop) → s ≡ stop.Disk → IsStill d → KeepSyncs k d (stop_status s)
+synced_at k d s is still = rw is (inr (tt, still))
+
+pub stopped_synced : {T : Type 0} (k : KeepWork) (d : DiskCourse) (r : Result T Stop) (s : Stop) → r ≡ Err s →
+    SyncsOrStops accepts_by (start_for k) (IsOnTheWay accepts_by k.events k.time) d.before d.after r → KeepSyncs k d (stop_status s)
+stopped_synced k d r s is (inl syncs) = inl syncs
+stopped_synced k d r s is (inr early) = synced_at k d s (early_by r s is early.0) early.1
+
+pub told_synced : (k : KeepWork) (d : DiskCourse) (r : Result Kept Stop) (kept : Kept) (status : Status) → r ≡ Ok kept →
+    SyncsOrStops accepts_by (start_for k) (IsOnTheWay accepts_by k.events k.time) d.before d.after r → KeepSyncs k d status
+told_synced k d r kept status is (inl syncs) = inl syncs
+told_synced k d r kept status is (inr early) = absurd (let no = sym is ∙ early.0 in grind arith)

@@ -1,0 +1,123 @@
+ghost use Rattle.std.specs.Prelude.{◌≡◌, ◌<◌, Some, IfSome, length};
+ghost use Rattle.hg_top.specs.Commands.{files_of, keep_work, own_in, own_work};
+ghost use Rattle.hg_top.specs.Course.{course, disk_course};
+ghost use Rattle.hg_top.specs.Ends.{Ends};
+ghost use Rattle.hg_top.specs.Keeps.{KeptOn, stop_status, work_on};
+
+use crate::reading::{events_from, members_from};
+use crate::status::{JournalFault, Status, status_of};
+use hg_io::{Disk, Shelf, Sink};
+use hg_keep::{Stop, Task, write_kept};
+use hg_life::Members;
+use hg_model::{Member, Memory};
+use hg_sign::MacTable;
+use std::alloc::Global;
+
+/// What is asked of a member's node.
+#[derive(Clone, Copy)]
+pub(crate) struct KeepRequest<'a> {
+    /// The name of the member file.
+    pub(crate) members: &'a str,
+    /// The name of the file of the events that are put to the node.
+    pub(crate) events: &'a str,
+    /// The name of the member.
+    pub(crate) own: &'a str,
+    /// The name of the journal's file.
+    pub(crate) disk: &'a str,
+    /// The time of the event that the node makes, if it is to make one.
+    pub(crate) time: Option<u64>,
+}
+
+/// The member of this name, if it has a node.
+fn own_in(members: &Members, name: &str) -> Option<Member>
+    ensures value { result ≡ own_in members.now name.now }
+    ensures inside { IfSome result (λ own. own < length members.now.entries) }
+{
+    match members.place_of(name.as_bytes()) {
+        Some(own) if members.has_node(own) => Some(own),
+        _ => None,
+    }
+}
+
+/// What a call comes to by what stops the work on a node.
+fn stop_status(stop: Stop) -> Status
+    ensures { result ≡ stop_status stop }
+{
+    match stop {
+        Stop::Disk => Status::Disk,
+        Stop::Memory => Status::Memory,
+        Stop::Foreign => Status::Journal(JournalFault::Foreign),
+        Stop::Broken(at) => Status::Journal(JournalFault::Broken(at)),
+    }
+}
+
+/// What a task on the node of one of these members comes to.
+fn keep_node<D: Disk, K: Sink>(
+    alloc: Global,
+    members: &Members,
+    task: &Task<'_>,
+    disk: &mut D,
+    out: &mut K,
+) -> Status
+    requires { task.now.own < length members.now.entries }
+    ensures { KeptOn K.Sink out.old out.new (disk_course D.Disk disk.old disk.new) (work_on members.now task.now) result }
+{
+    let keys = match MacTable::new(alloc, members) {
+        Ok(keys) => keys,
+        Err(Memory) => return Status::Memory,
+    };
+    match hg_keep::keep(alloc, disk, members, keys, task) {
+        Ok(kept) => status_of(write_kept(&kept, out)),
+        Err(stop) => stop_status(stop),
+    }
+}
+
+/// What the file of events comes to at the node of this member.
+fn keep_events<F: Shelf, D: Disk, K: Sink>(
+    alloc: Global,
+    members: &Members,
+    own: Member,
+    asked: &KeepRequest<'_>,
+    shelf: &mut F,
+    disk: &mut D,
+    out: &mut K,
+) -> Status
+    requires { own < length members.now.entries }
+    ensures ends { Ends (own_work (files_of asked.now) members.now (Some own))
+        (course F.Shelf K.Sink shelf.old shelf.new out.old out.new (disk_course D.Disk disk.old disk.new)) result }
+    ensures same { F.holds shelf.new ≡ F.holds shelf.old }
+{
+    let events = match events_from(alloc, shelf, asked.events) {
+        Ok(events) => events,
+        Err(status) => return status,
+    };
+    let task = Task {
+        journal: asked.disk,
+        own,
+        events: events.as_slice(),
+        time: asked.time,
+    };
+    keep_node(alloc, members, &task, disk, out)
+}
+
+/// What the work on a member's node comes to.
+pub(crate) fn keep<F: Shelf, D: Disk, K: Sink>(
+    alloc: Global,
+    asked: &KeepRequest<'_>,
+    shelf: &mut F,
+    disk: &mut D,
+    out: &mut K,
+) -> Status
+    ensures ends { Ends (keep_work (files_of asked.now))
+        (course F.Shelf K.Sink shelf.old shelf.new out.old out.new (disk_course D.Disk disk.old disk.new)) result }
+    ensures same { F.holds shelf.new ≡ F.holds shelf.old }
+{
+    let members = match members_from(alloc, shelf, asked.members) {
+        Ok(members) => members,
+        Err(status) => return status,
+    };
+    match own_in(&members, asked.own) {
+        Some(own) => keep_events(alloc, &members, own, asked, shelf, disk, out),
+        None => Status::Own,
+    }
+}
