@@ -16,9 +16,9 @@ returns-in-Ok-keep g c =
     let d = disk_course g.D.Disk c.args.disk.now c.keep.new.disk in
     let kept = c.in-Ok-keep.kept in
     let task = subst (λ (keys : List (List ℕ)). KeepsTask accepts_by k.members (start_of k.members k.own keys) k.events k.time d.before d.after kept)
-        c.in-Ok.ensures.secrets c.in-Ok-keep.ensures.kept in
+    c.in-Ok.ensures.secrets c.in-Ok-keep.ensures.kept in
     let synced = subst (λ (keys : List (List ℕ)). SyncsOrStops accepts_by (start_of k.members k.own keys) (IsOnTheWay accepts_by k.events k.time) d.before d.after c.keep.result)
-        c.in-Ok.ensures.secrets c.keep.ensures.synced in
+    c.in-Ok.ensures.secrets c.keep.ensures.synced in
     rw c.status_of.ensures (
       told g.K.Sink c.args.out.now c.write_kept.new.sink k d kept c.write_kept.result task c.write_kept.ensures,
       told_synced k d c.keep.result kept (status_of c.write_kept.result) c.in-Ok-keep.is synced,
@@ -32,9 +32,9 @@ returns-in-Err-keep g c =
     let out = c.args.out.now in
     let stop = c.in-Err-keep.stop in
     let wrong = subst (λ (keys : List (List ℕ)). ForSome d.before.reads (IsRefused accepts_by (start_of k.members k.own keys) stop))
-        c.in-Ok.ensures.secrets c.in-Err-keep.ensures.wrong in
+    c.in-Ok.ensures.secrets c.in-Err-keep.ensures.wrong in
     let synced = subst (λ (keys : List (List ℕ)). SyncsOrStops accepts_by (start_of k.members k.own keys) (IsOnTheWay accepts_by k.events k.time) d.before d.after c.keep.result)
-        c.in-Ok.ensures.secrets c.keep.ensures.synced in
+    c.in-Ok.ensures.secrets c.keep.ensures.synced in
     rw c.stop_status.ensures (
       stopped k d (K.written out) (K.written out) (K.faults out) (K.faults out) c.keep.result stop c.in-Err-keep.is refl c.keep.ensures.cause wrong c.in-Err-keep.ensures.refused,
       stopped_synced k d c.keep.result stop c.in-Err-keep.is synced,
