@@ -166,3 +166,77 @@ fn what_is_wrong_is_told(rt: HostRuntime) -> Result<(), Fail> {
     }
     Ok(())
 }
+
+const KEEP_AT_FIVE: &str =
+    "hashgraph keep --members members.toml --events events.bin --own A --disk journal --time 5";
+
+// A's first event, at time 5.
+const A_AT_FIVE: &str =
+    "484745310000000000000000000005000055642fd1015d0cafed5806c8db9fd9481adc587a48cb5b9925bf63ee7c3d1f955e83a3e1dc1757cefd78dbfda5b38ed291084f22f9856d0bfd95d7d97c308e8e";
+
+// The journal of A once it has made that one.
+const ALONE: [&str; 4] = ["0148474a3100020000", "01020051", A_AT_FIVE, "00"];
+
+const BLOCK_ALONE: &str =
+    "node A events 1 forkers 0 round 1 closed 0 ordered 0\nbalance A 100\nbalance B 0\n";
+
+#[test]
+fn a_node_makes_its_first_event_once(rt: HostRuntime) -> Result<(), Fail> {
+    let alloc = rt.alloc();
+    let journal = bytes_of(alloc, &ALONE)?;
+    assert_eq!(rt; journal.len(), 95);
+    let mut disk = DiskMem::new(alloc, 512, Vec::new(alloc))?;
+    let ran = keep(&rt, alloc, KEEP_AT_FIVE, b"", &mut disk)?;
+    let first = format!(in alloc;
+        "opened 0\naccepted 0 known 0 refused 0\nmade 0 {A_AT_FIVE}\n{BLOCK_ALONE}"
+    )?;
+    expect(&rt, &ran, Status::Done, first.as_str(), "");
+    expect_journal(&rt, alloc, &mut disk, journal.as_slice())?;
+    let ran = keep(&rt, alloc, KEEP_AT_FIVE, b"", &mut disk)?;
+    let again = format!(in alloc;
+        "opened 1\naccepted 0 known 0 refused 0\nmade none peer-bare\n{BLOCK_ALONE}"
+    )?;
+    expect(&rt, &ran, Status::Done, again.as_str(), "");
+    expect_journal(&rt, alloc, &mut disk, journal.as_slice())?;
+    let mut closed = Vec::from_slice(alloc, journal.as_slice())?;
+    closed[9] = 0;
+    let mut disk = disk_of(alloc, closed.as_slice(), &[])?;
+    let ran = keep(&rt, alloc, KEEP, b"", &mut disk)?;
+    assert!(rt; ran.status == Status::Done);
+    assert!(rt; ran.out.bytes().starts_with(b"opened 0\n"));
+    Ok(())
+}
+
+/// What the first call comes to where this call of the disk fails, and what a later one tells first of the file that a stop
+/// leaves then: all that was written, or what was synced.
+fn expect_after_stop<R: Abort + Threads + Wait + Sync>(
+    rt: &R,
+    alloc: Global,
+    call: u64,
+    all: bool,
+    (status, opened): (u8, &[u8]),
+) -> Result<(), Fail> {
+    let mut disk = DiskMem::new(alloc, 512, Vec::from_slice(alloc, &[call])?)?;
+    let ran = keep(rt, alloc, KEEP_AT_FIVE, b"", &mut disk)?;
+    assert_eq!(rt; ran.status.code(), status);
+    let mut left = disk.stopped(all);
+    let ran = keep(rt, alloc, KEEP, b"", &mut left)?;
+    assert!(rt; ran.status == Status::Done);
+    assert!(rt; ran.out.bytes().starts_with(opened));
+    Ok(())
+}
+
+// Three calls start, sync and read the file, six make it, and four append the event; a run makes no other.
+#[test]
+fn a_stop_at_each_call_forgets_nothing_that_was_told(rt: HostRuntime) -> Result<(), Fail> {
+    let alloc = rt.alloc();
+    for call in 0..12 {
+        expect_after_stop(&rt, alloc, call, true, (7, b"opened 0\n"))?;
+        expect_after_stop(&rt, alloc, call, false, (7, b"opened 0\n"))?;
+    }
+    expect_after_stop(&rt, alloc, 12, true, (7, b"opened 1\n"))?;
+    expect_after_stop(&rt, alloc, 12, false, (7, b"opened 0\n"))?;
+    expect_after_stop(&rt, alloc, 13, true, (0, b"opened 1\n"))?;
+    expect_after_stop(&rt, alloc, 13, false, (0, b"opened 1\n"))?;
+    Ok(())
+}
