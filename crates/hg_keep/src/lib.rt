@@ -1,6 +1,15 @@
 //! The work of the command `keep`: a node is opened from its journal, events of a file are put to it, it makes one if it is to,
 //! and publishes all that its graph decides; each change stands in the journal before the next one is begun.
 //! The layer above uses `read_events`, `keep`, which answers what came of it, and `write_kept`, which prints that.
+//!
+//! From `keep_node` of `hg_top`:
+//!
+//! ```text
+//! match hg_keep::keep(alloc, disk, members, keys, task) {
+//!     Ok(kept) => status_of(write_kept(&kept, out)),
+//!     Err(stop) => stop_status(stop),
+//! }
+//! ```
 #![tactic(auto)]
 
 mod events;

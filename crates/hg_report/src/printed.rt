@@ -152,12 +152,8 @@ pub fn write_outcome<K: Sink>(
 ) -> Result<(), Failed>
     ensures { PutsOn K.Sink sink.old sink.new page.old page.new (report_text outcome.now) result }
 {
-    write_texts(
-        page,
-        sink,
-        outcome.names.as_slice(),
-        outcome.printed.as_slice(),
-    )
+    let names = outcome.names.as_slice();
+    write_texts(page, sink, names, outcome.printed.as_slice())
 }
 
 /// Writes the text of all that a run prints. It takes no memory; the sink gets pages of up to 4,096 bytes, and a piece that
@@ -168,6 +164,11 @@ pub fn text_of<K: Sink>(outcome: &Outcome, sink: &mut K) -> Result<(), Failed>
     ensures { Prints K.Sink sink.old sink.new (report_text outcome.now) result }
 {
     let mut page = Page::new();
-    write_outcome(&mut page, sink, outcome)?;
+    write_texts(
+        &mut page,
+        sink,
+        outcome.names.as_slice(),
+        outcome.printed.as_slice(),
+    )?;
     page.send(sink)
 }
