@@ -86,8 +86,8 @@ IsMadeSome accepts time v w = (w ≡ v) ⊎ ((told : Option Making) × MakesAt a
 
 -- an event that was made has a row
 abbrev pub HasRow : {K : Type 0} → Option MakeAnswer → Option (NodeView K) → Type 0
-HasRow (Some (answer.Made place)) node = ForSome node (λ v. place < length (node_rows v))
-HasRow a node = Unit {0}
+HasRow (Some (answer.Made place)) holder = ForSome holder (λ v. place < length (node_rows v))
+HasRow a holder = Unit {0}
 
 -- ---- all of it
 
