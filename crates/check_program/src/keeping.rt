@@ -126,6 +126,8 @@ fn what_is_wrong_is_told(rt: HostRuntime) -> Result<(), Fail> {
     let alloc = rt.alloc();
     let events = bytes_of(alloc, &[B_FIRST])?;
     let journal = bytes_of(alloc, &JOURNAL)?;
+    assert_eq!(rt; journal.len(), 180);
+    let cut = &journal[..179];
     for (line, events, bytes, fails, status, err) in [
         (
             KEEP_OF_NOBODY,
@@ -155,7 +157,7 @@ fn what_is_wrong_is_told(rt: HostRuntime) -> Result<(), Fail> {
         (
             KEEP,
             events.as_slice(),
-            &journal.as_slice()[..179],
+            cut,
             &[],
             8,
             "hashgraph: journal: broken 179\n",
