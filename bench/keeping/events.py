@@ -4,11 +4,12 @@ import hashlib
 import hmac
 from collections import namedtuple
 
-MAGIC, LONGEST = b"HGE1", 1024
+# The two forms, and how many other-parents an event of each may have.
+FORMS, LONGEST = {b"HGE1": range(2), b"HGE2": range(2, 5)}, 1024
 
 # A member's name, its secret in bytes, its stake.
 Member = namedtuple("Member", "name secret stake")
-# The number of its creator, the names of its parents (none or two), the length of its spelling.
+# The number of its creator, the names of its parents (none or two to five), the length of its spelling.
 Event = namedtuple("Event", "creator parents time payload length")
 
 
@@ -27,7 +28,8 @@ def signature_of(member, body):
 
 def spelled(members, creator, parents, time, payload=b""):
     """The bytes of an event, signed with its creator's secret."""
-    body = b"".join([MAGIC, number(creator, 2), number(1 if parents else 0, 1), *parents, number(time, 8),
+    others = len(parents[1:])
+    body = b"".join([b"HGE2" if others > 1 else b"HGE1", number(creator, 2), number(others, 1), *parents, number(time, 8),
                      number(len(payload), 2), payload])
     return body + signature_of(members[creator], body)
 
@@ -47,13 +49,13 @@ def first_event(data):
         at += size
         return data[at - size:at]
 
-    if not MAGIC.startswith(data[:4]):
+    if not any(form.startswith(data[:4]) for form in FORMS):
         raise ValueError("bad-magic")
-    field(4)
+    kinds = FORMS[field(4)]
     creator, kind = (int.from_bytes(field(size), "big") for size in (2, 1))
-    if kind > 1:
+    if kind not in kinds:
         raise ValueError(f"bad-kind {kind}")
-    parents = (field(48), field(48)) if kind else ()
+    parents = tuple(field(48) for _ in range(kind + 1)) if kind else ()
     time, length = (int.from_bytes(field(size), "big") for size in (8, 2))
     if length > LONGEST:
         raise ValueError(f"bad-length {length}")

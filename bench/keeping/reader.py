@@ -44,7 +44,8 @@ class Rows:
             return None
         if made != (creator == self.own) or made and self.last.get(creator) != (parents[0] if parents else None):
             return None
-        if parents and (self.creators.get(parents[0]) != creator or self.creators.get(parents[1], creator) == creator):
+        if parents and (self.creators.get(parents[0]) != creator
+                        or any(self.creators.get(name, creator) == creator for name in parents[1:])):
             return None
         if self.forks(event):
             forkers = self.forkers | {creator}

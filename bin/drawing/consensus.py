@@ -15,11 +15,11 @@ Vote = namedtuple("Vote", "value decides by_bit")
 class Event:
     """An event of the web; its number there is `index`, its bit in sets `bit`."""
 
-    def __init__(self, index, data, name, fields, own, other):
+    def __init__(self, index, data, name, fields, parents):
         self.index, self.bit, self.data, self.name = index, 1 << index, data, name
         self.creator, self.time, self.payload = fields.creator, fields.time, fields.payload
-        self.signature, self.own, self.other = fields.signature, own, other
-        self.parents = [own, other] if own else []
+        self.signature, self.parents = fields.signature, parents
+        self.own = own = parents[0] if parents else None
         self.sequence = own.sequence + 1 if own else 0
         self.selves = self.bit | (own.selves if own else 0)
         self.ancestors = self.bit
@@ -50,10 +50,10 @@ class Web:
         """The stake of the events' creators, of each event by itself."""
         return sum(self.stakes[event.creator] for event in events)
 
-    def event(self, data, name, fields, own, other):
-        """The event of these bytes on these parents."""
+    def event(self, data, name, fields, parents):
+        """The event of these bytes on these parents, the self-parent first."""
         if data not in self.known:
-            event = Event(len(self.events), data, name, fields, own, other)
+            event = Event(len(self.events), data, name, fields, parents)
             self.events.append(event)
             self.known[data] = event
             self.by_creator[event.creator] |= event.bit

@@ -4,9 +4,9 @@ import hashlib
 import hmac
 import tomllib
 
-MAGIC = b"HGE1"
+MAGICS = b"HGE1", b"HGE2"       # the second is of the events with several other-parents
 NAME, SIGNATURE = 48, 64
-PAYLOAD_MOST, TRANSFERS_MOST = 1024, 64
+OTHERS_MOST, PAYLOAD_MOST, TRANSFERS_MOST = 4, 1024, 64
 
 
 class Refused(Exception):
@@ -43,8 +43,9 @@ def sign(secret, body):
 
 
 def spell(member, parents, time, payload):
-    """The bytes of an event by the member, on the two parents' names or on none."""
-    body = MAGIC + member.number.to_bytes(2, "big") + bytes([1 if parents else 0]) + b"".join(parents or ())
+    """The bytes of an event by the member, on these parents' names, the self-parent's first, or on none."""
+    others = len(parents[1:])
+    body = MAGICS[others > 1] + member.number.to_bytes(2, "big") + bytes([others]) + b"".join(parents)
     body += time.to_bytes(8, "big") + len(payload).to_bytes(2, "big") + payload
     return body + sign(member.secret, body)
 
@@ -67,15 +68,15 @@ class Fields:
     """What the bytes of an event say; Refused with the first thing that is wrong."""
 
     def __init__(self, data):
-        if data[:4] != MAGIC[:len(data)]:
+        if not any(magic.startswith(data[:4]) for magic in MAGICS):
             raise Refused("bad-magic")
         reader = Reader(data)
-        reader.take(len(MAGIC))
+        kinds = range(2) if reader.take(4) == MAGICS[0] else range(2, OTHERS_MOST + 1)
         self.creator = reader.number(2)
         kind = reader.number(1)
-        if kind > 1:
+        if kind not in kinds:
             raise Refused(f"bad-kind {kind}")
-        self.parents = (reader.take(NAME), reader.take(NAME)) if kind else None
+        self.parents = [reader.take(NAME) for _ in range(kind + 1)] if kind else []
         self.time = reader.number(8)
         length = reader.number(2)
         if length > PAYLOAD_MOST:

@@ -61,31 +61,28 @@ class Node:
             raise Refused("signature")
         if creator is self.member:
             raise Refused("impostor")
-        own, other = self.parents_of(fields)
-        forking = sum(self.members.stakes[m] for m in self.forkers_with(fields.creator, own))
+        parents = self.parents_of(fields)
+        forking = sum(self.members.stakes[m] for m in self.forkers_with(fields.creator, parents))
         if 3 * forking >= sum(self.members.stakes):
             raise Refused(f"too-many-forkers {forking}")
         self.check_room()
-        return f"accepted {self.add(self.web.event(data, name, fields, own, other), line)}"
+        return f"accepted {self.add(self.web.event(data, name, fields, parents), line)}"
 
     def parents_of(self, fields):
-        """The self-parent and the other-parent, both there and by the right creators."""
-        if not fields.parents:
-            return None, None
-        for name, which in zip(fields.parents, ("missing-self", "missing-other")):
+        """The self-parent and the other-parents, all there and by the right creators."""
+        for number, name in enumerate(fields.parents):
             if name not in self.places:
-                raise Refused(f"{which} {name.hex()}")
-        own, other = (self.rows[self.places[name]] for name in fields.parents)
-        if own.creator != fields.creator:
-            raise Refused(f"self-creator {self.place(own)}")
-        if other.creator == fields.creator:
-            raise Refused(f"other-creator {self.place(other)}")
-        return own, other
+                raise Refused(f"missing-{'other' if number else 'self'} {name.hex()}")
+        parents = [self.rows[self.places[name]] for name in fields.parents]
+        for number, parent in enumerate(parents):
+            if (parent.creator == fields.creator) == (number > 0):
+                raise Refused(f"{'other' if number else 'self'}-creator {self.place(parent)}")
+        return parents
 
-    def forkers_with(self, creator, own):
-        """The forking members once the creator has a further event on `own`: it keeps to one chain if all that it has
+    def forkers_with(self, creator, parents):
+        """The forking members once the creator has a further event on these: it keeps to one chain if all that it has
         here are self-ancestors of the new one."""
-        chain = own.sequence + 1 if own else 0
+        chain = parents[0].sequence + 1 if parents else 0
         return self.forkers | ({creator} if self.counts[creator] > chain else set())
 
     def check_room(self):
@@ -105,18 +102,18 @@ class Node:
             raise Refused(f"other-creator {self.place(parent)}")
         if len(payload) > PAYLOAD_MOST:
             raise Refused(f"payload-long {len(payload)}")
-        parents = (self.last_own.name, other) if parent else None
-        data = spell(self.member, parents, time, payload)
+        parents = [self.last_own, parent] if parent else []
+        data = spell(self.member, [row.name for row in parents], time, payload)
         name = name_of(data)
         if name in self.places:
             raise Refused(f"collision {self.places[name]}")
         self.check_room()
-        self.last_own = self.web.event(data, name, Fields(data), self.last_own, parent)
+        self.last_own = self.web.event(data, name, Fields(data), parents)
         return f"made {self.add(self.last_own, line)}"
 
     def add(self, event, line):
         """Puts the event at the next place, which is the answer."""
-        for member in self.forkers_with(event.creator, event.own) - self.forkers:
+        for member in self.forkers_with(event.creator, event.parents) - self.forkers:
             self.forkers.add(member)
             self.forked_since[member] = line
         self.places[event.name] = len(self.rows)
@@ -264,7 +261,7 @@ class Play:
         self.label(label, last.data if last else b"")
 
     def line_forge(self, label, m, own, other, time, payload=""):
-        parents = None if own == "-" else (name_of(self.labels[own]), name_of(self.labels[other]))
+        parents = [] if own == "-" else [name_of(self.labels[own]), name_of(self.labels[other])]
         member = self.members.all[self.members.numbers[m]]
         self.label(label, spell(member, parents, int(time), self.payload(payload)))
 

@@ -1,4 +1,5 @@
 use crate::telling::equal;
+use hg_check::parents_on;
 use hg_event::{Event, body_of, decode, encode, encode_body};
 use hg_life::ByteFault;
 use hg_model::{Bytes, Row};
@@ -82,7 +83,7 @@ fn writes_a_plain_event(rt: HostRuntime) -> Result<(), Fail> {
 
 #[test]
 fn writes_the_fields_in_order(rt: HostRuntime) -> Result<(), Fail> {
-    let parents = Some(([0xa1; 48], [0xa2; 48]));
+    let parents = parents_on(rt.alloc(), [0xa1; 48], &[[0xa2; 48]])?;
     let body = encode_body(rt.alloc(), 0x0102, &parents, 0x03040506_0708090a, b"pay")?;
     assert!(rt; body.len() == 116);
     for (case, (part, wanted)) in [

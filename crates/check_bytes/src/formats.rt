@@ -1,15 +1,17 @@
 //! The vectors of `docs/FORMATS.md`, in the digits that stand there. They were worked out by another implementation of
 //! SHA-2 and HMAC.
 
-ghost use Rattle.std.specs.Prelude.{◌≤◌, length};
+ghost use Rattle.std.specs.Prelude.{◌≡◌, ◌≤◌, true, length};
+ghost use Rattle.hg_model.specs.Links.{has_few_others};
 ghost use Rattle.hg_life.specs.Spelling.{payload_limit};
 
 use crate::members::{entry, members_of};
 use crate::telling::equal;
+use hg_check::parents_on;
 use hg_event::encode_body;
 use hg_life::Transfer;
 use hg_made::{Draws, generate};
-use hg_model::{Memory, Name, Sig};
+use hg_model::{Items, Memory, Name, Sig};
 use hg_name::name_of;
 use hg_pay::write_pay;
 use hg_script::{Action, Gossip, Line, Part};
@@ -18,11 +20,13 @@ use std::alloc::Global;
 use std::process::Abort;
 use std::test::Fail;
 
-/// The keys of the members of `examples/two-members`.
-fn keys_of_two(rt: &impl Abort, alloc: Global) -> Result<MacTable, Memory> {
+/// The keys of the members A to D, of whom A and B are those of `examples/two-members`.
+fn keys_of_four(rt: &impl Abort, alloc: Global) -> Result<MacTable, Memory> {
     let mut entries = Vec::new(alloc);
     entries.push(entry(alloc, b"A", &[0x0b; 4], 100, true)?)?;
     entries.push(entry(alloc, b"B", &[0x0c; 4], 0, true)?)?;
+    entries.push(entry(alloc, b"C", &[0x0d; 4], 0, true)?)?;
+    entries.push(entry(alloc, b"D", &[0x0e; 4], 0, true)?)?;
     MacTable::new(alloc, &members_of(rt, entries))
 }
 
@@ -31,13 +35,14 @@ fn signed(
     alloc: Global,
     keys: &MacTable,
     creator: u16,
-    parents: Option<(Name, Name)>,
+    parents: &Option<(Name, Items<Name>)>,
     time: u64,
     payload: &[u8],
 ) -> Result<(Sig, Name), Memory>
-    requires { length payload.now ≤ payload_limit }
+    requires few { has_few_others parents.now ≡ true }
+    requires payload { length payload.now ≤ payload_limit }
 {
-    let event = signed_bytes(alloc, keys, creator, &parents, time, payload)?;
+    let event = signed_bytes(alloc, keys, creator, parents, time, payload)?;
     Ok((event.sig, name_of(event.bytes.as_slice())))
 }
 
@@ -74,9 +79,9 @@ const FIRST: [(u16, u64, &str, &str, &str); 2] = [
 #[test]
 fn first_events_have_these_digits(rt: HostRuntime) -> Result<(), Fail> {
     let alloc = rt.alloc();
-    let keys = keys_of_two(&rt, alloc)?;
+    let keys = keys_of_four(&rt, alloc)?;
     for (creator, time, body, sig, name) in &FIRST {
-        let (found, called) = signed(alloc, &keys, *creator, None, *time, &[])?;
+        let (found, called) = signed(alloc, &keys, *creator, &None, *time, &[])?;
         let spelled = encode_body(alloc, *creator, &None, *time, &[])?;
         reads(&rt, alloc, 0, spelled.as_slice(), *body)?;
         reads(&rt, alloc, 1, found.as_slice(), *sig)?;
@@ -96,12 +101,13 @@ fn first_eight(bytes: &[u8]) -> &[u8] {
 #[test]
 fn the_sixth_event_has_a_coin_of_one(rt: HostRuntime) -> Result<(), Fail> {
     let alloc = rt.alloc();
-    let keys = keys_of_two(&rt, alloc)?;
-    let (_, mut own) = signed(alloc, &keys, 0, None, 1, &[])?;
-    let (_, mut other) = signed(alloc, &keys, 1, None, 2, &[])?;
+    let keys = keys_of_four(&rt, alloc)?;
+    let (_, mut own) = signed(alloc, &keys, 0, &None, 1, &[])?;
+    let (_, mut other) = signed(alloc, &keys, 1, &None, 2, &[])?;
     for time in 3..7 {
         let creator = ((time + 1) % 2) as u16;
-        let (sig, name) = signed(alloc, &keys, creator, Some((own, other)), time, &[])?;
+        let parents = parents_on(alloc, own, &[other])?;
+        let (sig, name) = signed(alloc, &keys, creator, &parents, time, &[])?;
         if time == 3 {
             reads(&rt, alloc, 0, first_eight(&sig), "246d65de200df602")?;
             reads(&rt, alloc, 1, first_eight(&name), "e770aec0061280e1")?;
@@ -113,10 +119,35 @@ fn the_sixth_event_has_a_coin_of_one(rt: HostRuntime) -> Result<(), Fail> {
     Ok(())
 }
 
+// The body, the signature and the name of an event of A on its own first event and on those of B and C.
+const JOINED: [&str; 3] = [
+    "48474532000002433ea625c706b3623c0624e37c933c8741229785e21dec535b8a31165c73eed9a3ff6ae35f43dd762c27b3d01a5c8f0f34b55303a5ee1bf3ef4c86aeac9b5e8f051052620c9f71db64a64e32f9556614228fe716b813cfe6735cdff79859631f4f158a6df2df0ec8bf90731597465ba126539918991cc57a4b056ae998f8a39747eff56f6041dce6dfd257c05bd9fa3200000000000000040000",
+    "230a46bb502a3d10f905b57aec1f63b85db5f05515d07eadd6a591ae02f1b94c93858017e0a1aa4f8653c88f264e9cb093aa2b3d4f00560d8c84347c33bb827c",
+    "1b6aea27a9e2c6470a859f8342bfeed58ad50793b98c849d3800b076ad4a8f9fee3ab81df3ca81fa589af4716c241ee9",
+];
+
+#[test]
+fn several_other_parents_have_these_digits(rt: HostRuntime) -> Result<(), Fail> {
+    let alloc = rt.alloc();
+    let keys = keys_of_four(&rt, alloc)?;
+    let (_, own) = signed(alloc, &keys, 0, &None, 1, &[])?;
+    let (_, second) = signed(alloc, &keys, 1, &None, 2, &[])?;
+    let (_, third) = signed(alloc, &keys, 2, &None, 3, &[])?;
+    let parents = parents_on(alloc, own, &[second, third])?;
+    let spelled = encode_body(alloc, 0, &parents, 4, &[])?;
+    let (sig, name) = signed(alloc, &keys, 0, &parents, 4, &[])?;
+    let [body, signature, named] = JOINED;
+    reads(&rt, alloc, 0, spelled.as_slice(), body)?;
+    reads(&rt, alloc, 1, sig.as_slice(), signature)?;
+    reads(&rt, alloc, 2, name.as_slice(), named)?;
+    equal(&rt, 3, spelled.len() + sig.len(), 225);
+    Ok(())
+}
+
 #[test]
 fn transfers_have_these_digits(rt: HostRuntime) -> Result<(), Fail> {
     let alloc = rt.alloc();
-    let keys = keys_of_two(&rt, alloc)?;
+    let keys = keys_of_four(&rt, alloc)?;
     let transfers = [30, 80].map(|amount| Transfer {
         receiver: 1,
         amount,
@@ -129,7 +160,7 @@ fn transfers_have_these_digits(rt: HostRuntime) -> Result<(), Fail> {
         payload.as_slice(),
         "020001000000000000001e00010000000000000050",
     )?;
-    let (_, name) = signed(alloc, &keys, 0, None, 1, payload.as_slice())?;
+    let (_, name) = signed(alloc, &keys, 0, &None, 1, payload.as_slice())?;
     let spelled = encode_body(alloc, 0, &None, 1, payload.as_slice())?;
     let digits = "4847453100000000000000000000010015020001000000000000001e00010000000000000050";
     reads(&rt, alloc, 1, spelled.as_slice(), digits)?;

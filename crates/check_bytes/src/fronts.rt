@@ -1,5 +1,6 @@
 //! The event at the front of a stream.
 
+use crate::several::has_parents;
 use crate::telling::equal;
 use hg_event::decode_first;
 use hg_life::ByteFault;
@@ -85,7 +86,7 @@ fn reads_parents_and_payload(rt: HostRuntime) -> Result<(), Fail> {
     let (event, len) = decode_first(&bytes).ok().ok_or("a fault")?;
     equal(&rt, 0, len, 180);
     equal(&rt, 1, event.payload, b"pay".as_slice());
-    equal(&rt, 2, event.parents, Some((&[0xa1; 48], &[0xa2; 48])));
+    has_parents(&rt, &event, &[0xa1; 48], &[[0xa2; 48]]);
     bytes[111] = 4;
     equal(&rt, 3, fault_of(&bytes), Some(ByteFault::BadLength(1027)));
     bytes[3] = b'3';

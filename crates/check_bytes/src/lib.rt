@@ -30,6 +30,8 @@ mod reporting;
 #[cfg(test)]
 mod script;
 #[cfg(test)]
+mod several;
+#[cfg(test)]
 mod signing;
 #[cfg(test)]
 mod sources;

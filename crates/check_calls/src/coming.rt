@@ -19,7 +19,11 @@ fn play(rt: &impl Abort, a: &mut Node<MacTable>, b: &mut Node<MacTable>) -> Resu
 }
 
 /// The node is to have these tips.
-fn tips_are(rt: &impl Abort, node: &Node<MacTable>, wanted: &[Name]) -> Result<(), Memory> {
+pub(crate) fn tips_are(
+    rt: &impl Abort,
+    node: &Node<MacTable>,
+    wanted: &[Name],
+) -> Result<(), Memory> {
     let tips = node.tips()?;
     equal(rt, tips.len(), wanted.len());
     for (tip, name) in tips.iter().zip(wanted) {
@@ -39,7 +43,7 @@ fn has_rows(rt: &impl Abort, node: &Node<MacTable>, parcel: &Parcel, places: &[u
 }
 
 /// What is beyond these names is to be these rows of the node.
-fn beyond_is(
+pub(crate) fn beyond_is(
     rt: &impl Abort,
     node: &Node<MacTable>,
     names: &[Name],

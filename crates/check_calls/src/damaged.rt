@@ -58,8 +58,9 @@ fn knows_no_third_member(rt: HostRuntime) -> Result<(), Memory> {
 const SHORT: Fault = Fault::Bytes(ByteFault::Short(81));
 
 /// A first event with one byte, from the first of these places to the last, XORed with this is refused so.
-const ALTERED: [(usize, usize, u8, Fault); 8] = [
+const ALTERED: [(usize, usize, u8, Fault); 9] = [
     (0, 3, 1, Fault::Bytes(ByteFault::BadMagic)),
+    (3, 3, 3, Fault::Bytes(ByteFault::BadKind(0))),
     (4, 4, 1, Fault::Member(256)),
     (5, 5, 1, Fault::Signature),
     (6, 6, 1, SHORT),

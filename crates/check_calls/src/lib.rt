@@ -35,6 +35,8 @@ mod publishing;
 #[cfg(test)]
 mod seats;
 #[cfg(test)]
+mod several;
+#[cfg(test)]
 mod shared;
 #[cfg(test)]
 mod two_members;

@@ -1,20 +1,50 @@
-ghost use Rattle.std.specs.Prelude.{◌<◌};
+ghost use Rattle.std.specs.Prelude.{◌≡◌, ◌<◌, ◌≤◌, true, IfOk};
+ghost use Rattle.hg_model.specs.Links.{has_few_others, most_others};
 
 use crate::plan::Plan;
-use hg_check::Dice;
-use hg_model::{Member, Memory, Name};
+use hg_check::{Dice, parents_on};
+use hg_model::{Items, Member, Memory, Name};
 use hg_name::name_of;
 use hg_node::Node;
 use hg_sign::{MacTable, signed_bytes};
 use std::alloc::Global;
 
 /// An event to come.
-#[derive(Clone, Copy)]
+#[derive(Drop)]
 pub struct Draft {
     pub creator: Member,
     /// None where it is a first event of the creator.
-    pub parents: Option<(Name, Name)>,
+    pub parents: Option<(Name, Items<Name>)>,
     pub time: u64,
+    pub ghost few: { has_few_others parents ≡ true },
+}
+
+impl Draft {
+    /// The name of the first other-parent.
+    pub fn other(&self) -> Option<Name> {
+        match &self.parents {
+            None => None,
+            Some(names) => match names.1.as_slice() {
+                [] => None,
+                [other, ..] => Some(*other),
+            },
+        }
+    }
+}
+
+/// The names of a self-parent and of one other-parent, or of none.
+pub fn parents_of(
+    alloc: Global,
+    on: Option<(Name, Name)>,
+) -> Result<Option<(Name, Items<Name>)>, Memory>
+    ensures { IfOk result (λ names. has_few_others names ≡ true) }
+{
+    let Some(names) = on else {
+        return Ok(None);
+    };
+    let own = names.0;
+    let other = names.1;
+    parents_on(alloc, own, &[other])
 }
 
 /// The name of a member's last row, or of the one so many before it.
@@ -94,6 +124,42 @@ fn other_parent(
     name_back(node, other, back)
 }
 
+/// One more other-parent: one of the last rows by any other member, or else the first other-parent again.
+fn one_more(
+    dice: &mut Dice,
+    plan: &Plan,
+    node: &Node<&MacTable>,
+    creator: u32,
+    first: Name,
+) -> Name {
+    let other = turned(plan, creator, 1 + dice.below(plan.members - 1));
+    match name_back(node, other, dice.below(3)) {
+        None => first,
+        Some(name) => name,
+    }
+}
+
+/// The other-parents behind the first, and how many of the four there are: one, or where the plan says so up to four, of
+/// which two may be one.
+fn other_parents(
+    dice: &mut Dice,
+    plan: &Plan,
+    node: &Node<&MacTable>,
+    creator: u32,
+    first: Name,
+) -> ([Name; 4], usize)
+    ensures some { 1 ≤ result.1 }
+    ensures few { result.1 ≤ most_others }
+{
+    if !plan.several {
+        return ([first; 4], 1);
+    }
+    let second = one_more(dice, plan, node, creator, first);
+    let third = one_more(dice, plan, node, creator, first);
+    let fourth = one_more(dice, plan, node, creator, first);
+    ([first, second, third, fourth], 1 + dice.below(4) as usize)
+}
+
 /// The time that the next event claims. Times repeat.
 fn next_time(dice: &mut Dice, plan: &Plan, node: &Node<&MacTable>) -> u64 {
     let drawn = u64::from(dice.below(24));
@@ -105,18 +171,30 @@ fn next_time(dice: &mut Dice, plan: &Plan, node: &Node<&MacTable>) -> u64 {
 }
 
 /// The next event, if the dice give one: none where its other-parent is still to come.
-pub fn next_draft(dice: &mut Dice, plan: &Plan, node: &Node<&MacTable>) -> Option<Draft> {
+pub fn next_draft(
+    alloc: Global,
+    dice: &mut Dice,
+    plan: &Plan,
+    node: &Node<&MacTable>,
+) -> Result<Option<Draft>, Memory> {
     let creator = next_creator(dice, plan, node);
     let time = next_time(dice, plan, node);
-    let parents = match own_parent(dice, plan, node, creator) {
-        None => None,
-        Some(own) => Some((own, other_parent(dice, plan, node, creator)?)),
+    let Some(own) = own_parent(dice, plan, node, creator) else {
+        return Ok(Some(Draft {
+            creator: creator as Member,
+            parents: None,
+            time,
+        }));
     };
-    Some(Draft {
+    let Some(other) = other_parent(dice, plan, node, creator) else {
+        return Ok(None);
+    };
+    let (others, count) = other_parents(dice, plan, node, creator, other);
+    Ok(Some(Draft {
         creator: creator as Member,
-        parents,
+        parents: parents_on(alloc, own, &others[..count])?,
         time,
-    })
+    }))
 }
 
 /// The bytes of the event under its creator's signature, and its name.

@@ -1,3 +1,4 @@
+use crate::drafting::parents_of;
 use hg_check::Dice;
 use hg_model::{Member, Memory, Name};
 use hg_node::Node;
@@ -45,9 +46,10 @@ pub fn forged_event(
     creator: Member,
     other: Member,
 ) -> Result<Option<Vec<u8>>, Memory> {
-    let Some(parents) = forged_parents(dice, node, creator, other) else {
+    let Some(on) = forged_parents(dice, node, creator, other) else {
         return Ok(None);
     };
+    let parents = parents_of(alloc, on)?;
     let time = u64::from(dice.below(24));
     let event = signed_bytes(alloc, keys, creator, &parents, time, &[])?;
     Ok(Some(event.bytes))

@@ -47,15 +47,15 @@ impl<'a> Game<'a> {
 
     /// The next event is made, by the node or another member.
     fn add_event(&mut self) -> Result<bool, Memory> {
-        match next_draft(&mut self.dice, &self.plan, self.watched.node()) {
-            None => Ok(true),
-            Some(draft) if draft.creator == 0 => {
-                let other = draft.parents.map(|names| names.1);
-                self.watched.make(other, draft.time)?;
-                Ok(true)
-            }
-            Some(draft) => self.put(&draft),
+        let next = next_draft(self.alloc, &mut self.dice, &self.plan, self.watched.node())?;
+        let Some(draft) = next else {
+            return Ok(true);
+        };
+        if draft.creator != 0 {
+            return self.put(&draft);
         }
+        self.watched.make(draft.other(), draft.time)?;
+        Ok(true)
     }
 
     /// Publishes a share of a moment. Answers whether the kept order has only grown and is a front of the plain program's, and

@@ -4,7 +4,7 @@ ghost use Rattle.hg_model.specs.Prefix.{graph_of};
 ghost use Rattle.hg_life.specs.NodeView.{kept_of, last_closed_of, node_rows};
 
 use hg_check::are_equal;
-use hg_model::{Member, Memory, Prefix, Row, Sight, is_of_graph};
+use hg_model::{Items, Member, Memory, Prefix, Row, Sight, is_of_graph};
 use hg_node::Node;
 use hg_plain::{PlainPrefix, PlainSight, PlainWhole, plain_whole};
 use hg_sign::MacTable;
@@ -16,16 +16,33 @@ pub fn rows_of(alloc: Global, node: &Node<&MacTable>) -> Result<Vec<Row>, Memory
 {
     let mut rows = Vec::new(alloc);
     for place in 0..node.rows() {
-        let copy = copy_of(node.row(place))?;
+        let copy = copy_of(alloc, node.row(place))?;
         rows.push(copy)?;
     }
     Ok(rows)
 }
 
-fn copy_of(row: &Row) -> Result<Row, Memory>
+fn copy_of(alloc: Global, row: &Row) -> Result<Row, Memory>
     ensures { IfOk result (λ copy. copy ≡ row.now) }
 {
-    Ok(row.clone()?)
+    let parents = match &row.parents {
+        None => None,
+        Some(names) => Some((names.0, copied(alloc, names.1.as_slice())?)),
+    };
+    Ok(Row {
+        creator: row.creator,
+        parents,
+        time: row.time,
+        payload: copied(alloc, row.payload.as_slice())?,
+        sig: row.sig,
+        name: row.name,
+    })
+}
+
+fn copied<T: Copy>(alloc: Global, items: &[T]) -> Result<Items<T>, Memory>
+    ensures { IfOk result (λ copy. copy ≡ items.now) }
+{
+    Ok(Items::from_vec(Vec::from_slice(alloc, items)?))
 }
 
 /// What the members of the node's graph weigh.

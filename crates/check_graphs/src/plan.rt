@@ -23,6 +23,8 @@ pub struct Plan {
     pub forkers: Option<(u32, u32)>,
     /// Times rise with the rows, so that they fall on no line. Else they are drawn.
     pub rising: bool,
+    /// Whether a row of another member may have one to four other-parents, as in three of nine graphs. Else it has one.
+    pub several: bool,
     pub ghost few: { members ≤ 7 },
     pub ghost some: { 4 ≤ members },
     pub ghost coin_low: { 3 ≤ coin },
@@ -49,6 +51,7 @@ pub fn plan_of(number: u32, dice: &mut Dice) -> Plan {
         events: 44 + 11 * members + dice.below(12),
         forkers,
         rising: number % 2 == 0,
+        several: number / 3 % 3 == 1,
     }
 }
 

@@ -1,6 +1,6 @@
 //! A graph of two members whose rounds and order were worked by hand.
 
-use crate::drafting::{Draft, signed_event};
+use crate::drafting::{Draft, parents_of, signed_event};
 use crate::plain::whole_of;
 use crate::plan::entry_of;
 use crate::watched::Watched;
@@ -31,10 +31,10 @@ struct Pair<'a> {
 
 impl<'a> Pair<'a> {
     /// B makes an event on these.
-    fn add(&mut self, parents: Option<(Name, Name)>, time: u64) -> Result<Name, Memory> {
+    fn add(&mut self, on: Option<(Name, Name)>, time: u64) -> Result<Name, Memory> {
         let draft = Draft {
             creator: 1,
-            parents,
+            parents: parents_of(self.alloc, on)?,
             time,
         };
         let (bytes, name) = signed_event(self.alloc, self.keys, &draft)?;

@@ -1,10 +1,10 @@
 use crate::forking::{
     has_both_branches, sees_one_branch, strongly_sees_by_stake, strongly_sees_two,
 };
-use crate::growing::{FORKED, add_all, fits};
+use crate::growing::{FORKED, Made, add_all, fits};
 use crate::telling::equal;
 use hg_ancestry::BitSight;
-use hg_model::{Growing, Memory, Parents, Sight};
+use hg_model::{Growing, Memory, Sight};
 use std::process::Abort;
 
 #[test]
@@ -62,19 +62,13 @@ fn tells_of_the_first_rows_alone(rt: HostRuntime) -> Result<(), Memory> {
 #[test]
 fn two_members_who_sync_in_turn(rt: HostRuntime) -> Result<(), Memory> {
     let mut sight = BitSight::new(rt.alloc(), &[1; 2])?;
-    let rows = [
-        (1, None),
-        (0, None),
-        (0, Some((1, 0))),
-        (1, Some((0, 2))),
-        (0, Some((2, 3))),
-    ];
+    let rows: [Made; 5] = [(1, &[]), (0, &[]), (0, &[1, 0]), (1, &[0, 2]), (0, &[2, 3])];
     assert!(rt; add_all(&mut sight, &rows)? && sight.rows() == 5);
     let told = [
         sight.sees(2, 0) && sight.strongly_sees(2, 0) && !sight.strongly_sees(2, 1),
         sight.strongly_sees(3, 0) && sight.strongly_sees(3, 1),
         sight.strongly_sees(4, 2) && sight.strongly_sees(4, 3),
-        !fits(&sight, Parents::of(3, 2), 0) && !fits(&sight, Parents::none(), 2),
+        !fits(&sight, &[3, 2], 0) && !fits(&sight, &[], 2),
     ];
     equal(&rt, 0, told, [true; 4]);
     Ok(())

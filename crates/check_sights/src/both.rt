@@ -5,7 +5,7 @@ ghost use Rattle.std.specs.Prelude.{◌≤◌, ◌<◌, length};
 use crate::growing::add;
 use hg_ancestry::BitSight;
 use hg_branches::BranchSight;
-use hg_model::{Growing, Member, Memory, Parents, Sight};
+use hg_model::{Growing, Member, Memory, Sight};
 use std::alloc::Global;
 
 /// Both sights of one graph.
@@ -26,7 +26,7 @@ impl Both {
     }
 
     /// Adds the row to both, if it fits.
-    pub(crate) fn add(&mut self, parents: Parents, creator: Member) -> Result<bool, Memory> {
+    pub(crate) fn add(&mut self, parents: &[usize], creator: Member) -> Result<bool, Memory> {
         let fits = add(&mut self.sight, parents, creator)?;
         Ok(add(&mut self.bits, parents, creator)? == fits && fits)
     }

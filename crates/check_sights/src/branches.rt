@@ -1,6 +1,6 @@
 use crate::both::{Both, has_counts};
 use crate::forking::{has_both_branches, strongly_sees_by_stake, strongly_sees_two};
-use crate::growing::{FORKED, Made, on};
+use crate::growing::{FORKED, Made};
 use crate::telling::equal;
 use hg_branches::BranchSight;
 use hg_model::{Member, Memory, Parents, Sight};
@@ -9,8 +9,8 @@ use std::alloc::Global;
 /// Adds the rows from this place on, and keeps each of so many rows, or none.
 fn add_forked(both: &mut Both, from: usize, every: usize) -> Result<bool, Memory> {
     for i in from..10 {
-        let (creator, pair) = FORKED[i];
-        if !both.add(on(pair), creator)? {
+        let (creator, parents) = FORKED[i];
+        if !both.add(parents, creator)? {
             return Ok(false);
         }
         if every > 0 && i % every == 0 {
@@ -76,18 +76,18 @@ fn tells_what_bit_rows_tell(rt: HostRuntime) -> Result<(), Memory> {
 /// Three members, of whom the first weighs 3 of 5: two rows strongly see another by its rows and a second member's, which
 /// the first member's alone do not do.
 const THREE: [Made; 6] = [
-    (0, None),
-    (1, None),
-    (2, None),
-    (0, Some((0, 1))),
-    (1, Some((1, 3))),
-    (2, Some((2, 4))),
+    (0, &[]),
+    (1, &[]),
+    (2, &[]),
+    (0, &[0, 1]),
+    (1, &[1, 3]),
+    (2, &[2, 4]),
 ];
 
 /// Adds these rows, and marks each.
-fn add_three(both: &mut Both) -> Result<bool, Memory> {
-    for (creator, pair) in &THREE {
-        if !both.add(on(*pair), *creator)? {
+fn add_marked(both: &mut Both, rows: &[Made]) -> Result<bool, Memory> {
+    for (creator, parents) in rows {
+        if !both.add(*parents, *creator)? {
             return Ok(false);
         }
         both.sight.mark_last();
@@ -110,11 +110,63 @@ fn tells_three(sight: &BranchSight) -> bool {
 fn weighs_three_of_five(rt: HostRuntime) -> Result<(), Memory> {
     let mut both = Both::new(rt.alloc(), &[3, 1, 1])?;
     let told = [
-        add_three(&mut both)?,
+        add_marked(&mut both, &THREE)?,
         tells_three(&both.sight),
         both.agree(),
     ];
     equal(&rt, 0, told, [true; 3]);
+    Ok(())
+}
+
+/// The fourth of four members forks on its first row. The first member has the one branch and the second the other, and
+/// the third, which has neither, goes on with a row of each as other-parents.
+const BROUGHT: [Made; 9] = [
+    (3, &[]),
+    (0, &[]),
+    (1, &[]),
+    (2, &[]),
+    (3, &[0, 1]),
+    (3, &[0, 2]),
+    (0, &[1, 4]),
+    (1, &[2, 5]),
+    (2, &[3, 6, 7]),
+];
+
+/// The last row has all rows as ancestors, and sees none of the fourth member's, of whom each other-parent sees two.
+fn sees_no_branch(sight: &BranchSight) -> bool {
+    if sight.rows() != 9 {
+        return false;
+    }
+    for y in 0..9 {
+        if !sight.ancestor(8, y) || sight.sees(8, y) != (y != 0 && y != 4 && y != 5) {
+            return false;
+        }
+    }
+    sight.sees(6, 0) && sight.sees(6, 4) && sight.sees(7, 0) && sight.sees(7, 5)
+}
+
+/// It strongly sees the first rows of the others, each of which rows of three members see, and not that of its own.
+fn strongly_sees_three(sight: &BranchSight) -> bool {
+    sight.rows() == 9
+        && sight.strongly_sees(8, 0)
+        && sight.strongly_sees(8, 1)
+        && sight.strongly_sees(8, 2)
+        && !sight.strongly_sees(8, 3)
+        && !sight.strongly_sees(6, 0)
+        && !sight.strongly_sees(7, 0)
+}
+
+#[test]
+fn learns_of_a_fork_by_two_others(rt: HostRuntime) -> Result<(), Memory> {
+    let mut both = Both::new(rt.alloc(), &[1; 4])?;
+    let told = [
+        add_marked(&mut both, &BROUGHT)?,
+        sees_no_branch(&both.sight),
+        strongly_sees_three(&both.sight),
+        both.agree(),
+        !has_counts(&both.sight, 8),
+    ];
+    equal(&rt, 0, told, [true; 5]);
     Ok(())
 }
 
@@ -137,7 +189,7 @@ fn add_turns(both: &mut Both, fork: bool) -> Result<bool, Memory> {
         } else {
             Parents::of(last[member], i - 1)
         };
-        if !both.add(parents, member as Member)? {
+        if !both.add(parents.as_slice(), member as Member)? {
             return Ok(false);
         }
         both.sight.mark_last();

@@ -1,6 +1,6 @@
 ghost use Rattle.std.specs.Prelude.{◌<◌, length};
 
-use crate::growing::{add, on};
+use crate::growing::add;
 use crate::telling::{equal, holds};
 use hg_branches::BranchSight;
 use hg_model::{Growing, Member, Memory, Sight};
@@ -9,19 +9,19 @@ use std::process::Abort;
 
 /// Of two members, A and B, whose own branches are 0 and 1: of each row its parents and its branch. A goes on twice on
 /// its first row after that has a child, by rows 4 and 8, which open branches 2 and 3.
-const ROWS: [(Option<(usize, usize)>, usize); 12] = [
-    (None, 0),
-    (None, 1),
-    (Some((0, 1)), 0),
-    (Some((1, 2)), 1),
-    (Some((0, 1)), 2),
-    (Some((3, 4)), 1),
-    (Some((4, 3)), 2),
-    (Some((2, 3)), 0),
-    (Some((0, 5)), 3),
-    (Some((5, 7)), 1),
-    (Some((9, 8)), 1),
-    (Some((8, 10)), 3),
+const ROWS: [(&[usize], usize); 12] = [
+    (&[], 0),
+    (&[], 1),
+    (&[0, 1], 0),
+    (&[1, 2], 1),
+    (&[0, 1], 2),
+    (&[3, 4], 1),
+    (&[4, 3], 2),
+    (&[2, 3], 0),
+    (&[0, 5], 3),
+    (&[5, 7], 1),
+    (&[9, 8], 1),
+    (&[8, 10], 3),
 ];
 
 /// One more than the last place that each row has among its ancestors on branches 0 to 3.
@@ -67,7 +67,7 @@ fn is_counted(sight: &BranchSight, x: usize) -> bool
 fn grow(rt: &impl Abort, sight: &mut BranchSight, x: usize) -> Result<(), Memory>
     requires { x < 12 }
 {
-    holds(rt, x, add(sight, on(ROWS[x].0), maker(x))?);
+    holds(rt, x, add(sight, ROWS[x].0, maker(x))?);
     assert!(rt; x < sight.rows());
     holds(rt, x, is_counted(sight, x));
     Ok(())

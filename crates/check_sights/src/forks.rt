@@ -2,11 +2,11 @@ ghost use Rattle.std.specs.Prelude.{◌≡◌, ◌≤◌, length, OnOk};
 ghost use Rattle.hg_model.specs.Shape.{FitsLink, link_of};
 ghost use Rattle.hg_forks.specs.SelfLinks.{self_shape};
 
-use crate::growing::{FORKED, fits, on};
+use crate::growing::{FORKED, fits, self_place};
 use crate::telling::equal;
 use hg_ancestry::BitSight;
 use hg_forks::Watch;
-use hg_model::{Growing, Member, Memory, Parents, Sight};
+use hg_model::{Growing, Member, Memory, Sight};
 use std::process::Abort;
 
 /// What the four members weigh.
@@ -29,31 +29,31 @@ const FORKERS: [(u32, u64); 10] = [
 
 /// The creator of a row that is not added, its parents, and what the members weigh that would have a fork with it: on the
 /// last row, on an earlier one, and on none; the last by a member that has a fork already.
-const OTHERS: [(Member, Option<(usize, usize)>, u64); 4] = [
-    (2, Some((9, 8)), 7),
-    (2, Some((5, 8)), 12),
-    (1, None, 10),
-    (3, None, 7),
+const OTHERS: [(Member, &[usize], u64); 4] = [
+    (2, &[9, 8], 7),
+    (2, &[5, 8], 12),
+    (1, &[], 10),
+    (3, &[], 7),
 ];
 
 /// What the watch says of a row that fits the same rows in the sight.
-fn would(watch: &Watch, sight: &BitSight, parents: Parents, creator: Member) -> u64
+fn would(watch: &Watch, sight: &BitSight, parents: &[usize], creator: Member) -> u64
     requires same { watch.now.shape ≡ self_shape sight.now.shape }
-    requires fits { FitsLink sight.now.shape.members sight.now.shape.links (link_of creator parents) }
+    requires fits { FitsLink sight.now.shape.members sight.now.shape.links (link_of creator parents.now) }
 {
-    watch.would(creator, parents.self_parent())
+    watch.would(creator, self_place(parents))
 }
 
 /// The row comes to both.
-fn add(watch: &mut Watch, sight: &mut BitSight, parents: Parents, creator: Member)
+fn add(watch: &mut Watch, sight: &mut BitSight, parents: &[usize], creator: Member)
     requires same { watch.old.shape ≡ self_shape sight.old.shape }
-    requires fits { FitsLink sight.old.shape.members sight.old.shape.links (link_of creator parents) }
+    requires fits { FitsLink sight.old.shape.members sight.old.shape.links (link_of creator parents.now) }
     requires watch { 1 ≤ watch.old.room }
     requires sight { 1 ≤ sight.old.room }
     requires short { length sight.old.shape.links ≤ 1000 }
     ensures { watch.new.shape ≡ self_shape sight.new.shape }
 {
-    watch.add(creator, parents.self_parent());
+    watch.add(creator, self_place(parents));
     sight.extend(parents, creator);
 }
 
@@ -62,7 +62,7 @@ fn grow(
     rt: &impl Abort,
     watch: &mut Watch,
     sight: &mut BitSight,
-    parents: Parents,
+    parents: &[usize],
     creator: Member,
 ) -> Result<(), Memory>
     requires same { watch.old.shape ≡ self_shape sight.old.shape }
@@ -81,8 +81,7 @@ fn tells_all(rt: &impl Abort, watch: &mut Watch, sight: &mut BitSight) -> Result
     ensures { OnOk result (watch.new.shape ≡ self_shape sight.new.shape) }
 {
     for x in 0..10 {
-        let (creator, pair) = FORKED[x];
-        let parents = on(pair);
+        let (creator, parents) = FORKED[x];
         assert!(rt; fits(&*sight, parents, creator));
         equal(rt, x, would(watch, sight, parents, creator), FORKERS[x].1);
         grow(rt, watch, sight, parents, creator)?;
@@ -95,10 +94,9 @@ fn tells_all(rt: &impl Abort, watch: &mut Watch, sight: &mut BitSight) -> Result
 fn tells_others(rt: &impl Abort, watch: &Watch, sight: &BitSight)
     requires { watch.now.shape ≡ self_shape sight.now.shape }
 {
-    for (creator, pair, stake) in &OTHERS {
-        let parents = on(*pair);
-        assert!(rt; fits(sight, parents, *creator));
-        let found = would(watch, sight, parents, *creator);
+    for (creator, parents, stake) in &OTHERS {
+        assert!(rt; fits(sight, *parents, *creator));
+        let found = would(watch, sight, *parents, *creator);
         equal(rt, usize::from(*creator), found, *stake);
     }
 }

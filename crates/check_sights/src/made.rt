@@ -1,10 +1,13 @@
-//! Made graphs, by numbers that look thrown, with forks in two of three: the sight by branches and that by rows of bits
-//! are to answer alike for any two of their rows, and of their first rows.
+//! Made graphs, by numbers that look thrown, with forks in two of three, and up to four other-parents of a row in three of
+//! nine: the sight by branches and that by rows of bits are to answer alike for any two of their rows, and of their first
+//! rows.
+
+ghost use Rattle.std.specs.Prelude.{◌≤◌};
 
 use crate::both::Both;
 use crate::telling::{equal, holds};
 use hg_branches::BranchSight;
-use hg_model::{Member, Memory, Parents, Sight};
+use hg_model::{Member, Memory, Sight};
 use std::alloc::Global;
 
 /// How many graphs are made.
@@ -42,12 +45,52 @@ fn row_by(sight: &BranchSight, member: Member, early: bool) -> Option<usize> {
     found
 }
 
-/// Parents for a row by the member: two rows if it has one and another member has the other, and else none.
-fn parents_by(sight: &BranchSight, state: u64, member: Member, early: bool) -> Parents {
-    let other = below(next(state), sight.rows());
+/// A row by another member than this one: the row of this number, or else the other row.
+fn not_by(sight: &BranchSight, member: Member, number: u64, other: usize) -> usize {
+    let place = below(number, sight.rows());
+    if place < sight.rows() && sight.creator(place) != member {
+        place
+    } else {
+        other
+    }
+}
+
+/// The other-parents behind the first, any two of which may be one.
+fn others_by(sight: &BranchSight, state: u64, member: Member, first: usize) -> [usize; 3] {
+    let mut number = next(state);
+    let mut others = [first; 3];
+    for other in others.iter_mut() {
+        number = next(number);
+        *other = not_by(sight, member, number, first);
+    }
+    others
+}
+
+/// Places for the parents of a row by the member, and how many of them count: none if it has no row, and else that row and
+/// one other, which fits where it is another member's, or where `more` says so up to three more.
+fn parents_by(
+    sight: &BranchSight,
+    state: u64,
+    member: Member,
+    early: bool,
+    more: usize,
+) -> ([usize; 5], usize)
+    ensures { result.1 ≤ 5 }
+{
+    let first = below(next(state), sight.rows());
+    let [second, third, fourth] = others_by(sight, state, member, first);
     match row_by(sight, member, early) {
-        None => Parents::none(),
-        Some(self_place) => Parents::of(self_place, other),
+        None => ([0; 5], 0),
+        Some(own) => ([own, first, second, third, fourth], 2 + more.min(3)),
+    }
+}
+
+/// How many more other-parents than one a row may have.
+fn more_others(number: u32, state: u64) -> usize {
+    if number / 3 % 3 == 1 {
+        below(next(state) >> 7, 4)
+    } else {
+        0
     }
 }
 
@@ -60,8 +103,9 @@ fn play(both: &mut Both, number: u32, turns: u32) -> Result<(), Memory> {
         let member = (below(state, members as usize) % 16) as Member;
         state = next(state);
         let early = number % 3 > 0 && u32::from(member) < members / 3 && below(state, 4) == 0;
-        let parents = parents_by(&both.sight, state, member, early);
-        if both.add(parents, member)? && below(state, 3) > 0 {
+        let more = more_others(number, state);
+        let (places, count) = parents_by(&both.sight, state, member, early, more);
+        if both.add(&places[..count], member)? && below(state, 3) > 0 {
             both.sight.mark_last();
         }
     }
@@ -107,7 +151,7 @@ fn agrees_at_seams(alloc: Global) -> Result<bool, Memory> {
 }
 
 fn agrees_at_seams_in(both: &mut Both) -> Result<bool, Memory> {
-    play(both, 1, 240)?;
+    play(both, 4, 240)?;
     let mut alike = has_fork(&both.sight) && both.agree();
     for len in 62..67 {
         alike = grows_from(both, len)? && grows_from(both, len + 64)? && alike;

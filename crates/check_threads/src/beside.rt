@@ -7,7 +7,7 @@ ghost use Rattle.hg_board.specs.Seats.{IsOf};
 use crate::players::Player;
 use hg_board::{Crew, Seat, Shared};
 use hg_io::Gate;
-use hg_model::{Memory, Share};
+use hg_model::{Memory, Name, Row, Share};
 use hg_node::Node;
 use hg_sign::MacTable;
 use hg_workers::Voters;
@@ -24,6 +24,17 @@ pub const AFTER: u32 = 2000;
 /// How many turns the worker has.
 pub const TURNS: u32 = 4;
 
+/// The name of the other-parent of a row that a node made, if it has parents.
+fn other_parent(row: &Row) -> Option<Name> {
+    match &row.parents {
+        None => None,
+        Some(names) => match names.1.as_slice() {
+            [] => None,
+            [other, ..] => Some(*other),
+        },
+    }
+}
+
 /// Makes the event at this place of a node that was alone, if it is the node's own, or puts it.
 fn replay_row<R: Wait>(
     rt: &R,
@@ -39,8 +50,13 @@ fn replay_row<R: Wait>(
 {
     let row = alone.row(place);
     if row.creator == alone.own() {
-        let other = row.parents.map(|names| names.1);
-        shared.make(rt, seat, other, row.time, row.payload.as_slice())?;
+        shared.make(
+            rt,
+            seat,
+            other_parent(row),
+            row.time,
+            row.payload.as_slice(),
+        )?;
     } else {
         shared.put(rt, seat, alone.bytes(place))?;
     }

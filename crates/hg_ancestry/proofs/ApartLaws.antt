@@ -1,15 +1,14 @@
--- Which members have a row among the ancestors of one row alone
-use Rattle.std.proofs.Common.{◌≡◌, ℕ, zero, suc, ◌+◌, ◌≤◌, ◌||◌, ◌&&◌, not, eqb, false, Bool, List, length, sym, ap, ap₂, ◌∙◌, refl, inl, inr, arith, add-one}
-use Rattle.std.proofs.lemmas.Bool.{cases_lt}
-use Rattle.std.proofs.Math.Bool.{or-false, or_comm, and_assoc}
-use Rattle.hg_model.specs.Places.{some_below, table, IsEarlier}
-use Rattle.hg_model.specs.Links.{Link, parents, creator}
-use Rattle.hg_model.specs.Ancestry.{is_ancestor}
-use Rattle.hg_model.proofs.PlacesLaws.{some_below-same, some_below_next}
+-- Which members have a row in one row of bits alone
+use Rattle.std.proofs.Common.{◌≡◌, ℕ, zero, suc, ◌+◌, ◌<◌, ◌≤◌, ◌||◌, ◌&&◌, not, eqb, true, false, Bool, List, length, sym, ap, ap₂, ◌∙◌, refl, inl, inr, arith, add-one}
+use Rattle.std.proofs.lemmas.Bool.{cases_lt, false_from_ne_true}
+use Rattle.std.proofs.lemmas.List.{get_or_past}
+use Rattle.std.proofs.Math.Bool.{or-false, or_comm}
+use Rattle.hg_model.specs.Places.{some_below}
+use Rattle.hg_model.specs.Links.{Link, creator}
+use Rattle.hg_model.proofs.PlacesLaws.{some_below_next}
 use Rattle.hg_bits.specs.Words.{IsFirst, NoneFrom}
-use Rattle.hg_bits.specs.Rows.{is_over}
+use Rattle.hg_bits.specs.Rows.{is_in, is_over}
 use Rattle.hg_ancestry.specs.Held.{is_apart}
-use Rattle.hg_ancestry.proofs.HeldLaws.{row_long, row_says}
 use Rattle.hg_ancestry.proofs.SeerLaws.{eqb_turned}
 
 -- a search that goes on from one place that passes to the next
@@ -34,12 +33,13 @@ module _ (L : List Link) (row other : List Bool) (from : ℕ) (mask : ℕ → Bo
       let here : test a ≡ eqb m member = ap (λ b. b && eqb (creator L a) m) first.passes ∙ (ap (λ c. eqb c m) (sym by_member) ∙ eqb_turned member m) in
       made m ∙ (or_comm (eqb m member) (mask m) ∙ (ap₂ (λ (b c : Bool). b || c) (sym before) (sym here) ∙ sym (some_below_next a test)))
 
-  pub apart_all : from ≤ length row → NoneFrom (is_over row other) from (length row) → IsEarlier (parents L) → (x z : ℕ) → row ≡ table (is_ancestor L x) (x + 1) → other ≡ table (is_ancestor L z) (z + 1) →
-      (m : ℕ) → mask m ≡ is_apart L x z m
-  apart_all le none e x z row_is other_is m =
-      let long : length row ≡ x + 1 = row_long L x row row_is in
-      matches m ∙ sym (skipped (λ a. is_over row other a && eqb (creator L a) m) from (length row) le (λ i h l. apart_none i m (none i h l)))
-      ∙ (ap (λ k. some_below k (λ a. is_over row other a && eqb (creator L a) m)) (long ∙ add-one x)
-      ∙ some_below-same (suc x) (λ a. is_over row other a && eqb (creator L a) m) (λ a. is_ancestor L x a && (not (is_ancestor L z a) && eqb (creator L a) m)) (λ a h.
-      ap₂ (λ (up none : Bool). (up && not none) && eqb (creator L a) m) (row_says L e x a row row_is) (row_says L e z a other other_is)
-      ∙ and_assoc (is_ancestor L x a) (not (is_ancestor L z a)) (eqb (creator L a) m)))
+  pub apart_all : NoneFrom (is_over row other) from (length row) → ((k : ℕ) → is_in row k ≡ true → k < length L) → (m : ℕ) → mask m ≡ is_apart L (is_in row) (is_in other) m
+  apart_all none inside m =
+      let test : ℕ → Bool = λ a. is_over row other a && eqb (creator L a) m in
+      let outside : (a : ℕ) → is_in row a ≡ false → test a ≡ false = λ a out. apart_none a m (ap (λ b. b && not (is_in other a)) out) in
+      let none_later : NoneFrom test from (from + length L) = λ a low h. elim (cases_lt a (length row)) [
+        | inl before ↦ apart_none a m (none a low before)
+        | inr past ↦ outside a (get_or_past row a false past)
+      ] in
+      let none_outside : NoneFrom test (length L) (from + length L) = λ a low h. outside a (false_from_ne_true (is_in row a) (λ here. let below = inside a here in absurd (omega arith))) in
+      matches m ∙ (sym (skipped test from (from + length L) (omega arith) none_later) ∙ skipped test (length L) (from + length L) (omega arith) none_outside)

@@ -1,10 +1,10 @@
 -- What the rows of bits and the masks of a graph hold
 use Rattle.std.specs.Prelude.{◌≡◌, ℕ, ◌+◌, ◌-◌, ◌<◌, ◌≤◌, ◌^◌, Bool, false, not, ◌&&◌, ◌==◌, List, [], length, get_or, replicate, Option, Some, None, ◌||◌, ◌∷◌, ◌++◌}
 use Rattle.std.specs.List.{list_any}
-use Rattle.hg_model.specs.Places.{table}
+use Rattle.hg_model.specs.Places.{some_below, table}
 use Rattle.hg_model.specs.Stakes.{Stakes, member_count}
 use Rattle.hg_model.specs.Links.{Link, creator}
-use Rattle.hg_model.specs.Ancestry.{is_ancestor, some_ancestor}
+use Rattle.hg_model.specs.Ancestry.{is_ancestor}
 use Rattle.hg_model.specs.Forks.{has_fork_below}
 use Rattle.hg_model.specs.Graph.{IsShaped}
 use Rattle.hg_model.specs.Seeing.{sees}
@@ -46,9 +46,21 @@ spare_room (Some row) = 1
 abbrev pub is_above : List Link → List ℕ → ℕ → Bool
 is_above L parents y = list_any (λ p. is_ancestor L p y) parents
 
--- member m has a row that is an ancestor of x and none of z
-abbrev pub is_apart : List Link → ℕ → ℕ → ℕ → Bool
-is_apart L x z m = some_ancestor L x (λ a. not (is_ancestor L z a) && creator L a == m)
+-- these ancestors, as the row of bits of the next row, and with that row itself
+abbrev pub above_row : List Link → List ℕ → List Bool
+above_row L parents = table (is_above L parents) (length L + 1)
+
+abbrev pub next_row : List Link → List ℕ → List Bool
+next_row L parents = table (λ k. k == length L || is_above L parents k) (length L + 1)
+
+-- member m has a row of the first set that is none of the other
+abbrev pub is_apart : List Link → (ℕ → Bool) → (ℕ → Bool) → ℕ → Bool
+is_apart L A B m = some_below (length L) (λ a. (A a && not (B a)) && creator L a == m)
+
+-- what comes with one parent more: forks among the ancestors of q, and members with a row of the set alone and one among the
+-- ancestors of q alone; for the new row's creator the new row itself is one of the set's
+abbrev pub forks_with : List Link → ℕ → (ℕ → Bool) → ℕ → ℕ → Bool
+forks_with L by A q m = has_fork_below L q m || ((m == by || is_apart L A (is_ancestor L q) m) && is_apart L (is_ancestor L q) A m)
 
 -- the mask has these members, and that of z, where z is an ancestor of x that sees y
 abbrev pub AddsSeer : List Link → ℕ → ℕ → ℕ → ℕ → ℕ → Type 0
@@ -58,8 +70,3 @@ AddsSeer L x y z before after =
 -- the mask has the members with a fork among the ancestors of a new row with this link
 abbrev pub IsForkMask : List Link → Link → ℕ → Type 0
 IsForkMask L link mask = (m : ℕ) → mask_has mask m ≡ has_fork_below (L ++ link ∷ []) (length L) m
-
--- the mask has the members of whom each of two parents has rows among its ancestors that the other has not; for the new
--- row's creator the new row itself is one of the self-parent's
-abbrev pub IsApartMask : List Link → ℕ → ℕ → ℕ → ℕ → Type 0
-IsApartMask L by self_place other mask = (m : ℕ) → mask_has mask m ≡ ((m == by || is_apart L self_place other m) && is_apart L other self_place m)

@@ -1,12 +1,11 @@
-ghost use Rattle.std.specs.Prelude.{◌≡◌, ◌<◌, ◌≤◌, ◌+◌, ◌||◌, ◌==◌, false, length, replicate, take, IfOk};
-ghost use Rattle.hg_model.specs.Places.{IsEarlier, table};
-ghost use Rattle.hg_model.specs.Links.{parents};
-ghost use Rattle.std.specs.List.{AllByRecursion};
-ghost use Rattle.hg_ancestry.specs.Held.{HoldsAncestors, is_above, row_at};
+ghost use Rattle.std.specs.Prelude.{◌≡◌, ◌<◌, ◌≤◌, ◌+◌, ◌∷◌, false, length, replicate, take, IfOk};
+ghost use Rattle.hg_model.specs.Shape.{FitsLink, link_of};
+ghost use Rattle.hg_ancestry.specs.Held.{above_row, next_row, row_at, IsForkMask};
 
-use crate::links::PlacedLink;
-use hg_bits::BitRow;
-use hg_model::{Memory, Parents};
+use crate::forks::forks_with;
+use crate::sight::BitSight;
+use hg_bits::{BitRow, join_masks};
+use hg_model::{Member, Memory, Sight};
 use std::alloc::Global;
 
 /// The ancestors of row `x`.
@@ -18,33 +17,45 @@ pub fn row_of(rows: &[BitRow], x: usize) -> &BitRow
     &rows[x]
 }
 
-/// Adds the ancestors of a row on these parents, and the row itself, which comes next.
-pub fn fill(row: &mut BitRow, links: &[PlacedLink], rows: &[BitRow], on: Parents)
-    requires earlier { IsEarlier (parents links.now) }
-    requires known { HoldsAncestors links.now rows.now }
-    requires places { AllByRecursion (λ p. p < length links.now) on }
-    requires empty { row.old ≡ replicate (length links.now + 1) false }
-    ensures { row.new ≡ table (λ k. k == length links.now || is_above links.now on k) (length links.now + 1) }
+/// Adds to an empty row of bits the ancestors of a row by this member on these parents, which comes next, and the row
+/// itself. Tells the members with a fork among them.
+pub fn fill(row: &mut BitRow, sight: &BitSight, on: &[usize], by: Member) -> u128
+    requires fits { FitsLink sight.now.shape.members sight.now.shape.links (link_of by on.now) }
+    requires empty { row.old ≡ replicate (length sight.now.shape.links + 1) false }
+    ensures row { row.new ≡ next_row sight.now.shape.links on.now }
+    ensures forks { IsForkMask sight.now.shape.links (link_of by on.now) result }
 {
-    add_parents(row, links, rows, on);
-    row.set(links.len());
+    sight.is_shaped();
+    let forked = match on {
+        [] => 0,
+        [self_place, others @ ..] => add_parents(row, sight, *self_place, others, by),
+    };
+    row.set(sight.rows());
+    forked
 }
 
-/// Adds the ancestors of these parents to an empty row.
-fn add_parents(row: &mut BitRow, links: &[PlacedLink], rows: &[BitRow], on: Parents)
-    requires earlier { IsEarlier (parents links.now) }
-    requires known { HoldsAncestors links.now rows.now }
-    requires places { AllByRecursion (λ p. p < length links.now) on }
-    requires empty { row.old ≡ replicate (length links.now + 1) false }
-    ensures { row.new ≡ table (is_above links.now on) (length links.now + 1) }
+/// Adds to an empty row of bits the ancestors of these parents. Tells the members with a fork among those of the next row,
+/// by this member: each other-parent adds forks to those among the parents before it.
+fn add_parents(
+    row: &mut BitRow,
+    sight: &BitSight,
+    self_place: usize,
+    others: &[usize],
+    by: Member,
+) -> u128
+    requires fits { FitsLink sight.now.shape.members sight.now.shape.links (link_of by (self_place ∷ others.now)) }
+    requires empty { row.old ≡ replicate (length sight.now.shape.links + 1) false }
+    ensures row { row.new ≡ above_row sight.now.shape.links (self_place ∷ others.now) }
+    ensures forks { IsForkMask sight.now.shape.links (link_of by (self_place ∷ others.now)) result }
 {
-    match on.pair() {
-        None => {}
-        Some((self_place, other)) => {
-            row.union(row_of(rows, self_place));
-            row.union(row_of(rows, other));
-        }
+    sight.is_shaped();
+    row.union(sight.ancestors_of(self_place));
+    let mut forked = sight.forked_below(self_place);
+    for other in others {
+        forked = join_masks(forked, forks_with(sight, row, *other, by));
+        row.union(sight.ancestors_of(*other));
     }
+    forked
 }
 
 /// The first `len` rows of bits, in memory of their own.

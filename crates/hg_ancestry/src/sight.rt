@@ -8,11 +8,11 @@ ghost use Rattle.hg_model.specs.Shape.{shape_of};
 ghost use Rattle.hg_bits.specs.Masks.{mask_has};
 
 use crate::ancestry::{copy_rows, fill, row_of};
-use crate::forks::{copy_masks, forked_below_next};
+use crate::forks::copy_masks;
 use crate::links::{PlacedLink, copy_links, creator_of, self_parent_of};
 use crate::seeing;
 use hg_bits::{BitRow, StakeTable};
-use hg_model::{Growing, Member, Memory, Parents, Sight};
+use hg_model::{Growing, Member, Memory, Sight};
 use std::alloc::Global;
 use std::marker::Model;
 
@@ -151,10 +151,9 @@ impl Growing for BitSight {
         Ok(())
     }
 
-    fn extend(&mut self, parents: Parents, creator: Member) {
-        let forked = forked_below_next(self, parents, creator);
+    fn extend(&mut self, parents: &[usize], creator: Member) {
         if let Some(mut row) = self.spare.take() {
-            fill(&mut row, &self.links, &self.ancestors, parents);
+            let forked = fill(&mut row, self, parents, creator);
             self.links.push_reserved(PlacedLink::of(creator, parents));
             self.ancestors.push_reserved(row);
             self.forked.push_reserved(forked);

@@ -8,7 +8,7 @@ use Rattle.hg_model.specs.Links.{Link, links, link_in}
 use Rattle.hg_model.specs.Forks.{forking, has_fork}
 use Rattle.hg_model.specs.Graph.{IsShaped}
 use Rattle.hg_model.specs.Shape.{FitsLink, link_of}
-use Rattle.hg_life.specs.Spelling.{body_of}
+use Rattle.hg_life.specs.Spelling.{HasSpelling, body_of}
 use Rattle.hg_model.specs.Stakes.{Stakes, member_count, total}
 use Rattle.hg_life.specs.Verdict.{forkers_rule, impostor_rule, member_rule, name_rule, signature_rule}
 use Rattle.hg_life.specs.Signing.{Accepts}
@@ -35,8 +35,8 @@ member_silent g row member =
     ap (λ (b : Bool). cond b (Some (Refused (fault.Member row.creator))) None) inside
 
 -- an event of a member that is new fits where no rule speaks against its parents
-fits_by : (g : Graph) (row : Row) → row.creator < member_count g.members → None ≡ name_rule g.rows row → None ≡ parents_rule g.rows row → Fits g.members g.rows row
-fits_by g row member fresh silent =
+fits_by : (g : Graph) (row : Row) → HasSpelling row → row.creator < member_count g.members → None ≡ name_rule g.rows row → None ≡ parents_rule g.rows row → Fits g.members g.rows row
+fits_by g row has member fresh silent =
     let all : Accepts = λ m body sig. true in
     let own : ℕ = suc row.creator in
     let by_another : eqb row.creator own ≡ false = grind (arith, nat_tests) in
@@ -45,14 +45,14 @@ fits_by g row member fresh silent =
     ap (λ (o : Option PutAnswer). option_or o (option_or (name_rule g.rows row) (option_or (impostor_rule own row) (parents_rule g.rows row)))) (member_silent g row member)
     ∙ (ap (λ (o : Option PutAnswer). option_or o (option_or (impostor_rule own row) (parents_rule g.rows row))) (sym fresh)
     ∙ (ap (λ (o : Option PutAnswer). option_or o (parents_rule g.rows row)) no_impostor ∙ sym silent)) in
-    (arrives all g.members own g.rows row silent_here).fits
+    (arrives all g.members own g.rows row has silent_here).fits
 
-pub link_comes : (g : Graph) (row : Row) (parents : List ℕ) → IsShaped g.members (links g.rows) → row.creator < member_count g.members → None ≡ name_rule g.rows row → None ≡ parents_rule g.rows row →
+pub link_comes : (g : Graph) (row : Row) (parents : List ℕ) → IsShaped g.members (links g.rows) → HasSpelling row → row.creator < member_count g.members → None ≡ name_rule g.rows row → None ≡ parents_rule g.rows row →
     parents ≡ arrival_places g.rows row → LinkComes g row parents
-link_comes g row parents shaped member fresh silent places =
+link_comes g row parents shaped has member fresh silent places =
     let n : Stakes = g.members in
     let G : List Row = g.rows in
-    let adds = adds_link n G row shaped (fits_by g row member fresh silent) in
+    let adds = adds_link n G row shaped (fits_by g row has member fresh silent) in
     let link : link_in G row ≡ link_of row.creator parents = ap (λ (ps : List ℕ). record { creator = row.creator; parents = ps }) (sym places) in
     record {
       link = link;

@@ -1,11 +1,13 @@
-ghost use Rattle.std.specs.Prelude.{◌≡◌, ◌<◌, None, length, IfOk, OnOk};
+ghost use Rattle.std.specs.Prelude.{◌≡◌, ◌<◌, ◌≤◌, ◌∷◌, None, length, map, IfOk, OnOk};
 ghost use Rattle.std.specs.Result.{result_err};
+ghost use Rattle.hg_event.specs.Names.{lent_names};
 ghost use Rattle.hg_event.specs.View.{row_of};
 ghost use Rattle.hg_model.specs.Graph.{creator_at};
-ghost use Rattle.hg_life.specs.Spelling.{Spells};
+ghost use Rattle.hg_model.specs.Links.{most_others, place_of};
+ghost use Rattle.hg_life.specs.Spelling.{HasSpelling, Spells};
 ghost use Rattle.hg_model.specs.Stakes.{member_count};
-ghost use Rattle.hg_life.specs.Verdict.{forkers_rule, name_rule, signature_rule};
-ghost use Rattle.hg_arrival.specs.Arrival.{IsNameAnswer, LinkComes, StandsOn, all_rules, arrival_places, impostor_by, later_rules, member_answer, parents_rule, signed_rules};
+ghost use Rattle.hg_life.specs.Verdict.{forkers_rule, missing_rule, name_rule, signature_rule};
+ghost use Rattle.hg_arrival.specs.Arrival.{AreInside, IsNameAnswer, LinkComes, StandsOn, all_rules, arrival_places, impostor_by, later_rules, member_answer, missing_answer, others_answer, parents_rule, places_rule, signed_rules};
 
 use hg_event::{Event, EventView, body_of};
 use hg_graph::EventGraph;
@@ -56,6 +58,7 @@ fn parents_of_new(
     own: Option<Member>,
     view: &EventView<'_>,
 ) -> Result<Parents, PutAnswer>
+    requires sized { HasSpelling (row_of view.now) }
     requires member { view.now.creator < member_count graph.now.graph.members }
     requires fresh { None ≡ name_rule graph.now.graph.rows (row_of view.now) }
     ensures answer { result_err result ≡ later_rules own graph.now.graph (row_of view.now) }
@@ -64,7 +67,7 @@ fn parents_of_new(
     is_shaped(graph);
     impostor_rule(own, view)?;
     let parents = parent_places(graph, view)?;
-    forkers_rule(graph, view, parents)?;
+    forkers_rule(graph, view, parents.as_slice())?;
     Ok(parents)
 }
 
@@ -121,26 +124,77 @@ fn impostor_rule(own: Option<Member>, view: &EventView<'_>) -> Result<(), PutAns
 }
 
 /// The places of the event's parents, if they are rows by the right members.
+#[tactic(auto, using(crate::proofs::PlaceLaws::creators_told))]
 fn parent_places(graph: &EventGraph, view: &EventView<'_>) -> Result<Parents, PutAnswer>
     ensures answer { result_err result ≡ parents_rule graph.now.graph.rows (row_of view.now) }
     ensures places { IfOk result (λ on. on ≡ arrival_places graph.now.graph.rows (row_of view.now)) }
 {
-    let Some((own_name, other_name)) = view.parents else {
+    let parents = held_places(graph, view)?;
+    creators_rule(graph, view.creator, parents.as_slice())?;
+    Ok(parents)
+}
+
+/// The places of the event's parents, if they are rows.
+fn held_places(graph: &EventGraph, view: &EventView<'_>) -> Result<Parents, PutAnswer>
+    ensures answer { result_err result ≡ missing_rule graph.now.graph.rows (row_of view.now).parents }
+    ensures places { IfOk result (λ on. on ≡ arrival_places graph.now.graph.rows (row_of view.now)) }
+    ensures inside { IfOk result (AreInside graph.now.graph.rows) }
+{
+    let Some(names) = view.parents else {
         return Ok(Parents::none());
     };
-    let Some(own) = graph.place_by(own_name, view.creator) else {
-        return Err(PutAnswer::Refused(Fault::MissingSelf(*own_name)));
+    let Some(own) = graph.place_by(names.self_parent, view.creator) else {
+        return Err(PutAnswer::Refused(Fault::MissingSelf(*names.self_parent)));
     };
-    let Some(other) = graph.place_of(other_name) else {
-        return Err(PutAnswer::Refused(Fault::MissingOther(*other_name)));
-    };
-    if creator_at(graph, own) != view.creator {
-        return Err(PutAnswer::Refused(Fault::SelfCreator(own)));
+    places_behind(graph, own, names.others())
+}
+
+/// This place and those of the rows with these names behind it, if each name is a row's.
+#[tactic(auto, using(crate::proofs::PlaceLaws::names_looked_up))]
+fn places_behind(graph: &EventGraph, own: usize, others: &[&Name]) -> Result<Parents, PutAnswer>
+    requires place { own < length graph.now.graph.rows }
+    requires few { length others.now ≤ most_others }
+    ensures answer { result_err result ≡ missing_answer graph.now.graph.rows (lent_names others.now) }
+    ensures places { IfOk result (λ on. on ≡ own ∷ map (place_of graph.now.graph.rows) (lent_names others.now)) }
+    ensures inside { IfOk result (AreInside graph.now.graph.rows) }
+{
+    let mut places = Parents::none().with(own);
+    for name in others {
+        let Some(place) = graph.place_of(*name) else {
+            return Err(PutAnswer::Refused(Fault::MissingOther(**name)));
+        };
+        places = places.with(place);
     }
-    if creator_at(graph, other) == view.creator {
-        return Err(PutAnswer::Refused(Fault::OtherCreator(other)));
+    Ok(places)
+}
+
+/// Whether the row at the first of these places is by the member, and none of the others is.
+fn creators_rule(graph: &EventGraph, member: Member, places: &[usize]) -> Result<(), PutAnswer>
+    requires { AreInside graph.now.graph.rows places.now }
+    ensures { result_err result ≡ places_rule graph.now.graph.rows member places.now }
+{
+    match places {
+        [] => Ok(()),
+        [own, others @ ..] => {
+            if creator_at(graph, *own) != member {
+                return Err(PutAnswer::Refused(Fault::SelfCreator(*own)));
+            }
+            others_rule(graph, member, others)
+        }
     }
-    Ok(Parents::of(own, other))
+}
+
+/// Whether none of the rows at these places is by the member.
+fn others_rule(graph: &EventGraph, member: Member, others: &[usize]) -> Result<(), PutAnswer>
+    requires { AreInside graph.now.graph.rows others.now }
+    ensures { result_err result ≡ others_answer graph.now.graph.rows member others.now }
+{
+    for place in others {
+        if creator_at(graph, *place) == member {
+            return Err(PutAnswer::Refused(Fault::OtherCreator(*place)));
+        }
+    }
+    Ok(())
 }
 
 /// Who made the row at a place.
@@ -154,8 +208,12 @@ pub fn creator_at(graph: &EventGraph, place: usize) -> Member
 
 /// Whether with the event the forking members would have a third of the stake or more.
 #[tactic(auto, using(crate::proofs::ArrivalLaws::forking_low))]
-fn forkers_rule(graph: &EventGraph, view: &EventView<'_>, parents: Parents) -> Result<(), PutAnswer>
-    requires { LinkComes graph.now.graph (row_of view.now) parents }
+fn forkers_rule(
+    graph: &EventGraph,
+    view: &EventView<'_>,
+    parents: &[usize],
+) -> Result<(), PutAnswer>
+    requires { LinkComes graph.now.graph (row_of view.now) parents.now }
     ensures { result_err result ≡ forkers_rule graph.now.graph.members graph.now.graph.rows (row_of view.now) }
 {
     let forking = graph.would(view.creator, parents);

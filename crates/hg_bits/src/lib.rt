@@ -5,15 +5,12 @@
 //! From `add_parents` and then `fill` of `hg_ancestry`, shortened:
 //!
 //! ```text
-//! match on.pair() {
-//!     None => {}
-//!     Some((self_place, other)) => {
-//!         row.union(row_of(rows, self_place));
-//!         row.union(row_of(rows, other));
-//!     }
-//! }
+//! row.union(sight.ancestors_of(self_place));
+//! ...
+//! forked = join_masks(forked, forks_with(sight, row, *other, by));
+//! row.union(sight.ancestors_of(*other));
 //!
-//! row.set(links.len());
+//! row.set(sight.rows());
 //! ```
 #![tactic(auto)]
 

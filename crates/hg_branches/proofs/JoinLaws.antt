@@ -1,9 +1,9 @@
--- What a row of numbers reads once it is made from two
-use Rattle.std.proofs.Common.{◌≡◌, ℕ, ◌+◌, ◌-◌, ◌≤◌, eqb, cond, max, List, [], ◌∷◌, ◌++◌, length, get_or, take, replicate, sym, ap, ◌∙◌, inl, inr, arith, refl}
+-- What a row of numbers reads once it is made from others, and the greatest counts of parents
+use Rattle.std.proofs.Common.{◌≡◌, ℕ, zero, suc, ◌+◌, ◌-◌, ◌<◌, ◌≤◌, max, List, [], ◌∷◌, ◌++◌, length, get_or, take, replicate, sym, ap, ◌∙◌, inl, inr, arith, refl}
+use Rattle.std.specs.List.{AllByRecursion}
 use Rattle.std.proofs.lemmas.Bool.{cases_lt}
-use Rattle.std.proofs.lemmas.List.{get_or_append_left, get_or-append_right, get_or_past, get_or-replicate, get_or-take, length-replicate, length-take, take_all}
-use Rattle.hg_branches.specs.Tails.{Tail, tail_at, tail_count, own_count}
-use Rattle.hg_branches.specs.Table.{tail_next}
+use Rattle.std.proofs.lemmas.List.{get_or_append_left, get_or-append_right, get_or_past, get_or-replicate, get_or-take, length-append, length-replicate, length-take, take_all, take_more}
+use Rattle.hg_branches.specs.Branches.{greatest_count}
 
 zeros_read : (many i : ℕ) → get_or {A = ℕ} (replicate many 0) i 0 ≡ 0
 zeros_read many i = elim (cases_lt i many) [
@@ -12,6 +12,12 @@ zeros_read many i = elim (cases_lt i many) [
 ]
 
 -- with zeros behind them
+
+pub padded_long : (xs : List ℕ) (len many : ℕ) → length xs ≤ len → many ≡ len - length xs → length (take len xs ++ replicate many 0) ≡ len
+padded_long xs len many h is =
+    length-append (take len xs) (replicate many 0)
+    ∙ (let e : length (take len xs) + length (replicate {A = ℕ} many 0) ≡ len = omega (arith, length-take len xs, length-replicate {A = ℕ} many 0) in e)
+
 pub padded_read : (xs : List ℕ) (len many : ℕ) → length xs ≤ len → (k : ℕ) → get_or (take len xs ++ replicate many 0) k 0 ≡ get_or xs k 0
 padded_read xs len many h k =
     ap (λ l. get_or (l ++ replicate many 0) k 0) (take_all len xs h) ∙ elim (cases_lt k (length xs)) [
@@ -26,7 +32,23 @@ cut_read xs len rest k = elim (cases_lt k len) [
   | inr past ↦ get_or_past (take len xs) k 0 (omega (arith, length-take len xs)) ∙ sym (rest k past)
 ]
 
--- the greatest of two tails
-pub tails_joined : (tails : List Tail) (p q own k number : ℕ) → number ≡ max (get_or (tail_at tails p).numbers k 0) (get_or (tail_at tails q).numbers k 0) →
-    cond (eqb (k + 1) own) 0 (max (max number (own_count tails p k)) (own_count tails q k)) ≡ tail_next tails (p ∷ q ∷ []) own k
-tails_joined tails p q own k number is = ap (λ n. cond (eqb (k + 1) own) 0 n) (let e : max (max number (own_count tails p k)) (own_count tails q k) ≡ max (tail_count tails p k) (max (tail_count tails q k) 0) = omega arith in e)
+-- what holds of each parent holds of that at a place
+pub all_at : (P : ℕ → Type 0) (ps : List ℕ) (i : ℕ) → AllByRecursion P ps → i < length ps → P (get_or ps i 0)
+all_at P [] i all inside = absurd (omega arith)
+all_at P (p ∷ ps) zero all inside = all.0
+all_at P (p ∷ ps) (suc i) all inside = all_at P ps i all.1 (omega arith)
+
+-- the greatest counts of the first parents, one parent more
+
+greatest_push : (count : ℕ → ℕ → ℕ) (ps : List ℕ) (p b : ℕ) → greatest_count count (ps ++ p ∷ []) b ≡ max (greatest_count count ps b) (count p b)
+greatest_push count [] p b = omega arith
+greatest_push count (q ∷ ps) p b = omega (arith, greatest_push count ps p b)
+
+pub greatest_none : (count : ℕ → ℕ → ℕ) (ps : List ℕ) (b : ℕ) → greatest_count count (take 0 ps) b ≡ 0
+greatest_none count [] b = refl
+greatest_none count (p ∷ ps) b = refl
+
+pub greatest_more : (count : ℕ → ℕ → ℕ) (ps : List ℕ) (i b : ℕ) → i < length ps → greatest_count count (take (i + 1) ps) b ≡ max (greatest_count count (take i ps) b) (count (get_or ps i 0) b)
+greatest_more count ps i b inside = ap (λ qs. greatest_count count qs b) (take_more ps i 0 inside) ∙ greatest_push count (take i ps) (get_or ps i 0) b
+
+pub ruleset greatest_steps = (greatest_none, greatest_more)

@@ -90,6 +90,9 @@ numbers_fit members widest own tails keeps on numbers places narrow = narrow wid
 pub room_parts : (members widest own tails row : ℕ) → 1 ≤ cond (has_room members widest own tails row) 1 0 → widest < tails
 room_parts members widest own tails row h = grind (arith, nat_tests)
 
+pub room_row : (members widest own tails row : ℕ) → 1 ≤ cond (has_room members widest own tails row) 1 0 → widest ≤ row
+room_row members widest own tails row h = grind (arith, nat_tests)
+
 -- one row more
 module _ (members widest : ℕ) (own : List ℕ) (tails : List Tail) (keeps : KeepsNumbers members widest own tails) (on : List ℕ) (branch above : ℕ) (row numbers : List ℕ)
     (made : IsMade members own tails on branch above row numbers) where

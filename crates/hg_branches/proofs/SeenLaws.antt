@@ -1,28 +1,51 @@
 -- Who is apart, and through whom a row is seen, by the counts and the first descendants
 use Rattle.std.proofs.Common.{◌≡◌, ℕ, ◌+◌, ◌<◌, ◌≤◌, lt-ltb, ◌&&◌, eqb, not, true, false, Bool, List, length, sym, ap, ◌∙◌, subst, inl, inr, arith, nat_lt, nat_le}
 use Rattle.std.proofs.lemmas.Bool.{cases_lt, and_parts, and_from, ltb-true, leb-true, le-leb, eqb-true, eq-eqb, not_from_false, false_from_ne_true, both_ways}
-use Rattle.hg_model.specs.Places.{some_below, IsEarlier}
+use Rattle.hg_model.specs.Places.{has_place, some_below, IsEarlier}
 use Rattle.hg_model.specs.Links.{Link, parents, creator}
 use Rattle.hg_model.specs.Ancestry.{is_ancestor, is_self_ancestor}
 use Rattle.hg_model.specs.Forks.{has_fork_below}
 use Rattle.hg_model.specs.Seeing.{sees, sees_through}
-use Rattle.hg_model.proofs.ReachLaws.{bool_iff}
+use Rattle.hg_model.proofs.ReachLaws.{bool_iff, list_any-same}
 use Rattle.hg_model.proofs.PlacesLaws.{some_below_from, some_below_found}
 use Rattle.hg_model.proofs.AncestryLaws.{is_ancestor-le}
 use Rattle.hg_model.proofs.SightLaws.{some_ancestor_with, has_fork_below_grows, sees-is_ancestor, sees_through_found}
-use Rattle.hg_ancestry.specs.Held.{is_apart}
-use Rattle.hg_ancestry.proofs.NewForkLaws.{apart_found, apart_from, has_fork_below_found}
-use Rattle.hg_branches.specs.Branches.{Branching, IsBranched, CountsAncestors, FirstDescendants}
+use Rattle.hg_ancestry.specs.Held.{is_above, is_apart}
+use Rattle.hg_ancestry.proofs.UnionLaws.{apart_found, apart_from}
+use Rattle.hg_ancestry.proofs.NewForkLaws.{has_fork_below_found}
+use Rattle.hg_branches.specs.Branches.{Branching, IsBranched, CountsAncestors, FirstDescendants, greatest_count}
+use Rattle.hg_branches.proofs.BranchLaws.{greatest_over, greatest_found}
 
 -- some branch by m passes the test
 abbrev pub by_branches : ℕ → Branching → (ℕ → Bool) → ℕ → Bool
 by_branches k B pass m = some_below k (λ b. pass b && eqb (B.maker b) m)
 
+-- for each branch one more than the place of the last of its rows in this set, or 0 where none is
+pub record CountsRows (L : List Link) (B : Branching) (S : ℕ → Bool) (count : ℕ → ℕ) : Type 0 where
+  pub told : (y : ℕ) → y < length L → nat_lt y (count (B.branch y)) ≡ S y
+  pub last : (b : ℕ) → 0 < count b → (z : ℕ) × (z < length L) × (B.branch z ≡ b) × (z + 1 ≡ count b)
+
+-- so count a row of its ancestors, and several rows together
+pub counts_of_one : (L : List Link) (B : Branching) (x : ℕ) (count : ℕ → ℕ) → CountsAncestors L B x count → CountsRows L B (is_ancestor L x) count
+counts_of_one L B x count held = record { told = held.told; last = held.last }
+
+pub counts_of_all : (L : List Link) (B : Branching) (count : ℕ → ℕ → ℕ) (ps : List ℕ) → ((p : ℕ) → has_place ps p ≡ true → CountsAncestors L B p (count p)) →
+    CountsRows L B (is_above L ps) (greatest_count count ps)
+counts_of_all L B count ps held = record {
+  told = λ y h. greatest_over count ps (B.branch y) y
+      ∙ list_any-same (λ p. nat_lt y (count p (B.branch y))) (λ p. is_ancestor L p y) ps (λ p has. (held p has).told y h);
+  last = λ b some.
+      let p = greatest_found count ps b some in
+      let same : count p.0 b ≡ greatest_count count ps b = p.2 in
+      let z = (held p.0 p.1).last b (omega arith) in
+      (z.0, z.1, z.2, z.3 ∙ same);
+}
+
 module _ (L : List Link) (e : IsEarlier (parents L)) (B : Branching) (lines : IsBranched L B) (k : ℕ) (known : (x : ℕ) → x < length L → B.branch x < k) where
-  -- members with rows among the ancestors of x alone are those with a branch of which x counts more
-  pub apart_told : (x z : ℕ) (count other : ℕ → ℕ) → x < length L → CountsAncestors L B x count → CountsAncestors L B z other → (m : ℕ) →
-      by_branches k B (λ b. nat_lt (other b) (count b)) m ≡ is_apart L x z m
-  apart_told x z count other hx held held_other m = bool_iff (by_branches k B (λ b. nat_lt (other b) (count b)) m) (is_apart L x z m)
+  -- members with rows of the one set alone are those with a branch of which it counts more
+  pub apart_told : (A C : ℕ → Bool) (count other : ℕ → ℕ) → CountsRows L B A count → CountsRows L B C other → (m : ℕ) →
+      by_branches k B (λ b. nat_lt (other b) (count b)) m ≡ is_apart L A C m
+  apart_told A C count other held held_other m = bool_iff (by_branches k B (λ b. nat_lt (other b) (count b)) m) (is_apart L A C m)
       (λ h.
       let b = some_below_found k (λ b. nat_lt (other b) (count b) && eqb (B.maker b) m) h in
       let parts = and_parts (nat_lt (other b.0) (count b.0)) (eqb (B.maker b.0) m) b.2 in
@@ -31,23 +54,22 @@ module _ (L : List Link) (e : IsEarlier (parents L)) (B : Branching) (lines : Is
       let end : w.0 + 1 ≡ count b.0 = w.3 in
       let here : count (B.branch w.0) ≡ count b.0 = ap count w.2 in
       let there : other (B.branch w.0) ≡ other b.0 = ap other w.2 in
-      apart_from L e x z m w.0
+      apart_from L m A C w.0 w.1
       (sym (held.told w.0 w.1) ∙ lt-ltb w.0 (count (B.branch w.0)) (omega arith))
       (sym (held_other.told w.0 w.1) ∙ false_from_ne_true (nat_lt w.0 (other (B.branch w.0))) (λ l. absurd (omega (arith, ltb-true w.0 (other (B.branch w.0)) l))))
       (lines.made w.0 w.1 ∙ (ap B.maker w.2 ∙ eqb-true (B.maker b.0) m parts.1)))
       (λ h.
-      let a = apart_found L e x z m h in
-      let low : a.0 ≤ x = is_ancestor-le L e x a.0 a.1 in
-      let inside : a.0 < length L = omega arith in
+      let a = apart_found L m A C h in
+      let inside : a.0 < length L = a.1 in
       let b = B.branch a.0 in
-      let up : a.0 < count b = ltb-true a.0 (count b) (held.told a.0 inside ∙ a.1) in
+      let up : a.0 < count b = ltb-true a.0 (count b) (held.told a.0 inside ∙ a.2) in
       let over : other b < count b = elim (cases_lt a.0 (other b)) [
-        | inl less ↦ absurd (both_ways (is_ancestor L z a.0) a.2 (sym (held_other.told a.0 inside) ∙ lt-ltb a.0 (other b) less))
+        | inl less ↦ absurd (both_ways (C a.0) a.3 (sym (held_other.told a.0 inside) ∙ lt-ltb a.0 (other b) less))
         | inr more ↦ omega arith
       ] in
       some_below_from k (λ b. nat_lt (other b) (count b) && eqb (B.maker b) m) b (known a.0 inside)
       (and_from (nat_lt (other b) (count b)) (eqb (B.maker b) m) (lt-ltb (other b) (count b) over)
-      (eq-eqb (B.maker b) m (sym (lines.made a.0 inside) ∙ a.3))))
+      (eq-eqb (B.maker b) m (sym (lines.made a.0 inside) ∙ a.4))))
 
   -- a member whose rows among the ancestors of x are all on one branch has no fork there
   pub no_fork_on_one : (x m b : ℕ) → x < length L → ((a : ℕ) → a < length L → is_ancestor L x a ≡ true → creator L a ≡ m → B.branch a ≡ b) → has_fork_below L x m ≡ false

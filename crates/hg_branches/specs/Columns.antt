@@ -1,12 +1,12 @@
 -- What a graph keeps of its branches: for each row its branch, its counts and who has a fork below it; for each branch its
 -- maker and its end, which is greater than the place of each of its rows, and 0 where it has none
-use Rattle.std.specs.Prelude.{◌≡◌, ℕ, ◌+◌, ◌-◌, ◌<◌, ◌≤◌, ◌^◌, ◌==◌, ◌&&◌, ◌||◌, nat_lt, Bool, false, cond, List, [], ◌∷◌, ◌++◌, length, get_or, slice_set, Option, Some, None}
+use Rattle.std.specs.Prelude.{◌≡◌, ℕ, suc, zero, ◌+◌, ◌-◌, ◌<◌, ◌≤◌, ◌^◌, ◌==◌, ◌&&◌, ◌||◌, nat_lt, Bool, false, cond, List, [], ◌∷◌, ◌++◌, length, get_or, slice_set, take}
 use Rattle.hg_model.specs.Stakes.{Stakes, member_count}
 use Rattle.hg_model.specs.Links.{Link}
 use Rattle.hg_model.specs.Graph.{IsShaped}
 use Rattle.hg_model.specs.Places.{some_below}
 use Rattle.hg_bits.specs.Masks.{mask_has}
-use Rattle.hg_branches.specs.Branches.{Branching, IsBranched, CountsAncestors}
+use Rattle.hg_branches.specs.Branches.{Branching, IsBranched, CountsAncestors, greatest_count}
 
 -- the branches that these columns tell
 abbrev pub branching_of : List ℕ → List ℕ → Branching
@@ -56,21 +56,30 @@ pub record HoldsCounts (n : Stakes) (L : List Link) (branches makers : List ℕ)
 abbrev pub counts_more : List ℕ → (ℕ → ℕ) → (ℕ → ℕ) → ℕ → Bool
 counts_more makers count other m = some_below (length makers) (λ b. nat_lt (other b) (count b) && get_or makers b 0 == m)
 
--- member m has rows that the self-parent alone counts, or is the creator, and has rows that the other-parent alone counts
+-- what these rows count at most of branch b
+abbrev pub joined_counts : List (List ℕ) → ℕ → List ℕ → ℕ → ℕ
+joined_counts counts p ps b = greatest_count (count_in counts) (p ∷ ps) b
+
+-- member m has rows that only the parents before count, or is the creator, and has rows that the next parent alone counts
 abbrev pub forks_anew : List ℕ → (ℕ → ℕ) → (ℕ → ℕ) → ℕ → ℕ → Bool
 forks_anew makers count other by m = (m == by || counts_more makers count other m) && counts_more makers other count m
 
--- member m is the creator, and has rows on its own branch that the other-parent alone counts
+-- member m is the creator, and has rows on its own branch that the next parent alone counts
 abbrev pub forks_on_own : (ℕ → ℕ) → (ℕ → ℕ) → ℕ → ℕ → Bool
 forks_on_own count other by m = nat_lt (count by) (other by) && m == by
 
--- whether member m has a fork among the ancestors of a row on these parents by this member; `many` tells whether some
--- member has a second branch
-abbrev pub forks_next : List ℕ → List (List ℕ) → List ℕ → Bool → Option (ℕ × ℕ) → ℕ → ℕ → Bool
-forks_next makers counts masks many None by m = false
-forks_next makers counts masks many (Some on) by m =
-    (mask_has (get_or masks on.0 0) m || mask_has (get_or masks on.1 0) m)
-    || (many && forks_anew makers (count_in counts on.0) (count_in counts on.1) by m)
+-- whether member m has a fork among the ancestors of a row by this member on parent p and the first i of these others;
+-- `many` tells whether some member has a second branch
+abbrev pub forks_up_to : List ℕ → List (List ℕ) → List ℕ → Bool → ℕ → List ℕ → ℕ → ℕ → ℕ → Bool
+forks_up_to makers counts masks many p others by m zero = mask_has (get_or masks p 0) m
+forks_up_to makers counts masks many p others by m (suc i) =
+    (forks_up_to makers counts masks many p others by m i || mask_has (get_or masks (get_or others i 0) 0) m)
+    || (many && forks_anew makers (joined_counts counts p (take i others)) (count_in counts (get_or others i 0)) by m)
+
+-- the same on all of these parents
+abbrev pub forks_next : List ℕ → List (List ℕ) → List ℕ → Bool → List ℕ → ℕ → ℕ → Bool
+forks_next makers counts masks many [] by m = false
+forks_next makers counts masks many (p ∷ others) by m = forks_up_to makers counts masks many p others by m (length others)
 
 -- for how many rows there is memory, where it was taken
 abbrev pub room_of : Bool → ℕ

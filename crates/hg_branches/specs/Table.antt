@@ -18,6 +18,10 @@ pub record CountsWithRoom : Type 0 where
 abbrev pub own_counts : CountsWithRoom → ℕ → List ℕ
 own_counts t x = take t.members (slice_index_or t.rows x [])
 
+-- row x tells of the members' own branches alone
+abbrev pub is_own_row : CountsWithRoom → ℕ → Bool
+is_own_row t x = length (slice_index_or t.rows x []) == t.members
+
 -- what a row counts on these parents, if it stands on this branch and its end is one more than the rows before it
 pub record IsNextCounts (members : ℕ) (rows : List (List ℕ)) (on : List ℕ) (branch : ℕ) (row : List ℕ) : Type 0 where
   pub end : slice_index row branch ≡ length rows + 1

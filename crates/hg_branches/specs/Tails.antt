@@ -25,10 +25,6 @@ place_count numbers own end k = max (slice_index numbers k) (cond (k + 1 == own)
 abbrev pub place_width : List ℕ → ℕ → ℕ
 place_width numbers own = max (length numbers) own
 
--- what row x counts of its own branch, where that is the one at place k, and else 0
-abbrev pub own_count : List Tail → ℕ → ℕ → ℕ
-own_count tails x k = cond (k + 1 == (tail_at tails x).own) (x + 1) 0
-
 -- what the tail of row x counts of the branch at place k
 abbrev pub tail_count : List Tail → ℕ → ℕ → ℕ
 tail_count tails x k = place_count (tail_at tails x).numbers (tail_at tails x).own (x + 1) k
@@ -36,10 +32,6 @@ tail_count tails x k = place_count (tail_at tails x).numbers (tail_at tails x).o
 -- how many branches the tail of row x tells of
 abbrev pub tail_width : List Tail → ℕ → ℕ
 tail_width tails x = place_width (tail_at tails x).numbers (tail_at tails x).own
-
--- what becomes of number n at place k on parents p and q: their own branches count too, and that of the row does not
-abbrev pub tail_made : List Tail → ℕ → ℕ → ℕ → ℕ → ℕ → ℕ
-tail_made tails p q own k n = cond (k + 1 == own) 0 (max (max n (own_count tails p k)) (own_count tails q k))
 
 -- for each row its tail, and memory for one more with fewer numbers than `room`
 pub record TailsWithRoom : Type 0 where

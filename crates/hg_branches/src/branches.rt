@@ -1,5 +1,4 @@
 ghost use Rattle.std.specs.Prelude.{◌≡◌, ◌<◌, ◌≤◌, ◌+◌, ◌-◌, ◌^◌, ℕ, min, replicate, length, slice_index, IfOk, vec_len, vec_capacity};
-ghost use Rattle.hg_model.specs.Shape.{pair_list};
 ghost use Rattle.std.specs.List.{AllByRecursion};
 ghost use Rattle.hg_branches.specs.Columns.{next_branch, put_at, with_branch};
 
@@ -9,26 +8,21 @@ use std::alloc::Global;
 
 /// The branch of the next row, by this member on parents at these places. It goes on where its self-parent is the last row
 /// of a branch, and without parents where its member's own branch is empty. Any other row opens a branch.
-pub fn branch_for(
-    branches: &Blocks<usize>,
-    ends: &[u16],
-    on: Option<(usize, usize)>,
-    by: Member,
-) -> usize
-    requires places { AllByRecursion (λ p. p < length branches.now.items) (pair_list on) }
-    requires known { AllByRecursion (λ p. slice_index branches.now.items p < length ends.now) (pair_list on) }
+pub fn branch_for(branches: &Blocks<usize>, ends: &[u16], on: &[usize], by: Member) -> usize
+    requires places { AllByRecursion (λ p. p < length branches.now.items) on.now }
+    requires known { AllByRecursion (λ p. slice_index branches.now.items p < length ends.now) on.now }
     requires short { length branches.now.items < 2 ^ 16 - 1 }
     requires member { by < length ends.now }
-    ensures { result ≡ next_branch branches.now.items ends.now (pair_list on) by }
+    ensures { result ≡ next_branch branches.now.items ends.now on.now by }
 {
-    match on {
+    match on.split_first() {
         None => {
             let own = usize::from(by);
             if ends[own] == 0 { own } else { ends.len() }
         }
         Some((self_place, _)) => {
-            let branch = branches[self_place];
-            if ends[branch] == self_place as u16 + 1 {
+            let branch = branches[*self_place];
+            if ends[branch] == *self_place as u16 + 1 {
                 branch
             } else {
                 ends.len()

@@ -1,5 +1,4 @@
-ghost use Rattle.std.specs.Prelude.{◌≡◌, ◌<◌, ◌≤◌, ◌==◌, ℕ, max, min, length, slice_index, take};
-ghost use Rattle.hg_model.specs.Shape.{pair_list};
+ghost use Rattle.std.specs.Prelude.{◌≡◌, ◌<◌, ◌≤◌, ℕ, max, min, length, slice_index, take};
 ghost use Rattle.hg_branches.specs.Rows.{row_in, known_place};
 
 use crate::row_tail::RowTail;
@@ -43,13 +42,6 @@ impl<'a> RowCounts<'a> {
         many.min(self.own.len().saturating_add(self.tail.width()))
     }
 
-    /// Whether the row tells of the members' own branches alone.
-    pub fn is_own(&self) -> bool
-        ensures { result ≡ (length self.now.row == self.now.members) }
-    {
-        self.tail.width() == 0
-    }
-
     /// The numbers of the members' own branches.
     pub fn own(&self) -> &[u16]
         ensures value { result.now ≡ take self.now.members self.now.row }
@@ -71,12 +63,12 @@ pub fn row_of(table: &CountTable, x: usize) -> RowCounts<'_>
 }
 
 /// The place of the self-parent of row `x`, or `x` where it has no parents.
-pub fn known_place(on: Option<(usize, usize)>, x: usize) -> usize
-    ensures { result ≡ known_place (pair_list on) x }
+pub fn known_place(on: &[usize], x: usize) -> usize
+    ensures { result ≡ known_place on.now x }
 {
-    match on {
+    match on.split_first() {
         None => x,
-        Some((self_place, _)) => self_place,
+        Some((self_place, _)) => *self_place,
     }
 }
 

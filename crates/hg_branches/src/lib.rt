@@ -9,8 +9,8 @@
 //!
 //! ```text
 //! for i in from..10 {
-//!     let (creator, pair) = FORKED[i];
-//!     if !both.add(on(pair), creator)? {
+//!     let (creator, parents) = FORKED[i];
+//!     if !both.add(parents, creator)? {
 //!         return Ok(false);
 //!     }
 //!     if every > 0 && i % every == 0 {

@@ -2,33 +2,28 @@
 
 ghost use Rattle.std.specs.Prelude.{◌≡◌, ◌<◌, ◌≤◌, ◌+◌, ◌==◌, ◌^◌, ℕ, cond, max, length, slice_index, vec_capacity};
 ghost use Rattle.std.specs.List.{AllByRecursion};
-ghost use Rattle.hg_model.specs.Shape.{pair_list};
 ghost use Rattle.hg_branches.specs.Table.{has_own_row, own_in, tail_next};
-ghost use Rattle.hg_branches.specs.Tails.{tail_at, tail_made, tail_width};
+ghost use Rattle.hg_branches.specs.Tails.{place_count, place_width, tail_width};
 
 use crate::counts::raise_first;
+use crate::row_tail::RowTail;
 use crate::tail_blocks::TailBlocks;
 use hg_blocks::RowBlocks;
 
 /// Makes the row the greatest of its parents' rows, and on its own branch its end.
-pub fn join_own(
-    row: &mut Vec<u16>,
-    own: &RowBlocks,
-    on: Option<(usize, usize)>,
-    branch: usize,
-    end: u16,
-)
+pub fn join_own(row: &mut Vec<u16>, own: &RowBlocks, on: &[usize], branch: usize, end: u16)
     requires room { own.now.width ≤ vec_capacity row.old }
-    requires places { AllByRecursion (has_own_row own.now) (pair_list on) }
+    requires places { AllByRecursion (has_own_row own.now) on.now }
     ensures len { length row.new.items ≡ own.now.width }
-    ensures each { (b : ℕ) → b < own.now.width → slice_index row.new.items b ≡ own_in own.now (pair_list on) branch end b }
+    ensures each { (b : ℕ) → b < own.now.width → slice_index row.new.items b ≡ own_in own.now on.now branch end b }
     ensures capacity { vec_capacity row.old ≤ vec_capacity row.new }
 {
     let members = own.width();
-    match on {
-        None => join(row, &[], &[], members),
-        Some((self_place, other)) => join(row, own.row(self_place), own.row(other), members),
+    row.clear();
+    for place in on {
+        raise_row(row, own.row(*place));
     }
+    row.resize(members, 0).unwrap();
     if branch < members {
         row[branch] = end;
     }
@@ -36,63 +31,55 @@ pub fn join_own(
 
 /// Makes the row the greatest of its parents' tails, without the number of its own branch and cut behind its last one that
 /// is not 0.
-pub fn join_tails(row: &mut Vec<u16>, tails: &TailBlocks, on: Option<(usize, usize)>, own: usize)
+pub fn join_tails(row: &mut Vec<u16>, tails: &TailBlocks, on: &[usize], own: usize)
     requires short { length tails.now.rows < 2 ^ 16 }
-    requires places { AllByRecursion (λ p. p < length tails.now.rows) (pair_list on) }
-    requires room { AllByRecursion (λ p. tail_width tails.now.rows p ≤ vec_capacity row.old) (pair_list on) }
-    ensures each { (k : ℕ) → slice_index row.new.items k ≡ tail_next tails.now.rows (pair_list on) own k }
-    ensures narrow { (n : ℕ) → AllByRecursion (λ p. tail_width tails.now.rows p ≤ n) (pair_list on) → length row.new.items ≤ n }
-    ensures capacity { vec_capacity row.old ≤ vec_capacity row.new }
-{
-    match on {
-        None => row.clear(),
-        Some((self_place, other)) => {
-            let one = tails.tail(self_place);
-            let two = tails.tail(other);
-            join(row, one.numbers, two.numbers, one.width().max(two.width()));
-            set_own(row, tails, self_place, other, own);
-            row.truncate(len_of(row));
-        }
-    }
-}
-
-/// Raises the numbers of the parents' own branches to their ends, and makes that of the row's own branch 0.
-fn set_own(row: &mut [u16], tails: &TailBlocks, self_place: usize, other: usize, own: usize)
-    requires short { length tails.now.rows < 2 ^ 16 }
-    requires first { self_place < length tails.now.rows }
-    requires second { other < length tails.now.rows }
-    requires first_width { (tail_at tails.now.rows self_place).own ≤ length row.old }
-    requires second_width { (tail_at tails.now.rows other).own ≤ length row.old }
-    ensures len { length row.new ≡ length row.old }
-    ensures each { (k : ℕ) → slice_index row.new k ≡ tail_made tails.now.rows self_place other own k (slice_index row.old k) }
-{
-    raise_at(row, tails.tail(self_place).own, self_place as u16 + 1);
-    raise_at(row, tails.tail(other).own, other as u16 + 1);
-    clear_at(row, own);
-}
-
-/// Makes the row the greatest of these two, with so many numbers.
-fn join(row: &mut Vec<u16>, one: &[u16], other: &[u16], len: usize)
-    requires one { length one.now ≤ len }
-    requires other { length other.now ≤ len }
-    requires room { len ≤ vec_capacity row.old }
-    ensures len { length row.new.items ≡ len }
-    ensures each { (k : ℕ) → slice_index row.new.items k ≡ max (slice_index one.now k) (slice_index other.now k) }
+    requires places { AllByRecursion (λ p. p < length tails.now.rows) on.now }
+    requires room { AllByRecursion (λ p. tail_width tails.now.rows p ≤ vec_capacity row.old) on.now }
+    ensures each { (k : ℕ) → slice_index row.new.items k ≡ tail_next tails.now.rows on.now own k }
+    ensures narrow { (n : ℕ) → AllByRecursion (λ p. tail_width tails.now.rows p ≤ n) on.now → length row.new.items ≤ n }
     ensures capacity { vec_capacity row.old ≤ vec_capacity row.new }
 {
     row.clear();
-    row.extend_from_slice(one).unwrap();
-    row.resize(len, 0).unwrap();
-    raise_first(row, other);
+    for place in on {
+        raise_tail(row, tails.tail(*place));
+    }
+    clear_at(row, own);
+    row.truncate(len_of(row));
 }
 
-/// Raises the number before place `above`, if there is one, to `end`.
-fn raise_at(row: &mut [u16], above: usize, end: u16)
-    requires { above ≤ length row.old }
-    ensures len { length row.new ≡ length row.old }
-    ensures each { (k : ℕ) → slice_index row.new k ≡ max (slice_index row.old k) (cond (k + 1 == above) end 0) }
+/// Raises the row to these numbers. It becomes as long as they are, if it is shorter.
+fn raise_row(row: &mut Vec<u16>, others: &[u16])
+    requires { length others.now ≤ vec_capacity row.old }
+    ensures len { length row.new.items ≡ max (length row.old.items) (length others.now) }
+    ensures each { (k : ℕ) → slice_index row.new.items k ≡ max (slice_index row.old.items k) (slice_index others.now k) }
+    ensures capacity { vec_capacity row.old ≤ vec_capacity row.new }
+{
+    let both = row.len().min(others.len());
+    raise_first(row, &others[..both]);
+    row.extend_from_slice(&others[both..]).unwrap();
+}
+
+/// Raises the row to what a tail counts, of its own branch too.
+fn raise_tail(row: &mut Vec<u16>, tail: RowTail)
+    requires { place_width tail.numbers.now tail.own ≤ vec_capacity row.old }
+    ensures len { length row.new.items ≡ max (length row.old.items) (place_width tail.entry.numbers.now tail.entry.own) }
+    ensures each { (k : ℕ) → slice_index row.new.items k ≡
+        max (slice_index row.old.items k) (place_count tail.entry.numbers.now tail.entry.own tail.entry.end k) }
+    ensures capacity { vec_capacity row.old ≤ vec_capacity row.new }
+{
+    raise_row(row, tail.numbers);
+    raise_at(row, tail.own, tail.end);
+}
+
+/// Raises the number before place `above`, if there is one, to `end`. Zeros fill a shorter row up to it.
+fn raise_at(row: &mut Vec<u16>, above: usize, end: u16)
+    requires { above ≤ vec_capacity row.old }
+    ensures len { length row.new.items ≡ max (length row.old.items) above }
+    ensures each { (k : ℕ) → slice_index row.new.items k ≡ max (slice_index row.old.items k) (cond (k + 1 == above) end 0) }
+    ensures capacity { vec_capacity row.old ≤ vec_capacity row.new }
 {
     if above > 0 {
+        row.resize(row.len().max(above), 0).unwrap();
         row[above - 1] = row[above - 1].max(end);
     }
 }

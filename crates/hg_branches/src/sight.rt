@@ -15,7 +15,7 @@ use crate::table::CountTable;
 use hg_ancestry::PlacedLink;
 use hg_bits::{StakeTable, mask_has};
 use hg_blocks::Blocks;
-use hg_model::{Counts, Growing, Member, Memory, Parents, Sight, is_shaped};
+use hg_model::{Counts, Growing, Member, Memory, Sight, is_shaped};
 use std::alloc::Global;
 use std::marker::Model;
 
@@ -279,19 +279,25 @@ impl Growing for BranchSight {
         Ok(())
     }
 
-    fn extend(&mut self, parents: Parents, creator: Member) {
+    fn extend(&mut self, parents: &[usize], creator: Member) {
         is_shaped(self);
         let stake = self.stakes.at(creator);
         let members = self.stakes.len();
-        let on = parents.pair();
-        let branch = branch_for(&self.branches, &self.ends, on, creator);
+        let branch = branch_for(&self.branches, &self.ends, parents, creator);
         let many = members < self.makers.len() || members <= branch;
-        let forked = forked_next(&self.makers, &self.counts, &self.forked, many, on, creator);
+        let forked = forked_next(
+            &self.makers,
+            &self.counts,
+            &self.forked,
+            many,
+            parents,
+            creator,
+        );
         let row = self.links.len();
         let end = row as u16 + 1;
         self.ready = false;
-        self.counts.push(on, branch);
-        let known = row_of(&self.counts, known_place(on, row));
+        self.counts.push(parents, branch);
+        let known = row_of(&self.counts, known_place(parents, row));
         let counts = row_of(&self.counts, row);
         note_all(
             &mut self.landmarks,

@@ -1,9 +1,8 @@
 ghost use Rattle.std.specs.Prelude.{◌≡◌, ◌<◌, ◌≤◌, ◌+◌, ◌-◌, ◌==◌, ◌^◌, ℕ, [], length, slice_index_or, take, IfOk, OnOk};
 ghost use Rattle.std.specs.List.{AllByRecursion};
-ghost use Rattle.hg_model.specs.Shape.{pair_list};
 ghost use Rattle.hg_branches.specs.Columns.{count_in};
 ghost use Rattle.hg_branches.specs.Rows.{HasTail};
-ghost use Rattle.hg_branches.specs.Table.{own_counts, AddsCounts};
+ghost use Rattle.hg_branches.specs.Table.{own_counts, is_own_row, AddsCounts};
 
 use crate::next_row::{join_own, join_tails};
 use crate::row_tail::RowTail;
@@ -93,7 +92,7 @@ impl CountTable {
     /// Whether row `x` tells of the members' own branches alone.
     pub fn is_own(&self, x: usize) -> bool
         requires { x < length self.now.rows }
-        ensures { result ≡ (length (slice_index_or self.now.rows x []) == self.now.members) }
+        ensures { result ≡ is_own_row self.now x }
     {
         self.tails.width(x) == 0
     }
@@ -113,12 +112,12 @@ impl CountTable {
 
     /// One more row, on this branch and on these parents: their greatest numbers, and on its own branch one more than its
     /// place. Takes no memory.
-    pub fn push(&mut self, on: Option<(usize, usize)>, branch: usize)
+    pub fn push(&mut self, on: &[usize], branch: usize)
         requires room { 1 ≤ self.old.room }
-        requires places { AllByRecursion (λ p. p < length self.old.rows) (pair_list on) }
+        requires places { AllByRecursion (λ p. p < length self.old.rows) on.now }
         requires short { length self.old.rows < 2 ^ 16 - 1 }
         requires fits { branch < 2 ^ 64 - 1 }
-        ensures { AddsCounts self.old self.new (pair_list on) branch }
+        ensures { AddsCounts self.old self.new on.now branch }
     {
         let end = self.tails.len() as u16 + 1;
         join_own(&mut self.row, &self.own, on, branch, end);

@@ -1,6 +1,7 @@
 //! What the programs of tests have in common: the score of what they tried and what differs from what it must be, dice
-//! that fall the same for the same number, why they came to no end, and three comparisons: of what two runs of the program
-//! came to, of the orders of two nodes by names, and of those of one graph by places.
+//! that fall the same for the same number, why they came to no end, the names of parents as a row has them, and three
+//! comparisons: of what two runs of the program came to, of the orders of two nodes by names, and of those of one graph by
+//! places.
 //! The program above adds to a `Score`, prints it as its last line, and ends with `exit`.
 //!
 //! From `run_all` and `main` of `check_cases`:
@@ -23,6 +24,7 @@
 mod dice;
 mod ordered;
 mod outcome;
+mod parents;
 mod placed;
 mod score;
 mod trouble;
@@ -30,6 +32,7 @@ mod trouble;
 pub use dice::Dice;
 pub use ordered::{Order, Ordered, is_prefix};
 pub use outcome::{Outcome, Part, difference};
+pub use parents::parents_on;
 pub use placed::are_equal;
 pub use score::{Score, exit};
 pub use trouble::Trouble;

@@ -1,13 +1,15 @@
 -- What is counted of an event at the front.
-use Rattle.std.proofs.Common.{◌≡◌, ℕ, ◌+◌, ◌-◌, ◌≤◌, List, ◌++◌, length, take, Ok, Err, sym, ap, subst, ◌∙◌, arith}
+use Rattle.std.proofs.Common.{◌≡◌, ℕ, ◌-◌, ◌≤◌, List, ◌++◌, length, take, Ok, Err, sym, ap, subst, ◌∙◌, arith}
 use Rattle.std.proofs.lemmas.List.{length-append, take_at}
 use Rattle.hg_model.specs.declared.row.Row.{Row}
 use Rattle.hg_life.specs.declared.answers.ByteFault.{ByteFault}
 use Rattle.hg_life.specs.Spelling.{Spells}
+use Rattle.hg_life.specs.Reading.{Field, read_event}
 use Rattle.hg_event.specs.First.{counted, first_event, greatest_size, least_size, read_first}
 use Rattle.hg_event.proofs.Fronts.{first_again, first_begins}
 use Rattle.hg_event.proofs.FrontSizes.{spelling_size}
 use Rattle.hg_event.proofs.Reading.{AreBytes}
+use Rattle.hg_event.proofs.Spells.{faulty_read}
 
 pub first_counted : (event rest : List ℕ) (row : Row) → Spells event row → first_event (event ++ rest) ≡ Ok (row, length event)
 first_counted event rest row spells =
@@ -33,6 +35,14 @@ is_first bytes rest row len fit e size =
 
 pub first_faulty : (bytes : List ℕ) (fault : ByteFault) → read_first bytes ≡ Err fault → first_event bytes ≡ Err fault
 first_faulty bytes fault e = ap (counted (length bytes)) e
+
+counted_fault : (size : ℕ) (read : Field Row) (fault : ByteFault) → counted size read ≡ Err fault → read ≡ Err fault
+counted_fault size (Ok first) fault e = absurd cc
+counted_fault size (Err other) fault e = cc
+
+-- the fault at the front is that of all the bytes
+pub first_fault : (bytes : List ℕ) (fault : ByteFault) → first_event bytes ≡ Err fault → read_event bytes ≡ Err fault
+first_fault bytes fault e = faulty_read bytes fault (counted_fault (length bytes) (read_first bytes) fault e)
 
 -- the row and its size, once it was read
 pub first_found : (bytes rest : List ℕ) (row : Row) (len : ℕ) → read_first bytes ≡ Ok (row, rest) → len ≡ length bytes - length rest → first_event bytes ≡ Ok (row, len)

@@ -1,5 +1,5 @@
 -- A row is what its bytes spell, just where it is what reading them gives.
-use Rattle.std.proofs.Common.{◌≡◌, ℕ, ◌-◌, false, eqb, List, [], ◌++◌, length, take, Result, Ok, Err, refl, sym, ap, subst, ◌∙◌, arith}
+use Rattle.std.proofs.Common.{◌≡◌, ℕ, ◌-◌, Bool, false, eqb, List, [], ◌++◌, length, take, Result, Ok, Err, refl, sym, ap, subst, ◌∙◌, arith}
 use Rattle.std.specs.Int.{w16, w64}
 use Rattle.std.proofs.lemmas.Bool.{eqb-true}
 use Rattle.std.proofs.lemmas.List.{append-nil, nil_from_length, take_at, take-append-le, length-append}
@@ -10,7 +10,7 @@ use Rattle.hg_life.specs.declared.answers.ByteFault.{ByteFault}
 use Rattle.hg_life.specs.declared.answers.ByteFault.TheVariants.{Trailing}
 use Rattle.hg_life.specs.Spelling.{Spells, body_bytes, body_of, spelling}
 use Rattle.hg_life.specs.Verdict.{signed_row}
-use Rattle.hg_life.specs.Reading.{after_magic, bytes_field, number_field, parents_field, payload_field, read_event}
+use Rattle.hg_life.specs.Reading.{bytes_field, form_field, number_field, parents_field, payload_field, read_event}
 use Rattle.hg_life.specs.Results.{Reads, ◌>>=◌}
 use Rattle.std.specs.Prelude.{IfOk}
 use Rattle.hg_event.specs.declared.view.EventView.{EventView}
@@ -54,12 +54,12 @@ unfolding spelling body_of
 Spells-signed_row bytes row spells = ap (λ (name : List ℕ). record row { name = name }) (spells.named ∙ ap sha384 spells.spelled)
 
 -- the fields, one read after the other, and what is signed of them
-pub fields_read : (bytes rest : List ℕ) (creator : ℕ × List ℕ) (parents : ParentNames × List ℕ) (time : ℕ × List ℕ) (payload sig : List ℕ × List ℕ)
-    → AreBytes bytes → after_magic (length bytes) bytes ≡ Ok rest → number_field (length bytes) w16 rest ≡ Ok creator → parents_field (length bytes) creator.1 ≡ Ok parents
+pub fields_read : (bytes : List ℕ) (form : Bool × List ℕ) (creator : ℕ × List ℕ) (parents : ParentNames × List ℕ) (time : ℕ × List ℕ) (payload sig : List ℕ × List ℕ)
+    → AreBytes bytes → form_field (length bytes) bytes ≡ Ok form → number_field (length bytes) w16 form.1 ≡ Ok creator → parents_field (length bytes) form.0 creator.1 ≡ Ok parents
     → number_field (length bytes) w64 parents.1 ≡ Ok time → payload_field (length bytes) time.1 ≡ Ok payload → bytes_field (length bytes) 64 payload.1 ≡ Ok sig
     → take (length bytes - length sig.1 - 64) bytes ≡ body_bytes creator.0 parents.0 time.0 payload.0
 unfolding read_first body_of
-fields_read bytes rest creator parents time payload sig fit a b c d e f =
+fields_read bytes form creator parents time payload sig fit a b c d e f =
     let row : Row = signed_row creator.0 parents.0 time.0 payload.0 sig.0 in
     let read : read_first bytes ≡ Ok (row, sig.1) = rw (a, b, c, d, e, f) refl in
     let begins = first_begins bytes (row, sig.1) fit read in

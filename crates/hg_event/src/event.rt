@@ -1,8 +1,10 @@
-ghost use Rattle.std.specs.Prelude.{◌≡◌, IfOk};
+ghost use Rattle.std.specs.Prelude.{◌≡◌, ◌≤◌, true, IfOk, length, take};
+ghost use Rattle.hg_model.specs.Links.{has_few_others, most_others};
 ghost use Rattle.hg_life.specs.Spelling.{Spells, spelling};
-ghost use Rattle.hg_event.specs.Names.{names_lent};
+ghost use Rattle.hg_event.specs.Names.{lent_names, names_lent};
 ghost use Rattle.hg_event.specs.View.{row_of};
 
+use crate::parents::ParentsView;
 use crate::view::EventView;
 use hg_model::{Bytes, Items, Memory, Name, Row};
 use std::alloc::Global;
@@ -48,7 +50,7 @@ impl Event {
     {
         let row = Row {
             creator: view.creator,
-            parents: view.parents.map(|names| (*names.0, *names.1)),
+            parents: parents_copied(alloc, &view.parents)?,
             time: view.time,
             payload: Items::from_vec(Vec::from_slice(alloc, view.payload)?),
             sig: *view.sig,
@@ -97,12 +99,59 @@ impl Event {
     }
 }
 
+/// A copy of the parents' names.
+fn parents_copied(
+    alloc: Global,
+    parents: &Option<ParentsView<'_>>,
+) -> Result<Option<(Name, Items<Name>)>, Memory>
+    ensures { IfOk result (λ names. names ≡ names_lent parents.now) }
+{
+    match parents {
+        None => Ok(None),
+        Some(names) => {
+            let others = names_copied(alloc, names.others())?;
+            Ok(Some((*names.self_parent, Items::from_vec(others))))
+        }
+    }
+}
+
+/// A copy of the names.
+fn names_copied(alloc: Global, names: &[&Name]) -> Result<Vec<Name>, Memory>
+    ensures { IfOk result (λ copies. copies.items ≡ lent_names names.now) }
+{
+    let mut copies = Vec::with_capacity(alloc, names.len())?;
+    for name in names {
+        copies.push(**name)?;
+    }
+    Ok(copies)
+}
+
 /// The parents' names, borrowed.
-fn names_of(parents: &Option<(Name, Name)>) -> Option<(&Name, &Name)>
+fn names_of(parents: &Option<(Name, Items<Name>)>) -> Option<ParentsView<'_>>
+    requires { has_few_others parents.now ≡ true }
     ensures { names_lent result ≡ parents.now }
 {
     match parents {
         None => None,
-        Some(names) => Some((&names.0, &names.1)),
+        Some(names) => {
+            let others = names.1.as_slice();
+            Some(ParentsView {
+                self_parent: &names.0,
+                others: others_of(others, &names.0),
+                len: others.len(),
+            })
+        }
     }
+}
+
+/// The names, borrowed, and the other one in the places behind them.
+fn others_of<'a>(names: &'a [Name], filler: &'a Name) -> [&'a Name; 4]
+    requires { length names.now ≤ most_others }
+    ensures { lent_names (take (length names.now) result) ≡ names.now }
+{
+    let mut lent = [filler; 4];
+    for place in 0..names.len() {
+        lent[place] = &names[place];
+    }
+    lent
 }

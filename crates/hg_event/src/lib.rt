@@ -1,4 +1,5 @@
 //! Events in bytes: their one spelling, written for a maker and read for a node, which borrows and takes no memory.
+//! It begins with `HGE1` where an event has at most one other-parent, and with `HGE2` where it has two to four.
 //! The layers above use that `decode` is `read_event`, the row that the bytes spell or their first fault, that an
 //! `Event` is a row whose bytes spell it, and that `decode_first` reads the event at the front of a stream.
 //!
@@ -17,6 +18,7 @@
 mod event;
 mod fields;
 mod laws;
+mod parents;
 mod read;
 mod view;
 mod write;
@@ -24,6 +26,7 @@ mod write;
 pub use event::Event;
 pub use fields::PAYLOAD_LIMIT;
 pub use laws::{front_events, one_spelling};
+pub use parents::ParentsView;
 pub use read::{body_of, decode, decode_first};
 pub use view::EventView;
 pub use write::{encode, encode_body};

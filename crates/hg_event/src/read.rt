@@ -6,7 +6,7 @@ ghost use Rattle.hg_life.specs.Results.{Reads};
 ghost use Rattle.hg_event.specs.First.{Stands, first_event, greatest_size, least_size, read_first};
 ghost use Rattle.hg_event.specs.View.{row_of};
 
-use crate::fields::{array_of, behind_magic, parents_of, payload_of, u16_of, u64_of};
+use crate::fields::{array_of, form_of, parents_of, payload_of, u16_of, u64_of};
 use crate::view::EventView;
 use hg_life::ByteFault;
 
@@ -60,9 +60,9 @@ fn first_of(bytes: &[u8]) -> Result<(EventView<'_>, &[u8]), ByteFault>
     ensures { Reads (λ first. (row_of first.0, first.1.now)) result (read_first bytes.now) }
 {
     let size = bytes.len();
-    let rest = behind_magic(bytes, size)?;
+    let (several, rest) = form_of(bytes, size)?;
     let (creator, rest) = u16_of(rest, size)?;
-    let (parents, rest) = parents_of(rest, size)?;
+    let (parents, rest) = parents_of(rest, size, several)?;
     let (time, rest) = u64_of(rest, size)?;
     let (payload, rest) = payload_of(rest, size)?;
     let (sig, rest) = array_of::<64>(rest, size)?;

@@ -2,14 +2,15 @@ ghost use Rattle.std.specs.Prelude.{◌≡◌};
 ghost use Rattle.hg_life.specs.Spelling.{body_bytes};
 ghost use Rattle.hg_event.specs.Names.{names_lent};
 
-use hg_model::{Member, Name, Sig};
+use crate::parents::ParentsView;
+use hg_model::{Member, Sig};
 
 /// An event that lies in bytes.
 #[derive(Clone, Copy, Debug)]
 pub struct EventView<'a> {
     pub creator: Member,
-    /// The names of the self-parent and of the other-parent.
-    pub parents: Option<(&'a Name, &'a Name)>,
+    /// The names of the self-parent and of the other-parents.
+    pub parents: Option<ParentsView<'a>>,
     /// As the creator claims it, in no unit of ours.
     pub time: u64,
     /// At most 1,024 bytes.

@@ -1,11 +1,11 @@
 -- Forks need of a graph no other-parents
-use Rattle.std.proofs.Common.{◌≡◌, ℕ, suc, ◌<◌, true, List, [], ◌∷◌, ◌++◌, length, Option, Some, None, IfSome, option_map, slice_get, refl, sym, ap, ◌∙◌, subst, arith}
+use Rattle.std.proofs.Common.{◌≡◌, ℕ, suc, ◌<◌, ◌≤◌, true, List, [], ◌∷◌, ◌++◌, length, Option, Some, None, IfSome, option_map, slice_get, refl, sym, ap, ◌∙◌, subst, arith}
 use Rattle.std.proofs.lemmas.Bool.{true≢false}
 use Rattle.std.proofs.lemmas.List.{map-append, length-map}
 use Rattle.std.proofs.lemmas.Option.{slice_get-map}
 use Rattle.hg_model.specs.Places.{has_place, some_below}
 use Rattle.hg_model.specs.Stakes.{Stakes, member_count, stake_of}
-use Rattle.hg_model.specs.Links.{Link, first_place, later_places, parents_in, creator_in, parents, self_parent, creator}
+use Rattle.hg_model.specs.Links.{Link, first_place, later_places, most_parents, parents_in, creator_in, parents, self_parent, creator}
 use Rattle.hg_model.specs.Ancestry.{is_self_ancestor}
 use Rattle.hg_model.specs.Forks.{is_fork, has_fork, forkers, forking}
 use Rattle.hg_model.specs.Shape.{FitsLink}
@@ -27,6 +27,10 @@ first_once (p ∷ ps) = refl
 none_later : (ps : List ℕ) → later_places (first_place ps) ≡ []
 none_later [] = refl
 none_later (p ∷ ps) = refl
+
+few_first : (ps : List ℕ) → length (first_place ps) ≤ most_parents
+few_first [] = omega arith
+few_first (p ∷ ps) = omega arith
 
 module _ (L : List Link) where
   creator-self_place : (x : ℕ) → creator (self_links L) x ≡ creator L x
@@ -71,6 +75,7 @@ module _ (L : List Link) where
   fits-self_place : (n : Stakes) (link : Link) → FitsLink n L link → FitsLink n (self_links L) (self_link link)
   fits-self_place n link fits = record {
     member = fits.member;
+    few = few_first link.parents;
     earlier = λ p h. (let low : p < length L = fits.earlier p (first_of_places link.parents p h) in omega (arith, length-self_place L));
     self_by_same = λ p h. creator-self_place p ∙ fits.self_by_same p (subst (λ ps. has_place ps p ≡ true) (first_once link.parents) h);
     others_by_others = λ p h. absurd (true≢false (sym (subst (λ ps. has_place ps p ≡ true) (none_later link.parents) h)));
@@ -99,6 +104,7 @@ fits_first n L m member = fits_alone n L m member
 pub fits_on_self : (n : Stakes) (L : List Link) (m self_place : ℕ) → m < member_count n → self_place < length L → creator L self_place ≡ m → FitsLink n L (self_link_of m (Some self_place))
 fits_on_self n L m self_place member there by_m = record {
   member = member;
+  few = omega arith;
   earlier = λ p h. (let same : self_place ≡ p = one_there self_place p h in omega arith);
   self_by_same = λ p h. subst (λ q. creator L q ≡ m) (one_there self_place p h) by_m;
   others_by_others = λ p h. absurd (none_there p h);

@@ -6,10 +6,10 @@
 //! From `would` and then `push` of the `EventGraph` of `hg_graph`, whose `watch` is a `Watch`, shortened:
 //!
 //! ```text
-//! self.watch.would(creator, parents.self_parent())
+//! self.watch.would(creator, self_parent(parents))
 //!
 //! let creator = event.row().creator;
-//! self.watch.add(creator, parents.self_parent());
+//! self.watch.add(creator, self_parent(parents));
 //! ```
 #![tactic(auto)]
 

@@ -8,7 +8,7 @@ use Rattle.std.proofs.lemmas.Option.{slice_get-get_or, slice_get_past}
 use Rattle.hg_model.specs.declared.row.Row.{Row}
 use Rattle.hg_model.specs.Places.{some_below}
 use Rattle.hg_model.specs.Stakes.{Stakes, member_count, stake_of, total}
-use Rattle.hg_model.specs.Links.{Link, place_of, link_in, links, first_place, parents as parents_at}
+use Rattle.hg_model.specs.Links.{Link, most_parents, place_of, link_in, links, first_place, parents as parents_at}
 use Rattle.hg_model.specs.Forks.{has_fork, forking}
 use Rattle.hg_model.specs.Graph.{IsShaped, IsGraph}
 use Rattle.hg_model.specs.Shape.{Shape, FitsLink, first_links, shape_of, link_of, place_list, with_link}
@@ -25,12 +25,13 @@ use Rattle.hg_model.proofs.LongerLaws.{slice_get-append, longer-take, round_of-l
 use Rattle.hg_model.proofs.NameLaws.{distinct-none}
 use Rattle.hg_model.proofs.PushLaws.{nobody, shaped-none, creator_last}
 use Rattle.hg_model.proofs.LinkLaws.{length-links, parents_read}
+use Rattle.hg_life.proofs.RuleLaws.{few_spelled}
 use Rattle.hg_forks.specs.SelfLinks.{self_link_of, self_links, self_shape}
 use Rattle.hg_forks.proofs.SelfLaws.{self_links_serve}
 use Rattle.hg_rounds.specs.Tabled.{AddsWeight, Tabled, TellsWeights, WeighNothing, last_parents, standing, weight_at}
 use Rattle.hg_rounds.proofs.WeightLaws.{tells_longer, tells_next, tells_none}
 use Rattle.hg_graph.specs.Held.{GraphWithRoom, AreEvents, IsHeld, KeepsGraph, graph_with}
-use Rattle.hg_graph.proofs.NextLaws.{links_next, fits_last, name_next}
+use Rattle.hg_graph.proofs.NextLaws.{links_next, few_parents, fits_last, name_next}
 
 -- without rows
 
@@ -43,7 +44,7 @@ held_none n c some few three = record {
   some_stake = some;
   few_members = few;
   coin = three;
-  graph = record { distinct = distinct-none; shaped = shaped-none n; few_forkers = omega (arith, no_forkers n) };
+  graph = record { distinct = distinct-none; few_others = refl; shaped = shaped-none n; few_forkers = omega (arith, no_forkers n) };
   events = λ x row is. (let past : slice_get [] x ≡ Some row = is in absurd (none_there x row past));
   few = omega arith;
 }
@@ -142,7 +143,9 @@ module _ (g : Graph) (row : Row) (parents : List ℕ) (held : IsHeld g) (limit :
   linked = links_next g.members g.rows row held.graph.shaped graph.shaped ∙ ap (λ (l : Link). links g.rows ++ l ∷ []) is
 
   fits_next : FitsLink g.members (links g.rows) (link_of row.creator parents)
-  fits_next = fits_last g.members (links g.rows) (link_of row.creator parents) (subst (IsShaped g.members) linked graph.shaped)
+  fits_next =
+      fits_last g.members (links g.rows) (link_of row.creator parents) (subst (λ (l : Link). length l.parents ≤ most_parents) is (few_parents g.rows row (few_spelled row spells.sized)))
+      (subst (IsShaped g.members) linked graph.shaped)
 
   last_on : (L : List Link) → L ≡ links g.rows ++ link_of row.creator parents ∷ [] → parents ≡ parents_at L (length L - 1)
   last_on L at =

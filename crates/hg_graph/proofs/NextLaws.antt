@@ -1,13 +1,14 @@
 -- The row that comes next in a graph: its link and its name
-use Rattle.std.proofs.Common.{◌≡◌, inl, inr, ℕ, ◌<◌, ◌≤◌, true, List, [], ◌∷◌, ◌++◌, length, map, get_or, sym, refl, ap, ◌∙◌, subst, arith}
+use Rattle.std.proofs.Common.{◌≡◌, inl, inr, ℕ, ◌<◌, ◌≤◌, true, List, [], ◌∷◌, ◌++◌, length, map, get_or, Some, None, sym, refl, ap, ◌∙◌, subst, arith}
 use Rattle.std.specs.List.{AllByRecursion}
-use Rattle.std.proofs.lemmas.Bool.{cases_lt}
-use Rattle.std.proofs.lemmas.List.{length_push, get_or_append_left, get_or_push}
+use Rattle.std.specs.Prelude.{nat_le, nat_lt}
+use Rattle.std.proofs.lemmas.Bool.{and_parts, cases_lt, leb-true}
+use Rattle.std.proofs.lemmas.List.{length-map, length_push, get_or_append_left, get_or_push}
 use Rattle.std.proofs.lemmas.List.Sums.{position_or_len_is, fails_before_first, passes_at_first, prefix_len-le-length}
 use Rattle.hg_model.specs.declared.row.Row.{Row}
 use Rattle.hg_model.specs.Places.{has_place}
 use Rattle.hg_model.specs.Stakes.{Stakes}
-use Rattle.hg_model.specs.Links.{Link, parent_names, is_named, place_of, link_in, links, first_place, later_places, parents, self_parent, other_parents, creator}
+use Rattle.hg_model.specs.Links.{Link, ParentNames, most_others, most_parents, has_few_others, parent_names, is_named, place_of, link_in, links, first_place, later_places, parents, self_parent, other_parents, creator}
 use Rattle.hg_model.specs.Graph.{name_at, IsShaped, HasDistinctNames}
 use Rattle.hg_model.specs.Fits.{AreHeld, IsPresent, Fits}
 use Rattle.hg_model.specs.Shape.{FitsLink}
@@ -43,10 +44,21 @@ present_next n G row shaped =
 pub links_next : (n : Stakes) (G : List Row) (row : Row) → IsShaped n (links G) → IsShaped n (links (G ++ row ∷ [])) → links (G ++ row ∷ []) ≡ links G ++ link_in G row ∷ []
 links_next n G row before shaped = links-push G row (all_present n G before) (present_next n G row shaped)
 
--- the last link of a shaped graph fits
-pub fits_last : (n : Stakes) (L : List Link) (link : Link) → IsShaped n (L ++ link ∷ []) → FitsLink n L link
+few_names : (parents : ParentNames) → has_few_others parents ≡ true → length (parent_names parents) ≤ most_parents
+few_names None few = omega arith
+few_names (Some names) few =
+    let parts = and_parts (nat_lt 0 (length names.1)) (nat_le (length names.1) most_others) few in
+    let most : length names.1 ≤ 4 = leb-true (length names.1) 4 parts.1 in
+    omega arith
+
+-- a row of few other-parents has few parents
+pub few_parents : (G : List Row) (row : Row) → has_few_others row.parents ≡ true → length (link_in G row).parents ≤ most_parents
+few_parents G row few = omega (arith, length-map (parent_names row.parents) (place_of G), few_names row.parents few)
+
+-- the last link of a shaped graph fits, where it has few parents
+pub fits_last : (n : Stakes) (L : List Link) (link : Link) → length link.parents ≤ most_parents → IsShaped n (L ++ link ∷ []) → FitsLink n L link
 unfolding self_parent other_parents
-fits_last n L link shaped =
+fits_last n L link few shaped =
     let x = length L in
     let inside : x < length (L ++ link ∷ []) = omega (arith, length_push L link) in
     let by : creator (L ++ link ∷ []) x ≡ link.creator = creator_last n L link x refl in
@@ -54,6 +66,7 @@ fits_last n L link shaped =
     let low : (p : ℕ) → has_place link.parents p ≡ true → p < x = λ p h. shaped.earlier.earlier x p (subst (λ ps. has_place ps p ≡ true) (sym on) h) in
     record {
       member = rw (← by) (shaped.members x inside);
+      few = few;
       earlier = low;
       self_by_same = λ p h.
           sym (creator_before n L link p (low p (first_of_places link.parents p h)))
@@ -67,7 +80,7 @@ fits_last n L link shaped =
 pub adds_link : (n : Stakes) (G : List Row) (row : Row) → IsShaped n (links G) → Fits n G row → AddsLink n G row
 adds_link n G row shaped fits =
     let added = links-push G row (all_present n G shaped) fits.present in
-    record { fits = fits_last n (links G) (link_in G row) (subst (IsShaped n) added (shaped-push n G row shaped fits)); added = added }
+    record { fits = fits_last n (links G) (link_in G row) (few_parents G row fits.few) (subst (IsShaped n) added (shaped-push n G row shaped fits)); added = added }
 
 -- the last of rows of distinct names has a name that the others have not
 pub name_next : (G : List Row) (row : Row) → HasDistinctNames (G ++ row ∷ []) → place_of G row.name ≡ length G

@@ -1,9 +1,9 @@
 ghost use Rattle.std.specs.Prelude.{◌≡◌, ◌<◌, ◌≤◌, ◌-◌, ◌/◌, ◌++◌, ◌∷◌, [], Some, length, option_map, slice_get, IfOk, IfSome, OnOk, refl};
 ghost use Rattle.hg_model.specs.Stakes.{total};
-ghost use Rattle.hg_model.specs.Links.{link_in, links};
+ghost use Rattle.hg_model.specs.Links.{first_place, link_in, links};
 ghost use Rattle.hg_model.specs.Forks.{forkers, forking};
 ghost use Rattle.hg_model.specs.Graph.{IsGraph};
-ghost use Rattle.hg_model.specs.Shape.{FitsLink, link_of};
+ghost use Rattle.hg_model.specs.Shape.{FitsLink, link_of, place_list};
 ghost use Rattle.hg_life.specs.Spelling.{spelling};
 ghost use Rattle.hg_life.specs.Verdict.{row_limit};
 ghost use Rattle.hg_model.specs.Prefix.{graph_of};
@@ -16,7 +16,7 @@ use hg_branches::BranchSight;
 use hg_event::Event;
 use hg_forks::Watch;
 use hg_frozen::Frozen;
-use hg_model::{Counts, Growing, Member, Memory, Name, Parents, Prefix, Rounds, Row, Sight};
+use hg_model::{Counts, Growing, Member, Memory, Name, Prefix, Rounds, Row, Sight};
 use hg_rounds::{RoundTable, place_round};
 use std::alloc::Global;
 use std::marker::Model;
@@ -123,11 +123,11 @@ impl EventGraph {
     }
 
     /// The stake of the members that have a fork once the member has made one row more, on these parents.
-    pub fn would(&self, creator: Member, parents: Parents) -> u64
-        requires { FitsLink self.now.graph.members (links self.now.graph.rows) (link_of creator parents) }
-        ensures { result ≡ forking self.now.graph.members (links self.now.graph.rows ++ link_of creator parents ∷ []) }
+    pub fn would(&self, creator: Member, parents: &[usize]) -> u64
+        requires { FitsLink self.now.graph.members (links self.now.graph.rows) (link_of creator parents.now) }
+        ensures { result ≡ forking self.now.graph.members (links self.now.graph.rows ++ link_of creator parents.now ∷ []) }
     {
-        self.watch.would(creator, parents.self_parent())
+        self.watch.would(creator, self_parent(parents))
     }
 
     /// How many members have a fork.
@@ -157,16 +157,16 @@ impl EventGraph {
     }
 
     /// One more row, an event with its parents' places. Takes no memory.
-    pub fn push(&mut self, event: Arc<Event>, parents: Parents)
+    pub fn push(&mut self, event: Arc<Event>, parents: &[usize])
         requires room { 1 ≤ self.old.room }
         requires limit { length self.old.graph.rows < row_limit }
-        requires link { link_in self.old.graph.rows event.value ≡ link_of event.value.creator parents }
+        requires link { link_in self.old.graph.rows event.value ≡ link_of event.value.creator parents.now }
         requires graph { IsGraph self.old.graph.members (self.old.graph.rows ++ event.value ∷ []) }
         ensures { self.new.graph ≡ graph_with self.old.graph event.value }
     {
         let creator = event.row().creator;
         self.sight.extend(parents, creator);
-        self.watch.add(creator, parents.self_parent());
+        self.watch.add(creator, self_parent(parents));
         let (round, witness) = place_round(&self.sight, &self.rounds, parents);
         self.rounds.add(round, witness, self.sight.stake(creator));
         keep_witness(&mut self.sight, witness);
@@ -194,6 +194,16 @@ impl EventGraph {
         ensures { IfOk result (λ frozen. frozen.graph ≡ self.now.graph) }
     {
         self.prefix(self.store.len())
+    }
+}
+
+/// The place of the self-parent, which is the first of these.
+fn self_parent(parents: &[usize]) -> Option<usize>
+    ensures { place_list result ≡ first_place parents.now }
+{
+    match parents {
+        [] => None,
+        [self_place, ..] => Some(*self_place),
     }
 }
 

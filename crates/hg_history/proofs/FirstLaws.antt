@@ -14,6 +14,7 @@ use Rattle.hg_model.proofs.FrontLaws.{links_of_front}
 use Rattle.hg_model.proofs.PlacesLaws.{weight_below-le}
 use Rattle.hg_model.proofs.ShapeLaws.{shaped-shorter}
 use Rattle.hg_model.proofs.PushLaws.{nobody}
+use Rattle.hg_prefix.proofs.FewLaws.{few_front}
 use Rattle.hg_history.specs.Laws.{FirstRowsAreAGraph}
 
 fork_of_front : (m : ℕ) (L M : List Link) → IsLonger L M → has_fork L m ≡ true → has_fork M m ≡ true
@@ -48,6 +49,7 @@ module _ (n : Stakes) (G more : List Row) (u : IsGraph n (G ++ more)) where
           let e = Rattle.std.proofs.Common.length-append G more in
           u.distinct.one x y (omega arith) (omega arith) (ap name_in (slice_get-append G more nobody x hx) ∙ (same ∙ sym (ap name_in (slice_get-append G more nobody y hy))));
     };
+    few_others = few_front G more u.few_others;
     shaped = shaped-shorter n (links G) (links (G ++ more)) longer u.shaped;
     few_forkers = omega (arith, u.few_forkers, weight_below-le (stake_of n) (member_count n) (has_fork (links G)) (has_fork (links (G ++ more))) (λ m inside forks. fork_of_front m (links G) (links (G ++ more)) longer forks));
   }

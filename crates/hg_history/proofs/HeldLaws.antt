@@ -1,7 +1,8 @@
 -- Names that are held: they stay so, and which answers tell of them
-use Rattle.std.proofs.Common.{◌≡◌, inl, inr, ℕ, ◌<◌, ◌*◌, Bool, true, false, cond, not, eqb, lt-ltb, List, [], ◌∷◌, ◌++◌, length, get_or, slice_get, Option, Some, None, option_map, Result, refl, sym, ap, ◌∙◌, subst, arith}
+use Rattle.std.proofs.Common.{◌≡◌, inl, inr, ℕ, ◌<◌, ◌*◌, Bool, true, false, cond, not, eqb, lt-ltb, List, [], ◌∷◌, ◌++◌, length, get_or, slice_get, Option, Some, None, option_map, Result, Ok, refl, sym, ap, ◌∙◌, subst, arith}
 use Rattle.std.specs.Prelude.{nat_le, unwrap_or, IfSome}
 use Rattle.std.specs.Option.{option_or}
+use Rattle.std.specs.Str.{bytes_eq}
 use Rattle.std.proofs.lemmas.Bool.{cases_lt, ltb-true, true≢false}
 use Rattle.std.proofs.lemmas.List.Sums.{fails_before_first, passes_at_first}
 use Rattle.std.proofs.lemmas.Option.{slice_get-get_or, slice_get_within, get_or_from_slice_get}
@@ -20,15 +21,19 @@ use Rattle.hg_life.specs.declared.answers.Fault.TheVariants as fault
 use Rattle.hg_life.specs.declared.answers.PutAnswer.{PutAnswer}
 use Rattle.hg_life.specs.declared.answers.PutAnswer.TheVariants.{Accepted, Known, Refused}
 use Rattle.hg_life.specs.Spelling.{body_of, spelling}
+use Rattle.hg_life.specs.Reading.{read_event}
 use Rattle.hg_life.specs.Signing.{Accepts}
 use Rattle.hg_life.specs.Verdict.{arrival_rule, creator_rule, first_by, first_missing, forkers_rule, forking_with, full_rule, has_bytes, impostor_rule, made_row, member_rule, missing_rule, name_rule, row_limit, row_verdict, signature_rule, verdict_of}
 use Rattle.hg_life.specs.History.{Change, State, replay}
 use Rattle.hg_life.specs.History.Change.{Took, Made}
-use Rattle.hg_life.specs.NodeView.{node_rows, with_changes}
+use Rattle.hg_life.specs.NodeView.{NodeView, node_rows, with_changes, IsNode}
 use Rattle.hg_life.specs.Calls.{put_answer, put_changes}
-use Rattle.hg_event.proofs.Reading.{same_done}
-use Rattle.hg_history.specs.Laws.{AcceptedIsHeld, HeldStays, KnownIsHeld, MadeIsHeld}
+use Rattle.hg_event.proofs.Reading.{same_done, AreBytes}
+use Rattle.hg_event.proofs.Spells.{read_event-Spells, Spells-read_event}
+use Rattle.hg_history.specs.Laws.{AcceptedIsHeld, HeldStays, KnownHasEntry, KnownIsHeld, MadeIsHeld}
 use Rattle.hg_history.proofs.StateLaws.{replay-push, rows_grow}
+use Rattle.hg_history.proofs.SoundLaws.{node_graph}
+use Rattle.hg_history.proofs.LogLaws.{row_entry}
 use Rattle.hg_history.proofs.CallLaws.{makes_add_one, puts_add_one}
 
 -- the name of a row that stands somewhere is held
@@ -55,78 +60,100 @@ held_longer G H name first held =
 pub held_stays : HeldStays
 held_stays n c a b name held = held_longer (replay n c a).rows (replay n c (a ++ b)).rows name (rows_grow n c a b) held
 
--- an answer that a name is known tells its place, and is given only where it is held
+-- an answer that a row is known tells the place of its name, and is given only where that is held by a row with the same bytes
 
-abbrev Tells : List Row → List ℕ → PutAnswer → Type 0
-Tells G name (Accepted p) = Unit {0}
-Tells G name (Known p) = (place_of G name ≡ p) × (is_held G name ≡ true)
-Tells G name (Refused f) = Unit {0}
+abbrev Tells : List Row → Row → PutAnswer → Type 0
+Tells G row (Accepted p) = Unit {0}
+Tells G row (Known p) = (place_of G row.name ≡ p) × (is_held G row.name ≡ true) × (has_bytes G p (spelling row) ≡ true)
+Tells G row (Refused f) = Unit {0}
 
-abbrev RuleTells : List Row → List ℕ → Option PutAnswer → Type 0
-RuleTells G name rule = IfSome rule (Tells G name)
+abbrev RuleTells : List Row → Row → Option PutAnswer → Type 0
+RuleTells G row rule = IfSome rule (Tells G row)
 
-module _ (G : List Row) (name : List ℕ) where
-  either_tells : (a b : Option PutAnswer) → RuleTells G name a → RuleTells G name b → RuleTells G name (option_or a b)
+module _ (G : List Row) (row : Row) where
+  either_tells : (a b : Option PutAnswer) → RuleTells G row a → RuleTells G row b → RuleTells G row (option_or a b)
   either_tells None b first second = second
   either_tells (Some x) b first second = first
 
-  refused_where : (t : Bool) (f : Fault) (o : Option PutAnswer) → RuleTells G name o → RuleTells G name (cond t (Some (Refused f)) o)
+  refused_where : (t : Bool) (f : Fault) (o : Option PutAnswer) → RuleTells G row o → RuleTells G row (cond t (Some (Refused f)) o)
   refused_where true f o tells = tt
   refused_where false f o tells = tells
 
-  refused_but : (t : Bool) (f : Fault) → RuleTells G name (cond t None (Some (Refused f)))
+  refused_but : (t : Bool) (f : Fault) → RuleTells G row (cond t None (Some (Refused f)))
   refused_but true f = tt
   refused_but false f = tt
 
-  refused_of : {A : Type 0} (f : A → Fault) (o : Option A) → RuleTells G name (option_map (λ x. Refused (f x)) o)
+  refused_of : {A : Type 0} (f : A → Fault) (o : Option A) → RuleTells G row (option_map (λ x. Refused (f x)) o)
   refused_of f None = tt
   refused_of f (Some x) = tt
 
-  missing_tells : (parents : ParentNames) → RuleTells G name (missing_rule G parents)
+  missing_tells : (parents : ParentNames) → RuleTells G row (missing_rule G parents)
   missing_tells None = tt
   missing_tells (Some names) =
-      refused_where (not (is_held G names.0)) (fault.MissingSelf names.0) (option_map (λ other. Refused (fault.MissingOther other)) (first_missing G (names.1 ∷ [])))
-      (refused_of (λ (other : List ℕ). fault.MissingOther other) (first_missing G (names.1 ∷ [])))
+      refused_where (not (is_held G names.0)) (fault.MissingSelf names.0) (option_map (λ other. Refused (fault.MissingOther other)) (first_missing G names.1))
+      (refused_of (λ (other : List ℕ). fault.MissingOther other) (first_missing G names.1))
 
-  creators_tell : (m : ℕ) (parents : ParentNames) → RuleTells G name (creator_rule G m parents)
+  creators_tell : (m : ℕ) (parents : ParentNames) → RuleTells G row (creator_rule G m parents)
   creators_tell m None = tt
   creators_tell m (Some names) =
-      refused_where (not (eqb (creator_at G (place_of G names.0)) m)) (fault.SelfCreator (place_of G names.0)) (option_map (λ place. Refused (fault.OtherCreator place)) (first_by G m (names.1 ∷ [])))
-      (refused_of (λ (place : ℕ). fault.OtherCreator place) (first_by G m (names.1 ∷ [])))
+      refused_where (not (eqb (creator_at G (place_of G names.0)) m)) (fault.SelfCreator (place_of G names.0)) (option_map (λ place. Refused (fault.OtherCreator place)) (first_by G m names.1))
+      (refused_of (λ (place : ℕ). fault.OtherCreator place) (first_by G m names.1))
 
-  name_tells : (held same : Bool) → is_held G name ≡ held → RuleTells G name (cond (not held) None (cond same (Some (Known (place_of G name))) (Some (Refused (fault.Collision (place_of G name))))))
-  name_tells false same is = tt
-  name_tells true false is = tt
-  name_tells true true is = (refl, is)
+  name_tells : (held same : Bool) → is_held G row.name ≡ held → has_bytes G (place_of G row.name) (spelling row) ≡ same →
+      RuleTells G row (cond (not held) None (cond same (Some (Known (place_of G row.name))) (Some (Refused (fault.Collision (place_of G row.name))))))
+  name_tells false same is bytes = tt
+  name_tells true false is bytes = tt
+  name_tells true true is bytes = (refl, is, bytes)
 
-  answer_tells : (o : Option PutAnswer) (place : ℕ) → RuleTells G name o → Tells G name (unwrap_or o (Accepted place))
+  answer_tells : (o : Option PutAnswer) (place : ℕ) → RuleTells G row o → Tells G row (unwrap_or o (Accepted place))
   answer_tells None place tells = tt
   answer_tells (Some answer) place tells = tells
 
-verdict_tells : (accepts : Accepts) (n : Stakes) (own : ℕ) (G : List Row) (row : Row) → Tells G row.name (row_verdict accepts n own G row)
+verdict_tells : (accepts : Accepts) (n : Stakes) (own : ℕ) (G : List Row) (row : Row) → Tells G row (row_verdict accepts n own G row)
 verdict_tells accepts n own G row =
-    let name = row.name in
-    let member = refused_where G name (nat_le (member_count n) row.creator) (fault.Member row.creator) None tt in
-    let known = name_tells G name (is_held G name) (has_bytes G (place_of G name) (spelling row)) refl in
-    let signature = refused_but G name (accepts row.creator (body_of row) row.sig) fault.Signature in
-    let impostor = refused_where G name (eqb row.creator own) fault.Impostor None tt in
-    let forks = refused_where G name (nat_le (total n) (3 * forking_with n G row)) (fault.TooManyForkers (forking_with n G row)) None tt in
-    let full = refused_where G name (nat_le row_limit (length G)) (fault.Full row_limit) None tt in
-    answer_tells G name (option_or (arrival_rule accepts n own G row) (option_or (forkers_rule n G row) (full_rule G))) (length G)
-    (either_tells G name (arrival_rule accepts n own G row) _
-    (either_tells G name (member_rule n row) _ member
-    (either_tells G name (name_rule G row) _ known
-    (either_tells G name (signature_rule accepts row) _ signature
-    (either_tells G name (impostor_rule own row) _ impostor
-    (either_tells G name (missing_rule G row.parents) (creator_rule G row.creator row.parents) (missing_tells G name row.parents) (creators_tell G name row.creator row.parents))))))
-    (either_tells G name (forkers_rule n G row) (full_rule G) forks full))
+    let member = refused_where G row (nat_le (member_count n) row.creator) (fault.Member row.creator) None tt in
+    let known = name_tells G row (is_held G row.name) (has_bytes G (place_of G row.name) (spelling row)) refl refl in
+    let signature = refused_but G row (accepts row.creator (body_of row) row.sig) fault.Signature in
+    let impostor = refused_where G row (eqb row.creator own) fault.Impostor None tt in
+    let forks = refused_where G row (nat_le (total n) (3 * forking_with n G row)) (fault.TooManyForkers (forking_with n G row)) None tt in
+    let full = refused_where G row (nat_le row_limit (length G)) (fault.Full row_limit) None tt in
+    answer_tells G row (option_or (arrival_rule accepts n own G row) (option_or (forkers_rule n G row) (full_rule G))) (length G)
+    (either_tells G row (arrival_rule accepts n own G row) _
+    (either_tells G row (member_rule n row) _ member
+    (either_tells G row (name_rule G row) _ known
+    (either_tells G row (signature_rule accepts row) _ signature
+    (either_tells G row (impostor_rule own row) _ impostor
+    (either_tells G row (missing_rule G row.parents) (creator_rule G row.creator row.parents) (missing_tells G row row.parents) (creators_tell G row row.creator row.parents))))))
+    (either_tells G row (forkers_rule n G row) (full_rule G) forks full))
+
+module _ (K : Type 0) (accepts : K → Accepts) (v : NodeView K) (bytes : List ℕ) (row : Row) (place : ℕ) (is : read_event bytes ≡ Ok row) (known : put_answer accepts v bytes ≡ Known place) where
+  known_tells : Tells (node_rows v) row (Known place)
+  unfolding put_answer
+  known_tells =
+      let answer : row_verdict (accepts v.start.keys) v.start.members v.start.own (node_rows v) row ≡ Known place =
+      sym (ap (λ (read : Result Row ByteFault). verdict_of (accepts v.start.keys) v.start.members v.start.own (node_rows v) read) is) ∙ known in
+      subst (Tells (node_rows v) row) answer (verdict_tells (accepts v.start.keys) v.start.members v.start.own (node_rows v) row)
+
+  known_inside : place < length (node_rows v)
+  known_inside = (let inside = ltb-true (place_of (node_rows v) row.name) (length (node_rows v)) known_tells.1 in omega (arith, known_tells.0))
+
+  -- the row with the same bytes is the same row
+  known_row : AreBytes bytes → IsNode accepts v → slice_get (node_rows v) place ≡ Some row
+  known_row fit node =
+      let G : List Row = node_rows v in
+      let there : Row = get_or G place nobody in
+      let at : slice_get G place ≡ Some there = slice_get-get_or G place nobody known_inside in
+      let event = (node_graph (accepts v.start.keys) v.start.members v.start.coin v.start.own v.history node.coin node.history).events place there at in
+      let alike = bytes_same (spelling there) (spelling row) (subst (λ (o : Option Row). bytes_eq (unwrap_or (option_map spelling o) []) (spelling row) ≡ true) at known_tells.2) in
+      let spelled : spelling row ≡ bytes = sym (read_event-Spells bytes row fit is).spelled in
+      at ∙ ap (λ (r : Row). Some r) (same_done there row (sym (Spells-read_event (spelling there) there event.spelled) ∙ (ap read_event (alike ∙ spelled) ∙ is)))
 
 pub known_held : (K : Type 0) → KnownIsHeld K
-unfolding put_answer
-known_held K accepts v bytes row place is known =
-    let answer : row_verdict (accepts v.start.keys) v.start.members v.start.own (node_rows v) row ≡ Known place =
-    sym (ap (λ (read : Result Row ByteFault). verdict_of (accepts v.start.keys) v.start.members v.start.own (node_rows v) read) is) ∙ known in
-    subst (Tells (node_rows v) row.name) answer (verdict_tells (accepts v.start.keys) v.start.members v.start.own (node_rows v) row)
+known_held K accepts v bytes row place is known = (let tells = known_tells K accepts v bytes row place is known in (tells.0, tells.1))
+
+pub known_entry : (K : Type 0) → KnownHasEntry K
+known_entry K accepts v bytes row place fit node is known =
+    (known_row K accepts v bytes row place is known fit node, row_entry v.start.members v.start.coin v.history place (known_inside K accepts v bytes row place is known))
 
 -- a row that comes
 

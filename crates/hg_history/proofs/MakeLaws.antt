@@ -1,13 +1,15 @@
 -- An event that a node makes is a change of its history
-use Rattle.std.proofs.Common.{◌≡◌, ℕ, ◌^◌, ◌<◌, ◌≤◌, true, List, length, Some, None, sym, refl, ap, ◌∙◌, subst, arith}
-use Rattle.std.specs.Prelude.{IfSome}
+use Rattle.std.proofs.Common.{◌≡◌, ℕ, ◌^◌, ◌<◌, ◌≤◌, true, List, [], ◌∷◌, length, Option, Some, None, sym, refl, ap, ◌∙◌, subst, arith, lt-ltb}
+use Rattle.std.specs.Prelude.{IfSome, nat_le, nat_lt}
+use Rattle.std.specs.List.{AllByRecursion}
+use Rattle.std.proofs.lemmas.Bool.{and_from, le-leb}
 use Rattle.hg_model.specs.declared.row.Row.{Row}
 use Rattle.hg_life.specs.declared.answers.MakeAnswer.{MakeAnswer}
 use Rattle.hg_life.specs.declared.answers.MakeAnswer.TheVariants as answer
-use Rattle.hg_model.specs.Links.{ParentNames, parent_names, place_of}
+use Rattle.hg_model.specs.Links.{has_few_others, most_others, ParentNames, parent_names, place_of}
 use Rattle.hg_model.specs.Stakes.{Stakes, member_count}
 use Rattle.hg_model.specs.Fits.{AreHeld}
-use Rattle.hg_life.specs.Spelling.{body_of, spelling, Spells}
+use Rattle.hg_life.specs.Spelling.{AreNames, body_of, spelling, Spells}
 use Rattle.hg_life.specs.Verdict.{last_name, parents_on, made_row, making}
 use Rattle.hg_life.specs.History.{Change, IsMade}
 use Rattle.hg_life.specs.History.Change.{Made}
@@ -26,18 +28,28 @@ use Rattle.hg_history.proofs.CallLaws.{with_none, node_with}
 held_size : (G : List Row) (name : List ℕ) → HasNameSizes 48 G → place_of G name < length G → length name ≡ 48
 held_size G name sizes held = ap length (sym (name_at_place G name held)) ∙ sizes.sized (place_of G name) held
 
-parent_sizes : (G : List Row) (parents : ParentNames) → HasNameSizes 48 G → AreHeld G (parent_names parents) →
-    IfSome parents (λ names. (length names.0 ≡ 48) × (length names.1 ≡ 48))
-parent_sizes G None sizes held = tt
-parent_sizes G (Some names) sizes held = (held_size G names.0 sizes held.0, held_size G names.1 sizes held.1.0)
+held_sizes : (G : List Row) (names : List (List ℕ)) → HasNameSizes 48 G → AreHeld G names → AllByRecursion (λ name. length name ≡ 48) names
+held_sizes G [] sizes held = tt
+held_sizes G (name ∷ names) sizes held = (held_size G name sizes held.0, held_sizes G names sizes held.1)
 
-made_spells : (n : Stakes) (own : ℕ) (G : List Row) (others : List (List ℕ)) (time : ℕ) (payload sig : List ℕ) → own < 2 ^ 16 → time < 2 ^ 64 → length sig ≡ 64 → HasNameSizes 48 G →
-    Drafted n own G others payload → Spells (spelling (made_row own G others time payload sig)) (made_row own G others time payload sig)
+parent_sizes : (G : List Row) (parents : ParentNames) → has_few_others parents ≡ true → HasNameSizes 48 G → AreHeld G (parent_names parents) → IfSome parents AreNames
+parent_sizes G None few sizes held = tt
+parent_sizes G (Some names) few sizes held = record { few = few; first = held_size G names.0 sizes held.0; others = held_sizes G names.1 sizes held.1 }
+
+few_made : (last : Option (List ℕ)) (others : List (List ℕ)) → length others ≤ most_others → has_few_others (parents_on last others) ≡ true
+few_made last [] few = refl
+few_made None (other ∷ others) few = refl
+few_made (Some last) (other ∷ others) few =
+    let len : ℕ = length (other ∷ others) in
+    and_from (nat_lt 0 len) (nat_le len most_others) (lt-ltb 0 len (omega arith)) (le-leb len most_others few)
+
+made_spells : (n : Stakes) (own : ℕ) (G : List Row) (others : List (List ℕ)) (time : ℕ) (payload sig : List ℕ) → length others ≤ most_others →
+    own < 2 ^ 16 → time < 2 ^ 64 → length sig ≡ 64 → HasNameSizes 48 G → Drafted n own G others payload → Spells (spelling (made_row own G others time payload sig)) (made_row own G others time payload sig)
 unfolding spelling body_of
-made_spells n own G others time payload sig small early sized sizes draft = record {
+made_spells n own G others time payload sig few small early sized sizes draft = record {
   sized = record {
     creator = small;
-    parents = parent_sizes G (parents_on (last_name own G) others) sizes draft.held;
+    parents = parent_sizes G (parents_on (last_name own G) others) (few_made (last_name own G) others few) sizes draft.held;
     time = early;
     payload = draft.short;
     sig = sized;
@@ -46,8 +58,8 @@ made_spells n own G others time payload sig small early sized sizes draft = reco
   named = refl;
 }
 
-module _ (K : Type 0) (accepts : K → Accepts) (v : NodeView K) (others : List (List ℕ)) (time : ℕ) (payload sig : List ℕ) (early : time < 2 ^ 64) (sized : length sig ≡ 64)
-    (signed : make_draft v others payload ≡ None → accepts v.start.keys v.start.own (make_body v others time payload) sig ≡ true) (node : IsNode accepts v) where
+module _ (K : Type 0) (accepts : K → Accepts) (v : NodeView K) (others : List (List ℕ)) (time : ℕ) (payload sig : List ℕ) (few_others : length others ≤ most_others)
+    (early : time < 2 ^ 64) (sized : length sig ≡ 64) (signed : make_draft v others payload ≡ None → accepts v.start.keys v.start.own (make_body v others time payload) sig ≡ true) (node : IsNode accepts v) where
   is_made : (place : ℕ) → making v.start.own (node_rows v) others time payload sig ≡ answer.Made place →
       IsMade (accepts v.start.keys) v.start.own (node_rows v) (made_row v.start.own (node_rows v) others time payload sig)
   unfolding make_body make_draft body_of
@@ -66,7 +78,7 @@ module _ (K : Type 0) (accepts : K → Accepts) (v : NodeView K) (others : List 
         payload = payload;
         sig = sig;
         fields = refl;
-        spelled = made_spells v.start.members own G others time payload sig (omega arith) early sized sizes draft;
+        spelled = made_spells v.start.members own G others time payload sig few_others (omega arith) early sized sizes draft;
         signed = signed none;
         made = is ∙ ap (λ (k : ℕ). answer.Made k) (made_place _ (length G) place is);
       }
@@ -80,4 +92,4 @@ module _ (K : Type 0) (accepts : K → Accepts) (v : NodeView K) (others : List 
       (node_with accepts v (Made (made_row v.start.own (node_rows v) others time payload sig)) node (is_made place is))
 
 pub makes_leave_a_node : (K : Type 0) → MakesLeaveANode K
-makes_leave_a_node K accepts v others time payload sig early sized signed node = node_made K accepts v others time payload sig early sized signed node (make_answer v others time payload sig) refl
+makes_leave_a_node K accepts v others time payload sig few early sized signed node = node_made K accepts v others time payload sig few early sized signed node (make_answer v others time payload sig) refl

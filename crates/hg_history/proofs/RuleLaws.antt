@@ -9,7 +9,7 @@ use Rattle.hg_life.specs.declared.answers.PutAnswer.TheVariants.{Accepted, Known
 use Rattle.hg_life.specs.declared.answers.MakeAnswer.TheVariants as answer
 use Rattle.hg_life.specs.declared.answers.MakeFault.{MakeFault}
 use Rattle.hg_life.specs.declared.answers.Fault.TheVariants as fault
-use Rattle.hg_model.specs.Links.{ParentNames, links, place_of}
+use Rattle.hg_model.specs.Links.{has_few_others, ParentNames, links, place_of}
 use Rattle.hg_model.specs.Forks.{forking}
 use Rattle.hg_model.specs.Graph.{HasDistinctNames}
 use Rattle.hg_model.specs.Fits.{Fits}
@@ -20,7 +20,7 @@ use Rattle.hg_model.specs.Stakes.{Stakes, member_count, total}
 use Rattle.hg_model.specs.Graph.{creator_at}
 use Rattle.hg_life.specs.History.{IsTaken, IsMade}
 use Rattle.hg_life.specs.Signing.{Accepts}
-use Rattle.hg_life.proofs.RuleLaws.{option_or_none, one_test, below_from_test, arrives, has_room, drafted, admitted}
+use Rattle.hg_life.proofs.RuleLaws.{option_or_none, one_test, below_from_test, few_spelled, arrives, has_room, drafted, admitted}
 
 -- no rule of putting accepts
 
@@ -62,14 +62,14 @@ unfolding is_accepted
 none_of_missing G None = tt
 none_of_missing G (Some names) =
     none_then (not (is_held G names.0)) (Refused (fault.MissingSelf names.0)) _ refl
-    (none_mapped (λ (name : List ℕ). Refused (fault.MissingOther name)) (λ name. refl) (first_missing G (names.1 ∷ [])))
+    (none_mapped (λ (name : List ℕ). Refused (fault.MissingOther name)) (λ name. refl) (first_missing G names.1))
 
 none_of_creators : (G : List Row) (m : ℕ) (parents : ParentNames) → AcceptsNone (creator_rule G m parents)
 unfolding is_accepted
 none_of_creators G m None = tt
 none_of_creators G m (Some names) =
     none_then (not (eqb (creator_at G (place_of G names.0)) m)) (Refused (fault.SelfCreator (place_of G names.0))) _ refl
-    (none_mapped (λ (place : ℕ). Refused (fault.OtherCreator place)) (λ place. refl) (first_by G m (names.1 ∷ [])))
+    (none_mapped (λ (place : ℕ). Refused (fault.OtherCreator place)) (λ place. refl) (first_by G m names.1))
 
 none_of_rules : (accepts : Accepts) (n : Stakes) (own : ℕ) (G : List Row) (row : Row) → AcceptsNone (option_or (arrival_rule accepts n own G row) (option_or (forkers_rule n G row) (full_rule G)))
 unfolding is_accepted
@@ -132,7 +132,7 @@ taken_is accepts n own G row taken =
     let b = option_or_none (name_rule G row) _ a.1 in
     let s = option_or_none (signature_rule accepts row) _ b.1 in
     let d = option_or_none (impostor_rule own row) _ s.1 in
-    let here = arrives accepts n own G row two.0 in
+    let here = arrives accepts n own G row taken.spelled.sized two.0 in
     record {
       comes = record {
         fits = here.fits;
@@ -175,9 +175,9 @@ pub record MadeIs (accepts : Accepts) (n : Stakes) (own : ℕ) (G : List Row) (r
   pub after_last : option_map (λ names. names.0) row.parents ≡ last_name own G
 
 made_fields : (accepts : Accepts) (n : Stakes) (own : ℕ) (G : List Row) (others : List (List ℕ)) (time : ℕ) (payload sig : List ℕ) → own < member_count n → HasDistinctNames G →
-    accepts own (body_of (made_row own G others time payload sig)) sig ≡ true → making own G others time payload sig ≡ answer.Made (length G) →
-    MadeIs accepts n own G (made_row own G others time payload sig)
-made_fields accepts n own G others time payload sig member distinct signed made =
+    has_few_others (parents_on (last_name own G) others) ≡ true → accepts own (body_of (made_row own G others time payload sig)) sig ≡ true →
+    making own G others time payload sig ≡ answer.Made (length G) → MadeIs accepts n own G (made_row own G others time payload sig)
+made_fields accepts n own G others time payload sig member distinct few signed made =
     let row = made_row own G others time payload sig in
     let none = none_of_made (option_or (draft_rule own G others payload) (option_or (collision_rule G row) (room_rule G))) (length G) (length G) made in
     let two = option_or_none (draft_rule own G others payload) (option_or (collision_rule G row) (room_rule G)) none in
@@ -186,7 +186,7 @@ made_fields accepts n own G others time payload sig member distinct signed made 
     let first = option_or_none (first_rule (last_name own G) others) (option_or (other_rule own G others) (payload_rule payload)) two.0 in
     record {
       comes = record {
-        fits = record { member = member; present = record { held = draft.held }; parents_fit = draft.parents_fit };
+        fits = record { member = member; few = few; present = record { held = draft.held }; parents_fit = draft.parents_fit };
         new_name = new.new_name;
         signed = signed;
         room = new.room;
@@ -199,4 +199,5 @@ pub made_is : (accepts : Accepts) (n : Stakes) (own : ℕ) (G : List Row) (row :
 made_is accepts n own G row member distinct made =
     subst (MadeIs accepts n own G) (sym made.fields)
     (made_fields accepts n own G made.others made.time made.payload made.sig member distinct
+    (subst (λ (r : Row). has_few_others r.parents ≡ true) made.fields (few_spelled row made.spelled.sized))
     (subst (λ (r : Row). accepts own (body_of r) made.sig ≡ true) made.fields made.signed) made.made)

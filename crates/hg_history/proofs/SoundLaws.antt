@@ -21,6 +21,7 @@ use Rattle.hg_model.specs.Chains.{IsChain}
 use Rattle.hg_model.proofs.PlacesLaws.{weight_below_none}
 use Rattle.hg_model.proofs.PushLaws.{nobody, links-push, all_present, shaped-push, shaped-none}
 use Rattle.hg_model.proofs.NameLaws.{distinct-none, distinct-push}
+use Rattle.hg_prefix.proofs.FewLaws.{few_push}
 use Rattle.hg_history.specs.Laws.{IsEvent, IsNodeGraph}
 use Rattle.hg_history.proofs.StateLaws.{IsEven, even_row, even_step, marks_step, replay-append}
 use Rattle.hg_history.proofs.RuleLaws.{Comes, taken_is, made_is}
@@ -49,6 +50,7 @@ module _ (accepts : Accepts) (n : Stakes) (c own : ℕ) (member : own < member_c
   graph_push : (s : State) (row : Row) → IsSound accepts n c own s → Comes accepts n s.rows row → 3 * forking n (links (s.rows ++ row ∷ [])) < total n → IsGraph n (s.rows ++ row ∷ [])
   graph_push s row sound comes few = record {
     distinct = distinct-push s.rows row sound.graph.distinct comes.new_name;
+    few_others = few_push s.rows row sound.graph.few_others comes.fits.few;
     shaped = shaped-push n s.rows row sound.graph.shaped comes.fits;
     few_forkers = few;
   }
@@ -125,7 +127,7 @@ module _ (accepts : Accepts) (n : Stakes) (c own : ℕ) (member : own < member_c
   sound_empty : IsSound accepts n c own empty
   unfolding links
   sound_empty = record {
-    graph = record { distinct = distinct-none; shaped = shaped-none n; few_forkers = omega (arith, no_forkers) };
+    graph = record { distinct = distinct-none; few_others = refl; shaped = shaped-none n; few_forkers = omega (arith, no_forkers) };
     linked = refl;
     even = record { links = refl; marks = refl };
     fame = record { fame = λ x v is. cc };

@@ -17,12 +17,13 @@ use Rattle.hg_model.specs.Rounds.{round_of, is_witness}
 use Rattle.hg_model.specs.Votes.{vote_of, decides}
 use Rattle.hg_model.specs.Fame.{fame_of, is_closed}
 use Rattle.hg_model.specs.Order.{coin_at, sig_at}
-use Rattle.hg_life.specs.Spelling.{body_of, spelling, Spells}
+use Rattle.hg_life.specs.Spelling.{AreNames, body_of, spelling, Spells}
 use Rattle.hg_life.specs.Verdict.{making}
 use Rattle.hg_model.specs.Shares.{whole, share_fame}
 use Rattle.hg_life.specs.History.{Change, replay, news, IsTaken, IsMade, MarksSome, IsHistory}
 use Rattle.hg_life.specs.History.Change.{Took, Made, Marked}
 use Rattle.hg_life.specs.Signing.{Accepts}
+use Rattle.hg_history.proofs.SoundLaws.{history_push}
 
 -- the stakes of so many members
 abbrev pub members : ℕ → Stakes
@@ -40,13 +41,16 @@ row m parents time name = record { creator = m; parents = parents; time = time; 
 abbrev pub all : Accepts
 all m body sig = true
 
-event : (m : ℕ) (parents : ParentNames) (time : ℕ) (name : List ℕ) → m < 2 ^ 16 → IfSome parents (λ names. (length names.0 ≡ 48) × (length names.1 ≡ 48)) → time < 2 ^ 64 →
+event : (m : ℕ) (parents : ParentNames) (time : ℕ) (name : List ℕ) → m < 2 ^ 16 → IfSome parents AreNames → time < 2 ^ 64 →
     sha384 (spelling (row m parents time name)) ≡ name → Spells (spelling (row m parents time name)) (row m parents time name)
 event m parents time name small sizes early named = record {
   sized = record { creator = small; parents = sizes; time = early; payload = omega arith; sig = length-replicate 64 time };
   spelled = refl;
   named = sym named;
 }
+
+pair : (own other : List ℕ) → length own ≡ 48 → length other ≡ 48 → AreNames (own, other ∷ [])
+pair own other first second = record { few = refl; first = first; others = (second, tt) }
 
 -- the names, as another program computes them
 
@@ -95,64 +99,79 @@ pub event1 : Spells (spelling row1) row1
 event1 = event 0 None 1 name1 (omega arith) tt (omega arith) named1
 
 abbrev pub row2 : Row
-row2 = row 0 (Some (name1, name0)) 3 name2
+row2 = row 0 (Some (name1, name0 ∷ [])) 3 name2
 
 pub named2 : sha384 (spelling row2) ≡ name2
 unfolding body_of spelling first_words schedule rounds compress hash_after digest_bytes sha384
 named2 = refl
 
 pub event2 : Spells (spelling row2) row2
-event2 = event 0 (Some (name1, name0)) 3 name2 (omega arith) (refl, refl) (omega arith) named2
+event2 = event 0 (Some (name1, name0 ∷ [])) 3 name2 (omega arith) (pair name1 name0 refl refl) (omega arith) named2
 
 abbrev pub row3 : Row
-row3 = row 1 (Some (name0, name2)) 4 name3
+row3 = row 1 (Some (name0, name2 ∷ [])) 4 name3
 
 pub named3 : sha384 (spelling row3) ≡ name3
 unfolding body_of spelling first_words schedule rounds compress hash_after digest_bytes sha384
 named3 = refl
 
 pub event3 : Spells (spelling row3) row3
-event3 = event 1 (Some (name0, name2)) 4 name3 (omega arith) (refl, refl) (omega arith) named3
+event3 = event 1 (Some (name0, name2 ∷ [])) 4 name3 (omega arith) (pair name0 name2 refl refl) (omega arith) named3
 
 abbrev pub row4 : Row
-row4 = row 0 (Some (name2, name3)) 5 name4
+row4 = row 0 (Some (name2, name3 ∷ [])) 5 name4
 
 pub named4 : sha384 (spelling row4) ≡ name4
 unfolding body_of spelling first_words schedule rounds compress hash_after digest_bytes sha384
 named4 = refl
 
 pub event4 : Spells (spelling row4) row4
-event4 = event 0 (Some (name2, name3)) 5 name4 (omega arith) (refl, refl) (omega arith) named4
+event4 = event 0 (Some (name2, name3 ∷ [])) 5 name4 (omega arith) (pair name2 name3 refl refl) (omega arith) named4
 
 abbrev pub row5 : Row
-row5 = row 1 (Some (name3, name4)) 6 name5
+row5 = row 1 (Some (name3, name4 ∷ [])) 6 name5
 
 pub named5 : sha384 (spelling row5) ≡ name5
 unfolding body_of spelling first_words schedule rounds compress hash_after digest_bytes sha384
 named5 = refl
 
 pub event5 : Spells (spelling row5) row5
-event5 = event 1 (Some (name3, name4)) 6 name5 (omega arith) (refl, refl) (omega arith) named5
+event5 = event 1 (Some (name3, name4 ∷ [])) 6 name5 (omega arith) (pair name3 name4 refl refl) (omega arith) named5
 
 abbrev pub row6 : Row
-row6 = row 0 (Some (name4, name5)) 7 name6
+row6 = row 0 (Some (name4, name5 ∷ [])) 7 name6
 
 pub named6 : sha384 (spelling row6) ≡ name6
 unfolding body_of spelling first_words schedule rounds compress hash_after digest_bytes sha384
 named6 = refl
 
 pub event6 : Spells (spelling row6) row6
-event6 = event 0 (Some (name4, name5)) 7 name6 (omega arith) (refl, refl) (omega arith) named6
+event6 = event 0 (Some (name4, name5 ∷ [])) 7 name6 (omega arith) (pair name4 name5 refl refl) (omega arith) named6
 
 abbrev pub row7 : Row
-row7 = row 1 (Some (name5, name6)) 8 name7
+row7 = row 1 (Some (name5, name6 ∷ [])) 8 name7
 
 pub named7 : sha384 (spelling row7) ≡ name7
 unfolding body_of spelling first_words schedule rounds compress hash_after digest_bytes sha384
 named7 = refl
 
 pub event7 : Spells (spelling row7) row7
-event7 = event 1 (Some (name5, name6)) 8 name7 (omega arith) (refl, refl) (omega arith) named7
+event7 = event 1 (Some (name5, name6 ∷ [])) 8 name7 (omega arith) (pair name5 name6 refl refl) (omega arith) named7
+
+-- one on two rows of the other member
+
+abbrev name8 : List ℕ
+name8 = name 0x9310583AA9A45F1A 0xBC6C150529835DB1 0xB77FFC04950FD4EC 0x4F1D337966B8234F 0x5CE3C2DD10C7F2AC 0xA4EB053381C6C251
+
+abbrev row8 : Row
+row8 = row 0 (Some (name6, name7 ∷ name5 ∷ [])) 9 name8
+
+named8 : sha384 (spelling row8) ≡ name8
+unfolding body_of spelling first_words schedule rounds compress hash_after digest_bytes sha384
+named8 = refl
+
+event8 : Spells (spelling row8) row8
+event8 = event 0 (Some (name6, name7 ∷ name5 ∷ [])) 9 name8 (omega arith) (record { few = refl; first = refl; others = (refl, (refl, tt)) }) (omega arith) named8
 
 making0 : making 1 ([]) [] 2 [] (replicate 64 2) ≡ answer.Made 0
 unfolding first_words schedule rounds compress hash_after digest_bytes sha384
@@ -190,7 +209,7 @@ made3 = record {
   time = 4;
   payload = [];
   sig = replicate 64 4;
-  fields = ap (λ (name : List ℕ). row 1 (Some (name0, name2)) 4 name) (sym named3);
+  fields = ap (λ (name : List ℕ). row 1 (Some (name0, name2 ∷ [])) 4 name) (sym named3);
   spelled = event3;
   signed = refl;
   made = making3;
@@ -211,7 +230,7 @@ made5 = record {
   time = 6;
   payload = [];
   sig = replicate 64 6;
-  fields = ap (λ (name : List ℕ). row 1 (Some (name3, name4)) 6 name) (sym named5);
+  fields = ap (λ (name : List ℕ). row 1 (Some (name3, name4 ∷ [])) 6 name) (sym named5);
   spelled = event5;
   signed = refl;
   made = making5;
@@ -232,7 +251,7 @@ made7 = record {
   time = 8;
   payload = [];
   sig = replicate 64 8;
-  fields = ap (λ (name : List ℕ). row 1 (Some (name5, name6)) 8 name) (sym named7);
+  fields = ap (λ (name : List ℕ). row 1 (Some (name5, name6 ∷ [])) 8 name) (sym named7);
   spelled = event7;
   signed = refl;
   made = making7;
@@ -261,3 +280,12 @@ worked = record {
   stake = two_weigh;
   steps = (made0, (taken1, (taken2, (made3, (taken4, (made5, (taken6, (made7, (some_news, tt)))))))));
 }
+
+-- then a row on two others may come
+taken8 : IsTaken all (members 2) 1 (row0 ∷ row1 ∷ row2 ∷ row3 ∷ row4 ∷ row5 ∷ row6 ∷ row7 ∷ []) row8
+unfolding forking total has_fork is_fork is_self_ancestor weight_below some_below reaches by_place values_below self_parent parents creator links
+taken8 = record { spelled = event8; accepted = refl }
+
+worked_on_two : IsHistory all (members 2) 10 1 ((events ++ Marked 8 whole ∷ []) ++ Took row8 ∷ [])
+unfolding replay
+worked_on_two = history_push all (members 2) 10 1 (events ++ Marked 8 whole ∷ []) (Took row8) worked taken8

@@ -3,8 +3,10 @@ use Rattle.std.specs.Prelude.{ℕ, zero, suc, ◌≡◌, ◌≢◌, ◌<◌, ◌
 use Rattle.hg_model.specs.declared.row.Row.{Row}
 use Rattle.hg_life.specs.declared.answers.PutAnswer.TheVariants.{Accepted, Known}
 use Rattle.hg_life.specs.declared.answers.MakeAnswer.TheVariants as made
+use Rattle.hg_life.specs.declared.entry.Entry.{Entry}
+use Rattle.hg_life.specs.declared.entry.Entry.TheVariants as entry
 use Rattle.hg_model.specs.Stakes.{Stakes}
-use Rattle.hg_model.specs.Links.{links, place_of}
+use Rattle.hg_model.specs.Links.{most_others, links, place_of}
 use Rattle.hg_model.specs.Held.{is_held}
 use Rattle.hg_model.specs.Graph.{IsGraph}
 use Rattle.hg_model.specs.Fame.{mark_at, fame_marks, is_closed}
@@ -18,7 +20,7 @@ use Rattle.hg_history.specs.News.{FindsNews}
 use Rattle.hg_life.specs.History.{Change, State, with_marks, replay, news, IsHistory}
 use Rattle.hg_life.specs.Kept.{kept, kept_in, kept_up_to, kept_by_names}
 use Rattle.hg_life.specs.History.Change.{Took, Made, Marked}
-use Rattle.hg_life.specs.NodeView.{NodeView, with_changes, node_rows, log_from, history_of, IsNode}
+use Rattle.hg_life.specs.NodeView.{NodeView, with_changes, node_rows, log, log_from, history_of, IsNode}
 use Rattle.hg_life.specs.Calls.{put_answer, put_changes, make_answer, make_changes, make_body, make_draft, publish_changes, settle_changes, IsSettled}
 use Rattle.hg_life.specs.Signing.{Accepts}
 use Rattle.hg_model.specs.Orders.{IsPrefix, HasNameSizes, AreFame}
@@ -209,6 +211,15 @@ abbrev pub KnownIsHeld : (K : Type 0) → Type 0
 KnownIsHeld K = (accepts : K → Accepts) (v : NodeView K) (bytes : List ℕ) (row : Row) (place : ℕ) → read_event bytes ≡ Ok row → put_answer accepts v bytes ≡ Known place →
     (place_of (node_rows v) row.name ≡ place) × IsTrue (is_held (node_rows v) row.name)
 
+-- an entry of the log tells that a row came at this place
+abbrev pub HasEntry : List Entry → ℕ → Type 0
+HasEntry entries place = (i : ℕ) × ((slice_get entries i ≡ Some (entry.Took place)) ⊎ (slice_get entries i ≡ Some (entry.Made place)))
+
+-- the row that known bytes spell is the one at that place, and the log has the entry of its coming
+abbrev pub KnownHasEntry : (K : Type 0) → Type 0
+KnownHasEntry K = (accepts : K → Accepts) (v : NodeView K) (bytes : List ℕ) (row : Row) (place : ℕ) → ((i : ℕ) → get_or bytes i 0 < 256) → IsNode accepts v → read_event bytes ≡ Ok row →
+    put_answer accepts v bytes ≡ Known place → (slice_get (node_rows v) place ≡ Some row) × HasEntry (log v) place
+
 -- an event that is made adds one change, its row, at the next place
 abbrev pub MakesAddOne : (K : Type 0) → Type 0
 MakesAddOne K = (v : NodeView K) (others : List (List ℕ)) (time : ℕ) (payload sig : List ℕ) (place : ℕ) → make_answer v others time payload sig ≡ made.Made place →
@@ -224,9 +235,9 @@ abbrev pub OtherMakesAddNone : (K : Type 0) → Type 0
 OtherMakesAddNone K = (v : NodeView K) (others : List (List ℕ)) (time : ℕ) (payload sig : List ℕ) → ((place : ℕ) → make_answer v others time payload sig ≡ made.Made place → ⊥) →
     make_changes v others time payload sig ≡ []
 
--- and leaves a node, where the signature is accepted; an event that is refused before is not signed
+-- and leaves a node, where the other-parents are few and the signature is accepted; an event that is refused before is not signed
 abbrev pub MakesLeaveANode : (K : Type 0) → Type 0
-MakesLeaveANode K = (accepts : K → Accepts) (v : NodeView K) (others : List (List ℕ)) (time : ℕ) (payload sig : List ℕ) → time < 2 ^ 64 → length sig ≡ 64 →
+MakesLeaveANode K = (accepts : K → Accepts) (v : NodeView K) (others : List (List ℕ)) (time : ℕ) (payload sig : List ℕ) → length others ≤ most_others → time < 2 ^ 64 → length sig ≡ 64 →
     (make_draft v others payload ≡ None → accepts v.start.keys v.start.own (make_body v others time payload) sig ≡ true) → IsNode accepts v →
     IsNode accepts (with_changes v (make_changes v others time payload sig))
 

@@ -1,4 +1,4 @@
-ghost use Rattle.hg_history.specs.Laws.{AcceptedIsHeld, ClosedStays, ChangesLeftRows, FirstRowsAreAGraph, FoundIsNews, FoundLasts, HeldStays, KeptIsOfTheGraph, KnownIsHeld, LinksAreThoseOfTheRows, LinksGrow, ListsAreEven, LogSpellsHistory, MadeIsHeld, MakesAddOne, MakesLeaveANode, MarkingLeavesRows, MarksAreFame, MarksStay, MomentsAreHistories, NamedOrderGrows, NewsLasts, OrderByRounds, KeptOrderGrows, OtherMakesAddNone, OtherPutsAddNone, PublishedIsNoNews, PublishesLeaveANode, PublishingAddsMarks, PutsAddOne, PutsLeaveANode, RoundsStay, RowsAreAGraph, RowsCameByChanges, RowsGrow, RowsLeaveTheOrder, SettlesAll, SharesAreAll, VerdictsAreOfBytes};
+ghost use Rattle.hg_history.specs.Laws.{AcceptedIsHeld, ClosedStays, ChangesLeftRows, FirstRowsAreAGraph, FoundIsNews, FoundLasts, HeldStays, KeptIsOfTheGraph, KnownHasEntry, KnownIsHeld, LinksAreThoseOfTheRows, LinksGrow, ListsAreEven, LogSpellsHistory, MadeIsHeld, MakesAddOne, MakesLeaveANode, MarkingLeavesRows, MarksAreFame, MarksStay, MomentsAreHistories, NamedOrderGrows, NewsLasts, OrderByRounds, KeptOrderGrows, OtherMakesAddNone, OtherPutsAddNone, PublishedIsNoNews, PublishesLeaveANode, PublishingAddsMarks, PutsAddOne, PutsLeaveANode, RoundsStay, RowsAreAGraph, RowsCameByChanges, RowsGrow, RowsLeaveTheOrder, SettlesAll, SharesAreAll, VerdictsAreOfBytes};
 
 /// A law: after each history the rows are a graph of signed events, in which the node's own member has one chain,
 /// and their links are those that were made as the rows came. A moment of a history is a history.
@@ -84,11 +84,12 @@ pub fn makes_add_one<K>()
 {}
 
 /// A law of nodes with any keys: a name that is held stays held. That of an event is held once its bytes are accepted
-/// or it is made, and it was held before where the bytes are known.
+/// or it is made, and it was held before where the bytes are known, by the row that they spell; the log has its entry.
 pub fn names_stay_held<K>()
     ensures stays { HeldStays }
     ensures accepted { AcceptedIsHeld K }
     ensures known { KnownIsHeld K }
+    ensures entry { KnownHasEntry K }
     ensures made { MadeIsHeld K }
 {}
 

@@ -29,7 +29,7 @@ rows_few accepts v node = (node_graph (accepts v.start.keys) v.start.members v.s
 pub changes_few : {K : Type 0} (accepts : K → Accepts) (v : NodeView K) → IsNode accepts v → length v.history ≤ 32768
 changes_few accepts v node = omega (arith, changes_are_few (accepts v.start.keys) v.start.members v.start.coin v.start.own v.history node.history, rows_few accepts v node)
 
-pub accepted_short : {K : Type 0} (accepts : K → Accepts) (v : NodeView K) (bytes : List ℕ) (place : ℕ) → AreBytes bytes → put_answer accepts v bytes ≡ Accepted place → length bytes ≤ 1201
+pub accepted_short : {K : Type 0} (accepts : K → Accepts) (v : NodeView K) (bytes : List ℕ) (place : ℕ) → AreBytes bytes → put_answer accepts v bytes ≡ Accepted place → length bytes ≤ 1345
 accepted_short {K} accepts v bytes place fit accepted =
     let one = puts_add_one K accepts v bytes place accepted in
     spellings_are_short bytes one.1.0 (read_event-Spells bytes one.1.0 fit one.1.1)

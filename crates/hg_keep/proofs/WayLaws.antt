@@ -1,5 +1,5 @@
 -- The nodes on the way through the work.
-use Rattle.std.proofs.Common.{◌≡◌, inl, inr, ℕ, ◌+◌, ◌<◌, ◌^◌, List, [], ◌∷◌, take, length, get_or, fold, is_some, Option, Some, None, refl, sym, ◌∙◌, ap, ap₂, subst}
+use Rattle.std.proofs.Common.{◌≡◌, inl, inr, ℕ, ◌+◌, ◌<◌, ◌≤◌, ◌^◌, List, [], ◌∷◌, take, length, get_or, fold, is_some, Option, Some, None, refl, sym, ◌∙◌, ap, ap₂, subst}
 use Rattle.std.proofs.lemmas.List.Sums.{fold_more}
 use Rattle.std.proofs.lemmas.Option.{slice_get_within}
 use Rattle.std.specs.Prelude.{IsSome}
@@ -7,7 +7,7 @@ use Rattle.std.specs.Option.{ForSome}
 use Rattle.hg_io.specs.FileView.{FileView}
 use Rattle.hg_model.specs.declared.row.Row.{Row}
 use Rattle.hg_model.specs.Fame.{fame_marks}
-use Rattle.hg_model.specs.Links.{links}
+use Rattle.hg_model.specs.Links.{links, most_others}
 use Rattle.hg_model.specs.Order.{coin_at}
 use Rattle.hg_model.specs.Shares.{Share, whole}
 use Rattle.hg_model.specs.Stakes.{Stakes}
@@ -109,18 +109,18 @@ module _ {K : Type 0} (accepts : K → Accepts) where
       let made = makes x is in
       (made.0, made.1, (others, subst (λ (y : NodeView K). next_others y ≡ Some others) same comes, made.2))
 
-  row_for : (v w : NodeView K) (others : List (List ℕ)) (time : ℕ) (answer : MakeAnswer) → MakesReplay K → IsNode accepts v → time < 2 ^ 64 → IsMaking accepts v others time [] answer w
+  row_for : (v w : NodeView K) (others : List (List ℕ)) (time : ℕ) (answer : MakeAnswer) → MakesReplay K → IsNode accepts v → length others ≤ most_others → time < 2 ^ 64 → IsMaking accepts v others time [] answer w
       → HasRow (Some answer) (Some w)
-  row_for v w others time (answer.Made place) law is_node small making = λ x is.
-      let has = law accepts v w others time [] place is_node small making in
+  row_for v w others time (answer.Made place) law is_node few small making = λ x is.
+      let has = law accepts v w others time [] place is_node few small making in
       subst (λ (y : NodeView K). place < length (node_rows y)) (some_is w x is) (slice_get_within (node_rows w) place has.0 has.1)
-  row_for v w others time (answer.Refused fault) law is_node small making = tt
+  row_for v w others time (answer.Refused fault) law is_node few small making = tt
 
-  pub has_row : (node next : Option (NodeView K)) (v : NodeView K) (others : List (List ℕ)) (time : ℕ) (answer : MakeAnswer) → MakesReplay K → IsNode accepts v → time < 2 ^ 64 → node ≡ Some v
+  pub has_row : (node next : Option (NodeView K)) (v : NodeView K) (others : List (List ℕ)) (time : ℕ) (answer : MakeAnswer) → MakesReplay K → IsNode accepts v → length others ≤ most_others → time < 2 ^ 64 → node ≡ Some v
       → ForSome node (MakesNode accepts others time [] answer next) → HasRow (Some answer) next
-  has_row node next v others time a law is_node small there makes =
+  has_row node next v others time a law is_node few small there makes =
       let made = makes v there in
-      subst (λ (o : Option (NodeView K)). HasRow (Some a) o) (sym made.1) (row_for v made.0 others time a law is_node small made.2)
+      subst (λ (o : Option (NodeView K)). HasRow (Some a) o) (sym made.1) (row_for v made.0 others time a law is_node few small made.2)
 
   made_some : (v w : NodeView K) (others : List (List ℕ)) (time : ℕ) → next_others v ≡ Some others → ComesOfMaking accepts others time [] v w → IsMadeSome accepts (Some time) v w
   made_some v w others time comes (inl same) = inl same

@@ -87,4 +87,4 @@ no_forkers n = weight_below_none (stake_of n) (member_count n) (has_fork (links 
 
 pub keeps_nothing : (n : Stakes) (c : ℕ) → 0 < total n → Keeps (graph_of n c []) unpublished
 keeps_nothing n c some =
-    keeps_unpublished (graph_of n c []) (record { distinct = distinct-none; shaped = shaped-none n; few_forkers = omega (arith, no_forkers n) })
+    keeps_unpublished (graph_of n c []) (record { distinct = distinct-none; few_others = refl; shaped = shaped-none n; few_forkers = omega (arith, no_forkers n) })

@@ -1,16 +1,16 @@
 -- What holds of a row against which no rule speaks
 use Rattle.std.proofs.Common.{◌≡◌, inl, inr, ℕ, ◌<◌, ◌≤◌, Bool, true, false, cond, not, eqb, List, [], ◌∷◌, length, Option, Some, None, sym, refl, ap, ◌∙◌, arith}
-use Rattle.std.specs.Prelude.{◌≢◌, nat_le, nat_lt, option_map}
+use Rattle.std.specs.Prelude.{◌≢◌, IfSome, nat_le, nat_lt, option_map}
 use Rattle.std.specs.List.{AllByRecursion}
 use Rattle.std.specs.Option.{option_or}
 use Rattle.std.proofs.lemmas.Bool.Decides.{nat_tests}
 use Rattle.std.proofs.lemmas.Bool.{cases_Bool, eqb-true, eqb-false, ltb-true, not-true, not-false}
 use Rattle.hg_model.specs.declared.row.Row.{Row}
 use Rattle.hg_model.specs.Stakes.{Stakes, member_count}
-use Rattle.hg_model.specs.Links.{parent_names, place_of, ParentNames}
+use Rattle.hg_model.specs.Links.{has_few_others, parent_names, place_of, ParentNames}
 use Rattle.hg_model.specs.Graph.{HasDistinctNames}
 use Rattle.hg_model.specs.Fits.{AreHeld, ParentsFit, Fits}
-use Rattle.hg_life.specs.Spelling.{payload_limit}
+use Rattle.hg_life.specs.Spelling.{AreNames, HasSpelling, payload_limit}
 use Rattle.hg_life.specs.Verdict.{row_limit, first_missing, first_by, member_rule, name_rule, signature_rule, impostor_rule, missing_rule, creator_rule, arrival_rule, forkers_rule, full_rule, last_name, parents_on, first_rule, other_rule, payload_rule, draft_rule, collision_rule, room_rule}
 use Rattle.hg_model.specs.Held.{is_held}
 use Rattle.hg_model.specs.Graph.{creator_at}
@@ -81,10 +81,10 @@ parents_fit G m None missing creators = (tt, tt)
 parents_fit G m (Some names) missing creators =
     let held = test_then (not (is_held G names.0)) _ _ missing in
     let by = test_then (not (eqb (creator_at G (place_of G names.0)) m)) _ _ creators in (
-      (held_below G names.0 (not-false (is_held G names.0) held.0), none_missing G (names.1 ∷ []) (mapped_none _ _ held.1)),
+      (held_below G names.0 (not-false (is_held G names.0) held.0), none_missing G names.1 (mapped_none _ _ held.1)),
       (
         eqb-true (creator_at G (place_of G names.0)) m (not-false (eqb (creator_at G (place_of G names.0)) m) by.0),
-        none_by G m (names.1 ∷ []) (mapped_none _ _ by.1),
+        none_by G m names.1 (mapped_none _ _ by.1),
       ),
     )
 
@@ -92,9 +92,17 @@ pub record Arrives (n : Stakes) (G : List Row) (row : Row) : Type 0 where
   pub fits : Fits n G row
   pub new_name : length G ≤ place_of G row.name
 
+-- a row that has its sizes has few other-parents
+pub few_spelled : (row : Row) → HasSpelling row → has_few_others row.parents ≡ true
+few_spelled row has = names_few row.parents has.parents
+  where
+    names_few : (parents : ParentNames) → IfSome parents AreNames → has_few_others parents ≡ true
+    names_few None are = refl
+    names_few (Some names) are = are.few
+
 -- a row that no rule refuses on its arrival fits, and its name is new
-pub arrives : (accepts : ℕ → List ℕ → List ℕ → Bool) (n : Stakes) (own : ℕ) (G : List Row) (row : Row) → arrival_rule accepts n own G row ≡ None → Arrives n G row
-arrives accepts n own G row none =
+pub arrives : (accepts : ℕ → List ℕ → List ℕ → Bool) (n : Stakes) (own : ℕ) (G : List Row) (row : Row) → HasSpelling row → arrival_rule accepts n own G row ≡ None → Arrives n G row
+arrives accepts n own G row has none =
     let a = option_or_none (member_rule n row) _ none in
     let b = option_or_none (name_rule G row) _ a.1 in
     let c = option_or_none (signature_rule accepts row) _ b.1 in
@@ -104,6 +112,7 @@ arrives accepts n own G row none =
     record {
       fits = record {
         member = below_from_test (member_count n) row.creator (one_test (nat_le (member_count n) row.creator) _ a.0);
+        few = few_spelled row has;
         present = record { held = parents.0 };
         parents_fit = parents.1;
       };
@@ -125,7 +134,7 @@ made_parents G m (Some last) (other ∷ others) distinct is first silent =
     let none = option_or_none _ _ silent in
     let held = none_missing G (other ∷ others) (mapped_none _ _ none.0) in
     let by = none_by G m (other ∷ others) (mapped_none _ _ none.1) in
-    let own = last_is_own m G last distinct is in ((own.0, (held.0, tt)), (own.1, (by.0, tt)))
+    let own = last_is_own m G last distinct is in ((own.0, held), (own.1, by))
 
 -- what holds of a draft against which no rule speaks
 pub record Drafted (n : Stakes) (own : ℕ) (G : List Row) (others : List (List ℕ)) (payload : List ℕ) : Type 0 where

@@ -1,16 +1,20 @@
--- Worked examples, computed: a row that would be a fork too many, and transfers
-use Rattle.std.proofs.Common.{◌≡◌, ℕ, true, List, [], ◌∷◌, map, replicate, Some, None, refl}
+-- Worked examples, computed: a row that would be a fork too many, transfers, and the two forms of events
+use Rattle.std.proofs.Common.{◌≡◌, ℕ, true, List, [], ◌∷◌, ◌++◌, map, replicate, Some, None, Err, refl}
+use Rattle.std.specs.Prelude.{codes}
 use Rattle.hg_model.specs.declared.row.Row.{Row}
 use Rattle.hg_model.specs.declared.row.Placed.{Placed}
 use Rattle.hg_life.specs.declared.answers.Fault.TheVariants as fault
+use Rattle.hg_life.specs.declared.answers.ByteFault.TheVariants.{Short, BadMagic, BadKind}
 use Rattle.hg_life.specs.declared.answers.PutAnswer.TheVariants.{Accepted, Refused}
 use Rattle.hg_life.specs.declared.pay.Transfer.{Transfer}
 use Rattle.hg_life.specs.declared.pay.Effect.TheVariants as effect
 use Rattle.hg_model.specs.Places.{weight_below, some_below, values_below, by_place, reaches}
 use Rattle.hg_model.specs.Stakes.{total}
-use Rattle.hg_model.specs.Links.{links, parents, self_parent, creator}
+use Rattle.hg_model.specs.Links.{ParentNames, links, parents, self_parent, creator}
 use Rattle.hg_model.specs.Ancestry.{is_self_ancestor}
 use Rattle.hg_model.specs.Forks.{is_fork, has_fork, forking}
+use Rattle.hg_life.specs.Spelling.{form_bytes, parent_bytes}
+use Rattle.hg_life.specs.Reading.{read_event, form_field, form_of, parents_field, number_field, bytes_field}
 use Rattle.hg_life.specs.Verdict.{row_verdict}
 use Rattle.hg_life.specs.Pay.{pay_bytes, read_pay, paid, book_of}
 use Rattle.hg_model.proofs.Worked.{members, first, made, forked_members}
@@ -65,3 +69,34 @@ four_paid : book_of (100 ∷ 0 ∷ [])
     }
 unfolding book_of paid read_pay pay_bytes
 four_paid = refl
+
+-- both forms of an event begin alike; the first has no kind above 1, the second none below 2 or above 4
+short_magic : read_event (codes "HG") ≡ Err (Short 2)
+unfolding read_event form_field form_of
+short_magic = refl
+
+other_form : read_event (codes "HGE3") ≡ Err BadMagic
+unfolding read_event form_field form_of
+other_form = refl
+
+kind_of_first_form : read_event (codes "HGE1" ++ 0 ∷ 0 ∷ 2 ∷ []) ≡ Err (BadKind 2)
+unfolding read_event form_field form_of parents_field number_field bytes_field
+kind_of_first_form = refl
+
+kind_of_second_form : read_event (codes "HGE2" ++ 0 ∷ 0 ∷ 1 ∷ []) ≡ Err (BadKind 1)
+unfolding read_event form_field form_of parents_field number_field bytes_field
+kind_of_second_form = refl
+
+kind_above_four : read_event (codes "HGE2" ++ 0 ∷ 0 ∷ 5 ∷ []) ≡ Err (BadKind 5)
+unfolding read_event form_field form_of parents_field number_field bytes_field
+kind_above_four = refl
+
+-- one other-parent has the first form, two have the second
+abbrev named_parents : List (List ℕ) → ParentNames
+named_parents others = Some (7 ∷ [], others)
+
+spelled_one : form_bytes (named_parents ((8 ∷ []) ∷ [])) ++ parent_bytes (named_parents ((8 ∷ []) ∷ [])) ≡ codes "HGE1" ++ 1 ∷ 7 ∷ 8 ∷ []
+spelled_one = refl
+
+spelled_two : form_bytes (named_parents ((8 ∷ []) ∷ (9 ∷ []) ∷ [])) ++ parent_bytes (named_parents ((8 ∷ []) ∷ (9 ∷ []) ∷ [])) ≡ codes "HGE2" ++ 2 ∷ 7 ∷ 8 ∷ 9 ∷ []
+spelled_two = refl

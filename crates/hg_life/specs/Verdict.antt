@@ -62,13 +62,13 @@ abbrev pub missing_rule : List Row → ParentNames → Option PutAnswer
 missing_rule G None = None
 missing_rule G (Some names) =
     if not (is_held G names.0) then Some (Refused (fault.MissingSelf names.0))
-    else option_map (λ name. Refused (fault.MissingOther name)) (first_missing G (names.1 ∷ []))
+    else option_map (λ name. Refused (fault.MissingOther name)) (first_missing G names.1)
 
 abbrev pub creator_rule : List Row → ℕ → ParentNames → Option PutAnswer
 creator_rule G m None = None
 creator_rule G m (Some names) =
     if not (creator_at G (place_of G names.0) == m) then Some (Refused (fault.SelfCreator (place_of G names.0)))
-    else option_map (λ place. Refused (fault.OtherCreator place)) (first_by G m (names.1 ∷ []))
+    else option_map (λ place. Refused (fault.OtherCreator place)) (first_by G m names.1)
 
 -- the stake of the members that would have a fork in the graph with the row behind its last one
 abbrev pub forking_with : Stakes → List Row → Row → ℕ
@@ -114,11 +114,11 @@ later_name m last row = cond (row.creator == m) (Some row.name) last
 abbrev pub last_name : ℕ → List Row → Option (List ℕ)
 last_name m G = fold (later_name m) None G
 
--- the parents' names of an event on the member's last row and these others, of which it has the first
+-- the parents' names of an event on the member's last row and these others
 abbrev pub parents_on : Option (List ℕ) → List (List ℕ) → ParentNames
 parents_on last [] = None
 parents_on None (other ∷ others) = None
-parents_on (Some last) (other ∷ others) = Some (last, other)
+parents_on (Some last) (other ∷ others) = Some (last, other ∷ others)
 
 -- the event with these fields
 abbrev pub signed_row : ℕ → ParentNames → ℕ → List ℕ → List ℕ → Row

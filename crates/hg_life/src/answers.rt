@@ -5,9 +5,9 @@ use hg_model::{Member, Name};
 pub enum ByteFault {
     /// The input, of this many bytes, ends inside a field or before one that must come.
     Short(usize),
-    /// One of the first four bytes, as far as they are there, is not that of `HGE1`.
+    /// One of the first four bytes, as far as they are there, is not that of `HGE1` or of `HGE2`.
     BadMagic,
-    /// A kind byte above 1.
+    /// A kind byte above 1 in the form `HGE1`, or one that is not 2 to 4 in the form `HGE2`.
     BadKind(u8),
     /// A payload length above 1,024.
     BadLength(u16),
@@ -30,11 +30,11 @@ pub enum Fault {
     Impostor,
     /// No row has this name, the self-parent's.
     MissingSelf(Name),
-    /// No row has this name, the other-parent's.
+    /// No row has this name, that of an other-parent: the first such one.
     MissingOther(Name),
     /// The self-parent, at this place, is by another creator.
     SelfCreator(usize),
-    /// The other-parent, at this place, is by the same creator.
+    /// An other-parent, at this place, is by the same creator: the first such one.
     OtherCreator(usize),
     /// With the event members of so much stake would have a fork, a third of all or more.
     TooManyForkers(u64),
@@ -59,9 +59,9 @@ pub enum MakeFault {
     HasFirst,
     /// An other-parent was given, and the node has made no event.
     NoFirst,
-    /// No row has this name, the other-parent's.
+    /// No row has this name, that of an other-parent: the first such one.
     MissingOther(Name),
-    /// The other-parent, at this place, is the node's own.
+    /// An other-parent, at this place, is the node's own: the first such one.
     OtherCreator(usize),
     /// The payload has so many bytes, above 1,024.
     PayloadLong(usize),

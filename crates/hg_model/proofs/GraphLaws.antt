@@ -60,26 +60,27 @@ module _ (n : Stakes) (L : List Link) (passes : (x : ℕ) → x < length L → i
     ];
   }
 
--- the test of an event without parents, and of one with two
+-- the test of an event without parents, and of one with some
 
 no_parents : (a : Bool) → (a && true && true && true) ≡ a
 no_parents true = refl
 no_parents false = refl
 
-two_parents : (a b c d e : Bool) → (a && (b && (c && true)) && (d && true) && (e && true)) ≡ (a && (b && c && d && e))
-two_parents false b c d e = refl
-two_parents true false c d e = refl
-two_parents true true false d e = refl
-two_parents true true true false e = refl
-two_parents true true true true false = refl
-two_parents true true true true true = refl
+some_parents : (a b c d e : Bool) → (a && (b && c) && (d && true) && e) ≡ (a && (b && c && d && e))
+some_parents false b c d e = refl
+some_parents true false c d e = refl
+some_parents true true false d e = refl
+some_parents true true true false e = refl
+some_parents true true true true e = refl
 
 pub is_shaped_at-first : (n : Stakes) (L : List Link) (x : ℕ) → parents L x ≡ [] → is_shaped_at n L x ≡ ltb (creator L x) (member_count n)
 unfolding self_parent other_parents
 is_shaped_at-first n L x none = rw none (no_parents (ltb (creator L x) (member_count n)))
 
-pub is_shaped_at-made : (n : Stakes) (L : List Link) (x own other : ℕ) → parents L x ≡ own ∷ other ∷ [] →
-    is_shaped_at n L x ≡ (ltb (creator L x) (member_count n) && (ltb own x && ltb other x && eqb (creator L own) (creator L x) && not (eqb (creator L other) (creator L x))))
+pub is_shaped_at-made : (n : Stakes) (L : List Link) (x own : ℕ) (others : List ℕ) → parents L x ≡ own ∷ others →
+    is_shaped_at n L x ≡ (ltb (creator L x) (member_count n) && (ltb own x && list_all (λ p. ltb p x) others && eqb (creator L own) (creator L x)
+    && list_all (λ p. not (eqb (creator L p) (creator L x))) others))
 unfolding self_parent other_parents
-is_shaped_at-made n L x own other on =
-    rw on (two_parents (ltb (creator L x) (member_count n)) (ltb own x) (ltb other x) (eqb (creator L own) (creator L x)) (not (eqb (creator L other) (creator L x))))
+is_shaped_at-made n L x own others on =
+    rw on (some_parents (ltb (creator L x) (member_count n)) (ltb own x) (list_all (λ p. ltb p x) others) (eqb (creator L own) (creator L x))
+    (list_all (λ p. not (eqb (creator L p) (creator L x))) others))

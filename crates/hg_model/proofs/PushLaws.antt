@@ -1,15 +1,16 @@
 -- Links of rows that come one by one, and the shape that they keep
 use Rattle.std.proofs.Common.{◌≡◌, ◌≢◌, ◌⊎◌, inl, inr, ℕ, ◌+◌, ◌<◌, ◌≤◌, Bool, true, false, cond, eqb, List, [], ◌∷◌, ◌++◌, length, get_or, map, Option, Some, None, option_map, slice_get, sym, refl, ap, ap₂, ◌∙◌, subst, arith, length-append}
 use Rattle.std.specs.List.{AllByRecursion}
-use Rattle.std.proofs.lemmas.Bool.{eq-eqb, eqb-true, true≢false, cases_lt, or_left, or_right, or_cases}
-use Rattle.std.proofs.lemmas.List.{map-append, length_push, get_or_append_left, get_or_push}
+use Rattle.std.specs.Prelude.{nat_le, nat_lt}
+use Rattle.std.proofs.lemmas.Bool.{and_parts, leb-true, eq-eqb, eqb-true, true≢false, cases_lt, or_left, or_right, or_cases}
+use Rattle.std.proofs.lemmas.List.{length-map, map-append, length_push, get_or_append_left, get_or_push}
 use Rattle.std.proofs.lemmas.List.Sums.{fails_before_first, passes_at_first, position_or_len_is}
 use Rattle.std.proofs.lemmas.Option.{slice_get-get_or, slice_get-map, slice_get_past}
 use Rattle.hg_model.specs.declared.row.Row.{Row}
 use Rattle.hg_model.proofs.LinkLaws.{length-links}
 use Rattle.hg_model.specs.Places.{has_place}
 use Rattle.hg_model.specs.Stakes.{Stakes}
-use Rattle.hg_model.specs.Links.{Link, parent_names, is_named, place_of, link_in, links, parents_in, creator_in, first_place, later_places, parents, self_parent, other_parents, creator}
+use Rattle.hg_model.specs.Links.{Link, ParentNames, most_others, most_parents, has_few_others, parent_names, is_named, place_of, link_in, links, parents_in, creator_in, first_place, later_places, parents, self_parent, other_parents, creator}
 use Rattle.hg_model.specs.Graph.{IsShaped}
 use Rattle.hg_model.specs.Shape.{FitsLink}
 use Rattle.hg_model.specs.Graph.{creator_at, creator_of_row}
@@ -197,6 +198,13 @@ other_creator : (G : List Row) (m : ℕ) (names : List (List ℕ)) (p : ℕ) →
 other_creator G m [] p fit h = absurd (true≢false (sym h))
 other_creator G m (own ∷ others) p fit h = others_creator G m others p fit.1 h
 
+few_parents : (parents : ParentNames) → has_few_others parents ≡ true → length (parent_names parents) ≤ most_parents
+few_parents None few = omega arith
+few_parents (Some names) few =
+    let parts = and_parts (nat_lt 0 (length names.1)) (nat_le (length names.1) most_others) few in
+    let most : length names.1 ≤ 4 = leb-true (length names.1) 4 parts.1 in
+    omega arith
+
 -- a row that fits keeps the shape
 pub shaped-push : (n : Stakes) (G : List Row) (row : Row) → IsShaped n (links G) → Fits n G row → IsShaped n (links (G ++ row ∷ []))
 shaped-push n G row shaped fits =
@@ -205,6 +213,7 @@ shaped-push n G row shaped fits =
     rw (links-push G row (all_present n G shaped) fits.present)
     (shape-push n (links G) (link_in G row) shaped (record {
       member = fits.member;
+      few = omega (arith, length-map names (place_of G), few_parents row.parents fits.few);
       earlier = λ p h. rw len (place_below G names p fits.present.held h);
       self_by_same = λ p h. row_creator-links G p ∙ own_creator G row.creator names p fits.parents_fit h;
       others_by_others = λ p h. rw (row_creator-links G p) (other_creator G row.creator names p fits.parents_fit h);

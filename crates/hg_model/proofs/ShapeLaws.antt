@@ -1,9 +1,10 @@
 -- Which links fit, and the shape of the first links
 use Rattle.std.proofs.Common.{◌≡◌, ◌≢◌, inl, inr, ℕ, ◌<◌, ◌≤◌, true, eqb, List, [], ◌∷◌, length, take, refl, sym, subst, arith}
 use Rattle.std.proofs.lemmas.Bool.{cases_lt, eqb-true, or_cases}
+use Rattle.std.specs.List.{AllByRecursion}
 use Rattle.hg_model.specs.Places.{has_place}
 use Rattle.hg_model.specs.Stakes.{Stakes, member_count}
-use Rattle.hg_model.specs.Links.{Link, first_place, later_places, parents, self_parent, other_parents, creator}
+use Rattle.hg_model.specs.Links.{Link, most_others, first_place, later_places, parents, self_parent, other_parents, creator}
 use Rattle.hg_model.specs.Graph.{IsShaped}
 use Rattle.hg_model.specs.Shape.{FitsLink, link_of}
 use Rattle.hg_model.proofs.ReachLaws.{none_there, one_there}
@@ -11,25 +12,35 @@ use Rattle.hg_model.proofs.LinkLaws.{parents_past}
 use Rattle.hg_model.proofs.LongerLaws.{IsLonger, longer-take, parents-longer, creator-longer}
 use Rattle.hg_model.proofs.PushLaws.{first_of_places, later_of_places}
 
+all_places : (P : ℕ → Type 0) (ps : List ℕ) (p : ℕ) → AllByRecursion P ps → has_place ps p ≡ true → P p
+all_places P [] p all h = absurd (none_there p h)
+all_places P (q ∷ ps) p all h = elim (or_cases (eqb q p) (has_place ps p) h) [
+  | inl first ↦ subst P (eqb-true q p first) all.0
+  | inr later ↦ all_places P ps p all.1 later
+]
+
 -- a row without parents fits where its creator is a member
 pub fits_alone : (n : Stakes) (L : List Link) (m : ℕ) → m < member_count n → FitsLink n L (link_of m [])
 fits_alone n L m member = record {
   member = member;
+  few = omega arith;
   earlier = λ p h. absurd (none_there p h);
   self_by_same = λ p h. absurd (none_there p h);
   others_by_others = λ p h. absurd (none_there p h);
 }
 
--- a row with parents fits where they are there, the first by its creator and the second by another
-pub fits_on : (n : Stakes) (L : List Link) (m own other : ℕ) → m < member_count n → own < length L → other < length L → creator L own ≡ m → creator L other ≢ m → FitsLink n L (link_of m (own ∷ other ∷ []))
-fits_on n L m own other member own_there other_there by_same by_other = record {
+-- a row with parents fits where they are few and there, the first by its creator and the later ones by others
+pub fits_on : (n : Stakes) (L : List Link) (m own : ℕ) (others : List ℕ) → m < member_count n → length others ≤ most_others → own < length L →
+    AllByRecursion (λ p. p < length L) others → creator L own ≡ m → AllByRecursion (λ p. creator L p ≢ m) others → FitsLink n L (link_of m (own ∷ others))
+fits_on n L m own others member few own_there there by_same by_others = record {
   member = member;
-  earlier = λ p h. elim (or_cases (eqb own p) (has_place (other ∷ []) p) h) [
+  few = omega arith;
+  earlier = λ p h. elim (or_cases (eqb own p) (has_place others p) h) [
     | inl first ↦ (let same : own ≡ p = eqb-true own p first in omega arith)
-    | inr second ↦ (let same : other ≡ p = one_there other p second in omega arith)
+    | inr later ↦ all_places (λ p. p < length L) others p there later
   ];
   self_by_same = λ p h. subst (λ k. creator L k ≡ m) (one_there own p h) by_same;
-  others_by_others = λ p h. subst (λ k. creator L k ≢ m) (one_there other p h) by_other;
+  others_by_others = λ p h. all_places (λ p. creator L p ≢ m) others p by_others h;
 }
 
 pub ruleset fits_links = (fits_alone, fits_on)

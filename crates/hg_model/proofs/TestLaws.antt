@@ -8,7 +8,7 @@ use Rattle.hg_model.specs.Places.{some_below}
 use Rattle.hg_model.specs.Stakes.{Stakes, total}
 use Rattle.hg_model.specs.Links.{Link, links}
 use Rattle.hg_model.specs.Forks.{forking}
-use Rattle.hg_model.specs.Graph.{name_at, IsGraph, is_shaped_at}
+use Rattle.hg_model.specs.Graph.{name_at, have_few_others, IsGraph, is_shaped_at}
 use Rattle.hg_model.proofs.PlacesLaws.{some_below_from}
 use Rattle.hg_model.proofs.LinkLaws.{length-links}
 use Rattle.hg_model.proofs.GraphLaws.{shaped_from_tests}
@@ -22,7 +22,7 @@ unfoldable pub is_graph : Stakes → List Row → Bool
 is_graph n G =
     let L = links G in
     not (some_below (length G) (λ x. not (is_shaped_at n L x))) && not (some_below (length G) (is_named_before G))
-    && nat_lt (3 * forking n L) (total n)
+    && have_few_others G && nat_lt (3 * forking n L) (total n)
 
 passes_all : (n : ℕ) (test : ℕ → Bool) → not (some_below n (λ x. not (test x))) ≡ true → (x : ℕ) → x < n → test x ≡ true
 passes_all n test none x inside = elim (cases_Bool (test x)) [
@@ -44,8 +44,9 @@ graph_from_test n G passes =
     let L : List Link = links G in
     let shape = not (some_below (length G) (λ x. not (is_shaped_at n L x))) in
     let names = not (some_below (length G) (is_named_before G)) in
-    let one = and_parts (shape && names) (nat_lt (3 * forking n L) (total n)) passes in
-    let two = and_parts shape names one.0 in
+    let one = and_parts (shape && names && have_few_others G) (nat_lt (3 * forking n L) (total n)) passes in
+    let few = and_parts (shape && names) (have_few_others G) one.0 in
+    let two = and_parts shape names few.0 in
     record {
       distinct = record {
         one = λ x y hx hy same. elim (cases_lt x y) [
@@ -56,6 +57,7 @@ graph_from_test n G passes =
           ]
         ];
       };
+      few_others = few.1;
       shaped = shaped_from_tests n L (λ x inside. passes_all (length G) (is_shaped_at n L) two.0 x (rw (← length-links G) inside));
       few_forkers = ltb-true (3 * forking n L) (total n) one.1;
     }

@@ -26,7 +26,7 @@ first m time = record { creator = m; parents = None; time = time; payload = []; 
 
 abbrev pub made : ℕ → ℕ → ℕ → ℕ → Row
 made m own other time =
-    record { creator = m; parents = Some (own ∷ [], other ∷ []); time = time; payload = []; sig = time ∷ []; name = time ∷ [] }
+    record { creator = m; parents = Some (own ∷ [], (other ∷ []) ∷ []); time = time; payload = []; sig = time ∷ []; name = time ∷ [] }
 
 -- the graph of the second of two members after six syncs in turn
 abbrev pub two_members : List Row

@@ -4,7 +4,7 @@ use Rattle.std.specs.List.{list_all}
 use Rattle.hg_model.specs.declared.row.Row.{Row}
 use Rattle.hg_model.specs.Places.{has_place, IsEarlier}
 use Rattle.hg_model.specs.Stakes.{Stakes, member_count, total}
-use Rattle.hg_model.specs.Links.{Link, links, parents, self_parent, other_parents, creator}
+use Rattle.hg_model.specs.Links.{Link, links, has_few_others, parents, self_parent, other_parents, creator}
 use Rattle.hg_model.specs.Forks.{forking}
 
 -- events by members, each after its parents, with a self-parent by its own creator and other-parents by others
@@ -34,9 +34,14 @@ creator_at G x = creator_of_row (slice_get G x)
 pub record HasDistinctNames (G : List Row) : Type 0 where
   pub one : (x y : ℕ) → x < length G → y < length G → name_at G x ≡ name_at G y → x ≡ y
 
+-- each row has no parents, or a self-parent and one to four other-parents
+abbrev pub have_few_others : List Row → Bool
+have_few_others G = list_all (λ row. has_few_others row.parents) G
+
 -- a graph whose members with a fork have less than a third of the stake
 pub record IsGraph (n : Stakes) (G : List Row) : Type 0 where
   pub distinct : HasDistinctNames G
+  pub few_others : have_few_others G ≡ true
   pub shaped : IsShaped n (links G)
   pub few_forkers : 3 * forking n (links G) < total n
 

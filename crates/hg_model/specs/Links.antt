@@ -1,6 +1,6 @@
 -- The shape of the graph: of each event its creator and the places of its parents. SWIRLDS-TR-2016-01, section 3.
 -- A departure: events stand in a list, each after its parents, and are told by their places in it.
-use Rattle.std.specs.Prelude.{ℕ, Bool, List, [], ◌∷◌, map, Option, Some, None, slice_get}
+use Rattle.std.specs.Prelude.{ℕ, Bool, true, ◌&&◌, nat_lt, nat_le, List, [], ◌∷◌, length, map, Option, Some, None, slice_get}
 use Rattle.std.specs.List.{position_or_len}
 use Rattle.std.specs.Str.{bytes_eq}
 use Rattle.hg_model.specs.declared.row.Row.{Row}
@@ -10,14 +10,26 @@ pub record Link : Type 0 where
   pub creator : ℕ
   pub parents : List ℕ
 
--- the names of a row's self-parent and other-parent, if it has parents
+-- the names of a row's self-parent and of its other-parents, if it has parents
 abbrev pub ParentNames : Type 0
-ParentNames = Option (List ℕ × List ℕ)
+ParentNames = Option (List ℕ × List (List ℕ))
 
 -- these names, the self-parent's first
 abbrev pub parent_names : ParentNames → List (List ℕ)
 parent_names None = []
-parent_names (Some names) = names.0 ∷ names.1 ∷ []
+parent_names (Some names) = names.0 ∷ names.1
+
+-- how many other-parents a row may have at most, and how many parents
+abbrev pub most_others : ℕ
+most_others = 4
+
+abbrev pub most_parents : ℕ
+most_parents = 5
+
+-- no parents, or a self-parent and one to four other-parents
+abbrev pub has_few_others : ParentNames → Bool
+has_few_others None = true
+has_few_others (Some names) = nat_lt 0 (length names.1) && nat_le (length names.1) most_others
 
 -- the row has this name
 abbrev pub is_named : List ℕ → Row → Bool

@@ -1,27 +1,24 @@
-ghost use Rattle.std.specs.Prelude.{◌≡◌, ◌∷◌, []};
-ghost use Rattle.hg_model.specs.Links.{first_place};
-ghost use Rattle.hg_model.specs.Shape.{pair_list, place_list};
+ghost use Rattle.std.specs.Prelude.{◌≡◌, ◌<◌, ◌≤◌, ◌∷◌, ◌++◌, [], length};
+ghost use Rattle.hg_model.specs.Links.{most_parents};
 
 use std::marker::Model;
 
-/// The places of a row's parents: none, or the self-parent's and then the other-parent's.
-#[derive(Clone, Copy, Debug, PartialEq, Eq)]
+/// The places of a row's parents: none, or the self-parent's and then those of one to four other-parents.
+#[derive(Clone, Debug, Drop)]
 pub struct Parents {
-    places: Option<(usize, usize)>,
+    places: [usize; 5],
+    /// How many of the places are parents'.
+    len: usize,
 }
 
 impl Model for Parents {
-    ghost use Rattle.std.specs.Prelude.{ℕ, List, Option};
-    ghost use Rattle.std.proofs.Common.{ap};
-    ghost use Rattle.hg_model.specs.Shape.{list_pair, pair_again, pair_list};
+    ghost use Rattle.std.specs.Prelude.{ℕ, List, ◌≤◌, take};
 
     ghost Value = { List ℕ };
 
-    ghost view = { λ s. pair_list s.places };
+    ghost view = { λ s. take s.len s.places };
 
-    ghost inverse = { λ ps. record { places = list_pair ps } };
-
-    ghost inverse_ok = { λ s lawful. ap (λ (ps : Option (ℕ × ℕ)). record { places = ps }) (pair_again s.places) };
+    ghost invariant = { λ s. s.len ≤ 5 };
 }
 
 impl Parents {
@@ -29,32 +26,40 @@ impl Parents {
     pub fn none() -> Parents
         ensures { result ≡ [] }
     {
-        Parents { places: None }
+        Parents {
+            places: [0; 5],
+            len: 0,
+        }
     }
 
-    /// These two.
+    /// The self-parent's and one other-parent's.
     pub fn of(self_parent: usize, other_parent: usize) -> Parents
         ensures { result ≡ self_parent ∷ other_parent ∷ [] }
     {
         Parents {
-            places: Some((self_parent, other_parent)),
+            places: [self_parent, other_parent, 0, 0, 0],
+            len: 2,
         }
     }
 
-    /// The self-parent's place and the other-parent's, if there are any.
-    pub fn pair(self) -> Option<(usize, usize)>
-        ensures { pair_list result ≡ self }
+    /// These, and the next one.
+    pub fn with(self, place: usize) -> Parents
+        requires { length self < most_parents }
+        ensures { result ≡ self ++ place ∷ [] }
     {
-        self.places
+        let mut places = self.places;
+        places[self.len] = place;
+        Parents {
+            places,
+            len: self.len + 1,
+        }
     }
 
-    /// The self-parent's place, if there is one.
-    pub fn self_parent(self) -> Option<usize>
-        ensures { place_list result ≡ first_place self }
+    /// The places, in order, at most five.
+    pub fn as_slice(&self) -> &[usize]
+        ensures value { result.now ≡ self.now }
+        ensures few { length result.now ≤ most_parents }
     {
-        match self.places {
-            None => None,
-            Some((self_parent, _)) => Some(self_parent),
-        }
+        &self.places[..self.len]
     }
 }

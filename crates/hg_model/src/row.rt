@@ -1,4 +1,4 @@
-use crate::items::Bytes;
+use crate::items::{Bytes, Items};
 
 /// A member's number, from 0 in the order of the member file.
 pub type Member = u16;
@@ -13,8 +13,8 @@ pub type Sig = [u8; 64];
 #[derive(Clone, Debug, Drop)]
 pub struct Row {
     pub creator: Member,
-    /// The names of the self-parent and of the other-parent; none of a member's first event.
-    pub parents: Option<(Name, Name)>,
+    /// The names of the self-parent and of one to four other-parents, in order; none of a member's first event.
+    pub parents: Option<(Name, Items<Name>)>,
     /// As the creator claims it, in no unit of ours.
     pub time: u64,
     /// 0 to 1,024 bytes.

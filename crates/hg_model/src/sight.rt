@@ -9,7 +9,6 @@ ghost use Rattle.hg_model.specs.GraphWords.{strongly_sees_in, IsShapedIn, sees_i
 
 use crate::counts::Counts;
 use crate::memory::Memory;
-use crate::parents::Parents;
 use crate::row::Member;
 
 /// What the rows of a graph see of each other. A place is below the number of rows.
@@ -95,11 +94,11 @@ pub trait Growing: Sight {
 
     /// One more row, by the member, on parents at these places, the self-parent's first, or on none.
     /// Takes no memory; `reserve` comes before it.
-    fn extend(&mut self, parents: Parents, creator: Member)
+    fn extend(&mut self, parents: &[usize], creator: Member)
         requires room { 1 ≤ room self.old }
-        requires fits { FitsLink (Self.shape self.old).members (Self.shape self.old).links (link_of creator parents) }
+        requires fits { FitsLink (Self.shape self.old).members (Self.shape self.old).links (link_of creator parents.now) }
         requires short { length (Self.shape self.old).links + 1 < 2 ^ 32 - 1 }
-        ensures { Self.shape self.new ≡ with_link (Self.shape self.old) (link_of creator parents) };
+        ensures { Self.shape self.new ≡ with_link (Self.shape self.old) (link_of creator parents.now) };
 
     /// The graph of the first `len` rows, as a value of its own.
     fn prefix(&self, len: usize) -> Result<Self, Memory>

@@ -1,13 +1,16 @@
--- How much a journal holds: at most two entries for each row, each of at most 1,201 bytes of an event
-use Rattle.std.proofs.Common.{◌≡◌, ℕ, ◌+◌, ◌≤◌, List, [], ◌∷◌, ◌++◌, length, fold, Some, None, is_some, refl, ap, arith}
-use Rattle.std.specs.Prelude.{IfSome}
+-- How much a journal holds: at most two entries for each row, each of at most 1,345 bytes of an event
+use Rattle.std.proofs.Common.{◌≡◌, ℕ, ◌+◌, ◌*◌, ◌≤◌, true, ◌&&◌, List, [], ◌∷◌, ◌++◌, length, fold, Some, None, is_some, refl, ap, arith}
+use Rattle.std.specs.List.{AllByRecursion, concat}
+use Rattle.std.specs.Prelude.{IfSome, nat_le, nat_lt}
 use Rattle.std.specs.Int.{w16, w64, to_be_bytes}
+use Rattle.std.proofs.lemmas.Bool.{and_parts}
+use Rattle.std.proofs.lemmas.Bool.Decides.{nat_tests}
 use Rattle.std.proofs.lemmas.List.{length_push, length-append}
 use Rattle.hg_model.specs.Stakes.{Stakes}
 use Rattle.hg_model.specs.Links.{ParentNames}
 use Rattle.hg_model.specs.Fame.{mark_at}
 use Rattle.hg_life.specs.Signing.{Accepts}
-use Rattle.hg_life.specs.Spelling.{spelling, body_of, magic, parent_bytes, payload_bytes}
+use Rattle.hg_life.specs.Spelling.{AreNames, spelling, body_of, form_bytes, parent_bytes, payload_bytes}
 use Rattle.hg_life.specs.History.{Change, State, empty, with_row, with_marks, first_mark, step, replay, AreSteps}
 use Rattle.hg_life.specs.History.Change.{Took, Made, Marked}
 use Rattle.hg_model.proofs.PlacesLaws.{count_below-le}
@@ -38,9 +41,17 @@ changes_are_few accepts n c own h is =
     let marks = count_below-le (length t.marks) (λ x. is_some (mark_at t.marks x)) in
     omega (arith, few, marks, (even_after n c h).marks)
 
-parents_short : (parents : ParentNames) → IfSome parents (λ names. (length names.0 ≡ 48) × (length names.1 ≡ 48)) → length (parent_bytes parents) ≤ 97
+names_long : (names : List (List ℕ)) → AllByRecursion (λ name. length name ≡ 48) names → length (concat names) ≡ 48 * length names
+names_long [] sized = refl
+names_long (name ∷ names) sized = (let later = names_long names sized.1 in omega (arith, length-append name (concat names), sized.0, later))
+
+few_names : (k : ℕ) → (nat_lt 0 k && nat_le k 4) ≡ true → k ≤ 4
+few_names k few = (let low = (and_parts (nat_lt 0 k) (nat_le k 4) few).1 in grind (arith, nat_tests))
+
+parents_short : (parents : ParentNames) → IfSome parents AreNames → length (parent_bytes parents) ≤ 241
 parents_short None sized = omega arith
-parents_short (Some names) sized = omega (arith, length-append names.0 names.1, sized.0, sized.1)
+parents_short (Some names) sized =
+    omega (arith, length-append names.0 (concat names.1), sized.first, names_long names.1 sized.others, few_names (length names.1) sized.few)
 
 pub spellings_are_short : SpellingsAreShort
 unfolding spelling body_of
@@ -53,12 +64,12 @@ spellings_are_short bytes row spells =
     let la : length (to_be_bytes w16 row.creator) ≡ 2 = refl in
     let lt : length (to_be_bytes w64 row.time) ≡ 8 = refl in
     let ll : length (to_be_bytes w16 (length row.payload)) ≡ 2 = refl in
-    let lm : length magic ≡ 4 = refl in
+    let lm : length (form_bytes row.parents) ≡ 4 = refl in
     let e5 = length-append (to_be_bytes w16 (length row.payload)) row.payload in
     let e4 = length-append (to_be_bytes w64 row.time) (payload_bytes row.payload) in
     let e3 = length-append (parent_bytes row.parents) (to_be_bytes w64 row.time ++ payload_bytes row.payload) in
     let e2 = length-append (to_be_bytes w16 row.creator) (parent_bytes row.parents ++ (to_be_bytes w64 row.time ++ payload_bytes row.payload)) in
-    let e1 = length-append magic (to_be_bytes w16 row.creator ++ (parent_bytes row.parents ++ (to_be_bytes w64 row.time ++ payload_bytes row.payload))) in
+    let e1 = length-append (form_bytes row.parents) (to_be_bytes w16 row.creator ++ (parent_bytes row.parents ++ (to_be_bytes w64 row.time ++ payload_bytes row.payload))) in
     let e0 = length-append (body_of row) row.sig in
     let whole = ap length spells.spelled in
     omega (arith, whole, e0, e1, e2, e3, e4, e5, la, lt, ll, lm, parents_short row.parents has.parents, has.payload, has.sig)

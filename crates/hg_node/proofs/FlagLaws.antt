@@ -1,10 +1,10 @@
 -- Flags of rows: those of the parents, and those of the ancestors of some rows, which a walk from the last row down sets
 use Rattle.std.proofs.Common.{◌≡◌, ◌⊎◌, inl, inr, ℕ, zero, suc, ◌+◌, ◌<◌, ◌≤◌, Bool, true, false, cond, not, ◌||◌, eqb, List, [], ◌∷◌, ◌++◌, length, map, take, replicate, get_or, slice_get, Some, Result, Ok, Err, option_map, refl, sym, ap, ap₂, ◌∙◌, subst, arith}
 use Rattle.std.specs.Prelude.{IfOk, slice_set}
+use Rattle.std.specs.Borrow.{Bor}
 use Rattle.std.specs.Global.{Vec}
 use Rattle.std.proofs.lemmas.Bool.{or_cases, or_left, or_right, and_parts, and_from, true≢false, eq-eqb, eqb-true, lt-ltb, ltb-true}
-use Rattle.std.proofs.lemmas.List.{map-append, length-set, get_or-set_same, get_or-set_other}
-use Rattle.std.proofs.Math.Seq.{take-suc}
+use Rattle.std.proofs.lemmas.List.{map-append, map_more, take_more, length-set, get_or-set_same, get_or-set_other}
 use Rattle.std.proofs.lemmas.Option.{slice_get-get_or}
 use mathlib.Core.Logic.{dite}
 use native.Mathlib.Decide.{ℕ_discrete}
@@ -13,6 +13,7 @@ use Rattle.hg_model.specs.Places.{has_place, list_below, some_below, IsEarlier}
 use Rattle.hg_model.specs.Links.{Link, links, no_row, parent_names, parents, place_of}
 use Rattle.hg_model.specs.Ancestry.{is_ancestor}
 use Rattle.hg_model.specs.Graph.{name_at, name_in}
+use Rattle.hg_event.specs.Names.{lent_names}
 use Rattle.hg_life.specs.Spelling.{spelling}
 use Rattle.hg_model.proofs.LinkLaws.{length-links, parents-links}
 use Rattle.hg_model.specs.Held.{is_held}
@@ -224,16 +225,21 @@ parents_read G x row low at =
 
 -- names flagged one by one
 
+flag_next : (G : List Row) (start old new : List Bool) (names longer : List (List ℕ)) (name : List ℕ) → longer ≡ names ++ name ∷ [] →
+    old ≡ flagged start (map (place_of G) names) → new ≡ flagged old (place_of G name ∷ []) → new ≡ flagged start (map (place_of G) longer)
+flag_next G start old new names longer name one before is =
+    let places : map (place_of G) longer ≡ map (place_of G) names ++ place_of G name ∷ [] = ap (map (place_of G)) one ∙ map-append (place_of G) names (name ∷ []) in
+    is ∙ (ap (λ (flags : List Bool). flagged flags (place_of G name ∷ [])) before
+    ∙ (sym (flagged-append start (map (place_of G) names) (place_of G name ∷ [])) ∙ ap (flagged start) (sym places)))
+
 pub flag_more : (G : List Row) (start old new : List Bool) (names : List (List ℕ)) (i : ℕ) (none : List ℕ) → i < length names →
     old ≡ flagged start (map (place_of G) (take i names)) → new ≡ flagged old (place_of G (get_or names i none) ∷ []) → new ≡ flagged start (map (place_of G) (take (i + 1) names))
-flag_more G start old new names i none low before is =
-    let name : List ℕ = get_or names i none in
-    let one : i + 1 ≡ suc i = omega arith in
-    let next : take (i + 1) names ≡ take i names ++ name ∷ [] = ap (λ (k : ℕ). take k names) one ∙ take-suc names i none low in
-    let places : map (place_of G) (take (i + 1) names) ≡ map (place_of G) (take i names) ++ place_of G name ∷ [] =
-    ap (map (place_of G)) next ∙ map-append (place_of G) (take i names) (name ∷ []) in
-    is ∙ (ap (λ (flags : List Bool). flagged flags (place_of G name ∷ [])) before
-    ∙ (sym (flagged-append start (map (place_of G) (take i names)) (place_of G name ∷ [])) ∙ ap (flagged start) (sym places)))
+flag_more G start old new names i none low = flag_next G start old new (take i names) (take (i + 1) names) (get_or names i none) (take_more names i none low)
+
+pub flag_lent_more : (G : List Row) (start old new : List Bool) (names : List (Bor (List ℕ))) (i : ℕ) (none : Bor (List ℕ)) → i < length names →
+    old ≡ flagged start (map (place_of G) (lent_names (take i names))) → new ≡ flagged old (place_of G (get_or names i none).now ∷ []) → new ≡ flagged start (map (place_of G) (lent_names (take (i + 1) names)))
+flag_lent_more G start old new names i none low =
+    flag_next G start old new (lent_names (take i names)) (lent_names (take (i + 1) names)) (get_or names i none).now (map_more (λ (name : Bor (List ℕ)). name.now) names i none low)
 
 -- what is read off the flags
 

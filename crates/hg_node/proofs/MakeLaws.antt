@@ -1,7 +1,7 @@
 -- What the making of an event answers, and what it leaves recorded
-use Rattle.std.proofs.Common.{◌≡◌, ℕ, ◌<◌, ◌^◌, true, List, [], ◌∷◌, ◌++◌, length, Option, Some, None, Result, Ok, Err, refl, sym, ap, ap₂, ◌∙◌, subst}
+use Rattle.std.proofs.Common.{◌≡◌, ℕ, ◌<◌, ◌≤◌, ◌^◌, true, List, [], ◌∷◌, ◌++◌, length, Option, Some, None, Result, Ok, Err, refl, sym, ap, ap₂, ◌∙◌, subst, arith}
 use Rattle.std.specs.Prelude.{replicate, OnErr}
-use Rattle.std.specs.Option.{option_or}
+use Rattle.std.specs.Option.{option_or, option_to_list}
 use Rattle.std.proofs.lemmas.List.{length-replicate}
 use Rattle.hg_model.specs.declared.row.Row.{Row}
 use Rattle.hg_life.specs.declared.entry.Entry.TheVariants as entry
@@ -9,7 +9,7 @@ use Rattle.hg_life.specs.declared.answers.MakeAnswer.{MakeAnswer}
 use Rattle.hg_life.specs.declared.answers.MakeAnswer.TheVariants as answer
 use Rattle.hg_life.specs.declared.answers.MakeFault.{MakeFault}
 use Rattle.hg_model.specs.Graph.{IsGraph}
-use Rattle.hg_model.specs.Links.{ParentNames}
+use Rattle.hg_model.specs.Links.{ParentNames, most_others}
 use Rattle.hg_life.specs.Spelling.{body_bytes}
 use Rattle.hg_life.specs.Verdict.{row_limit, last_name, made_row, draft_rule, collision_rule, room_rule, made_or, making, parents_on, signed_row}
 use Rattle.hg_life.specs.History.{Change}
@@ -41,6 +41,11 @@ row_of_draft r others time payload m names sig row by on is_signed = is_signed �
 pub signed_of_draft : (accepts : Accepts) (r : ChronicleView) (others : List (List ℕ)) (time : ℕ) (payload : List ℕ) (m : ℕ) (names : ParentNames) (sig : List ℕ) → m ≡ r.own → names ≡ draft_names r others →
     IsSigned accepts m names time payload sig → accepts r.own (draft_body r others time payload) sig ≡ true
 signed_of_draft accepts r others time payload m names sig by on is_signed = sym (ap₂ (λ (k : ℕ) (ns : ParentNames). accepts k (body_bytes k ns time payload) sig) by on) ∙ is_signed
+
+-- one other-parent or none is few
+pub few_listed : (other : Option (List ℕ)) → length (option_to_list other) ≤ most_others
+few_listed None = omega arith
+few_listed (Some name) = omega arith
 
 module _ {K : Type 0} (accepts : K → Accepts) (keys : K) (r : ChronicleView) (others : List (List ℕ)) (time : ℕ) (payload : List ℕ) (is : IsRecorded accepts (node_view keys r) r) where
   abbrev before : NodeView K
@@ -111,15 +116,15 @@ module _ {K : Type 0} (accepts : K → Accepts) (keys : K) (r : ChronicleView) (
     }
 
     -- against which none does
-    pub row_made : time < 2 ^ 64 → None ≡ option_or (collision_rule r.graph.rows row) (room_rule r.graph.rows) →
+    pub row_made : length others ≤ most_others → time < 2 ^ 64 → None ≡ option_or (collision_rule r.graph.rows row) (room_rule r.graph.rows) →
         MakesRow accepts before (node_view keys (chronicle_with r row (entry.Made (length r.graph.rows)))) r row others time payload
     unfolding make_changes
-    row_made early rest =
+    row_made few early rest =
         let is_answer = answer_of None rest in
         let events : make_changes before others time payload sig ≡ Made row ∷ [] =
         ap (λ (a : MakeAnswer). made_by a (made_row before.start.own (node_rows before) others time payload sig)) is_answer
         ∙ (ap (λ (G : List Row). Made (made_row r.own G others time payload sig) ∷ []) is.rows ∙ ap (λ (x : Row). Made x ∷ []) (sym is_row)) in
-        let node = subst (λ (es : List Change). IsNode accepts (with_changes before es)) events (makes_leave_a_node K accepts before others time payload sig early sized (λ none. is_signed) is.node) in
+        let node = subst (λ (es : List Change). IsNode accepts (with_changes before es)) events (makes_leave_a_node K accepts before others time payload sig few early sized (λ none. is_signed) is.node) in
         let recorded = recorded_after accepts keys r (Made row) (entry.Made (length r.graph.rows)) refl is node in
         record {
           making = record {

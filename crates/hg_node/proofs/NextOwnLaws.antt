@@ -1,15 +1,15 @@
 -- A row that is accepted when it comes back is one that the member might have made
-use Rattle.std.proofs.Common.{◌≡◌, inl, inr, ℕ, ◌*◌, ◌<◌, ◌≤◌, Bool, true, not, eqb, List, [], ◌∷◌, ◌++◌, length, Option, Some, None, option_map, sym, refl, ap, ap₂, ◌∙◌, subst, arith}
+use Rattle.std.proofs.Common.{◌≡◌, inl, inr, ℕ, ◌*◌, ◌<◌, ◌≤◌, Bool, true, eqb, List, [], ◌∷◌, ◌++◌, length, Option, Some, None, option_map, sym, refl, ap, ap₂, ◌∙◌, subst, arith}
 use Rattle.std.specs.Prelude.{nat_le, nat_lt}
 use Rattle.std.specs.Option.{option_or}
-use Rattle.std.proofs.lemmas.Bool.{cases_Bool, and_parts, eqb-true, le-ltb}
+use Rattle.std.proofs.lemmas.Bool.{cases_Bool, and_parts, eqb-true, le-ltb, true≢false}
 use Rattle.hg_model.specs.declared.row.Row.{Row}
 use Rattle.hg_life.specs.declared.answers.PutAnswer.TheVariants.{Accepted}
 use Rattle.hg_life.specs.declared.answers.MakeFault.{MakeFault}
 use Rattle.hg_life.specs.declared.answers.MakeFault.TheVariants as make_fault
 use Rattle.hg_model.specs.Stakes.{Stakes, total}
-use Rattle.hg_model.specs.Links.{ParentNames, links, parent_names, place_of}
-use Rattle.hg_model.specs.Graph.{creator_at, IsGraph}
+use Rattle.hg_model.specs.Links.{ParentNames, has_few_others, links, parent_names, place_of}
+use Rattle.hg_model.specs.Graph.{IsGraph}
 use Rattle.hg_model.specs.Fits.{AreHeld, ParentsFit}
 use Rattle.hg_life.specs.Spelling.{body_of, spelling, Spells, payload_limit}
 use Rattle.hg_life.specs.Signing.{Accepts}
@@ -24,7 +24,7 @@ use Rattle.hg_model.specs.Chains.{IsChain}
 use Rattle.hg_model.specs.Forks.{forking}
 use Rattle.hg_node.specs.ReplayLaws.{RestoresAreMakes}
 use Rattle.hg_node.specs.Restore.{self_name, is_same_name, is_next_own, restore_verdict}
-use Rattle.hg_node.proofs.RestoreLaws.{none_of_both, none_where_false, not_le, differ_eqb, held_true, same_from, made_comes_back, other_than, restore_is_put}
+use Rattle.hg_node.proofs.RestoreLaws.{none_of_both, none_where_false, none_is_missing, none_is_by, not_le, same_from, made_comes_back, other_than, restore_is_put}
 
 -- the row's name is that of its fields
 named_signed : (row : Row) → Spells (spelling row) row → row ≡ signed_row row.creator row.parents row.time row.payload row.sig
@@ -34,24 +34,28 @@ named_signed row spells = ap (λ (name : List ℕ). record row { name = name }) 
 -- the names of the other-parents
 abbrev pub other_names : ParentNames → List (List ℕ)
 other_names None = []
-other_names (Some names) = names.1 ∷ []
+other_names (Some names) = names.1
 
 -- the parents again, and that they are of a first event just where there is no last one
 
-parents_back : (parents : ParentNames) (last : Option (List ℕ)) → self_name parents ≡ last → parents_on last (other_names parents) ≡ parents
-parents_back None last is = refl
-parents_back (Some names) last is = ap (λ (o : Option (List ℕ)). parents_on o (names.1 ∷ [])) (sym is)
+on_others : (last : List ℕ) (others : List (List ℕ)) → has_few_others (Some (last, others)) ≡ true → (parents_on (Some last) others ≡ Some (last, others)) × (first_rule (Some last) others ≡ None)
+on_others last [] few = absurd (true≢false (sym few))
+on_others last (other ∷ others) few = (refl, refl)
 
-first_silent : (parents : ParentNames) (last : Option (List ℕ)) → self_name parents ≡ last → first_rule last (other_names parents) ≡ None
-first_silent None last is = ap (λ (o : Option (List ℕ)). first_rule o []) (sym is)
-first_silent (Some names) last is = ap (λ (o : Option (List ℕ)). first_rule o (names.1 ∷ [])) (sym is)
+parents_back : (parents : ParentNames) (last : Option (List ℕ)) → has_few_others parents ≡ true → self_name parents ≡ last → parents_on last (other_names parents) ≡ parents
+parents_back None last few is = refl
+parents_back (Some names) last few is = ap (λ (o : Option (List ℕ)). parents_on o names.1) (sym is) ∙ (on_others names.0 names.1 few).0
+
+first_silent : (parents : ParentNames) (last : Option (List ℕ)) → has_few_others parents ≡ true → self_name parents ≡ last → first_rule last (other_names parents) ≡ None
+first_silent None last few is = ap (λ (o : Option (List ℕ)). first_rule o []) (sym is)
+first_silent (Some names) last few is = ap (λ (o : Option (List ℕ)). first_rule o names.1) (sym is) ∙ (on_others names.0 names.1 few).1
 
 other_silent : (G : List Row) (m : ℕ) (parents : ParentNames) → AreHeld G (parent_names parents) → ParentsFit G m (parent_names parents) → other_rule m G (other_names parents) ≡ None
 other_silent G m None held fit = refl
 other_silent G m (Some names) held fit =
-    none_of_both (option_map (λ name. make_fault.MissingOther name) (first_missing G (names.1 ∷ []))) (option_map (λ place. make_fault.OtherCreator place) (first_by G m (names.1 ∷ [])))
-    (ap (λ (o : Option (List ℕ)). option_map (λ name. make_fault.MissingOther name) o) (none_where_false (not (is_held G names.1)) names.1 None (held_true G names.1 held.1.0) refl))
-    (ap (λ (o : Option ℕ). option_map (λ place. make_fault.OtherCreator place) o) (none_where_false (eqb (creator_at G (place_of G names.1)) m) (place_of G names.1) None (differ_eqb (creator_at G (place_of G names.1)) m fit.1.0) refl))
+    none_of_both (option_map (λ name. make_fault.MissingOther name) (first_missing G names.1)) (option_map (λ place. make_fault.OtherCreator place) (first_by G m names.1))
+    (ap (λ (o : Option (List ℕ)). option_map (λ name. make_fault.MissingOther name) o) (none_is_missing G names.1 held.1))
+    (ap (λ (o : Option ℕ). option_map (λ place. make_fault.OtherCreator place) o) (none_is_by G m names.1 fit.1))
 
 payload_silent : (payload : List ℕ) → length payload ≤ payload_limit → payload_rule payload ≡ None
 payload_silent payload short = none_where_false (nat_lt payload_limit (length payload)) _ None (le-ltb payload_limit (length payload) short) refl
@@ -67,11 +71,11 @@ module _ (accepts : Accepts) (n : Stakes) (own : ℕ) (G : List Row) (row : Row)
   pub made_of : Spells (spelling row) row → Comes accepts n G row → row.creator ≡ own → self_name row.parents ≡ last_name own G → IsMade accepts own G row
   made_of spells comes by last =
       let others = other_names row.parents in
-      let parents = parents_back row.parents (last_name own G) last in
+      let parents = parents_back row.parents (last_name own G) comes.fits.few last in
       let fields : row ≡ made_row own G others row.time row.payload row.sig =
       named_signed row spells ∙ ap₂ (λ (m : ℕ) (names : ParentNames). signed_row m names row.time row.payload row.sig) by (sym parents) in
       let fit = subst (λ (m : ℕ). ParentsFit G m (parent_names row.parents)) by comes.fits.parents_fit in
-      let draft = none_of_both (first_rule (last_name own G) others) _ (first_silent row.parents (last_name own G) last)
+      let draft = none_of_both (first_rule (last_name own G) others) _ (first_silent row.parents (last_name own G) comes.fits.few last)
       (none_of_both (other_rule own G others) (payload_rule row.payload) (other_silent G own row.parents comes.fits.present.held fit) (payload_silent row.payload spells.sized.payload)) in
       let end = none_of_both (collision_rule G row) (room_rule G) (collision_silent G row comes.new_name) (room_silent G comes.room) in
       record {

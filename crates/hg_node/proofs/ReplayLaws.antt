@@ -130,11 +130,11 @@ changes_replay K accepts v e lawful left = steps_replay K accepts v e (node_befo
 
 pub makes_replay : (K : Type 0) → MakesReplay K
 unfolding make_answer
-makes_replay K accepts v w others time payload place node early making =
+makes_replay K accepts v w others time payload place node few early making =
     let one = makes_add_one K v others time payload making.sig place (sym making.answers) in
     let row : Row = made_row v.start.own (node_rows v) others time payload making.sig in
     let grows : w ≡ with_changes v (Made row ∷ []) = making.grown ∙ ap (with_changes v) one.1 in
-    let left = subst (λ (es : List Change). IsNode accepts (with_changes v es)) one.1 (makes_leave_a_node K accepts v others time payload making.sig early making.sized making.signed node) in
+    let left = subst (λ (es : List Change). IsNode accepts (with_changes v es)) one.1 (makes_leave_a_node K accepts v others time payload making.sig few early making.sized making.signed node) in
     let rows : node_rows w ≡ node_rows v ++ row ∷ [] = ap (λ (u : NodeView K). node_rows u) grows ∙ ap (λ (s : State). s.rows) (replay-push v.start.members v.start.coin v.history (Made row)) in (
       row,
       ap₂ (λ (G : List Row) (k : ℕ). slice_get G k) rows one.0 ∙ slice_get-last (node_rows v) row,

@@ -1,6 +1,7 @@
 -- To restore a row is to put it to the node of another member, where it is the own member's next one
 use Rattle.std.proofs.Common.{◌≡◌, ◌≢◌, ℕ, suc, ◌*◌, ◌<◌, ◌≤◌, Bool, true, false, cond, not, eqb, List, [], ◌∷◌, ◌++◌, length, Option, Some, None, option_map, sym, refl, ap, ◌∙◌, arith}
 use Rattle.std.specs.Prelude.{nat_le, unwrap_or}
+use Rattle.std.specs.List.{AllByRecursion}
 use Rattle.std.specs.Option.{option_or}
 use Rattle.std.proofs.lemmas.Bool.Decides.{nat_tests}
 use Rattle.std.proofs.lemmas.Bool.{and_from, eqb-true, eq-eqb, lt-ltb, le-ltb, false_from_ne_true}
@@ -17,7 +18,7 @@ use Rattle.hg_model.specs.Fits.{AreHeld, ParentsFit}
 use Rattle.hg_life.specs.Spelling.{body_of, spelling}
 use Rattle.hg_life.specs.Signing.{Accepts}
 use Rattle.hg_model.specs.Held.{is_held}
-use Rattle.hg_life.specs.Verdict.{row_limit, has_bytes, member_rule, name_rule, signature_rule, impostor_rule, missing_rule, creator_rule, arrival_rule, forkers_rule, full_rule, row_verdict, last_name, forking_with}
+use Rattle.hg_life.specs.Verdict.{row_limit, has_bytes, first_missing, first_by, member_rule, name_rule, signature_rule, impostor_rule, missing_rule, creator_rule, arrival_rule, forkers_rule, full_rule, row_verdict, last_name, forking_with}
 use Rattle.hg_history.proofs.RuleLaws.{MadeIs}
 use Rattle.hg_node.specs.Restore.{self_name, is_same_name, is_next_own, next_own_rule, restore_rules, restore_verdict}
 
@@ -52,18 +53,27 @@ signature_silent accepts row signed = ap (λ (b : Bool). cond b None (Some (Refu
 pub held_true : (G : List Row) (name : List ℕ) → place_of G name < length G → not (is_held G name) ≡ false
 held_true G name inside = not_of_true (is_held G name) (lt-ltb (place_of G name) (length G) inside)
 
+pub none_is_missing : (G : List Row) (names : List (List ℕ)) → AreHeld G names → first_missing G names ≡ None
+none_is_missing G [] held = refl
+none_is_missing G (name ∷ names) held = none_where_false (not (is_held G name)) name _ (held_true G name held.0) (none_is_missing G names held.1)
+
+pub none_is_by : (G : List Row) (m : ℕ) (names : List (List ℕ)) → AllByRecursion (λ name. creator_at G (place_of G name) ≢ m) names → first_by G m names ≡ None
+none_is_by G m [] differ = refl
+none_is_by G m (name ∷ names) differ =
+    let p = place_of G name in
+    none_where_false (eqb (creator_at G p) m) p _ (differ_eqb (creator_at G p) m differ.0) (none_is_by G m names differ.1)
+
 missing_silent : (G : List Row) (parents : ParentNames) → AreHeld G (parent_names parents) → missing_rule G parents ≡ None
 missing_silent G None held = refl
 missing_silent G (Some names) held =
     none_where_false (not (is_held G names.0)) _ _ (held_true G names.0 held.0)
-    (ap (λ (o : Option (List ℕ)). option_map (λ name. Refused (fault.MissingOther name)) o) (none_where_false (not (is_held G names.1)) names.1 None (held_true G names.1 held.1.0) refl))
+    (ap (λ (o : Option (List ℕ)). option_map (λ name. Refused (fault.MissingOther name)) o) (none_is_missing G names.1 held.1))
 
 creator_silent : (G : List Row) (m : ℕ) (parents : ParentNames) → ParentsFit G m (parent_names parents) → creator_rule G m parents ≡ None
 creator_silent G m None fit = refl
 creator_silent G m (Some names) fit =
     none_where_false (not (eqb (creator_at G (place_of G names.0)) m)) _ _ (not_of_true (eqb (creator_at G (place_of G names.0)) m) (eq-eqb (creator_at G (place_of G names.0)) m fit.0))
-    (ap (λ (o : Option ℕ). option_map (λ place. Refused (fault.OtherCreator place)) o)
-    (none_where_false (eqb (creator_at G (place_of G names.1)) m) (place_of G names.1) None (differ_eqb (creator_at G (place_of G names.1)) m fit.1.0) refl))
+    (ap (λ (o : Option ℕ). option_map (λ place. Refused (fault.OtherCreator place)) o) (none_is_by G m names.1 fit.1))
 
 forkers_silent : (n : Stakes) (G : List Row) (row : Row) → 3 * forking n (links (G ++ row ∷ [])) < total n → forkers_rule n G row ≡ None
 forkers_silent n G row few = none_where_false (nat_le (total n) (3 * forking_with n G row)) _ None (not_le _ _ few) refl

@@ -1,5 +1,5 @@
 -- What a node makes of its records: the event's parents, what is signed of it, and what is wrong with it
-use Rattle.std.specs.Prelude.{ℕ, List, [], ◌∷◌, map, Option, Some, None}
+use Rattle.std.specs.Prelude.{ℕ, List, [], ◌∷◌, map, Option, Some, None, option_map}
 use Rattle.std.specs.Option.{option_or}
 use Rattle.hg_model.specs.declared.row.Row.{Row}
 use Rattle.hg_life.specs.declared.answers.MakeFault.{MakeFault}
@@ -15,6 +15,10 @@ draft_fault r others payload = draft_rule r.own r.graph.rows others payload
 -- the names of its parents
 abbrev pub draft_names : ChronicleView → List (List ℕ) → ParentNames
 draft_names r others = parents_on (last_name r.own r.graph.rows) others
+
+-- the names of a self-parent and of one other-parent as a row has them
+abbrev pub listed : Option (List ℕ × List ℕ) → ParentNames
+listed names = option_map (λ pair. (pair.0, pair.1 ∷ [])) names
 
 -- the places of the rows with such names
 abbrev pub draft_places : ChronicleView → ParentNames → List ℕ

@@ -4,6 +4,7 @@ use Rattle.std.specs.List.{AllByRecursion}
 use Rattle.hg_model.specs.declared.row.Row.{Row}
 use Rattle.hg_life.specs.declared.answers.PutAnswer.TheVariants.{Accepted}
 use Rattle.hg_life.specs.declared.answers.MakeAnswer.TheVariants as made
+use Rattle.hg_model.specs.Links.{most_others}
 use Rattle.hg_model.specs.Stakes.{Stakes, member_count}
 use Rattle.hg_model.specs.Graph.{IsGraph}
 use Rattle.hg_model.specs.Chains.{IsChain}
@@ -24,9 +25,9 @@ abbrev pub PutsReplay : (K : Type 0) → Type 0
 PutsReplay K = (accepts : K → Accepts) (v : NodeView K) (bytes : List ℕ) (place : ℕ) → put_answer accepts v bytes ≡ Accepted place →
     replay_one accepts v (StoredTook bytes) ≡ Some (with_changes v (put_changes accepts v bytes))
 
--- so does the row that was made, by its spelling
+-- so does the row that was made on few others, by its spelling
 abbrev pub MakesReplay : (K : Type 0) → Type 0
-MakesReplay K = (accepts : K → Accepts) (v w : NodeView K) (others : List (List ℕ)) (time : ℕ) (payload : List ℕ) (place : ℕ) → IsNode accepts v → time < 2 ^ 64 →
+MakesReplay K = (accepts : K → Accepts) (v w : NodeView K) (others : List (List ℕ)) (time : ℕ) (payload : List ℕ) (place : ℕ) → IsNode accepts v → length others ≤ most_others → time < 2 ^ 64 →
     IsMaking accepts v others time payload (made.Made place) w →
     (row : Row) × (slice_get (node_rows w) place ≡ Some row) × (replay_one accepts v (StoredMade (spelling row)) ≡ Some w)
 
@@ -69,6 +70,6 @@ ReplaysAreNodes K = (accepts : K → Accepts) (v w : NodeView K) (stored : Store
 abbrev pub ChangesAreFew : Type 0
 ChangesAreFew = (accepts : Accepts) (n : Stakes) (c own : ℕ) (h : List Change) → IsHistory accepts n c own h → length h ≤ 2 * length (replay n c h).rows
 
--- the bytes of an event are at most 1,201
+-- the bytes of an event are at most 1,345
 abbrev pub SpellingsAreShort : Type 0
-SpellingsAreShort = (bytes : List ℕ) (row : Row) → Spells bytes row → length bytes ≤ 1201
+SpellingsAreShort = (bytes : List ℕ) (row : Row) → Spells bytes row → length bytes ≤ 1345

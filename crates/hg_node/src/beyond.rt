@@ -1,4 +1,5 @@
 ghost use Rattle.std.specs.Prelude.{◌≡◌, ◌<◌, ◌∷◌, [], IfOk, false, length, map, replicate};
+ghost use Rattle.hg_event.specs.Names.{lent_names};
 ghost use Rattle.hg_event.specs.View.{row_of};
 ghost use Rattle.hg_model.specs.Links.{links, parent_names, parents, place_of};
 ghost use Rattle.hg_node.specs.Beyond.{AreBehindFlagged, AreParentsFlagged, bytes_beyond, flagged, parents_if_flagged, tips, unflagged_bytes, unflagged_names};
@@ -44,6 +45,16 @@ fn flag_all(graph: &EventGraph, names: &[Name], flags: &mut [bool])
     }
 }
 
+/// The same where the names are lent.
+fn flag_lent(graph: &EventGraph, names: &[&Name], flags: &mut [bool])
+    requires { length flags.old ≡ length graph.now.graph.rows }
+    ensures { flags.new ≡ flagged flags.old (map (place_of graph.now.graph.rows) (lent_names names.now)) }
+{
+    for name in names {
+        flag_named(graph, *name, flags);
+    }
+}
+
 /// Flags the parents of row `x`.
 fn flag_parents(graph: &EventGraph, x: usize, flags: &mut [bool])
     requires place { x < length graph.now.graph.rows }
@@ -58,11 +69,11 @@ fn flag_parents_of(graph: &EventGraph, view: &EventView<'_>, flags: &mut [bool])
     requires { length flags.old ≡ length graph.now.graph.rows }
     ensures { flags.new ≡ flagged flags.old (map (place_of graph.now.graph.rows) (parent_names (row_of view.now).parents)) }
 {
-    let Some((own, other)) = view.parents else {
+    let Some(names) = view.parents else {
         return;
     };
-    flag_named(graph, own, flags);
-    flag_named(graph, other, flags);
+    flag_named(graph, names.self_parent, flags);
+    flag_lent(graph, names.others(), flags);
 }
 
 /// For each row whether it is a parent of another one.

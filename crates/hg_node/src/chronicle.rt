@@ -17,7 +17,7 @@ use hg_event::Event;
 use hg_graph::EventGraph;
 use hg_kept::Kept;
 use hg_life::{Effect, Entry, Members};
-use hg_model::{Found, Member, Memory, Name, Parents, Placed, Prefix, Share};
+use hg_model::{Found, Member, Memory, Name, Placed, Prefix, Share};
 use hg_pay::{Book, Ledger};
 use hg_votes::VoteTable;
 use std::alloc::Global;
@@ -114,9 +114,9 @@ impl Chronicle {
 
     /// One row more, an event with its parents' places, and the entry that tells how it came.
     /// There is memory then for two entries of the log and an effect for each row.
-    pub fn add(&mut self, event: Arc<Event>, parents: Parents, entry: Entry) -> Result<(), Memory>
+    pub fn add(&mut self, event: Arc<Event>, parents: &[usize], entry: Entry) -> Result<(), Memory>
         requires limit { length self.old.graph.rows < row_limit }
-        requires link { StandsOn self.old.graph.rows event.value parents }
+        requires link { StandsOn self.old.graph.rows event.value parents.now }
         requires graph { IsGraph self.old.graph.members (self.old.graph.rows ++ event.value ∷ []) }
         ensures ok { OnOk result (self.new ≡ chronicle_with self.old event.value entry) }
         ensures err { OnErr result (self.new ≡ self.old) }

@@ -1,11 +1,11 @@
-ghost use Rattle.std.specs.Prelude.{◌≡◌, ◌≤◌, ◌<◌, length, option_map, IfOk};
+ghost use Rattle.std.specs.Prelude.{◌≡◌, ◌≤◌, ◌<◌, true, length, option_map, IfOk};
 ghost use Rattle.std.specs.Option.{option_to_list};
 ghost use Rattle.std.specs.Result.{result_err};
-ghost use Rattle.hg_model.specs.Links.{place_of};
+ghost use Rattle.hg_model.specs.Links.{has_few_others, place_of};
 ghost use Rattle.hg_life.specs.Spelling.{payload_limit};
 ghost use Rattle.hg_life.specs.Verdict.{first_rule, other_rule, parents_on, payload_rule, signed_row};
 ghost use Rattle.hg_sign.specs.Signed.{IsSigned};
-ghost use Rattle.hg_node.specs.Draft.{both_places, draft_fault, draft_names, draft_places, row_fault};
+ghost use Rattle.hg_node.specs.Draft.{both_places, draft_fault, draft_names, draft_places, listed, row_fault};
 
 use crate::ROW_LIMIT;
 use crate::chronicle::Chronicle;
@@ -20,8 +20,9 @@ use std::alloc::Global;
 use std::sync::Arc;
 
 /// The parents of an event that a node is to make: their names and their places.
-#[derive(Clone, Copy)]
+#[derive(Drop)]
 pub struct Draft {
+    /// That of the self-parent and that of the one other-parent.
     pub names: Option<(Name, Name)>,
     pub places: Parents,
 }
@@ -34,8 +35,8 @@ pub fn draft_of(
     payload: &[u8],
 ) -> Result<Draft, MakeFault>
     ensures fault { result_err result ≡ draft_fault chronicle.now (option_to_list other.now) payload.now }
-    ensures names { IfOk result (λ draft. draft.names ≡ draft_names chronicle.now (option_to_list other.now)) }
-    ensures places { IfOk result (λ draft. draft.places ≡ draft_places chronicle.now draft.names) }
+    ensures names { IfOk result (λ draft. listed draft.names ≡ draft_names chronicle.now (option_to_list other.now)) }
+    ensures places { IfOk result (λ draft. draft.places ≡ draft_places chronicle.now (listed draft.names)) }
 {
     let last = chronicle.last_name();
     first_rule(&last, other)?;
@@ -90,7 +91,7 @@ fn payload_rule(payload: &[u8]) -> Result<(), MakeFault>
 
 /// Both parents' names, or none.
 fn names_on(last: Option<Name>, other: Option<Name>) -> Option<(Name, Name)>
-    ensures { result ≡ parents_on last (option_to_list other) }
+    ensures { listed result ≡ parents_on last (option_to_list other) }
 {
     match (last, other) {
         (Some(last), Some(other)) => Some((last, other)),
@@ -108,20 +109,34 @@ fn places_on(last: Option<usize>, other: Option<usize>) -> Parents
     }
 }
 
+/// These names as a row has them.
+fn listed(alloc: Global, names: Option<(Name, Name)>) -> Result<Option<(Name, Items<Name>)>, Memory>
+    ensures names { IfOk result (λ parents. parents ≡ listed names) }
+    ensures few { IfOk result (λ parents. has_few_others parents ≡ true) }
+{
+    let Some(names) = names else {
+        return Ok(None);
+    };
+    let (last, other) = names;
+    let others = vec![in alloc; other]?;
+    Ok(Some((last, Items::from_vec(others))))
+}
+
 /// The event of a member on parents of these names, signed. It is named, and its bytes are written out, once.
 pub fn signed_event<V: Signer>(
     alloc: Global,
     keys: &V,
     creator: Member,
-    parents: Option<(Name, Name)>,
+    names: Option<(Name, Name)>,
     time: u64,
     payload: &[u8],
 ) -> Result<Arc<Event>, Memory>
     requires { length payload.now ≤ payload_limit }
-    ensures row { IfOk result (λ event. event.value ≡ signed_row creator parents time payload.now event.value.sig) }
-    ensures signed { IfOk result (λ e. IsSigned (V.accepts keys.now) creator parents time payload.now e.value.sig) }
+    ensures row { IfOk result (λ e. e.value ≡ signed_row creator (listed names) time payload.now e.value.sig) }
+    ensures signed { IfOk result (λ e. IsSigned (V.accepts keys.now) creator (listed names) time payload.now e.value.sig) }
     ensures sized { IfOk result (λ event. length event.value.sig ≡ 64) }
 {
+    let parents = listed(alloc, names)?;
     let signed = signed_bytes(alloc, keys, creator, &parents, time, payload)?;
     let row = Row {
         creator,

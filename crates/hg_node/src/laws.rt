@@ -19,8 +19,8 @@ pub fn opened_is_found<K>()
     ensures { OpenedIsFound K }
 {}
 
-/// A law of nodes with any keys: what is stored of an accepted put, of an event that was made and of a share that marked some
-/// leads again to the node that they left.
+/// A law of nodes with any keys: what is stored of an accepted put, of an event that was made on few others and of a share that
+/// marked some leads again to the node that they left.
 pub fn stored_changes_replay<K>()
     ensures took { PutsReplay K }
     ensures made { MakesReplay K }

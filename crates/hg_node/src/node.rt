@@ -30,7 +30,7 @@ use crate::putting::{parents_of_put, parents_of_put_event, parents_of_restore};
 use hg_event::{Event, EventView, decode};
 use hg_graph::{EventGraph, FrozenGraph};
 use hg_life::{Effect, Entry, Fault, MakeAnswer, Members, Parcel, PutAnswer};
-use hg_model::{Found, Items, Member, Memory, Name, Parents, Placed, Prefix, Rounds, Row, Share};
+use hg_model::{Found, Items, Member, Memory, Name, Placed, Prefix, Rounds, Row, Share};
 use hg_name::name_of;
 use hg_pay::Book;
 use hg_sign::Signer;
@@ -99,7 +99,7 @@ impl<V: Signer> Node<V> {
                 &view,
                 name,
                 bytes,
-                parents,
+                parents.as_slice(),
             ),
             Err(answer) => Ok(answer),
         }
@@ -126,7 +126,7 @@ impl<V: Signer> Node<V> {
                 &view,
                 event_name,
                 bytes,
-                parents,
+                parents.as_slice(),
             ),
             Err(answer) => Ok(answer),
         }
@@ -145,7 +145,7 @@ impl<V: Signer> Node<V> {
         event.is_event();
         are_bytes(event.bytes());
         match parents_of_put_event(&*self.chronicle, event) {
-            Ok(parents) => take_shared(&mut *self.chronicle, event, parents),
+            Ok(parents) => take_shared(&mut *self.chronicle, event, parents.as_slice()),
             Err(answer) => Ok(answer),
         }
     }
@@ -172,7 +172,8 @@ impl<V: Signer> Node<V> {
             Err(fault) => Ok(MakeAnswer::Refused(fault)),
             Ok(()) => {
                 let place = self.chronicle.graph().len();
-                self.chronicle.add(event, draft.places, Entry::Made(place))?;
+                self.chronicle
+                    .add(event, draft.places.as_slice(), Entry::Made(place))?;
                 Ok(MakeAnswer::Made(place))
             }
         }
@@ -454,12 +455,12 @@ fn take(
     view: &EventView<'_>,
     name: Name,
     bytes: &[u8],
-    parents: Parents,
+    parents: &[usize],
 ) -> Result<PutAnswer, Memory>
     requires limit { length chronicle.old.graph.rows < row_limit }
     requires spelled { Spells bytes.now (row_of view.now) }
     requires name { name ≡ (row_of view.now).name }
-    requires link { StandsOn chronicle.old.graph.rows (row_of view.now) parents }
+    requires link { StandsOn chronicle.old.graph.rows (row_of view.now) parents.now }
     requires graph { IsGraph chronicle.old.graph.members (chronicle.old.graph.rows ++ row_of view.now ∷ []) }
     ensures answer { IfOk result (λ answer. answer ≡ Accepted (length chronicle.old.graph.rows)) }
     ensures ok { OnOk result (chronicle.new ≡ chronicle_took chronicle.old (row_of view.now)) }
@@ -476,12 +477,12 @@ fn take_back(
     view: &EventView<'_>,
     name: Name,
     bytes: &[u8],
-    parents: Parents,
+    parents: &[usize],
 ) -> Result<PutAnswer, Memory>
     requires limit { length chronicle.old.graph.rows < row_limit }
     requires spelled { Spells bytes.now (row_of view.now) }
     requires name { name ≡ (row_of view.now).name }
-    requires link { StandsOn chronicle.old.graph.rows (row_of view.now) parents }
+    requires link { StandsOn chronicle.old.graph.rows (row_of view.now) parents.now }
     requires graph { IsGraph chronicle.old.graph.members (chronicle.old.graph.rows ++ row_of view.now ∷ []) }
     ensures answer { IfOk result (λ answer. answer ≡ Accepted (length chronicle.old.graph.rows)) }
     ensures ok { OnOk result (chronicle.new ≡ chronicle_made chronicle.old (row_of view.now)) }
@@ -504,10 +505,10 @@ fn are_bytes(bytes: &[u8])
 fn take_shared(
     chronicle: &mut Chronicle,
     event: &Arc<Event>,
-    parents: Parents,
+    parents: &[usize],
 ) -> Result<PutAnswer, Memory>
     requires limit { length chronicle.old.graph.rows < row_limit }
-    requires link { StandsOn chronicle.old.graph.rows event.now.value parents }
+    requires link { StandsOn chronicle.old.graph.rows event.now.value parents.now }
     requires graph { IsGraph chronicle.old.graph.members (chronicle.old.graph.rows ++ event.now.value ∷ []) }
     ensures answer { IfOk result (λ answer. answer ≡ Accepted (length chronicle.old.graph.rows)) }
     ensures ok { OnOk result (chronicle.new ≡ chronicle_took chronicle.old event.now.value) }

@@ -12,7 +12,7 @@ ghost use Rattle.hg_node.specs.Restore.{impostor_in, is_same_name, self_name};
 use crate::ROW_LIMIT;
 use crate::chronicle::Chronicle;
 use hg_arrival::{parents_of_arrival, parents_of_signed};
-use hg_event::{Event, EventView};
+use hg_event::{Event, EventView, ParentsView};
 use hg_graph::EventGraph;
 use hg_life::{Fault, PutAnswer};
 use hg_model::{Member, Name, Parents};
@@ -84,12 +84,12 @@ fn impostor_of(chronicle: &Chronicle, view: &EventView<'_>) -> Option<Member>
 }
 
 /// Whether the self-parent's name is this one, or neither is there.
-fn is_self_parent(parents: &Option<(&Name, &Name)>, last: &Option<Name>) -> bool
+fn is_self_parent(parents: &Option<ParentsView<'_>>, last: &Option<Name>) -> bool
     ensures { result ≡ is_same_name (self_name (names_lent parents.now)) last.now }
 {
     match (parents, last) {
         (None, None) => true,
-        (Some(names), Some(last)) => names.0 == last,
+        (Some(names), Some(last)) => names.self_parent == last,
         _ => false,
     }
 }

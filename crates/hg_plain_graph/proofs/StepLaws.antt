@@ -1,8 +1,9 @@
 -- The next value of a column, from those before it
-use Rattle.std.proofs.Common.{◌≡◌, ◌≢◌, ℕ, ◌+◌, ◌<◌, Bool, true, false, cond, ◌||◌, ◌&&◌, eqb, List, length, get_or, sym, refl, ap, ◌∙◌, arith}
+use Rattle.std.proofs.Common.{◌≡◌, ◌≢◌, ℕ, ◌+◌, ◌<◌, Bool, true, false, cond, ◌||◌, ◌&&◌, eqb, List, [], ◌∷◌, ◌++◌, length, get_or, take, max, sym, refl, ap, ◌∙◌, arith}
 use Rattle.std.specs.List.{list_any}
 use Rattle.std.specs.Global.{Vec}
 use Rattle.std.proofs.lemmas.Bool.{eq-eqb, ne_eqb}
+use Rattle.std.proofs.lemmas.List.{take_more}
 use Rattle.hg_model.specs.Places.{maximum_below, IsEarlier}
 use Rattle.hg_model.specs.Stakes.{Stakes, member_count, stake_of, stake_where, total}
 use Rattle.hg_model.specs.Links.{Link, creator, parents, self_parent}
@@ -61,6 +62,22 @@ weight_of_columns L n x y through matches hx =
 -- what is seen where the first test passes
 pub and_given : (a s v : Bool) → a ≡ true → v ≡ s → v ≡ (a && s)
 and_given a s v passes is = is ∙ sym (ap (λ b. b && s) passes)
+
+-- the greatest of the rounds, one place more
+
+parent_round-push : (round : ℕ → ℕ) (ps : List ℕ) (p : ℕ) → parent_round round (ps ++ p ∷ []) ≡ max (round p) (parent_round round ps)
+parent_round-push round [] p = refl
+parent_round-push round (q ∷ ps) p = omega (arith, parent_round-push round ps p)
+
+pub parent_round_none : (round : ℕ → ℕ) (ps : List ℕ) → parent_round round (take 0 ps) ≡ 1
+parent_round_none round [] = refl
+parent_round_none round (p ∷ ps) = refl
+
+pub parent_round_more : (round : ℕ → ℕ) (ps : List ℕ) (i : ℕ) → i < length ps →
+    parent_round round (take (i + 1) ps) ≡ max (round (get_or ps i 0)) (parent_round round (take i ps))
+parent_round_more round ps i inside = ap (parent_round round) (take_more ps i 0 inside) ∙ parent_round-push round (take i ps) (get_or ps i 0)
+
+pub ruleset parent_round_steps = (parent_round_none, parent_round_more)
 
 -- the next round, from the rounds before it
 pub round_next : (n : Stakes) (L : List Link) → IsEarlier (parents L) → (rounds : List ℕ) (x r weight : ℕ) (many : Bool) → IsTableOf 0 (round_of n L) x rounds →

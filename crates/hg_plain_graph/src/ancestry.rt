@@ -1,5 +1,5 @@
 ghost use Rattle.std.specs.Prelude.{◌≡◌, ◌<◌, ◌≤◌, length, slice_index_or, false, IfOk};
-ghost use Rattle.std.specs.List.{list_any};
+ghost use Rattle.std.specs.List.{AllByRecursion, list_any};
 ghost use Rattle.hg_model.specs.Places.{IsEarlier};
 ghost use Rattle.hg_model.specs.Links.{parents};
 ghost use Rattle.hg_model.specs.Ancestry.{is_ancestor, is_self_ancestor};
@@ -15,7 +15,7 @@ use std::marker::Model;
 /// By which parents an ancestor is reached.
 #[derive(Clone, Copy)]
 pub enum By {
-    /// By both.
+    /// By all.
     Parents,
     /// By the self-parent alone.
     SelfParent,
@@ -87,15 +87,25 @@ pub fn any_parent(by: By, links: &[PlainLink], column: &[bool], x: usize) -> boo
     ensures { result ≡ list_any (λ p. slice_index_or column.now p false) (parents_by by links.now x) }
 {
     match by {
-        By::Parents => match parents_of(links, x).pair() {
-            None => false,
-            Some((self_place, other)) => column[self_place] || column[other],
-        },
+        By::Parents => holds_any(column, parents_of(links, x)),
         By::SelfParent => match self_parent_of(links, x) {
             None => false,
             Some(self_place) => column[self_place],
         },
     }
+}
+
+/// Whether the column holds some of these places.
+fn holds_any(column: &[bool], places: &[usize]) -> bool
+    requires { AllByRecursion (λ p. p < length column.now) places.now }
+    ensures { result ≡ list_any (λ p. slice_index_or column.now p false) places.now }
+{
+    for place in places {
+        if column[*place] {
+            return true;
+        }
+    }
+    false
 }
 
 /// Whether row `x` has row `y` as ancestor, where `column` tells it of the rows before `x`.

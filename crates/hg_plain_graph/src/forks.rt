@@ -6,7 +6,7 @@ ghost use Rattle.hg_model.specs.Graph.{IsShaped};
 ghost use Rattle.hg_model.specs.Graph.{creator_at};
 ghost use Rattle.hg_plain_graph.specs.Twins.{IsSelfParentBySame, has_twin_before, has_twins, is_same_self_parent, is_twin, is_twin_row};
 
-use hg_model::{Name, Row};
+use hg_model::{Items, Name, Row};
 
 /// How many of the members have a fork: twins tell it, so no table is filled.
 /// The time grows with the square of the rows, by a step of two comparisons.
@@ -81,7 +81,7 @@ fn is_twin_row(a: &Row, b: &Row) -> bool
     a.creator == b.creator && is_same_self_parent(&a.parents, &b.parents)
 }
 
-fn is_same_self_parent(a: &Option<(Name, Name)>, b: &Option<(Name, Name)>) -> bool
+fn is_same_self_parent(a: &Option<(Name, Items<Name>)>, b: &Option<(Name, Items<Name>)>) -> bool
     ensures { result ≡ is_same_self_parent a.now b.now }
 {
     match (a, b) {

@@ -42,16 +42,19 @@ fn next_round(seeing: &Seeing, strong: &[Vec<bool>], rounds: &[u32], x: usize) -
 }
 
 /// The greatest of the rounds of the parents of row `x`, or 1.
+#[tactic(auto, using(crate::proofs::StepLaws::parent_round_steps))]
 fn parent_round(links: &[PlainLink], rounds: &[u32], x: usize) -> u32
     requires place { x < length links.now }
     requires earlier { IsEarlier (parents links.now) }
     requires known { x ≤ length rounds.now }
     ensures { result ≡ parent_round (λ p. slice_index rounds.now p) (parents links.now x) }
 {
-    match parents_of(links, x).pair() {
-        None => 1,
-        Some((self_place, other)) => rounds[self_place].max(rounds[other].max(1)),
+    let places = parents_of(links, x);
+    let mut greatest = 1;
+    for place in places {
+        greatest = rounds[*place].max(greatest);
     }
+    greatest
 }
 
 /// What the witnesses of round `r` weigh that row `x` strongly sees.

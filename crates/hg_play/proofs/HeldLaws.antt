@@ -65,14 +65,14 @@ refused_or false f o none = none
 missing_known : (G : List Row) (parents : ParentNames) → tells_known (missing_rule G parents) ≡ false
 missing_known G None = refl
 missing_known G (Some names) =
-    refused_or (not (is_held G names.0)) (fault.MissingSelf names.0) (option_map (λ name. Refused (fault.MissingOther name)) (first_missing G (names.1 ∷ [])))
-    (refused_map (λ (name : List ℕ). fault.MissingOther name) (first_missing G (names.1 ∷ [])))
+    refused_or (not (is_held G names.0)) (fault.MissingSelf names.0) (option_map (λ name. Refused (fault.MissingOther name)) (first_missing G names.1))
+    (refused_map (λ (name : List ℕ). fault.MissingOther name) (first_missing G names.1))
 
 creator_known : (G : List Row) (m : ℕ) (parents : ParentNames) → tells_known (creator_rule G m parents) ≡ false
 creator_known G m None = refl
 creator_known G m (Some names) =
-    refused_or (not (creator_at G (place_of G names.0) == m)) (fault.SelfCreator (place_of G names.0)) (option_map (λ place. Refused (fault.OtherCreator place)) (first_by G m (names.1 ∷ [])))
-    (refused_map (λ (place : ℕ). fault.OtherCreator place) (first_by G m (names.1 ∷ [])))
+    refused_or (not (creator_at G (place_of G names.0) == m)) (fault.SelfCreator (place_of G names.0)) (option_map (λ place. Refused (fault.OtherCreator place)) (first_by G m names.1))
+    (refused_map (λ (place : ℕ). fault.OtherCreator place) (first_by G m names.1))
 
 name_known : (b c : Bool) (p : ℕ) → b ≡ false → tells_known (if not b then None else if c then Some (Known p) else Some (Refused (fault.Collision p))) ≡ false
 name_known true c p is = absurd (true≢false is)

@@ -1,5 +1,5 @@
 -- The bytes that labels stand for
-use Rattle.std.specs.Prelude.{ℕ, nat_lt, Option, List, [], ◌++◌, length, take, slice_get, slice_index, slice_index_or, slice_set, bit_xor, option_map, unwrap_or, if◌then◌else◌}
+use Rattle.std.specs.Prelude.{ℕ, nat_lt, Option, List, [], ◌∷◌, ◌++◌, length, take, slice_get, slice_index, slice_index_or, slice_set, bit_xor, option_map, unwrap_or, if◌then◌else◌}
 use Rattle.std.specs.declared.sync.Arc.{Arc}
 use Rattle.sha2.specs.Sha512.{sha384}
 use Rattle.hg_model.specs.declared.row.Row.{Row}
@@ -21,8 +21,8 @@ abbrev pub name_of_label : List (List ℕ) → ℕ → List ℕ
 name_of_label labels k = sha384 (bytes_at labels k)
 
 -- the names of the events of two labels
-abbrev pub names_of_labels : List (List ℕ) → ℕ × ℕ → List ℕ × List ℕ
-names_of_labels labels pair = (name_of_label labels pair.0, name_of_label labels pair.1)
+abbrev pub names_of_labels : List (List ℕ) → ℕ × ℕ → List ℕ × List (List ℕ)
+names_of_labels labels pair = (name_of_label labels pair.0, name_of_label labels pair.1 ∷ [])
 
 -- the bytes of the row with this name, if there is one
 abbrev pub bytes_named : List Row → List ℕ → List ℕ

@@ -1,4 +1,5 @@
-ghost use Rattle.std.specs.Prelude.{◌≡◌, ◌≤◌, IfOk, length, option_map, take};
+ghost use Rattle.std.specs.Prelude.{◌≡◌, ◌≤◌, true, IfOk, length, option_map, take};
+ghost use Rattle.hg_model.specs.Links.{has_few_others};
 ghost use Rattle.hg_life.specs.Spelling.{payload_limit};
 ghost use Rattle.hg_life.specs.NodeView.{node_rows};
 ghost use Rattle.hg_play.specs.Labels.{altered, bytes_at, bytes_named, bytes_of_event, forged, last_bytes, name_of_label, names_of_labels};
@@ -30,14 +31,19 @@ pub(crate) fn name_of_label(labels: &[Bytes], label: usize) -> Name
 
 /// The names of the events of two labels.
 pub(crate) fn names_of_labels(
+    alloc: Global,
     labels: &[Bytes],
     parents: &Option<(usize, usize)>,
-) -> Option<(Name, Name)>
-    ensures { result ≡ option_map (names_of_labels labels.now) parents.now }
+) -> Result<Option<(Name, Items<Name>)>, Memory>
+    ensures names { IfOk result (λ names. names ≡ option_map (names_of_labels labels.now) parents.now) }
+    ensures few { IfOk result (λ names. has_few_others names ≡ true) }
 {
     match parents {
-        None => None,
-        Some((own, other)) => Some((name_of_label(labels, *own), name_of_label(labels, *other))),
+        None => Ok(None),
+        Some((own, other)) => {
+            let others = Vec::from_slice(alloc, &[name_of_label(labels, *other)])?;
+            Ok(Some((name_of_label(labels, *own), Items::from_vec(others))))
+        }
     }
 }
 
@@ -46,11 +52,12 @@ pub(crate) fn forged(
     alloc: Global,
     keys: &MacTable,
     creator: Member,
-    parents: &Option<(Name, Name)>,
+    parents: &Option<(Name, Items<Name>)>,
     time: u64,
     payload: &[u8],
 ) -> Result<Bytes, Memory>
-    requires { length payload.now ≤ payload_limit }
+    requires few { has_few_others parents.now ≡ true }
+    requires payload { length payload.now ≤ payload_limit }
     ensures { IfOk result (λ bytes. bytes ≡ forged keys.now creator parents.now time payload.now) }
 {
     let event = signed_bytes(alloc, keys, creator, parents, time, payload)?;

@@ -33,7 +33,7 @@ fn source_bytes<N: Nodes>(
             time,
             payload,
         } => {
-            let names = names_of_labels(labels, parents);
+            let names = names_of_labels(alloc, labels, parents)?;
             forged(
                 alloc,
                 game.keys,

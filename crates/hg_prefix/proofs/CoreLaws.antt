@@ -29,12 +29,12 @@ pub stand_in_one : ChainsStandInOne
 unfolding forking
 stand_in_one n G H faulty g h equal few others =
     let U : List Row = union G H in
-    let is = union_joined n G H g.distinct g.shaped h.distinct h.shaped equal in
+    let is = union_joined n G H g h equal in
     let fewer = weight_below-le (stake_of n) (member_count n) (has_fork (links U)) faulty (λ m inside forks. elim (cases_Bool (faulty m)) [
       | inl among ↦ among
       | inr not_among ↦ absurd (both_ways (has_fork (links U) m) (chain_no_fork n m G H U is (others m inside not_among)) forks)
     ]) in (
-      record { distinct = is.distinct; shaped = is.shaped; few_forkers = omega (arith, fewer, few) },
+      record { distinct = is.distinct; few_others = is.few_others; shaped = is.shaped; few_forkers = omega (arith, fewer, few) },
       is.has_first,
       record { row_in = λ y inside. is.has_second y inside },
     )

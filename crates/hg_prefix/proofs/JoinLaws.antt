@@ -7,8 +7,8 @@ use Rattle.std.proofs.lemmas.Option.{slice_get-get_or, get_or_from_slice_get}
 use Rattle.hg_model.specs.declared.row.Row.{Row}
 use Rattle.hg_model.specs.Places.{has_place}
 use Rattle.hg_model.specs.Stakes.{Stakes}
-use Rattle.hg_model.specs.Links.{parent_names, place_of, links, first_place, later_places, creator, parents, self_parent, other_parents}
-use Rattle.hg_model.specs.Graph.{name_in, name_at, HasDistinctNames, IsShaped}
+use Rattle.hg_model.specs.Links.{has_few_others, parent_names, place_of, links, first_place, later_places, creator, parents, self_parent, other_parents}
+use Rattle.hg_model.specs.Graph.{name_in, name_at, have_few_others, HasDistinctNames, IsShaped, IsGraph}
 use Rattle.hg_model.specs.Held.{is_held}
 use Rattle.hg_model.specs.Graph.{creator_at, creator_of_row}
 use Rattle.hg_model.specs.Fits.{AreHeld, ParentsFit, Fits}
@@ -18,6 +18,7 @@ use Rattle.hg_model.proofs.PushLaws.{nobody, row_creator-links, slice_get-before
 use Rattle.hg_model.proofs.ReachLaws.{has_place_first, has_place_later}
 use Rattle.hg_prefix.specs.Standing.{IsRowOf, StandsIn}
 use Rattle.hg_prefix.specs.Chains.{HaveEqualRows}
+use Rattle.hg_prefix.proofs.FewLaws.{few_at, few_push}
 use Rattle.hg_prefix.proofs.StandingLaws.{name_at_place}
 
 -- the rows with one more, unless one has its name
@@ -32,6 +33,7 @@ joined G H (suc k) = row_added (joined G H k) (get_or H k nobody)
 -- what the first k rows of H make of G
 pub record IsJoined (n : Stakes) (G H : List Row) (k : ℕ) (U : List Row) : Type 0 where
   pub distinct : HasDistinctNames U
+  pub few_others : have_few_others U ≡ true
   pub shaped : IsShaped n (links U)
   pub has_first : StandsIn G U
   pub has_second : (y : ℕ) → y < k → IsRowOf H y U
@@ -43,7 +45,7 @@ row_stays G x U row is =
     let inside : is.0 < length U = is.1 in
     (is.0, omega (arith, length_push U row), slice_get-before U row is.0 inside ∙ is.2)
 
-module _ (n : Stakes) (G H : List Row) (distinct_H : HasDistinctNames H) (shaped_H : IsShaped n (links H)) (equal : HaveEqualRows G H) where
+module _ (n : Stakes) (G H : List Row) (graph_H : IsGraph n H) (equal : HaveEqualRows G H) where
   -- row k of H fits behind rows that have all earlier rows of H
   module _ (k : ℕ) (inside : k < length H) (U : List Row) (is : IsJoined n G H k U) where
     row : Row
@@ -99,24 +101,29 @@ module _ (n : Stakes) (G H : List Row) (distinct_H : HasDistinctNames H) (shaped
         )
 
     low_places : (p : ℕ) → has_place row_places p ≡ true → p < k
-    low_places p h = shaped_H.earlier.earlier k p (subst (λ ps. has_place ps p ≡ true) (sym parents_are) h)
+    low_places p h = graph_H.shaped.earlier.earlier k p (subst (λ ps. has_place ps p ≡ true) (sym parents_are) h)
 
     own_place : (p : ℕ) → has_place (first_place row_places) p ≡ true → creator_at H p ≡ row.creator
     unfolding self_parent
     own_place p h =
         sym (row_creator-links H p)
-        ∙ (shaped_H.self_by_same k p (subst (λ ps. has_place (first_place ps) p ≡ true) (sym parents_are) h) ∙ creator_is)
+        ∙ (graph_H.shaped.self_by_same k p (subst (λ ps. has_place (first_place ps) p ≡ true) (sym parents_are) h) ∙ creator_is)
 
     other_places : (p : ℕ) → has_place (later_places row_places) p ≡ true → creator_at H p ≢ row.creator
     unfolding other_parents
     other_places p h same =
-        shaped_H.others_by_others k p (subst (λ ps. has_place (later_places ps) p ≡ true) (sym parents_are) h)
+        graph_H.shaped.others_by_others k p (subst (λ ps. has_place (later_places ps) p ≡ true) (sym parents_are) h)
         (row_creator-links H p ∙ (same ∙ sym creator_is))
+
+    few : has_few_others row.parents ≡ true
+    unfolding row
+    few = few_at H k graph_H.few_others inside
 
     fits : Fits n U row
     unfolding row_places
     fits = record {
-      member = rw (← creator_is) (shaped_H.members k (rw (length-links H) inside));
+      member = rw (← creator_is) (graph_H.shaped.members k (rw (length-links H) inside));
+      few = few;
       present = record { held = held (parent_names row.parents) low_places };
       parents_fit = parents_fit (parent_names row.parents) low_places own_place other_places;
     }
@@ -126,6 +133,7 @@ module _ (n : Stakes) (G H : List Row) (distinct_H : HasDistinctNames H) (shaped
     unfolding name_at
     joined_held held = record {
       distinct = is.distinct;
+      few_others = is.few_others;
       shaped = is.shaped;
       has_first = is.has_first;
       has_second = λ y low. elim (cases_eq y k) [
@@ -134,7 +142,7 @@ module _ (n : Stakes) (G H : List Row) (distinct_H : HasDistinctNames H) (shaped
           held,
           elim (is.no_other (place_of U row.name) held) [
             | inl of_G ↦ sym of_G.2 ∙ equal.equal of_G.0 k of_G.1 inside (ap name_in of_G.2 ∙ named)
-            | inr of_H ↦ sym of_H.2 ∙ ap (slice_get H) (distinct_H.one of_H.0 k of_H.1 inside (ap name_in of_H.2 ∙ named))
+            | inr of_H ↦ sym of_H.2 ∙ ap (slice_get H) (graph_H.distinct.one of_H.0 k of_H.1 inside (ap name_in of_H.2 ∙ named))
           ],
         )
         | inr before ↦ is.has_second y (omega arith)
@@ -149,6 +157,7 @@ module _ (n : Stakes) (G H : List Row) (distinct_H : HasDistinctNames H) (shaped
     joined_more : length U ≤ place_of U row.name → IsJoined n G H (suc k) (U ++ row ∷ [])
     joined_more free = record {
       distinct = distinct-push U row is.distinct free;
+      few_others = few_push U row is.few_others few;
       shaped = shaped-push n U row is.shaped fits;
       has_first = record { row_in = λ x h. row_stays G x U row (is.has_first.row_in x h) };
       has_second = λ y low. elim (cases_eq y k) [
@@ -179,13 +188,13 @@ module _ (n : Stakes) (G H : List Row) (distinct_H : HasDistinctNames H) (shaped
       ]
 
 -- the whole of both
-pub joined_whole : (n : Stakes) (G H : List Row) → HasDistinctNames G → IsShaped n (links G) → HasDistinctNames H → IsShaped n (links H) → HaveEqualRows G H →
-    IsJoined n G H (length H) (joined G H (length H))
-joined_whole n G H distinct_G shaped_G distinct_H shaped_H equal =
-    joined_is n G H distinct_H shaped_H equal
+pub joined_whole : (n : Stakes) (G H : List Row) → IsGraph n G → IsGraph n H → HaveEqualRows G H → IsJoined n G H (length H) (joined G H (length H))
+joined_whole n G H graph_G graph_H equal =
+    joined_is n G H graph_H equal
     (record {
-      distinct = distinct_G;
-      shaped = shaped_G;
+      distinct = graph_G.distinct;
+      few_others = graph_G.few_others;
+      shaped = graph_G.shaped;
       has_first = record { row_in = λ x inside. (x, inside, refl) };
       has_second = λ y low. absurd (omega arith);
       no_other = λ u inside. inl (u, inside, refl);

@@ -10,6 +10,7 @@ pub mod ReceivedLaws
 pub mod OrderLaws
 pub mod OwnLaws
 pub mod GrowthLaws
+pub mod FewLaws
 pub mod JoinLaws
 pub mod UnionLaws
 pub mod ChainLaws

@@ -7,8 +7,8 @@ use Rattle.std.proofs.lemmas.List.Folds.{list_any-append}
 use Rattle.std.proofs.Math.Seq.{take-suc, take-length}
 use Rattle.hg_model.specs.declared.row.Row.{Row}
 use Rattle.hg_model.specs.Stakes.{Stakes}
-use Rattle.hg_model.specs.Links.{is_named, links, place_of}
-use Rattle.hg_model.specs.Graph.{HasDistinctNames, IsShaped}
+use Rattle.hg_model.specs.Links.{is_named, place_of}
+use Rattle.hg_model.specs.Graph.{HasDistinctNames, IsGraph}
 use Rattle.hg_model.specs.Held.{is_held, lacking}
 use Rattle.hg_model.proofs.NameLaws.{bytes_same, name-at}
 use Rattle.hg_model.proofs.PushLaws.{nobody}
@@ -95,7 +95,5 @@ module _ (G H : List Row) (distinct : HasDistinctNames H) where
   whole_is_union = joined_is_union (length H) (omega arith) ∙ ap (λ (rows : List Row). G ++ lacking G rows) (take-length H)
 
 -- the union has the rows of both, and no other
-pub union_joined : (n : Stakes) (G H : List Row) → HasDistinctNames G → IsShaped n (links G) → HasDistinctNames H → IsShaped n (links H) → HaveEqualRows G H →
-    IsJoined n G H (length H) (union G H)
-union_joined n G H distinct_G shaped_G distinct_H shaped_H equal =
-    subst (IsJoined n G H (length H)) (whole_is_union G H distinct_H) (joined_whole n G H distinct_G shaped_G distinct_H shaped_H equal)
+pub union_joined : (n : Stakes) (G H : List Row) → IsGraph n G → IsGraph n H → HaveEqualRows G H → IsJoined n G H (length H) (union G H)
+union_joined n G H graph_G graph_H equal = subst (IsJoined n G H (length H)) (whole_is_union G H graph_H.distinct) (joined_whole n G H graph_G graph_H equal)

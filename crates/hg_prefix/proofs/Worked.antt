@@ -34,7 +34,7 @@ first m time = record { creator = m; parents = None; time = time; payload = []; 
 
 abbrev made : ℕ → ℕ → ℕ → ℕ → Row
 made m own other time =
-    record { creator = m; parents = Some (own ∷ [], other ∷ []); time = time; payload = []; sig = time ∷ []; name = time ∷ [] }
+    record { creator = m; parents = Some (own ∷ [], (other ∷ []) ∷ []); time = time; payload = []; sig = time ∷ []; name = time ∷ [] }
 
 abbrev common : List Row
 common = made 0 1 2 3 ∷ made 1 2 3 4 ∷ made 0 3 4 5 ∷ made 1 4 5 6 ∷ made 0 5 6 7 ∷ made 1 6 7 8 ∷ []
@@ -108,7 +108,7 @@ shorter_name = record { creator = 1; parents = None; time = 2; payload = []; sig
 
 abbrev made_on : List ℕ → List ℕ → ℕ → ℕ → Row
 made_on own other m time =
-    record { creator = m; parents = Some (own, other); time = time; payload = []; sig = time ∷ []; name = time ∷ [] }
+    record { creator = m; parents = Some (own, other ∷ []); time = time; payload = []; sig = time ∷ []; name = time ∷ [] }
 
 abbrev above_both : List Row
 above_both = made_on (7 ∷ 9 ∷ []) (9 ∷ []) 0 3 ∷ made_on (9 ∷ []) (3 ∷ []) 1 4 ∷ made 0 3 4 5 ∷ made 1 4 5 6 ∷ made 0 5 6 7 ∷ made 1 6 7 8 ∷ []

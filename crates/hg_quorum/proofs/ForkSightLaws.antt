@@ -1,5 +1,5 @@
 -- Of the two rows of a fork at most one is strongly seen
-use Rattle.std.proofs.Common.{◌≡◌, ℕ, ◌*◌, ◌<◌, ◌≤◌, true, not, List, length, inl, inr, arith}
+use Rattle.std.proofs.Common.{◌≡◌, ℕ, ◌*◌, ◌<◌, ◌≤◌, true, List, length, inl, inr, arith}
 use Rattle.std.proofs.lemmas.Bool.{ltb-true, both_ways}
 use Rattle.hg_model.specs.Stakes.{Stakes, member_count, stake_of, stake_where, total}
 use Rattle.hg_model.specs.Links.{Link, creator}

@@ -1,8 +1,8 @@
 -- The round of the last row, from the standings of the rows before it
-use Rattle.std.proofs.Common.{◌≡◌, ℕ, ◌+◌, ◌-◌, ◌<◌, ◌≤◌, Bool, cond, ◌&&◌, eqb, ltb, ◌⊎◌, inl, inr, List, [], ◌∷◌, ◌++◌, length, take, refl, sym, ap, ◌∙◌, subst, arith}
+use Rattle.std.proofs.Common.{◌≡◌, ℕ, ◌+◌, ◌-◌, ◌<◌, ◌≤◌, Bool, cond, ◌&&◌, eqb, ltb, ◌⊎◌, inl, inr, List, [], ◌∷◌, ◌++◌, length, get_or, take, max, refl, sym, ap, ◌∙◌, subst, arith}
 use Rattle.std.specs.List.{list_all, AllByRecursion}
 use Rattle.std.proofs.lemmas.Bool.{cases_eq}
-use Rattle.std.proofs.lemmas.List.{length-take-le}
+use Rattle.std.proofs.lemmas.List.{length-take-le, take_more}
 use Rattle.hg_model.specs.Places.{list_below}
 use Rattle.hg_model.specs.Stakes.{Stakes, total}
 use Rattle.hg_model.specs.Links.{Link, first_place, parents, self_parent}
@@ -21,6 +21,22 @@ use Rattle.hg_model.proofs.LongerLaws.{longer-take, round_of-longer, is_witness-
 use Rattle.hg_model.proofs.StandingLaws.{length-standings, round_at-standings, witnesses_in-standings}
 use Rattle.hg_rounds.specs.Tabled.{standing}
 use Rattle.hg_rounds.proofs.ByRowLaws.{standings_last}
+
+-- the greatest of the rounds, one place more
+
+parent_round-push : (round : ℕ → ℕ) (ps : List ℕ) (p : ℕ) → parent_round round (ps ++ p ∷ []) ≡ max (round p) (parent_round round ps)
+parent_round-push round [] p = refl
+parent_round-push round (q ∷ ps) p = omega (arith, parent_round-push round ps p)
+
+pub parent_round_none : (round : ℕ → ℕ) (ps : List ℕ) → parent_round round (take 0 ps) ≡ 1
+parent_round_none round [] = refl
+parent_round_none round (p ∷ ps) = refl
+
+pub parent_round_more : (round : ℕ → ℕ) (ps : List ℕ) (i : ℕ) → i < length ps →
+    parent_round round (take (i + 1) ps) ≡ max (round (get_or ps i 0)) (parent_round round (take i ps))
+parent_round_more round ps i inside = ap (parent_round round) (take_more ps i 0 inside) ∙ parent_round-push round (take i ps) (get_or ps i 0)
+
+pub ruleset parent_round_steps = (parent_round_none, parent_round_more)
 
 module _ (n : Stakes) (L : List Link) (shaped : IsShaped n L) (some : 0 < length L) (S : List Standing) (is : S ≡ standings_of n (take (length L - 1) L)) where
   abbrev pub last : ℕ

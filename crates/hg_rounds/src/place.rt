@@ -9,13 +9,13 @@ ghost use Rattle.std.specs.List.{AllByRecursion, list_all};
 ghost use Rattle.hg_rounds.specs.Tabled.{before_last, is_last_row_witness, last_parents, last_row_round, rows_weight, seen_count, seen_weight, standing, TellsWeights};
 
 use crate::table::RoundTable;
-use hg_model::{Parents, Rounds, Sight, is_shaped};
+use hg_model::{Rounds, Sight, is_shaped};
 
 /// The round of the sight's last row, and whether that row is a witness, from the table of the rows before it.
 /// It asks what the row strongly sees of the witnesses of one round alone. Takes no memory.
-pub fn place_round<S: Sight>(sight: &S, table: &RoundTable, parents: Parents) -> (u32, bool)
+pub fn place_round<S: Sight>(sight: &S, table: &RoundTable, parents: &[usize]) -> (u32, bool)
     requires some { 0 < length (S.shape sight.now).links }
-    requires parents { parents ≡ last_parents (S.shape sight.now) }
+    requires parents { parents.now ≡ last_parents (S.shape sight.now) }
     requires before { table.now.standings ≡ standings_in (before_last (S.shape sight.now)) }
     requires weights { TellsWeights (S.shape sight.now) table.now.standings table.now.weights }
     ensures round { result.0 ≡ last_row_round (S.shape sight.now) }
@@ -38,14 +38,16 @@ pub fn place_round<S: Sight>(sight: &S, table: &RoundTable, parents: Parents) ->
 }
 
 /// The greatest of the parents' rounds, or 1.
-fn parent_round(table: &RoundTable, parents: Parents) -> u32
-    requires { AllByRecursion (λ p. p < length table.now.standings) parents }
-    ensures { result ≡ parent_round (round_at table.now.standings) parents }
+#[tactic(auto, using(crate::proofs::PlaceLaws::parent_round_steps))]
+fn parent_round(table: &RoundTable, parents: &[usize]) -> u32
+    requires { AllByRecursion (λ p. p < length table.now.standings) parents.now }
+    ensures { result ≡ parent_round (round_at table.now.standings) parents.now }
 {
-    match parents.pair() {
-        None => 1,
-        Some((self_place, other)) => table.round(self_place).max(table.round(other).max(1)),
+    let mut greatest = 1;
+    for place in parents {
+        greatest = table.round(*place).max(greatest);
     }
+    greatest
 }
 
 /// The least number that is more than two thirds of the total.
@@ -128,12 +130,12 @@ fn next_round(round: u32, many: bool) -> u32
 }
 
 /// Whether a row of this round has no self-parent, or one of an earlier round.
-fn is_first(table: &RoundTable, parents: Parents, round: u32) -> bool
-    requires { AllByRecursion (λ p. p < length table.now.standings) parents }
-    ensures { result ≡ list_all (λ p. nat_lt (round_at table.now.standings p) round) (first_place parents) }
+fn is_first(table: &RoundTable, parents: &[usize], round: u32) -> bool
+    requires { AllByRecursion (λ p. p < length table.now.standings) parents.now }
+    ensures { result ≡ list_all (λ p. nat_lt (round_at table.now.standings p) round) (first_place parents.now) }
 {
-    match parents.self_parent() {
-        None => true,
-        Some(self_place) => table.round(self_place) < round,
+    match parents {
+        [] => true,
+        [self_place, ..] => table.round(*self_place) < round,
     }
 }

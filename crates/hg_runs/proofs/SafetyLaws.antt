@@ -36,5 +36,5 @@ honest_no_fork accepts n c run j k a b is apart at_a at_b m member honest =
     let H : List Row = rows_after n c b in
     let first = (moment_graph accepts n c run is j a at_a).graph in
     let second = (moment_graph accepts n c run is k b at_b).graph in
-    chain_no_fork n m G H (union_after n c a b) (union_joined n G H first.distinct first.shaped second.distinct second.shaped (equal_rows n c run j k a b apart at_a at_b))
+    chain_no_fork n m G H (union_after n c a b) (union_joined n G H first second (equal_rows n c run j k a b apart at_a at_b))
     (one_chain accepts n c run is m member honest j k a b at_a at_b)

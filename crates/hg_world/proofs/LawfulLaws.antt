@@ -31,6 +31,7 @@ use Rattle.hg_history.proofs.SoundLaws.{sound}
 use Rattle.hg_history.proofs.StateLaws.{prefix_more, replay-push, rows_grow}
 use Rattle.hg_history.proofs.CallLaws.{node_with, publishes_leave_a_node, puts_leave_a_node, with_none}
 use Rattle.hg_history.proofs.MakeLaws.{makes_leave_a_node}
+use Rattle.hg_node.proofs.MakeLaws.{few_listed}
 use Rattle.hg_graph.specs.Held.{AreEvents}
 use Rattle.hg_world.specs.declared.step.Step.{Step}
 use Rattle.hg_world.specs.declared.step.Step.TheVariants.{Make, Deliver, Freeze, Publish}
@@ -144,7 +145,7 @@ step_in_range w (Make m other time payload) is of early =
     let others : List (List ℕ) = option_to_list other in
     let sig = own_signature v others time payload in
     changed_lawful w m is of.0 _
-    (makes_leave_a_node Secrets accepts_by v others time payload sig early (length_signature v.start.keys v.start.own (make_body v others time payload)) (λ none. (bytes_eq-Decides sig sig).1 refl) (is.sites m of.0).node)
+    (makes_leave_a_node Secrets accepts_by v others time payload sig (few_listed other) early (length_signature v.start.keys v.start.own (make_body v others time payload)) (λ none. (bytes_eq-Decides sig sig).1 refl) (is.sites m of.0).node)
 step_in_range w (Deliver m bytes) is of fit =
     changed_lawful w m is of.0 _ (puts_leave_a_node Secrets accepts_by (node_at w m) bytes fit (is.sites m of.0).node)
 step_in_range w (Freeze m worker) is of range =

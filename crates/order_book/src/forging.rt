@@ -1,3 +1,4 @@
+use hg_check::parents_on;
 use hg_event::PAYLOAD_LIMIT;
 use hg_model::{Bytes, Member, Memory, Name};
 use hg_name::name_of;
@@ -44,7 +45,7 @@ pub fn forged_event(
     let (Some(own), Some(other)) = (last_but_one(node, creator), last_but_one(node, beside)) else {
         return Ok(None);
     };
-    let parents = Some((own, other));
+    let parents = parents_on(alloc, own, &[other])?;
     let signed = signed_bytes(alloc, keys, creator, &parents, time, payload)?;
     let name = name_of(signed.bytes.as_slice());
     Ok(Some(Forged {

@@ -6,5 +6,5 @@ use Rattle.check_sights.proofs.forks.would.Goals as goal
 
 pub would-requires : goal.would-requires
 would-requires c =
-    subst (λ (s : Shape). FitsLink s.members s.links (self_link_of c.args.creator c.self_parent.result)) (sym c.requires.same)
-    (self_fits c.args.sight.now.shape.members c.args.sight.now.shape.links c.args.creator c.args.parents c.self_parent.result c.self_parent.ensures c.requires.fits)
+    subst (λ (s : Shape). FitsLink s.members s.links (self_link_of c.args.creator c.self_place.result)) (sym c.requires.same)
+    (self_fits c.args.sight.now.shape.members c.args.sight.now.shape.links c.args.creator c.args.parents.now c.self_place.result c.self_place.ensures c.requires.fits)

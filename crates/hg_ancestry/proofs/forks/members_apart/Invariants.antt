@@ -7,9 +7,9 @@ use Rattle.hg_ancestry.proofs.forks.members_apart.Given as goal
 
 abbrev pub invariant-places : goal.invariant-places
 invariant-places l = record {
-  within : l.from ≤ length l.row;
-  matches : (m : ℕ) → mask_has l.mask m ≡ some_below l.from (λ a. is_over l.row l.other a && eqb (creator l.sight.shape.links a) m);
+  within : l.from ≤ length l.rows;
+  matches : (m : ℕ) → mask_has l.mask m ≡ some_below l.from (λ a. is_over l.rows l.others a && eqb (creator l.sight.shape.links a) m);
 }
 
 abbrev pub decreases-places : goal.decreases-places
-decreases-places l = length l.row - l.from
+decreases-places l = length l.rows - l.from

@@ -1,4 +1,4 @@
-use Rattle.hg_event.proofs.FrontLaws.{first_counted}
+use Rattle.hg_event.proofs.FrontLaws.{first_counted, first_fault}
 use Rattle.hg_event.proofs.FrontSizes.{early_end, none_trail, spelling_size}
 use Rattle.hg_event.proofs.FrontsStand.{first_stands}
 use Rattle.hg_event.proofs.laws.front_events.Goals as goal
@@ -17,3 +17,6 @@ returns-clause-short c = early_end
 
 pub returns-clause-none_trails : goal.returns-clause-none_trails
 returns-clause-none_trails c = none_trail
+
+pub returns-clause-faults : goal.returns-clause-faults
+returns-clause-faults c = first_fault

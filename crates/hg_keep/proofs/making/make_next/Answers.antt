@@ -1,6 +1,7 @@
 use Rattle.std.proofs.Common.{rules, ◌≡◌, inl, Some, None, option_map, refl, sym, ◌∙◌, ap, arith}
 use Rattle.std.specs.Option.{option_to_list}
 use Rattle.hg_node.specs.Next.{next_others}
+use Rattle.hg_node.proofs.MakeLaws.{few_listed}
 use Rattle.hg_keep.specs.Keeping.{IsMadeSome}
 use Rattle.hg_keep.proofs.WayLaws.{has_row, stops_making, stops_still, turn_none, turn_some}
 use Rattle.hg_keep.proofs.making.make_next.Goals as goal
@@ -32,7 +33,7 @@ returns-clause-turn g c =
 pub returns-clause-row : goal.returns-clause-row
 returns-clause-row g c =
     has_row g.V.Verifier.accepts c.args.stored.now.node c.make.new.self.node c.unwrap-node.result.now (option_to_list c.in-Some.other) c.args.time c.in_ok-answer.answer c.stored_changes_replay.ensures.made
-    c.is_node.ensures (omega (arith, c.ranges.time)) (search rules) c.in_ok-answer.ensures.ok
+    c.is_node.ensures (few_listed c.in-Some.other) (omega (arith, c.ranges.time)) (search rules) c.in_ok-answer.ensures.ok
 
 pub returns-clause-stops : goal.returns-clause-stops
 returns-clause-stops g c =

@@ -4,7 +4,7 @@ use Rattle.hg_model.specs.Links.{first_place}
 use Rattle.hg_model.specs.Rounds.{parent_round}
 use Rattle.hg_model.specs.Standings.{round_at}
 use Rattle.hg_rounds.specs.Tabled.{last_parents, seen_weight}
-use Rattle.hg_rounds.proofs.PlaceLaws.{parents_known, witnesses_below, greatest_fits, last_round_known, last_witness_known, next_known, whole_known}
+use Rattle.hg_rounds.proofs.PlaceLaws.{parents_known, witnesses_below, greatest_fits, last_round_known, last_witness_known, first_known, next_known, whole_known}
 use Rattle.hg_rounds.proofs.place.place_round.Goals as goal
 
 pub parent_round-greatest-requires : goal.parent_round-greatest-requires
@@ -42,6 +42,10 @@ returns-clause-witness g c =
     c.is_first.ensures
     ∙ (ap (λ ps. list_all (λ p. ltb (round_at c.args.table.now.standings p) c.next_round-round.result) (first_place ps)) c.requires.parents
     ∙ last_witness_known _ _ c.rows-last.ensures.shaped c.requires.some _ c.requires.before _ (returns-clause-round g c))
+
+pub returns-clause-first : goal.returns-clause-first
+returns-clause-first g c =
+    rw (returns-clause-round g c) (first_known _ _ c.rows-last.ensures.shaped c.requires.some _ c.requires.before)
 
 pub returns-clause-next : goal.returns-clause-next
 returns-clause-next g c =

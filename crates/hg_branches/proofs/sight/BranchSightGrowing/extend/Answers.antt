@@ -1,11 +1,11 @@
-use Rattle.std.proofs.Common.{◌≡◌, ◌<◌, ◌≤◌, ◌+◌, ◌^◌, ◌∙◌, ℕ, sym, ap, ap₂, subst, List, ◌++◌, ◌∷◌, [], length, get_or, nat_le, Option, false, refl, inl, inr, arith}
+use Rattle.std.proofs.Common.{◌≡◌, ◌<◌, ◌≤◌, ◌+◌, ◌^◌, ◌∙◌, ℕ, sym, ap, ap₂, subst, List, ◌++◌, ◌∷◌, [], length, get_or, nat_le, false, inl, inr, arith}
 use Rattle.std.proofs.lemmas.Bool.{true≢false, cases_lt, le-leb, lt-ltb}
 use Rattle.std.proofs.lemmas.List.{length_push, get_or_push}
 use Rattle.std.specs.List.{AllByRecursion}
 use Rattle.hg_model.specs.Stakes.{Stakes, member_count, stake_of, total}
 use Rattle.hg_model.specs.Links.{Link}
 use Rattle.hg_model.specs.Forks.{has_fork_below}
-use Rattle.hg_model.specs.Shape.{ShapeWithRoom, FitsLink, link_of, pair_list}
+use Rattle.hg_model.specs.Shape.{ShapeWithRoom, FitsLink, link_of}
 use Rattle.hg_bits.specs.Masks.{mask_has}
 use Rattle.hg_ancestry.proofs.HeldLaws.{places_fit, places_kept}
 use Rattle.hg_branches.specs.declared.landmarks.NextRow.{NextRow}
@@ -15,6 +15,7 @@ use Rattle.hg_branches.proofs.HeldLaws.{Serves, next_serves, in_reach, branches_
 use Rattle.hg_branches.specs.Rows.{RowView, known_place}
 use Rattle.hg_branches.specs.Landmarks.{LandmarkView, landmark_at, noted, AreNotedOn, HoldsChains, HoldsNewest, HoldsTops, HoldsLandmarks}
 use Rattle.hg_branches.proofs.LandmarkLaws.{noted_on, landmarks_more, refilled, tops_noted}
+use Rattle.hg_branches.proofs.NumberLaws.{all_low}
 use Rattle.hg_branches.proofs.PutLaws.{opened_long}
 use Rattle.hg_branches.proofs.NextForkLaws.{forks_told}
 use Rattle.hg_branches.proofs.TakeLaws.{forks_more}
@@ -25,10 +26,8 @@ lower : (n b : ℕ) → nat_le n b ≡ false → b < n
 lower n b not_le = elim (cases_lt b n) [ inl less ↦ less | inr more ↦ absurd (true≢false (sym (le-leb n b more) ∙ not_le)) ]
 
 -- the branch, by the parents and the columns
-branch_is : (branches ends : List ℕ) (by : ℕ) (on : Option (ℕ × ℕ)) (parents bs es : List ℕ) (b : ℕ) → b ≡ next_branch bs es (pair_list on) by → bs ≡ branches → es ≡ ends → pair_list on ≡ parents →
-    b ≡ next_branch branches ends parents by
-branch_is branches ends by on parents bs es b is same_branches same_ends on_is =
-    is ∙ (ap₂ (λ (bs es : List ℕ). next_branch bs es (pair_list on) by) same_branches same_ends ∙ ap (λ (ps : List ℕ). next_branch branches ends ps by) on_is)
+branch_is : (branches ends : List ℕ) (by : ℕ) (on es : List ℕ) (b : ℕ) → b ≡ next_branch branches es on by → es ≡ ends → b ≡ next_branch branches ends on by
+branch_is branches ends by on es b is same_ends = is ∙ ap (λ (es : List ℕ). next_branch branches es on by) same_ends
 
 reach : (n : Stakes) (L : List Link) (branches makers ends : List ℕ) → HoldsBranches n L branches makers ends → (parents : List ℕ) (by : ℕ) → FitsLink n L (link_of by parents) →
     (b : ℕ) → b ≡ next_branch branches ends parents by → b ≤ length makers
@@ -41,39 +40,44 @@ known_below (p ∷ ps) x all = (let low : p < x = all.0 in omega arith)
 
 pub at-stake-requires : goal.at-stake-requires
 at-stake-requires c =
-    let fits = subst (λ (g : ShapeWithRoom). FitsLink g.shape.members g.shape.links (link_of c.args.creator c.args.parents)) (sym c.self.view_is) c.requires.fits in
+    let fits = subst (λ (g : ShapeWithRoom). FitsLink g.shape.members g.shape.links (link_of c.args.creator c.args.parents.now)) (sym c.self.view_is) c.requires.fits in
     fits.member
 
 pub branch_for-branch-requires-clause-places : goal.branch_for-branch-requires-clause-places
 branch_for-branch-requires-clause-places c =
     let s = c.self.inside in
-    let fits = subst (λ (g : ShapeWithRoom). FitsLink g.shape.members g.shape.links (link_of c.args.creator c.args.parents)) (sym c.self.view_is) c.requires.fits in
-    subst (λ k. AllByRecursion (λ p. p < k) (pair_list c.pair-on.result)) (sym c.self.invariant.branches.rows)
-    (subst (λ (on : List ℕ). AllByRecursion (λ p. p < length s.links.items) on) (sym c.pair-on.ensures) (places_fit s.stakes s.links.items c.args.creator c.args.parents fits))
+    let fits = subst (λ (g : ShapeWithRoom). FitsLink g.shape.members g.shape.links (link_of c.args.creator c.args.parents.now)) (sym c.self.view_is) c.requires.fits in
+    subst (λ k. AllByRecursion (λ p. p < k) c.args.parents.now) (sym c.self.invariant.branches.rows) (places_fit s.stakes s.links.items c.args.creator c.args.parents.now fits)
+
+pub branch_for-branch-requires-clause-known : goal.branch_for-branch-requires-clause-known
+branch_for-branch-requires-clause-known c =
+    let s = c.self.inside in
+    let held = c.self.invariant.branches in
+    let fits = subst (λ (g : ShapeWithRoom). FitsLink g.shape.members g.shape.links (link_of c.args.creator c.args.parents.now)) (sym c.self.view_is) c.requires.fits in
+    all_low (λ p. get_or s.branches.items p 0 < length c.deref.result.now) (length s.links.items) c.args.parents.now (places_fit s.stakes s.links.items c.args.creator c.args.parents.now fits)
+    (λ p h. let all = held.ends_all in let known = held.known p h in omega (arith, ap length c.deref.ensures.value))
 
 pub forked_next-forked-requires-clause-places : goal.forked_next-forked-requires-clause-places
 forked_next-forked-requires-clause-places c =
     let s = c.self.inside in
-    let fits = subst (λ (g : ShapeWithRoom). FitsLink g.shape.members g.shape.links (link_of c.args.creator c.args.parents)) (sym c.self.view_is) c.requires.fits in
-    subst (λ k. AllByRecursion (λ p. p < k) (pair_list c.pair-on.result)) (sym c.self.invariant.forks.len)
-    (subst (λ (on : List ℕ). AllByRecursion (λ p. p < length s.links.items) on) (sym c.pair-on.ensures) (places_fit s.stakes s.links.items c.args.creator c.args.parents fits))
+    let fits = subst (λ (g : ShapeWithRoom). FitsLink g.shape.members g.shape.links (link_of c.args.creator c.args.parents.now)) (sym c.self.view_is) c.requires.fits in
+    subst (λ k. AllByRecursion (λ p. p < k) c.args.parents.now) (sym c.self.invariant.forks.len) (places_fit s.stakes s.links.items c.args.creator c.args.parents.now fits)
 
 pub push-requires-clause-places : goal.push-requires-clause-places
 push-requires-clause-places c =
     let s = c.self.inside in
-    let fits = subst (λ (g : ShapeWithRoom). FitsLink g.shape.members g.shape.links (link_of c.args.creator c.args.parents)) (sym c.self.view_is) c.requires.fits in
-    subst (λ k. AllByRecursion (λ p. p < k) (pair_list c.pair-on.result)) (sym c.self.invariant.counts.len)
-    (subst (λ (on : List ℕ). AllByRecursion (λ p. p < length s.links.items) on) (sym c.pair-on.ensures) (places_fit s.stakes s.links.items c.args.creator c.args.parents fits))
+    let fits = subst (λ (g : ShapeWithRoom). FitsLink g.shape.members g.shape.links (link_of c.args.creator c.args.parents.now)) (sym c.self.view_is) c.requires.fits in
+    subst (λ k. AllByRecursion (λ p. p < k) c.args.parents.now) (sym c.self.invariant.counts.len) (places_fit s.stakes s.links.items c.args.creator c.args.parents.now fits)
 
 pub push-requires-clause-fits : goal.push-requires-clause-fits
 push-requires-clause-fits c =
     let s = c.self.inside in
     let held = c.self.invariant.branches in
     let by = c.args.creator in
-    let link = link_of by c.args.parents in
+    let link = link_of by c.args.parents.now in
     let fits = subst (λ (g : ShapeWithRoom). FitsLink g.shape.members g.shape.links link) (sym c.self.view_is) c.requires.fits in
-    let b_is = branch_is s.branches.items s.ends.items by c.pair-on.result c.args.parents s.branches.items c.deref.result.now c.branch_for-branch.result c.branch_for-branch.ensures refl c.deref.ensures.value c.pair-on.ensures in
-    let low = reach s.stakes s.links.items s.branches.items s.makers.items s.ends.items held c.args.parents by fits c.branch_for-branch.result b_is in
+    let b_is = branch_is s.branches.items s.ends.items by c.args.parents.now c.deref.result.now c.branch_for-branch.result c.branch_for-branch.ensures c.deref.ensures.value in
+    let low = reach s.stakes s.links.items s.branches.items s.makers.items s.ends.items held c.args.parents.now by fits c.branch_for-branch.result b_is in
     let sparse = held.sparse in
     let few = held.few in
     let short = held.short in
@@ -83,11 +87,11 @@ pub row_of-known-requires : goal.row_of-known-requires
 row_of-known-requires c =
     let s = c.self.inside in
     let rows_len = c.self.invariant.counts.len in
-    let fits = subst (λ (g : ShapeWithRoom). FitsLink g.shape.members g.shape.links (link_of c.args.creator c.args.parents)) (sym c.self.view_is) c.requires.fits in
-    let places = subst (λ (on : List ℕ). AllByRecursion (λ p. p < length s.links.items) on) (sym c.pair-on.ensures) (places_fit s.stakes s.links.items c.args.creator c.args.parents fits) in
+    let fits = subst (λ (g : ShapeWithRoom). FitsLink g.shape.members g.shape.links (link_of c.args.creator c.args.parents.now)) (sym c.self.view_is) c.requires.fits in
+    let places = places_fit s.stakes s.links.items c.args.creator c.args.parents.now fits in
     let place : c.len-row.result ≡ length s.links.items = omega arith in
     let low : c.known_place.result < length s.links.items + 1 = subst (λ j. j < length s.links.items + 1) (sym c.known_place.ensures)
-    (subst (λ x. known_place (pair_list c.pair-on.result) x < length s.links.items + 1) (sym place) (known_below (pair_list c.pair-on.result) (length s.links.items) places)) in
+    (subst (λ x. known_place c.args.parents.now x < length s.links.items + 1) (sym place) (known_below c.args.parents.now (length s.links.items) places)) in
     let longer = ap length c.push.ensures.1 ∙ length_push s.counts.rows c.push.ensures.0 in
     omega arith
 
@@ -117,21 +121,21 @@ note_all-requires-clause-noted c = λ i.
     let held = c.self.invariant in
     let L = s.links.items in
     let by = c.args.creator in
-    let on = c.args.parents in
+    let on = c.args.parents.now in
     let row = c.push.ensures.0 in
     let rows_are = c.push.ensures.1 in
     let rows_len = held.counts.len in
     let fits = subst (λ (g : ShapeWithRoom). FitsLink g.shape.members g.shape.links (link_of by on)) (sym c.self.view_is) c.requires.fits in
     let b = c.branch_for-branch.result in
-    let b_is = branch_is s.branches.items s.ends.items by c.pair-on.result on s.branches.items c.deref.result.now b c.branch_for-branch.ensures refl c.deref.ensures.value c.pair-on.ensures in
+    let b_is = branch_is s.branches.items s.ends.items by on c.deref.result.now b c.branch_for-branch.ensures c.deref.ensures.value in
     let place : c.len-row.result ≡ length L = omega arith in
     let known : List ℕ = get_or (s.counts.rows ++ row ∷ []) (known_place on (length L)) [] in
     let known_is : c.row_of-known.result.row ≡ known = ap (λ (r : RowView). r.row) c.row_of-known.ensures
-    ∙ ap₂ (λ (rows : List (List ℕ)) (j : ℕ). get_or rows j []) rows_are (c.known_place.ensures ∙ ap₂ (λ (ps : List ℕ) (x : ℕ). known_place ps x) c.pair-on.ensures place) in
+    ∙ ap₂ (λ (rows : List (List ℕ)) (j : ℕ). get_or rows j []) rows_are (c.known_place.ensures ∙ ap (λ (x : ℕ). known_place on x) place) in
     let row_is : c.row_of-counts.result.row ≡ row = ap (λ (r : RowView). r.row) c.row_of-counts.ensures
     ∙ (ap (λ (rows : List (List ℕ)). get_or rows c.len-row.result []) rows_are ∙ get_or_push s.counts.rows row [] c.len-row.result (rows_len ∙ sym place)) in
     let others : (i : ℕ) → (i ≡ next_branch s.branches.items s.ends.items on by → ⊥) → get_or row i 0 ≡ greatest_count (count_in s.counts.rows) on i =
-    λ i off. c.push.ensures.3.others i (λ e. off (e ∙ b_is)) ∙ ap (λ (ps : List ℕ). greatest_count (count_in s.counts.rows) ps i) c.pair-on.ensures in
+    λ i off. c.push.ensures.3.others i (λ e. off (e ∙ b_is)) in
     let stake = c.at-stake.result in
     let next : ℕ → ℕ → NextRow = λ b end. record { branch = b; end = end; stake = stake } in
     subst (AreNotedOn i (get_or c.row_of-known.result.row i 0) (get_or c.row_of-counts.result.row i 0) (next b (c.len-row.result + 1))) (sym c.deref_mut.ensures.value)
@@ -145,9 +149,9 @@ pub move_end-requires-clause-there : goal.move_end-requires-clause-there
 move_end-requires-clause-there c =
     let s = c.self.inside in
     let held = c.self.invariant.branches in
-    let fits = subst (λ (g : ShapeWithRoom). FitsLink g.shape.members g.shape.links (link_of c.args.creator c.args.parents)) (sym c.self.view_is) c.requires.fits in
-    let b_is = branch_is s.branches.items s.ends.items c.args.creator c.pair-on.result c.args.parents s.branches.items c.deref.result.now c.branch_for-branch.result c.branch_for-branch.ensures refl c.deref.ensures.value c.pair-on.ensures in
-    let low = reach s.stakes s.links.items s.branches.items s.makers.items s.ends.items held c.args.parents c.args.creator fits c.branch_for-branch.result b_is in
+    let fits = subst (λ (g : ShapeWithRoom). FitsLink g.shape.members g.shape.links (link_of c.args.creator c.args.parents.now)) (sym c.self.view_is) c.requires.fits in
+    let b_is = branch_is s.branches.items s.ends.items c.args.creator c.args.parents.now c.deref.result.now c.branch_for-branch.result c.branch_for-branch.ensures c.deref.ensures.value in
+    let low = reach s.stakes s.links.items s.branches.items s.makers.items s.ends.items held c.args.parents.now c.args.creator fits c.branch_for-branch.result b_is in
     let all = held.ends_all in
     omega arith
 
@@ -155,9 +159,9 @@ pub open_branch-requires-clause-there : goal.open_branch-requires-clause-there
 open_branch-requires-clause-there c =
     let s = c.self.inside in
     let held = c.self.invariant.branches in
-    let fits = subst (λ (g : ShapeWithRoom). FitsLink g.shape.members g.shape.links (link_of c.args.creator c.args.parents)) (sym c.self.view_is) c.requires.fits in
-    let b_is = branch_is s.branches.items s.ends.items c.args.creator c.pair-on.result c.args.parents s.branches.items c.deref.result.now c.branch_for-branch.result c.branch_for-branch.ensures refl c.deref.ensures.value c.pair-on.ensures in
-    let low = reach s.stakes s.links.items s.branches.items s.makers.items s.ends.items held c.args.parents c.args.creator fits c.branch_for-branch.result b_is in
+    let fits = subst (λ (g : ShapeWithRoom). FitsLink g.shape.members g.shape.links (link_of c.args.creator c.args.parents.now)) (sym c.self.view_is) c.requires.fits in
+    let b_is = branch_is s.branches.items s.ends.items c.args.creator c.args.parents.now c.deref.result.now c.branch_for-branch.result c.branch_for-branch.ensures c.deref.ensures.value in
+    let low = reach s.stakes s.links.items s.branches.items s.makers.items s.ends.items held c.args.parents.now c.args.creator fits c.branch_for-branch.result b_is in
     let all = c.self.invariant.landmarks.newest_all in
     omega arith
 
@@ -165,17 +169,22 @@ pub open_branch-requires-2-clause-there : goal.open_branch-requires-2-clause-the
 open_branch-requires-2-clause-there c =
     let s = c.self.inside in
     let held = c.self.invariant.branches in
-    let fits = subst (λ (g : ShapeWithRoom). FitsLink g.shape.members g.shape.links (link_of c.args.creator c.args.parents)) (sym c.self.view_is) c.requires.fits in
-    let b_is = branch_is s.branches.items s.ends.items c.args.creator c.pair-on.result c.args.parents s.branches.items c.deref.result.now c.branch_for-branch.result c.branch_for-branch.ensures refl c.deref.ensures.value c.pair-on.ensures in
-    let low = reach s.stakes s.links.items s.branches.items s.makers.items s.ends.items held c.args.parents c.args.creator fits c.branch_for-branch.result b_is in
+    let fits = subst (λ (g : ShapeWithRoom). FitsLink g.shape.members g.shape.links (link_of c.args.creator c.args.parents.now)) (sym c.self.view_is) c.requires.fits in
+    let b_is = branch_is s.branches.items s.ends.items c.args.creator c.args.parents.now c.deref.result.now c.branch_for-branch.result c.branch_for-branch.ensures c.deref.ensures.value in
+    let low = reach s.stakes s.links.items s.branches.items s.makers.items s.ends.items held c.args.parents.now c.args.creator fits c.branch_for-branch.result b_is in
     let all = c.self.invariant.tops_all in
     omega arith
 
-pub of-requires : goal.of-requires
-of-requires c =
-    let fits = subst (λ (g : ShapeWithRoom). FitsLink g.shape.members g.shape.links (link_of c.args.creator c.args.parents)) (sym c.self.view_is) c.requires.fits in
+pub of-requires-clause-few : goal.of-requires-clause-few
+of-requires-clause-few c =
+    let fits = subst (λ (g : ShapeWithRoom). FitsLink g.shape.members g.shape.links (link_of c.args.creator c.args.parents.now)) (sym c.self.view_is) c.requires.fits in
+    fits.few
+
+pub of-requires-clause-places : goal.of-requires-clause-places
+of-requires-clause-places c =
+    let fits = subst (λ (g : ShapeWithRoom). FitsLink g.shape.members g.shape.links (link_of c.args.creator c.args.parents.now)) (sym c.self.view_is) c.requires.fits in
     let short = subst (λ (g : ShapeWithRoom). length g.shape.links + 1 < 4294967295) (sym c.self.view_is) c.requires.short in
-    places_kept c.self.inside.stakes c.self.inside.links.items c.args.creator c.args.parents fits short
+    places_kept c.self.inside.stakes c.self.inside.links.items c.args.creator c.args.parents.now fits short
 
 pub invariant_of-self : goal.invariant_of-self
 invariant_of-self c =
@@ -183,16 +192,15 @@ invariant_of-self c =
     let L = s.links.items in
     let held = c.self.invariant in
     let by = c.args.creator in
-    let link = link_of by c.args.parents in
-    let on = c.pair-on.result in
-    let on_is : pair_list on ≡ c.args.parents = c.pair-on.ensures in
+    let link = link_of by c.args.parents.now in
+    let on = c.args.parents.now in
     let fits = subst (λ (g : ShapeWithRoom). FitsLink g.shape.members g.shape.links link) (sym c.self.view_is) c.requires.fits in
     let ready : 1 ≤ room_of s.ready = subst (λ (g : ShapeWithRoom). 1 ≤ g.room) (sym c.self.view_is) c.requires.room in
     let short : length L + 1 < 65535 = (let rows_room = held.rows_room in omega arith) in
     let b = c.branch_for-branch.result in
-    let b_is = branch_is s.branches.items s.ends.items by on c.args.parents s.branches.items c.deref.result.now b c.branch_for-branch.ensures refl c.deref.ensures.value on_is in
+    let b_is = branch_is s.branches.items s.ends.items by c.args.parents.now c.deref.result.now b c.branch_for-branch.ensures c.deref.ensures.value in
     let serves : Serves L s.branches.items s.makers.items link b = subst (λ k. Serves L s.branches.items s.makers.items link k) (sym b_is)
-    (next_serves s.stakes L s.branches.items s.makers.items s.ends.items held.branches c.args.parents by fits) in
+    (next_serves s.stakes L s.branches.items s.makers.items s.ends.items held.branches c.args.parents.now by fits) in
     let place : c.len-row.result ≡ length L = omega arith in
     let end_place : c.len-row.result + 1 ≡ length L + 1 = ap (λ (j : ℕ). j + 1) place in
     let makers_are = c.move_end.ensures.makers in
@@ -204,16 +212,13 @@ invariant_of-self c =
     let rows_len = held.counts.len in
     let end : get_or row b 0 ≡ length L + 1 = next.end ∙ ap (λ (j : ℕ). j + 1) rows_len in
     let wide : member_count s.stakes ≤ length row = subst (λ n. n ≤ length row) held.counts_members next.wide in
-    let others : (i : ℕ) → (i ≡ b → ⊥) → get_or row i 0 ≡ greatest_count (count_in s.counts.rows) link.parents i =
-    λ i off. next.others i off ∙ ap (λ (ps : List ℕ). greatest_count (count_in s.counts.rows) ps i) on_is in
+    let others : (i : ℕ) → (i ≡ b → ⊥) → get_or row i 0 ≡ greatest_count (count_in s.counts.rows) link.parents i = next.others in
     let row_is : c.row_of-counts.result.row ≡ row = ap (λ (r : RowView). r.row) c.row_of-counts.ensures
     ∙ (ap (λ (rows : List (List ℕ)). get_or rows c.len-row.result []) rows_are ∙ get_or_push s.counts.rows row [] c.len-row.result (rows_len ∙ sym place)) in
     let told : (m : ℕ) → mask_has c.forked_next-forked.result m ≡ has_fork_below (L ++ link ∷ []) (length L) m = λ m.
     c.forked_next-forked.ensures m
     ∙ (ap (λ (ms : List ℕ). forks_next ms s.counts.rows s.forked.items c.if-members-len.many on by m) c.deref-2.ensures.value
-    ∙ (forks_told s.stakes L s.branches.items s.makers.items s.ends.items held.branches s.counts.rows held.counts s.forked.items held.forks short on by
-    (subst (λ (on : List ℕ). FitsLink s.stakes L (link_of by on)) (sym on_is) fits) b (subst (λ (on : List ℕ). Serves L s.branches.items s.makers.items (link_of by on) b) (sym on_is) serves)
-    c.if-members-len.many
+    ∙ forks_told s.stakes L s.branches.items s.makers.items s.ends.items held.branches s.counts.rows held.counts s.forked.items held.forks short on by fits b serves c.if-members-len.many
     (λ one. elim c.if-members-len.branch [
       | then-members-len w ↦ (let over : c.len-members.result < c.len.result = w.if-members-len.true in absurd (true≢false (sym (lt-ltb c.len-members.result c.len.result over) ∙ (sym w.many-is ∙ one))))
       | else-members-len w ↦ (
@@ -221,8 +226,7 @@ invariant_of-self c =
           let is = c.len-members.ensures.value in
           (omega (arith, all, is), λ same. omega (arith, all, is)))
     ])
-    m
-    ∙ ap (λ (on : List ℕ). has_fork_below (L ++ link_of by on ∷ []) (length L) m) on_is)) in
+    m) in
     let counted = counts_last s.stakes L s.branches.items s.makers.items s.ends.items held.branches link fits b serves s.counts.rows row held.counts end others in
     let next_at : ℕ → ℕ → NextRow = λ end stake. record { branch = b; end = end; stake = stake } in
     let next_row : NextRow = next_at (length L + 1) (stake_of s.stakes by) in
@@ -248,7 +252,7 @@ invariant_of-self c =
           (subst (λ (landmarks : List LandmarkView). HoldsTops landmarks (with_branch s.tops.items b 0)) (sym (refilled s.landmarks.len c.note_all.new.landmarks s.landmarks.items (omega (arith, landmarks_long))))
           (tops_noted s.landmarks.items c.note_all.new.landmarks (λ i h. (ap (λ (k : LandmarkView). k.end) (each i h), ap (λ (k : LandmarkView). k.branch) (each i h), ap (λ (k : LandmarkView). k.before) (each i h))) landmarks_long s.tops.items b held.tops));
       tops_all = rw (c.open_branch-2.ensures, makers_are)
-          (opened_long s.makers.items s.tops.items b by (reach s.stakes L s.branches.items s.makers.items s.ends.items held.branches c.args.parents by fits b b_is) held.tops_all);
+          (opened_long s.makers.items s.tops.items b by (reach s.stakes L s.branches.items s.makers.items s.ends.items held.branches c.args.parents.now by fits b b_is) held.tops_all);
       spare = held.spare;
       rows_room = rw c.push-2.ensures (omega (arith, short, length_push L c.of.result));
       links_room = omega arith;

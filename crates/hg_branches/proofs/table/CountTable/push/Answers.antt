@@ -1,10 +1,9 @@
 use Rattle.std.proofs.Common.{◌≡◌, ◌<◌, ◌≤◌, ◌∙◌, ◌+◌, ◌-◌, ◌*◌, ◌^◌, ◌++◌, ◌∷◌, [], List, ℕ, length, sym, ap, ap₂, subst, arith}
 use Rattle.std.specs.Prelude.{vec_capacity}
 use Rattle.std.specs.List.{AllByRecursion}
-use Rattle.hg_model.specs.Shape.{pair_list}
-use Rattle.hg_branches.specs.Tails.{Tail}
+use Rattle.hg_branches.specs.Tails.{Tail, tail_width}
 use Rattle.hg_branches.specs.Table.{CountsWithRoom, IsNextCounts, rows_of, row_of, own_next}
-use Rattle.hg_branches.proofs.NumberLaws.{IsMade, rows_many, row_fits, all_low, numbers_fit, room_parts, rows_more, next_counts, keeps_more}
+use Rattle.hg_branches.proofs.NumberLaws.{IsMade, rows_many, row_fits, all_low, numbers_fit, room_parts, room_row, rows_more, next_counts, keeps_more}
 use Rattle.hg_branches.proofs.table.CountTable.push.Goals as goal
 use Rattle.hg_branches.proofs.table.CountTable.push.Goals.{After-self-1}
 
@@ -17,34 +16,42 @@ pub join_own-requires-clause-places : goal.join_own-requires-clause-places
 join_own-requires-clause-places c =
     let s = c.self.inside in
     let many : length c.args.self.now.rows ≡ length s.tails.rows = sym (ap (λ (t : CountsWithRoom). length t.rows) c.self.view_is) ∙ rows_many s.own.width s.own.numbers s.tails.rows in
-    let places = subst (λ n. AllByRecursion (λ p. p < n) (pair_list c.args.on)) many c.requires.places in
+    let places = subst (λ n. AllByRecursion (λ p. p < n) c.args.on.now) many c.requires.places in
     all_low (λ p. p * s.own.width + s.own.width ≤ length s.own.numbers) _ _ places (row_fits s.own.width s.own.numbers s.tails.rows s.widest c.self.invariant)
 
 pub join_tails-requires-clause-places : goal.join_tails-requires-clause-places
 join_tails-requires-clause-places c =
     let s = c.self.inside in
     let many : length c.args.self.now.rows ≡ length s.tails.rows = sym (ap (λ (t : CountsWithRoom). length t.rows) c.self.view_is) ∙ rows_many s.own.width s.own.numbers s.tails.rows in
-    subst (λ n. AllByRecursion (λ p. p < n) (pair_list c.args.on)) many c.requires.places
+    subst (λ n. AllByRecursion (λ p. p < n) c.args.on.now) many c.requires.places
+
+pub join_tails-requires-clause-room : goal.join_tails-requires-clause-room
+join_tails-requires-clause-room c =
+    let s = c.self.inside in
+    let many : length c.args.self.now.rows ≡ length s.tails.rows = sym (ap (λ (t : CountsWithRoom). length t.rows) c.self.view_is) ∙ rows_many s.own.width s.own.numbers s.tails.rows in
+    let places = subst (λ n. AllByRecursion (λ p. p < n) c.args.on.now) many c.requires.places in
+    let wide = room_row s.own.width s.widest s.own.room s.tails.room (vec_capacity s.row) (subst (λ (t : CountsWithRoom). 1 ≤ t.room) (sym c.self.view_is) c.requires.room) in
+    all_low (λ p. tail_width s.tails.rows p ≤ vec_capacity c.join_own.new.row) (length s.tails.rows) c.args.on.now places (λ p h. omega (arith, wide, c.self.invariant.narrow p h, c.join_own.ensures.capacity))
 
 pub push-requires-2 : goal.push-requires-2
 push-requires-2 c =
     let s = c.self.inside in
     let many : length c.args.self.now.rows ≡ length s.tails.rows = sym (ap (λ (t : CountsWithRoom). length t.rows) c.self.view_is) ∙ rows_many s.own.width s.own.numbers s.tails.rows in
-    let places = subst (λ n. AllByRecursion (λ p. p < n) (pair_list c.args.on)) many c.requires.places in
+    let places = subst (λ n. AllByRecursion (λ p. p < n) c.args.on.now) many c.requires.places in
     let fit = numbers_fit s.own.width s.widest s.own.numbers s.tails.rows c.self.invariant _ c.join_tails.new.row.items places c.join_tails.ensures.narrow in
     let room = room_parts s.own.width s.widest s.own.room s.tails.room (vec_capacity s.row) (subst (λ (t : CountsWithRoom). 1 ≤ t.room) (sym c.self.view_is) c.requires.room) in
     omega (arith, fit, room, ap length c.deref-2.ensures.value)
 
 -- that the numbers of the row are made right
-made : (c : After-self-1) → IsMade c.self.inside.own.width c.self.inside.own.numbers c.self.inside.tails.rows (pair_list c.args.on) c.args.branch c.saturating_sub-own.result c.join_own.new.row.items c.join_tails.new.row.items
+made : (c : After-self-1) → IsMade c.self.inside.own.width c.self.inside.own.numbers c.self.inside.tails.rows c.args.on.now c.args.branch c.saturating_sub-own.result c.join_own.new.row.items c.join_tails.new.row.items
 made c =
     let s = c.self.inside in
     let many : length c.args.self.now.rows ≡ length s.tails.rows = sym (ap (λ (t : CountsWithRoom). length t.rows) c.self.view_is) ∙ rows_many s.own.width s.own.numbers s.tails.rows in
     record {
-      places = subst (λ n. AllByRecursion (λ p. p < n) (pair_list c.args.on)) many c.requires.places;
+      places = subst (λ n. AllByRecursion (λ p. p < n) c.args.on.now) many c.requires.places;
       shift = c.saturating_sub-own.ensures ∙ ap (λ n. c.args.branch + 1 - n) (c.width.ensures ∙ c.push.ensures.width);
       long = c.join_own.ensures.len;
-      each_own = λ b h. c.join_own.ensures.each b h ∙ ap (λ (n : ℕ). own_next s.own.width s.own.numbers (pair_list c.args.on) c.args.branch (n + 1) b) c.len.ensures;
+      each_own = λ b h. c.join_own.ensures.each b h ∙ ap (λ (n : ℕ). own_next s.own.width s.own.numbers c.args.on.now c.args.branch (n + 1) b) c.len.ensures;
       each_tail = c.join_tails.ensures.each;
       narrow = c.join_tails.ensures.narrow;
     }
@@ -70,6 +77,6 @@ returns c =
           ∙ (ap₂ (λ (o : List ℕ) (t : List Tail). rows_of s.own.width o t) (own_grown c) (tails_grown c)
           ∙ (rows_more s.own.width s.widest s.own.numbers s.tails.rows c.self.invariant _ _ _ _ _ (made c) ∙ ap (λ (t : CountsWithRoom). t.rows ++ row ∷ []) c.self.view_is)),
       c.push.ensures.width ∙ ap (λ (t : CountsWithRoom). t.members) c.self.view_is,
-      subst (λ (t : CountsWithRoom). IsNextCounts t.members t.rows (pair_list c.args.on) c.args.branch row) c.self.view_is
+      subst (λ (t : CountsWithRoom). IsNextCounts t.members t.rows c.args.on.now c.args.branch row) c.self.view_is
           (next_counts s.own.width s.widest s.own.numbers s.tails.rows c.self.invariant _ _ _ _ _ (made c)),
     )

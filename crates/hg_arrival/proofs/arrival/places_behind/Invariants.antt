@@ -1,0 +1,5 @@
+use Rattle.hg_arrival.proofs.PlaceLaws.{ArePlaced}
+use Rattle.hg_arrival.proofs.arrival.places_behind.Given as goal
+
+abbrev pub invariant-loop-name : goal.invariant-loop-name
+invariant-loop-name l = ArePlaced l.graph.graph.rows l.own l.others l.name-index l.places
