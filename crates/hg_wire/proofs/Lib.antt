@@ -1,0 +1,16 @@
+pub mod Again
+pub mod Bytes
+pub mod ExchangeLaws
+pub mod Found
+pub mod Fronts
+pub mod Most
+pub mod Parts
+pub mod Places
+pub mod Settled
+pub mod Sources
+pub mod Stable
+pub mod Stepping
+pub mod Steps
+pub mod Streams
+pub mod Took
+pub mod Turning

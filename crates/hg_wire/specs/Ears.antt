@@ -1,0 +1,99 @@
+-- What an ear stands for: what it makes of the bytes to come
+use Rattle.std.specs.Prelude.{◌≡◌, ◌⊎◌, ◌≤◌, ◌<◌, ◌-◌, ℕ, true, List, [], ◌++◌, length, drop, ⊤}
+use Rattle.hg_wire.specs.declared.message.Want.{Want}
+use Rattle.hg_wire.specs.declared.message.Message.{Message}
+use Rattle.hg_wire.specs.declared.message.Fed.{Fed}
+use Rattle.hg_wire.specs.declared.message.Fed.TheVariants.{More, Whole, Refused}
+use Rattle.hg_wire.specs.declared.message.WireFault.{WireFault}
+use Rattle.hg_wire.specs.declared.progress.Stage.TheVariants.{Shut, Over}
+use Rattle.hg_wire.specs.declared.progress.Progress.{Progress}
+use Rattle.hg_wire.specs.declared.progress.Turn.{Turn}
+use Rattle.hg_wire.specs.declared.progress.Turn.TheVariants as turn
+use Rattle.hg_wire.specs.declared.hearing.Hearing.{Hearing}
+use Rattle.hg_wire.specs.Outcome.{Outcome, Unfinished, Faulty, Finished, Reader}
+use Rattle.hg_wire.specs.Reading.{read}
+use Rattle.hg_wire.specs.Progress.{State, Into, Done, field, is_open, rest_of}
+use Rattle.hg_wire.specs.Views.{state_of}
+
+-- what an ear keeps: the place in the message, and the bytes of the field there
+pub record Place : Type 0 where
+  pub state : State
+  pub pending : List ℕ
+
+abbrev pub place_of : Hearing → Place
+place_of h = record { state = state_of h.progress; pending = h.pending.items }
+
+-- what an ear makes of the bytes to come
+abbrev pub means : Place → Reader Message
+means ear more = rest_of ear.state (ear.pending ++ more)
+
+-- the ear has heard these bytes of a stream
+abbrev pub HasHeard : Want → List ℕ → Place → Type 0
+HasHeard w so_far ear = (more : List ℕ) → means ear more ≡ read w (so_far ++ more)
+
+-- no message was whole yet
+abbrev pub IsOn : Place → Type 0
+IsOn ear = (m : Message) (rest : List ℕ) → means ear [] ≡ Finished m rest → ⊥
+
+-- the answer to a piece is its outcome
+abbrev pub Answers : List ℕ → Outcome Message → Fed → Type 0
+Answers piece o More = o ≡ Unfinished
+Answers piece o (Whole m used) = (used ≤ length piece) × (o ≡ Finished m (drop used piece))
+Answers piece o (Refused fault) = o ≡ Faulty fault
+
+-- behind the piece the ear makes of the bytes to come what it made of the piece and them; a fault stands
+abbrev pub GoesOn : Place → Place → List ℕ → Fed → Type 0
+GoesOn old new piece More = (more : List ℕ) → means new more ≡ means old (piece ++ more)
+GoesOn old new piece (Whole m used) = ⊤
+GoesOn old new piece (Refused fault) = (more : List ℕ) → means new more ≡ Faulty fault
+
+-- after More the ear has heard no fault and no whole message
+abbrev pub WaitsIfMore : Place → Fed → Type 0
+WaitsIfMore ear More = means ear [] ≡ Unfinished
+WaitsIfMore ear (Whole m used) = ⊤
+WaitsIfMore ear (Refused fault) = ⊤
+
+-- ---- from within
+
+-- what came of reading the field at the place from the front of these bytes
+abbrev pub Turns : Progress → Progress → List ℕ → Turn → Type 0
+Turns old new bytes turn.Waits = (field (state_of old) bytes ≡ Unfinished) × (new ≡ old)
+Turns old new bytes (turn.On rest) = (field (state_of old) bytes ≡ Finished (Into (state_of new)) rest.now) × (is_open new.stage ≡ true)
+Turns old new bytes (turn.Whole m rest) = (field (state_of old) bytes ≡ Finished (Done m) rest.now) × (new.stage ≡ Over)
+Turns old new bytes (turn.Wrong fault) = (field (state_of old) bytes ≡ Faulty fault) × (new.stage ≡ Shut fault)
+
+-- what an ear from within makes of the bytes to come
+abbrev pub hears : Hearing → Reader Message
+hears h more = rest_of (state_of h.progress) (h.pending.items ++ more)
+
+-- the field at the place is not whole, and has no fault
+abbrev pub IsWaiting : Hearing → Type 0
+IsWaiting h = field (state_of h.progress) h.pending.items ≡ Unfinished
+
+-- some first bytes were taken off these
+abbrev pub IsBehind : List ℕ → List ℕ → Type 0
+IsBehind bytes rest = (length rest < length bytes) × (drop (length bytes - length rest) bytes ≡ rest)
+
+-- what came of the field at the place, of which some bytes came before these
+abbrev pub Steps : Hearing → Hearing → List ℕ → Turn → Type 0
+Steps old new bytes turn.Waits = IsWaiting new × ((more : List ℕ) → hears new more ≡ hears old (bytes ++ more))
+Steps old new bytes (turn.On rest) =
+    IsWaiting new × IsBehind bytes rest.now × ((more : List ℕ) → hears new (rest.now ++ more) ≡ hears old (bytes ++ more))
+Steps old new bytes (turn.Whole m rest) =
+    (new.progress.stage ≡ Over) × IsBehind bytes rest.now × ((more : List ℕ) → hears old (bytes ++ more) ≡ Finished m (rest.now ++ more))
+Steps old new bytes (turn.Wrong fault) = (new.progress.stage ≡ Shut fault) × ((more : List ℕ) → hears old (bytes ++ more) ≡ Faulty fault)
+
+-- what came of a piece
+abbrev pub Hears : Hearing → Hearing → List ℕ → Fed → Type 0
+Hears old new piece More = IsWaiting new × ((more : List ℕ) → hears new more ≡ hears old (piece ++ more))
+Hears old new piece (Whole m used) =
+    (used ≤ length piece) × (new.progress.stage ≡ Over) × ((more : List ℕ) → hears old (piece ++ more) ≡ Finished m (drop used piece ++ more))
+Hears old new piece (Refused fault) = (new.progress.stage ≡ Shut fault) × ((more : List ℕ) → hears old (piece ++ more) ≡ Faulty fault)
+
+-- an ear waits, or has refused the bytes, or is to be made anew
+abbrev pub IsSettled : Hearing → Type 0
+IsSettled h = IsWaiting h ⊎ ((fault : WireFault) × (h.progress.stage ≡ Shut fault)) ⊎ (h.progress.stage ≡ Over)
+
+-- more bytes than a message has
+abbrev pub most : ℕ
+most = 1410334778

@@ -1,0 +1,9 @@
+pub mod Ears
+pub mod Exchange
+pub mod Grammar
+pub mod Laws
+pub mod Outcome
+pub mod Progress
+pub mod Reading
+pub mod Receiving
+pub mod Views

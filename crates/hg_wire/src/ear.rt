@@ -1,0 +1,84 @@
+ghost use Rattle.std.specs.Prelude.{◌≡◌, ◌+◌, ◌<◌, ◌≤◌, ℕ, [], List, length, IfOk};
+ghost use Rattle.hg_wire.specs.declared.message.Message.{Message};
+ghost use Rattle.hg_wire.specs.Outcome.{Unfinished, Finished};
+ghost use Rattle.hg_wire.specs.Grammar.{AreBytes};
+ghost use Rattle.hg_wire.specs.Ears.{Answers, GoesOn, HasHeard, IsOn, WaitsIfMore, means};
+
+use crate::hearing::{Hearing, are_bytes, hear};
+use crate::message::{Fed, Want};
+use crate::progress::{Progress, Stage, behind, least_of};
+use hg_model::Memory;
+use std::alloc::Global;
+use std::marker::Model;
+
+/// What hears a message that comes in pieces. It keeps the names and events of the message so far, each once, and the
+/// bytes of a field that is not whole, at most 1,345. Contracts see what it makes of the bytes to come.
+#[derive(Drop)]
+pub struct Ear {
+    hearing: Hearing,
+}
+
+impl Model for Ear {
+    ghost use Rattle.hg_wire.specs.Ears.{IsSettled, Place, place_of};
+
+    ghost Value = { Place };
+
+    ghost view = { λ ear. place_of ear.hearing };
+
+    ghost invariant = { λ ear. IsSettled ear.hearing };
+}
+
+impl Ear {
+    /// An ear for the first message of a stream, of this kind. Takes no memory.
+    pub fn new(alloc: Global, want: Want) -> Ear
+        ensures heard { HasHeard want [] result }
+        ensures waits { means result [] ≡ Unfinished }
+    {
+        Ear {
+            hearing: Hearing {
+                progress: Progress {
+                    alloc,
+                    want,
+                    stage: Stage::AtHead,
+                    names: Vec::new(alloc),
+                    rows: Vec::new(alloc),
+                },
+                pending: Vec::new(alloc),
+            },
+        }
+    }
+
+    /// Hears the next piece. After `Whole` and after `Memory` the ear needs to be made anew; after `Refused` each piece is
+    /// refused so. Names and events take memory as they come, not as their number does.
+    pub fn feed(&mut self, piece: &[u8]) -> Result<Fed, Memory>
+        requires { IsOn self.old }
+        ensures answers { IfOk result (Answers piece.now (means self.old piece.now)) }
+        ensures goes_on { IfOk result (GoesOn self.old self.new piece.now) }
+        ensures waits { IfOk result (WaitsIfMore self.new) }
+    {
+        if let Stage::Shut(fault) = self.hearing.progress.stage {
+            return Ok(Fed::Refused(fault));
+        }
+        match hear(&mut self.hearing, piece) {
+            Ok(fed) => Ok(fed),
+            Err(memory) => {
+                self.hearing.progress.stage = Stage::Over;
+                Err(memory)
+            }
+        }
+    }
+
+    /// So many bytes of the message are still to come at least, where those so far hold no fault and no whole message.
+    pub fn wants(&self) -> usize
+        requires { means self.now [] ≡ Unfinished }
+        ensures some { 0 < result }
+        ensures least { (more rest : List ℕ) (m : Message) → AreBytes more
+            → means self.now more ≡ Finished m rest → result + length rest ≤ length more }
+    {
+        let pending = self.hearing.pending.as_slice();
+        are_bytes(pending);
+        let stage = self.hearing.progress.stage;
+        let missing = least_of(stage).saturating_sub(pending.len());
+        missing.max(1) + behind(stage)
+    }
+}
