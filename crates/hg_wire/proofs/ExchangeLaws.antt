@@ -18,7 +18,7 @@ use Rattle.hg_life.proofs.LastLaws.{last_found}
 use Rattle.hg_history.specs.Laws.{IsNodeGraph}
 use Rattle.hg_history.proofs.HeldLaws.{held_longer}
 use Rattle.hg_history.proofs.SoundLaws.{node_graph}
-use Rattle.hg_node.specs.Beyond.{bytes_at, bytes_beyond, is_behind_some, is_parent, tips, tips_of}
+use Rattle.hg_node.specs.Beyond.{beyond_of, bytes_at, bytes_beyond, is_behind_some, is_parent, tips, tips_of}
 use Rattle.hg_gossip.specs.declared.gossip.Taken.{Taken}
 use Rattle.hg_gossip.specs.Gossip.{TakesAll}
 use Rattle.hg_gossip.specs.Holding.{Rules, Seen}
@@ -94,6 +94,13 @@ answers_fit L accepts names v node =
       all_listed IsEvent (bytes_at G) (length G) test (λ x low. (get_or G x no_row, (graph.events x (get_or G x no_row) (slice_get-get_or G x no_row low)).spelled)),
       last_named v.start.own G (last_name v.start.own G) graph.sizes.sized refl,
     )
+
+-- so many names and rows may stand in a message
+pub few_asked : {K : Type 0} (accepts : K → Accepts) (v : NodeView K) → IsNode accepts v → length (tips_of v) ≤ count_limit
+few_asked {K} accepts v node = (asks_fit K accepts v node).0
+
+pub few_answered : {L : Type 0} (accepts : L → Accepts) (names : List (List ℕ)) (v : NodeView L) → IsNode accepts v → length (beyond_of names v).rows ≤ count_limit
+few_answered {L} accepts names v node = (answers_fit L accepts names v node).0
 
 -- ---- what is read of it
 

@@ -12,5 +12,6 @@ pub mod Stable
 pub mod Stepping
 pub mod Steps
 pub mod Streams
+pub mod Told
 pub mod Took
 pub mod Turning

@@ -1,5 +1,5 @@
 -- What an ear that has settled makes of the bytes to come
-use Rattle.std.proofs.Common.{◌≡◌, ℕ, ◌+◌, ◌≤◌, List, [], ◌++◌, length, drop, sym, ap, subst, ◌∙◌, arith, inl, inr}
+use Rattle.std.proofs.Common.{◌≡◌, ℕ, ◌+◌, ◌≤◌, List, [], ◌++◌, length, drop, refl, sym, ap, subst, ◌∙◌, arith, inl, inr}
 use Rattle.std.proofs.lemmas.List.{append-nil, length-append}
 use Rattle.hg_wire.specs.declared.message.Message.{Message}
 use Rattle.hg_wire.specs.declared.message.Message.TheVariants.{Have}
@@ -12,7 +12,8 @@ use Rattle.hg_wire.specs.declared.hearing.Hearing.{Hearing}
 use Rattle.hg_wire.specs.Outcome.{Unfinished, Faulty, Finished, ◌>>=◌}
 use Rattle.hg_wire.specs.Reading.{read}
 use Rattle.hg_wire.specs.Grammar.{AreBytes}
-use Rattle.hg_wire.specs.Progress.{State, behind, field, finish, least_of, rest_at, rest_of, start}
+use Rattle.hg_wire.specs.Progress.{State, field, finish, rest_at, rest_of, start}
+use Rattle.hg_wire.specs.Sizes.{behind, least_of}
 use Rattle.hg_wire.specs.Views.{state_of}
 use Rattle.hg_wire.specs.Ears.{Answers, GoesOn, Hears, IsOn, IsSettled, IsWaiting, WaitsIfMore, hears, place_of}
 use Rattle.hg_wire.proofs.Bytes.{both_fit, rest_fits}
@@ -84,7 +85,7 @@ new_means h stage names rows pending more =
 -- the message has the bytes of the field at the place, of which some are missing, and those behind it
 pub record Needs (h : Hearing) (more rest : List ℕ) : Type 0 where
   pub some : 1 + behind h.progress.stage + length rest ≤ length more
-  pub least : least_of h.progress.stage + behind h.progress.stage + length rest ≤ length h.pending.items + length more
+  pub least : least_of h.progress.stage h.pending.items + behind h.progress.stage + length rest ≤ length h.pending.items + length more
 
 pub needs : (h : Hearing) → AreBytes h.pending.items → IsWaiting h → (more rest : List ℕ) (m : Message) → AreBytes more → hears h more ≡ Finished m rest → Needs h more rest
 needs h fit waits more rest m more_fit e =
@@ -96,4 +97,4 @@ needs h fit waits more rest m more_fit e =
     let less = crosses s s.stage pending more w.0 w.1 waits took in
     let left = behind_least s s.stage (pending ++ more) w.0 w.1 m rest (rest_fits took.text w.1 all_fit took.whole) w.2 w.3 in
     let sizes : length pending + length more ≡ length took.text + length w.1 = sym (length-append pending more) ∙ ap length took.whole ∙ length-append took.text w.1 in
-    record { some = omega (arith, less, left); least = omega (arith, left, took.least, sizes) }
+    record { some = omega (arith, less, left); least = omega (arith, left, took.least pending more refl, sizes) }

@@ -2,7 +2,7 @@
 use Rattle.std.proofs.Common.{◌≡◌, ℕ, ◌+◌, ◌-◌, ◌<◌, ◌≤◌, List, [], ◌++◌, length, take, drop, Option, Some, None, Result, Ok, Err, refl, sym, ap, subst, ◌∙◌, append_assoc, arith}
 use Rattle.std.specs.Prelude.{option_map, IfOk, IfSome}
 use Rattle.std.proofs.lemmas.List.{append-nil, length-append, length-drop, nil_from_length}
-use Rattle.hg_io.specs.Bytes.{TakesOff}
+use Rattle.hg_io.specs.Bytes.{IsReadOn, TakesOff}
 use Rattle.hg_wire.specs.declared.message.Want.{Want}
 use Rattle.hg_wire.specs.declared.message.Message.{Message}
 use Rattle.hg_wire.specs.Outcome.{Outcome, Unfinished, Faulty, Finished, Stands, Reader}
@@ -38,6 +38,13 @@ pub more_read : (stream now : Reader Message) (before mid after : Option (List �
     → IsReceiving stream now before mid at → TakesOff mid after piece → now piece ≡ o → Receives stream before after o
 more_read stream now before mid after at piece o r taken e =
     record { text = r.text ++ piece; taken = taken_more before mid after r.text piece r.taken taken; meant = sym (r.same piece) ∙ e }
+
+-- what was read so far, and with one piece more
+pub read_so_far : (stream now : Reader Message) (before left : Option (List ℕ)) (at : ℕ) → IsReceiving stream now before left at → IsReadOn before left
+read_so_far stream now before left at r = (r.text, r.taken)
+
+pub read_on : (stream now : Reader Message) (before mid after : Option (List ℕ)) (at : ℕ) (piece : List ℕ) → IsReceiving stream now before mid at → TakesOff mid after piece → IsReadOn before after
+read_on stream now before mid after at piece r taken = (r.text ++ piece, taken_more before mid after r.text piece r.taken taken)
 
 pub receiving_more : (stream now next : Reader Message) (before mid after : Option (List ℕ)) (at n : ℕ) (piece : List ℕ)
     → IsReceiving stream now before mid at → TakesOff mid after piece → ((more : List ℕ) → next more ≡ now (piece ++ more)) → at + length piece ≡ n → IsReceiving stream next before after n

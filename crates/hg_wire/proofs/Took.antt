@@ -1,5 +1,6 @@
 -- What the reading of a field takes: a front of the bytes, by which alone it is read, and how many there are at least
 use Rattle.std.proofs.Common.{◌≡◌, ℕ, zero, suc, ◌+◌, ◌*◌, ◌<◌, ◌≤◌, true, List, [], ◌∷◌, ◌++◌, length, take, drop, Option, Some, None, refl, sym, ap, subst, ◌∙◌, arith, inl, inr}
+use Rattle.std.specs.Prelude.{IfSome}
 use Rattle.std.specs.List.{concat, AllByRecursion}
 use Rattle.std.proofs.lemmas.Bool.{cases_lt}
 use Rattle.std.proofs.lemmas.List.{length-append, take-append-drop, take-append-le, take_at}
@@ -14,23 +15,25 @@ use Rattle.hg_wire.specs.declared.progress.Stage.TheVariants.{AtHead, AtName, At
 use Rattle.hg_wire.specs.Outcome.{Outcome, Unfinished, Finished, Reader, ◌>>=◌}
 use Rattle.hg_wire.specs.Reading.{head_field, last_field, many, name_field, parcel_of, row_field}
 use Rattle.hg_wire.specs.Grammar.{AreBytes, IsEvent, IsName, head_bytes, last_bytes}
-use Rattle.hg_wire.specs.Progress.{State, Next, Into, Done, after_count, after_name, after_row, behind, body_on, field_at, finish, is_open, least_of, rest_at}
+use Rattle.hg_wire.specs.Progress.{State, Next, Into, Done, after_count, after_name, after_row, body_on, field_at, finish, is_open, rest_at}
+use Rattle.hg_wire.specs.Sizes.{behind, last_told, least_of}
 use Rattle.hg_wire.proofs.Steps.{same_rest, same_value, went_on}
 use Rattle.hg_wire.proofs.Bytes.{rest_fits}
 use Rattle.hg_wire.proofs.Fronts.{row_again, row_found}
 use Rattle.hg_wire.proofs.Found.{head_found, last_found, name_found, names_found, rows_found}
+use Rattle.hg_wire.proofs.Told.{same_head, told_least}
 use Rattle.hg_wire.proofs.Again.{head_again, last_again, name_again}
 
 pub record Took (s : State) (stage : Stage) (bytes : List ℕ) (x : Next) (rest : List ℕ) : Type 0 where
   pub text : List ℕ
   pub whole : bytes ≡ text ++ rest
   pub again : (more : List ℕ) → field_at s stage (text ++ more) ≡ Finished x more
-  pub least : least_of stage ≤ length text
+  pub least : (front more : List ℕ) → bytes ≡ front ++ more → least_of stage front ≤ length text
 
 -- a field's value, and what is made of it
 made_took : {A : Type 0} (s : State) (stage : Stage) (bytes : List ℕ) (x : Next) (rest : List ℕ) (one : Reader A) (make : A → Next) (text : List ℕ) (y : A) (mid : List ℕ)
     → ((b : List ℕ) → field_at s stage b ≡ (one b >>= (λ y rest. Finished (make y) rest))) → bytes ≡ text ++ mid → ((more : List ℕ) → one (text ++ more) ≡ Finished y more)
-    → least_of stage ≤ length text → Finished (make y) mid ≡ Finished x rest → Took s stage bytes x rest
+    → ((front more : List ℕ) → bytes ≡ front ++ more → least_of stage front ≤ length text) → Finished (make y) mid ≡ Finished x rest → Took s stage bytes x rest
 made_took s stage bytes x rest one make text y mid is whole again least e = record {
   text = text;
   whole = whole ∙ ap (λ (t : List ℕ). text ++ t) (same_rest (make y) x mid rest e);
@@ -42,6 +45,13 @@ flag_there : (last : Option (List ℕ)) → 1 ≤ length (last_bytes last)
 flag_there None = omega arith
 flag_there (Some name) = omega arith
 
+-- it is no shorter than its first byte tells
+last_least : (last : Option (List ℕ)) (rest front more : List ℕ) → IfSome last IsName → front ++ more ≡ last_bytes last ++ rest → last_told front ≤ length (last_bytes last)
+last_least last rest [] more named e = flag_there last
+last_least last rest (zero ∷ front) more named e = flag_there last
+last_least None rest (suc flag ∷ front) more named e = (let none : suc flag ≡ 0 = same_head (suc flag) 0 (front ++ more) rest e in absurd (omega (arith, none)))
+last_least (Some name) rest (suc flag ∷ front) more named e = omega (arith, named)
+
 pub field_took : (s : State) (stage : Stage) (bytes : List ℕ) (x : Next) (rest : List ℕ) → AreBytes bytes → is_open stage ≡ true → field_at s stage bytes ≡ Finished x rest → Took s stage bytes x rest
 unfolding field_at
 field_took s AtHead bytes x rest fit opens e =
@@ -49,24 +59,24 @@ field_took s AtHead bytes x rest fit opens e =
     let found = head_found s.want bytes w.0 w.1 fit w.2 in
     let size : length (head_bytes s.want w.0) ≡ 9 = refl in
     made_took s AtHead bytes x rest (head_field s.want) (after_count s s.want) (head_bytes s.want w.0) w.0 w.1 (λ b. refl) found.0
-    (λ more. head_again s.want w.0 more found.1) (omega (arith, size)) w.3
+    (λ more. head_again s.want w.0 more found.1) (λ front more e. omega (arith, size)) w.3
 field_took s (AtName k) bytes x rest fit opens e =
     let i = length s.names in
     let w = went_on (name_field i bytes) _ x rest e in
     let found = name_found i bytes w.0 w.1 fit w.2 in
     made_took s (AtName k) bytes x rest (name_field i) (after_name s k) w.0 w.0 w.1 (λ b. refl) found.1
-    (λ more. name_again i w.0 more found.0) (omega (arith, found.0)) w.3
+    (λ more. name_again i w.0 more found.0) (λ front more e. omega (arith, found.0)) w.3
 field_took s (AtRow k) bytes x rest fit opens e =
     let i = length s.rows in
     let w = went_on (row_field i bytes) _ x rest e in
     let found = row_found i bytes w.0 w.1 fit w.2 in
     made_took s (AtRow k) bytes x rest (row_field i) (after_row s k) w.0 w.0 w.1 (λ b. refl) found.1
-    (λ more. row_again i w.0 more found.0) (spelling_size w.0 found.0.0 found.0.1).0 w.3
+    (λ more. row_again i w.0 more found.0) (λ front more e. told_least w.0 w.1 front more found.0.0 found.0.1 (sym e ∙ found.1)) w.3
 field_took s AtLast bytes x rest fit opens e =
     let w = went_on (last_field bytes) _ x rest e in
     let found = last_found bytes w.0 w.1 w.2 in
     made_took s AtLast bytes x rest last_field (λ last. Done (Rows (parcel_of s.rows last))) (last_bytes w.0) w.0 w.1 (λ b. refl) found.1
-    (λ more. last_again w.0 more found.0) (flag_there w.0) w.3
+    (λ more. last_again w.0 more found.0) (λ front more e. last_least w.0 w.1 front more found.0 (sym e ∙ found.1)) w.3
 field_took s (Shut fault) bytes x rest fit opens e = absurd cc
 field_took s Over bytes x rest fit opens e = absurd cc
 

@@ -6,4 +6,5 @@ pub mod Outcome
 pub mod Progress
 pub mod Reading
 pub mod Receiving
+pub mod Sizes
 pub mod Views

@@ -1,6 +1,5 @@
 -- How far a message was read, and what the bytes to come then mean
-use Rattle.std.specs.Prelude.{◌≡◌, ℕ, zero, suc, ◌+◌, ◌*◌, Bool, true, false, List, [], ◌∷◌, ◌++◌, length}
-use Rattle.hg_event.specs.First.{least_size}
+use Rattle.std.specs.Prelude.{ℕ, zero, suc, Bool, true, false, List, [], ◌∷◌, ◌++◌, length}
 use Rattle.hg_wire.specs.declared.message.Want.{Want}
 use Rattle.hg_wire.specs.declared.message.Want.TheVariants as want
 use Rattle.hg_wire.specs.declared.message.Message.{Message}
@@ -86,21 +85,3 @@ rest_of s = rest_at s s.stage
 abbrev pub finish : Next → Reader Message
 finish (Into s) bytes = rest_of s bytes
 finish (Done m) bytes = Finished m bytes
-
--- how many bytes stand at least behind the field at this place: 48 of each name, 81 of each row, and the flag
-abbrev pub behind : Stage → ℕ
-behind AtHead = 0
-behind (AtName k) = 48 * k
-behind (AtRow k) = least_size * k + 1
-behind AtLast = 0
-behind (Shut fault) = 0
-behind Over = 0
-
--- how many bytes the field at this place has at least
-abbrev pub least_of : Stage → ℕ
-least_of AtHead = 9
-least_of (AtName k) = 48
-least_of (AtRow k) = least_size
-least_of AtLast = 1
-least_of (Shut fault) = 0
-least_of Over = 0

@@ -6,7 +6,8 @@ ghost use Rattle.hg_wire.specs.Ears.{Answers, GoesOn, HasHeard, IsOn, WaitsIfMor
 
 use crate::hearing::{Hearing, are_bytes, hear};
 use crate::message::{Fed, Want};
-use crate::progress::{Progress, Stage, behind, least_of};
+use crate::progress::{Progress, Stage};
+use crate::sizes::{behind, least_of};
 use hg_model::Memory;
 use std::alloc::Global;
 use std::marker::Model;
@@ -48,8 +49,8 @@ impl Ear {
         }
     }
 
-    /// Hears the next piece. After `Whole` and after `Memory` the ear needs to be made anew; after `Refused` each piece is
-    /// refused so. Names and events take memory as they come, not as their number does.
+    /// Hears the next piece. After `Whole` and after `Memory` the ear needs to be made anew; after `Refused` each piece
+    /// is refused so. Names and events take memory as they come, not as their number does.
     pub fn feed(&mut self, piece: &[u8]) -> Result<Fed, Memory>
         requires { IsOn self.old }
         ensures answers { IfOk result (Answers piece.now (means self.old piece.now)) }
@@ -78,7 +79,7 @@ impl Ear {
         let pending = self.hearing.pending.as_slice();
         are_bytes(pending);
         let stage = self.hearing.progress.stage;
-        let missing = least_of(stage).saturating_sub(pending.len());
+        let missing = least_of(stage, pending).saturating_sub(pending.len());
         missing.max(1) + behind(stage)
     }
 }

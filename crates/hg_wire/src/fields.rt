@@ -107,7 +107,8 @@ pub(crate) fn head_of(bytes: &[u8], want: Want) -> Result<(u32, &[u8]), Stop>
     count_of(rest)
 }
 
-/// The bytes of the row at this place, and those behind them. To find its end does not depend on the length of its payload.
+/// The bytes of the row at this place, and those behind them. To find its end does not depend on the length of its
+/// payload.
 #[tactic(auto, unfolding(crate::specs::Reading::row_field))]
 pub(crate) fn row_of(bytes: &[u8], place: usize) -> Result<(&[u8], &[u8]), Stop>
     ensures { Tells (λ x. x.0.now) (λ x. x.1.now) result (row_field place bytes.now) }

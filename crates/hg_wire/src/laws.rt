@@ -9,8 +9,8 @@ use crate::message::{Fed, Want};
 use hg_model::Memory;
 use std::alloc::Global;
 
-/// A law: what is read is a message, a message is read whatever follows it, none begins another, and what was read of the
-/// bytes that came stands whatever bytes come.
+/// A law: what is read is a message, a message is read whatever follows it, none begins another, and what was read of
+/// the bytes that came stands whatever bytes come.
 pub fn messages()
     ensures found { ReadsAreMessages }
     ensures read { MessagesAreRead }
@@ -24,15 +24,16 @@ pub fn exchanges_fit<K, L>()
     ensures answers { AnswersFit L }
 {}
 
-/// A law: the names that are read of what a node asked are held by it; and after the message was taken that is read of what
-/// a peer answered to names that the taker holds, each row of the peer is held by its name, or was refused at its turn.
+/// A law: the names that are read of what a node asked are held by it; and after the message was taken that is read of
+/// what a peer answered to names that the taker holds, each row of the peer is held by its name, or was refused at its
+/// turn.
 pub fn exchanges_hold<K, L>()
     ensures names { AsksNameHeld K }
     ensures rows { ExchangesHold K L }
 {}
 
-/// A law, over the calls of an ear: the first message of a stream that comes in these pieces, or its first fault, does not
-/// depend on how it was cut.
+/// A law, over the calls of an ear: the first message of a stream that comes in these pieces, or its first fault, does
+/// not depend on how it was cut.
 pub fn hear_all(alloc: Global, want: Want, pieces: &[Vec<u8>]) -> Result<Fed, Memory>
     ensures says { IfOk result (Says (read want (flat_map (λ piece. piece.items) pieces.now))) }
     ensures first { IfOk result (IsFirst want (flat_map (λ piece. piece.items) pieces.now)) }

@@ -1,8 +1,8 @@
-ghost use Rattle.std.specs.Prelude.{◌≡◌, ◌<◌, ◌^◌, true, IfOk};
+ghost use Rattle.std.specs.Prelude.{◌≡◌, true, IfOk};
 ghost use Rattle.hg_wire.specs.declared.message.Message.TheVariants.{Have, Rows};
 ghost use Rattle.hg_wire.specs.declared.progress.Stage.TheVariants.{AtHead, AtLast, AtName, AtRow, Over};
 ghost use Rattle.hg_wire.specs.Ears.{Turns};
-ghost use Rattle.hg_wire.specs.Progress.{behind, field, is_open, least_of};
+ghost use Rattle.hg_wire.specs.Progress.{field, is_open};
 ghost use Rattle.hg_wire.specs.Reading.{parcel_of};
 ghost use Rattle.hg_wire.specs.Views.{state_of, stopped};
 
@@ -176,34 +176,5 @@ pub(crate) fn read_field<'a>(progress: &mut Progress, bytes: &'a [u8]) -> Result
         Stage::AtLast => Ok(turn_last(progress, bytes)),
         Stage::Shut(fault) => Ok(Turn::Wrong(fault)),
         Stage::Over => Ok(Turn::Waits),
-    }
-}
-
-/// How many bytes the field at this place has at least.
-pub(crate) fn least_of(stage: Stage) -> usize
-    ensures { result ≡ least_of stage }
-{
-    match stage {
-        Stage::AtHead => 9,
-        Stage::AtName(_) => 48,
-        Stage::AtRow(_) => 81,
-        Stage::AtLast => 1,
-        Stage::Shut(_) => 0,
-        Stage::Over => 0,
-    }
-}
-
-/// How many bytes stand at least behind the field at this place.
-pub(crate) fn behind(stage: Stage) -> usize
-    ensures value { result ≡ behind stage }
-    ensures small { result < 2 ^ 40 }
-{
-    match stage {
-        Stage::AtName(more) => 48 * more as usize,
-        Stage::AtRow(more) => 81 * more as usize + 1,
-        Stage::AtHead => 0,
-        Stage::AtLast => 0,
-        Stage::Shut(_) => 0,
-        Stage::Over => 0,
     }
 }

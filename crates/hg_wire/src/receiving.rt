@@ -1,4 +1,5 @@
 ghost use Rattle.std.specs.Prelude.{◌≡◌, ◌≤◌, ℕ, [], List, Ok, Some, IfOk};
+ghost use Rattle.hg_io.specs.Bytes.{IsReadOn};
 ghost use Rattle.hg_io.specs.Faults.{Rose};
 ghost use Rattle.hg_wire.specs.declared.message.Want.{Want};
 ghost use Rattle.hg_wire.specs.Ears.{HasHeard, means};
@@ -33,6 +34,7 @@ pub fn receive<S: Source>(source: &mut S, ear: &mut Ear) -> Result<Receipt, Memo
     ensures received { IfOk result (Received (means ear.old) (S.left source.old) (S.left source.new)) }
     ensures told { (bytes : List ℕ) → S.left source.old ≡ Some bytes
         → IfOk result (Told (means ear.old) bytes (S.left source.new)) }
+    ensures read { IsReadOn (S.left source.old) (S.left source.new) }
     ensures cause { result ≡ Ok Receipt.Failed → Rose (S.faults source.old) (S.faults source.new) }
     ensures counts { S.faults source.old ≤ S.faults source.new }
 {
@@ -40,9 +42,11 @@ pub fn receive<S: Source>(source: &mut S, ear: &mut Ear) -> Result<Receipt, Memo
 }
 
 /// The same, with the clauses from which the others follow.
+#[tactic(auto, using(crate::proofs::Sources::read_so_far, crate::proofs::Sources::read_on))]
 fn listen<S: Source>(source: &mut S, ear: &mut Ear) -> Result<Receipt, Memory>
     requires { (want : Want) × HasHeard want [] ear.old }
     ensures received { IfOk result (Received (means ear.old) (S.left source.old) (S.left source.new)) }
+    ensures read { IsReadOn (S.left source.old) (S.left source.new) }
     ensures cause { result ≡ Ok Receipt.Failed → Rose (S.faults source.old) (S.faults source.new) }
     ensures counts { S.faults source.old ≤ S.faults source.new }
 {

@@ -1,7 +1,7 @@
-ghost use Rattle.std.specs.Prelude.{◌≡◌, ◌≤◌, ◌++◌, length};
+ghost use Rattle.std.specs.Prelude.{◌≡◌, ◌≤◌, length};
 ghost use Rattle.std.specs.List.{concat};
 ghost use Rattle.hg_io.specs.Printing.{Prints, PutsOn};
-ghost use Rattle.hg_wire.specs.declared.message.Want.TheVariants as want;
+ghost use Rattle.hg_wire.specs.declared.message.Message.TheVariants.{Have, Rows};
 ghost use Rattle.hg_wire.specs.Grammar.{head_bytes, item_count, last_bytes, message_bytes, parcel_bytes};
 ghost use Rattle.hg_wire.specs.Reading.{count_limit};
 
@@ -67,7 +67,7 @@ fn write_parcel<K: Sink>(page: &mut Page, sink: &mut K, parcel: &Parcel) -> Resu
 /// Puts the message HAVE of these names.
 fn put_have<K: Sink>(page: &mut Page, sink: &mut K, names: &[Name]) -> Result<(), Failed>
     requires { length names.now ≤ count_limit }
-    ensures { PutsOn K.Sink sink.old sink.new page.old page.new (head_bytes want.Have (length names.now) ++ concat names.now) result }
+    ensures { PutsOn K.Sink sink.old sink.new page.old page.new (message_bytes (Have names.now)) result }
 {
     page.put(sink, &head_of(Want::Have, names.len() as u32))?;
     write_names(page, sink, names)?;
@@ -77,7 +77,7 @@ fn put_have<K: Sink>(page: &mut Page, sink: &mut K, names: &[Name]) -> Result<()
 /// Puts the message ROWS of this parcel.
 fn put_rows<K: Sink>(page: &mut Page, sink: &mut K, parcel: &Parcel) -> Result<(), Failed>
     requires { length parcel.now.rows ≤ count_limit }
-    ensures { PutsOn K.Sink sink.old sink.new page.old page.new (head_bytes want.Rows (length parcel.now.rows) ++ parcel_bytes parcel.now) result }
+    ensures { PutsOn K.Sink sink.old sink.new page.old page.new (message_bytes (Rows parcel.now)) result }
 {
     page.put(sink, &head_of(Want::Rows, parcel.rows.as_slice().len() as u32))?;
     write_parcel(page, sink, parcel)?;
@@ -95,8 +95,10 @@ fn put_message<K: Sink>(page: &mut Page, sink: &mut K, message: &Message) -> Res
     }
 }
 
-/// Writes the message, of at most 1,048,576 names or rows. It takes no memory; the sink gets pages of up to 4,096 bytes.
-/// `Failed` comes with the first fault of the sink, which has then taken a front of the message, and not all of it.
+/// Writes the message, of at most 1,048,576 names or rows. It takes no memory; the sink gets pages of up to 4,096
+/// bytes. `Failed` comes with the first fault of the sink, which has then taken a front of the message, and not all of
+/// it.
+#[tactic(auto, using(hg_io::proofs::PrintLaws::stopped_part, hg_io::proofs::PrintLaws::printed_by_page))]
 pub fn write_message<K: Sink>(sink: &mut K, message: &Message) -> Result<(), Failed>
     requires { item_count message.now ≤ count_limit }
     ensures { Prints K.Sink sink.old sink.new (message_bytes message.now) result }
