@@ -1,9 +1,9 @@
 -- How many bytes an event has at least, as its first ones tell
-use Rattle.std.proofs.Common.{◌≡◌, ℕ, zero, suc, ◌+◌, ◌*◌, ◌^◌, ◌<◌, ◌≤◌, true, List, [], ◌∷◌, ◌++◌, length, drop, Some, None, refl, sym, ap, subst, ◌∙◌, append_assoc, arith}
+use Rattle.std.proofs.Common.{◌≡◌, ℕ, zero, suc, ◌+◌, ◌*◌, ◌^◌, ◌<◌, ◌≤◌, true, eqb, List, [], ◌∷◌, ◌++◌, length, drop, Some, None, refl, sym, ap, ◌∙◌, append_assoc, arith, inl, inr}
 use Rattle.std.specs.Prelude.{◌&&◌, IfSome, nat_le, nat_lt}
 use Rattle.std.specs.List.{AllByRecursion, concat}
 use Rattle.std.specs.Int.{w16, w64, from_be_bytes, to_be_bytes}
-use Rattle.std.proofs.lemmas.Bool.{and_parts, ltb-true}
+use Rattle.std.proofs.lemmas.Bool.{and_parts, cases_Bool, eqb-true, ltb-true}
 use Rattle.std.proofs.lemmas.List.{length-append}
 use Rattle.std.proofs.lemmas.Nat.{from_be_bytes-to_be_bytes_2}
 use Rattle.hg_model.specs.declared.row.Row.{Row}
@@ -44,8 +44,10 @@ names_len [] are = refl
 names_len (name ∷ names) are = omega (arith, length-append name (concat names), are.0, names_len names are.1)
 
 some_size : (k : ℕ) → 0 < k → parents_size k ≡ 48 + 48 * k
-some_size zero some = absurd (omega (arith, some))
-some_size (suc k) some = omega arith
+some_size k some = elim (cases_Bool (eqb k 0)) [
+  | inl is ↦ (let none : k ≡ 0 = eqb-true k 0 is in absurd (omega (arith, none, some)))
+  | inr isnt ↦ rw isnt (omega arith)
+]
 
 some_others : (names : List ℕ × List (List ℕ)) → AreNames names → 0 < length names.1
 some_others names are = ltb-true 0 (length names.1) (and_parts (nat_lt 0 (length names.1)) (nat_le (length names.1) 4) are.few).0

@@ -45,7 +45,8 @@ fn payload_told(bytes: &[u8]) -> usize
 
 /// How many bytes an event has at least, of which these are the first bytes from the kind on.
 fn least_behind(bytes: &[u8]) -> usize
-    ensures { result ≡ least_behind bytes.now }
+    ensures value { result ≡ least_behind bytes.now }
+    ensures small { result < 2 ^ 40 }
 {
     match bytes {
         [] => EVENT,
@@ -58,14 +59,16 @@ fn least_behind(bytes: &[u8]) -> usize
 
 /// How many bytes an event has at least, of which these are the first bytes.
 fn least_told(bytes: &[u8]) -> usize
-    ensures { result ≡ least_told bytes.now }
+    ensures value { result ≡ least_told bytes.now }
+    ensures small { result < 2 ^ 40 }
 {
     least_behind(skip(bytes, 6))
 }
 
 /// How many bytes the flag and the name behind it have at least, of which these are the first bytes.
 fn last_told(bytes: &[u8]) -> usize
-    ensures { result ≡ last_told bytes.now }
+    ensures value { result ≡ last_told bytes.now }
+    ensures small { result < 2 ^ 40 }
 {
     match bytes {
         [] => 1,
@@ -76,7 +79,8 @@ fn last_told(bytes: &[u8]) -> usize
 
 /// How many bytes the field at this place has at least, of which these are the first bytes.
 pub(crate) fn least_of(stage: Stage, bytes: &[u8]) -> usize
-    ensures { result ≡ least_of stage bytes.now }
+    ensures value { result ≡ least_of stage bytes.now }
+    ensures small { result < 2 ^ 40 }
 {
     match stage {
         Stage::AtHead => 9,

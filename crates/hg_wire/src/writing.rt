@@ -30,13 +30,20 @@ fn write_names<K: Sink>(page: &mut Page, sink: &mut K, names: &[Name]) -> Result
     Ok(())
 }
 
+/// Puts the row.
+fn write_row<K: Sink>(page: &mut Page, sink: &mut K, row: &Bytes) -> Result<(), Failed>
+    ensures { PutsOn K.Sink sink.old sink.new page.old page.new row.now result }
+{
+    page.put(sink, row.as_slice())
+}
+
 /// Puts the rows, one behind the other.
 #[tactic(auto, using(hg_io::proofs::PrintLaws::none_put, hg_io::proofs::PrintLaws::more_put, hg_io::proofs::PrintLaws::all_put, hg_io::proofs::PrintLaws::stopped_within))]
 fn write_rows<K: Sink>(page: &mut Page, sink: &mut K, rows: &[Bytes]) -> Result<(), Failed>
     ensures { PutsOn K.Sink sink.old sink.new page.old page.new (concat rows.now) result }
 {
     for row in rows {
-        page.put(sink, row.as_slice())?;
+        write_row(page, sink, row)?;
     }
     Ok(())
 }
@@ -79,7 +86,10 @@ fn put_rows<K: Sink>(page: &mut Page, sink: &mut K, parcel: &Parcel) -> Result<(
     requires { length parcel.now.rows ≤ count_limit }
     ensures { PutsOn K.Sink sink.old sink.new page.old page.new (message_bytes (Rows parcel.now)) result }
 {
-    page.put(sink, &head_of(Want::Rows, parcel.rows.as_slice().len() as u32))?;
+    page.put(
+        sink,
+        &head_of(Want::Rows, parcel.rows.as_slice().len() as u32),
+    )?;
     write_parcel(page, sink, parcel)?;
     Ok(())
 }

@@ -4,7 +4,7 @@ use Rattle.hg_wire.specs.Ears.{Answers, GoesOn, means}
 use Rattle.hg_io.specs.Bytes.{TakesOff}
 use Rattle.hg_wire.specs.declared.message.Fed.{Fed}
 use Rattle.hg_wire.specs.Outcome.{Finished}
-use Rattle.hg_wire.proofs.Sources.{all_used, ended, more_read, read_none, receiving_more, receiving_none, receiving_short}
+use Rattle.hg_wire.proofs.Sources.{all_used, ended, more_read, read_none, read_on, receiving_more, receiving_none, receiving_short}
 use Rattle.hg_wire.proofs.receiving.listen.Goals as goal
 
 pub pieces-init : goal.pieces-init
@@ -49,3 +49,15 @@ returns-in-Whole-clause-received g c =
     let within : length piece ≤ c.wants.result = omega (arith, ap length same, length-take c.in-Ok.count c.read.new.buf, c.in-Ok.ensures.within, c.min-room.ensures, length-take c.min-room.result c.pieces.buf) in
     let all = all_used (means c.pieces.ear) piece c.wants.result c.in-Whole.field-1 c.in-Whole.message (λ rest e. c.wants.ensures.least piece rest c.in-Whole.message c.are_bytes.ensures e) within heard.1 in
     more_read (means c.args.ear.now) (means c.pieces.ear) _ _ _ c.pieces.at piece (Finished c.in-Whole.message []) c.pieces.invariant.so_far taken all
+
+pub returns-in_err-feed-clause-read : goal.returns-in_err-feed-clause-read
+returns-in_err-feed-clause-read g c =
+    read_on (means c.args.ear.now) (means c.pieces.ear) _ _ _ c.pieces.at (take c.in-Ok.count c.read.new.buf) c.pieces.invariant.so_far c.in-Ok.ensures.next
+
+pub returns-in-Whole-clause-read : goal.returns-in-Whole-clause-read
+returns-in-Whole-clause-read g c =
+    read_on (means c.args.ear.now) (means c.pieces.ear) _ _ _ c.pieces.at (take c.in-Ok.count c.read.new.buf) c.pieces.invariant.so_far c.in-Ok.ensures.next
+
+pub returns-in-Refused-clause-read : goal.returns-in-Refused-clause-read
+returns-in-Refused-clause-read g c =
+    read_on (means c.args.ear.now) (means c.pieces.ear) _ _ _ c.pieces.at (take c.in-Ok.count c.read.new.buf) c.pieces.invariant.so_far c.in-Ok.ensures.next

@@ -4,9 +4,9 @@ use Rattle.hg_wire.proofs.writing.write_rows.Goals as goal
 
 pub loop-row-preserved : goal.loop-row-preserved
 loop-row-preserved g c =
-    more_put _ _ _ _ _ _ _ (parts_left c.args.rows.now c.loop-row.row-index _ c.loop-row-test.true) c.loop-row.invariant (rw c.as_slice.ensures at c.in_ok-put.ensures.puts)
+    more_put _ _ _ _ _ _ _ (parts_left c.args.rows.now c.loop-row.row-index _ c.loop-row-test.true) c.loop-row.invariant c.in_ok-write_row.ensures
 
-pub returns-in_err-put : goal.returns-in_err-put
-returns-in_err-put g c =
+pub returns-in_err-write_row : goal.returns-in_err-write_row
+returns-in_err-write_row g c =
     failed _ _ _ _ c.from_residual.ensures.0
-    (stopped_within _ _ _ _ _ _ _ (parts_left c.args.rows.now c.loop-row.row-index _ c.loop-row-test.true) c.loop-row.invariant (rw c.as_slice.ensures at c.in_err-put.ensures.puts))
+    (stopped_within _ _ _ _ _ _ _ (parts_left c.args.rows.now c.loop-row.row-index _ c.loop-row-test.true) c.loop-row.invariant c.in_err-write_row.ensures)

@@ -11,5 +11,5 @@ returns-clause-least c = λ more rest m fit e.
     let waits = unfinished_waits h c.self.invariant (ap (λ (p : Place). means p []) c.self.view_is ∙ c.requires) in
     let pending_fit = subst (λ (t : List ℕ). AreBytes t) c.as_slice-pending.ensures.value c.are_bytes.ensures in
     let least = needs h pending_fit waits more rest m fit (ap (λ (p : Place). means p more) c.self.view_is ∙ e) in
-    let told = c.least_of.ensures ∙ ap (least_of c.self.inside.hearing.progress.stage) c.as_slice-pending.ensures.value in
+    let told = c.least_of.ensures.value ∙ ap (least_of c.self.inside.hearing.progress.stage) c.as_slice-pending.ensures.value in
     omega (arith, least.some, least.least, c.behind.ensures.value, told, c.max.ensures, c.saturating_sub-missing.ensures, ap length c.as_slice-pending.ensures.value)
