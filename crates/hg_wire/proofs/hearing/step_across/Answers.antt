@@ -2,7 +2,7 @@ use Rattle.std.proofs.Common.{arith, ap, subst, sym, ◌≡◌, ◌-◌, ◌≤�
 use Rattle.std.proofs.lemmas.List.{length-append, length-drop, length-take, take_all, take-append-drop}
 use Rattle.hg_wire.specs.declared.progress.Progress.{Progress}
 use Rattle.hg_wire.specs.declared.progress.Turn.{Turn}
-use Rattle.hg_wire.specs.Outcome.{Faulty, Finished, Unfinished}
+use Rattle.hg_wire.specs.Outcome.{Unfinished}
 use Rattle.hg_wire.specs.Grammar.{AreBytes}
 use Rattle.hg_wire.specs.Progress.{Into, Done, field, rest_of}
 use Rattle.hg_wire.specs.Ears.{Turns}

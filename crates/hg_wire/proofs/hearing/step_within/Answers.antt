@@ -1,7 +1,6 @@
 use Rattle.std.proofs.Common.{arith, ap, subst, [], ℕ, List, ◌++◌, ◌∙◌}
 use Rattle.hg_wire.specs.declared.progress.Turn.{Turn}
 use Rattle.hg_wire.specs.Outcome.{Faulty, Finished}
-use Rattle.hg_wire.specs.Grammar.{AreBytes}
 use Rattle.hg_wire.specs.Progress.{Into, Done, field, rest_of}
 use Rattle.hg_wire.specs.Ears.{Turns}
 use Rattle.hg_wire.specs.Views.{state_of}

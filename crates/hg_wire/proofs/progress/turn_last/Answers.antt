@@ -1,4 +1,4 @@
-use Rattle.std.proofs.Common.{◌≡◌, ℕ, List, Option, ap, sym, ◌∙◌}
+use Rattle.std.proofs.Common.{ℕ, List, Option, ap, sym, ◌∙◌}
 use Rattle.hg_wire.specs.Outcome.{Finished}
 use Rattle.hg_wire.specs.Progress.{Next, Done}
 use Rattle.hg_wire.specs.Views.{state_of}

@@ -1,6 +1,5 @@
-use Rattle.std.proofs.Common.{[], ap, inl, refl, ◌∙◌}
+use Rattle.std.proofs.Common.{ap, inl, refl, ◌∙◌}
 use Rattle.hg_wire.specs.declared.progress.Stage.TheVariants.{AtHead}
-use Rattle.hg_wire.specs.declared.hearing.Hearing.{Hearing}
 use Rattle.hg_wire.specs.Progress.{field_at}
 use Rattle.hg_wire.proofs.Settled.{means_waits, new_means}
 use Rattle.hg_wire.proofs.Turning.{open_waits}

@@ -1,4 +1,4 @@
-use Rattle.std.proofs.Common.{[], arith, ap, subst, ◌≡◌, ◌≤◌, ◌+◌, ℕ, List, length, ◌∙◌}
+use Rattle.std.proofs.Common.{[], arith, ap, subst, ℕ, List, length, ◌∙◌}
 use Rattle.hg_wire.specs.Grammar.{AreBytes}
 use Rattle.hg_wire.specs.Sizes.{least_of}
 use Rattle.hg_wire.specs.Ears.{Place, means}
