@@ -1,5 +1,5 @@
 -- Lists of bytes, and their parts
-use Rattle.std.proofs.Common.{◌≡◌, ℕ, zero, suc, ◌<◌, List, [], ◌∷◌, ◌++◌, get_or, sym, ap, subst, ◌∙◌, append_assoc, arith}
+use Rattle.std.proofs.Common.{◌≡◌, ℕ, zero, suc, List, [], ◌∷◌, ◌++◌, sym, ap, subst, ◌∙◌, append_assoc, arith}
 use Rattle.hg_wire.specs.Grammar.{AreBytes}
 
 fit_behind : (a b : List ℕ) → AreBytes (a ++ b) → AreBytes b

@@ -1,5 +1,5 @@
 -- What nodes say fits into messages, and what a peer answered holds for the taker that reads it
-use Rattle.std.proofs.Common.{◌≡◌, ℕ, zero, suc, ◌+◌, ◌<◌, ◌≤◌, Bool, true, false, cond, not, List, [], ◌∷◌, ◌++◌, length, get_or, Option, Some, None, slice_get, refl, sym, ap, subst, ◌∙◌, arith}
+use Rattle.std.proofs.Common.{◌≡◌, ℕ, zero, suc, ◌<◌, ◌≤◌, Bool, true, false, cond, not, List, [], ◌∷◌, ◌++◌, length, get_or, Option, Some, None, refl, sym, ap, subst, ◌∙◌, arith}
 use Rattle.std.specs.Prelude.{IfSome}
 use Rattle.std.specs.List.{AllByRecursion}
 use Rattle.std.proofs.lemmas.List.{length-append}
@@ -11,7 +11,6 @@ use Rattle.hg_model.specs.Links.{links, no_row}
 use Rattle.hg_model.specs.Orders.{IsPrefix}
 use Rattle.hg_model.specs.Places.{list_below}
 use Rattle.hg_life.specs.Signing.{Accepts}
-use Rattle.hg_life.specs.Spelling.{spelling}
 use Rattle.hg_life.specs.Verdict.{last_name}
 use Rattle.hg_life.specs.NodeView.{IsNode, NodeView, node_rows}
 use Rattle.hg_life.proofs.LastLaws.{last_found}
@@ -19,9 +18,7 @@ use Rattle.hg_history.specs.Laws.{IsNodeGraph}
 use Rattle.hg_history.proofs.HeldLaws.{held_longer}
 use Rattle.hg_history.proofs.SoundLaws.{node_graph}
 use Rattle.hg_node.specs.Beyond.{beyond_of, bytes_at, bytes_beyond, is_behind_some, is_parent, tips, tips_of}
-use Rattle.hg_gossip.specs.declared.gossip.Taken.{Taken}
 use Rattle.hg_gossip.specs.Gossip.{TakesAll}
-use Rattle.hg_gossip.specs.Holding.{Rules, Seen}
 use Rattle.hg_gossip.specs.Refusals.{HoldsUnlessRefused}
 use Rattle.hg_gossip.proofs.RefusalLaws.{beyond_holds, tips_are_held}
 use Rattle.hg_wire.specs.declared.message.Want.TheVariants as want

@@ -1,18 +1,18 @@
 -- The event that a row is, as its reading at the front of some bytes gives it
 use Rattle.std.proofs.Common.{◌≡◌, ℕ, ◌-◌, ◌<◌, ◌≤◌, List, ◌++◌, length, take, drop, Result, Ok, Err, refl, sym, ap, subst, ◌∙◌, arith}
-use Rattle.std.proofs.lemmas.List.{take_at, drop_at, take-append-le, drop-append-le, take-append-drop, length-take}
+use Rattle.std.proofs.lemmas.List.{take_at, drop_at, take-append-le, drop-append-le, take-append-drop}
 use Rattle.hg_model.specs.declared.row.Row.{Row}
 use Rattle.hg_life.specs.declared.answers.ByteFault.{ByteFault}
 use Rattle.hg_life.specs.declared.answers.ByteFault.TheVariants.{Short, BadMagic, BadKind, BadLength, Trailing}
 use Rattle.hg_life.specs.Spelling.{Spells}
 use Rattle.hg_life.specs.Reading.{Field}
-use Rattle.hg_event.specs.First.{counted, first_event, greatest_size, is_short, read_first}
+use Rattle.hg_event.specs.First.{counted, first_event, greatest_size, read_first}
 use Rattle.hg_event.specs.First.{Stands as event_stands}
 use Rattle.hg_event.proofs.FrontLaws.{first_counted, is_first}
 use Rattle.hg_event.proofs.FrontSizes.{early_end}
 use Rattle.hg_event.proofs.FrontsStand.{first_stands}
 use Rattle.hg_event.proofs.Reading.{same_done}
-use Rattle.hg_wire.specs.Outcome.{Outcome, Unfinished, Faulty, Finished, Stands, IsStable}
+use Rattle.hg_wire.specs.Outcome.{Unfinished, Finished, Stands, IsStable}
 use Rattle.hg_wire.specs.Reading.{row_field, row_seen}
 use Rattle.hg_wire.specs.Grammar.{AreBytes, IsEvent}
 use Rattle.hg_wire.proofs.Steps.{same_rest, same_value}

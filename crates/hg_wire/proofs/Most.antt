@@ -1,5 +1,5 @@
 -- At most how many bytes a field has, and at most how many hold no fault and no whole message
-use Rattle.std.proofs.Common.{◌≡◌, ℕ, zero, suc, ◌+◌, ◌*◌, ◌<◌, ◌≤◌, Bool, true, false, cond, eqb, ltb, List, [], ◌∷◌, ◌++◌, length, take, drop, Option, Some, Result, Ok, Err, refl, sym, ap, ◌∙◌, arith, inl, inr}
+use Rattle.std.proofs.Common.{◌≡◌, ℕ, zero, suc, ◌+◌, ◌*◌, ◌<◌, ◌≤◌, Bool, true, false, cond, eqb, ltb, List, [], ◌∷◌, ◌++◌, length, take, drop, Some, Result, Ok, Err, refl, sym, ap, ◌∙◌, arith, inl, inr}
 use Rattle.std.specs.Prelude.{⊤}
 use Rattle.std.specs.Int.{w32, from_be_bytes}
 use Rattle.std.proofs.lemmas.Bool.{cases_lt, lt-ltb, le-ltb, ltb-false}
@@ -12,7 +12,6 @@ use Rattle.hg_event.proofs.FrontSizes.{early_end}
 use Rattle.hg_event.proofs.FrontsStand.{first_stands}
 use Rattle.hg_wire.specs.declared.message.Want.{Want}
 use Rattle.hg_wire.specs.declared.message.Want.TheVariants as want
-use Rattle.hg_wire.specs.declared.message.Message.{Message}
 use Rattle.hg_wire.specs.declared.message.WireFault.{WireFault}
 use Rattle.hg_wire.specs.declared.message.WireFault.TheVariants.{Magic, Kind, Count}
 use Rattle.hg_wire.specs.declared.progress.Stage.{Stage}

@@ -1,5 +1,5 @@
 -- What an ear that has settled makes of the bytes to come
-use Rattle.std.proofs.Common.{◌≡◌, ℕ, ◌+◌, ◌≤◌, List, [], ◌++◌, length, drop, refl, sym, ap, subst, ◌∙◌, arith, inl, inr}
+use Rattle.std.proofs.Common.{◌≡◌, ℕ, ◌+◌, ◌≤◌, List, [], ◌++◌, length, drop, refl, sym, ap, ◌∙◌, arith, inl, inr}
 use Rattle.std.proofs.lemmas.List.{append-nil, length-append}
 use Rattle.hg_wire.specs.declared.message.Message.{Message}
 use Rattle.hg_wire.specs.declared.message.Message.TheVariants.{Have}
@@ -12,7 +12,7 @@ use Rattle.hg_wire.specs.declared.hearing.Hearing.{Hearing}
 use Rattle.hg_wire.specs.Outcome.{Unfinished, Faulty, Finished, ◌>>=◌}
 use Rattle.hg_wire.specs.Reading.{read}
 use Rattle.hg_wire.specs.Grammar.{AreBytes}
-use Rattle.hg_wire.specs.Progress.{State, field, finish, rest_at, rest_of, start}
+use Rattle.hg_wire.specs.Progress.{field, finish, rest_at, rest_of, start}
 use Rattle.hg_wire.specs.Sizes.{behind, least_of}
 use Rattle.hg_wire.specs.Views.{state_of}
 use Rattle.hg_wire.specs.Ears.{Answers, GoesOn, Hears, IsOn, IsSettled, IsWaiting, WaitsIfMore, hears, place_of}

@@ -1,17 +1,16 @@
 -- The field at a place is read, from bytes that came before and from some of a piece
-use Rattle.std.proofs.Common.{◌≡◌, ℕ, ◌+◌, ◌-◌, ◌<◌, ◌≤◌, true, List, [], ◌∷◌, ◌++◌, length, take, drop, refl, sym, ap, subst, ◌∙◌, append_assoc, arith}
+use Rattle.std.proofs.Common.{◌≡◌, ℕ, ◌+◌, ◌-◌, ◌<◌, ◌≤◌, List, [], ◌++◌, length, drop, refl, sym, ap, subst, ◌∙◌, append_assoc, arith}
 use Rattle.std.proofs.lemmas.List.{append-nil, length-append, drop_at, drop-append-le}
 use Rattle.std.proofs.Math.Seq.{drop-append-add}
 use Rattle.hg_wire.specs.declared.message.Message.{Message}
 use Rattle.hg_wire.specs.declared.message.WireFault.{WireFault}
 use Rattle.hg_wire.specs.Outcome.{Outcome, Unfinished, Faulty, Finished, ◌>>=◌, Stands}
 use Rattle.hg_wire.specs.Grammar.{AreBytes}
-use Rattle.hg_wire.specs.Progress.{State, Next, Into, Done, field, finish, is_open, rest_of}
+use Rattle.hg_wire.specs.Progress.{State, Next, Into, Done, field, finish, rest_of}
 use Rattle.hg_wire.specs.Ears.{IsBehind}
 use Rattle.hg_wire.proofs.Stable.{field_at_stable}
 use Rattle.hg_wire.proofs.Places.{rest_field}
-use Rattle.hg_wire.proofs.Took.{Took, crosses, field_took, waits_open}
-use Rattle.hg_wire.proofs.Turning.{open_waits}
+use Rattle.hg_wire.proofs.Took.{crosses, field_took, waits_open}
 
 -- the bytes of the field that came before, those of the piece that are put behind them, and the others of the piece
 pub record Parts (pending piece part tail : List ℕ) : Type 0 where

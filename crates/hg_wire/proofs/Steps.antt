@@ -1,5 +1,5 @@
 -- Fields one after the other: what a reading that went on has read, and what stands of it once more bytes came
-use Rattle.std.proofs.Common.{◌≡◌, ℕ, Bool, true, false, cond, List, ◌++◌, refl, sym, ap, subst}
+use Rattle.std.proofs.Common.{◌≡◌, ℕ, Bool, true, false, cond, List, refl, sym, ap, subst}
 use Rattle.hg_wire.specs.declared.message.WireFault.{WireFault}
 use Rattle.hg_wire.specs.Outcome.{Outcome, Unfinished, Faulty, Finished, Reader, ◌>>=◌, Stands, IsStable}
 

@@ -1,6 +1,6 @@
 -- How many bytes an event has at least, as its first ones tell
-use Rattle.std.proofs.Common.{◌≡◌, ℕ, zero, suc, ◌+◌, ◌*◌, ◌^◌, ◌<◌, ◌≤◌, true, eqb, List, [], ◌∷◌, ◌++◌, length, drop, Some, None, refl, sym, ap, ◌∙◌, append_assoc, arith, inl, inr}
-use Rattle.std.specs.Prelude.{◌&&◌, IfSome, nat_le, nat_lt}
+use Rattle.std.proofs.Common.{◌≡◌, ℕ, ◌+◌, ◌*◌, ◌^◌, ◌<◌, ◌≤◌, eqb, List, [], ◌∷◌, ◌++◌, length, drop, Some, None, refl, sym, ap, ◌∙◌, append_assoc, arith, inl, inr}
+use Rattle.std.specs.Prelude.{IfSome, nat_le, nat_lt}
 use Rattle.std.specs.List.{AllByRecursion, concat}
 use Rattle.std.specs.Int.{w16, w64, from_be_bytes, to_be_bytes}
 use Rattle.std.proofs.lemmas.Bool.{and_parts, cases_Bool, eqb-true, ltb-true}
@@ -8,7 +8,7 @@ use Rattle.std.proofs.lemmas.List.{length-append}
 use Rattle.std.proofs.lemmas.Nat.{from_be_bytes-to_be_bytes_2}
 use Rattle.hg_model.specs.declared.row.Row.{Row}
 use Rattle.hg_model.specs.Links.{ParentNames}
-use Rattle.hg_life.specs.Spelling.{AreNames, Spells, body_of, form_bytes, others_of, parent_bytes, payload_limit, spelling}
+use Rattle.hg_life.specs.Spelling.{AreNames, Spells, body_of, form_bytes, others_of, parent_bytes, spelling}
 use Rattle.hg_event.specs.First.{least_size}
 use Rattle.hg_event.proofs.FrontSizes.{spelling_size}
 use Rattle.hg_wire.specs.Sizes.{least_behind, least_told, parents_size, payload_told}

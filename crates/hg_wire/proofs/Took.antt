@@ -1,5 +1,5 @@
 -- What the reading of a field takes: a front of the bytes, by which alone it is read, and how many there are at least
-use Rattle.std.proofs.Common.{◌≡◌, ℕ, zero, suc, ◌+◌, ◌*◌, ◌<◌, ◌≤◌, true, List, [], ◌∷◌, ◌++◌, length, take, drop, Option, Some, None, refl, sym, ap, subst, ◌∙◌, arith, inl, inr}
+use Rattle.std.proofs.Common.{◌≡◌, ℕ, zero, suc, ◌+◌, ◌*◌, ◌<◌, ◌≤◌, true, List, [], ◌∷◌, ◌++◌, length, take, drop, Option, Some, None, refl, sym, ap, ◌∙◌, arith, inl, inr}
 use Rattle.std.specs.Prelude.{IfSome}
 use Rattle.std.specs.List.{concat, AllByRecursion}
 use Rattle.std.proofs.lemmas.Bool.{cases_lt}
@@ -12,7 +12,7 @@ use Rattle.hg_wire.specs.declared.message.Message.{Message}
 use Rattle.hg_wire.specs.declared.message.Message.TheVariants.{Have, Rows}
 use Rattle.hg_wire.specs.declared.progress.Stage.{Stage}
 use Rattle.hg_wire.specs.declared.progress.Stage.TheVariants.{AtHead, AtName, AtRow, AtLast, Shut, Over}
-use Rattle.hg_wire.specs.Outcome.{Outcome, Unfinished, Finished, Reader, ◌>>=◌}
+use Rattle.hg_wire.specs.Outcome.{Unfinished, Finished, Reader, ◌>>=◌}
 use Rattle.hg_wire.specs.Reading.{head_field, last_field, many, name_field, parcel_of, row_field}
 use Rattle.hg_wire.specs.Grammar.{AreBytes, IsEvent, IsName, head_bytes, last_bytes}
 use Rattle.hg_wire.specs.Progress.{State, Next, Into, Done, after_count, after_name, after_row, body_on, field_at, finish, is_open, rest_at}

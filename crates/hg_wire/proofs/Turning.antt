@@ -3,14 +3,13 @@ use Rattle.std.proofs.Common.{◌≡◌, ℕ, zero, suc, ◌-◌, true, List, []
 use Rattle.hg_wire.specs.declared.message.Want.{Want}
 use Rattle.hg_wire.specs.declared.message.Want.TheVariants as want
 use Rattle.hg_wire.specs.declared.message.Message.TheVariants.{Have, Rows}
-use Rattle.hg_wire.specs.declared.message.WireFault.{WireFault}
 use Rattle.hg_wire.specs.declared.progress.Stage.{Stage}
 use Rattle.hg_wire.specs.declared.progress.Stage.TheVariants.{AtHead, AtName, AtRow, AtLast, Shut, Over}
 use Rattle.hg_wire.specs.declared.fields.Stop.{Stop}
 use Rattle.hg_wire.specs.declared.fields.Stop.TheVariants.{Waits, Wrong}
-use Rattle.hg_event.specs.First.{first_event, read_first}
+use Rattle.hg_event.specs.First.{read_first}
 use Rattle.hg_life.specs.Reading.{form_field, form_of}
-use Rattle.hg_wire.specs.Outcome.{Outcome, Unfinished, Faulty, Finished, Reader, ◌>>=◌}
+use Rattle.hg_wire.specs.Outcome.{Outcome, Unfinished, Finished, Reader, ◌>>=◌}
 use Rattle.hg_wire.specs.Reading.{cut, head_field, last_field, magic_byte, magic_field, name_field, parcel_of, row_field}
 use Rattle.hg_wire.specs.Progress.{State, Next, Into, Done, after_count, after_name, after_row, field_at, is_open}
 use Rattle.hg_wire.specs.Views.{stopped}

@@ -1,5 +1,5 @@
 -- How many bytes are there at least of the field at a place, and behind it
-use Rattle.std.specs.Prelude.{ℕ, zero, suc, ◌+◌, ◌*◌, ◌==◌, nat_eq, cond, List, [], ◌∷◌, drop, if◌then◌else◌}
+use Rattle.std.specs.Prelude.{ℕ, zero, suc, ◌+◌, ◌*◌, ◌==◌, List, [], ◌∷◌, drop, if◌then◌else◌}
 use Rattle.std.specs.Int.{w16, from_be_bytes}
 use Rattle.hg_event.specs.First.{least_size}
 use Rattle.hg_wire.specs.declared.progress.Stage.{Stage}

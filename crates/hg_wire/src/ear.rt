@@ -50,7 +50,7 @@ impl Ear {
     }
 
     /// Hears the next piece. After `Whole` and after `Memory` the ear needs to be made anew; after `Refused` each piece
-    /// is refused so. Names and events take memory as they come, not as their number does.
+    /// is refused so. Memory is taken for names and events as they come, and none for the number that is said of them.
     pub fn feed(&mut self, piece: &[u8]) -> Result<Fed, Memory>
         requires { IsOn self.old }
         ensures answers { IfOk result (Answers piece.now (means self.old piece.now)) }

@@ -13,12 +13,12 @@ pub enum Want {
     Rows,
 }
 
-/// A whole message.
+/// A whole message. One that was heard has at most 1,048,576 names or rows, and each of its rows is an event.
 #[derive(Debug, Drop)]
 pub enum Message {
-    /// At most 1,048,576 names.
+    /// Names of rows.
     Have(Items<Name>),
-    /// At most 1,048,576 events, each in its bytes, and the name of the last own row.
+    /// The bytes of rows, and the name of the last own row.
     Rows(Parcel),
 }
 
@@ -40,7 +40,7 @@ pub enum WireFault {
     Kind(u8),
     /// So many names or rows, above 1,048,576.
     Count(u32),
-    /// The row at this place, from 0, has a fault, which is neither `Short` nor `Trailing`.
+    /// The row at this place, from 0, has a fault, as `decode_first` finds it in the bytes from there on; none is `Short`.
     Row(usize, ByteFault),
     /// The flag before the name of the last own row is this, above 1.
     Flag(u8),
