@@ -5,11 +5,15 @@
 //! mailbox held none; and, once the ports have been taken back, `count` and `drain`: each sender's messages are what of them
 //! was taken out, and then what was left.
 //!
-//! From `gather` of `hg_mail`:
+//! From `send_piece` and `receive` of `hg_storm`:
 //!
 //! ```text
-//! let all = self.whole(other);
-//! self.absorb(port, all);
+//! match mailbox.post(rt, port, message) {
+//!     PostAnswer::Posted => sent += 1,
+//!     PostAnswer::Full(_) => return sent,
+//! }
+//!
+//! let messages = mailbox.collect(rt, alloc, inbox)?;
 //! ```
 #![tactic(auto)]
 

@@ -3,9 +3,8 @@ use Rattle.std.proofs.Common.{◌≡◌, ◌≢◌, ◌⊎◌, ⊎_elim, inl, in
 use mathlib.Core.Logic.{dite}
 use native.Mathlib.Decide.{ℕ_discrete}
 use Rattle.std.specs.List.{AllByRecursion}
-use Rattle.std.proofs.lemmas.List.{append-nil}
-use Rattle.std.proofs.lemmas.List.Slices.{take-append-le, take-length}
-use Rattle.std.proofs.lemmas.List.GetOr.{get_or_append_left, get_or_push}
+use Rattle.std.proofs.lemmas.List.{append-nil, get_or_append_left, get_or_push, take-append-le}
+use Rattle.std.proofs.Math.Seq.{take-length}
 use Rattle.std.proofs.lemmas.Option.{slice_get_within}
 use Rattle.hg_model.specs.declared.row.Row.{Row}
 use Rattle.hg_model.specs.Orders.{IsPrefix}
@@ -54,6 +53,10 @@ module _ {A : Type 0} where
   all_map P Q f [] all = tt
   all_map P Q f (x ∷ xs) all = (f x all.0, all_map P Q f xs all.1)
 
+  pub all_append : (P : A → Type 0) (xs ys : List A) → AllByRecursion P xs → AllByRecursion P ys → AllByRecursion P (xs ++ ys)
+  all_append P [] ys all more = more
+  all_append P (x ∷ xs) ys all more = (all.0, all_append P xs ys all.1 more)
+
   all_push : (P : A → Type 0) (xs : List A) (x : A) → AllByRecursion P xs → P x → AllByRecursion P (xs ++ x ∷ [])
   all_push P [] x all last = (last, tt)
   all_push P (y ∷ xs) x all last = (all.0, all_push P xs x all.1 last)
@@ -94,10 +97,17 @@ of_more taken m row of = record {
   reads = subst (λ (b : List ℕ). read_event b ≡ Ok row) (bytes_front taken m of.index of.inside) of.reads;
 }
 
-came_later : (h later : List Change) (taken : List Message) (m : Message) (q : ℕ) → IsPrefix h later → CameBy h taken q → CameBy later (taken ++ m ∷ []) q
-came_later h later taken m q first came = ⊎_elim
+-- a change came so in a longer history too
+pub came_still : (h later : List Change) (taken : List Message) (q : ℕ) → IsPrefix h later → CameBy h taken q → CameBy later taken q
+came_still h later taken q first came = ⊎_elim
     (λ (made : IsMade h q). inl (record { row = made.row; at = get_later h later q (Made made.row) first made.at }))
-    (λ (took : IsTaken h taken q). inr (record { row = took.row; at = get_later h later q (Took took.row) first took.at; message = of_more taken m took.row took.message }))
+    (λ (took : IsTaken h taken q). inr (record { row = took.row; at = get_later h later q (Took took.row) first took.at; message = took.message }))
+    came
+
+came_more : (h : List Change) (taken : List Message) (m : Message) (q : ℕ) → CameBy h taken q → CameBy h (taken ++ m ∷ []) q
+came_more h taken m q came = ⊎_elim
+    (λ (made : IsMade h q). inl made)
+    (λ (took : IsTaken h taken q). inr (record { row = took.row; at = took.at; message = of_more taken m took.row took.message }))
     came
 
 -- a longer history, and the same messages
@@ -159,7 +169,7 @@ module _ {V : Type 0} (accepts : V → Accepts) (p : SharedNode V) (s t : SeatVi
       (λ r was. refuses_more accepts p t.seen taken m refused more r (refuses_still accepts p s.seen t.seen taken refused r first was)) refused fates.refusals
 
   all_came : AllByRecursion (CameBy t.seen (taken ++ m ∷ [])) s.mine
-  all_came = all_map (CameBy s.seen taken) (CameBy t.seen (taken ++ m ∷ [])) (λ q was. came_later s.seen t.seen taken m q first was) s.mine fates.came
+  all_came = all_map (CameBy s.seen taken) (CameBy t.seen (taken ++ m ∷ [])) (λ q was. came_more t.seen taken m q (came_still s.seen t.seen taken q first was)) s.mine fates.came
 
   all_held : (more : List Refusal) → IsRefused (length taken) (refused ++ more) ⊎ HoldsEvent (node_at p.start t.seen) m.bytes → AreHeld p t.seen (taken ++ m ∷ []) (refused ++ more) (length (taken ++ m ∷ []))
   all_held more last j inside = dite (ℕ_discrete j (length taken))
