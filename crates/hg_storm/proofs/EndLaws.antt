@@ -1,5 +1,5 @@
 -- From what a seat has seen to the whole history
-use Rattle.std.proofs.Common.{◌≡◌, ◌≢◌, ◌⊎◌, ⊎_elim, inl, inr, ℕ, ◌+◌, ◌<◌, ◌≤◌, List, [], ◌∷◌, ◌++◌, length, Some, slice_get, sym, ap, ◌∙◌, subst, arith}
+use Rattle.std.proofs.Common.{◌≡◌, ⊎_elim, inl, inr, ℕ, ◌<◌, List, [], ◌∷◌, ◌++◌, length, Some, slice_get, sym, ap, ◌∙◌, subst, arith}
 use mathlib.Core.Logic.{dite}
 use native.Mathlib.Decide.{ℕ_discrete}
 use Rattle.std.specs.List.{AllByRecursion}
@@ -7,17 +7,12 @@ use Rattle.std.proofs.lemmas.Option.{slice_get_within}
 use Rattle.hg_model.specs.declared.row.Row.{Row}
 use Rattle.hg_life.specs.History.{Change}
 use Rattle.hg_life.specs.History.Change.{Took, Made, Marked}
-use Rattle.hg_life.specs.NodeView.{NodeView}
-use Rattle.hg_life.specs.Signing.{Accepts}
 use Rattle.hg_mail.specs.declared.message.Message.{Message}
 use Rattle.hg_board.specs.Positions.{times}
-use Rattle.hg_board.specs.Table.{node_at}
-use Rattle.hg_board.specs.Seats.{SharedNode, SeatView}
 use Rattle.hg_board.proofs.PositionLaws.{times_apart, times_cons, times_none}
-use Rattle.hg_crowd.specs.Crowd.{IsEnded, IsMark}
-use Rattle.hg_storm.specs.declared.taking.Refusal.{Refusal}
-use Rattle.hg_storm.specs.Fates.{AreHeld, CameBy, HasFates, IsMade, IsOfMessage, IsTaken, Refuses, bytes_at}
-use Rattle.hg_storm.specs.Ends.{EndsWithFates, FatesLast}
+use Rattle.hg_crowd.specs.Crowd.{IsMark}
+use Rattle.hg_storm.specs.Fates.{CameBy, IsMade, IsOfMessage, IsTaken, Refuses, bytes_at}
+use Rattle.hg_storm.specs.Ends.{FatesLast}
 use Rattle.hg_storm.proofs.FateLaws.{all_map, get_later, holds_later, refuses_still}
 
 -- what is so of each position is so of one that stands there

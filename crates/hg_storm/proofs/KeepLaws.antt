@@ -1,9 +1,8 @@
 -- What came of the messages stands when the node goes on, and when rows are made through the seat
-use Rattle.std.proofs.Common.{◌≡◌, ◌⊎◌, ⊎_elim, inl, inr, ℕ, zero, suc, ◌+◌, ◌<◌, ◌≤◌, List, [], ◌∷◌, ◌++◌, append_assoc, length, length-append, Option, Some, None, slice_get, refl, sym, ap, ◌∙◌, subst, arith}
+use Rattle.std.proofs.Common.{◌≡◌, ⊎_elim, inl, inr, ℕ, suc, List, [], ◌∷◌, ◌++◌, append_assoc, length, length-append, Option, Some, None, slice_get, refl, sym, ap, ◌∙◌, subst, arith}
 use Rattle.std.specs.List.{AllByRecursion}
 use Rattle.std.proofs.lemmas.List.{append-nil}
 use Rattle.hg_model.specs.declared.row.Row.{Row}
-use Rattle.hg_model.specs.Orders.{IsPrefix}
 use Rattle.hg_life.specs.declared.answers.MakeAnswer.{MakeAnswer}
 use Rattle.hg_life.specs.declared.answers.MakeAnswer.TheVariants as answer
 use Rattle.hg_life.specs.Verdict.{made_row}
@@ -17,8 +16,8 @@ use Rattle.hg_gossip.specs.Holding.{Seen, positions_from}
 use Rattle.hg_mail.specs.declared.message.Message.{Message}
 use Rattle.hg_board.specs.Seats.{SharedNode, SeatView, seen_by}
 use Rattle.hg_storm.specs.declared.taking.Refusal.{Refusal}
-use Rattle.hg_storm.specs.Fates.{CameBy, HasFates, IsMade, IsTaken, Refuses, bytes_at}
-use Rattle.hg_storm.specs.Keeping.{KeepsFates, MakingKeepsFates, WaitingKeepsFates}
+use Rattle.hg_storm.specs.Fates.{CameBy, HasFates, IsMade, Refuses, bytes_at}
+use Rattle.hg_storm.specs.Keeping.{MakingKeepsFates, WaitingKeepsFates}
 use Rattle.hg_storm.proofs.FateLaws.{all_append, all_map, came_still, holds_later, refuses_still}
 
 abbrev IsMaking : Change → Type 0

@@ -1,10 +1,10 @@
 -- Rows that are sent one after the other, and a node that goes on meanwhile
-use Rattle.std.proofs.Common.{◌≡◌, ℕ, zero, suc, ◌+◌, ◌<◌, ◌≤◌, min, List, [], ◌∷◌, ◌++◌, length, map, take, drop, refl, sym, ap, ◌∙◌, subst, append_assoc, arith}
-use Rattle.std.proofs.lemmas.List.{append-nil, length-append, length-drop, length-map, length-take, length-take-le, map-append, take-append-le, take-map}
+use Rattle.std.proofs.Common.{◌≡◌, ℕ, zero, suc, ◌+◌, ◌<◌, ◌≤◌, List, [], ◌∷◌, ◌++◌, length, map, take, drop, refl, sym, ap, ◌∙◌, subst, append_assoc, arith}
+use Rattle.std.proofs.lemmas.List.{append-nil, length-append, length-drop, length-take, length-take-le, map-append, take-append-le, take-map}
 use Rattle.std.proofs.lemmas.List.{drop-map}
 use Rattle.hg_model.specs.Orders.{IsPrefix}
 use Rattle.hg_life.specs.Spelling.{spelling}
-use Rattle.hg_life.specs.NodeView.{NodeView, node_rows}
+use Rattle.hg_life.specs.NodeView.{node_rows}
 use Rattle.hg_history.proofs.StateLaws.{prefix_more, rows_grow}
 use Rattle.hg_mail.specs.declared.message.Message.{Message}
 use Rattle.hg_mail.specs.declared.view.Sender.{Sender}

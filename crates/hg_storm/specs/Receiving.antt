@@ -1,5 +1,5 @@
 -- A member's mailbox and its node: what was taken out was put
-use Rattle.std.specs.Prelude.{◌≡◌, ℕ, ◌<◌, ◌≤◌, List, ◌++◌, length}
+use Rattle.std.specs.Prelude.{◌≡◌, ◌<◌, ◌≤◌, List, ◌++◌, length}
 use Rattle.hg_mail.specs.declared.message.Message.{Message}
 use Rattle.hg_mail.specs.Messages.{receiver_view}
 use Rattle.hg_mail.specs.Rule.{HeldAt}

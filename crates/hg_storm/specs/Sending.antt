@@ -1,5 +1,5 @@
 -- What a member has sent to another: its node's first rows, in order, through one port
-use Rattle.std.specs.Prelude.{◌≡◌, ℕ, ◌+◌, ◌<◌, ◌≤◌, ◌⊎◌, List, [], ◌∷◌, ◌++◌, length, map, take}
+use Rattle.std.specs.Prelude.{◌≡◌, ℕ, ◌+◌, ◌≤◌, ◌⊎◌, List, [], ◌∷◌, ◌++◌, length, map, take}
 use Rattle.hg_life.specs.Spelling.{spelling}
 use Rattle.hg_life.specs.NodeView.{node_rows}
 use Rattle.hg_mail.specs.declared.message.Message.{Message}
