@@ -96,6 +96,10 @@ abbrev pub Answers : ℕ → PortView → Message → PostAnswer → PortView �
 Answers room p message Posted q = IsPosted p message q
 Answers room p message (Full back) q = IsFull room p message back q
 
+-- the same of a port's two tokens
+abbrev pub AnswersAt : ℕ → Pass Message View → Seat (Option ℕ) CountView → Message → PostAnswer → Pass Message View → Seat (Option ℕ) CountView → Type 0
+AnswersAt room pass seat message answer pass_after seat_after = Answers room (port_of pass seat) message answer (port_of pass_after seat_after)
+
 abbrev pub Posts : MailboxView → PortView → Message → PostAnswer → PortView → Type 0
 Posts m p message answer q = IsPortOf m q × Answers m.room p message answer q
 

@@ -1,7 +1,7 @@
 ghost use Rattle.std.specs.Prelude.{◌≡◌, ◌<◌};
 ghost use Rattle.crossbeam_queue.specs.Passes.{IsPassOf, IsSamePass, ruled_capacity, view};
 ghost use Rattle.hg_mail.specs.Messages.{IsSender};
-ghost use Rattle.hg_mail.specs.Mailboxes.{Answers, port_of};
+ghost use Rattle.hg_mail.specs.Mailboxes.{AnswersAt};
 
 use crate::counting::{look, raise};
 use crate::message::Message;
@@ -34,7 +34,7 @@ pub fn post_by<R: Wait>(
     requires part { 0 < seat.old.me.0.parts }
     ensures pass { IsSamePass pass.old pass.new }
     ensures seat { (seat.new.table_id ≡ seat.old.table_id) × (seat.new.me.1 ≡ seat.old.me.1) }
-    ensures answers { Answers (ruled_capacity queue.now) (port_of pass.old seat.old) message result (port_of pass.new seat.new) }
+    ensures answers { AnswersAt (ruled_capacity queue.now) pass.old seat.old message result pass.new seat.new }
 {
     let room = queue.capacity() as u64;
     let mut letter = message;

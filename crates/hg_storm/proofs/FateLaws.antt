@@ -29,7 +29,7 @@ use Rattle.hg_board.specs.Calls.{SeatPuts}
 use Rattle.hg_board.proofs.ChangeLaws.{other_puts_add_none, puts_add_one}
 use Rattle.hg_board.proofs.PrefixLaws.{prefix_length, prefix_self}
 use Rattle.hg_storm.specs.declared.taking.Refusal.{Refusal}
-use Rattle.hg_storm.specs.Fates.{AreHeld, CameBy, HasFates, HoldsEvent, IsMade, IsOfMessage, IsRefused, IsTaken, Refuses, after_answer, bytes_at, no_message}
+use Rattle.hg_storm.specs.Fates.{AreHeld, CameBy, HasFates, HoldsEvent, IsMade, IsOfMessage, IsRefused, IsTaken, Refuses, after_put, bytes_at, no_message}
 
 -- lists that have grown
 
@@ -220,7 +220,7 @@ module _ {V : Type 0} (accepts : V → Accepts) (p : SharedNode V) (s t : SeatVi
       }
 
   -- one message more
-  pub fates_one : (answer : PutAnswer) (at : ℕ) → at ≡ length t.seen → SeatPuts accepts p s m.bytes t answer → HasFates accepts p t (taken ++ m ∷ []) (after_answer (length taken) at refused answer)
+  pub fates_one : (answer : PutAnswer) (at : ℕ) → at ≡ length t.seen → SeatPuts accepts p s m.bytes t answer → HasFates accepts p t (taken ++ m ∷ []) (after_put (length taken) at refused answer)
   fates_one (Accepted place) at at_is puts = accepted place puts
   fates_one (Known place) at at_is puts = known place puts
   fates_one (Refused why) at at_is puts = refuses why at at_is puts

@@ -55,10 +55,10 @@ abbrev pub CameBy : List Change → List Message → ℕ → Type 0
 CameBy history taken q = IsMade history q ⊎ IsTaken history taken q
 
 -- the refusals, with one more where this is one
-abbrev pub after_answer : ℕ → ℕ → List Refusal → PutAnswer → List Refusal
-after_answer index at refused (Accepted p) = refused
-after_answer index at refused (Known p) = refused
-after_answer index at refused (Refused why) = refused ++ record { index = index; why = why; at = at } ∷ []
+abbrev pub after_put : ℕ → ℕ → List Refusal → PutAnswer → List Refusal
+after_put index at refused (Accepted p) = refused
+after_put index at refused (Known p) = refused
+after_put index at refused (Refused why) = refused ++ record { index = index; why = why; at = at } ∷ []
 
 -- of the first messages each was refused, or the node of this history holds its event
 abbrev pub AreHeld : {V : Type 0} → SharedNode V → List Change → List Message → List Refusal → ℕ → Type 0

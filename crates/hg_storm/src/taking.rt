@@ -1,7 +1,7 @@
 ghost use Rattle.std.specs.Prelude.{◌≡◌, ◌<◌, ◌++◌, ◌∷◌, [], IfOk, OnOk, length, vec_capacity, vec_len};
 ghost use Rattle.hg_board.specs.Seats.{IsOf};
 ghost use Rattle.hg_crowd.specs.Crowd.{IsStill};
-ghost use Rattle.hg_storm.specs.Fates.{HasFates, after_answer};
+ghost use Rattle.hg_storm.specs.Fates.{HasFates, after_put};
 
 use hg_board::{Seat, Shared};
 use hg_life::{Fault, PutAnswer};
@@ -45,7 +45,7 @@ impl Intake {
         requires taken_room { vec_len self.old.taken < vec_capacity self.old.taken }
         requires refused_room { vec_len self.old.refused < vec_capacity self.old.refused }
         ensures taken { self.new.taken.items ≡ self.old.taken.items ++ message ∷ [] }
-        ensures refused { self.new.refused.items ≡ after_answer (length self.old.taken.items) at self.old.refused.items answer }
+        ensures refused { self.new.refused.items ≡ after_put (length self.old.taken.items) at self.old.refused.items answer }
     {
         let index = self.taken.len();
         match answer {
