@@ -1,0 +1,4 @@
+pub mod ListLaws
+pub mod MessageLaws
+pub mod CountLaws
+pub mod PortLaws

@@ -1,0 +1,268 @@
+-- Each step of a mailbox's queue keeps its rule, and tells what it tells
+use Rattle.std.proofs.Common.{◌≡◌, ◌≢◌, ℕ, ◌+◌, Bool, true, false, true≢false, ◌||◌, cond, eqb, eq-eqb, ne_eqb, List, [], ◌∷◌, ◌++◌, length, set, refl, sym, ap, ◌∙◌, subst, ⊎_elim, append_assoc, append-nil, arith}
+use Rattle.std.specs.List.{AllByRecursion}
+use mathlib.Core.Option.{some}
+use lib.ListN.{get_elem?}
+use Rattle.atomic_table.proofs.Lists.{at_set}
+use Rattle.crossbeam_queue.specs.Fifo.{Pushes, Pops, Forks, Merges, Learns}
+use Rattle.hg_mail.specs.declared.message.Message.{Message}
+use Rattle.hg_mail.specs.declared.view.Sender.{Sender}
+use Rattle.hg_mail.specs.declared.view.View.{View}
+use Rattle.hg_mail.specs.Messages.{IsEmptied, IsSender, Puts, Takes, after_hand, after_issue, after_taking, first_view, handed, issued, joined_view, messages_of, sender, sender_view, spent_view}
+use Rattle.hg_mail.specs.Rule.{Delivers, HasSender, HeldAt, IsAt, Knows, Ledger}
+use Rattle.hg_mail.proofs.ListLaws.{Each, all_append, all_map, each_one, each_push, each_set, of_another, of_its_sender}
+
+pub begins : Delivers [] (first_view ∷ [])
+begins =
+    let ledger : Ledger = record { receiver = 0; giver = 0; next = 0; port_of = λ _. 0; taken = []; put = [] } in record {
+      ledger = ledger;
+      all = refl;
+      fresh = λ from later. refl;
+      each = each_one (Knows ledger) first_view (record { takes = λ _. (refl, refl); gives = λ _. (refl, refl); senders = tt });
+    }
+
+-- what is known of a sender that has put in nothing more, and stays where it is
+same_sender : (l k : Ledger) (port : ℕ) → k.next ≡ l.next → k.port_of ≡ l.port_of → k.put ≡ l.put → (s : Sender) → HasSender l port s → HasSender k port s
+same_sender l k port next ports put s has = record {
+  known = omega (arith, has.known, next);
+  here = ap (λ f. f s.from) ports ∙ has.here;
+  all = has.all ∙ ap (messages_of s.from) (sym put);
+}
+
+-- another port's senders have put in nothing
+sender_later : (l : Ledger) (m : Message) (port j : ℕ) → l.port_of m.from ≡ port → j ≢ port → (s : Sender) → HasSender l j s → HasSender (record l { put = l.put ++ m ∷ [] }) j s
+sender_later l m port j own apart s has = record {
+  known = has.known;
+  here = has.here;
+  all = has.all ∙ sym (of_another s.from l.put m (λ (is : m.from ≡ s.from). apart (sym has.here ∙ (ap l.port_of (sym is) ∙ own))));
+}
+
+pub puts : (room port : ℕ) (v : View) (m : Message) → IsSender m.from v → Pushes Delivers room port v m (Puts v m)
+puts room port v m s held views short rule at =
+    let old : Ledger = rule.ledger in
+    let new : Ledger = record old { put = old.put ++ m ∷ [] } in
+    let w : View = sender_view m.from (s.put ++ m ∷ []) in
+    let mine : Knows old port v = rule.each port v at in
+    let has : HasSender old port (sender m.from s.put) = (subst (λ (u : View). AllByRecursion (HasSender old port) u.senders) s.is mine.senders).0 in (
+      w,
+      record {
+        ledger = new;
+        all = ap (λ (l : List Message). l ++ m ∷ []) rule.all ∙ append_assoc old.taken held (m ∷ []);
+        fresh = λ from later. of_another from old.put m (λ (is : m.from ≡ from). absurd (omega (arith, has.known, is, later))) ∙ rule.fresh from later;
+        each = each_set (Knows new) views port w
+            (record {
+              takes = λ e. absurd (true≢false (sym e));
+              gives = λ e. absurd (true≢false (sym e));
+              senders = (record { known = has.known; here = has.here; all = ap (λ (l : List Message). l ++ m ∷ []) has.all ∙ sym (of_its_sender m.from old.put m refl) }, tt);
+            })
+            (λ j u apart there. let o = rule.each j u there in record { takes = o.takes; gives = o.gives; senders = all_map (HasSender old j) (HasSender new j) (sender_later old m port j has.here apart) u.senders o.senders });
+      },
+      record { put = s.put; before = s.is; after = refl },
+    )
+
+pub takes : (port : ℕ) (v : View) → v.takes ≡ true → Pops Delivers port v (Takes v)
+takes port v may m held views rule at =
+    let old : Ledger = rule.ledger in
+    let new : Ledger = record old { taken = old.taken ++ m ∷ [] } in
+    let mine : Knows old port v = rule.each port v at in (
+      after_taking v (m ∷ []),
+      record {
+        ledger = new;
+        all = rule.all ∙ sym (append_assoc old.taken (m ∷ []) held);
+        fresh = rule.fresh;
+        each = each_set (Knows new) views port (after_taking v (m ∷ []))
+            (record {
+              takes = λ _. ((mine.takes may).0, ap (λ (l : List Message). l ++ m ∷ []) (mine.takes may).1);
+              gives = mine.gives;
+              senders = all_map (HasSender old port) (HasSender new port) (same_sender old new port refl refl refl) v.senders mine.senders;
+            })
+            (λ j u apart there. let o = rule.each j u there in record {
+              takes = λ e. absurd (apart ((o.takes e).0 ∙ sym (mine.takes may).0));
+              gives = o.gives;
+              senders = all_map (HasSender old j) (HasSender new j) (same_sender old new j refl refl refl) u.senders o.senders;
+            });
+      },
+      refl,
+    )
+
+pub learns : (port : ℕ) (v : View) → Learns Delivers port v (IsAt v)
+learns port v held views rule at = record { views = views; port = port; rule = rule; here = at }
+
+-- a sender's port is given out
+pub issues : (port : ℕ) (v : View) → v.gives ≡ true → Forks Delivers port v (after_issue v) (issued v)
+issues port v may held views rule at =
+    let old : Ledger = rule.ledger in
+    let mine : Knows old port v = rule.each port v at in
+    let kept : List View = set views port (after_issue v) in
+    let there : ℕ = length kept in
+    let new : Ledger = record old { next = old.next + 1; port_of = λ from. cond (eqb from old.next) there (old.port_of from) } in
+    let same : v.next ≡ old.next = (mine.gives may).1 in
+    let stays : (j : ℕ) (s : Sender) → HasSender old j s → HasSender new j s = λ j s has. record {
+      known = omega (arith, has.known);
+      here = ap (λ (b : Bool). cond b there (old.port_of s.from)) (ne_eqb s.from old.next (λ (is : s.from ≡ old.next). absurd (omega (arith, has.known, is)))) ∙ has.here;
+      all = has.all;
+    } in
+    record {
+      ledger = new;
+      all = rule.all;
+      fresh = λ from later. rule.fresh from (omega (arith, later));
+      each = each_push (Knows new) kept (issued v)
+          (each_set (Knows new) views port (after_issue v)
+          (record {
+            takes = mine.takes;
+            gives = λ _. ((mine.gives may).0, ap (λ n. n + 1) same);
+            senders = all_map (HasSender old port) (HasSender new port) (stays port) v.senders mine.senders;
+          })
+          (λ j u apart is. let o = rule.each j u is in record {
+            takes = o.takes;
+            gives = λ e. absurd (apart ((o.gives e).0 ∙ sym (mine.gives may).0));
+            senders = all_map (HasSender old j) (HasSender new j) (stays j) u.senders o.senders;
+          }))
+          (record {
+            takes = λ e. absurd (true≢false (sym e));
+            gives = λ e. absurd (true≢false (sym e));
+            senders = (
+              record {
+                known = omega (arith, same);
+                here = ap (λ (b : Bool). cond b there (old.port_of v.next)) (eq-eqb v.next old.next same);
+                all = sym (rule.fresh v.next (omega (arith, same)));
+              },
+              tt,
+            );
+          });
+    }
+
+-- the receiver's port is given out
+pub hands : (port : ℕ) (v : View) → v.takes ≡ true → Forks Delivers port v (after_hand v) (handed v)
+hands port v may held views rule at =
+    let old : Ledger = rule.ledger in
+    let mine : Knows old port v = rule.each port v at in
+    let kept : List View = set views port (after_hand v) in
+    let new : Ledger = record old { receiver = length kept } in record {
+      ledger = new;
+      all = rule.all;
+      fresh = rule.fresh;
+      each = each_push (Knows new) kept (handed v)
+          (each_set (Knows new) views port (after_hand v)
+          (record {
+            takes = λ e. absurd (true≢false (sym e));
+            gives = mine.gives;
+            senders = all_map (HasSender old port) (HasSender new port) (same_sender old new port refl refl refl) v.senders mine.senders;
+          })
+          (λ j u apart is. let o = rule.each j u is in record {
+            takes = λ e. absurd (apart ((o.takes e).0 ∙ sym (mine.takes may).0));
+            gives = o.gives;
+            senders = all_map (HasSender old j) (HasSender new j) (same_sender old new j refl refl refl) u.senders o.senders;
+          }))
+          (record { takes = λ _. (refl, (mine.takes may).1); gives = λ e. absurd (true≢false (sym e)); senders = tt });
+    }
+
+-- who has a right that another port does not give up keeps it
+right_stays : (port j new holder : ℕ) → j ≡ holder → j ≢ port → (b : Bool) → (b ≡ true → port ≡ holder) → holder ≡ cond b new holder
+right_stays port j new holder is apart true gone = absurd (apart (is ∙ sym (gone refl)))
+right_stays port j new holder is apart false gone = refl
+
+-- the rights of two ports at one of them
+right_joined : {A : Type 0} (port holder : ℕ) (known mine theirs : A) (v w : Bool) → (v ≡ true → (port ≡ holder) × (mine ≡ known)) → (w ≡ true → theirs ≡ known) → (w || v) ≡ true →
+    (port ≡ cond w port holder) × (cond w theirs mine ≡ known)
+right_joined port holder known mine theirs v true knows its e = (refl, its refl)
+right_joined port holder known mine theirs v false knows its e = knows e
+
+-- every right goes to a new port
+pub moves : (port : ℕ) (v : View) → Forks Delivers port v spent_view v
+moves port v held views rule at =
+    let old : Ledger = rule.ledger in
+    let mine : Knows old port v = rule.each port v at in
+    let kept : List View = set views port spent_view in
+    let there : ℕ = length kept in
+    let new : Ledger = record old {
+      receiver = cond v.takes there old.receiver;
+      giver = cond v.gives there old.giver;
+      port_of = λ from. cond (eqb (old.port_of from) port) there (old.port_of from);
+    } in
+    let stays : (j : ℕ) → j ≢ port → (s : Sender) → HasSender old j s → HasSender new j s = λ j apart s has. record {
+      known = has.known;
+      here = ap (λ (b : Bool). cond b there (old.port_of s.from)) (ne_eqb (old.port_of s.from) port (λ is. apart (sym has.here ∙ is))) ∙ has.here;
+      all = has.all;
+    } in
+    let comes : (s : Sender) → HasSender old port s → HasSender new there s = λ s has. record {
+      known = has.known;
+      here = ap (λ (b : Bool). cond b there (old.port_of s.from)) (eq-eqb (old.port_of s.from) port has.here);
+      all = has.all;
+    } in
+    record {
+      ledger = new;
+      all = rule.all;
+      fresh = rule.fresh;
+      each = each_push (Knows new) kept v
+          (each_set (Knows new) views port spent_view (record { takes = λ e. absurd (true≢false (sym e)); gives = λ e. absurd (true≢false (sym e)); senders = tt })
+          (λ j u apart is. let o = rule.each j u is in record {
+            takes = λ e. ((o.takes e).0 ∙ right_stays port j there old.receiver (o.takes e).0 apart v.takes (λ f. (mine.takes f).0), (o.takes e).1);
+            gives = λ e. ((o.gives e).0 ∙ right_stays port j there old.giver (o.gives e).0 apart v.gives (λ f. (mine.gives f).0), (o.gives e).1);
+            senders = all_map (HasSender old j) (HasSender new j) (stays j apart) u.senders o.senders;
+          }))
+          (record {
+            takes = λ e. (sym (ap (λ (b : Bool). cond b there old.receiver) e), (mine.takes e).1);
+            gives = λ e. (sym (ap (λ (b : Bool). cond b there old.giver) e), (mine.gives e).1);
+            senders = all_map (HasSender old port) (HasSender new there) comes v.senders mine.senders;
+          });
+    }
+
+-- a port is absorbed
+pub merges : (port : ℕ) (v : View) (other : ℕ) (w : View) → Merges Delivers port v other w (joined_view v w) spent_view
+merges port v other w held views rule at two there =
+    let old : Ledger = rule.ledger in
+    let both : View = joined_view v w in
+    let was : get_elem? views other ≡ some w = ⊎_elim (λ t. absurd (two t.0)) (λ t. t.1) (at_set views port other both w there) in
+    let mine : Knows old port v = rule.each port v at in
+    let theirs : Knows old other w = rule.each other w was in
+    let new : Ledger = record old {
+      receiver = cond w.takes port old.receiver;
+      giver = cond w.gives port old.giver;
+      port_of = λ from. cond (eqb (old.port_of from) other) port (old.port_of from);
+    } in
+    let stays : (j : ℕ) → j ≢ other → (s : Sender) → HasSender old j s → HasSender new j s = λ j apart s has. record {
+      known = has.known;
+      here = ap (λ (b : Bool). cond b port (old.port_of s.from)) (ne_eqb (old.port_of s.from) other (λ is. apart (sym has.here ∙ is))) ∙ has.here;
+      all = has.all;
+    } in
+    let comes : (s : Sender) → HasSender old other s → HasSender new port s = λ s has. record {
+      known = has.known;
+      here = ap (λ (b : Bool). cond b port (old.port_of s.from)) (eq-eqb (old.port_of s.from) other has.here);
+      all = has.all;
+    } in
+    let P : ℕ → View → Type 0 = λ j u. j ≢ other → Knows new j u in
+    let joined : Each P (set views port both) = each_set P views port both
+    (λ _. record {
+      takes = right_joined port old.receiver old.taken v.taken w.taken v.takes w.takes mine.takes (λ e. (theirs.takes e).1);
+      gives = right_joined port old.giver old.next v.next w.next v.gives w.gives mine.gives (λ e. (theirs.gives e).1);
+      senders = all_append (HasSender new port) v.senders w.senders
+          (all_map (HasSender old port) (HasSender new port) (stays port (λ is. two (sym is))) v.senders mine.senders)
+          (all_map (HasSender old other) (HasSender new port) comes w.senders theirs.senders);
+    })
+    (λ j u away is apart. let o = rule.each j u is in record {
+      takes = λ e. ((o.takes e).0 ∙ right_stays other j port old.receiver (o.takes e).0 apart w.takes (λ f. (theirs.takes f).0), (o.takes e).1);
+      gives = λ e. ((o.gives e).0 ∙ right_stays other j port old.giver (o.gives e).0 apart w.gives (λ f. (theirs.gives f).0), (o.gives e).1);
+      senders = all_map (HasSender old j) (HasSender new j) (stays j apart) u.senders o.senders;
+    }) in
+    record {
+      ledger = new;
+      all = rule.all;
+      fresh = rule.fresh;
+      each = each_set (Knows new) (set views port both) other spent_view
+          (record { takes = λ e. absurd (true≢false (sym e)); gives = λ e. absurd (true≢false (sym e)); senders = tt })
+          (λ j u apart is. joined j u is apart);
+    }
+
+none_held : (held : List Message) → length held ≡ 0 → held ≡ []
+none_held [] e = refl
+none_held (m ∷ held) e = absurd (omega (arith, e))
+
+-- once the mailbox held none, all was taken out
+pub emptied : (v : View) → v.takes ≡ true → HeldAt v 0 → IsEmptied v
+emptied v may held =
+    let s : IsAt v held.0 = held.2 in
+    let old : Ledger = s.rule.ledger in
+    let mine : Knows old s.port v = s.rule.each s.port v s.here in
+    let all : old.put ≡ v.taken = s.rule.all ∙ (ap (λ (l : List Message). old.taken ++ l) (none_held held.0 held.1) ∙ (append-nil old.taken ∙ sym (mine.takes may).1)) in
+    all_map (HasSender old s.port) (λ (x : Sender). x.put ≡ messages_of x.from v.taken) (λ x has. has.all ∙ ap (messages_of x.from) all) v.senders mine.senders

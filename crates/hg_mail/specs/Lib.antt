@@ -1,0 +1,4 @@
+pub mod Messages
+pub mod Rule
+pub mod Count
+pub mod Mailboxes

@@ -1,0 +1,62 @@
+// How messages are taken out.
+ghost use Rattle.std.specs.Prelude.{◌≡◌, ◌<◌, ◌≤◌, true, IfOk, OnErr, OnOk, length};
+ghost use Rattle.crossbeam_queue.specs.Passes.{IsPassOf, IsSamePass, ruled_capacity, view};
+ghost use Rattle.hg_mail.specs.Messages.{IsEmptied, TakesSome, after_taking};
+ghost use Rattle.hg_mail.specs.Rule.{HeldAt};
+
+use crate::message::Message;
+use crate::rule::{MailPass, Queue, Take};
+use hg_model::Memory;
+use std::alloc::Global;
+use std::sync::Wait;
+
+/// Takes out as many as there is room for, or fewer where the queue is empty. Without memory none.
+pub fn collect_by<R: Wait>(
+    rt: &R,
+    alloc: Global,
+    queue: &Queue,
+    pass: &mut MailPass,
+) -> Result<Vec<Message>, Memory>
+    requires pass { IsPassOf queue.now pass.old }
+    requires takes { (view pass.old).takes ≡ true }
+    ensures pass { IsSamePass pass.old pass.new }
+    ensures view { IfOk result (λ taken. view pass.new ≡ after_taking (view pass.old) taken.items) }
+    ensures most { IfOk result (λ taken. length taken.items ≤ ruled_capacity queue.now) }
+    ensures fewer { IfOk result (λ taken. length taken.items < ruled_capacity queue.now → HeldAt (view pass.new) 0) }
+    ensures err { OnErr result (view pass.new ≡ view pass.old) }
+{
+    let room = queue.capacity();
+    let mut taken = Vec::with_capacity(alloc, room)?;
+    for i in 0..room {
+        match queue.pop_as::<Take, R>(rt, pass) {
+            Some(message) => taken.push_reserved(message),
+            None => return Ok(taken),
+        }
+    }
+    Ok(taken)
+}
+
+/// Takes out all, until the queue is empty.
+pub fn drain_by<R: Wait>(
+    rt: &R,
+    alloc: Global,
+    queue: &Queue,
+    pass: &mut MailPass,
+) -> Result<Vec<Message>, Memory>
+    requires pass { IsPassOf queue.now pass.old }
+    requires takes { (view pass.old).takes ≡ true }
+    ensures pass { IsSamePass pass.old pass.new }
+    ensures view { IfOk result (λ left. view pass.new ≡ after_taking (view pass.old) left.items) }
+    ensures whole { OnOk result (IsEmptied (view pass.new)) }
+    ensures err { OnErr result (TakesSome (view pass.old) (view pass.new)) }
+{
+    let mut left = Vec::new(alloc);
+    for _ in rt.forever() {
+        left.reserve(1)?;
+        match queue.pop_as::<Take, R>(rt, pass) {
+            Some(message) => left.push_reserved(message),
+            None => return Ok(left),
+        }
+    }
+    unreachable!()
+}

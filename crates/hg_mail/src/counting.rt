@@ -1,0 +1,26 @@
+// The two steps of a mailbox's count.
+ghost use Rattle.std.specs.Prelude.{◌≡◌, ◌<◌};
+ghost use Rattle.hg_mail.specs.Count.{HasLooked, counting};
+
+use crate::rule::{CountSeat, Look, Raise, SharedCounter};
+
+/// How many messages were counted.
+pub fn look(counter: &SharedCounter, seat: &mut CountSeat) -> u64
+    requires size { counter.now.table_id.words ≡ 1 }
+    requires table { seat.old.table_id ≡ counter.now.table_id }
+    ensures table { seat.new.table_id ≡ seat.old.table_id }
+    ensures seat { HasLooked seat.old.me result seat.new.me }
+{
+    counter.load::<Look>(seat, 0)
+}
+
+/// Counts one message more.
+pub fn raise(counter: &SharedCounter, seat: &mut CountSeat)
+    requires size { counter.now.table_id.words ≡ 1 }
+    requires table { seat.old.table_id ≡ counter.now.table_id }
+    requires part { 0 < seat.old.me.0.parts }
+    ensures table { seat.new.table_id ≡ seat.old.table_id }
+    ensures seat { seat.new.me ≡ (counting seat.old.me.0, seat.old.me.1) }
+{
+    counter.fetch_add::<Raise>(seat, 0, 1);
+}

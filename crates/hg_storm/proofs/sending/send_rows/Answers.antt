@@ -1,0 +1,56 @@
+use Rattle.std.proofs.Common.{◌∙◌, arith}
+use Rattle.hg_storm.proofs.SendLaws.{piece_most, piece_sent, piece_some, rows_longer, sent_later, still_on}
+use Rattle.hg_storm.proofs.sending.send_rows.Goals as goal
+
+pub pieces-init : goal.pieces-init
+pieces-init g c =
+    let p = c.args.shared.now in
+    let s = c.args.seat.now in
+    let t = c.rows_due-due.new.seat in
+    let e = c.rows_due-due.ensures in
+    let longer = rows_longer p s t e.still.seen in record {
+      of = e.of;
+      still = e.still;
+      mine = e.mine;
+      due = omega (arith, e.count);
+      first = omega (arith, e.count, longer);
+      within = omega (arith, e.count, longer, c.requires.sent.within);
+      sent = sent_later p s t c.args.mailbox.now c.args.from c.args.dispatch.sent c.args.port.now e.still.seen c.requires.sent;
+      seen = omega arith;
+    }
+
+pub returns-then-more-count-clause-sent : goal.returns-then-more-count-clause-sent
+returns-then-more-count-clause-sent g c =
+    let e = c.send_piece-more.ensures in
+    piece_sent c.args.shared.now c.pieces.seat c.piece_from.new.seat c.args.mailbox.now c.args.from c.pieces.sent _ c.send_piece-more.result c.in_ok-rows.rows.items c.pieces.port c.send_piece-more.new.port
+    c.in_ok-rows.ensures.still.seen c.pieces.invariant.sent c.in_ok-rows.ensures.rows e.within e.of e.sends
+
+pub returns-then-more-count-clause-due : goal.returns-then-more-count-clause-due
+returns-then-more-count-clause-due g c =
+    let i = c.pieces.invariant in
+    record { least = i.first; most = omega (arith, i.due, rows_longer c.args.shared.now c.pieces.seat c.piece_from.new.seat c.in_ok-rows.ensures.still.seen) }
+
+pub pieces-smaller : goal.pieces-smaller
+pieces-smaller g c =
+    let i = c.pieces.invariant in
+    let longer = rows_longer c.args.shared.now c.pieces.seat c.piece_from.new.seat c.in_ok-rows.ensures.still.seen in
+    let some = piece_some c.args.shared.now c.piece_from.new.seat c.in_ok-rows.rows.items c.pieces.sent c.min-most.result c.in_ok-rows.ensures.rows
+    (omega (arith, c.min-most.ensures, c.pieces-test.true)) (omega (arith, i.due, longer, c.pieces-test.true)) in
+    omega (arith, some, c.len-count.ensures, c.if-more-count.false, c.pieces-test.true)
+
+pub pieces-preserved : goal.pieces-preserved
+pieces-preserved g c =
+    let i = c.pieces.invariant in
+    let e = c.send_piece-more.ensures in
+    let longer = rows_longer c.args.shared.now c.pieces.seat c.piece_from.new.seat c.in_ok-rows.ensures.still.seen in
+    let most = piece_most c.args.shared.now c.piece_from.new.seat c.in_ok-rows.rows.items c.pieces.sent c.min-most.result c.in_ok-rows.ensures.rows in record {
+      of = c.in_ok-rows.ensures.of;
+      still = still_on c.args.seat.now c.pieces.seat c.piece_from.new.seat i.still c.in_ok-rows.ensures.still;
+      mine = c.in_ok-rows.ensures.mine ∙ i.mine;
+      due = omega (arith, i.due, longer);
+      first = i.first;
+      within = omega (arith, e.within, most, c.min-most.ensures, c.pieces-test.true);
+      sent = piece_sent c.args.shared.now c.pieces.seat c.piece_from.new.seat c.args.mailbox.now c.args.from c.pieces.sent _ c.send_piece-more.result c.in_ok-rows.rows.items c.pieces.port c.send_piece-more.new.port
+          c.in_ok-rows.ensures.still.seen i.sent c.in_ok-rows.ensures.rows e.within e.of e.sends;
+      seen = omega (arith, i.seen, e.sends.seen);
+    }

@@ -1,0 +1,17 @@
+use Rattle.std.proofs.Common.{List, ℕ, subst}
+use Rattle.std.specs.Prelude.{IfOk}
+use Rattle.hg_board.specs.Calls.{SeatPuts}
+use Rattle.hg_storm.proofs.FateLaws.{fates_one}
+use Rattle.hg_storm.proofs.taking.take_one.Goals as goal
+
+pub returns-clause-fates : goal.returns-clause-fates
+returns-clause-fates g c =
+    let p = c.args.shared.now in
+    let old = c.args.seat.now in
+    let new = c.put_at-answer.new.seat in
+    let accepts = g.V.Verifier.accepts in
+    let puts = subst (λ r. IfOk r (SeatPuts accepts p old c.as_slice.result.now new)) c.in_ok-answer.was c.put_at-answer.ensures.ok in
+    let message_puts = subst (λ (bytes : List ℕ). SeatPuts accepts p old bytes new c.in_ok-answer.field-0) c.as_slice.ensures puts in
+    rw (c.note.ensures.taken, c.note.ensures.refused, c.in_ok-reserve.ensures.items, c.in_ok-reserve-2.ensures.items)
+    (fates_one accepts p old new c.args.intake.now.taken.items c.args.intake.now.refused.items c.args.message c.requires.fates c.put_at-answer.ensures.stays.seen c.in_ok-answer.field-0
+    c.put_at-answer.result.1 c.put_at-answer.ensures.len message_puts)

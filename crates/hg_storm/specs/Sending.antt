@@ -1,0 +1,49 @@
+-- What a member has sent to another: its node's first rows, in order, through one port
+use Rattle.std.specs.Prelude.{◌≡◌, ℕ, ◌+◌, ◌≤◌, ◌⊎◌, List, [], ◌∷◌, ◌++◌, length, map, take}
+use Rattle.hg_life.specs.Spelling.{spelling}
+use Rattle.hg_life.specs.NodeView.{node_rows}
+use Rattle.hg_mail.specs.declared.message.Message.{Message}
+use Rattle.hg_mail.specs.Messages.{sender_view}
+use Rattle.hg_mail.specs.Rule.{HeldAt}
+use Rattle.hg_mail.specs.Mailboxes.{IsPortOf, MailboxView, PortView}
+use Rattle.hg_board.specs.Table.{node_at}
+use Rattle.hg_board.specs.Seats.{SharedNode, SeatView}
+use Rattle.hg_storm.specs.declared.sending.Dispatch.{Dispatch}
+
+-- the bytes of the rows that a seat has seen, in order
+abbrev pub bytes_seen : {V : Type 0} → SharedNode V → SeatView V → List (List ℕ)
+bytes_seen p s = map spelling (node_rows (node_at p.start s.seen))
+
+-- a member's rows as messages, numbered from this place on
+abbrev pub messages_from : ℕ → ℕ → List (List ℕ) → List Message
+messages_from from place [] = []
+messages_from from place (bytes ∷ rows) = record { from = from; number = place; bytes = bytes } ∷ messages_from from (place + 1) rows
+
+-- through this port the first of these rows were put in, so many, and nothing else
+pub record HasSent (m : MailboxView) (from : ℕ) (rows : List (List ℕ)) (sent : ℕ) (p : PortView) : Type 0 where
+  pub of : IsPortOf m p
+  pub put : p.view ≡ sender_view from (messages_from from 0 (take sent rows))
+  pub within : sent ≤ length rows
+  pub part : p.count.parts ≡ 1
+  pub mine : p.count.mine ≡ sent
+
+-- these rows were put in too
+pub record Sends (from place : ℕ) (rows : List (List ℕ)) (p q : PortView) : Type 0 where
+  pub put : (put : List Message) → p.view ≡ sender_view from put → q.view ≡ sender_view from (put ++ messages_from from place rows)
+  pub parts : q.count.parts ≡ p.count.parts
+  pub mine : q.count.mine ≡ p.count.mine + length rows
+  pub seen : p.count.seen ≤ q.count.seen
+
+-- the mailbox held as many messages as it has room for, and so many were put in and counted, as the port has seen
+pub record WasFull (m : MailboxView) (p : PortView) : Type 0 where
+  pub held : HeldAt p.view m.room
+  pub counted : m.room ≤ p.count.seen
+
+-- how many rows the node had at some time of the call
+pub record IsDue (old new : List (List ℕ)) (due : ℕ) : Type 0 where
+  pub least : length old ≤ due
+  pub most : due ≤ length new
+
+-- all rows that were due were sent, or the mailbox was full, which is counted
+abbrev pub Dispatches : MailboxView → PortView → Dispatch → Dispatch → Type 0
+Dispatches m p old new = ((new.full ≡ old.full) × (new.sent ≡ new.due)) ⊎ ((new.full ≡ old.full + 1) × WasFull m p)

@@ -1,0 +1,24 @@
+//! What a node between threads does with its own mailbox and those of others: `receive` takes messages out and puts their
+//! events into the node, `send_rows` sends another member the node's rows that it was not sent yet, in order, until its
+//! mailbox is full. Whom a node sends to, and when, is the caller's.
+//! The layers above use `HasFates`: each message that was taken is held, or was refused by what the node held at a moment
+//! that is told (`Refusal`), and each change made through the seat is a row made, or that of a message; what leaves it so
+//! (`calls_keep_fates`); and that it is so of the node's whole history, once others only marked (`fates_last`).
+//!
+//! From `receive` of `hg_storm`:
+//!
+//! ```text
+//! let messages = mailbox.collect(rt, alloc, inbox)?;
+//! take_all(rt, shared, seat, intake, messages)
+//! ```
+#![tactic(auto)]
+
+mod laws;
+mod receiving;
+mod sending;
+mod taking;
+
+pub use laws::{calls_keep_fates, fates_last};
+pub use receiving::receive;
+pub use sending::{Dispatch, send_rows};
+pub use taking::{Intake, Refusal, take_all};

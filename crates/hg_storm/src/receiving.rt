@@ -1,0 +1,38 @@
+ghost use Rattle.std.specs.Prelude.{◌≡◌, OnOk};
+ghost use Rattle.hg_board.specs.Seats.{IsOf};
+ghost use Rattle.hg_crowd.specs.Crowd.{IsStill};
+ghost use Rattle.hg_storm.specs.Fates.{HasFates};
+ghost use Rattle.hg_storm.specs.Receiving.{IsInbox, TakesMore};
+
+use crate::taking::{Intake, take_all};
+use hg_board::{Seat, Shared};
+use hg_mail::{Mailbox, Port};
+use hg_model::Memory;
+use hg_sign::Signer;
+use std::alloc::Global;
+use std::sync::Wait;
+
+/// Takes messages out of a mailbox, as many as there is room for or as it holds, and puts their events into the node of its
+/// receiver, in order. After `Memory` some messages may be lost.
+pub fn receive<V: Signer + Drop, R: Wait>(
+    rt: &R,
+    alloc: Global,
+    mailbox: &Mailbox,
+    inbox: &mut Port,
+    shared: &Shared<V>,
+    seat: &mut Seat<V>,
+    intake: &mut Intake,
+) -> Result<(), Memory>
+    requires of { IsOf shared.now seat.old }
+    requires inbox { IsInbox mailbox.now intake.old.taken.items inbox.old }
+    requires fates { HasFates V.accepts shared.now seat.old intake.old.taken.items intake.old.refused.items }
+    ensures of { IsOf shared.now seat.new }
+    ensures still { IsStill seat.old seat.new }
+    ensures inbox { OnOk result (IsInbox mailbox.now intake.new.taken.items inbox.new) }
+    ensures count { inbox.new.count ≡ inbox.old.count }
+    ensures more { OnOk result (TakesMore mailbox.now inbox.new intake.old.taken.items intake.new.taken.items) }
+    ensures fates { OnOk result (HasFates V.accepts shared.now seat.new intake.new.taken.items intake.new.refused.items) }
+{
+    let messages = mailbox.collect(rt, alloc, inbox)?;
+    take_all(rt, shared, seat, intake, messages)
+}
