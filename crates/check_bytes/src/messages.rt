@@ -19,7 +19,7 @@ enum Told {
     Refused(WireFault),
 }
 
-fn told(fed: &Fed) -> Told {
+fn heard_in(fed: &Fed) -> Told {
     match fed {
         Fed::More => Told::More,
         Fed::Whole(Message::Have(names), used) => Told::Names(names.as_slice().len(), *used),
@@ -38,7 +38,7 @@ fn heard(alloc: Global, want: Want, bytes: &[u8], len: usize) -> Result<Told, Me
     };
     let mut pieces = Vec::new(alloc);
     pieces.push(Vec::from_slice(alloc, first)?)?;
-    Ok(told(&hear_all(alloc, want, &pieces)?))
+    Ok(heard_in(&hear_all(alloc, want, &pieces)?))
 }
 
 // What comes of them where each is a piece.
@@ -47,7 +47,7 @@ fn heard_each(alloc: Global, want: Want, bytes: &[u8], len: usize) -> Result<Tol
     for byte in bytes.iter().take(len) {
         pieces.push(Vec::from_slice(alloc, &[*byte])?)?;
     }
-    Ok(told(&hear_all(alloc, want, &pieces)?))
+    Ok(heard_in(&hear_all(alloc, want, &pieces)?))
 }
 
 // HAVE of one name.
@@ -182,7 +182,7 @@ enum Came {
     Wire(WireFault),
 }
 
-fn came(alloc: Global, source: &mut SourceMem) -> Result<Came, Memory> {
+fn received(alloc: Global, source: &mut SourceMem) -> Result<Came, Memory> {
     let mut ear = Ear::new(alloc, Want::Have);
     Ok(match receive(source, &mut ear)? {
         Receipt::Got(_) => Came::Got,
@@ -207,19 +207,19 @@ fn source_of(
 fn receives_a_message_and_leaves_the_rest(rt: HostRuntime) -> Result<(), Fail> {
     let alloc = rt.alloc();
     let mut source = source_of(alloc, &have(), b"rest", Vec::new(alloc))?;
-    equal(&rt, 0, came(alloc, &mut source)?, Came::Got);
+    equal(&rt, 0, received(alloc, &mut source)?, Came::Got);
     let mut buf = [0; 4];
     equal(&rt, 1, source.read(&mut buf).ok(), Some(4));
     equal(&rt, 2, buf, *b"rest");
     let mut source = source_of(alloc, &have()[..56], b"", Vec::new(alloc))?;
-    equal(&rt, 3, came(alloc, &mut source)?, Came::Ended(56));
+    equal(&rt, 3, received(alloc, &mut source)?, Came::Ended(56));
     let mut source = source_of(alloc, &have(), b"", Vec::from_slice(alloc, &[2])?)?;
-    equal(&rt, 4, came(alloc, &mut source)?, Came::Failed);
+    equal(&rt, 4, received(alloc, &mut source)?, Came::Failed);
     let mut source = source_of(alloc, b"HGW2", b"", Vec::new(alloc))?;
     equal(
         &rt,
         5,
-        came(alloc, &mut source)?,
+        received(alloc, &mut source)?,
         Came::Wire(WireFault::Magic(3)),
     );
     Ok(())
