@@ -1,0 +1,65 @@
+ghost use Rattle.std.specs.Prelude.{◌≡◌, IfOk, Ok};
+ghost use Rattle.hg_life.specs.Members.{stakes_of};
+ghost use Rattle.hg_life.specs.Results.{Gives};
+ghost use Rattle.hg_proof.specs.Answers.{IfYes, told};
+ghost use Rattle.hg_proof.specs.Certificate.{Certificate};
+ghost use Rattle.hg_proof.specs.Judging.{judged};
+ghost use Rattle.hg_proof.specs.Shows.{Shows};
+
+use crate::comparing::difference;
+use crate::filling::{empty_graph, fill};
+use crate::ordering::order_in;
+use crate::reading::form_of;
+use crate::shown::{Checked, Shown};
+use crate::why::Why;
+use hg_life::Members;
+use hg_model::{Memory, Stop};
+use hg_sign::Verifier;
+use std::alloc::Global;
+
+/// What the bytes show, or the first reason against them.
+fn judge<V: Verifier>(
+    alloc: Global,
+    members: &Members,
+    keys: &V,
+    bytes: &[u8],
+) -> Result<Shown, Stop<Why>>
+    ensures { Gives (λ shown. shown) result (judged (V.accepts keys.now) (stakes_of members.now) members.now.coin bytes.now) }
+{
+    // That their stake is not 0, so that no rows are a graph.
+    members.is_lawful();
+    let shown = form_of(alloc, bytes)?;
+    let mut graph = empty_graph(alloc, members)?;
+    fill(keys, &mut graph, shown.events())?;
+    let whole = order_in(alloc, &graph)?;
+    match difference(shown.order(), whole.as_slice()) {
+        Some(place) => Err(Stop::Fault(Why::Order(place))),
+        None => Ok(shown),
+    }
+}
+
+/// Whether the bytes are a certificate of a graph of these members, of events that the keys accept, and of its whole order;
+/// and what it shows, or the first reason why it shows nothing. Who checks needs no node and none of the events before.
+///
+/// It takes the memory of the events and of their graph, but none for what the bytes only promise.
+pub fn check<V: Verifier>(
+    alloc: Global,
+    members: &Members,
+    keys: &V,
+    bytes: &[u8],
+) -> Result<Checked, Memory>
+    // What is answered yes is shown.
+    ensures yes { IfOk result (λ checked. IfYes checked (Shows (V.accepts keys.now) (stakes_of members.now) members.now.coin bytes.now)) }
+    // What is shown is answered yes.
+    ensures only { (shown : Certificate) → Shows (V.accepts keys.now) (stakes_of members.now) members.now.coin bytes.now shown
+        → IfOk result (λ checked. told checked ≡ Ok shown) }
+    // What is shown, or which reason speaks first.
+    ensures exact { IfOk result (λ checked. told checked ≡ judged (V.accepts keys.now) (stakes_of members.now) members.now.coin bytes.now) }
+{
+    members.is_lawful();
+    match judge(alloc, members, keys, bytes) {
+        Ok(shown) => Ok(Checked::Yes(shown)),
+        Err(Stop::Fault(why)) => Ok(Checked::No(why)),
+        Err(Stop::Memory) => Err(Memory),
+    }
+}
