@@ -18,13 +18,16 @@ use Rattle.hg_event.proofs.Reading.{AreBytes}
 use Rattle.hg_graph.specs.RowsWithRoom.{rows_of}
 use Rattle.hg_proof.specs.declared.why.Why.{Why}
 use Rattle.hg_proof.specs.declared.why.Why.TheVariants as reason
-use Rattle.hg_proof.specs.Answers.{Comes, graph_and}
+use Rattle.hg_proof.specs.declared.shown.Checked.{Checked}
+use Rattle.hg_proof.specs.declared.shown.Checked.TheVariants.{Yes, No}
+use Rattle.hg_proof.specs.Answers.{Comes, IfYes, graph_and, told}
 use Rattle.hg_proof.specs.Certificate.{Certificate, most_rows}
 use Rattle.hg_proof.specs.Judging.{content_why, difference_from, judged, order_why, rows_why, unless_why}
 use Rattle.hg_proof.specs.Reading.{form_of}
+use Rattle.hg_proof.specs.Shows.{Shows}
 use Rattle.hg_proof.proofs.ComingLaws.{rows_pass}
 use Rattle.hg_proof.proofs.FormLaws.{form_spelled}
-use Rattle.hg_proof.proofs.JudgeLaws.{no_rows}
+use Rattle.hg_proof.proofs.JudgeLaws.{accepted_shown, no_rows}
 use Rattle.hg_proof.proofs.PartLaws.{stopped}
 
 -- not more events were read than a graph holds
@@ -88,3 +91,9 @@ module _ (accepts : Accepts) (n : Stakes) (c : ℕ) (bytes : List ℕ) where
 
       pub against_nothing : None ≡ difference_from 0 shown.order order → judged accepts n c bytes ≡ Ok shown
       against_nothing e = by_order ∙ ap (λ (o : Option ℕ). unless_why (option_map (λ i. reason.Order i) o) shown) (sym e)
+
+-- what a check answers is yes just for what is shown
+pub answered_shows : (accepts : Accepts) (n : Stakes) (c : ℕ) (bytes : List ℕ) (checked : Checked) → AreBytes bytes → 0 < total n → told checked ≡ judged accepts n c bytes →
+    IfYes checked (Shows accepts n c bytes)
+answered_shows accepts n c bytes (Yes shown) fit stake is = accepted_shown accepts n c bytes shown fit stake (sym is)
+answered_shows accepts n c bytes (No why) fit stake is = tt

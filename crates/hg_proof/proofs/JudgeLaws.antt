@@ -86,7 +86,7 @@ no_forkers : (n : Stakes) → forking n (links []) ≡ 0
 unfolding forking has_fork some_below links
 no_forkers n = weight_below_none (stake_of n) (member_count n) (has_fork (links [])) (λ m inside forks. absurd (true≢false (sym forks)))
 
-no_rows : (n : Stakes) → 0 < total n → IsGraph n []
+pub no_rows : (n : Stakes) → 0 < total n → IsGraph n []
 unfolding links
 no_rows n stake = record { distinct = distinct-none; few_others = refl; shaped = shaped-none n; few_forkers = omega (arith, no_forkers n) }
 

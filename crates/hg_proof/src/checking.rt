@@ -38,6 +38,22 @@ fn judge<V: Verifier>(
     }
 }
 
+/// The same as an answer.
+fn answered<V: Verifier>(
+    alloc: Global,
+    members: &Members,
+    keys: &V,
+    bytes: &[u8],
+) -> Result<Checked, Memory>
+    ensures { IfOk result (λ checked. told checked ≡ judged (V.accepts keys.now) (stakes_of members.now) members.now.coin bytes.now) }
+{
+    match judge(alloc, members, keys, bytes) {
+        Ok(shown) => Ok(Checked::Yes(shown)),
+        Err(Stop::Fault(why)) => Ok(Checked::No(why)),
+        Err(Stop::Memory) => Err(Memory),
+    }
+}
+
 /// Whether the bytes are a certificate of a graph of these members, of events that the keys accept, and of its whole order;
 /// and what it shows, or the first reason why it shows nothing. Who checks needs no node and none of the events before.
 ///
@@ -57,9 +73,6 @@ pub fn check<V: Verifier>(
     ensures exact { IfOk result (λ checked. told checked ≡ judged (V.accepts keys.now) (stakes_of members.now) members.now.coin bytes.now) }
 {
     members.is_lawful();
-    match judge(alloc, members, keys, bytes) {
-        Ok(shown) => Ok(Checked::Yes(shown)),
-        Err(Stop::Fault(why)) => Ok(Checked::No(why)),
-        Err(Stop::Memory) => Err(Memory),
-    }
+    let checked = answered(alloc, members, keys, bytes)?;
+    Ok(checked)
 }
