@@ -34,7 +34,7 @@ use Rattle.hg_graph.specs.Held.{graph_with}
 use Rattle.hg_arrival.specs.Arrival.{all_rules, arrival_by}
 use Rattle.hg_proof.specs.Judging.{next_why, rows_why, why_at}
 use Rattle.hg_proof.specs.Answers.{graph_and}
-use Rattle.hg_proof.proofs.FormLaws.{AreSpelled}
+use Rattle.hg_proof.specs.Shows.{AreSpelled}
 
 -- ---- the last row of a graph fits the rows before it
 

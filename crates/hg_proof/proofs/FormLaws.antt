@@ -16,6 +16,7 @@ use Rattle.hg_event.proofs.Fronts.{first_again, first_begins}
 use Rattle.hg_event.proofs.Reading.{AreBytes, Took, eight_bytes, four_bytes, number_again, number_took, same_done, then_took, went_on}
 use Rattle.hg_proof.specs.declared.why.Why.{Why}
 use Rattle.hg_proof.specs.Certificate.{AreEntries, Certificate, IsEntry, certificate, certificate_bytes, entries_bytes, entry_bytes, magic, most_rows, order_bytes, rows_bytes}
+use Rattle.hg_proof.specs.Shows.{AreSpelled}
 use Rattle.hg_proof.specs.Reading.{Part, breaks_at, count_part, entries_part, entry_field, entry_part, form_of, graph_part, magic_part, number_part, order_part, part_of, parts, row_part, rows_part}
 
 -- ---- a part that was read
@@ -124,9 +125,6 @@ first_took bytes first fit e =
       record { whole = whole; left_fit = subst AreBytes left (rest_fits n bytes fit) },
       subst (λ (event : List ℕ). Spells event first.0) spelled begins.spells,
     )
-
-abbrev pub AreSpelled : List Row → Type 0
-AreSpelled rows = AllByRecursion (λ (row : Row). Spells (spelling row) row) rows
 
 row_took : (size : ℕ) (bytes : List ℕ) (x : Row × List ℕ) → AreBytes bytes → row_part size bytes ≡ Ok x → Took bytes (spelling x.0) x.1 × Spells (spelling x.0) x.0
 row_took size bytes x fit e = first_took bytes x fit (no_fault size bytes (read_first bytes) x e)

@@ -16,6 +16,7 @@ use Rattle.hg_model.specs.Prefix.{graph_of}
 use Rattle.hg_model.proofs.NameLaws.{distinct-none}
 use Rattle.hg_model.proofs.PlacesLaws.{weight_below_none}
 use Rattle.hg_model.proofs.PushLaws.{shaped-none}
+use Rattle.hg_life.specs.Results.{◌>>=◌}
 use Rattle.hg_life.specs.Signing.{Accepts}
 use Rattle.hg_life.specs.Spelling.{Spells, body_of, spelling}
 use Rattle.hg_life.proofs.RuleLaws.{mapped_none, option_or_none}
@@ -25,11 +26,11 @@ use Rattle.hg_proof.specs.declared.why.Why.{Why}
 use Rattle.hg_proof.specs.declared.why.Why.TheVariants as reason
 use Rattle.hg_proof.specs.Certificate.{Certificate, certificate_bytes}
 use Rattle.hg_proof.specs.Reading.{form_of}
-use Rattle.hg_proof.specs.Judging.{content_why, difference_from, is_same, judged, order_why, rows_why, unless_why}
-use Rattle.hg_proof.specs.Shows.{AreSigned, Shows}
+use Rattle.hg_proof.specs.Judging.{compared, difference_from, is_same, judged, ordered_rows, rows_why, unless_at, unless_why}
+use Rattle.hg_proof.specs.Shows.{AreSigned, AreSpelled, Shows}
 use Rattle.hg_proof.specs.Laws.{AcceptedIsShown, ShownIsAccepted, ShownIsOne, ShownIsSafe}
 use Rattle.hg_proof.proofs.ComingLaws.{IsSigned, rows_pass, rows_silent}
-use Rattle.hg_proof.proofs.FormLaws.{AreSpelled, form_read, form_spelled}
+use Rattle.hg_proof.proofs.FormLaws.{form_read, form_spelled}
 
 -- ---- orders that do not differ
 
@@ -98,40 +99,46 @@ given shown = Ok shown
 same_given : (one other : Certificate) → given one ≡ given other → one ≡ other
 same_given one other e = cc
 
-not_held_back : (why : Option Why) (shown other : Certificate) → unless_why why shown ≡ Ok other → (why ≡ None) × (shown ≡ other)
-not_held_back None shown other e = (refl, same_given shown other e)
-not_held_back (Some why) shown other e = absurd cc
+-- nothing spoke against what was accepted
+record IsAccepted (accepts : Accepts) (n : Stakes) (c : ℕ) (bytes : List ℕ) (shown : Certificate) : Type 0 where
+  read : form_of bytes ≡ Ok shown
+  silent : rows_why accepts (graph_of n c []) shown.rows ≡ None
+  same : difference_from 0 shown.order (order_of n c shown.rows) ≡ None
 
--- the form is that of what is accepted, against which nothing speaks
-record IsAccepted (accepts : Accepts) (n : Stakes) (c : ℕ) (form : Result Certificate Why) (shown : Certificate) : Type 0 where
-  read : form ≡ Ok shown
-  silent : content_why accepts n c shown ≡ None
+by_order : (difference : Option ℕ) (shown other : Certificate) → unless_at difference shown ≡ Ok other → (difference ≡ None) × (shown ≡ other)
+by_order None shown other e = (refl, same_given shown other e)
+by_order (Some i) shown other e = absurd cc
 
-accepted_form : (accepts : Accepts) (n : Stakes) (c : ℕ) (form : Result Certificate Why) (shown : Certificate) →
-    Rattle.hg_life.specs.Results.◌>>=◌ form (λ read. unless_why (content_why accepts n c read) read) ≡ Ok shown → IsAccepted accepts n c form shown
-accepted_form accepts n c (Err why) shown e = absurd cc
-accepted_form accepts n c (Ok read) shown e =
-    let both = not_held_back (content_why accepts n c read) read shown e in
-    record { read = ap given both.1; silent = subst (λ (z : Certificate). content_why accepts n c z ≡ None) both.1 both.0 }
+by_rows : (why : Option Why) (order : List Placed) (shown other : Certificate) → (unless_why why order >>= compared shown) ≡ Ok other →
+    (why ≡ None) × (difference_from 0 shown.order order ≡ None) × (shown ≡ other)
+by_rows None order shown other e = (let both = by_order (difference_from 0 shown.order order) shown other e in (refl, both.0, both.1))
+by_rows (Some why) order shown other e = absurd cc
+
+accepted_form : (accepts : Accepts) (n : Stakes) (c : ℕ) (bytes : List ℕ) (form : Result Certificate Why) (shown : Certificate) → form_of bytes ≡ form →
+    (form >>= λ read. ordered_rows accepts n c read.rows >>= compared read) ≡ Ok shown → IsAccepted accepts n c bytes shown
+unfolding ordered_rows
+accepted_form accepts n c bytes (Err why) shown is e = absurd cc
+accepted_form accepts n c bytes (Ok read) shown is e =
+    let all = by_rows (rows_why accepts (graph_of n c []) read.rows) (order_of n c read.rows) read shown e in
+    subst (IsAccepted accepts n c bytes) all.2 (record { read = is; silent = all.0; same = all.1 })
 
 pub accepted_shown : AcceptedIsShown
-unfolding judged content_why
+unfolding judged
 accepted_shown accepts n c bytes shown fit stake e =
-    let done = accepted_form accepts n c (form_of bytes) shown e in
+    let done = accepted_form accepts n c bytes (form_of bytes) shown refl e in
     let form = form_spelled bytes shown fit done.read in
-    let both = option_or_none (rows_why accepts (graph_of n c []) shown.rows) (order_why shown.order (order_of n c shown.rows)) done.silent in
-    let rows = rows_pass accepts (graph_of n c []) shown.rows (no_rows n stake) form.events both.0 in
+    let rows = rows_pass accepts (graph_of n c []) shown.rows (no_rows n stake) form.events done.silent in
     record {
       spelled = form.spelled;
       few = form.few;
       sized = form.sized;
       graph = rows.0;
       signed = at_each accepts shown.rows form.events rows.1;
-      whole = same_orders 0 shown.order (order_of n c shown.rows) (mapped_none (λ i. reason.Order i) (difference_from 0 shown.order (order_of n c shown.rows)) both.1);
+      whole = same_orders 0 shown.order (order_of n c shown.rows) done.same;
     }
 
 pub shown_accepted : ShownIsAccepted
-unfolding judged content_why
+unfolding judged ordered_rows
 shown_accepted accepts n c bytes shown shows =
     let form : form_of bytes ≡ Ok shown = ap form_of shows.spelled ∙ form_read shown shows.few (each_spelled accepts shown.rows shows.signed) shows.sized in
     let rows = rows_silent accepts (graph_of n c []) shown.rows shows.graph (each_signed accepts shown.rows shows.signed) in

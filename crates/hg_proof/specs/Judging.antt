@@ -44,22 +44,28 @@ difference_from i [] (q ∷ qs) = Some i
 difference_from i (p ∷ ps) [] = Some i
 difference_from i (p ∷ ps) (q ∷ qs) = if is_same p q then difference_from (suc i) ps qs else Some i
 
--- that they differ there
-abbrev pub order_why : List Placed → List Placed → Option Why
-order_why ps qs = option_map (λ i. reason.Order i) (difference_from 0 ps qs)
+-- the order, if nothing speaks against the rows
+abbrev pub unless_why : Option Why → List Placed → Result (List Placed) Why
+unless_why None order = Ok order
+unless_why (Some why) order = Err why
 
--- what speaks first against a certificate, among members with these stakes, with coin period c
-unfoldable pub content_why : Accepts → Stakes → ℕ → Certificate → Option Why
-content_why accepts n c shown =
-    option_or (rows_why accepts (graph_of n c []) shown.rows) (order_why shown.order (order_of n c shown.rows))
+-- the whole order of these rows, or what speaks first against one of them, among members with these stakes, with coin
+-- period c
+unfoldable pub ordered_rows : Accepts → Stakes → ℕ → List Row → Result (List Placed) Why
+ordered_rows accepts n c rows = unless_why (rows_why accepts (graph_of n c []) rows) (order_of n c rows)
 
--- the certificate, where nothing speaks against it
-abbrev pub unless_why : Option Why → Certificate → Result Certificate Why
-unless_why None shown = Ok shown
-unless_why (Some why) shown = Err why
+-- the certificate, if its order differs nowhere
+abbrev pub unless_at : Option ℕ → Certificate → Result Certificate Why
+unless_at None shown = Ok shown
+unless_at (Some i) shown = Err (reason.Order i)
 
--- what the bytes show, or the first reason against them: their form comes before all else
+-- the same, compared with this order
+abbrev pub compared : Certificate → List Placed → Result Certificate Why
+compared shown order = unless_at (difference_from 0 shown.order order) shown
+
+-- what the bytes show, or the first reason against them: their form comes before all else, and the rows before the order
 unfoldable pub judged : Accepts → Stakes → ℕ → List ℕ → Result Certificate Why
 judged accepts n c bytes = do
   shown ← form_of bytes
-  unless_why (content_why accepts n c shown) shown
+  order ← ordered_rows accepts n c shown.rows
+  compared shown order

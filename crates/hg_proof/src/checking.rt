@@ -1,10 +1,12 @@
-ghost use Rattle.std.specs.Prelude.{◌≡◌, IfOk, Ok};
+ghost use Rattle.std.specs.Prelude.{◌≡◌, ◌≤◌, IfOk, Ok, length};
 ghost use Rattle.hg_life.specs.Members.{stakes_of};
 ghost use Rattle.hg_life.specs.Results.{Gives};
+ghost use Rattle.hg_life.specs.Verdict.{row_limit};
+ghost use Rattle.hg_graph.specs.RowsWithRoom.{rows_of};
 ghost use Rattle.hg_proof.specs.Answers.{IfYes, told};
 ghost use Rattle.hg_proof.specs.Certificate.{Certificate};
-ghost use Rattle.hg_proof.specs.Judging.{judged};
-ghost use Rattle.hg_proof.specs.Shows.{Shows};
+ghost use Rattle.hg_proof.specs.Judging.{judged, ordered_rows};
+ghost use Rattle.hg_proof.specs.Shows.{AreSpelled, Shows};
 
 use crate::comparing::difference;
 use crate::filling::{empty_graph, fill};
@@ -12,10 +14,31 @@ use crate::ordering::order_in;
 use crate::reading::form_of;
 use crate::shown::{Checked, Shown};
 use crate::why::Why;
+use hg_event::Event;
 use hg_life::Members;
-use hg_model::{Memory, Stop};
+use hg_model::{Memory, Placed, Stop};
 use hg_sign::Verifier;
 use std::alloc::Global;
+use std::sync::Arc;
+
+/// The whole order of these events, or what speaks first against one of them.
+fn ordered<V: Verifier>(
+    alloc: Global,
+    members: &Members,
+    keys: &V,
+    events: &[Arc<Event>],
+) -> Result<Vec<Placed>, Stop<Why>>
+    requires few { length events.now ≤ row_limit }
+    requires spelled { AreSpelled (rows_of events.now) }
+    ensures { Gives (λ order. order.items) result (ordered_rows (V.accepts keys.now) (stakes_of members.now) members.now.coin (rows_of events.now)) }
+{
+    // That there is some stake, so that no rows are a graph.
+    members.is_lawful();
+    let mut graph = empty_graph(alloc, members)?;
+    fill(keys, &mut graph, events)?;
+    let order = order_in(alloc, &graph)?;
+    Ok(order)
+}
 
 /// What the bytes show, or the first reason against them.
 fn judge<V: Verifier>(
@@ -26,12 +49,8 @@ fn judge<V: Verifier>(
 ) -> Result<Shown, Stop<Why>>
     ensures { Gives (λ shown. shown) result (judged (V.accepts keys.now) (stakes_of members.now) members.now.coin bytes.now) }
 {
-    // That their stake is not 0, so that no rows are a graph.
-    members.is_lawful();
     let shown = form_of(alloc, bytes)?;
-    let mut graph = empty_graph(alloc, members)?;
-    fill(keys, &mut graph, shown.events())?;
-    let whole = order_in(alloc, &graph)?;
+    let whole = ordered(alloc, members, keys, shown.events())?;
     match difference(shown.order(), whole.as_slice()) {
         Some(place) => Err(Stop::Fault(Why::Order(place))),
         None => Ok(shown),

@@ -1,4 +1,10 @@
-//! Order certificates: an order that anyone can check, from the list of the members and some bytes alone.
+//! Order certificates: the order of a graph in bytes, for one who was not there and has no node. Who has the list of the
+//! members and something to check their signatures by learns from these bytes alone what is ordered, and how.
+//! `check` says yes just where the bytes show a graph of signed events and its whole order (`Shows`), and else it tells the
+//! first reason (`judged`). What is shown and the order of any node do not part, under the premises of safety, with the graph
+//! that is shown as a further one of the run: `certificates_are_safe`.
+//! The rows come to a graph of no member (`EventGraph`), by the rules of `hg_arrival`; the order is that of a graph behind
+//! which nothing was published (`Kept::behind`). Both cost what they cost a node.
 #![tactic(auto)]
 
 mod checking;

@@ -1,4 +1,5 @@
 use Rattle.std.proofs.Common.{length, ◌<◌, ◌≤◌, arith}
+use Rattle.hg_graph.specs.Held.{graph_with}
 use Rattle.hg_graph.specs.RowsWithRoom.{rows_of}
 use Rattle.hg_proof.specs.Judging.{next_why, rows_why}
 use Rattle.hg_proof.proofs.FillLaws.{ended, filled_end, filled_length, filled_next, filled_start, filled_stop}
@@ -17,7 +18,7 @@ returns-in_err-add_next g c =
     let accepts = g.V.Verifier.accepts c.args.keys.now in
     let start = c.args.graph.now.graph in
     let event = c.event-item.result in
-    ended (Unit {0}) (next_why accepts c.loop-event.graph.graph event.value) (rows_why accepts start (rows_of c.args.events.now)) _ _ c.add_next.new.graph.graph _ c.in_err-add_next.field-0.0
+    ended (Unit {0}) (next_why accepts c.loop-event.graph.graph event.value) (rows_why accepts start (rows_of c.args.events.now)) (graph_with c.loop-event.graph.graph event.value) _ c.add_next.new.graph.graph _ c.in_err-add_next.field-0.0
     (filled_stop accepts start c.args.events.now c.loop-event.event-index c.loop-event.graph.graph event (omega arith) c.event-item.is c.loop-event.invariant)
     c.in_err-add_next.ensures c.from_residual.result c.from_residual.ensures.1
 
