@@ -20,7 +20,7 @@ use std::alloc::Global;
 use std::sync::Arc;
 
 /// The members' graph without rows. It is no member's node.
-pub(crate) fn empty_graph(alloc: Global, members: &Members) -> Result<EventGraph, Memory>
+pub fn empty_graph(alloc: Global, members: &Members) -> Result<EventGraph, Memory>
     ensures { IfOk result (λ g. g.graph ≡ graph_of (stakes_of members.now) members.now.coin []) }
 {
     let stakes = members.stakes(alloc)?;

@@ -3,7 +3,7 @@
 //! `check` says yes just where the bytes show a graph of signed events and its whole order (`Shows`), and else it tells the
 //! first reason (`judged`). What is shown and the order of any node do not part, under the premises of safety, with the graph
 //! that is shown as a further one of the run: `certificates_are_safe`.
-//! The rows come to a graph of no member (`EventGraph`), by the rules of `hg_arrival`; the order is that of a graph behind
+//! The rows come to a graph of no member (`empty_graph`), by the rules of `hg_arrival`; the order is that of a graph behind
 //! which nothing was published (`Kept::behind`). Both cost what they cost a node.
 #![tactic(auto)]
 
@@ -19,6 +19,7 @@ mod why;
 
 pub use checking::check;
 pub use fields::MOST_ROWS;
+pub use filling::empty_graph;
 pub use laws::{certificates_are_judged, certificates_are_safe};
 pub use shown::{Checked, Shown};
 pub use why::Why;
