@@ -1,8 +1,7 @@
 -- No rule speaks against rows that come one after the other, just where they are a graph with accepted signatures
-use Rattle.std.proofs.Common.{◌≡◌, ◌≢◌, inl, inr, ℕ, suc, ◌*◌, ◌<◌, ◌≤◌, Bool, true, false, cond, not, eqb, List, [], ◌∷◌, ◌++◌, length, map, get_or, Option, Some, None, option_map, slice_get, sym, refl, ap, ◌∙◌, subst, append_assoc, arith}
+use Rattle.std.proofs.Common.{◌≡◌, ◌≢◌, inl, inr, ℕ, suc, ◌*◌, ◌<◌, ◌≤◌, Bool, true, false, cond, not, eqb, List, [], ◌∷◌, ◌++◌, length, map, get_or, Some, None, slice_get, sym, refl, ap, ◌∙◌, subst, append_assoc, arith}
 use Rattle.std.specs.Prelude.{nat_le, nat_lt, ◌&&◌}
 use Rattle.std.specs.List.{AllByRecursion}
-use Rattle.std.specs.Option.{option_or}
 use Rattle.std.proofs.lemmas.Bool.Decides.{nat_tests}
 use Rattle.std.proofs.lemmas.Bool.{and_parts, cases_lt, eq-eqb, le-ltb, lt-ltb, or_left, or_right}
 use Rattle.std.proofs.lemmas.List.{append-nil, length_push}
@@ -16,15 +15,14 @@ use Rattle.hg_model.specs.Forks.{forking}
 use Rattle.hg_model.specs.Graph.{IsGraph, creator_at, creator_of_row, have_few_others, name_at, name_in}
 use Rattle.hg_model.specs.Fits.{AreHeld, Fits, ParentsFit}
 use Rattle.hg_model.specs.Held.{is_held}
-use Rattle.hg_model.specs.Prefix.{Graph, graph_of}
+use Rattle.hg_model.specs.Prefix.{Graph}
 use Rattle.hg_model.proofs.LinkLaws.{length-links}
 use Rattle.hg_model.proofs.NameLaws.{distinct-push, place_of_at}
 use Rattle.hg_model.proofs.PushLaws.{link_at, nobody, row_creator-links, shaped-push, slice_get-before, slice_get-last}
-use Rattle.hg_life.specs.declared.answers.PutAnswer.{PutAnswer}
 use Rattle.hg_life.specs.declared.answers.PutAnswer.TheVariants.{Refused}
 use Rattle.hg_life.specs.declared.answers.Fault.TheVariants as fault
 use Rattle.hg_life.specs.Signing.{Accepts}
-use Rattle.hg_life.specs.Spelling.{HasSpelling, Spells, body_of, spelling}
+use Rattle.hg_life.specs.Spelling.{HasSpelling, body_of}
 use Rattle.hg_life.specs.Verdict.{arrival_rule, creator_rule, first_by, first_missing, forkers_rule, forking_with, impostor_rule, member_rule, missing_rule, name_rule, signature_rule}
 use Rattle.hg_life.proofs.RuleLaws.{arrives, below_from_test, mapped_none, one_test, option_or_none}
 use Rattle.hg_prefix.proofs.FewLaws.{few_push}
@@ -33,7 +31,6 @@ use Rattle.hg_history.proofs.FirstLaws.{graph_front}
 use Rattle.hg_graph.specs.Held.{graph_with}
 use Rattle.hg_arrival.specs.Arrival.{all_rules, arrival_by}
 use Rattle.hg_proof.specs.Judging.{next_why, rows_why, why_at}
-use Rattle.hg_proof.specs.Answers.{graph_and}
 use Rattle.hg_proof.specs.Shows.{AreSpelled}
 
 -- ---- the last row of a graph fits the rows before it

@@ -1,5 +1,5 @@
 -- Two orders, compared entry by entry
-use Rattle.std.proofs.Common.{◌≡◌, ℕ, suc, ◌+◌, ◌<◌, ◌≤◌, cond, List, [], ◌∷◌, length, drop, get_or, Some, None, sym, ap, ◌∙◌, arith, add-one}
+use Rattle.std.proofs.Common.{◌≡◌, ℕ, ◌+◌, ◌<◌, ◌≤◌, cond, List, [], ◌∷◌, length, drop, get_or, Some, None, sym, ap, ◌∙◌, add-one}
 use Rattle.std.proofs.lemmas.List.{at_drop_all, at_drop_more}
 use Rattle.hg_model.specs.declared.row.Placed.{Placed}
 use Rattle.hg_proof.specs.Judging.{difference_from, is_same}

@@ -1,5 +1,5 @@
 -- Rows that come one after the other: what speaks against one of them speaks first
-use Rattle.std.proofs.Common.{◌≡◌, ℕ, ◌+◌, ◌<◌, ◌≤◌, List, [], ◌∷◌, ◌++◌, length, map, take, drop, get_or, Option, Some, None, Result, Ok, Err, sym, refl, ap, ◌∙◌, subst, append_assoc}
+use Rattle.std.proofs.Common.{◌≡◌, ℕ, ◌+◌, ◌<◌, ◌≤◌, List, [], ◌∷◌, ◌++◌, length, take, drop, get_or, Option, Some, None, Result, Ok, Err, sym, refl, ap, ◌∙◌, subst, append_assoc}
 use Rattle.std.specs.Option.{option_or}
 use Rattle.std.specs.Result.{IsErrAnd}
 use Rattle.std.specs.declared.sync.Arc.{Arc}

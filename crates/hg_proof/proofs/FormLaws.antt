@@ -1,5 +1,5 @@
 -- What is read of a certificate is spelled so, and what is spelled so is read
-use Rattle.std.proofs.Common.{◌≡◌, ℕ, zero, suc, ◌+◌, ◌^◌, ◌<◌, ◌≤◌, Bool, true, false, cond, ltb, eqb, List, [], ◌∷◌, ◌++◌, length, take, drop, Result, Ok, Err, refl, sym, ap, ap₂, subst, ◌∙◌, append_assoc, arith}
+use Rattle.std.proofs.Common.{◌≡◌, ℕ, zero, suc, ◌+◌, ◌^◌, ◌<◌, ◌≤◌, Bool, true, false, cond, ltb, eqb, List, [], ◌∷◌, ◌++◌, length, take, drop, Result, Ok, Err, refl, sym, ap, subst, ◌∙◌, append_assoc, arith}
 use Rattle.std.specs.Prelude.{nat_eq}
 use Rattle.std.specs.List.{starts_with, AllByRecursion, flat_map}
 use Rattle.std.specs.Int.{w32, w64, to_be_bytes}
@@ -173,8 +173,7 @@ field_took size bytes x fit e =
     let one = number_took four_bytes size bytes a.0 fit a.1 in
     let two = number_took four_bytes size a.0.1 b.0 one.0.left_fit b.1 in
     let three = number_took eight_bytes size b.0.1 c.0 two.0.left_fit c.1 in
-    subst (λ (x : Placed × List ℕ). Took bytes (entry_bytes x.0) x.1 × IsEntry x.0) (same_done (record { place = a.0.0; received = b.0.0; time = c.0.0 }, c.0.1) x c.2)
-    (
+    subst (λ (x : Placed × List ℕ). Took bytes (entry_bytes x.0) x.1 × IsEntry x.0) (same_done (record { place = a.0.0; received = b.0.0; time = c.0.0 }, c.0.1) x c.2) (
       record {
         whole = then_took one.0 (then_took two.0 three.0.whole) ∙ regrouped (to_be_bytes w32 a.0.0) (to_be_bytes w32 b.0.0) (to_be_bytes w64 c.0.0) c.0.1;
         left_fit = three.0.left_fit;

@@ -1,8 +1,7 @@
 -- A checker accepts just what is shown
-use Rattle.std.proofs.Common.{◌≡◌, inl, inr, ℕ, zero, suc, ◌<◌, ◌*◌, Bool, true, false, cond, eqb, List, [], ◌∷◌, length, Option, Some, None, option_map, slice_get, Result, Ok, Err, refl, sym, ap, ap₂, subst, ◌∙◌, arith}
+use Rattle.std.proofs.Common.{◌≡◌, inl, inr, ℕ, zero, suc, ◌<◌, Bool, true, cond, eqb, List, [], ◌∷◌, Option, Some, None, Result, Ok, Err, refl, sym, ap, ap₂, subst, ◌∙◌, arith}
 use Rattle.std.specs.Prelude.{◌&&◌}
 use Rattle.std.specs.List.{AllByRecursion}
-use Rattle.std.specs.Option.{option_or}
 use Rattle.std.proofs.lemmas.Bool.{and_from, and_parts, cases_Bool, eqb-true, eq-eqb, true≢false}
 use Rattle.hg_model.specs.declared.row.Row.{Row}
 use Rattle.hg_model.specs.declared.row.Placed.{Placed}
@@ -18,16 +17,13 @@ use Rattle.hg_model.proofs.PlacesLaws.{weight_below_none}
 use Rattle.hg_model.proofs.PushLaws.{shaped-none}
 use Rattle.hg_life.specs.Results.{◌>>=◌}
 use Rattle.hg_life.specs.Signing.{Accepts}
-use Rattle.hg_life.specs.Spelling.{Spells, body_of, spelling}
-use Rattle.hg_life.proofs.RuleLaws.{mapped_none, option_or_none}
 use Rattle.hg_history.specs.Laws.{IsEvent}
 use Rattle.hg_runs.proofs.FurtherLaws.{further_safe}
 use Rattle.hg_proof.specs.declared.why.Why.{Why}
-use Rattle.hg_proof.specs.declared.why.Why.TheVariants as reason
-use Rattle.hg_proof.specs.Certificate.{Certificate, certificate_bytes}
+use Rattle.hg_proof.specs.Certificate.{Certificate}
 use Rattle.hg_proof.specs.Reading.{form_of}
 use Rattle.hg_proof.specs.Judging.{compared, difference_from, is_same, judged, ordered_rows, rows_why, unless_at, unless_why}
-use Rattle.hg_proof.specs.Shows.{AreSigned, AreSpelled, Shows}
+use Rattle.hg_proof.specs.Shows.{AreSigned, AreSpelled}
 use Rattle.hg_proof.specs.Laws.{AcceptedIsShown, ShownIsAccepted, ShownIsOne, ShownIsSafe}
 use Rattle.hg_proof.proofs.ComingLaws.{IsSigned, rows_pass, rows_silent}
 use Rattle.hg_proof.proofs.FormLaws.{form_read, form_spelled}

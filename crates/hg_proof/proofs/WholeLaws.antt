@@ -1,11 +1,11 @@
 -- Where all fame of a graph is published, the order is the graph's own
-use Rattle.std.proofs.Common.{◌≡◌, ℕ, ◌<◌, List, length, refl, sym, ap, ◌∙◌, subst, arith}
+use Rattle.std.proofs.Common.{◌≡◌, ℕ, length, refl, sym, ap, ◌∙◌, subst, arith}
 use Rattle.hg_model.specs.Links.{links}
 use Rattle.hg_model.specs.Fame.{Marks, fame_marks}
 use Rattle.hg_model.specs.Order.{coin_at, ordered, order_of}
 use Rattle.hg_model.specs.Orders.{AreFame}
 use Rattle.hg_model.specs.Prefix.{Graph}
-use Rattle.hg_model.specs.Shares.{Share, whole}
+use Rattle.hg_model.specs.Shares.{whole}
 use Rattle.hg_model.proofs.LinkLaws.{length-links}
 use Rattle.hg_life.specs.History.{news}
 use Rattle.hg_life.specs.StateWords.{marks_by, state_by}

@@ -4,7 +4,6 @@ use Rattle.hg_model.specs.Stakes.{Stakes, total}
 use Rattle.hg_model.specs.Order.{Ordered, named_in}
 use Rattle.hg_life.specs.Signing.{Accepts}
 use Rattle.hg_life.specs.History.{Change}
-use Rattle.hg_prefix.specs.Chains.{HaveEqualRows}
 use Rattle.hg_runs.specs.Run.{Run, IsRun, IsMoment}
 use Rattle.hg_runs.specs.Safety.{order_after, IsOnePrefix}
 use Rattle.hg_runs.specs.Further.{dishonest_beside, IsApart}

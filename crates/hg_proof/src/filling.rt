@@ -38,11 +38,7 @@ fn why_at(place: usize, answer: PutAnswer) -> Why
 }
 
 /// One row more, an event that another value shares, with its parents' places.
-fn push_shared(
-    graph: &mut EventGraph,
-    event: &Arc<Event>,
-    parents: &[usize],
-) -> Result<(), Memory>
+fn push_shared(graph: &mut EventGraph, event: &Arc<Event>, parents: &[usize]) -> Result<(), Memory>
     requires limit { length graph.old.graph.rows < row_limit }
     requires link { StandsOn graph.old.graph.rows event.now.value parents.now }
     requires graph { IsGraph graph.old.graph.members (graph.old.graph.rows ++ event.now.value ∷ []) }

@@ -24,11 +24,7 @@ fn shared(alloc: Global, view: &EventView<'_>, bytes: &[u8]) -> Result<Arc<Event
 }
 
 /// The event in front, and the bytes behind it.
-fn event_part(
-    alloc: Global,
-    bytes: &[u8],
-    size: usize,
-) -> Result<(Arc<Event>, &[u8]), Stop<Why>>
+fn event_part(alloc: Global, bytes: &[u8], size: usize) -> Result<(Arc<Event>, &[u8]), Stop<Why>>
     ensures { Gives (λ part. (part.0.value, part.1.now)) result (row_part size bytes.now) }
 {
     let Ok((view, len)) = decode_first(bytes) else {
@@ -91,11 +87,7 @@ fn entries_part(
 
 /// How many entries there are, and these, and the bytes behind them.
 #[tactic(auto, unfolding(crate::specs::Reading::order_part))]
-fn order_part(
-    alloc: Global,
-    bytes: &[u8],
-    size: usize,
-) -> Result<(Vec<Placed>, &[u8]), Stop<Why>>
+fn order_part(alloc: Global, bytes: &[u8], size: usize) -> Result<(Vec<Placed>, &[u8]), Stop<Why>>
     ensures { Gives (λ part. (part.0.items, part.1.now)) result (order_part size bytes.now) }
 {
     let (count, rest) = u32_part(bytes, size)?;

@@ -1,4 +1,4 @@
-use Rattle.std.proofs.Common.{◌≡◌, ◌∙◌, ◌≤◌, List, length, ap₂, arith}
+use Rattle.std.proofs.Common.{◌∙◌, List, ap₂, arith}
 use Rattle.hg_model.specs.declared.row.Placed.{Placed}
 use Rattle.hg_model.specs.Prefix.{Graph}
 use Rattle.hg_graph.specs.RowsWithRoom.{rows_of}

@@ -1,4 +1,4 @@
-use Rattle.std.proofs.Common.{◌≡◌, ◌+◌, ◌≤◌, [], None, Err, length, ap, subst, arith}
+use Rattle.std.proofs.Common.{◌≡◌, [], None, Err, length, ap, subst, arith}
 use Rattle.hg_model.specs.Prefix.{Graph, graph_of}
 use Rattle.hg_graph.specs.RowsWithRoom.{rows_of}
 use Rattle.hg_proof.specs.Answers.{Comes, graph_and}

@@ -1,4 +1,4 @@
-use Rattle.std.proofs.Common.{◌≡◌, ◌∙◌, inl, inr, ◌≤◌, ◌<◌, ◌+◌, ℕ, Bool, cond, drop, length, Some, ap, sym, arith}
+use Rattle.std.proofs.Common.{◌≡◌, ◌∙◌, inl, inr, ◌+◌, ℕ, Bool, cond, drop, length, Some, ap, sym, arith}
 use Rattle.std.proofs.lemmas.Bool.{cases_lt}
 use Rattle.hg_proof.specs.Judging.{difference_from}
 use Rattle.hg_proof.proofs.DifferenceLaws.{both_ended, difference_next, first_ended, second_ended}

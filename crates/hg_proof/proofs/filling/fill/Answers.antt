@@ -1,4 +1,4 @@
-use Rattle.std.proofs.Common.{length, ◌<◌, ◌≤◌, arith}
+use Rattle.std.proofs.Common.{arith}
 use Rattle.hg_graph.specs.Held.{graph_with}
 use Rattle.hg_graph.specs.RowsWithRoom.{rows_of}
 use Rattle.hg_proof.specs.Judging.{next_why, rows_why}

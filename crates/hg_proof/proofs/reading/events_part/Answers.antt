@@ -1,4 +1,4 @@
-use Rattle.std.proofs.Common.{ℕ, ◌≡◌, ◌∙◌, ◌+◌, ◌-◌, ◌<◌, ◌≤◌, List, [], ◌∷◌, ◌++◌, Ok, ap, sym, arith}
+use Rattle.std.proofs.Common.{ℕ, ◌∙◌, ◌+◌, ◌-◌, List, [], ◌∷◌, Ok, ap, sym, arith}
 use Rattle.std.proofs.lemmas.List.{append-nil, map-append}
 use Rattle.hg_model.specs.declared.row.Row.{Row}
 use Rattle.hg_graph.specs.RowsWithRoom.{rows_of}
