@@ -1,0 +1,6 @@
+pub mod Certificate
+pub mod Reading
+pub mod Judging
+pub mod Shows
+pub mod Answers
+pub mod Laws
