@@ -8,7 +8,7 @@ use std::test::Fail;
 
 // Two events one after the other, by creator 0, without parents and payloads, at the times 1 and 2, with signatures of
 // zero bytes.
-pub(crate) fn two_events() -> [u8; 162] {
+fn two_events() -> [u8; 162] {
     let mut bytes = [0; 162];
     bytes[..4].copy_from_slice(b"HGE1");
     bytes[14] = 1;

@@ -1,5 +1,5 @@
 //! Tests of public calls of the crates that read and write bytes, with values from outside: events, names, signatures,
-//! members and transfers, lines of a script, messages over a stream, and the text of a report.
+//! members and transfers, lines of a script, requests, and the text of a report.
 //! They stand above these crates so that their code is proved once; a crate with tests of its own is proved twice.
 //! No node is owned here, so that no end of one is proved here either.
 //! There is nothing here but tests.
@@ -21,8 +21,6 @@ mod fronts;
 mod matching;
 #[cfg(test)]
 mod members;
-#[cfg(test)]
-mod messages;
 #[cfg(test)]
 mod names;
 #[cfg(test)]
