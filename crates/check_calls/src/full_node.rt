@@ -12,7 +12,7 @@ pub(crate) fn make_rows(
     count: usize,
 ) -> Result<(), Memory> {
     for _ in 0..count {
-        node.make(Some(other), 1, b"")?;
+        node.make(&[other], 1, b"")?;
     }
     Ok(())
 }

@@ -48,7 +48,7 @@ const ORDER: [(usize, u32, u64); 12] = [
 fn begin_all(rt: &impl Abort, world: &mut World) -> Result<(), Memory> {
     for (member, time) in &BEGINS {
         assert!(rt; u32::from(*member) < world.members());
-        world.make(*member, None, *time, b"")?;
+        world.make(*member, &[], *time, b"")?;
     }
     Ok(())
 }

@@ -101,7 +101,7 @@ pub(crate) fn begin(
     time: u64,
     payload: &[u8],
 ) -> Result<MakeAnswer, Memory> {
-    node.make(None, time, payload)
+    node.make(&[], time, payload)
 }
 
 /// Has a node make an event, and it is to answer so.
@@ -114,7 +114,7 @@ pub(crate) fn make(
 ) -> Result<(), Memory>
     ensures { node.new.start ≡ node.old.start }
 {
-    equal(rt, node.make(other, time, b"any")?, answer);
+    equal(rt, node.make(other.as_slice(), time, b"any")?, answer);
     Ok(())
 }
 
@@ -128,6 +128,6 @@ pub(crate) fn sync(
     for place in 0..other.rows() {
         node.put(other.bytes(place))?;
     }
-    node.make(other.last_name(), time, payload)?;
+    node.make(other.last_name().as_slice(), time, payload)?;
     Ok(())
 }

@@ -193,10 +193,10 @@ fn twin_of(
     a: &Node<MacTable>,
 ) -> Result<Player, Memory> {
     let mut twin = player_of(rt, alloc, members, 1)?;
-    equal(rt, twin.node.make(None, 1, b"")?, MakeAnswer::Made(0));
+    equal(rt, twin.node.make(&[], 1, b"")?, MakeAnswer::Made(0));
     give(rt, a, 0, &mut twin.node, PutAnswer::Accepted(1))?;
-    let first = Some(name_at(rt, a, 0));
-    equal(rt, twin.node.make(first, 3, b"")?, MakeAnswer::Made(2));
+    let first = [name_at(rt, a, 0)];
+    equal(rt, twin.node.make(&first, 3, b"")?, MakeAnswer::Made(2));
     Ok(twin)
 }
 

@@ -107,7 +107,7 @@ pub(crate) fn begins<R: Wait + Abort>(
     assert!(rt; before.is_none());
     equal(
         rt,
-        shared.make(rt, seat, None, 1, b"any")?,
+        shared.make(rt, seat, &[], 1, b"any")?,
         MakeAnswer::Made(0),
     );
     tells_last(rt, shared, seat, bytes)

@@ -7,7 +7,7 @@ use crate::members::two_members;
 use crate::playing::{equal, placed};
 use hg_gossip::Taken;
 use hg_life::{ByteFault, Fault, MakeAnswer, PutAnswer, SyncMade, SyncReport};
-use hg_model::{Bytes, Member, Memory, Placed, Share};
+use hg_model::{Bytes, Items, Member, Memory, Placed, Share};
 use hg_node::Node;
 use hg_sign::SharedTable;
 use hg_world::{Reply, Step, World, steps_keep_sites};
@@ -45,7 +45,7 @@ fn begins(
     assert!(rt; u32::from(member) < world.members());
     equal(
         rt,
-        world.make(member, None, time, b"")?,
+        world.make(member, &[], time, b"")?,
         MakeAnswer::Made(place),
     );
     Ok(())
@@ -213,7 +213,7 @@ fn runs(rt: &impl Abort, alloc: Global, world: &mut World) -> Result<(), Memory>
     let steps = [
         Step::Make {
             node: 0,
-            other: None,
+            others: Items::new(alloc),
             time: 1,
             payload: Bytes::new(alloc),
         },

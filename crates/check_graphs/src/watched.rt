@@ -54,9 +54,11 @@ impl<'a> Watched<'a> {
         self.node.put(bytes)
     }
 
-    pub fn make(&mut self, other: Option<Name>, time: u64) -> Result<MakeAnswer, Memory> {
+    pub fn make(&mut self, others: &[Name], time: u64) -> Result<MakeAnswer, Memory>
+        requires { length others.now ≤ most_others }
+    {
         found_lasts();
-        self.node.make(other, time, &[])
+        self.node.make(others, time, &[])
     }
 
     pub fn settle(&mut self) -> Result<(), Memory> {

@@ -44,7 +44,7 @@ impl<'a> Pair<'a> {
 
     /// A makes an event on B's last, and then B on that one. Answers B's.
     fn turn(&mut self, last: Name, time: u64) -> Result<Name, Memory> {
-        self.watched.make(Some(last), time)?;
+        self.watched.make(&[last], time)?;
         match self.watched.node().last_name() {
             None => Ok(last),
             Some(other) => self.add(Some((last, other)), time.saturating_add(1)),
@@ -53,7 +53,7 @@ impl<'a> Pair<'a> {
 
     /// Each makes a first event, and then one on the other's last, in turn, at the times 1, 2, 3 and so on.
     fn play(&mut self) -> Result<(), Memory> {
-        self.watched.make(None, 1)?;
+        self.watched.make(&[], 1)?;
         let mut last = self.add(None, 2)?;
         for number in 0..TURNS {
             last = self.turn(last, 2 * number + 3)?;

@@ -54,7 +54,7 @@ fn drawn(dice: &mut Dice, world: &World) -> Member
 /// The node of a member makes its first event.
 fn begin(dice: &mut Dice, world: &mut World, number: u32) -> Result<(), Memory> {
     let member = member_at(world, number);
-    world.make(member, None, u64::from(dice.below(24)), &[])?;
+    world.make(member, &[], u64::from(dice.below(24)), &[])?;
     Ok(())
 }
 

@@ -109,7 +109,7 @@ fn play(
     let Ok(mut stored) = Stored::open(alloc, disk, NAME, members, 0, keys) else {
         return Ok((0, true));
     };
-    if stored.make(disk, None, 1, b"") != Ok(MakeAnswer::Made(0)) {
+    if stored.make(disk, &[], 1, b"") != Ok(MakeAnswer::Made(0)) {
         return Ok((1, stored.put(disk, event) == Err(StoreError::Closed)));
     }
     if stored.put(disk, event) != Ok(PutAnswer::Accepted(1)) {

@@ -53,7 +53,7 @@ fn replay_row<R: Wait>(
         shared.make(
             rt,
             seat,
-            other_parent(row),
+            other_parent(row).as_slice(),
             row.time,
             row.payload.as_slice(),
         )?;

@@ -22,7 +22,7 @@ fn makes_one<R: Wait>(
     ensures of { IsOf shared.now seat.new }
     ensures parts { seat.new.parts ≡ seat.old.parts }
 {
-    let made = shared.make(rt, seat, None, 1, b"")?;
+    let made = shared.make(rt, seat, &[], 1, b"")?;
     let frozen = shared.freeze(rt, seat)?;
     Ok(made == MakeAnswer::Made(0) && frozen.rows() == 1)
 }

@@ -72,14 +72,14 @@ fn sync(node: &mut Node<MacTable>, other: &Node<MacTable>, time: u64) -> Result<
     for place in 0..other.rows() {
         node.put(other.bytes(place))?;
     }
-    node.make(other.last_name(), time, b"")?;
+    node.make(other.last_name().as_slice(), time, b"")?;
     Ok(())
 }
 
 /// Both make their first events, and then sync by turns.
 fn play(a: &mut Node<MacTable>, b: &mut Node<MacTable>, first: u64) -> Result<(), Memory> {
-    a.make(None, first, b"")?;
-    b.make(None, first, b"")?;
+    a.make(&[], first, b"")?;
+    b.make(&[], first, b"")?;
     for turn in 1..=SYNCS {
         sync(a, b, first.saturating_add(turn))?;
         sync(b, a, first.saturating_add(turn))?;
@@ -104,7 +104,7 @@ pub fn played_alone(alloc: Global, members: &Members, first: u64) -> Result<Play
 /// A as it is once it made its first event.
 pub fn made_alone(alloc: Global, members: &Members) -> Result<Player, Trouble> {
     let mut a = player_of(alloc, members, 0)?;
-    a.node.make(None, 1, b"")?;
+    a.node.make(&[], 1, b"")?;
     Ok(a)
 }
 

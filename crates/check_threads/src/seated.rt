@@ -20,8 +20,8 @@ fn meet<H: Holder, P: Holder>(alloc: Global, one: &mut H, other: &mut P) -> Resu
     ensures one { H.lent one.new ≡ H.lent one.old }
     ensures other { P.lent other.new ≡ P.lent other.old }
 {
-    let made = one.make(None, 1, b"")? == MakeAnswer::Made(0);
-    let made_too = other.make(None, 1, b"")? == MakeAnswer::Made(0);
+    let made = one.make(&[], 1, b"")? == MakeAnswer::Made(0);
+    let made_too = other.make(&[], 1, b"")? == MakeAnswer::Made(0);
     let report = sync(alloc, one, other, 2, b"")?;
     let wanted = SyncReport {
         taken: 1,

@@ -7,7 +7,7 @@ ghost use Rattle.hg_model.specs.Links.{most_others, place_of};
 ghost use Rattle.hg_life.specs.Spelling.{HasSpelling, Spells};
 ghost use Rattle.hg_model.specs.Stakes.{member_count};
 ghost use Rattle.hg_life.specs.Verdict.{forkers_rule, missing_rule, name_rule, signature_rule};
-ghost use Rattle.hg_arrival.specs.Arrival.{AreInside, IsNameAnswer, LinkComes, StandsOn, all_rules, arrival_places, impostor_by, later_rules, member_answer, missing_answer, others_answer, parents_rule, places_rule, signed_rules};
+ghost use Rattle.hg_arrival.specs.Arrival.{AreInside, IsNameAnswer, LinkComes, StandsOn, all_rules, arrival_places, first_place_by, impostor_by, later_rules, member_answer, missing_answer, others_answer, parents_rule, places_rule, signed_rules};
 
 use hg_event::{Event, EventView, body_of};
 use hg_graph::EventGraph;
@@ -189,12 +189,23 @@ fn others_rule(graph: &EventGraph, member: Member, others: &[usize]) -> Result<(
     requires { AreInside graph.now.graph.rows others.now }
     ensures { result_err result ≡ others_answer graph.now.graph.rows member others.now }
 {
-    for place in others {
+    match first_by(graph, member, others) {
+        Some(place) => Err(PutAnswer::Refused(Fault::OtherCreator(place))),
+        None => Ok(()),
+    }
+}
+
+/// The first of these places whose row is by the member.
+pub fn first_by(graph: &EventGraph, member: Member, places: &[usize]) -> Option<usize>
+    requires { AreInside graph.now.graph.rows places.now }
+    ensures { result ≡ first_place_by graph.now.graph.rows member places.now }
+{
+    for place in places {
         if creator_at(graph, *place) == member {
-            return Err(PutAnswer::Refused(Fault::OtherCreator(*place)));
+            return Some(*place);
         }
     }
-    Ok(())
+    None
 }
 
 /// Who made the row at a place.

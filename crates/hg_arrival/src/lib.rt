@@ -13,4 +13,6 @@
 
 mod arrival;
 
-pub use arrival::{creator_at, member_rule, parents_of_arrival, parents_of_signed, signature_rule};
+pub use arrival::{
+    creator_at, first_by, member_rule, parents_of_arrival, parents_of_signed, signature_rule,
+};

@@ -1,6 +1,6 @@
-ghost use Rattle.std.specs.Prelude.{◌≡◌, ◌<◌, true, IfErr, IfOk, IsSome, OnErr, length};
-ghost use Rattle.std.specs.Option.{option_to_list};
+ghost use Rattle.std.specs.Prelude.{◌≡◌, ◌<◌, ◌≤◌, true, IfErr, IfOk, IsSome, OnErr, length};
 ghost use Rattle.hg_life.specs.Spelling.{spelling};
+ghost use Rattle.hg_model.specs.Links.{most_others};
 ghost use Rattle.hg_model.specs.Stakes.{member_count};
 ghost use Rattle.hg_node.specs.ChronicleView.{IsFoundBy};
 ghost use Rattle.hg_node.specs.Next.{next_others};
@@ -159,26 +159,28 @@ impl<V: Signer + Drop> Shared<V> {
         taken
     }
 
-    /// Makes an event of the node's member on its last one, with this other-parent, or its first one without parents.
-    /// The time is any, in no unit of ours. To tell that the event is refused before it is signed takes no memory.
+    /// Makes an event of the node's member on its last one, with these one to four other-parents, or with none its first one,
+    /// without parents. The time is any, in no unit of ours. To tell that the event is refused before it is signed takes no
+    /// memory.
     pub fn make<R: Wait>(
         &self,
         rt: &R,
         seat: &mut Seat<V>,
-        other: Option<Name>,
+        others: &[Name],
         time: u64,
         payload: &[u8],
     ) -> Result<MakeAnswer, Memory>
-        requires { IsOf self.now seat.old }
+        requires seat { IsOf self.now seat.old }
+        requires few { length others.now ≤ most_others }
         ensures stays { Stays V.accepts self.now seat.old seat.new }
-        ensures ok { IfOk result (SeatMakes V.accepts self.now seat.old (option_to_list other) time payload.now seat.new) }
+        ensures ok { IfOk result (SeatMakes V.accepts self.now seat.old others.now time payload.now seat.new) }
         ensures err { OnErr result (SeatWaits V.accepts self.now seat.old seat.new) }
-        ensures free { OnErr result (WouldSign (seen_by self.now seat.new) (option_to_list other) payload.now) }
+        ensures free { OnErr result (WouldSign (seen_by self.now seat.new) others.now payload.now) }
     {
         let board = &self.table.shared;
         let raw = &mut seat.raw;
         let (mut node, count) = enter(rt, board, raw);
-        let answer = node.make(other, time, payload);
+        let answer = node.make(others, time, payload);
         leave_changed(board, raw, node, count);
         answer
     }

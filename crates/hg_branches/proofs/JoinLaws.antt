@@ -1,9 +1,11 @@
 -- What a row of numbers reads once it is made from others, and the greatest counts of parents
-use Rattle.std.proofs.Common.{◌≡◌, ℕ, zero, suc, ◌+◌, ◌-◌, ◌<◌, ◌≤◌, max, List, [], ◌∷◌, ◌++◌, length, get_or, take, replicate, sym, ap, ◌∙◌, inl, inr, arith, refl}
+use Rattle.std.proofs.Common.{◌≡◌, ℕ, Bool, true, false, cond, eqb, zero, suc, ◌+◌, ◌-◌, ◌<◌, ◌≤◌, max, List, [], ◌∷◌, ◌++◌, length, get_or, take, replicate, sym, ap, ◌∙◌, inl, inr, arith, refl}
 use Rattle.std.specs.List.{AllByRecursion}
-use Rattle.std.proofs.lemmas.Bool.{cases_lt}
+use Rattle.std.proofs.lemmas.Bool.{cases_lt, ne_eqb}
 use Rattle.std.proofs.lemmas.List.{get_or_append_left, get_or-append_right, get_or_past, get_or-replicate, get_or-take, length-append, length-replicate, length-take, take_all, take_more}
 use Rattle.hg_branches.specs.Branches.{greatest_count}
+use Rattle.hg_branches.specs.Table.{tail_next}
+use Rattle.hg_branches.specs.Tails.{Tail, tail_at, tail_count, tail_width}
 
 zeros_read : (many i : ℕ) → get_or {A = ℕ} (replicate many 0) i 0 ≡ 0
 zeros_read many i = elim (cases_lt i many) [
@@ -52,3 +54,28 @@ pub greatest_more : (count : ℕ → ℕ → ℕ) (ps : List ℕ) (i b : ℕ) �
 greatest_more count ps i b inside = ap (λ qs. greatest_count count qs b) (take_more ps i 0 inside) ∙ greatest_push count (take i ps) (get_or ps i 0) b
 
 pub ruleset greatest_steps = (greatest_none, greatest_more)
+
+-- no branch beside the members' own is counted where no parent's tail tells of one
+
+none_counted : (tails : List Tail) (p k : ℕ) → tail_width tails p ≤ 0 → tail_count tails p k ≡ 0
+none_counted tails p k none =
+    let tail = tail_at tails p in
+    let past : length tail.numbers ≤ k = omega (arith, none) in
+    let own : eqb (k + 1) tail.own ≡ false = ne_eqb (k + 1) tail.own (λ is. omega (arith, is, none)) in
+    omega (arith, get_or_past tail.numbers k 0 past, ap (λ t. cond t (p + 1) 0) own)
+
+none_greatest : (tails : List Tail) (on : List ℕ) (k : ℕ) → AllByRecursion (λ p. tail_width tails p ≤ 0) on → greatest_count (tail_count tails) on k ≡ 0
+none_greatest tails [] k all = refl
+none_greatest tails (p ∷ on) k all = omega (arith, none_counted tails p k all.0, none_greatest tails on k all.1)
+
+pub no_tails : (tails : List Tail) (on : List ℕ) (own k : ℕ) → AllByRecursion (λ p. tail_width tails p ≤ 0) on → tail_next tails on own k ≡ 0
+no_tails tails on own k all = ap (λ (n : ℕ). cond (eqb (k + 1) own) 0 n) (none_greatest tails on k all) ∙ same_both (eqb (k + 1) own)
+  where
+    same_both : (b : Bool) → cond b 0 0 ≡ 0
+    same_both true = refl
+    same_both false = refl
+
+-- what is at most so much is at most more
+pub all_within : (f : ℕ → ℕ) (on : List ℕ) (n m : ℕ) → n ≤ m → AllByRecursion (λ p. f p ≤ n) on → AllByRecursion (λ p. f p ≤ m) on
+all_within f [] n m less all = tt
+all_within f (p ∷ on) n m less all = (omega (arith, less, all.0), all_within f on n m less all.1)

@@ -30,8 +30,31 @@ pub fn join_own(row: &mut Vec<u16>, own: &RowBlocks, on: &[usize], branch: usize
 }
 
 /// Makes the row the greatest of its parents' tails, without the number of its own branch and cut behind its last one that
-/// is not 0.
-pub fn join_tails(row: &mut Vec<u16>, tails: &TailBlocks, on: &[usize], own: usize)
+/// is not 0. No tail tells of more than `widest` branches: where that is none, there is nothing to look at.
+pub fn join_tails(
+    row: &mut Vec<u16>,
+    tails: &TailBlocks,
+    on: &[usize],
+    own: usize,
+    widest: usize,
+)
+    requires short { length tails.now.rows < 2 ^ 16 }
+    requires places { AllByRecursion (λ p. p < length tails.now.rows) on.now }
+    requires tails { AllByRecursion (λ p. tail_width tails.now.rows p ≤ widest) on.now }
+    requires room { widest ≤ vec_capacity row.old }
+    ensures each { (k : ℕ) → slice_index row.new.items k ≡ tail_next tails.now.rows on.now own k }
+    ensures narrow { (n : ℕ) → AllByRecursion (λ p. tail_width tails.now.rows p ≤ n) on.now → length row.new.items ≤ n }
+    ensures capacity { vec_capacity row.old ≤ vec_capacity row.new }
+{
+    if widest == 0 {
+        row.clear();
+    } else {
+        join_wide_tails(row, tails, on, own);
+    }
+}
+
+/// The same, whatever the tails tell of.
+fn join_wide_tails(row: &mut Vec<u16>, tails: &TailBlocks, on: &[usize], own: usize)
     requires short { length tails.now.rows < 2 ^ 16 }
     requires places { AllByRecursion (λ p. p < length tails.now.rows) on.now }
     requires room { AllByRecursion (λ p. tail_width tails.now.rows p ≤ vec_capacity row.old) on.now }

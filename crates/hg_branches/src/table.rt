@@ -123,7 +123,7 @@ impl CountTable {
         join_own(&mut self.row, &self.own, on, branch, end);
         self.own.push(&self.row);
         let own = (branch + 1).saturating_sub(self.own.width());
-        join_tails(&mut self.row, &self.tails, on, own);
+        join_tails(&mut self.row, &self.tails, on, own, self.widest);
         self.tails.push(own, &self.row);
         self.widest = self.widest.max(own);
     }

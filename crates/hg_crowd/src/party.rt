@@ -1,5 +1,5 @@
-ghost use Rattle.std.specs.Prelude.{◌≡◌, ◌<◌, length};
-ghost use Rattle.std.specs.Option.{option_to_list};
+ghost use Rattle.std.specs.Prelude.{◌≡◌, ◌<◌, ◌≤◌, length};
+ghost use Rattle.hg_model.specs.Links.{most_others};
 ghost use Rattle.hg_graph.specs.RowsWithRoom.{rows_of};
 ghost use Rattle.hg_board.specs.Copies.{AreLacked, IsLastRow, IsParcelFrom};
 ghost use Rattle.hg_crowd.specs.Crowd.{AreSeats};
@@ -73,21 +73,22 @@ impl<'a, V: Signer + Drop> Party<'a, V> {
         shared[k].put(rt, &mut self.seats[k], bytes)
     }
 
-    /// The node at a place makes an event on its last one, with this other-parent, or its first one without parents. The
-    /// time is any, in no unit of ours.
+    /// The node at a place makes an event on its last one, with these one to four other-parents, or with none its first
+    /// one, without parents. The time is any, in no unit of ours.
     pub fn make<R: Wait>(
         &mut self,
         rt: &R,
         k: usize,
-        other: Option<Name>,
+        others: &[Name],
         time: u64,
         payload: &[u8],
     ) -> Result<MakeAnswer, Memory>
-        requires { k < length self.old.seats }
-        ensures { MovesOne V.accepts (Makes V.accepts (option_to_list other) time payload.now result) k self.old self.new }
+        requires place { k < length self.old.seats }
+        requires few { length others.now ≤ most_others }
+        ensures { MovesOne V.accepts (Makes V.accepts others.now time payload.now result) k self.old self.new }
     {
         let shared = self.shared;
-        shared[k].make(rt, &mut self.seats[k], other, time, payload)
+        shared[k].make(rt, &mut self.seats[k], others, time, payload)
     }
 
     /// The events of the rows of the node at a place, from a row on, and the name of the last row that it made.

@@ -1,5 +1,5 @@
-ghost use Rattle.std.specs.Prelude.{◌≡◌, IfOk, OnErr};
-ghost use Rattle.std.specs.Option.{option_to_list};
+ghost use Rattle.std.specs.Prelude.{◌≡◌, ◌≤◌, IfOk, OnErr, length};
+ghost use Rattle.hg_model.specs.Links.{most_others};
 ghost use Rattle.hg_node.specs.Beyond.{beyond_of, tips_of};
 ghost use Rattle.hg_gossip.specs.Holding.{Makes, PutsBytes, Rules, Seen, Waits, WouldSign, WouldTake, names_in, parcel_beyond};
 
@@ -56,11 +56,13 @@ pub trait Holder {
         ensures err { OnErr result (Waits rules (seen self.old) (seen self.new)) }
         ensures free { OnErr result (WouldTake rules (seen self.new) bytes.now) };
 
-    /// Makes an event of the node's member on its last one, with this other-parent, or its first one without parents.
-    /// The time is any, in no unit of ours. To tell that the event is refused before it is signed takes no memory.
-    fn make(&mut self, other: Option<Name>, time: u64, payload: &[u8]) -> Result<MakeAnswer, Memory>
+    /// Makes an event of the node's member on its last one, with these one to four other-parents, or with none its first one,
+    /// without parents. The time is any, in no unit of ours. To tell that the event is refused before it is signed takes no
+    /// memory.
+    fn make(&mut self, others: &[Name], time: u64, payload: &[u8]) -> Result<MakeAnswer, Memory>
+        requires { length others.now ≤ most_others }
         ensures lent { lent self.new ≡ lent self.old }
-        ensures ok { IfOk result (Makes rules (seen self.old) (option_to_list other) time payload.now (seen self.new)) }
+        ensures ok { IfOk result (Makes rules (seen self.old) others.now time payload.now (seen self.new)) }
         ensures err { OnErr result (Waits rules (seen self.old) (seen self.new)) }
-        ensures free { OnErr result (WouldSign (seen self.new) (option_to_list other) payload.now) };
+        ensures free { OnErr result (WouldSign (seen self.new) others.now payload.now) };
 }

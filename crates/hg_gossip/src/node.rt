@@ -130,10 +130,10 @@ impl<V: Signer> Holder for Node<V> {
 
     fn make(
         &mut self,
-        other: Option<Name>,
+        others: &[Name],
         time: u64,
         payload: &[u8],
     ) -> Result<MakeAnswer, Memory> {
-        Node::make(self, other, time, payload)
+        Node::make(self, others, time, payload)
     }
 }

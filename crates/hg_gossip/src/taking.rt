@@ -63,7 +63,7 @@ pub fn make_after<H: Holder>(
     match other {
         None => Ok(SyncMade::PeerBare),
         Some(name) => {
-            let answer = taker.make(Some(name), time, payload)?;
+            let answer = taker.make(&[name], time, payload)?;
             Ok(sync_made(answer))
         }
     }

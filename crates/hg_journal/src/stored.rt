@@ -1,5 +1,6 @@
 ghost use Rattle.std.specs.Prelude.{◌≡◌, ◌↔◌, ◌+◌, ◌<◌, ◌≤◌, ◌^◌, ℕ, List, None, Some, IfOk, IsErrOf, IsSome, OnErr, OnOk, is_some, length, option_map};
-ghost use Rattle.std.specs.Option.{ForSome, option_to_list};
+ghost use Rattle.std.specs.Option.{ForSome};
+ghost use Rattle.hg_model.specs.Links.{most_others};
 ghost use Rattle.hg_io.specs.Faults.{Rose};
 ghost use Rattle.hg_io.specs.FileView.{IsSynced};
 ghost use Rattle.hg_life.specs.Calls.{make_draft, publish_answer, publish_changes, put_answer};
@@ -100,17 +101,18 @@ impl<V: Signer + Drop> Stored<V> {
     pub fn make<D: Disk>(
         &mut self,
         disk: &mut D,
-        other: Option<Name>,
+        others: &[Name],
         time: u64,
         payload: &[u8],
     ) -> Result<MakeAnswer, StoreError>
+        requires few { length others.now ≤ most_others }
         requires started { D.At disk.old self.old.name }
         requires stored { StoresNode V.accepts (D.file disk.old) self.old }
         ensures ok { IfOk result
-            (λ a. ForSome self.old.node (MakesNode V.accepts (option_to_list other) time payload.now a self.new.node)) }
+            (λ a. ForSome self.old.node (MakesNode V.accepts others.now time payload.now a self.new.node)) }
         ensures memory { IsErrOf result StoreError.Memory → self.new ≡ self.old }
         ensures free { IsErrOf result StoreError.Memory
-            → ForSome self.old.node (λ v. make_draft v (option_to_list other) payload.now ≡ None) }
+            → ForSome self.old.node (λ v. make_draft v others.now payload.now ≡ None) }
         ensures closed { IsErrOf result StoreError.Closed ↔ (self.old.node ≡ None) }
         ensures closes { IsErrOf result StoreError.Disk ↔ (IsSome self.old.node × (self.new.node ≡ None)) }
         // A stop leaves the whole journal.
@@ -118,7 +120,7 @@ impl<V: Signer + Drop> Stored<V> {
         // The disk tells the file just where it did.
         ensures shown { is_some (D.file disk.new).reads ≡ is_some (D.file disk.old).reads }
         // A stop meanwhile, and one after a fault, leaves it as it was or with an event that was made so.
-        ensures stops { StopsKeepMaking V.accepts (option_to_list other) time payload.now
+        ensures stops { StopsKeepMaking V.accepts others.now time payload.now
             (D.file disk.old) (D.file disk.new) self.old self.new }
         ensures name { self.new.name ≡ self.old.name }
         ensures started { D.At disk.new self.new.name }
@@ -131,7 +133,7 @@ impl<V: Signer + Drop> Stored<V> {
         histories_are_short();
         stored_changes_replay::<V>();
         node.is_node();
-        let answer = node.make(other, time, payload)?;
+        let answer = node.make(others, time, payload)?;
         let MakeAnswer::Made(place) = answer else {
             return Ok(answer);
         };

@@ -67,8 +67,19 @@ fn make_next<V: Signer + Drop, D: Disk>(
     let Some(other) = node.next_other() else {
         return Ok(None);
     };
-    let answer = stored.make(disk, other, time, b"")?;
+    let answer = stored.make(disk, names_of(&other), time, b"")?;
     Ok(Some(answer))
+}
+
+/// The one name, if there is one.
+fn names_of(name: &Option<Name>) -> &[Name]
+    ensures names { result.now ≡ option_to_list name.now }
+    ensures few { length result.now ≤ most_others }
+{
+    match name {
+        Some(name) => slice::from_ref(name),
+        None => &[],
+    }
 }
 
 /// Makes the event that comes next, if a time is given for it, and answers what is told of it.

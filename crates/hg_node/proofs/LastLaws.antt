@@ -1,5 +1,6 @@
 -- The place of the last row that a member made
 use Rattle.std.proofs.Common.{◌≡◌, ℕ, ◌<◌, Bool, true, false, cond, eqb, List, [], ◌∷◌, ◌++◌, length, Option, Some, None, option_map, slice_get, sym, refl, ap, ◌∙◌, subst, arith}
+use Rattle.std.specs.Prelude.{IfSome}
 use Rattle.std.proofs.lemmas.List.{length_push}
 use Rattle.std.proofs.lemmas.List.Sums.{fold-append}
 use Rattle.hg_model.specs.declared.row.Row.{Row}
@@ -54,3 +55,8 @@ last_read m G place distinct is = by_name (last_name m G) refl
               let read : name_at G place ≡ row.name = read_name G place row at in
               ap (λ (x : List ℕ). Some x) (sym read ∙ (ap (name_at G) same ∙ named)) ∙ sym some,
         )
+
+-- it is a row's
+pub last_inside : (m : ℕ) (G : List Row) (last : Option ℕ) → HasDistinctNames G → last ≡ last_own_place m G → IfSome last (λ place. place < length G)
+last_inside m G None distinct is = tt
+last_inside m G (Some place) distinct is = (last_read m G place distinct is).0

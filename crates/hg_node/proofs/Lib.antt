@@ -3,6 +3,7 @@ pub mod LastLaws
 pub mod RecordLaws
 pub mod PutLaws
 pub mod CheckLaws
+pub mod DraftLaws
 pub mod MakeLaws
 pub mod OneLaws
 pub mod KeepLaws

@@ -1,7 +1,7 @@
 -- What the making of an event answers, and what it leaves recorded
 use Rattle.std.proofs.Common.{◌≡◌, ℕ, ◌<◌, ◌≤◌, ◌^◌, true, List, [], ◌∷◌, ◌++◌, length, Option, Some, None, Result, Ok, Err, refl, sym, ap, ap₂, ◌∙◌, subst, arith}
 use Rattle.std.specs.Prelude.{replicate, OnErr}
-use Rattle.std.specs.Option.{option_or, option_to_list}
+use Rattle.std.specs.Option.{option_or}
 use Rattle.std.proofs.lemmas.List.{length-replicate}
 use Rattle.hg_model.specs.declared.row.Row.{Row}
 use Rattle.hg_life.specs.declared.entry.Entry.TheVariants as entry
@@ -41,11 +41,6 @@ row_of_draft r others time payload m names sig row by on is_signed = is_signed �
 pub signed_of_draft : (accepts : Accepts) (r : ChronicleView) (others : List (List ℕ)) (time : ℕ) (payload : List ℕ) (m : ℕ) (names : ParentNames) (sig : List ℕ) → m ≡ r.own → names ≡ draft_names r others →
     IsSigned accepts m names time payload sig → accepts r.own (draft_body r others time payload) sig ≡ true
 signed_of_draft accepts r others time payload m names sig by on is_signed = sym (ap₂ (λ (k : ℕ) (ns : ParentNames). accepts k (body_bytes k ns time payload) sig) by on) ∙ is_signed
-
--- one other-parent or none is few
-pub few_listed : (other : Option (List ℕ)) → length (option_to_list other) ≤ most_others
-few_listed None = omega arith
-few_listed (Some name) = omega arith
 
 module _ {K : Type 0} (accepts : K → Accepts) (keys : K) (r : ChronicleView) (others : List (List ℕ)) (time : ℕ) (payload : List ℕ) (is : IsRecorded accepts (node_view keys r) r) where
   abbrev before : NodeView K

@@ -1,4 +1,4 @@
-ghost use Rattle.std.specs.Prelude.{◌≡◌, ◌<◌, ◌≤◌, ◌++◌, ◌∷◌, ◌==◌, [], All, Some, cond, length, option_map, IfOk, OnOk, OnErr};
+ghost use Rattle.std.specs.Prelude.{◌≡◌, ◌<◌, ◌≤◌, ◌++◌, ◌∷◌, ◌==◌, [], All, Some, cond, length, option_map, IfOk, IfSome, OnOk, OnErr};
 ghost use Rattle.hg_life.specs.declared.entry.Entry.{Entry};
 ghost use Rattle.hg_model.specs.declared.row.Placed.{Placed};
 ghost use Rattle.hg_model.specs.Graph.{IsGraph};
@@ -81,7 +81,8 @@ impl Chronicle {
 
     /// The place of the last row that the member made.
     pub fn last_own(&self) -> Option<usize>
-        ensures { result ≡ last_own_place self.now.own self.now.graph.rows }
+        ensures place { result ≡ last_own_place self.now.own self.now.graph.rows }
+        ensures inside { IfSome result (λ place. place < length self.now.graph.rows) }
     {
         self.last_own
     }

@@ -3,6 +3,7 @@ ghost use Rattle.std.specs.Option.{option_to_list};
 ghost use Rattle.hg_model.specs.declared.row.Placed.{Placed};
 ghost use Rattle.hg_event.specs.View.{row_of};
 ghost use Rattle.hg_model.specs.Forks.{forkers};
+ghost use Rattle.hg_model.specs.Links.{most_others};
 ghost use Rattle.hg_model.specs.Rounds.{last_round};
 ghost use Rattle.hg_model.specs.Stakes.{member_count};
 ghost use Rattle.hg_life.specs.Spelling.{Spells, spelling};
@@ -150,24 +151,28 @@ impl<V: Signer> Node<V> {
         }
     }
 
-    /// Makes an event of the node's member on its last one, with this other-parent, or its first one without parents.
-    /// The time is any, in no unit of ours. To tell that the event is refused before it is signed takes no memory.
+    /// Makes an event of the node's member on its last one, with these one to four other-parents, or with none its first one,
+    /// without parents. The time is any, in no unit of ours. To tell that the event is refused before it is signed takes no
+    /// memory.
     pub fn make(
         &mut self,
-        other: Option<Name>,
+        others: &[Name],
         time: u64,
         payload: &[u8],
     ) -> Result<MakeAnswer, Memory>
-        ensures ok { IfOk result (λ a. IsMaking V.accepts self.old (option_to_list other) time payload.now a self.new) }
+        requires { length others.now ≤ most_others }
+        ensures ok { IfOk result (λ a. IsMaking V.accepts self.old others.now time payload.now a self.new) }
         ensures err { OnErr result (self.new ≡ self.old) }
-        ensures free { OnErr result (make_draft self.old (option_to_list other) payload.now ≡ None) }
+        ensures free { OnErr result (make_draft self.old others.now payload.now ≡ None) }
     {
-        let draft = match draft_of(&*self.chronicle, &other, payload) {
+        let draft = match draft_of(&*self.chronicle, others, payload) {
             Ok(draft) => draft,
             Err(fault) => return Ok(MakeAnswer::Refused(fault)),
         };
         let own = self.chronicle.own();
-        let event = signed_event(self.alloc, &self.keys, own, draft.names, time, payload)?;
+        let event = signed_event(
+            self.alloc, &self.keys, own, draft.last, others, time, payload,
+        )?;
         match row_rule(self.chronicle.graph(), &event) {
             Err(fault) => Ok(MakeAnswer::Refused(fault)),
             Ok(()) => {
@@ -200,18 +205,20 @@ impl<V: Signer> Node<V> {
     {
         match self.next_other() {
             None => Ok(None),
-            Some(other) => Ok(Some(self.make_on(other, time)?)),
+            Some(None) => Ok(Some(self.make_on(&[], time)?)),
+            Some(Some(other)) => Ok(Some(self.make_on(&[other], time)?)),
         }
     }
 
-    /// Makes the event that comes next, on this other-parent.
-    fn make_on(&mut self, other: Option<Name>, time: u64) -> Result<MakeAnswer, Memory>
-        requires { next_others self.old ≡ Some (option_to_list other) }
-        ensures ok { IfOk result (λ made. MakesOn V.accepts self.old (option_to_list other) time made self.new) }
+    /// Makes the event that comes next, on this other-parent, or with none the first one.
+    fn make_on(&mut self, others: &[Name], time: u64) -> Result<MakeAnswer, Memory>
+        requires few { length others.now ≤ most_others }
+        requires next { next_others self.old ≡ Some others.now }
+        ensures ok { IfOk result (λ made. MakesOn V.accepts self.old others.now time made self.new) }
         ensures err { OnErr result (self.new ≡ self.old) }
     {
         self.is_node();
-        self.make(other, time, b"")
+        self.make(others, time, b"")
     }
 
     /// Publishes what a share has found in the node's first rows: each found witness without a mark gets it, and what

@@ -95,7 +95,7 @@ with_workers : (w : WorldView) (m : ℕ) (site : Site) → length site.frozen �
 with_workers w m site same = map-set_same (λ (s : Site). length s.frozen) w.sites m site no_site same
 
 workers_step : (w : WorldView) (step : Step) → workers_of (after_step w step) ≡ workers_of w
-workers_step w (Make m other time payload) = with_workers w m _ refl
+workers_step w (Make m others time payload) = with_workers w m _ refl
 workers_step w (Deliver m bytes) = with_workers w m _ refl
 workers_step w (Freeze m worker) = with_workers w m _ (length-set (site_at w m).frozen worker _)
 workers_step w (Publish m worker share) = with_workers w m _ refl
@@ -194,7 +194,7 @@ module _ (members : MemberList) (last : WorldView) (world : IsWorld last) (count
   gossip_shown w labels number (Create m time payload) = tt
   gossip_shown w labels number (Sync taker peer time payload) = tt
   gossip_shown w labels number (Pull taker peer) = tt
-  gossip_shown w labels number (Join m label time payload) = tt
+  gossip_shown w labels number (Join m others time payload) = tt
   gossip_shown w labels number (Give m label) = tt
 
   action_shown : (w : WorldView) (labels : List (List ℕ)) (number : ℕ) (a : Action) → starts_of w ≡ starts members → IsBelow (length w.sites) a → IsBefore last (after_steps w (action_steps w labels a)) →

@@ -1,6 +1,5 @@
 -- Steps need rows alone
 use Rattle.std.proofs.Common.{◌≡◌, inl, inr, ℕ, List, [], ◌∷◌, ◌++◌, length, fold, map, Option, Some, None, append_assoc, Result, Ok, Err, sym, refl, ap, ap₂, ◌∙◌, subst, arith}
-use Rattle.std.specs.Option.{option_to_list}
 use Rattle.std.proofs.lemmas.Bool.{cases_eq, cases_lt}
 use Rattle.std.proofs.lemmas.List.{append-nil, length-set, get_or-set_same, get_or-set_other, get_or_past}
 use Rattle.hg_model.specs.declared.row.Row.{Row}
@@ -123,8 +122,8 @@ sites_alike w v m a b alike nodes = record {
 }
 
 pub step_alike : (w v : WorldView) (step : Step) → WorldsAlike w v → WorldsAlike (after_step w step) (after_step v step) × AnswersAlike w v step
-step_alike w v (Make m other time payload) alike =
-    let made = made_alike (node_at w m) (node_at v m) (option_to_list other) time payload (alike.nodes m) in
+step_alike w v (Make m others time payload) alike =
+    let made = made_alike (node_at w m) (node_at v m) others time payload (alike.nodes m) in
     (sites_alike w v m _ _ alike made.1, ap reply.Make made.0)
 step_alike w v (Deliver m bytes) alike =
     let put = put_alike (node_at w m) (node_at v m) bytes (alike.nodes m) in

@@ -1,7 +1,7 @@
 -- What each call through one seat of many owes
 use Rattle.std.proofs.Common.{◌≡◌, ℕ, ◌<◌, List, [], ◌∷◌, length, map, get_or, set, slice_get, Option, Some, None, option_map, unwrap_or, Result, Ok, Err, sym, refl, ap, ap₂, ◌∙◌, subst, arith}
 use Rattle.std.specs.Prelude.{IfOk, OnErr}
-use Rattle.std.specs.Option.{option_and_then, option_to_list}
+use Rattle.std.specs.Option.{option_and_then}
 use Rattle.std.specs.declared.sync.Arc.{Arc}
 use Rattle.std.proofs.lemmas.List.{get_or-set_same, length-set}
 use Rattle.hg_model.specs.declared.row.Row.{Row}
@@ -99,21 +99,20 @@ module _ (places : List (SharedNode Secrets)) (seats : List (SeatView Secrets)) 
         alike_both (node_put (node_at w x) bytes) (node_put (node_seen p m) bytes) (node_seen p n) same.1 (alike_back (node_seen p n) (node_put (node_seen p m) bytes) told.1),
       )))
 
-  make_done : {E : Type 0} (other : Option (List ℕ)) (time : ℕ) (payload : List ℕ) (result : Result MakeAnswer E) → IfOk result (SeatMakes accepts_by p m (option_to_list other) time payload n) →
-      OnErr result (SeatWaits accepts_by p m n) → IsDone was now result (MatchesMaking (seen_shared was) (seen_shared now) x other time payload)
-  make_done other time payload (Err e) made waits = done (Err e) _ (wait_after p m n waits (seat_of places seats x p m n are low p_is m_is) stays) tt
-  make_done other time payload (Ok answer) made waits =
+  make_done : {E : Type 0} (others : List (List ℕ)) (time : ℕ) (payload : List ℕ) (result : Result MakeAnswer E) → IfOk result (SeatMakes accepts_by p m others time payload n) →
+      OnErr result (SeatWaits accepts_by p m n) → IsDone was now result (MatchesMaking (seen_shared was) (seen_shared now) x others time payload)
+  make_done others time payload (Err e) made waits = done (Err e) _ (wait_after p m n waits (seat_of places seats x p m n are low p_is m_is) stays) tt
+  make_done others time payload (Ok answer) made waits =
       let seat = seat_of places seats x p m n are low p_is m_is in
-      let names = option_to_list other in
-      let call = make_after p m n names time payload answer made seat stays in
+      let call = make_after p m n others time payload answer made seat stays in
       done (Ok answer) _ call
-      (told_change places seats x p m n are low p_is m_is (λ w. Make x other time payload ∷ []) (λ v. node_made v names time payload) (λ w. answer ≡ making_at (node_at w x) names time payload) call (λ w here. refl)
+      (told_change places seats x p m n are low p_is m_is (λ w. Make x others time payload ∷ []) (λ v. node_made v others time payload) (λ w. answer ≡ making_at (node_at w x) others time payload) call (λ w here. refl)
       (λ mark w here alike.
-      let told = make_told p m n names time payload answer made seat mark in
-      let same = (stay_alike (node_at w x) (node_seen p m) alike).made names time payload in (
+      let told = make_told p m n others time payload answer made seat mark in
+      let same = (stay_alike (node_at w x) (node_seen p m) alike).made others time payload in (
         told.0 ∙ sym same.0,
-        alike_both (node_made (node_at w x) names time payload) (node_made (node_seen p m) names time payload) (node_seen p n) same.1
-            (alike_back (node_seen p n) (node_made (node_seen p m) names time payload) told.1),
+        alike_both (node_made (node_at w x) others time payload) (node_made (node_seen p m) others time payload) (node_seen p n) same.1
+            (alike_back (node_seen p n) (node_made (node_seen p m) others time payload) told.1),
       )))
 
   -- what was read is that of a node alike
@@ -189,11 +188,11 @@ module _ (old new : PartyView Secrets) (x : ℕ) (are : AreNodes old.places old.
       subst (λ (v : PartyView Secrets). IsDone old v result (MatchesPutting (seen_shared old) (seen_shared v) x bytes)) (sym t.moved)
       (put_done old.places old.seats x t.place t.before t.after are low t.is_place t.is_before t.told.stays bytes result t.told.ok t.told.err)
 
-  pub make_moved : {E : Type 0} (other : Option (List ℕ)) (time : ℕ) (payload : List ℕ) (result : Result MakeAnswer E) → MovesOne accepts_by (Makes accepts_by (option_to_list other) time payload result) x old new →
-      IsDone old new result (MatchesMaking (seen_shared old) (seen_shared new) x other time payload)
-  make_moved other time payload result t =
-      subst (λ (v : PartyView Secrets). IsDone old v result (MatchesMaking (seen_shared old) (seen_shared v) x other time payload)) (sym t.moved)
-      (make_done old.places old.seats x t.place t.before t.after are low t.is_place t.is_before t.told.stays other time payload result t.told.ok t.told.err)
+  pub make_moved : {E : Type 0} (others : List (List ℕ)) (time : ℕ) (payload : List ℕ) (result : Result MakeAnswer E) → MovesOne accepts_by (Makes accepts_by others time payload result) x old new →
+      IsDone old new result (MatchesMaking (seen_shared old) (seen_shared new) x others time payload)
+  make_moved others time payload result t =
+      subst (λ (v : PartyView Secrets). IsDone old v result (MatchesMaking (seen_shared old) (seen_shared v) x others time payload)) (sym t.moved)
+      (make_done old.places old.seats x t.place t.before t.after are low t.is_place t.is_before t.told.stays others time payload result t.told.ok t.told.err)
 
   pub last_moved : {A E : Type 0} (result : Result (Option (Arc Row A)) E) → MovesOne accepts_by (Reads accepts_by (λ v. IfOk result (IsLastRow v))) x old new →
       IsDone old new result (MatchesLastEvent (seen_shared old) (seen_shared new) x)

@@ -17,7 +17,7 @@ use Rattle.hg_script.specs.Lawful.{IsLine, IsWithWorkers}
 use Rattle.hg_world.specs.declared.step.Step.{Step}
 use Rattle.hg_world.specs.declared.step.Step.TheVariants.{Deliver}
 use Rattle.hg_world.specs.World.{WorldView, new_world}
-use Rattle.hg_world.specs.Steps.{HasWorker, IsStepOf, actor, after_steps, settle_steps}
+use Rattle.hg_world.specs.Steps.{IsBounded, IsStepOf, actor, after_steps, settle_steps}
 use Rattle.hg_world.specs.Syncs.{make_steps, pull_steps}
 use Rattle.hg_world.specs.Parts.{HaveEvents, IsWorld}
 use Rattle.hg_world.proofs.LawfulLaws.{steps_lawful, worlds_have_events}
@@ -52,7 +52,7 @@ lines_of_rows members workers lines some lawful = λ k d low. line_of_rows worke
 
 module _ (n : ℕ) where
   abbrev IsStepBelow : Step → Type 0
-  IsStepBelow step = (actor step < n) × HasWorker step
+  IsStepBelow step = (actor step < n) × IsBounded step
 
   both : (xs ys : List Step) → AllByRecursion IsStepBelow xs → AllByRecursion IsStepBelow ys → AllByRecursion IsStepBelow (xs ++ ys)
   both [] ys all more = more
@@ -64,16 +64,16 @@ module _ (n : ℕ) where
 
   made : (m : ℕ) (other : Option (List ℕ)) (time : ℕ) (payload : List ℕ) → m < n → AllByRecursion IsStepBelow (make_steps m other time payload)
   made m None time payload low = tt
-  made m (Some other) time payload low = ((low, tt), tt)
+  made m (Some other) time payload low = ((low, omega arith), tt)
 
   settled : (m : ℕ) → m < n → AllByRecursion IsStepBelow (settle_steps m)
   settled m low = ((low, omega arith), ((low, omega arith), tt))
 
   gossip_below : (w : WorldView) (labels : List (List ℕ)) (g : Gossip) → IsGossipBelow n g → AllByRecursion IsStepBelow (gossip_steps w labels g)
-  gossip_below w labels (Create m time payload) below = ((below, tt), tt)
+  gossip_below w labels (Create m time payload) below = ((below, omega arith), tt)
   gossip_below w labels (Sync taker peer time payload) below = both (pull_steps w taker peer) _ (delivered taker _ below.0) (made taker _ time payload below.0)
   gossip_below w labels (Pull taker peer) below = delivered taker _ below.0
-  gossip_below w labels (Join m label time payload) below = ((below, tt), tt)
+  gossip_below w labels (Join m others time payload) below = ((below.0, omega (arith, below.1, length-map others (name_of_label labels))), tt)
   gossip_below w labels (Give m label) below = ((below, tt), tt)
 
   action_below : (w : WorldView) (labels : List (List ℕ)) (a : Action) → IsBelow n a → AllByRecursion IsStepBelow (action_steps w labels a)

@@ -26,7 +26,7 @@ use Rattle.hg_world.specs.declared.step.Step.{Step}
 use Rattle.hg_world.specs.World.{Secrets, Site, WorldView, no_site, node_at, rows_at}
 use Rattle.hg_world.specs.Steps.{after_step, after_steps}
 use Rattle.hg_play.specs.Alike.{WorldsAlike}
-use Rattle.hg_play.specs.Labels.{bytes_named, name_of_label, source_bytes}
+use Rattle.hg_play.specs.Labels.{bytes_named, names_of_labels, source_bytes}
 use Rattle.hg_play.specs.Lines.{action_labels, action_printed, action_steps, gossip_printed, gossip_steps}
 use Rattle.hg_play.specs.Nodes.{IsStage, MatchesLine, seen_alone}
 use Rattle.hg_play.specs.Play.{Stage, after_line, end_blocks, stage}
@@ -55,7 +55,7 @@ module _ (w v : WorldView) (alike : WorldsAlike w v) where
   gossip_steps_alike labels (Create m time payload) = refl
   gossip_steps_alike labels (Sync taker peer time payload) = (gossip_alike w v taker peer alike).sync time payload
   gossip_steps_alike labels (Pull taker peer) = (gossip_alike w v taker peer alike).pull
-  gossip_steps_alike labels (Join m label time payload) = refl
+  gossip_steps_alike labels (Join m others time payload) = refl
   gossip_steps_alike labels (Give m label) = refl
 
   action_steps_alike : (labels : List (List ℕ)) (a : Action) → IsOfRows a → action_steps w labels a ≡ action_steps v labels a
@@ -72,8 +72,8 @@ module _ (w v : WorldView) (alike : WorldsAlike w v) where
       ap (λ (a : MakeAnswer). printed.Create number a) ((stay_alike (node_at w m) (node_at v m) (alike.nodes m)).made [] time payload).0
   gossip_printed_alike labels number (Sync taker peer time payload) = ap (λ (r : SyncReport). printed.Sync number r) ((gossip_alike w v taker peer alike).report time payload)
   gossip_printed_alike labels number (Pull taker peer) = ap (λ (t : Taken). printed.Pull number t.taken t.refused) (gossip_alike w v taker peer alike).counts
-  gossip_printed_alike labels number (Join m label time payload) =
-      ap (λ (a : MakeAnswer). printed.Join number a) ((stay_alike (node_at w m) (node_at v m) (alike.nodes m)).made (name_of_label labels label ∷ []) time payload).0
+  gossip_printed_alike labels number (Join m others time payload) =
+      ap (λ (a : MakeAnswer). printed.Join number a) ((stay_alike (node_at w m) (node_at v m) (alike.nodes m)).made (names_of_labels labels others) time payload).0
   gossip_printed_alike labels number (Give m label) = ap (λ (a : PutAnswer). printed.Give number a) ((stay_alike (node_at w m) (node_at v m) (alike.nodes m)).put _).0
 
   action_printed_alike : (members : MemberList) (labels : List (List ℕ)) (number : ℕ) (a : Action) → IsOfRows a → action_printed members w labels number a ≡ action_printed members v labels number a

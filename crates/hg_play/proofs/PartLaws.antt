@@ -79,7 +79,7 @@ sync_told old full new taker peer last time payload counts made back pull makes 
 
 -- what came of an event
 pub made_told : {N : Type 0} (old new : NodesView N) (m : ℕ) (name : List ℕ) (time : ℕ) (payload : List ℕ) (answer : MakeAnswer) (made : SyncMade) → made ≡ made_in_sync answer →
-    MatchesMaking old new m (Some name) time payload answer → MatchesMade old new m (Some name) time payload made
+    MatchesMaking old new m (name ∷ []) time payload answer → MatchesMade old new m (Some name) time payload made
 made_told old new m name time payload answer made is makes = λ alone w agrees.
     let a = makes alone w agrees in
     (is ∙ ap made_in_sync a.0, a.1)

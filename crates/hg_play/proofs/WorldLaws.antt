@@ -38,7 +38,7 @@ with_starts w m site same = map-set_same (λ (s : Site). s.node.start) w.sites m
 
 -- a step leaves what the nodes began with
 starts-step : (w : WorldView) (step : Step) → starts_of (after_step w step) ≡ starts_of w
-starts-step w (Make m other time payload) = with_starts w m _ refl
+starts-step w (Make m others time payload) = with_starts w m _ refl
 starts-step w (Deliver m bytes) = with_starts w m _ refl
 starts-step w (Freeze m worker) = with_starts w m _ refl
 starts-step w (Publish m worker share) = with_starts w m _ refl
@@ -158,7 +158,7 @@ members-steps w [] = refl
 members-steps w (step ∷ steps) = members-steps (after_step w step) steps ∙ members-step w step
   where
     members-step : (w : WorldView) (step : Step) → (after_step w step).members ≡ w.members
-    members-step w (Make m other time payload) = refl
+    members-step w (Make m others time payload) = refl
     members-step w (Deliver m bytes) = refl
     members-step w (Freeze m worker) = refl
     members-step w (Publish m worker share) = refl
@@ -168,7 +168,7 @@ coin-steps w [] = refl
 coin-steps w (step ∷ steps) = coin-steps (after_step w step) steps ∙ coin-step w step
   where
     coin-step : (w : WorldView) (step : Step) → (after_step w step).coin ≡ w.coin
-    coin-step w (Make m other time payload) = refl
+    coin-step w (Make m others time payload) = refl
     coin-step w (Deliver m bytes) = refl
     coin-step w (Freeze m worker) = refl
     coin-step w (Publish m worker share) = refl

@@ -1,5 +1,5 @@
 -- The bytes that labels stand for
-use Rattle.std.specs.Prelude.{ℕ, nat_lt, Option, List, [], ◌∷◌, ◌++◌, length, take, slice_get, slice_index, slice_index_or, slice_set, bit_xor, option_map, unwrap_or, if◌then◌else◌}
+use Rattle.std.specs.Prelude.{ℕ, nat_lt, Option, List, [], ◌∷◌, ◌++◌, length, map, take, slice_get, slice_index, slice_index_or, slice_set, bit_xor, option_map, unwrap_or, if◌then◌else◌}
 use Rattle.std.specs.declared.sync.Arc.{Arc}
 use Rattle.sha2.specs.Sha512.{sha384}
 use Rattle.hg_model.specs.declared.row.Row.{Row}
@@ -20,9 +20,13 @@ bytes_at labels k = slice_index_or labels k []
 abbrev pub name_of_label : List (List ℕ) → ℕ → List ℕ
 name_of_label labels k = sha384 (bytes_at labels k)
 
--- the names of the events of two labels
-abbrev pub names_of_labels : List (List ℕ) → ℕ × ℕ → List ℕ × List (List ℕ)
-names_of_labels labels pair = (name_of_label labels pair.0, name_of_label labels pair.1 ∷ [])
+-- the names of the events of several labels
+abbrev pub names_of_labels : List (List ℕ) → List ℕ → List (List ℕ)
+names_of_labels labels ks = map (name_of_label labels) ks
+
+-- the names of the events of a self-parent's label and of several others'
+abbrev pub parents_of_labels : List (List ℕ) → ℕ × List ℕ → List ℕ × List (List ℕ)
+parents_of_labels labels pair = (name_of_label labels pair.0, names_of_labels labels pair.1)
 
 -- the bytes of the row with this name, if there is one
 abbrev pub bytes_named : List Row → List ℕ → List ℕ
@@ -48,7 +52,7 @@ altered bytes at mask = if nat_lt at (length bytes) then slice_set bytes at (bit
 -- the bytes from a source
 abbrev pub source_bytes : Secrets → WorldView → List (List ℕ) → Source → List ℕ
 source_bytes secrets w labels (Last m) = last_bytes (node_at w m)
-source_bytes secrets w labels (Forged m parents time payload) = forged secrets m (option_map (names_of_labels labels) parents) time payload
+source_bytes secrets w labels (Forged m parents time payload) = forged secrets m (option_map (parents_of_labels labels) parents) time payload
 source_bytes secrets w labels (Raw bytes) = bytes
 source_bytes secrets w labels (Altered label at mask) = altered (bytes_at labels label) at mask
 source_bytes secrets w labels (Front label len) = take len (bytes_at labels label)

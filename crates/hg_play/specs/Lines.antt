@@ -4,6 +4,7 @@ use Rattle.hg_outcome.specs.declared.outcome.Printed.{Printed}
 use Rattle.hg_outcome.specs.declared.outcome.Printed.TheVariants as printed
 use Rattle.hg_outcome.specs.declared.outcome.Block.{Block}
 use Rattle.hg_life.specs.Members.{MemberList}
+use Rattle.hg_model.specs.Links.{most_others}
 use Rattle.hg_model.specs.Shares.{whole}
 use Rattle.hg_life.specs.Spelling.{payload_limit}
 use Rattle.hg_life.specs.Signing.{secrets_of}
@@ -19,21 +20,22 @@ use Rattle.hg_script.specs.declared.line.Part.TheVariants as part
 use Rattle.hg_script.specs.declared.line.Action.{Action}
 use Rattle.hg_script.specs.declared.line.Action.TheVariants as action
 use Rattle.hg_script.specs.declared.line.Line.{Line}
+use Rattle.hg_script.specs.Argument.{AreLabels}
 use Rattle.hg_world.specs.declared.step.Step.{Step}
 use Rattle.hg_world.specs.declared.step.Step.TheVariants as step
 use Rattle.hg_world.specs.World.{WorldView, node_at, rows_at, frozen_by}
 use Rattle.hg_life.specs.Workers.{worker_limit}
 use Rattle.hg_world.specs.Steps.{making_at, putting_at, settle_steps}
 use Rattle.hg_world.specs.Syncs.{pull_steps, pulled, sync_report, sync_steps}
-use Rattle.hg_play.specs.Labels.{bytes_at, name_of_label, source_bytes}
+use Rattle.hg_play.specs.Labels.{bytes_at, names_of_labels, source_bytes}
 use Rattle.hg_play.specs.Tape.{TapeView, tape}
 
 -- the steps of a line of gossip, in this world and with these labels
 abbrev pub gossip_steps : WorldView → List (List ℕ) → Gossip → List Step
-gossip_steps w labels (Create m time payload) = step.Make m None time payload ∷ []
+gossip_steps w labels (Create m time payload) = step.Make m [] time payload ∷ []
 gossip_steps w labels (Sync taker peer time payload) = sync_steps w taker peer time payload
 gossip_steps w labels (Pull taker peer) = pull_steps w taker peer
-gossip_steps w labels (Join m label time payload) = step.Make m (Some (name_of_label labels label)) time payload ∷ []
+gossip_steps w labels (Join m others time payload) = step.Make m (names_of_labels labels others) time payload ∷ []
 gossip_steps w labels (Give m label) = step.Deliver m (bytes_at labels label) ∷ []
 
 -- the steps of a line. A shown node is settled first: worker 0 freezes its rows and publishes all that they decide
@@ -51,8 +53,8 @@ abbrev pub gossip_printed : WorldView → List (List ℕ) → ℕ → Gossip →
 gossip_printed w labels number (Create m time payload) = printed.Create number (making_at (node_at w m) [] time payload)
 gossip_printed w labels number (Sync taker peer time payload) = printed.Sync number (sync_report w taker peer time payload)
 gossip_printed w labels number (Pull taker peer) = printed.Pull number (pulled w taker peer).counts.taken (pulled w taker peer).counts.refused
-gossip_printed w labels number (Join m label time payload) =
-    printed.Join number (making_at (node_at w m) (name_of_label labels label ∷ []) time payload)
+gossip_printed w labels number (Join m others time payload) =
+    printed.Join number (making_at (node_at w m) (names_of_labels labels others) time payload)
 gossip_printed w labels number (Give m label) = printed.Give number (putting_at (node_at w m) (bytes_at labels label))
 
 -- the block of a member's node by the marks that it has published
@@ -84,13 +86,13 @@ abbrev pub IsGossipBelow : ℕ → Gossip → Type 0
 IsGossipBelow n (Create m time payload) = m < n
 IsGossipBelow n (Sync taker peer time payload) = (taker < n) × (peer < n)
 IsGossipBelow n (Pull taker peer) = (taker < n) × (peer < n)
-IsGossipBelow n (Join m label time payload) = m < n
+IsGossipBelow n (Join m others time payload) = (m < n) × (length others ≤ most_others)
 IsGossipBelow n (Give m label) = m < n
 
--- so is the one whose event is named, and the payload of an event that is forged is not too long
+-- so is the one whose event is named; the payload of an event that is forged is not too long, nor are its other-parents too many
 abbrev pub IsSourceBelow : ℕ → Source → Type 0
 IsSourceBelow n (Last m) = m < n
-IsSourceBelow n (Forged m parents time payload) = length payload ≤ payload_limit
+IsSourceBelow n (Forged m parents time payload) = (length payload ≤ payload_limit) × AreLabels parents
 IsSourceBelow n _ = ⊤
 
 abbrev pub IsPartBelow : ℕ → Part → Type 0

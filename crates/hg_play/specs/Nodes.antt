@@ -1,7 +1,6 @@
 -- Many nodes that lines are played over: of one thread, or shared with others who add nothing but marks. What a call
 -- answers is told once it is known that others did no more. Lines that need the marks are played over a world
 use Rattle.std.specs.Prelude.{ℕ, ◌≡◌, ⊤, cond, List, [], ◌∷◌, ◌++◌, length, Option, OnOk, Result}
-use Rattle.std.specs.Option.{option_to_list}
 use Rattle.hg_life.specs.declared.answers.PutAnswer.{PutAnswer}
 use Rattle.hg_life.specs.declared.answers.MakeAnswer.{MakeAnswer}
 use Rattle.hg_life.specs.declared.answers.SyncReport.{SyncReport}
@@ -51,9 +50,9 @@ abbrev pub Matched : {N : Type 0} → NodesView N → NodesView N → (WorldView
 Matched old new steps IsSo = new.Alone → (w : WorldView) → old.Agrees w → IsSo w × new.Agrees (after_steps w (steps w))
 
 -- what is told of an event that a node made, or refused to make
-abbrev pub MatchesMaking : {N : Type 0} → NodesView N → NodesView N → ℕ → Option (List ℕ) → ℕ → List ℕ → MakeAnswer → Type 0
-MatchesMaking old new m other time payload answer =
-    Matched old new (λ w. Make m other time payload ∷ []) (λ w. answer ≡ making_at (node_at w m) (option_to_list other) time payload)
+abbrev pub MatchesMaking : {N : Type 0} → NodesView N → NodesView N → ℕ → List (List ℕ) → ℕ → List ℕ → MakeAnswer → Type 0
+MatchesMaking old new m others time payload answer =
+    Matched old new (λ w. Make m others time payload ∷ []) (λ w. answer ≡ making_at (node_at w m) others time payload)
 
 -- of bytes that came to a node
 abbrev pub MatchesPutting : {N : Type 0} → NodesView N → NodesView N → ℕ → List ℕ → PutAnswer → Type 0

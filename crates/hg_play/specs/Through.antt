@@ -86,7 +86,7 @@ abbrev pub worked_on : Part → Option ℕ
 worked_on (part.Gossip (Create m time payload)) = Some m
 worked_on (part.Gossip (Sync taker peer time payload)) = Some taker
 worked_on (part.Gossip (Pull taker peer)) = Some taker
-worked_on (part.Gossip (Join m label time payload)) = Some m
+worked_on (part.Gossip (Join m others time payload)) = Some m
 worked_on (part.Gossip (Give m label)) = Some m
 worked_on (part.Label (Last m)) = Some m
 worked_on (part.Label _) = None

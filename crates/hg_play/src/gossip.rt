@@ -2,14 +2,16 @@ ghost use Rattle.std.specs.Prelude.{IfOk};
 ghost use Rattle.hg_play.specs.Lines.{IsGossipBelow};
 ghost use Rattle.hg_play.specs.Nodes.{IsKept, MatchesGossip};
 
-use crate::labels::{bytes_at, name_of_label};
+use crate::labels::{bytes_at, names_of_labels};
 use crate::nodes::Nodes;
 use hg_model::{Bytes, Memory};
 use hg_outcome::Printed;
 use hg_script::Gossip;
+use std::alloc::Global;
 
 /// Plays a line of gossip, and gives what it prints.
 pub(crate) fn play_gossip<N: Nodes>(
+    alloc: Global,
     nodes: &mut N,
     labels: &[Bytes],
     line: u64,
@@ -25,7 +27,7 @@ pub(crate) fn play_gossip<N: Nodes>(
             time,
             payload,
         } => {
-            let answer = nodes.make(*member, None, *time, payload.as_slice())?;
+            let answer = nodes.make(*member, &[], *time, payload.as_slice())?;
             Ok(Printed::Create { line, answer })
         }
         Gossip::Sync {
@@ -47,12 +49,12 @@ pub(crate) fn play_gossip<N: Nodes>(
         }
         Gossip::Join {
             member,
-            label,
+            others,
             time,
             payload,
         } => {
-            let other = Some(name_of_label(labels, *label));
-            let answer = nodes.make(*member, other, *time, payload.as_slice())?;
+            let names = names_of_labels(alloc, labels, others.as_slice())?;
+            let answer = nodes.make(*member, names.as_slice(), *time, payload.as_slice())?;
             Ok(Printed::Join { line, answer })
         }
         Gossip::Give { member, label } => {

@@ -2,7 +2,8 @@ ghost use Rattle.std.specs.Prelude.{◌≡◌, ◌≤◌, true, IfOk, length, op
 ghost use Rattle.hg_model.specs.Links.{has_few_others};
 ghost use Rattle.hg_life.specs.Spelling.{payload_limit};
 ghost use Rattle.hg_life.specs.NodeView.{node_rows};
-ghost use Rattle.hg_play.specs.Labels.{altered, bytes_at, bytes_named, bytes_of_event, forged, last_bytes, name_of_label, names_of_labels};
+ghost use Rattle.hg_script.specs.Argument.{AreLabels};
+ghost use Rattle.hg_play.specs.Labels.{altered, bytes_at, bytes_named, bytes_of_event, forged, last_bytes, name_of_label, names_of_labels, parents_of_labels};
 
 use hg_event::Event;
 use hg_model::{Bytes, Items, Member, Memory, Name};
@@ -29,20 +30,36 @@ pub(crate) fn name_of_label(labels: &[Bytes], label: usize) -> Name
     name_of(bytes_at(labels, label))
 }
 
-/// The names of the events of two labels.
+/// The names of the events of several labels.
 pub(crate) fn names_of_labels(
     alloc: Global,
     labels: &[Bytes],
-    parents: &Option<(usize, usize)>,
+    places: &[usize],
+) -> Result<Vec<Name>, Memory>
+    ensures { IfOk result (λ names. names.items ≡ names_of_labels labels.now places.now) }
+{
+    let mut names = Vec::with_capacity(alloc, places.len())?;
+    for label in places {
+        names.push_reserved(name_of_label(labels, *label));
+    }
+    Ok(names)
+}
+
+/// The names of the events of a self-parent's label and of the others'.
+pub(crate) fn parents_of_labels(
+    alloc: Global,
+    labels: &[Bytes],
+    parents: &Option<(usize, Items<usize>)>,
 ) -> Result<Option<(Name, Items<Name>)>, Memory>
-    ensures names { IfOk result (λ names. names ≡ option_map (names_of_labels labels.now) parents.now) }
+    requires { AreLabels parents.now }
+    ensures names { IfOk result (λ names. names ≡ option_map (parents_of_labels labels.now) parents.now) }
     ensures few { IfOk result (λ names. has_few_others names ≡ true) }
 {
     match parents {
         None => Ok(None),
-        Some((own, other)) => {
-            let others = Vec::from_slice(alloc, &[name_of_label(labels, *other)])?;
-            Ok(Some((name_of_label(labels, *own), Items::from_vec(others))))
+        Some((own, others)) => {
+            let names = names_of_labels(alloc, labels, others.as_slice())?;
+            Ok(Some((name_of_label(labels, *own), Items::from_vec(names))))
         }
     }
 }

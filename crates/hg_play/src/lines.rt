@@ -5,7 +5,7 @@ ghost use Rattle.hg_play.specs.Nodes.{IsKept, MatchesSource, Plays, PlaysLine, P
 use crate::blocks::{kept_at, settled_at};
 use crate::game::Game;
 use crate::gossip::play_gossip;
-use crate::labels::{altered, bytes_at, copied, forged, front, names_of_labels};
+use crate::labels::{altered, bytes_at, copied, forged, front, parents_of_labels};
 use crate::nodes::Nodes;
 use crate::tape::Tape;
 use hg_model::{Bytes, Memory, Share};
@@ -33,7 +33,7 @@ fn source_bytes<N: Nodes>(
             time,
             payload,
         } => {
-            let names = names_of_labels(alloc, labels, parents)?;
+            let names = parents_of_labels(alloc, labels, parents)?;
             forged(
                 alloc,
                 game.keys,
@@ -63,7 +63,7 @@ pub(crate) fn play_part<N: Nodes>(
 {
     match part {
         Part::Gossip(gossip) => {
-            let piece = play_gossip(nodes, tape.labels(), line, gossip)?;
+            let piece = play_gossip(game.alloc, nodes, tape.labels(), line, gossip)?;
             tape.print(piece)?;
         }
         Part::Label(source) => {

@@ -1,4 +1,5 @@
-ghost use Rattle.std.specs.Prelude.{◌≡◌, ◌<◌, IfOk};
+ghost use Rattle.std.specs.Prelude.{◌≡◌, ◌<◌, ◌≤◌, IfOk, length};
+ghost use Rattle.hg_model.specs.Links.{most_others};
 ghost use Rattle.hg_play.specs.Nodes.{IsKept, NodesView, MatchesLast, MatchesMaking, MatchesPulling, MatchesPutting, MatchesSyncing};
 
 use crate::labels;
@@ -13,18 +14,19 @@ use std::alloc::Global;
 pub trait Nodes {
     ghost seen: { Self → NodesView Self };
 
-    /// A member's node makes an event on its last one, with this other-parent, or its first one without parents. The time
-    /// is any, in no unit of ours.
+    /// A member's node makes an event on its last one, with these one to four other-parents, or with none its first one,
+    /// without parents. The time is any, in no unit of ours.
     fn make(
         &mut self,
         member: Member,
-        other: Option<Name>,
+        others: &[Name],
         time: u64,
         payload: &[u8],
     ) -> Result<MakeAnswer, Memory>
-        requires { member < (seen self.old).count }
+        requires member { member < (seen self.old).count }
+        requires few { length others.now ≤ most_others }
         ensures kept { IsKept (seen self.old) (seen self.new) }
-        ensures told { IfOk result (MatchesMaking (seen self.old) (seen self.new) member other time payload.now) };
+        ensures told { IfOk result (MatchesMaking (seen self.old) (seen self.new) member others.now time payload.now) };
 
     /// Bytes come to a member's node.
     fn put(&mut self, member: Member, bytes: &[u8]) -> Result<PutAnswer, Memory>
@@ -68,11 +70,11 @@ impl Nodes for World {
     fn make(
         &mut self,
         member: Member,
-        other: Option<Name>,
+        others: &[Name],
         time: u64,
         payload: &[u8],
     ) -> Result<MakeAnswer, Memory> {
-        World::make(self, member, other, time, payload)
+        World::make(self, member, others, time, payload)
     }
 
     fn put(&mut self, member: Member, bytes: &[u8]) -> Result<PutAnswer, Memory> {

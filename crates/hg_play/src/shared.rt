@@ -105,7 +105,7 @@ impl<'r, 'a, R: Wait> SharedNodes<'r, 'a, R> {
         match other {
             None => Ok(SyncMade::PeerBare),
             Some(name) => {
-                let answer = self.make(member, Some(name), time, payload)?;
+                let answer = self.make(member, &[name], time, payload)?;
                 Ok(sync_made(answer))
             }
         }
@@ -120,12 +120,12 @@ impl<'r, 'a, R: Wait> Nodes for SharedNodes<'r, 'a, R> {
     fn make(
         &mut self,
         member: Member,
-        other: Option<Name>,
+        others: &[Name],
         time: u64,
         payload: &[u8],
     ) -> Result<MakeAnswer, Memory> {
         self.party
-            .make(self.rt, member as usize, other, time, payload)
+            .make(self.rt, member as usize, others, time, payload)
     }
 
     fn put(&mut self, member: Member, bytes: &[u8]) -> Result<PutAnswer, Memory> {

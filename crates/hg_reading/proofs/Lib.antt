@@ -1,3 +1,4 @@
 pub mod Enough
 pub mod LineLaws
+pub mod WalkLaws
 pub mod PayloadLaws

@@ -1,4 +1,4 @@
--- What a walk over the items of a `pay:` word reads
+-- The form of a `pay:` word
 use Rattle.std.proofs.Common.{◌≡◌, ℕ, ◌+◌, ◌<◌, ◌≤◌, true, false, leb, ltb, List, [], ◌∷◌, ◌++◌, length, get_or, drop, map, Result, Ok, Err, refl, sym, ap, ◌∙◌, append_assoc, add-one, arith, count_by, inl, inr}
 use Rattle.std.proofs.Math.Bool.{and-false}
 use Rattle.std.proofs.Math.Seq.{drop-cons}
@@ -14,7 +14,8 @@ use Rattle.hg_life.specs.Pay.{transfer_limit}
 use Rattle.hg_life.specs.Results.{◌>>=◌}
 use Rattle.hg_script.specs.declared.fault.Why.{Why}
 use Rattle.hg_script.specs.declared.fault.Why.TheVariants.{Payload}
-use Rattle.hg_script.specs.Payload.{are_items, is_comma, is_item, parts_of, pay_in, pay_of, transfer_of, transfers_of}
+use Rattle.hg_script.specs.Argument.{is_comma, parts_of}
+use Rattle.hg_script.specs.Payload.{are_items, is_item, pay_in, pay_of}
 
 pub few_parts : (text : List ℕ) (commas : ℕ) → commas ≡ count_by is_comma text → ltb commas 64 ≡ leb (length (parts_of text)) 64
 few_parts text commas counted =
@@ -23,40 +24,6 @@ few_parts text commas counted =
       | inl few ↦ lt-ltb commas 64 few ∙ sym (le-leb (length (parts_of text)) 64 (omega arith))
       | inr past ↦ le-ltb commas 64 past ∙ sym (lt-leb (length (parts_of text)) 64 (omega arith))
     ]
-
--- ---- what is read
-
--- transfers, and those that follow them
-abbrev pub and_then : List Transfer → Result (List Transfer) Why → Result (List Transfer) Why
-and_then done left = left >>= (λ ts. Ok (done ++ ts))
-
-module _ {N : Type 0} (bytes : N → List ℕ) (members : MemberList) where
-  abbrev pub transfers_left : List N → ℕ → Result (List Transfer) Why
-  transfers_left parts i = transfers_of members (map bytes (drop i parts))
-
-  first_left : (parts : List N) (i : ℕ) (d : N) → i < length parts → transfers_left parts i ≡ (transfer_of members (bytes (get_or parts i d)) >>= (λ t. and_then (t ∷ []) (transfers_left parts (i + 1))))
-  first_left parts i d there = ap (λ ps. transfers_of members (map bytes ps)) (drop-cons parts i d there ∙ ap (λ k. get_or parts i d ∷ drop k parts) (sym (add-one i)))
-
-  joined : (done : List Transfer) (t : Transfer) (left : Result (List Transfer) Why) → and_then done (and_then (t ∷ []) left) ≡ and_then (done ++ t ∷ []) left
-  joined done t (Ok ts) = ap Ok (sym (append_assoc done (t ∷ []) ts))
-  joined done t (Err why) = refl
-
-  -- one transfer more
-  pub one_read : (parts : List N) (i : ℕ) (d : N) (done : List Transfer) (t : Transfer) → i < length parts → transfers_of members (map bytes parts) ≡ and_then done (transfers_left parts i)
-      → Ok t ≡ transfer_of members (bytes (get_or parts i d)) → transfers_of members (map bytes parts) ≡ and_then (done ++ t ∷ []) (transfers_left parts (i + 1))
-  one_read parts i d done t there whole read =
-      whole ∙ ap (and_then done) (first_left parts i d there ∙ ap (λ r. r >>= (λ t. and_then (t ∷ []) (transfers_left parts (i + 1)))) (sym read)) ∙ joined done t (transfers_left parts (i + 1))
-
-  -- an item that is refused
-  pub one_refused : (parts : List N) (i : ℕ) (d : N) (done : List Transfer) (why : Why) → i < length parts → transfers_of members (map bytes parts) ≡ and_then done (transfers_left parts i)
-      → Err why ≡ transfer_of members (bytes (get_or parts i d)) → transfers_of members (map bytes parts) ≡ Err why
-  one_refused parts i d done why there whole read =
-      whole ∙ ap (and_then done) (first_left parts i d there ∙ ap (λ r. r >>= (λ t. and_then (t ∷ []) (transfers_left parts (i + 1)))) (sym read))
-
-  -- no item is left
-  pub all_read : (parts : List N) (i : ℕ) (done : List Transfer) → length parts ≤ i → transfers_of members (map bytes parts) ≡ and_then done (transfers_left parts i) → transfers_of members (map bytes parts) ≡ Ok done
-  all_read parts i done past whole =
-      whole ∙ ap (λ ps. and_then done (transfers_of members (map bytes ps))) (drop_all i parts past) ∙ ap Ok (append-nil done)
 
 -- ---- the form
 

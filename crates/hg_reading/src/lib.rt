@@ -1,6 +1,6 @@
 //! A gossip script, read from bytes. The layer above uses `read_script`, which gives just the lines that the bytes are in
 //! a run with so many workers, or the first line that is refused. `table.rt` has a function for each kind of line, as the
-//! table of `specs/Table.antt` in `hg_script` has a definition, and `payload.rt` reads the word of a payload.
+//! table of `specs/Table.antt` in `hg_script` has a definition, and `labels.rt` and `payload.rt` read words with commas.
 //!
 //! From `lines_of` in the tests of `check_bytes`:
 //!
@@ -14,6 +14,8 @@
 //! ```
 #![tactic(auto)]
 
+mod labels;
+mod parts;
 mod payload;
 mod script;
 mod table;

@@ -5,8 +5,10 @@ ghost use Rattle.hg_life.specs.Pay.{transfer_limit};
 ghost use Rattle.hg_life.specs.Spelling.{payload_limit};
 ghost use Rattle.hg_life.specs.Results.{Gives};
 ghost use Rattle.hg_script.specs.Words.{ReadsAs, bytes_in};
+ghost use Rattle.hg_script.specs.Argument.{is_comma, parts_of};
 ghost use Rattle.hg_script.specs.Payload as spec;
 
+use crate::parts::{is_comma, parts_of};
 use hg_life::{Members, Transfer};
 use hg_model::{Bytes, Member, Memory, Stop};
 use hg_pay::write_pay;
@@ -16,12 +18,6 @@ use std::alloc::{AllocError, Global};
 
 /// The greatest number of transfers in one payload.
 const MOST_ITEMS: usize = 64;
-
-fn is_comma(byte: u8) -> bool
-    ensures { result ≡ spec.is_comma byte }
-{
-    byte == b','
-}
 
 fn is_equals(byte: u8) -> bool
     ensures { result ≡ spec.is_equals byte }
@@ -43,23 +39,16 @@ fn are_items(parts: &[&[u8]]) -> bool
 
 /// How many commas there are.
 fn commas_in(text: &[u8]) -> usize
-    ensures { result ≡ count_by spec.is_comma text.now }
+    ensures { result ≡ count_by is_comma text.now }
 {
     text.iter().filter(|byte| is_comma(**byte)).count()
 }
 
 /// Whether the text has at most 64 parts, which is looked at before any of them is kept.
 fn has_few_parts(text: &[u8]) -> bool
-    ensures { result ≡ nat_le (length (spec.parts_of text.now)) transfer_limit }
+    ensures { result ≡ nat_le (length (parts_of text.now)) transfer_limit }
 {
     commas_in(text) < MOST_ITEMS
-}
-
-/// The parts of a text between commas.
-fn parts_of<'a>(alloc: Global, text: &'a [u8]) -> Result<Vec<&'a [u8]>, AllocError>
-    ensures { IfOk result (λ parts. bytes_in parts.items ≡ spec.parts_of text.now) }
-{
-    text.split(|byte| is_comma(*byte)).collect(alloc)
 }
 
 fn equals_in(part: &[u8]) -> Option<usize>

@@ -5,11 +5,12 @@ ghost use Rattle.hg_script.specs.Words.{ReadsAs, bytes_in};
 ghost use Rattle.hg_script.specs.Lawful.{IsFound};
 ghost use Rattle.hg_script.specs.Table as spec;
 
+use crate::labels::{labels_of, parents_of};
 use crate::payload::payload_of;
 use hg_life::Members;
 use hg_model::Stop;
 use hg_script::argument::{
-    byte_of, label_of, member_of, new_label, node_of, number_of, parents_of, peer_of, raw_bytes,
+    byte_of, label_of, member_of, new_label, node_of, number_of, peer_of, raw_bytes,
     worker_of,
 };
 use hg_script::{Above, Action, Found, Gossip, Part, Source, Verb, Why};
@@ -130,7 +131,7 @@ fn join<'a>(
     ensures lawful { IfOk result (IsFound members.now above.now) }
 {
     let member = node_of(members, x)?;
-    let label = label_of(above, l)?;
+    let others = labels_of(alloc, above, l)?;
     let time = number_of(t)?;
     let payload = payload_of(alloc, members, p)?;
     if !above.is_created(member) {
@@ -138,7 +139,7 @@ fn join<'a>(
     }
     Ok(gossip(Gossip::Join {
         member,
-        label,
+        others,
         time,
         payload,
     }))
@@ -187,7 +188,7 @@ fn forge<'a>(
 {
     let label = new_label(above, l)?;
     let creator = member_of(members, m)?;
-    let parents = parents_of(above, s, o)?;
+    let parents = parents_of(alloc, above, s, o)?;
     let time = number_of(t)?;
     let payload = payload_of(alloc, members, p)?;
     Ok(Found::makes(

@@ -122,7 +122,7 @@ unfolding script_on_literals
 not_created = refl
 
 every_line : script (codes "create A 1\ncreate B 2\nname a A\njoin B a 3\npull A B\nforge f N a a 9\nforge g A - - 0\nraw r 00fF\nalter s r 1 255\ncut A s 18446744073709551615\ngive A A\nfreeze A 15\npublish B 00\nkept A\nshow A\nnames B\nsync A B 4")
-    ≡ Ok (does 1 (Create 0 1 []) ∷ does 2 (Create 1 2 []) ∷ makes 3 (Last 0) ∷ does 4 (Join 1 0 3 []) ∷ does 5 (Pull 0 1) ∷ makes 6 (Forged 2 (Some (0, 0)) 9 [])
+    ≡ Ok (does 1 (Create 0 1 []) ∷ does 2 (Create 1 2 []) ∷ makes 3 (Last 0) ∷ does 4 (Join 1 (0 ∷ []) 3 []) ∷ does 5 (Pull 0 1) ∷ makes 6 (Forged 2 (Some (0, 0 ∷ [])) 9 [])
     ∷ makes 7 (Forged 0 None 0 []) ∷ makes 8 (Raw (0 ∷ 255 ∷ [])) ∷ makes 9 (Altered 3 1 255) ∷ makes 10 (Front 4 18446744073709551615)
     ∷ does 11 (Give 0 5) ∷ line_at 12 (action.Freeze 0 15) ∷ line_at 13 (action.Publish 1 0) ∷ line_at 14 (action.Kept 0)
     ∷ line_at 15 (action.Show 0) ∷ line_at 16 (action.Names 1) ∷ does 17 (Sync 0 1 4 []) ∷ [])
@@ -175,6 +175,38 @@ self_dash = refl
 other_dash : script (codes "raw a 00\nforge b A a - x") ≡ refused 2 Label
 unfolding script_on_literals
 other_dash = refl
+
+-- several labels of other-parents
+
+four_labels : script (codes "create A 1\ncreate B 2\nname a A\nname b B\njoin A b,a,b,b 3\nforge f N a b,a 4")
+    ≡ Ok (does 1 (Create 0 1 []) ∷ does 2 (Create 1 2 []) ∷ makes 3 (Last 0) ∷ makes 4 (Last 1) ∷ does 5 (Join 0 (1 ∷ 0 ∷ 1 ∷ 1 ∷ []) 3 [])
+    ∷ makes 6 (Forged 2 (Some (0, 1 ∷ 0 ∷ [])) 4 []) ∷ [])
+unfolding script_on_literals
+four_labels = refl
+
+five_labels : script (codes "raw a 00\nforge f A a a,a,a,a,a 1") ≡ refused 2 Label
+unfolding script_on_literals
+five_labels = refl
+
+no_label_between : script (codes "raw a 00\nforge f A a a,,a 1") ≡ refused 2 Label
+unfolding script_on_literals
+no_label_between = refl
+
+no_label_behind : script (codes "raw a 00\nforge f A a a, 1") ≡ refused 2 Label
+unfolding script_on_literals
+no_label_behind = refl
+
+dash_before_label : script (codes "raw a 00\nforge f A a -,a 1") ≡ refused 2 Label
+unfolding script_on_literals
+dash_before_label = refl
+
+dash_behind_label : script (codes "raw a 00\nforge f A a a,- 1") ≡ refused 2 Label
+unfolding script_on_literals
+dash_behind_label = refl
+
+several_self_parents : script (codes "raw a 00\nforge f A a,a a 1") ≡ refused 2 Label
+unfolding script_on_literals
+several_self_parents = refl
 
 own_parent : script (codes "forge a A a a 1") ≡ refused 1 Label
 unfolding script_on_literals
@@ -283,7 +315,7 @@ eight_bytes amount = 0 ∷ 0 ∷ 0 ∷ 0 ∷ 0 ∷ 0 ∷ 0 ∷ amount ∷ []
 
 payloads : script (codes "create A 1 pay:B=30,#7=80\ncreate B 2 hex:\nsync A B 3 hex:00fF\nname a A\njoin B a 4 pay:A=0\nforge f N a a 5 hex:7F")
     ≡ Ok (does 1 (Create 0 1 (2 ∷ 0 ∷ 1 ∷ (eight_bytes 30 ++ 0 ∷ 7 ∷ eight_bytes 80))) ∷ does 2 (Create 1 2 []) ∷ does 3 (Sync 0 1 3 (0 ∷ 255 ∷ []))
-    ∷ makes 4 (Last 0) ∷ does 5 (Join 1 0 4 (1 ∷ 0 ∷ 0 ∷ eight_bytes 0)) ∷ makes 6 (Forged 2 (Some (0, 0)) 5 (127 ∷ [])) ∷ [])
+    ∷ makes 4 (Last 0) ∷ does 5 (Join 1 (0 ∷ []) 4 (1 ∷ 0 ∷ 0 ∷ eight_bytes 0)) ∷ makes 6 (Forged 2 (Some (0, 0 ∷ [])) 5 (127 ∷ [])) ∷ [])
 unfolding script_on_literals
 payloads = refl
 

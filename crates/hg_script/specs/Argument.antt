@@ -1,13 +1,15 @@
 -- What a word of a line can have to be
-use Rattle.std.specs.Prelude.{ℕ, ◌+◌, ◌-◌, ◌*◌, ◌^◌, Bool, ◌&&◌, ◌||◌, ◌==◌, nat_le, nat_lt, if◌then◌else◌, List, [], ◌∷◌, length, position, codes, Option, Some, None, Result, Ok, Err}
-use Rattle.std.specs.List.{list_any}
+use Rattle.std.specs.Prelude.{ℕ, ◌+◌, ◌-◌, ◌*◌, ◌^◌, ◌<◌, ◌≤◌, IfSome, Bool, ◌&&◌, ◌||◌, ◌==◌, nat_le, nat_lt, if◌then◌else◌, List, [], ◌∷◌, length, position, codes, Option, Some, None, Result, Ok, Err}
+use Rattle.std.specs.List.{list_any, slice_split}
 use Rattle.std.specs.Option.{ok_or}
 use Rattle.std.specs.Result.{result_ok}
 use Rattle.std.specs.Str.{bytes_eq}
 use Rattle.hex.specs.Hex.{decode_of}
+use Rattle.hg_model.specs.Links.{most_others}
 use Rattle.hg_life.specs.Members.{MemberList, is_digit, is_member_name, has_node, member_named}
 use Rattle.hg_life.specs.Results.{◌>>=◌}
 use Rattle.hg_life.specs.Workers.{worker_limit}
+use Rattle.hg_script.specs.Words.{read_each}
 use Rattle.hg_script.specs.declared.fault.Why.{Why}
 use Rattle.hg_script.specs.declared.fault.Why.TheVariants.{Member, NoNode, Number, Payload, Label, DoubleLabel}
 
@@ -63,12 +65,32 @@ new_label labels word =
 abbrev pub is_dash : List ℕ → Bool
 is_dash word = bytes_eq word (codes "-")
 
--- two labels, or none for `- -`
-abbrev pub parents_of : List (List ℕ) → List ℕ → List ℕ → Result (Option (ℕ × ℕ)) Why
+abbrev pub is_comma : ℕ → Bool
+is_comma b = b == 44
+
+-- the parts between commas
+abbrev pub parts_of : List ℕ → List (List ℕ)
+parts_of text = slice_split is_comma text
+
+-- the numbers of one to four labels between commas
+abbrev pub labels_of : List (List ℕ) → List ℕ → Result (List ℕ) Why
+labels_of labels word =
+    if nat_le (length (parts_of word)) most_others then read_each (label_of labels) (parts_of word) else Err Label
+
+-- a label and one to four, or none for `- -`
+abbrev pub parents_of : List (List ℕ) → List ℕ → List ℕ → Result (Option (ℕ × List ℕ)) Why
 parents_of labels s o =
     if is_dash s && is_dash o then Ok None
     else if is_dash s || is_dash o then Err Label
-    else label_of labels s >>= (λ self_label. label_of labels o >>= (λ other. Ok (Some (self_label, other))))
+    else label_of labels s >>= (λ self_label. labels_of labels o >>= (λ others. Ok (Some (self_label, others))))
+
+-- there are one to four labels
+abbrev pub AreFewLabels : List ℕ → Type 0
+AreFewLabels labels = (0 < length labels) × (length labels ≤ most_others)
+
+-- with a label for the self-parent there are so many others
+abbrev pub AreLabels : Option (ℕ × List ℕ) → Type 0
+AreLabels parents = IfSome parents (λ pair. AreFewLabels pair.1)
 
 -- the bytes of so many hexadecimal digits, of either case
 abbrev pub digits_form : ℕ → ℕ → List ℕ → Option (List ℕ)

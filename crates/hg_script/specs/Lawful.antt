@@ -14,6 +14,7 @@ use Rattle.hg_script.specs.declared.line.Action.{Action}
 use Rattle.hg_script.specs.declared.line.Action.TheVariants as action
 use Rattle.hg_script.specs.declared.line.Line.{Line}
 use Rattle.hg_life.specs.Workers.{worker_limit}
+use Rattle.hg_script.specs.Argument.{AreFewLabels, AreLabels}
 use Rattle.hg_script.specs.Table.{Above, Found}
 
 -- the number is that of a member with a node
@@ -32,12 +33,12 @@ abbrev pub IsGossip : MemberList → Gossip → Type 0
 IsGossip members (Create member time payload) = HasNode members member × IsShortPayload payload
 IsGossip members (Sync taker peer time payload) = HasNode members taker × HasNode members peer × (taker ≢ peer) × IsShortPayload payload
 IsGossip members (Pull taker peer) = HasNode members taker × HasNode members peer × (taker ≢ peer)
-IsGossip members (Join member label time payload) = HasNode members member × IsShortPayload payload
+IsGossip members (Join member others time payload) = HasNode members member × IsShortPayload payload × AreFewLabels others
 IsGossip members (Give member label) = HasNode members member
 
 abbrev pub IsSource : MemberList → Source → Type 0
 IsSource members (Last member) = HasNode members member
-IsSource members (Forged creator parents time payload) = IsShortPayload payload
+IsSource members (Forged creator parents time payload) = IsShortPayload payload × AreLabels parents
 IsSource members _ = ⊤
 
 abbrev pub IsPart : MemberList → Part → Type 0

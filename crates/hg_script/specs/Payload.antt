@@ -1,6 +1,6 @@
 -- The payload word at the end of a line: `hex:` and the bytes in digits, or `pay:` and transfers
 use Rattle.std.specs.Prelude.{ℕ, ◌^◌, Bool, ◌&&◌, ◌==◌, nat_le, if◌then◌else◌, List, [], ◌∷◌, length, take, drop, count_by, codes, Option, Some, None, Result, Ok, Err}
-use Rattle.std.specs.List.{after_first, before_first, list_all, slice_split}
+use Rattle.std.specs.List.{after_first, before_first, list_all}
 use Rattle.std.specs.Option.{ok_or}
 use Rattle.std.specs.Str.{bytes_eq}
 use Rattle.hg_life.specs.declared.pay.Transfer.{Transfer}
@@ -9,10 +9,8 @@ use Rattle.hg_life.specs.Pay.{pay_bytes, transfer_limit}
 use Rattle.hg_life.specs.Results.{◌>>=◌}
 use Rattle.hg_script.specs.declared.fault.Why.{Why}
 use Rattle.hg_script.specs.declared.fault.Why.TheVariants.{Payload}
-use Rattle.hg_script.specs.Argument.{below, digits_form, member_of, number_of}
-
-abbrev pub is_comma : ℕ → Bool
-is_comma b = b == 44
+use Rattle.hg_script.specs.Argument.{below, digits_form, member_of, number_of, parts_of}
+use Rattle.hg_script.specs.Words.{read_each}
 
 abbrev pub is_equals : ℕ → Bool
 is_equals b = b == 61
@@ -20,10 +18,6 @@ is_equals b = b == 61
 -- an item has one `=`
 abbrev pub is_item : List ℕ → Bool
 is_item part = count_by is_equals part == 1
-
--- the parts between commas
-abbrev pub parts_of : List ℕ → List (List ℕ)
-parts_of text = slice_split is_comma text
 
 -- 1 to 64 items
 abbrev pub are_items : List ℕ → Bool
@@ -47,8 +41,7 @@ transfer_of members part = do
 
 -- the transfers of items, one after the other
 abbrev pub transfers_of : MemberList → List (List ℕ) → Result (List Transfer) Why
-transfers_of members [] = Ok []
-transfers_of members (part ∷ parts) = transfer_of members part >>= (λ t. transfers_of members parts >>= (λ ts. Ok (t ∷ ts)))
+transfers_of members parts = read_each (transfer_of members) parts
 
 -- and their payload
 abbrev pub pay_in : MemberList → List (List ℕ) → Result (List ℕ) Why

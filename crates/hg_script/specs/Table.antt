@@ -17,7 +17,7 @@ use Rattle.hg_script.specs.declared.line.Action.TheVariants as action
 use Rattle.hg_script.specs.declared.line.Line.{Line}
 use Rattle.hg_script.specs.declared.verb.Verb.{Verb}
 use Rattle.hg_script.specs.declared.verb.Verb.TheVariants as verb
-use Rattle.hg_script.specs.Argument.{byte_of, label_of, member_of, new_label, node_of, number_of, parents_of, peer_of, raw_bytes, worker_of}
+use Rattle.hg_script.specs.Argument.{byte_of, label_of, labels_of, member_of, new_label, node_of, number_of, parents_of, peer_of, raw_bytes, worker_of}
 use Rattle.hg_script.specs.Payload.{payload_of}
 
 -- what stands above a line: lines, and the names of the labels that they made, in order
@@ -80,14 +80,14 @@ pull members x y = do
   peer ← peer_of members taker y
   Ok (gossip (Pull taker peer))
 
--- join X L T P, of which P may be left out
+-- join X L,.. T P, of which P may be left out
 unfoldable pub join : MemberList → Above → List ℕ → List ℕ → List ℕ → Option (List ℕ) → Result Found Why
 join members above x l t p = do
   member ← node_of members x
-  label ← label_of above.labels l
+  others ← labels_of above.labels l
   time ← number_of t
   payload ← payload_of members p
-  later above.lines member (gossip (Join member label time payload))
+  later above.lines member (gossip (Join member others time payload))
 
 -- name L X
 unfoldable pub name : MemberList → Above → List ℕ → List ℕ → Result Found Why
@@ -96,7 +96,7 @@ name members above l x = do
   member ← node_of members x
   Ok (makes (Last member) label)
 
--- forge L M S O T P, of which P may be left out
+-- forge L M S O,.. T P, of which P may be left out
 unfoldable pub forge : MemberList → Above → List ℕ → List ℕ → List ℕ → List ℕ → List ℕ → Option (List ℕ) → Result Found Why
 forge members above l m s o t p = do
   label ← new_label above.labels l

@@ -141,25 +141,11 @@ pub fn new_label<'a>(above: &Above<'_>, word: &'a [u8]) -> Result<&'a [u8], Why>
     Ok(word)
 }
 
-fn is_dash(word: &[u8]) -> bool
+/// Whether it is the word `-`.
+pub fn is_dash(word: &[u8]) -> bool
     ensures { result ≡ spec.is_dash word.now }
 {
     word == b"-".as_slice()
-}
-
-/// The numbers of two labels of parents, or none for `- -`.
-pub fn parents_of(above: &Above<'_>, s: &[u8], o: &[u8]) -> Result<Option<(usize, usize)>, Why>
-    ensures { result ≡ spec.parents_of above.now.labels s.now o.now }
-{
-    if is_dash(s) && is_dash(o) {
-        return Ok(None);
-    }
-    if is_dash(s) || is_dash(o) {
-        return Err(Why::Label);
-    }
-    let self_label = label_of(above, s)?;
-    let other = label_of(above, o)?;
-    Ok(Some((self_label, other)))
 }
 
 /// The bytes of so many hexadecimal digits, from the least to the most.

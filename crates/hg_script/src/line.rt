@@ -1,4 +1,4 @@
-use hg_model::{Bytes, Member};
+use hg_model::{Bytes, Items, Member};
 
 /// What a node does: it makes an event, or takes some. A payload has at most 1,024 bytes.
 #[derive(Debug, Drop)]
@@ -21,10 +21,10 @@ pub enum Gossip {
         taker: Member,
         peer: Member,
     },
-    /// The member's node makes an event at this time, with the event of a label as other-parent.
+    /// The member's node makes an event at this time, with the events of one to four labels as other-parents.
     Join {
         member: Member,
-        label: usize,
+        others: Items<usize>,
         time: u64,
         payload: Bytes,
     },
@@ -42,11 +42,11 @@ pub enum Source {
     Last {
         member: Member,
     },
-    /// An event by this member at this time, signed with the member's secret. Its parents are the events of two
-    /// labels, the self-parent's first.
+    /// An event by this member at this time, signed with the member's secret. Its parents are the events of
+    /// labels: the self-parent's, and one to four others'.
     Forged {
         creator: Member,
-        parents: Option<(usize, usize)>,
+        parents: Option<(usize, Items<usize>)>,
         time: u64,
         payload: Bytes,
     },

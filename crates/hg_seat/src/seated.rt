@@ -68,10 +68,10 @@ impl<'a, V: Signer + Drop, R: Wait> Holder for Seated<'a, V, R> {
 
     fn make(
         &mut self,
-        other: Option<Name>,
+        others: &[Name],
         time: u64,
         payload: &[u8],
     ) -> Result<MakeAnswer, Memory> {
-        self.shared.make(self.rt, self.seat, other, time, payload)
+        self.shared.make(self.rt, self.seat, others, time, payload)
     }
 }

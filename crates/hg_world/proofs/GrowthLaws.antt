@@ -18,7 +18,7 @@ site_grown w m site k low grows = elim (cases_eq k m) [
 ]
 
 step_grown : (w : WorldView) (step : Step) (k : ℕ) → k < length w.sites → Grows (node_at w k).history (node_at (after_step w step) k).history
-step_grown w (Make m other time payload) k low = site_grown w m _ k low (_, refl)
+step_grown w (Make m others time payload) k low = site_grown w m _ k low (_, refl)
 step_grown w (Deliver m bytes) k low = site_grown w m _ k low (_, refl)
 step_grown w (Freeze m worker) k low = site_grown w m _ k low ([], sym (append-nil (node_at w m).history))
 step_grown w (Publish m worker share) k low = site_grown w m _ k low (_, refl)
@@ -31,7 +31,7 @@ steps_grown w (step ∷ steps) k low =
     (one.0 ++ more.0, more.1 ∙ (ap (λ (h : List Change). h ++ more.0) one.1 ∙ append_assoc (node_at w k).history one.0 more.0))
 
 step_members : (w : WorldView) (step : Step) → ((after_step w step).members ≡ w.members) × ((after_step w step).coin ≡ w.coin)
-step_members w (Make m other time payload) = (refl, refl)
+step_members w (Make m others time payload) = (refl, refl)
 step_members w (Deliver m bytes) = (refl, refl)
 step_members w (Freeze m worker) = (refl, refl)
 step_members w (Publish m worker share) = (refl, refl)

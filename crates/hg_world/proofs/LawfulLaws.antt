@@ -2,7 +2,6 @@
 -- within its range
 use Rattle.std.proofs.Common.{◌≡◌, zero, suc, inl, inr, ℕ, ◌<◌, true, List, [], ◌∷◌, ◌++◌, length, Some, slice_get, Result, Ok, Err, sym, refl, ap, ◌∙◌, subst, arith}
 use Rattle.std.specs.List.{AllByRecursion}
-use Rattle.std.specs.Option.{option_to_list}
 use Rattle.std.proofs.lemmas.Bool.{cases_eq}
 use Rattle.std.proofs.lemmas.List.{append-nil, length-set, get_or-set_same, get_or-set_other}
 use Rattle.std.proofs.lemmas.Option.{slice_get_within}
@@ -31,7 +30,6 @@ use Rattle.hg_history.proofs.SoundLaws.{sound}
 use Rattle.hg_history.proofs.StateLaws.{prefix_more, replay-push, rows_grow}
 use Rattle.hg_history.proofs.CallLaws.{node_with, publishes_leave_a_node, puts_leave_a_node, with_none}
 use Rattle.hg_history.proofs.MakeLaws.{makes_leave_a_node}
-use Rattle.hg_node.proofs.MakeLaws.{few_listed}
 use Rattle.hg_graph.specs.Held.{AreEvents}
 use Rattle.hg_world.specs.declared.step.Step.{Step}
 use Rattle.hg_world.specs.declared.step.Step.TheVariants.{Make, Deliver, Freeze, Publish}
@@ -124,8 +122,8 @@ module _ (w : WorldView) (m : ℕ) (is : IsWorld w) (low : m < length w.sites) w
       set_site w m (site_of (with_changes (node_at w m) es) (site_at w m).frozen) is low (changed_site w is.keys m (node_at w m) (site_at w m).frozen es keeps node)
 
 pub step_lawful : (w : WorldView) (step : Step) → IsWorld w → IsStepOf w step → HaveEvents (after_step w step) → IsWorld (after_step w step)
-step_lawful w (Make m other time payload) is of events =
-    changed_lawful w m is of.0 _ (make_lawful (node_at w m) (is.sites m of.0).node (option_to_list other) time payload (set_events w m is of.0 _ events))
+step_lawful w (Make m others time payload) is of events =
+    changed_lawful w m is of.0 _ (make_lawful (node_at w m) (is.sites m of.0).node others time payload (set_events w m is of.0 _ events))
 step_lawful w (Deliver m bytes) is of events =
     changed_lawful w m is of.0 _ (put_lawful (node_at w m) (is.sites m of.0).node bytes (set_events w m is of.0 _ events))
 step_lawful w (Freeze m worker) is of events =
@@ -140,12 +138,11 @@ unfolding hmac_sha512
 length_signature secrets m body = length-sha512 _
 
 step_in_range : (w : WorldView) (step : Step) → IsWorld w → IsStepOf w step → HasRange step → IsWorld (after_step w step)
-step_in_range w (Make m other time payload) is of early =
+step_in_range w (Make m others time payload) is of early =
     let v = node_at w m in
-    let others : List (List ℕ) = option_to_list other in
     let sig = own_signature v others time payload in
     changed_lawful w m is of.0 _
-    (makes_leave_a_node Secrets accepts_by v others time payload sig (few_listed other) early (length_signature v.start.keys v.start.own (make_body v others time payload)) (λ none. (bytes_eq-Decides sig sig).1 refl) (is.sites m of.0).node)
+    (makes_leave_a_node Secrets accepts_by v others time payload sig of.1 early (length_signature v.start.keys v.start.own (make_body v others time payload)) (λ none. (bytes_eq-Decides sig sig).1 refl) (is.sites m of.0).node)
 step_in_range w (Deliver m bytes) is of fit =
     changed_lawful w m is of.0 _ (puts_leave_a_node Secrets accepts_by (node_at w m) bytes fit (is.sites m of.0).node)
 step_in_range w (Freeze m worker) is of range =
@@ -173,7 +170,7 @@ rows_frozen w m k lens low = elim (cases_eq k m) [
 ]
 
 step_rows : (w : WorldView) (step : Step) (k : ℕ) → IsStepOf w step → IsPrefix (rows_at w k) (rows_at (after_step w step) k)
-step_rows w (Make m other time payload) k of = rows_set w m k _ _ of.0
+step_rows w (Make m others time payload) k of = rows_set w m k _ _ of.0
 step_rows w (Deliver m bytes) k of = rows_set w m k _ _ of.0
 step_rows w (Freeze m worker) k of = ([], rows_frozen w m k _ of.0 ∙ sym (append-nil (rows_at w k)))
 step_rows w (Publish m worker share) k of = rows_set w m k _ _ of.0

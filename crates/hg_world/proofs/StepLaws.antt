@@ -12,7 +12,7 @@ use Rattle.hg_world.specs.Steps.{HasRun, HasStepped, IsStepOf, NeedsMemory, RanS
 
 -- there are as many sites after a step
 pub step_sites : (w : WorldView) (step : Step) → length (after_step w step).sites ≡ length w.sites
-step_sites w (Make m other time payload) = length-set w.sites m _
+step_sites w (Make m others time payload) = length-set w.sites m _
 step_sites w (Deliver m bytes) = length-set w.sites m _
 step_sites w (Freeze m worker) = length-set w.sites m _
 step_sites w (Publish m worker share) = length-set w.sites m _

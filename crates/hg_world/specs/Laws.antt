@@ -32,7 +32,7 @@ PullsSetOneNode = (w : WorldView) (taker peer : ℕ) → IsMemberOf w taker → 
 
 -- the numbers and bytes of the step are within their ranges
 abbrev pub HasRange : Step → Type 0
-HasRange (Make m other time payload) = time < 2 ^ 64
+HasRange (Make m others time payload) = time < 2 ^ 64
 HasRange (Deliver m bytes) = (i : ℕ) → get_or bytes i 0 < 256
 HasRange (Freeze m worker) = Unit {0}
 HasRange (Publish m worker share) = Unit {0}

@@ -1,9 +1,9 @@
 -- A run step by step: what each step makes of the world, and what it answers. SWIRLDS-TR-2016-01, sections 2 to 4.
 -- Publishing by workers, of rows that they froze before, is our own
-use Rattle.std.specs.Prelude.{ℕ, ◌≡◌, ◌<◌, ◌⊎◌, List, [], ◌∷◌, ◌++◌, fold, length}
-use Rattle.std.specs.Option.{option_to_list}
+use Rattle.std.specs.Prelude.{ℕ, ◌≡◌, ◌<◌, ◌≤◌, ◌⊎◌, List, [], ◌∷◌, ◌++◌, fold, length}
 use Rattle.hg_life.specs.declared.answers.PutAnswer.{PutAnswer}
 use Rattle.hg_life.specs.declared.answers.MakeAnswer.{MakeAnswer}
+use Rattle.hg_model.specs.Links.{most_others}
 use Rattle.hg_model.specs.Shares.{Share, whole}
 use Rattle.hg_life.specs.Signing.{signature_by, accepts_by}
 use Rattle.hg_life.specs.NodeView.{NodeView, with_changes, node_rows}
@@ -45,13 +45,13 @@ publishing_by w m worker share = publish_answer (node_at w m) (frozen_by w m wor
 
 -- an event is made, or bytes come, or a worker freezes the rows, or publishes what a share decides in those that it froze
 abbrev pub after_step : WorldView → Step → WorldView
-after_step w (Make m other time payload) = with_node_at w m (node_made (node_at w m) (option_to_list other) time payload)
+after_step w (Make m others time payload) = with_node_at w m (node_made (node_at w m) others time payload)
 after_step w (Deliver m bytes) = with_node_at w m (node_put (node_at w m) bytes)
 after_step w (Freeze m worker) = with_frozen w m worker (length (node_rows (node_at w m)))
 after_step w (Publish m worker share) = with_node_at w m (node_published (node_at w m) (frozen_by w m worker) share)
 
 abbrev pub reply_to : WorldView → Step → Reply
-reply_to w (Make m other time payload) = reply.Make (making_at (node_at w m) (option_to_list other) time payload)
+reply_to w (Make m others time payload) = reply.Make (making_at (node_at w m) others time payload)
 reply_to w (Deliver m bytes) = reply.Put (putting_at (node_at w m) bytes)
 reply_to w (Freeze m worker) = reply.Frozen (length (node_rows (node_at w m)))
 reply_to w (Publish m worker share) = reply.Published (publishing_by w m worker share)
@@ -66,20 +66,21 @@ replies_to w (step ∷ steps) = reply_to w step ∷ replies_to (after_step w ste
 
 -- the member whose node does it
 abbrev pub actor : Step → ℕ
-actor (Make m other time payload) = m
+actor (Make m others time payload) = m
 actor (Deliver m bytes) = m
 actor (Freeze m worker) = m
 actor (Publish m worker share) = m
 
-abbrev pub HasWorker : Step → Type 0
-HasWorker (Make m other time payload) = Unit {0}
-HasWorker (Deliver m bytes) = Unit {0}
-HasWorker (Freeze m worker) = worker < worker_limit
-HasWorker (Publish m worker share) = worker < worker_limit
+-- at most four other-parents are named, and the worker is one
+abbrev pub IsBounded : Step → Type 0
+IsBounded (Make m others time payload) = length others ≤ most_others
+IsBounded (Deliver m bytes) = Unit {0}
+IsBounded (Freeze m worker) = worker < worker_limit
+IsBounded (Publish m worker share) = worker < worker_limit
 
--- the step's node and worker are there
+-- the step's node is there, and what it names is within its bounds
 abbrev pub IsStepOf : WorldView → Step → Type 0
-IsStepOf w step = IsMemberOf w (actor step) × HasWorker step
+IsStepOf w step = IsMemberOf w (actor step) × IsBounded step
 
 -- what a step answers and leaves
 abbrev pub HasStepped : WorldView → Step → Reply → WorldView → Type 0
@@ -91,7 +92,7 @@ HasRun old steps answers new = (answers ≡ replies_to old steps) × (new ≡ af
 
 -- the step takes memory: the node would sign the event, or accept it, or a worker publishes
 abbrev pub NeedsMemory : WorldView → Step → Type 0
-NeedsMemory w (Make m other time payload) = WouldSign (seen_whole (node_at w m)) (option_to_list other) payload
+NeedsMemory w (Make m others time payload) = WouldSign (seen_whole (node_at w m)) others payload
 NeedsMemory w (Deliver m bytes) = WouldTake (rules_alone accepts_by) (seen_whole (node_at w m)) bytes
 NeedsMemory w (Freeze m worker) = ⊥
 NeedsMemory w (Publish m worker share) = Unit {0}

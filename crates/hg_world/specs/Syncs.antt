@@ -26,7 +26,7 @@ last_made v = last_name v.start.own (node_rows v)
 -- an event is made on this other-parent; none where there is no name
 abbrev pub make_steps : ℕ → Option (List ℕ) → ℕ → List ℕ → List Step
 make_steps m None time payload = []
-make_steps m (Some other) time payload = Make m (Some other) time payload ∷ []
+make_steps m (Some other) time payload = Make m (other ∷ []) time payload ∷ []
 
 -- a pull, and then an event on the peer's last one
 abbrev pub sync_steps : WorldView → ℕ → ℕ → ℕ → List ℕ → List Step

@@ -18,11 +18,11 @@ impl World {
         match step {
             Step::Make {
                 node,
-                other,
+                others,
                 time,
                 payload,
             } => {
-                let answer = self.make(*node, *other, *time, payload.as_slice())?;
+                let answer = self.make(*node, others.as_slice(), *time, payload.as_slice())?;
                 Ok(Reply::Make(answer))
             }
             Step::Deliver { node, bytes } => {

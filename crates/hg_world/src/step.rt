@@ -1,14 +1,14 @@
 use hg_life::{MakeAnswer, PutAnswer};
-use hg_model::{Bytes, Member, Name, Share};
+use hg_model::{Bytes, Items, Member, Name, Share};
 
 /// A step of a run, on the node of a member.
 #[derive(Debug, Drop)]
 pub enum Step {
-    /// The node makes an event on its last one, with this other-parent, or its first one without parents. The time is
-    /// any, in no unit of ours.
+    /// The node makes an event on its last one, with these one to four other-parents, or with none its first one, without
+    /// parents. The time is any, in no unit of ours.
     Make {
         node: Member,
-        other: Option<Name>,
+        others: Items<Name>,
         time: u64,
         payload: Bytes,
     },

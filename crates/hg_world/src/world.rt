@@ -1,5 +1,5 @@
 ghost use Rattle.std.specs.Prelude.{◌≡◌, ◌<◌, ◌≤◌, IfErr, IfOk, OnErr, OnOk, length};
-ghost use Rattle.std.specs.Option.{option_to_list};
+ghost use Rattle.hg_model.specs.Links.{most_others};
 ghost use Rattle.hg_life.specs.Calls.{IsSettled};
 ghost use Rattle.hg_life.specs.Signing.{accepts_by};
 ghost use Rattle.hg_runs.specs.Safety.{IsSafe};
@@ -93,23 +93,25 @@ impl World {
         &self.sites[member as usize].node
     }
 
-    /// A member's node makes an event on its last one, with this other-parent, or its first one without parents. The time
-    /// is any, in no unit of ours. To tell that the event is refused before it is signed takes no memory.
+    /// A member's node makes an event on its last one, with these one to four other-parents, or with none its first one,
+    /// without parents. The time is any, in no unit of ours. To tell that the event is refused before it is signed takes no
+    /// memory.
     pub fn make(
         &mut self,
         member: Member,
-        other: Option<Name>,
+        others: &[Name],
         time: u64,
         payload: &[u8],
     ) -> Result<MakeAnswer, Memory>
-        requires { IsMemberOf self.old member }
-        ensures answer { IfOk result (λ a. a ≡ making_at (node_at self.old member) (option_to_list other) time payload.now) }
-        ensures ok { OnOk result (self.new ≡ after_step self.old (Make member other time payload.now)) }
+        requires member { IsMemberOf self.old member }
+        requires few { length others.now ≤ most_others }
+        ensures answer { IfOk result (λ a. a ≡ making_at (node_at self.old member) others.now time payload.now) }
+        ensures ok { OnOk result (self.new ≡ after_step self.old (Make member others.now time payload.now)) }
         ensures err { OnErr result (self.new ≡ self.old) }
-        ensures free { OnErr result (WouldSign (seen_whole (node_at self.old member)) (option_to_list other) payload.now) }
+        ensures free { OnErr result (WouldSign (seen_whole (node_at self.old member)) others.now payload.now) }
     {
         let node = &mut self.sites[member as usize].node;
-        let answer = node.make(other, time, payload)?;
+        let answer = node.make(others, time, payload)?;
         node.is_node();
         Ok(answer)
     }

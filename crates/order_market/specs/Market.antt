@@ -69,7 +69,7 @@ is_action_of w (Settle member) = nat_lt member (length w.sites)
 
 -- what is done
 abbrev pub action_steps : WorldView → Action → List Step
-action_steps w (Make member other time payload) = step.Make member other time payload ∷ []
+action_steps w (Make member other time payload) = step.Make member (option_to_list other) time payload ∷ []
 action_steps w (Sync taker peer time payload) = sync_steps w taker peer time payload
 action_steps w (Deliver member bytes) = step.Deliver member bytes ∷ []
 action_steps w (Settle member) = settle_steps member

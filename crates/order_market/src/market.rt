@@ -140,7 +140,7 @@ fn act_of(world: &mut World, action: &Action) -> Result<(), Memory>
             time,
             payload,
         } => {
-            world.make(*member, *other, *time, payload.as_slice())?;
+            world.make(*member, other.as_slice(), *time, payload.as_slice())?;
         }
         Action::Sync {
             taker,

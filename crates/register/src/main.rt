@@ -87,7 +87,7 @@ fn play(world: &mut World) -> Result<(), Memory>
     steps_keep_sites();
     for number in 0..world.members() {
         let member = member_at(world, number);
-        world.make(member, None, u64::from(number), b"")?;
+        world.make(member, &[], u64::from(number), b"")?;
     }
     for step in 0..SYNCS {
         let taker = member_at(world, step);

@@ -1,7 +1,14 @@
+use Rattle.std.proofs.Common.{List, ℕ, ◌+◌, drop}
+use Rattle.std.specs.Borrow.{Bor}
+use Rattle.std.proofs.lemmas.List.{at_drop_more}
+use Rattle.hg_event.specs.Names.{lent_names}
 use Rattle.hg_arrival.proofs.PlaceLaws.{placed_more}
 use Rattle.hg_arrival.proofs.arrival.places_behind.Goals as goal
 
 pub loop-name-preserved : goal.loop-name-preserved
 loop-name-preserved c =
-    placed_more c.args.graph.now.graph.rows c.args.own c.args.others.now c.loop-name.name-index _ c.loop-name.places c.with-places-in-loop-name.result c.in-Some.place
-    c.loop-name-test.true c.in-Some.ensures c.with-places-in-loop-name.ensures c.loop-name.invariant
+    let names : List (Bor (List ℕ)) = c.args.others.now in
+    placed_more c.args.graph.now.graph.rows c.args.own (lent_names names) (lent_names (drop c.loop-name.name-index names)) (lent_names (drop (c.loop-name.name-index + 1) names)) c.loop-name.name-index _
+    c.loop-name.places c.with-places-in-loop-name.result c.in-Some.place
+    (at_drop_more (λ (left : List (Bor (List ℕ))). lent_names left) names c.loop-name.name-index _ c.loop-name-test.true)
+    c.in-Some.ensures c.with-places-in-loop-name.ensures c.loop-name.invariant

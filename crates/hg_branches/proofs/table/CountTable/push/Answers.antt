@@ -25,13 +25,18 @@ join_tails-requires-clause-places c =
     let many : length c.args.self.now.rows ≡ length s.tails.rows = sym (ap (λ (t : CountsWithRoom). length t.rows) c.self.view_is) ∙ rows_many s.own.width s.own.numbers s.tails.rows in
     subst (λ n. AllByRecursion (λ p. p < n) c.args.on.now) many c.requires.places
 
-pub join_tails-requires-clause-room : goal.join_tails-requires-clause-room
-join_tails-requires-clause-room c =
+pub join_tails-requires-clause-tails : goal.join_tails-requires-clause-tails
+join_tails-requires-clause-tails c =
     let s = c.self.inside in
     let many : length c.args.self.now.rows ≡ length s.tails.rows = sym (ap (λ (t : CountsWithRoom). length t.rows) c.self.view_is) ∙ rows_many s.own.width s.own.numbers s.tails.rows in
     let places = subst (λ n. AllByRecursion (λ p. p < n) c.args.on.now) many c.requires.places in
+    all_low (λ p. tail_width s.tails.rows p ≤ s.widest) (length s.tails.rows) c.args.on.now places c.self.invariant.narrow
+
+pub join_tails-requires-clause-room : goal.join_tails-requires-clause-room
+join_tails-requires-clause-room c =
+    let s = c.self.inside in
     let wide = room_row s.own.width s.widest s.own.room s.tails.room (vec_capacity s.row) (subst (λ (t : CountsWithRoom). 1 ≤ t.room) (sym c.self.view_is) c.requires.room) in
-    all_low (λ p. tail_width s.tails.rows p ≤ vec_capacity c.join_own.new.row) (length s.tails.rows) c.args.on.now places (λ p h. omega (arith, wide, c.self.invariant.narrow p h, c.join_own.ensures.capacity))
+    omega (arith, wide, c.join_own.ensures.capacity)
 
 pub push-requires-2 : goal.push-requires-2
 push-requires-2 c =

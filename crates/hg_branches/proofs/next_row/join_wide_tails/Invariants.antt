@@ -3,7 +3,7 @@ use Rattle.std.specs.Prelude.{vec_capacity}
 use Rattle.std.specs.List.{AllByRecursion}
 use Rattle.hg_branches.specs.Branches.{greatest_count}
 use Rattle.hg_branches.specs.Tails.{tail_count, tail_width}
-use Rattle.hg_branches.proofs.next_row.join_tails.Given as goal
+use Rattle.hg_branches.proofs.next_row.join_wide_tails.Given as goal
 
 abbrev pub invariant-loop-place : goal.invariant-loop-place
 invariant-loop-place l = record {

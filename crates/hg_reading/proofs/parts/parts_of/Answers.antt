@@ -1,8 +1,8 @@
 use Rattle.std.proofs.Common.{rules, tests}
 use Rattle.std.proofs.lemmas.Iterator.Consumers.{map_from_collect}
 use Rattle.std.proofs.lemmas.Iterator.Splits.{YieldsList-from_slice_split}
-use Rattle.hg_script.specs.Payload.{is_comma}
-use Rattle.hg_reading.proofs.payload.parts_of.Goals as goal
+use Rattle.hg_script.specs.Argument.{is_comma}
+use Rattle.hg_reading.proofs.parts.parts_of.Goals as goal
 
 pub returns : goal.returns
 returns c =
