@@ -71,7 +71,7 @@ none_greatest tails (p ∷ on) k all = omega (arith, none_counted tails p k all.
 pub no_tails : (tails : List Tail) (on : List ℕ) (own k : ℕ) → AllByRecursion (λ p. tail_width tails p ≤ 0) on → tail_next tails on own k ≡ 0
 no_tails tails on own k all = ap (λ (n : ℕ). cond (eqb (k + 1) own) 0 n) (none_greatest tails on k all) ∙ same_both (eqb (k + 1) own)
   where
-    same_both : (b : Bool) → cond b 0 0 ≡ 0
+    same_both : (b : Bool) → cond {A = ℕ} b 0 0 ≡ 0
     same_both true = refl
     same_both false = refl
 

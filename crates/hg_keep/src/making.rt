@@ -1,5 +1,7 @@
-ghost use Rattle.std.specs.Prelude.{◌≡◌, ◌≤◌, ℕ, List, Some, IfOk, IsErrOf, IsSome, OnOk, is_some};
+ghost use Rattle.std.specs.Prelude.{◌≡◌, ◌≤◌, ℕ, List, Some, IfOk, IsErrOf, IsSome, OnOk, is_some, length};
+ghost use Rattle.std.specs.Option.{option_to_list};
 ghost use Rattle.hex.specs.Hex.{encode_lower};
+ghost use Rattle.hg_model.specs.Links.{most_others};
 ghost use Rattle.hg_journal.specs.Faults.{IsFaultCounted};
 ghost use Rattle.hg_journal.specs.Stored.{StoresNode};
 ghost use Rattle.hg_keep.specs.Keeping.{HasRow, IsMadeSome, MakesOf, TurnOf, told_of};
@@ -9,10 +11,11 @@ use crate::kept::Making;
 use hg_io::Disk;
 use hg_journal::{StoreError, Stored};
 use hg_life::MakeAnswer;
-use hg_model::{Bytes, Items, Memory};
+use hg_model::{Bytes, Items, Memory, Name};
 use hg_node::{Node, stored_changes_replay};
 use hg_sign::Signer;
 use std::alloc::Global;
+use std::slice;
 
 /// Bytes in lower-case hexadecimal digits.
 fn digits_of(alloc: Global, bytes: &[u8]) -> Result<Bytes, Memory>
