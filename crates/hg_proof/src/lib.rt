@@ -12,14 +12,18 @@ mod comparing;
 mod fields;
 mod filling;
 mod laws;
+mod least;
 mod ordering;
+mod proving;
 mod reading;
 mod shown;
 mod why;
+mod writing;
 
 pub use checking::check;
 pub use fields::MOST_ROWS;
 pub use filling::empty_graph;
+pub use proving::certificate;
 pub use laws::{certificates_are_judged, certificates_are_safe};
 pub use shown::{Checked, Shown};
 pub use why::Why;
