@@ -46,7 +46,7 @@ fn byte_fault_parts(fault: ByteFault) -> (&'static [u8], Piece<'static>)
 }
 
 /// Prints a text as it is.
-fn print_text<E: Sink>(err: &mut E, text: &[u8]) -> Result<(), Failed>
+pub(crate) fn print_text<E: Sink>(err: &mut E, text: &[u8]) -> Result<(), Failed>
     ensures { Prints E.Sink err.old err.new text.now result }
 {
     write_all(err, text)

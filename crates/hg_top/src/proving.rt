@@ -4,10 +4,11 @@ ghost use Rattle.hg_top.specs.Course.{course, no_disk};
 ghost use Rattle.hg_top.specs.Ends.{Ends};
 
 use crate::keeping::own_in;
+use crate::printing::print_text;
 use crate::reading::{lines_from, members_from, proof_from};
 use crate::status::{Status, status_of};
 use hg_certify::{prove_order, write_shown};
-use hg_io::{Shelf, Sink, write_all};
+use hg_io::{Shelf, Sink};
 use hg_life::Members;
 use hg_model::{Member, Memory};
 use std::alloc::Global;
@@ -42,7 +43,7 @@ fn prove_play<F: Shelf, K: Sink>(
         Err(status) => return status,
     };
     match prove_order(alloc, members, lines.as_slice(), own) {
-        Ok(bytes) => status_of(write_all(out, bytes.as_slice())),
+        Ok(bytes) => status_of(print_text(out, bytes.as_slice())),
         Err(Memory) => Status::Memory,
     }
 }
