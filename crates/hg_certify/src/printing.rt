@@ -1,4 +1,5 @@
-ghost use Rattle.std.specs.Prelude.{◌≡◌, ℕ};
+ghost use Rattle.std.specs.Prelude.{◌≡◌, ◌++◌, length};
+ghost use Rattle.std.specs.Fmt.{decimal};
 ghost use Rattle.hg_graph.specs.RowsWithRoom.{rows_of};
 ghost use Rattle.hg_io.specs.Printing.{Prints, PutsOn};
 ghost use Rattle.hg_model.specs.Graph.{name_at};
@@ -102,14 +103,29 @@ pub fn write_shown<K: Sink>(shown: &Shown, sink: &mut K) -> Result<(), Failed>
     page.send(sink)
 }
 
-/// The reason why a certificate shows nothing.
-pub fn why_pieces(why: &Why) -> [Piece<'_>; 5]
-    ensures { pieces_text result ≡ why_text why.now }
+/// A word and a number.
+fn numbered<'a>(word: &'a [u8], number: usize) -> [Piece<'a>; 5]
+    ensures text { pieces_text result ≡ word.entry.now ++ decimal number }
+    ensures five { length result ≡ 5 }
 {
     let none = Piece::Bytes(b"");
+    [
+        Piece::Bytes(word),
+        Piece::Number(number as u64),
+        none,
+        none,
+        none,
+    ]
+}
+
+/// The reason why a certificate shows nothing.
+pub fn why_pieces(why: &Why) -> [Piece<'_>; 5]
+    ensures text { pieces_text result ≡ why_text why.now }
+    ensures five { length result ≡ 5 }
+{
     match why {
-        Why::Form(at) => [Piece::Bytes(b"form "), Piece::Number(*at as u64), none, none, none],
-        Why::Repeat(i) => [Piece::Bytes(b"repeat "), Piece::Number(*i as u64), none, none, none],
+        Why::Form(at) => numbered(b"form ", *at),
+        Why::Repeat(i) => numbered(b"repeat ", *i),
         Why::Row(i, fault) => {
             let (word, detail) = fault_parts(fault);
             [
@@ -120,6 +136,6 @@ pub fn why_pieces(why: &Why) -> [Piece<'_>; 5]
                 detail,
             ]
         }
-        Why::Order(i) => [Piece::Bytes(b"order "), Piece::Number(*i as u64), none, none, none],
+        Why::Order(i) => numbered(b"order ", *i),
     }
 }

@@ -36,7 +36,10 @@ pub enum Request<'a> {
         own: &'a str,
     },
     /// To check what the file of the name `proof` proves to the members.
-    Check { members: &'a str, proof: &'a str },
+    Check {
+        members: &'a str,
+        proof: &'a str,
+    },
 }
 
 impl<'a> Request<'a> {

@@ -41,12 +41,7 @@ fn last_decider(alloc: Global, graph: &EventGraph, order: &[Placed]) -> Result<u
 }
 
 /// Whether the first `len` rows of a graph have its whole order, of so many entries.
-fn has_whole(
-    alloc: Global,
-    graph: &EventGraph,
-    len: usize,
-    entries: usize,
-) -> Result<bool, Memory>
+fn has_whole(alloc: Global, graph: &EventGraph, len: usize, entries: usize) -> Result<bool, Memory>
     requires len { len ≤ length graph.now.graph.rows }
     requires entries { entries ≡ length (order_in graph.now.graph) }
     ensures { IfOk result (λ has. (has ≡ true) ↔ HasWhole graph.now.graph len) }
