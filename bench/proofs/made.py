@@ -37,4 +37,8 @@ class Late(Staked, Apart):
 
 
 def world_of(seed):
-    return (Mixed, Late, Dealt, Mixed)[seed % 4](f"proofs {seed}")
+    """At the end of most all gossip for a while, so that more has an order."""
+    world = (Mixed, Late, Dealt, Mixed)[seed % 4](f"proofs {seed}")
+    for _ in range(world.draw.choice((0, 2, 4, 8))):
+        world.line_gossip()
+    return world

@@ -111,11 +111,11 @@ lacks_one g k p has past whole =
 
 -- ---- the least number of first rows, between two bounds
 
-pub bound_more : (order : List Placed) (i : ℕ) (p : Placed) (old new k : ℕ) → i < length order → p ≡ get_or order i p → new ≡ max old (p.place + 1) →
+pub bound_more : (order : List Placed) (i : ℕ) (d : Placed) (old new k : ℕ) → i < length order → new ≡ max old ((get_or order i d).place + 1) →
     ((k : ℕ) → k < old → HasFrom order k) → k < new → HasFrom order k
-bound_more order i p old new k low at is before under = elim (cases_lt k old) [
+bound_more order i d old new k low is before under = elim (cases_lt k old) [
   | inl below ↦ before k below
-  | inr past ↦ (p, subst (Contains order) (sym at) (Contains-get_or order i p low), omega (arith, is, under))
+  | inr past ↦ (get_or order i d, Contains-get_or order i d low, omega (arith, is, under))
 ]
 
 -- the places are few

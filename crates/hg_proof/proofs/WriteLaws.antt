@@ -1,5 +1,6 @@
 -- A certificate as it is written, piece by piece, and what it then shows
-use Rattle.std.proofs.Common.{◌≡◌, ℕ, zero, suc, ◌+◌, ◌<◌, ◌≤◌, ◌^◌, List, [], ◌∷◌, ◌++◌, length, take, get_or, Option, Some, None, option_map, slice_get, sym, refl, ap, ap₂, ◌∙◌, subst, arith}
+use Rattle.std.proofs.Common.{◌≡◌, ℕ, zero, suc, ◌+◌, ◌<◌, ◌≤◌, ◌^◌, List, [], ◌∷◌, ◌++◌, length, take, get_or, Option, Some, None, option_map, slice_get, sym, ap, ap₂, append_assoc, ◌∙◌, subst, arith}
+use Rattle.std.specs.Int.{to_be_bytes, w32, w64}
 use Rattle.std.specs.List.{AllByRecursion}
 use Rattle.std.proofs.lemmas.List.{flat_map_more, length-take, take_more}
 use Rattle.std.proofs.lemmas.Option.{slice_get-get_or}
@@ -29,22 +30,31 @@ rows_more before old new bytes G i inside here written so_far =
     ∙ flat_map_more spelling before (take i G) row
     ∙ ap (λ (rows : List Row). before ++ rows_bytes rows) (sym (take_more G i nobody inside))
 
-one_more : (order : List Placed) (i : ℕ) (p : Placed) → i < length order → p ≡ get_or order i p → take (i + 1) order ≡ take i order ++ p ∷ []
-one_more order i p inside at = take_more order i p inside ∙ ap (λ (q : Placed). take i order ++ q ∷ []) (sym at)
-
-pub entries_more : (before old new : List ℕ) (order : List Placed) (i : ℕ) (p : Placed) → i < length order → p ≡ get_or order i p → new ≡ old ++ entry_bytes p →
+pub entries_more : (before old new : List ℕ) (order : List Placed) (i : ℕ) (d : Placed) → i < length order → new ≡ old ++ entry_bytes (get_or order i d) →
     old ≡ before ++ entries_bytes (take i order) → new ≡ before ++ entries_bytes (take (i + 1) order)
-entries_more before old new order i p inside at written so_far =
-    written ∙ ap (λ (a : List ℕ). a ++ entry_bytes p) so_far
-    ∙ flat_map_more entry_bytes before (take i order) p
-    ∙ ap (λ (ps : List Placed). before ++ entries_bytes ps) (sym (one_more order i p inside at))
+entries_more before old new order i d inside written so_far =
+    written ∙ ap (λ (a : List ℕ). a ++ entry_bytes (get_or order i d)) so_far
+    ∙ flat_map_more entry_bytes before (take i order) (get_or order i d)
+    ∙ ap (λ (ps : List Placed). before ++ entries_bytes ps) (sym (take_more order i d inside))
 
 all_and : (ps : List Placed) (p : Placed) → AllByRecursion IsEntry ps → IsEntry p → AllByRecursion IsEntry (ps ++ p ∷ [])
 all_and [] p are is = (is, tt)
 all_and (q ∷ ps) p are is = (are.0, all_and ps p are.1 is)
 
-pub entries_fit : (order : List Placed) (i : ℕ) (p : Placed) → i < length order → p ≡ get_or order i p → IsEntry p → AllByRecursion IsEntry (take i order) → AllByRecursion IsEntry (take (i + 1) order)
-entries_fit order i p inside at is are = subst (AllByRecursion IsEntry) (sym (one_more order i p inside at)) (all_and (take i order) p are is)
+pub entries_fit : (order : List Placed) (i : ℕ) (d : Placed) → i < length order → IsEntry (get_or order i d) → AllByRecursion IsEntry (take i order) →
+    AllByRecursion IsEntry (take (i + 1) order)
+entries_fit order i d inside is are = subst (AllByRecursion IsEntry) (sym (take_more order i d inside)) (all_and (take i order) (get_or order i d) are is)
+
+-- an entry, number by number
+pub entry_written : (old one two new a b e : List ℕ) (p : Placed) → one ≡ old ++ a → two ≡ one ++ b → new ≡ two ++ e →
+    a ≡ to_be_bytes w32 p.place → b ≡ to_be_bytes w32 p.received → e ≡ to_be_bytes w64 p.time → new ≡ old ++ entry_bytes p
+entry_written old one two new a b e p first second third place received time =
+    third ∙ ap (λ (t : List ℕ). t ++ e) (second ∙ ap (λ (t : List ℕ). t ++ b) first)
+    ∙ append_assoc (old ++ a) b e
+    ∙ append_assoc old a (b ++ e)
+    ∙ ap (λ (t : List ℕ). old ++ (t ++ (b ++ e))) place
+    ∙ ap (λ (t : List ℕ). old ++ (to_be_bytes w32 p.place ++ (t ++ e))) received
+    ∙ ap (λ (t : List ℕ). old ++ (to_be_bytes w32 p.place ++ (to_be_bytes w32 p.received ++ t))) time
 
 -- a row of the first rows is a row
 first_row : (len x : ℕ) (G : List Row) (row : Row) → slice_get (take len G) x ≡ Some row → slice_get G x ≡ Some row

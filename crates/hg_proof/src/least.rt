@@ -66,6 +66,8 @@ fn narrowed(
     ensures between { IfOk result (λ r. IsBetween graph.now.graph r.0 r.1) }
     ensures narrower { IfOk result (λ r. bounds.0 ≤ len → len < bounds.1 → r.1 + bounds.0 < bounds.1 + r.0) }
 {
+    // That the graph is lawful.
+    graph.len();
     let (low, high) = bounds;
     if len < low || len >= high {
         return Ok((low, high));
@@ -88,8 +90,8 @@ pub(crate) fn least_front(
     requires { order.now ≡ order_in graph.now.graph }
     ensures { IfOk result (IsLeast graph.now.graph) }
 {
-    let entries = order.len();
-    let first = (least_bound(order), graph.len());
+    let (rows, entries) = (graph.len(), order.len());
+    let first = (least_bound(order), rows);
     let place = last_decider(alloc, graph, order)?;
     let lower = narrowed(alloc, graph, entries, first, place)?;
     let mut bounds = narrowed(alloc, graph, entries, lower, place.saturating_add(1))?;

@@ -23,7 +23,7 @@ fn push_rows(bytes: &mut Vec<u8>, graph: &EventGraph, len: usize) -> Result<(), 
 fn push_entry(bytes: &mut Vec<u8>, p: &Placed) -> Result<(), Memory>
     requires { p.now.place < 2 ^ 32 }
     ensures bytes { OnOk result (bytes.new.items ≡ bytes.old.items ++ entry_bytes p.now) }
-    ensures sized { IsEntry p.now }
+    ensures sized { OnOk result (IsEntry p.now) }
 {
     bytes.extend_from_slice(&(p.place as u32).to_be_bytes())?;
     bytes.extend_from_slice(&p.received.to_be_bytes())?;
@@ -57,6 +57,8 @@ pub(crate) fn certificate_bytes(
     ensures bytes { IfOk result (λ bytes. bytes.items ≡ certificate_bytes (certificate (take len graph.now.graph.rows) order.now)) }
     ensures sized { IfOk result (λ bytes. AreEntries order.now) }
 {
+    // That the rows are not too many for their count.
+    graph.len();
     let mut bytes = Vec::new(alloc);
     bytes.extend_from_slice(MAGIC.as_slice())?;
     bytes.extend_from_slice(&(len as u32).to_be_bytes())?;

@@ -1,4 +1,4 @@
-use Rattle.std.proofs.Common.{subst, sym, ap, ◌∙◌}
+use Rattle.std.proofs.Common.{subst, sym, ap, ◌∙◌, arith}
 use Rattle.hg_model.specs.GraphWords.{IsLawfulGraph}
 use Rattle.hg_model.specs.Prefix.{Graph}
 use Rattle.hg_proof.specs.Answers.{order_in}
@@ -12,4 +12,4 @@ order_in-requires c =
 pub returns : goal.returns
 returns c =
     whole_test c.args.graph.now.graph c.len.ensures.lawful c.args.len _ c.args.entries c.in_ok-order.order.items
-    (c.in_ok-order.ensures ∙ ap (λ (g : Graph). order_in g) c.in_ok-front.ensures.graph) c.len-2.ensures c.requires.entries
+    (c.in_ok-order.ensures ∙ ap (λ (g : Graph). order_in g) c.in_ok-front.ensures.graph) (omega (arith, c.len-2.ensures)) c.requires.entries

@@ -1,6 +1,4 @@
-use Rattle.std.proofs.Common.{◌<◌, subst, sym, arith}
-use Rattle.hg_model.specs.declared.row.Placed.{Placed}
-use Rattle.hg_life.specs.Verdict.{row_limit}
+use Rattle.std.proofs.Common.{◌<◌, arith}
 use Rattle.hg_proof.proofs.FrontLaws.{bound_more}
 use Rattle.hg_proof.proofs.least.least_bound.Goals as goal
 
@@ -9,4 +7,4 @@ loop-p-init c = λ k low. absurd (omega (arith, low))
 
 pub loop-p-preserved : goal.loop-p-preserved
 loop-p-preserved c = λ k low.
-    bound_more c.args.order.now c.loop-p.p-index c.p-item.result c.loop-p.bound c.max.result k (omega arith) c.p-item.is (omega (arith, c.max.ensures)) c.loop-p.invariant low
+    bound_more c.args.order.now c.loop-p.p-index _ c.loop-p.bound _ k (omega arith) (omega (arith, c.max-bound.ensures)) c.loop-p.invariant low
