@@ -1,4 +1,4 @@
-ghost use Rattle.std.specs.Prelude.{ℕ, ◌≡◌, ◌<◌, ◌≤◌, ◌+◌, ◌-◌, ◌↔◌, All, length, true, IfOk};
+ghost use Rattle.std.specs.Prelude.{ℕ, ◌≡◌, ◌<◌, ◌≤◌, ◌+◌, ◌↔◌, All, length, max, true, IfOk};
 ghost use Rattle.hg_model.specs.declared.row.Placed.{Placed};
 ghost use Rattle.hg_life.specs.Verdict.{row_limit};
 ghost use Rattle.hg_proof.specs.Answers.{order_in};
@@ -11,6 +11,14 @@ use hg_model::{Memory, Placed, Rounds, is_of_graph};
 use hg_votes::VoteTable;
 use std::alloc::Global;
 
+/// The bound, or the number behind the place, which is greater.
+fn past(bound: usize, place: usize) -> usize
+    requires { place < row_limit }
+    ensures { result ≡ max bound (place + 1) }
+{
+    if place < bound { bound } else { place + 1 }
+}
+
 /// A number of first rows of a graph below which its order is not whole: one more than the greatest place in the order, or 0.
 fn least_bound(order: &[Placed]) -> usize
     requires { All (λ (p : Placed). p.place < row_limit) order.now }
@@ -18,7 +26,7 @@ fn least_bound(order: &[Placed]) -> usize
 {
     let mut bound = 0;
     for p in order {
-        bound = bound.max(p.place + 1);
+        bound = past(bound, p.place);
     }
     bound
 }

@@ -1,4 +1,5 @@
 use Rattle.std.proofs.Common.{◌<◌, arith}
+use Rattle.hg_model.specs.declared.row.Placed.{Placed}
 use Rattle.hg_proof.proofs.FrontLaws.{bound_more}
 use Rattle.hg_proof.proofs.least.least_bound.Goals as goal
 
@@ -7,4 +8,5 @@ loop-p-init c = λ k low. absurd (omega (arith, low))
 
 pub loop-p-preserved : goal.loop-p-preserved
 loop-p-preserved c = λ k low.
-    bound_more c.args.order.now c.loop-p.p-index _ c.loop-p.bound _ k (omega arith) (omega (arith, c.max-bound.ensures)) c.loop-p.invariant low
+    let none : Placed = record { place = 0; received = 0; time = 0 } in
+    bound_more c.args.order.now c.loop-p.p-index none c.loop-p.bound c.past-bound.result k (omega arith) (omega (arith, c.past-bound.ensures)) c.loop-p.invariant low
