@@ -30,3 +30,9 @@ pub four_then : (pieces : List Piece) (d : Piece) (text rest : List ℕ) → len
     → piece_text (get_or pieces 0 d) ++ (piece_text (get_or pieces 1 d) ++ (piece_text (get_or pieces 2 d) ++ (piece_text (get_or pieces 3 d) ++ rest))) ≡ text ++ rest
 four_then (p ∷ q ∷ r ∷ s ∷ []) d text rest four is = rw (← is) (simp append_assoc)
 four_then _ d text rest four is = absurd (omega arith)
+
+-- the same of five
+pub five_then : (pieces : List Piece) (d : Piece) (text rest : List ℕ) → length pieces ≡ 5 → pieces_text pieces ≡ text
+    → piece_text (get_or pieces 0 d) ++ (piece_text (get_or pieces 1 d) ++ (piece_text (get_or pieces 2 d) ++ (piece_text (get_or pieces 3 d) ++ (piece_text (get_or pieces 4 d) ++ rest)))) ≡ text ++ rest
+five_then (p ∷ q ∷ r ∷ s ∷ t ∷ []) d text rest five is = rw (← is) (simp append_assoc)
+five_then _ d text rest five is = absurd (omega arith)

@@ -22,5 +22,7 @@ mod phrases;
 mod pieces;
 
 pub use block::{write_block, write_head};
-pub use phrases::{Phrase, make_answer_phrase, number_phrase, put_answer_phrase, sync_made_phrase};
+pub use phrases::{
+    Phrase, fault_parts, make_answer_phrase, number_phrase, put_answer_phrase, sync_made_phrase,
+};
 pub use pieces::{Piece, print_pieces, write_pieces};

@@ -29,7 +29,7 @@ fn byte_fault_parts(fault: &ByteFault) -> (&'static [u8], Piece<'static>)
 }
 
 /// Why a node refuses an event: a word, and what is told of it.
-fn fault_parts(fault: &Fault) -> (&[u8], Piece<'_>)
+pub fn fault_parts(fault: &Fault) -> (&[u8], Piece<'_>)
     ensures { result.0.now ++ piece_text result.1 ≡ fault_text fault.now }
 {
     match fault {

@@ -39,7 +39,7 @@ use Rattle.hg_play.proofs.WorldLaws.{made_in, play-steps, start_read, starts-new
 use Rattle.hg_play.specs.Heard.{KeepsNodes, nodes_by, rows_seen}
 use Rattle.hg_play.specs.Lines.{IsLineBelow}
 use Rattle.hg_world.specs.Steps.{after_steps}
-use Rattle.hg_play.specs.Sites.{AreMadeWith, starts, starts_of}
+use Rattle.hg_play.specs.Sites.{AreMadeWith, BeganWith, starts, starts_of}
 use Rattle.hg_play.specs.Tape.{TapeView, no_tape}
 use Rattle.hg_play.specs.Through.{AllOthersMark, AreNodes, AreSeen, IsOfRows, IsStageLike, IsStageOf, MatchesThrough, begun, node_seen}
 
@@ -424,11 +424,14 @@ world_played members lines world now last printed is told settled =
     let after : now ≡ (after_lines members (first_stage members) lines).world = first.1 ∙ ap (λ (w : WorldView). (after_lines members (stage w [] []) lines).world) is in
     play-steps members lines last (settled ∙ ap (λ (w : WorldView). after_steps w (end_steps members (length members.entries))) after)
 
--- whose nodes were made with these members
-pub world_made : (members : MemberList) (lines : List Line) (last : WorldView) → last ≡ played_world members lines → AreMadeWith members last
-world_made members lines last is = λ m inside.
+-- whose nodes began with these members
+pub world_began : (members : MemberList) (lines : List Line) (last : WorldView) → last ≡ played_world members lines → BeganWith members last
+world_began members lines last is = λ m inside.
     let begun : starts_of last ≡ starts members = ap starts_of is ∙ (starts-steps (new_world members) (play_steps members lines) ∙ starts-new members) in
-    made_in members m (node_at last m) (start_read members last m begun inside)
+    start_read members last m begun inside
+
+pub world_made : (members : MemberList) (lines : List Line) (last : WorldView) → last ≡ played_world members lines → AreMadeWith members last
+world_made members lines last is = λ m inside. made_in members m (node_at last m) (world_began members lines last is m inside)
 
 -- all is marked in a world of nodes in which all is
 pub batch_marked : (new : WorldView) (nodes : List (NodeView Secrets)) (places : List (SharedNode Secrets)) (called : List (SeatView Secrets)) (ends : List (NodeView Secrets)) → (run : IsSession accepts_by nodes places called ends) →

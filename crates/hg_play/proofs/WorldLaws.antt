@@ -25,7 +25,7 @@ use Rattle.hg_world.specs.World.{Secrets, Site, WorldView, new_site, new_world, 
 use Rattle.hg_world.specs.Steps.{after_step, after_steps, node_published, settle_steps}
 use Rattle.hg_script.specs.declared.line.Line.{Line}
 use Rattle.hg_play.specs.Lines.{action_steps}
-use Rattle.hg_play.specs.Play.{Stage, IsSafePlay, after_line, after_lines, block_at, end_steps, end_steps_of, first_stage, lines_steps, play_run, play_steps}
+use Rattle.hg_play.specs.Play.{Stage, IsSafePlay, after_line, after_lines, block_at, end_steps, end_steps_of, first_stage, lines_steps, play_run, play_steps, played_world}
 use Rattle.hg_play.specs.Sites.{IsMadeWith, start_in, starts, starts_of}
 
 -- one step after the others
@@ -174,17 +174,20 @@ coin-steps w (step ∷ steps) = coin-steps (after_step w step) steps ∙ coin-st
     coin-step w (Publish m worker share) = refl
 
 -- so it is safe, where the last world is
-pub safe-play : (members : MemberList) (lines : List Line) (last : WorldView) →
-    last ≡ after_steps (after_lines members (first_stage members) lines).world (end_steps members (length members.entries)) →
+pub safe-played : (members : MemberList) (lines : List Line) (last : WorldView) → last ≡ played_world members lines →
     IsSafe last.members last.coin (run_of last) → IsSafePlay members lines
 unfolding play_run
-safe-play members lines last is safe =
+safe-played members lines last all safe =
     let whole = play_steps members lines in
-    let all = play-steps members lines last is in
     let count : last.members ≡ stakes_of members = ap (λ (w : WorldView). w.members) all ∙ members-steps (new_world members) whole in
     let coin : last.coin ≡ members.coin = ap (λ (w : WorldView). w.coin) all ∙ coin-steps (new_world members) whole in
     subst (λ (w : WorldView). IsSafe (stakes_of members) members.coin (run_of w)) all
     (subst (λ (n : Stakes). IsSafe n members.coin (run_of last)) count (subst (λ (k : ℕ). IsSafe last.members k (run_of last)) coin safe))
+
+pub safe-play : (members : MemberList) (lines : List Line) (last : WorldView) →
+    last ≡ after_steps (after_lines members (first_stage members) lines).world (end_steps members (length members.entries)) →
+    IsSafe last.members last.coin (run_of last) → IsSafePlay members lines
+safe-play members lines last is safe = safe-played members lines last (play-steps members lines last is) safe
 
 -- the nodes of a new world
 starts-sites : (members : MemberList) (ms : List ℕ) → map (λ (s : Site). s.node.start) (map (new_site members) ms) ≡ map (start_in members) ms

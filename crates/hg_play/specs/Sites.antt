@@ -18,6 +18,10 @@ IsMadeWith members v = v.start ≡ start_of members v.start.own v.start.keys
 abbrev pub AreMadeWith : MemberList → WorldView → Type 0
 AreMadeWith members w = (m : ℕ) → IsMemberOf w m → IsMadeWith members (node_at w m)
 
+-- .. and under the members' secrets
+abbrev pub BeganWith : MemberList → WorldView → Type 0
+BeganWith members w = (m : ℕ) → IsMemberOf w m → (node_at w m).start ≡ start_in members m
+
 -- what the nodes of all members begin with
 abbrev pub starts : MemberList → List (Start Secrets)
 starts members = table (start_in members) (length members.entries)

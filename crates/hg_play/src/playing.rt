@@ -8,7 +8,7 @@ ghost use Rattle.hg_play.specs.Batch.{IsPlayed};
 ghost use Rattle.hg_life.specs.Workers.{most_workers};
 ghost use Rattle.hg_play.specs.Nodes.{Closes};
 ghost use Rattle.hg_play.specs.Play.{IsSafePlay, end_steps, end_steps_of, play, played_world, summary};
-ghost use Rattle.hg_play.specs.Sites.{AreMadeWith};
+ghost use Rattle.hg_play.specs.Sites.{AreMadeWith, BeganWith};
 
 use crate::band::Band;
 use crate::batch::play_batches;
@@ -159,6 +159,8 @@ pub fn play_world(alloc: Global, members: &Members, lines: &[Line]) -> Result<Wo
     requires { All (IsLine members.now 0) lines.now }
     ensures world { IfOk result (λ world. world ≡ played_world members.now lines.now) }
     ensures made { IfOk result (AreMadeWith members.now) }
+    ensures began { IfOk result (BeganWith members.now) }
+    ensures safe { OnOk result (IsSafePlay members.now lines.now) }
     ensures count { IfOk result (λ world. length world.sites ≡ length members.now.entries) }
 {
     let keys = MacTable::new(alloc, members)?;
@@ -170,5 +172,6 @@ pub fn play_world(alloc: Global, members: &Members, lines: &[Line]) -> Result<Wo
     let mut world = World::new(alloc, members)?;
     play_lines(&game, &mut world, lines)?;
     settle_all(members, &mut world)?;
+    world.is_world();
     Ok(world)
 }

@@ -2,9 +2,10 @@ use Rattle.std.proofs.Common.{length, ap, refl, ◌∙◌}
 use Rattle.hg_world.specs.World.{WorldView, new_world}
 use Rattle.hg_world.proofs.StepLaws.{steps_sites}
 use Rattle.hg_play.specs.Play.{play_steps}
-use Rattle.hg_play.proofs.BatchLaws.{world_made, world_played}
+use Rattle.hg_play.proofs.BatchLaws.{world_began, world_made, world_played}
 use Rattle.hg_play.proofs.LawfulLaws.{new_count}
 use Rattle.hg_play.proofs.PlayLaws.{lines_below}
+use Rattle.hg_play.proofs.WorldLaws.{safe-played}
 use Rattle.hg_play.proofs.playing.play_world.Goals as goal
 
 pub play_lines-requires : goal.play_lines-requires
@@ -18,6 +19,17 @@ pub returns-clause-made : goal.returns-clause-made
 returns-clause-made c =
     world_made c.args.members.now c.args.lines.now c.settle_all.new.world
     (world_played c.args.members.now c.args.lines.now c.in_ok-world.world c.play_lines.new.world c.settle_all.new.world _ c.in_ok-world.ensures c.in_ok-play_lines.ensures.told c.in_ok-settle_all.ensures)
+
+pub returns-clause-began : goal.returns-clause-began
+returns-clause-began c =
+    world_began c.args.members.now c.args.lines.now c.settle_all.new.world
+    (world_played c.args.members.now c.args.lines.now c.in_ok-world.world c.play_lines.new.world c.settle_all.new.world _ c.in_ok-world.ensures c.in_ok-play_lines.ensures.told c.in_ok-settle_all.ensures)
+
+pub returns-clause-safe : goal.returns-clause-safe
+returns-clause-safe c =
+    safe-played c.args.members.now c.args.lines.now c.settle_all.new.world
+    (world_played c.args.members.now c.args.lines.now c.in_ok-world.world c.play_lines.new.world c.settle_all.new.world _ c.in_ok-world.ensures c.in_ok-play_lines.ensures.told c.in_ok-settle_all.ensures)
+    c.is_world.ensures.safe
 
 pub returns-clause-count : goal.returns-clause-count
 returns-clause-count c =
