@@ -8,6 +8,7 @@ use crate::drafting::{Draft, next_draft, signed_event};
 use crate::marks::{are_marked, count_marked};
 use crate::plain::{is_published, rows_of, tables_of, whole_of};
 use crate::plan::{Plan, asks_for_fork, members_of, plan_of};
+use crate::proved::is_proved;
 use crate::watched::Watched;
 use hg_check::Dice;
 use hg_life::{Members, PutAnswer};
@@ -29,6 +30,7 @@ struct Game<'a> {
     alloc: Global,
     dice: Dice,
     plan: Plan,
+    members: &'a Members,
     keys: &'a MacTable,
     watched: Watched<'a>,
 }
@@ -58,8 +60,8 @@ impl<'a> Game<'a> {
         Ok(true)
     }
 
-    /// Publishes a share of a moment. Answers whether the kept order has only grown and is a front of the plain program's, and
-    /// whether the marks are those that were found.
+    /// Publishes a share of a moment. Answers whether the kept order has only grown and is a front of the plain program's, which
+    /// the node's certificate shows, and whether the marks are those that were found.
     fn publish(&mut self, number: usize, share: Share) -> Result<bool, Memory> {
         let before = Vec::from_slice(self.alloc, self.watched.node().kept())?;
         let count = count_marked(self.watched.node());
@@ -68,8 +70,10 @@ impl<'a> Game<'a> {
         };
         let node = self.watched.node();
         let whole = whole_of(self.alloc, node)?;
+        let proved = is_proved(self.alloc, self.members, self.keys, node, &whole)?;
         Ok(
-            is_front(before.as_slice(), node.kept())
+            proved
+                && is_front(before.as_slice(), node.kept())
                 && is_front(node.kept(), whole.order.as_slice())
                 && count.checked_add(published.marked as usize) == Some(count_marked(node))
                 && are_marked(node, published.found.marks.as_slice()),
@@ -211,6 +215,7 @@ fn play_plan(
         alloc,
         dice,
         plan,
+        members,
         keys,
         watched,
     };

@@ -3,8 +3,8 @@
 //! A graph: a node takes and makes rows, some of them forks, and publishes fame from earlier prefixes, while the plain
 //! program says what its rows must come to. Of one more graph the order was worked by hand, and is what the plain
 //! program must say. `Watched` says that what is elected in an earlier prefix may be published; the comparisons say what
-//! is alike. In every second graph members have stakes that differ, and in three of nine rows may have up to four
-//! other-parents. In each prefix of a graph a table of votes that is carried from row to row is compared with a new one.
+//! is alike. Where fame was published, the certificate of the node's order must show the plain program's. In every second
+//! graph members have stakes that differ, and in three of nine rows may have up to four other-parents. In each prefix of a graph a table of votes that is carried from row to row is compared with a new one.
 //!
 //! A world: members of one stake each gossip and publish late, fewer than a third of them fork, and damaged bytes come. After
 //! each step, of any two orders that nodes keep one must be a prefix of the other (`IsOnePrefix`), and each begin with what it
@@ -28,6 +28,7 @@ mod marks;
 mod orders;
 mod plain;
 mod plan;
+mod proved;
 mod watched;
 mod worked;
 mod world_plan;

@@ -27,6 +27,8 @@ mod keeping;
 #[cfg(test)]
 mod program;
 #[cfg(test)]
+mod proving;
+#[cfg(test)]
 mod telling;
 #[cfg(test)]
 mod words;

@@ -34,11 +34,24 @@ pub record KeepFiles : Type 0 where
   pub disk : Text
   pub time : Option ℕ
 
+-- the certificate of the order of the node of the member of that own name, after the play of a script
+pub record ProveFiles : Type 0 where
+  pub members : Text
+  pub script : Text
+  pub own : Text
+
+-- a certificate that is checked for the members
+pub record CheckFiles : Type 0 where
+  pub members : Text
+  pub proof : Text
+
 -- what a command asks for
 pub data Asked : Type 0 where
   run : RunFiles → Asked
   make : MadeRun → Asked
   keep : KeepFiles → Asked
+  prove : ProveFiles → Asked
+  check : CheckFiles → Asked
 
 -- a request, with its texts
 abbrev pub asked : Request → Asked
@@ -47,6 +60,8 @@ asked (request.Make members lines seed workers) =
     make (record { members = members; lines = lines; seed = seed; workers = workers })
 asked (request.Keep members events own disk time) =
     keep (record { members = members.now; events = events.now; own = own.now; disk = disk.now; time = time })
+asked (request.Prove members script own) = prove (record { members = members.now; script = script.now; own = own.now })
+asked (request.Check members proof) = check (record { members = members.now; proof = proof.now })
 
 -- the least and the greatest number of members that are made
 abbrev pub least_members : ℕ
@@ -64,14 +79,14 @@ abbrev pub KeepsRanges : Asked → Type 0
 KeepsRanges (run r) = r.workers ≤ most_workers
 KeepsRanges (make m) =
     (least_members ≤ m.members) × (m.members ≤ most_members) × (m.lines ≤ most_lines) × (m.workers ≤ most_workers)
-KeepsRanges (keep k) = ⊤
+KeepsRanges _ = ⊤
 
 -- whether they do
 abbrev pub keeps_ranges : Asked → Bool
 keeps_ranges (run r) = nat_le r.workers most_workers
 keeps_ranges (make m) =
     nat_le least_members m.members && (nat_le m.members most_members && (nat_le m.lines most_lines && nat_le m.workers most_workers))
-keeps_ranges (keep k) = true
+keeps_ranges _ = true
 
 -- ---- what an option was given
 
@@ -143,9 +158,29 @@ keep_command = record {
   });
 }
 
+-- prove --members FILE --script FILE --own NAME
+abbrev pub prove_command : Command
+prove_command = record {
+  name = codes "prove";
+  options = needed (text_option (codes "members")) ∷ needed (text_option (codes "script")) ∷ needed (text_option (codes "own")) ∷ [];
+  reads = λ rows. prove (record {
+    members = text_in (codes "members") rows;
+    script = text_in (codes "script") rows;
+    own = text_in (codes "own") rows;
+  });
+}
+
+-- check --members FILE --proof FILE
+abbrev pub check_command : Command
+check_command = record {
+  name = codes "check";
+  options = needed (text_option (codes "members")) ∷ needed (text_option (codes "proof")) ∷ [];
+  reads = λ rows. check (record { members = text_in (codes "members") rows; proof = text_in (codes "proof") rows });
+}
+
 -- the commands of the program
 abbrev pub commands : List Command
-commands = run_command ∷ make_command ∷ keep_command ∷ []
+commands = run_command ∷ make_command ∷ keep_command ∷ prove_command ∷ check_command ∷ []
 
 -- a command as clap is told of it
 abbrev pub app_for : Command → App

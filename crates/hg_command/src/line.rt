@@ -92,6 +92,29 @@ fn keep_command<'a>(alloc: Global) -> Result<Command<'a>, AllocError>
     Ok(keep)
 }
 
+/// `prove --members FILE --script FILE --own NAME`
+fn prove_command<'a>(alloc: Global) -> Result<Command<'a>, AllocError>
+    ensures app { IfOk result (λ c. app_of c ≡ app_for asked.prove_command) }
+    ensures local { IfOk result (λ c. (out-Command c).has_globals ≡ false) }
+{
+    let prove = Command::new(alloc, "prove")
+        .arg(text_option(alloc, "members"))?
+        .arg(text_option(alloc, "script"))?
+        .arg(text_option(alloc, "own"))?;
+    Ok(prove)
+}
+
+/// `check --members FILE --proof FILE`
+fn check_command<'a>(alloc: Global) -> Result<Command<'a>, AllocError>
+    ensures app { IfOk result (λ c. app_of c ≡ app_for asked.check_command) }
+    ensures local { IfOk result (λ c. (out-Command c).has_globals ≡ false) }
+{
+    let check = Command::new(alloc, "check")
+        .arg(text_option(alloc, "members"))?
+        .arg(text_option(alloc, "proof"))?;
+    Ok(check)
+}
+
 /// The program before it has commands: one of them is required, and nothing asks for help.
 fn program<'a>(alloc: Global) -> Command<'a>
     ensures app { app_of result ≡ line.program }
@@ -111,9 +134,13 @@ pub(crate) fn command<'a>(alloc: Global) -> Result<Command<'a>, AllocError>
     let run = run_command(alloc)?;
     let make = make_command(alloc)?;
     let keep = keep_command(alloc)?;
+    let prove = prove_command(alloc)?;
+    let check = check_command(alloc)?;
     let whole = program(alloc)
         .subcommand(run)?
         .subcommand(make)?
-        .subcommand(keep)?;
+        .subcommand(keep)?
+        .subcommand(prove)?
+        .subcommand(check)?;
     Ok(whole)
 }

@@ -1,6 +1,6 @@
 ghost use Rattle.std.specs.Prelude.{◌≡◌, option_and_then, option_map, codes};
 ghost use Rattle.clap.specs.Words.{found_of, rows_of, subcommand_rows_of};
-ghost use Rattle.hg_command.specs.Asked.{asked, asked_in, keep_command, keeps_ranges, make_command, maybe_number_in, number_in, run_command, text_in};
+ghost use Rattle.hg_command.specs.Asked.{asked, asked_in, check_command, keep_command, keeps_ranges, make_command, maybe_number_in, number_in, prove_command, run_command, text_in};
 
 use clap::ArgMatches;
 
@@ -29,6 +29,17 @@ pub enum Request<'a> {
         disk: &'a str,
         time: Option<u64>,
     },
+    /// To play the script, and to prove the order of the node of the member of the name `own`.
+    Prove {
+        members: &'a str,
+        script: &'a str,
+        own: &'a str,
+    },
+    /// To check what the file of the name `proof` proves to the members.
+    Check {
+        members: &'a str,
+        proof: &'a str,
+    },
 }
 
 impl<'a> Request<'a> {
@@ -44,7 +55,7 @@ impl<'a> Request<'a> {
                 workers,
                 ..
             } => 2 <= members && members <= 128 && lines <= 1_000_000 && workers <= 16,
-            Request::Keep { .. } => true,
+            Request::Keep { .. } | Request::Prove { .. } | Request::Check { .. } => true,
         }
     }
 }
@@ -110,6 +121,25 @@ fn keep_at<'a>(matches: &ArgMatches<'a>) -> Request<'a>
     }
 }
 
+fn prove_at<'a>(matches: &ArgMatches<'a>) -> Request<'a>
+    ensures { asked result ≡ prove_command.reads (rows_of (found_of matches.now)) }
+{
+    Request::Prove {
+        members: text_at(matches, "members"),
+        script: text_at(matches, "script"),
+        own: text_at(matches, "own"),
+    }
+}
+
+fn check_at<'a>(matches: &ArgMatches<'a>) -> Request<'a>
+    ensures { asked result ≡ check_command.reads (rows_of (found_of matches.now)) }
+{
+    Request::Check {
+        members: text_at(matches, "members"),
+        proof: text_at(matches, "proof"),
+    }
+}
+
 /// What the command that was met asks for.
 pub(crate) fn request_at<'a>(matches: &ArgMatches<'a>) -> Option<Request<'a>>
     ensures { option_map asked result ≡ option_and_then asked_in (subcommand_rows_of matches.now) }
@@ -121,6 +151,10 @@ pub(crate) fn request_at<'a>(matches: &ArgMatches<'a>) -> Option<Request<'a>>
         Some(make_at(options))
     } else if name == "keep" {
         Some(keep_at(options))
+    } else if name == "prove" {
+        Some(prove_at(options))
+    } else if name == "check" {
+        Some(check_at(options))
     } else {
         None
     }

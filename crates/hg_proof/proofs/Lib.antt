@@ -6,3 +6,5 @@ mod FormLaws
 mod JudgeLaws
 mod PartLaws
 mod WholeLaws
+mod FrontLaws
+mod WriteLaws

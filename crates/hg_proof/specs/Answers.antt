@@ -1,5 +1,5 @@
 -- The words in which clauses speak of what a check answers, and of a graph that is filled with the rows of a certificate
-use Rattle.std.specs.Prelude.{◌≡◌, List, ◌++◌, Option, Some, None, Result, Ok, Err, ⊤}
+use Rattle.std.specs.Prelude.{◌≡◌, ℕ, List, ◌++◌, Option, Some, None, Result, Ok, Err, IfOk, ⊤}
 use Rattle.hg_model.specs.declared.row.Row.{Row}
 use Rattle.hg_model.specs.declared.stop.Stop.{Stop}
 use Rattle.hg_model.specs.declared.stop.Stop.TheVariants.{Memory, Fault}
@@ -9,7 +9,11 @@ use Rattle.hg_model.specs.Prefix.{Graph, graph_of}
 use Rattle.hg_proof.specs.declared.shown.Checked.{Checked}
 use Rattle.hg_proof.specs.declared.shown.Checked.TheVariants.{Yes, No}
 use Rattle.hg_proof.specs.declared.why.Why.{Why}
+use Rattle.hg_graph.specs.Held.{graph_with}
+use Rattle.hg_life.specs.Signing.{Accepts}
 use Rattle.hg_proof.specs.Certificate.{Certificate}
+use Rattle.hg_proof.specs.Judging.{judged, next_why, ordered_rows, rows_why}
+use Rattle.hg_proof.specs.Shows.{Shows}
 
 -- what is shown, or the reason why nothing is
 abbrev pub told : Checked → Result Certificate Why
@@ -29,8 +33,30 @@ order_in g = order_of g.members g.coin g.rows
 abbrev pub graph_and : Graph → List Row → Graph
 graph_and g rows = graph_of g.members g.coin (g.rows ++ rows)
 
+-- such an answer is told
+abbrev pub Tells : {E : Type 0} → Result Certificate Why → Result Checked E → Type 0
+Tells answer result = IfOk result (λ checked. told checked ≡ answer)
+
+-- what bytes show to keys that accept so, among the members of a graph, and with its coin period: the first reason, or this
+abbrev pub judged_in : Accepts → Graph → List ℕ → Result Certificate Why
+judged_in accepts g bytes = judged accepts g.members g.coin bytes
+
+abbrev pub ShowsIn : Accepts → Graph → List ℕ → Certificate → Type 0
+ShowsIn accepts g bytes shown = Shows accepts g.members g.coin bytes shown
+
+-- the same of rows and their order
+abbrev pub ordered_among : Accepts → Graph → List Row → Result (List Placed) Why
+ordered_among accepts g rows = ordered_rows accepts g.members g.coin rows
+
 -- nothing speaks against what was to come, and the graph has become this one; or the first reason against it was told
 abbrev pub Comes : {A : Type 0} → Option Why → Graph → Result A (Stop Why) → Graph → Type 0
 Comes why with_it (Ok done) new = (why ≡ None) × (new ≡ with_it)
 Comes why with_it (Err Memory) new = ⊤
 Comes why with_it (Err (Fault told)) new = why ≡ Some told
+
+-- so it is of the row that comes next, and of these rows, one after the other
+abbrev pub ComesNext : {A : Type 0} → Accepts → Graph → Row → Result A (Stop Why) → Graph → Type 0
+ComesNext accepts old row result new = Comes (next_why accepts old row) (graph_with old row) result new
+
+abbrev pub ComeAll : {A : Type 0} → Accepts → Graph → List Row → Result A (Stop Why) → Graph → Type 0
+ComeAll accepts old rows result new = Comes (rows_why accepts old rows) (graph_and old rows) result new

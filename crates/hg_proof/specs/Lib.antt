@@ -4,3 +4,4 @@ pub mod Judging
 pub mod Shows
 pub mod Answers
 pub mod Laws
+pub mod Least

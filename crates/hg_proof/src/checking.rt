@@ -2,10 +2,8 @@ ghost use Rattle.std.specs.Prelude.{◌≡◌, ◌≤◌, [], IfOk, Ok, length};
 ghost use Rattle.hg_life.specs.Results.{Gives};
 ghost use Rattle.hg_life.specs.Verdict.{row_limit};
 ghost use Rattle.hg_graph.specs.RowsWithRoom.{rows_of};
-ghost use Rattle.hg_proof.specs.Answers.{IfYes, told};
+ghost use Rattle.hg_proof.specs.Answers.{IfYes, ShowsIn, Tells, judged_in, ordered_among};
 ghost use Rattle.hg_proof.specs.Certificate.{Certificate};
-ghost use Rattle.hg_proof.specs.Judging.{judged, ordered_rows};
-ghost use Rattle.hg_proof.specs.Shows.{Shows};
 
 use crate::comparing::difference;
 use crate::filling::fill;
@@ -29,7 +27,7 @@ fn ordered<V: Verifier>(
 ) -> Result<Vec<Placed>, Stop<Why>>
     requires empty { graph.old.graph.rows ≡ [] }
     requires few { length events.now ≤ row_limit }
-    ensures { Gives (λ order. order.items) result (ordered_rows (V.accepts keys.now) graph.old.graph.members graph.old.graph.coin (rows_of events.now)) }
+    ensures { Gives (λ order. order.items) result (ordered_among (V.accepts keys.now) graph.old.graph (rows_of events.now)) }
 {
     fill(keys, graph, events)?;
     // That the graph is lawful.
@@ -46,7 +44,7 @@ fn judge<V: Verifier>(
     bytes: &[u8],
 ) -> Result<Shown, Stop<Why>>
     requires { graph.old.graph.rows ≡ [] }
-    ensures { Gives (λ shown. shown) result (judged (V.accepts keys.now) graph.old.graph.members graph.old.graph.coin bytes.now) }
+    ensures { Gives (λ shown. shown) result (judged_in (V.accepts keys.now) graph.old.graph bytes.now) }
 {
     let shown = form_of(alloc, bytes)?;
     let whole = ordered(alloc, keys, graph, shown.events())?;
@@ -64,7 +62,7 @@ fn answered<V: Verifier>(
     bytes: &[u8],
 ) -> Result<Checked, Memory>
     requires { graph.old.graph.rows ≡ [] }
-    ensures { IfOk result (λ checked. told checked ≡ judged (V.accepts keys.now) graph.old.graph.members graph.old.graph.coin bytes.now) }
+    ensures { Tells (judged_in (V.accepts keys.now) graph.old.graph bytes.now) result }
 {
     match judge(alloc, keys, graph, bytes) {
         Ok(shown) => Ok(Checked::Yes(shown)),
@@ -87,12 +85,11 @@ pub fn check<V: Verifier>(
 ) -> Result<Checked, Memory>
     requires { graph.old.graph.rows ≡ [] }
     // What is answered yes is shown.
-    ensures yes { IfOk result (λ checked. IfYes checked (Shows (V.accepts keys.now) graph.old.graph.members graph.old.graph.coin bytes.now)) }
+    ensures yes { IfOk result (λ checked. IfYes checked (ShowsIn (V.accepts keys.now) graph.old.graph bytes.now)) }
     // What is shown is answered yes.
-    ensures only { (shown : Certificate) → Shows (V.accepts keys.now) graph.old.graph.members graph.old.graph.coin bytes.now shown
-        → IfOk result (λ checked. told checked ≡ Ok shown) }
+    ensures only { (shown : Certificate) → ShowsIn (V.accepts keys.now) graph.old.graph bytes.now shown → Tells (Ok shown) result }
     // What is shown, or which reason speaks first.
-    ensures exact { IfOk result (λ checked. told checked ≡ judged (V.accepts keys.now) graph.old.graph.members graph.old.graph.coin bytes.now) }
+    ensures exact { Tells (judged_in (V.accepts keys.now) graph.old.graph bytes.now) result }
 {
     // That the members have some stake, so that no rows are a graph.
     graph.len();

@@ -6,8 +6,8 @@ ghost use Rattle.hg_life.specs.Verdict.{row_limit};
 ghost use Rattle.hg_graph.specs.Held.{graph_with};
 ghost use Rattle.hg_graph.specs.RowsWithRoom.{rows_of};
 ghost use Rattle.hg_arrival.specs.Arrival.{StandsOn};
-ghost use Rattle.hg_proof.specs.Answers.{Comes, graph_and};
-ghost use Rattle.hg_proof.specs.Judging.{next_why, rows_why, why_at};
+ghost use Rattle.hg_proof.specs.Answers.{ComeAll, ComesNext};
+ghost use Rattle.hg_proof.specs.Judging.{why_at};
 
 use crate::why::Why;
 use hg_arrival::parents_of_arrival;
@@ -57,7 +57,7 @@ fn add_next<V: Verifier>(
     event: &Arc<Event>,
 ) -> Result<(), Stop<Why>>
     requires { length graph.old.graph.rows < row_limit }
-    ensures { Comes (next_why (V.accepts keys.now) graph.old.graph event.now.value) (graph_with graph.old.graph event.now.value) result graph.new.graph }
+    ensures { ComesNext (V.accepts keys.now) graph.old.graph event.now.value result graph.new.graph }
 {
     let name = event.row().name;
     let place = graph.len();
@@ -77,7 +77,7 @@ pub(crate) fn fill<V: Verifier>(
     events: &[Arc<Event>],
 ) -> Result<(), Stop<Why>>
     requires { length graph.old.graph.rows + length events.now ≤ row_limit }
-    ensures { Comes (rows_why (V.accepts keys.now) graph.old.graph (rows_of events.now)) (graph_and graph.old.graph (rows_of events.now)) result graph.new.graph }
+    ensures { ComeAll (V.accepts keys.now) graph.old.graph (rows_of events.now) result graph.new.graph }
 {
     for event in events {
         add_next(keys, graph, event)?;

@@ -9,16 +9,18 @@ use Rattle.hg_io.specs.declared.shelf.Shelf as shelf
 use Rattle.hg_io.specs.declared.sink.Sink as sink
 use Rattle.hg_top.specs.declared.status.File.{File}
 use Rattle.hg_top.specs.declared.status.Status.{Status}
-use Rattle.hg_top.specs.declared.status.Status.TheVariants.{Done, ReadFault, Usage, Members, Own, Script, Events, WriteFault, Memory, Disk, Journal}
+use Rattle.hg_top.specs.declared.status.Status.TheVariants.{Done, ReadFault, Usage, Members, Own, Script, Events, WriteFault, Memory, Disk, Journal, Proof}
 use Rattle.hg_top.specs.Course.{Course, DiskCourse, Has, HasMore, HasWithin, IsQuiet, IsStill, StartsOne, Tells, course, disk_course, no_disk, reading}
 use Rattle.hg_top.specs.Ends.{Comes, Completes, Ends, IsTaken, StopsAt, StopsIn}
 use Rattle.hg_top.specs.Work.{Work, limit_of, nothing_more, takes, unless_faulty}
 use Rattle.hg_top.specs.Work.Work.{Writes, Stops, Reads, Keeps}
 use Rattle.hg_top.specs.Writing.{WroteOn, status_of}
 use Rattle.hg_members.specs.MemberFile.{members_of}
-use Rattle.hg_top.specs.Commands.{bad_members, bad_script, lines_for, report_work, run_work, script_work, work_of}
+use Rattle.hg_life.specs.Members.{MemberList}
+use Rattle.hg_certify.specs.Showing.{judged_by}
+use Rattle.hg_top.specs.Commands.{answer_work, bad_members, bad_proof, bad_script, certificate_work, check_work, lines_for, own_in, played_work, prove_work, report_work, run_work, script_work, shown_work, work_of}
 use Rattle.hg_top.proofs.KeepLaws.{completes_keep}
-use Rattle.hg_command.specs.Asked.{Asked}
+use Rattle.hg_command.specs.Asked.{Asked, ProveFiles}
 
 -- ---- what holds of each work
 
@@ -61,6 +63,7 @@ completes_text Is c starts (Script refusal) comes fine = absurd comes.1
 completes_text Is c starts (Events refusal) comes fine = absurd comes.1
 completes_text Is c starts Disk comes fine = absurd comes.1
 completes_text Is c starts (Journal why) comes fine = absurd comes.1
+completes_text Is c starts (Proof refusal) comes fine = absurd comes.1
 
 completes_file : (file : File) (name : List ℕ) (next : List ℕ → Work) (c : Course) (status : Status) → StopsAt c file name status → Completes (Reads file name next) c status
 completes_file file name next c status (inl fault) = λ bytes tells fine. absurd (fine fault.1)
@@ -98,6 +101,7 @@ stops_before work c starts (Script refusal) comes = absurd comes.1
 stops_before work c starts (Events refusal) comes = absurd comes.1
 stops_before work c starts Disk comes = absurd comes.1
 stops_before work c starts (Journal why) comes = absurd comes.1
+stops_before work c starts (Proof refusal) comes = absurd comes.1
 
 -- a file that is read, if what follows may be exchanged
 pub reads_for : (file : File) (name : List ℕ) (next others : List ℕ → Work) (c : Course) (starts : ℕ) (status : Status) →
@@ -136,6 +140,18 @@ diskless_unless stop (Err fault) next diskless = tt
 pub diskless_run : (members script : List ℕ) (workers : ℕ) → Diskless (run_work members script workers)
 diskless_run members script workers = λ bytes. diskless_unless bad_members (members_of bytes) (script_work script workers)
     (λ list bytes. diskless_unless bad_script (lines_for list workers bytes) (report_work list) (λ lines. tt))
+
+diskless_played : (p : ProveFiles) (members : MemberList) (own : Option ℕ) → Diskless (played_work p members own)
+diskless_played p members None = tt
+diskless_played p members (Some own) = λ bytes. diskless_unless bad_script (lines_for members 0 bytes) (certificate_work members own) (λ lines. tt)
+
+pub diskless_prove : (p : ProveFiles) → Diskless (prove_work p)
+diskless_prove p = λ bytes. diskless_unless bad_members (members_of bytes) (λ (members : MemberList). played_work p members (own_in members p.own))
+    (λ members. diskless_played p members (own_in members p.own))
+
+pub diskless_check : (members proof : List ℕ) → Diskless (check_work members proof)
+diskless_check members proof = λ bytes. diskless_unless bad_members (members_of bytes) (λ (list : MemberList). shown_work proof list (answer_work list))
+    (λ list bytes. diskless_unless bad_proof (judged_by list bytes) (answer_work list) (λ shown. tt))
 
 -- then it does not matter which disk it is that nothing is done to
 pub with_disk : (work : Work) (c : Course) (d : DiskCourse) (starts : ℕ) (status : Status) → Diskless work → IsStill d → Comes work c starts status → Comes work (record c { disk = d }) starts status

@@ -9,23 +9,29 @@ use Rattle.hg_script.specs.declared.fault.ScriptFault.{ScriptFault}
 use Rattle.hg_script.specs.declared.line.Line.{Line}
 use Rattle.hg_script.specs.Script.{lines_of}
 use Rattle.hg_made.specs.Made.{generate}
-use Rattle.hg_command.specs.Asked.{Asked, KeepFiles, MadeRun, keep, make, request_of, run, texts}
+use Rattle.hg_command.specs.Asked.{Asked, KeepFiles, MadeRun, ProveFiles, check, keep, make, prove, request_of, run, texts}
+use Rattle.hg_certify.specs.Proving.{IsProofOf}
+use Rattle.hg_certify.specs.Showing.{IsSafeBeside, ShowsTo, judged_by}
+use Rattle.hg_certify.specs.Text.{shown_text}
 use Rattle.hg_keep.specs.Events.{events_of}
 use Rattle.hg_keep.specs.declared.events.EventFault.{EventFault}
 use Rattle.hg_play.specs.Agree.{IsAgreed}
 use Rattle.hg_play.specs.Play.{IsSafePlay, play, summary}
+use Rattle.hg_proof.specs.Certificate.{Certificate, certificate_bytes}
+use Rattle.hg_proof.specs.declared.why.Why.{Why}
 use Rattle.hg_report.specs.Summary.{summary_text}
 use Rattle.hg_top.specs.declared.keeping.KeepRequest.{KeepRequest}
+use Rattle.hg_top.specs.declared.proving.ProveRequest.{ProveRequest}
 use Rattle.hg_top.specs.declared.status.File.TheVariants as file
 use Rattle.hg_top.specs.declared.status.Refusal.TheVariants.{Fault}
 use Rattle.hg_top.specs.declared.status.Status.{Status}
-use Rattle.hg_top.specs.declared.status.Status.TheVariants.{Usage, Members, Own, Script, Events}
+use Rattle.hg_top.specs.declared.status.Status.TheVariants.{Usage, Members, Own, Script, Events, Proof}
 use Rattle.hg_top.specs.Work.{Work, takes}
 use Rattle.hg_top.specs.Work.Work.{Writes, Stops, Keeps}
 
 -- ---- the files
 
--- the statuses of a member file, of a script and of a file of events that have a fault
+-- the statuses of a member file, of a script, of a file of events and of a proof that have a fault
 abbrev pub bad_members : MemberFault → Status
 bad_members fault = Members (Fault fault)
 
@@ -34,6 +40,9 @@ bad_script fault = Script (Fault fault)
 
 abbrev pub bad_events : EventFault → Status
 bad_events fault = Events (Fault fault)
+
+abbrev pub bad_proof : Why → Status
+bad_proof why = Proof (Fault why)
 
 -- the member file of this name, and next with its members
 abbrev pub members_work : List ℕ → (MemberList → Work) → Work
@@ -50,6 +59,10 @@ lines_work name members workers next = takes file.Script bad_script (lines_for m
 -- the file of events of this name, and next with its events
 abbrev pub events_work : List ℕ → (List (List ℕ) → Work) → Work
 events_work name next = takes file.Events bad_events events_of name next
+
+-- the proof of this name, for these members, and next with what it shows
+abbrev pub shown_work : List ℕ → MemberList → (Certificate → Work) → Work
+shown_work name members next = takes file.Proof bad_proof (judged_by members) name next
 
 -- ---- run
 
@@ -118,6 +131,38 @@ keep_work k = members_work k.members (λ members. own_work k members (own_in mem
 abbrev pub files_of : KeepRequest → KeepFiles
 files_of k = record { members = k.members.now; events = k.events.now; own = k.own.now; disk = k.disk.now; time = k.time }
 
+-- ---- prove
+
+-- the certificate of the order of this member's node is written
+abbrev pub certificate_work : MemberList → ℕ → List Line → Work
+certificate_work members own lines = Writes (IsProofOf members lines own)
+
+-- reads the script, where there is such a member
+abbrev pub played_work : ProveFiles → MemberList → Option ℕ → Work
+played_work p members None = Stops Own
+played_work p members (Some own) = lines_work p.script members 0 (certificate_work members own)
+
+-- reads the member file, then the script
+abbrev pub prove_work : ProveFiles → Work
+prove_work p = members_work p.members (λ members. played_work p members (own_in members p.own))
+
+-- ---- check
+
+-- The text tells what is shown. Bytes that show the members a graph of signed events and its whole order spell this; and the
+-- order and that of any node never part, in a run in which this graph counts as a further one.
+pub record IsAnswerOf (members : MemberList) (shown : Certificate) (text : List ℕ) : Type 0 where
+  pub is : text ≡ shown_text shown
+  pub shows : ShowsTo members (certificate_bytes shown) shown
+  pub safe : IsSafeBeside members shown
+
+-- it is written
+abbrev pub answer_work : MemberList → Certificate → Work
+answer_work members shown = Writes (IsAnswerOf members shown)
+
+-- reads the member file, then the proof
+abbrev pub check_work : List ℕ → List ℕ → Work
+check_work members proof = members_work members (λ list. shown_work proof list (answer_work list))
+
 -- ---- all commands
 
 -- the work that was asked for; words that are not accepted have their status
@@ -126,11 +171,17 @@ work_of None = Stops Usage
 work_of (Some (run r)) = run_work r.members r.script r.workers
 work_of (Some (make m)) = make_work m
 work_of (Some (keep k)) = keep_work k
+work_of (Some (prove p)) = prove_work p
+work_of (Some (check c)) = check_work c.members c.proof
 
 -- nothing of it is done to a disk
 abbrev pub KeepsNothing : Option Asked → Type 0
 KeepsNothing (Some (keep k)) = ⊥
 KeepsNothing _ = ⊤
+
+-- what a certificate was asked for
+abbrev pub proved_of : ProveRequest → ProveFiles
+proved_of p = record { members = p.members.now; script = p.script.now; own = p.own.now }
 
 -- what the words of a command line ask for, where they are accepted
 abbrev pub asks : List (String Global) → Option Asked

@@ -1,6 +1,7 @@
 -- What a status is to the outside: a line on standard error, and an exit status
 use Rattle.std.specs.Prelude.{ℕ, ◌⊎◌, List, ◌++◌, codes}
 use Rattle.std.specs.Fmt.{decimal}
+use Rattle.hg_certify.specs.Text.{why_text}
 use Rattle.hg_io.specs.Bytes.{Appends, AppendsPart}
 use Rattle.hg_io.specs.Faults.{Rose}
 use Rattle.hg_io.specs.declared.sink.Sink as sink
@@ -8,6 +9,7 @@ use Rattle.hg_keep.specs.declared.events.EventFault.{EventFault}
 use Rattle.hg_members.specs.declared.fault.MemberFault.{MemberFault}
 use Rattle.hg_members.specs.Text.{member_fault_text}
 use Rattle.hg_outcome.specs.Report.{byte_fault_text}
+use Rattle.hg_proof.specs.declared.why.Why.{Why}
 use Rattle.hg_script.specs.declared.fault.ScriptFault.{ScriptFault}
 use Rattle.hg_script.specs.Text.{why_text}
 use Rattle.hg_top.specs.declared.status.File.TheVariants as file
@@ -19,7 +21,7 @@ use Rattle.hg_top.specs.declared.status.NoWords.TheVariants.{NotText}
 use Rattle.hg_top.specs.declared.status.Refusal.{Refusal}
 use Rattle.hg_top.specs.declared.status.Refusal.TheVariants.{TooLong, Fault}
 use Rattle.hg_top.specs.declared.status.Status.{Status}
-use Rattle.hg_top.specs.declared.status.Status.TheVariants.{Done, ReadFault, Usage, Members, Own, Script, Events, WriteFault, Memory, Disk, Journal}
+use Rattle.hg_top.specs.declared.status.Status.TheVariants.{Done, ReadFault, Usage, Members, Own, Script, Events, WriteFault, Memory, Disk, Journal, Proof}
 
 -- the lines that tell what is wrong with a file
 abbrev pub members_line : Refusal MemberFault → List ℕ
@@ -40,13 +42,19 @@ abbrev pub journal_line : JournalFault → List ℕ
 journal_line Foreign = codes "hashgraph: journal: foreign\n"
 journal_line (Broken at) = codes "hashgraph: journal: broken " ++ (decimal at ++ codes "\n")
 
+-- the line that tells why a proof shows nothing
+abbrev pub proof_line : Refusal Why → List ℕ
+proof_line TooLong = codes "hashgraph: proof: too-long\n"
+proof_line (Fault why) = codes "hashgraph: proof: " ++ (why_text why ++ codes "\n")
+
 -- the line that a status writes to standard error
 abbrev pub status_line : Status → List ℕ
 status_line Done = codes ""
 status_line (ReadFault file.Members) = codes "hashgraph: cannot read the member file\n"
 status_line (ReadFault file.Script) = codes "hashgraph: cannot read the script\n"
 status_line (ReadFault file.Events) = codes "hashgraph: cannot read the event file\n"
-status_line Usage = codes "hashgraph: usage: run --members FILE --script FILE [--workers K] or make --members N --lines L --seed S [--workers K] or keep --members FILE --events FILE --own NAME --disk FILE [--time T]\n"
+status_line (ReadFault file.Proof) = codes "hashgraph: cannot read the proof file\n"
+status_line Usage = codes "hashgraph: usage: run --members FILE --script FILE [--workers K] or make --members N --lines L --seed S [--workers K] or keep --members FILE --events FILE --own NAME --disk FILE [--time T] or prove --members FILE --script FILE --own NAME or check --members FILE --proof FILE\n"
 status_line (Members refusal) = members_line refusal
 status_line Own = codes "hashgraph: members: own\n"
 status_line (Script refusal) = script_line refusal
@@ -55,6 +63,7 @@ status_line WriteFault = codes "hashgraph: cannot write\n"
 status_line Memory = codes "hashgraph: out of memory\n"
 status_line Disk = codes "hashgraph: disk\n"
 status_line (Journal fault) = journal_line fault
+status_line (Proof refusal) = proof_line refusal
 
 -- the line was written whole to a sink E, or a front of it, where the count of faults rose
 abbrev pub IsPrintedOn : {S : Type 0} → sink.Ghosts S → S → S → List ℕ → Type 0
@@ -80,3 +89,4 @@ status_code WriteFault = 5
 status_code Memory = 6
 status_code Disk = 7
 status_code (Journal fault) = 8
+status_code (Proof refusal) = 9

@@ -18,6 +18,7 @@
 
 mod keeping;
 mod printing;
+mod proving;
 mod reading;
 mod status;
 mod top;

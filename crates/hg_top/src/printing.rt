@@ -3,9 +3,10 @@ ghost use Rattle.hg_io.specs.Printing.{Prints};
 ghost use Rattle.hg_members.specs.Text.{member_fault_text};
 ghost use Rattle.hg_outcome.specs.Report.{byte_fault_text};
 ghost use Rattle.hg_pieces.specs.Pieces.{piece_text};
-ghost use Rattle.hg_top.specs.Printing.{IsPrintedOn, events_line, journal_line, members_line, script_line, status_line, status_without};
+ghost use Rattle.hg_top.specs.Printing.{IsPrintedOn, events_line, journal_line, members_line, proof_line, script_line, status_line, status_without};
 
 use crate::status::{File, JournalFault, NoWords, Refusal, Status};
+use hg_certify::{Why, why_pieces};
 use hg_io::{Failed, Sink, write_all};
 use hg_keep::EventFault;
 use hg_life::ByteFault;
@@ -45,7 +46,7 @@ fn byte_fault_parts(fault: ByteFault) -> (&'static [u8], Piece<'static>)
 }
 
 /// Prints a text as it is.
-fn print_text<E: Sink>(err: &mut E, text: &[u8]) -> Result<(), Failed>
+pub(crate) fn print_text<E: Sink>(err: &mut E, text: &[u8]) -> Result<(), Failed>
     ensures { Prints E.Sink err.old err.new text.now result }
 {
     write_all(err, text)
@@ -119,6 +120,25 @@ fn print_journal_fault<E: Sink>(err: &mut E, fault: JournalFault) -> Result<(), 
     }
 }
 
+/// Prints why a proof shows nothing.
+fn print_proof_fault<E: Sink>(err: &mut E, why: Why) -> Result<(), Failed>
+    ensures { Prints E.Sink err.old err.new (proof_line (Refusal.Fault why)) result }
+{
+    let [word, number, blank, fault, detail] = why_pieces(&why);
+    print_pieces(
+        err,
+        &[
+            Piece::Bytes(b"hashgraph: proof: "),
+            word,
+            number,
+            blank,
+            fault,
+            detail,
+            Piece::Bytes(b"\n"),
+        ],
+    )
+}
+
 /// Prints one line, or nothing where all went well.
 fn print_status<E: Sink>(err: &mut E, status: Status) -> Result<(), Failed>
     ensures { Prints E.Sink err.old err.new (status_line status) result }
@@ -134,9 +154,13 @@ fn print_status<E: Sink>(err: &mut E, status: Status) -> Result<(), Failed>
             err,
             b"hashgraph: cannot read the event file\n",
         ),
+        Status::ReadFault(File::Proof) => print_text(
+            err,
+            b"hashgraph: cannot read the proof file\n",
+        ),
         Status::Usage => print_text(
             err,
-            b"hashgraph: usage: run --members FILE --script FILE [--workers K] or make --members N --lines L --seed S [--workers K] or keep --members FILE --events FILE --own NAME --disk FILE [--time T]\n",
+            b"hashgraph: usage: run --members FILE --script FILE [--workers K] or make --members N --lines L --seed S [--workers K] or keep --members FILE --events FILE --own NAME --disk FILE [--time T] or prove --members FILE --script FILE --own NAME or check --members FILE --proof FILE\n",
         ),
         Status::Members(Refusal::TooLong) => print_text(err, b"hashgraph: members: too-long\n"),
         Status::Members(Refusal::Fault(fault)) => print_member_fault(err, fault),
@@ -149,6 +173,8 @@ fn print_status<E: Sink>(err: &mut E, status: Status) -> Result<(), Failed>
         Status::Memory => print_text(err, b"hashgraph: out of memory\n"),
         Status::Disk => print_text(err, b"hashgraph: disk\n"),
         Status::Journal(fault) => print_journal_fault(err, fault),
+        Status::Proof(Refusal::TooLong) => print_text(err, b"hashgraph: proof: too-long\n"),
+        Status::Proof(Refusal::Fault(why)) => print_proof_fault(err, why),
     }
 }
 

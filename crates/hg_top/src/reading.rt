@@ -1,8 +1,10 @@
 ghost use Rattle.std.specs.Prelude.{◌≤◌, ℕ, List, All, IfOk, IfErr};
+ghost use Rattle.hg_certify.specs.Showing.{IsSafeBeside, ShowsTo, judged_by};
+ghost use Rattle.hg_proof.specs.Certificate.{certificate_bytes};
 ghost use Rattle.hg_keep.specs.Events.{events_of};
 ghost use Rattle.hg_members.specs.MemberFile.{members_of};
 ghost use Rattle.hg_script.specs.Lawful.{IsLine};
-ghost use Rattle.hg_top.specs.Commands.{events_work, lines_for, lines_work, members_work};
+ghost use Rattle.hg_top.specs.Commands.{events_work, lines_for, lines_work, members_work, shown_work};
 ghost use Rattle.hg_top.specs.Course.{HasWithin, StartsOne};
 ghost use Rattle.hg_top.specs.Ends.{IsTaken, StopsIn};
 ghost use Rattle.hg_top.specs.Work.{limit_of, nothing_more};
@@ -10,6 +12,7 @@ ghost use Rattle.hg_top.specs.Work.Work.{Reads};
 ghost use Rattle.hg_top.specs.declared.status.File.TheVariants as file;
 
 use crate::status::{File, Refusal, Status};
+use hg_certify::{Shown, read_certificate};
 use hg_io::{FileAnswer, Shelf, read_file};
 use hg_keep::read_events;
 use hg_life::Members;
@@ -102,5 +105,30 @@ pub(crate) fn events_from<F: Shelf>(
         Err(Memory) => Err(Status::Memory),
         Ok(Err(fault)) => Err(Status::Events(Refusal::Fault(fault))),
         Ok(Ok(events)) => Ok(events),
+    }
+}
+
+/// What the file of this name shows as a certificate to these members.
+pub(crate) fn proof_from<F: Shelf>(
+    alloc: Global,
+    shelf: &mut F,
+    name: &str,
+    members: &Members,
+) -> Result<Shown, Status>
+    ensures ok { IfOk result (IsTaken (F.holds shelf.old) file.Proof (judged_by members.now) name.now) }
+    ensures shows { IfOk result (λ shown. ShowsTo members.now (certificate_bytes shown) shown) }
+    ensures safe { IfOk result (IsSafeBeside members.now) }
+    ensures err { IfErr result
+        (StopsIn F.Shelf shelf.old shelf.new (shown_work name.now members.now (λ shown. nothing_more))) }
+    ensures starts { StartsOne F.Shelf shelf.old shelf.new }
+{
+    let bytes = match bytes_from(alloc, shelf, File::Proof, name) {
+        Ok(bytes) => bytes,
+        Err(status) => return Err(status),
+    };
+    match read_certificate(alloc, members, bytes.as_slice()) {
+        Err(Memory) => Err(Status::Memory),
+        Ok(Err(why)) => Err(Status::Proof(Refusal::Fault(why))),
+        Ok(Ok(shown)) => Ok(shown),
     }
 }

@@ -3,6 +3,7 @@ ghost use Rattle.hg_top.specs.Printing.{status_code};
 ghost use Rattle.hg_top.specs.Work.{limit_of, too_long};
 ghost use Rattle.hg_top.specs.Writing as writing;
 
+use hg_certify::Why;
 use hg_io::Failed;
 use hg_keep::EventFault;
 use hg_members::MemberFault;
@@ -14,6 +15,7 @@ pub enum File {
     Members,
     Script,
     Events,
+    Proof,
 }
 
 impl File {
@@ -25,6 +27,7 @@ impl File {
             File::Members => 1_048_576,
             File::Script => 16_777_216,
             File::Events => 16_777_216,
+            File::Proof => 2_147_483_648,
         }
     }
 
@@ -36,6 +39,7 @@ impl File {
             File::Members => Status::Members(Refusal::TooLong),
             File::Script => Status::Script(Refusal::TooLong),
             File::Events => Status::Events(Refusal::TooLong),
+            File::Proof => Status::Proof(Refusal::TooLong),
         }
     }
 }
@@ -92,10 +96,12 @@ pub enum Status {
     Disk,
     /// The file of the journal is refused, and stays as it was.
     Journal(JournalFault),
+    /// The proof has more than 2,147,483,648 bytes, or it shows nothing to the members.
+    Proof(Refusal<Why>),
 }
 
 impl Status {
-    /// The exit status of the program, 0 to 8.
+    /// The exit status of the program, 0 to 9.
     pub fn code(self) -> u8
         ensures { result ≡ status_code self }
     {
@@ -109,6 +115,7 @@ impl Status {
             Status::Memory => 6,
             Status::Disk => 7,
             Status::Journal(_) => 8,
+            Status::Proof(_) => 9,
         }
     }
 }

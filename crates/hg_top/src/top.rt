@@ -7,6 +7,7 @@ ghost use Rattle.hg_top.specs.Writing.{WroteOn};
 
 use crate::keeping::{KeepRequest, keep};
 use crate::printing::report_status;
+use crate::proving::{ProveRequest, check, prove};
 use crate::reading::{lines_from, members_from};
 use crate::status::{Status, status_of};
 use hg_command::{Request, read_words};
@@ -99,13 +100,15 @@ fn make<R: Threads + Wait + Sync, K: Sink, G: Gate + Sync>(
 }
 
 /// Runs the program `hashgraph` over the files of a shelf and a disk. `words` has the program's name first, and then one
-/// of three commands. `run --members FILE --script FILE [--workers K]`: each member that has a node gossips as the
+/// of five commands. `run --members FILE --script FILE [--workers K]`: each member that has a node gossips as the
 /// script says; then the nodes' ledgers are written to `out`. `make --members N --lines L --seed S [--workers K]`: so
 /// many members and lines are made from the seed and played, and a summary of each node is written to `out`; no file is
 /// read. `keep --members FILE --events FILE --own NAME --disk FILE [--time T]`: the node of the member NAME is opened
 /// from its journal on the disk, takes the events of the file, makes the event that comes next, if there is a time, and
-/// publishes what its graph decides; then what came of it is written to `out`, with the node's ledger. What is wrong is
-/// written to `err`, in one line. With workers the fame of witnesses is decided by so many threads beside the one that
+/// publishes what its graph decides; then what came of it is written to `out`, with the node's ledger. `prove --members
+/// FILE --script FILE --own NAME`: the script is played, and the certificate of the order of that member's node is written
+/// to `out`, without any text. `check --members FILE --proof FILE`: what the certificate shows to the members is written to
+/// `out`. What is wrong is written to `err`, in one line. With workers the fame of witnesses is decided by so many threads beside the one that
 /// plays the lines; what is written does not change with their number, and what is said of the safety of the run is said
 /// of it without the marks that workers give. They pass the points of `gate`. All that memory is taken for is done
 /// before the first byte is written to `out`.
@@ -172,6 +175,23 @@ pub fn hashgraph<R: Threads + Wait + Sync, F: Shelf, D: Disk, K: Sink, E: Sink, 
             };
             keep(alloc, &asked, shelf, disk, out)
         }
+        Ok(
+            Some(
+                Request::Prove {
+                    members,
+                    script,
+                    own,
+                },
+            ),
+        ) => {
+            let asked = ProveRequest {
+                members,
+                script,
+                own,
+            };
+            prove(alloc, &asked, shelf, out)
+        }
+        Ok(Some(Request::Check { members, proof })) => check(alloc, members, proof, shelf, out),
         Ok(None) => Status::Usage,
         Err(Memory) => Status::Memory,
     };

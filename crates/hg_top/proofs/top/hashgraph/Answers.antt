@@ -1,12 +1,12 @@
 use Rattle.std.proofs.Common.{Some, None, inl, refl}
-use Rattle.hg_command.specs.Asked.{KeepFiles, RunFiles, keep, make, run}
+use Rattle.hg_command.specs.Asked.{CheckFiles, KeepFiles, ProveFiles, RunFiles, check, keep, make, prove, run}
 use Rattle.hg_top.specs.declared.status.Status.TheVariants.{Usage, Memory}
-use Rattle.hg_top.specs.Commands.{asks, made_run, run_work, work_of}
+use Rattle.hg_top.specs.Commands.{asks, check_work, made_run, prove_work, run_work, work_of}
 use Rattle.hg_top.specs.Course.{course, disk_course, no_disk}
 use Rattle.hg_top.proofs.KeepLaws.{stays_same}
-use Rattle.hg_top.proofs.WorkLaws.{comes_short, completes, diskless_run, ends_at, with_disk}
+use Rattle.hg_top.proofs.WorkLaws.{comes_short, completes, diskless_check, diskless_prove, diskless_run, ends_at, with_disk}
 use Rattle.hg_top.proofs.top.hashgraph.Goals as goal
-use Rattle.hg_top.proofs.top.hashgraph.Goals.{in-Ok-Some-Run, in-Ok-Some-Make, in-Ok-Some-Keep, in-Ok-None, in-Err}
+use Rattle.hg_top.proofs.top.hashgraph.Goals.{in-Ok-Some-Run, in-Ok-Some-Make, in-Ok-Some-Keep, in-Ok-Some-Prove, in-Ok-Some-Check, in-Ok-None, in-Err}
 
 pub returns-clause-ends : goal.returns-clause-ends
 returns-clause-ends g c =
@@ -37,6 +37,20 @@ returns-clause-ends g c =
           let k : KeepFiles = record { members = q.members.now; events = q.events.now; own = q.own.now; disk = q.journal.now; time = q.time } in
           ends_at F K W s w.keep-status.new.shelf last.shelf out w.keep-status.new.out last.out disk w.keep-status.new.disk last.disk (Some (keep k)) asked w.keep-status.result last.status request
           w.shelf-is w.out-is w.disk-is w.status-is w.keep-status.ensures.ends)
+      | in-Ok-Some-Prove w ↦ (let q = w.in-Ok-Some-Prove in
+          let request = rw (q.field-0-is, q.field-0-0-is) at q.ensures.request in
+          let p : ProveFiles = record { members = q.members.now; script = q.script.now; own = q.own.now } in
+          let ends = with_disk (prove_work p) (course F K s w.prove-status.new.shelf out w.prove-status.new.out no_disk) (disk_course W disk disk)
+          (F.starts s) w.prove-status.result (diskless_prove p) still w.prove-status.ensures.ends in
+          ends_at F K W s w.prove-status.new.shelf last.shelf out w.prove-status.new.out last.out disk disk last.disk (Some (prove p)) asked w.prove-status.result last.status request
+          w.shelf-is w.out-is w.disk-is w.status-is ends)
+      | in-Ok-Some-Check w ↦ (let q = w.in-Ok-Some-Check in
+          let request = rw (q.field-0-is, q.field-0-0-is) at q.ensures.request in
+          let k : CheckFiles = record { members = q.members.now; proof = q.proof.now } in
+          let ends = with_disk (check_work k.members k.proof) (course F K s w.check-status.new.shelf out w.check-status.new.out no_disk) (disk_course W disk disk)
+          (F.starts s) w.check-status.result (diskless_check k.members k.proof) still w.check-status.ensures.ends in
+          ends_at F K W s w.check-status.new.shelf last.shelf out w.check-status.new.out last.out disk disk last.disk (Some (check k)) asked w.check-status.result last.status request
+          w.shelf-is w.out-is w.disk-is w.status-is ends)
       | in-Ok-None w ↦ (let q = w.in-Ok-None in
           let request = rw q.field-0-is at q.ensures.request in
           ends_at F K W s s last.shelf out out last.out disk disk last.disk None asked Usage last.status request w.shelf-is w.out-is w.disk-is w.status-is (inl refl, (refl, refl, still)))

@@ -1,0 +1,3 @@
+mod ShowLaws
+mod ProveLaws
+mod Steps

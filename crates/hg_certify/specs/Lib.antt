@@ -1,0 +1,3 @@
+pub mod Showing
+pub mod Proving
+pub mod Text

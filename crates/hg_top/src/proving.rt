@@ -1,0 +1,92 @@
+ghost use Rattle.std.specs.Prelude.{◌≡◌, ◌<◌, Some, length};
+ghost use Rattle.hg_top.specs.Commands.{check_work, played_work, prove_work, proved_of};
+ghost use Rattle.hg_top.specs.Course.{course, no_disk};
+ghost use Rattle.hg_top.specs.Ends.{Ends};
+
+use crate::keeping::own_in;
+use crate::printing::print_text;
+use crate::reading::{lines_from, members_from, proof_from};
+use crate::status::{Status, status_of};
+use hg_certify::{prove_order, write_shown};
+use hg_io::{Shelf, Sink};
+use hg_life::Members;
+use hg_model::{Member, Memory};
+use std::alloc::Global;
+
+/// What is asked of a play: the certificate of the order of one of its nodes.
+#[derive(Clone, Copy)]
+pub(crate) struct ProveRequest<'a> {
+    /// The name of the member file.
+    pub(crate) members: &'a str,
+    /// The name of the script.
+    pub(crate) script: &'a str,
+    /// The name of the member whose node it is.
+    pub(crate) own: &'a str,
+}
+
+/// What the certificate of this member's node comes to.
+fn prove_play<F: Shelf, K: Sink>(
+    alloc: Global,
+    members: &Members,
+    own: Member,
+    asked: &ProveRequest<'_>,
+    shelf: &mut F,
+    out: &mut K,
+) -> Status
+    requires { own < length members.now.entries }
+    ensures ends { Ends (played_work (proved_of asked.now) members.now (Some own))
+        (course F.Shelf K.Sink shelf.old shelf.new out.old out.new no_disk) result }
+    ensures same { F.holds shelf.new ≡ F.holds shelf.old }
+{
+    let lines = match lines_from(alloc, shelf, asked.script, members, 0) {
+        Ok(lines) => lines,
+        Err(status) => return status,
+    };
+    match prove_order(alloc, members, lines.as_slice(), own) {
+        Ok(bytes) => status_of(print_text(out, bytes.as_slice())),
+        Err(Memory) => Status::Memory,
+    }
+}
+
+/// What the certificate of the order of a member's node, after the play of a script, comes to.
+pub(crate) fn prove<F: Shelf, K: Sink>(
+    alloc: Global,
+    asked: &ProveRequest<'_>,
+    shelf: &mut F,
+    out: &mut K,
+) -> Status
+    ensures ends { Ends (prove_work (proved_of asked.now))
+        (course F.Shelf K.Sink shelf.old shelf.new out.old out.new no_disk) result }
+    ensures same { F.holds shelf.new ≡ F.holds shelf.old }
+{
+    let members = match members_from(alloc, shelf, asked.members) {
+        Ok(members) => members,
+        Err(status) => return status,
+    };
+    match own_in(&members, asked.own) {
+        Some(own) => prove_play(alloc, &members, own, asked, shelf, out),
+        None => Status::Own,
+    }
+}
+
+/// What the proof of this name comes to, for the members of the file of this name.
+pub(crate) fn check<F: Shelf, K: Sink>(
+    alloc: Global,
+    members: &str,
+    proof: &str,
+    shelf: &mut F,
+    out: &mut K,
+) -> Status
+    ensures ends { Ends (check_work members.now proof.now)
+        (course F.Shelf K.Sink shelf.old shelf.new out.old out.new no_disk) result }
+    ensures same { F.holds shelf.new ≡ F.holds shelf.old }
+{
+    let list = match members_from(alloc, shelf, members) {
+        Ok(list) => list,
+        Err(status) => return status,
+    };
+    match proof_from(alloc, shelf, proof, &list) {
+        Ok(shown) => status_of(write_shown(&shown, out)),
+        Err(status) => status,
+    }
+}
