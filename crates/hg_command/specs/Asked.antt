@@ -34,11 +34,20 @@ pub record KeepFiles : Type 0 where
   pub disk : Text
   pub time : Option ℕ
 
--- what a command asks for
+-- a script among the members of a file, and the own name of the member whose node is asked once the script was played
+pub record NodeFiles : Type 0 where
+  pub members : Text
+  pub script : Text
+  pub own : Text
+
+-- what a command asks for; `serve` and `take` name the file of a message beside
 pub data Asked : Type 0 where
   run : RunFiles → Asked
   make : MadeRun → Asked
   keep : KeepFiles → Asked
+  ask : NodeFiles → Asked
+  serve : NodeFiles → Text → Asked
+  take : NodeFiles → Text → Asked
 
 -- a request, with its texts
 abbrev pub asked : Request → Asked
@@ -47,6 +56,11 @@ asked (request.Make members lines seed workers) =
     make (record { members = members; lines = lines; seed = seed; workers = workers })
 asked (request.Keep members events own disk time) =
     keep (record { members = members.now; events = events.now; own = own.now; disk = disk.now; time = time })
+asked (request.Ask members script own) = ask (record { members = members.now; script = script.now; own = own.now })
+asked (request.Serve members script own have) =
+    serve (record { members = members.now; script = script.now; own = own.now }) have.now
+asked (request.Take members script own rows) =
+    take (record { members = members.now; script = script.now; own = own.now }) rows.now
 
 -- the least and the greatest number of members that are made
 abbrev pub least_members : ℕ
@@ -64,14 +78,14 @@ abbrev pub KeepsRanges : Asked → Type 0
 KeepsRanges (run r) = r.workers ≤ most_workers
 KeepsRanges (make m) =
     (least_members ≤ m.members) × (m.members ≤ most_members) × (m.lines ≤ most_lines) × (m.workers ≤ most_workers)
-KeepsRanges (keep k) = ⊤
+KeepsRanges _ = ⊤
 
 -- whether they do
 abbrev pub keeps_ranges : Asked → Bool
 keeps_ranges (run r) = nat_le r.workers most_workers
 keeps_ranges (make m) =
     nat_le least_members m.members && (nat_le m.members most_members && (nat_le m.lines most_lines && nat_le m.workers most_workers))
-keeps_ranges (keep k) = true
+keeps_ranges _ = true
 
 -- ---- what an option was given
 
@@ -143,9 +157,42 @@ keep_command = record {
   });
 }
 
+-- the options of a command that asks a member's node once a script was played, and these behind them
+abbrev pub node_options : List Rule → List Rule
+node_options more =
+    needed (text_option (codes "members")) ∷ needed (text_option (codes "script")) ∷ needed (text_option (codes "own")) ∷ more
+
+-- what they were given
+abbrev pub node_files : List Row → NodeFiles
+node_files rows = record {
+  members = text_in (codes "members") rows;
+  script = text_in (codes "script") rows;
+  own = text_in (codes "own") rows;
+}
+
+-- ask --members FILE --script FILE --own NAME
+abbrev pub ask_command : Command
+ask_command = record { name = codes "ask"; options = node_options []; reads = λ rows. ask (node_files rows) }
+
+-- serve --members FILE --script FILE --own NAME --have FILE
+abbrev pub serve_command : Command
+serve_command = record {
+  name = codes "serve";
+  options = node_options (needed (text_option (codes "have")) ∷ []);
+  reads = λ rows. serve (node_files rows) (text_in (codes "have") rows);
+}
+
+-- take --members FILE --script FILE --own NAME --rows FILE
+abbrev pub take_command : Command
+take_command = record {
+  name = codes "take";
+  options = node_options (needed (text_option (codes "rows")) ∷ []);
+  reads = λ rows. take (node_files rows) (text_in (codes "rows") rows);
+}
+
 -- the commands of the program
 abbrev pub commands : List Command
-commands = run_command ∷ make_command ∷ keep_command ∷ []
+commands = run_command ∷ make_command ∷ keep_command ∷ ask_command ∷ serve_command ∷ take_command ∷ []
 
 -- a command as clap is told of it
 abbrev pub app_for : Command → App

@@ -3,10 +3,12 @@ ghost use Rattle.hg_top.specs.Printing.{status_code};
 ghost use Rattle.hg_top.specs.Work.{limit_of, too_long};
 ghost use Rattle.hg_top.specs.Writing as writing;
 
+use hg_exchange::MessageFault;
 use hg_io::Failed;
 use hg_keep::EventFault;
 use hg_members::MemberFault;
 use hg_script::ScriptFault;
+use hg_wire::Delivery;
 
 /// One of the files that are read.
 #[derive(Clone, Copy, Debug, PartialEq, Eq)]
@@ -14,6 +16,7 @@ pub enum File {
     Members,
     Script,
     Events,
+    Message,
 }
 
 impl File {
@@ -25,6 +28,7 @@ impl File {
             File::Members => 1_048_576,
             File::Script => 16_777_216,
             File::Events => 16_777_216,
+            File::Message => 1_410_334_778,
         }
     }
 
@@ -36,6 +40,7 @@ impl File {
             File::Members => Status::Members(Refusal::TooLong),
             File::Script => Status::Script(Refusal::TooLong),
             File::Events => Status::Events(Refusal::TooLong),
+            File::Message => Status::Wire(Refusal::TooLong),
         }
     }
 }
@@ -92,10 +97,13 @@ pub enum Status {
     Disk,
     /// The file of the journal is refused, and stays as it was.
     Journal(JournalFault),
+    /// The message file has more than 1,410,334,778 bytes, as no message has, or is not one message from its first byte to
+    /// its last.
+    Wire(Refusal<MessageFault>),
 }
 
 impl Status {
-    /// The exit status of the program, 0 to 8.
+    /// The exit status of the program, 0 to 8 or 10.
     pub fn code(self) -> u8
         ensures { result ≡ status_code self }
     {
@@ -109,7 +117,18 @@ impl Status {
             Status::Memory => 6,
             Status::Disk => 7,
             Status::Journal(_) => 8,
+            Status::Wire(_) => 10,
         }
+    }
+}
+
+/// What a call comes to by what came of writing its message.
+pub(crate) fn delivered(delivery: Delivery) -> Status
+    ensures { result ≡ writing.delivered delivery }
+{
+    match delivery {
+        Delivery::Sent(_) => Status::Done,
+        Delivery::Failed => Status::WriteFault,
     }
 }
 

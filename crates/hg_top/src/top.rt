@@ -5,6 +5,7 @@ ghost use Rattle.hg_top.specs.Ends.{Completes, Ends, ReadsNoFile};
 ghost use Rattle.hg_top.specs.Printing.{IsPrintedOn, status_line};
 ghost use Rattle.hg_top.specs.Writing.{WroteOn};
 
+use crate::exchanging::{Exchange, NodeRequest, play_node};
 use crate::keeping::{KeepRequest, keep};
 use crate::printing::report_status;
 use crate::reading::{lines_from, members_from};
@@ -171,6 +172,56 @@ pub fn hashgraph<R: Threads + Wait + Sync, F: Shelf, D: Disk, K: Sink, E: Sink, 
                 time,
             };
             keep(alloc, &asked, shelf, disk, out)
+        }
+        Ok(
+            Some(
+                Request::Ask {
+                    members,
+                    script,
+                    own,
+                },
+            ),
+        ) => {
+            let asked = NodeRequest {
+                members,
+                script,
+                own,
+            };
+            play_node(alloc, &asked, Exchange::Ask, shelf, out)
+        }
+        Ok(
+            Some(
+                Request::Serve {
+                    members,
+                    script,
+                    own,
+                    have,
+                },
+            ),
+        ) => {
+            let asked = NodeRequest {
+                members,
+                script,
+                own,
+            };
+            play_node(alloc, &asked, Exchange::Serve(have), shelf, out)
+        }
+        Ok(
+            Some(
+                Request::Take {
+                    members,
+                    script,
+                    own,
+                    rows,
+                },
+            ),
+        ) => {
+            let asked = NodeRequest {
+                members,
+                script,
+                own,
+            };
+            play_node(alloc, &asked, Exchange::Take(rows), shelf, out)
         }
         Ok(None) => Status::Usage,
         Err(Memory) => Status::Memory,
