@@ -2,7 +2,7 @@
 use Rattle.std.proofs.Common.{◌≡◌, ℕ, List, [], ◌∷◌, ◌++◌, Option, Some, None, codes, refl}
 use Rattle.clap.proofs.OnLiterals.{clap_on_literals}
 use Rattle.clap.specs.Words.{Text}
-use Rattle.hg_command.specs.Asked.{Asked, keep, make, request_of, run}
+use Rattle.hg_command.specs.Asked.{Asked, NodeFiles, ask, keep, make, request_of, run, serve, take}
 
 -- the program's name and the command
 abbrev play : List Text
@@ -190,3 +190,35 @@ no_disk = refl
 script_to_keep : request_of (keeps ++ script) ≡ None
 unfolding clap_on_literals
 script_to_keep = refl
+
+-- ---- a node that gossips by files
+
+abbrev own : List Text
+own = codes "--own" ∷ codes "ada" ∷ []
+
+abbrev ada : NodeFiles
+ada = record { members = codes "m.toml"; script = codes "s.txt"; own = codes "ada" }
+
+asks : request_of (codes "hashgraph" ∷ codes "ask" ∷ members ++ script ++ own) ≡ Some (ask ada)
+unfolding clap_on_literals
+asks = refl
+
+serves : request_of (codes "hashgraph" ∷ codes "serve" ∷ codes "--have" ∷ codes "h.bin" ∷ members ++ script ++ own) ≡ Some (serve ada (codes "h.bin"))
+unfolding clap_on_literals
+serves = refl
+
+takes : request_of (codes "hashgraph" ∷ codes "take" ∷ members ++ script ++ own ++ codes "--rows=r.bin" ∷ []) ≡ Some (take ada (codes "r.bin"))
+unfolding clap_on_literals
+takes = refl
+
+serves_no_message : request_of (codes "hashgraph" ∷ codes "serve" ∷ members ++ script ++ own) ≡ None
+unfolding clap_on_literals
+serves_no_message = refl
+
+takes_no_names : request_of (codes "hashgraph" ∷ codes "take" ∷ members ++ script ++ own ++ codes "--have=h.bin" ∷ []) ≡ None
+unfolding clap_on_literals
+takes_no_names = refl
+
+asks_with_workers : request_of (codes "hashgraph" ∷ codes "ask" ∷ members ++ script ++ own ++ workers (codes "1")) ≡ None
+unfolding clap_on_literals
+asks_with_workers = refl
