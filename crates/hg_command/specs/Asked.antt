@@ -198,7 +198,7 @@ commands = run_command ∷ make_command ∷ keep_command ∷ ask_command ∷ ser
 abbrev pub app_for : Command → App
 app_for c = app_with c.name c.options
 
-abbrev pub command : App
+unfoldable pub command : App
 command = program_with (map app_for commands)
 
 -- what a command of this name asks for, by what its options were given

@@ -2,6 +2,7 @@ use Rattle.std.proofs.Common.{◌≡◌, ◌∙◌, ap, ap₂, false}
 use Rattle.clap.specs.Words.{AddsSubcommand, App, app_of, with_subcommand}
 use Rattle.clap.specs.declared.builder.command.Command.{Command}
 use Rattle.clap.specs.declared.builder.Command.TheViews.{out-Command}
+use Rattle.hg_command.specs.Asked.{command}
 use Rattle.hg_command.proofs.line.command.Goals as goal
 
 -- the program with one more of its commands
@@ -11,6 +12,7 @@ with_added old sub new whole app added whole_is app_is local =
     added.shape local ∙ ap₂ with_subcommand whole_is (ap (λ (a : App). a.top) app_is)
 
 pub returns-clause-app : goal.returns-clause-app
+unfolding command
 returns-clause-app c =
     let run = with_added _ _ _ _ _ c.in_ok-subcommand.ensures c.program.ensures.app c.in_ok-run.ensures.app c.in_ok-run.ensures.local in
     let make = with_added _ _ _ _ _ c.in_ok-subcommand-2.ensures run c.in_ok-make.ensures.app c.in_ok-make.ensures.local in
