@@ -6,7 +6,7 @@
 //! From `take_message` of `hg_top`:
 //!
 //! ```text
-//! match hg_exchange::take(alloc, members, lines, own, &message) {
+//! match take(alloc, members, lines, own, &message) {
 //!     Ok(took) => status_of(write_took(&took, out)),
 //!     Err(Memory) => Status::Memory,
 //! }
