@@ -150,24 +150,31 @@ class World:
         takers, label = [member for member in self.nodes if member in self.created], self.old_label()
         if takers and label:
             taker = self.draw.choice(takers)
-            self.say("join", self.names[taker], label.name, self.time(), self.payload())
+            self.say("join", self.names[taker], self.word([label, *self.more(self.labels[-8:])]), self.time(), self.payload())
             self.line_name(taker)
 
+    def more(self, labels):
+        """Up to three labels of further other-parents, now and then."""
+        return self.draw.choices(labels, k=self.draw.choice((0, 0, 0, 1, 2, 3)))
+
+    def word(self, labels):
+        return ",".join(label.name for label in labels)
+
     def parents_for(self, member):
-        """A label of the member's and one of another's, mostly; any two at times; None for a first event."""
+        """A label of the member's and one to four of others', mostly; any two at times; None for a first event."""
         own = [label for label in self.labels if label.member == member]
         others = [label for label in self.labels if label.member not in (None, member)]
         if self.draw.random() < 0.05 and self.labels:
             return self.old_label(), self.old_label()
         if not own or not others or self.draw.random() < 0.1:
             return None
-        return self.draw.choice(own[-4:]), self.draw.choice(others[-8:])
+        return self.draw.choice(own[-4:]), self.draw.choice(others[-8:]), *self.more(others[-8:])
 
     def line_forge(self):
         member = self.draw.choice(self.forgers)
         for _ in range(self.draw.choice((1, 1, 2, 3))):
             parents = self.parents_for(member)
-            words = [parent.name for parent in parents] if parents else ["-", "-"]
+            words = [parents[0].name, self.word(parents[1:])] if parents else ["-", "-"]
             label = self.label(member, parents)
             self.say("forge", label.name, self.names[member], *words, self.time(), self.payload())
             self.deliver(label)

@@ -89,20 +89,22 @@ class Node:
         if len(self.rows) >= EVENTS_MOST:
             raise Refused(f"full {EVENTS_MOST}")
 
-    def make(self, other, time, payload, line):
-        """Makes an event on the node's last own one and on the event named `other`, or a first one where it is None."""
-        if other is None and self.last_own:
+    def make(self, others, time, payload, line):
+        """Makes an event on the node's last own one and on those of these names, or a first one where there are none."""
+        if not others and self.last_own:
             raise Refused("has-first")
-        if other is not None and not self.last_own:
+        if others and not self.last_own:
             raise Refused("no-first")
-        if other is not None and other not in self.places:
-            raise Refused(f"missing-other {other.hex()}")
-        parent = self.rows[self.places[other]] if other is not None else None
-        if parent and parent.creator == self.member.number:
-            raise Refused(f"other-creator {self.place(parent)}")
+        for name in others:
+            if name not in self.places:
+                raise Refused(f"missing-other {name.hex()}")
+        parents = [self.rows[self.places[name]] for name in others]
+        for parent in parents:
+            if parent.creator == self.member.number:
+                raise Refused(f"other-creator {self.place(parent)}")
         if len(payload) > PAYLOAD_MOST:
             raise Refused(f"payload-long {len(payload)}")
-        parents = [self.last_own, parent] if parent else []
+        parents = [self.last_own, *parents] if parents else []
         data = spell(self.member, [row.name for row in parents], time, payload)
         name = name_of(data)
         if name in self.places:
@@ -204,9 +206,9 @@ class Play:
     def answer(self, text):
         self.print_lines([f"{self.line} {self.word} {text}"])
 
-    def make(self, x, other, time, payload):
+    def make(self, x, others, time, payload):
         """What a node's making answers: `made P`, or the fault."""
-        return self.nodes[x].make(other, int(time), self.payload(payload), self.line)
+        return self.nodes[x].make(others, int(time), self.payload(payload), self.line)
 
     def payload(self, word):
         if word.startswith("hex:"):
@@ -230,13 +232,17 @@ class Play:
 
     def line_create(self, x, time, payload=""):
         try:
-            self.answer(self.make(x, None, time, payload))
+            self.answer(self.make(x, [], time, payload))
         except Refused as why:
             self.answer(f"refused {why}")
 
-    def line_join(self, x, label, time, payload=""):
+    def names_of(self, labels):
+        """The names of the events of labels between commas."""
+        return [name_of(self.labels[label]) for label in labels.split(",")]
+
+    def line_join(self, x, labels, time, payload=""):
         try:
-            self.answer(self.make(x, name_of(self.labels[label]), time, payload))
+            self.answer(self.make(x, self.names_of(labels), time, payload))
         except Refused as why:
             self.answer(f"refused {why}")
 
@@ -246,7 +252,7 @@ class Play:
         try:
             if not last:
                 raise Refused("peer-bare")
-            self.answer(f"{taken} {self.make(x, last.name, time, payload)}")
+            self.answer(f"{taken} {self.make(x, [last.name], time, payload)}")
         except Refused as why:
             self.answer(f"{taken} made none {why}")
 
@@ -260,8 +266,8 @@ class Play:
         last = self.nodes[x].last_own
         self.label(label, last.data if last else b"")
 
-    def line_forge(self, label, m, own, other, time, payload=""):
-        parents = [] if own == "-" else [name_of(self.labels[own]), name_of(self.labels[other])]
+    def line_forge(self, label, m, own, others, time, payload=""):
+        parents = [] if own == "-" else self.names_of(f"{own},{others}")
         member = self.members.all[self.members.numbers[m]]
         self.label(label, spell(member, parents, int(time), self.payload(payload)))
 

@@ -39,3 +39,5 @@ mod sources;
 mod stopping;
 #[cfg(test)]
 mod telling;
+#[cfg(test)]
+mod wire;

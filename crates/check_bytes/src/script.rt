@@ -36,11 +36,11 @@ fn fault_of(
 }
 
 const SCRIPT: &[u8] =
-    b"create m1 2\ncreate m0 4 pay:m1=30\r\nsync\tm1  m0 4 \n\tsync m0 m1 18446744073709551615 hex:0aFF\n# labels\nraw a 00Ff\n\ngive m0 a\nname m1 m1\njoin m1 m1 7\nforge f n a m1 8\npull m1 m0\nalter g f 3 255\ncut h g 0\ngive m1 h\nforge i m0 - - 9\nshow m0\nnames m1\nsync m1 m0 00000000000000000028\nfreeze m1 15\npublish m0 0\nkept m1";
+    b"create m1 2\ncreate m0 4 pay:m1=30\r\nsync\tm1  m0 4 \n\tsync m0 m1 18446744073709551615 hex:0aFF\n# labels\nraw a 00Ff\n\ngive m0 a\nname m1 m1\njoin m1 m1 7\nforge f n a m1 8\npull m1 m0\nalter g f 3 255\ncut h g 0\ngive m1 h\nforge i m0 - - 9\nshow m0\nnames m1\nsync m1 m0 00000000000000000028\nfreeze m1 15\npublish m0 0\nkept m1\njoin m1 m1,a,m1,a 9\nforge j n m1 a,m1 9";
 
 // The number of each of its lines, and what the line does. A label is told by how many were made above it, whatever
 // stands between.
-const LINES: [(u64, &str); 20] = [
+const LINES: [(u64, &str); 22] = [
     (
         1,
         "Part(Gossip(Create { member: 1, time: 2, payload: Items { items: [] } }))",
@@ -62,11 +62,11 @@ const LINES: [(u64, &str); 20] = [
     (9, "Part(Label(Last { member: 1 }))"),
     (
         10,
-        "Part(Gossip(Join { member: 1, label: 1, time: 7, payload: Items { items: [] } }))",
+        "Part(Gossip(Join { member: 1, others: Items { items: [1] }, time: 7, payload: Items { items: [] } }))",
     ),
     (
         11,
-        "Part(Label(Forged { creator: 2, parents: Some((0, 1)), time: 8, payload: Items { items: [] } }))",
+        "Part(Label(Forged { creator: 2, parents: Some((0, Items { items: [1] })), time: 8, payload: Items { items: [] } }))",
     ),
     (12, "Part(Gossip(Pull { taker: 1, peer: 0 }))"),
     (13, "Part(Label(Altered { label: 2, at: 3, mask: 255 }))"),
@@ -85,6 +85,14 @@ const LINES: [(u64, &str); 20] = [
     (20, "Freeze { member: 1, worker: 15 }"),
     (21, "Publish { member: 0, worker: 0 }"),
     (22, "Kept { member: 1 }"),
+    (
+        23,
+        "Part(Gossip(Join { member: 1, others: Items { items: [1, 0, 1, 0] }, time: 9, payload: Items { items: [] } }))",
+    ),
+    (
+        24,
+        "Part(Label(Forged { creator: 2, parents: Some((1, Items { items: [0, 1] })), time: 9, payload: Items { items: [] } }))",
+    ),
 ];
 
 #[test]
@@ -138,7 +146,7 @@ fn digits_have_a_limit(rt: HostRuntime) -> Result<(), Fail> {
 }
 
 // What an implementation in another language answers to such lines.
-const REFUSED: [(&[u8], u64, Why); 27] = [
+const REFUSED: [(&[u8], u64, Why); 35] = [
     (b"create m1 1\ncreate m0 \xed\xa0\x80\n", 2, Why::Utf8),
     (b"createm1 m1 1\n", 1, Why::Word),
     (b"create\x0bm1 m1 1\n", 1, Why::Word),
@@ -159,6 +167,14 @@ const REFUSED: [(&[u8], u64, Why); 27] = [
     (b"raw a-b 00\n", 1, Why::Label),
     (b"raw a 00\nforge b m1 - a ?\n", 2, Why::Label),
     (b"raw a 00\nforge b m1 a - ?\n", 2, Why::Label),
+    (b"raw a 00\nforge b m1 a a,a,a,a,a ?\n", 2, Why::Label),
+    (b"raw a 00\nforge b m1 a a,,a ?\n", 2, Why::Label),
+    (b"raw a 00\nforge b m1 a a, ?\n", 2, Why::Label),
+    (b"raw a 00\nforge b m1 a -,a ?\n", 2, Why::Label),
+    (b"raw a 00\nforge b m1 a a,- ?\n", 2, Why::Label),
+    (b"raw a 00\nforge b m1 a,a a ?\n", 2, Why::Label),
+    (b"raw a 00\njoin m1 a,b ?\n", 2, Why::Label),
+    (b"raw a 00\njoin m1 a,a,a,a,a ?\n", 2, Why::Label),
     (b"raw a 00\nraw a ?\n", 2, Why::DoubleLabel),
     (b"raw a 00\nalter b a 0 256\n", 2, Why::Number),
     (b"raw a 00\njoin m1 a 1\n", 2, Why::First),

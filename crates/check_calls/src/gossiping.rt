@@ -12,7 +12,7 @@ use std::alloc::Global;
 use std::process::Abort;
 
 fn begins(rt: &impl Abort, node: &mut Node<MacTable>, place: usize) -> Result<(), Memory> {
-    equal(rt, Node::make(node, None, 1, b"")?, MakeAnswer::Made(place));
+    equal(rt, Node::make(node, &[], 1, b"")?, MakeAnswer::Made(place));
     Ok(())
 }
 
@@ -135,7 +135,7 @@ fn takes_after_an_impostor(
     begins(rt, b, 1)?;
     pulls(rt, alloc, a, b, (1, 1))?;
     pulls(rt, alloc, a, b, (0, 1))?;
-    equal(rt, Node::make(a, None, 3, b"")?, MakeAnswer::Made(1));
+    equal(rt, Node::make(a, &[], 3, b"")?, MakeAnswer::Made(1));
     syncs(rt, alloc, a, b, (0, 1, SyncMade::Row(2)))?;
     Ok(())
 }

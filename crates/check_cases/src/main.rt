@@ -43,11 +43,12 @@ use std::sync::Wait;
 use std::thread::Threads;
 
 /// The packed cases, which lie where the program runs.
-const PACKS: [&str; 9] = [
+const PACKS: [&str; 10] = [
     "base.cases",
     "first-path.cases",
     "further.cases",
     "made.cases",
+    "multi.cases",
     "proof.cases",
     "stage-a.cases",
     "stake.cases",

@@ -1,4 +1,4 @@
-ghost use Rattle.std.specs.Prelude.{◌≡◌, ◌<◌, ◌≤◌, true, IfOk};
+ghost use Rattle.std.specs.Prelude.{◌≡◌, ◌<◌, ◌≤◌, length, true, IfOk};
 ghost use Rattle.hg_model.specs.Links.{has_few_others, most_others};
 
 use crate::plan::Plan;
@@ -20,14 +20,13 @@ pub struct Draft {
 }
 
 impl Draft {
-    /// The name of the first other-parent.
-    pub fn other(&self) -> Option<Name> {
+    /// The names of the other-parents.
+    pub fn others(&self) -> &[Name]
+        ensures { length result.now ≤ most_others }
+    {
         match &self.parents {
-            None => None,
-            Some(names) => match names.1.as_slice() {
-                [] => None,
-                [other, ..] => Some(*other),
-            },
+            None => &[],
+            Some(names) => names.1.as_slice(),
         }
     }
 }

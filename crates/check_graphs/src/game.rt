@@ -56,7 +56,7 @@ impl<'a> Game<'a> {
         if draft.creator != 0 {
             return self.put(&draft);
         }
-        self.watched.make(draft.other().as_slice(), draft.time)?;
+        self.watched.make(draft.others(), draft.time)?;
         Ok(true)
     }
 

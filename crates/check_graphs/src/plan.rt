@@ -23,7 +23,7 @@ pub struct Plan {
     pub forkers: Option<(u32, u32)>,
     /// Times rise with the rows, so that they fall on no line. Else they are drawn.
     pub rising: bool,
-    /// Whether a row of another member may have one to four other-parents, as in three of nine graphs. Else it has one.
+    /// Whether a row may have one to four other-parents, as in three of nine graphs. Else it has one.
     pub several: bool,
     pub ghost few: { members ≤ 7 },
     pub ghost some: { 4 ≤ members },

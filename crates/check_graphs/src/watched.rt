@@ -1,4 +1,5 @@
-ghost use Rattle.std.specs.Prelude.{◌≡◌, All, IfOk};
+ghost use Rattle.std.specs.Prelude.{◌≡◌, ◌≤◌, All, IfOk, length};
+ghost use Rattle.hg_model.specs.Links.{most_others};
 ghost use Rattle.hg_model.specs.GraphWords.{SpeaksOf};
 ghost use Rattle.check_graphs.specs.Moments.{IsFrozenOf};
 

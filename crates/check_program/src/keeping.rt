@@ -249,3 +249,41 @@ fn a_stop_at_each_call_forgets_nothing_that_was_told(rt: HostRuntime) -> Result<
     expect_after_stop(&rt, alloc, 13, false, (0, b"opened 1\n"))?;
     Ok(())
 }
+
+// B's second event, at time 3, on its first one and twice on A's.
+const B_SECOND: &str =
+    "4847453200010234b55303a5ee1bf3ef4c86aeac9b5e8f051052620c9f71db64a64e32f9556614228fe716b813cfe6735cdff79859631f433ea625c706b3623c0624e37c933c8741229785e21dec535b8a31165c73eed9a3ff6ae35f43dd762c27b3d01a5c8f0f433ea625c706b3623c0624e37c933c8741229785e21dec535b8a31165c73eed9a3ff6ae35f43dd762c27b3d01a5c8f0f00000000000000030000f6b90ece6612ef92a19a75a180ffe2b618ec183aa6fcf2b7d644e16b272aff2cc7af79114acfa17363cefc59baaace2606e9fb41d4a343e8d469fa99f91432ae";
+
+// The journal of A above, once it has taken that one too.
+const JOURNAL_OF_THREE: [&str; 8] = [
+    "0148474a3100020000",
+    "01010051",
+    B_FIRST,
+    "01020051",
+    A_FIRST,
+    "010100e1",
+    B_SECOND,
+    "00",
+];
+
+const BLOCK_OF_THREE: &str =
+    "node A events 3 forkers 0 round 1 closed 0 ordered 0\nbalance A 100\nbalance B 0\n";
+
+#[test]
+fn an_event_is_taken_whole_once_its_parents_are_there(rt: HostRuntime) -> Result<(), Fail> {
+    let alloc = rt.alloc();
+    let events = bytes_of(alloc, &[B_FIRST, B_SECOND])?;
+    let before = bytes_of(alloc, &JOURNAL)?;
+    let after = bytes_of(alloc, &JOURNAL_OF_THREE)?;
+    let mut disk = DiskMem::new(alloc, 2048, Vec::new(alloc))?;
+    let ran = keep(&rt, alloc, KEEP_AT_ONE, events.as_slice(), &mut disk)?;
+    let first = format!(in alloc;
+        "opened 0\naccepted 1 known 0 refused 1\nmade 1 {A_FIRST}\n{BLOCK}"
+    )?;
+    expect(&rt, &ran, Status::Done, first.as_str(), "");
+    expect_journal(&rt, alloc, &mut disk, before.as_slice())?;
+    let ran = keep(&rt, alloc, KEEP, events.as_slice(), &mut disk)?;
+    let then = format!(in alloc; "opened 2\naccepted 1 known 1 refused 0\n{BLOCK_OF_THREE}")?;
+    expect(&rt, &ran, Status::Done, then.as_str(), "");
+    expect_journal(&rt, alloc, &mut disk, after.as_slice())
+}

@@ -19,6 +19,8 @@ mod ends;
 #[cfg(test)]
 mod environment;
 #[cfg(test)]
+mod exchanging;
+#[cfg(test)]
 mod files;
 #[cfg(test)]
 mod journal;

@@ -21,7 +21,7 @@ const REPORT: &str =
 const RUN: &str = "hashgraph run --members members.toml --script script.txt";
 
 const USAGE: &str =
-    "hashgraph: usage: run --members FILE --script FILE [--workers K] or make --members N --lines L --seed S [--workers K] or keep --members FILE --events FILE --own NAME --disk FILE [--time T] or prove --members FILE --script FILE --own NAME or check --members FILE --proof FILE\n";
+    "hashgraph: usage: run --members FILE --script FILE [--workers K] or make --members N --lines L --seed S [--workers K] or keep --members FILE --events FILE --own NAME --disk FILE [--time T] or prove --members FILE --script FILE --own NAME or check --members FILE --proof FILE or ask --members FILE --script FILE --own NAME or serve --members FILE --script FILE --own NAME --have FILE or take --members FILE --script FILE --own NAME --rows FILE\n";
 
 /// What a run came to, and what it wrote to standard output and standard error.
 #[derive(Drop)]
@@ -344,4 +344,37 @@ fn long_files(rt: HostRuntime) -> Result<(), Fail> {
     let status = Status::Script(Refusal::TooLong);
     let err = "hashgraph: script: too-long\n";
     expect_refusal(&rt, rt.alloc(), MEMBERS, script.as_str(), status, err)
+}
+
+const FOUR: &str =
+    "coin = 10\n[[member]]\nname = \"A\"\nsecret = \"0b0b0b0b\"\n[[member]]\nname = \"B\"\nsecret = \"0c0c0c0c\"\n[[member]]\nname = \"C\"\nsecret = \"0d0d0d0d\"\n[[member]]\nname = \"D\"\nsecret = \"0e0e0e0e\"\n";
+
+// A makes an event on those of B and C. Cut, it comes to B, and whole to D before its parents do and again after each.
+// Then A is to make one on bytes that are no event, on its own row, and on two others' twice.
+const SEVERAL: &str =
+    "create A 1\ncreate B 2\ncreate C 3\nname a A\nname b B\nname c C\npull A B\npull A C\njoin A b,c 4\nname x A\ncut y x 224\ngive B y\ngive D x\ngive D a\ngive D x\ngive D b\ngive D x\ngive D c\ngive D x\ngive D x\nraw q 00\njoin A b,q,x 5\njoin A b,x 5\njoin A c,b,c,b 5\n";
+
+const SEVERAL_REPORT: &str =
+    "1 create made 0\n2 create made 0\n3 create made 0\n7 pull taken 1 refused 0\n8 pull taken 1 refused 0\n9 join made 3\n12 give refused short 224\n13 give refused missing-self 433ea625c706b3623c0624e37c933c8741229785e21dec535b8a31165c73eed9a3ff6ae35f43dd762c27b3d01a5c8f0f\n14 give accepted 0\n15 give refused missing-other 34b55303a5ee1bf3ef4c86aeac9b5e8f051052620c9f71db64a64e32f9556614228fe716b813cfe6735cdff79859631f\n16 give accepted 1\n17 give refused missing-other 4f158a6df2df0ec8bf90731597465ba126539918991cc57a4b056ae998f8a39747eff56f6041dce6dfd257c05bd9fa32\n18 give accepted 2\n19 give accepted 3\n20 give known 3\n22 join refused missing-other bec021b4f368e3069134e012c2b4307083d3a9bdd206e24e5f0d86e13d6636655933ec2b413465966817a9c208a11717\n23 join refused other-creator 3\n24 join made 4\nnode A events 5 forkers 0 round 1 closed 0 ordered 0\nbalance A 0\nbalance B 0\nbalance C 0\nbalance D 0\nnode B events 1 forkers 0 round 1 closed 0 ordered 0\nbalance A 0\nbalance B 0\nbalance C 0\nbalance D 0\nnode C events 1 forkers 0 round 1 closed 0 ordered 0\nbalance A 0\nbalance B 0\nbalance C 0\nbalance D 0\nnode D events 4 forkers 0 round 1 closed 0 ordered 0\nbalance A 0\nbalance B 0\nbalance C 0\nbalance D 0\n";
+
+#[test]
+fn several_other_parents(rt: HostRuntime) -> Result<(), Fail> {
+    let alloc = rt.alloc();
+    let ran = run(&rt, alloc, RUN, FOUR, SEVERAL, &[], ample(alloc)?)?;
+    expect(&rt, &ran, Status::Done, SEVERAL_REPORT, "");
+    for script in [
+        "raw a 00\nforge b A a a,a,a,a,a 1\n",
+        "raw a 00\nforge b A a a,,a 1\n",
+        "raw a 00\nforge b A a -,a 1\n",
+        "raw a 00\nforge b A a a,- 1\n",
+    ] {
+        let fault = ScriptFault {
+            line: 2,
+            why: Why::Label,
+        };
+        let status = Status::Script(Refusal::Fault(fault));
+        let err = "hashgraph: script line 2: label\n";
+        expect_refusal(&rt, alloc, FOUR, script, status, err)?;
+    }
+    Ok(())
 }

@@ -31,13 +31,7 @@ pub fn join_own(row: &mut Vec<u16>, own: &RowBlocks, on: &[usize], branch: usize
 
 /// Makes the row the greatest of its parents' tails, without the number of its own branch and cut behind its last one that
 /// is not 0. No tail tells of more than `widest` branches: where that is none, there is nothing to look at.
-pub fn join_tails(
-    row: &mut Vec<u16>,
-    tails: &TailBlocks,
-    on: &[usize],
-    own: usize,
-    widest: usize,
-)
+pub fn join_tails(row: &mut Vec<u16>, tails: &TailBlocks, on: &[usize], own: usize, widest: usize)
     requires short { length tails.now.rows < 2 ^ 16 }
     requires places { AllByRecursion (λ p. p < length tails.now.rows) on.now }
     requires tails { AllByRecursion (λ p. tail_width tails.now.rows p ≤ widest) on.now }

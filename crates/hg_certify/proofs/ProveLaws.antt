@@ -22,8 +22,8 @@ pub proof_of : ShownIsAccepted → (members : MemberList) (lines : List Line) (o
 proof_of law members lines own v bytes is began safe proved =
     let len : ℕ = proved.len in
     let same : graph_in v ≡ graph_played members lines own =
-        ap (λ (start : Start Secrets). graph_of start.members start.coin (node_rows v)) began
-        ∙ ap (λ (w : NodeView Secrets). graph_of (stakes_of members) members.coin (node_rows w)) is in
+    ap (λ (start : Start Secrets). graph_of start.members start.coin (node_rows v)) began
+    ∙ ap (λ (w : NodeView Secrets). graph_of (stakes_of members) members.coin (node_rows w)) is in
     let by_start = subst (λ (start : Start Secrets). Shows (accepts_by start.keys) start.members start.coin bytes (first_certificate (graph_in v) len)) began proved.shows in
     let by_members = subst (λ (a : Accepts). Shows a (stakes_of members) members.coin bytes (first_certificate (graph_in v) len)) (accepts_alike (secrets_of members) members refl) by_start in
     let shows = subst (λ (g : Graph). ShowsTo members bytes (first_certificate g len)) same by_members in

@@ -2,7 +2,7 @@
 use Rattle.std.proofs.Common.{◌≡◌, ℕ, List, [], ◌∷◌, ◌++◌, Option, Some, None, codes, refl}
 use Rattle.clap.proofs.OnLiterals.{clap_on_literals}
 use Rattle.clap.specs.Words.{Text}
-use Rattle.hg_command.specs.Asked.{Asked, keep, make, request_of, run}
+use Rattle.hg_command.specs.Asked.{Asked, NodeFiles, ask, check, command, keep, make, prove, request_of, run, serve, take}
 
 -- the program's name and the command
 abbrev play : List Text
@@ -22,89 +22,89 @@ abbrev the_run : Option Asked
 the_run = Some (run (record { members = codes "m.toml"; script = codes "s.txt"; workers = 0 }))
 
 plain : request_of (play ++ members ++ script) ≡ the_run
-unfolding clap_on_literals
+unfolding clap_on_literals command
 plain = refl
 
 script_first : request_of (play ++ script ++ members) ≡ the_run
-unfolding clap_on_literals
+unfolding clap_on_literals command
 script_first = refl
 
 with_a_sign : request_of (play ++ codes "--members=m.toml" ∷ script) ≡ the_run
-unfolding clap_on_literals
+unfolding clap_on_literals command
 with_a_sign = refl
 
 workers_first : request_of (play ++ workers (codes "0") ++ members ++ script) ≡ the_run
-unfolding clap_on_literals
+unfolding clap_on_literals command
 workers_first = refl
 
 most_of_workers : request_of (play ++ members ++ script ++ workers (codes "16")) ≡ Some (run (record { members = codes "m.toml"; script = codes "s.txt"; workers = 16 }))
-unfolding clap_on_literals
+unfolding clap_on_literals command
 most_of_workers = refl
 
 -- a number may have a sign and leading zeros
 workers_signed : request_of (play ++ members ++ script ++ codes "--workers=-00" ∷ []) ≡ the_run
-unfolding clap_on_literals
+unfolding clap_on_literals command
 workers_signed = refl
 
 -- a name may be empty behind the sign, and have a dash there
 odd_names : request_of (play ++ codes "--members=" ∷ codes "--script=-x" ∷ []) ≡ Some (run (record { members = []; script = codes "-x"; workers = 0 }))
-unfolding clap_on_literals
+unfolding clap_on_literals command
 odd_names = refl
 
 no_words : request_of [] ≡ None
-unfolding clap_on_literals
+unfolding clap_on_literals command
 no_words = refl
 
 no_command : request_of (codes "hashgraph" ∷ []) ≡ None
-unfolding clap_on_literals
+unfolding clap_on_literals command
 no_command = refl
 
 unknown_command : request_of (codes "hashgraph" ∷ codes "ran" ∷ members ++ script) ≡ None
-unfolding clap_on_literals
+unfolding clap_on_literals command
 unknown_command = refl
 
 no_members : request_of (play ++ script) ≡ None
-unfolding clap_on_literals
+unfolding clap_on_literals command
 no_members = refl
 
 no_script : request_of (play ++ members) ≡ None
-unfolding clap_on_literals
+unfolding clap_on_literals command
 no_script = refl
 
 no_value : request_of (play ++ members ++ codes "--script" ∷ []) ≡ None
-unfolding clap_on_literals
+unfolding clap_on_literals command
 no_value = refl
 
 dash_for_a_name : request_of (play ++ codes "--members" ∷ codes "-m" ∷ script) ≡ None
-unfolding clap_on_literals
+unfolding clap_on_literals command
 dash_for_a_name = refl
 
 too_many_workers : request_of (play ++ members ++ script ++ workers (codes "17")) ≡ None
-unfolding clap_on_literals
+unfolding clap_on_literals command
 too_many_workers = refl
 
 no_number : request_of (play ++ members ++ script ++ workers (codes "x")) ≡ None
-unfolding clap_on_literals
+unfolding clap_on_literals command
 no_number = refl
 
 script_twice : request_of (play ++ members ++ script ++ script) ≡ None
-unfolding clap_on_literals
+unfolding clap_on_literals command
 script_twice = refl
 
 word_left_over : request_of (play ++ members ++ script ++ codes "more" ∷ []) ≡ None
-unfolding clap_on_literals
+unfolding clap_on_literals command
 word_left_over = refl
 
 help : request_of (codes "hashgraph" ∷ codes "--help" ∷ []) ≡ None
-unfolding clap_on_literals
+unfolding clap_on_literals command
 help = refl
 
 help_for_a_run : request_of (play ++ members ++ script ++ codes "--help" ∷ []) ≡ None
-unfolding clap_on_literals
+unfolding clap_on_literals command
 help_for_a_run = refl
 
 help_by_name : request_of (codes "hashgraph" ∷ codes "help" ∷ []) ≡ None
-unfolding clap_on_literals
+unfolding clap_on_literals command
 help_by_name = refl
 
 -- ---- made input
@@ -114,36 +114,36 @@ makes members lines seed =
     codes "hashgraph" ∷ codes "make" ∷ codes "--members" ∷ members ∷ codes "--lines" ∷ lines ∷ codes "--seed" ∷ seed ∷ []
 
 made : request_of (makes (codes "2") (codes "3") (codes "7")) ≡ Some (make (record { members = 2; lines = 3; seed = 7; workers = 0 }))
-unfolding clap_on_literals
+unfolding clap_on_literals command
 made = refl
 
 made_at_the_ends : request_of (makes (codes "128") (codes "1000000") (codes "18446744073709551615") ++ workers (codes "4"))
     ≡ Some (make (record { members = 128; lines = 1000000; seed = 18446744073709551615; workers = 4 }))
-unfolding clap_on_literals
+unfolding clap_on_literals command
 made_at_the_ends = refl
 
 too_few_members : request_of (makes (codes "1") (codes "3") (codes "7")) ≡ None
-unfolding clap_on_literals
+unfolding clap_on_literals command
 too_few_members = refl
 
 too_many_members : request_of (makes (codes "129") (codes "3") (codes "7")) ≡ None
-unfolding clap_on_literals
+unfolding clap_on_literals command
 too_many_members = refl
 
 too_many_lines : request_of (makes (codes "2") (codes "1000001") (codes "7")) ≡ None
-unfolding clap_on_literals
+unfolding clap_on_literals command
 too_many_lines = refl
 
 too_great_a_seed : request_of (makes (codes "2") (codes "3") (codes "18446744073709551616")) ≡ None
-unfolding clap_on_literals
+unfolding clap_on_literals command
 too_great_a_seed = refl
 
 no_seed : request_of (codes "hashgraph" ∷ codes "make" ∷ codes "--members" ∷ codes "2" ∷ codes "--lines" ∷ codes "3" ∷ []) ≡ None
-unfolding clap_on_literals
+unfolding clap_on_literals command
 no_seed = refl
 
 no_files_to_make_of : request_of (codes "hashgraph" ∷ codes "make" ∷ members ++ script) ≡ None
-unfolding clap_on_literals
+unfolding clap_on_literals command
 no_files_to_make_of = refl
 
 -- ---- events kept in a journal
@@ -160,33 +160,83 @@ abbrev time : Text → List Text
 time t = codes "--time" ∷ t ∷ []
 
 kept : request_of keeps ≡ the_keep None
-unfolding clap_on_literals
+unfolding clap_on_literals command
 kept = refl
 
 kept_at_zero : request_of (keeps ++ time (codes "0")) ≡ the_keep (Some 0)
-unfolding clap_on_literals
+unfolding clap_on_literals command
 kept_at_zero = refl
 
 kept_at_the_end : request_of (keeps ++ time (codes "18446744073709551615")) ≡ the_keep (Some 18446744073709551615)
-unfolding clap_on_literals
+unfolding clap_on_literals command
 kept_at_the_end = refl
 
 too_late_a_time : request_of (keeps ++ time (codes "18446744073709551616")) ≡ None
-unfolding clap_on_literals
+unfolding clap_on_literals command
 too_late_a_time = refl
 
 time_as_a_word : request_of (keeps ++ time (codes "now")) ≡ None
-unfolding clap_on_literals
+unfolding clap_on_literals command
 time_as_a_word = refl
 
 time_twice : request_of (keeps ++ time (codes "1") ++ time (codes "1")) ≡ None
-unfolding clap_on_literals
+unfolding clap_on_literals command
 time_twice = refl
 
 no_disk : request_of (codes "hashgraph" ∷ codes "keep" ∷ members ++ codes "--events" ∷ codes "e.hex" ∷ codes "--own" ∷ codes "ada" ∷ []) ≡ None
-unfolding clap_on_literals
+unfolding clap_on_literals command
 no_disk = refl
 
 script_to_keep : request_of (keeps ++ script) ≡ None
-unfolding clap_on_literals
+unfolding clap_on_literals command
 script_to_keep = refl
+
+-- ---- a node that gossips by files
+
+abbrev own : List Text
+own = codes "--own" ∷ codes "ada" ∷ []
+
+abbrev ada : NodeFiles
+ada = record { members = codes "m.toml"; script = codes "s.txt"; own = codes "ada" }
+
+asks : request_of (codes "hashgraph" ∷ codes "ask" ∷ members ++ script ++ own) ≡ Some (ask ada)
+unfolding clap_on_literals command
+asks = refl
+
+serves : request_of (codes "hashgraph" ∷ codes "serve" ∷ codes "--have" ∷ codes "h.bin" ∷ members ++ script ++ own) ≡ Some (serve ada (codes "h.bin"))
+unfolding clap_on_literals command
+serves = refl
+
+takes : request_of (codes "hashgraph" ∷ codes "take" ∷ members ++ script ++ own ++ codes "--rows=r.bin" ∷ []) ≡ Some (take ada (codes "r.bin"))
+unfolding clap_on_literals command
+takes = refl
+
+serves_no_message : request_of (codes "hashgraph" ∷ codes "serve" ∷ members ++ script ++ own) ≡ None
+unfolding clap_on_literals command
+serves_no_message = refl
+
+takes_no_names : request_of (codes "hashgraph" ∷ codes "take" ∷ members ++ script ++ own ++ codes "--have=h.bin" ∷ []) ≡ None
+unfolding clap_on_literals command
+takes_no_names = refl
+
+asks_with_workers : request_of (codes "hashgraph" ∷ codes "ask" ∷ members ++ script ++ own ++ workers (codes "1")) ≡ None
+unfolding clap_on_literals command
+asks_with_workers = refl
+
+-- ---- orders that are proved
+
+proves : request_of (codes "hashgraph" ∷ codes "prove" ∷ own ++ members ++ script) ≡ Some (prove ada)
+unfolding clap_on_literals command
+proves = refl
+
+proves_nobody : request_of (codes "hashgraph" ∷ codes "prove" ∷ members ++ script) ≡ None
+unfolding clap_on_literals command
+proves_nobody = refl
+
+checks : request_of (codes "hashgraph" ∷ codes "check" ∷ members ++ codes "--proof" ∷ codes "p.bin" ∷ []) ≡ Some (check (record { members = codes "m.toml"; proof = codes "p.bin" }))
+unfolding clap_on_literals command
+checks = refl
+
+checks_a_script : request_of (codes "hashgraph" ∷ codes "check" ∷ members ++ script) ≡ None
+unfolding clap_on_literals command
+checks_a_script = refl

@@ -34,8 +34,8 @@ pub record KeepFiles : Type 0 where
   pub disk : Text
   pub time : Option ℕ
 
--- the certificate of the order of the node of the member of that own name, after the play of a script
-pub record ProveFiles : Type 0 where
+-- a script among the members of a file, and the own name of the member whose node is asked once the script was played
+pub record NodeFiles : Type 0 where
   pub members : Text
   pub script : Text
   pub own : Text
@@ -45,13 +45,16 @@ pub record CheckFiles : Type 0 where
   pub members : Text
   pub proof : Text
 
--- what a command asks for
+-- what a command asks for; `serve` and `take` name the file of a message beside
 pub data Asked : Type 0 where
   run : RunFiles → Asked
   make : MadeRun → Asked
   keep : KeepFiles → Asked
-  prove : ProveFiles → Asked
+  prove : NodeFiles → Asked
   check : CheckFiles → Asked
+  ask : NodeFiles → Asked
+  serve : NodeFiles → Text → Asked
+  take : NodeFiles → Text → Asked
 
 -- a request, with its texts
 abbrev pub asked : Request → Asked
@@ -62,6 +65,11 @@ asked (request.Keep members events own disk time) =
     keep (record { members = members.now; events = events.now; own = own.now; disk = disk.now; time = time })
 asked (request.Prove members script own) = prove (record { members = members.now; script = script.now; own = own.now })
 asked (request.Check members proof) = check (record { members = members.now; proof = proof.now })
+asked (request.Ask members script own) = ask (record { members = members.now; script = script.now; own = own.now })
+asked (request.Serve members script own have) =
+    serve (record { members = members.now; script = script.now; own = own.now }) have.now
+asked (request.Take members script own rows) =
+    take (record { members = members.now; script = script.now; own = own.now }) rows.now
 
 -- the least and the greatest number of members that are made
 abbrev pub least_members : ℕ
@@ -158,17 +166,22 @@ keep_command = record {
   });
 }
 
+-- the options of a command that asks a member's node once a script was played, and these behind them
+abbrev pub node_options : List Rule → List Rule
+node_options more =
+    needed (text_option (codes "members")) ∷ needed (text_option (codes "script")) ∷ needed (text_option (codes "own")) ∷ more
+
+-- what they were given
+abbrev pub node_files : List Row → NodeFiles
+node_files rows = record {
+  members = text_in (codes "members") rows;
+  script = text_in (codes "script") rows;
+  own = text_in (codes "own") rows;
+}
+
 -- prove --members FILE --script FILE --own NAME
 abbrev pub prove_command : Command
-prove_command = record {
-  name = codes "prove";
-  options = needed (text_option (codes "members")) ∷ needed (text_option (codes "script")) ∷ needed (text_option (codes "own")) ∷ [];
-  reads = λ rows. prove (record {
-    members = text_in (codes "members") rows;
-    script = text_in (codes "script") rows;
-    own = text_in (codes "own") rows;
-  });
-}
+prove_command = record { name = codes "prove"; options = node_options []; reads = λ rows. prove (node_files rows) }
 
 -- check --members FILE --proof FILE
 abbrev pub check_command : Command
@@ -178,15 +191,36 @@ check_command = record {
   reads = λ rows. check (record { members = text_in (codes "members") rows; proof = text_in (codes "proof") rows });
 }
 
+-- ask --members FILE --script FILE --own NAME
+abbrev pub ask_command : Command
+ask_command = record { name = codes "ask"; options = node_options []; reads = λ rows. ask (node_files rows) }
+
+-- serve --members FILE --script FILE --own NAME --have FILE
+abbrev pub serve_command : Command
+serve_command = record {
+  name = codes "serve";
+  options = node_options (needed (text_option (codes "have")) ∷ []);
+  reads = λ rows. serve (node_files rows) (text_in (codes "have") rows);
+}
+
+-- take --members FILE --script FILE --own NAME --rows FILE
+abbrev pub take_command : Command
+take_command = record {
+  name = codes "take";
+  options = node_options (needed (text_option (codes "rows")) ∷ []);
+  reads = λ rows. take (node_files rows) (text_in (codes "rows") rows);
+}
+
 -- the commands of the program
 abbrev pub commands : List Command
-commands = run_command ∷ make_command ∷ keep_command ∷ prove_command ∷ check_command ∷ []
+commands =
+    run_command ∷ make_command ∷ keep_command ∷ prove_command ∷ check_command ∷ ask_command ∷ serve_command ∷ take_command ∷ []
 
 -- a command as clap is told of it
 abbrev pub app_for : Command → App
 app_for c = app_with c.name c.options
 
-abbrev pub command : App
+unfoldable pub command : App
 command = program_with (map app_for commands)
 
 -- what a command of this name asks for, by what its options were given

@@ -115,6 +115,44 @@ fn check_command<'a>(alloc: Global) -> Result<Command<'a>, AllocError>
     Ok(check)
 }
 
+/// `ask --members FILE --script FILE --own NAME`
+fn ask_command<'a>(alloc: Global) -> Result<Command<'a>, AllocError>
+    ensures app { IfOk result (λ c. app_of c ≡ app_for asked.ask_command) }
+    ensures local { IfOk result (λ c. (out-Command c).has_globals ≡ false) }
+{
+    let ask = Command::new(alloc, "ask")
+        .arg(text_option(alloc, "members"))?
+        .arg(text_option(alloc, "script"))?
+        .arg(text_option(alloc, "own"))?;
+    Ok(ask)
+}
+
+/// `serve --members FILE --script FILE --own NAME --have FILE`
+fn serve_command<'a>(alloc: Global) -> Result<Command<'a>, AllocError>
+    ensures app { IfOk result (λ c. app_of c ≡ app_for asked.serve_command) }
+    ensures local { IfOk result (λ c. (out-Command c).has_globals ≡ false) }
+{
+    let serve = Command::new(alloc, "serve")
+        .arg(text_option(alloc, "members"))?
+        .arg(text_option(alloc, "script"))?
+        .arg(text_option(alloc, "own"))?
+        .arg(text_option(alloc, "have"))?;
+    Ok(serve)
+}
+
+/// `take --members FILE --script FILE --own NAME --rows FILE`
+fn take_command<'a>(alloc: Global) -> Result<Command<'a>, AllocError>
+    ensures app { IfOk result (λ c. app_of c ≡ app_for asked.take_command) }
+    ensures local { IfOk result (λ c. (out-Command c).has_globals ≡ false) }
+{
+    let take = Command::new(alloc, "take")
+        .arg(text_option(alloc, "members"))?
+        .arg(text_option(alloc, "script"))?
+        .arg(text_option(alloc, "own"))?
+        .arg(text_option(alloc, "rows"))?;
+    Ok(take)
+}
+
 /// The program before it has commands: one of them is required, and nothing asks for help.
 fn program<'a>(alloc: Global) -> Command<'a>
     ensures app { app_of result ≡ line.program }
@@ -136,11 +174,17 @@ pub(crate) fn command<'a>(alloc: Global) -> Result<Command<'a>, AllocError>
     let keep = keep_command(alloc)?;
     let prove = prove_command(alloc)?;
     let check = check_command(alloc)?;
+    let ask = ask_command(alloc)?;
+    let serve = serve_command(alloc)?;
+    let take = take_command(alloc)?;
     let whole = program(alloc)
         .subcommand(run)?
         .subcommand(make)?
         .subcommand(keep)?
         .subcommand(prove)?
-        .subcommand(check)?;
+        .subcommand(check)?
+        .subcommand(ask)?
+        .subcommand(serve)?
+        .subcommand(take)?;
     Ok(whole)
 }

@@ -1,6 +1,6 @@
 ghost use Rattle.std.specs.Prelude.{◌≡◌, option_and_then, option_map, codes};
 ghost use Rattle.clap.specs.Words.{found_of, rows_of, subcommand_rows_of};
-ghost use Rattle.hg_command.specs.Asked.{asked, asked_in, check_command, keep_command, keeps_ranges, make_command, maybe_number_in, number_in, prove_command, run_command, text_in};
+ghost use Rattle.hg_command.specs.Asked.{ask_command, asked, asked_in, check_command, keep_command, keeps_ranges, make_command, maybe_number_in, number_in, prove_command, run_command, serve_command, take_command, text_in};
 
 use clap::ArgMatches;
 
@@ -40,6 +40,26 @@ pub enum Request<'a> {
         members: &'a str,
         proof: &'a str,
     },
+    /// The message by which the node of the member of the name `own` asks, once the script was played.
+    Ask {
+        members: &'a str,
+        script: &'a str,
+        own: &'a str,
+    },
+    /// What that node answers to the message in the file of the name `have`.
+    Serve {
+        members: &'a str,
+        script: &'a str,
+        own: &'a str,
+        have: &'a str,
+    },
+    /// What comes of the message in the file of the name `rows` at that node.
+    Take {
+        members: &'a str,
+        script: &'a str,
+        own: &'a str,
+        rows: &'a str,
+    },
 }
 
 impl<'a> Request<'a> {
@@ -56,6 +76,7 @@ impl<'a> Request<'a> {
                 ..
             } => 2 <= members && members <= 128 && lines <= 1_000_000 && workers <= 16,
             Request::Keep { .. } | Request::Prove { .. } | Request::Check { .. } => true,
+            Request::Ask { .. } | Request::Serve { .. } | Request::Take { .. } => true,
         }
     }
 }
@@ -140,6 +161,38 @@ fn check_at<'a>(matches: &ArgMatches<'a>) -> Request<'a>
     }
 }
 
+fn ask_at<'a>(matches: &ArgMatches<'a>) -> Request<'a>
+    ensures { asked result ≡ ask_command.reads (rows_of (found_of matches.now)) }
+{
+    Request::Ask {
+        members: text_at(matches, "members"),
+        script: text_at(matches, "script"),
+        own: text_at(matches, "own"),
+    }
+}
+
+fn serve_at<'a>(matches: &ArgMatches<'a>) -> Request<'a>
+    ensures { asked result ≡ serve_command.reads (rows_of (found_of matches.now)) }
+{
+    Request::Serve {
+        members: text_at(matches, "members"),
+        script: text_at(matches, "script"),
+        own: text_at(matches, "own"),
+        have: text_at(matches, "have"),
+    }
+}
+
+fn take_at<'a>(matches: &ArgMatches<'a>) -> Request<'a>
+    ensures { asked result ≡ take_command.reads (rows_of (found_of matches.now)) }
+{
+    Request::Take {
+        members: text_at(matches, "members"),
+        script: text_at(matches, "script"),
+        own: text_at(matches, "own"),
+        rows: text_at(matches, "rows"),
+    }
+}
+
 /// What the command that was met asks for.
 pub(crate) fn request_at<'a>(matches: &ArgMatches<'a>) -> Option<Request<'a>>
     ensures { option_map asked result ≡ option_and_then asked_in (subcommand_rows_of matches.now) }
@@ -155,6 +208,12 @@ pub(crate) fn request_at<'a>(matches: &ArgMatches<'a>) -> Option<Request<'a>>
         Some(prove_at(options))
     } else if name == "check" {
         Some(check_at(options))
+    } else if name == "ask" {
+        Some(ask_at(options))
+    } else if name == "serve" {
+        Some(serve_at(options))
+    } else if name == "take" {
+        Some(take_at(options))
     } else {
         None
     }

@@ -10,6 +10,7 @@ use hg_model::Memory;
 use std::alloc::Global;
 
 /// What clap makes of the words, if it finds no fault in them.
+#[tactic(auto, using(crate::proofs::Simple::command_is_free, crate::proofs::Simple::command_is_simple))]
 fn matches_of<'a>(alloc: Global, words: &'a [String]) -> Result<Option<ArgMatches<'a>>, Memory>
     ensures accepted { IfOk result (λ r. IsSome r ↔ (fault_of command (texts words.now) ≡ [])) }
     ensures rows { IfOk result (λ r. IfSome r (λ m. subcommand_rows_of m ≡ subcommand_of command (texts words.now))) }

@@ -128,12 +128,7 @@ impl<V: Signer> Holder for Node<V> {
         Node::put(self, bytes)
     }
 
-    fn make(
-        &mut self,
-        others: &[Name],
-        time: u64,
-        payload: &[u8],
-    ) -> Result<MakeAnswer, Memory> {
+    fn make(&mut self, others: &[Name], time: u64, payload: &[u8]) -> Result<MakeAnswer, Memory> {
         Node::make(self, others, time, payload)
     }
 }

@@ -30,11 +30,7 @@ pub struct Draft {
 
 /// The draft of the event that a node with these records makes, or what is wrong with the event before it is signed.
 /// Takes no memory.
-pub fn draft_of(
-    chronicle: &Chronicle,
-    others: &[Name],
-    payload: &[u8],
-) -> Result<Draft, MakeFault>
+pub fn draft_of(chronicle: &Chronicle, others: &[Name], payload: &[u8]) -> Result<Draft, MakeFault>
     requires { length others.now ≤ most_others }
     ensures fault { result_err result ≡ draft_fault chronicle.now others.now payload.now }
     ensures last { IfOk result (λ draft. draft.last ≡ last_name chronicle.now.own chronicle.now.graph.rows) }

@@ -154,12 +154,7 @@ impl<V: Signer> Node<V> {
     /// Makes an event of the node's member on its last one, with these one to four other-parents, or with none its first one,
     /// without parents. The time is any, in no unit of ours. To tell that the event is refused before it is signed takes no
     /// memory.
-    pub fn make(
-        &mut self,
-        others: &[Name],
-        time: u64,
-        payload: &[u8],
-    ) -> Result<MakeAnswer, Memory>
+    pub fn make(&mut self, others: &[Name], time: u64, payload: &[u8]) -> Result<MakeAnswer, Memory>
         requires { length others.now ≤ most_others }
         ensures ok { IfOk result (λ a. IsMaking V.accepts self.old others.now time payload.now a self.new) }
         ensures err { OnErr result (self.new ≡ self.old) }

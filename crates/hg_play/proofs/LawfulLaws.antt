@@ -2,6 +2,7 @@
 use Rattle.std.proofs.Common.{◌≡◌, ℕ, zero, suc, ◌<◌, ◌≤◌, Bool, true, false, cond, List, [], ◌∷◌, ◌++◌, length, map, get_or, Option, Some, None, sym, refl, ap, ◌∙◌, subst, arith}
 use Rattle.std.specs.Prelude.{All}
 use Rattle.std.specs.List.{AllByRecursion}
+use Rattle.std.proofs.lemmas.List.{length-map}
 use Rattle.std.proofs.lemmas.List.Elements.{All-head, All-tail}
 use Rattle.hg_graph.specs.Held.{AreEvents}
 use Rattle.hg_outcome.specs.declared.outcome.Printed.{Printed}
@@ -25,6 +26,7 @@ use Rattle.hg_world.proofs.WorldLaws.{safe}
 use Rattle.hg_play.specs.Agree.{IsAgreed}
 use Rattle.hg_play.specs.Alike.{WorldsAlike}
 use Rattle.hg_play.specs.Batch.{IsLineOfRows, IsPlayed}
+use Rattle.hg_play.specs.Labels.{name_of_label}
 use Rattle.hg_play.specs.Lines.{IsBelow, IsGossipBelow, IsLineBelow, action_steps, gossip_steps}
 use Rattle.hg_play.specs.Nodes.{Closes, MatchesBlocks, seen_alone}
 use Rattle.hg_play.specs.Play.{IsSafePlay, Stage, after_line, after_lines, end_blocks, end_steps, first_stage, lines_steps, play_steps}

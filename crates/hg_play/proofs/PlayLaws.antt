@@ -37,7 +37,7 @@ gossip_below : (members : MemberList) (g : Gossip) → IsGossip members g → Is
 gossip_below members (Create m time payload) node = has_node_below members.entries m node.0
 gossip_below members (Sync taker peer time payload) node = (has_node_below members.entries taker node.0, has_node_below members.entries peer node.1)
 gossip_below members (Pull taker peer) node = (has_node_below members.entries taker node.0, has_node_below members.entries peer node.1)
-gossip_below members (Join m others time payload) node = (has_node_below members.entries m node.0, node.1.1)
+gossip_below members (Join m others time payload) node = (has_node_below members.entries m node.0, node.2.1)
 gossip_below members (Give m label) node = has_node_below members.entries m node
 
 source_below : (members : MemberList) (s : Source) → IsSource members s → IsSourceBelow (length members.entries) s

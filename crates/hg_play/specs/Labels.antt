@@ -1,5 +1,5 @@
 -- The bytes that labels stand for
-use Rattle.std.specs.Prelude.{ℕ, nat_lt, Option, List, [], ◌∷◌, ◌++◌, length, map, take, slice_get, slice_index, slice_index_or, slice_set, bit_xor, option_map, unwrap_or, if◌then◌else◌}
+use Rattle.std.specs.Prelude.{ℕ, nat_lt, Option, List, [], ◌++◌, length, map, take, slice_get, slice_index, slice_index_or, slice_set, bit_xor, option_map, unwrap_or, if◌then◌else◌}
 use Rattle.std.specs.declared.sync.Arc.{Arc}
 use Rattle.sha2.specs.Sha512.{sha384}
 use Rattle.hg_model.specs.declared.row.Row.{Row}

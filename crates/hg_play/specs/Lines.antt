@@ -1,5 +1,5 @@
 -- What a line of a script is: a list of steps of a run, and what it prints
-use Rattle.std.specs.Prelude.{ℕ, ◌<◌, ◌≤◌, ⊤, List, [], ◌∷◌, ◌++◌, length, Some, None}
+use Rattle.std.specs.Prelude.{ℕ, ◌<◌, ◌≤◌, ⊤, List, [], ◌∷◌, ◌++◌, length}
 use Rattle.hg_outcome.specs.declared.outcome.Printed.{Printed}
 use Rattle.hg_outcome.specs.declared.outcome.Printed.TheVariants as printed
 use Rattle.hg_outcome.specs.declared.outcome.Block.{Block}

@@ -1,6 +1,6 @@
 -- Many nodes that lines are played over: of one thread, or shared with others who add nothing but marks. What a call
 -- answers is told once it is known that others did no more. Lines that need the marks are played over a world
-use Rattle.std.specs.Prelude.{ℕ, ◌≡◌, ⊤, cond, List, [], ◌∷◌, ◌++◌, length, Option, OnOk, Result}
+use Rattle.std.specs.Prelude.{ℕ, ◌≡◌, ⊤, cond, List, [], ◌∷◌, ◌++◌, length, OnOk, Result}
 use Rattle.hg_life.specs.declared.answers.PutAnswer.{PutAnswer}
 use Rattle.hg_life.specs.declared.answers.MakeAnswer.{MakeAnswer}
 use Rattle.hg_life.specs.declared.answers.SyncReport.{SyncReport}

@@ -40,7 +40,7 @@ pub(crate) fn names_of_labels(
 {
     let mut names = Vec::with_capacity(alloc, places.len())?;
     for label in places {
-        names.push_reserved(name_of_label(labels, *label));
+        names.push(name_of_label(labels, *label))?;
     }
     Ok(names)
 }

@@ -25,6 +25,10 @@ few_parts text commas counted =
       | inr past ↦ le-ltb commas 64 past ∙ sym (lt-leb (length (parts_of text)) 64 (omega arith))
     ]
 
+-- a text has one part at least
+pub some_parts : (text : List ℕ) → 0 < length (parts_of text)
+some_parts text = omega (arith, length-slice_split is_comma text)
+
 -- ---- the form
 
 pub pay_refused : {N : Type 0} (bytes : N → List ℕ) (members : MemberList) (text : List ℕ) (parts : List N) → map bytes parts ≡ parts_of text → list_all (λ part. is_item (bytes part)) parts ≡ false → pay_of members text ≡ Err Payload

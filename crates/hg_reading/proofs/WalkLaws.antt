@@ -1,10 +1,18 @@
 -- What a walk over words reads, one after the other
-use Rattle.std.proofs.Common.{◌≡◌, ℕ, ◌+◌, ◌<◌, ◌≤◌, List, [], ◌∷◌, ◌++◌, length, get_or, drop, map, Result, Ok, Err, refl, sym, ap, ◌∙◌, append_assoc, add-one}
+use Rattle.std.proofs.Common.{◌≡◌, ℕ, ◌+◌, ◌<◌, ◌≤◌, List, [], ◌∷◌, ◌++◌, length, get_or, drop, map, Result, Ok, Err, refl, subst, sym, ap, ◌∙◌, append_assoc, add-one}
 use Rattle.std.proofs.Math.Seq.{drop-cons}
 use Rattle.std.proofs.lemmas.List.{append-nil, drop_all}
-use Rattle.hg_life.specs.Results.{◌>>=◌}
+use Rattle.std.specs.Result.{IsErrAnd}
+use Rattle.hg_model.specs.declared.stop.Stop.{Stop}
+use Rattle.hg_model.specs.declared.stop.Stop.TheVariants.{Fault}
+use Rattle.hg_life.specs.Results.{Gives, ◌>>=◌}
 use Rattle.hg_script.specs.declared.fault.Why.{Why}
 use Rattle.hg_script.specs.Words.{read_each}
+
+-- a fault that is handed on
+pub gives_refused : {X Y : Type 0} (view : X → Y) (why : Why) (result : Result X (Stop Why)) (read : Result Y Why) → IsErrAnd result (λ e. e ≡ Fault why) → read ≡ Err why → Gives view result read
+gives_refused view why (Ok x) read is refused = absurd is
+gives_refused view why (Err e) read is refused = subst (λ e. Gives view (Err e) read) (sym is) refused
 
 -- what was read, and what is read behind it
 abbrev pub and_then : {X : Type 0} → List X → Result (List X) Why → Result (List X) Why

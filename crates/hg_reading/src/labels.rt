@@ -14,11 +14,7 @@ use std::alloc::Global;
 const MOST_LABELS: usize = 4;
 
 /// The numbers of these labels, each of which was made above.
-fn labels_each(
-    alloc: Global,
-    above: &Above<'_>,
-    words: &[&[u8]],
-) -> Result<Vec<usize>, Stop<Why>>
+fn labels_each(alloc: Global, above: &Above<'_>, words: &[&[u8]]) -> Result<Vec<usize>, Stop<Why>>
     ensures value { Gives (λ labels. labels.items) result (read_each (spec.label_of above.now.labels) (bytes_in words.now)) }
     ensures many { IfOk result (λ labels. length labels.items ≡ length words.now) }
 {

@@ -16,4 +16,3 @@ pub fn parts_of<'a>(alloc: Global, text: &'a [u8]) -> Result<Vec<&'a [u8]>, Allo
 {
     text.split(|byte| is_comma(*byte)).collect(alloc)
 }
-

@@ -10,8 +10,7 @@ use crate::payload::payload_of;
 use hg_life::Members;
 use hg_model::Stop;
 use hg_script::argument::{
-    byte_of, label_of, member_of, new_label, node_of, number_of, peer_of, raw_bytes,
-    worker_of,
+    byte_of, label_of, member_of, new_label, node_of, number_of, peer_of, raw_bytes, worker_of,
 };
 use hg_script::{Above, Action, Found, Gossip, Part, Source, Verb, Why};
 use std::alloc::Global;

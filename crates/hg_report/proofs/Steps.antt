@@ -6,6 +6,7 @@ use Rattle.std.specs.Str.{bytes_eq}
 use Rattle.hg_outcome.specs.Report.{printed_text, printed_texts}
 use Rattle.hg_outcome.specs.declared.outcome.OrderLine.{OrderLine}
 use Rattle.hg_outcome.specs.declared.outcome.Printed.{Printed}
+use Rattle.hg_report.specs.Heads.{piece_head, pieces_heads}
 use Rattle.hg_report.specs.Summary.{names_together, piece_summary, pieces_summary}
 use Rattle.hg_pieces.proofs.Steps.{first_left}
 
@@ -40,3 +41,9 @@ same_name a b differ told same = elim (cases_Bool (bytes_eq a b)) [
   | inl one ↦ (bytes_eq-Decides a b).0 one
   | inr other ↦ (let apart : not (bytes_eq a b) ≡ true = ap not other in absurd (true≢false (sym apart ∙ (sym told ∙ same))))
 ]
+
+pub heads_left : (names : List (List ℕ)) (pieces : List Printed) (i : ℕ) (piece : Printed) → piece ≡ get_or pieces i piece → i < length pieces
+    → pieces_heads names (drop i pieces) ≡ piece_head names piece ++ pieces_heads names (drop (i + 1) pieces)
+heads_left names pieces i piece is lt =
+    ap (pieces_heads names) (first_left pieces i piece lt)
+    ∙ ap (λ p. piece_head names p ++ pieces_heads names (drop (i + 1) pieces)) (sym is)

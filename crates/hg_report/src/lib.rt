@@ -12,9 +12,11 @@
 //! ```
 #![tactic(auto)]
 
+mod heads;
 mod printed;
 mod summary;
 
+pub use heads::heads_of;
 pub use hg_pieces::{Piece, print_pieces};
 pub use printed::{text_of, write_outcome};
 pub use summary::summary_of;

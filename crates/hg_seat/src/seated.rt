@@ -66,12 +66,7 @@ impl<'a, V: Signer + Drop, R: Wait> Holder for Seated<'a, V, R> {
         self.shared.put(self.rt, self.seat, bytes)
     }
 
-    fn make(
-        &mut self,
-        others: &[Name],
-        time: u64,
-        payload: &[u8],
-    ) -> Result<MakeAnswer, Memory> {
+    fn make(&mut self, others: &[Name], time: u64, payload: &[u8]) -> Result<MakeAnswer, Memory> {
         self.shared.make(self.rt, self.seat, others, time, payload)
     }
 }

@@ -18,7 +18,7 @@ use Rattle.hg_keep.specs.declared.stop.Stop.TheVariants as stop
 use Rattle.hg_top.specs.declared.status.JournalFault.{JournalFault}
 use Rattle.hg_top.specs.declared.status.JournalFault.TheVariants.{Foreign, Broken}
 use Rattle.hg_top.specs.declared.status.Status.{Status}
-use Rattle.hg_top.specs.declared.status.Status.TheVariants.{Done, ReadFault, Usage, Members, Own, Script, Events, WriteFault, Memory, Disk, Journal, Proof}
+use Rattle.hg_top.specs.declared.status.Status.TheVariants.{Done, ReadFault, Usage, Members, Own, Script, Events, WriteFault, Memory, Disk, Journal, Proof, Wire}
 use Rattle.hg_top.specs.Course.{Course, DiskCourse, HasDiskFault, HasWriteFault, IsStill}
 use Rattle.hg_top.specs.Keeps.{IsKeptText, KeepEnds, KeepSyncs, keep_status, start_for, status_for, stop_of, stop_status}
 use Rattle.hg_top.specs.Work.{KeepWork}
@@ -62,6 +62,7 @@ completes_keep k c Own ends written kept = absurd ends
 completes_keep k c (Script refusal) ends written kept = absurd ends
 completes_keep k c (Events refusal) ends written kept = absurd ends
 completes_keep k c (Proof refusal) ends written kept = absurd ends
+completes_keep k c (Wire refusal) ends written kept = absurd ends
 
 -- ---- what comes of the work
 

@@ -9,18 +9,31 @@ use Rattle.hg_io.specs.declared.shelf.Shelf as shelf
 use Rattle.hg_io.specs.declared.sink.Sink as sink
 use Rattle.hg_top.specs.declared.status.File.{File}
 use Rattle.hg_top.specs.declared.status.Status.{Status}
-use Rattle.hg_top.specs.declared.status.Status.TheVariants.{Done, ReadFault, Usage, Members, Own, Script, Events, WriteFault, Memory, Disk, Journal, Proof}
+use Rattle.hg_top.specs.declared.status.Status.TheVariants.{Done, ReadFault, Usage, Members, Own, Script, Events, WriteFault, Memory, Disk, Journal, Proof, Wire}
 use Rattle.hg_top.specs.Course.{Course, DiskCourse, Has, HasMore, HasWithin, IsQuiet, IsStill, StartsOne, Tells, course, disk_course, no_disk, reading}
 use Rattle.hg_top.specs.Ends.{Comes, Completes, Ends, IsTaken, StopsAt, StopsIn}
 use Rattle.hg_top.specs.Work.{Work, limit_of, nothing_more, takes, unless_faulty}
 use Rattle.hg_top.specs.Work.Work.{Writes, Stops, Reads, Keeps}
-use Rattle.hg_top.specs.Writing.{WroteOn, status_of}
+use Rattle.hg_top.specs.Writing.{WroteOn, delivered, status_of}
 use Rattle.hg_members.specs.MemberFile.{members_of}
-use Rattle.hg_life.specs.Members.{MemberList}
+use Rattle.hg_certify.specs.Proving.{IsProofOf}
 use Rattle.hg_certify.specs.Showing.{judged_by}
-use Rattle.hg_top.specs.Commands.{answer_work, bad_members, bad_proof, bad_script, certificate_work, check_work, lines_for, own_in, played_work, prove_work, report_work, run_work, script_work, shown_work, work_of}
+use Rattle.hg_exchange.specs.Exchanges.{IsAnswering, IsTakingText, played_node}
+use Rattle.hg_exchange.specs.Messages.{message_of}
+use Rattle.hg_life.specs.Members.{MemberList}
+use Rattle.hg_life.specs.NodeView.{NodeView}
+use Rattle.hg_wire.specs.declared.exchange.Delivery.{Delivery}
+use Rattle.hg_wire.specs.declared.exchange.Delivery.TheVariants as delivery
+use Rattle.hg_wire.specs.declared.message.Message.{Message}
+use Rattle.hg_wire.specs.declared.message.Want.TheVariants.{Have, Rows}
+use Rattle.hg_wire.specs.Exchange.{Delivers}
+use Rattle.hg_wire.specs.Grammar.{message_bytes}
+use Rattle.hg_world.specs.World.{Secrets}
+use Rattle.hg_top.specs.declared.exchanging.Exchange.{Exchange}
+use Rattle.hg_top.specs.declared.exchanging.Exchange.TheVariants.{Ask, Serve, Take}
+use Rattle.hg_top.specs.Commands.{answer_work, bad_members, bad_message, bad_proof, bad_script, certificate_work, check_work, exchange_work, if_own, lines_for, own_in, play_work, played_work, prove_work, report_work, run_work, script_work, shown_work, work_of}
 use Rattle.hg_top.proofs.KeepLaws.{completes_keep}
-use Rattle.hg_command.specs.Asked.{Asked, ProveFiles}
+use Rattle.hg_command.specs.Asked.{Asked, NodeFiles}
 
 -- ---- what holds of each work
 
@@ -64,6 +77,7 @@ completes_text Is c starts (Events refusal) comes fine = absurd comes.1
 completes_text Is c starts Disk comes fine = absurd comes.1
 completes_text Is c starts (Journal why) comes fine = absurd comes.1
 completes_text Is c starts (Proof refusal) comes fine = absurd comes.1
+completes_text Is c starts (Wire refusal) comes fine = absurd comes.1
 
 completes_file : (file : File) (name : List ℕ) (next : List ℕ → Work) (c : Course) (status : Status) → StopsAt c file name status → Completes (Reads file name next) c status
 completes_file file name next c status (inl fault) = λ bytes tells fine. absurd (fine fault.1)
@@ -102,6 +116,7 @@ stops_before work c starts (Events refusal) comes = absurd comes.1
 stops_before work c starts Disk comes = absurd comes.1
 stops_before work c starts (Journal why) comes = absurd comes.1
 stops_before work c starts (Proof refusal) comes = absurd comes.1
+stops_before work c starts (Wire refusal) comes = absurd comes.1
 
 -- a file that is read, if what follows may be exchanged
 pub reads_for : (file : File) (name : List ℕ) (next others : List ℕ → Work) (c : Course) (starts : ℕ) (status : Status) →
@@ -141,17 +156,29 @@ pub diskless_run : (members script : List ℕ) (workers : ℕ) → Diskless (run
 diskless_run members script workers = λ bytes. diskless_unless bad_members (members_of bytes) (script_work script workers)
     (λ list bytes. diskless_unless bad_script (lines_for list workers bytes) (report_work list) (λ lines. tt))
 
-diskless_played : (p : ProveFiles) (members : MemberList) (own : Option ℕ) → Diskless (played_work p members own)
-diskless_played p members None = tt
-diskless_played p members (Some own) = λ bytes. diskless_unless bad_script (lines_for members 0 bytes) (certificate_work members own) (λ lines. tt)
+diskless_own : (own : Option ℕ) (next : ℕ → Work) → ((m : ℕ) → Diskless (next m)) → Diskless (if_own own next)
+diskless_own None next diskless = tt
+diskless_own (Some own) next diskless = diskless own
 
-pub diskless_prove : (p : ProveFiles) → Diskless (prove_work p)
-diskless_prove p = λ bytes. diskless_unless bad_members (members_of bytes) (λ (members : MemberList). played_work p members (own_in members p.own))
-    (λ members. diskless_played p members (own_in members p.own))
+pub diskless_prove : (f : NodeFiles) → Diskless (prove_work f)
+diskless_prove f = λ bytes. diskless_unless bad_members (members_of bytes) (λ (members : MemberList). if_own (own_in members f.own) (certificate_work f.script members))
+    (λ members. diskless_own (own_in members f.own) (certificate_work f.script members)
+    (λ own bytes. diskless_unless bad_script (lines_for members 0 bytes) (λ lines. Writes (IsProofOf members lines own)) (λ lines. tt)))
 
 pub diskless_check : (members proof : List ℕ) → Diskless (check_work members proof)
 diskless_check members proof = λ bytes. diskless_unless bad_members (members_of bytes) (λ (list : MemberList). shown_work proof list (answer_work list))
     (λ list bytes. diskless_unless bad_proof (judged_by list bytes) (answer_work list) (λ shown. tt))
+
+diskless_exchange : (exchange : Exchange) (members : MemberList) (v : NodeView Secrets) → Diskless (exchange_work exchange members v)
+diskless_exchange Ask members v = tt
+diskless_exchange (Serve have) members v = λ bytes. diskless_unless bad_message (message_of Have bytes) (λ m. Writes (IsAnswering v m)) (λ m. tt)
+diskless_exchange (Take rows) members v = λ bytes. diskless_unless bad_message (message_of Rows bytes) (λ m. Writes (IsTakingText members v m)) (λ m. tt)
+
+pub diskless_played : (f : NodeFiles) (exchange : Exchange) → Diskless (played_work f (exchange_work exchange))
+diskless_played f exchange = λ bytes. diskless_unless bad_members (members_of bytes) (λ members. if_own (own_in members f.own) (play_work f.script (exchange_work exchange) members))
+    (λ members. diskless_own (own_in members f.own) (play_work f.script (exchange_work exchange) members)
+    (λ own bytes. diskless_unless bad_script (lines_for members 0 bytes) (λ lines. exchange_work exchange members (played_node members lines own))
+    (λ lines. diskless_exchange exchange members (played_node members lines own))))
 
 -- then it does not matter which disk it is that nothing is done to
 pub with_disk : (work : Work) (c : Course) (d : DiskCourse) (starts : ℕ) (status : Status) → Diskless work → IsStill d → Comes work c starts status → Comes work (record c { disk = d }) starts status
@@ -209,6 +236,12 @@ pub wrote : {T E : Type 0} (K : sink.Ghosts T) (out written : T) (Is : List ℕ 
     Is text → Prints K out written text r → WroteOn K out written Is (status_of r)
 wrote K out written Is text (Ok x) is prints = (text, is, prints.0)
 wrote K out written Is text (Err e) is prints = (prints.1, (text, is, prints.0))
+
+-- .. of a message
+pub delivers : {T : Type 0} (K : sink.Ghosts T) (out written : T) (Is : List ℕ → Type 0) (m : Message) (d : Delivery) →
+    Is (message_bytes m) → Delivers K out written m d → WroteOn K out written Is (delivered d)
+delivers K out written Is m (delivery.Sent count) is sent = (message_bytes m, is, sent.1)
+delivers K out written Is m delivery.Failed is failed = (failed.1, (message_bytes m, is, failed.0))
 
 -- what a request came to, told of the values at the end of the call
 pub ends_at : {S T D : Type 0} (F : shelf.Ghosts S) (K : sink.Ghosts T) (W : disk.Ghosts D) (s t last : S) (out written done : T) (disk kept left : D) (asked words : Option Asked) (status same : Status) →

@@ -2,6 +2,7 @@
 use Rattle.std.specs.Prelude.{ℕ, ◌≡◌, ⊤, List, Option, Some, None, Result, String, if◌then◌else◌, option_and_then}
 use Rattle.std.specs.Global.{Global}
 use Rattle.hg_life.specs.Members.{MemberList, has_node, member_named}
+use Rattle.hg_life.specs.NodeView.{NodeView}
 use Rattle.hg_outcome.specs.Report.{report_text}
 use Rattle.hg_members.specs.declared.fault.MemberFault.{MemberFault}
 use Rattle.hg_members.specs.MemberFile.{members_of}
@@ -9,10 +10,13 @@ use Rattle.hg_script.specs.declared.fault.ScriptFault.{ScriptFault}
 use Rattle.hg_script.specs.declared.line.Line.{Line}
 use Rattle.hg_script.specs.Script.{lines_of}
 use Rattle.hg_made.specs.Made.{generate}
-use Rattle.hg_command.specs.Asked.{Asked, KeepFiles, MadeRun, ProveFiles, check, keep, make, prove, request_of, run, texts}
+use Rattle.hg_command.specs.Asked.{Asked, KeepFiles, MadeRun, NodeFiles, ask, check, keep, make, prove, request_of, run, serve, take, texts}
 use Rattle.hg_certify.specs.Proving.{IsProofOf}
 use Rattle.hg_certify.specs.Showing.{IsSafeBeside, ShowsTo, judged_by}
 use Rattle.hg_certify.specs.Text.{shown_text}
+use Rattle.hg_exchange.specs.declared.message.MessageFault.{MessageFault}
+use Rattle.hg_exchange.specs.Exchanges.{IsAnswering, IsAsking, IsTakingText, played_node}
+use Rattle.hg_exchange.specs.Messages.{message_of}
 use Rattle.hg_keep.specs.Events.{events_of}
 use Rattle.hg_keep.specs.declared.events.EventFault.{EventFault}
 use Rattle.hg_play.specs.Agree.{IsAgreed}
@@ -20,18 +24,24 @@ use Rattle.hg_play.specs.Play.{IsSafePlay, play, summary}
 use Rattle.hg_proof.specs.Certificate.{Certificate, certificate_bytes}
 use Rattle.hg_proof.specs.declared.why.Why.{Why}
 use Rattle.hg_report.specs.Summary.{summary_text}
+use Rattle.hg_wire.specs.declared.message.Message.{Message}
+use Rattle.hg_wire.specs.declared.message.Want.{Want}
+use Rattle.hg_wire.specs.declared.message.Want.TheVariants.{Have, Rows}
+use Rattle.hg_world.specs.World.{Secrets}
+use Rattle.hg_top.specs.declared.exchanging.Exchange.{Exchange}
+use Rattle.hg_top.specs.declared.exchanging.Exchange.TheVariants.{Ask, Serve, Take}
+use Rattle.hg_top.specs.declared.exchanging.NodeRequest.{NodeRequest}
 use Rattle.hg_top.specs.declared.keeping.KeepRequest.{KeepRequest}
-use Rattle.hg_top.specs.declared.proving.ProveRequest.{ProveRequest}
 use Rattle.hg_top.specs.declared.status.File.TheVariants as file
 use Rattle.hg_top.specs.declared.status.Refusal.TheVariants.{Fault}
 use Rattle.hg_top.specs.declared.status.Status.{Status}
-use Rattle.hg_top.specs.declared.status.Status.TheVariants.{Usage, Members, Own, Script, Events, Proof}
+use Rattle.hg_top.specs.declared.status.Status.TheVariants.{Usage, Members, Own, Script, Events, Proof, Wire}
 use Rattle.hg_top.specs.Work.{Work, takes}
 use Rattle.hg_top.specs.Work.Work.{Writes, Stops, Keeps}
 
 -- ---- the files
 
--- the statuses of a member file, of a script, of a file of events and of a proof that have a fault
+-- the statuses of a member file, of a script, of a file of events, of a proof and of a message that have a fault
 abbrev pub bad_members : MemberFault → Status
 bad_members fault = Members (Fault fault)
 
@@ -43,6 +53,9 @@ bad_events fault = Events (Fault fault)
 
 abbrev pub bad_proof : Why → Status
 bad_proof why = Proof (Fault why)
+
+abbrev pub bad_message : MessageFault → Status
+bad_message fault = Wire (Fault fault)
 
 -- the member file of this name, and next with its members
 abbrev pub members_work : List ℕ → (MemberList → Work) → Work
@@ -63,6 +76,10 @@ events_work name next = takes file.Events bad_events events_of name next
 -- the proof of this name, for these members, and next with what it shows
 abbrev pub shown_work : List ℕ → MemberList → (Certificate → Work) → Work
 shown_work name members next = takes file.Proof bad_proof (judged_by members) name next
+
+-- the file of this name, which is to be one message of this kind, and next with it
+abbrev pub message_work : Want → List ℕ → (Message → Work) → Work
+message_work want name next = takes file.Message bad_message (message_of want) name next
 
 -- ---- run
 
@@ -133,18 +150,18 @@ files_of k = record { members = k.members.now; events = k.events.now; own = k.ow
 
 -- ---- prove
 
--- the certificate of the order of this member's node is written
-abbrev pub certificate_work : MemberList → ℕ → List Line → Work
-certificate_work members own lines = Writes (IsProofOf members lines own)
+-- where there is such a member
+abbrev pub if_own : Option ℕ → (ℕ → Work) → Work
+if_own None next = Stops Own
+if_own (Some own) next = next own
 
--- reads the script, where there is such a member
-abbrev pub played_work : ProveFiles → MemberList → Option ℕ → Work
-played_work p members None = Stops Own
-played_work p members (Some own) = lines_work p.script members 0 (certificate_work members own)
+-- reads the script, and the certificate of the order of this member's node is written
+abbrev pub certificate_work : List ℕ → MemberList → ℕ → Work
+certificate_work script members own = lines_work script members 0 (λ lines. Writes (IsProofOf members lines own))
 
 -- reads the member file, then the script
-abbrev pub prove_work : ProveFiles → Work
-prove_work p = members_work p.members (λ members. played_work p members (own_in members p.own))
+abbrev pub prove_work : NodeFiles → Work
+prove_work f = members_work f.members (λ members. if_own (own_in members f.own) (certificate_work f.script members))
 
 -- ---- check
 
@@ -163,6 +180,37 @@ answer_work members shown = Writes (IsAnswerOf members shown)
 abbrev pub check_work : List ℕ → List ℕ → Work
 check_work members proof = members_work members (λ list. shown_work proof list (answer_work list))
 
+-- ---- ask, serve and take
+
+-- what the node v of one of these members asks, after a script
+abbrev pub ask_work : MemberList → NodeView Secrets → Work
+ask_work members v = Writes (IsAsking v)
+
+-- what it answers to the message in the file of this name
+abbrev pub serve_work : List ℕ → MemberList → NodeView Secrets → Work
+serve_work have members v = message_work Have have (λ m. Writes (IsAnswering v m))
+
+-- what comes of the message in the file of this name, once it took it
+abbrev pub take_work : List ℕ → MemberList → NodeView Secrets → Work
+take_work rows members v = message_work Rows rows (λ m. Writes (IsTakingText members v m))
+
+-- reads the script, and next with the member's node once it was played without workers
+abbrev pub play_work : List ℕ → (MemberList → NodeView Secrets → Work) → MemberList → ℕ → Work
+play_work script next members own = lines_work script members 0 (λ lines. next members (played_node members lines own))
+
+-- reads the member file, then the script, and what next reads
+abbrev pub played_work : NodeFiles → (MemberList → NodeView Secrets → Work) → Work
+played_work f next = members_work f.members (λ members. if_own (own_in members f.own) (play_work f.script next members))
+
+-- what was asked for
+abbrev pub node_files : NodeRequest → NodeFiles
+node_files f = record { members = f.members.now; script = f.script.now; own = f.own.now }
+
+abbrev pub exchange_work : Exchange → MemberList → NodeView Secrets → Work
+exchange_work Ask = ask_work
+exchange_work (Serve have) = serve_work have.now
+exchange_work (Take rows) = take_work rows.now
+
 -- ---- all commands
 
 -- the work that was asked for; words that are not accepted have their status
@@ -171,17 +219,16 @@ work_of None = Stops Usage
 work_of (Some (run r)) = run_work r.members r.script r.workers
 work_of (Some (make m)) = make_work m
 work_of (Some (keep k)) = keep_work k
-work_of (Some (prove p)) = prove_work p
+work_of (Some (prove f)) = prove_work f
 work_of (Some (check c)) = check_work c.members c.proof
+work_of (Some (ask f)) = played_work f ask_work
+work_of (Some (serve f have)) = played_work f (serve_work have)
+work_of (Some (take f rows)) = played_work f (take_work rows)
 
 -- nothing of it is done to a disk
 abbrev pub KeepsNothing : Option Asked → Type 0
 KeepsNothing (Some (keep k)) = ⊥
 KeepsNothing _ = ⊤
-
--- what a certificate was asked for
-abbrev pub proved_of : ProveRequest → ProveFiles
-proved_of p = record { members = p.members.now; script = p.script.now; own = p.own.now }
 
 -- what the words of a command line ask for, where they are accepted
 abbrev pub asks : List (String Global) → Option Asked

@@ -5,7 +5,7 @@ use Rattle.hg_top.specs.declared.status.File.{File}
 use Rattle.hg_top.specs.declared.status.File.TheVariants as file
 use Rattle.hg_top.specs.declared.status.Refusal.TheVariants.{TooLong}
 use Rattle.hg_top.specs.declared.status.Status.{Status}
-use Rattle.hg_top.specs.declared.status.Status.TheVariants.{Members, Script, Events, Proof}
+use Rattle.hg_top.specs.declared.status.Status.TheVariants.{Members, Script, Events, Proof, Wire}
 
 -- the greatest number of bytes of each file
 abbrev pub limit_of : File → ℕ
@@ -13,6 +13,7 @@ limit_of file.Members = 1048576
 limit_of file.Script = 16777216
 limit_of file.Events = 16777216
 limit_of file.Proof = 2147483648
+limit_of file.Message = 1410334778
 
 -- the status of a file that has more
 abbrev pub too_long : File → Status
@@ -20,6 +21,7 @@ too_long file.Members = Members TooLong
 too_long file.Script = Script TooLong
 too_long file.Events = Events TooLong
 too_long file.Proof = Proof TooLong
+too_long file.Message = Wire TooLong
 
 -- the work on a node that is kept in a journal: the journal's file, whose node it is among these members, the events that
 -- are put to it, and the time of the event that it makes, if it makes one

@@ -3,6 +3,8 @@ use Rattle.std.specs.Prelude.{ℕ, ◌≡◌, ◌⊎◌, List, Option, Result, O
 use Rattle.hg_io.specs.Bytes.{Appends, AppendsPart}
 use Rattle.hg_io.specs.Faults.{Rose}
 use Rattle.hg_io.specs.declared.sink.Sink as sink
+use Rattle.hg_wire.specs.declared.exchange.Delivery.{Delivery}
+use Rattle.hg_wire.specs.declared.exchange.Delivery.TheVariants.{Sent, Failed}
 use Rattle.hg_top.specs.declared.status.Status.{Status}
 use Rattle.hg_top.specs.declared.status.Status.TheVariants.{Done, WriteFault, Memory}
 
@@ -23,7 +25,11 @@ Wrote Is before after faults_before faults_after _ = ⊥
 abbrev pub WroteOn : {S : Type 0} → sink.Ghosts S → S → S → (List ℕ → Type 0) → Status → Type 0
 WroteOn K before after Is status = Wrote Is (K.written before) (K.written after) (K.faults before) (K.faults after) status
 
--- what a call comes to by what came of writing
+-- what a call comes to by what came of writing a message, and by what came of writing
+abbrev pub delivered : Delivery → Status
+delivered (Sent count) = Done
+delivered Failed = WriteFault
+
 abbrev pub status_of : {A E : Type 0} → Result A E → Status
 status_of (Ok x) = Done
 status_of (Err e) = WriteFault

@@ -16,6 +16,7 @@
 //! ```
 #![tactic(auto)]
 
+mod exchanging;
 mod keeping;
 mod printing;
 mod proving;

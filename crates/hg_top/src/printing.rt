@@ -3,16 +3,18 @@ ghost use Rattle.hg_io.specs.Printing.{Prints};
 ghost use Rattle.hg_members.specs.Text.{member_fault_text};
 ghost use Rattle.hg_outcome.specs.Report.{byte_fault_text};
 ghost use Rattle.hg_pieces.specs.Pieces.{piece_text};
-ghost use Rattle.hg_top.specs.Printing.{IsPrintedOn, events_line, journal_line, members_line, proof_line, script_line, status_line, status_without};
+ghost use Rattle.hg_top.specs.Printing.{IsPrintedOn, events_line, journal_line, members_line, proof_line, script_line, status_line, status_without, wire_line, wire_pair};
 
 use crate::status::{File, JournalFault, NoWords, Refusal, Status};
 use hg_certify::{Why, why_pieces};
+use hg_exchange::MessageFault;
 use hg_io::{Failed, Sink, write_all};
 use hg_keep::EventFault;
 use hg_life::ByteFault;
 use hg_members::MemberFault;
 use hg_report::{Piece, print_pieces};
 use hg_script::ScriptFault;
+use hg_wire::WireFault;
 
 /// A fault of the member file: its word, and its number if it has one.
 fn member_fault_parts(fault: MemberFault) -> (&'static [u8], Piece<'static>)
@@ -103,6 +105,66 @@ fn print_event_fault<E: Sink>(err: &mut E, fault: EventFault) -> Result<(), Fail
     )
 }
 
+/// Prints what is wrong with a row of a message.
+fn print_row_fault<E: Sink>(err: &mut E, place: usize, fault: ByteFault) -> Result<(), Failed>
+    ensures { Prints E.Sink err.old err.new (wire_line (Refusal.Fault (MessageFault.Wire (WireFault.Row place fault)))) result }
+{
+    let (word, number) = byte_fault_parts(fault);
+    print_pieces(
+        err,
+        &[
+            Piece::Bytes(b"hashgraph: wire: row "),
+            Piece::Number(place as u64),
+            Piece::Bytes(b" "),
+            Piece::Bytes(word),
+            number,
+            Piece::Bytes(b"\n"),
+        ],
+    )
+}
+
+/// Prints what is wrong with a message: this word and this number.
+fn print_wire_fault<E: Sink>(err: &mut E, word: &[u8], number: u64) -> Result<(), Failed>
+    ensures { Prints E.Sink err.old err.new (wire_pair word.now number) result }
+{
+    print_pieces(
+        err,
+        &[
+            Piece::Bytes(b"hashgraph: wire: "),
+            Piece::Bytes(word),
+            Piece::Number(number),
+            Piece::Bytes(b"\n"),
+        ],
+    )
+}
+
+/// Prints what is wrong with a message file.
+fn print_message_fault<E: Sink>(err: &mut E, fault: MessageFault) -> Result<(), Failed>
+    ensures { Prints E.Sink err.old err.new (wire_line (Refusal.Fault fault)) result }
+{
+    match fault {
+        MessageFault::Wire(WireFault::Magic(at)) => print_wire_fault(err, b"magic ", at as u64),
+        MessageFault::Wire(WireFault::Kind(kind)) => print_wire_fault(
+            err,
+            b"kind ",
+            u64::from(kind),
+        ),
+        MessageFault::Wire(WireFault::Count(count)) => print_wire_fault(
+            err,
+            b"count ",
+            u64::from(count),
+        ),
+        MessageFault::Wire(WireFault::Row(place, fault)) => print_row_fault(err, place, fault),
+        MessageFault::Wire(WireFault::Flag(flag)) => print_wire_fault(
+            err,
+            b"flag ",
+            u64::from(flag),
+        ),
+        MessageFault::Ended(at) => print_wire_fault(err, b"ended ", at as u64),
+        MessageFault::Trailing(at) => print_wire_fault(err, b"trailing ", at as u64),
+    }
+}
+
 /// Prints what is wrong with the file of a journal.
 fn print_journal_fault<E: Sink>(err: &mut E, fault: JournalFault) -> Result<(), Failed>
     ensures { Prints E.Sink err.old err.new (journal_line fault) result }
@@ -158,9 +220,13 @@ fn print_status<E: Sink>(err: &mut E, status: Status) -> Result<(), Failed>
             err,
             b"hashgraph: cannot read the proof file\n",
         ),
+        Status::ReadFault(File::Message) => print_text(
+            err,
+            b"hashgraph: cannot read the message file\n",
+        ),
         Status::Usage => print_text(
             err,
-            b"hashgraph: usage: run --members FILE --script FILE [--workers K] or make --members N --lines L --seed S [--workers K] or keep --members FILE --events FILE --own NAME --disk FILE [--time T] or prove --members FILE --script FILE --own NAME or check --members FILE --proof FILE\n",
+            b"hashgraph: usage: run --members FILE --script FILE [--workers K] or make --members N --lines L --seed S [--workers K] or keep --members FILE --events FILE --own NAME --disk FILE [--time T] or prove --members FILE --script FILE --own NAME or check --members FILE --proof FILE or ask --members FILE --script FILE --own NAME or serve --members FILE --script FILE --own NAME --have FILE or take --members FILE --script FILE --own NAME --rows FILE\n",
         ),
         Status::Members(Refusal::TooLong) => print_text(err, b"hashgraph: members: too-long\n"),
         Status::Members(Refusal::Fault(fault)) => print_member_fault(err, fault),
@@ -175,6 +241,8 @@ fn print_status<E: Sink>(err: &mut E, status: Status) -> Result<(), Failed>
         Status::Journal(fault) => print_journal_fault(err, fault),
         Status::Proof(Refusal::TooLong) => print_text(err, b"hashgraph: proof: too-long\n"),
         Status::Proof(Refusal::Fault(why)) => print_proof_fault(err, why),
+        Status::Wire(Refusal::TooLong) => print_text(err, b"hashgraph: wire: too-long\n"),
+        Status::Wire(Refusal::Fault(fault)) => print_message_fault(err, fault),
     }
 }
 

@@ -1,8 +1,9 @@
-ghost use Rattle.std.specs.Prelude.{◌≡◌, ◌<◌, Some, length};
-ghost use Rattle.hg_top.specs.Commands.{check_work, played_work, prove_work, proved_of};
+ghost use Rattle.std.specs.Prelude.{◌≡◌, ◌<◌, length};
+ghost use Rattle.hg_top.specs.Commands.{certificate_work, check_work, node_files, prove_work};
 ghost use Rattle.hg_top.specs.Course.{course, no_disk};
 ghost use Rattle.hg_top.specs.Ends.{Ends};
 
+use crate::exchanging::NodeRequest;
 use crate::keeping::own_in;
 use crate::printing::print_text;
 use crate::reading::{lines_from, members_from, proof_from};
@@ -13,32 +14,21 @@ use hg_life::Members;
 use hg_model::{Member, Memory};
 use std::alloc::Global;
 
-/// What is asked of a play: the certificate of the order of one of its nodes.
-#[derive(Clone, Copy)]
-pub(crate) struct ProveRequest<'a> {
-    /// The name of the member file.
-    pub(crate) members: &'a str,
-    /// The name of the script.
-    pub(crate) script: &'a str,
-    /// The name of the member whose node it is.
-    pub(crate) own: &'a str,
-}
-
 /// What the certificate of this member's node comes to.
 fn prove_play<F: Shelf, K: Sink>(
     alloc: Global,
     members: &Members,
     own: Member,
-    asked: &ProveRequest<'_>,
+    script: &str,
     shelf: &mut F,
     out: &mut K,
 ) -> Status
     requires { own < length members.now.entries }
-    ensures ends { Ends (played_work (proved_of asked.now) members.now (Some own))
+    ensures ends { Ends (certificate_work script.now members.now own)
         (course F.Shelf K.Sink shelf.old shelf.new out.old out.new no_disk) result }
     ensures same { F.holds shelf.new ≡ F.holds shelf.old }
 {
-    let lines = match lines_from(alloc, shelf, asked.script, members, 0) {
+    let lines = match lines_from(alloc, shelf, script, members, 0) {
         Ok(lines) => lines,
         Err(status) => return status,
     };
@@ -51,11 +41,11 @@ fn prove_play<F: Shelf, K: Sink>(
 /// What the certificate of the order of a member's node, after the play of a script, comes to.
 pub(crate) fn prove<F: Shelf, K: Sink>(
     alloc: Global,
-    asked: &ProveRequest<'_>,
+    asked: &NodeRequest<'_>,
     shelf: &mut F,
     out: &mut K,
 ) -> Status
-    ensures ends { Ends (prove_work (proved_of asked.now))
+    ensures ends { Ends (prove_work (node_files asked.now))
         (course F.Shelf K.Sink shelf.old shelf.new out.old out.new no_disk) result }
     ensures same { F.holds shelf.new ≡ F.holds shelf.old }
 {
@@ -64,7 +54,7 @@ pub(crate) fn prove<F: Shelf, K: Sink>(
         Err(status) => return status,
     };
     match own_in(&members, asked.own) {
-        Some(own) => prove_play(alloc, &members, own, asked, shelf, out),
+        Some(own) => prove_play(alloc, &members, own, asked.script, shelf, out),
         None => Status::Own,
     }
 }

@@ -1,18 +1,21 @@
 ghost use Rattle.std.specs.Prelude.{◌≤◌, ℕ, List, All, IfOk, IfErr};
 ghost use Rattle.hg_certify.specs.Showing.{IsSafeBeside, ShowsTo, judged_by};
+ghost use Rattle.hg_exchange.specs.Messages.{message_of};
 ghost use Rattle.hg_proof.specs.Certificate.{certificate_bytes};
 ghost use Rattle.hg_keep.specs.Events.{events_of};
 ghost use Rattle.hg_members.specs.MemberFile.{members_of};
 ghost use Rattle.hg_script.specs.Lawful.{IsLine};
-ghost use Rattle.hg_top.specs.Commands.{events_work, lines_for, lines_work, members_work, shown_work};
+ghost use Rattle.hg_top.specs.Commands.{events_work, lines_for, lines_work, members_work, message_work, shown_work};
 ghost use Rattle.hg_top.specs.Course.{HasWithin, StartsOne};
 ghost use Rattle.hg_top.specs.Ends.{IsTaken, StopsIn};
 ghost use Rattle.hg_top.specs.Work.{limit_of, nothing_more};
 ghost use Rattle.hg_top.specs.Work.Work.{Reads};
 ghost use Rattle.hg_top.specs.declared.status.File.TheVariants as file;
+ghost use Rattle.hg_wire.specs.Grammar.{Fits};
 
 use crate::status::{File, Refusal, Status};
 use hg_certify::{Shown, read_certificate};
+use hg_exchange::read_message;
 use hg_io::{FileAnswer, Shelf, read_file};
 use hg_keep::read_events;
 use hg_life::Members;
@@ -20,6 +23,7 @@ use hg_members::read_members;
 use hg_model::{Bytes, Items, Memory};
 use hg_reading::read_script;
 use hg_script::Line;
+use hg_wire::{Message, Want};
 use std::alloc::Global;
 
 /// The bytes of the file of this name, if they are not too many.
@@ -130,5 +134,28 @@ pub(crate) fn proof_from<F: Shelf>(
         Err(Memory) => Err(Status::Memory),
         Ok(Err(why)) => Err(Status::Proof(Refusal::Fault(why))),
         Ok(Ok(shown)) => Ok(shown),
+    }
+}
+
+/// The message of this kind that the file of this name is.
+pub(crate) fn message_from<F: Shelf>(
+    alloc: Global,
+    shelf: &mut F,
+    want: Want,
+    name: &str,
+) -> Result<Message, Status>
+    ensures ok { IfOk result (IsTaken (F.holds shelf.old) file.Message (message_of want) name.now) }
+    ensures fits { IfOk result (Fits want) }
+    ensures err { IfErr result (StopsIn F.Shelf shelf.old shelf.new (message_work want name.now (λ message. nothing_more))) }
+    ensures starts { StartsOne F.Shelf shelf.old shelf.new }
+{
+    let bytes = match bytes_from(alloc, shelf, File::Message, name) {
+        Ok(bytes) => bytes,
+        Err(status) => return Err(status),
+    };
+    match read_message(alloc, want, bytes.as_slice()) {
+        Err(Memory) => Err(Status::Memory),
+        Ok(Err(fault)) => Err(Status::Wire(Refusal::Fault(fault))),
+        Ok(Ok(message)) => Ok(message),
     }
 }

@@ -4,10 +4,12 @@ ghost use Rattle.hg_top.specs.Work.{limit_of, too_long};
 ghost use Rattle.hg_top.specs.Writing as writing;
 
 use hg_certify::Why;
+use hg_exchange::MessageFault;
 use hg_io::Failed;
 use hg_keep::EventFault;
 use hg_members::MemberFault;
 use hg_script::ScriptFault;
+use hg_wire::Delivery;
 
 /// One of the files that are read.
 #[derive(Clone, Copy, Debug, PartialEq, Eq)]
@@ -16,6 +18,7 @@ pub enum File {
     Script,
     Events,
     Proof,
+    Message,
 }
 
 impl File {
@@ -28,6 +31,7 @@ impl File {
             File::Script => 16_777_216,
             File::Events => 16_777_216,
             File::Proof => 2_147_483_648,
+            File::Message => 1_410_334_778,
         }
     }
 
@@ -40,6 +44,7 @@ impl File {
             File::Script => Status::Script(Refusal::TooLong),
             File::Events => Status::Events(Refusal::TooLong),
             File::Proof => Status::Proof(Refusal::TooLong),
+            File::Message => Status::Wire(Refusal::TooLong),
         }
     }
 }
@@ -98,10 +103,13 @@ pub enum Status {
     Journal(JournalFault),
     /// The proof has more than 2,147,483,648 bytes, or it shows nothing to the members.
     Proof(Refusal<Why>),
+    /// The message file has more than 1,410,334,778 bytes, as no message has, or is not one message from its first byte to
+    /// its last.
+    Wire(Refusal<MessageFault>),
 }
 
 impl Status {
-    /// The exit status of the program, 0 to 9.
+    /// The exit status of the program, 0 to 10.
     pub fn code(self) -> u8
         ensures { result ≡ status_code self }
     {
@@ -116,7 +124,18 @@ impl Status {
             Status::Disk => 7,
             Status::Journal(_) => 8,
             Status::Proof(_) => 9,
+            Status::Wire(_) => 10,
         }
+    }
+}
+
+/// What a call comes to by what came of writing its message.
+pub(crate) fn delivered(delivery: Delivery) -> Status
+    ensures { result ≡ writing.delivered delivery }
+{
+    match delivery {
+        Delivery::Sent(_) => Status::Done,
+        Delivery::Failed => Status::WriteFault,
     }
 }
 

@@ -5,9 +5,10 @@ ghost use Rattle.hg_top.specs.Ends.{Completes, Ends, ReadsNoFile};
 ghost use Rattle.hg_top.specs.Printing.{IsPrintedOn, status_line};
 ghost use Rattle.hg_top.specs.Writing.{WroteOn};
 
+use crate::exchanging::{Exchange, NodeRequest, play_node};
 use crate::keeping::{KeepRequest, keep};
 use crate::printing::report_status;
-use crate::proving::{ProveRequest, check, prove};
+use crate::proving::{check, prove};
 use crate::reading::{lines_from, members_from};
 use crate::status::{Status, status_of};
 use hg_command::{Request, read_words};
@@ -184,7 +185,7 @@ pub fn hashgraph<R: Threads + Wait + Sync, F: Shelf, D: Disk, K: Sink, E: Sink, 
                 },
             ),
         ) => {
-            let asked = ProveRequest {
+            let asked = NodeRequest {
                 members,
                 script,
                 own,
@@ -192,6 +193,56 @@ pub fn hashgraph<R: Threads + Wait + Sync, F: Shelf, D: Disk, K: Sink, E: Sink, 
             prove(alloc, &asked, shelf, out)
         }
         Ok(Some(Request::Check { members, proof })) => check(alloc, members, proof, shelf, out),
+        Ok(
+            Some(
+                Request::Ask {
+                    members,
+                    script,
+                    own,
+                },
+            ),
+        ) => {
+            let asked = NodeRequest {
+                members,
+                script,
+                own,
+            };
+            play_node(alloc, &asked, Exchange::Ask, shelf, out)
+        }
+        Ok(
+            Some(
+                Request::Serve {
+                    members,
+                    script,
+                    own,
+                    have,
+                },
+            ),
+        ) => {
+            let asked = NodeRequest {
+                members,
+                script,
+                own,
+            };
+            play_node(alloc, &asked, Exchange::Serve(have), shelf, out)
+        }
+        Ok(
+            Some(
+                Request::Take {
+                    members,
+                    script,
+                    own,
+                    rows,
+                },
+            ),
+        ) => {
+            let asked = NodeRequest {
+                members,
+                script,
+                own,
+            };
+            play_node(alloc, &asked, Exchange::Take(rows), shelf, out)
+        }
         Ok(None) => Status::Usage,
         Err(Memory) => Status::Memory,
     };

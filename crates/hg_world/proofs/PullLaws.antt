@@ -59,11 +59,11 @@ make_stopped : (old now new : WorldView) (taker : ℕ) (steps : List Step) (last
 make_stopped old now new taker steps None time payload after same would = absurd would
 make_stopped old now new taker steps (Some other) time payload after same would = inr (record {
   first = steps;
-  next = Make taker (Some other) time payload;
+  next = Make taker (other ∷ []) time payload;
   rest = [];
   whole = refl;
   after = same ∙ after;
-  needs = subst (λ (w : WorldView). NeedsMemory w (Make taker (Some other) time payload)) (sym same) would;
+  needs = subst (λ (w : WorldView). NeedsMemory w (Make taker (other ∷ []) time payload)) (sym same) would;
 })
 
 pub make_missed : {E : Type 0} (old now new : WorldView) (taker peer : ℕ) (last : Option (List ℕ)) (time : ℕ) (payload : List ℕ) (counts : Taken) (result : Result SyncReport E) → last ≡ last_made (node_at old peer) →

@@ -3,7 +3,7 @@ use Rattle.std.specs.Borrow.{Bor}
 use Rattle.std.proofs.lemmas.Bool.{leb-true}
 use Rattle.std.proofs.lemmas.List.{length-map}
 use Rattle.hg_life.specs.Pay.{transfer_limit}
-use Rattle.hg_script.specs.Payload.{parts_of}
+use Rattle.hg_script.specs.Argument.{parts_of}
 use Rattle.hg_reading.proofs.PayloadLaws.{pay_refused, pay_taken}
 use Rattle.hg_reading.proofs.payload.pay_of.Goals as goal
 

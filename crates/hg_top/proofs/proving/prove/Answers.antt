@@ -3,7 +3,7 @@ use Rattle.hg_io.specs.FileView.{unknown}
 use Rattle.hg_members.specs.MemberFile.{members_of}
 use Rattle.hg_life.specs.Members.{MemberList}
 use Rattle.hg_top.specs.declared.status.File.TheVariants as file
-use Rattle.hg_top.specs.Commands.{bad_members, own_in, played_work, proved_of}
+use Rattle.hg_top.specs.Commands.{bad_members, certificate_work, if_own, node_files, own_in}
 use Rattle.hg_top.specs.Course.{course, no_disk}
 use Rattle.hg_top.specs.Ends.{Ends}
 use Rattle.hg_top.proofs.KeepLaws.{stays_same}
@@ -12,20 +12,20 @@ use Rattle.hg_top.proofs.proving.prove.Goals as goal
 
 pub returns-in-Err-clause-ends : goal.returns-in-Err-clause-ends
 returns-in-Err-clause-ends g c =
-    let p = proved_of c.args.asked.now in
-    takes_none g.F.Shelf g.K.Sink c.args.shelf.now c.members_from.new.shelf c.args.out.now no_disk file.Members bad_members members_of p.members
-    (λ (members : MemberList). played_work p members (own_in members p.own)) c.in-Err.status (stays_same unknown) c.in-Err.ensures.err
+    let f = node_files c.args.asked.now in
+    takes_none g.F.Shelf g.K.Sink c.args.shelf.now c.members_from.new.shelf c.args.out.now no_disk file.Members bad_members members_of f.members
+    (λ (members : MemberList). if_own (own_in members f.own) (certificate_work f.script members)) c.in-Err.status (stays_same unknown) c.in-Err.ensures.err
 
 pub returns-in-Some-clause-ends : goal.returns-in-Some-clause-ends
 returns-in-Some-clause-ends g c =
     let F = g.F.Shelf in
     let K = g.K.Sink in
-    let p = proved_of c.args.asked.now in
+    let f = node_files c.args.asked.now in
     let members : MemberList = c.in-Ok.members in
     let u = c.members_from.new.shelf in
     let t = c.prove_play.new.shelf in
-    let own : Some c.in-Some.own ≡ own_in members p.own = sym c.in-Some.is ∙ c.own_in.ensures.value in
-    let ends = subst (λ (o : Option ℕ). Ends (played_work p members o) (course F K u t c.args.out.now c.prove_play.new.out no_disk) c.prove_play.result) own c.prove_play.ensures.ends in
-    takes_on F K c.args.shelf.now u t c.args.out.now c.prove_play.new.out no_disk file.Members bad_members members_of p.members
-    (λ (list : MemberList). played_work p list (own_in list p.own)) members c.prove_play.result
+    let own : Some c.in-Some.own ≡ own_in members f.own = sym c.in-Some.is ∙ c.own_in.ensures.value in
+    let ends = subst (λ (o : Option ℕ). Ends (if_own o (certificate_work f.script members)) (course F K u t c.args.out.now c.prove_play.new.out no_disk) c.prove_play.result) own c.prove_play.ensures.ends in
+    takes_on F K c.args.shelf.now u t c.args.out.now c.prove_play.new.out no_disk file.Members bad_members members_of f.members
+    (λ (list : MemberList). if_own (own_in list f.own) (certificate_work f.script list)) members c.prove_play.result
     c.in-Ok.ensures.ok c.members_from.ensures.starts ends

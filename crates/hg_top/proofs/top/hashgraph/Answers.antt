@@ -1,12 +1,13 @@
 use Rattle.std.proofs.Common.{Some, None, inl, refl}
-use Rattle.hg_command.specs.Asked.{CheckFiles, KeepFiles, ProveFiles, RunFiles, check, keep, make, prove, run}
+use Rattle.hg_command.specs.Asked.{CheckFiles, KeepFiles, NodeFiles, RunFiles, ask, check, keep, make, prove, run, serve, take}
+use Rattle.hg_top.specs.declared.exchanging.Exchange.TheVariants.{Ask, Serve, Take}
 use Rattle.hg_top.specs.declared.status.Status.TheVariants.{Usage, Memory}
-use Rattle.hg_top.specs.Commands.{asks, check_work, made_run, prove_work, run_work, work_of}
+use Rattle.hg_top.specs.Commands.{asks, check_work, exchange_work, made_run, played_work, prove_work, run_work, work_of}
 use Rattle.hg_top.specs.Course.{course, disk_course, no_disk}
 use Rattle.hg_top.proofs.KeepLaws.{stays_same}
-use Rattle.hg_top.proofs.WorkLaws.{comes_short, completes, diskless_check, diskless_prove, diskless_run, ends_at, with_disk}
+use Rattle.hg_top.proofs.WorkLaws.{comes_short, completes, diskless_check, diskless_played, diskless_prove, diskless_run, ends_at, with_disk}
 use Rattle.hg_top.proofs.top.hashgraph.Goals as goal
-use Rattle.hg_top.proofs.top.hashgraph.Goals.{in-Ok-Some-Run, in-Ok-Some-Make, in-Ok-Some-Keep, in-Ok-Some-Prove, in-Ok-Some-Check, in-Ok-None, in-Err}
+use Rattle.hg_top.proofs.top.hashgraph.Goals.{in-Ok-Some-Run, in-Ok-Some-Make, in-Ok-Some-Keep, in-Ok-Some-Prove, in-Ok-Some-Check, in-Ok-Some-Ask, in-Ok-Some-Serve, in-Ok-Some-Take, in-Ok-None, in-Err}
 
 pub returns-clause-ends : goal.returns-clause-ends
 returns-clause-ends g c =
@@ -39,7 +40,7 @@ returns-clause-ends g c =
           w.shelf-is w.out-is w.disk-is w.status-is w.keep-status.ensures.ends)
       | in-Ok-Some-Prove w ↦ (let q = w.in-Ok-Some-Prove in
           let request = rw (q.field-0-is, q.field-0-0-is) at q.ensures.request in
-          let p : ProveFiles = record { members = q.members.now; script = q.script.now; own = q.own.now } in
+          let p : NodeFiles = record { members = q.members.now; script = q.script.now; own = q.own.now } in
           let ends = with_disk (prove_work p) (course F K s w.prove-status.new.shelf out w.prove-status.new.out no_disk) (disk_course W disk disk)
           (F.starts s) w.prove-status.result (diskless_prove p) still w.prove-status.ensures.ends in
           ends_at F K W s w.prove-status.new.shelf last.shelf out w.prove-status.new.out last.out disk disk last.disk (Some (prove p)) asked w.prove-status.result last.status request
@@ -50,6 +51,27 @@ returns-clause-ends g c =
           let ends = with_disk (check_work k.members k.proof) (course F K s w.check-status.new.shelf out w.check-status.new.out no_disk) (disk_course W disk disk)
           (F.starts s) w.check-status.result (diskless_check k.members k.proof) still w.check-status.ensures.ends in
           ends_at F K W s w.check-status.new.shelf last.shelf out w.check-status.new.out last.out disk disk last.disk (Some (check k)) asked w.check-status.result last.status request
+          w.shelf-is w.out-is w.disk-is w.status-is ends)
+      | in-Ok-Some-Ask w ↦ (let q = w.in-Ok-Some-Ask in
+          let request = rw (q.field-0-is, q.field-0-0-is) at q.ensures.request in
+          let f : NodeFiles = record { members = q.members.now; script = q.script.now; own = q.own.now } in
+          let ends = with_disk (played_work f (exchange_work Ask)) (course F K s w.play_node-status.new.shelf out w.play_node-status.new.out no_disk) (disk_course W disk disk)
+          (F.starts s) w.play_node-status.result (diskless_played f Ask) still w.play_node-status.ensures.ends in
+          ends_at F K W s w.play_node-status.new.shelf last.shelf out w.play_node-status.new.out last.out disk disk last.disk (Some (ask f)) asked w.play_node-status.result last.status request
+          w.shelf-is w.out-is w.disk-is w.status-is ends)
+      | in-Ok-Some-Serve w ↦ (let q = w.in-Ok-Some-Serve in
+          let request = rw (q.field-0-is, q.field-0-0-is) at q.ensures.request in
+          let f : NodeFiles = record { members = q.members.now; script = q.script.now; own = q.own.now } in
+          let ends = with_disk (played_work f (exchange_work (Serve q.have))) (course F K s w.play_node-status.new.shelf out w.play_node-status.new.out no_disk) (disk_course W disk disk)
+          (F.starts s) w.play_node-status.result (diskless_played f (Serve q.have)) still w.play_node-status.ensures.ends in
+          ends_at F K W s w.play_node-status.new.shelf last.shelf out w.play_node-status.new.out last.out disk disk last.disk (Some (serve f q.have.now)) asked w.play_node-status.result last.status request
+          w.shelf-is w.out-is w.disk-is w.status-is ends)
+      | in-Ok-Some-Take w ↦ (let q = w.in-Ok-Some-Take in
+          let request = rw (q.field-0-is, q.field-0-0-is) at q.ensures.request in
+          let f : NodeFiles = record { members = q.members.now; script = q.script.now; own = q.own.now } in
+          let ends = with_disk (played_work f (exchange_work (Take q.rows))) (course F K s w.play_node-status.new.shelf out w.play_node-status.new.out no_disk) (disk_course W disk disk)
+          (F.starts s) w.play_node-status.result (diskless_played f (Take q.rows)) still w.play_node-status.ensures.ends in
+          ends_at F K W s w.play_node-status.new.shelf last.shelf out w.play_node-status.new.out last.out disk disk last.disk (Some (take f q.rows.now)) asked w.play_node-status.result last.status request
           w.shelf-is w.out-is w.disk-is w.status-is ends)
       | in-Ok-None w ↦ (let q = w.in-Ok-None in
           let request = rw q.field-0-is at q.ensures.request in

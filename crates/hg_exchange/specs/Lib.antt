@@ -1,0 +1,3 @@
+pub mod Messages
+pub mod Exchanges
+pub mod Text

@@ -1,0 +1,11 @@
+use Rattle.hg_exchange.specs.Messages.{message_of}
+use Rattle.hg_top.specs.declared.status.File.TheVariants as file
+use Rattle.hg_top.specs.Commands.{bad_message}
+use Rattle.hg_top.specs.Work.{nothing_more, unless_faulty}
+use Rattle.hg_top.proofs.WorkLaws.{reads_none}
+use Rattle.hg_top.proofs.reading.message_from.Goals as goal
+
+pub returns-in-Err-clause-err : goal.returns-in-Err-clause-err
+returns-in-Err-clause-err g c =
+    reads_none g.F.Shelf c.args.shelf.now c.bytes_from.new.shelf file.Message c.args.name.now
+    (λ bytes. unless_faulty bad_message (message_of c.args.want bytes) (λ message. nothing_more)) c.in-Err.status c.in-Err.ensures.err

@@ -1,0 +1,159 @@
+ghost use Rattle.std.specs.Prelude.{◌≡◌, ◌<◌, All, length};
+ghost use Rattle.hg_exchange.specs.Exchanges.{IsAsking, played_node};
+ghost use Rattle.hg_script.specs.Lawful.{IsLine};
+ghost use Rattle.hg_top.specs.Commands.{exchange_work, node_files, play_work, played_work, serve_work, take_work};
+ghost use Rattle.hg_top.specs.Course.{course, no_disk};
+ghost use Rattle.hg_top.specs.Ends.{Ends};
+ghost use Rattle.hg_top.specs.Writing.{WroteOn};
+
+use crate::keeping::own_in;
+use crate::reading::{lines_from, members_from, message_from};
+use crate::status::{Status, delivered, status_of};
+use hg_exchange::{ask, serve, take, write_took};
+use hg_io::{Shelf, Sink};
+use hg_life::Members;
+use hg_model::{Member, Memory};
+use hg_script::Line;
+use hg_wire::Want;
+use std::alloc::Global;
+
+/// Whose node gossips, and the script that is played before.
+#[derive(Clone, Copy)]
+pub(crate) struct NodeRequest<'a> {
+    /// The name of the member file.
+    pub(crate) members: &'a str,
+    /// The name of the script.
+    pub(crate) script: &'a str,
+    /// The name of the member.
+    pub(crate) own: &'a str,
+}
+
+/// What the node does.
+#[derive(Clone, Copy)]
+pub(crate) enum Exchange<'a> {
+    /// It asks.
+    Ask,
+    /// It answers the message in the file of this name.
+    Serve(&'a str),
+    /// It takes the message in the file of this name.
+    Take(&'a str),
+}
+
+/// What is written once the node of this member asked.
+fn ask_peers<K: Sink>(
+    alloc: Global,
+    members: &Members,
+    lines: &[Line],
+    own: Member,
+    out: &mut K,
+) -> Status
+    requires own { own < length members.now.entries }
+    requires lines { All (IsLine members.now 0) lines.now }
+    ensures { WroteOn K.Sink out.old out.new (IsAsking (played_node members.now lines.now own)) result }
+{
+    match ask(alloc, members, lines, own, out) {
+        Ok(delivery) => delivered(delivery),
+        Err(Memory) => Status::Memory,
+    }
+}
+
+/// What a message HAVE comes to at the node of this member.
+fn serve_message<F: Shelf, K: Sink>(
+    alloc: Global,
+    members: &Members,
+    lines: &[Line],
+    own: Member,
+    have: &str,
+    shelf: &mut F,
+    out: &mut K,
+) -> Status
+    requires own { own < length members.now.entries }
+    requires lines { All (IsLine members.now 0) lines.now }
+    ensures ends { Ends (serve_work have.now members.now (played_node members.now lines.now own))
+        (course F.Shelf K.Sink shelf.old shelf.new out.old out.new no_disk) result }
+    ensures same { F.holds shelf.new ≡ F.holds shelf.old }
+{
+    let message = match message_from(alloc, shelf, Want::Have, have) {
+        Ok(message) => message,
+        Err(status) => return status,
+    };
+    match serve(alloc, members, lines, own, &message, out) {
+        Ok(delivery) => delivered(delivery),
+        Err(Memory) => Status::Memory,
+    }
+}
+
+/// What a message ROWS comes to at the node of this member.
+fn take_message<F: Shelf, K: Sink>(
+    alloc: Global,
+    members: &Members,
+    lines: &[Line],
+    own: Member,
+    rows: &str,
+    shelf: &mut F,
+    out: &mut K,
+) -> Status
+    requires own { own < length members.now.entries }
+    requires lines { All (IsLine members.now 0) lines.now }
+    ensures ends { Ends (take_work rows.now members.now (played_node members.now lines.now own))
+        (course F.Shelf K.Sink shelf.old shelf.new out.old out.new no_disk) result }
+    ensures same { F.holds shelf.new ≡ F.holds shelf.old }
+{
+    let message = match message_from(alloc, shelf, Want::Rows, rows) {
+        Ok(message) => message,
+        Err(status) => return status,
+    };
+    match take(alloc, members, lines, own, &message) {
+        Ok(took) => status_of(write_took(&took, out)),
+        Err(Memory) => Status::Memory,
+    }
+}
+
+/// What the node of this member comes to, once the script of this name was played.
+fn play_script<F: Shelf, K: Sink>(
+    alloc: Global,
+    members: &Members,
+    own: Member,
+    script: &str,
+    exchange: Exchange<'_>,
+    shelf: &mut F,
+    out: &mut K,
+) -> Status
+    requires { own < length members.now.entries }
+    ensures ends { Ends (play_work script.now (exchange_work exchange) members.now own)
+        (course F.Shelf K.Sink shelf.old shelf.new out.old out.new no_disk) result }
+    ensures same { F.holds shelf.new ≡ F.holds shelf.old }
+{
+    let lines = match lines_from(alloc, shelf, script, members, 0) {
+        Ok(lines) => lines,
+        Err(status) => return status,
+    };
+    let lines = lines.as_slice();
+    match exchange {
+        Exchange::Ask => ask_peers(alloc, members, lines, own, out),
+        Exchange::Serve(have) => serve_message(alloc, members, lines, own, have, shelf, out),
+        Exchange::Take(rows) => take_message(alloc, members, lines, own, rows, shelf, out),
+    }
+}
+
+/// What a member's node comes to.
+pub(crate) fn play_node<F: Shelf, K: Sink>(
+    alloc: Global,
+    asked: &NodeRequest<'_>,
+    exchange: Exchange<'_>,
+    shelf: &mut F,
+    out: &mut K,
+) -> Status
+    ensures ends { Ends (played_work (node_files asked.now) (exchange_work exchange))
+        (course F.Shelf K.Sink shelf.old shelf.new out.old out.new no_disk) result }
+    ensures same { F.holds shelf.new ≡ F.holds shelf.old }
+{
+    let members = match members_from(alloc, shelf, asked.members) {
+        Ok(members) => members,
+        Err(status) => return status,
+    };
+    match own_in(&members, asked.own) {
+        Some(own) => play_script(alloc, &members, own, asked.script, exchange, shelf, out),
+        None => Status::Own,
+    }
+}
