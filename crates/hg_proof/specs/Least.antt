@@ -1,6 +1,5 @@
 -- How much of a graph a certificate of its order needs: the fewest first rows that have the whole order
 use Rattle.std.specs.Prelude.{ℕ, ◌≡◌, ◌<◌, ◌≤◌, List, length, take, Contains}
-use Rattle.hg_model.specs.declared.row.Row.{Row}
 use Rattle.hg_model.specs.declared.row.Placed.{Placed}
 use Rattle.hg_model.specs.Prefix.{Graph}
 use Rattle.hg_life.specs.NodeView.{NodeView}

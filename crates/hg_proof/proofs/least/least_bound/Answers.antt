@@ -1,4 +1,4 @@
-use Rattle.std.proofs.Common.{◌<◌, arith}
+use Rattle.std.proofs.Common.{arith}
 use Rattle.hg_model.specs.declared.row.Placed.{Placed}
 use Rattle.hg_proof.proofs.FrontLaws.{bound_more}
 use Rattle.hg_proof.proofs.least.least_bound.Goals as goal

@@ -1,4 +1,4 @@
-use Rattle.std.proofs.Common.{ap, length, arith}
+use Rattle.std.proofs.Common.{arith}
 use Rattle.hg_life.specs.Verdict.{row_limit}
 use Rattle.hg_proof.proofs.FrontLaws.{between_end, between_start, few_places}
 use Rattle.hg_proof.proofs.least.least_front.Goals as goal

@@ -1,4 +1,4 @@
-use Rattle.std.proofs.Common.{◌∙◌, ◌<◌, ◌≤◌, ◌^◌, List, length, take, subst, ap, arith}
+use Rattle.std.proofs.Common.{◌∙◌, ◌^◌, List, length, take, subst, ap, arith}
 use Rattle.hg_model.specs.declared.row.Placed.{Placed}
 use Rattle.hg_model.specs.Prefix.{Graph}
 use Rattle.hg_proof.specs.Answers.{order_in}

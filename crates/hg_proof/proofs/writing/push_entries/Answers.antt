@@ -1,4 +1,4 @@
-use Rattle.std.proofs.Common.{◌≡◌, ◌++◌, ◌∙◌, List, ap, subst, take, arith}
+use Rattle.std.proofs.Common.{◌++◌, ◌∙◌, List, ap, subst, arith}
 use Rattle.std.specs.List.{AllByRecursion}
 use Rattle.std.proofs.lemmas.List.{take_all}
 use Rattle.hg_model.specs.declared.row.Placed.{Placed}
