@@ -13,12 +13,20 @@
 //! ```
 #![tactic(auto)]
 
+mod desk;
+mod drawing;
 mod laws;
+mod plan;
 mod receiving;
 mod sending;
 mod taking;
+mod turning;
 
+pub use desk::{Desk, Log};
+pub use drawing::{draw_peer, place_in};
 pub use laws::{calls_keep_fates, fates_last};
+pub use plan::{Plan, circle_of};
 pub use receiving::receive;
 pub use sending::{Dispatch, send_rows};
 pub use taking::{Intake, Refusal, take_all};
+pub use turning::take_turns;
