@@ -1,5 +1,5 @@
 -- A member's turn: what it takes and makes, and what it sends
-use Rattle.std.proofs.Common.{slice_get, ◌≡◌, ◌≢◌, ◌⊎◌, ⊎_elim, inl, inr, ℕ, zero, suc, ◌+◌, ◌<◌, ◌≤◌, Bool, true, false, cond, List, [], ◌∷◌, ◌++◌, length, length-append, length-set, map, set, take, get_or, Option, Some, None, refl, sym, ap, ◌∙◌, subst, arith}
+use Rattle.std.proofs.Common.{slice_get, ◌≡◌, ◌≢◌, ◌⊎◌, ⊎_elim, inl, inr, ℕ, zero, suc, ◌+◌, ◌<◌, ◌≤◌, Bool, true, false, cond, List, [], ◌∷◌, length, length-set, set, take, get_or, Option, Some, None, refl, sym, ap, ◌∙◌, subst, arith}
 use mathlib.Core.Logic.{dite}
 use native.Mathlib.Decide.{ℕ_discrete}
 use Rattle.std.proofs.lemmas.Bool.{cases_Bool, true≢false}
@@ -20,20 +20,18 @@ use Rattle.hg_life.specs.Signing.{accepts_by}
 use Rattle.hg_node.specs.Next.{MakesNext, last_other, next_others, others_after}
 use Rattle.hg_gossip.specs.Holding.{Seen}
 use Rattle.hg_mail.specs.Mailboxes.{MailboxView, PortView}
-use Rattle.hg_mail.specs.declared.view.CountView.{CountView}
 use Rattle.hg_board.specs.Positions.{AreBelow}
 use Rattle.hg_board.specs.Table.{node_at}
-use Rattle.hg_board.specs.Seats.{SharedNode, SeatView, seen_by}
+use Rattle.hg_board.specs.Seats.{SharedNode, SeatView}
 use Rattle.hg_board.specs.Calls.{SeatMakesNext, Stays}
 use Rattle.hg_board.proofs.PrefixLaws.{prefix_length}
 use Rattle.hg_history.proofs.StateLaws.{prefix_more}
 use Rattle.hg_history.proofs.CallLaws.{with_none}
 use Rattle.hg_history.proofs.ChangeLaws.{changes_left}
-use Rattle.hg_crowd.specs.Crowd.{IsSeat, IsStill}
+use Rattle.hg_crowd.specs.Crowd.{IsStill}
 use Rattle.hg_storm.specs.declared.plan.Plan.{Plan}
 use Rattle.hg_storm.specs.declared.sending.Dispatch.{Dispatch}
 use Rattle.hg_storm.specs.declared.desk.Log.{Log}
-use Rattle.hg_storm.specs.declared.desk.Desk.{Desk}
 use Rattle.hg_made.specs.Draws.{next_state, state_after}
 use Rattle.hg_storm.specs.Drawing.{Draws, HasDrawn, IsDrawing, first_state, peer_at, state_at}
 use Rattle.hg_storm.specs.Fates.{HasFates}
@@ -42,8 +40,8 @@ use Rattle.hg_storm.specs.Receiving.{IsInbox}
 use Rattle.hg_storm.specs.Sending.{Dispatches, HasSent, IsDue, WasFull, bytes_seen}
 use Rattle.hg_storm.specs.Turning.{AreIdle, HasMade, HasServed, HasServedAll, IsCounted, IsIdle, IsIdleTurn, Standing, is_row}
 use Rattle.hg_storm.proofs.KeepLaws.{making_keeps, still_keeps}
-use Rattle.hg_storm.proofs.MadeLaws.{AddsFor, came_below, get_end, made_none, made_one, next_adds, next_begins, next_none, next_one, next_seen, reached_by}
-use Rattle.hg_storm.proofs.SendLaws.{rows_later, rows_longer, sent_later}
+use Rattle.hg_storm.proofs.MadeLaws.{AddsFor, came_below, get_end, made_none, made_one, next_adds, next_none, next_one, reached_by}
+use Rattle.hg_storm.proofs.SendLaws.{rows_longer, sent_later}
 
 -- turns that made nothing, in a longer history
 
