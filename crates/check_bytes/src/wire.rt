@@ -376,12 +376,7 @@ fn tells_where_a_source_ends(rt: HostRuntime) -> Result<(), Fail> {
     // A count of as many rows as may be, and nothing behind it.
     let head = b"HGW1\x02\x00\x10\x00\x00";
     let mut source = source_of(alloc, head.as_slice(), 64, 1_000)?;
-    equal(
-        &rt,
-        9,
-        got(alloc, Want::Rows, &mut source)?,
-        Got::Ended(9),
-    );
+    equal(&rt, 9, got(alloc, Want::Rows, &mut source)?, Got::Ended(9));
     let head = b"HGW1\x01\x00\x10\x00\x01";
     let mut source = source_of(alloc, head.as_slice(), 64, 1_000)?;
     equal(

@@ -1,12 +1,10 @@
 -- A file that is to be one message.
-use Rattle.std.proofs.Common.{◌≡◌, ◌∙◌, ℕ, ◌+◌, ◌-◌, ◌<◌, ◌≤◌, List, [], ◌∷◌, length, drop, length-drop, refl, sym, ap, arith}
+use Rattle.std.proofs.Common.{◌≡◌, ◌∙◌, ℕ, ◌+◌, ◌<◌, ◌≤◌, List, [], ◌∷◌, length, drop, length-drop, refl, sym, ap, arith}
 use Rattle.std.specs.Prelude.{Result, Ok, Err}
 use Rattle.hg_wire.specs.declared.message.Message.{Message}
 use Rattle.hg_wire.specs.declared.message.Want.{Want}
-use Rattle.hg_wire.specs.declared.message.Want.TheVariants as want
-use Rattle.hg_wire.specs.declared.message.Message.TheVariants.{Have, Rows}
 use Rattle.hg_wire.specs.declared.message.WireFault.{WireFault}
-use Rattle.hg_wire.specs.Outcome.{Outcome, Unfinished, Faulty, Finished}
+use Rattle.hg_wire.specs.Outcome.{Unfinished, Faulty, Finished}
 use Rattle.hg_wire.specs.Grammar.{AreBytes, Fits}
 use Rattle.hg_wire.specs.Laws.{ReadsAreMessages}
 use Rattle.hg_wire.specs.Reading.{read}

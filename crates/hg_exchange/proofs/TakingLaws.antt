@@ -1,17 +1,15 @@
 -- What a message leaves of a node, and what the node shows then.
-use Rattle.std.proofs.Common.{◌≡◌, ◌∙◌, ◌<◌, ℕ, List, [], ◌∷◌, length, map, get_or, refl, sym, ap, ap₂, subst, arith}
+use Rattle.std.proofs.Common.{◌≡◌, ◌∙◌, ◌<◌, ℕ, List, [], ◌∷◌, length, get_or, sym, ap, ap₂, subst}
 use Rattle.std.proofs.lemmas.List.{get_or-map, length-map}
 use Rattle.std.specs.Prelude.{Result, Ok, Err, IfOk}
 use Rattle.hg_gossip.specs.declared.gossip.Taken.{Taken}
 use Rattle.hg_gossip.specs.Gossip.{Takes}
-use Rattle.hg_gossip.specs.Holding.{Rules, Seen, Waits, rules_alone, seen_whole}
-use Rattle.hg_gossip.specs.Nodes.{WaitsAlone}
+use Rattle.hg_gossip.specs.Holding.{Rules, Seen, seen_whole}
 use Rattle.hg_gossip.specs.Refusals.{BeyondHolds, HoldsUnlessRefused}
 use Rattle.hg_life.specs.Calls.{IsSettled}
-use Rattle.hg_life.specs.Members.{MemberList, names_of, stakes_of}
+use Rattle.hg_life.specs.Members.{MemberList, names_of}
 use Rattle.hg_life.specs.NodeView.{IsNode, NodeView, Start, node_rows, start_of}
 use Rattle.hg_life.specs.Signing.{accepts_by}
-use Rattle.hg_model.specs.declared.row.Row.{Row}
 use Rattle.hg_model.specs.Fame.{fame_marks}
 use Rattle.hg_model.specs.Links.{links}
 use Rattle.hg_model.specs.Order.{coin_at}
@@ -22,15 +20,10 @@ use Rattle.hg_outcome.specs.declared.outcome.Printed.TheVariants as printed
 use Rattle.hg_outcome.specs.Ledger.{block_of, marked_block}
 use Rattle.hg_play.specs.Lines.{kept_block}
 use Rattle.hg_play.specs.Outcomes.{kept_outcome}
-use Rattle.hg_play.specs.Sites.{IsMadeWith}
+use Rattle.hg_play.specs.Sites.{AreMadeWith, IsMadeWith}
 use Rattle.hg_world.specs.World.{Secrets, Site, WorldView, no_site, node_at, nodes_of}
-use Rattle.hg_wire.specs.declared.exchange.Delivery.{Delivery}
 use Rattle.hg_wire.specs.declared.message.Message.{Message}
-use Rattle.hg_wire.specs.declared.message.Want.{Want}
-use Rattle.hg_wire.specs.declared.message.Want.TheVariants as want
-use Rattle.hg_wire.specs.declared.message.Message.TheVariants.{Have, Rows}
-use Rattle.hg_wire.specs.Exchange.{answer_of, rows_in}
-use Rattle.hg_wire.specs.Grammar.{Fits}
+use Rattle.hg_wire.specs.Exchange.{rows_in}
 use Rattle.hg_exchange.specs.Exchanges.{HoldsAnswer, TakesRows, rules, shown}
 
 -- ---- the node of a member
@@ -40,6 +33,15 @@ nodes_count w = length-map w.sites (λ (site : Site). site.node)
 
 pub node_there : (w : WorldView) (m : ℕ) (d : NodeView Secrets) → m < length w.sites → get_or (nodes_of w) m d ≡ node_at w m
 node_there w m d low = get_or-map (λ (site : Site). site.node) w.sites m no_site d low
+
+pub made_at : (members : MemberList) (w : WorldView) (nodes : List (NodeView Secrets)) (m : ℕ) (v : NodeView Secrets) → nodes ≡ nodes_of w → m < length w.sites → v ≡ get_or nodes m v → AreMadeWith members w
+    → IsMadeWith members v
+made_at members w nodes m v are low is made =
+    subst (IsMadeWith members) (sym (is ∙ ap (λ (vs : List (NodeView Secrets)). get_or vs m v) are ∙ node_there w m v low)) (made m low)
+
+pub always : {A E P : Type 0} (r : Result A E) → P → IfOk r (λ x. P)
+always (Ok x) so = so
+always (Err e) so = tt
 
 -- ---- what came of a message
 

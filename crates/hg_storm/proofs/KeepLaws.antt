@@ -2,6 +2,7 @@
 use Rattle.std.proofs.Common.{◌≡◌, ⊎_elim, inl, inr, ℕ, suc, List, [], ◌∷◌, ◌++◌, append_assoc, length, length-append, Option, Some, None, slice_get, refl, sym, ap, ◌∙◌, subst, arith}
 use Rattle.std.specs.List.{AllByRecursion}
 use Rattle.std.proofs.lemmas.List.{append-nil}
+use Rattle.hg_model.specs.Orders.{IsPrefix}
 use Rattle.hg_model.specs.declared.row.Row.{Row}
 use Rattle.hg_life.specs.declared.answers.MakeAnswer.{MakeAnswer}
 use Rattle.hg_life.specs.declared.answers.MakeAnswer.TheVariants as answer
@@ -62,6 +63,12 @@ waiting_keeps V accepts p s t waits taken refused fates =
     let seen : t.seen ≡ s.seen ++ waits.others = ap (λ (x : Seen V). x.node.history) waits.later in
     let mine : t.mine ≡ s.mine = ap (λ (x : Seen V). x.positions) waits.later in
     keeps accepts p s t waits.others seen taken refused (subst (AllByRecursion (CameBy t.seen taken)) (sym mine) (still accepts p s t waits.others seen taken refused fates)) fates
+
+-- the node went on, and the seat added nothing
+pub still_keeps : {V : Type 0} (accepts : V → Accepts) (p : SharedNode V) (s t : SeatView V) → IsPrefix s.seen t.seen → t.mine ≡ s.mine → (taken : List Message) (refused : List Refusal) →
+    HasFates accepts p s taken refused → HasFates accepts p t taken refused
+still_keeps accepts p s t first mine taken refused fates =
+    keeps accepts p s t first.0 first.1 taken refused (subst (AllByRecursion (CameBy t.seen taken)) (sym mine) (still accepts p s t first.0 first.1 taken refused fates)) fates
 
 -- what a call that makes the next row adds is made
 by_answer : (a : MakeAnswer) (row : Row) → AllByRecursion IsMaking (made_by a row)

@@ -1,12 +1,19 @@
 -- Calls through a seat that take no message: what came of those that were taken stands
-use Rattle.std.specs.Prelude.{ℕ, List, Option}
+use Rattle.std.specs.Prelude.{ℕ, Bool, true, false, List, Option, Some, None, count_by, slice_get}
 use Rattle.hg_life.specs.declared.answers.MakeAnswer.{MakeAnswer}
+use Rattle.hg_life.specs.History.{Change}
+use Rattle.hg_life.specs.History.Change.{Took, Made, Marked}
 use Rattle.hg_life.specs.Signing.{Accepts}
 use Rattle.hg_mail.specs.declared.message.Message.{Message}
 use Rattle.hg_board.specs.Seats.{SharedNode, SeatView}
 use Rattle.hg_board.specs.Calls.{SeatMakesNext, SeatWaits}
+use Rattle.hg_crowd.specs.Crowd.{IsSeat}
 use Rattle.hg_storm.specs.declared.taking.Refusal.{Refusal}
 use Rattle.hg_storm.specs.Fates.{HasFates}
+
+-- the keys of a node: the members' secrets
+abbrev pub Secrets : Type 0
+Secrets = List (List ℕ)
 
 -- whichever messages were taken
 abbrev pub KeepsFates : {V : Type 0} → (V → Accepts) → SharedNode V → SeatView V → SeatView V → Type 0
@@ -20,3 +27,17 @@ WaitingKeepsFates V = (accepts : V → Accepts) (p : SharedNode V) (old new : Se
 abbrev pub MakingKeepsFates : Type 0 → Type 0
 MakingKeepsFates V = (accepts : V → Accepts) (p : SharedNode V) (old new : SeatView V) (time : ℕ) (made : Option MakeAnswer) →
     SeatMakesNext accepts p old time new made → KeepsFates accepts p old new
+
+-- what is so of every seat of the node stands
+abbrev pub KeepsSeat : {V : Type 0} → (V → Accepts) → SharedNode V → SeatView V → SeatView V → Type 0
+KeepsSeat accepts p old new = IsSeat accepts p old → IsSeat accepts p new
+
+abbrev pub is_made : Option Change → Bool
+is_made (Some (Made row)) = true
+is_made (Some (Took row)) = false
+is_made (Some (Marked len share)) = false
+is_made None = false
+
+-- how many of a seat's own changes made a row
+abbrev pub rows_made : {V : Type 0} → SeatView V → ℕ
+rows_made s = count_by (λ q. is_made (slice_get s.seen q)) s.mine

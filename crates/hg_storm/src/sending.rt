@@ -5,6 +5,7 @@ ghost use Rattle.hg_board.specs.Seats.{IsOf};
 ghost use Rattle.hg_board.specs.Copies.{bytes_from};
 ghost use Rattle.hg_board.specs.Table.{node_at};
 ghost use Rattle.hg_crowd.specs.Crowd.{IsStill};
+ghost use Rattle.hg_storm.specs.Keeping.{KeepsSeat};
 ghost use Rattle.hg_storm.specs.Sending.{Dispatches, HasSent, IsDue, Sends, WasFull, bytes_seen};
 
 use hg_board::{Seat, Shared};
@@ -71,6 +72,7 @@ fn rows_due<V: Signer + Drop, R: Wait>(
     requires { IsOf shared.now seat.old }
     ensures of { IsOf shared.now seat.new }
     ensures still { IsStill seat.old seat.new }
+    ensures seat { KeepsSeat V.accepts shared.now seat.old seat.new }
     ensures mine { seat.new.mine ≡ seat.old.mine }
     ensures count { result ≡ length (bytes_seen shared.now seat.new) }
 {
@@ -89,6 +91,7 @@ fn piece_from<V: Signer + Drop, R: Wait>(
     requires { IsOf shared.now seat.old }
     ensures of { IsOf shared.now seat.new }
     ensures still { IsStill seat.old seat.new }
+    ensures seat { KeepsSeat V.accepts shared.now seat.old seat.new }
     ensures mine { seat.new.mine ≡ seat.old.mine }
     ensures rows { IfOk result (λ rows. rows.items ≡ bytes_from (node_at shared.now.start seat.new.seen) place most) }
 {
@@ -111,6 +114,7 @@ pub fn send_rows<V: Signer + Drop, R: Wait>(
     requires few { dispatch.full < 2 ^ 63 }
     ensures of { IsOf shared.now seat.new }
     ensures still { IsStill seat.old seat.new }
+    ensures seat { KeepsSeat V.accepts shared.now seat.old seat.new }
     ensures mine { seat.new.mine ≡ seat.old.mine }
     ensures sent { IfOk result (λ d. HasSent mailbox.now from (bytes_seen shared.now seat.new) d.sent port.new) }
     ensures due { IfOk result (λ d. IsDue (bytes_seen shared.now seat.old) (bytes_seen shared.now seat.new) d.due) }

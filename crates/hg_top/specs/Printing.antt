@@ -1,7 +1,7 @@
 -- What a status is to the outside: a line on standard error, and an exit status
 use Rattle.std.specs.Prelude.{ℕ, ◌⊎◌, List, ◌++◌, codes}
 use Rattle.std.specs.Fmt.{decimal}
-use Rattle.hg_certify.specs.Text.{why_text}
+use Rattle.hg_certify.specs.Text.{why_text as reason_text}
 use Rattle.hg_io.specs.Bytes.{Appends, AppendsPart}
 use Rattle.hg_io.specs.Faults.{Rose}
 use Rattle.hg_io.specs.declared.sink.Sink as sink
@@ -55,7 +55,7 @@ journal_line (Broken at) = codes "hashgraph: journal: broken " ++ (decimal at ++
 -- the line that tells why a proof shows nothing
 abbrev pub proof_line : Refusal Why → List ℕ
 proof_line TooLong = codes "hashgraph: proof: too-long\n"
-proof_line (Fault why) = codes "hashgraph: proof: " ++ (why_text why ++ codes "\n")
+proof_line (Fault why) = codes "hashgraph: proof: " ++ (reason_text why ++ codes "\n")
 
 -- the line that a status writes to standard error
 abbrev pub status_line : Status → List ℕ

@@ -120,7 +120,7 @@ fn play_script<F: Shelf, K: Sink>(
     out: &mut K,
 ) -> Status
     requires { own < length members.now.entries }
-    ensures ends { Ends (play_work script.now (exchange_work exchange) members.now own)
+    ensures ends { Ends (play_work script.now (exchange_work exchange.entry) members.now own)
         (course F.Shelf K.Sink shelf.old shelf.new out.old out.new no_disk) result }
     ensures same { F.holds shelf.new ≡ F.holds shelf.old }
 {
@@ -144,7 +144,7 @@ pub(crate) fn play_node<F: Shelf, K: Sink>(
     shelf: &mut F,
     out: &mut K,
 ) -> Status
-    ensures ends { Ends (played_work (node_files asked.now) (exchange_work exchange))
+    ensures ends { Ends (played_work (node_files asked.now) (exchange_work exchange.entry))
         (course F.Shelf K.Sink shelf.old shelf.new out.old out.new no_disk) result }
     ensures same { F.holds shelf.new ≡ F.holds shelf.old }
 {

@@ -1,6 +1,7 @@
 use Rattle.std.proofs.Common.{◌≡◌, ◌≤◌, ◌-◌, length}
 use Rattle.hg_board.specs.Seats.{IsOf}
 use Rattle.hg_crowd.specs.Crowd.{IsStill}
+use Rattle.hg_storm.specs.Keeping.{KeepsSeat}
 use Rattle.hg_storm.specs.Sending.{HasSent, bytes_seen}
 use Rattle.hg_storm.proofs.sending.send_rows.Given as goal
 
@@ -8,6 +9,7 @@ abbrev pub invariant-pieces : goal.invariant-pieces
 invariant-pieces g l = record {
   of : IsOf l.shared l.seat;
   still : IsStill l.fn.seat l.seat;
+  seat : KeepsSeat g.V.Verifier.accepts l.shared l.fn.seat l.seat;
   mine : l.seat.mine ≡ l.fn.seat.mine;
   due : l.due ≤ length (bytes_seen l.shared l.seat);
   first : length (bytes_seen l.shared l.fn.seat) ≤ l.due;

@@ -1,0 +1,123 @@
+-- A member's turns: what it has sent, taken and made after so many of them
+use Rattle.std.specs.Prelude.{ℕ, zero, suc, ◌≡◌, ◌+◌, ◌<◌, ◌≤◌, ◌^◌, ◌⊎◌, ⊤, Bool, true, false, List, length, take, get_or, Option, Some, None}
+use Rattle.hg_life.specs.declared.answers.MakeAnswer.{MakeAnswer}
+use Rattle.hg_life.specs.declared.answers.MakeAnswer.TheVariants as answer
+use Rattle.hg_life.specs.History.{Change}
+use Rattle.hg_life.specs.Signing.{accepts_by}
+use Rattle.hg_node.specs.Next.{MakesNext}
+use Rattle.hg_mail.specs.Count.{one_part}
+use Rattle.hg_mail.specs.Mailboxes.{MailboxView, PortView}
+use Rattle.hg_board.specs.Table.{node_at}
+use Rattle.hg_board.specs.Seats.{SharedNode, SeatView}
+use Rattle.hg_board.specs.Calls.{SeatMakesNext}
+use Rattle.hg_crowd.specs.Crowd.{IsSeat, IsStill}
+use Rattle.hg_storm.specs.declared.plan.Plan.{Plan}
+use Rattle.hg_storm.specs.declared.sending.Dispatch.{Dispatch}
+use Rattle.hg_storm.specs.declared.desk.Log.{Log}
+use Rattle.hg_storm.specs.declared.desk.Desk.{Desk}
+use Rattle.hg_storm.specs.Drawing.{Draws, HasDrawn}
+use Rattle.hg_storm.specs.Fates.{HasFates}
+use Rattle.hg_storm.specs.Keeping.{Secrets, rows_made}
+use Rattle.hg_storm.specs.Receiving.{IsInbox}
+use Rattle.hg_storm.specs.Sending.{HasSent, bytes_seen}
+
+-- ---- turns that made nothing
+
+-- no event was made: there was nothing to make one on, or it was refused
+abbrev pub IsIdle : Option MakeAnswer → Type 0
+IsIdle None = ⊤
+IsIdle (Some (answer.Made place)) = ⊥
+IsIdle (Some (answer.Refused fault)) = ⊤
+
+-- at the first changes of the history the node makes no event of this time
+pub record IsIdleTurn (p : SharedNode Secrets) (history : List Change) (time : ℕ) : Type 0 where
+  pub at : ℕ
+  pub within : at ≤ length history
+  pub made : Option MakeAnswer
+  pub idle : IsIdle made
+  pub next : MakesNext accepts_by (node_at p.start (take at history)) time made (node_at p.start (take at history))
+
+-- of the first turns, whose times are counted from 1, so many made nothing, each for its cause
+abbrev pub AreIdle : SharedNode Secrets → List Change → ℕ → ℕ → Type 0
+AreIdle p history zero idle = idle ≡ 0
+AreIdle p history (suc t) idle =
+    AreIdle p history t idle ⊎ ((less : ℕ) × (idle ≡ suc less) × AreIdle p history t less × IsIdleTurn p history (suc t))
+
+-- ---- what was sent to one member
+
+-- how many rows were due to a member, and what is left of them: some were where a turn drew it, and of those all were sent
+-- unless its mailbox was full
+pub record IsCounted (Drawn : Type 0) (rows turns : ℕ) (d : Dispatch) : Type 0 where
+  pub drawn : 0 < d.due → Drawn
+  pub due : Drawn → 0 < d.due
+  pub late : d.due ≤ rows
+  pub sent : d.full ≡ 0 → d.sent ≡ d.due
+  pub few : d.full ≤ turns
+
+-- through this port the member sent that; where the mailbox was full, as many were put in and counted as it has room for
+pub record HasServed (plan : Plan) (me place turns : ℕ) (rows : List (List ℕ)) (k : ℕ) (m : MailboxView) (d : Dispatch) (q : PortView) : Type 0 where
+  pub sent : HasSent m me rows d.sent q
+  pub counted : IsCounted (HasDrawn plan me place turns k) (length rows) turns d
+  pub full : 0 < d.full → m.room ≤ q.count.seen
+
+-- to each member
+pub record HasServedAll (plan : Plan) (me place turns : ℕ) (rows : List (List ℕ)) (mails : List MailboxView) (ds : List Dispatch) (qs : List PortView) : Type 0 where
+  pub dispatches : length ds ≡ length mails
+  pub ports : length qs ≡ length mails
+  pub each : (k : ℕ) (m : MailboxView) (d : Dispatch) (q : PortView) → k < length mails →
+      HasServed plan me place turns rows k (get_or mails k m) (get_or ds k d) (get_or qs k q)
+
+-- ---- a member between two steps of its turns
+
+-- after so many draws and so many rows that were made or could not be
+pub record Standing (plan : Plan) (place : ℕ) (mails : List MailboxView) (p : SharedNode Secrets) (drawn made own : ℕ) (log : Log) (s : SeatView Secrets) (qs : List PortView) (box : PortView) : Type 0 where
+  pub me : own < length mails
+  pub seat : IsSeat accepts_by p s
+  pub fates : HasFates accepts_by p s log.intake.taken.items log.intake.refused.items
+  pub inbox : (m : MailboxView) → IsInbox (get_or mails own m) log.intake.taken.items box
+  pub alone : box.count ≡ one_part
+  pub served : HasServedAll plan own place drawn (bytes_seen p s) mails log.dispatches.items qs
+  pub some : 0 < made → 0 < length (bytes_seen p s)
+  pub rows : rows_made s + log.idle ≡ made
+  pub idle : AreIdle p s.seen made log.idle
+
+abbrev pub Stands : Plan → ℕ → List MailboxView → SharedNode Secrets → ℕ → ℕ → Desk → Type 0
+Stands plan place mails p drawn made d = Standing plan place mails p drawn made d.me d.log d.seat d.ports.items d.inbox
+
+-- a member stands somewhere in its turns, so many of which made a row or could not
+pub record IsAtTurns (mails : List MailboxView) (p : SharedNode Secrets) (made : ℕ) (d : Desk) : Type 0 where
+  pub plan : Plan
+  pub place : ℕ
+  pub drawn : ℕ
+  pub few : drawn < 2 ^ 32
+  pub stands : Stands plan place mails p drawn made d
+
+-- it is the same member still, with its node
+pub record GoesOn (old new : Desk) : Type 0 where
+  pub me : new.me ≡ old.me
+  pub still : IsStill old.seat new.seat
+
+-- a row more was made, or could not be
+abbrev pub MakesOneMore : List MailboxView → SharedNode Secrets → ℕ → Desk → Desk → Type 0
+MakesOneMore mails p made old new =
+    (plan : Plan) (place drawn : ℕ) → Stands plan place mails p drawn made old → Stands plan place mails p drawn (made + 1) new
+
+-- the member that a turn draws was served
+abbrev pub ServesOneMore : List MailboxView → SharedNode Secrets → ℕ → Desk → Desk → Type 0
+ServesOneMore mails p peer old new =
+    (plan : Plan) (place drawn made : ℕ) → Draws plan old.me place drawn peer → 0 < made → Stands plan place mails p drawn made old →
+    Stands plan place mails p (drawn + 1) made new
+
+-- ---- steps of a turn
+
+-- whether this answer is a row that was made
+abbrev pub is_row : Option MakeAnswer → Bool
+is_row None = false
+is_row (Some (answer.Made place)) = true
+is_row (Some (answer.Refused fault)) = false
+
+-- the node's next event was made, or could not be
+pub record HasMade (p : SharedNode Secrets) (old : SeatView Secrets) (time : ℕ) (new : SeatView Secrets) (made : Bool) : Type 0 where
+  pub answer : Option MakeAnswer
+  pub is : made ≡ is_row answer
+  pub next : SeatMakesNext accepts_by p old time new answer
