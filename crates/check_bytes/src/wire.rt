@@ -30,7 +30,7 @@ fn told(message: &Message) -> Heard {
     }
 }
 
-fn heard(fed: &Fed) -> Heard {
+fn made_of(fed: &Fed) -> Heard {
     match fed {
         Fed::More => Heard::More,
         Fed::Whole(message, _) => told(message),
@@ -42,7 +42,7 @@ fn heard(fed: &Fed) -> Heard {
 fn heard_at_once(alloc: Global, want: Want, bytes: &[u8]) -> Result<Heard, Fail> {
     let mut ear = Ear::new(alloc, want);
     let fed = ear.feed(bytes)?;
-    Ok(heard(&fed))
+    Ok(made_of(&fed))
 }
 
 /// .. and of so many first ones, or all of fewer.
@@ -250,7 +250,7 @@ fn heard_in_pieces(
     }
     pieces.push(Vec::from_slice(alloc, rest)?)?;
     let fed = hear_all(alloc, want, pieces.as_slice())?;
-    Ok(heard(&fed))
+    Ok(made_of(&fed))
 }
 
 /// In each cut of two pieces this is heard.
@@ -340,7 +340,7 @@ enum Got {
     Wire(WireFault),
 }
 
-fn got<S: Source>(alloc: Global, want: Want, source: &mut S) -> Result<Got, Fail> {
+fn receive_one<S: Source>(alloc: Global, want: Want, source: &mut S) -> Result<Got, Fail> {
     let mut ear = Ear::new(alloc, want);
     Ok(match receive(source, &mut ear)? {
         Receipt::Got(message) => Got::Whole(told(&message)),
@@ -371,18 +371,28 @@ fn tells_where_a_source_ends(rt: HostRuntime) -> Result<(), Fail> {
             return Err("too few".into());
         };
         let mut source = source_of(alloc, first, 64, 1_000)?;
-        equal(&rt, len, got(alloc, Want::Rows, &mut source)?, wanted);
+        equal(
+            &rt,
+            len,
+            receive_one(alloc, Want::Rows, &mut source)?,
+            wanted,
+        );
     }
     // A count of as many rows as may be, and nothing behind it.
     let head = b"HGW1\x02\x00\x10\x00\x00";
     let mut source = source_of(alloc, head.as_slice(), 64, 1_000)?;
-    equal(&rt, 9, got(alloc, Want::Rows, &mut source)?, Got::Ended(9));
+    equal(
+        &rt,
+        9,
+        receive_one(alloc, Want::Rows, &mut source)?,
+        Got::Ended(9),
+    );
     let head = b"HGW1\x01\x00\x10\x00\x01";
     let mut source = source_of(alloc, head.as_slice(), 64, 1_000)?;
     equal(
         &rt,
         10,
-        got(alloc, Want::Have, &mut source)?,
+        receive_one(alloc, Want::Have, &mut source)?,
         Got::Wire(WireFault::Count(1_048_577)),
     );
     Ok(())
@@ -391,7 +401,7 @@ fn tells_where_a_source_ends(rt: HostRuntime) -> Result<(), Fail> {
 /// From a source that gives at most so many bytes in a call and fails at this call the message comes, or the fault.
 fn got_from(alloc: Global, bytes: &[u8], most: usize, call: u64) -> Result<Got, Fail> {
     let mut source = source_of(alloc, bytes, most, call)?;
-    got(alloc, Want::Rows, &mut source)
+    receive_one(alloc, Want::Rows, &mut source)
 }
 
 #[test]
@@ -459,11 +469,11 @@ impl Source for Endless {
 fn reads_no_byte_behind_the_message(rt: HostRuntime) -> Result<(), Fail> {
     let alloc = rt.alloc();
     let mut source = Endless { at: 0 };
-    let first = got(alloc, Want::Rows, &mut source)?;
+    let first = receive_one(alloc, Want::Rows, &mut source)?;
     equal(&rt, 0, first, Got::Whole(Heard::Rows(2, false)));
     equal(&rt, 1, source.at, 172);
     // What follows begins no message.
-    let second = got(alloc, Want::Rows, &mut source)?;
+    let second = receive_one(alloc, Want::Rows, &mut source)?;
     equal(&rt, 2, second, Got::Wire(WireFault::Magic(2)));
     Ok(())
 }

@@ -1,3 +1,4 @@
 mod ShowLaws
 mod ProveLaws
+mod Names
 mod Steps

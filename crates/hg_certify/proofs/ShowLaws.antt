@@ -1,5 +1,5 @@
 -- What a check by the members' secrets, of a graph of the members without rows, tells these members
-use Rattle.std.proofs.Common.{◌≡◌, List, ℕ, [], sym, subst}
+use Rattle.std.proofs.Common.{◌≡◌, List, ℕ, [], subst}
 use Rattle.hg_model.specs.Prefix.{Graph, graph_of}
 use Rattle.hg_life.specs.Members.{MemberList, stakes_of}
 use Rattle.hg_life.specs.Signing.{Accepts, accepts_signature}

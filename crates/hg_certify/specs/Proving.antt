@@ -5,7 +5,6 @@ use Rattle.hg_life.specs.Members.{MemberList, stakes_of}
 use Rattle.hg_script.specs.declared.line.Line.{Line}
 use Rattle.hg_world.specs.World.{rows_at}
 use Rattle.hg_play.specs.Play.{IsSafePlay, played_world}
-use Rattle.hg_proof.specs.Certificate.{Certificate}
 use Rattle.hg_proof.specs.Least.{IsLeast, first_certificate}
 use Rattle.hg_certify.specs.Showing.{ShowsTo, judged_by}
 

@@ -1,10 +1,9 @@
 -- The text of what a certificate shows, and that of the reason why one shows nothing
-use Rattle.std.specs.Prelude.{ℕ, suc, List, [], ◌∷◌, ◌++◌, length, codes}
+use Rattle.std.specs.Prelude.{ℕ, suc, List, [], ◌∷◌, ◌++◌, length, slice_get, Option, None, Some, codes}
 use Rattle.std.specs.Fmt.{decimal}
 use Rattle.hex.specs.Hex.{encode_lower}
 use Rattle.hg_model.specs.declared.row.Row.{Row}
 use Rattle.hg_model.specs.declared.row.Placed.{Placed}
-use Rattle.hg_model.specs.Graph.{name_at}
 use Rattle.hg_outcome.specs.Report.{fault_text, with_number}
 use Rattle.hg_proof.specs.Certificate.{Certificate}
 use Rattle.hg_proof.specs.declared.why.Why.{Why}
@@ -15,10 +14,15 @@ abbrev pub head_text : Certificate → List ℕ
 head_text shown =
     with_number (codes "yes rows") (length shown.rows) ++ (with_number (codes " ordered") (length shown.order) ++ codes "\n")
 
+-- the name of a row in hexadecimal digits, nothing where there is none
+abbrev pub name_text : Option Row → List ℕ
+name_text None = []
+name_text (Some row) = encode_lower row.name
+
 -- the line of an entry of this number: the name of its event, its round received and consensus timestamp
 abbrev pub entry_text : List Row → ℕ → Placed → List ℕ
 entry_text rows number p =
-    decimal number ++ (codes " " ++ (encode_lower (name_at rows p.place)
+    decimal number ++ (codes " " ++ (name_text (slice_get rows p.place)
     ++ (with_number (codes " round") p.received ++ (with_number (codes " time") p.time ++ codes "\n"))))
 
 -- a line for each entry, the first with this number

@@ -1,11 +1,9 @@
-ghost use Rattle.std.specs.Prelude.{◌≡◌, ◌++◌, length};
+ghost use Rattle.std.specs.Prelude.{◌≡◌, ◌++◌, length, slice_get};
 ghost use Rattle.std.specs.Fmt.{decimal};
 ghost use Rattle.hg_graph.specs.RowsWithRoom.{rows_of};
 ghost use Rattle.hg_io.specs.Printing.{Prints, PutsOn};
-ghost use Rattle.hg_model.specs.Graph.{name_at};
 ghost use Rattle.hg_pieces.specs.Pieces.{piece_text, pieces_text};
-ghost use Rattle.hg_certify.specs.Text.{entries_text, entry_text, head_text, shown_text, why_text};
-ghost use Rattle.hex.specs.Hex.{encode_lower};
+ghost use Rattle.hg_certify.specs.Text.{entries_text, entry_text, head_text, name_text, shown_text, why_text};
 
 use hg_event::Event;
 use hg_io::{Failed, Page, Sink};
@@ -33,7 +31,7 @@ fn write_head<K: Sink>(page: &mut Page, sink: &mut K, shown: &Shown) -> Result<(
 
 /// The name of the event at this place, nothing where there is none.
 fn name_piece(events: &[Arc<Event>], place: usize) -> Piece<'_>
-    ensures { piece_text result ≡ encode_lower (name_at (rows_of events.now) place) }
+    ensures { piece_text result ≡ name_text (slice_get (rows_of events.now) place) }
 {
     match events.get(place) {
         Some(event) => Piece::Name(&event.row().name),
