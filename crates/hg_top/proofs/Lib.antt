@@ -1,2 +1,3 @@
 pub mod KeepLaws
+pub mod TellLaws
 pub mod WorkLaws

@@ -138,28 +138,25 @@ fn print_wire_fault<E: Sink>(err: &mut E, word: &[u8], number: u64) -> Result<()
     )
 }
 
+/// Prints what is wrong with a field of a message.
+fn print_field_fault<E: Sink>(err: &mut E, fault: WireFault) -> Result<(), Failed>
+    ensures { Prints E.Sink err.old err.new (wire_line (Refusal.Fault (MessageFault.Wire fault))) result }
+{
+    match fault {
+        WireFault::Magic(at) => print_wire_fault(err, b"magic ", at as u64),
+        WireFault::Kind(kind) => print_wire_fault(err, b"kind ", u64::from(kind)),
+        WireFault::Count(count) => print_wire_fault(err, b"count ", u64::from(count)),
+        WireFault::Row(place, fault) => print_row_fault(err, place, fault),
+        WireFault::Flag(flag) => print_wire_fault(err, b"flag ", u64::from(flag)),
+    }
+}
+
 /// Prints what is wrong with a message file.
 fn print_message_fault<E: Sink>(err: &mut E, fault: MessageFault) -> Result<(), Failed>
     ensures { Prints E.Sink err.old err.new (wire_line (Refusal.Fault fault)) result }
 {
     match fault {
-        MessageFault::Wire(WireFault::Magic(at)) => print_wire_fault(err, b"magic ", at as u64),
-        MessageFault::Wire(WireFault::Kind(kind)) => print_wire_fault(
-            err,
-            b"kind ",
-            u64::from(kind),
-        ),
-        MessageFault::Wire(WireFault::Count(count)) => print_wire_fault(
-            err,
-            b"count ",
-            u64::from(count),
-        ),
-        MessageFault::Wire(WireFault::Row(place, fault)) => print_row_fault(err, place, fault),
-        MessageFault::Wire(WireFault::Flag(flag)) => print_wire_fault(
-            err,
-            b"flag ",
-            u64::from(flag),
-        ),
+        MessageFault::Wire(fault) => print_field_fault(err, fault),
         MessageFault::Ended(at) => print_wire_fault(err, b"ended ", at as u64),
         MessageFault::Trailing(at) => print_wire_fault(err, b"trailing ", at as u64),
     }
