@@ -41,8 +41,8 @@ returns-in-Ok-proof_from-clause-ends g c =
     c.in-Ok-proof_from.ensures.ok c.proof_from.ensures.starts
     (refl, rw c.status_of.ensures (wrote K out written (IsAnswerOf list shown) (shown_text shown) c.write_shown.result is c.write_shown.ensures), stays_same unknown))
 
-pub returns-in-Err-proof_from-clause-ends : goal.returns-in-Err-proof_from-clause-ends
-returns-in-Err-proof_from-clause-ends g c =
+pub returns-clause-ends : goal.returns-clause-ends
+returns-clause-ends g c =
     let F = g.F.Shelf in
     let K = g.K.Sink in
     let u = c.members_from.new.shelf in

@@ -1,4 +1,4 @@
-use Rattle.std.proofs.Common.{◌≡◌, ◌∙◌, List, ℕ, refl, subst, sym}
+use Rattle.std.proofs.Common.{◌≡◌, List, ℕ, refl, subst}
 use Rattle.hg_script.specs.declared.line.Line.{Line}
 use Rattle.hg_certify.specs.Proving.{IsProofOf}
 use Rattle.hg_io.specs.FileView.{unknown}
@@ -25,7 +25,7 @@ returns-in-Ok-prove_order-clause-ends g c =
     let same : c.as_slice.result.now ≡ lines = c.as_slice.ensures in
     let text : List ℕ = c.in-Ok-prove_order.bytes.items in
     let proof : IsProofOf members lines own text = subst (λ (ls : List Line). IsProofOf members ls own text) same c.in-Ok-prove_order.ensures in
-    let prints = subst (λ (t : List ℕ). Prints K c.args.out.now c.print_text.new.err t c.print_text.result) c.as_slice-2.ensures.value c.print_text.ensures in
+    let prints = subst (λ (t : List ℕ). Prints K c.args.out.now c.print_text.new.err t c.print_text.result) c.as_slice-in-Ok-prove_order.ensures.value c.print_text.ensures in
     takes_on g.F.Shelf K c.args.shelf.now c.lines_from.new.shelf c.lines_from.new.shelf c.args.out.now c.print_text.new.err
     no_disk file.Script bad_script (lines_for members 0) c.args.script.now (λ (lines : List Line). Writes (IsProofOf members lines own)) lines c.status_of.result
     c.in-Ok.ensures.ok c.lines_from.ensures.starts

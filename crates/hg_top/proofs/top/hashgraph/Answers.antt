@@ -62,16 +62,16 @@ returns-clause-ends g c =
       | in-Ok-Some-Serve w ↦ (let q = w.in-Ok-Some-Serve in
           let request = rw (q.field-0-is, q.field-0-0-is) at q.ensures.request in
           let f : NodeFiles = record { members = q.members.now; script = q.script.now; own = q.own.now } in
-          let ends = with_disk (played_work f (exchange_work (Serve q.have))) (course F K s w.play_node-status.new.shelf out w.play_node-status.new.out no_disk) (disk_course W disk disk)
-          (F.starts s) w.play_node-status.result (diskless_played f (Serve q.have)) still w.play_node-status.ensures.ends in
-          ends_at F K W s w.play_node-status.new.shelf last.shelf out w.play_node-status.new.out last.out disk disk last.disk (Some (serve f q.have.now)) asked w.play_node-status.result last.status request
+          let ends = with_disk (played_work f (exchange_work (Serve q.have))) (course F K s w.play_node-status-in-Ok-Some-Serve.new.shelf out w.play_node-status-in-Ok-Some-Serve.new.out no_disk) (disk_course W disk disk)
+          (F.starts s) w.play_node-status-in-Ok-Some-Serve.result (diskless_played f (Serve q.have)) still w.play_node-status-in-Ok-Some-Serve.ensures.ends in
+          ends_at F K W s w.play_node-status-in-Ok-Some-Serve.new.shelf last.shelf out w.play_node-status-in-Ok-Some-Serve.new.out last.out disk disk last.disk (Some (serve f q.have.now)) asked w.play_node-status-in-Ok-Some-Serve.result last.status request
           w.shelf-is w.out-is w.disk-is w.status-is ends)
       | in-Ok-Some-Take w ↦ (let q = w.in-Ok-Some-Take in
           let request = rw (q.field-0-is, q.field-0-0-is) at q.ensures.request in
           let f : NodeFiles = record { members = q.members.now; script = q.script.now; own = q.own.now } in
-          let ends = with_disk (played_work f (exchange_work (Take q.rows))) (course F K s w.play_node-status.new.shelf out w.play_node-status.new.out no_disk) (disk_course W disk disk)
-          (F.starts s) w.play_node-status.result (diskless_played f (Take q.rows)) still w.play_node-status.ensures.ends in
-          ends_at F K W s w.play_node-status.new.shelf last.shelf out w.play_node-status.new.out last.out disk disk last.disk (Some (take f q.rows.now)) asked w.play_node-status.result last.status request
+          let ends = with_disk (played_work f (exchange_work (Take q.rows))) (course F K s w.play_node-status-in-Ok-Some-Take.new.shelf out w.play_node-status-in-Ok-Some-Take.new.out no_disk) (disk_course W disk disk)
+          (F.starts s) w.play_node-status-in-Ok-Some-Take.result (diskless_played f (Take q.rows)) still w.play_node-status-in-Ok-Some-Take.ensures.ends in
+          ends_at F K W s w.play_node-status-in-Ok-Some-Take.new.shelf last.shelf out w.play_node-status-in-Ok-Some-Take.new.out last.out disk disk last.disk (Some (take f q.rows.now)) asked w.play_node-status-in-Ok-Some-Take.result last.status request
           w.shelf-is w.out-is w.disk-is w.status-is ends)
       | in-Ok-None w ↦ (let q = w.in-Ok-None in
           let request = rw q.field-0-is at q.ensures.request in
