@@ -228,9 +228,9 @@ fn stands_on(rt: &impl Abort, node: &Node<MacTable>, place: usize, own: Name, ot
     assert!(rt; place < node.rows());
     match &node.row(place).parents {
         None => panic!(rt; "no parents"),
-        Some((last, names)) => {
-            equal(rt, *last, own);
-            equal(rt, names.as_slice(), others);
+        Some(pair) => {
+            equal(rt, pair.0.as_slice(), own.as_slice());
+            equal(rt, pair.1.as_slice(), others);
         }
     }
 }

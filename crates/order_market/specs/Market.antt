@@ -1,5 +1,6 @@
 -- The books of the members' nodes: each is a function of the order that its node keeps
 use Rattle.std.specs.Prelude.{ℕ, ◌≡◌, ◌<◌, ◌*◌, ◌⊎◌, Bool, cond, ◌&&◌, nat_lt, List, [], ◌∷◌, ◌++◌, fold, get_or, length, map}
+use Rattle.std.specs.Option.{option_to_list}
 use Rattle.hg_model.specs.declared.row.Row.{Row}
 use Rattle.hg_model.specs.declared.row.Placed.{Placed}
 use Rattle.hg_model.specs.Stakes.{Stakes, total}
