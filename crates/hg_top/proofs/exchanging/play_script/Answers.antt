@@ -1,4 +1,4 @@
-use Rattle.std.proofs.Common.{List, ℕ, refl, subst, sym}
+use Rattle.std.proofs.Common.{List, refl, subst, sym}
 use Rattle.hg_exchange.specs.Exchanges.{IsAsking, played_node}
 use Rattle.hg_io.specs.FileView.{unknown}
 use Rattle.hg_script.specs.declared.line.Line.{Line}
@@ -7,7 +7,6 @@ use Rattle.hg_top.specs.declared.status.File.TheVariants as file
 use Rattle.hg_top.specs.Commands.{bad_script, exchange_work, lines_for, serve_work, take_work}
 use Rattle.hg_top.specs.Course.{course, no_disk}
 use Rattle.hg_top.specs.Ends.{Ends}
-use Rattle.hg_top.specs.Work.{Work}
 use Rattle.hg_top.specs.Writing.{WroteOn}
 use Rattle.hg_top.proofs.KeepLaws.{stays_same}
 use Rattle.hg_top.proofs.WorkLaws.{takes_none, takes_on}

@@ -1,4 +1,4 @@
-use Rattle.std.proofs.Common.{List, ℕ, refl}
+use Rattle.std.proofs.Common.{refl}
 use Rattle.hg_exchange.specs.Exchanges.{IsAnswering, played_node}
 use Rattle.hg_exchange.specs.Messages.{message_of, names_in}
 use Rattle.hg_io.specs.FileView.{unknown}
@@ -8,7 +8,6 @@ use Rattle.hg_wire.specs.Exchange.{answer_of}
 use Rattle.hg_top.specs.declared.status.File.TheVariants as file
 use Rattle.hg_top.specs.Commands.{bad_message}
 use Rattle.hg_top.specs.Course.{no_disk}
-use Rattle.hg_top.specs.Work.{Work}
 use Rattle.hg_top.specs.Work.Work.{Writes}
 use Rattle.hg_top.proofs.KeepLaws.{stays_same}
 use Rattle.hg_top.proofs.WorkLaws.{delivers, takes_none, takes_on}

@@ -1,4 +1,4 @@
-use Rattle.std.proofs.Common.{List, ℕ, refl}
+use Rattle.std.proofs.Common.{refl}
 use Rattle.hg_exchange.specs.Exchanges.{IsTakingText, played_node}
 use Rattle.hg_exchange.specs.Messages.{message_of}
 use Rattle.hg_exchange.specs.Text.{took_text}

@@ -3,7 +3,7 @@ use Rattle.hg_exchange.specs.declared.message.MessageFault.{MessageFault}
 use Rattle.hg_exchange.specs.declared.message.MessageFault.TheVariants.{Wire}
 use Rattle.hg_io.specs.Printing.{Prints}
 use Rattle.hg_wire.specs.declared.message.WireFault.{WireFault}
-use Rattle.hg_wire.specs.declared.message.WireFault.TheVariants.{Magic, Kind, Count, Row, Flag}
+use Rattle.hg_wire.specs.declared.message.WireFault.TheVariants.{Magic, Kind, Count, Flag}
 use Rattle.hg_top.specs.declared.status.Refusal.TheVariants.{Fault}
 use Rattle.hg_top.specs.Printing.{wire_line}
 use Rattle.hg_top.proofs.TellLaws.{told_so}

@@ -1,6 +1,6 @@
 use Rattle.std.proofs.Common.{codes, refl, subst, sym}
 use Rattle.hg_exchange.specs.declared.message.MessageFault.{MessageFault}
-use Rattle.hg_exchange.specs.declared.message.MessageFault.TheVariants.{Wire, Ended, Trailing}
+use Rattle.hg_exchange.specs.declared.message.MessageFault.TheVariants.{Ended, Trailing}
 use Rattle.hg_io.specs.Printing.{Prints}
 use Rattle.hg_top.specs.declared.status.Refusal.TheVariants.{Fault}
 use Rattle.hg_top.specs.Printing.{wire_line}

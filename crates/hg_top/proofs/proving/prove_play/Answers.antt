@@ -1,4 +1,4 @@
-use Rattle.std.proofs.Common.{◌≡◌, ◌∙◌, List, ℕ, refl, subst, sym}
+use Rattle.std.proofs.Common.{◌≡◌, List, ℕ, refl, subst}
 use Rattle.hg_script.specs.declared.line.Line.{Line}
 use Rattle.hg_certify.specs.Proving.{IsProofOf}
 use Rattle.hg_io.specs.FileView.{unknown}

@@ -1,5 +1,4 @@
-use Rattle.std.proofs.Common.{List, ℕ, subst}
-use Rattle.hg_certify.specs.Showing.{ShowsTo, judged_by}
+use Rattle.hg_certify.specs.Showing.{judged_by}
 use Rattle.hg_top.specs.declared.status.File.TheVariants as file
 use Rattle.hg_top.specs.Commands.{bad_proof}
 use Rattle.hg_top.specs.Work.{nothing_more, unless_faulty}
