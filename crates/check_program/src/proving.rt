@@ -153,7 +153,7 @@ fn what_is_proved_is_shown(rt: HostRuntime) -> Result<(), Fail> {
     let shown = told(rt.alloc(), &members, by_b.as_slice())?;
     assert!(rt; shown.bytes() == SHOWN_BY_B.as_bytes());
     let (_, by_a) = proved(rt.alloc(), 0)?;
-    assert!(rt; by_a.as_slice() == b"HGP1\0\0\0\0\0\0\0\0");
+    assert!(rt; by_a.as_slice() == b"HGP1\0\0\0\0\0\0\0\0".as_slice());
     let shown = told(rt.alloc(), &members, by_a.as_slice())?;
     assert!(rt; shown.bytes() == SHOWN_BY_A.as_bytes());
     Ok(())
