@@ -257,6 +257,6 @@ fn faults_of_the_outside(rt: HostRuntime) -> Result<(), Fail> {
         return Err("too few".into());
     };
     assert!(rt; ran.out.bytes() == first);
-    assert!(rt; ran.err.bytes() == b"hashgraph: cannot write\n");
+    assert!(rt; ran.err.bytes() == b"hashgraph: cannot write\n".as_slice());
     Ok(())
 }
