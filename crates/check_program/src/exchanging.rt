@@ -31,6 +31,19 @@ const ROWS: &str =
 const TAKEN: &str =
     "taken 1 refused 0\nnode A events 8 forkers 0 round 4 closed 2 ordered 4\n1 A 0 round 2 time 1 -\n2 B 0 round 2 time 2 -\n3 A 1 round 2 time 3 -\n4 B 1 round 2 time 4 -\nbalance A 100\nbalance B 0\n";
 
+/// One file more.
+fn push_file(
+    alloc: Global,
+    files: &mut Vec<(String, Vec<u8>)>,
+    name: &str,
+    bytes: &[u8],
+) -> Result<(), Memory> {
+    let name = String::from_str(alloc, name)?;
+    let bytes = Vec::from_slice(alloc, bytes)?;
+    files.push((name, bytes))?;
+    Ok(())
+}
+
 /// A shelf of a member file, a script and a message, of which the calls with these numbers fail.
 fn shelf_of_three(
     alloc: Global,
@@ -39,16 +52,9 @@ fn shelf_of_three(
     fails: &[u64],
 ) -> Result<ShelfMem, Memory> {
     let mut files = Vec::new(alloc);
-    for (name, bytes) in [
-        ("members.toml", MEMBERS.as_bytes()),
-        ("script.txt", script.as_bytes()),
-        ("message.bin", message),
-    ] {
-        files.push((
-            String::from_str(alloc, name)?,
-            Vec::from_slice(alloc, bytes)?,
-        ))?;
-    }
+    push_file(alloc, &mut files, "members.toml", MEMBERS.as_bytes())?;
+    push_file(alloc, &mut files, "script.txt", script.as_bytes())?;
+    push_file(alloc, &mut files, "message.bin", message)?;
     ShelfMem::new(alloc, files, Vec::from_slice(alloc, fails)?)
 }
 
@@ -81,7 +87,8 @@ fn writes<R: Abort + Threads + Wait + Sync>(
     rt: &R,
     alloc: Global,
     line: &str,
-    (script, message): (&str, &[u8]),
+    script: &str,
+    message: &[u8],
     wanted: &[u8],
 ) -> Result<(), Fail> {
     let shelf = shelf_of_three(alloc, script, message, &[])?;
@@ -121,33 +128,21 @@ fn two_nodes_gossip_by_files(rt: HostRuntime) -> Result<(), Fail> {
     let alloc = rt.alloc();
     let have = bytes_of(alloc, HAVE)?;
     let rows = bytes_of(alloc, ROWS)?;
-    writes(&rt, alloc, ASK, (SCRIPT, b""), have.as_slice())?;
-    writes(
-        &rt,
-        alloc,
-        SERVE,
-        (SCRIPT, have.as_slice()),
-        rows.as_slice(),
-    )?;
-    writes(
-        &rt,
-        alloc,
-        TAKE,
-        (SCRIPT, rows.as_slice()),
-        TAKEN.as_bytes(),
-    )
+    writes(&rt, alloc, ASK, SCRIPT, b"", have.as_slice())?;
+    writes(&rt, alloc, SERVE, SCRIPT, have.as_slice(), rows.as_slice())?;
+    writes(&rt, alloc, TAKE, SCRIPT, rows.as_slice(), TAKEN.as_bytes())
 }
 
 #[test]
 fn nodes_without_events_gossip(rt: HostRuntime) -> Result<(), Fail> {
     let alloc = rt.alloc();
     let none = b"HGW1\x01\x00\x00\x00\x00".as_slice();
-    writes(&rt, alloc, ASK, ("", b""), none)?;
+    writes(&rt, alloc, ASK, "", b"", none)?;
     let no_rows = b"HGW1\x02\x00\x00\x00\x00\x00".as_slice();
-    writes(&rt, alloc, SERVE, ("", none), no_rows)?;
+    writes(&rt, alloc, SERVE, "", none, no_rows)?;
     let block =
         "taken 0 refused 0\nnode A events 0 forkers 0 round 0 closed 0 ordered 0\nbalance A 100\nbalance B 0\n";
-    writes(&rt, alloc, TAKE, ("", no_rows), block.as_bytes())
+    writes(&rt, alloc, TAKE, "", no_rows, block.as_bytes())
 }
 
 #[test]
