@@ -49,24 +49,46 @@ fn reads_what_was_written(rt: HostRuntime) -> Result<(), Fail> {
     equal(&rt, 0, disk.start("any name"), Ok(()));
     equal(&rt, 1, write_two(&mut disk), [true, true, true]);
     equal(&rt, 2, disk.size(NAME), Ok(11));
-    let mut buf = [b'.'; 4];
-    equal(&rt, 3, disk.read(NAME, 9, &mut buf), Ok(2));
-    equal(&rt, 4, buf, *b"es..");
-    equal(&rt, 5, disk.read(NAME, 4, &mut buf), Ok(4));
-    equal(&rt, 6, buf, *b"n by");
-    equal(&rt, 7, disk.read(NAME, 11, &mut buf), Ok(0));
-    equal(&rt, 8, disk.read(NAME, 200, &mut buf), Ok(0));
-    equal(&rt, 9, disk.read(NAME, 0, &mut []), Ok(0));
     // Over the middle, which leaves the size.
-    equal(&rt, 10, write(&mut disk, 2, b"lf-w"), Ok(()));
+    equal(&rt, 3, write(&mut disk, 2, b"lf-w"), Ok(()));
     assert!(rt; reads(alloc, &mut disk, b"self-wbytes")?);
     Ok(())
+}
+
+#[test]
+fn a_read_gives_what_is_there(rt: HostRuntime) -> Result<(), Fail> {
+    let mut disk = disk_of(rt.alloc(), 64, &[])?;
+    equal(&rt, 0, write_two(&mut disk), [true, true, true]);
+    let mut buf = [b'.'; 4];
+    equal(&rt, 1, disk.read(NAME, 9, &mut buf), Ok(2));
+    equal(&rt, 2, buf, *b"es..");
+    equal(&rt, 3, disk.read(NAME, 4, &mut buf), Ok(4));
+    equal(&rt, 4, buf, *b"n by");
+    equal(&rt, 5, disk.read(NAME, 11, &mut buf), Ok(0));
+    equal(&rt, 6, disk.read(NAME, 200, &mut buf), Ok(0));
+    equal(&rt, 7, disk.read(NAME, 0, &mut []), Ok(0));
+    Ok(())
+}
+
+/// Whether of the two writes these are done where this call fails, and a stop, which leaves all or what was synced, leaves these
+/// bytes.
+fn is_left(
+    alloc: Global,
+    call: usize,
+    all: bool,
+    done: [bool; 3],
+    bytes: &[u8],
+) -> Result<bool, Memory> {
+    let mut disk = disk_of(alloc, 64, &[call as u64])?;
+    if write_two(&mut disk) != done {
+        return Ok(false);
+    }
+    reads(alloc, &mut disk.stopped(all), bytes)
 }
 
 // Each call fails in turn: which were done, what reads give, and what a stop leaves if it leaves all, and if not.
 #[test]
 fn each_call_of_a_disk_fails_in_turn(rt: HostRuntime) -> Result<(), Fail> {
-    let alloc = rt.alloc();
     let none = ([false, true, false], b"".as_slice(), b"".as_slice());
     let one = (
         [true, true, false],
@@ -84,30 +106,34 @@ fn each_call_of_a_disk_fails_in_turn(rt: HostRuntime) -> Result<(), Fail> {
         b"seven b".as_slice(),
     );
     for (call, (done, all, synced)) in [none, none, unsynced, one, one, whole].iter().enumerate() {
-        let fails = [call as u64];
-        let mut disk = disk_of(alloc, 64, &fails)?;
-        equal(&rt, call, write_two(&mut disk), *done);
-        assert!(rt;
-            reads(alloc, &mut disk.stopped(true), all)?,
-            "all at {call}"
+        equal(
+            &rt,
+            call,
+            is_left(rt.alloc(), call, true, *done, all)?,
+            true,
         );
-        let mut disk = disk_of(alloc, 64, &fails)?;
-        equal(&rt, call, write_two(&mut disk), *done);
-        assert!(rt;
-            reads(alloc, &mut disk.stopped(false), synced)?,
-            "synced at {call}"
+        equal(
+            &rt,
+            call,
+            is_left(rt.alloc(), call, false, *done, synced)?,
+            true,
         );
     }
-    let mut disk = disk_of(alloc, 64, &[0, 2])?;
-    equal(&rt, 6, disk.start(NAME), Err(Failed));
-    equal(&rt, 7, disk.start(NAME), Ok(()));
-    equal(&rt, 8, disk.read(NAME, 0, &mut [0]), Err(Failed));
-    equal(&rt, 9, disk.read(NAME, 0, &mut [0]), Ok(0));
     Ok(())
 }
 
 #[test]
-fn a_disk_has_room_for_bytes_and_calls(rt: HostRuntime) -> Result<(), Fail> {
+fn a_start_and_a_read_fail(rt: HostRuntime) -> Result<(), Fail> {
+    let mut disk = disk_of(rt.alloc(), 64, &[0, 2])?;
+    equal(&rt, 0, disk.start(NAME), Err(Failed));
+    equal(&rt, 1, disk.start(NAME), Ok(()));
+    equal(&rt, 2, disk.read(NAME, 0, &mut [0]), Err(Failed));
+    equal(&rt, 3, disk.read(NAME, 0, &mut [0]), Ok(0));
+    Ok(())
+}
+
+#[test]
+fn a_disk_has_room_for_bytes(rt: HostRuntime) -> Result<(), Fail> {
     let alloc = rt.alloc();
     let mut short = disk_of(alloc, 11, &[])?;
     equal(&rt, 0, write_two(&mut short), [true, true, false]);
@@ -118,30 +144,40 @@ fn a_disk_has_room_for_bytes_and_calls(rt: HostRuntime) -> Result<(), Fail> {
     equal(&rt, 2, write(&mut left, 11, b"!!"), Err(Failed));
     equal(&rt, 3, write(&mut left, 11, b"!"), Ok(()));
     assert!(rt; reads(alloc, &mut left, b"seven bytes!")?);
-    // Four calls that change nothing of the file, of which two have room.
-    let mut calls = disk_of(alloc, 2, &[])?;
-    equal(&rt, 4, write(&mut calls, 0, b""), Ok(()));
-    equal(&rt, 5, calls.sync(NAME), Ok(()));
-    equal(&rt, 6, calls.sync(NAME), Err(Failed));
-    equal(&rt, 7, write(&mut calls, 0, b""), Err(Failed));
     Ok(())
+}
+
+// Four calls that change nothing of the file, of which two have room.
+#[test]
+fn a_disk_has_room_for_calls(rt: HostRuntime) -> Result<(), Fail> {
+    let mut calls = disk_of(rt.alloc(), 2, &[])?;
+    equal(&rt, 0, write(&mut calls, 0, b""), Ok(()));
+    equal(&rt, 1, calls.sync(NAME), Ok(()));
+    equal(&rt, 2, calls.sync(NAME), Err(Failed));
+    equal(&rt, 3, write(&mut calls, 0, b""), Err(Failed));
+    Ok(())
+}
+
+/// Whether putting a piece down answers so where this call fails, and a stop leaves these bytes.
+fn is_kept(
+    alloc: Global,
+    call: u64,
+    answer: Result<(), Failed>,
+    bytes: &[u8],
+) -> Result<bool, Memory> {
+    let mut disk = disk_of(alloc, 64, &[call])?;
+    if put_down(&mut disk, NAME, 0, b"seven b") != answer {
+        return Ok(false);
+    }
+    reads(alloc, &mut disk.stopped(false), bytes)
 }
 
 // A piece is put down by a write and a sync, either of which may fail.
 #[test]
 fn what_was_put_down_is_kept(rt: HostRuntime) -> Result<(), Fail> {
     let alloc = rt.alloc();
-    for (call, (answer, left)) in [
-        (Err(Failed), b"".as_slice()),
-        (Err(Failed), b"".as_slice()),
-        (Ok(()), b"seven b".as_slice()),
-    ]
-    .iter()
-    .enumerate()
-    {
-        let mut disk = disk_of(alloc, 64, &[call as u64])?;
-        equal(&rt, call, put_down(&mut disk, NAME, 0, b"seven b"), *answer);
-        assert!(rt; reads(alloc, &mut disk.stopped(false), left)?, "at {call}");
-    }
+    equal(&rt, 0, is_kept(alloc, 0, Err(Failed), b"")?, true);
+    equal(&rt, 1, is_kept(alloc, 1, Err(Failed), b"")?, true);
+    equal(&rt, 2, is_kept(alloc, 2, Ok(()), b"seven b")?, true);
     Ok(())
 }

@@ -130,38 +130,57 @@ fn expect_journal(
     Ok(())
 }
 
+/// These texts one behind the other.
+fn joined(alloc: Global, parts: &[&str]) -> Result<String, Fail> {
+    let mut text = String::new(alloc);
+    for part in parts {
+        text.push_str(part)?;
+    }
+    Ok(text)
+}
+
+/// The call over this file of events ends well, tells this, and leaves this journal.
+fn keeps<R: Abort + Threads + Wait + Sync>(
+    rt: &R,
+    alloc: Global,
+    line: &str,
+    events: &[u8],
+    disk: &mut DiskMem,
+    out: &str,
+    journal: &[u8],
+) -> Result<(), Fail> {
+    let ran = keep(rt, alloc, line, events, disk)?;
+    expect(rt, &ran, Status::Done, out, "");
+    expect_journal(rt, alloc, disk, journal)
+}
+
 #[test]
 fn a_node_comes_again(rt: HostRuntime) -> Result<(), Fail> {
     let alloc = rt.alloc();
     let events = bytes_of(alloc, &[B_FIRST])?;
     let journal = bytes_of(alloc, &JOURNAL)?;
+    let told = "opened 0\naccepted 1 known 0 refused 0\nmade 1 ";
+    let first = joined(alloc, &[told, A_FIRST, "\n", BLOCK])?;
+    let again = joined(alloc, &["opened 2\naccepted 0 known 1 refused 0\n", BLOCK])?;
     let mut disk = DiskMem::new(alloc, 512, Vec::new(alloc))?;
-    let ran = keep(&rt, alloc, KEEP_AT_ONE, events.as_slice(), &mut disk)?;
-    let first = format!(in alloc;
-        "opened 0\naccepted 1 known 0 refused 0\nmade 1 {A_FIRST}\n{BLOCK}"
+    keeps(
+        &rt,
+        alloc,
+        KEEP_AT_ONE,
+        &events,
+        &mut disk,
+        first.as_str(),
+        &journal,
     )?;
-    expect(&rt, &ran, Status::Done, first.as_str(), "");
-    expect_journal(&rt, alloc, &mut disk, journal.as_slice())?;
-    let ran = keep(&rt, alloc, KEEP, events.as_slice(), &mut disk)?;
-    let again = format!(in alloc; "opened 2\naccepted 0 known 1 refused 0\n{BLOCK}")?;
-    expect(&rt, &ran, Status::Done, again.as_str(), "");
-    expect_journal(&rt, alloc, &mut disk, journal.as_slice())
-}
-
-/// The call over this file of events and a disk whose file has these bytes ends so, and tells this line.
-fn expect_refusal<R: Abort + Threads + Wait + Sync>(
-    rt: &R,
-    alloc: Global,
-    (line, events): (&str, &[u8]),
-    mut disk: DiskMem,
-    status: u8,
-    err: &str,
-) -> Result<(), Fail> {
-    let ran = keep(rt, alloc, line, events, &mut disk)?;
-    assert_eq!(rt; ran.status.code(), status);
-    assert!(rt; ran.out.bytes().is_empty());
-    assert!(rt; ran.err.bytes() == err.as_bytes());
-    Ok(())
+    keeps(
+        &rt,
+        alloc,
+        KEEP,
+        &events,
+        &mut disk,
+        again.as_str(),
+        &journal,
+    )
 }
 
 /// A disk whose file has these bytes, of which these calls fail.
@@ -173,50 +192,46 @@ fn disk_of(alloc: Global, bytes: &[u8], fails: &[u64]) -> Result<DiskMem, Fail> 
     }
 }
 
+/// The call over this file of events and a disk whose file has these bytes, of which these calls fail, ends so, and tells this
+/// line.
+fn refuses<R: Abort + Threads + Wait + Sync>(
+    rt: &R,
+    alloc: Global,
+    line: &str,
+    events: &[u8],
+    journal: &[u8],
+    fails: &[u64],
+    status: u8,
+    err: &str,
+) -> Result<(), Fail> {
+    let mut disk = disk_of(alloc, journal, fails)?;
+    let ran = keep(rt, alloc, line, events, &mut disk)?;
+    assert_eq!(rt; ran.status.code(), status);
+    assert!(rt; ran.out.bytes().is_empty());
+    assert!(rt; ran.err.bytes() == err.as_bytes());
+    Ok(())
+}
+
 #[test]
 fn what_is_wrong_is_told(rt: HostRuntime) -> Result<(), Fail> {
     let alloc = rt.alloc();
+    let err = "hashgraph: members: own\n";
+    refuses(&rt, alloc, KEEP_OF_NOBODY, b"", b"", &[], 3, err)?;
+    let err = "hashgraph: event at 0: short 4\n";
+    refuses(&rt, alloc, KEEP, b"HGE1", b"", &[], 4, err)?;
+    let err = "hashgraph: disk\n";
+    refuses(&rt, alloc, KEEP, b"", b"", &[1], 7, err)
+}
+
+#[test]
+fn a_journal_that_is_none_is_told(rt: HostRuntime) -> Result<(), Fail> {
+    let alloc = rt.alloc();
     let events = bytes_of(alloc, &[B_FIRST])?;
     let cut = bytes_of(alloc, &CUT)?;
-    for (line, events, bytes, fails, status, err) in [
-        (
-            KEEP_OF_NOBODY,
-            events.as_slice(),
-            &[] as &[u8],
-            &[] as &[u64],
-            3,
-            "hashgraph: members: own\n",
-        ),
-        (
-            KEEP,
-            b"HGE1".as_slice(),
-            &[],
-            &[],
-            4,
-            "hashgraph: event at 0: short 4\n",
-        ),
-        (KEEP, events.as_slice(), &[], &[1], 7, "hashgraph: disk\n"),
-        (
-            KEEP,
-            events.as_slice(),
-            b"HGJ".as_slice(),
-            &[],
-            8,
-            "hashgraph: journal: foreign\n",
-        ),
-        (
-            KEEP,
-            events.as_slice(),
-            cut.as_slice(),
-            &[],
-            8,
-            "hashgraph: journal: broken 179\n",
-        ),
-    ] {
-        let disk = disk_of(alloc, bytes, fails)?;
-        expect_refusal(&rt, alloc, (line, events), disk, status, err)?;
-    }
-    Ok(())
+    let err = "hashgraph: journal: foreign\n";
+    refuses(&rt, alloc, KEEP, &events, b"HGJ", &[], 8, err)?;
+    let err = "hashgraph: journal: broken 179\n";
+    refuses(&rt, alloc, KEEP, &events, &cut, &[], 8, err)
 }
 
 const KEEP_AT_FIVE: &str =
@@ -236,23 +251,38 @@ const BLOCK_ALONE: &str =
 fn a_node_makes_its_first_event_once(rt: HostRuntime) -> Result<(), Fail> {
     let alloc = rt.alloc();
     let journal = bytes_of(alloc, &ALONE)?;
-    assert_eq!(rt; journal.len(), 95);
+    let told = "opened 0\naccepted 0 known 0 refused 0\nmade 0 ";
+    let first = joined(alloc, &[told, A_AT_FIVE, "\n", BLOCK_ALONE])?;
+    let told = "opened 1\naccepted 0 known 0 refused 0\nmade none peer-bare\n";
+    let again = joined(alloc, &[told, BLOCK_ALONE])?;
     let mut disk = DiskMem::new(alloc, 512, Vec::new(alloc))?;
-    let ran = keep(&rt, alloc, KEEP_AT_FIVE, b"", &mut disk)?;
-    let first = format!(in alloc;
-        "opened 0\naccepted 0 known 0 refused 0\nmade 0 {A_AT_FIVE}\n{BLOCK_ALONE}"
+    keeps(
+        &rt,
+        alloc,
+        KEEP_AT_FIVE,
+        b"",
+        &mut disk,
+        first.as_str(),
+        &journal,
     )?;
-    expect(&rt, &ran, Status::Done, first.as_str(), "");
-    expect_journal(&rt, alloc, &mut disk, journal.as_slice())?;
-    let ran = keep(&rt, alloc, KEEP_AT_FIVE, b"", &mut disk)?;
-    let again = format!(in alloc;
-        "opened 1\naccepted 0 known 0 refused 0\nmade none peer-bare\n{BLOCK_ALONE}"
-    )?;
-    expect(&rt, &ran, Status::Done, again.as_str(), "");
-    expect_journal(&rt, alloc, &mut disk, journal.as_slice())?;
-    let mut closed = Vec::from_slice(alloc, journal.as_slice())?;
-    closed[9] = 0;
-    let mut disk = disk_of(alloc, closed.as_slice(), &[])?;
+    keeps(
+        &rt,
+        alloc,
+        KEEP_AT_FIVE,
+        b"",
+        &mut disk,
+        again.as_str(),
+        &journal,
+    )
+}
+
+#[test]
+fn what_stands_behind_a_closed_gate_is_forgotten(rt: HostRuntime) -> Result<(), Fail> {
+    let alloc = rt.alloc();
+    let mut journal = bytes_of(alloc, &ALONE)?;
+    assert!(rt; journal.len() == 95);
+    journal[9] = 0;
+    let mut disk = disk_of(alloc, &journal, &[])?;
     let ran = keep(&rt, alloc, KEEP, b"", &mut disk)?;
     assert!(rt; ran.status == Status::Done);
     assert!(rt; ran.out.bytes().starts_with(b"opened 0\n"));
@@ -318,15 +348,21 @@ fn an_event_is_taken_whole_once_its_parents_are_there(rt: HostRuntime) -> Result
     let events = bytes_of(alloc, &[B_FIRST, B_SECOND])?;
     let before = bytes_of(alloc, &JOURNAL)?;
     let after = bytes_of(alloc, &JOURNAL_OF_THREE)?;
-    let mut disk = DiskMem::new(alloc, 2048, Vec::new(alloc))?;
-    let ran = keep(&rt, alloc, KEEP_AT_ONE, events.as_slice(), &mut disk)?;
-    let first = format!(in alloc;
-        "opened 0\naccepted 1 known 0 refused 1\nmade 1 {A_FIRST}\n{BLOCK}"
+    let told = "opened 0\naccepted 1 known 0 refused 1\nmade 1 ";
+    let first = joined(alloc, &[told, A_FIRST, "\n", BLOCK])?;
+    let then = joined(
+        alloc,
+        &["opened 2\naccepted 1 known 1 refused 0\n", BLOCK_OF_THREE],
     )?;
-    expect(&rt, &ran, Status::Done, first.as_str(), "");
-    expect_journal(&rt, alloc, &mut disk, before.as_slice())?;
-    let ran = keep(&rt, alloc, KEEP, events.as_slice(), &mut disk)?;
-    let then = format!(in alloc; "opened 2\naccepted 1 known 1 refused 0\n{BLOCK_OF_THREE}")?;
-    expect(&rt, &ran, Status::Done, then.as_str(), "");
-    expect_journal(&rt, alloc, &mut disk, after.as_slice())
+    let mut disk = DiskMem::new(alloc, 2048, Vec::new(alloc))?;
+    keeps(
+        &rt,
+        alloc,
+        KEEP_AT_ONE,
+        &events,
+        &mut disk,
+        first.as_str(),
+        &before,
+    )?;
+    keeps(&rt, alloc, KEEP, &events, &mut disk, then.as_str(), &after)
 }

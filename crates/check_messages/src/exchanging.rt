@@ -107,13 +107,6 @@ fn run<R: Threads + Wait + Sync>(
     Ok(Ran { status, out, err })
 }
 
-/// The run came to this, and wrote just these.
-fn expect(rt: &impl Abort, ran: &Ran, status: Status, out: &str, err: &str) {
-    assert!(rt; ran.status == status);
-    assert!(rt; ran.out.bytes() == out.as_bytes());
-    assert!(rt; ran.err.bytes() == err.as_bytes());
-}
-
 /// It writes just these bytes.
 fn writes<R: Abort + Threads + Wait + Sync>(
     rt: &R,
@@ -180,35 +173,28 @@ fn nodes_without_events_gossip(rt: HostRuntime) -> Result<(), Fail> {
 #[test]
 fn a_message_file_is_one_message_to_its_end(rt: HostRuntime) -> Result<(), Fail> {
     let alloc = rt.alloc();
-    let have = bytes_of(alloc, HAVE)?;
     let mut rows = bytes_of(alloc, ROWS)?;
     rows.pop();
-    refuses(
-        &rt,
-        alloc,
-        TAKE,
-        rows.as_slice(),
-        10,
-        "hashgraph: wire: ended 234\n",
-    )?;
+    let err = "hashgraph: wire: ended 234\n";
+    refuses(&rt, alloc, TAKE, rows.as_slice(), 10, err)?;
     rows.push(0x30)?;
     rows.push(0)?;
-    refuses(
-        &rt,
-        alloc,
-        TAKE,
-        rows.as_slice(),
-        10,
-        "hashgraph: wire: trailing 235\n",
-    )?;
-    refuses(
-        &rt,
-        alloc,
-        TAKE,
-        have.as_slice(),
-        10,
-        "hashgraph: wire: kind 1\n",
-    )?;
+    let err = "hashgraph: wire: trailing 235\n";
+    refuses(&rt, alloc, TAKE, rows.as_slice(), 10, err)
+}
+
+#[test]
+fn each_side_takes_the_others_kind(rt: HostRuntime) -> Result<(), Fail> {
+    let alloc = rt.alloc();
+    let have = bytes_of(alloc, HAVE)?;
+    let err = "hashgraph: wire: kind 1\n";
+    refuses(&rt, alloc, TAKE, have.as_slice(), 10, err)?;
+    let err = "hashgraph: wire: kind 2\n";
+    refuses(&rt, alloc, SERVE, b"HGW1\x02", 10, err)
+}
+
+#[test]
+fn what_is_no_message_is_told(rt: HostRuntime) -> Result<(), Fail> {
     for (message, err) in [
         (b"HGV1".as_slice(), "hashgraph: wire: magic 2\n"),
         (b"", "hashgraph: wire: ended 0\n"),
@@ -227,63 +213,67 @@ fn a_message_file_is_one_message_to_its_end(rt: HostRuntime) -> Result<(), Fail>
         ),
         (b"HGW1\x02\x00\x00\x00\x00\x02", "hashgraph: wire: flag 2\n"),
     ] {
-        refuses(&rt, alloc, TAKE, message, 10, err)?;
+        refuses(&rt, rt.alloc(), TAKE, message, 10, err)?;
     }
-    refuses(
-        &rt,
-        alloc,
-        SERVE,
-        b"HGW1\x02",
-        10,
-        "hashgraph: wire: kind 2\n",
-    )
+    Ok(())
 }
 
 #[test]
 fn only_a_members_node_gossips(rt: HostRuntime) -> Result<(), Fail> {
-    let alloc = rt.alloc();
     for line in [
         "hashgraph ask --members members.toml --script script.txt --own C",
         "hashgraph serve --members members.toml --script none.txt --own a --have none.bin",
         "hashgraph take --members members.toml --script none.txt --own AB --rows none.bin",
     ] {
-        refuses(&rt, alloc, line, b"", 3, "hashgraph: members: own\n")?;
+        refuses(&rt, rt.alloc(), line, b"", 3, "hashgraph: members: own\n")?;
     }
-    refuses(
-        &rt,
-        alloc,
-        "hashgraph take --members members.toml --script script.txt --own A --rows none.bin",
-        b"",
-        1,
-        "hashgraph: cannot read the message file\n",
-    )
+    Ok(())
 }
 
-// The member file and the script take six calls of the shelf, and each write of the sink takes one byte.
 #[test]
-fn faults_of_the_outside(rt: HostRuntime) -> Result<(), Fail> {
+fn there_must_be_a_message_file(rt: HostRuntime) -> Result<(), Fail> {
+    let line = "hashgraph take --members members.toml --script script.txt --own A --rows none.bin";
+    let err = "hashgraph: cannot read the message file\n";
+    refuses(&rt, rt.alloc(), line, b"", 1, err)
+}
+
+/// Where this call of the shelf fails, it is told that the message was not read.
+fn expect_read_fault<R: Abort + Threads + Wait + Sync>(
+    rt: &R,
+    alloc: Global,
+    rows: &[u8],
+    call: u64,
+) -> Result<(), Fail> {
+    let shelf = shelf_of_three(alloc, SCRIPT, rows, &[call])?;
+    let ran = run(rt, alloc, TAKE, shelf, ample(alloc)?)?;
+    assert!(rt; ran.status == Status::ReadFault(File::Message));
+    assert!(rt; ran.out.bytes().is_empty());
+    assert!(rt; ran.err.bytes() == b"hashgraph: cannot read the message file\n".as_slice());
+    Ok(())
+}
+
+// The member file and the script take six calls of the shelf.
+#[test]
+fn failing_reads_of_the_message(rt: HostRuntime) -> Result<(), Fail> {
     let alloc = rt.alloc();
     let rows = bytes_of(alloc, ROWS)?;
     for call in 6..9 {
-        let shelf = shelf_of_three(alloc, SCRIPT, rows.as_slice(), &[call])?;
-        let ran = run(&rt, alloc, TAKE, shelf, ample(alloc)?)?;
-        expect(
-            &rt,
-            &ran,
-            Status::ReadFault(File::Message),
-            "",
-            "hashgraph: cannot read the message file\n",
-        );
+        expect_read_fault(&rt, alloc, rows.as_slice(), call)?;
     }
+    Ok(())
+}
+
+// Each write of the sink takes one byte.
+#[test]
+fn a_failing_write_of_a_message(rt: HostRuntime) -> Result<(), Fail> {
+    let alloc = rt.alloc();
     let have = bytes_of(alloc, HAVE)?;
     let shelf = shelf_of_three(alloc, SCRIPT, b"", &[])?;
     let out = SinkMem::new(alloc, 64, 1, Vec::from_slice(alloc, &[40])?)?;
     let ran = run(&rt, alloc, ASK, shelf, out)?;
-    assert!(rt; ran.status == Status::WriteFault);
-    let Some((first, _)) = have.as_slice().split_at_checked(40) else {
-        return Err("too few".into());
-    };
-    assert!(rt; ran.out.bytes() == first);
-    assert!(rt; ran.err.bytes() == b"hashgraph: cannot write\n".as_slice());
+    assert!(&rt; ran.status == Status::WriteFault);
+    assert!(&rt; ran.out.bytes().len() == 40);
+    assert!(&rt; have.as_slice().starts_with(ran.out.bytes()));
+    assert!(&rt; ran.err.bytes() == b"hashgraph: cannot write\n".as_slice());
     Ok(())
 }
