@@ -147,31 +147,35 @@ const STOPS: [(usize, usize, usize); 18] = [
     (4, 2, 2),
 ];
 
+/// Whether the play comes to so many steps where this call of the disk fails, and so many rows come again where the stop leaves
+/// all that was written, or what was synced.
+fn comes_again(
+    alloc: Global,
+    members: &Members,
+    event: &[u8],
+    call: usize,
+    all: bool,
+    done: usize,
+    rows: usize,
+) -> Result<bool, Memory> {
+    let mut disk = disk_of(alloc, &[call as u64])?;
+    if play(alloc, members, &mut disk, event)? != (done, done < 4) {
+        return Ok(false);
+    }
+    let mut left = disk.stopped(all);
+    Ok(rows_on(alloc, members, &mut left)? == Ok(Some(rows)))
+}
+
 #[test]
 fn a_stop_at_each_call_leaves_what_was_answered(rt: HostRuntime) -> Result<(), Fail> {
     let alloc = rt.alloc();
     let members = two_members(&rt, alloc)?;
     let event = bytes_of(alloc, &[B_FIRST])?;
     for (call, (done, all, synced)) in STOPS.iter().enumerate() {
-        let wanted = (*done, *done < 4);
-        let mut disk = disk_of(alloc, &[call as u64])?;
-        equal(&rt, call, play(alloc, &members, &mut disk, &event)?, wanted);
-        let mut left = disk.stopped(true);
-        equal(
-            &rt,
-            call,
-            rows_on(alloc, &members, &mut left)?,
-            Ok(Some(*all)),
-        );
-        let mut disk = disk_of(alloc, &[call as u64])?;
-        equal(&rt, call, play(alloc, &members, &mut disk, &event)?, wanted);
-        let mut left = disk.stopped(false);
-        equal(
-            &rt,
-            call,
-            rows_on(alloc, &members, &mut left)?,
-            Ok(Some(*synced)),
-        );
+        let has_all = comes_again(alloc, &members, &event, call, true, *done, *all)?;
+        equal(&rt, call, has_all, true);
+        let has_synced = comes_again(alloc, &members, &event, call, false, *done, *synced)?;
+        equal(&rt, call, has_synced, true);
     }
     Ok(())
 }
@@ -221,28 +225,28 @@ fn changed(place: usize) -> Result<Option<usize>, OpenError> {
 }
 
 #[test]
-fn damaged_journals_are_known(rt: HostRuntime) -> Result<(), Fail> {
+fn cut_journals_are_known(rt: HostRuntime) -> Result<(), Fail> {
     let alloc = rt.alloc();
     let members = two_members(&rt, alloc)?;
     let journal = bytes_of(alloc, &JOURNAL)?;
-    assert_eq!(rt; journal.len(), 180);
+    assert!(rt; journal.len() == 180);
     for len in 0..=journal.len() {
-        equal(
-            &rt,
-            len,
-            rows_in(alloc, &members, &journal[..len])?,
-            cut(len),
-        );
+        let rows = rows_in(alloc, &members, &journal[..len])?;
+        equal(&rt, len, rows, cut(len));
     }
+    Ok(())
+}
+
+#[test]
+fn changed_journals_are_known(rt: HostRuntime) -> Result<(), Fail> {
+    let alloc = rt.alloc();
+    let members = two_members(&rt, alloc)?;
+    let mut journal = bytes_of(alloc, &JOURNAL)?;
     for place in 0..journal.len() {
-        let mut other = Vec::from_slice(alloc, &journal)?;
-        other[place] ^= 1;
-        equal(
-            &rt,
-            place,
-            rows_in(alloc, &members, &other)?,
-            changed(place),
-        );
+        journal[place] ^= 1;
+        let rows = rows_in(alloc, &members, &journal)?;
+        equal(&rt, place, rows, changed(place));
+        journal[place] ^= 1;
     }
     Ok(())
 }

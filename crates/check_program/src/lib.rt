@@ -18,6 +18,8 @@ mod journal;
 #[cfg(test)]
 mod program;
 #[cfg(test)]
+mod refusing;
+#[cfg(test)]
 mod telling;
 #[cfg(test)]
 mod words;

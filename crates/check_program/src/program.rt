@@ -1,8 +1,6 @@
 use hg_io::{DiskMem, NoGate, ShelfMem, SinkMem};
-use hg_members::MemberFault;
 use hg_model::Memory;
-use hg_script::{ScriptFault, Why};
-use hg_top::{File, NoWords, Refusal, Status, hashgraph, without_words};
+use hg_top::{File, NoWords, Status, hashgraph, without_words};
 use std::alloc::Global;
 use std::process::Abort;
 use std::sync::Wait;
@@ -15,10 +13,10 @@ pub(crate) const MEMBERS: &str =
 pub(crate) const SCRIPT: &str =
     "create A 1\ncreate B 2\nsync A B 3\nsync B A 4\nsync A B 5\nsync B A 6\nsync A B 7\nsync B A 8\n";
 
-const REPORT: &str =
+pub(crate) const REPORT: &str =
     "1 create made 0\n2 create made 0\n3 sync taken 1 refused 0 made 2\n4 sync taken 2 refused 0 made 3\n5 sync taken 1 refused 0 made 4\n6 sync taken 1 refused 0 made 5\n7 sync taken 1 refused 0 made 6\n8 sync taken 1 refused 0 made 7\nnode A events 7 forkers 0 round 3 closed 1 ordered 0\nbalance A 100\nbalance B 0\nnode B events 8 forkers 0 round 4 closed 2 ordered 4\n1 A 0 round 2 time 1 -\n2 B 0 round 2 time 2 -\n3 A 1 round 2 time 3 -\n4 B 1 round 2 time 4 -\nbalance A 100\nbalance B 0\n";
 
-const RUN: &str = "hashgraph run --members members.toml --script script.txt";
+pub(crate) const RUN: &str = "hashgraph run --members members.toml --script script.txt";
 
 const USAGE: &str =
     "hashgraph: usage: run --members FILE --script FILE [--workers K] or make --members N --lines L --seed S [--workers K] or keep --members FILE --events FILE --own NAME --disk FILE [--time T] or prove --members FILE --script FILE --own NAME or check --members FILE --proof FILE or ask --members FILE --script FILE --own NAME or serve --members FILE --script FILE --own NAME --have FILE or take --members FILE --script FILE --own NAME --rows FILE\n";
@@ -47,10 +45,10 @@ pub(crate) fn ample(alloc: Global) -> Result<SinkMem, Memory> {
 
 /// What a run came to, and what it wrote to standard output and standard error.
 #[derive(Drop)]
-struct Ran {
-    status: Status,
-    out: SinkMem,
-    err: SinkMem,
+pub(crate) struct Ran {
+    pub(crate) status: Status,
+    pub(crate) out: SinkMem,
+    pub(crate) err: SinkMem,
 }
 
 fn words_of(alloc: Global, line: &str) -> Result<Vec<String>, Fail> {
@@ -62,7 +60,7 @@ fn words_of(alloc: Global, line: &str) -> Result<Vec<String>, Fail> {
 }
 
 /// Runs the program over two files, with calls of the shelf that fail, and with a sink for the report.
-fn run<R: Threads + Wait + Sync>(
+pub(crate) fn run<R: Threads + Wait + Sync>(
     rt: &R,
     alloc: Global,
     line: &str,
@@ -94,10 +92,24 @@ fn run<R: Threads + Wait + Sync>(
 }
 
 /// The run came to this, and wrote just these.
-fn expect(rt: &impl Abort, ran: &Ran, status: Status, out: &str, err: &str) {
+pub(crate) fn expect(rt: &impl Abort, ran: &Ran, status: Status, out: &str, err: &str) {
     assert!(rt; ran.status == status);
     assert!(rt; ran.out.bytes() == out.as_bytes());
     assert!(rt; ran.err.bytes() == err.as_bytes());
+}
+
+/// The run over these files ends well, and writes this.
+pub(crate) fn expect_report<R: Abort + Threads + Wait + Sync>(
+    rt: &R,
+    alloc: Global,
+    line: &str,
+    members: &str,
+    script: &str,
+    out: &str,
+) -> Result<(), Fail> {
+    let ran = run(rt, alloc, line, members, script, &[], ample(alloc)?)?;
+    expect(rt, &ran, Status::Done, out, "");
+    Ok(())
 }
 
 const OF_SEVEN: &str =
@@ -106,25 +118,27 @@ const OF_SEVEN: &str =
 // Of two members with as much stake each no more is decided than of two with none given.
 #[test]
 fn two_members_of_a_greater_stake(rt: HostRuntime) -> Result<(), Fail> {
-    let alloc = rt.alloc();
-    let ran = run(&rt, alloc, RUN, OF_SEVEN, SCRIPT, &[], ample(alloc)?)?;
-    expect(&rt, &ran, Status::Done, REPORT, "");
+    expect_report(&rt, rt.alloc(), RUN, OF_SEVEN, SCRIPT, REPORT)
+}
+
+#[test]
+fn two_members(rt: HostRuntime) -> Result<(), Fail> {
+    for line in [
+        RUN,
+        "hashgraph run --members members.toml --script script.txt --workers 1",
+        "hashgraph run --members members.toml --script script.txt --workers 16",
+    ] {
+        expect_report(&rt, rt.alloc(), line, MEMBERS, SCRIPT, REPORT)?;
+    }
     Ok(())
 }
 
 // The last row of the table of failing reads: both files take six calls of the shelf, so that the seventh is none of them.
 #[test]
-fn two_members(rt: HostRuntime) -> Result<(), Fail> {
+fn no_seventh_call_of_the_shelf(rt: HostRuntime) -> Result<(), Fail> {
     let alloc = rt.alloc();
     let ran = run(&rt, alloc, RUN, MEMBERS, SCRIPT, &[6], ample(alloc)?)?;
     expect(&rt, &ran, Status::Done, REPORT, "");
-    for line in [
-        "hashgraph run --members members.toml --script script.txt --workers 1",
-        "hashgraph run --members members.toml --script script.txt --workers 16",
-    ] {
-        let ran = run(&rt, alloc, line, MEMBERS, SCRIPT, &[], ample(alloc)?)?;
-        expect(&rt, &ran, Status::Done, REPORT, "");
-    }
     Ok(())
 }
 
@@ -152,34 +166,18 @@ fn made_runs(rt: HostRuntime) -> Result<(), Fail> {
     Ok(())
 }
 
+const OF_NO_LINE: &str =
+    "node A events 0 forkers 0 round 0 closed 0 ordered 0\nbalance A 100\nbalance B 0\nnode B events 0 forkers 0 round 0 closed 0 ordered 0\nbalance A 100\nbalance B 0\n";
+
+const OF_A_BARE_PEER: &str =
+    "1 create made 0\n2 sync taken 0 refused 0 made none peer-bare\nnode A events 1 forkers 0 round 1 closed 0 ordered 0\nbalance A 100\nbalance B 0\nnode B events 0 forkers 0 round 0 closed 0 ordered 0\nbalance A 100\nbalance B 0\n";
+
 #[test]
 fn empty_script_and_bare_peer(rt: HostRuntime) -> Result<(), Fail> {
     let alloc = rt.alloc();
-    let ran = run(&rt, alloc, RUN, MEMBERS, "", &[], ample(alloc)?)?;
-    expect(
-        &rt,
-        &ran,
-        Status::Done,
-        "node A events 0 forkers 0 round 0 closed 0 ordered 0\nbalance A 100\nbalance B 0\nnode B events 0 forkers 0 round 0 closed 0 ordered 0\nbalance A 100\nbalance B 0\n",
-        "",
-    );
-    let ran = run(
-        &rt,
-        alloc,
-        RUN,
-        MEMBERS,
-        "create A 1\nsync A B 2\n",
-        &[],
-        ample(alloc)?,
-    )?;
-    expect(
-        &rt,
-        &ran,
-        Status::Done,
-        "1 create made 0\n2 sync taken 0 refused 0 made none peer-bare\nnode A events 1 forkers 0 round 1 closed 0 ordered 0\nbalance A 100\nbalance B 0\nnode B events 0 forkers 0 round 0 closed 0 ordered 0\nbalance A 100\nbalance B 0\n",
-        "",
-    );
-    Ok(())
+    expect_report(&rt, alloc, RUN, MEMBERS, "", OF_NO_LINE)?;
+    let script = "create A 1\nsync A B 2\n";
+    expect_report(&rt, alloc, RUN, MEMBERS, script, OF_A_BARE_PEER)
 }
 
 /// With each of these calls of the shelf failing, the run ends at this file, and tells it so.
@@ -207,168 +205,79 @@ fn failing_reads(rt: HostRuntime) -> Result<(), Fail> {
     expect_read_fault(&rt, rt.alloc(), &[3, 4, 5], File::Script, script)
 }
 
+/// Where this call of a sink fails that takes one byte a call, the bytes before it are written, and the fault is told.
+fn expect_write_fault<R: Abort + Threads + Wait + Sync>(
+    rt: &R,
+    alloc: Global,
+    call: usize,
+) -> Result<(), Fail> {
+    let fails = vec![in alloc; call as u64]?;
+    let out = SinkMem::new(alloc, 65_536, 1, fails)?;
+    let ran = run(rt, alloc, RUN, MEMBERS, SCRIPT, &[], out)?;
+    assert!(rt; ran.status == Status::WriteFault);
+    assert!(rt; ran.out.bytes().len() == call);
+    assert!(rt; REPORT.as_bytes().starts_with(ran.out.bytes()));
+    assert!(rt; ran.err.bytes() == b"hashgraph: cannot write\n".as_slice());
+    Ok(())
+}
+
 #[test]
 fn failing_writes(rt: HostRuntime) -> Result<(), Fail> {
-    let alloc = rt.alloc();
-    for (call, _) in REPORT.as_bytes().iter().enumerate() {
-        let mut fails = Vec::new(alloc);
-        fails.push(call as u64)?;
-        let out = SinkMem::new(alloc, 65_536, 1, fails)?;
-        let ran = run(&rt, alloc, RUN, MEMBERS, SCRIPT, &[], out)?;
-        assert!(&rt; ran.status == Status::WriteFault);
-        assert!(&rt; ran.out.bytes() == &REPORT.as_bytes()[..call]);
-        assert!(&rt; ran.err.bytes() == b"hashgraph: cannot write\n".as_slice());
+    for call in 0..REPORT.len() {
+        expect_write_fault(&rt, rt.alloc(), call)?;
     }
+    Ok(())
+}
+
+/// The words of this line are none of a command, which is told.
+fn expect_usage<R: Abort + Threads + Wait + Sync>(
+    rt: &R,
+    alloc: Global,
+    line: &str,
+) -> Result<(), Fail> {
+    let ran = run(rt, alloc, line, MEMBERS, SCRIPT, &[], ample(alloc)?)?;
+    expect(rt, &ran, Status::Usage, "", USAGE);
     Ok(())
 }
 
 #[test]
 fn faulty_words(rt: HostRuntime) -> Result<(), Fail> {
-    let alloc = rt.alloc();
     for line in [
         "hashgraph",
         "hashgraph run --members -m --script script.txt",
         "hashgraph run --members members.toml --script script.txt --workers 17",
         "hashgraph make --members 1 --lines 0 --seed 7",
     ] {
-        let ran = run(&rt, alloc, line, MEMBERS, SCRIPT, &[], ample(alloc)?)?;
-        expect(&rt, &ran, Status::Usage, "", USAGE);
+        expect_usage(&rt, rt.alloc(), line)?;
     }
+    Ok(())
+}
+
+/// The run without words ends so, and tells this line.
+fn expect_no_words(
+    rt: &impl Abort,
+    alloc: Global,
+    why: NoWords,
+    status: Status,
+    code: u8,
+    line: &str,
+) -> Result<(), Fail> {
+    let mut err = ample(alloc)?;
+    assert!(rt; without_words(why, &mut err) == status);
+    assert!(rt; status.code() == code);
+    assert!(rt; err.bytes() == line.as_bytes());
     Ok(())
 }
 
 #[test]
 fn words_that_could_not_be_read(rt: HostRuntime) -> Result<(), Fail> {
     let alloc = rt.alloc();
-    for (why, status, code, line) in [
-        (NoWords::NotText, Status::Usage, 2, USAGE),
-        (
-            NoWords::Memory,
-            Status::Memory,
-            6,
-            "hashgraph: out of memory\n",
-        ),
-    ] {
-        let mut err = ample(alloc)?;
-        assert!(&rt; without_words(why, &mut err) == status);
-        assert_eq!(rt; status.code(), code);
-        assert!(&rt; err.bytes() == line.as_bytes());
-    }
-    Ok(())
+    expect_no_words(&rt, alloc, NoWords::NotText, Status::Usage, 2, USAGE)?;
+    let line = "hashgraph: out of memory\n";
+    expect_no_words(&rt, alloc, NoWords::Memory, Status::Memory, 6, line)
 }
 
-/// The run over these files ends so, and tells this line.
-fn expect_refusal<R: Abort + Threads + Wait + Sync>(
-    rt: &R,
-    alloc: Global,
-    members: &str,
-    script: &str,
-    status: Status,
-    err: &str,
-) -> Result<(), Fail> {
-    let out = ample(alloc)?;
-    let ran = run(rt, alloc, RUN, members, script, &[], out)?;
-    expect(rt, &ran, status, "", err);
-    Ok(())
-}
-
-#[test]
-fn refused_member_files(rt: HostRuntime) -> Result<(), Fail> {
-    let one = "[[member]]\nname = \"A\"\nsecret = \"0b\"\n";
-    for (file, fault, err) in [
-        (one, MemberFault::Count(1), "hashgraph: members: count 1\n"),
-        (
-            "coin = -9223372036854775808\n",
-            MemberFault::BadCoin(i64::MIN),
-            "hashgraph: members: coin -9223372036854775808\n",
-        ),
-        (
-            "coin = 2\n",
-            MemberFault::BadCoin(2),
-            "hashgraph: members: coin 2\n",
-        ),
-        (
-            "member = [1, 2]\n",
-            MemberFault::BadName(0),
-            "hashgraph: members: name 0\n",
-        ),
-        (
-            "coin\n",
-            MemberFault::NotToml,
-            "hashgraph: members: not-toml\n",
-        ),
-        (
-            "[[member]]\nname = \"A\"\nsecret = \"0b\"\n[[member]]\nname = \"B\"\nsecret = \"0c\"\nstake = 0\n",
-            MemberFault::BadStake(1),
-            "hashgraph: members: stake 1\n",
-        ),
-    ] {
-        let status = Status::Members(Refusal::Fault(fault));
-        expect_refusal(&rt, rt.alloc(), file, SCRIPT, status, err)?;
-    }
-    Ok(())
-}
-
-#[test]
-fn refused_scripts(rt: HostRuntime) -> Result<(), Fail> {
-    for (script, line, why, err) in [
-        (
-            "sync A B 1\n",
-            1,
-            Why::First,
-            "hashgraph: script line 1: first\n",
-        ),
-        (
-            "# first\n\ncreate A 1\ncreate A 2\n",
-            4,
-            Why::NotFirst,
-            "hashgraph: script line 4: not-first\n",
-        ),
-        (
-            "create A 1\ncreate C x\n",
-            2,
-            Why::Member,
-            "hashgraph: script line 2: member\n",
-        ),
-    ] {
-        let status = Status::Script(Refusal::Fault(ScriptFault { line, why }));
-        expect_refusal(&rt, rt.alloc(), MEMBERS, script, status, err)?;
-    }
-    let alloc = rt.alloc();
-    let line = "hashgraph run --members members.toml --script script.txt --workers 1";
-    let script = "create A 1\nkept A\n";
-    let ran = run(&rt, alloc, line, MEMBERS, script, &[], ample(alloc)?)?;
-    let why = Why::Workers;
-    let status = Status::Script(Refusal::Fault(ScriptFault { line: 2, why }));
-    expect(&rt, &ran, status, "", "hashgraph: script line 2: workers\n");
-    Ok(())
-}
-
-// A file of just so many bytes is read; one more is too many.
-#[test]
-fn long_files(rt: HostRuntime) -> Result<(), Fail> {
-    let alloc = rt.alloc();
-    let mut long = String::from_str(alloc, MEMBERS)?;
-    for _ in MEMBERS.len()..1_048_576 {
-        long.push('\n')?;
-    }
-    let out = ample(alloc)?;
-    let ran = run(&rt, alloc, RUN, long.as_str(), SCRIPT, &[], out)?;
-    expect(&rt, &ran, Status::Done, REPORT, "");
-    long.push('\n')?;
-    let status = Status::Members(Refusal::TooLong);
-    let err = "hashgraph: members: too-long\n";
-    expect_refusal(&rt, rt.alloc(), long.as_str(), SCRIPT, status, err)?;
-    let mut script = String::from_str(alloc, SCRIPT)?;
-    for _ in SCRIPT.len()..16_777_217 {
-        script.push('\n')?;
-    }
-    let status = Status::Script(Refusal::TooLong);
-    let err = "hashgraph: script: too-long\n";
-    expect_refusal(&rt, rt.alloc(), MEMBERS, script.as_str(), status, err)
-}
-
-const FOUR: &str =
+pub(crate) const FOUR: &str =
     "coin = 10\n[[member]]\nname = \"A\"\nsecret = \"0b0b0b0b\"\n[[member]]\nname = \"B\"\nsecret = \"0c0c0c0c\"\n[[member]]\nname = \"C\"\nsecret = \"0d0d0d0d\"\n[[member]]\nname = \"D\"\nsecret = \"0e0e0e0e\"\n";
 
 // A makes an event on those of B and C. Cut, it comes to B, and whole to D before its parents do and again after each.
@@ -381,22 +290,5 @@ const SEVERAL_REPORT: &str =
 
 #[test]
 fn several_other_parents(rt: HostRuntime) -> Result<(), Fail> {
-    let alloc = rt.alloc();
-    let ran = run(&rt, alloc, RUN, FOUR, SEVERAL, &[], ample(alloc)?)?;
-    expect(&rt, &ran, Status::Done, SEVERAL_REPORT, "");
-    for script in [
-        "raw a 00\nforge b A a a,a,a,a,a 1\n",
-        "raw a 00\nforge b A a a,,a 1\n",
-        "raw a 00\nforge b A a -,a 1\n",
-        "raw a 00\nforge b A a a,- 1\n",
-    ] {
-        let fault = ScriptFault {
-            line: 2,
-            why: Why::Label,
-        };
-        let status = Status::Script(Refusal::Fault(fault));
-        let err = "hashgraph: script line 2: label\n";
-        expect_refusal(&rt, alloc, FOUR, script, status, err)?;
-    }
-    Ok(())
+    expect_report(&rt, rt.alloc(), RUN, FOUR, SEVERAL, SEVERAL_REPORT)
 }

@@ -1,5 +1,6 @@
 use hg_command::{Request, read_words};
 use std::alloc::Global;
+use std::process::Abort;
 use std::test::Fail;
 
 /// The program's name, and the words between the bars.
@@ -12,79 +13,87 @@ fn words_of(alloc: Global, line: &str) -> Result<Vec<String>, Fail> {
 }
 
 // The command lines of runs of an implementation in another language, which takes the first ones and refuses the others.
+const TAKEN: [&str; 12] = [
+    "run|--members|members.toml|--script|script.txt",
+    "run|--script|script.txt|--members|members.toml",
+    "run|--members|none|--script|script.txt",
+    "run|--members|members.toml|--script|none",
+    "run|--members|none|--script|none",
+    "run|--members||--script|script.txt",
+    "run|--members=|--script=script.txt",
+    "run|--members|-|--script|script.txt",
+    "run|--members|members.toml|--script|script.txt|--workers|16",
+    "make|--members|2|--lines|0|--seed|0",
+    "make|--members|128|--lines|1000000|--seed|18446744073709551615",
+    "make|--seed|+7|--lines|003|--members=2",
+];
+
+const REFUSED: [&str; 43] = [
+    "run",
+    "run|--members|members.toml",
+    "run|--members|members.toml|--script|script.txt|more",
+    "run|--members|-x|--script|script.txt",
+    "--help",
+    "run|--script|script.txt",
+    "run|--script",
+    "run|members.toml|script.txt",
+    "run|help",
+    "run|--members|members.toml|--script|script.txt|--workers|17",
+    "run|--members|members.toml|--script|script.txt|--workers|-1",
+    "run|--members|members.toml|--script|script.txt|--workers=-1",
+    "run|--members|members.toml|--script|script.txt|--workers|x",
+    "run|--members|members.toml|--script|script.txt|--workers|1.0",
+    "run|--members|members.toml|--script|script.txt|--workers",
+    "run|--members|members.toml|--script|script.txt|--workers|1|--workers|1",
+    "run|--members|members.toml|--script|script.txt|--help",
+    "run|--members|members.toml|--script|script.txt|-h",
+    "run|--members|members.toml|--script|script.txt|extra",
+    "run|--members|members.toml|--script|script.txt|--seed|1",
+    "run|--members|members.toml|--script|script.txt|-w|1",
+    "run|--members|members.toml|--script|script.txt|--worker|1",
+    "run|--members|members.toml|--script|script.txt|--workers=",
+    "run|--members|members.toml|--script|script.txt|--members|members.toml",
+    "run|--members|members.toml|--script|script.txt|--script=script.txt",
+    "run|--members|members.toml|--script|script.txt|--workers|99999999999999999999999",
+    "run|--members|members.toml|--script|script.txt|--|extra",
+    "run|--members|-m|--script|script.txt",
+    "run|--members|--script|--script|script.txt",
+    "run|--members|--|x|--script|script.txt",
+    "run|run|--members|members.toml|--script|script.txt",
+    "run|--member|members.toml|--script|script.txt",
+    "run|--MEMBERS|members.toml|--script|script.txt",
+    "run|-members|members.toml|--script|script.txt",
+    "make",
+    "make|--members|1|--lines|0|--seed|7",
+    "make|--members|129|--lines|0|--seed|7",
+    "make|--members|2|--lines|1000001|--seed|7",
+    "make|--members|2|--lines|0|--seed|18446744073709551616",
+    "make|--members|2|--lines|0|--seed|-1",
+    "make|--members|2|--lines|0",
+    "make|--members|2|--lines|0|--seed|7|--workers|17",
+    "make|--members|members.toml|--script|script.txt",
+];
+
+/// Whether the words of this line ask for something is as it must be.
+fn expect_taken(rt: &impl Abort, alloc: Global, line: &str, taken: bool) -> Result<(), Fail> {
+    let words = words_of(alloc, line)?;
+    let request = read_words(alloc, words.as_slice())?;
+    assert!(rt; request.is_some() == taken, "{line}");
+    Ok(())
+}
+
 #[test]
 fn lines_are_taken(rt: HostRuntime) -> Result<(), Fail> {
-    for line in [
-        "run|--members|members.toml|--script|script.txt",
-        "run|--script|script.txt|--members|members.toml",
-        "run|--members|none|--script|script.txt",
-        "run|--members|members.toml|--script|none",
-        "run|--members|none|--script|none",
-        "run|--members||--script|script.txt",
-        "run|--members=|--script=script.txt",
-        "run|--members|-|--script|script.txt",
-        "run|--members|members.toml|--script|script.txt|--workers|16",
-        "make|--members|2|--lines|0|--seed|0",
-        "make|--members|128|--lines|1000000|--seed|18446744073709551615",
-        "make|--seed|+7|--lines|003|--members=2",
-    ] {
-        let words = words_of(rt.alloc(), line)?;
-        let request = read_words(rt.alloc(), words.as_slice())?;
-        assert!(rt; request.is_some(), "{line}");
+    for line in TAKEN {
+        expect_taken(&rt, rt.alloc(), line, true)?;
     }
     Ok(())
 }
 
 #[test]
 fn lines_are_refused(rt: HostRuntime) -> Result<(), Fail> {
-    for line in [
-        "run",
-        "run|--members|members.toml",
-        "run|--members|members.toml|--script|script.txt|more",
-        "run|--members|-x|--script|script.txt",
-        "--help",
-        "run|--script|script.txt",
-        "run|--script",
-        "run|members.toml|script.txt",
-        "run|help",
-        "run|--members|members.toml|--script|script.txt|--workers|17",
-        "run|--members|members.toml|--script|script.txt|--workers|-1",
-        "run|--members|members.toml|--script|script.txt|--workers=-1",
-        "run|--members|members.toml|--script|script.txt|--workers|x",
-        "run|--members|members.toml|--script|script.txt|--workers|1.0",
-        "run|--members|members.toml|--script|script.txt|--workers",
-        "run|--members|members.toml|--script|script.txt|--workers|1|--workers|1",
-        "run|--members|members.toml|--script|script.txt|--help",
-        "run|--members|members.toml|--script|script.txt|-h",
-        "run|--members|members.toml|--script|script.txt|extra",
-        "run|--members|members.toml|--script|script.txt|--seed|1",
-        "run|--members|members.toml|--script|script.txt|-w|1",
-        "run|--members|members.toml|--script|script.txt|--worker|1",
-        "run|--members|members.toml|--script|script.txt|--workers=",
-        "run|--members|members.toml|--script|script.txt|--members|members.toml",
-        "run|--members|members.toml|--script|script.txt|--script=script.txt",
-        "run|--members|members.toml|--script|script.txt|--workers|99999999999999999999999",
-        "run|--members|members.toml|--script|script.txt|--|extra",
-        "run|--members|-m|--script|script.txt",
-        "run|--members|--script|--script|script.txt",
-        "run|--members|--|x|--script|script.txt",
-        "run|run|--members|members.toml|--script|script.txt",
-        "run|--member|members.toml|--script|script.txt",
-        "run|--MEMBERS|members.toml|--script|script.txt",
-        "run|-members|members.toml|--script|script.txt",
-        "make",
-        "make|--members|1|--lines|0|--seed|7",
-        "make|--members|129|--lines|0|--seed|7",
-        "make|--members|2|--lines|1000001|--seed|7",
-        "make|--members|2|--lines|0|--seed|18446744073709551616",
-        "make|--members|2|--lines|0|--seed|-1",
-        "make|--members|2|--lines|0",
-        "make|--members|2|--lines|0|--seed|7|--workers|17",
-        "make|--members|members.toml|--script|script.txt",
-    ] {
-        let words = words_of(rt.alloc(), line)?;
-        let request = read_words(rt.alloc(), words.as_slice())?;
-        assert!(rt; request.is_none(), "{line}");
+    for line in REFUSED {
+        expect_taken(&rt, rt.alloc(), line, false)?;
     }
     Ok(())
 }
