@@ -13,6 +13,9 @@ returns-clause-value c =
     omega (arith, c.behind.ensures.value, told, c.max.ensures, c.saturating_sub-missing.ensures, ap length c.as_slice-pending.ensures.value) in
     is ∙ ap wanted c.self.view_is
 
+pub returns-clause-some : goal.returns-clause-some
+returns-clause-some c = omega (arith, c.max.ensures)
+
 pub returns-clause-least : goal.returns-clause-least
 returns-clause-least c = λ more rest m fit e.
     let h = c.self.inside.hearing in
