@@ -69,14 +69,15 @@ fn push_event(bytes: &mut Vec<u8>, time: u8) -> Result<(), Fail> {
     Ok(())
 }
 
-/// ROWS of two events, of 81 bytes and of 180, with the name of a last own row: 319 bytes. The first event is at 9, the
-/// second at 90, the flag at 270.
+/// ROWS of two events, of 81 bytes and of 228, with the name of a last own row: 367 bytes. The first event is at 9, the
+/// second, on two other-parents, at 90, the flag at 318.
 fn rows_of_two(alloc: Global) -> Result<Vec<u8>, Fail> {
     let mut bytes = Vec::from_slice(alloc, b"HGW1\x02\x00\x00\x00\x02")?;
     push_event(&mut bytes, 1)?;
-    bytes.extend_from_slice(b"HGE1\x00\x00\x01")?;
+    bytes.extend_from_slice(b"HGE2\x00\x00\x02")?;
     bytes.extend_from_slice(&[0xa1; 48])?;
     bytes.extend_from_slice(&[0xa2; 48])?;
+    bytes.extend_from_slice(&[0xa4; 48])?;
     bytes.extend_from_slice(b"\x00\x00\x00\x00\x00\x00\x00\x02\x00\x03pay")?;
     bytes.extend_from_slice(&[7; 64])?;
     bytes.push(1)?;
@@ -135,7 +136,7 @@ fn row(place: usize, fault: ByteFault) -> Heard {
     Heard::Wrong(WireFault::Row(place, fault))
 }
 
-/// The same of ROWS. A payload that is said to have some 250 bytes more takes all that follow.
+/// The same of ROWS. A payload that is said to have some 250 bytes takes what follows.
 fn rows_turned(at: usize) -> (Heard, usize) {
     match at {
         0..=3 => (Heard::Wrong(WireFault::Magic(at)), at + 1),
@@ -143,17 +144,18 @@ fn rows_turned(at: usize) -> (Heard, usize) {
         5 => (Heard::Wrong(WireFault::Count(0xff00_0002)), 9),
         6 => (Heard::Wrong(WireFault::Count(0x00ff_0002)), 9),
         // There are more rows to come, and the flag begins none.
-        7 | 8 => (row(2, ByteFault::BadMagic), 271),
+        7 | 8 => (row(2, ByteFault::BadMagic), 319),
         9..=12 => (row(0, ByteFault::BadMagic), at + 1),
         15 => (row(0, ByteFault::BadKind(255)), 16),
         24 => (row(0, ByteFault::BadLength(0xff00)), 26),
-        25 => (Heard::More, 319),
+        // The payload ends in the last name, where no event begins.
+        25 => (row(1, ByteFault::BadMagic), 346),
         90..=93 => (row(1, ByteFault::BadMagic), at + 1),
-        96 => (row(1, ByteFault::BadKind(254)), 97),
-        201 => (row(1, ByteFault::BadLength(0xff03)), 203),
-        202 => (Heard::More, 319),
-        270 => (Heard::Wrong(WireFault::Flag(254)), 271),
-        _ => (Heard::Rows(2, true), 319),
+        96 => (row(1, ByteFault::BadKind(253)), 97),
+        249 => (row(1, ByteFault::BadLength(0xff03)), 251),
+        250 => (Heard::More, 367),
+        318 => (Heard::Wrong(WireFault::Flag(254)), 319),
+        _ => (Heard::Rows(2, true), 367),
     }
 }
 
@@ -197,7 +199,7 @@ fn each_byte_turned_over(rt: HostRuntime) -> Result<(), Fail> {
             have_turned(at),
         )?;
     }
-    for at in 0..319 {
+    for at in 0..367 {
         let mut rows = rows_of_two(alloc)?;
         hears_turned(
             &rt,
@@ -253,6 +255,16 @@ fn heard_in_pieces(
     Ok(made_of(&fed))
 }
 
+/// What is heard of so many first bytes of ROWS, one by one.
+fn heard_one_by_one(alloc: Global, bytes: &[u8], len: usize) -> Result<Heard, Fail> {
+    let mut pieces = Vec::new(alloc);
+    for byte in bytes.iter().take(len) {
+        pieces.push(Vec::from_slice(alloc, &[*byte])?)?;
+    }
+    let fed = hear_all(alloc, Want::Rows, pieces.as_slice())?;
+    Ok(made_of(&fed))
+}
+
 /// In each cut of two pieces this is heard.
 fn hears_in_two(
     rt: &impl Abort,
@@ -301,13 +313,12 @@ fn hears_a_message_however_it_is_cut(rt: HostRuntime) -> Result<(), Fail> {
     equal(&rt, 0, rows.len(), 235);
     waits_to_the_end(&rt, alloc, Want::Rows, rows.as_slice(), wanted)?;
     hears_in_two(&rt, alloc, Want::Rows, rows.as_slice(), wanted)?;
-    // One byte at a time, and with one more behind.
-    let mut ones = Vec::new(alloc);
-    for _ in 0..235 {
-        ones.push(1)?;
+    for len in 0..235 {
+        let found = heard_one_by_one(alloc, rows.as_slice(), len)?;
+        equal(&rt, len, found, Heard::More);
     }
-    let found = heard_in_pieces(alloc, Want::Rows, rows.as_slice(), ones.as_slice())?;
-    equal(&rt, 1, found, wanted);
+    let found = heard_one_by_one(alloc, rows.as_slice(), 235)?;
+    equal(&rt, 235, found, wanted);
     hears_in_many(&rt, alloc, rows.as_slice(), 1000, 9, wanted)
 }
 

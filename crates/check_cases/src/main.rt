@@ -43,7 +43,7 @@ use std::sync::Wait;
 use std::thread::Threads;
 
 /// The packed cases, which lie where the program runs.
-const PACKS: [&str; 10] = [
+const PACKS: [&str; 11] = [
     "base.cases",
     "first-path.cases",
     "further.cases",
@@ -53,6 +53,7 @@ const PACKS: [&str; 10] = [
     "stage-a.cases",
     "stake.cases",
     "transfers.cases",
+    "wire.cases",
     "workers.cases",
 ];
 

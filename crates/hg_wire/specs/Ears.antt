@@ -1,5 +1,5 @@
 -- What an ear stands for: what it makes of the bytes to come
-use Rattle.std.specs.Prelude.{◌≡◌, ◌⊎◌, ◌≤◌, ◌<◌, ◌-◌, ℕ, true, List, [], ◌++◌, length, drop, ⊤}
+use Rattle.std.specs.Prelude.{◌≡◌, ◌⊎◌, ◌≤◌, ◌<◌, ◌+◌, ◌-◌, ℕ, max, true, List, [], ◌++◌, length, drop, ⊤}
 use Rattle.hg_wire.specs.declared.message.Want.{Want}
 use Rattle.hg_wire.specs.declared.message.Message.{Message}
 use Rattle.hg_wire.specs.declared.message.Fed.{Fed}
@@ -13,6 +13,7 @@ use Rattle.hg_wire.specs.declared.hearing.Hearing.{Hearing}
 use Rattle.hg_wire.specs.Outcome.{Outcome, Unfinished, Faulty, Finished, Reader}
 use Rattle.hg_wire.specs.Reading.{read}
 use Rattle.hg_wire.specs.Progress.{State, Into, Done, field, is_open, rest_of}
+use Rattle.hg_wire.specs.Sizes.{behind, least_of}
 use Rattle.hg_wire.specs.Views.{state_of}
 
 -- what an ear keeps: the place in the message, and the bytes of the field there
@@ -52,6 +53,11 @@ abbrev pub WaitsIfMore : Place → Fed → Type 0
 WaitsIfMore ear More = means ear [] ≡ Unfinished
 WaitsIfMore ear (Whole m used) = ⊤
 WaitsIfMore ear (Refused fault) = ⊤
+
+-- how many bytes an ear wants: those that the field at its place lacks, as far as the first ones tell how many it has, or one;
+-- and the fewest that stand behind it
+abbrev pub wanted : Place → ℕ
+wanted ear = max (least_of ear.state.stage ear.pending - length ear.pending) 1 + behind ear.state.stage
 
 -- ---- from within
 

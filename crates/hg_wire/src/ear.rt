@@ -2,7 +2,7 @@ ghost use Rattle.std.specs.Prelude.{◌≡◌, ◌+◌, ◌<◌, ◌≤◌, ℕ,
 ghost use Rattle.hg_wire.specs.declared.message.Message.{Message};
 ghost use Rattle.hg_wire.specs.Outcome.{Unfinished, Finished};
 ghost use Rattle.hg_wire.specs.Grammar.{AreBytes};
-ghost use Rattle.hg_wire.specs.Ears.{Answers, GoesOn, HasHeard, IsOn, WaitsIfMore, means};
+ghost use Rattle.hg_wire.specs.Ears.{Answers, GoesOn, HasHeard, IsOn, WaitsIfMore, means, wanted};
 
 use crate::hearing::{Hearing, are_bytes, hear};
 use crate::message::{Fed, Want};
@@ -69,9 +69,11 @@ impl Ear {
         }
     }
 
-    /// So many bytes of the message are still to come at least, where those so far hold no fault and no whole message.
+    /// So many bytes of the message are still to come at least, where those so far hold no fault and no whole message: what
+    /// the field lacks of which the last ones are, as far as these tell how long it is, and the fewest behind it.
     pub fn wants(&self) -> usize
         requires { means self.now [] ≡ Unfinished }
+        ensures value { result ≡ wanted self.now }
         ensures some { 0 < result }
         ensures least { (more rest : List ℕ) (m : Message) → AreBytes more
             → means self.now more ≡ Finished m rest → result + length rest ≤ length more }

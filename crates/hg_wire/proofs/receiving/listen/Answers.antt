@@ -15,6 +15,9 @@ returns-then-count-eq0-clause-received g c =
     let r = ended (means c.args.ear.now) (means c.pieces.ear) _ _ _ c.pieces.at c.in-Ok.count c.read.new.buf c.pieces.invariant.so_far c.in-Ok.ensures.next c.if-count-eq0.true c.pieces.invariant.waits in
     (r.0, r.1, c.in-Ok.ensures.end c.if-count-eq0.true)
 
+pub returns-then-count-eq0-clause-cause : goal.returns-then-count-eq0-clause-cause
+returns-then-count-eq0-clause-cause g c = λ e. absurd cc
+
 pub overflow_add-at : goal.overflow_add-at
 overflow_add-at g c =
     let short = receiving_short c.requires.0 c.args.ear.now (means c.pieces.ear) _ _ c.pieces.at c.requires.1 c.pieces.invariant.so_far c.pieces.invariant.waits in

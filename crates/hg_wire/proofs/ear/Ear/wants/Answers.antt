@@ -1,9 +1,20 @@
-use Rattle.std.proofs.Common.{[], arith, ap, subst, ℕ, List, length, ◌∙◌}
+use Rattle.std.proofs.Common.{[], arith, ap, subst, ℕ, List, length, ◌≡◌, ◌+◌, ◌∙◌}
 use Rattle.hg_wire.specs.Grammar.{AreBytes}
 use Rattle.hg_wire.specs.Sizes.{least_of}
-use Rattle.hg_wire.specs.Ears.{Place, means}
+use Rattle.hg_wire.specs.Ears.{Place, means, place_of, wanted}
 use Rattle.hg_wire.proofs.Settled.{needs, unfinished_waits}
 use Rattle.hg_wire.proofs.ear.Ear.wants.Goals as goal
+
+pub returns-clause-value : goal.returns-clause-value
+returns-clause-value c =
+    let h = c.self.inside.hearing in
+    let told = c.least_of.ensures.value ∙ ap (least_of h.progress.stage) c.as_slice-pending.ensures.value in
+    let is : c.max.result + c.behind.result ≡ wanted (place_of h) =
+    omega (arith, c.behind.ensures.value, told, c.max.ensures, c.saturating_sub-missing.ensures, ap length c.as_slice-pending.ensures.value) in
+    is ∙ ap wanted c.self.view_is
+
+pub returns-clause-some : goal.returns-clause-some
+returns-clause-some c = omega (arith, c.max.ensures)
 
 pub returns-clause-least : goal.returns-clause-least
 returns-clause-least c = λ more rest m fit e.
