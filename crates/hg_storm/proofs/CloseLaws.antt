@@ -145,11 +145,11 @@ gathered me i mails olds ports news a inbox c g full inside a_is c_is =
 -- ---- what came back with them
 
 -- a sender's port brings back what was put through it, one part, and where its mailbox was full, that so many were counted
-record Brings (me : ℕ) (put : List Message) (full : ℕ) (m : MailboxView) (q : PortView) : Type 0 where
+record Brings (me : ℕ) (put : List Message) (often : ℕ) (m : MailboxView) (q : PortView) : Type 0 where
   pub view : q.view ≡ sender_view me put
   pub parts : q.count.parts ≡ 1
   pub mine : q.count.mine ≡ length put
-  pub full : 0 < full → m.room ≤ q.count.seen
+  pub full : 0 < often → m.room ≤ q.count.seen
 
 has_left : (s : Sender) (xs ys : List Sender) → HasSender s xs → HasSender s (xs ++ ys)
 has_left s [] ys has = absurd has
@@ -337,7 +337,7 @@ pub record Emptying {Z : Type 0} (i : ℕ) (olds news : List PortView) (left : L
   pub each : (k : ℕ) (q : PortView) (l : Vec Message Z) → k < i → Empties (get_or olds k q) (get_or left k l).items
 
 module _ {Z : Type 0} where
-  pub emptying_none : (olds : List PortView) → Emptying {Z} 0 olds olds []
+  pub emptying_none : (olds : List PortView) → Emptying {Z = Z} 0 olds olds []
   emptying_none olds = record { count = refl; left_count = refl; still = λ k q _. refl; each = λ k q l none. absurd (omega arith) }
 
   -- the port that is read next is as it was
