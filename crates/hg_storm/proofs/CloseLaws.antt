@@ -18,7 +18,7 @@ use Rattle.hg_mail.specs.Mailboxes.{IsPortOf, MailboxView, PortView, joined}
 use Rattle.hg_board.specs.Seats.{IsOf, SharedNode, SeatView}
 use Rattle.hg_board.specs.Calls.{Absorbs}
 use Rattle.hg_crowd.specs.Workers.{AllAbsorb}
-use Rattle.hg_crowd.proofs.ListLaws.{get_last, push_at, set_at}
+use Rattle.hg_crowd.proofs.ListLaws.{push_at, set_at}
 use Rattle.hg_storm.specs.declared.plan.Plan.{Plan}
 use Rattle.hg_storm.specs.declared.sending.Dispatch.{Dispatch}
 use Rattle.hg_storm.specs.declared.desk.Log.{Log}
@@ -27,6 +27,7 @@ use Rattle.hg_storm.specs.Keeping.{Secrets}
 use Rattle.hg_storm.specs.Sending.{bytes_seen, messages_from}
 use Rattle.hg_storm.specs.Turning.{HasServed, HasServedAll, Stands}
 use Rattle.hg_storm.specs.Threads.{AreOpened, IsFirstPort, Pairs, away, no_dispatch}
+use Rattle.hg_storm.proofs.SendLaws.{drop_next, drop_some}
 use Rattle.hg_storm.specs.Joins.{AreAbsorbed, AreBack, AreEmptied, AreGathered, ArePortsOf, Empties, EmptyAll, HasSender, HasTurned, HaveTurned, IsBack, TakeOut, Tale, dispatch_to, due_back, put_by, put_to, tale_of}
 
 -- ---- lists
@@ -36,6 +37,12 @@ module _ {A : Type 0} where
   first_of : (Q : Type 0) (xs : List A) → 0 < length xs → ((x : A) → Q) → Q
   first_of Q [] some f = absurd (omega arith)
   first_of Q (x ∷ xs) some f = f x
+
+  pub drop_rest : (k : ℕ) (xs : List A) (x : A) (rest : List A) → drop k xs ≡ x ∷ rest → (k < length xs) × (rest ≡ drop (k + 1) xs)
+  drop_rest k xs x rest is = (drop_some k xs x rest is, sym (drop_next k xs x rest is))
+
+  pub drop_none : (k : ℕ) (xs rest : List A) → rest ≡ drop k xs → length rest ≡ 0 → length xs ≤ k
+  drop_none k xs rest is none = omega (arith, length-drop k xs, ap length is, none)
 
   -- the next element of a list of which so many are done
   pub next_at : (xs rest : List A) (x d : A) (k : ℕ) → drop k xs ≡ x ∷ rest → x ≡ get_or xs k d
@@ -95,6 +102,10 @@ module _ {Z : Type 0} where
   }
 
 -- ---- the ports of one member, one after the other
+
+-- a mailbox and its port that were read
+pub port_read : (mails : List MailboxView) (ports : List PortView) (k : ℕ) (m : MailboxView) (q : PortView) → ArePortsOf mails ports → k < length mails → m ≡ get_or mails k m → q ≡ get_or ports k q → IsPortOf m q
+port_read mails ports k m q of inside m_is q_is = subst (λ (x : MailboxView × PortView). IsPortOf x.0 x.1) (λ i. (sym m_is i, sym q_is i)) (of.each k m q inside)
 
 -- the first ones of its ports are taken into the first ports
 pub record Gathering (i : ℕ) (mails : List MailboxView) (olds ports news : List PortView) : Type 0 where
