@@ -5,7 +5,7 @@ use mathlib.Core.Logic.{dite}
 use native.Mathlib.Decide.{ℕ_discrete}
 use Rattle.std.specs.List.{AllByRecursion}
 use Rattle.std.proofs.lemmas.Bool.{le-leb, lt-leb, cases_lt}
-use Rattle.std.proofs.lemmas.List.{append-nil, drop_more, get_or-map, get_or-set_other, get_or-set_same, get_or_append_left, get_or_default, length-drop, length-map, length-set, length-take-le, length_push}
+use Rattle.std.proofs.lemmas.List.{append-nil, append_assoc, get_or-map, get_or-set_other, get_or-set_same, get_or_default, length-append, length-drop, length-map, length-set, length-take-le, length_push, nil_from_length}
 use Rattle.std.proofs.lemmas.List.Elements.{filter-append}
 use Rattle.hg_life.specs.Signing.{accepts_by}
 use Rattle.hg_mail.specs.declared.message.Message.{Message}
@@ -254,9 +254,6 @@ back_none tale mails masters opened = record {
       };
 }
 
-pub opened_ports : (n : ℕ) (mails : List MailboxView) (masters : List PortView) → AreOpened n mails masters → ArePortsOf mails masters
-opened_ports n mails masters opened = record { count = opened.count; each = λ k m q inside. (opened.each k m q inside).of }
-
 -- ---- what members bring back after their turns
 
 length-messages : (from place : ℕ) (rows : List (List ℕ)) → length (messages_from from place rows) ≡ length rows
@@ -284,11 +281,6 @@ module _ (plan : Plan) (mails : List MailboxView) (p : SharedNode Secrets) (i : 
 
   turned_view : (m : MailboxView) → j.desk.inbox.view ≡ receiver_view j.desk.log.intake.taken.items
   turned_view m = (turned.stands.inbox m).view
-
--- the job at hand
-pub job_turned : (mails : List MailboxView) (places : List (SharedNode Secrets)) (jobs : List Job) (i : ℕ) (p : SharedNode Secrets) (j : Job) → (h : HaveTurned mails places jobs) → i < length jobs →
-    p ≡ get_or places i p → j ≡ get_or jobs i j → HasTurned h.plan mails p i j
-job_turned mails places jobs i p j h inside p_is j_is = subst (λ (x : SharedNode Secrets × Job). HasTurned h.plan mails x.0 i x.1) (λ z. (sym p_is z, sym j_is z)) (h.each i p j inside)
 
 pub back_next : (mails : List MailboxView) (places : List (SharedNode Secrets)) (jobs : List Job) (i : ℕ) (j : Job) (olds news : List PortView) → HaveTurned mails places jobs → i < length jobs → j ≡ get_or jobs i j →
     AreGathered i mails olds j.desk.ports.items j.desk.inbox news → ((p : SharedNode Secrets) (d : Job) → AreBack (tale_of places jobs p d) (length mails) i mails olds) →
@@ -337,6 +329,67 @@ absorb_every places jobs i lasts all first =
               (λ z. (sym (get_or-map seat jobs k d s below) z, sym (get_or-map own jobs k d other below) z))
               (first.each k p d t (omega (arith, below, all))));
     }
+
+-- ---- one job after the other
+
+abbrev pub log_of : Job → Log
+log_of j = j.desk.log
+
+-- what came back of the jobs before these
+pub record Closing (mails : List MailboxView) (places : List (SharedNode Secrets)) (jobs rest : List Job) (masters : List PortView) (lasts : List (SeatView Secrets)) (told : List Log) : Type 0 where
+  pub of : ArePortsOf mails masters
+  pub back : (p : SharedNode Secrets) (d : Job) → AreBack (tale_of places jobs p d) (length mails) (length told) mails masters
+  pub seats : AbsorbFirst places jobs (length told) lasts
+  pub logs : told ++ map log_of rest ≡ map log_of jobs
+
+pub closing_none : (mails : List MailboxView) (places : List (SharedNode Secrets)) (jobs : List Job) (masters : List PortView) → AreOpened (length mails) mails masters → Closing mails places jobs jobs masters [] []
+closing_none mails places jobs masters opened = record {
+  of = record { count = opened.count; each = λ k m q inside. (opened.each k m q inside).of };
+  back = λ p d. back_none (tale_of places jobs p d) mails masters opened;
+  seats = absorb_none places jobs;
+  logs = refl;
+}
+
+-- the job at hand
+module _ (mails : List MailboxView) (places : List (SharedNode Secrets)) (jobs : List Job) (h : HaveTurned mails places jobs) (told : List Log) (me : ℕ) (job : Job) (later : List Job) (p : SharedNode Secrets)
+    (me_is : me ≡ length told) (next : drop (length told) jobs ≡ job ∷ later) (p_is : p ≡ get_or places me p) where
+  job_in : me < length jobs
+  job_in = omega (arith, drop_some (length told) jobs job later next, me_is)
+
+  job_at : (d : Job) → job ≡ get_or jobs me d
+  job_at d = next_at jobs later job d (length told) next ∙ ap (λ (z : ℕ). get_or jobs z d) (sym me_is)
+
+  pub job_turned : HasTurned h.plan mails p me job
+  job_turned = subst (λ (x : SharedNode Secrets × Job). HasTurned h.plan mails x.0 me x.1) (λ z. (sym p_is z, sym (job_at job) z)) (h.each me p job job_in)
+
+  -- its ports and its seats came back
+  pub closing_one : (masters news : List PortView) (lasts : List (SeatView Secrets)) (new : SeatView Secrets) → Closing mails places jobs (job ∷ later) masters lasts told →
+      AreGathered me mails masters job.desk.ports.items job.desk.inbox news → Absorbs accepts_by p job.seat job.desk.seat new →
+      Closing mails places jobs later news (lasts ++ new ∷ []) (told ++ job.desk.log ∷ [])
+  closing_one masters news lasts new c g absorbs =
+      let long : me + 1 ≡ length (told ++ job.desk.log ∷ []) = omega (arith, me_is, length_push told job.desk.log) in record {
+        of = g.of;
+        back = λ q d. subst (λ (z : ℕ). AreBack (tale_of places jobs q d) (length mails) z mails news) long
+            (back_next mails places jobs me job masters news h job_in (job_at job) g (λ r e. subst (λ (z : ℕ). AreBack (tale_of places jobs r e) (length mails) z mails masters) (sym me_is) (c.back r e)) q d);
+        seats = subst (λ (z : ℕ). AbsorbFirst places jobs z (lasts ++ new ∷ [])) long
+            (absorb_one places jobs me lasts p job new (subst (λ (z : ℕ). AbsorbFirst places jobs z lasts) (sym me_is) c.seats) job_in (omega (arith, job_in, h.jobs_count, h.places_count)) p_is (job_at job) absorbs);
+        logs = append_assoc told (job.desk.log ∷ []) (map log_of later) ∙ c.logs;
+      }
+
+module _ (mails : List MailboxView) (places : List (SharedNode Secrets)) (jobs rest : List Job) (h : HaveTurned mails places jobs) (masters : List PortView) (lasts : List (SeatView Secrets)) (told : List Log)
+    (none : length rest ≡ 0) (c : Closing mails places jobs rest masters lasts told) where
+  all_closed : length jobs ≡ length told
+  all_closed = omega (arith, ap length c.logs, length-append told (map log_of rest), length-map rest log_of, length-map jobs log_of, none)
+
+  pub closed : AreAbsorbed mails places jobs masters lasts told
+  closed = record {
+    back = λ p d. subst (λ (z : ℕ). AreBack (tale_of places jobs p d) (length mails) z mails masters) (sym all_closed ∙ h.jobs_count) (c.back p d);
+    seats = absorb_every places jobs (length told) lasts all_closed c.seats;
+    logs = sym (append-nil told) ∙ (ap (λ (js : List Job). told ++ map log_of js) (sym (nil_from_length rest none)) ∙ c.logs);
+  }
+
+  pub closed_take_out : TakeOut mails masters
+  closed_take_out = absorbed_take_out mails places jobs masters lasts told h.places_count h.jobs_count c.of closed
 
 -- ---- one mailbox after the other is emptied
 
