@@ -113,9 +113,6 @@ pub record Gathering (i : ℕ) (mails : List MailboxView) (olds ports news : Lis
   pub done : (k : ℕ) (q a b : PortView) → k < i → get_or news k q ≡ joined (get_or olds k a) (get_or ports k b)
   pub still : (k : ℕ) (q : PortView) → i ≤ k → get_or news k q ≡ get_or olds k q
 
-pub gathering_none : (mails : List MailboxView) (olds ports : List PortView) → ArePortsOf mails olds → Gathering 0 mails olds ports olds
-gathering_none mails olds ports of = record { of = of; done = λ k q a b none. absurd (omega arith); still = λ k q _. refl }
-
 -- a port of the same mailbox is changed
 ports_set : (mails : List MailboxView) (ports : List PortView) (i : ℕ) (new : PortView) → ArePortsOf mails ports → i < length mails → ((m : MailboxView) → IsPortOf (get_or mails i m) new) → ArePortsOf mails (set ports i new)
 ports_set mails ports i new of inside is = record {
@@ -401,11 +398,8 @@ pub record Emptying {Z : Type 0} (i : ℕ) (olds news : List PortView) (left : L
   pub each : (k : ℕ) (q : PortView) (l : Vec Message Z) → k < i → Empties (get_or olds k q) (get_or left k l).items
 
 module _ {Z : Type 0} where
-  pub emptying_none : (olds : List PortView) → Emptying {Z = Z} 0 olds olds []
-  emptying_none olds = record { count = refl; left_count = refl; still = λ k q _. refl; each = λ k q l none. absurd (omega arith) }
-
   -- the port that is read next is as it was
-  pub emptying_read : (i : ℕ) (olds news : List PortView) (left : List (Vec Message Z)) (q : PortView) → Emptying i olds news left → q ≡ get_or news i q → q ≡ get_or olds i q
+  emptying_read : (i : ℕ) (olds news : List PortView) (left : List (Vec Message Z)) (q : PortView) → Emptying i olds news left → q ≡ get_or news i q → q ≡ get_or olds i q
   emptying_read i olds news left q e is = is ∙ e.still i q (omega arith)
 
   pub emptying_one : (i : ℕ) (olds news : List PortView) (left : List (Vec Message Z)) (q r : PortView) (rest : Vec Message Z) → Emptying i olds news left → i < length olds →
@@ -419,12 +413,3 @@ module _ {Z : Type 0} where
           (subst (λ (x : PortView). Empties x rest.items) (emptying_read i olds news left q e is ∙ get_or_default olds i q d inside) empties))
         (λ z x z_in. e.each z d x (omega (arith, z_in, e.left_count))) k l (omega (arith, below, e.left_count));
   }
-
-  pub emptied_all : (i : ℕ) (olds news : List PortView) (left : List (Vec Message Z)) → i ≡ length olds → Emptying i olds news left → EmptyAll olds left
-  emptied_all i olds news left all e = record { count = e.left_count ∙ all; each = λ k q l inside. e.each k q l (omega (arith, all, inside)) }
-
-  -- the next mailbox may be emptied by its port
-  pub may_empty : (i : ℕ) (mails : List MailboxView) (olds news : List PortView) (left : List (Vec Message Z)) (m : MailboxView) (q : PortView) → TakeOut mails olds → Emptying i olds news left → i < length mails →
-      m ≡ get_or mails i m → q ≡ get_or news i q → IsPortOf m q × (q.view.takes ≡ true)
-  may_empty i mails olds news left m q out e inside m_is q_is =
-      subst (λ (x : MailboxView × PortView). IsPortOf x.0 x.1 × (x.1.view.takes ≡ true)) (λ z. (sym m_is z, sym (emptying_read i olds news left q e q_is) z)) (out.each i m q inside)
