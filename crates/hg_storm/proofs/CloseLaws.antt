@@ -1,6 +1,6 @@
 -- Ports that come back, and what the mailboxes have left
 use Rattle.std.specs.Prelude.{Vec}
-use Rattle.std.proofs.Common.{◌≡◌, ◌≢◌, ◌⊎◌, ⊎_elim, inl, inr, ℕ, zero, suc, ◌+◌, ◌<◌, ◌≤◌, Bool, true, false, cond, nat_eq, nat_le, List, [], ◌∷◌, ◌++◌, length, take, drop, map, get_or, set, refl, sym, ap, ◌∙◌, subst, add-one, arith}
+use Rattle.std.proofs.Common.{◌≡◌, ◌≢◌, ⊎_elim, inl, inr, ℕ, zero, suc, ◌+◌, ◌<◌, ◌≤◌, nat_eq, nat_le, List, [], ◌∷◌, ◌++◌, length, take, drop, map, get_or, set, refl, sym, ap, ◌∙◌, subst, add-one, arith}
 use mathlib.Core.Logic.{dite}
 use native.Mathlib.Decide.{ℕ_discrete}
 use Rattle.std.specs.List.{AllByRecursion}
@@ -15,7 +15,7 @@ use Rattle.hg_mail.specs.declared.view.CountView.{CountView}
 use Rattle.hg_mail.specs.Count.{all_parts, joined_count, one_part}
 use Rattle.hg_mail.specs.Messages.{joined_view, messages_of, receiver_view, sender, sender_view}
 use Rattle.hg_mail.specs.Mailboxes.{IsPortOf, MailboxView, PortView, joined}
-use Rattle.hg_board.specs.Seats.{IsOf, SharedNode, SeatView}
+use Rattle.hg_board.specs.Seats.{SharedNode, SeatView}
 use Rattle.hg_board.specs.Calls.{Absorbs}
 use Rattle.hg_crowd.specs.Workers.{AllAbsorb}
 use Rattle.hg_crowd.proofs.ListLaws.{push_at, set_at}
@@ -25,8 +25,8 @@ use Rattle.hg_storm.specs.declared.desk.Log.{Log}
 use Rattle.hg_storm.specs.declared.desk.Job.{Job}
 use Rattle.hg_storm.specs.Keeping.{Secrets}
 use Rattle.hg_storm.specs.Sending.{bytes_seen, messages_from}
-use Rattle.hg_storm.specs.Turning.{HasServed, HasServedAll, Stands}
-use Rattle.hg_storm.specs.Threads.{AreOpened, IsFirstPort, Pairs, away, no_dispatch}
+use Rattle.hg_storm.specs.Turning.{HasServed}
+use Rattle.hg_storm.specs.Threads.{AreOpened, away, no_dispatch}
 use Rattle.hg_storm.proofs.SendLaws.{drop_next, drop_some}
 use Rattle.hg_storm.specs.Joins.{AreAbsorbed, AreBack, AreEmptied, AreGathered, ArePortsOf, Empties, EmptyAll, HasSender, HasTurned, HaveTurned, IsBack, TakeOut, Tale, dispatch_to, due_back, put_by, put_to, tale_of}
 

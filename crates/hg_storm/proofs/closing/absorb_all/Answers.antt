@@ -1,7 +1,6 @@
-use Rattle.std.proofs.Common.{◌≡◌, ◌+◌, ℕ, List, [], ◌∷◌, ◌++◌, length, drop, sym, ap, ◌∙◌, subst, arith, rules}
+use Rattle.std.proofs.Common.{◌≡◌, ◌+◌, ℕ, List, length, drop, sym, ap, ◌∙◌, subst, arith, rules}
 use Rattle.std.proofs.lemmas.List.{length_push}
 use Rattle.hg_board.specs.Seats.{SeatView}
-use Rattle.hg_mail.specs.Mailboxes.{PortView}
 use Rattle.hg_storm.specs.declared.desk.Log.{Log}
 use Rattle.hg_storm.specs.declared.desk.Job.{Job}
 use Rattle.hg_storm.specs.Keeping.{Secrets}

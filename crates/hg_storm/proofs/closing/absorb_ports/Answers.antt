@@ -1,4 +1,4 @@
-use Rattle.std.proofs.Common.{◌≡◌, ◌<◌, List, ◌∷◌, length, drop, sym, ◌∙◌, arith}
+use Rattle.std.proofs.Common.{sym, ◌∙◌, arith}
 use Rattle.hg_storm.proofs.CloseLaws.{drop_none, drop_rest, gathered, gathering_one, next_at, port_read}
 use Rattle.hg_storm.proofs.closing.absorb_ports.Goals as goal
 

@@ -1,5 +1,5 @@
-use Rattle.std.proofs.Common.{◌<◌, List, Vec, length, sym, subst, arith}
-use Rattle.hg_storm.proofs.CloseLaws.{Emptying, emptying_one}
+use Rattle.std.proofs.Common.{◌<◌, length, arith}
+use Rattle.hg_storm.proofs.CloseLaws.{emptying_one}
 use Rattle.hg_storm.proofs.closing.empty_all.Goals as goal
 
 pub mailboxes-preserved : goal.mailboxes-preserved
