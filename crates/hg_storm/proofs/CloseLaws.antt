@@ -91,14 +91,14 @@ module _ {Z : Type 0} where
     mail = λ j k l j_in k_in.
         let Q : Type 0 = tale.put j k ≡ messages_of j (tale.taken k) ++ messages_of j (get_or left k l).items in
         first_of Q mails (omega (arith, k_in)) (λ m. first_of Q masters (omega (arith, k_in, back.count)) (λ q.
-            put_is tale n j k (get_or mails k m) (get_or masters k q) (get_or left k l).items j_in (omega (arith, k_in, few)) (back.each k m q k_in) (empty.each k q l (omega (arith, k_in, back.count)))));
+        put_is tale n j k (get_or mails k m) (get_or masters k q) (get_or left k l).items j_in (omega (arith, k_in, few)) (back.each k m q k_in) (empty.each k q l (omega (arith, k_in, back.count)))));
     full = λ j k m j_in k_in some.
         let Q : Type 0 = (get_or mails k m).room ≤ put_to tale n k in
         first_of Q masters (omega (arith, k_in, back.count)) (λ q.
-            let b = back.each k m q k_in in
-            first_of Q left (omega (arith, k_in, back.count, empty.count)) (λ l.
-                let seen = (empty.each k q l (omega (arith, k_in, back.count))).whole (back_parts tale n k (get_or mails k m) (get_or masters k q) (omega (arith, k_in, few)) b) in
-                omega (arith, b.full j j_in some, seen, b.mine)));
+        let b = back.each k m q k_in in
+        first_of Q left (omega (arith, k_in, back.count, empty.count)) (λ l.
+        let seen = (empty.each k q l (omega (arith, k_in, back.count))).whole (back_parts tale n k (get_or mails k m) (get_or masters k q) (omega (arith, k_in, few)) b) in
+        omega (arith, b.full j j_in some, seen, b.mine)));
   }
 
 -- ---- the ports of one member, one after the other
@@ -130,8 +130,8 @@ gathering_one i mails olds ports news a b c g inside ports_count olds_count a_is
     let here : i < length news = omega (arith, inside, g.of.count) in
     let now : (d e : PortView) → c ≡ joined (get_or olds i d) (get_or ports i e) = λ d e.
     c_is ∙ (λ z. joined
-      ((a_is ∙ (g.still i a (omega arith) ∙ get_or_default olds i a d (omega (arith, inside, olds_count)))) z)
-      ((b_is ∙ get_or_default ports i b e (omega (arith, inside, ports_count))) z)) in record {
+    ((a_is ∙ (g.still i a (omega arith) ∙ get_or_default olds i a d (omega (arith, inside, olds_count)))) z)
+    ((b_is ∙ get_or_default ports i b e (omega (arith, inside, ports_count))) z)) in record {
       of = ports_set mails news i c g.of inside (λ m. joined_of (get_or mails i m) a b c c_is (subst (IsPortOf (get_or mails i m)) (sym a_is) (g.of.each i m a inside)));
       done = λ k q d e below. dite (ℕ_discrete k i)
           (λ same.
@@ -175,8 +175,8 @@ module _ (tale : Tale) (n i k : ℕ) (m : MailboxView) (a b : PortView) (was : I
   senders_next : (j : ℕ) → j < i + 1 → HasSender (sender j (tale.put j k)) (a.view.senders ++ b.view.senders)
   senders_next j below = subst (λ (w : View). HasSender (sender j (tale.put j k)) (a.view.senders ++ w.senders)) (sym part.view)
       (dite (ℕ_discrete j i)
-        (λ e. subst (λ (z : ℕ). HasSender (sender z (tale.put z k)) (a.view.senders ++ sender i (tale.put i k) ∷ [])) (sym e) (has_end (sender i (tale.put i k)) a.view.senders))
-        (λ ne. has_left (sender j (tale.put j k)) a.view.senders (sender i (tale.put i k) ∷ []) (was.senders j (omega (arith, below, ne)))))
+      (λ e. subst (λ (z : ℕ). HasSender (sender z (tale.put z k)) (a.view.senders ++ sender i (tale.put i k) ∷ [])) (sym e) (has_end (sender i (tale.put i k)) a.view.senders))
+      (λ ne. has_left (sender j (tale.put j k)) a.view.senders (sender i (tale.put i k) ∷ []) (was.senders j (omega (arith, below, ne)))))
 
   -- so many were counted where its mailbox was full
   full_next : (seen : ℕ) → a.count.seen ≤ seen → b.count.seen ≤ seen → (j : ℕ) → j < i + 1 → 0 < tale.full j k → m.room ≤ seen
@@ -188,8 +188,8 @@ module _ (tale : Tale) (n i k : ℕ) (m : MailboxView) (a b : PortView) (was : I
   back_other : (c : PortView) → k ≢ i → c ≡ joined a b → IsBack tale n (i + 1) k m c
   back_other c ne is =
       let due : due_back (nat_le (i + 1) k) ≡ due_back (nat_le i k) = ap due_back (⊎_elim
-        (λ (lt : k < i). lt-leb (i + 1) k (omega (arith, lt)) ∙ sym (lt-leb i k lt))
-        (λ (le : i ≤ k). le-leb (i + 1) k (omega (arith, le, ne)) ∙ sym (le-leb i k le)) (cases_lt k i)) in
+      (λ (lt : k < i). lt-leb (i + 1) k (omega (arith, lt)) ∙ sym (lt-leb i k lt))
+      (λ (le : i ≤ k). le-leb (i + 1) k (omega (arith, le, ne)) ∙ sym (le-leb i k le)) (cases_lt k i)) in
       subst (IsBack tale n (i + 1) k m) (sym is) (record {
         of = was.of;
         takes = λ below. ap (λ (w : View). (joined_view a.view w).takes) part.view ∙ was.takes (omega (arith, below, ne));
@@ -229,7 +229,7 @@ back_one tale n i mails olds ports inbox news back g brings view count = record 
       let part = brings k m q inside in
       dite (ℕ_discrete k i)
       (λ e. back_own tale n i k (get_or mails k m) (get_or olds k q) (get_or ports k q) was part inbox (get_or news k q) e view count
-        (subst (λ (z : ℕ). get_or news z q ≡ joined (joined (get_or olds z q) (get_or ports z q)) inbox) (sym e) (g.own q q q)))
+      (subst (λ (z : ℕ). get_or news z q ≡ joined (joined (get_or olds z q) (get_or ports z q)) inbox) (sym e) (g.own q q q)))
       (λ ne. back_other tale n i k (get_or mails k m) (get_or olds k q) (get_or ports k q) was part (get_or news k q) ne (g.others k q q q inside ne));
 }
 
@@ -288,8 +288,8 @@ back_next mails places jobs i j olds news h inside j_is g back p d =
     let is : j ≡ there = j_is ∙ get_or_default jobs i j d inside in
     let gathered : AreGathered i mails olds there.desk.ports.items there.desk.inbox news = subst (λ (x : Job). AreGathered i mails olds x.desk.ports.items x.desk.inbox news) is g in
     first_of _ mails (omega (arith, inside, h.jobs_count)) (λ m.
-        back_one (tale_of places jobs p d) (length mails) i mails olds there.desk.ports.items there.desk.inbox news (back p d) gathered
-        (turned_brings h.plan mails (get_or places i p) i there t) (turned_view h.plan mails (get_or places i p) i there t m) t.stands.alone)
+    back_one (tale_of places jobs p d) (length mails) i mails olds there.desk.ports.items there.desk.inbox news (back p d) gathered
+    (turned_brings h.plan mails (get_or places i p) i there t) (turned_view h.plan mails (get_or places i p) i there t m) t.stands.alone)
 
 -- ---- the seats that come back
 
@@ -307,8 +307,8 @@ absorb_one places jobs i lasts p j new first inside place_in p_is j_is absorbs =
   count = omega (arith, length_push lasts new, first.count);
   each = λ k q d t below. push_at (λ (z : ℕ) (s : SeatView Secrets). Absorbs accepts_by (get_or places z q) (get_or jobs z d).seat (get_or jobs z d).desk.seat s) lasts new
       (subst (λ (z : ℕ). Absorbs accepts_by (get_or places z q) (get_or jobs z d).seat (get_or jobs z d).desk.seat new) (sym first.count)
-        (subst (λ (x : SharedNode Secrets × Job). Absorbs accepts_by x.0 x.1.seat x.1.desk.seat new)
-          (λ z. ((p_is ∙ get_or_default places i p q place_in) z, (j_is ∙ get_or_default jobs i j d inside) z)) absorbs))
+      (subst (λ (x : SharedNode Secrets × Job). Absorbs accepts_by x.0 x.1.seat x.1.desk.seat new)
+      (λ z. ((p_is ∙ get_or_default places i p q place_in) z, (j_is ∙ get_or_default jobs i j d inside) z)) absorbs))
       (λ z s z_in. first.each z q d s (omega (arith, z_in, first.count))) k t (omega (arith, below, first.count));
 }
 
@@ -322,9 +322,9 @@ absorb_every places jobs i lasts all first =
       each = λ k p s other t inside.
           let below : k < length jobs = omega (arith, inside, many) in
           first_of _ jobs (omega (arith, below)) (λ d.
-              subst (λ (x : SeatView Secrets × SeatView Secrets). Absorbs accepts_by (get_or places k p) x.0 x.1 (get_or lasts k t))
-              (λ z. (sym (get_or-map seat jobs k d s below) z, sym (get_or-map own jobs k d other below) z))
-              (first.each k p d t (omega (arith, below, all))));
+          subst (λ (x : SeatView Secrets × SeatView Secrets). Absorbs accepts_by (get_or places k p) x.0 x.1 (get_or lasts k t))
+          (λ z. (sym (get_or-map seat jobs k d s below) z, sym (get_or-map own jobs k d other below) z))
+          (first.each k p d t (omega (arith, below, all))));
     }
 
 -- ---- one job after the other
@@ -410,6 +410,6 @@ module _ {Z : Type 0} where
     still = λ k d above. let ne : k ≢ i = (λ x. absurd (omega (arith, x, above))) in get_or-set_other news i k r d ne ∙ e.still k d (omega (arith, above));
     each = λ k d l below. push_at (λ (z : ℕ) (x : Vec Message Z). Empties (get_or olds z d) x.items) left rest
         (subst (λ (z : ℕ). Empties (get_or olds z d) rest.items) (sym e.left_count)
-          (subst (λ (x : PortView). Empties x rest.items) (emptying_read i olds news left q e is ∙ get_or_default olds i q d inside) empties))
+        (subst (λ (x : PortView). Empties x rest.items) (emptying_read i olds news left q e is ∙ get_or_default olds i q d inside) empties))
         (λ z x z_in. e.each z d x (omega (arith, z_in, e.left_count))) k l (omega (arith, below, e.left_count));
   }

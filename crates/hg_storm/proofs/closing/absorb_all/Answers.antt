@@ -37,14 +37,14 @@ absorb_ports-requires-clause-ports c =
     let next = sym c.jobs.invariant.rest ∙ c.in-Some.ensures.steps.0 in
     turned_ports c.requires.jobs.plan c.args.mailboxes.now c.index-places-me.result c.len-me.result c.in-Some.job
     (job_turned c.args.mailboxes.now c.args.places.now c.args.jobs.items c.requires.jobs c.jobs.logs.items c.len-me.result c.in-Some.job c.next.new.self.rest.items c.index-places-me.result
-      (omega (arith, c.len-me.ensures, c.jobs.logs.ok)) next c.index-places-me.is)
+    (omega (arith, c.len-me.ensures, c.jobs.logs.ok)) next c.index-places-me.is)
 
 pub absorb_ports-requires-clause-inbox : goal.absorb_ports-requires-clause-inbox
 absorb_ports-requires-clause-inbox c =
     let next = sym c.jobs.invariant.rest ∙ c.in-Some.ensures.steps.0 in
     turned_inbox c.requires.jobs.plan c.args.mailboxes.now c.index-places-me.result c.len-me.result c.in-Some.job
     (job_turned c.args.mailboxes.now c.args.places.now c.args.jobs.items c.requires.jobs c.jobs.logs.items c.len-me.result c.in-Some.job c.next.new.self.rest.items c.index-places-me.result
-      (omega (arith, c.len-me.ensures, c.jobs.logs.ok)) next c.index-places-me.is)
+    (omega (arith, c.len-me.ensures, c.jobs.logs.ok)) next c.index-places-me.is)
 
 pub jobs-preserved : goal.jobs-preserved
 jobs-preserved c =
