@@ -4,7 +4,8 @@ use Rattle.hg_board.specs.Seats.{SeatView}
 use Rattle.hg_storm.specs.declared.desk.Log.{Log}
 use Rattle.hg_storm.specs.declared.desk.Job.{Job}
 use Rattle.hg_storm.specs.Keeping.{Secrets}
-use Rattle.hg_storm.proofs.CloseLaws.{Closing, closed, closed_take_out, closing_none, closing_one, drop_rest, job_turned, turned_inbox, turned_ports}
+use Rattle.hg_storm.proofs.BackLaws.{drop_rest, turned_inbox, turned_ports}
+use Rattle.hg_storm.proofs.CloseLaws.{Closing, closed, closed_take_out, closing_none, closing_one, job_turned}
 use Rattle.hg_storm.proofs.closing.absorb_all.Goals as goal
 
 pub jobs-init : goal.jobs-init

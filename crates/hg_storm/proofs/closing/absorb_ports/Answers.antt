@@ -1,5 +1,5 @@
 use Rattle.std.proofs.Common.{sym, ◌∙◌, arith}
-use Rattle.hg_storm.proofs.CloseLaws.{drop_none, drop_rest, gathered, gathering_one, next_at, port_read}
+use Rattle.hg_storm.proofs.BackLaws.{drop_none, drop_rest, gathered, gathering_one, next_at, port_read}
 use Rattle.hg_storm.proofs.closing.absorb_ports.Goals as goal
 
 pub absorb-requires-clause-other : goal.absorb-requires-clause-other

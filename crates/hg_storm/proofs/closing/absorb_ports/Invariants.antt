@@ -1,5 +1,5 @@
 use Rattle.std.proofs.Common.{◌≡◌, ◌≤◌, length, drop}
-use Rattle.hg_storm.proofs.CloseLaws.{Gathering}
+use Rattle.hg_storm.proofs.BackLaws.{Gathering}
 use Rattle.hg_storm.proofs.closing.absorb_ports.Given as goal
 
 abbrev pub invariant-ports : goal.invariant-ports
