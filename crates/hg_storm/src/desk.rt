@@ -26,3 +26,10 @@ pub struct Desk {
     pub ports: Vec<Port>,
     pub inbox: Port,
 }
+
+/// A member's desk, and the seat of those that work beside its turns.
+#[derive(Drop)]
+pub struct Job {
+    pub desk: Desk,
+    pub seat: Seat<SharedTable>,
+}

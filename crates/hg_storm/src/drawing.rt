@@ -7,7 +7,7 @@ use hg_made::{Draws, peer_of};
 use hg_model::Member;
 
 /// The place of a member among those that have nodes, if it is one of them.
-pub fn place_in(circle: &[Member], me: Member) -> Option<usize>
+pub(crate) fn place_in(circle: &[Member], me: Member) -> Option<usize>
     ensures place { result ≡ place_in circle.now me }
     ensures inside { IfSome result (λ place. place < length circle.now) }
 {
@@ -15,7 +15,7 @@ pub fn place_in(circle: &[Member], me: Member) -> Option<usize>
 }
 
 /// Whom the member at a place among those that have nodes draws next, itself left out; `None` where there is no other.
-pub fn draw_peer(circle: &[Member], place: usize, draws: &mut Draws) -> Option<Member>
+pub(crate) fn draw_peer(circle: &[Member], place: usize, draws: &mut Draws) -> Option<Member>
     requires place { place < length circle.now }
     requires few { length circle.now ≤ 128 }
     ensures some { IfSome result (λ peer. peer ≡ peer_drawn circle.now place draws.new) }

@@ -17,7 +17,7 @@ pub struct Plan {
 }
 
 /// The members that have nodes, in order.
-pub fn circle_of(alloc: Global, members: &Members) -> Result<Vec<Member>, Memory>
+pub(crate) fn circle_of(alloc: Global, members: &Members) -> Result<Vec<Member>, Memory>
     ensures { IfOk result (λ circle. circle.items ≡ circle_of members.now) }
 {
     let mut circle = Vec::new(alloc);

@@ -131,7 +131,7 @@ fn turn<R: Wait>(
 }
 
 /// All turns of the member at a place among those that have nodes. At the end of each the gate is told.
-pub fn take_turns<R: Wait, G: Gate>(
+pub(crate) fn take_turns<R: Wait, G: Gate>(
     rt: &R,
     alloc: Global,
     mailboxes: &[Mailbox],

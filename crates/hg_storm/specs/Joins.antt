@@ -1,0 +1,165 @@
+-- What the mailboxes' first ports know once all ports are back: what each member sent each, took and left
+use Rattle.std.specs.Prelude.{ℕ, zero, suc, ◌≡◌, ◌≢◌, ◌+◌, ◌<◌, ◌≤◌, ◌⊎◌, Bool, true, nat_le, cond, List, [], ◌∷◌, ◌++◌, Vec, length, take, get_or, map}
+use Rattle.hg_life.specs.Signing.{accepts_by}
+use Rattle.hg_life.specs.Spelling.{spelling}
+use Rattle.hg_life.specs.NodeView.{NodeView, node_rows}
+use Rattle.hg_storm.specs.Keeping.{Secrets}
+use Rattle.hg_mail.specs.declared.message.Message.{Message}
+use Rattle.hg_mail.specs.declared.view.Sender.{Sender}
+use Rattle.hg_mail.specs.Count.{all_parts}
+use Rattle.hg_mail.specs.Messages.{IsEmptied, after_taking, messages_of, sender}
+use Rattle.hg_mail.specs.Mailboxes.{IsPortOf, MailboxView, PortView, joined}
+use Rattle.hg_board.specs.Seats.{IsOf, SharedNode, SeatView}
+use Rattle.hg_crowd.specs.Workers.{AllAbsorb}
+use Rattle.hg_crowd.specs.Laws.{IsSession}
+use Rattle.hg_storm.specs.declared.plan.Plan.{Plan}
+use Rattle.hg_storm.specs.declared.sending.Dispatch.{Dispatch}
+use Rattle.hg_storm.specs.declared.desk.Log.{Log}
+use Rattle.hg_storm.specs.declared.desk.Job.{Job}
+use Rattle.hg_storm.specs.Sending.{bytes_seen, messages_from}
+use Rattle.hg_storm.specs.Drawing.{HasDrawn}
+use Rattle.hg_storm.specs.Ends.{EndsWithFates}
+use Rattle.hg_storm.specs.Turning.{AreIdle, IsCounted, Stands}
+use Rattle.hg_storm.specs.Threads.{Pairs, no_dispatch, place_of, turns_of}
+
+-- what members did, by their numbers: what each put into each one's mailbox, and how often that was full; and what each took
+pub record Tale : Type 0 where
+  pub put : ℕ → ℕ → List Message
+  pub full : ℕ → ℕ → ℕ
+  pub taken : ℕ → List Message
+
+-- the sum of the first values
+abbrev pub sum_below : ℕ → (ℕ → ℕ) → ℕ
+sum_below zero f = 0
+sum_below (suc n) f = sum_below n f + f n
+
+-- how many messages the first members put into a mailbox
+abbrev pub put_to : Tale → ℕ → ℕ → ℕ
+put_to tale n k = sum_below n (λ j. length (tale.put j k))
+
+-- what a log tells of the rows that were sent to member k
+abbrev pub dispatch_to : Log → ℕ → Dispatch
+dispatch_to log k = get_or log.dispatches.items k no_dispatch
+
+abbrev pub put_by : ℕ → List (List ℕ) → Log → ℕ → List Message
+put_by me rows log k = messages_from me 0 (take (dispatch_to log k).sent rows)
+
+-- what jobs tell, by their places; beyond them what this node and this job do
+abbrev pub tale_of : List (SharedNode Secrets) → List Job → SharedNode Secrets → Job → Tale
+tale_of places jobs p d = record {
+  put = λ j k. put_by j (bytes_seen (get_or places j p) (get_or jobs j d).desk.seat) (get_or jobs j d).desk.log k;
+  full = λ j k. (dispatch_to (get_or jobs j d).desk.log k).full;
+  taken = λ k. (get_or jobs k d).desk.log.intake.taken.items;
+}
+
+-- the sender is one of these
+abbrev pub HasSender : Sender → List Sender → Type 0
+HasSender s [] = ⊥
+HasSender s (x ∷ xs) = (x ≡ s) ⊎ HasSender s xs
+
+-- one part is still to come back with the receiver's port
+abbrev pub due_back : Bool → ℕ
+due_back later = cond later 1 0
+
+-- of n members the ports of the first ones are back in the first port of the mailbox of member k
+pub record IsBack (tale : Tale) (n back k : ℕ) (m : MailboxView) (q : PortView) : Type 0 where
+  pub of : IsPortOf m q
+  pub takes : k < back → q.view.takes ≡ true
+  pub taken : k < back → q.view.taken ≡ tale.taken k
+  pub senders : (j : ℕ) → j < back → HasSender (sender j (tale.put j k)) q.view.senders
+  pub parts : q.count.parts + n + due_back (nat_le back k) ≡ all_parts + back
+  pub mine : q.count.mine ≡ put_to tale back k
+  pub full : (j : ℕ) → j < back → 0 < tale.full j k → m.room ≤ q.count.seen
+
+abbrev pub AreBack : Tale → ℕ → ℕ → List MailboxView → List PortView → Type 0
+AreBack tale n back mails masters = Pairs (IsBack tale n back) mails masters
+
+-- ports of these mailboxes
+abbrev pub ArePortsOf : List MailboxView → List PortView → Type 0
+ArePortsOf mails ports = Pairs (λ _. IsPortOf) mails ports
+
+-- the ports of one member were taken into the first ones, that of its own mailbox's receiver too
+pub record AreGathered (me : ℕ) (mails : List MailboxView) (olds ports : List PortView) (inbox : PortView) (news : List PortView) : Type 0 where
+  pub of : ArePortsOf mails news
+  pub others : (k : ℕ) (q a b : PortView) → k < length mails → k ≢ me → get_or news k q ≡ joined (get_or olds k a) (get_or ports k b)
+  pub own : (q a b : PortView) → get_or news me q ≡ joined (joined (get_or olds me a) (get_or ports me b)) inbox
+
+-- the ports of all jobs were, and their seats were taken into those of the crews
+pub record AreAbsorbed (mails : List MailboxView) (places : List (SharedNode Secrets)) (jobs : List Job) (masters : List PortView) (lasts : List (SeatView Secrets)) (told : List Log) : Type 0 where
+  pub back : (p : SharedNode Secrets) (d : Job) → AreBack (tale_of places jobs p d) (length mails) (length mails) mails masters
+  pub seats : AllAbsorb accepts_by places (map (λ (j : Job). j.seat) jobs) (map (λ (j : Job). j.desk.seat) jobs) lasts
+  pub logs : told ≡ map (λ (j : Job). j.desk.log) jobs
+
+-- the members' jobs after their turns, each at its member's place
+pub record HasTurned (plan : Plan) (mails : List MailboxView) (p : SharedNode Secrets) (k : ℕ) (j : Job) : Type 0 where
+  pub me : j.desk.me ≡ k
+  pub seat : IsOf p j.seat
+  pub place : ℕ
+  pub turns : ℕ
+  pub stands : Stands plan place mails p turns turns j.desk
+
+pub record HaveTurned (mails : List MailboxView) (places : List (SharedNode Secrets)) (jobs : List Job) : Type 0 where
+  pub plan : Plan
+  pub jobs_count : length jobs ≡ length mails
+  pub places_count : length places ≡ length mails
+  pub each : (k : ℕ) (p : SharedNode Secrets) (d : Job) → k < length jobs → HasTurned plan mails (get_or places k p) k (get_or jobs k d)
+
+-- by this port all was taken out: what was put through it is what was taken before, and then this
+pub record Empties (q : PortView) (left : List Message) : Type 0 where
+  pub all : IsEmptied (after_taking q.view left)
+  pub whole : q.count.parts ≡ all_parts → q.count.seen ≤ q.count.mine
+
+-- each of these ports takes out
+abbrev pub TakeOut : List MailboxView → List PortView → Type 0
+TakeOut mails masters = Pairs (λ k m q. IsPortOf m q × (q.view.takes ≡ true)) mails masters
+
+abbrev pub EmptyAll : {Z : Type 0} → List PortView → List (Vec Message Z) → Type 0
+EmptyAll {Z} masters left = Pairs (λ (k : ℕ) (q : PortView) (l : Vec Message Z). Empties q l.items) masters left
+
+-- of each member what it put into each mailbox is what was taken of it and what is left; where one was full, as many messages
+-- were put in as it has room for
+pub record AreEmptied {Z : Type 0} (tale : Tale) (n : ℕ) (mails : List MailboxView) (left : List (Vec Message Z)) : Type 0 where
+  pub count : length left ≡ length mails
+  pub mail : (j k : ℕ) (l : Vec Message Z) → j < n → k < length mails → tale.put j k ≡ messages_of j (tale.taken k) ++ messages_of j (get_or left k l).items
+  pub full : (j k : ℕ) (m : MailboxView) → j < n → k < length mails → 0 < tale.full j k → (get_or mails k m).room ≤ put_to tale n k
+
+-- ---- what all members did, by their numbers, and their nodes then
+
+-- of one member, whose node is this: its rows that were made and its turns that made none are all its turns, each of the
+-- latter has its cause, and what it took is held or was refused
+pub record IsTold (plan : Plan) (k : ℕ) (p : SharedNode Secrets) (node : NodeView Secrets) (log : Log) : Type 0 where
+  pub start : p.start.start ≡ node.start
+  pub idle : AreIdle p node.history (turns_of plan k) log.idle
+  pub fates : EndsWithFates accepts_by p node log.intake.taken.items log.intake.refused.items
+
+-- what member j sent to member k: the rows that were due, unless its mailbox was full
+pub record IsSentTo (plan : Plan) (j k : ℕ) (rows : List (List ℕ)) (log : Log) : Type 0 where
+  pub within : (dispatch_to log k).sent ≤ length rows
+  pub counted : IsCounted (HasDrawn plan j (place_of plan j) (turns_of plan j) k) (length rows) (turns_of plan j) (dispatch_to log k)
+
+abbrev pub rows_of_node : NodeView Secrets → List (List ℕ)
+rows_of_node v = map spelling (node_rows v)
+
+-- what nodes and logs tell, by their places; beyond them what this node and this log do
+abbrev pub tale_told : List (NodeView Secrets) → List Log → NodeView Secrets → Log → Tale
+tale_told nodes logs v g = record {
+  put = λ j k. put_by j (rows_of_node (get_or nodes j v)) (get_or logs j g) k;
+  full = λ j k. (dispatch_to (get_or logs j g) k).full;
+  taken = λ k. (get_or logs k g).intake.taken.items;
+}
+
+-- the nodes, the logs and what the mailboxes had left, once all threads are joined
+pub record AreTold {Z : Type 0} (plan : Plan) (room : ℕ) (nodes : List (NodeView Secrets)) (logs : List Log) (left : List (Vec Message Z)) : Type 0 where
+  pub logs_count : length logs ≡ length nodes
+  pub left_count : length left ≡ length nodes
+  pub sent : (j k : ℕ) (v : NodeView Secrets) (g : Log) → j < length nodes → k < length nodes → IsSentTo plan j k (rows_of_node (get_or nodes j v)) (get_or logs j g)
+  pub mail : (j k : ℕ) (v : NodeView Secrets) (g : Log) (l : Vec Message Z) → j < length nodes → k < length nodes →
+      (tale_told nodes logs v g).put j k ≡ messages_of j (get_or logs k g).intake.taken.items ++ messages_of j (get_or left k l).items
+  pub full : (j k : ℕ) (v : NodeView Secrets) (g : Log) → j < length nodes → k < length nodes → 0 < (dispatch_to (get_or logs j g) k).full → room ≤ put_to (tale_told nodes logs v g) (length nodes) k
+  pub each : (k : ℕ) (v : NodeView Secrets) (g : Log) → k < length nodes → (p : SharedNode Secrets) × IsTold plan k p (get_or nodes k v) (get_or logs k g)
+
+-- the nodes were shared, and beside the turns others only marked
+pub record HasSession (nodes ends : List (NodeView Secrets)) : Type 0 where
+  pub places : List (SharedNode Secrets)
+  pub called : List (SeatView Secrets)
+  pub run : IsSession accepts_by nodes places called ends

@@ -1,0 +1,54 @@
+-- A storm: all members' turns between threads, and then all nodes have the rows that any had
+use Rattle.std.specs.Prelude.{ℕ, ◌≡◌, List, [], ◌∷◌, ◌++◌, fold, length, map}
+use Rattle.hg_life.specs.Members.{MemberList}
+use Rattle.hg_life.specs.NodeView.{NodeView}
+use Rattle.hg_runs.specs.Safety.{IsSafe}
+use Rattle.hg_world.specs.World.{Secrets, WorldView, new_world, nodes_of, run_of}
+use Rattle.hg_world.specs.Parts.{unfrozen}
+use Rattle.hg_world.specs.Steps.{after_steps, settle_steps}
+use Rattle.hg_world.specs.Syncs.{pull_steps}
+use Rattle.hg_storm.specs.declared.plan.Plan.{Plan}
+use Rattle.hg_storm.specs.declared.storm.Storm.{Storm}
+use Rattle.hg_storm.specs.Drawing.{circle_of}
+use Rattle.hg_storm.specs.Joins.{AreTold, HasSession}
+
+-- the world after a pull, of the first of two members from the second, and after a member's node is settled
+abbrev pub after_pull : WorldView → ℕ × ℕ → WorldView
+after_pull w pair = after_steps w (pull_steps w pair.0 pair.1)
+
+abbrev pub after_settling : WorldView → ℕ → WorldView
+after_settling w m = after_steps w (settle_steps m)
+
+-- the first pulls from each other one, and each other one from it
+abbrev pub pulls_to : ℕ → List ℕ → List (ℕ × ℕ)
+pulls_to first rest = map (λ k. (first, k)) rest
+
+abbrev pub pulls_from : ℕ → List ℕ → List (ℕ × ℕ)
+pulls_from first rest = map (λ k. (k, first)) rest
+
+abbrev pub pulls_of : List ℕ → List (ℕ × ℕ)
+pulls_of [] = []
+pulls_of (first ∷ rest) = pulls_to first rest ++ pulls_from first rest
+
+-- the world after the pulls of these members, in order, and once each of them is settled
+abbrev pub after_pulls : WorldView → List (ℕ × ℕ) → WorldView
+after_pulls w pairs = fold after_pull w pairs
+
+abbrev pub gathered : WorldView → List ℕ → WorldView
+gathered w circle = fold after_settling (after_pulls w (pulls_of circle)) circle
+
+-- The members' nodes, which began without rows, took their turns between threads, and this is what they did and what their
+-- mailboxes had left. Then those that have nodes pulled from each other, and settled; no two orders part ways.
+pub record IsStorm (members : MemberList) (times room first : ℕ) (s : Storm) : Type 0 where
+  pub plan : Plan
+  pub circle : plan.circle.items ≡ circle_of members
+  pub turns : plan.turns ≡ times
+  pub seed : plan.seed ≡ first
+  pub ends : List (NodeView Secrets)
+  pub session : HasSession (nodes_of (new_world members)) ends
+  pub told : AreTold plan room ends s.logs.items s.left.items
+  pub ended : s.ended.items ≡ map (λ (v : NodeView Secrets). length v.history) ends
+  pub joined : WorldView
+  pub nodes : joined.sites ≡ unfrozen ends
+  pub world : s.world ≡ gathered joined plan.circle.items
+  pub safe : IsSafe s.world.members s.world.coin (run_of s.world)
