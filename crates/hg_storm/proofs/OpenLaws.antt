@@ -27,7 +27,7 @@ use Rattle.hg_storm.specs.declared.desk.Desk.{Desk}
 use Rattle.hg_storm.specs.declared.desk.Job.{Job}
 use Rattle.hg_storm.specs.Drawing.{HasDrawn, first_state}
 use Rattle.hg_storm.specs.Fates.{HasFates}
-use Rattle.hg_storm.specs.Keeping.{Secrets}
+use Rattle.hg_storm.specs.Keeping.{Secrets, rows_made}
 use Rattle.hg_storm.specs.Receiving.{IsInbox}
 use Rattle.hg_storm.specs.Sending.{bytes_seen}
 use Rattle.hg_storm.specs.Turning.{HasServed, HasServedAll, Standing}
@@ -46,10 +46,10 @@ opened_first room k m q opened =
     }
 
 -- so many mailboxes are open
-pub record Opening (count room : ℕ) (mails : List MailboxView) (masters : List PortView) : Type 0 where
-  pub count : length mails ≡ count
+pub record Opening (n places : ℕ) (mails : List MailboxView) (masters : List PortView) : Type 0 where
+  pub count : length mails ≡ n
   pub opened : AreOpened 0 mails masters
-  pub room : HaveRoom room mails
+  pub room : HaveRoom places mails
 
 pub opening_none : (room : ℕ) (mails : List MailboxView) (masters : List PortView) → mails ≡ [] → masters ≡ [] → Opening 0 room mails masters
 opening_none room mails masters no_mail no_master = record {
@@ -109,14 +109,14 @@ new_sender me bound k m q port first is = subst (IsNewSender me m) (sym is) (rec
 
 -- ports of the first mailboxes, so many, were given out to the member
 pub record Issuing (me k room : ℕ) (mails : List MailboxView) (masters ports : List PortView) : Type 0 where
-  pub masters : AreIssuing me k mails masters
+  pub issuing : AreIssuing me k mails masters
   pub count : length ports ≡ k
   pub fits : length mails ≤ room
   pub senders : (j : ℕ) (m : MailboxView) (q : PortView) → j < k → IsNewSender me (get_or mails j m) (get_or ports j q)
 
 pub issuing_none : (me room : ℕ) (mails : List MailboxView) (masters ports : List PortView) → AreOpened me mails masters → ports ≡ [] → length mails ≤ room → Issuing me 0 room mails masters ports
 issuing_none me room mails masters ports opened none fits = record {
-  masters = pairs_map (IsFirstPort me me) (λ j m q. (j < 0 → IsFirstPort (me + 1) me j m q) × (0 ≤ j → IsFirstPort me me j m q)) mails masters
+  issuing = pairs_map (IsFirstPort me me) (λ j m q. (j < 0 → IsFirstPort (me + 1) me j m q) × (0 ≤ j → IsFirstPort me me j m q)) mails masters
       (λ j m q low first. ((λ no. absurd (omega (arith, no))), (λ le. first))) opened;
   count = ap length none;
   fits = fits;
@@ -127,7 +127,7 @@ module _ (me k room : ℕ) (mails : List MailboxView) (masters ports : List Port
     (so : Issuing me k room mails masters ports) (inside : k < length mails) (m_is : m ≡ get_or mails k m) (q_is : q ≡ get_or masters k q) where
   issuing_first : IsFirstPort me me k m q
   issuing_first =
-      (pair_read (λ j n p. (j < k → IsFirstPort (me + 1) me j n p) × (k ≤ j → IsFirstPort me me j n p)) mails masters k m q so.masters inside m_is q_is).1 (omega arith)
+      (pair_read (λ j n p. (j < k → IsFirstPort (me + 1) me j n p) × (k ≤ j → IsFirstPort me me j n p)) mails masters k m q so.issuing inside m_is q_is).1 (omega arith)
 
   -- what the port is asked
   pub issuing_of : IsPortOf m q
@@ -141,8 +141,8 @@ module _ (me k room : ℕ) (mails : List MailboxView) (masters ports : List Port
 
   pub issuing_one : (new port : PortView) (more : List PortView) → me < 128 → new ≡ after_issue q → port ≡ issued q → more ≡ ports ++ port ∷ [] → Issuing me (k + 1) room mails (set masters k new) more
   issuing_one new port more few new_is port_is more_is = record {
-    masters = pairs_set (λ j n p. (j < k → IsFirstPort (me + 1) me j n p) × (k ≤ j → IsFirstPort me me j n p))
-        (λ j n p. (j < k + 1 → IsFirstPort (me + 1) me j n p) × (k + 1 ≤ j → IsFirstPort me me j n p)) mails masters k m new so.masters inside m_is
+    issuing = pairs_set (λ j n p. (j < k → IsFirstPort (me + 1) me j n p) × (k ≤ j → IsFirstPort me me j n p))
+        (λ j n p. (j < k + 1 → IsFirstPort (me + 1) me j n p) × (k + 1 ≤ j → IsFirstPort me me j n p)) mails masters k m new so.issuing inside m_is
         ((λ early. issued_first me k m q new (omega (arith, few)) issuing_first new_is), (λ past. absurd (omega (arith, past))))
         (λ j n p low ne was. ((λ early. was.0 (omega (arith, early, ne))), (λ past. was.1 (omega (arith, past)))));
     count = omega (arith, ap length more_is, length-append ports (port ∷ []), so.count);
@@ -162,7 +162,7 @@ module _ (me k room : ℕ) (mails : List MailboxView) (masters ports : List Port
 module _ (me k room : ℕ) (mails : List MailboxView) (masters ports : List PortView) (so : Issuing me k room mails masters ports) (all : k ≡ length mails) where
   pub issued_all : AreIssued me mails masters
   issued_all = pairs_map (λ j m q. (j < k → IsFirstPort (me + 1) me j m q) × (k ≤ j → IsFirstPort me me j m q)) (IsFirstPort (me + 1) me) mails masters
-      (λ j m q low was. was.0 (omega (arith, low, all))) so.masters
+      (λ j m q low was. was.0 (omega (arith, low, all))) so.issuing
 
   pub issued_senders : AreNewSenders me mails ports
   issued_senders = record { count = so.count ∙ all; each = λ j m q low. so.senders j m q (omega (arith, low, all)) }
@@ -231,7 +231,7 @@ module _ (me : ℕ) (mails : List MailboxView) (masters : List PortView) (m : Ma
 
 -- the first of these seats have their members' jobs, and the last are left
 pub record Seating (mails : List MailboxView) (seed : ℕ) (seats : List (SeatView Secrets)) (masters : List PortView) (jobs : List Job) (left : List (SeatView Secrets)) : Type 0 where
-  pub masters : AreOpened (length jobs) mails masters
+  pub opened : AreOpened (length jobs) mails masters
   pub firsts : List (SeatView Secrets)
   pub all : firsts ++ left ≡ seats
   pub new : AreNewJobs mails seed firsts jobs
@@ -239,7 +239,7 @@ pub record Seating (mails : List MailboxView) (seed : ℕ) (seats : List (SeatVi
 pub seating_none : (mails : List MailboxView) (seed : ℕ) (seats : List (SeatView Secrets)) (masters : List PortView) (jobs : List Job) (left : List (SeatView Secrets)) →
     AreOpened 0 mails masters → jobs ≡ [] → left ≡ seats → Seating mails seed seats masters jobs left
 seating_none mails seed seats masters jobs left opened none all = record {
-  masters = subst (λ (n : ℕ). AreOpened n mails masters) (sym (ap length none)) opened;
+  opened = subst (λ (n : ℕ). AreOpened n mails masters) (sym (ap length none)) opened;
   firsts = [];
   all = all;
   new = record { count = ap length none; each = λ k s j no. absurd (omega (arith, no)) };
@@ -263,16 +263,17 @@ module _ (mails : List MailboxView) (seed : ℕ) (seats : List (SeatView Secrets
   pub seating_parts : All (HasMore 1) seats → 1 < first.parts
   seating_parts more = subst (HasMore 1) (sym seating_at) (more (length jobs) first seating_below)
 
-  pub seating_one : (seats_now : SeatView Secrets) (own : SeatView Secrets) (masters_now : List PortView) (desk : Desk) (job : Job) (jobs_now : List Job) → seats_now ≡ after_split first →
-      own ≡ split_off first → AreOpened (length jobs + 1) mails masters_now → IsNewDesk mails seed (length jobs) own desk → job.desk ≡ desk → job.seat ≡ seats_now → jobs_now ≡ jobs ++ job ∷ [] →
+  pub seating_one : (seat_now own : SeatView Secrets) (masters_now : List PortView) (desk : Desk) (job : Job) (jobs_now : List Job) → seat_now ≡ after_split first →
+      own ≡ split_off first → AreOpened (length jobs + 1) mails masters_now → IsNewDesk mails seed (length jobs) own desk → job.desk ≡ desk → job.seat ≡ seat_now → jobs_now ≡ jobs ++ job ∷ [] →
       Seating mails seed seats masters_now jobs_now left
   seating_one seat_now own masters_now desk job jobs_now seat_is own_is opened new_desk desk_is job_seat jobs_are =
       let here : IsNewJob mails seed (length jobs) first job = record {
         desk = subst (λ (z : SeatView Secrets × Desk). IsNewDesk mails seed (length jobs) z.0 z.1) (λ i. (own_is i, sym desk_is i)) new_desk;
         seat = job_seat ∙ seat_is;
       } in
+      let long : length jobs + 1 ≡ length jobs_now = omega (arith, ap length jobs_are, length-append jobs (job ∷ [])) in
       record {
-        masters = subst (λ (n : ℕ). AreOpened n mails masters_now) (omega (arith, ap length jobs_are, length-append jobs (job ∷ []))) opened;
+        opened = subst (λ (n : ℕ). AreOpened n mails masters_now) long opened;
         firsts = so.firsts ++ first ∷ [];
         all = append_assoc so.firsts (first ∷ []) left ∙ so.all;
         new = subst (AreNewJobs mails seed (so.firsts ++ first ∷ [])) (sym jobs_are)
@@ -288,7 +289,7 @@ module _ (mails : List MailboxView) (seed : ℕ) (seats : List (SeatView Secrets
   seated_all = subst (λ (l : List (SeatView Secrets)). AreNewJobs mails seed l jobs) seated so.new
 
   pub seated_masters : length seats ≡ length mails → AreOpened (length mails) mails masters
-  seated_masters count = subst (λ (n : ℕ). AreOpened n mails masters) (so.new.count ∙ (ap length seated ∙ count)) so.masters
+  seated_masters count = subst (λ (n : ℕ). AreOpened n mails masters) (so.new.count ∙ (ap length seated ∙ count)) so.opened
 
 -- ---- a new job may run
 
@@ -338,9 +339,12 @@ begins plan place mails p own log first ports inbox inside seat new senders box 
   alone = (box (some_of mails own inside)).count;
   served = served_nobody plan place own (bytes_seen p (split_off first)) mails log.dispatches.items ports new.dispatches senders;
   some = λ no. absurd (omega (arith, no));
-  rows = new.idle;
+  rows = omega (arith, new.idle, none_made);
   idle = new.idle;
 }
+  where
+    none_made : rows_made (split_off first) ≡ 0
+    none_made = refl
 
 new_job_may_run : (plan : Plan) (mails : List MailboxView) (places : List (SharedNode Secrets)) (k : ℕ) (first : SeatView Secrets) (job : Job) → k < length mails → length places ≡ length mails →
     ((p : SharedNode Secrets) → IsSeat accepts_by (get_or places k p) first) → IsNewJob mails plan.seed k first job → MayRun mails places plan job
