@@ -6,7 +6,7 @@ use Rattle.hg_storm.proofs.opening.issue_all.Goals as goal
 pub ports-init : goal.ports-init
 ports-init c =
     issuing_none c.args.me (vec_capacity c.reserve.new.self) c.args.mailboxes.now c.args.masters.now.items c.reserve.new.self.items c.requires.opened (c.in_ok-reserve.ensures.items ∙ c.new-ports.ensures.items)
-    (omega (arith, c.in_ok-reserve.ensures.ok, c.len.ensures))
+    (omega (arith, c.in_ok-reserve.ensures.ok))
 
 pub issue-port-requires-clause-of : goal.issue-port-requires-clause-of
 issue-port-requires-clause-of c =
