@@ -246,38 +246,40 @@ seating_none mails seed seats masters jobs left opened none all = record {
 }
 
 module _ (mails : List MailboxView) (seed : ℕ) (seats : List (SeatView Secrets)) (masters : List PortView) (jobs : List Job) (first : SeatView Secrets) (left : List (SeatView Secrets))
-    (so : Seating mails seed seats masters jobs (first ∷ left)) where
-  seating_below : length jobs < length seats
-  seating_below = omega (arith, ap length so.all, length-append so.firsts (first ∷ left), so.new.count)
+    (so : Seating mails seed seats masters jobs (first ∷ left)) (n : ℕ) (at : n ≡ length jobs) where
+  seating_below : n < length seats
+  seating_below = omega (arith, at, ap length so.all, length-append so.firsts (first ∷ left), so.new.count)
 
-  pub seating_inside : length seats ≡ length mails → length jobs < length mails
+  pub seating_inside : length seats ≡ length mails → n < length mails
   seating_inside count = omega (arith, count, seating_below)
 
-  seating_at : first ≡ get_or seats (length jobs) first
-  seating_at = sym (get_or_at so.firsts first left first (length jobs) (sym so.new.count)) ∙ ap (λ (l : List (SeatView Secrets)). get_or l (length jobs) first) so.all
+  pub seating_opened : AreOpened n mails masters
+  seating_opened = subst (λ (k : ℕ). AreOpened k mails masters) (sym at) so.opened
 
-  pub seating_seat : (places : List (SharedNode Secrets)) (p : SharedNode Secrets) → AreSeats accepts_by places seats → p ≡ get_or places (length jobs) p → IsOf p first
-  seating_seat places p are is =
-      (pair_at (IsSeat accepts_by) places seats (length jobs) p first are (omega (arith, are.count, seating_below)) is seating_at).of
+  seating_at : first ≡ get_or seats n first
+  seating_at = sym (get_or_at so.firsts first left first n (sym (at ∙ so.new.count))) ∙ ap (λ (l : List (SeatView Secrets)). get_or l n first) so.all
+
+  pub seating_seat : (places : List (SharedNode Secrets)) (p : SharedNode Secrets) → AreSeats accepts_by places seats → p ≡ get_or places n p → IsOf p first
+  seating_seat places p are is = (pair_at (IsSeat accepts_by) places seats n p first are (omega (arith, are.count, seating_below)) is seating_at).of
 
   pub seating_parts : All (HasMore 1) seats → 1 < first.parts
-  seating_parts more = subst (HasMore 1) (sym seating_at) (more (length jobs) first seating_below)
+  seating_parts more = subst (HasMore 1) (sym seating_at) (more n first seating_below)
 
   pub seating_one : (seat_now own : SeatView Secrets) (masters_now : List PortView) (desk : Desk) (job : Job) (jobs_now : List Job) → seat_now ≡ after_split first →
-      own ≡ split_off first → AreOpened (length jobs + 1) mails masters_now → IsNewDesk mails seed (length jobs) own desk → job.desk ≡ desk → job.seat ≡ seat_now → jobs_now ≡ jobs ++ job ∷ [] →
+      own ≡ split_off first → AreOpened (n + 1) mails masters_now → IsNewDesk mails seed n own desk → job.desk ≡ desk → job.seat ≡ seat_now → jobs_now ≡ jobs ++ job ∷ [] →
       Seating mails seed seats masters_now jobs_now left
   seating_one seat_now own masters_now desk job jobs_now seat_is own_is opened new_desk desk_is job_seat jobs_are =
-      let here : IsNewJob mails seed (length jobs) first job = record {
-        desk = subst (λ (z : SeatView Secrets × Desk). IsNewDesk mails seed (length jobs) z.0 z.1) (λ i. (own_is i, sym desk_is i)) new_desk;
+      let here : IsNewJob mails seed n first job = record {
+        desk = subst (λ (z : SeatView Secrets × Desk). IsNewDesk mails seed n z.0 z.1) (λ i. (own_is i, sym desk_is i)) new_desk;
         seat = job_seat ∙ seat_is;
       } in
-      let long : length jobs + 1 ≡ length jobs_now = omega (arith, ap length jobs_are, length-append jobs (job ∷ [])) in
+      let long : n + 1 ≡ length jobs_now = omega (arith, at, ap length jobs_are, length-append jobs (job ∷ [])) in
       record {
-        opened = subst (λ (n : ℕ). AreOpened n mails masters_now) long opened;
+        opened = subst (λ (k : ℕ). AreOpened k mails masters_now) long opened;
         firsts = so.firsts ++ first ∷ [];
         all = append_assoc so.firsts (first ∷ []) left ∙ so.all;
         new = subst (AreNewJobs mails seed (so.firsts ++ first ∷ [])) (sym jobs_are)
-            (pairs_push (IsNewJob mails seed) so.firsts jobs first job so.new (subst (λ (n : ℕ). IsNewJob mails seed n first job) so.new.count here));
+            (pairs_push (IsNewJob mails seed) so.firsts jobs first job so.new (subst (λ (k : ℕ). IsNewJob mails seed k first job) (at ∙ so.new.count) here));
       }
 
 module _ (mails : List MailboxView) (seed : ℕ) (seats : List (SeatView Secrets)) (masters : List PortView) (jobs : List Job) (left : List (SeatView Secrets)) (so : Seating mails seed seats masters jobs left)

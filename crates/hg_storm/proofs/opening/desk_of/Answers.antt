@@ -1,4 +1,4 @@
-use Rattle.std.proofs.Common.{◌≡◌, ◌∙◌, ℕ, List, length, refl, subst, sym, arith}
+use Rattle.std.proofs.Common.{refl, arith}
 use Rattle.hg_storm.proofs.OpenLaws.{hand_all, hand_of, hand_parts, hand_takes, new_receiver}
 use Rattle.hg_storm.proofs.opening.desk_of.Goals as goal
 
@@ -26,11 +26,11 @@ pub returns-clause-desk : goal.returns-clause-desk
 returns-clause-desk c = record {
   me = omega arith;
   seat = refl;
-  draws = ?;
+  draws = c.new-2.ensures;
   log = record {
-    dispatches = ?;
-    taken = ?;
-    refused = ?;
+    dispatches = c.in_ok-dispatches.ensures.items_if_clones_equal (λ y e. e);
+    taken = c.new.ensures.taken;
+    refused = c.new.ensures.refused;
     idle = refl;
   };
   ports = c.in_ok-ports.ensures.senders;
