@@ -229,6 +229,10 @@ module _ (me : ℕ) (mails : List MailboxView) (masters : List PortView) (m : Ma
 
 -- ---- the members' jobs
 
+none_left : {A : Type 0} (xs : List A) → length xs ≡ 0 → xs ≡ []
+none_left [] none = refl
+none_left (x ∷ xs) none = absurd (omega (arith, none))
+
 -- the first of these seats have their members' jobs, and the last are left
 pub record Seating (mails : List MailboxView) (seed : ℕ) (seats : List (SeatView Secrets)) (masters : List PortView) (jobs : List Job) (left : List (SeatView Secrets)) : Type 0 where
   pub opened : AreOpened (length jobs) mails masters
@@ -283,9 +287,9 @@ module _ (mails : List MailboxView) (seed : ℕ) (seats : List (SeatView Secrets
       }
 
 module _ (mails : List MailboxView) (seed : ℕ) (seats : List (SeatView Secrets)) (masters : List PortView) (jobs : List Job) (left : List (SeatView Secrets)) (so : Seating mails seed seats masters jobs left)
-    (none : left ≡ []) where
+    (none : length left ≡ 0) where
   seated : so.firsts ≡ seats
-  seated = sym (append-nil so.firsts) ∙ (ap (λ (l : List (SeatView Secrets)). so.firsts ++ l) (sym none) ∙ so.all)
+  seated = sym (append-nil so.firsts) ∙ (ap (λ (l : List (SeatView Secrets)). so.firsts ++ l) (sym (none_left left none)) ∙ so.all)
 
   pub seated_all : AreNewJobs mails seed seats jobs
   seated_all = subst (λ (l : List (SeatView Secrets)). AreNewJobs mails seed l jobs) seated so.new

@@ -1,4 +1,4 @@
-use Rattle.std.proofs.Common.{rules, ◌≡◌, ◌∙◌, ◌<◌, ℕ, List, length, Option, Some, None, ap, sym, subst}
+use Rattle.std.proofs.Common.{◌∙◌, ◌<◌, ℕ, List, length, ap, sym, subst}
 use Rattle.std.specs.Prelude.{IfOk}
 use Rattle.hg_storm.specs.Drawing.{place_in}
 use Rattle.hg_storm.specs.Turning.{GoesOn, Stands}
@@ -16,7 +16,7 @@ join-ended-requires-after_bounds g c κs within =
     let inside = subst (λ (l : List ℕ). c.in-Some.place < length l) c.as_slice.ensures.value c.in-Some.ensures.inside in (
       (
         runs_stands plan c.args.mailboxes.now c.args.places.now c.args.job c.requires.run shared c.index-places-job.is c.in-Some.place,
-        (c.requires.run.draws, (inside, (c.requires.circle, (search rules, search rules)))),
+        (c.requires.run.draws, (inside, c.requires.circle)),
       ),
       runs_seat plan c.args.mailboxes.now c.args.places.now c.args.job c.requires.run shared c.index-places-job.is,
     )

@@ -42,7 +42,12 @@ seats-preserved c =
 
 pub returns-clause-opened : goal.returns-clause-opened
 returns-clause-opened c =
-    seated_masters c.args.mailboxes.now c.args.seed c.args.seats.items c.seats.masters.items c.seats.jobs.items c.seats.first-iterator.rest.items c.seats.invariant (search rules) c.requires.count
+    let short : c.seats.first-iterator.rest.len ≡ 0 = search rules in
+    seated_masters c.args.mailboxes.now c.args.seed c.args.seats.items c.seats.masters.items c.seats.jobs.items c.seats.first-iterator.rest.items c.seats.invariant
+    (omega (arith, short, c.seats.first-iterator.rest.ok.0)) c.requires.count
 
 pub returns-clause-jobs : goal.returns-clause-jobs
-returns-clause-jobs c = seated_all c.args.mailboxes.now c.args.seed c.args.seats.items c.seats.masters.items c.seats.jobs.items c.seats.first-iterator.rest.items c.seats.invariant (search rules)
+returns-clause-jobs c =
+    let short : c.seats.first-iterator.rest.len ≡ 0 = search rules in
+    seated_all c.args.mailboxes.now c.args.seed c.args.seats.items c.seats.masters.items c.seats.jobs.items c.seats.first-iterator.rest.items c.seats.invariant
+    (omega (arith, short, c.seats.first-iterator.rest.ok.0))
