@@ -31,7 +31,7 @@ use Rattle.hg_storm.specs.Keeping.{Secrets, rows_made}
 use Rattle.hg_storm.specs.Receiving.{IsInbox}
 use Rattle.hg_storm.specs.Sending.{bytes_seen}
 use Rattle.hg_storm.specs.Turning.{HasServed, HasServedAll, Standing}
-use Rattle.hg_storm.specs.Threads.{AreIssued, AreIssuing, AreNewJobs, AreNewSenders, AreOpened, HaveRoom, IsFirstPort, IsNewDesk, IsNewJob, IsNewLog, IsNewReceiver, IsNewSender, MayRun, Pairs, away, no_dispatch, opened_view}
+use Rattle.hg_storm.specs.Threads.{AreIssued, AreIssuing, AreNewJobs, AreNewSenders, AreOpened, HaveRoom, IsFirstPort, IsNewDesk, IsNewJob, IsNewLog, IsNewReceiver, IsNewSender, MayRun, away, no_dispatch, opened_view}
 use Rattle.hg_storm.proofs.PairLaws.{pair_read, pairs_map, pairs_push, pairs_set}
 
 -- ---- mailboxes and their first ports

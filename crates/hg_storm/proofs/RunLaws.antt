@@ -32,11 +32,11 @@ worked_by accepts p s t share of stays marks = record {
 
 module _ (plan : Plan) (mails : List MailboxView) (places : List (SharedNode Secrets)) (job : Job) (run : MayRun mails places plan job) where
   -- a member without a node does nothing
-  pub rests : place_in plan.circle.items job.desk.me ≡ None → (p : SharedNode Secrets) → IsDoneJob plan mails (get_or places job.desk.me p) job job
+  pub rests : None ≡ place_in plan.circle.items job.desk.me → (p : SharedNode Secrets) → IsDoneJob plan mails (get_or places job.desk.me p) job job
   rests none p = record {
     on = record { me = refl; still = still_self job.desk.seat };
     worked = worked_none job.seat;
-    stands = subst (λ (o : Option ℕ). Stands plan (unwrap_or o 0) mails (get_or places job.desk.me p) (turns_at plan o) (turns_at plan o) job.desk) (sym none) (run.stands 0 p);
+    stands = subst (λ (o : Option ℕ). Stands plan (unwrap_or o 0) mails (get_or places job.desk.me p) (turns_at plan o) (turns_at plan o) job.desk) none (run.stands 0 p);
   }
 
   module _ (shared : SharedNode Secrets) (is : shared ≡ get_or places job.desk.me shared) where
@@ -48,14 +48,14 @@ module _ (plan : Plan) (mails : List MailboxView) (places : List (SharedNode Sec
     runs_seat = subst (λ (p : SharedNode Secrets). IsOf p job.seat) (sym is) (run.seat shared).of
 
     -- what it did
-    pub runs : (place : ℕ) (new : Job) → place_in plan.circle.items job.desk.me ≡ Some place → GoesOn job.desk new.desk → Worked job.seat new.seat →
+    pub runs : (place : ℕ) (new : Job) → Some place ≡ place_in plan.circle.items job.desk.me → GoesOn job.desk new.desk → Worked job.seat new.seat →
         Stands plan place mails shared plan.turns plan.turns new.desk → (p : SharedNode Secrets) → IsDoneJob plan mails (get_or places job.desk.me p) job new
     runs place new some on worked stands p =
         let here : shared ≡ get_or places job.desk.me p = is ∙ get_or_default places job.desk.me shared p (omega (arith, run.me, run.count)) in
         record {
           on = on;
           worked = worked;
-          stands = subst (λ (x : Option ℕ × SharedNode Secrets). Stands plan (unwrap_or x.0 0) mails x.1 (turns_at plan x.0) (turns_at plan x.0) new.desk) (λ i. (sym some i, here i)) stands;
+          stands = subst (λ (x : Option ℕ × SharedNode Secrets). Stands plan (unwrap_or x.0 0) mails x.1 (turns_at plan x.0) (turns_at plan x.0) new.desk) (λ i. (some i, here i)) stands;
         }
 
 -- ---- all threads

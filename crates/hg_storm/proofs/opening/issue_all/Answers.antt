@@ -1,4 +1,4 @@
-use Rattle.std.proofs.Common.{◌≡◌, ◌∙◌, ◌+◌, ℕ, List, [], length, slice_set, subst, sym, arith}
+use Rattle.std.proofs.Common.{◌≡◌, ◌∙◌, ◌+◌, ℕ, length, slice_set, subst, sym, arith}
 use Rattle.std.specs.Prelude.{vec_capacity}
 use Rattle.hg_storm.proofs.OpenLaws.{Issuing, issued_all, issued_senders, issuing_gives, issuing_none, issuing_of, issuing_one, issuing_parts}
 use Rattle.hg_storm.proofs.opening.issue_all.Goals as goal
