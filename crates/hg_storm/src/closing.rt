@@ -1,5 +1,5 @@
 // What comes back of the threads.
-ghost use Rattle.std.specs.Prelude.{◌≡◌, ◌<◌, ◌≤◌, true, IfOk, get_or, length};
+ghost use Rattle.std.specs.Prelude.{◌≡◌, ◌<◌, ◌≤◌, true, IfOk, OnOk, get_or, length};
 ghost use Rattle.hg_mail.specs.Count.{all_parts};
 ghost use Rattle.hg_mail.specs.Mailboxes.{IsPortOf};
 ghost use Rattle.hg_storm.specs.Joins.{AreAbsorbed, AreGathered, ArePortsOf, Empties, EmptyAll, HaveTurned, TakeOut};
@@ -45,7 +45,8 @@ pub(crate) fn absorb_all(
 ) -> Result<(Vec<Seat<SharedTable>>, Vec<Log>), Memory>
     requires opened { AreOpened (length mailboxes.now) mailboxes.now masters.old.items }
     requires jobs { HaveTurned mailboxes.now places.now jobs.items }
-    ensures { IfOk result (λ r. AreAbsorbed mailboxes.now places.now jobs.items masters.new.items r.0.items r.1.items) }
+    ensures back { IfOk result (λ r. AreAbsorbed mailboxes.now places.now jobs.items masters.new.items r.0.items r.1.items) }
+    ensures takes { OnOk result (TakeOut mailboxes.now masters.new.items) }
 {
     let mut seats = Vec::new(alloc);
     let mut logs = Vec::new(alloc);
