@@ -1,5 +1,5 @@
 -- The threads as a session: the seats that members had before their turns, what they did, and what comes back
-use Rattle.std.proofs.Common.{◌≡◌, ℕ, ◌<◌, List, length, map, get_or, refl, sym, ◌∙◌, subst, arith}
+use Rattle.std.proofs.Common.{◌≡◌, ℕ, ◌<◌, List, length, map, get_or, Result, Ok, refl, sym, ◌∙◌, subst, arith}
 use Rattle.std.specs.Prelude.{All}
 use Rattle.std.proofs.lemmas.List.{get_or_default, get_or-map, length-map}
 use Rattle.hg_life.specs.Signing.{accepts_by}
@@ -10,15 +10,16 @@ use Rattle.hg_board.specs.Seats.{SharedNode, SeatView}
 use Rattle.hg_board.specs.Calls.{Absorbs, after_split, split_off}
 use Rattle.hg_crowd.specs.Crowd.{AreSeats, AreStill, Each, IsSeat, IsStill}
 use Rattle.hg_crowd.specs.Workers.{AllAbsorb, AreStarted, AreWhole, HasAll, HasMore, Worked}
-use Rattle.hg_crowd.proofs.CrowdLaws.{all_back}
+use Rattle.hg_crowd.proofs.CrowdLaws.{all_back, all_started, seats_started}
 use Rattle.hg_crowd.proofs.ListLaws.{some_of}
 use Rattle.hg_crowd.proofs.WorkLaws.{worked_none}
 use Rattle.hg_storm.specs.declared.plan.Plan.{Plan}
 use Rattle.hg_storm.specs.declared.desk.Job.{Job}
 use Rattle.hg_storm.specs.Keeping.{Secrets}
 use Rattle.hg_storm.specs.Turning.{Stands}
-use Rattle.hg_storm.specs.Threads.{AreDoneJobs, AreNewJobs, place_of, turns_of}
+use Rattle.hg_storm.specs.Threads.{AllCome, AreDoneJobs, AreNewJobs, place_of, turns_of}
 use Rattle.hg_storm.specs.Joins.{HasSession, HaveTurned}
+use Rattle.hg_storm.proofs.RunLaws.{all_are_done}
 
 abbrev pub seats_called : List Job → List (SeatView Secrets)
 seats_called jobs = map (λ (j : Job). j.desk.seat) jobs
@@ -37,14 +38,33 @@ pub record IsDone (plan : Plan) (mails : List MailboxView) (p : SharedNode Secre
   pub worked : Worked (after_split first) j.seat
   pub stands : Stands plan (place_of plan k) mails p (turns_of plan k) (turns_of plan k) j.desk
 
-module _ (plan : Plan) (mails : List MailboxView) (places : List (SharedNode Secrets)) (firsts : List (SeatView Secrets)) (olds news : List Job)
-    (seats : AreSeats accepts_by places firsts) (fresh : AreNewJobs mails plan.seed firsts olds) (done : AreDoneJobs plan mails places olds news) where
+-- nodes that were shared, a job for each, and what it was after its turns
+pub record AreJoined (plan : Plan) (mails : List MailboxView) (nodes : List (NodeView Secrets)) (places : List (SharedNode Secrets)) (firsts : List (SeatView Secrets)) (olds news : List Job) : Type 0 where
+  pub started : AreStarted accepts_by nodes places firsts
+  pub seats : AreSeats accepts_by places firsts
+  pub count : length mails ≡ length nodes
+  pub fresh : AreNewJobs mails plan.seed firsts olds
+  pub done : AreDoneJobs plan mails places olds news
+
+pub are_joined : {E : Type 0} (plan : Plan) (mails : List MailboxView) (nodes : List (NodeView Secrets)) (places : List (SharedNode Secrets)) (firsts : List (SeatView Secrets)) (olds news : List Job) (ended : List (Result Job E)) →
+    AreStarted accepts_by nodes places firsts → length mails ≡ length nodes → AreNewJobs mails plan.seed firsts olds → AllCome plan mails places olds ended → map Ok news ≡ ended →
+    AreJoined plan mails nodes places firsts olds news
+are_joined plan mails nodes places firsts olds news ended started count fresh come all = record {
+  started = started;
+  seats = seats_started accepts_by nodes places firsts started;
+  count = count;
+  fresh = fresh;
+  done = all_are_done plan mails places firsts olds news ended fresh come all;
+}
+
+module _ (plan : Plan) (mails : List MailboxView) (nodes : List (NodeView Secrets)) (places : List (SharedNode Secrets)) (firsts : List (SeatView Secrets)) (olds news : List Job)
+    (joined : AreJoined plan mails nodes places firsts olds news) where
   pub done_at : (k : ℕ) (p : SharedNode Secrets) (s : SeatView Secrets) (j : Job) → k < length firsts → IsDone plan mails (get_or places k p) (get_or firsts k s) k (get_or news k j)
   done_at k p s j inside =
-      let there : k < length olds = omega (arith, inside, fresh.count) in
+      let there : k < length olds = omega (arith, inside, joined.fresh.count) in
       let o : Job = some_of olds k there in
-      let new = fresh.each k s o inside in
-      let did = done.each k p o j there in
+      let new = joined.fresh.each k s o inside in
+      let did = joined.done.each k p o j there in
       record {
         me = did.on.me ∙ new.desk.me;
         still = subst (λ (t : SeatView Secrets). IsStill t (get_or news k j).desk.seat) new.desk.seat did.on.still;
@@ -53,7 +73,7 @@ module _ (plan : Plan) (mails : List MailboxView) (places : List (SharedNode Sec
       }
 
   pub news_count : length news ≡ length firsts
-  news_count = done.count ∙ fresh.count
+  news_count = joined.done.count ∙ joined.fresh.count
 
   pub called_count : length (seats_called news) ≡ length firsts
   called_count = length-map news (λ (j : Job). j.desk.seat) ∙ news_count
@@ -72,7 +92,7 @@ module _ (plan : Plan) (mails : List MailboxView) (places : List (SharedNode Sec
   some_job k inside = some_of news k (omega (arith, inside, news_count))
 
   some_place : (k : ℕ) → k < length firsts → SharedNode Secrets
-  some_place k inside = some_of places k (omega (arith, inside, seats.count))
+  some_place k inside = some_of places k (omega (arith, inside, joined.seats.count))
 
   all_still : AreStill (map split_off firsts) (seats_called news)
   all_still = record {
@@ -96,24 +116,24 @@ module _ (plan : Plan) (mails : List MailboxView) (places : List (SharedNode Sec
 
   all_called : AreSeats accepts_by places (seats_called news)
   all_called = record {
-    count = called_count ∙ seats.count;
+    count = called_count ∙ joined.seats.count;
     each = λ k p s inside.
-        let there : k < length firsts = omega (arith, inside, seats.count) in
+        let there : k < length firsts = omega (arith, inside, joined.seats.count) in
         let j : Job = some_job k there in
         subst (λ (t : SeatView Secrets). IsSeat accepts_by (get_or places k p) t) (sym (called_is k s j there)) (done_at k p s j there).stands.seat;
   }
 
   -- so their ports and seats can come back
-  pub have_turned : length firsts ≡ length mails → HaveTurned mails places news
-  have_turned count = record {
+  pub have_turned : HaveTurned mails places news
+  have_turned = record {
     plan = plan;
-    jobs_count = news_count ∙ count;
-    places_count = sym seats.count ∙ count;
+    jobs_count = omega (arith, news_count, joined.count, joined.started.seats_count);
+    places_count = omega (arith, joined.count, joined.started.shared_count);
     each = λ k p d inside.
         let there : k < length firsts = omega (arith, inside, news_count) in
         let s : SeatView Secrets = some_of firsts k there in
         let one = done_at k p s d there in
-        let first = seats.each k p s (omega (arith, there, seats.count)) in
+        let first = joined.seats.each k p s (omega (arith, there, joined.seats.count)) in
         record {
           me = one.me;
           seat = record { table = one.worked.still.same ∙ first.of.table; start = one.worked.still.start ∙ first.of.start };
@@ -136,9 +156,9 @@ module _ (plan : Plan) (mails : List MailboxView) (places : List (SharedNode Sec
     -- the seats that come back are seats of their nodes
     pub lasts_are_seats : AreSeats accepts_by places lasts
     lasts_are_seats = record {
-      count = lasts_count ∙ seats.count;
+      count = lasts_count ∙ joined.seats.count;
       each = λ k p s inside.
-          let there : k < length firsts = omega (arith, inside, seats.count) in
+          let there : k < length firsts = omega (arith, inside, joined.seats.count) in
           let j : Job = some_job k there in
           let P : SharedNode Secrets = get_or places k p in
           let called : SeatView Secrets = (get_or news k j).desk.seat in
@@ -152,17 +172,18 @@ module _ (plan : Plan) (mails : List MailboxView) (places : List (SharedNode Sec
     }
 
     -- and have all parts again
-    pub lasts_have_all : All HasAll firsts → All HasAll lasts
-    lasts_have_all all = all_back accepts_by places firsts (seats_beside news) (seats_called news) lasts seats.count all all_still all_have_worked absorbed
+    pub lasts_have_all : All HasAll lasts
+    lasts_have_all =
+        all_back accepts_by places firsts (seats_beside news) (seats_called news) lasts joined.seats.count (all_started accepts_by nodes places firsts joined.started) all_still all_have_worked absorbed
 
-    pub session_of : (nodes ends : List (NodeView Secrets)) → AreStarted accepts_by nodes places firsts → AreWhole places lasts ends → HasSession nodes ends
-    session_of nodes ends started whole = record {
+    pub session_of : (ends : List (NodeView Secrets)) → AreWhole places lasts ends → HasSession nodes ends
+    session_of ends whole = record {
       places = places;
       called = seats_called news;
       run = record {
         firsts = firsts;
         lasts = lasts;
-        started = started;
+        started = joined.started;
         calls = record {
           beside = seats_beside news;
           back = lasts;

@@ -22,8 +22,8 @@ use Rattle.hg_board.specs.Seats.{SharedNode, SeatView}
 use Rattle.hg_board.specs.Calls.{Absorbs, IsStarted, IsWhole}
 use Rattle.hg_board.proofs.PositionLaws.{below_more, times-append, times_apart, times_cons, times_none}
 use Rattle.hg_board.proofs.PrefixLaws.{prefix_length}
-use Rattle.hg_crowd.specs.Crowd.{AreSeats, IsEnded}
-use Rattle.hg_crowd.specs.Workers.{AreStarted, AreWhole}
+use Rattle.hg_crowd.specs.Crowd.{IsEnded}
+use Rattle.hg_crowd.specs.Workers.{AreWhole}
 use Rattle.hg_crowd.proofs.EndLaws.{ended}
 use Rattle.hg_crowd.proofs.ListLaws.{some_of}
 use Rattle.hg_crowd.proofs.WorkLaws.{worked_none}
@@ -33,13 +33,13 @@ use Rattle.hg_storm.specs.declared.desk.Log.{Log}
 use Rattle.hg_storm.specs.Drawing.{HasDrawn}
 use Rattle.hg_storm.specs.Keeping.{Secrets, is_made, rows_made}
 use Rattle.hg_storm.specs.Sending.{bytes_seen}
-use Rattle.hg_storm.specs.Threads.{AreDoneJobs, AreNewJobs, HaveRoom, no_dispatch, place_of, turns_of}
+use Rattle.hg_storm.specs.Threads.{HaveRoom, no_dispatch, place_of, turns_of}
 use Rattle.hg_storm.specs.Turning.{IsCounted}
 use Rattle.hg_storm.specs.Joins.{AreAbsorbed, AreEmptied, AreTold, EmptyAll, IsSentTo, IsTold, TakeOut, dispatch_to, put_by, put_to, rows_by, rows_of_node, sum_below, tale_of, tale_told}
 use Rattle.hg_storm.proofs.CloseLaws.{all_are_emptied}
 use Rattle.hg_storm.proofs.EndLaws.{fates_last}
 use Rattle.hg_storm.proofs.MadeLaws.{is_made_in, made_front}
-use Rattle.hg_storm.proofs.ThreadLaws.{IsDone, absorbed_at, done_at, news_count}
+use Rattle.hg_storm.proofs.ThreadLaws.{AreJoined, IsDone, absorbed_at, done_at, news_count}
 use Rattle.hg_storm.proofs.TurnLaws.{idle_later}
 
 -- ---- the rows of a node's own member are those that its history made
@@ -228,14 +228,13 @@ sum_same zero f g same = refl
 sum_same (suc n) f g same = λ i. sum_same n f g (λ j low. same j (omega (arith, low))) i + same n (omega arith) i
 
 module _ {Z : Type 0} (plan : Plan) (room : ℕ) (mails : List MailboxView) (nodes ends : List (NodeView Secrets)) (places : List (SharedNode Secrets)) (firsts lasts : List (SeatView Secrets)) (olds news : List Job)
-    (masters : List PortView) (logs : List Log) (left : List (Vec Message Z)) (count : length mails ≡ length nodes) (none : All (λ (v : NodeView Secrets). v.history ≡ []) nodes) (rooms : HaveRoom room mails)
-    (started : AreStarted accepts_by nodes places firsts) (seats : AreSeats accepts_by places firsts) (fresh : AreNewJobs mails plan.seed firsts olds) (done : AreDoneJobs plan mails places olds news)
-    (absorbed : AreAbsorbed mails places news masters lasts logs) (takes : TakeOut mails masters) (emptied : EmptyAll masters left) (whole : AreWhole places lasts ends) where
+    (masters : List PortView) (logs : List Log) (left : List (Vec Message Z)) (none : All (λ (v : NodeView Secrets). v.history ≡ []) nodes) (rooms : HaveRoom room mails)
+    (joined : AreJoined plan mails nodes places firsts olds news) (absorbed : AreAbsorbed mails places news masters lasts logs) (takes : TakeOut mails masters) (emptied : EmptyAll masters left) (whole : AreWhole places lasts ends) where
   jobs_count : length news ≡ length ends
-  jobs_count = omega (arith, news_count plan mails places firsts olds news seats fresh done, seats.count, whole.shared_count)
+  jobs_count = omega (arith, news_count plan mails nodes places firsts olds news joined, joined.seats.count, whole.shared_count)
 
   mails_count : length mails ≡ length ends
-  mails_count = omega (arith, count, started.shared_count, whole.shared_count)
+  mails_count = omega (arith, joined.count, joined.started.shared_count, whole.shared_count)
 
   log_is : (k : ℕ) (g : Log) (d : Job) → k < length ends → (get_or news k d).desk.log ≡ get_or logs k g
   log_is k g d inside =
@@ -243,22 +242,22 @@ module _ {Z : Type 0} (plan : Plan) (room : ℕ) (mails : List MailboxView) (nod
 
   module _ (k : ℕ) (p : SharedNode Secrets) (v : NodeView Secrets) (d : Job) (inside : k < length ends) where
     there : k < length firsts
-    there = omega (arith, inside, seats.count, whole.shared_count)
+    there = omega (arith, inside, joined.seats.count, whole.shared_count)
 
     here : k < length nodes
-    here = omega (arith, inside, started.shared_count, whole.shared_count)
+    here = omega (arith, inside, joined.started.shared_count, whole.shared_count)
 
     a_seat : SeatView Secrets
     a_seat = some_of firsts k there
 
     its_start : IsStarted accepts_by (get_or places k p) (get_or nodes k v) (get_or firsts k a_seat)
-    its_start = started.each k v p a_seat here
+    its_start = joined.started.each k v p a_seat here
 
     its_turns : IsDone plan mails (get_or places k p) (get_or firsts k a_seat) k (get_or news k d)
-    its_turns = done_at plan mails places firsts olds news seats fresh done k p a_seat d there
+    its_turns = done_at plan mails nodes places firsts olds news joined k p a_seat d there
 
     its_seats : Absorbs accepts_by (get_or places k p) (get_or news k d).seat (get_or news k d).desk.seat (get_or lasts k a_seat)
-    its_seats = absorbed_at plan mails places firsts olds news seats fresh done lasts absorbed.seats k p a_seat d there
+    its_seats = absorbed_at plan mails nodes places firsts olds news joined lasts absorbed.seats k p a_seat d there
 
     its_node : IsWhole (get_or places k p) (get_or lasts k a_seat) (get_or ends k v)
     its_node = whole.each k p a_seat v inside
