@@ -40,18 +40,18 @@ jobs_of-requires-clause-few g c =
     omega (arith, c.requires.few, ap length c.as_slice-boxes.ensures.value, c.in_ok-mailboxes.ensures.count, c.len.ensures)
 
 pub take_all_turns-requires-clause-run : goal.take_all_turns-requires-clause-run
-take_all_turns-requires-clause-run g c =
+take_all_turns-requires-clause-run g c κs within =
     let nodes = c.args.nodes.items in
     let boxes = c.as_slice-boxes.result.now in
     let places = c.as_slice-places.result.now in
     let firsts = c.in_ok-shared.seats.items in
     let started = subst (λ (l : List (SharedNode Secrets)). AreStarted accepts_by nodes l firsts) (sym c.as_slice-places.ensures.value) c.in_ok-shared.ensures in
-    let count : length boxes ≡ length nodes = ap length c.as_slice-boxes.ensures.value ∙ (c.in_ok-mailboxes.ensures.count ∙ c.len.ensures) in
+    let count : length boxes ≡ length nodes = omega (arith, ap length c.as_slice-boxes.ensures.value, c.in_ok-mailboxes.ensures.count, c.len.ensures) in
     new_jobs_may_run c.args.plan.now boxes places firsts c.in_ok-jobs.jobs.items (started.shared_count ∙ sym count) (seats_started accepts_by nodes places firsts started) c.in_ok-jobs.ensures.jobs
 
 pub take_all_turns-requires-clause-circle : goal.take_all_turns-requires-clause-circle
-take_all_turns-requires-clause-circle g c =
-    let count = ap length c.as_slice-boxes.ensures.value ∙ (c.in_ok-mailboxes.ensures.count ∙ c.len.ensures) in
+take_all_turns-requires-clause-circle g c κs within =
+    let count : length c.as_slice-boxes.result.now ≡ length c.args.nodes.items = omega (arith, ap length c.as_slice-boxes.ensures.value, c.in_ok-mailboxes.ensures.count, c.len.ensures) in
     subst (λ (n : ℕ). IsCircle n c.args.plan.now) (sym count) c.requires.circle
 
 pub absorb_all-requires-clause-jobs : goal.absorb_all-requires-clause-jobs
@@ -63,7 +63,7 @@ absorb_all-requires-clause-jobs g c =
     let olds = c.in_ok-jobs.jobs.items in
     let news = c.in_ok-jobs-2.jobs.items in
     let started = subst (λ (l : List (SharedNode Secrets)). AreStarted accepts_by nodes l firsts) (sym c.as_slice-places.ensures.value) c.in_ok-shared.ensures in
-    let count : length boxes ≡ length nodes = ap length c.as_slice-boxes.ensures.value ∙ (c.in_ok-mailboxes.ensures.count ∙ c.len.ensures) in
+    let count : length boxes ≡ length nodes = omega (arith, ap length c.as_slice-boxes.ensures.value, c.in_ok-mailboxes.ensures.count, c.len.ensures) in
     have_turned c.args.plan.now boxes nodes places firsts olds news
     (are_joined c.args.plan.now boxes nodes places firsts olds news c.in_ok-ended.ended.items started count c.in_ok-jobs.ensures.jobs c.in_ok-ended.ensures c.in_ok-jobs-2.ensures)
 
@@ -77,7 +77,7 @@ finish_all-requires-clause-seats g c =
     let news = c.in_ok-jobs-2.jobs.items in
     let lasts = c.in_ok-seats.seats.items in
     let started = subst (λ (l : List (SharedNode Secrets)). AreStarted accepts_by nodes l firsts) (sym c.as_slice-places.ensures.value) c.in_ok-shared.ensures in
-    let count : length boxes ≡ length nodes = ap length c.as_slice-boxes.ensures.value ∙ (c.in_ok-mailboxes.ensures.count ∙ c.len.ensures) in
+    let count : length boxes ≡ length nodes = omega (arith, ap length c.as_slice-boxes.ensures.value, c.in_ok-mailboxes.ensures.count, c.len.ensures) in
     let joined = are_joined c.args.plan.now boxes nodes places firsts olds news c.in_ok-ended.ended.items started count c.in_ok-jobs.ensures.jobs c.in_ok-ended.ensures c.in_ok-jobs-2.ensures in
     subst (λ (l : List (SharedNode Secrets)). AreSeats accepts_by l lasts) c.as_slice-places.ensures.value
     (lasts_are_seats c.args.plan.now boxes nodes places firsts olds news joined lasts c.in_ok-seats.ensures.back.seats)
@@ -92,7 +92,7 @@ finish_all-requires-clause-parts g c =
     let news = c.in_ok-jobs-2.jobs.items in
     let lasts = c.in_ok-seats.seats.items in
     let started = subst (λ (l : List (SharedNode Secrets)). AreStarted accepts_by nodes l firsts) (sym c.as_slice-places.ensures.value) c.in_ok-shared.ensures in
-    let count : length boxes ≡ length nodes = ap length c.as_slice-boxes.ensures.value ∙ (c.in_ok-mailboxes.ensures.count ∙ c.len.ensures) in
+    let count : length boxes ≡ length nodes = omega (arith, ap length c.as_slice-boxes.ensures.value, c.in_ok-mailboxes.ensures.count, c.len.ensures) in
     let joined = are_joined c.args.plan.now boxes nodes places firsts olds news c.in_ok-ended.ended.items started count c.in_ok-jobs.ensures.jobs c.in_ok-ended.ensures c.in_ok-jobs-2.ensures in
     lasts_have_all c.args.plan.now boxes nodes places firsts olds news joined lasts c.in_ok-seats.ensures.back.seats
 
@@ -107,7 +107,7 @@ returns-clause-session g c =
     let lasts = c.in_ok-seats.seats.items in
     let ends = c.in_ok-nodes.nodes.items in
     let started = subst (λ (l : List (SharedNode Secrets)). AreStarted accepts_by nodes l firsts) (sym c.as_slice-places.ensures.value) c.in_ok-shared.ensures in
-    let count : length boxes ≡ length nodes = ap length c.as_slice-boxes.ensures.value ∙ (c.in_ok-mailboxes.ensures.count ∙ c.len.ensures) in
+    let count : length boxes ≡ length nodes = omega (arith, ap length c.as_slice-boxes.ensures.value, c.in_ok-mailboxes.ensures.count, c.len.ensures) in
     let joined = are_joined c.args.plan.now boxes nodes places firsts olds news c.in_ok-ended.ended.items started count c.in_ok-jobs.ensures.jobs c.in_ok-ended.ensures c.in_ok-jobs-2.ensures in
     let whole = subst (λ (l : List (SharedNode Secrets)). AreWhole l lasts ends) (sym c.as_slice-places.ensures.value) c.in_ok-nodes.ensures in
     session_of c.args.plan.now boxes nodes places firsts olds news joined lasts c.in_ok-seats.ensures.back.seats ends whole
@@ -123,9 +123,9 @@ returns-clause-told g c =
     let lasts = c.in_ok-seats.seats.items in
     let ends = c.in_ok-nodes.nodes.items in
     let started = subst (λ (l : List (SharedNode Secrets)). AreStarted accepts_by nodes l firsts) (sym c.as_slice-places.ensures.value) c.in_ok-shared.ensures in
-    let count : length boxes ≡ length nodes = ap length c.as_slice-boxes.ensures.value ∙ (c.in_ok-mailboxes.ensures.count ∙ c.len.ensures) in
+    let count : length boxes ≡ length nodes = omega (arith, ap length c.as_slice-boxes.ensures.value, c.in_ok-mailboxes.ensures.count, c.len.ensures) in
     let joined = are_joined c.args.plan.now boxes nodes places firsts olds news c.in_ok-ended.ended.items started count c.in_ok-jobs.ensures.jobs c.in_ok-ended.ensures c.in_ok-jobs-2.ensures in
     let whole = subst (λ (l : List (SharedNode Secrets)). AreWhole l lasts ends) (sym c.as_slice-places.ensures.value) c.in_ok-nodes.ensures in
     let rooms = subst (HaveRoom c.args.room) (sym c.as_slice-boxes.ensures.value) c.in_ok-mailboxes.ensures.room in
-    are_told c.args.plan.now c.args.room boxes nodes ends places firsts lasts olds news c.absorb_all-seats.new.masters.items c.in_ok-seats.logs.items c.in_ok-left.left.items c.requires.new rooms
+    are_told c.args.plan.now c.args.room boxes nodes ends places firsts lasts olds news c.absorb_all.new.masters.items c.in_ok-seats.logs.items c.in_ok-left.left.items c.requires.new rooms
     joined c.in_ok-seats.ensures.back c.in_ok-seats.ensures.takes c.in_ok-left.ensures whole
