@@ -1,5 +1,4 @@
 use Rattle.std.proofs.Common.{◌≡◌, ℕ, List, length, sym, ap, ◌∙◌, subst, arith}
-use Rattle.hg_life.specs.NodeView.{NodeView}
 use Rattle.hg_life.specs.Signing.{accepts_by}
 use Rattle.hg_mail.specs.Mailboxes.{MailboxView}
 use Rattle.hg_board.specs.Seats.{SharedNode}
