@@ -1,5 +1,6 @@
 -- What the mailboxes' first ports know once all ports are back: what each member sent each, took and left
-use Rattle.std.specs.Prelude.{ℕ, zero, suc, ◌≡◌, ◌≢◌, ◌+◌, ◌<◌, ◌≤◌, ◌⊎◌, Bool, true, nat_le, cond, List, [], ◌∷◌, ◌++◌, Vec, length, take, get_or, map}
+use Rattle.std.specs.Prelude.{ℕ, zero, suc, ◌≡◌, ◌≢◌, ◌+◌, ◌<◌, ◌≤◌, ◌==◌, ◌⊎◌, Bool, true, nat_le, cond, List, [], ◌∷◌, ◌++◌, Vec, length, take, get_or, map, count_by}
+use Rattle.hg_model.specs.declared.row.Row.{Row}
 use Rattle.hg_life.specs.Signing.{accepts_by}
 use Rattle.hg_life.specs.Spelling.{spelling}
 use Rattle.hg_life.specs.NodeView.{NodeView, node_rows}
@@ -125,10 +126,15 @@ pub record AreEmptied {Z : Type 0} (tale : Tale) (n : ℕ) (mails : List Mailbox
 
 -- ---- what all members did, by their numbers, and their nodes then
 
--- of one member, whose node is this: its rows that were made and its turns that made none are all its turns, each of the
--- latter has its cause, and what it took is held or was refused
+-- how many of the rows a member made
+abbrev pub rows_by : ℕ → List Row → ℕ
+rows_by m rows = count_by (λ (row : Row). row.creator == m) rows
+
+-- of one member, whose node is this: its own rows and its turns that made none are together as many as all its turns, each
+-- of the latter has its cause, and what it took is held or was refused
 pub record IsTold (plan : Plan) (k : ℕ) (p : SharedNode Secrets) (node : NodeView Secrets) (log : Log) : Type 0 where
   pub start : p.start.start ≡ node.start
+  pub rows : rows_by node.start.own (node_rows node) + log.idle ≡ turns_of plan k
   pub idle : AreIdle p node.history (turns_of plan k) log.idle
   pub fates : EndsWithFates accepts_by p node log.intake.taken.items log.intake.refused.items
 

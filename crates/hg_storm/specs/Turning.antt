@@ -46,9 +46,9 @@ AreIdle p history (suc t) idle =
 -- ---- what was sent to one member
 
 -- how many rows were due to a member, and what is left of them: some were where a turn drew it, and of those all were sent
--- unless its mailbox was full
+-- unless its mailbox was full; without a draw its mailbox was not found full
 pub record IsCounted (Drawn : Type 0) (rows turns : ℕ) (d : Dispatch) : Type 0 where
-  pub drawn : 0 < d.due → Drawn
+  pub drawn : 0 < d.due + d.full → Drawn
   pub due : Drawn → 0 < d.due
   pub late : d.due ≤ rows
   pub sent : d.full ≡ 0 → d.sent ≡ d.due

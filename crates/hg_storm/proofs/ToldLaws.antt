@@ -1,0 +1,323 @@
+-- What became of each member: the rows that it made, what came of its messages, and what it sent
+use Rattle.std.proofs.Common.{◌≡◌, ◌≢◌, ℕ, zero, suc, ◌+◌, ◌<◌, ◌≤◌, Bool, true, false, cond, eqb, eq-eqb, List, [], ◌∷◌, ◌++◌, length, map, get_or, fold, Some, refl, sym, ap, ◌∙◌, subst, arith}
+use Rattle.std.specs.Prelude.{All, Vec, count_by}
+use mathlib.Core.Logic.{dite}
+use native.Mathlib.Decide.{ℕ_discrete}
+use Rattle.std.proofs.lemmas.Bool.{true≢false}
+use Rattle.std.proofs.lemmas.List.Sums.{sum_by-append, sum_by-cons}
+use Rattle.std.proofs.lemmas.List.{get_or-map, length-map}
+use Rattle.hg_model.specs.declared.row.Row.{Row}
+use Rattle.hg_model.specs.Stakes.{Stakes}
+use Rattle.hg_life.specs.History.{AreSteps, Change, State, empty, replay, step, with_marks, with_row}
+use Rattle.hg_life.specs.History.Change.{Took, Made, Marked}
+use Rattle.hg_life.specs.NodeView.{IsNode, NodeView, node_rows}
+use Rattle.hg_life.specs.Signing.{Accepts, accepts_by}
+use Rattle.hg_life.specs.Spelling.{spelling}
+use Rattle.hg_history.proofs.RuleLaws.{taken_is}
+use Rattle.hg_mail.specs.declared.message.Message.{Message}
+use Rattle.hg_mail.specs.Messages.{messages_of}
+use Rattle.hg_mail.specs.Mailboxes.{MailboxView, PortView}
+use Rattle.hg_board.specs.Positions.{AreBelow, times}
+use Rattle.hg_board.specs.Seats.{SharedNode, SeatView}
+use Rattle.hg_board.specs.Calls.{Absorbs, IsStarted, IsWhole}
+use Rattle.hg_board.proofs.PositionLaws.{below_more, times-append, times_apart, times_cons, times_none}
+use Rattle.hg_board.proofs.PrefixLaws.{prefix_length}
+use Rattle.hg_crowd.specs.Crowd.{IsEnded}
+use Rattle.hg_crowd.specs.Workers.{AreWhole}
+use Rattle.hg_crowd.proofs.EndLaws.{ended}
+use Rattle.hg_crowd.proofs.ListLaws.{some_of}
+use Rattle.hg_crowd.proofs.WorkLaws.{worked_none}
+use Rattle.hg_storm.specs.declared.plan.Plan.{Plan}
+use Rattle.hg_storm.specs.declared.desk.Job.{Job}
+use Rattle.hg_storm.specs.declared.desk.Log.{Log}
+use Rattle.hg_storm.specs.Drawing.{HasDrawn}
+use Rattle.hg_storm.specs.Keeping.{Secrets, is_made, rows_made}
+use Rattle.hg_storm.specs.Sending.{bytes_seen}
+use Rattle.hg_storm.specs.Threads.{HaveRoom, no_dispatch, place_of, turns_of}
+use Rattle.hg_storm.specs.Turning.{IsCounted}
+use Rattle.hg_storm.specs.Joins.{AreAbsorbed, AreEmptied, AreTold, EmptyAll, IsSentTo, IsTold, TakeOut, dispatch_to, put_by, put_to, rows_by, rows_of_node, sum_below, tale_of, tale_told}
+use Rattle.hg_storm.proofs.CloseLaws.{all_are_emptied}
+use Rattle.hg_storm.proofs.EndLaws.{fates_last}
+use Rattle.hg_storm.proofs.MadeLaws.{is_made_in, made_front}
+use Rattle.hg_storm.proofs.ThreadLaws.{AreJoined, IsDone, absorbed_at, done_at, news_count}
+use Rattle.hg_storm.proofs.TurnLaws.{idle_later}
+
+-- ---- the rows of a node's own member are those that its history made
+
+-- how many changes made a row
+abbrev made_in : List Change → ℕ
+made_in h = count_by (λ (e : Change). is_made (Some e)) h
+
+made_cons : (e : Change) (h : List Change) → made_in (e ∷ h) ≡ cond (is_made (Some e)) 1 0 + made_in h
+made_cons e h = sum_by-cons (λ (x : Change). cond (is_made (Some x)) 1 0) e h
+
+module _ (own : ℕ) (G : List Row) (row : Row) where
+  abbrev one_if : Row → ℕ
+  one_if r = cond (eqb r.creator own) 1 0
+
+  by_push : rows_by own (G ++ row ∷ []) ≡ rows_by own G + one_if row
+  by_push =
+      let all : rows_by own (G ++ row ∷ []) ≡ rows_by own G + rows_by own (row ∷ []) = sum_by-append one_if G (row ∷ []) in
+      let last : rows_by own (row ∷ []) ≡ one_if row + 0 = sum_by-cons one_if row [] in
+      omega (arith, all, last)
+
+  by_other : row.creator ≢ own → rows_by own (G ++ row ∷ []) ≡ rows_by own G
+  by_other ne = let none : one_if row ≡ 0 = times_apart own row.creator ne in omega (arith, by_push, none)
+
+  by_itself : row.creator ≡ own → rows_by own (G ++ row ∷ []) ≡ rows_by own G + 1
+  by_itself is = let one : one_if row ≡ 1 = ap (λ (b : Bool). cond b 1 0) (eq-eqb row.creator own is) in omega (arith, by_push, one)
+
+module _ (accepts : Accepts) (n : Stakes) (c own : ℕ) where
+  own_from : (s : State) (h : List Change) → AreSteps accepts n c own s h → rows_by own (fold (step n c) s h).rows ≡ rows_by own s.rows + made_in h
+  own_from s [] steps = let none : made_in [] ≡ 0 = refl in omega (arith, none)
+  own_from s (Took row ∷ h) steps =
+      let rest : rows_by own (fold (step n c) (with_row n s row) h).rows ≡ rows_by own (s.rows ++ row ∷ []) + made_in h = own_from (with_row n s row) h steps.1 in
+      let more : made_in (Took row ∷ h) ≡ 0 + made_in h = made_cons (Took row) h in
+      omega (arith, rest, more, by_other own s.rows row (taken_is accepts n own s.rows row steps.0).by_other)
+  own_from s (Made row ∷ h) steps =
+      let rest : rows_by own (fold (step n c) (with_row n s row) h).rows ≡ rows_by own (s.rows ++ row ∷ []) + made_in h = own_from (with_row n s row) h steps.1 in
+      let more : made_in (Made row ∷ h) ≡ 1 + made_in h = made_cons (Made row) h in
+      omega (arith, rest, more, by_itself own s.rows row (ap (λ (r : Row). r.creator) steps.0.fields))
+  own_from s (Marked len share ∷ h) steps =
+      let rest : rows_by own (fold (step n c) (with_marks n c s len share) h).rows ≡ rows_by own s.rows + made_in h = own_from (with_marks n c s len share) h steps.1 in
+      let more : made_in (Marked len share ∷ h) ≡ 0 + made_in h = made_cons (Marked len share) h in
+      omega (arith, rest, more)
+
+own_made : (accepts : Secrets → Accepts) (v : NodeView Secrets) → IsNode accepts v → rows_by v.start.own (node_rows v) ≡ made_in v.history
+unfolding replay
+own_made accepts v is =
+    let all : rows_by v.start.own (node_rows v) ≡ rows_by v.start.own [] + made_in v.history = own_from (accepts v.start.keys) v.start.members v.start.coin v.start.own empty v.history is.history.steps in
+    let none : rows_by v.start.own [] ≡ 0 = refl in
+    omega (arith, all, none)
+
+-- ---- positions of a history that each stand in a list at most once
+
+assoc : (a b c : ℕ) → (a + b) + c ≡ a + (b + c)
+assoc a b c = omega arith
+
+-- how many of the first positions pass a test
+abbrev passing : ℕ → (ℕ → Bool) → ℕ
+passing zero f = 0
+passing (suc n) f = passing n f + cond (f n) 1 0
+
+passing_on : (n : ℕ) (f : ℕ → Bool) → passing (suc n) f ≡ cond (f 0) 1 0 + passing n (λ q. f (suc q))
+passing_on zero f = omega arith
+passing_on (suc n) f = ap (λ (k : ℕ). k + cond (f (suc n)) 1 0) (passing_on n f) ∙ assoc (cond (f 0) 1 0) (passing n (λ q. f (suc q))) (cond (f (suc n)) 1 0)
+
+made_passing : (h : List Change) → passing (length h) (is_made_in h) ≡ made_in h
+made_passing [] = refl
+made_passing (e ∷ h) = passing_on (length h) (is_made_in (e ∷ h)) ∙ (ap (λ (k : ℕ). cond (is_made (Some e)) 1 0 + k) (made_passing h) ∙ sym (made_cons e h))
+
+-- of each of the first positions that passes, how often it stands in a list
+abbrev standing : ℕ → (ℕ → Bool) → List ℕ → ℕ
+standing zero f qs = 0
+standing (suc n) f qs = standing n f qs + cond (f n) (times n qs) 0
+
+standing_none : (n : ℕ) (f : ℕ → Bool) → standing n f [] ≡ 0
+standing_none zero f = refl
+standing_none (suc n) f = both (standing n f []) (times n []) (f n) (standing_none n f) (times_none n)
+  where
+    both : (a k : ℕ) (b : Bool) → a ≡ 0 → k ≡ 0 → a + cond b k 0 ≡ 0
+    both a k true first second = omega (arith, first, second)
+    both a k false first second = omega (arith, first)
+
+standing_past : (n : ℕ) (f : ℕ → Bool) (q : ℕ) (qs : List ℕ) → n ≤ q → standing n f (q ∷ qs) ≡ standing n f qs
+standing_past zero f q qs past = refl
+standing_past (suc n) f q qs past =
+    let apart = times_apart n q (λ e. let same : q ≡ n = e in omega (arith, same, past)) in
+    let other : times n (q ∷ qs) ≡ times n qs = omega (arith, times_cons n q qs, apart) in
+    λ i. standing_past n f q qs (omega (arith, past)) i + cond (f n) (other i) 0
+
+standing_one : (n : ℕ) (f : ℕ → Bool) (q : ℕ) (qs : List ℕ) → q < n → standing n f (q ∷ qs) ≡ cond (f q) 1 0 + standing n f qs
+standing_one zero f q qs low = absurd (omega (arith, low))
+standing_one (suc n) f q qs low = dite (ℕ_discrete q n)
+    (λ e.
+    let same : q ≡ n = e in
+    let one : ◌≡◌ {A = ℕ} (cond (eqb q n) 1 0) 1 = ap (λ (b : Bool). cond b 1 0) (eq-eqb q n same) in
+    let more : times n (q ∷ qs) ≡ 1 + times n qs = omega (arith, times_cons n q qs, one) in
+    let front : standing n f (q ∷ qs) ≡ standing n f qs = standing_past n f q qs (omega (arith, same)) in
+    (λ i. front i + cond (f n) (more i) 0) ∙ (put (standing n f qs) (f n) (times n qs) ∙ ap (λ (k : ℕ). cond (f k) 1 0 + standing (suc n) f qs) (sym same)))
+    (λ ne.
+    let other : times n (q ∷ qs) ≡ times n qs = omega (arith, times_cons n q qs, times_apart n q ne) in
+    (λ i. standing_one n f q qs (omega (arith, low, ne)) i + cond (f n) (other i) 0) ∙ assoc (cond (f q) 1 0) (standing n f qs) (cond (f n) (times n qs) 0))
+  where
+    put : (s : ℕ) (b : Bool) (k : ℕ) → s + cond b (1 + k) 0 ≡ cond b 1 0 + (s + cond b k 0)
+    put s true k = omega arith
+    put s false k = omega arith
+
+count_standing : (n : ℕ) (f : ℕ → Bool) (qs : List ℕ) → AreBelow n qs → count_by f qs ≡ standing n f qs
+count_standing n f [] below = sym (standing_none n f)
+count_standing n f (q ∷ qs) below =
+    sum_by-cons (λ (y : ℕ). cond (f y) 1 0) q qs ∙ (ap (λ (k : ℕ). cond (f q) 1 0 + k) (count_standing n f qs below.1) ∙ sym (standing_one n f q qs below.0))
+
+standing_passing : (n : ℕ) (f : ℕ → Bool) (qs : List ℕ) → ((q : ℕ) → q < n → f q ≡ true → times q qs ≡ 1) → standing n f qs ≡ passing n f
+standing_passing zero f qs once = refl
+standing_passing (suc n) f qs once =
+    let last : ◌≡◌ {A = ℕ} (cond (f n) (times n qs) 0) (cond (f n) 1 0) = one (f n) (times n qs) (once n (omega arith)) in
+    λ i. standing_passing n f qs (λ q low. once q (omega (arith, low))) i + last i
+  where
+    one : (b : Bool) (k : ℕ) → (b ≡ true → k ≡ 1) → ◌≡◌ {A = ℕ} (cond b k 0) (cond b 1 0)
+    one true k is = is refl
+    one false k is = refl
+
+-- where each change that made a row stands once in a list of positions, these are as many
+made_all : (h : List Change) (qs : List ℕ) → AreBelow (length h) qs → ((q : ℕ) → q < length h → is_made_in h q ≡ true → times q qs ≡ 1) → count_by (is_made_in h) qs ≡ made_in h
+made_all h qs below once = count_standing (length h) (is_made_in h) qs below ∙ (standing_passing (length h) (is_made_in h) qs once ∙ made_passing h)
+
+-- ---- one member
+
+module _ (plan : Plan) (mails : List MailboxView) (k : ℕ) (p : SharedNode Secrets) (first back : SeatView Secrets) (begun node : NodeView Secrets) (j : Job)
+    (started : IsStarted accepts_by p begun first) (new : begun.history ≡ []) (done : IsDone plan mails p first k j) (absorbs : Absorbs accepts_by p j.seat j.desk.seat back) (whole : IsWhole p back node) where
+  its_end : IsEnded p j.desk.seat node
+  its_end = ended accepts_by p first j.desk.seat j.seat back back begun node started done.still done.stands.seat done.worked absorbs (worked_none back) whole
+
+  from_none : p.start.history ≡ []
+  from_none = ap (λ (v : NodeView Secrets). v.history) started.start ∙ new
+
+  at_most_once : (q : ℕ) → times q j.desk.seat.mine ≤ 1
+  at_most_once q =
+      let all : times q back.mine ≡ times q j.seat.mine + times q j.desk.seat.mine = ap (times q) absorbs.mine ∙ times-append q j.seat.mine j.desk.seat.mine in
+      omega (arith, all, absorbs.once q)
+
+  -- each change that made a row was made by the member's calls
+  own_change : (q : ℕ) → q < length node.history → is_made_in node.history q ≡ true → times q j.desk.seat.mine ≡ 1
+  own_change q low made = dite (ℕ_discrete (times q j.desk.seat.mine) 0)
+      (λ none. absurd (true≢false (sym made ∙ ap is_made (its_end.marks q (omega (arith, ap length from_none)) low none).2)))
+      (λ some. omega (arith, some, at_most_once q))
+
+  own_rows : rows_by node.start.own (node_rows node) + j.desk.log.idle ≡ turns_of plan k
+  own_rows =
+      let lawful : IsNode accepts_by node = subst (IsNode accepts_by) (sym whole.seen) absorbs.node in
+      let within = done.stands.seat.within in
+      let h : List Change = node.history in
+      let below : AreBelow (length h) j.desk.seat.mine = below_more (length j.desk.seat.seen) (length h) j.desk.seat.mine (prefix_length j.desk.seat.seen h its_end.later) within in
+      let all : rows_by node.start.own (node_rows node) ≡ made_in h = own_made accepts_by node lawful in
+      let those : count_by (is_made_in h) j.desk.seat.mine ≡ made_in h = made_all h j.desk.seat.mine below own_change in
+      let early : count_by (is_made_in h) j.desk.seat.mine ≡ rows_made j.desk.seat = made_front j.desk.seat.seen h j.desk.seat.mine its_end.later within in
+      let counted : rows_made j.desk.seat + j.desk.log.idle ≡ turns_of plan k = done.stands.rows in
+      omega (arith, all, those, early, counted)
+
+  pub is_told : IsTold plan k p node j.desk.log
+  is_told = record {
+    start = sym its_end.start;
+    rows = own_rows;
+    idle = idle_later p j.desk.seat.seen node.history its_end.later (turns_of plan k) j.desk.log.idle done.stands.idle;
+    fates = fates_last Secrets accepts_by p j.desk.seat node j.desk.log.intake.taken.items j.desk.log.intake.refused.items from_none its_end done.stands.fates;
+  }
+
+  pub same_rows : bytes_seen p j.desk.seat ≡ rows_of_node node
+  same_rows = sym (ap (map spelling) its_end.rows)
+
+  -- what it sent to another
+  pub is_sent_to : (to : ℕ) → to < length mails → IsSentTo plan k to (rows_of_node node) j.desk.log
+  is_sent_to to inside =
+      let all = done.stands.served in
+      let m : MailboxView = some_of mails to inside in
+      let q : PortView = some_of j.desk.ports.items to (omega (arith, inside, all.ports)) in
+      let served = all.each to m no_dispatch q inside in
+      record {
+        within = subst (λ (rows : List (List ℕ)). (dispatch_to j.desk.log to).sent ≤ length rows) same_rows served.sent.within;
+        counted = subst (λ (x : ℕ × List (List ℕ)). IsCounted (HasDrawn plan x.0 (place_of plan k) (turns_of plan k) to) (length x.1) (turns_of plan k) (dispatch_to j.desk.log to))
+            (λ i. (done.me i, same_rows i)) served.counted;
+      }
+
+-- ---- all of them
+
+sum_same : (n : ℕ) (f g : ℕ → ℕ) → ((j : ℕ) → j < n → f j ≡ g j) → sum_below n f ≡ sum_below n g
+sum_same zero f g same = refl
+sum_same (suc n) f g same = λ i. sum_same n f g (λ j low. same j (omega (arith, low))) i + same n (omega arith) i
+
+module _ {Z : Type 0} (plan : Plan) (room : ℕ) (mails : List MailboxView) (nodes ends : List (NodeView Secrets)) (places : List (SharedNode Secrets)) (firsts lasts : List (SeatView Secrets)) (olds news : List Job)
+    (masters : List PortView) (logs : List Log) (left : List (Vec Message Z)) (none : All (λ (v : NodeView Secrets). v.history ≡ []) nodes) (rooms : HaveRoom room mails)
+    (joined : AreJoined plan mails nodes places firsts olds news) (absorbed : AreAbsorbed mails places news masters lasts logs) (takes : TakeOut mails masters) (emptied : EmptyAll masters left) (whole : AreWhole places lasts ends) where
+  jobs_count : length news ≡ length ends
+  jobs_count = omega (arith, news_count plan mails nodes places firsts olds news joined, joined.seats.count, whole.shared_count)
+
+  mails_count : length mails ≡ length ends
+  mails_count = omega (arith, joined.count, joined.started.shared_count, whole.shared_count)
+
+  log_is : (k : ℕ) (g : Log) (d : Job) → k < length ends → (get_or news k d).desk.log ≡ get_or logs k g
+  log_is k g d inside =
+      sym (ap (λ (ls : List Log). get_or ls k g) absorbed.logs ∙ get_or-map (λ (j : Job). j.desk.log) news k d g (omega (arith, inside, jobs_count)))
+
+  module _ (k : ℕ) (p : SharedNode Secrets) (v : NodeView Secrets) (d : Job) (inside : k < length ends) where
+    there : k < length firsts
+    there = omega (arith, inside, joined.seats.count, whole.shared_count)
+
+    here : k < length nodes
+    here = omega (arith, inside, joined.started.shared_count, whole.shared_count)
+
+    a_seat : SeatView Secrets
+    a_seat = some_of firsts k there
+
+    its_start : IsStarted accepts_by (get_or places k p) (get_or nodes k v) (get_or firsts k a_seat)
+    its_start = joined.started.each k v p a_seat here
+
+    its_turns : IsDone plan mails (get_or places k p) (get_or firsts k a_seat) k (get_or news k d)
+    its_turns = done_at plan mails nodes places firsts olds news joined k p a_seat d there
+
+    its_seats : Absorbs accepts_by (get_or places k p) (get_or news k d).seat (get_or news k d).desk.seat (get_or lasts k a_seat)
+    its_seats = absorbed_at plan mails nodes places firsts olds news joined lasts absorbed.seats k p a_seat d there
+
+    its_node : IsWhole (get_or places k p) (get_or lasts k a_seat) (get_or ends k v)
+    its_node = whole.each k p a_seat v inside
+
+    told_at : IsTold plan k (get_or places k p) (get_or ends k v) (get_or news k d).desk.log
+    told_at = is_told plan mails k (get_or places k p) (get_or firsts k a_seat) (get_or lasts k a_seat) (get_or nodes k v) (get_or ends k v) (get_or news k d) its_start (none k v here) its_turns its_seats its_node
+
+    rows_at : bytes_seen (get_or places k p) (get_or news k d).desk.seat ≡ rows_of_node (get_or ends k v)
+    rows_at = same_rows plan mails k (get_or places k p) (get_or firsts k a_seat) (get_or lasts k a_seat) (get_or nodes k v) (get_or ends k v) (get_or news k d) its_start (none k v here) its_turns its_seats its_node
+
+    sent_at : (to : ℕ) → to < length mails → IsSentTo plan k to (rows_of_node (get_or ends k v)) (get_or news k d).desk.log
+    sent_at = is_sent_to plan mails k (get_or places k p) (get_or firsts k a_seat) (get_or lasts k a_seat) (get_or nodes k v) (get_or ends k v) (get_or news k d) its_start (none k v here) its_turns its_seats its_node
+
+  some_place : (k : ℕ) → k < length ends → SharedNode Secrets
+  some_place k inside = some_of places k (omega (arith, inside, whole.shared_count))
+
+  some_job : (k : ℕ) → k < length ends → Job
+  some_job k inside = some_of news k (omega (arith, inside, jobs_count))
+
+  -- what the first ports know is what nodes and logs tell
+  put_same : (j k : ℕ) (p : SharedNode Secrets) (d : Job) (v : NodeView Secrets) (g : Log) → j < length ends → (tale_of places news p d).put j k ≡ (tale_told ends logs v g).put j k
+  put_same j k p d v g inside = λ i. put_by j (rows_at j p v d inside i) (log_is j g d inside i) k
+
+  module _ (j k : ℕ) (v : NodeView Secrets) (g : Log) (j_in : j < length ends) (k_in : k < length ends) where
+    rest : AreEmptied (tale_of places news (some_place j j_in) (some_job j j_in)) (length mails) mails left
+    rest = all_are_emptied (tale_of places news (some_place j j_in) (some_job j j_in)) (length mails) mails masters left (omega arith) (absorbed.back (some_place j j_in) (some_job j j_in)) emptied
+
+    sender_in : j < length mails
+    sender_in = omega (arith, j_in, mails_count)
+
+    taker_in : k < length mails
+    taker_in = omega (arith, k_in, mails_count)
+
+    mail_told : (l : Vec Message Z) → (tale_told ends logs v g).put j k ≡ messages_of j (get_or logs k g).intake.taken.items ++ messages_of j (get_or left k l).items
+    mail_told l =
+        sym (put_same j k (some_place j j_in) (some_job j j_in) v g j_in)
+        ∙ (rest.mail j k l sender_in taker_in ∙ ap (λ (log : Log). messages_of j log.intake.taken.items ++ messages_of j (get_or left k l).items) (log_is k g (some_job j j_in) k_in))
+
+    full_told : 0 < (dispatch_to (get_or logs j g) k).full → room ≤ put_to (tale_told ends logs v g) (length ends) k
+    full_told often =
+        let m : MailboxView = some_of mails k taker_in in
+        let some : 0 < (dispatch_to (get_or news j (some_job j j_in)).desk.log k).full = subst (λ (log : Log). 0 < (dispatch_to log k).full) (sym (log_is j g (some_job j j_in) j_in)) often in
+        let held : (get_or mails k m).room ≤ put_to (tale_of places news (some_place j j_in) (some_job j j_in)) (length mails) k = rest.full j k m sender_in taker_in some in
+        let fits : (get_or mails k m).room ≡ room = rooms k m taker_in in
+        let sums : put_to (tale_of places news (some_place j j_in) (some_job j j_in)) (length ends) k ≡ put_to (tale_told ends logs v g) (length ends) k =
+        sum_same (length ends) _ _ (λ i low. ap length (put_same i k (some_place j j_in) (some_job j j_in) v g low)) in
+        let whole_sum : put_to (tale_of places news (some_place j j_in) (some_job j j_in)) (length mails) k ≡ put_to (tale_told ends logs v g) (length ends) k =
+        ap (λ (n : ℕ). put_to (tale_of places news (some_place j j_in) (some_job j j_in)) n k) mails_count ∙ sums in
+        omega (arith, held, fits, whole_sum)
+
+  pub are_told : AreTold plan room ends logs left
+  are_told = record {
+    logs_count = ap length absorbed.logs ∙ (length-map news (λ (j : Job). j.desk.log) ∙ jobs_count);
+    left_count = omega (arith, emptied.count, takes.count, mails_count);
+    sent = λ j k v g j_in k_in. subst (IsSentTo plan j k (rows_of_node (get_or ends j v))) (log_is j g (some_job j j_in) j_in)
+        (sent_at j (some_place j j_in) v (some_job j j_in) j_in k (omega (arith, k_in, mails_count)));
+    mail = λ j k v g l j_in k_in. mail_told j k v g j_in k_in l;
+    full = λ j k v g j_in k_in often. full_told j k v g j_in k_in often;
+    each = λ k v g inside. (
+      get_or places k (some_place k inside),
+      subst (IsTold plan k (get_or places k (some_place k inside)) (get_or ends k v)) (log_is k g (some_job k inside) inside) (told_at k (some_place k inside) v (some_job k inside) inside),
+    );
+  }
