@@ -96,18 +96,25 @@ module _ (nodes ends : List (NodeView Secrets)) (session : HasSession nodes ends
         },
       )
 
-  -- where they were those of the members' new world, they make a world of the same members
-  pub ends_again : (members : MemberList) → IsMemberList members → nodes ≡ nodes_of (new_world members) → (w : WorldView) → w.sites ≡ unfrozen ends →
-      w.members ≡ (nth_node ends 0).start.members → w.coin ≡ (nth_node ends 0).start.coin → w ≡ world_again members ends
-  ends_again members lawful are w sites stakes coin =
-      let many : length nodes ≡ length members.entries = ap length are ∙ begun_count members in
-      let first : (nth_node nodes 0) ≡ new_node members 0 =
-      ap (λ (vs : List (NodeView Secrets)). nth_node vs 0) are ∙ begun_at members 0 no_node (omega (arith, lawful.some, begun_count members)) in
-      let start : (nth_node ends 0).start ≡ (new_node members 0).start =
-      same_start 0 (omega (arith, lawful.some, many, ends_count)) ∙ ap (λ (v : NodeView Secrets). v.start) first in
-      ap (λ (n : Stakes). world_of n w.coin w.sites) (stakes ∙ ap (λ (s : Start Secrets). s.members) start)
-      ∙ (ap (λ (c : ℕ). world_of (stakes_of members) c w.sites) (coin ∙ ap (λ (s : Start Secrets). s.coin) start)
-      ∙ ap (world_of (stakes_of members) members.coin) sites)
+  -- where they were those of the members' new world
+  module _ (members : MemberList) (lawful : IsMemberList members) (are : nodes ≡ nodes_of (new_world members)) where
+    pub ends_many : length ends ≡ length members.entries
+    ends_many = ends_count ∙ (ap length are ∙ begun_count members)
+
+    -- they are the members' still
+    pub ends_start : (m : ℕ) → m < length ends → (nth_node ends m).start ≡ (new_node members m).start
+    ends_start m low =
+        let begun_here : nth_node nodes m ≡ new_node members m =
+        ap (λ (vs : List (NodeView Secrets)). nth_node vs m) are ∙ begun_at members m no_node (omega (arith, low, ends_many, begun_count members)) in
+        same_start m low ∙ ap (λ (v : NodeView Secrets). v.start) begun_here
+
+    -- and make a world of the same members
+    pub ends_again : (w : WorldView) → w.sites ≡ unfrozen ends → w.members ≡ (nth_node ends 0).start.members → w.coin ≡ (nth_node ends 0).start.coin → w ≡ world_again members ends
+    ends_again w sites stakes coin =
+        let first = ends_start 0 (omega (arith, lawful.some, ends_many)) in
+        ap (λ (n : Stakes). world_of n w.coin w.sites) (stakes ∙ ap (λ (s : Start Secrets). s.members) first)
+        ∙ (ap (λ (c : ℕ). world_of (stakes_of members) c w.sites) (coin ∙ ap (λ (s : Start Secrets). s.coin) first)
+        ∙ ap (world_of (stakes_of members) members.coin) sites)
 
 -- members of the world of these nodes
 pub world_count : (w : WorldView) (nodes ends : List (NodeView Secrets)) → HasSession nodes ends → w.sites ≡ unfrozen ends → length w.sites ≡ length nodes

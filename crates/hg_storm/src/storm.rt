@@ -120,8 +120,9 @@ pub fn storm<C: Crew + Sync, G: Gate + Sync, R: Threads + Wait + Sync>(
         seed,
     };
     members.is_lawful();
-    let begun = World::new(alloc, members)?.into_nodes();
-    let Joined { nodes, logs, left } = run_threads(rt, alloc, begun, &plan, room, crew, gate)?;
+    let begun = World::new(alloc, members)?;
+    let first = begun.into_nodes();
+    let Joined { nodes, logs, left } = run_threads(rt, alloc, first, &plan, room, crew, gate)?;
     let ended = lengths(alloc, nodes.as_slice())?;
     let Ok(mut world) = World::from_nodes(alloc, nodes) else {
         return Err(Memory);
