@@ -1,7 +1,7 @@
 use Rattle.std.proofs.Common.{ℕ, ◌∙◌, arith}
 use Rattle.hg_world.specs.Syncs.{pull_steps}
 use Rattle.hg_storm.proofs.WorldLaws.{all_sites, member_read, pull_all, pull_more, some_sites}
-use Rattle.hg_storm.proofs.storm.pull_to.Goals as goal
+use Rattle.hg_storm.proofs.gathering.pull_to.Goals as goal
 
 pub pull-requires-clause-taker : goal.pull-requires-clause-taker
 pull-requires-clause-taker c = omega (arith, c.requires.first, c.loop-peer.invariant.sites)

@@ -1,7 +1,7 @@
 use Rattle.std.proofs.Common.{◌∙◌, arith}
 use Rattle.hg_world.specs.Steps.{settle_steps}
 use Rattle.hg_storm.proofs.WorldLaws.{all_sites, member_read, settle_all, settle_more}
-use Rattle.hg_storm.proofs.storm.settle_each.Goals as goal
+use Rattle.hg_storm.proofs.gathering.settle_each.Goals as goal
 
 pub settle-requires : goal.settle-requires
 settle-requires c =

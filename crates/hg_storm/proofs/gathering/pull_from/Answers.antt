@@ -1,7 +1,7 @@
 use Rattle.std.proofs.Common.{ℕ, ◌∙◌, arith}
 use Rattle.hg_world.specs.Syncs.{pull_steps}
 use Rattle.hg_storm.proofs.WorldLaws.{all_sites, member_read, pull_all, pull_more, some_sites}
-use Rattle.hg_storm.proofs.storm.pull_from.Goals as goal
+use Rattle.hg_storm.proofs.gathering.pull_from.Goals as goal
 
 pub pull-requires-clause-peer : goal.pull-requires-clause-peer
 pull-requires-clause-peer c = omega (arith, c.requires.first, c.loop-taker.invariant.sites)

@@ -1,5 +1,5 @@
 use Rattle.hg_storm.proofs.WorldLaws.{first_member, first_still, pulled_each, rest_members, rest_still}
-use Rattle.hg_storm.proofs.storm.pull_each.Goals as goal
+use Rattle.hg_storm.proofs.gathering.pull_each.Goals as goal
 
 pub pull_to-requires-clause-first : goal.pull_to-requires-clause-first
 pull_to-requires-clause-first c = first_member c.args.world.now c.args.circle.now c.in-Some.first c.in-Some.rest.now c.in-Some.ensures.cases.0 c.requires
