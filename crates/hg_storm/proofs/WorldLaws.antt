@@ -43,6 +43,9 @@ module _ (members : MemberList) where
         members = subst (All (λ m. m < count)) (sym is) below;
       })
 
+  pub circle_members : (w : WorldView) (circle : List ℕ) → circle ≡ circle_of members → length w.sites ≡ count → All (λ k. k < length w.sites) circle
+  circle_members w circle is many = subst (λ (n : ℕ). All (λ k. k < n) circle) (sym many) (subst (All (λ m. m < count)) (sym is) below)
+
   abbrev begun : List (NodeView Secrets)
   begun = nodes_of (new_world members)
 
@@ -108,6 +111,9 @@ module _ (nodes ends : List (NodeView Secrets)) (session : HasSession nodes ends
         ap (λ (vs : List (NodeView Secrets)). nth_node vs m) are ∙ begun_at members m no_node (omega (arith, low, ends_many, begun_count members)) in
         same_start m low ∙ ap (λ (v : NodeView Secrets). v.start) begun_here
 
+    pub world_count : (w : WorldView) → w.sites ≡ unfrozen ends → length w.sites ≡ length members.entries
+    world_count w sites = ap length sites ∙ (length-map ends (λ (v : NodeView Secrets). site_of v (replicate worker_limit 0)) ∙ ends_many)
+
     -- and make a world of the same members
     pub ends_again : (w : WorldView) → w.sites ≡ unfrozen ends → w.members ≡ (nth_node ends 0).start.members → w.coin ≡ (nth_node ends 0).start.coin → w ≡ world_again members ends
     ends_again w sites stakes coin =
@@ -115,11 +121,6 @@ module _ (nodes ends : List (NodeView Secrets)) (session : HasSession nodes ends
         ap (λ (n : Stakes). world_of n w.coin w.sites) (stakes ∙ ap (λ (s : Start Secrets). s.members) first)
         ∙ (ap (λ (c : ℕ). world_of (stakes_of members) c w.sites) (coin ∙ ap (λ (s : Start Secrets). s.coin) first)
         ∙ ap (world_of (stakes_of members) members.coin) sites)
-
--- members of the world of these nodes
-pub world_count : (w : WorldView) (nodes ends : List (NodeView Secrets)) → HasSession nodes ends → w.sites ≡ unfrozen ends → length w.sites ≡ length nodes
-world_count w nodes ends session sites =
-    ap length sites ∙ (length-map ends (λ (v : NodeView Secrets). site_of v (replicate worker_limit 0)) ∙ ends_count nodes ends session)
 
 -- how many changes each has, one more
 pub lengths_more : (nodes : List (NodeView Secrets)) (i : ℕ) (v : NodeView Secrets) (old new : List ℕ) (n : ℕ) → i < length nodes → v ≡ get_or nodes i v →
