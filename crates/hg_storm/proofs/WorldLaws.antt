@@ -18,7 +18,7 @@ use Rattle.hg_crowd.proofs.ListLaws.{some_of}
 use Rattle.hg_world.specs.declared.step.Step.{Step}
 use Rattle.hg_world.specs.World.{Secrets, Site, WorldView, new_node, new_site, new_world, no_site, nodes_of, site_of}
 use Rattle.hg_world.specs.Parts.{AreOfOneList, no_node, nth_node, unfrozen, world_of}
-use Rattle.hg_world.specs.Steps.{RanSome, after_steps, settle_steps}
+use Rattle.hg_world.specs.Steps.{RanSome, after_steps}
 use Rattle.hg_world.specs.Syncs.{pull_steps}
 use Rattle.hg_world.proofs.StepLaws.{steps_sites}
 use Rattle.hg_storm.specs.declared.plan.Plan.{Plan}

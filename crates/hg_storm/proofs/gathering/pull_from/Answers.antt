@@ -1,4 +1,4 @@
-use Rattle.std.proofs.Common.{ℕ, get_or, ◌∙◌, arith}
+use Rattle.std.proofs.Common.{get_or, ◌∙◌, arith}
 use Rattle.hg_world.specs.Syncs.{pull_steps}
 use Rattle.hg_storm.proofs.WorldLaws.{all_sites, member_read, pull_all, pull_more, some_sites}
 use Rattle.hg_storm.proofs.gathering.pull_from.Goals as goal

@@ -1,4 +1,4 @@
-use Rattle.std.proofs.Common.{◌≡◌, ℕ, List, ◌++◌, [], ◌∷◌, length, map, take, sym, ap, ap₂, ◌∙◌, arith}
+use Rattle.std.proofs.Common.{arith}
 use Rattle.hg_storm.proofs.WorldLaws.{lengths_all, lengths_more}
 use Rattle.hg_storm.proofs.storming.lengths.Goals as goal
 

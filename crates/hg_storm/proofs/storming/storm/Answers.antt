@@ -1,6 +1,6 @@
-use Rattle.std.proofs.Common.{◌≡◌, ◌∙◌, List, ap, arith, length, map, refl, subst, sym}
+use Rattle.std.proofs.Common.{◌∙◌, List, ap, arith, length, map, refl, subst}
 use Rattle.hg_life.specs.NodeView.{NodeView}
-use Rattle.hg_world.specs.World.{Secrets, WorldView, new_world, nodes_of}
+use Rattle.hg_world.specs.World.{Secrets, WorldView, nodes_of}
 use Rattle.hg_storm.specs.Joins.{HasSession}
 use Rattle.hg_storm.specs.Storm.{gathered, world_again}
 use Rattle.hg_storm.proofs.WorldLaws.{begun_count, begun_empty, circle_members, ends_again, ends_many, ends_of_one_list, ends_start, is_circle, world_count}
