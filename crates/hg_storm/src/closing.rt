@@ -51,14 +51,7 @@ pub(crate) fn absorb_all(
     let mut logs = Vec::new(alloc);
     'jobs: for job in jobs {
         let Job { desk, seat } = job;
-        let Desk {
-            me: _,
-            log,
-            seat: own,
-            draws: _,
-            ports,
-            inbox,
-        } = desk;
+        let Desk { me: _, log, seat: own, draws: _, ports, inbox } = desk;
         let mut seat = seat;
         let me = logs.len();
         places[me].absorb(&mut seat, own);
