@@ -1,5 +1,5 @@
 -- Whom a member draws at its turns: one of the others that have nodes
-use Rattle.std.specs.Prelude.{ℕ, ◌≡◌, ◌+◌, ◌-◌, ◌<◌, ◌≤◌, All, ◌%◌, ◌^◌, ◌==◌, List, length, get_or, position, Option, Some}
+use Rattle.std.specs.Prelude.{ℕ, ◌≡◌, ◌+◌, ◌-◌, ◌<◌, ◌≤◌, All, ◌%◌, ◌^◌, ◌==◌, List, length, get_or, position, Option}
 use Rattle.hg_model.specs.Places.{list_below}
 use Rattle.hg_life.specs.Members.{MemberList, has_node}
 use Rattle.hg_made.specs.Draws.{state_after, upper_half}

@@ -1,5 +1,5 @@
 -- Calls through a seat that take no message: what came of those that were taken stands
-use Rattle.std.specs.Prelude.{ℕ, ◌≡◌, Bool, true, false, List, Option, Some, None, count_by, slice_get}
+use Rattle.std.specs.Prelude.{ℕ, Bool, true, false, List, Option, Some, None, count_by, slice_get}
 use Rattle.hg_life.specs.declared.answers.MakeAnswer.{MakeAnswer}
 use Rattle.hg_life.specs.History.{Change}
 use Rattle.hg_life.specs.History.Change.{Took, Made, Marked}

@@ -1,13 +1,11 @@
 -- The mailboxes and the members' jobs before their threads and after them
-use Rattle.std.specs.Prelude.{IfOk, Result, ℕ, zero, suc, ◌≡◌, ◌≢◌, ◌+◌, ◌<◌, ◌≤◌, ◌⊎◌, Bool, true, nat_le, cond, List, [], ◌∷◌, ◌++◌, length, take, get_or, map, replicate, unwrap_or, Option, Some, None}
+use Rattle.std.specs.Prelude.{IfOk, Result, ℕ, ◌≡◌, ◌+◌, ◌<◌, ◌≤◌, Bool, nat_le, cond, List, [], length, get_or, replicate, unwrap_or, Option, Some, None}
 use Rattle.hg_life.specs.Signing.{accepts_by}
 use Rattle.hg_storm.specs.Keeping.{Secrets}
-use Rattle.hg_mail.specs.declared.message.Message.{Message}
-use Rattle.hg_mail.specs.declared.view.Sender.{Sender}
 use Rattle.hg_mail.specs.declared.view.View.{View}
 use Rattle.hg_mail.specs.Count.{all_parts, one_part}
-use Rattle.hg_mail.specs.Messages.{first_view, messages_of, receiver_view, sender, sender_view}
-use Rattle.hg_mail.specs.Mailboxes.{IsPortOf, MailboxView, PortView, joined}
+use Rattle.hg_mail.specs.Messages.{first_view, receiver_view, sender_view}
+use Rattle.hg_mail.specs.Mailboxes.{IsPortOf, MailboxView, PortView}
 use Rattle.hg_board.specs.Seats.{SharedNode, SeatView}
 use Rattle.hg_board.specs.Calls.{after_split, split_off}
 use Rattle.hg_crowd.specs.Crowd.{IsSeat}
@@ -18,7 +16,6 @@ use Rattle.hg_storm.specs.declared.desk.Log.{Log}
 use Rattle.hg_storm.specs.declared.desk.Desk.{Desk}
 use Rattle.hg_storm.specs.declared.desk.Job.{Job}
 use Rattle.hg_storm.specs.Drawing.{IsDrawing, first_state, place_in}
-use Rattle.hg_storm.specs.Sending.{bytes_seen, messages_from}
 use Rattle.hg_storm.specs.Turning.{GoesOn, Stands}
 
 -- pair by pair, with their place
