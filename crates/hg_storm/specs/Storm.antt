@@ -1,10 +1,11 @@
 -- A storm: all members' turns between threads, and then all nodes have the rows that any had
-use Rattle.std.specs.Prelude.{ℕ, ◌≡◌, List, [], ◌∷◌, ◌++◌, fold, length, map}
-use Rattle.hg_life.specs.Members.{MemberList}
-use Rattle.hg_life.specs.NodeView.{NodeView}
+use Rattle.std.specs.Prelude.{ℕ, ◌≡◌, ◌<◌, List, [], ◌∷◌, ◌++◌, fold, length, map}
+use Rattle.hg_life.specs.Members.{MemberList, stakes_of}
+use Rattle.hg_life.specs.NodeView.{NodeView, start_of}
+use Rattle.hg_life.specs.Signing.{secrets_of}
 use Rattle.hg_runs.specs.Safety.{IsSafe}
 use Rattle.hg_world.specs.World.{Secrets, WorldView, new_world, nodes_of, run_of}
-use Rattle.hg_world.specs.Parts.{unfrozen}
+use Rattle.hg_world.specs.Parts.{IsWorld, nth_node, unfrozen, world_of}
 use Rattle.hg_world.specs.Steps.{after_steps, settle_steps}
 use Rattle.hg_world.specs.Syncs.{pull_steps}
 use Rattle.hg_storm.specs.declared.plan.Plan.{Plan}
@@ -37,18 +38,24 @@ after_pulls w pairs = fold after_pull w pairs
 abbrev pub gathered : WorldView → List ℕ → WorldView
 gathered w circle = fold after_settling (after_pulls w (pulls_of circle)) circle
 
--- The members' nodes, which began without rows, took their turns between threads, and this is what they did and what their
--- mailboxes had left. Then those that have nodes pulled from each other, and settled; no two orders part ways.
+-- the members' world of these nodes, of which no worker has frozen any rows
+abbrev pub world_again : MemberList → List (NodeView Secrets) → WorldView
+world_again members ends = world_of (stakes_of members) members.coin (unfrozen ends)
+
+-- The members' nodes, which began without rows, took their turns between threads. Each is that of its member still, and this
+-- is what they did, and what their mailboxes had left. Then those that have nodes pulled from each other, and settled. Each
+-- history is that of a node, and no two orders part ways.
 pub record IsStorm (members : MemberList) (times room first : ℕ) (s : Storm) : Type 0 where
   pub plan : Plan
   pub circle : plan.circle.items ≡ circle_of members
   pub turns : plan.turns ≡ times
   pub seed : plan.seed ≡ first
   pub ends : List (NodeView Secrets)
+  pub count : length ends ≡ length members.entries
+  pub starts : (m : ℕ) → m < length ends → (nth_node ends m).start ≡ start_of members m (secrets_of members)
   pub session : HasSession (nodes_of (new_world members)) ends
   pub told : AreTold plan room ends s.logs.items s.left.items
   pub ended : s.ended.items ≡ map (λ (v : NodeView Secrets). length v.history) ends
-  pub joined : WorldView
-  pub nodes : joined.sites ≡ unfrozen ends
-  pub world : s.world ≡ gathered joined plan.circle.items
+  pub world : s.world ≡ gathered (world_again members ends) plan.circle.items
+  pub lawful : IsWorld s.world
   pub safe : IsSafe s.world.members s.world.coin (run_of s.world)

@@ -1,6 +1,6 @@
 ghost use Rattle.std.specs.Prelude.{◌≡◌, ◌<◌, All, IfOk, OnOk, fold, length, map};
 ghost use Rattle.hg_world.specs.World.{IsMemberOf};
-ghost use Rattle.hg_storm.specs.Storm.{IsStorm, after_pulls, after_settling, gathered, pulls_from, pulls_to};
+ghost use Rattle.hg_storm.specs.Storm.{IsStorm, after_pulls, after_settling, gathered, pulls_from, pulls_of, pulls_to};
 
 use crate::desk::Log;
 use crate::plan::{Plan, circle_of};
@@ -12,7 +12,7 @@ use hg_mail::Message;
 use hg_model::{Member, Memory};
 use hg_node::Node;
 use hg_sign::SharedTable;
-use hg_world::{World, steps_keep_sites};
+use hg_world::World;
 use std::alloc::Global;
 use std::sync::Wait;
 use std::thread::Threads;
@@ -78,15 +78,24 @@ fn settle_each(world: &mut World, circle: &[Member]) -> Result<(), Memory>
     Ok(())
 }
 
-/// The first of these nodes pulls from each other one, each other one pulls from it, and all settle.
+/// The first of these nodes pulls from each other one, and each other one pulls from it.
+fn pull_each(world: &mut World, circle: &[Member]) -> Result<(), Memory>
+    requires { All (IsMemberOf world.old) circle.now }
+    ensures { OnOk result (world.new ≡ after_pulls world.old (pulls_of circle.now)) }
+{
+    let Some((first, rest)) = circle.split_first() else {
+        return Ok(());
+    };
+    pull_to(world, *first, rest)?;
+    pull_from(world, *first, rest)
+}
+
+/// These nodes pull from each other, so that each has the rows that any of them had and that it takes, and settle.
 fn gather(world: &mut World, circle: &[Member]) -> Result<(), Memory>
     requires { All (IsMemberOf world.old) circle.now }
     ensures { OnOk result (world.new ≡ gathered world.old circle.now) }
 {
-    if let Some((first, rest)) = circle.split_first() {
-        pull_to(world, *first, rest)?;
-        pull_from(world, *first, rest)?;
-    }
+    pull_each(world, circle)?;
     settle_each(world, circle)
 }
 
@@ -110,8 +119,10 @@ pub fn storm<C: Crew + Sync, G: Gate + Sync, R: Threads + Wait + Sync>(
         turns,
         seed,
     };
-    let nodes = World::new(alloc, members)?.into_nodes();
-    let Joined { nodes, logs, left } = run_threads(rt, alloc, nodes, &plan, room, crew, gate)?;
+    members.is_lawful();
+    let begun = World::new(alloc, members)?;
+    let first = begun.into_nodes();
+    let Joined { nodes, logs, left } = run_threads(rt, alloc, first, &plan, room, crew, gate)?;
     let ended = lengths(alloc, nodes.as_slice())?;
     let Ok(mut world) = World::from_nodes(alloc, nodes) else {
         return Err(Memory);
