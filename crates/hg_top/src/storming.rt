@@ -51,7 +51,8 @@ fn storm_outcome<R: Threads + Wait + Sync, G: Gate + Sync>(
         &voters,
         gate,
     )?;
-    outcome_of(alloc, members, &storm.world)
+    let outcome = outcome_of(alloc, members, &storm.world)?;
+    Ok(outcome)
 }
 
 /// What a storm comes to.

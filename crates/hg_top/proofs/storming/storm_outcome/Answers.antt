@@ -11,3 +11,12 @@ pub outcome_of-requires-clause-count : goal.outcome_of-requires-clause-count
 outcome_of-requires-clause-count g c =
     let r = c.args.asked.now in
     storm_count c.args.members.now r.turns r.room r.seed c.in_ok-storm.storm c.in_ok-storm.ensures
+
+pub returns : goal.returns
+returns g c =
+    let r = c.args.asked.now in
+    record {
+      storm = c.in_ok-storm.storm;
+      is = c.in_ok-storm.ensures;
+      shows = c.in_ok-outcome.ensures ∙ storm_shown c.args.members.now r.turns r.room r.seed c.in_ok-storm.storm c.in_ok-storm.ensures;
+    }
