@@ -3,8 +3,7 @@
 ghost use Rattle.std.specs.Prelude.{◌<◌, length};
 ghost use Rattle.hg_play.specs.Sites.{AreMadeWith};
 
-use crate::files::ample;
-use crate::program::{MEMBERS, SCRIPT};
+use crate::program::{MEMBERS, SCRIPT, ample};
 use hg_io::SinkMem;
 use hg_life::Members;
 use hg_members::read_members;

@@ -14,10 +14,10 @@ use std::test::Fail;
 const NAME: &str = "journal";
 
 // The first events of A, at time 1, and of B, at time 2.
-pub(crate) const A_FIRST: &str =
+const A_FIRST: &str =
     "484745310000000000000000000001000048078156563af1d6c2f9db9b388cf7c586a6c07b6b9b09acb94b1b945709be7055b2a5a61fea1483c3b6a468cb5a7fc2ee9468da8b3ad8c619f74d4cc4d8e5e5";
 
-pub(crate) const B_FIRST: &str =
+const B_FIRST: &str =
     "48474531000100000000000000000200005eea0640953386e53b0b500494dd9be8e7124e0b101cbc2a621b0bbe1e9ea2d71ae187574dbb0a87e0f645b941765cfd896ce02abbc8f38938e3cba11e0bfc32";
 
 // The journal of A once it has made the one and taken the other.
@@ -30,7 +30,7 @@ const JOURNAL: [&str; 6] = [
     "00",
 ];
 
-pub(crate) fn bytes_of(alloc: Global, digits: &[&str]) -> Result<Vec<u8>, Memory> {
+fn bytes_of(alloc: Global, digits: &[&str]) -> Result<Vec<u8>, Memory> {
     let mut bytes = Vec::new(alloc);
     for part in digits {
         let Ok(piece) = hex::decode(alloc, *part) else {

@@ -1,6 +1,6 @@
-use crate::files::{ample, shelf_of};
-use hg_io::{DiskMem, NoGate, SinkMem};
+use hg_io::{DiskMem, NoGate, ShelfMem, SinkMem};
 use hg_members::MemberFault;
+use hg_model::Memory;
 use hg_script::{ScriptFault, Why};
 use hg_top::{File, NoWords, Refusal, Status, hashgraph, without_words};
 use std::alloc::Global;
@@ -23,15 +23,37 @@ const RUN: &str = "hashgraph run --members members.toml --script script.txt";
 const USAGE: &str =
     "hashgraph: usage: run --members FILE --script FILE [--workers K] or make --members N --lines L --seed S [--workers K] or keep --members FILE --events FILE --own NAME --disk FILE [--time T] or prove --members FILE --script FILE --own NAME or check --members FILE --proof FILE or ask --members FILE --script FILE --own NAME or serve --members FILE --script FILE --own NAME --have FILE or take --members FILE --script FILE --own NAME --rows FILE\n";
 
-/// What a run came to, and what it wrote to standard output and standard error.
-#[derive(Drop)]
-pub(crate) struct Ran {
-    pub(crate) status: Status,
-    pub(crate) out: SinkMem,
-    pub(crate) err: SinkMem,
+/// A shelf of two files, each with its name, whose calls with these numbers fail.
+fn shelf_of(
+    alloc: Global,
+    first: (&str, &[u8]),
+    second: (&str, &[u8]),
+    fails: Vec<u64>,
+) -> Result<ShelfMem, Memory> {
+    let mut files = Vec::new(alloc);
+    for (name, bytes) in [first, second] {
+        files.push((
+            String::from_str(alloc, name)?,
+            Vec::from_slice(alloc, bytes)?,
+        ))?;
+    }
+    ShelfMem::new(alloc, files, fails)
 }
 
-pub(crate) fn words_of(alloc: Global, line: &str) -> Result<Vec<String>, Fail> {
+/// A sink with room for all that a test writes to it, of which no call fails.
+pub(crate) fn ample(alloc: Global) -> Result<SinkMem, Memory> {
+    SinkMem::new(alloc, 65_536, 65_536, Vec::new(alloc))
+}
+
+/// What a run came to, and what it wrote to standard output and standard error.
+#[derive(Drop)]
+struct Ran {
+    status: Status,
+    out: SinkMem,
+    err: SinkMem,
+}
+
+fn words_of(alloc: Global, line: &str) -> Result<Vec<String>, Fail> {
     let mut owned = Vec::new(alloc);
     for word in line.split(' ') {
         owned.push(String::from_str(alloc, word)?)?;
@@ -72,7 +94,7 @@ fn run<R: Threads + Wait + Sync>(
 }
 
 /// The run came to this, and wrote just these.
-pub(crate) fn expect(rt: &impl Abort, ran: &Ran, status: Status, out: &str, err: &str) {
+fn expect(rt: &impl Abort, ran: &Ran, status: Status, out: &str, err: &str) {
     assert!(rt; ran.status == status);
     assert!(rt; ran.out.bytes() == out.as_bytes());
     assert!(rt; ran.err.bytes() == err.as_bytes());

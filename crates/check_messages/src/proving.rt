@@ -1,7 +1,6 @@
 //! Certificates: that of the report of two members, each cut of it, and each changed byte.
 
-use crate::files::ample;
-use crate::program::{MEMBERS, SCRIPT};
+use crate::exchanging::{MEMBERS, SCRIPT, ample};
 use hg_certify::{prove_order, read_certificate, why_pieces, write_shown};
 use hg_io::SinkMem;
 use hg_life::Members;

@@ -1,16 +1,18 @@
 //! The command `keep` in the one call, over a file of events and a disk in memory. The events are those of the tests of
-//! journals, and were worked out by another implementation.
+//! journals in `check_program`, and were worked out by another implementation.
 
 use crate::files::{ample, shelf_of};
-use crate::journal::{A_FIRST, B_FIRST, bytes_of};
-use crate::program::{MEMBERS, Ran, expect, words_of};
-use hg_io::{Disk, DiskMem, Failed, NoGate, read_all};
+use hg_io::{Disk, DiskMem, Failed, NoGate, SinkMem, read_all};
+use hg_model::Memory;
 use hg_top::{Status, hashgraph};
 use std::alloc::Global;
 use std::process::Abort;
 use std::sync::Wait;
 use std::test::Fail;
 use std::thread::Threads;
+
+const MEMBERS: &str =
+    "coin = 10\n[[member]]\nname = \"A\"\nsecret = \"0b0b0b0b\"\nbalance = 100\n[[member]]\nname = \"B\"\nsecret = \"0c0c0c0c\"\n";
 
 const KEEP: &str =
     "hashgraph keep --members members.toml --events events.bin --own A --disk journal";
@@ -20,6 +22,13 @@ const KEEP_AT_ONE: &str =
 
 const KEEP_OF_NOBODY: &str =
     "hashgraph keep --members members.toml --events events.bin --own a --disk journal";
+
+// The first events of A, at time 1, and of B, at time 2.
+const A_FIRST: &str =
+    "484745310000000000000000000001000048078156563af1d6c2f9db9b388cf7c586a6c07b6b9b09acb94b1b945709be7055b2a5a61fea1483c3b6a468cb5a7fc2ee9468da8b3ad8c619f74d4cc4d8e5e5";
+
+const B_FIRST: &str =
+    "48474531000100000000000000000200005eea0640953386e53b0b500494dd9be8e7124e0b101cbc2a621b0bbe1e9ea2d71ae187574dbb0a87e0f645b941765cfd896ce02abbc8f38938e3cba11e0bfc32";
 
 // The journal of A once it has taken B's first event and made its own.
 const JOURNAL: [&str; 6] = [
@@ -42,6 +51,33 @@ const CUT: [&str; 5] = [
 
 const BLOCK: &str =
     "node A events 2 forkers 0 round 1 closed 0 ordered 0\nbalance A 100\nbalance B 0\n";
+
+fn bytes_of(alloc: Global, digits: &[&str]) -> Result<Vec<u8>, Memory> {
+    let mut bytes = Vec::new(alloc);
+    for part in digits {
+        let Ok(piece) = hex::decode(alloc, *part) else {
+            return Err(Memory);
+        };
+        bytes.extend_from_slice(&piece)?;
+    }
+    Ok(bytes)
+}
+
+/// What a run came to, and what it wrote to standard output and standard error.
+#[derive(Drop)]
+struct Ran {
+    status: Status,
+    out: SinkMem,
+    err: SinkMem,
+}
+
+fn words_of(alloc: Global, line: &str) -> Result<Vec<String>, Fail> {
+    let mut owned = Vec::new(alloc);
+    for word in line.split(' ') {
+        owned.push(String::from_str(alloc, word)?)?;
+    }
+    Ok(owned)
+}
 
 /// Runs the program over the member file, a file of these events and a disk.
 fn keep<R: Threads + Wait + Sync>(
@@ -71,6 +107,13 @@ fn keep<R: Threads + Wait + Sync>(
         &NoGate,
     );
     Ok(Ran { status, out, err })
+}
+
+/// The run came to this, and wrote just these.
+fn expect(rt: &impl Abort, ran: &Ran, status: Status, out: &str, err: &str) {
+    assert!(rt; ran.status == status);
+    assert!(rt; ran.out.bytes() == out.as_bytes());
+    assert!(rt; ran.err.bytes() == err.as_bytes());
 }
 
 /// The disk's file is this journal.

@@ -1,16 +1,20 @@
 //! The commands `ask`, `serve` and `take` in the one call, over three files in memory. The messages of two members were worked
 //! out by another implementation.
 
-use crate::files::ample;
-use crate::program::{MEMBERS, Ran, SCRIPT, expect, words_of};
 use hg_io::{DiskMem, NoGate, ShelfMem, SinkMem};
 use hg_model::Memory;
-use hg_top::{Status, hashgraph};
+use hg_top::{File, Status, hashgraph};
 use std::alloc::Global;
 use std::process::Abort;
 use std::sync::Wait;
 use std::test::Fail;
 use std::thread::Threads;
+
+pub(crate) const MEMBERS: &str =
+    "coin = 10\n[[member]]\nname = \"A\"\nsecret = \"0b0b0b0b\"\nbalance = 100\n[[member]]\nname = \"B\"\nsecret = \"0c0c0c0c\"\n";
+
+pub(crate) const SCRIPT: &str =
+    "create A 1\ncreate B 2\nsync A B 3\nsync B A 4\nsync A B 5\nsync B A 6\nsync A B 7\nsync B A 8\n";
 
 const ASK: &str = "hashgraph ask --members members.toml --script script.txt --own A";
 
@@ -58,6 +62,27 @@ fn shelf_of_three(
     ShelfMem::new(alloc, files, Vec::from_slice(alloc, fails)?)
 }
 
+/// A sink with room for all that a test writes to it, of which no call fails.
+pub(crate) fn ample(alloc: Global) -> Result<SinkMem, Memory> {
+    SinkMem::new(alloc, 65_536, 65_536, Vec::new(alloc))
+}
+
+/// What a run came to, and what it wrote to standard output and standard error.
+#[derive(Drop)]
+struct Ran {
+    status: Status,
+    out: SinkMem,
+    err: SinkMem,
+}
+
+fn words_of(alloc: Global, line: &str) -> Result<Vec<String>, Fail> {
+    let mut owned = Vec::new(alloc);
+    for word in line.split(' ') {
+        owned.push(String::from_str(alloc, word)?)?;
+    }
+    Ok(owned)
+}
+
 /// Runs the program over these files, and with this sink for what it writes.
 fn run<R: Threads + Wait + Sync>(
     rt: &R,
@@ -80,6 +105,13 @@ fn run<R: Threads + Wait + Sync>(
         &NoGate,
     );
     Ok(Ran { status, out, err })
+}
+
+/// The run came to this, and wrote just these.
+fn expect(rt: &impl Abort, ran: &Ran, status: Status, out: &str, err: &str) {
+    assert!(rt; ran.status == status);
+    assert!(rt; ran.out.bytes() == out.as_bytes());
+    assert!(rt; ran.err.bytes() == err.as_bytes());
 }
 
 /// It writes just these bytes.
@@ -238,7 +270,7 @@ fn faults_of_the_outside(rt: HostRuntime) -> Result<(), Fail> {
         expect(
             &rt,
             &ran,
-            Status::ReadFault(hg_top::File::Message),
+            Status::ReadFault(File::Message),
             "",
             "hashgraph: cannot read the message file\n",
         );
