@@ -27,6 +27,8 @@ fn lines_are_taken(rt: HostRuntime) -> Result<(), Fail> {
         "make|--members|2|--lines|0|--seed|0",
         "make|--members|128|--lines|1000000|--seed|18446744073709551615",
         "make|--seed|+7|--lines|003|--members=2",
+        "storm|--members|members.toml|--turns|0|--seed|7|--room|65536",
+        "storm|--members|members.toml|--turns|1|--seed|18446744073709551615|--room|1",
     ] {
         let words = words_of(rt.alloc(), line)?;
         let request = read_words(rt.alloc(), words.as_slice())?;
@@ -81,6 +83,12 @@ fn lines_are_refused(rt: HostRuntime) -> Result<(), Fail> {
         "make|--members|2|--lines|0",
         "make|--members|2|--lines|0|--seed|7|--workers|17",
         "make|--members|members.toml|--script|script.txt",
+        "storm|--members|members.toml|--turns|10001|--seed|1",
+        "storm|--members|members.toml|--turns|1|--seed|x",
+        "storm|--members|members.toml|--turns|1|--seed|1|--room|0",
+        "storm|--members|members.toml|--turns|1|--seed|1|--room|65537",
+        "storm|--members|members.toml|--seed|1",
+        "storm|--members|members.toml|--turns|1",
     ] {
         let words = words_of(rt.alloc(), line)?;
         let request = read_words(rt.alloc(), words.as_slice())?;
@@ -110,6 +118,14 @@ fn names_are_handed_over(rt: HostRuntime) -> Result<(), Fail> {
         workers: 4,
     };
     assert_eq!(rt; read_words(rt.alloc(), made.as_slice())?, Some(wanted));
+    let storm = words_of(rt.alloc(), "storm|--members|m.toml|--turns|3|--seed|7")?;
+    let wanted = Request::Storm {
+        members: "m.toml",
+        turns: 3,
+        seed: 7,
+        room: 1_024,
+    };
+    assert_eq!(rt; read_words(rt.alloc(), storm.as_slice())?, Some(wanted));
     assert_eq!(rt; read_words(rt.alloc(), &[])?, None);
     Ok(())
 }
