@@ -1,7 +1,7 @@
 -- The world of a storm: its nodes are those of the members, and settled, so that each shows its graph's own fame
 use Rattle.std.proofs.Common.{◌≡◌, inl, inr, ℕ, zero, suc, ◌+◌, ◌<◌, ◌≤◌, Bool, true, false, cond, List, [], ◌∷◌, ◌++◌, length, map, get_or, replicate, slice_set, sym, refl, ap, ap₂, ◌∙◌, subst, arith}
 use Rattle.std.specs.Prelude.{fold}
-use Rattle.std.proofs.lemmas.Bool.{cases_Bool, cases_eq}
+use Rattle.std.proofs.lemmas.Bool.{cases_eq, cases_lt}
 use Rattle.std.proofs.lemmas.List.{get_or-map, get_or-set_other, get_or-set_same, length-map, length-set}
 use Rattle.std.proofs.lemmas.List.Sums.{fold-append}
 use Rattle.std.proofs.Math.Seq.{map-set_same}
@@ -19,6 +19,7 @@ use Rattle.hg_life.specs.Signing.{accepts_by, secrets_of}
 use Rattle.hg_life.specs.Workers.{worker_limit}
 use Rattle.hg_history.proofs.NodeLaws.{settles_all}
 use Rattle.hg_history.proofs.SoundLaws.{moment}
+use Rattle.hg_outcome.specs.declared.outcome.Block.{Block}
 use Rattle.hg_outcome.specs.declared.outcome.Outcome.{Outcome}
 use Rattle.hg_outcome.specs.declared.outcome.Printed.{Printed}
 use Rattle.hg_outcome.specs.declared.outcome.Printed.TheVariants as printed
@@ -116,7 +117,11 @@ settled_still w k m has last = elim (cases_eq m k) [
   | inl here ↦ subst (λ (j : ℕ). IsLast (node_at (after_settling w j) m)) here (settled_here w m has)
   | inr other ↦
       let v = after_step w (Freeze k 0) in
-      subst IsLast (sym (ap (λ (s : Site). s.node) (get_or-set_other v.sites k m _ no_site other) ∙ ap (λ (s : Site). s.node) (get_or-set_other w.sites k m _ no_site other))) last
+      let frozen : Site = site_of (node_at w k) (slice_set (site_at w k).frozen 0 (length (rows_at w k))) in
+      let settled : Site = site_of (node_published (node_at v k) (frozen_by v k 0) whole) (site_at v k).frozen in
+      let same : node_at (after_settling w k) m ≡ node_at w m =
+      ap (λ (s : Site). s.node) (get_or-set_other v.sites k m settled no_site other) ∙ ap (λ (s : Site). s.node) (get_or-set_other w.sites k m frozen no_site other) in
+      subst IsLast (sym same) last
 ]
 
 module _ (members : MemberList) (w : WorldView) where
@@ -140,13 +145,14 @@ module _ (members : MemberList) (w : WorldView) where
   settled_first zero m has node low = absurd (omega (arith, low))
   settled_first (suc n) m has node low =
       subst (λ (u : WorldView). IsLast (node_at u m)) (sym (after_next n))
-      (elim (cases_eq m n) [
-        | inl here ↦
+      (elim (cases_lt m n) [
+        | inl lower ↦ one_more n m (has_node members n) has (settled_first n m has node lower)
+        | inr past ↦
+            let here : m ≡ n = omega (arith, low, past) in
             let test : has_node members n ≡ true = ap (has_node members) (sym here) ∙ node in
             let settled = settled_here (after_first n) m (have_still w (after_first n) m (base_settlings w (first_of n)) has) in
             subst (λ (b : Bool). IsLast (node_at (fold after_settling (after_first n) (cond b (n ∷ []) [])) m)) (sym test)
             (subst (λ (k : ℕ). IsLast (node_at (after_settling (after_first n) k) m)) here settled)
-        | inr other ↦ one_more n m (has_node members n) has (settled_first n m has node (omega (arith, low, other)))
       ])
 
 -- ---- a node that was settled last
@@ -178,14 +184,12 @@ shows_own members m v start node last =
 blocks_same : {A : Type 0} (f g : ℕ → A) (n : ℕ) (test : ℕ → Bool) → ((m : ℕ) → m < n → test m ≡ true → f m ≡ g m) → list_below f n test ≡ list_below g n test
 unfolding list_below
 blocks_same f g zero test same = refl
-blocks_same {A} f g (suc n) test same = elim (cases_Bool (test n)) [
-  | inl has ↦
-      let before = blocks_same f g n test (λ m low is. same m (omega (arith, low)) is) in
-      rw has (ap₂ (λ (xs : List A) (x : A). xs ++ x ∷ []) before (same n (omega arith) has))
-  | inr none ↦
-      let before = blocks_same f g n test (λ m low is. same m (omega (arith, low)) is) in
-      rw none (ap (λ (xs : List A). xs ++ []) before)
-]
+blocks_same {A} f g (suc n) test same =
+    ap₂ (λ (xs ys : List A). xs ++ ys) (blocks_same f g n test (λ m low is. same m (omega (arith, low)) is)) (last (test n) refl)
+  where
+    last : (b : Bool) → test n ≡ b → cond b (f n ∷ []) [] ≡ cond b (g n ∷ []) []
+    last true is = ap (λ (x : A). x ∷ []) (same n (omega arith) is)
+    last false is = refl
 
 module _ (members : MemberList) (turns room seed : ℕ) (s : Storm) (is : IsStorm members turns room seed s) where
   abbrev w : WorldView
@@ -244,4 +248,4 @@ module _ (members : MemberList) (turns room seed : ℕ) (s : Storm) (is : IsStor
       ap (λ (pieces : List Printed). let o : Outcome = record { names = names_of members; printed = pieces } in o)
       (blocks_same (kept_at members w) (block_at members w) (length members.entries) (has_node members) (λ m low node.
       let lawful = is.lawful.sites m (omega (arith, low, storm_count)) in
-      ap printed.Block (shows_own members m (node_at w m) (starts_so m low) lawful.node (last_settled m low node))))
+      ap (λ (b : Block). let p : Printed = printed.Block b in p) (shows_own members m (node_at w m) (starts_so m low) lawful.node (last_settled m low node))))
