@@ -1,6 +1,6 @@
 -- The nodes before the threads and after them, and the pulls and settlings behind
-use Rattle.std.proofs.Common.{◌≡◌, inl, inr, ℕ, ◌+◌, ◌<◌, ◌≤◌, List, [], ◌∷◌, ◌++◌, length, take, map, get_or, replicate, sym, refl, ap, ap₂, ◌∙◌, subst, zero-add, arith}
-use Rattle.std.specs.Prelude.{All, fold}
+use Rattle.std.proofs.Common.{◌≡◌, inl, inr, ℕ, suc, Result, Ok, Err, ◌+◌, ◌<◌, ◌≤◌, List, [], ◌∷◌, ◌++◌, length, take, map, get_or, replicate, sym, refl, ap, ap₂, ◌∙◌, subst, zero-add, arith}
+use Rattle.std.specs.Prelude.{All, OnOk, fold}
 use Rattle.std.proofs.lemmas.List.{get_or-map, length-map, map_more, take_all}
 use Rattle.std.proofs.lemmas.List.Elements.{All-from_recursion}
 use Rattle.std.proofs.lemmas.List.FromFn.{get_or-map-range_with_len, length-map-range_with_len}
@@ -144,30 +144,36 @@ pub pulls_sites : (w : WorldView) (pairs : List (ℕ × ℕ)) → length (after_
 pulls_sites w [] = refl
 pulls_sites w (pair ∷ pairs) = pulls_sites (after_pull w pair) pairs ∙ steps_sites w (pull_steps w pair.0 pair.1)
 
--- what is so of each of these members is so of one that was read
-pub member_read : (w now : WorldView) (ms : List ℕ) (i m : ℕ) → All (λ k. k < length w.sites) ms → i < length ms → m ≡ get_or ms i m → length now.sites ≡ length w.sites → m < length now.sites
-member_read w now ms i m all low is same = omega (arith, subst (λ (k : ℕ). k < length w.sites) (sym is) (all i m low), same)
+-- one of these members is one still
+pub member_read : (w now : WorldView) (ms : List ℕ) (i : ℕ) → All (λ k. k < length w.sites) ms → i < length ms → length now.sites ≡ length w.sites → get_or ms i 0 < length now.sites
+member_read w now ms i all low same = omega (arith, all i 0 low, same)
 
 still_members : (w now : WorldView) (ms : List ℕ) → length now.sites ≡ length w.sites → All (λ k. k < length w.sites) ms → All (λ k. k < length now.sites) ms
 still_members w now ms same all = subst (λ (n : ℕ). All (λ k. k < n) ms) (sym same) all
 
 -- one of the pulls more
-pub pull_more : (f : ℕ → ℕ × ℕ) (ms : List ℕ) (i m : ℕ) (w now new : WorldView) → i < length ms → m ≡ get_or ms i m → now ≡ after_pulls w (take i (map f ms)) → new ≡ after_pull now (f m) →
+pub pull_more : (f : ℕ → ℕ × ℕ) (ms : List ℕ) (i : ℕ) (w now new : WorldView) → i < length ms → now ≡ after_pulls w (take i (map f ms)) → new ≡ after_pull now (f (get_or ms i 0)) →
     new ≡ after_pulls w (take (i + 1) (map f ms))
-pull_more f ms i m w now new low is before pulled =
-    let here : f m ≡ get_or (map f ms) i (f m) = ap f is ∙ sym (get_or-map f ms i m (f m) low) in
-    pulled ∙ (ap₂ after_pull before here ∙ sym (fold_more after_pull w (map f ms) i (f m) (omega (arith, low, length-map ms f))))
+pull_more f ms i w now new low before pulled =
+    let pair : ℕ × ℕ = f (get_or ms i 0) in
+    let here : pair ≡ get_or (map f ms) i pair = sym (get_or-map f ms i 0 pair low) in
+    pulled ∙ (ap₂ after_pull before here ∙ sym (fold_more after_pull w (map f ms) i pair (omega (arith, low, length-map ms f))))
 
 pub pull_all : (f : ℕ → ℕ × ℕ) (ms : List ℕ) (i : ℕ) (w new : WorldView) → length ms ≤ i → new ≡ after_pulls w (take i (map f ms)) → new ≡ after_pulls w (map f ms)
 pull_all f ms i w new past is = is ∙ ap (after_pulls w) (take_all i (map f ms) (omega (arith, past, length-map ms f)))
 
 -- one is settled more
-pub settle_more : (ms : List ℕ) (i m : ℕ) (w now new : WorldView) → i < length ms → m ≡ get_or ms i m → now ≡ fold after_settling w (take i ms) → new ≡ after_settling now m → new ≡ fold after_settling w (take (i + 1) ms)
-settle_more ms i m w now new low is before settled =
-    settled ∙ (ap₂ after_settling before is ∙ sym (fold_more after_settling w ms i m low))
+pub settle_more : (ms : List ℕ) (i : ℕ) (w now new : WorldView) → i < length ms → now ≡ fold after_settling w (take i ms) → new ≡ after_settling now (get_or ms i 0) → new ≡ fold after_settling w (take (i + 1) ms)
+settle_more ms i w now new low before settled =
+    settled ∙ (ap (λ (u : WorldView). after_settling u (get_or ms i 0)) before ∙ sym (fold_more after_settling w ms i 0 low))
 
 pub settle_all : (ms : List ℕ) (i : ℕ) (w new : WorldView) → length ms ≤ i → new ≡ fold after_settling w (take i ms) → new ≡ fold after_settling w ms
 settle_all ms i w new past is = is ∙ ap (fold after_settling w) (take_all i ms past)
+
+-- what follows of what an answer says
+pub ok_then : {A E : Type 0} (result : Result A E) (P Q : Type 0) → (P → Q) → OnOk result P → OnOk result Q
+ok_then (Ok x) P Q then is = then is
+ok_then (Err e) P Q then is = tt
 
 -- the first of these members and the others
 module _ (w : WorldView) (ms : List ℕ) (first : ℕ) (rest : List ℕ) (is : ms ≡ first ∷ rest) (all : All (λ k. k < length w.sites) ms) where
@@ -178,7 +184,7 @@ module _ (w : WorldView) (ms : List ℕ) (first : ℕ) (rest : List ℕ) (is : m
   first_member = whole 0 first (omega arith)
 
   pub rest_members : All (λ k. k < length w.sites) rest
-  rest_members k d low = whole (k + 1) d (omega arith)
+  rest_members k d low = whole (suc k) d (omega (arith, low))
 
   module _ (now : WorldView) (to : now ≡ after_pulls w (pulls_to first rest)) where
     same_sites : length now.sites ≡ length w.sites

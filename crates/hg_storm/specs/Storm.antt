@@ -9,7 +9,7 @@ use Rattle.hg_world.specs.Parts.{IsWorld, nth_node, unfrozen, world_of}
 use Rattle.hg_world.specs.Steps.{after_steps, settle_steps}
 use Rattle.hg_world.specs.Syncs.{pull_steps}
 use Rattle.hg_storm.specs.declared.plan.Plan.{Plan}
-use Rattle.hg_storm.specs.declared.storm.Storm.{Storm}
+use Rattle.hg_storm.specs.declared.outcome.Storm.{Storm}
 use Rattle.hg_storm.specs.Drawing.{circle_of}
 use Rattle.hg_storm.specs.Joins.{AreTold, HasSession}
 

@@ -16,22 +16,25 @@
 mod closing;
 mod desk;
 mod drawing;
+mod gathering;
 mod joining;
 mod laws;
 mod opening;
+mod outcome;
 mod plan;
 mod receiving;
 mod sending;
-mod storm;
+mod storming;
 mod taking;
 mod threads;
 mod turning;
 
 pub use desk::{Desk, Job, Log};
 pub use laws::{calls_keep_fates, fates_last};
+pub use outcome::Storm;
 pub use plan::Plan;
 pub use receiving::receive;
 pub use sending::{Dispatch, send_rows};
-pub use storm::{Storm, storm};
+pub use storming::storm;
 pub use taking::{Intake, Refusal, take_all};
 pub use threads::{Joined, run_threads};

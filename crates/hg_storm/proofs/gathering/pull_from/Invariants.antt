@@ -1,6 +1,6 @@
 use Rattle.std.proofs.Common.{◌≡◌, length, take}
 use Rattle.hg_storm.specs.Storm.{after_pulls, pulls_from}
-use Rattle.hg_storm.proofs.storm.pull_from.Given as goal
+use Rattle.hg_storm.proofs.gathering.pull_from.Given as goal
 
 abbrev pub invariant-loop-taker : goal.invariant-loop-taker
 invariant-loop-taker l = record {

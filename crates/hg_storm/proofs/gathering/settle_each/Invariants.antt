@@ -1,7 +1,7 @@
 use Rattle.std.proofs.Common.{◌≡◌, length, take}
 use Rattle.std.specs.Prelude.{fold}
 use Rattle.hg_storm.specs.Storm.{after_settling}
-use Rattle.hg_storm.proofs.storm.settle_each.Given as goal
+use Rattle.hg_storm.proofs.gathering.settle_each.Given as goal
 
 abbrev pub invariant-loop-member : goal.invariant-loop-member
 invariant-loop-member l = record {

@@ -1,6 +1,6 @@
 use Rattle.std.proofs.Common.{◌≡◌, length, take}
 use Rattle.hg_storm.specs.Storm.{after_pulls, pulls_to}
-use Rattle.hg_storm.proofs.storm.pull_to.Given as goal
+use Rattle.hg_storm.proofs.gathering.pull_to.Given as goal
 
 abbrev pub invariant-loop-peer : goal.invariant-loop-peer
 invariant-loop-peer l = record {

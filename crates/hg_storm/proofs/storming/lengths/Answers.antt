@@ -1,6 +1,6 @@
 use Rattle.std.proofs.Common.{◌≡◌, ℕ, List, ◌++◌, [], ◌∷◌, length, map, take, sym, ap, ap₂, ◌∙◌, arith}
 use Rattle.hg_storm.proofs.WorldLaws.{lengths_all, lengths_more}
-use Rattle.hg_storm.proofs.storm.lengths.Goals as goal
+use Rattle.hg_storm.proofs.storming.lengths.Goals as goal
 
 pub loop-node-preserved : goal.loop-node-preserved
 loop-node-preserved c =
