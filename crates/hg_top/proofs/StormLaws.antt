@@ -2,7 +2,7 @@
 use Rattle.std.proofs.Common.{◌≡◌, inl, inr, ℕ, zero, suc, ◌+◌, ◌<◌, ◌≤◌, Bool, true, false, cond, List, [], ◌∷◌, ◌++◌, length, map, get_or, replicate, slice_set, sym, refl, ap, ap₂, ◌∙◌, subst, arith}
 use Rattle.std.specs.Prelude.{fold}
 use Rattle.std.proofs.lemmas.Bool.{cases_eq, cases_lt}
-use Rattle.std.proofs.lemmas.List.{get_or-map, get_or-set_other, get_or-set_same, length-map, length-set}
+use Rattle.std.proofs.lemmas.List.{get_or-map, get_or-set_other, get_or-set_same, length-map, length-replicate, length-set}
 use Rattle.std.proofs.lemmas.List.Sums.{fold-append}
 use Rattle.std.proofs.Math.Seq.{map-set_same}
 use Rattle.hg_model.specs.declared.row.Row.{Row}
@@ -34,7 +34,7 @@ use Rattle.hg_play.specs.Lines.{kept_block}
 use Rattle.hg_play.specs.Outcomes.{kept_at, world_outcome}
 use Rattle.hg_play.specs.Play.{block_at}
 use Rattle.hg_play.specs.Sites.{AreMadeWith}
-use Rattle.hg_storm.specs.declared.storm.Storm.{Storm}
+use Rattle.hg_storm.specs.declared.outcome.Storm.{Storm}
 use Rattle.hg_storm.specs.Drawing.{circle_of}
 use Rattle.hg_storm.specs.Storm.{IsStorm, after_pull, after_pulls, after_settling, gathered, pulls_of, world_again}
 use Rattle.hg_top.specs.Commands.{shown_world}
@@ -234,7 +234,7 @@ module _ (members : MemberList) (turns room seed : ℕ) (s : Storm) (is : IsStor
   pulled_workers : (m : ℕ) → m < length members.entries → HasWorkers pulled m
   pulled_workers m low = have_still begun pulled m pulled_bases (record {
     there = omega (arith, low, begun_count);
-    some = subst (λ (t : Site). 0 < length t.frozen) (sym (begun_site m low)) (omega arith);
+    some = subst (λ (t : Site). 0 < length t.frozen) (sym (begun_site m low)) (omega (arith, length-replicate {A = ℕ} worker_limit 0));
   })
 
   last_settled : (m : ℕ) → m < length members.entries → has_node members m ≡ true → IsLast (node_at w m)

@@ -26,7 +26,7 @@ use Rattle.hg_proof.specs.Certificate.{Certificate, certificate_bytes}
 use Rattle.hg_proof.specs.declared.why.Why.{Why}
 use Rattle.hg_report.specs.Heads.{heads_text}
 use Rattle.hg_report.specs.Summary.{summary_text}
-use Rattle.hg_storm.specs.declared.storm.Storm.{Storm}
+use Rattle.hg_storm.specs.declared.outcome.Storm.{Storm}
 use Rattle.hg_storm.specs.Storm.{IsStorm}
 use Rattle.hg_wire.specs.declared.message.Message.{Message}
 use Rattle.hg_wire.specs.declared.message.Want.{Want}
@@ -195,14 +195,14 @@ shown_world members w = record { names = names_of members; printed = end_blocks 
 -- of it, is told of the storm; no two of its nodes' orders part ways, where the dishonest members have less than a third of the
 -- stake and names do not collide.
 pub record IsStormOutcome (r : StormRun) (members : MemberList) (o : Outcome) : Type 0 where
-  pub storm : Storm
-  pub is : IsStorm members r.turns r.room r.seed storm
-  pub shows : o ≡ shown_world members storm.world
+  pub one : Storm
+  pub is : IsStorm members r.turns r.room r.seed one
+  pub shows : o ≡ shown_world members one.world
 
 -- the text has the first lines of such blocks. It is not told by the words: threads may run in many ways
 pub record IsStormText (r : StormRun) (members : MemberList) (text : List ℕ) : Type 0 where
   pub outcome : Outcome
-  pub storm : IsStormOutcome r members outcome
+  pub came : IsStormOutcome r members outcome
   pub is : text ≡ heads_text outcome
 
 -- it is written

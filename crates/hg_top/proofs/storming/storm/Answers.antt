@@ -26,7 +26,7 @@ returns-in-Ok-storm_outcome-clause-ends g c =
     let written = c.heads_of.new.sink in
     let o = c.in-Ok-storm_outcome.outcome in
     let text = heads_text o in
-    let is : IsStormText r members text = record { outcome = o; storm = c.in-Ok-storm_outcome.ensures; is = refl } in
+    let is : IsStormText r members text = record { outcome = o; came = c.in-Ok-storm_outcome.ensures; is = refl } in
     takes_on g.F.Shelf K c.args.shelf.now u u out written no_disk file.Members bad_members members_of r.members
     (heads_work r) members c.status_of.result c.in-Ok.ensures.ok c.members_from.ensures.starts
     (refl, rw c.status_of.ensures (wrote K out written (IsStormText r members) text c.heads_of.result is c.heads_of.ensures), stays_same unknown)

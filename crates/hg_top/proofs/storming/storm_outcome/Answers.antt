@@ -16,7 +16,7 @@ pub returns : goal.returns
 returns g c =
     let r = c.args.asked.now in
     record {
-      storm = c.in_ok-storm.storm;
+      one = c.in_ok-storm.storm;
       is = c.in_ok-storm.ensures;
       shows = c.in_ok-outcome.ensures ∙ storm_shown c.args.members.now r.turns r.room r.seed c.in_ok-storm.storm c.in_ok-storm.ensures;
     }
