@@ -43,7 +43,7 @@ use std::sync::Wait;
 use std::thread::Threads;
 
 /// The packed cases, which lie where the program runs.
-const PACKS: [&str; 11] = [
+const PACKS: [&str; 12] = [
     "base.cases",
     "first-path.cases",
     "further.cases",
@@ -52,6 +52,7 @@ const PACKS: [&str; 11] = [
     "proof.cases",
     "stage-a.cases",
     "stake.cases",
+    "storm.cases",
     "transfers.cases",
     "wire.cases",
     "workers.cases",

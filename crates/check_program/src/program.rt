@@ -19,7 +19,7 @@ pub(crate) const REPORT: &str =
 pub(crate) const RUN: &str = "hashgraph run --members members.toml --script script.txt";
 
 const USAGE: &str =
-    "hashgraph: usage: run --members FILE --script FILE [--workers K] or make --members N --lines L --seed S [--workers K] or keep --members FILE --events FILE --own NAME --disk FILE [--time T] or prove --members FILE --script FILE --own NAME or check --members FILE --proof FILE or ask --members FILE --script FILE --own NAME or serve --members FILE --script FILE --own NAME --have FILE or take --members FILE --script FILE --own NAME --rows FILE\n";
+    "hashgraph: usage: run --members FILE --script FILE [--workers K] or make --members N --lines L --seed S [--workers K] or keep --members FILE --events FILE --own NAME --disk FILE [--time T] or prove --members FILE --script FILE --own NAME or check --members FILE --proof FILE or storm --members FILE --turns T --seed S [--room R] or ask --members FILE --script FILE --own NAME or serve --members FILE --script FILE --own NAME --have FILE or take --members FILE --script FILE --own NAME --rows FILE\n";
 
 /// A shelf of two files, each with its name, whose calls with these numbers fail.
 fn shelf_of(
@@ -166,6 +166,47 @@ fn made_runs(rt: HostRuntime) -> Result<(), Fail> {
     Ok(())
 }
 
+const STORM: &str = "hashgraph storm --members members.toml --turns 1 --seed 7";
+
+const STORMED: &str =
+    "node A events 2 forkers 0 round 1 closed 0 ordered 0\nnode B events 2 forkers 0 round 1 closed 0 ordered 0\n";
+
+// However threads run, two members have made an event each after one turn, and none after no turn.
+#[test]
+fn storms(rt: HostRuntime) -> Result<(), Fail> {
+    let alloc = rt.alloc();
+    let ran = run(&rt, alloc, STORM, MEMBERS, "", &[], ample(alloc)?)?;
+    expect(&rt, &ran, Status::Done, STORMED, "");
+    let still = "hashgraph storm --members members.toml --turns 0 --seed 7 --room 1";
+    let ran = run(&rt, alloc, still, MEMBERS, "", &[], ample(alloc)?)?;
+    expect(
+        &rt,
+        &ran,
+        Status::Done,
+        "node A events 0 forkers 0 round 0 closed 0 ordered 0\nnode B events 0 forkers 0 round 0 closed 0 ordered 0\n",
+        "",
+    );
+    let ran = run(&rt, alloc, STORM, MEMBERS, "", &[1], ample(alloc)?)?;
+    let fault = Status::ReadFault(File::Members);
+    expect(
+        &rt,
+        &ran,
+        fault,
+        "",
+        "hashgraph: cannot read the member file\n",
+    );
+    let out = SinkMem::new(alloc, 65_536, 1, Vec::from_slice(alloc, &[8])?)?;
+    let ran = run(&rt, alloc, STORM, MEMBERS, "", &[], out)?;
+    expect(
+        &rt,
+        &ran,
+        Status::WriteFault,
+        "node A e",
+        "hashgraph: cannot write\n",
+    );
+    Ok(())
+}
+
 const OF_NO_LINE: &str =
     "node A events 0 forkers 0 round 0 closed 0 ordered 0\nbalance A 100\nbalance B 0\nnode B events 0 forkers 0 round 0 closed 0 ordered 0\nbalance A 100\nbalance B 0\n";
 
@@ -247,6 +288,7 @@ fn faulty_words(rt: HostRuntime) -> Result<(), Fail> {
         "hashgraph run --members -m --script script.txt",
         "hashgraph run --members members.toml --script script.txt --workers 17",
         "hashgraph make --members 1 --lines 0 --seed 7",
+        "hashgraph storm --members members.toml --turns 10001 --seed 1",
     ] {
         expect_usage(&rt, rt.alloc(), line)?;
     }

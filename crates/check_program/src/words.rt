@@ -13,7 +13,7 @@ fn words_of(alloc: Global, line: &str) -> Result<Vec<String>, Fail> {
 }
 
 // The command lines of runs of an implementation in another language, which takes the first ones and refuses the others.
-const TAKEN: [&str; 12] = [
+const TAKEN: [&str; 14] = [
     "run|--members|members.toml|--script|script.txt",
     "run|--script|script.txt|--members|members.toml",
     "run|--members|none|--script|script.txt",
@@ -26,9 +26,11 @@ const TAKEN: [&str; 12] = [
     "make|--members|2|--lines|0|--seed|0",
     "make|--members|128|--lines|1000000|--seed|18446744073709551615",
     "make|--seed|+7|--lines|003|--members=2",
+    "storm|--members|members.toml|--turns|0|--seed|7|--room|65536",
+    "storm|--members|members.toml|--turns|1|--seed|18446744073709551615|--room|1",
 ];
 
-const REFUSED: [&str; 43] = [
+const REFUSED: [&str; 49] = [
     "run",
     "run|--members|members.toml",
     "run|--members|members.toml|--script|script.txt|more",
@@ -72,6 +74,12 @@ const REFUSED: [&str; 43] = [
     "make|--members|2|--lines|0",
     "make|--members|2|--lines|0|--seed|7|--workers|17",
     "make|--members|members.toml|--script|script.txt",
+    "storm|--members|members.toml|--turns|10001|--seed|1",
+    "storm|--members|members.toml|--turns|1|--seed|x",
+    "storm|--members|members.toml|--turns|1|--seed|1|--room|0",
+    "storm|--members|members.toml|--turns|1|--seed|1|--room|65537",
+    "storm|--members|members.toml|--seed|1",
+    "storm|--members|members.toml|--turns|1",
 ];
 
 /// Whether the words of this line ask for something is as it must be.
@@ -119,6 +127,14 @@ fn names_are_handed_over(rt: HostRuntime) -> Result<(), Fail> {
         workers: 4,
     };
     assert_eq!(rt; read_words(rt.alloc(), made.as_slice())?, Some(wanted));
+    let storm = words_of(rt.alloc(), "storm|--members|m.toml|--turns|3|--seed|7")?;
+    let wanted = Request::Storm {
+        members: "m.toml",
+        turns: 3,
+        seed: 7,
+        room: 1_024,
+    };
+    assert_eq!(rt; read_words(rt.alloc(), storm.as_slice())?, Some(wanted));
     assert_eq!(rt; read_words(rt.alloc(), &[])?, None);
     Ok(())
 }

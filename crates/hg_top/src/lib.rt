@@ -22,6 +22,7 @@ mod printing;
 mod proving;
 mod reading;
 mod status;
+mod storming;
 mod top;
 
 pub use printing::without_words;

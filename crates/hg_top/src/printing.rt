@@ -223,7 +223,7 @@ fn print_status<E: Sink>(err: &mut E, status: Status) -> Result<(), Failed>
         ),
         Status::Usage => print_text(
             err,
-            b"hashgraph: usage: run --members FILE --script FILE [--workers K] or make --members N --lines L --seed S [--workers K] or keep --members FILE --events FILE --own NAME --disk FILE [--time T] or prove --members FILE --script FILE --own NAME or check --members FILE --proof FILE or ask --members FILE --script FILE --own NAME or serve --members FILE --script FILE --own NAME --have FILE or take --members FILE --script FILE --own NAME --rows FILE\n",
+            b"hashgraph: usage: run --members FILE --script FILE [--workers K] or make --members N --lines L --seed S [--workers K] or keep --members FILE --events FILE --own NAME --disk FILE [--time T] or prove --members FILE --script FILE --own NAME or check --members FILE --proof FILE or storm --members FILE --turns T --seed S [--room R] or ask --members FILE --script FILE --own NAME or serve --members FILE --script FILE --own NAME --have FILE or take --members FILE --script FILE --own NAME --rows FILE\n",
         ),
         Status::Members(Refusal::TooLong) => print_text(err, b"hashgraph: members: too-long\n"),
         Status::Members(Refusal::Fault(fault)) => print_member_fault(err, fault),

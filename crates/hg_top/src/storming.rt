@@ -1,11 +1,16 @@
-ghost use Rattle.std.specs.Prelude.{◌≤◌, IfOk};
-ghost use Rattle.hg_top.specs.Commands.{IsStormOutcome, storm_of};
+ghost use Rattle.std.specs.Prelude.{◌≡◌, ◌≤◌, IfOk};
+ghost use Rattle.hg_top.specs.Commands.{IsStormOutcome, storm_of, storm_work};
+ghost use Rattle.hg_top.specs.Course.{course, no_disk};
+ghost use Rattle.hg_top.specs.Ends.{Ends};
 
-use hg_io::Gate;
+use crate::reading::members_from;
+use crate::status::{Status, status_of};
+use hg_io::{Gate, Shelf, Sink};
 use hg_life::Members;
 use hg_model::Memory;
 use hg_outcome::Outcome;
 use hg_play::outcome_of;
+use hg_report::heads_of;
 use hg_workers::Voters;
 use std::alloc::Global;
 use std::sync::Wait;
@@ -25,7 +30,7 @@ pub(crate) struct StormRequest<'a> {
 }
 
 /// The blocks of the nodes after a storm.
-pub(crate) fn storm_outcome<R: Threads + Wait + Sync, G: Gate + Sync>(
+fn storm_outcome<R: Threads + Wait + Sync, G: Gate + Sync>(
     rt: &R,
     alloc: Global,
     members: &Members,
@@ -46,5 +51,30 @@ pub(crate) fn storm_outcome<R: Threads + Wait + Sync, G: Gate + Sync>(
         &voters,
         gate,
     )?;
-    outcome_of(alloc, members, &storm.world)
+    let outcome = outcome_of(alloc, members, &storm.world)?;
+    Ok(outcome)
+}
+
+/// What a storm comes to.
+pub(crate) fn storm<R: Threads + Wait + Sync, F: Shelf, K: Sink, G: Gate + Sync>(
+    rt: &R,
+    alloc: Global,
+    asked: &StormRequest<'_>,
+    shelf: &mut F,
+    out: &mut K,
+    gate: &G,
+) -> Status
+    requires { 1 ≤ asked.now.room }
+    ensures ends { Ends (storm_work (storm_of asked.now))
+        (course F.Shelf K.Sink shelf.old shelf.new out.old out.new no_disk) result }
+    ensures same { F.holds shelf.new ≡ F.holds shelf.old }
+{
+    let members = match members_from(alloc, shelf, asked.members) {
+        Ok(members) => members,
+        Err(status) => return status,
+    };
+    match storm_outcome(rt, alloc, &members, asked, gate) {
+        Ok(outcome) => status_of(heads_of(&outcome, out)),
+        Err(Memory) => Status::Memory,
+    }
 }

@@ -19,6 +19,7 @@ returns-clause-app c =
     let keep = with_added _ _ _ _ _ c.in_ok-subcommand-3.ensures make c.in_ok-keep.ensures.app c.in_ok-keep.ensures.local in
     let prove = with_added _ _ _ _ _ c.in_ok-subcommand-4.ensures keep c.in_ok-prove.ensures.app c.in_ok-prove.ensures.local in
     let check = with_added _ _ _ _ _ c.in_ok-subcommand-5.ensures prove c.in_ok-check.ensures.app c.in_ok-check.ensures.local in
-    let ask = with_added _ _ _ _ _ c.in_ok-subcommand-6.ensures check c.in_ok-ask.ensures.app c.in_ok-ask.ensures.local in
-    let serve = with_added _ _ _ _ _ c.in_ok-subcommand-7.ensures ask c.in_ok-serve.ensures.app c.in_ok-serve.ensures.local in
+    let storm = with_added _ _ _ _ _ c.in_ok-subcommand-6.ensures check c.in_ok-storm.ensures.app c.in_ok-storm.ensures.local in
+    let ask = with_added _ _ _ _ _ c.in_ok-subcommand-7.ensures storm c.in_ok-ask.ensures.app c.in_ok-ask.ensures.local in
+    let serve = with_added _ _ _ _ _ c.in_ok-subcommand-8.ensures ask c.in_ok-serve.ensures.app c.in_ok-serve.ensures.local in
     with_added _ _ _ _ _ c.in_ok-whole.ensures serve c.in_ok-take.ensures.app c.in_ok-take.ensures.local

@@ -1,13 +1,13 @@
 use Rattle.std.proofs.Common.{Some, None, inl, refl}
-use Rattle.hg_command.specs.Asked.{CheckFiles, KeepFiles, NodeFiles, RunFiles, ask, check, keep, make, prove, run, serve, take}
+use Rattle.hg_command.specs.Asked.{CheckFiles, KeepFiles, NodeFiles, RunFiles, StormRun, ask, check, keep, make, prove, run, serve, storm, take}
 use Rattle.hg_top.specs.declared.exchanging.Exchange.TheVariants.{Ask, Serve, Take}
 use Rattle.hg_top.specs.declared.status.Status.TheVariants.{Usage, Memory}
-use Rattle.hg_top.specs.Commands.{asks, check_work, exchange_work, made_run, played_work, prove_work, run_work, work_of}
+use Rattle.hg_top.specs.Commands.{asks, check_work, exchange_work, made_run, played_work, prove_work, run_work, storm_work, work_of}
 use Rattle.hg_top.specs.Course.{course, disk_course, no_disk}
 use Rattle.hg_top.proofs.KeepLaws.{stays_same}
-use Rattle.hg_top.proofs.WorkLaws.{comes_short, completes, diskless_check, diskless_played, diskless_prove, diskless_run, ends_at, with_disk}
+use Rattle.hg_top.proofs.WorkLaws.{comes_short, completes, diskless_check, diskless_played, diskless_prove, diskless_run, diskless_storm, ends_at, with_disk}
 use Rattle.hg_top.proofs.top.hashgraph.Goals as goal
-use Rattle.hg_top.proofs.top.hashgraph.Goals.{in-Ok-Some-Run, in-Ok-Some-Make, in-Ok-Some-Keep, in-Ok-Some-Prove, in-Ok-Some-Check, in-Ok-Some-Ask, in-Ok-Some-Serve, in-Ok-Some-Take, in-Ok-None, in-Err}
+use Rattle.hg_top.proofs.top.hashgraph.Goals.{in-Ok-Some-Run, in-Ok-Some-Make, in-Ok-Some-Keep, in-Ok-Some-Prove, in-Ok-Some-Check, in-Ok-Some-Storm, in-Ok-Some-Ask, in-Ok-Some-Serve, in-Ok-Some-Take, in-Ok-None, in-Err}
 
 pub returns-clause-ends : goal.returns-clause-ends
 returns-clause-ends g c =
@@ -51,6 +51,13 @@ returns-clause-ends g c =
           let ends = with_disk (check_work k.members k.proof) (course F K s w.check-status.new.shelf out w.check-status.new.out no_disk) (disk_course W disk disk)
           (F.starts s) w.check-status.result (diskless_check k.members k.proof) still w.check-status.ensures.ends in
           ends_at F K W s w.check-status.new.shelf last.shelf out w.check-status.new.out last.out disk disk last.disk (Some (check k)) asked w.check-status.result last.status request
+          w.shelf-is w.out-is w.disk-is w.status-is ends)
+      | in-Ok-Some-Storm w ↦ (let q = w.in-Ok-Some-Storm in
+          let request = rw (q.field-0-is, q.field-0-0-is) at q.ensures.request in
+          let r : StormRun = record { members = q.members.now; turns = q.turns; seed = q.seed; room = q.room } in
+          let ends = with_disk (storm_work r) (course F K s w.storm-status.new.shelf out w.storm-status.new.out no_disk) (disk_course W disk disk)
+          (F.starts s) w.storm-status.result (diskless_storm r) still w.storm-status.ensures.ends in
+          ends_at F K W s w.storm-status.new.shelf last.shelf out w.storm-status.new.out last.out disk disk last.disk (Some (storm r)) asked w.storm-status.result last.status request
           w.shelf-is w.out-is w.disk-is w.status-is ends)
       | in-Ok-Some-Ask w ↦ (let q = w.in-Ok-Some-Ask in
           let request = rw (q.field-0-is, q.field-0-0-is) at q.ensures.request in

@@ -1,9 +1,9 @@
 use Rattle.std.proofs.Common.{ℕ, Option, ap, arith, ◌∙◌, unwrap_or}
 use Rattle.clap.specs.Words.{found_of}
 use Rattle.hg_command.proofs.Readings.{number_found}
-use Rattle.hg_command.proofs.request.number_at.Goals as goal
+use Rattle.hg_command.proofs.request.number_or.Goals as goal
 
 pub returns : goal.returns
 returns c =
-    c.unwrap_or.ensures ∙ ap (λ (o : Option ℕ). unwrap_or o 0)
+    c.unwrap_or.ensures ∙ ap (λ (o : Option ℕ). unwrap_or o c.args.other)
     (number_found 32 (omega arith, omega arith) (found_of c.args.matches.now) c.args.option.now c.get_one.result c.get_one.ensures.none c.get_one.ensures.value)
