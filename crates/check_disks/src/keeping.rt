@@ -109,11 +109,17 @@ fn keep<R: Threads + Wait + Sync>(
     Ok(Ran { status, out, err })
 }
 
-/// The run came to this, and wrote just these.
-fn expect(rt: &impl Abort, ran: &Ran, status: Status, out: &str, err: &str) {
-    assert!(rt; ran.status == status);
+/// The run ended so, and wrote just these.
+fn expect(rt: &impl Abort, ran: &Ran, status: u8, out: &str, err: &str) {
+    assert!(rt; ran.status.code() == status);
     assert!(rt; ran.out.bytes() == out.as_bytes());
     assert!(rt; ran.err.bytes() == err.as_bytes());
+}
+
+/// The run ended well, and first wrote this.
+fn expect_front(rt: &impl Abort, ran: &Ran, front: &[u8]) {
+    assert!(rt; ran.status == Status::Done);
+    assert!(rt; ran.out.bytes().starts_with(front));
 }
 
 /// The disk's file is this journal.
@@ -150,7 +156,7 @@ fn keeps<R: Abort + Threads + Wait + Sync>(
     journal: &[u8],
 ) -> Result<(), Fail> {
     let ran = keep(rt, alloc, line, events, disk)?;
-    expect(rt, &ran, Status::Done, out, "");
+    expect(rt, &ran, 0, out, "");
     expect_journal(rt, alloc, disk, journal)
 }
 
@@ -206,9 +212,7 @@ fn refuses<R: Abort + Threads + Wait + Sync>(
 ) -> Result<(), Fail> {
     let mut disk = disk_of(alloc, journal, fails)?;
     let ran = keep(rt, alloc, line, events, &mut disk)?;
-    assert_eq!(rt; ran.status.code(), status);
-    assert!(rt; ran.out.bytes().is_empty());
-    assert!(rt; ran.err.bytes() == err.as_bytes());
+    expect(rt, &ran, status, "", err);
     Ok(())
 }
 
@@ -284,8 +288,7 @@ fn what_stands_behind_a_closed_gate_is_forgotten(rt: HostRuntime) -> Result<(), 
     journal[9] = 0;
     let mut disk = disk_of(alloc, &journal, &[])?;
     let ran = keep(&rt, alloc, KEEP, b"", &mut disk)?;
-    assert!(rt; ran.status == Status::Done);
-    assert!(rt; ran.out.bytes().starts_with(b"opened 0\n"));
+    expect_front(&rt, &ran, b"opened 0\n");
     Ok(())
 }
 
@@ -300,11 +303,10 @@ fn expect_after_stop<R: Abort + Threads + Wait + Sync>(
 ) -> Result<(), Fail> {
     let mut disk = DiskMem::new(alloc, 512, Vec::from_slice(alloc, &[call])?)?;
     let ran = keep(rt, alloc, KEEP_AT_FIVE, b"", &mut disk)?;
-    assert_eq!(rt; ran.status.code(), status);
+    assert!(rt; ran.status.code() == status);
     let mut left = disk.stopped(all);
     let ran = keep(rt, alloc, KEEP, b"", &mut left)?;
-    assert!(rt; ran.status == Status::Done);
-    assert!(rt; ran.out.bytes().starts_with(opened));
+    expect_front(rt, &ran, opened);
     Ok(())
 }
 

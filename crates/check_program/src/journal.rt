@@ -180,23 +180,24 @@ fn a_stop_at_each_call_leaves_what_was_answered(rt: HostRuntime) -> Result<(), F
     Ok(())
 }
 
+// The bytes of the disk's file are these.
+fn reads(alloc: Global, disk: &mut DiskMem, bytes: &[u8]) -> Result<bool, Memory> {
+    match read_all(alloc, disk, NAME)? {
+        Ok(read) => Ok(read.as_slice() == bytes),
+        Err(Failed) => Ok(false),
+    }
+}
+
 #[test]
 fn a_journal_has_these_bytes(rt: HostRuntime) -> Result<(), Fail> {
     let alloc = rt.alloc();
     let members = two_members(&rt, alloc)?;
     let event = bytes_of(alloc, &[B_FIRST])?;
-    let mut disk = disk_of(alloc, &[])?;
-    equal(
-        &rt,
-        0,
-        play(alloc, &members, &mut disk, &event)?,
-        (4, false),
-    );
     let wanted = bytes_of(alloc, &JOURNAL)?;
-    match read_all(alloc, &mut disk, NAME)? {
-        Ok(bytes) => assert_eq!(rt; bytes.as_slice(), wanted.as_slice()),
-        Err(Failed) => return Err("a fault".into()),
-    }
+    let mut disk = disk_of(alloc, &[])?;
+    let played = play(alloc, &members, &mut disk, &event)?;
+    equal(&rt, 0, played, (4, false));
+    assert!(rt; reads(alloc, &mut disk, &wanted)?);
     Ok(())
 }
 

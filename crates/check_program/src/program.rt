@@ -246,6 +246,14 @@ fn failing_reads(rt: HostRuntime) -> Result<(), Fail> {
     expect_read_fault(&rt, rt.alloc(), &[3, 4, 5], File::Script, script)
 }
 
+/// So many bytes of the report are written, and the fault is told.
+fn expect_front(rt: &impl Abort, ran: &Ran, len: usize) {
+    assert!(rt; ran.status == Status::WriteFault);
+    assert!(rt; ran.out.bytes().len() == len);
+    assert!(rt; REPORT.as_bytes().starts_with(ran.out.bytes()));
+    assert!(rt; ran.err.bytes() == b"hashgraph: cannot write\n".as_slice());
+}
+
 /// Where this call of a sink fails that takes one byte a call, the bytes before it are written, and the fault is told.
 fn expect_write_fault<R: Abort + Threads + Wait + Sync>(
     rt: &R,
@@ -255,10 +263,7 @@ fn expect_write_fault<R: Abort + Threads + Wait + Sync>(
     let fails = vec![in alloc; call as u64]?;
     let out = SinkMem::new(alloc, 65_536, 1, fails)?;
     let ran = run(rt, alloc, RUN, MEMBERS, SCRIPT, &[], out)?;
-    assert!(rt; ran.status == Status::WriteFault);
-    assert!(rt; ran.out.bytes().len() == call);
-    assert!(rt; REPORT.as_bytes().starts_with(ran.out.bytes()));
-    assert!(rt; ran.err.bytes() == b"hashgraph: cannot write\n".as_slice());
+    expect_front(rt, &ran, call);
     Ok(())
 }
 
