@@ -104,6 +104,12 @@ module _ {K : Type 0} (accepts : K → Accepts) where
         let same : v ≡ x = cc in
         subst (λ (y : NodeView K). (z : NodeView K) × comes y z × StopsKeep accepts old old y z) same (w, has, still_keeps accepts old v w gate stored_here told)
 
+  -- the node that a record leads to is not the one that was there
+  pub is_other : (v w : NodeView K) (kind : ℕ) (body : List ℕ) → next_node accepts v kind body ≡ Some w → (was : Option (NodeView K)) → was ≡ Some v → Some w ≡ was → ⊥
+  is_other v w kind body leads was there stays =
+      let same : w ≡ v = cc in
+      omega (arith, (next_more v w accepts kind body leads).1, ap (λ (x : NodeView K). length x.history) same)
+
   -- a record that was made is no longer than any
   pub near_made : (v w : NodeView K) (place : ℕ) (row : Row) (gate next : ℕ) → MadeHere v w place row → next ≤ gate + 65539 → IsNear gate v
       → (x : NodeView K) → Some w ≡ Some x → IsNear next x

@@ -70,6 +70,9 @@ impl<V: Signer + Drop> Stored<V> {
         ensures free { IsErrOf result StoreError.Memory → ForSome self.old.node (λ v. WouldAccept V.accepts v bytes.now) }
         ensures closed { IsErrOf result StoreError.Closed ↔ (self.old.node ≡ None) }
         ensures closes { IsErrOf result StoreError.Disk ↔ (IsSome self.old.node × (self.new.node ≡ None)) }
+        // A closed node stays closed. Where no node comes to be another, neither does the end of its journal, nor the disk.
+        ensures shut { self.old.node ≡ None → self.new.node ≡ None }
+        ensures idle { self.new.node ≡ self.old.node → (self.new ≡ self.old) × (disk.new ≡ disk.old) }
         // A stop leaves the whole journal.
         ensures stored { StoresNode V.accepts (D.file disk.new) self.new }
         // The disk tells the file just where it did.
@@ -115,6 +118,9 @@ impl<V: Signer + Drop> Stored<V> {
             → ForSome self.old.node (λ v. make_draft v others.now payload.now ≡ None) }
         ensures closed { IsErrOf result StoreError.Closed ↔ (self.old.node ≡ None) }
         ensures closes { IsErrOf result StoreError.Disk ↔ (IsSome self.old.node × (self.new.node ≡ None)) }
+        // A closed node stays closed. Where no node comes to be another, neither does the end of its journal, nor the disk.
+        ensures shut { self.old.node ≡ None → self.new.node ≡ None }
+        ensures idle { self.new.node ≡ self.old.node → (self.new ≡ self.old) × (disk.new ≡ disk.old) }
         // A stop leaves the whole journal.
         ensures stored { StoresNode V.accepts (D.file disk.new) self.new }
         // The disk tells the file just where it did.
@@ -159,6 +165,9 @@ impl<V: Signer + Drop> Stored<V> {
         ensures memory { IsErrOf result StoreError.Memory → self.new ≡ self.old }
         ensures closed { IsErrOf result StoreError.Closed ↔ (self.old.node ≡ None) }
         ensures closes { IsErrOf result StoreError.Disk ↔ (IsSome self.old.node × (self.new.node ≡ None)) }
+        // A closed node stays closed. Where no node comes to be another, neither does the end of its journal, nor the disk.
+        ensures shut { self.old.node ≡ None → self.new.node ≡ None }
+        ensures idle { self.new.node ≡ self.old.node → (self.new ≡ self.old) × (disk.new ≡ disk.old) }
         // A stop leaves the whole journal.
         ensures stored { StoresNode V.accepts (D.file disk.new) self.new }
         // The disk tells the file just where it did.

@@ -7,8 +7,9 @@ use Rattle.hg_io.proofs.Going.{goes_on, weaker}
 use Rattle.hg_life.specs.Members.{MemberList}
 use Rattle.hg_life.specs.NodeView.{NodeView, Start, start_of}
 use Rattle.hg_life.specs.Signing.{Accepts}
-use Rattle.hg_journal.specs.Journal.{journal}
-use Rattle.hg_journal.specs.Opening.{IsWrong, SyncsFirst, SyncsOrFails}
+use Rattle.hg_journal.proofs.OpenLaws.{anew_is}
+use Rattle.hg_journal.specs.Journal.{head_of, journal}
+use Rattle.hg_journal.specs.Opening.{IsWrong, SyncsFirst, SyncsOrFails, WritesOnlyAnew}
 use Rattle.hg_journal.specs.Stored.{StoredView, StoresNode}
 use Rattle.hg_journal.specs.declared.errors.OpenError.{OpenError}
 use Rattle.hg_journal.specs.declared.errors.OpenError.TheVariants as open_error
@@ -18,7 +19,7 @@ use Rattle.hg_keep.specs.declared.kept.Kept.{Kept}
 use Rattle.hg_keep.specs.declared.stop.Stop.{Stop}
 use Rattle.hg_keep.specs.declared.stop.Stop.TheVariants as stop
 use Rattle.hg_keep.specs.Keeping.{IsKept, IsMadeWithOf, IsOnTheWay, KeptOf}
-use Rattle.hg_keep.specs.Stops.{IsRefused, KeepsSome, KeepsTask, StaysIfRefused, StopsLeaveOf, SyncsOnTheWay, SyncsOrStops}
+use Rattle.hg_keep.specs.Stops.{IsRefused, KeepsSome, KeepsTask, SparesOthers, StaysIfRefused, StopsLeaveOf, SyncsOnTheWay, SyncsOrStops}
 use Rattle.hg_keep.specs.Stores.{open_stop, store_stop}
 use Rattle.hg_keep.proofs.StopLaws.{some_value, told_still}
 use Rattle.hg_keep.proofs.WayLaws.{makes_start, puts_start}
@@ -77,6 +78,15 @@ module _ {K : Type 0} (accepts : K → Accepts) (start : Start K) where
         → is_some mid.reads ≡ is_some old.reads → ForSome old.reads (λ bytes. journal accepts start bytes ≡ node) → ForSome node (λ v. v.start ≡ start) → StopsLeaveOf accepts comes node mid new
         → SyncsOrStops accepts start comes old new s
     syncs_work old mid new r node s opened syncs shown opens begins leaves = inl (syncs_for old mid new r node opened syncs shown opens begins leaves)
+
+  -- what is no journal, or a broken one, is not to be made anew, and is not opened
+  pub spares_open : (old new : FileView) → WritesOnlyAnew (head_of start) old new → SparesOthers accepts start old new
+  spares_open old new only bytes told none = only bytes told (λ cases. absurd (let is = sym none ∙ anew_is accepts start (head_of start) refl bytes cases in cc))
+
+  pub spares_work : (old new : FileView) (node : Option (NodeView K)) → IsSome node → ForSome old.reads (λ bytes. journal accepts start bytes ≡ node) → SparesOthers accepts start old new
+  spares_work old new node there opens bytes told none =
+      let v = some_value node there in
+      absurd (let is = sym none ∙ opens bytes told ∙ v.1 in cc)
 
   pub own_way : (events : List (List ℕ)) (time : Option ℕ) (v : NodeView K) → IsOnTheWay accepts events time v v
   own_way events time v = inl (0, refl)

@@ -1,5 +1,5 @@
 -- What a stop leaves of a journal while work is done on its node
-use Rattle.std.specs.Prelude.{◌≡◌, ◌⊎◌, ℕ, List, Option, Some, Result, IsErrOf, IsSome}
+use Rattle.std.specs.Prelude.{◌≡◌, ◌⊎◌, ℕ, List, Option, Some, None, Result, IsErrOf, IsSome}
 use Rattle.std.specs.Option.{ForSome}
 use Rattle.hg_io.specs.FileView.{FileView, IsSynced, Leaves, Stays}
 use Rattle.hg_life.specs.Members.{MemberList}
@@ -66,6 +66,10 @@ StaysIfRefused Disk old new = Unit {0}
 StaysIfRefused Memory old new = Unit {0}
 StaysIfRefused Foreign old new = Stays old new
 StaysIfRefused (Broken at) old new = Stays old new
+
+-- a file that is not the journal of such a node, or a broken one, stays as it was, whatever is answered
+abbrev pub SparesOthers : {K : Type 0} → (K → Accepts) → Start K → FileView → FileView → Type 0
+SparesOthers accepts start old new = ForSome old.reads (λ file. journal accepts start file ≡ None → Stays old new)
 
 -- what came of the work is that of the node with which the file before begins, and the file after is the journal of the node then
 abbrev pub KeepsTask : {K : Type 0} → (K → Accepts) → MemberList → Start K → List (List ℕ) → Option ℕ → FileView → FileView → Kept → Type 0

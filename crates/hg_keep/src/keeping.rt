@@ -1,10 +1,10 @@
-ghost use Rattle.std.specs.Prelude.{◌≡◌, ◌<◌, ◌≤◌, ℕ, List, IfErr, IfOk, IsErrOf, IsSome, OnOk, length};
+ghost use Rattle.std.specs.Prelude.{◌≡◌, ◌<◌, ◌≤◌, ℕ, List, IfErr, IfOk, IsErrOf, IsSome, OnOk, is_some, length};
 ghost use Rattle.std.specs.Option.{ForSome};
 ghost use Rattle.hg_life.specs.NodeView.{start_of};
 ghost use Rattle.hg_journal.specs.Faults.{IsFaultCounted};
 ghost use Rattle.hg_journal.specs.Stored.{StoresNode};
 ghost use Rattle.hg_keep.specs.Keeping.{IsMadeWithOf, IsOnTheWay, KeptOf};
-ghost use Rattle.hg_keep.specs.Stops.{IsFaultTold, IsRefused, KeepsTask, StaysIfRefused, StopsLeaveOf, SyncsOrStops};
+ghost use Rattle.hg_keep.specs.Stops.{IsFaultTold, IsRefused, KeepsTask, SparesOthers, StaysIfRefused, StopsLeaveOf, SyncsOrStops};
 
 use crate::kept::Kept;
 use crate::making::make_at;
@@ -49,6 +49,7 @@ fn work<V: Signer + Drop, D: Disk>(
     ensures stored { OnOk result (StoresNode V.accepts (D.file disk.new) stored.new) }
     ensures stops { StopsLeaveOf V.accepts (IsOnTheWay V.accepts task.now.events.now task.now.time) stored.old.node
         (D.file disk.old) (D.file disk.new) }
+    ensures shown { is_some (D.file disk.new).reads ≡ is_some (D.file disk.old).reads }
     ensures cause { IsFaultCounted result StoreError.Disk (D.faults disk.old) (D.faults disk.new) stored.old.name }
     ensures never { IsErrOf result StoreError.Closed → ⊥ }
     ensures counts { (other : List ℕ) → D.faults disk.old other ≤ D.faults disk.new other }
@@ -84,6 +85,10 @@ pub fn keep<V: Signer + Drop, D: Disk>(
     ensures wrong { IfErr result (λ stop. ForSome (D.file disk.old).reads
         (IsRefused V.accepts (start_of members.now task.now.own keys) stop)) }
     ensures refused { IfErr result (λ stop. StaysIfRefused stop (D.file disk.old) (D.file disk.new)) }
+    // Whatever is answered, such a file stays.
+    ensures spared { SparesOthers V.accepts (start_of members.now task.now.own keys) (D.file disk.old) (D.file disk.new) }
+    // The disk tells the file just where it did.
+    ensures shown { is_some (D.file disk.new).reads ≡ is_some (D.file disk.old).reads }
     // From the first sync on a stop leaves the journal of a node on the way; or the disk failed before that was done.
     ensures synced { SyncsOrStops V.accepts (start_of members.now task.now.own keys)
         (IsOnTheWay V.accepts task.now.events.now task.now.time) (D.file disk.old) (D.file disk.new) result }

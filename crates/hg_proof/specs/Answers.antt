@@ -44,6 +44,10 @@ judged_in accepts g bytes = judged accepts g.members g.coin bytes
 abbrev pub ShowsIn : Accepts → Graph → List ℕ → Certificate → Type 0
 ShowsIn accepts g bytes shown = Shows accepts g.members g.coin bytes shown
 
+-- what they show is told
+abbrev pub TellsShown : {E : Type 0} → Accepts → Graph → List ℕ → Result Checked E → Type 0
+TellsShown accepts g bytes result = (shown : Certificate) → ShowsIn accepts g bytes shown → Tells (Ok shown) result
+
 -- the same of rows and their order
 abbrev pub ordered_among : Accepts → Graph → List Row → Result (List Placed) Why
 ordered_among accepts g rows = ordered_rows accepts g.members g.coin rows

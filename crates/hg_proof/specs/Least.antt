@@ -20,9 +20,13 @@ pub record IsLeast (g : Graph) (len : ℕ) : Type 0 where
   pub whole : HasWhole g len
   pub least : (k : ℕ) → k < len → HasWhole g k → ⊥
 
--- these rows, with the order of all
+-- these rows, with this order
+abbrev pub first_rows : Graph → ℕ → List Placed → Certificate
+first_rows g len order = certificate (take len g.rows) order
+
+-- .. with the order of all
 abbrev pub first_certificate : Graph → ℕ → Certificate
-first_certificate g len = certificate (take len g.rows) (order_in g)
+first_certificate g len = first_rows g len (order_in g)
 
 -- the bytes show the whole order of a node's graph, with the fewest first rows that have it, to whoever accepts the
 -- signatures that the node accepts

@@ -1,9 +1,8 @@
-ghost use Rattle.std.specs.Prelude.{◌≡◌, ◌≤◌, [], IfOk, Ok, length};
+ghost use Rattle.std.specs.Prelude.{◌≡◌, ◌≤◌, [], IfOk, length};
 ghost use Rattle.hg_life.specs.Results.{Gives};
 ghost use Rattle.hg_life.specs.Verdict.{row_limit};
 ghost use Rattle.hg_graph.specs.RowsWithRoom.{rows_of};
-ghost use Rattle.hg_proof.specs.Answers.{IfYes, ShowsIn, Tells, judged_in, ordered_among};
-ghost use Rattle.hg_proof.specs.Certificate.{Certificate};
+ghost use Rattle.hg_proof.specs.Answers.{IfYes, ShowsIn, Tells, TellsShown, judged_in, ordered_among};
 
 use crate::comparing::difference;
 use crate::filling::fill;
@@ -87,7 +86,7 @@ pub fn check<V: Verifier>(
     // What is answered yes is shown.
     ensures yes { IfOk result (λ checked. IfYes checked (ShowsIn (V.accepts keys.now) graph.old.graph bytes.now)) }
     // What is shown is answered yes.
-    ensures only { (shown : Certificate) → ShowsIn (V.accepts keys.now) graph.old.graph bytes.now shown → Tells (Ok shown) result }
+    ensures only { TellsShown (V.accepts keys.now) graph.old.graph bytes.now result }
     // What is shown, or which reason speaks first.
     ensures exact { Tells (judged_in (V.accepts keys.now) graph.old.graph bytes.now) result }
 {

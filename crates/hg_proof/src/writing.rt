@@ -1,7 +1,8 @@
 ghost use Rattle.std.specs.Prelude.{◌≡◌, ◌<◌, ◌≤◌, ◌^◌, ◌++◌, All, length, take, IfOk, OnOk};
 ghost use Rattle.hg_model.specs.declared.row.Placed.{Placed};
 ghost use Rattle.std.specs.List.{AllByRecursion};
-ghost use Rattle.hg_proof.specs.Certificate.{AreEntries, IsEntry, certificate, certificate_bytes, entries_bytes, entry_bytes, rows_bytes};
+ghost use Rattle.hg_proof.specs.Certificate.{AreEntries, IsEntry, certificate_bytes, entries_bytes, entry_bytes, rows_bytes};
+ghost use Rattle.hg_proof.specs.Least.{first_rows};
 
 use crate::fields::MAGIC;
 use hg_graph::EventGraph;
@@ -54,7 +55,7 @@ pub(crate) fn certificate_bytes(
     requires len { len ≤ length graph.now.graph.rows }
     requires few { length order.now < 2 ^ 32 }
     requires places { All (λ (p : Placed). p.place < 2 ^ 32) order.now }
-    ensures bytes { IfOk result (λ bytes. bytes.items ≡ certificate_bytes (certificate (take len graph.now.graph.rows) order.now)) }
+    ensures bytes { IfOk result (λ bytes. bytes.items ≡ certificate_bytes (first_rows graph.now.graph len order.now)) }
     ensures sized { IfOk result (λ bytes. AreEntries order.now) }
 {
     // That the rows are not too many for their count.

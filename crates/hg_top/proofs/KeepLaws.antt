@@ -1,5 +1,5 @@
 -- Laws of the work on a node that is kept in a journal
-use Rattle.std.proofs.Common.{◌≡◌, ℕ, List, Option, Some, inl, inr, refl, sym, ◌∙◌, arith, IsErrOf}
+use Rattle.std.proofs.Common.{◌≡◌, ℕ, List, Option, Some, is_some, inl, inr, refl, sym, ◌∙◌, ap, arith, IsErrOf}
 use Rattle.std.specs.Prelude.{Result, Ok, Err, ⊤}
 use Rattle.std.specs.Option.{ForSome}
 use Rattle.hg_io.specs.FileView.{FileView, Stays}
@@ -20,7 +20,7 @@ use Rattle.hg_top.specs.declared.status.JournalFault.TheVariants.{Foreign, Broke
 use Rattle.hg_top.specs.declared.status.Status.{Status}
 use Rattle.hg_top.specs.declared.status.Status.TheVariants.{Done, ReadFault, Usage, Members, Own, Script, Events, WriteFault, Memory, Disk, Journal, Proof, Wire}
 use Rattle.hg_top.specs.Course.{Course, DiskCourse, HasDiskFault, HasWriteFault, IsStill}
-use Rattle.hg_top.specs.Keeps.{KeepEnds, KeepSyncs, keep_status, start_for, status_for, stop_of, stop_status}
+use Rattle.hg_top.specs.Keeps.{KeepEnds, KeepSpares, KeepSyncs, keep_status, start_for, status_for, stop_of, stop_status}
 use Rattle.hg_top.specs.Work.{KeepWork}
 use Rattle.hg_top.specs.Writing.{Gives, status_of}
 
@@ -31,6 +31,10 @@ stays_same file = record {
   fewer = λ left may. may;
   leaves = record { older = omega arith; still = λ age left before since. since; only = λ age left before since. inl since };
 }
+
+-- .. and is spared then
+pub spares_still : (k : KeepWork) (d : DiskCourse) → IsStill d → KeepSpares k d
+spares_still k d still = (λ bytes told none. still, ap (λ (o : Option (List ℕ)). is_some o) still.reads)
 
 -- ---- what must come of the work
 

@@ -32,7 +32,7 @@ use Rattle.hg_world.specs.World.{Secrets}
 use Rattle.hg_top.specs.declared.exchanging.Exchange.{Exchange}
 use Rattle.hg_top.specs.declared.exchanging.Exchange.TheVariants.{Ask, Serve, Take}
 use Rattle.hg_top.specs.Commands.{answer_work, bad_members, bad_message, bad_proof, bad_script, certificate_work, check_work, exchange_work, heads_work, if_own, lines_for, own_in, play_work, played_work, prove_work, report_work, run_work, script_work, shown_work, storm_work, work_of}
-use Rattle.hg_top.proofs.KeepLaws.{completes_keep}
+use Rattle.hg_top.proofs.KeepLaws.{completes_keep, spares_still}
 use Rattle.hg_command.specs.Asked.{Asked, NodeFiles, StormRun}
 
 -- ---- what holds of each work
@@ -42,7 +42,7 @@ pub comes_short : (work : Work) (c : Course) (starts : ℕ) → IsQuiet c starts
 comes_short (Writes Is) c starts quiet = quiet
 comes_short (Stops why) c starts quiet = (inr refl, quiet)
 comes_short (Reads file name next) c starts quiet = inl (refl, quiet)
-comes_short (Keeps k) c starts quiet = (quiet.0, quiet.1, inr (tt, quiet.2))
+comes_short (Keeps k) c starts quiet = (quiet.0, quiet.1, inr (tt, quiet.2), spares_still k c.disk quiet.2)
 
 -- and this is never against what must come of a work
 completes_short : (work : Work) (c : Course) → Completes work c Memory

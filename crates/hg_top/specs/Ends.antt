@@ -8,7 +8,7 @@ use Rattle.hg_top.specs.declared.status.File.{File}
 use Rattle.hg_top.specs.declared.status.Status.{Status}
 use Rattle.hg_top.specs.declared.status.Status.TheVariants.{Done, ReadFault, Memory}
 use Rattle.hg_top.specs.Course.{Course, HasDiskFault, HasMore, HasReadFault, HasWithin, HasWriteFault, IsQuiet, IsStill, Tells, no_disk, reading}
-use Rattle.hg_top.specs.Keeps.{KeepEnds, KeepSyncs, keep_status}
+use Rattle.hg_top.specs.Keeps.{KeepEnds, KeepSpares, KeepSyncs, keep_status}
 use Rattle.hg_top.specs.Work.{Work, limit_of, too_long}
 use Rattle.hg_top.specs.Work.Work.{Writes, Stops, Reads, Keeps}
 use Rattle.hg_top.specs.Writing.{Gives, Wrote}
@@ -35,6 +35,7 @@ Comes (Keeps k) c starts status =
     (c.after.starts ≡ starts)
     × KeepEnds k c.disk c.before.written c.after.written c.before.write_faults c.after.write_faults status
     × KeepSyncs k c.disk status
+    × KeepSpares k c.disk
 
 -- how a call ended whose first step is the work's
 abbrev pub Ends : Work → Course → Status → Type 0

@@ -1,5 +1,5 @@
 -- What comes of the work on a node that is kept in a journal
-use Rattle.std.specs.Prelude.{ℕ, ◌≡◌, ◌⊎◌, ⊤, List, Option}
+use Rattle.std.specs.Prelude.{ℕ, ◌≡◌, ◌⊎◌, ⊤, List, Option, is_some}
 use Rattle.std.specs.Option.{ForSome}
 use Rattle.hg_io.specs.declared.sink.Sink as sink
 use Rattle.hg_life.specs.Members.{MemberList}
@@ -9,7 +9,7 @@ use Rattle.hg_journal.specs.Journal.{reading_of}
 use Rattle.hg_journal.specs.Reading.{Reading}
 use Rattle.hg_journal.specs.Reading as R
 use Rattle.hg_keep.specs.Keeping.{IsOnTheWay}
-use Rattle.hg_keep.specs.Stops.{IsRefused, KeepsTask, SyncsOnTheWay}
+use Rattle.hg_keep.specs.Stops.{IsRefused, KeepsTask, SparesOthers, SyncsOnTheWay}
 use Rattle.hg_keep.specs.Text.{kept_text}
 use Rattle.hg_keep.specs.declared.keeping.Task.{Task}
 use Rattle.hg_keep.specs.declared.kept.Kept.{Kept}
@@ -73,10 +73,15 @@ KeepSyncs k d status =
     ForSome d.before.reads (SyncsOnTheWay accepts_by (start_for k) (IsOnTheWay accepts_by k.events k.time) d.before d.after)
     ⊎ (IsEarly status × IsStill d)
 
--- both, of a sink K, before and after
+-- What it leaves of the file whatever the status: one that is not the journal of the node, or a broken one, as it was; and
+-- the disk tells it just where it did
+abbrev pub KeepSpares : KeepWork → DiskCourse → Type 0
+KeepSpares k d = SparesOthers accepts_by (start_for k) d.before d.after × (is_some d.after.reads ≡ is_some d.before.reads)
+
+-- all of this, of a sink K, before and after
 abbrev pub KeptOn : {S : Type 0} → sink.Ghosts S → S → S → DiskCourse → KeepWork → Status → Type 0
 KeptOn K before after d k status =
-    KeepEnds k d (K.written before) (K.written after) (K.faults before) (K.faults after) status × KeepSyncs k d status
+    KeepEnds k d (K.written before) (K.written after) (K.faults before) (K.faults after) status × KeepSyncs k d status × KeepSpares k d
 
 -- the status that is due for what a file stands for
 abbrev pub status_for : {S : Type 0} → Reading S → Status

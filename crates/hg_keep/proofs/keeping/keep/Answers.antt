@@ -7,7 +7,7 @@ use Rattle.hg_keep.specs.Stores.{open_stop}
 use Rattle.hg_keep.specs.declared.kept.Kept.{Kept}
 use Rattle.hg_keep.specs.declared.stop.Stop.{Stop}
 use Rattle.hg_keep.proofs.StopLaws.{error_is, no_error}
-use Rattle.hg_keep.proofs.TaskLaws.{own_way, syncs_open, syncs_work, task_kept}
+use Rattle.hg_keep.proofs.TaskLaws.{own_way, spares_open, spares_work, syncs_open, syncs_work, task_kept}
 use Rattle.hg_keep.proofs.keeping.keep.Goals as goal
 
 pub returns-in-Err-clause-synced : goal.returns-in-Err-clause-synced
@@ -18,6 +18,20 @@ returns-in-Err-clause-synced g c =
     let start = start_of c.args.members.now c.args.task.now.own c.args.keys in
     syncs_open accepts start (IsOnTheWay accepts events time) (own_way accepts start events time) (g.D.Disk.file c.args.disk.now) (g.D.Disk.file c.open.new.disk) (Err c.in-Err.error) (Err c.open_stop.result)
     (λ is. ap (λ (stop : Stop). (let r : Result Kept Stop = Err stop in r)) (c.open_stop.ensures ∙ ap open_stop (error_is c.in-Err.error open_error.Disk is))) c.in-Err.ensures.synced
+
+pub returns-in-Err-clause-spared : goal.returns-in-Err-clause-spared
+returns-in-Err-clause-spared g c =
+    spares_open g.V.Verifier.accepts (start_of c.args.members.now c.args.task.now.own c.args.keys) (g.D.Disk.file c.args.disk.now) (g.D.Disk.file c.open.new.disk) c.open.ensures.untouched
+
+pub returns-in-Ok-work-clause-spared : goal.returns-in-Ok-work-clause-spared
+returns-in-Ok-work-clause-spared g c =
+    spares_work g.V.Verifier.accepts (start_of c.args.members.now c.args.task.now.own c.args.keys) (g.D.Disk.file c.args.disk.now) (g.D.Disk.file c.work.new.disk) c.in-Ok.stored.node
+    c.in-Ok.ensures.open c.in-Ok.ensures.opens
+
+pub returns-clause-spared : goal.returns-clause-spared
+returns-clause-spared g c =
+    spares_work g.V.Verifier.accepts (start_of c.args.members.now c.args.task.now.own c.args.keys) (g.D.Disk.file c.args.disk.now) (g.D.Disk.file c.work.new.disk) c.in-Ok.stored.node
+    c.in-Ok.ensures.open c.in-Ok.ensures.opens
 
 pub returns-in-Ok-work-clause-kept : goal.returns-in-Ok-work-clause-kept
 returns-in-Ok-work-clause-kept g c =

@@ -26,4 +26,4 @@ returns-clause-ends g c =
     let kept = subst (λ (events : List (List ℕ)). KeptOn g.K.Sink c.args.out.now c.keep_node.new.out d (work events) c.keep_node.result) c.as_slice.ensures c.keep_node.ensures in
     takes_on g.F.Shelf g.K.Sink c.args.shelf.now c.events_from.new.shelf c.events_from.new.shelf c.args.out.now c.keep_node.new.out
     d file.Events bad_events events_of k.events (node_work k members own) c.in-Ok.events c.keep_node.result
-    c.in-Ok.ensures.ok c.events_from.ensures.starts (refl, kept.0, kept.1)
+    c.in-Ok.ensures.ok c.events_from.ensures.starts (refl, kept.0, kept.1, kept.2)

@@ -3,7 +3,7 @@ use Rattle.std.specs.Option.{ForSome}
 use Rattle.hg_life.specs.NodeView.{start_of}
 use Rattle.hg_life.specs.Signing.{accepts_by}
 use Rattle.hg_keep.specs.Keeping.{IsOnTheWay}
-use Rattle.hg_keep.specs.Stops.{IsRefused, KeepsTask, SyncsOrStops}
+use Rattle.hg_keep.specs.Stops.{IsRefused, KeepsTask, SparesOthers, SyncsOrStops}
 use Rattle.hg_top.specs.Course.{disk_course}
 use Rattle.hg_top.specs.Keeps.{work_on}
 use Rattle.hg_top.specs.Writing.{status_of}
@@ -19,9 +19,11 @@ returns-in-Ok-keep g c =
     c.in-Ok.ensures.secrets c.in-Ok-keep.ensures.kept in
     let synced = subst (λ (keys : List (List ℕ)). SyncsOrStops accepts_by (start_of k.members k.own keys) (IsOnTheWay accepts_by k.events k.time) d.before d.after c.keep.result)
     c.in-Ok.ensures.secrets c.keep.ensures.synced in
+    let spared = subst (λ (keys : List (List ℕ)). SparesOthers accepts_by (start_of k.members k.own keys) d.before d.after) c.in-Ok.ensures.secrets c.keep.ensures.spared in
     rw c.status_of.ensures (
       told g.K.Sink c.args.out.now c.write_kept.new.sink k d kept c.write_kept.result task c.write_kept.ensures,
       told_synced k d c.keep.result kept (status_of c.write_kept.result) c.in-Ok-keep.is synced,
+      (spared, c.keep.ensures.shown),
     )
 
 pub returns-in-Err-keep : goal.returns-in-Err-keep
@@ -35,7 +37,9 @@ returns-in-Err-keep g c =
     c.in-Ok.ensures.secrets c.in-Err-keep.ensures.wrong in
     let synced = subst (λ (keys : List (List ℕ)). SyncsOrStops accepts_by (start_of k.members k.own keys) (IsOnTheWay accepts_by k.events k.time) d.before d.after c.keep.result)
     c.in-Ok.ensures.secrets c.keep.ensures.synced in
+    let spared = subst (λ (keys : List (List ℕ)). SparesOthers accepts_by (start_of k.members k.own keys) d.before d.after) c.in-Ok.ensures.secrets c.keep.ensures.spared in
     rw c.stop_status.ensures (
       stopped k d (K.written out) (K.written out) (K.faults out) (K.faults out) c.keep.result stop c.in-Err-keep.is refl c.keep.ensures.cause wrong c.in-Err-keep.ensures.refused,
       stopped_synced k d c.keep.result stop c.in-Err-keep.is synced,
+      (spared, c.keep.ensures.shown),
     )

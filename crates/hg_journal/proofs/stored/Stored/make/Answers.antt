@@ -6,7 +6,7 @@ use Rattle.hg_life.specs.NodeView.{NodeView, node_rows}
 use Rattle.hg_life.specs.Spelling.{spelling}
 use Rattle.hg_life.specs.declared.answers.MakeAnswer.TheVariants.{Made}
 use Rattle.hg_journal.specs.Stored.{ComesOfMaking}
-use Rattle.hg_journal.proofs.StoredLaws.{gate_small, gate_within, is_there, made_next, make_none, makes_here, near_made, stops_next, stops_still, stored_next, stored_still}
+use Rattle.hg_journal.proofs.StoredLaws.{gate_small, gate_within, is_other, is_there, made_next, make_none, makes_here, near_made, stops_next, stops_still, stored_next, stored_still}
 use Rattle.hg_journal.proofs.stored.Stored.make.Goals as goal
 
 pub returns-in_err-answer-clause-stops : goal.returns-in_err-answer-clause-stops
@@ -60,6 +60,13 @@ returns-in-Ok-clause-ok g c =
     let accepts = g.V.Verifier.accepts in
     let making : IsMaking accepts c.in-Some.node c.args.others.now c.args.time c.args.payload.now (Made c.in-Made.place) c.make.new.self = rw c.in-Made.is at c.in_ok-answer.ensures.ok in
     makes_here accepts c.args.self.now.node c.in-Some.node c.make.new.self c.args.others.now c.args.time c.args.payload.now (Made c.in-Made.place) (search rules) making
+
+pub returns-in-Ok-clause-idle : goal.returns-in-Ok-clause-idle
+returns-in-Ok-clause-idle g c stays =
+    let accepts = g.V.Verifier.accepts in
+    let making : IsMaking accepts c.in-Some.node c.args.others.now c.args.time c.args.payload.now (Made c.in-Made.place) c.make.new.self = rw c.in-Made.is at c.in_ok-answer.ensures.ok in
+    let law = c.stored_changes_replay.ensures.made accepts c.in-Some.node c.make.new.self c.args.others.now c.args.time c.args.payload.now c.in-Made.place c.is_node.ensures c.requires.few (omega (arith, c.ranges.time)) making in
+    absurd (is_other accepts c.in-Some.node c.make.new.self 2 (spelling law.0) (made_next accepts c.in-Some.node c.make.new.self c.in-Made.place law.0 (law.1, law.2)) c.args.self.now.node (search rules) stays)
 
 pub returns-in-Ok-clause-stored : goal.returns-in-Ok-clause-stored
 returns-in-Ok-clause-stored g c =

@@ -1,6 +1,6 @@
 use Rattle.std.proofs.Common.{rules, ◌≡◌, Some, refl, sym, ◌∙◌, arith}
 use Rattle.hg_node.specs.Puts.{after_put}
-use Rattle.hg_journal.proofs.StoredLaws.{accepted_small, gate_small, gate_within, near_there, put_next, put_none, stops_next, stops_still, stored_next, stored_still}
+use Rattle.hg_journal.proofs.StoredLaws.{accepted_small, gate_small, gate_within, is_other, near_there, put_next, put_none, stops_next, stops_still, stored_next, stored_still}
 use Rattle.hg_journal.proofs.stored.Stored.put.Goals as goal
 
 pub returns-in_err-answer-clause-stops : goal.returns-in_err-answer-clause-stops
@@ -23,6 +23,8 @@ returns-in_default-answer g c =
       free = search rules;
       closed = search rules;
       closes = search rules;
+      shut = search rules;
+      idle = search rules;
       stored = stored_still accepts (g.D.Disk.file c.args.disk.now) c.args.self.now c.in-Some.node c.self.inside.tail.gate there gate_is c.requires.stored c.put.new.self none;
       shown = refl;
       stops = stops_still accepts (g.D.Disk.file c.args.disk.now) c.args.self.now c.in-Some.node c.args.self.now.gate there refl c.requires.stored
@@ -59,6 +61,13 @@ returns-in-Ok-clause-stored g c =
     let leads = put_next accepts c.in-Some.node c.put.new.self c.args.bytes.now c.in-Accepted.field-0 c.stored_changes_replay.ensures.took accepted c.in_ok-answer.ensures.ok in
     stored_next accepts (g.D.Disk.file c.args.disk.now) c.args.self.now c.in-Some.node c.self.inside.tail.gate (search rules) (search rules) c.requires.stored
     (g.D.Disk.file c.append.new.disk) c.put.new.self 1 c.args.bytes.now leads c.append.new.self.gate c.in-Ok.ensures.stored
+
+pub returns-in-Ok-clause-idle : goal.returns-in-Ok-clause-idle
+returns-in-Ok-clause-idle g c stays =
+    let accepts = g.V.Verifier.accepts in
+    let accepted = sym c.in_ok-answer.ensures.answer ∙ c.in-Accepted.is in
+    let leads = put_next accepts c.in-Some.node c.put.new.self c.args.bytes.now c.in-Accepted.field-0 c.stored_changes_replay.ensures.took accepted c.in_ok-answer.ensures.ok in
+    absurd (is_other accepts c.in-Some.node c.put.new.self 1 c.args.bytes.now leads c.args.self.now.node (search rules) stays)
 
 pub returns-in-Ok-clause-stops : goal.returns-in-Ok-clause-stops
 returns-in-Ok-clause-stops g c =

@@ -1,7 +1,7 @@
 use Rattle.std.proofs.Common.{rules, ◌≡◌, ◌<◌, ◌^◌, length, Some, refl, sym, ◌∙◌, ap, arith}
 use Rattle.hg_life.specs.Calls.{publish_changes}
 use Rattle.hg_life.specs.NodeView.{with_changes}
-use Rattle.hg_journal.proofs.StoredLaws.{gate_small, gate_within, near_there, remark_next, remark_none, rows_fit, stops_next, stops_still, stored_next, stored_still}
+use Rattle.hg_journal.proofs.StoredLaws.{gate_small, gate_within, is_other, near_there, remark_next, remark_none, rows_fit, stops_next, stops_still, stored_next, stored_still}
 use Rattle.hg_journal.proofs.stored.Stored.remark.Goals as goal
 
 pub returns-in_err-count-clause-stops : goal.returns-in_err-count-clause-stops
@@ -45,6 +45,17 @@ invariant_of-self-in-Ok g c =
     (rows_fit accepts c.in-Some.node c.args.len c.is_node.ensures within) c.k.ensures.lawful few (omega (arith, marked, c.in_ok-count.ensures.answer)) c.marked_bytes-body.ensures c.in_ok-count.ensures.ok in
     near_there accepts c.in-Some.node c.remark.new.self 3 c.marked_bytes-body.result c.self.inside.tail.gate c.append.new.self.gate (omega (arith, ap length c.marked_bytes-body.ensures)) leads
     c.in-Ok.ensures.gate (search rules)
+
+pub returns-in-Ok-clause-idle : goal.returns-in-Ok-clause-idle
+returns-in-Ok-clause-idle g c stays =
+    let accepts = g.V.Verifier.accepts in
+    let there : c.args.self.now.node ≡ Some c.in-Some.node = search rules in
+    let within = c.requires.len c.in-Some.node there in
+    let few : c.args.share.of < 2 ^ 32 = omega (arith, c.of.type_inv, c.of.ensures.value) in
+    let marked : c.in_ok-count.count ≡ 0 → ⊥ = c.if-count-eq0.false in
+    let leads = remark_next accepts c.in-Some.node c.remark.new.self c.args.len c.args.share c.marked_bytes-body.result c.stored_changes_replay.ensures.marked within
+    (rows_fit accepts c.in-Some.node c.args.len c.is_node.ensures within) c.k.ensures.lawful few (omega (arith, marked, c.in_ok-count.ensures.answer)) c.marked_bytes-body.ensures c.in_ok-count.ensures.ok in
+    absurd (is_other accepts c.in-Some.node c.remark.new.self 3 c.marked_bytes-body.result leads c.args.self.now.node there stays)
 
 pub returns-in-Ok-clause-stored : goal.returns-in-Ok-clause-stored
 returns-in-Ok-clause-stored g c =
