@@ -41,6 +41,7 @@ class Web:
         self.events, self.known = [], {}
         self.by_creator = [0] * self.n
         self.witnesses = {}     # by round
+        self.put, self.weighed = 0, 0       # how many events were put to nodes or made, and how many votes worked out
 
     def most(self, stake):
         """Is it more than two thirds of all stake?"""
@@ -98,6 +99,7 @@ class Web:
         return y.votes[x]
 
     def weigh(self, y, x):
+        self.weighed += 1
         apart = y.round - x.round
         if apart == 1:
             return Vote(self.sees(y, x), False, False)

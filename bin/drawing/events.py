@@ -65,9 +65,10 @@ class Reader:
 
 
 class Fields:
-    """What the bytes of an event say; Refused with the first thing that is wrong."""
+    """What the bytes of an event say; Refused with the first thing that is wrong. Other bytes may follow where it is not
+    the whole."""
 
-    def __init__(self, data):
+    def __init__(self, data, whole=True):
         if not any(magic.startswith(data[:4]) for magic in MAGICS):
             raise Refused("bad-magic")
         reader = Reader(data)
@@ -84,7 +85,8 @@ class Fields:
         self.payload = reader.take(length)
         self.body = data[:reader.at]
         self.signature = reader.take(SIGNATURE)
-        if reader.at < len(data):
+        self.length = reader.at
+        if whole and reader.at < len(data):
             raise Refused(f"trailing {len(data) - reader.at}")
 
 

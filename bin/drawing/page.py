@@ -9,15 +9,16 @@ TEMPLATE = os.path.join(os.path.dirname(os.path.realpath(__file__)), "page.html"
 DATA = "@DATA@"
 
 
-def page_of(play, script_lines):
+def page_of(play, count):
     with open(TEMPLATE, encoding="utf-8") as file:
         template = file.read()
     # No `<` stands in the JSON, so that no text of a script can end the element that it stands in.
-    return template.replace(DATA, json.dumps(data_of(play, script_lines), separators=(",", ":")).replace("<", "\\u003c"))
+    return template.replace(DATA, json.dumps(data_of(play, count), separators=(",", ":")).replace("<", "\\u003c"))
 
 
-def data_of(play, script_lines):
-    """Times and amounts are texts, since the page's numbers have 53 bits."""
+def data_of(play, count):
+    """What there is to draw, of `count` lines that were given. Times and amounts are texts, since the page's numbers have
+    53 bits."""
     printed = {}
     for line, text in play.report:
         printed.setdefault(line, []).append(text)
@@ -25,10 +26,13 @@ def data_of(play, script_lines):
     for line, label, data in play.label_lines:
         labels.setdefault(data, []).append([line, label])
     return {
-        "members": [{"name": m.name, "balance": str(m.balance)} for m in play.members.all],
+        "kind": play.kind,
+        "step": play.step,
+        "members": [{"name": m.name, "balance": str(m.balance), "stake": m.stake} for m in play.members.all],
         "coin": play.members.coin,
         "script": play.script,
-        "scriptLines": script_lines,
+        "given": count,
+        "costs": play.costs,
         "end": play.end,
         "printed": printed,
         "compared": len(play.report),

@@ -10,14 +10,16 @@ EVENTS_MOST = 16384
 
 
 class Mark:
-    """The fame of a witness in a node: its value, since which line, and its first decider, which published marks lack."""
+    """The fame of a witness in a node: its value, since which line, and its first decider and how many rows there were when
+    it was decided, both of which published marks lack."""
 
-    def __init__(self, value, line, by=None):
-        self.value, self.line, self.by = value, line, by
+    def __init__(self, value, line, by=None, rows=None):
+        self.value, self.line, self.by, self.rows = value, line, by, rows
 
 
 class Node:
-    """A member's node. `found` are the marks that its graph decides, `published` those that it has published."""
+    """A member's node, or a graph that is no member's. `found` are the marks that its graph decides, `published` those that
+    it has published."""
 
     def __init__(self, members, web, member):
         self.members, self.web, self.member = members, web, member
@@ -47,6 +49,7 @@ class Node:
 
     def check(self, data, line):
         """Takes the bytes, or raises the first thing that is wrong with them."""
+        self.web.put += 1
         fields = Fields(data)
         if fields.creator >= self.members.n:
             raise Refused(f"member {fields.creator}")
@@ -110,8 +113,16 @@ class Node:
         if name in self.places:
             raise Refused(f"collision {self.places[name]}")
         self.check_room()
+        self.web.put += 1
         self.last_own = self.web.event(data, name, Fields(data), parents)
         return f"made {self.add(self.last_own, line)}"
+
+    def restore(self, data, line):
+        """Puts an event again that the node has made."""
+        self.web.put += 1
+        fields = Fields(data)
+        self.last_own = self.web.event(data, name_of(data), fields, self.parents_of(fields))
+        self.add(self.last_own, line)
 
     def add(self, event, line):
         """Puts the event at the next place, which is the answer."""
@@ -143,7 +154,8 @@ class Node:
             if vote.decides:
                 if known and known.value != vote.value:
                     sys.exit("draw-graph: two witnesses decide otherwise on a third; nothing is written")
-                self.found[x] = Mark(vote.value, known.line if known else line, y)
+                since, rows = (known.line, known.rows) if known else (line, len(self.rows))
+                self.found[x] = Mark(vote.value, since, y, rows)
 
     def mark_late(self, new, line):
         """A witness that comes to a closed round is not famous: its graph says so, and where the node has published the
@@ -161,6 +173,12 @@ class Node:
         self.kept.advance(self.witnesses, line)
         return len(fresh)
 
+    def publish_share(self, rows, share, shares, line):
+        """Publishes what a share of the witnesses decides in the first rows."""
+        witnesses = [x for x in self.rows if x.witness][share::shares]
+        found = {x: self.found[x] for x in witnesses if x in self.found and self.found[x].rows <= rows}
+        return self.publish(found, line)
+
     def settle(self, line):
         self.publish(self.found, line)
 
@@ -177,31 +195,58 @@ class Node:
         return lines
 
 
-class Play:
-    """A script that the program takes, played line by line. `report` has pairs of a script line and a printed line; the
-    blocks at the end stand under the line `end`."""
+class Lines:
+    """What comes of lines, one after the other. `report` has pairs of a line and of what is printed; what is printed behind
+    the last one stands under the line `end`. `costs` has for each line, over all nodes, how many events were put or made,
+    votes worked out, events ordered, and lines printed."""
 
-    def __init__(self, members, script):
+    def __init__(self, members):
         self.members = members
-        self.script = script
         self.web = Web(members.stakes, members.coin)
-        self.nodes = {m.name: Node(members, self.web, m) for m in members.all if m.has_node}
-        self.labels = {}
+        self.nodes, self.script = {}, []
         self.label_lines = []       # (line, label, bytes)
-        self.report = []
-        self.line, self.word = 0, ""
+        self.report, self.costs = [], {}
+        self.line = 0
+
+    def play(self, script):
+        """Lets `do` do each line, and `close` what comes behind the last one."""
         for self.line, text in enumerate(script, 1):
-            words = text.strip(" \t")
-            if words and not words.startswith("#"):
-                self.word, *rest = re.split("[ \t]+", words)
-                getattr(self, f"line_{self.word}")(*rest)
+            before = self.spent()
+            self.do(text)
+            self.costs[self.line] = [now - then for now, then in zip(self.spent(), before)]
         self.end = self.line = len(script) + 1
-        for node in self.nodes.values():
-            node.settle(self.end)
-            self.print_lines(node.block(node.kept))
+        self.close()
+
+    def spent(self):
+        ordered = sum(len(node.decided.order) for node in self.nodes.values())
+        return self.web.put, self.web.weighed, ordered, len(self.report)
 
     def print_lines(self, lines):
         self.report += [(self.line, line) for line in lines]
+
+
+class Play(Lines):
+    """A script that the program takes."""
+
+    kind, step = "script", "line"
+
+    def __init__(self, members, script):
+        super().__init__(members)
+        self.script = script
+        self.nodes = {m.name: Node(members, self.web, m) for m in members.all if m.has_node}
+        self.labels, self.word = {}, ""
+        self.play(script)
+
+    def do(self, text):
+        words = text.strip(" \t")
+        if words and not words.startswith("#"):
+            self.word, *rest = re.split("[ \t]+", words)
+            getattr(self, f"line_{self.word}")(*rest)
+
+    def close(self):
+        for node in self.nodes.values():
+            node.settle(self.end)
+            self.print_lines(node.block(node.kept))
 
     def answer(self, text):
         self.print_lines([f"{self.line} {self.word} {text}"])
