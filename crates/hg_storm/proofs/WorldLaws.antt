@@ -104,6 +104,9 @@ module _ (nodes ends : List (NodeView Secrets)) (session : HasSession nodes ends
     pub ends_many : length ends ≡ length members.entries
     ends_many = ends_count ∙ (ap length are ∙ begun_count members)
 
+    pub ends_members : (circle : List ℕ) → circle ≡ circle_of members → All (λ m. m < length ends) circle
+    ends_members circle is = subst (λ (n : ℕ). All (λ m. m < n) circle) (sym ends_many) (subst (All (λ m. m < length members.entries)) (sym is) (below members))
+
     -- they are the members' still
     pub ends_start : (m : ℕ) → m < length ends → (nth_node ends m).start ≡ (new_node members m).start
     ends_start m low =

@@ -12,6 +12,7 @@ use Rattle.hg_storm.specs.declared.plan.Plan.{Plan}
 use Rattle.hg_storm.specs.declared.outcome.Storm.{Storm}
 use Rattle.hg_storm.specs.Drawing.{circle_of}
 use Rattle.hg_storm.specs.Joins.{AreTold, HasSession}
+use Rattle.hg_storm.specs.Mails.{AreMailsIn}
 
 -- the world after a pull, of the first of two members from the second, and after a member's node is settled
 abbrev pub after_pull : WorldView → ℕ × ℕ → WorldView
@@ -43,7 +44,7 @@ abbrev pub world_again : MemberList → List (NodeView Secrets) → WorldView
 world_again members ends = world_of (stakes_of members) members.coin (unfrozen ends)
 
 -- The members' nodes, which began without rows, took their turns between threads. Each is that of its member still, and this
--- is what they did, and what their mailboxes had left. Then those that have nodes pulled from each other, and settled. Each
+-- is what they did, what their mailboxes had left, and what they sent each other. Then those that have nodes pulled from each other, and settled. Each
 -- history is that of a node, and no two orders part ways.
 pub record IsStorm (members : MemberList) (times room first : ℕ) (s : Storm) : Type 0 where
   pub plan : Plan
@@ -55,6 +56,7 @@ pub record IsStorm (members : MemberList) (times room first : ℕ) (s : Storm) :
   pub starts : (m : ℕ) → m < length ends → (nth_node ends m).start ≡ start_of members m (secrets_of members)
   pub session : HasSession (nodes_of (new_world members)) ends
   pub told : AreTold plan room ends s.logs.items s.left.items
+  pub mail : AreMailsIn ends s.logs.items s.left.items plan.circle.items s.mail.items
   pub ended : s.ended.items ≡ map (λ (v : NodeView Secrets). length v.history) ends
   pub world : s.world ≡ gathered (world_again members ends) plan.circle.items
   pub lawful : IsWorld s.world

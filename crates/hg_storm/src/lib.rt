@@ -19,6 +19,7 @@ mod drawing;
 mod gathering;
 mod joining;
 mod laws;
+mod mails;
 mod opening;
 mod outcome;
 mod plan;
@@ -31,6 +32,7 @@ mod turning;
 
 pub use desk::{Desk, Job, Log};
 pub use laws::{calls_keep_fates, fates_last};
+pub use mails::{Mail, mails_of};
 pub use outcome::Storm;
 pub use plan::Plan;
 pub use receiving::receive;

@@ -2,6 +2,7 @@ ghost use Rattle.std.specs.Prelude.{◌≡◌, ◌<◌, IfOk, length, map};
 ghost use Rattle.hg_storm.specs.Storm.{IsStorm};
 
 use crate::gathering::gather;
+use crate::mails::mails_of;
 use crate::outcome::Storm;
 use crate::plan::{Plan, circle_of};
 use crate::threads::{Joined, run_threads};
@@ -50,7 +51,9 @@ pub fn storm<C: Crew + Sync, G: Gate + Sync, R: Threads + Wait + Sync>(
     members.is_lawful();
     let begun = World::new(alloc, members)?;
     let first = begun.into_nodes();
-    let Joined { nodes, logs, left } = run_threads(rt, alloc, first, &plan, room, crew, gate)?;
+    let joined = run_threads(rt, alloc, first, &plan, room, crew, gate)?;
+    let mail = mails_of(alloc, &joined, plan.circle.as_slice())?;
+    let Joined { nodes, logs, left } = joined;
     let ended = lengths(alloc, nodes.as_slice())?;
     let Ok(mut world) = World::from_nodes(alloc, nodes) else {
         return Err(Memory);
@@ -59,6 +62,7 @@ pub fn storm<C: Crew + Sync, G: Gate + Sync, R: Threads + Wait + Sync>(
     world.is_world();
     Ok(Storm {
         world,
+        mail,
         logs,
         left,
         ended,
