@@ -9,7 +9,7 @@ use Rattle.hg_life.specs.Signing.{accepts_by}
 use Rattle.hg_mail.specs.declared.message.Message.{Message}
 use Rattle.hg_mail.specs.declared.view.Sender.{Sender}
 use Rattle.hg_mail.specs.Count.{all_parts}
-use Rattle.hg_mail.specs.Messages.{messages_of, sender}
+use Rattle.hg_mail.specs.Messages.{AreFrom, messages_of, sender}
 use Rattle.hg_mail.specs.Mailboxes.{MailboxView, PortView}
 use Rattle.hg_board.specs.Seats.{SharedNode, SeatView}
 use Rattle.hg_board.specs.Calls.{Absorbs}
@@ -54,6 +54,10 @@ put_is tale n j k m q left j_in k_in b e =
     of_sender (λ (s : Sender). s.put ≡ messages_of s.from (q.view.taken ++ left)) (sender j (tale.put j k)) q.view.senders (b.senders j j_in) e.all
     ∙ (filter-append (λ (x : Message). nat_eq x.from j) q.view.taken left ∙ ap (λ (ms : List Message). messages_of j ms ++ messages_of j left) (b.taken k_in))
 
+-- each message is of a member
+known_is : (tale : Tale) (n k : ℕ) (m : MailboxView) (q : PortView) (left : List Message) → k < n → IsBack tale n n k m q → Empties q left → AreFrom n (tale.taken k ++ left)
+known_is tale n k m q left k_in b e = subst (λ (x : ℕ × List Message). AreFrom x.0 (x.1 ++ left)) (λ i. (b.next i, b.taken k_in i)) (e.known b.gives)
+
 module _ {Z : Type 0} where
   -- of each member what it put into each mailbox is what was taken of it and what is left
   pub all_are_emptied : (tale : Tale) (n : ℕ) (mails : List MailboxView) (masters : List PortView) (left : List (Vec Message Z)) → length mails ≤ n →
@@ -64,6 +68,10 @@ module _ {Z : Type 0} where
         let Q : Type 0 = tale.put j k ≡ messages_of j (tale.taken k) ++ messages_of j (get_or left k l).items in
         first_of Q mails (omega (arith, k_in)) (λ m. first_of Q masters (omega (arith, k_in, back.count)) (λ q.
         put_is tale n j k (get_or mails k m) (get_or masters k q) (get_or left k l).items j_in (omega (arith, k_in, few)) (back.each k m q k_in) (empty.each k q l (omega (arith, k_in, back.count)))));
+    known = λ k l k_in.
+        let Q : Type 0 = AreFrom n (tale.taken k ++ (get_or left k l).items) in
+        first_of Q mails (omega (arith, k_in)) (λ m. first_of Q masters (omega (arith, k_in, back.count)) (λ q.
+        known_is tale n k (get_or mails k m) (get_or masters k q) (get_or left k l).items (omega (arith, k_in, few)) (back.each k m q k_in) (empty.each k q l (omega (arith, k_in, back.count)))));
     full = λ j k m j_in k_in some.
         let Q : Type 0 = (get_or mails k m).room ≤ put_to tale n k in
         first_of Q masters (omega (arith, k_in, back.count)) (λ q.

@@ -26,18 +26,18 @@ use Rattle.hg_storm.specs.declared.mails.Mail.{Mail}
 use Rattle.hg_storm.specs.Joins.{AreTold, dispatch_to, rows_of_node}
 use Rattle.hg_storm.specs.Keeping.{Secrets}
 use Rattle.hg_storm.specs.Sending.{messages_from}
-use Rattle.hg_storm.specs.Mails.{AreMails, AreOnce, IsMail, IsMailOf, IsOfRow, names_in, names_told, pair_of, pairs_from}
+use Rattle.hg_storm.specs.Mails.{AreMailsOf, AreOnce, IsMailOf, IsOfRow, IsToldMail, names_in, names_told, pair_of, pairs_from}
 
 -- ---- names of rows that were read
 
-name_read : (rows : List Row) (x : ℕ) (row : Row) (d : List ℕ) → slice_get rows x ≡ Some row → get_or (map (λ (r : Row). r.name) rows) x d ≡ row.name
+pub name_read : (rows : List Row) (x : ℕ) (row : Row) (d : List ℕ) → slice_get rows x ≡ Some row → get_or (map (λ (r : Row). r.name) rows) x d ≡ row.name
 name_read rows x row d is =
     let low : x < length rows = slice_get_within rows x row is in
     let here : slice_get rows x ≡ Some (get_or rows x row) = slice_get-get_or rows x row low in
     let same : get_or rows x row ≡ row = cc in
     get_or-map (λ (r : Row). r.name) rows x row d low ∙ ap (λ (r : Row). r.name) same
 
-names_long : (v : NodeView Secrets) → length (names_in v) ≡ length (node_rows v)
+pub names_long : (v : NodeView Secrets) → length (names_in v) ≡ length (node_rows v)
 names_long v = length-map (node_rows v) (λ (r : Row). r.name)
 
 -- one more of the first rows
@@ -81,7 +81,7 @@ numbers_from : (from at bound : ℕ) (rows : List (List ℕ)) → at + length ro
 numbers_from from at bound [] within = tt
 numbers_from from at bound (bytes ∷ rows) within = (omega (arith, within), numbers_from from (at + 1) bound rows (omega (arith, within)))
 
-all_front : (P : Message → Type 0) (xs ys : List Message) → AllByRecursion P (xs ++ ys) → AllByRecursion P xs
+pub all_front : (P : Message → Type 0) (xs ys : List Message) → AllByRecursion P (xs ++ ys) → AllByRecursion P xs
 all_front P [] ys all = tt
 all_front P (x ∷ xs) ys all = (all.0, all_front P xs ys all.1)
 
@@ -173,10 +173,10 @@ module _ (plan : Plan) (room : ℕ) (joined : Joined) (told : AreTold plan room 
     (v : NodeView Secrets) (g h : Log) (l : Vec Message) (v_is : v ≡ get_or joined.nodes.items m.from v) (g_is : g ≡ get_or joined.logs.items m.from g) (h_is : h ≡ get_or joined.logs.items m.to h)
     (l_is : l ≡ get_or joined.left.items m.to l) where
   pub is_mail : IsNode accepts_by v → m.sent.items ≡ take (dispatch_to g m.to).sent (names_in v) → m.taken.items ≡ names_told (names_in v) (messages_of m.from h.intake.taken.items) →
-      m.left.items ≡ names_told (names_in v) (messages_of m.from l.items) → m.full ≡ (dispatch_to g m.to).full → m.due ≡ (dispatch_to g m.to).due → IsMail joined m
+      m.left.items ≡ names_told (names_in v) (messages_of m.from l.items) → m.full ≡ (dispatch_to g m.to).full → m.due ≡ (dispatch_to g m.to).due → IsMailOf joined m
   is_mail node sent taken left full due =
       let within = sent_within plan room joined.nodes.items joined.logs.items joined.left.items told m.from m.to in_j in_k v g h l v_is g_is h_is l_is in
-      let here : IsMailOf (names_in v) (dispatch_to g m.to) h.intake.taken.items l.items m = record {
+      let here : IsToldMail (names_in v) (dispatch_to g m.to) h.intake.taken.items l.items m = record {
         within = omega (arith, within, names_long v);
         sent = sent;
         once = subst AreOnce (sym sent) (once_of v (dispatch_to g m.to).sent node within);
@@ -195,7 +195,7 @@ module _ (plan : Plan) (room : ℕ) (joined : Joined) (told : AreTold plan room 
             let log_is : g ≡ get_or joined.logs.items m.from g' = g_is ∙ get_or_default joined.logs.items m.from g g' (omega (arith, in_j, told.logs_count)) in
             let took_is : h ≡ get_or joined.logs.items m.to g' = h_is ∙ get_or_default joined.logs.items m.to h g' (omega (arith, in_k, told.logs_count)) in
             let left_is : l ≡ get_or joined.left.items m.to l' = l_is ∙ get_or_default joined.left.items m.to l l' (omega (arith, in_k, told.left_count)) in
-            subst (λ (x : NodeView Secrets × Log × Log × Vec Message). IsMailOf (names_in x.0) (dispatch_to x.1 m.to) x.2.intake.taken.items x.3.items m)
+            subst (λ (x : NodeView Secrets × Log × Log × Vec Message). IsToldMail (names_in x.0) (dispatch_to x.1 m.to) x.2.intake.taken.items x.3.items m)
             (λ i. (node_is i, log_is i, took_is i, left_is i)) here;
       }
 
@@ -235,14 +235,14 @@ senders_more circle i from mails news low is before more =
     more ∙ (ap (λ (l : List (ℕ × ℕ)). l ++ pairs_from circle from) before
     ∙ (flat_map_more (pairs_from circle) [] (take i circle) from ∙ ap (flat_map (pairs_from circle)) (sym (taken_more circle i from low (is ∙ get_or_default circle i 0 from low)))))
 
-pub are_mails : (joined : Joined) (circle : List ℕ) (i : ℕ) (mails : List Mail) → length circle ≤ i → map pair_of mails ≡ flat_map (pairs_from circle) (take i circle) → All (IsMail joined) mails → AreMails joined circle mails
+pub are_mails : (joined : Joined) (circle : List ℕ) (i : ℕ) (mails : List Mail) → length circle ≤ i → map pair_of mails ≡ flat_map (pairs_from circle) (take i circle) → All (IsMailOf joined) mails → AreMailsOf joined circle mails
 are_mails joined circle i mails past pairs each = record {
   pairs = pairs ∙ ap (flat_map (pairs_from circle)) (take_all i circle past);
   each = each;
 }
 
-pub mails_same : (joined : Joined) (mails news : List Mail) → All (IsMail joined) mails → news ≡ mails → All (IsMail joined) news
-mails_same joined mails news all is = subst (All (IsMail joined)) (sym is) all
+pub mails_same : (joined : Joined) (mails news : List Mail) → All (IsMailOf joined) mails → news ≡ mails → All (IsMailOf joined) news
+mails_same joined mails news all is = subst (All (IsMailOf joined)) (sym is) all
 
-pub mails_push : (joined : Joined) (mails news : List Mail) (m : Mail) → All (IsMail joined) mails → IsMail joined m → news ≡ mails ++ m ∷ [] → All (IsMail joined) news
-mails_push joined mails news m all one is = subst (All (IsMail joined)) (sym is) (All-push (IsMail joined) mails m all one)
+pub mails_push : (joined : Joined) (mails news : List Mail) (m : Mail) → All (IsMailOf joined) mails → IsMailOf joined m → news ≡ mails ++ m ∷ [] → All (IsMailOf joined) news
+mails_push joined mails news m all one is = subst (All (IsMailOf joined)) (sym is) (All-push (IsMailOf joined) mails m all one)

@@ -15,7 +15,7 @@ use Rattle.hg_life.specs.Signing.{Accepts, accepts_by}
 use Rattle.hg_life.specs.Spelling.{spelling}
 use Rattle.hg_history.proofs.RuleLaws.{taken_is}
 use Rattle.hg_mail.specs.declared.message.Message.{Message}
-use Rattle.hg_mail.specs.Messages.{messages_of}
+use Rattle.hg_mail.specs.Messages.{AreFrom, messages_of}
 use Rattle.hg_mail.specs.Mailboxes.{MailboxView, PortView}
 use Rattle.hg_board.specs.Positions.{AreBelow, times}
 use Rattle.hg_board.specs.Seats.{SharedNode, SeatView}
@@ -36,6 +36,7 @@ use Rattle.hg_storm.specs.Sending.{bytes_seen}
 use Rattle.hg_storm.specs.Threads.{HaveRoom, no_dispatch, place_of, turns_of}
 use Rattle.hg_storm.specs.Turning.{IsCounted}
 use Rattle.hg_storm.specs.Joins.{AreAbsorbed, AreEmptied, AreTold, EmptyAll, IsSentTo, IsTold, TakeOut, dispatch_to, put_by, put_to, rows_by, rows_of_node, sum_below, tale_of, tale_told}
+use Rattle.hg_storm.proofs.BackLaws.{first_of}
 use Rattle.hg_storm.proofs.CloseLaws.{all_are_emptied}
 use Rattle.hg_storm.proofs.EndLaws.{fates_last}
 use Rattle.hg_storm.proofs.MadeLaws.{is_made_in, made_front}
@@ -185,9 +186,11 @@ module _ (plan : Plan) (mails : List MailboxView) (k : ℕ) (p : SharedNode Secr
       (λ none. absurd (true≢false (sym made ∙ ap is_made (its_end.marks q (omega (arith, ap length from_none)) low none).2)))
       (λ some. omega (arith, some, at_most_once q))
 
+  lawful : IsNode accepts_by node
+  lawful = subst (IsNode accepts_by) (sym whole.seen) absorbs.node
+
   own_rows : rows_by node.start.own (node_rows node) + j.desk.log.idle ≡ turns_of plan k
   own_rows =
-      let lawful : IsNode accepts_by node = subst (IsNode accepts_by) (sym whole.seen) absorbs.node in
       let within = done.stands.seat.within in
       let h : List Change = node.history in
       let below : AreBelow (length h) j.desk.seat.mine = below_more (length j.desk.seat.seen) (length h) j.desk.seat.mine (prefix_length j.desk.seat.seen h its_end.later) within in
@@ -199,9 +202,12 @@ module _ (plan : Plan) (mails : List MailboxView) (k : ℕ) (p : SharedNode Secr
 
   pub is_told : IsTold plan k p node j.desk.log
   is_told = record {
-    start = sym its_end.start;
-    rows = own_rows;
-    idle = idle_later p j.desk.seat.seen node.history its_end.later (turns_of plan k) j.desk.log.idle done.stands.idle;
+    lawful = lawful;
+    turns = record {
+      start = sym its_end.start;
+      rows = own_rows;
+      idle = idle_later p j.desk.seat.seen node.history its_end.later (turns_of plan k) j.desk.log.idle done.stands.idle;
+    };
     fates = fates_last Secrets accepts_by p j.desk.seat node j.desk.log.intake.taken.items j.desk.log.intake.refused.items from_none its_end done.stands.fates;
   }
 
@@ -209,7 +215,7 @@ module _ (plan : Plan) (mails : List MailboxView) (k : ℕ) (p : SharedNode Secr
   same_rows = sym (ap (map spelling) its_end.rows)
 
   -- what it sent to another
-  pub is_sent_to : (to : ℕ) → to < length mails → IsSentTo plan k to (rows_of_node node) j.desk.log
+  pub is_sent_to : (to : ℕ) → to < length mails → IsSentTo plan k to node (dispatch_to j.desk.log to)
   is_sent_to to inside =
       let all = done.stands.served in
       let m : MailboxView = some_of mails to inside in
@@ -268,7 +274,7 @@ module _ {Z : Type 0} (plan : Plan) (room : ℕ) (mails : List MailboxView) (nod
     rows_at : bytes_seen (get_or places k p) (get_or news k d).desk.seat ≡ rows_of_node (get_or ends k v)
     rows_at = same_rows plan mails k (get_or places k p) (get_or firsts k a_seat) (get_or lasts k a_seat) (get_or nodes k v) (get_or ends k v) (get_or news k d) its_start (none k v here) its_turns its_seats its_node
 
-    sent_at : (to : ℕ) → to < length mails → IsSentTo plan k to (rows_of_node (get_or ends k v)) (get_or news k d).desk.log
+    sent_at : (to : ℕ) → to < length mails → IsSentTo plan k to (get_or ends k v) (dispatch_to (get_or news k d).desk.log to)
     sent_at = is_sent_to plan mails k (get_or places k p) (get_or firsts k a_seat) (get_or lasts k a_seat) (get_or nodes k v) (get_or ends k v) (get_or news k d) its_start (none k v here) its_turns its_seats its_node
 
   some_place : (k : ℕ) → k < length ends → SharedNode Secrets
@@ -296,6 +302,9 @@ module _ {Z : Type 0} (plan : Plan) (room : ℕ) (mails : List MailboxView) (nod
         sym (put_same j k (some_place j j_in) (some_job j j_in) v g j_in)
         ∙ (rest.mail j k l sender_in taker_in ∙ ap (λ (log : Log). messages_of j log.intake.taken.items ++ messages_of j (get_or left k l).items) (log_is k g (some_job j j_in) k_in))
 
+    known_told : (l : Vec Message Z) → AreFrom (length ends) ((get_or logs k g).intake.taken.items ++ (get_or left k l).items)
+    known_told l = subst (λ (x : ℕ × Log). AreFrom x.0 (x.1.intake.taken.items ++ (get_or left k l).items)) (λ i. (mails_count i, log_is k g (some_job j j_in) k_in i)) (rest.known k l taker_in)
+
     full_told : 0 < (dispatch_to (get_or logs j g) k).full → room ≤ put_to (tale_told ends logs v g) (length ends) k
     full_told often =
         let m : MailboxView = some_of mails k taker_in in
@@ -312,9 +321,10 @@ module _ {Z : Type 0} (plan : Plan) (room : ℕ) (mails : List MailboxView) (nod
   are_told = record {
     logs_count = ap length absorbed.logs ∙ (length-map news (λ (j : Job). j.desk.log) ∙ jobs_count);
     left_count = omega (arith, emptied.count, takes.count, mails_count);
-    sent = λ j k v g j_in k_in. subst (IsSentTo plan j k (rows_of_node (get_or ends j v))) (log_is j g (some_job j j_in) j_in)
+    sent = λ j k v g j_in k_in. subst (λ (log : Log). IsSentTo plan j k (get_or ends j v) (dispatch_to log k)) (log_is j g (some_job j j_in) j_in)
         (sent_at j (some_place j j_in) v (some_job j j_in) j_in k (omega (arith, k_in, mails_count)));
     mail = λ j k v g l j_in k_in. mail_told j k v g j_in k_in l;
+    known = λ k g l k_in. first_of _ ends (omega (arith, k_in)) (λ v. known_told k k v g k_in k_in l);
     full = λ j k v g j_in k_in often. full_told j k v g j_in k_in often;
     each = λ k v g inside. (
       get_or places k (some_place k inside),

@@ -8,7 +8,7 @@ use Rattle.hg_mail.specs.declared.message.Message.{Message}
 use Rattle.hg_board.specs.Seats.{SharedNode, SeatView}
 use Rattle.hg_board.specs.Calls.{SeatMakesNext, SeatWaits}
 use Rattle.hg_crowd.specs.Crowd.{IsSeat}
-use Rattle.hg_storm.specs.declared.taking.Refusal.{Refusal}
+use Rattle.hg_storm.specs.declared.taking.RefusedMessage.{RefusedMessage}
 use Rattle.hg_storm.specs.Fates.{HasFates}
 
 -- the keys of a node: the members' secrets
@@ -17,7 +17,7 @@ Secrets = List (List ℕ)
 
 -- whichever messages were taken
 abbrev pub KeepsFates : {V : Type 0} → (V → Accepts) → SharedNode V → SeatView V → SeatView V → Type 0
-KeepsFates accepts p old new = (taken : List Message) (refused : List Refusal) → HasFates accepts p old taken refused → HasFates accepts p new taken refused
+KeepsFates accepts p old new = (taken : List Message) (refused : List RefusedMessage) → HasFates accepts p old taken refused → HasFates accepts p new taken refused
 
 -- so does a call that added nothing
 abbrev pub WaitingKeepsFates : Type 0 → Type 0

@@ -4,7 +4,7 @@ ghost use Rattle.hg_life.specs.NodeView.{node_rows};
 ghost use Rattle.hg_mail.specs.Messages.{messages_of};
 ghost use Rattle.hg_storm.specs.declared.plan.Plan.{Plan};
 ghost use Rattle.hg_storm.specs.Joins.{AreTold, dispatch_to};
-ghost use Rattle.hg_storm.specs.Mails.{AreMails, IsMail, IsOfRow, names_in, names_told, pair_of, pairs_from};
+ghost use Rattle.hg_storm.specs.Mails.{AreMailsOf, IsMailOf, IsOfRow, names_in, names_told, pair_of, pairs_from};
 
 use crate::desk::Log;
 use crate::sending::Dispatch;
@@ -82,7 +82,7 @@ fn mail_of(alloc: Global, joined: &Joined, from: Member, to: Member) -> Result<M
     requires told { (plan : Plan) × (room : ℕ) × AreTold plan room joined.now.nodes.items joined.now.logs.items joined.now.left.items }
     requires from { from < length joined.now.nodes.items }
     requires to { to < length joined.now.nodes.items }
-    ensures mail { IfOk result (IsMail joined.now) }
+    ensures mail { IfOk result (IsMailOf joined.now) }
     ensures pair { IfOk result (λ mail. pair_of mail ≡ (from, to)) }
 {
     let (j, k) = (from as usize, to as usize);
@@ -113,8 +113,8 @@ fn push_mails(
     requires told { (plan : Plan) × (room : ℕ) × AreTold plan room joined.now.nodes.items joined.now.logs.items joined.now.left.items }
     requires circle { All (λ m. m < length joined.now.nodes.items) circle.now }
     requires from { from < length joined.now.nodes.items }
-    requires mails { All (IsMail joined.now) mails.old.items }
-    ensures mails { OnOk result (All (IsMail joined.now) mails.new.items) }
+    requires mails { All (IsMailOf joined.now) mails.old.items }
+    ensures mails { OnOk result (All (IsMailOf joined.now) mails.new.items) }
     ensures pairs { OnOk result (map pair_of mails.new.items ≡ map pair_of mails.old.items ++ pairs_from circle.now from) }
 {
     'others: for to in circle {
@@ -127,10 +127,10 @@ fn push_mails(
 }
 
 /// What each of these members sent each other one of them, in order.
-pub fn mails_of(alloc: Global, joined: &Joined, circle: &[Member]) -> Result<Vec<Mail>, Memory>
+pub(crate) fn mails_of(alloc: Global, joined: &Joined, circle: &[Member]) -> Result<Vec<Mail>, Memory>
     requires told { (plan : Plan) × (room : ℕ) × AreTold plan room joined.now.nodes.items joined.now.logs.items joined.now.left.items }
     requires circle { All (λ m. m < length joined.now.nodes.items) circle.now }
-    ensures { IfOk result (λ mails. AreMails joined.now circle.now mails.items) }
+    ensures { IfOk result (λ mails. AreMailsOf joined.now circle.now mails.items) }
 {
     let mut mails = Vec::new(alloc);
     'senders: for from in circle {

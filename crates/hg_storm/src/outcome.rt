@@ -1,6 +1,5 @@
-use crate::desk::Log;
 use crate::mails::Mail;
-use hg_mail::Message;
+use crate::refusals::Refusal;
 use hg_world::World;
 
 /// What became of a storm.
@@ -10,10 +9,10 @@ pub struct Storm {
     pub world: World,
     /// What each member that has a node sent each other one, in their order.
     pub mail: Vec<Mail>,
-    /// What each member did, in their order.
-    pub logs: Vec<Log>,
-    /// What each member's mailbox had left at the joins.
-    pub left: Vec<Vec<Message>>,
+    /// In how many turns each member's node made no event, in their order. A member without a node takes no turn.
+    pub idle: Vec<u32>,
+    /// What each member's node refused until the joins, in their order.
+    pub refused: Vec<Vec<Refusal>>,
     /// How many changes each node had at the joins.
     pub ended: Vec<usize>,
 }

@@ -5,6 +5,7 @@ use crate::gathering::gather;
 use crate::mails::mails_of;
 use crate::outcome::Storm;
 use crate::plan::{Plan, circle_of};
+use crate::refusals::{idle_of, refused_of};
 use crate::threads::{Joined, run_threads};
 use hg_board::Crew;
 use hg_io::Gate;
@@ -53,7 +54,13 @@ pub fn storm<C: Crew + Sync, G: Gate + Sync, R: Threads + Wait + Sync>(
     let first = begun.into_nodes();
     let joined = run_threads(rt, alloc, first, &plan, room, crew, gate)?;
     let mail = mails_of(alloc, &joined, plan.circle.as_slice())?;
-    let Joined { nodes, logs, left } = joined;
+    let Joined {
+        nodes,
+        logs,
+        left: _,
+    } = joined;
+    let refused = refused_of(alloc, nodes.as_slice(), logs.as_slice())?;
+    let idle = idle_of(alloc, logs.as_slice())?;
     let ended = lengths(alloc, nodes.as_slice())?;
     let Ok(mut world) = World::from_nodes(alloc, nodes) else {
         return Err(Memory);
@@ -63,8 +70,8 @@ pub fn storm<C: Crew + Sync, G: Gate + Sync, R: Threads + Wait + Sync>(
     Ok(Storm {
         world,
         mail,
-        logs,
-        left,
+        idle,
+        refused,
         ended,
     })
 }

@@ -14,7 +14,7 @@ use std::sync::Wait;
 
 /// A message whose event the node refused.
 #[derive(Clone, Copy, Debug, PartialEq, Eq)]
-pub struct Refusal {
+pub struct RefusedMessage {
     /// Its place among the messages that were taken, from 0.
     pub index: usize,
     pub why: Fault,
@@ -26,7 +26,7 @@ pub struct Refusal {
 #[derive(Debug, Drop)]
 pub struct Intake {
     pub taken: Vec<Message>,
-    pub refused: Vec<Refusal>,
+    pub refused: Vec<RefusedMessage>,
 }
 
 impl Intake {
@@ -52,7 +52,7 @@ impl Intake {
         match answer {
             PutAnswer::Accepted(_) => {}
             PutAnswer::Known(_) => {}
-            PutAnswer::Refused(why) => self.refused.push_reserved(Refusal { index, why, at }),
+            PutAnswer::Refused(why) => self.refused.push_reserved(RefusedMessage { index, why, at }),
         }
         self.taken.push_reserved(message);
     }
