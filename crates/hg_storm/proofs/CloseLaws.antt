@@ -1,6 +1,6 @@
 -- What is known once all ports and seats are back, and what the mailboxes have left
-use Rattle.std.specs.Prelude.{Vec}
-use Rattle.std.proofs.Common.{◌≡◌, ◌≢◌, ⊎_elim, ℕ, ◌+◌, ◌<◌, ◌≤◌, nat_eq, nat_le, List, [], ◌∷◌, ◌++◌, length, drop, map, get_or, set, refl, sym, ap, ◌∙◌, subst, arith}
+use Rattle.std.specs.Prelude.{IfOk, OnOk, Vec, max}
+use Rattle.std.proofs.Common.{◌≡◌, ◌≢◌, ⊎_elim, ℕ, ◌+◌, ◌<◌, ◌≤◌, nat_eq, nat_le, true, Result, Ok, Err, List, [], ◌∷◌, ◌++◌, length, drop, map, get_or, set, refl, sym, ap, ◌∙◌, subst, arith}
 use Rattle.std.specs.List.{AllByRecursion}
 use Rattle.std.proofs.lemmas.Bool.{lt-leb}
 use Rattle.std.proofs.lemmas.List.{append-nil, append_assoc, get_or-map, get_or-set_other, get_or_default, length-append, length-map, length-set, length_push, nil_from_length}
@@ -9,8 +9,12 @@ use Rattle.hg_life.specs.Signing.{accepts_by}
 use Rattle.hg_mail.specs.declared.message.Message.{Message}
 use Rattle.hg_mail.specs.declared.view.Sender.{Sender}
 use Rattle.hg_mail.specs.Count.{all_parts}
-use Rattle.hg_mail.specs.Messages.{AreFrom, messages_of, sender}
+use Rattle.hg_mail.specs.declared.view.View.{View}
+use Rattle.hg_mail.specs.Messages.{AreFrom, IsEmptied, after_taking, messages_of, sender}
+use Rattle.hg_mail.specs.Rule.{HeldAt}
+use Rattle.hg_mail.specs.Mailboxes as mailbox
 use Rattle.hg_mail.specs.Mailboxes.{MailboxView, PortView}
+use Rattle.hg_mail.proofs.MessageLaws.{from_senders}
 use Rattle.hg_board.specs.Seats.{SharedNode, SeatView}
 use Rattle.hg_board.specs.Calls.{Absorbs}
 use Rattle.hg_crowd.specs.Workers.{AllAbsorb}
@@ -41,6 +45,18 @@ absorbed_take_out mails places jobs masters lasts told places_count jobs_count o
 }
 
 -- ---- what is left
+
+-- a port that counted and took out all, at whose end the mailbox held none
+pub empties : {Z E : Type 0} (p q r : PortView) (counted : ℕ) (result : Result (Vec Message Z) E) → q ≡ mailbox.after_looking p counted → (p.count.parts ≡ all_parts → q.count.seen ≤ p.count.mine) → p.view.takes ≡ true →
+    IfOk result (λ (left : Vec Message Z). r ≡ mailbox.after_taking q left.items) → OnOk result (HeldAt r.view 0) → OnOk result (IsEmptied r.view) → IfOk result (λ (left : Vec Message Z). Empties p left.items)
+empties p q r counted (Err e) looked whole takes taken none all = tt
+empties p q r counted (Ok left) looked whole takes taken none all =
+    let view : r.view ≡ after_taking p.view left.items = ap (λ (x : PortView). x.view) taken ∙ ap (λ (x : PortView). after_taking x.view left.items) looked in
+    record {
+      all = subst IsEmptied view all;
+      known = from_senders (after_taking p.view left.items) takes (subst (λ (w : View). HeldAt w 0) view none);
+      whole = λ parts. let seen = whole parts in let is = ap (λ (x : PortView). x.count.seen) looked in omega (arith, seen, is);
+    }
 
 -- of one of the senders
 of_sender : (P : Sender → Type 0) (s : Sender) (ss : List Sender) → HasSender s ss → AllByRecursion P ss → P s

@@ -1,6 +1,7 @@
 -- What the threads told, by the names of rows
 use Rattle.std.proofs.Common.{◌≡◌, ◌≢◌, ◌⊎◌, ⊎_elim, inl, inr, ℕ, ◌+◌, ◌<◌, ◌≤◌, IsTrue, cond, eqb, List, [], ◌∷◌, ◌++◌, length, take, drop, map, get_or, sum_by, Option, Some, Ok, slice_get, refl, sym, ap, ◌∙◌, subst, arith}
-use Rattle.std.specs.Prelude.{All, Vec, option_map}
+use Rattle.std.specs.Prelude.{All, option_map}
+use Rattle.std.specs.Global.{Vec}
 use Rattle.std.specs.List.{AllByRecursion}
 use mathlib.Core.Logic.{dite}
 use native.Mathlib.Decide.{ℕ_discrete}
@@ -38,12 +39,13 @@ use Rattle.hg_storm.specs.Fates.{AreHeld, HoldsEvent, IsOfMessage, IsRefused, Re
 use Rattle.hg_storm.specs.Joins.{AreTold, IsTold, dispatch_to, rows_of_node}
 use Rattle.hg_storm.specs.Keeping.{Secrets}
 use Rattle.hg_storm.specs.Mails.{AreMailsOf, IsMailIn, names_in, names_told, pair_of}
-use Rattle.hg_storm.specs.Refusals.{HasOrRefused, HasTakenNames, HaveRows, IsMailAt, IsOfMail, IsRefusal, IsRefusedName, message_at, name_of, name_sent, refusal_of, refusals_of}
+use Rattle.hg_storm.specs.Refusals.{HasOrRefused, HasRow, HasTakenNames, HaveRows, IsMailAt, IsOfMail, IsRefusal, IsRefusedName, message_at, name_of, name_sent, refusal_of, refusals_of}
 use Rattle.hg_storm.specs.Sending.{messages_from}
 use Rattle.hg_storm.specs.Threads.{place_of, turns_of}
 use Rattle.hg_storm.proofs.CircleLaws.{ArePeers, are_peers, pair_of_all, value_of}
 use Rattle.hg_storm.proofs.FateLaws.{get_later}
 use Rattle.hg_storm.proofs.MailLaws.{all_front, name_read, names_long}
+use Rattle.hg_storm.proofs.WorldLaws.{mapped_more}
 use Rattle.hg_storm.proofs.SenderLaws.{earlier, message_is, origin, place, stands_at}
 
 -- a refused message is refused by its name
@@ -90,7 +92,7 @@ module _ (plan : Plan) (room : ℕ) (nodes : List (NodeView Secrets)) (logs : Li
     carried = message_is m.from 0 (take d.sent (rows_of_node sender)) its_place m at_put
 
     pub number_is : m.number ≡ its_place
-    number_is = carried.0
+    number_is = omega (arith, carried.0)
 
     pub drawn : HasDrawn plan m.from (place_of plan m.from) (turns_of plan m.from) k
     drawn =
@@ -107,9 +109,11 @@ module _ (plan : Plan) (room : ℕ) (nodes : List (NodeView Secrets)) (logs : Li
     its_row = found.0
 
     pub row_at : slice_get (node_rows sender) its_place ≡ Some its_row
+    unfolding its_row
     row_at = found.1
 
     pub row_spells : spelling its_row ≡ m.bytes
+    unfolding its_row
     row_spells = found.2
 
     pub row_read : read_event m.bytes ≡ Ok its_row
@@ -318,7 +322,7 @@ have_rows plan room nodes logs left told k g k_in x r x_in =
 
 -- ---- all members
 
-abbrev items_of : Vec Refusal → List Refusal
+abbrev pub items_of : Vec Refusal → List Refusal
 items_of l = l.items
 
 -- of each what its lists tell
@@ -346,3 +350,17 @@ module _ (members : MemberList) (room : ℕ) (joined : Joined) (plan : Plan) (to
         subst (λ (x : ℕ × List Refusal). HasTakenNames plan joined.nodes.items mails k is.0 (get_or joined.nodes.items k v) x.0 x.1) (λ z. (turns_none z, names z))
         (has_taken_names members room joined plan told circle_is mails are v g l k k_in is.0 is.1),
       )
+
+-- one message more that was refused
+pub named_more : (nodes : List (NodeView Secrets)) (taken : List Message) (refused : List RefusedMessage) (i : ℕ) (one : RefusedMessage) (m : Message) (v : NodeView Secrets) (row : Row) (old new : List Refusal) →
+    All (HasRow nodes taken) refused → i < length refused → one ≡ get_or refused i one → m ≡ get_or taken one.index m → v ≡ get_or nodes m.from v → slice_get (node_rows v) m.number ≡ Some row →
+    old ≡ map (refusal_of nodes taken) (take i refused) → new ≡ old ++ record { from = m.from; name = row.name; why = one.why; at = one.at } ∷ [] → new ≡ map (refusal_of nodes taken) (take (i + 1) refused)
+named_more nodes taken refused i one m v row old new all low one_is m_is v_is row_is before pushed =
+    let has : HasRow nodes taken one = subst (HasRow nodes taken) (sym one_is) (all i one low) in
+    let same : m ≡ message_at taken one.index = m_is ∙ get_or_default taken one.index m no_message has.index in
+    let from_in : m.from < length nodes = subst (λ (n : Message). n.from < length nodes) (sym same) has.from in
+    let there : slice_get nodes m.from ≡ Some v = slice_get-get_or nodes m.from v from_in ∙ ap (λ (w : NodeView Secrets). Some w) (sym v_is) in
+    let name : row.name ≡ name_sent nodes m = sym (ap (λ (o : Option (NodeView Secrets)). name_of o m.number) there ∙ name_read (node_rows v) m.number row [] row_is) in
+    let whole : record { from = m.from; name = row.name; why = one.why; at = one.at } ≡ refusal_of nodes taken one =
+    λ z. record { from = (same z).from; name = (name ∙ ap (name_sent nodes) same) z; why = one.why; at = one.at } in
+    mapped_more (refusal_of nodes taken) refused i one (record { from = m.from; name = row.name; why = one.why; at = one.at }) old new low one_is before whole pushed

@@ -206,7 +206,7 @@ module _ (plan : Plan) (mails : List MailboxView) (k : ℕ) (p : SharedNode Secr
     turns = record {
       start = sym its_end.start;
       rows = own_rows;
-      idle = idle_later p j.desk.seat.seen node.history its_end.later (turns_of plan k) j.desk.log.idle done.stands.idle;
+      causes = idle_later p j.desk.seat.seen node.history its_end.later (turns_of plan k) j.desk.log.idle done.stands.idle;
     };
     fates = fates_last Secrets accepts_by p j.desk.seat node j.desk.log.intake.taken.items j.desk.log.intake.refused.items from_none its_end done.stands.fates;
   }

@@ -140,7 +140,7 @@ rows_by m rows = count_by (λ (row : Row). row.creator == m) rows
 pub record CountsTurns (plan : Plan) (k : ℕ) (p : SharedNode Secrets) (node : NodeView Secrets) (idle : ℕ) : Type 0 where
   pub start : p.start.start ≡ node.start
   pub rows : rows_by node.start.own (node_rows node) + idle ≡ turns_of plan k
-  pub idle : AreIdle p node.history (turns_of plan k) idle
+  pub causes : AreIdle p node.history (turns_of plan k) idle
 
 -- so its log tells, and what it took is held or was refused
 pub record IsTold (plan : Plan) (k : ℕ) (p : SharedNode Secrets) (node : NodeView Secrets) (log : Log) : Type 0 where

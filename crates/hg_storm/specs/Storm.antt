@@ -1,5 +1,6 @@
 -- A storm: all members' turns between threads, and then all nodes have the rows that any had
-use Rattle.std.specs.Prelude.{ℕ, ◌≡◌, ◌<◌, List, [], ◌∷◌, ◌++◌, Vec, fold, get_or, length, map}
+use Rattle.std.specs.Prelude.{ℕ, ◌≡◌, ◌<◌, List, [], ◌∷◌, ◌++◌, fold, get_or, length, map}
+use Rattle.std.specs.Global.{Vec}
 use Rattle.hg_life.specs.Members.{MemberList, stakes_of}
 use Rattle.hg_life.specs.NodeView.{NodeView, start_of}
 use Rattle.hg_life.specs.Signing.{secrets_of}

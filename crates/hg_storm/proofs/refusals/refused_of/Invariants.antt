@@ -1,4 +1,5 @@
-use Rattle.std.proofs.Common.{◌≡◌, Vec, map, take}
+use Rattle.std.proofs.Common.{◌≡◌, map, take}
+use Rattle.std.specs.Global.{Vec}
 use Rattle.hg_storm.specs.declared.refusals.Refusal.{Refusal}
 use Rattle.hg_storm.specs.Refusals.{refusals_of}
 use Rattle.hg_storm.proofs.refusals.refused_of.Given as goal
