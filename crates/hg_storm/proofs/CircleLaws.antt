@@ -10,14 +10,13 @@ use Rattle.std.proofs.lemmas.List.Elements.{All-weaker}
 use Rattle.std.proofs.lemmas.List.Sums.{get_or-le-sum_by, sum_by-append, sum_by-cons, sum_by-le-sum_by}
 use Rattle.std.proofs.lemmas.List.Quantifiers.{position-Some}
 use Rattle.std.proofs.lemmas.Option.{get_or_from_slice_get, slice_get-get_or, slice_get_within}
-use Rattle.hg_model.specs.Places.{list_below}
 use Rattle.hg_model.proofs.ListLaws.{IsPairwise-list_below}
 use Rattle.hg_model.proofs.SortLaws.{IsPairwise}
 use Rattle.hg_life.specs.Members.{MemberList, has_node}
 use Rattle.hg_made.specs.Made.{peer_of}
 use Rattle.hg_made.specs.Draws.{upper_half}
 use Rattle.hg_storm.specs.declared.plan.Plan.{Plan}
-use Rattle.hg_storm.specs.Drawing.{Draws, HasDrawn, circle_of, peer_at, place_in, state_at}
+use Rattle.hg_storm.specs.Drawing.{HasDrawn, circle_of, peer_at, place_in, state_at}
 use Rattle.hg_storm.specs.Threads.{place_of, turns_at, turns_of}
 use Rattle.hg_storm.specs.Joins.{sum_below}
 use Rattle.hg_storm.specs.Mails.{pairs_from, pairs_in}
@@ -250,5 +249,9 @@ module _ (circle : List ℕ) (g : ℕ → ℕ → ℕ) (to : ℕ) where
   pub sum_in_pairs : (n : ℕ) → All (λ j. j < n) circle → ((j : ℕ) → j < n → 0 < g j to → ArePeers circle j to) → sum_below n (λ j. g j to) ≤ sum_by in_pair (pairs_in circle)
   sum_in_pairs n below peers =
       let flat : sum_by in_pair (pairs_in circle) ≡ sum_by (λ j. sum_by in_pair (pairs_from circle j)) circle = sum_flat in_pair (pairs_from circle) circle in
-      omega (arith, flat, sum_in (λ j. g j to) circle n (λ j low some. (peers j low some).sender),
-      sums_rise (λ j. g j to) (λ j. sum_by in_pair (pairs_from circle j)) circle (All-weaker (λ j. j < n) (λ j. g j to ≤ sum_by in_pair (pairs_from circle j)) (λ j low. pair_counts j (peers j low)) circle below))
+      omega (
+        arith,
+        flat,
+        sum_in (λ j. g j to) circle n (λ j low some. (peers j low some).sender),
+        sums_rise (λ j. g j to) (λ j. sum_by in_pair (pairs_from circle j)) circle (All-weaker (λ j. j < n) (λ j. g j to ≤ sum_by in_pair (pairs_from circle j)) (λ j low. pair_counts j (peers j low)) circle below),
+      )

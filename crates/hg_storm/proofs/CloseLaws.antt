@@ -1,5 +1,5 @@
 -- What is known once all ports and seats are back, and what the mailboxes have left
-use Rattle.std.specs.Prelude.{IfOk, OnOk, Vec, max}
+use Rattle.std.specs.Prelude.{IfOk, OnOk, Vec}
 use Rattle.std.proofs.Common.{◌≡◌, ◌≢◌, ⊎_elim, ℕ, ◌+◌, ◌<◌, ◌≤◌, nat_eq, nat_le, true, Result, Ok, Err, List, [], ◌∷◌, ◌++◌, length, drop, map, get_or, set, refl, sym, ap, ◌∙◌, subst, arith}
 use Rattle.std.specs.List.{AllByRecursion}
 use Rattle.std.proofs.lemmas.Bool.{lt-leb}

@@ -1,8 +1,7 @@
 -- What the threads told, by the names of rows
-use Rattle.std.proofs.Common.{◌≡◌, ◌≢◌, ◌⊎◌, ⊎_elim, inl, inr, ℕ, ◌+◌, ◌<◌, ◌≤◌, IsTrue, cond, eqb, List, [], ◌∷◌, ◌++◌, length, take, drop, map, get_or, sum_by, Option, Some, Ok, slice_get, refl, sym, ap, ◌∙◌, subst, arith}
+use Rattle.std.proofs.Common.{◌≡◌, ◌⊎◌, ⊎_elim, inl, inr, ℕ, ◌+◌, ◌<◌, IsTrue, List, [], ◌∷◌, ◌++◌, length, take, drop, map, get_or, Option, Some, Ok, slice_get, refl, sym, ap, ◌∙◌, subst, arith}
 use Rattle.std.specs.Prelude.{All, option_map}
 use Rattle.std.specs.Global.{Vec}
-use Rattle.std.specs.List.{AllByRecursion}
 use mathlib.Core.Logic.{dite}
 use native.Mathlib.Decide.{ℕ_discrete}
 use Rattle.std.proofs.lemmas.List.{get_or_default, get_or-map, length-map, length-take-le, take-append-drop}
@@ -20,7 +19,6 @@ use Rattle.hg_life.specs.Members.{MemberList}
 use Rattle.hg_life.specs.NodeView.{IsNode, NodeView, node_rows}
 use Rattle.hg_life.specs.Signing.{accepts_by}
 use Rattle.hg_life.specs.Spelling.{spelling}
-use Rattle.hg_life.specs.declared.answers.PutAnswer.TheVariants.{Refused}
 use Rattle.hg_history.proofs.SoundLaws.{node_graph}
 use Rattle.hg_mail.specs.declared.message.Message.{Message}
 use Rattle.hg_mail.specs.Messages.{messages_of}
@@ -44,7 +42,7 @@ use Rattle.hg_storm.specs.Sending.{messages_from}
 use Rattle.hg_storm.specs.Threads.{place_of, turns_of}
 use Rattle.hg_storm.proofs.CircleLaws.{ArePeers, are_peers, pair_of_all, value_of}
 use Rattle.hg_storm.proofs.FateLaws.{get_later}
-use Rattle.hg_storm.proofs.MailLaws.{all_front, name_read, names_long}
+use Rattle.hg_storm.proofs.MailLaws.{all_front, name_read}
 use Rattle.hg_storm.proofs.WorldLaws.{mapped_more}
 use Rattle.hg_storm.proofs.SenderLaws.{earlier, message_is, origin, place, stands_at}
 
@@ -348,7 +346,7 @@ module _ (members : MemberList) (room : ℕ) (joined : Joined) (plan : Plan) (to
       ∙ (ap (λ (ls : List (List Refusal)). get_or ls k (items_of r)) (sym refused_is) ∙ get_or-map items_of refused k r (items_of r) (omega (arith, k_in, refused_long))) in (
         is.0,
         subst (λ (x : ℕ × List Refusal). HasTakenNames plan joined.nodes.items mails k is.0 (get_or joined.nodes.items k v) x.0 x.1) (λ z. (turns_none z, names z))
-        (has_taken_names members room joined plan told circle_is mails are v g l k k_in is.0 is.1),
+            (has_taken_names members room joined plan told circle_is mails are v g l k k_in is.0 is.1),
       )
 
 -- one message more that was refused

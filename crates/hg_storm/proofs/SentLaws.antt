@@ -1,12 +1,11 @@
 -- The mails by names alone: what each member sent each other, and what all sent to one
-use Rattle.std.proofs.Common.{◌≡◌, ℕ, ◌+◌, ◌<◌, ◌≤◌, cond, eqb, List, [], ◌∷◌, length, take, map, get_or, sum_by, slice_get, refl, sym, ap, ◌∙◌, subst, arith}
+use Rattle.std.proofs.Common.{◌≡◌, ℕ, ◌<◌, ◌≤◌, cond, eqb, List, [], ◌∷◌, length, take, map, get_or, sum_by, refl, sym, ap, ◌∙◌, subst, arith}
 use Rattle.std.specs.Prelude.{All}
 use Rattle.std.specs.Global.{Vec}
-use Rattle.std.proofs.lemmas.List.{get_or_default, length-map, length-take-le}
+use Rattle.std.proofs.lemmas.List.{get_or_default, length-take-le}
 use Rattle.std.proofs.lemmas.List.Sums.{sum_by-cons}
 use Rattle.hg_life.specs.Members.{MemberList}
-use Rattle.hg_life.specs.NodeView.{NodeView, node_rows}
-use Rattle.hg_life.specs.Spelling.{spelling}
+use Rattle.hg_life.specs.NodeView.{NodeView}
 use Rattle.hg_mail.specs.declared.message.Message.{Message}
 use Rattle.hg_crowd.proofs.ListLaws.{some_of}
 use Rattle.hg_storm.specs.declared.desk.Log.{Log}

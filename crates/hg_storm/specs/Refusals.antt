@@ -1,5 +1,5 @@
 -- What became of the rows that the members' nodes took, by names
-use Rattle.std.specs.Prelude.{ℕ, ◌≡◌, ◌+◌, ◌<◌, ◌≤◌, ◌⊎◌, IsTrue, List, [], ◌∷◌, All, length, map, take, get_or, Option, Some, None, slice_get}
+use Rattle.std.specs.Prelude.{ℕ, ◌≡◌, ◌<◌, ◌≤◌, ◌⊎◌, IsTrue, List, [], ◌∷◌, All, length, map, take, get_or, Option, Some, None, slice_get}
 use Rattle.hg_model.specs.declared.row.Row.{Row}
 use Rattle.hg_model.specs.Held.{is_held}
 use Rattle.hg_life.specs.declared.answers.PutAnswer.TheVariants.{Refused}

@@ -127,7 +127,11 @@ fn push_mails(
 }
 
 /// What each of these members sent each other one of them, in order.
-pub(crate) fn mails_of(alloc: Global, joined: &Joined, circle: &[Member]) -> Result<Vec<Mail>, Memory>
+pub(crate) fn mails_of(
+    alloc: Global,
+    joined: &Joined,
+    circle: &[Member],
+) -> Result<Vec<Mail>, Memory>
     requires told { (plan : Plan) × (room : ℕ) × AreTold plan room joined.now.nodes.items joined.now.logs.items joined.now.left.items }
     requires circle { All (λ m. m < length joined.now.nodes.items) circle.now }
     ensures { IfOk result (λ mails. AreMailsOf joined.now circle.now mails.items) }

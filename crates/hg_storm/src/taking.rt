@@ -52,7 +52,10 @@ impl Intake {
         match answer {
             PutAnswer::Accepted(_) => {}
             PutAnswer::Known(_) => {}
-            PutAnswer::Refused(why) => self.refused.push_reserved(RefusedMessage { index, why, at }),
+            PutAnswer::Refused(why) => {
+                let refused = RefusedMessage { index, why, at };
+                self.refused.push_reserved(refused);
+            }
         }
         self.taken.push_reserved(message);
     }

@@ -1,7 +1,5 @@
-use Rattle.std.proofs.Common.{[], ◌∷◌, map, refl, ap, ◌∙◌, arith}
-use Rattle.std.specs.Global.{Vec}
+use Rattle.std.proofs.Common.{[], ◌∷◌, map, ap, ◌∙◌, arith}
 use Rattle.std.proofs.lemmas.List.{map-append}
-use Rattle.hg_storm.specs.declared.refusals.Refusal.{Refusal}
 use Rattle.hg_storm.specs.Refusals.{refusal_of, refusals_of}
 use Rattle.hg_storm.proofs.NameLaws.{items_of}
 use Rattle.hg_storm.proofs.WorldLaws.{mapped_all, mapped_more}
