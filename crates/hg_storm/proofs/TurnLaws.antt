@@ -35,32 +35,14 @@ use Rattle.hg_storm.specs.declared.desk.Log.{Log}
 use Rattle.hg_made.specs.Draws.{next_state, state_after}
 use Rattle.hg_storm.specs.Drawing.{Draws, HasDrawn, IsDrawing, first_state, peer_at, state_at}
 use Rattle.hg_storm.specs.Fates.{HasFates}
-use Rattle.hg_storm.specs.Keeping.{KeepsSeat, Secrets, rows_made}
+use Rattle.hg_storm.specs.Keeping.{KeepsSeat, MakesNoRow, Secrets, rows_made, rows_made_in}
 use Rattle.hg_storm.specs.Receiving.{IsInbox}
 use Rattle.hg_storm.specs.Sending.{Dispatches, HasSent, IsDue, WasFull, bytes_seen}
-use Rattle.hg_storm.specs.Turning.{AreIdle, HasMade, HasServed, HasServedAll, IsCounted, IsIdle, IsIdleTurn, Standing, is_row}
+use Rattle.hg_storm.specs.Turning.{AreIdle, HasMade, HasServed, HasServedAll, IsCounted, IsIdle, IsIdleTurn, Standing, WasDue, is_row}
 use Rattle.hg_storm.proofs.KeepLaws.{making_keeps, still_keeps}
-use Rattle.hg_storm.proofs.MadeLaws.{AddsFor, came_below, get_end, made_none, made_one, next_adds, next_none, next_one, reached_by}
-use Rattle.hg_storm.proofs.SendLaws.{rows_longer, sent_later}
-
--- turns that made nothing, in a longer history
-
-idle_turn_later : (p : SharedNode Secrets) (h later : List Change) (time : ℕ) → IsPrefix h later → IsIdleTurn p h time → IsIdleTurn p later time
-idle_turn_later p h later time first was =
-    let same : take was.at h ≡ take was.at later = sym (ap (take was.at) first.1 ∙ take-append-le was.at h first.0 was.within) in record {
-      at = was.at;
-      within = omega (arith, was.within, prefix_length h later first);
-      made = was.made;
-      idle = was.idle;
-      next = subst (λ (k : List Change). MakesNext accepts_by (node_at p.start k) time was.made (node_at p.start k)) same was.next;
-    }
-
-pub idle_later : (p : SharedNode Secrets) (h later : List Change) → IsPrefix h later → (t idle : ℕ) → AreIdle p h t idle → AreIdle p later t idle
-idle_later p h later first zero idle none = none
-idle_later p h later first (suc t) idle are = ⊎_elim
-    (λ (made : AreIdle p h t idle). inl (idle_later p h later first t idle made))
-    (λ (x : (less : ℕ) × (idle ≡ suc less) × AreIdle p h t less × IsIdleTurn p h (suc t)). inr (x.0, x.1, idle_later p h later first t x.0 x.2, idle_turn_later p h later (suc t) first x.3))
-    are
+use Rattle.hg_storm.proofs.MadeLaws.{AddsFor, came_below, get_end, made_none, made_one, next_adds, next_early, next_none, next_one, no_row_more, none_made, reached_by}
+use Rattle.hg_storm.proofs.SendLaws.{due_least, due_most, rows_longer, sent_later}
+use Rattle.hg_storm.proofs.DueLaws.{due_later, due_next, due_now, due_still, idle_later, idle_next}
 
 -- what was sent, once the node has more rows
 
@@ -162,9 +144,10 @@ module _ (p : SharedNode Secrets) (s t : SeatView Secrets) (time : ℕ) (a : Opt
   makes_here : is_row a ≡ false → MakesNext accepts_by (node_at p.start t.seen) time a (node_at p.start t.seen)
   makes_here unmade = subst (λ (v : NodeView Secrets). MakesNext accepts_by v time a (node_at p.start t.seen)) (sym (same_node unmade)) next.makes
 
-  idle_now : is_row a ≡ false → IsIdleTurn p t.seen time
-  idle_now unmade = record {
+  idle_now : is_row a ≡ false → (since : ℕ) → since ≤ length t.seen → IsIdleTurn (node_at p.start t.seen) since time
+  idle_now unmade since later = record {
     at = length t.seen;
+    later = later;
     within = omega arith;
     made = a;
     idle = idle_of a unmade;
@@ -203,7 +186,7 @@ module _ (p : SharedNode Secrets) (s t : SeatView Secrets) (time : ℕ) (a : Opt
 -- the turn's row is made, or could not be
 module _ (plan : Plan) (place : ℕ) (mails : List MailboxView) (p : SharedNode Secrets) (drawn made me : ℕ) (log log_now : Log) (s t u : SeatView Secrets) (ports : List PortView) (inbox inbox_now : PortView)
     (old : Standing plan place mails p drawn made me log s ports inbox) (m : MailboxView) (m_is : m ≡ get_or mails me m)
-    (still : IsStill s t) (keeps : KeepsSeat accepts_by p s t) (none_made : rows_made t ≡ rows_made s)
+    (still : IsStill s t) (keeps : KeepsSeat accepts_by p s t) (no_row : MakesNoRow s t)
     (box : IsInbox m log_now.intake.taken.items inbox_now) (count : inbox_now.count ≡ inbox.count)
     (fates : HasFates accepts_by p t log_now.intake.taken.items log_now.intake.refused.items)
     (stays : Stays accepts_by p t u) (b : Bool) (has : HasMade p t (made + 1) u b)
@@ -214,12 +197,21 @@ module _ (plan : Plan) (place : ℕ) (mails : List MailboxView) (p : SharedNode 
   more : suc made ≡ made + 1
   more = omega arith
 
-  later_idle : AreIdle p u.seen made log.idle
-  later_idle = idle_later p s.seen u.seen first made log.idle old.idle
+  abbrev before : NodeView Secrets
+  before = node_at p.start s.seen
+
+  abbrev after : NodeView Secrets
+  after = node_at p.start u.seen
+
+  below : AreBelow (length t.seen) t.mine
+  below = came_below t.seen log_now.intake.taken.items t.mine fates.came
+
+  none_made : rows_made t ≡ rows_made s
+  none_made = no_row_more s t still.seen no_row
 
   rows_now : rows_made u + log_now.idle ≡ made + 1
   rows_now =
-      let after = rows_after p t u (made + 1) has.answer has.next (came_below t.seen log_now.intake.taken.items t.mine fates.came) in
+      let after = rows_after p t u (made + 1) has.answer has.next below in
       let either : ◌≡◌ {A = ℕ} (cond b 0 1) (cond (is_row has.answer) 0 1) = ap (λ (c : Bool). cond c 0 1) has.is in
       omega (arith, after, none_made, old.rows, idle, either, one_each (is_row has.answer))
     where
@@ -227,15 +219,24 @@ module _ (plan : Plan) (place : ℕ) (mails : List MailboxView) (p : SharedNode 
       one_each true = refl
       one_each false = refl
 
-  idle_by : (c : Bool) → c ≡ is_row has.answer → (n : ℕ) → n ≡ log.idle + cond c 0 1 → AreIdle p u.seen (suc made) n
-  idle_by true is n e = inl (subst (AreIdle p u.seen made) (sym (e ∙ plus_none log.idle)) later_idle)
-    where
-      plus_none : (k : ℕ) → k + cond true 0 1 ≡ k
-      plus_none k = omega arith
-  idle_by false is n e = inr (log.idle, e ∙ plus_one log.idle, later_idle, subst (IsIdleTurn p u.seen) (sym more) (idle_now p t u (made + 1) has.answer has.next (sym is)))
-    where
-      plus_one : (k : ℕ) → k + cond false 0 1 ≡ suc k
-      plus_one k = omega arith
+  -- where the turn made nothing, its moment is not before any of the changes so far
+  turn : b ≡ false → (since : ℕ) → since ≤ length u.seen → IsIdleTurn after since (made + 1)
+  turn none since later = idle_now p t u (made + 1) has.answer has.next (sym has.is ∙ none) since later
+
+  idle_all : AreIdle p u.seen (suc made) log_now.idle
+  idle_all =
+      let time : made + 1 ≡ 0 + suc made = omega arith in
+      idle_next after 0 0 made log.idle log_now.idle b idle (λ none. subst (IsIdleTurn after 0) time (turn none 0 (omega arith)))
+      (idle_later before after refl first 0 0 made log.idle old.idle)
+
+  same_early : (n : ℕ) → n ≤ length s.seen → rows_made_in u n ≡ rows_made_in s n
+  same_early n inside = next_early accepts_by p t u (made + 1) has.answer has.next below n (omega (arith, inside, prefix_length s.seen t.seen still.seen)) ∙ no_row n
+
+  due_all : (k : ℕ) (d : Dispatch) → HasDrawn plan me place drawn k → WasDue plan me place drawn k after (rows_made_in u) (made + 1) log_now.idle (get_or log.dispatches.items k d).due
+  due_all k d drew =
+      let due : ℕ = (get_or log.dispatches.items k d).due in
+      due_next after made log.idle log_now.idle b idle turn plan me place drawn k (rows_made_in u) due
+      (due_later before after refl first plan me place drawn k (rows_made_in s) (rows_made_in u) made log.idle due same_early (old.dues k d drew))
 
   pub makes_more : Standing plan place mails p drawn (made + 1) me log_now u ports inbox_now
   makes_more = record {
@@ -247,7 +248,9 @@ module _ (plan : Plan) (place : ℕ) (mails : List MailboxView) (p : SharedNode 
     served = subst (λ (ds : List Dispatch). HasServedAll plan me place drawn (bytes_seen p u) mails ds ports) (sym dispatches) (all_later plan me place p s u first drawn mails log.dispatches.items ports old.served);
     some = λ _. some_rows p t u (made + 1) has.answer has.next;
     rows = rows_now;
-    idle = subst (λ (k : ℕ). AreIdle p u.seen k log_now.idle) more (idle_by b has.is log_now.idle idle);
+    idle = subst (λ (k : ℕ). AreIdle p u.seen k log_now.idle) more idle_all;
+    dues = λ k d drew.
+        subst (λ (ds : List Dispatch). WasDue plan me place drawn k after (rows_made_in u) (made + 1) log_now.idle (get_or ds k d).due) (sym dispatches) (due_all k d drew);
   }
 
 -- ---- what a turn sends
@@ -278,14 +281,14 @@ served_other plan me place turns rows j m d q before was =
 
 -- the one that it drew
 served_now : (plan : Plan) (me place turns k : ℕ) (old new : List (List ℕ)) (m : MailboxView) (c d : Dispatch) (q r : PortView) → Draws plan me place turns k → 0 < length old →
-    HasServed plan me place turns old k m c q → HasSent m me new d.sent r → IsDue old new d.due → Dispatches m r c d → q.count.seen ≤ r.count.seen → HasServed plan me place (turns + 1) new k m d r
-served_now plan me place turns k old new m c d q r draws some was sent due rest seen =
+    HasServed plan me place turns old k m c q → HasSent m me new d.sent r → length old ≤ d.due → d.due ≤ length new → Dispatches m r c d → q.count.seen ≤ r.count.seen → HasServed plan me place (turns + 1) new k m d r
+served_now plan me place turns k old new m c d q r draws some was sent least most rest seen =
     let few : c.full ≤ turns = was.counted.few in record {
       sent = sent;
       counted = record {
         drawn = λ _. record { turn = turns; early = omega arith; draws = draws };
-        due = λ _. omega (arith, due.least, some);
-        late = due.most;
+        due = λ _. omega (arith, least, some);
+        late = most;
         sent = λ none. ⊎_elim (λ (all : (d.full ≡ c.full) × (d.sent ≡ d.due)). all.1) (λ (full : (d.full ≡ c.full + 1) × WasFull m r). absurd (omega (arith, full.0, none))) rest;
         few = ⊎_elim (λ (all : (d.full ≡ c.full) × (d.sent ≡ d.due)). omega (arith, all.0, few)) (λ (full : (d.full ≡ c.full + 1) × WasFull m r). omega (arith, full.0, few)) rest;
       };
@@ -313,13 +316,14 @@ serves_none plan place mails p drawn made me log s ports inbox none old =
       some = old.some;
       rows = old.rows;
       idle = old.idle;
+      dues = λ k d drew. absurd (omega (arith, drew.draws.others, none));
     }
 
-module _ (plan : Plan) (place : ℕ) (mails : List MailboxView) (p : SharedNode Secrets) (drawn made me : ℕ) (log log_now : Log) (s t : SeatView Secrets) (ports : List PortView) (inbox : PortView)
-    (old : Standing plan place mails p drawn made me log s ports inbox) (k : ℕ) (draws : Draws plan me place drawn k) (begun : 0 < made) (inside : k < length mails)
+module _ (plan : Plan) (place : ℕ) (mails : List MailboxView) (p : SharedNode Secrets) (drawn me : ℕ) (log log_now : Log) (s t : SeatView Secrets) (ports : List PortView) (inbox : PortView)
+    (old : Standing plan place mails p drawn (drawn + 1) me log s ports inbox) (k : ℕ) (draws : Draws plan me place drawn k) (inside : k < length mails)
     (m : MailboxView) (c d : Dispatch) (q r : PortView) (m_is : m ≡ get_or mails k m) (c_is : c ≡ get_or log.dispatches.items k c) (q_is : q ≡ get_or ports k q)
     (still : IsStill s t) (keeps : KeepsSeat accepts_by p s t) (mine : t.mine ≡ s.mine)
-    (sent : HasSent m me (bytes_seen p t) d.sent r) (due : IsDue (bytes_seen p s) (bytes_seen p t) d.due) (rest : Dispatches m r c d) (seen : q.count.seen ≤ r.count.seen)
+    (sent : HasSent m me (bytes_seen p t) d.sent r) (due : IsDue p s t d.due) (rest : Dispatches m r c d) (seen : q.count.seen ≤ r.count.seen)
     (dispatches : log_now.dispatches.items ≡ set log.dispatches.items k d) (intake : log_now.intake ≡ log.intake) (idle : log_now.idle ≡ log.idle) where
   abbrev ds : List Dispatch
   ds = set log.dispatches.items k d
@@ -328,7 +332,7 @@ module _ (plan : Plan) (place : ℕ) (mails : List MailboxView) (p : SharedNode 
   was = served_read plan me place drawn (bytes_seen p s) mails log.dispatches.items ports k m c q old.served inside m_is c_is q_is
 
   now : HasServed plan me place (drawn + 1) (bytes_seen p t) k m d r
-  now = served_now plan me place drawn k (bytes_seen p s) (bytes_seen p t) m c d q r draws (old.some begun) was sent due rest seen
+  now = served_now plan me place drawn k (bytes_seen p s) (bytes_seen p t) m c d q r draws (old.some (omega arith)) was sent (due_least p s t d.due still.seen due) (due_most p s t d.due due) rest seen
 
   served_at : (j : ℕ) (m' : MailboxView) (d' : Dispatch) (q' : PortView) → j < length mails →
       HasServed plan me place (drawn + 1) (bytes_seen p t) j (get_or mails j m') (get_or ds j d') (get_or (set ports k r) j q')
@@ -345,7 +349,29 @@ module _ (plan : Plan) (place : ℕ) (mails : List MailboxView) (p : SharedNode 
       (served_other plan me place drawn (bytes_seen p t) j (get_or mails j m') (get_or log.dispatches.items j d') (get_or ports j q') (drawn_before plan me place drawn j k draws ne)
       (served_later plan me place p s t still.seen drawn j (get_or mails j m') (get_or log.dispatches.items j d') (get_or ports j q') (old.served.each j m' d' q' low))))
 
-  pub serves_more : Standing plan place mails p (drawn + 1) made me log_now t (set ports k r) inbox
+  below : AreBelow (length s.seen) s.mine
+  below = came_below s.seen log.intake.taken.items s.mine old.fates.came
+
+  abbrev after : NodeView Secrets
+  after = node_at p.start t.seen
+
+  abbrev WasDueTo : ℕ → ℕ → Type 0
+  WasDueTo j n = WasDue plan me place (drawn + 1) j after (rows_made_in t) (drawn + 1) log.idle n
+
+  due_to : (j : ℕ) (d' : Dispatch) → HasDrawn plan me place (drawn + 1) j → WasDueTo j (get_or ds j d').due
+  due_to j d' drew = dite (ℕ_discrete j k)
+      (λ e.
+      let count_is : d ≡ get_or ds j d' = sym (ap (λ (n : ℕ). get_or ds n d') e ∙ get_or-set_same log.dispatches.items k d d' (omega (arith, inside, old.served.dispatches))) in
+      subst (λ (x : ℕ × Dispatch). WasDueTo x.0 x.1.due) (λ i. (sym e i, count_is i)) (due_now plan me place drawn k p s t log.idle d.due draws still.seen mine below old.rows old.idle due))
+      (λ ne.
+      let n : ℕ = (get_or log.dispatches.items j d').due in
+      let count_is : get_or log.dispatches.items j d' ≡ get_or ds j d' = sym (get_or-set_other log.dispatches.items k j d d' ne) in
+      subst (λ (x : Dispatch). WasDueTo j x.due) count_is
+      (due_still plan me place drawn j after (rows_made_in t) (drawn + 1) log.idle n (λ other. ne (other.peer ∙ sym draws.peer))
+      (due_later (node_at p.start s.seen) after refl still.seen plan me place drawn j (rows_made_in s) (rows_made_in t) (drawn + 1) log.idle n
+      (λ at low. none_made s t below (record { begins = still.seen; mine = mine }) at) (old.dues j d' (drawn_before plan me place drawn j k draws ne drew)))))
+
+  pub serves_more : Standing plan place mails p (drawn + 1) (drawn + 1) me log_now t (set ports k r) inbox
   serves_more = record {
     me = old.me;
     seat = keeps old.seat;
@@ -358,6 +384,7 @@ module _ (plan : Plan) (place : ℕ) (mails : List MailboxView) (p : SharedNode 
       each = rw dispatches served_at;
     };
     some = λ some. omega (arith, old.some some, rows_longer p s t still.seen);
-    rows = rw idle (ap (λ (n : ℕ). n + log.idle) (made_none s t (came_below s.seen log.intake.taken.items s.mine old.fates.came) (record { begins = still.seen; mine = mine })) ∙ old.rows);
-    idle = rw idle (idle_later p s.seen t.seen still.seen made log.idle old.idle);
+    rows = rw idle (ap (λ (n : ℕ). n + log.idle) (made_none s t below (record { begins = still.seen; mine = mine })) ∙ old.rows);
+    idle = rw idle (idle_later (node_at p.start s.seen) after refl still.seen 0 0 (drawn + 1) log.idle old.idle);
+    dues = rw (dispatches, idle) due_to;
   }

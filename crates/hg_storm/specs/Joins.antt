@@ -1,6 +1,5 @@
 -- What the mailboxes' first ports know once all ports are back: what each member sent each, took and left
-use Rattle.std.specs.Prelude.{ℕ, zero, suc, ◌≡◌, ◌≢◌, ◌+◌, ◌<◌, ◌≤◌, ◌==◌, ◌⊎◌, Bool, true, nat_le, cond, List, [], ◌∷◌, ◌++◌, Vec, length, take, get_or, map, count_by}
-use Rattle.hg_model.specs.declared.row.Row.{Row}
+use Rattle.std.specs.Prelude.{ℕ, zero, suc, ◌≡◌, ◌≢◌, ◌+◌, ◌<◌, ◌≤◌, ◌⊎◌, Bool, true, nat_le, cond, List, [], ◌∷◌, ◌++◌, Vec, length, take, get_or, map}
 use Rattle.hg_life.specs.Signing.{accepts_by}
 use Rattle.hg_life.specs.Spelling.{spelling}
 use Rattle.hg_life.specs.NodeView.{NodeView, node_rows}
@@ -20,7 +19,7 @@ use Rattle.hg_storm.specs.declared.desk.Job.{Job}
 use Rattle.hg_storm.specs.Sending.{bytes_seen, messages_from}
 use Rattle.hg_storm.specs.Drawing.{HasDrawn}
 use Rattle.hg_storm.specs.Ends.{EndsWithFates}
-use Rattle.hg_storm.specs.Turning.{AreIdle, IsCounted, Stands}
+use Rattle.hg_storm.specs.Turning.{AreIdle, IsCounted, Stands, WasDue, own_rows, rows_by}
 use Rattle.hg_storm.specs.Threads.{Pairs, no_dispatch, place_of, turns_of}
 
 -- what members did, by their numbers: what each put into each one's mailbox, and how often that was full; and what each took
@@ -126,10 +125,6 @@ pub record AreEmptied {Z : Type 0} (tale : Tale) (n : ℕ) (mails : List Mailbox
 
 -- ---- what all members did, by their numbers, and their nodes then
 
--- how many of the rows a member made
-abbrev pub rows_by : ℕ → List Row → ℕ
-rows_by m rows = count_by (λ (row : Row). row.creator == m) rows
-
 -- of one member, whose node is this: its own rows and its turns that made none are together as many as all its turns, each
 -- of the latter has its cause, and what it took is held or was refused
 pub record IsTold (plan : Plan) (k : ℕ) (p : SharedNode Secrets) (node : NodeView Secrets) (log : Log) : Type 0 where
@@ -138,13 +133,16 @@ pub record IsTold (plan : Plan) (k : ℕ) (p : SharedNode Secrets) (node : NodeV
   pub idle : AreIdle p node.history (turns_of plan k) log.idle
   pub fates : EndsWithFates accepts_by p node log.intake.taken.items log.intake.refused.items
 
--- what member j sent to member k: the rows that were due, unless its mailbox was full
-pub record IsSentTo (plan : Plan) (j k : ℕ) (rows : List (List ℕ)) (log : Log) : Type 0 where
-  pub within : (dispatch_to log k).sent ≤ length rows
-  pub counted : IsCounted (HasDrawn plan j (place_of plan j) (turns_of plan j) k) (length rows) (turns_of plan j) (dispatch_to log k)
-
 abbrev pub rows_of_node : NodeView Secrets → List (List ℕ)
 rows_of_node v = map spelling (node_rows v)
+
+-- what member j, whose node this is, sent to member k: the rows that were due, unless its mailbox was full; due are those that
+-- the node had at the end of the last turn that drew k
+pub record IsSentTo (plan : Plan) (j k : ℕ) (node : NodeView Secrets) (log : Log) : Type 0 where
+  pub within : (dispatch_to log k).sent ≤ length (rows_of_node node)
+  pub counted : IsCounted (HasDrawn plan j (place_of plan j) (turns_of plan j) k) (length (rows_of_node node)) (turns_of plan j) (dispatch_to log k)
+  pub due : HasDrawn plan j (place_of plan j) (turns_of plan j) k →
+      WasDue plan j (place_of plan j) (turns_of plan j) k node (own_rows node) (turns_of plan j) log.idle (dispatch_to log k).due
 
 -- what nodes and logs tell, by their places; beyond them what this node and this log do
 abbrev pub tale_told : List (NodeView Secrets) → List Log → NodeView Secrets → Log → Tale
@@ -158,7 +156,7 @@ tale_told nodes logs v g = record {
 pub record AreTold {Z : Type 0} (plan : Plan) (room : ℕ) (nodes : List (NodeView Secrets)) (logs : List Log) (left : List (Vec Message Z)) : Type 0 where
   pub logs_count : length logs ≡ length nodes
   pub left_count : length left ≡ length nodes
-  pub sent : (j k : ℕ) (v : NodeView Secrets) (g : Log) → j < length nodes → k < length nodes → IsSentTo plan j k (rows_of_node (get_or nodes j v)) (get_or logs j g)
+  pub sent : (j k : ℕ) (v : NodeView Secrets) (g : Log) → j < length nodes → k < length nodes → IsSentTo plan j k (get_or nodes j v) (get_or logs j g)
   pub mail : (j k : ℕ) (v : NodeView Secrets) (g : Log) (l : Vec Message Z) → j < length nodes → k < length nodes →
       (tale_told nodes logs v g).put j k ≡ messages_of j (get_or logs k g).intake.taken.items ++ messages_of j (get_or left k l).items
   pub full : (j k : ℕ) (v : NodeView Secrets) (g : Log) → j < length nodes → k < length nodes → 0 < (dispatch_to (get_or logs j g) k).full → room ≤ put_to (tale_told nodes logs v g) (length nodes) k
