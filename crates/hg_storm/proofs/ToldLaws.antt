@@ -1,12 +1,14 @@
 -- What became of each member: the rows that it made, what came of its messages, and what it sent
-use Rattle.std.proofs.Common.{◌≡◌, ◌≢◌, ℕ, zero, suc, ◌+◌, ◌<◌, ◌≤◌, Bool, true, false, cond, eqb, eq-eqb, List, [], ◌∷◌, ◌++◌, length, map, take, get_or, fold, Some, refl, sym, ap, ◌∙◌, subst, arith}
+use Rattle.std.proofs.Common.{◌≡◌, ◌≢◌, ◌⊎◌, ⊎_elim, ℕ, zero, suc, ◌+◌, ◌<◌, ◌≤◌, Bool, true, false, cond, eqb, eq-eqb, List, [], ◌∷◌, ◌++◌, length, map, take, drop, get_or, fold, Some, refl, sym, ap, ◌∙◌, subst, arith}
 use Rattle.std.specs.Prelude.{All, Vec, count_by}
+use Rattle.std.specs.List.{AllByRecursion}
 use mathlib.Core.Logic.{dite}
 use native.Mathlib.Decide.{ℕ_discrete}
 use Rattle.std.proofs.lemmas.Bool.{true≢false}
 use Rattle.std.proofs.lemmas.List.Sums.{sum_by-append, sum_by-cons}
-use Rattle.std.proofs.lemmas.List.{get_or-map, length-map, length-take}
+use Rattle.std.proofs.lemmas.List.{get_or-map, length-map, length-take, length-take-le, take-append-drop}
 use Rattle.hg_model.specs.declared.row.Row.{Row}
+use Rattle.hg_model.specs.Orders.{IsPrefix}
 use Rattle.hg_model.specs.Stakes.{Stakes}
 use Rattle.hg_life.specs.History.{AreSteps, Change, State, empty, replay, step, with_marks, with_row}
 use Rattle.hg_life.specs.History.Change.{Took, Made, Marked}
@@ -22,11 +24,12 @@ use Rattle.hg_board.specs.Table.{node_at}
 use Rattle.hg_board.specs.Seats.{SharedNode, SeatView}
 use Rattle.hg_board.specs.Calls.{Absorbs, IsStarted, IsWhole}
 use Rattle.hg_board.proofs.PositionLaws.{below_more, times-append, times_apart, times_cons, times_none}
-use Rattle.hg_board.proofs.PrefixLaws.{prefix_length}
+use Rattle.hg_board.proofs.PrefixLaws.{prefix_length, prefix_of_prefix}
 use Rattle.hg_crowd.specs.Crowd.{IsEnded}
 use Rattle.hg_crowd.specs.Workers.{AreWhole}
 use Rattle.hg_crowd.proofs.EndLaws.{ended}
 use Rattle.hg_crowd.proofs.ListLaws.{some_of}
+use Rattle.hg_crowd.proofs.MarkLaws.{mark_before, rows_stay}
 use Rattle.hg_crowd.proofs.WorkLaws.{worked_none}
 use Rattle.hg_storm.specs.declared.plan.Plan.{Plan}
 use Rattle.hg_storm.specs.declared.desk.Job.{Job}
@@ -35,14 +38,14 @@ use Rattle.hg_storm.specs.Drawing.{HasDrawn}
 use Rattle.hg_storm.specs.Keeping.{Secrets, is_made, rows_made, rows_made_in}
 use Rattle.hg_storm.specs.Sending.{bytes_seen}
 use Rattle.hg_storm.specs.Threads.{HaveRoom, no_dispatch, place_of, turns_of}
-use Rattle.hg_storm.specs.Turning.{IsCounted, WasDue, own_rows, rows_by}
+use Rattle.hg_storm.specs.Turning.{HadRows, HasCounted, IsCounted, WasDue, own_rows, rows_by}
 use Rattle.hg_storm.specs.Joins.{AreAbsorbed, AreEmptied, AreTold, EmptyAll, IsSentTo, IsTold, TakeOut, dispatch_to, put_by, put_to, rows_of_node, sum_below, tale_of, tale_told}
 use Rattle.hg_storm.proofs.CloseLaws.{all_are_emptied}
 use Rattle.hg_storm.proofs.EndLaws.{fates_last}
 use Rattle.hg_storm.proofs.FateLaws.{take_later}
 use Rattle.hg_storm.proofs.MadeLaws.{is_made_in, made_front}
 use Rattle.hg_storm.proofs.ThreadLaws.{AreJoined, IsDone, absorbed_at, done_at, news_count}
-use Rattle.hg_storm.proofs.DueLaws.{due_later, idle_later}
+use Rattle.hg_storm.proofs.DueLaws.{due_later, idle_later, then_same}
 
 -- ---- the rows of a node's own member are those that its history made
 
@@ -171,6 +174,13 @@ standing_passing (suc n) f qs once =
     one true k is = is refl
     one false k is = refl
 
+-- no position between two bounds stands in a list that has none of them
+times_between : (at when q : ℕ) (qs : List ℕ) → AllByRecursion (λ p. (p < at) ⊎ (when ≤ p)) qs → at ≤ q → q < when → times q qs ≡ 0
+times_between at when q [] alone past low = times_none q
+times_between at when q (p ∷ qs) alone past low =
+    let apart : p ≢ q = λ e. (let same : p ≡ q = e in ⊎_elim (λ (early : p < at). absurd (omega (arith, early, past, same))) (λ (late : when ≤ p). absurd (omega (arith, late, low, same))) alone.0) in
+    omega (arith, times_cons q p qs, times_apart q p apart, times_between at when q qs alone.1 past low)
+
 -- where each change that made a row stands once in a list of positions, these are as many
 made_all : (n : ℕ) (h : List Change) (qs : List ℕ) → length h ≤ n → AreBelow n qs → ((q : ℕ) → q < n → is_made_in h q ≡ true → times q qs ≡ 1) → count_by (is_made_in h) qs ≡ made_in h
 made_all n h qs all below once = count_standing n (is_made_in h) qs below ∙ (standing_passing n (is_made_in h) qs once ∙ made_passing n h all)
@@ -241,13 +251,32 @@ module _ (plan : Plan) (mails : List MailboxView) (k : ℕ) (p : SharedNode Secr
   same_rows = sym (ap (map spelling) its_end.rows)
 
   -- what it sent to another
+  -- what was added while the seat had added nothing are marks, which bring no rows
+  had_rows : (due at : ℕ) → HasCounted p j.desk.seat due at → HadRows node due at
+  had_rows due at was =
+      let h : List Change = node.history in
+      let n = node.start in
+      let inside : was.when ≤ length h = omega (arith, was.within, prefix_length j.desk.seat.seen h its_end.later) in
+      let long = length-take-le was.when h inside in
+      let short = length-take-le at h (omega (arith, was.past, inside)) in
+      let whole_front : IsPrefix (take was.when h) h = (drop was.when h, sym (take-append-drop was.when h)) in
+      let front : IsPrefix (take at h) (take was.when h) =
+      prefix_of_prefix (take at h) (take was.when h) h (drop at h, sym (take-append-drop at h)) whole_front (omega (arith, was.past, long, short)) in
+      let marks = λ q past low.
+      mark_before (take was.when h) h q whole_front low
+      (its_end.marks q (omega (arith, ap length from_none)) (omega (arith, low, long, inside))
+      (times_between at was.when q j.desk.seat.mine was.alone (omega (arith, past, short)) (omega (arith, low, long)))) in
+      let none = rows_stay n.members n.coin (take at h) (take was.when h) front marks in
+      was.rows ∙ (ap (λ (v : NodeView Secrets). length (node_rows v)) (then_same (node_at p.start j.desk.seat.seen) node its_end.start its_end.later was.when was.within) ∙ ap length none.0)
+
   due_to : (to : ℕ) → HasDrawn plan k (place_of plan k) (turns_of plan k) to →
-      WasDue plan k (place_of plan k) (turns_of plan k) to node (own_rows node) (turns_of plan k) j.desk.log.idle (dispatch_to j.desk.log to).due
+      WasDue plan k (place_of plan k) (turns_of plan k) to node (own_rows node) (turns_of plan k) j.desk.log.idle (HadRows node (dispatch_to j.desk.log to).due)
   due_to to =
+      let due : ℕ = (dispatch_to j.desk.log to).due in
       subst (λ (me : ℕ). HasDrawn plan me (place_of plan k) (turns_of plan k) to →
-      WasDue plan me (place_of plan k) (turns_of plan k) to node (own_rows node) (turns_of plan k) j.desk.log.idle (dispatch_to j.desk.log to).due) done.me
+      WasDue plan me (place_of plan k) (turns_of plan k) to node (own_rows node) (turns_of plan k) j.desk.log.idle (HadRows node due)) done.me
       (λ drew. due_later (node_at p.start j.desk.seat.seen) node its_end.start its_end.later plan j.desk.me (place_of plan k) (turns_of plan k) to (rows_made_in j.desk.seat) (own_rows node)
-      (turns_of plan k) j.desk.log.idle (dispatch_to j.desk.log to).due own_early (done.stands.dues to no_dispatch drew))
+      (turns_of plan k) j.desk.log.idle (HasCounted p j.desk.seat due) (HadRows node due) own_early (λ at low. had_rows due at) (done.stands.dues to no_dispatch drew))
 
   pub is_sent_to : (to : ℕ) → to < length mails → IsSentTo plan k to node j.desk.log
   is_sent_to to inside =

@@ -19,7 +19,7 @@ use Rattle.hg_storm.specs.declared.desk.Job.{Job}
 use Rattle.hg_storm.specs.Sending.{bytes_seen, messages_from}
 use Rattle.hg_storm.specs.Drawing.{HasDrawn}
 use Rattle.hg_storm.specs.Ends.{EndsWithFates}
-use Rattle.hg_storm.specs.Turning.{AreIdle, IsCounted, Stands, WasDue, own_rows, rows_by}
+use Rattle.hg_storm.specs.Turning.{AreIdle, HadRows, IsCounted, Stands, WasDue, own_rows, rows_by}
 use Rattle.hg_storm.specs.Threads.{Pairs, no_dispatch, place_of, turns_of}
 
 -- what members did, by their numbers: what each put into each one's mailbox, and how often that was full; and what each took
@@ -136,13 +136,13 @@ pub record IsTold (plan : Plan) (k : ℕ) (p : SharedNode Secrets) (node : NodeV
 abbrev pub rows_of_node : NodeView Secrets → List (List ℕ)
 rows_of_node v = map spelling (node_rows v)
 
--- what member j, whose node this is, sent to member k: the rows that were due, unless its mailbox was full; due are those that
--- the node had at the end of the last turn that drew k
+-- what member j, whose node this is, sent to member k: the rows that were due, unless its mailbox was full; due were those that
+-- the node had once the last turn that drew k had made its own
 pub record IsSentTo (plan : Plan) (j k : ℕ) (node : NodeView Secrets) (log : Log) : Type 0 where
   pub within : (dispatch_to log k).sent ≤ length (rows_of_node node)
   pub counted : IsCounted (HasDrawn plan j (place_of plan j) (turns_of plan j) k) (length (rows_of_node node)) (turns_of plan j) (dispatch_to log k)
   pub due : HasDrawn plan j (place_of plan j) (turns_of plan j) k →
-      WasDue plan j (place_of plan j) (turns_of plan j) k node (own_rows node) (turns_of plan j) log.idle (dispatch_to log k).due
+      WasDue plan j (place_of plan j) (turns_of plan j) k node (own_rows node) (turns_of plan j) log.idle (HadRows node (dispatch_to log k).due)
 
 -- what nodes and logs tell, by their places; beyond them what this node and this log do
 abbrev pub tale_told : List (NodeView Secrets) → List Log → NodeView Secrets → Log → Tale

@@ -1,5 +1,6 @@
 -- Calls through a seat that take no message: what came of those that were taken stands
-use Rattle.std.specs.Prelude.{ℕ, ◌≡◌, Bool, true, false, List, Option, Some, None, count_by, slice_get, take}
+use Rattle.std.specs.Prelude.{ℕ, ◌≡◌, ◌≤◌, Bool, true, false, List, ◌++◌, length, Option, Some, None, count_by, slice_get, take}
+use Rattle.std.specs.List.{AllByRecursion}
 use Rattle.hg_life.specs.declared.answers.MakeAnswer.{MakeAnswer}
 use Rattle.hg_life.specs.History.{Change}
 use Rattle.hg_life.specs.History.Change.{Took, Made, Marked}
@@ -49,6 +50,9 @@ rows_made s = made_among s.seen s.mine
 abbrev pub rows_made_in : {V : Type 0} → SeatView V → ℕ → ℕ
 rows_made_in s at = made_among (take at s.seen) s.mine
 
--- its calls made no row more
-abbrev pub MakesNoRow : {V : Type 0} → SeatView V → SeatView V → Type 0
-MakesNoRow old new = (at : ℕ) → rows_made_in new at ≡ rows_made_in old at
+-- what its calls added comes later than all that it had seen, and is no row that they made
+pub record AddsNoRow {V : Type 0} (old new : SeatView V) : Type 0 where
+  pub more : List ℕ
+  pub mine : new.mine ≡ old.mine ++ more
+  pub later : AllByRecursion (λ q. length old.seen ≤ q) more
+  pub rows : (at : ℕ) → rows_made_in new at ≡ rows_made_in old at

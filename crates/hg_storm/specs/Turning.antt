@@ -1,14 +1,17 @@
 -- A member's turns: what it has sent, taken and made after so many of them
-use Rattle.std.specs.Prelude.{ℕ, zero, suc, ◌≡◌, ◌+◌, ◌<◌, ◌≤◌, ◌^◌, ◌⊎◌, ◌==◌, ⊤, Bool, true, false, List, length, take, get_or, count_by, Option, Some, None}
+use Rattle.std.specs.Prelude.{ℕ, zero, suc, ◌≡◌, ◌+◌, ◌<◌, ◌≤◌, ◌^◌, ◌⊎◌, ◌==◌, ⊤, Bool, true, false, List, length, take, get_or, slice_get, count_by, Option, Some, None}
+use Rattle.std.specs.List.{AllByRecursion}
 use Rattle.hg_model.specs.declared.row.Row.{Row}
 use Rattle.hg_life.specs.declared.answers.MakeAnswer.{MakeAnswer}
 use Rattle.hg_life.specs.declared.answers.MakeAnswer.TheVariants as answer
 use Rattle.hg_life.specs.History.{Change}
+use Rattle.hg_life.specs.History.Change.{Made}
 use Rattle.hg_life.specs.NodeView.{NodeView, node_rows}
 use Rattle.hg_life.specs.Signing.{accepts_by}
 use Rattle.hg_node.specs.Next.{MakesNext}
 use Rattle.hg_mail.specs.Count.{one_part}
 use Rattle.hg_mail.specs.Mailboxes.{MailboxView, PortView}
+use Rattle.hg_board.specs.Positions.{AreBelow}
 use Rattle.hg_board.specs.Table.{node_at}
 use Rattle.hg_board.specs.Seats.{SharedNode, SeatView}
 use Rattle.hg_board.specs.Calls.{SeatMakesNext}
@@ -35,14 +38,18 @@ IsIdle (Some (answer.Refused fault)) = ⊤
 abbrev pub node_then : NodeView Secrets → ℕ → NodeView Secrets
 node_then v at = node_at v (take at v.history)
 
--- after its first changes, which are so many or more, the node makes no event of this time
+-- after so many changes the node makes no event of this time
+pub record IsIdleAt (v : NodeView Secrets) (time at : ℕ) : Type 0 where
+  pub made : Option MakeAnswer
+  pub idle : IsIdle made
+  pub next : MakesNext accepts_by (node_then v at) time made (node_then v at)
+
+-- so it is after some of its changes, which are so many or more
 pub record IsIdleTurn (v : NodeView Secrets) (since time : ℕ) : Type 0 where
   pub at : ℕ
   pub later : since ≤ at
   pub within : at ≤ length v.history
-  pub made : Option MakeAnswer
-  pub idle : IsIdle made
-  pub next : MakesNext accepts_by (node_then v at) time made (node_then v at)
+  pub none : IsIdleAt v time at
 
 -- of so many turns that follow the first ones so many made nothing, each for its cause, after so many changes or more; the
 -- times of turns are counted from 1
@@ -56,7 +63,7 @@ AreIdleSince v since first (suc t) idle =
 abbrev pub AreIdle : SharedNode Secrets → List Change → ℕ → ℕ → Type 0
 AreIdle p history turns idle = AreIdleSince (node_at p.start history) 0 0 turns idle
 
--- ---- the rows that a node had at the end of a turn
+-- ---- the rows that a node had once a turn had made its own
 
 -- how many of the rows a member made
 abbrev pub rows_by : ℕ → List Row → ℕ
@@ -66,10 +73,20 @@ rows_by m rows = count_by (λ (row : Row). row.creator == m) rows
 abbrev pub own_rows : NodeView Secrets → ℕ → ℕ
 own_rows v at = rows_by v.start.own (node_rows (node_then v at))
 
--- After the first changes so many turns are over, and no later one has done anything: the rows that were made by then and the
--- idle ones of these turns are together as many as the turns, and the other idle ones come later.
+-- the last one of so many changes made an event of this time
+pub record IsMadeAt (v : NodeView Secrets) (time at : ℕ) : Type 0 where
+  pub row : Row
+  pub of_time : row.time ≡ time
+  pub last : ℕ
+  pub first : at ≡ suc last
+  pub made : slice_get v.history last ≡ Some (Made row)
+
+-- After so many changes the turns up to this one have made their rows or nothing, and no later turn has. The last of these
+-- turns did so just then. The rows that were made by then and the idle ones of these turns are together as many as the turns,
+-- and the other idle ones come later.
 pub record AreOver (v : NodeView Secrets) (made : ℕ → ℕ) (turns idle over at : ℕ) : Type 0 where
   pub within : at ≤ length v.history
+  pub end : IsMadeAt v over at ⊎ IsIdleAt v over at
   pub early : ℕ
   pub rows : made at + early ≡ over
   pub before : AreIdleSince (node_then v at) 0 0 over early
@@ -79,13 +96,31 @@ pub record AreOver (v : NodeView Secrets) (made : ℕ → ℕ) (turns idle over 
   pub both : early + late ≡ idle
   pub after : AreIdleSince v at over rest late
 
--- so many rows the node had at the end of the last turn that draws the member, the one that this turn made among them
-pub record WasDue (plan : Plan) (me place drawn k : ℕ) (v : NodeView Secrets) (made : ℕ → ℕ) (turns idle due : ℕ) : Type 0 where
+-- so it was of the first changes once the last turn that draws the member had made its row or nothing
+pub record WasDue (plan : Plan) (me place drawn k : ℕ) (v : NodeView Secrets) (made : ℕ → ℕ) (turns idle : ℕ) (IsSo : ℕ → Type 0) : Type 0 where
   pub turn : ℕ
   pub last : IsLastDraw plan me place drawn k turn
   pub at : ℕ
   pub over : AreOver v made turns idle (turn + 1) at
-  pub rows : due ≡ length (node_rows (node_then v at))
+  pub due : IsSo at
+
+-- the node had so many rows after its first changes
+abbrev pub HadRows : NodeView Secrets → ℕ → ℕ → Type 0
+HadRows v due at = due ≡ length (node_rows (node_then v at))
+
+-- the seat has counted so many rows, and added nothing from those first changes on until then
+pub record HasCounted (p : SharedNode Secrets) (s : SeatView Secrets) (due at : ℕ) : Type 0 where
+  pub when : ℕ
+  pub past : at ≤ when
+  pub within : when ≤ length s.seen
+  pub alone : AllByRecursion (λ q. (q < at) ⊎ (when ≤ q)) s.mine
+  pub rows : due ≡ length (node_rows (node_at p.start (take when s.seen)))
+
+-- the last turn has made its row or nothing, and since then the seat has added nothing
+pub record HasEnded (p : SharedNode Secrets) (s : SeatView Secrets) (turns idle : ℕ) : Type 0 where
+  pub at : ℕ
+  pub over : AreOver (node_at p.start s.seen) (rows_made_in s) turns idle turns at
+  pub mine : AreBelow at s.mine
 
 -- ---- what was sent to one member
 
@@ -124,8 +159,9 @@ pub record Standing (plan : Plan) (place : ℕ) (mails : List MailboxView) (p : 
   pub some : 0 < made → 0 < length (bytes_seen p s)
   pub rows : rows_made s + log.idle ≡ made
   pub idle : AreIdle p s.seen made log.idle
+  pub ended : 0 < made → HasEnded p s made log.idle
   pub dues : (k : ℕ) (d : Dispatch) → HasDrawn plan own place drawn k →
-      WasDue plan own place drawn k (node_at p.start s.seen) (rows_made_in s) made log.idle (get_or log.dispatches.items k d).due
+      WasDue plan own place drawn k (node_at p.start s.seen) (rows_made_in s) made log.idle (HasCounted p s (get_or log.dispatches.items k d).due)
 
 abbrev pub Stands : Plan → ℕ → List MailboxView → SharedNode Secrets → ℕ → ℕ → Desk → Type 0
 Stands plan place mails p drawn made d = Standing plan place mails p drawn made d.me d.log d.seat d.ports.items d.inbox
