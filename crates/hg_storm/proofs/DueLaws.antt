@@ -161,6 +161,7 @@ module _ (p : SharedNode Secrets) (s t : SeatView Secrets) (first : IsPrefix s.s
     -- the one that it drew: due is what the node had when it was sent to
     pub due_now : (plan : Plan) (me place drawn k due : ℕ) → turns ≡ drawn + 1 → Draws plan me place drawn k → HasEnded p s turns idle → IsDue p s t due →
         WasDue plan me place (drawn + 1) k (node_at p.start t.seen) (rows_made_in t) turns idle (HasCounted p t due)
+    unfolding ended_on
     due_now plan me place drawn k due all draws was is =
         let now = ended_on was in record {
           turn = drawn;

@@ -93,14 +93,14 @@ module _ (plan : Plan) (place : ℕ) (mails : List MailboxView) (p : SharedNode 
   below : AreBelow (length t.seen) t.mine
   below = came_below t.seen log_now.intake.taken.items t.mine fates.came
 
-  none_made : rows_made t ≡ rows_made s
-  none_made = no_row_more s t still.seen no_row
+  same_made : rows_made t ≡ rows_made s
+  same_made = no_row_more s t still.seen no_row
 
   rows_now : rows_made u + log_now.idle ≡ made + 1
   rows_now =
       let after = rows_after p t u (made + 1) has.answer has.next below in
       let either : ◌≡◌ {A = ℕ} (cond b 0 1) (cond (is_row has.answer) 0 1) = ap (λ (c : Bool). cond c 0 1) has.is in
-      omega (arith, after, none_made, old.rows, idle, either, one_each (is_row has.answer))
+      omega (arith, after, same_made, old.rows, idle, either, one_each (is_row has.answer))
     where
       one_each : (c : Bool) → ◌≡◌ {A = ℕ} (cond c 1 0 + cond c 0 1) 1
       one_each true = refl
@@ -266,32 +266,32 @@ module _ (plan : Plan) (place : ℕ) (mails : List MailboxView) (p : SharedNode 
       (served_other plan me place drawn (bytes_seen p t) j (get_or mails j m') (get_or log.dispatches.items j d') (get_or ports j q') (drawn_before plan me place drawn j k draws ne)
       (served_later plan me place p s t still.seen drawn j (get_or mails j m') (get_or log.dispatches.items j d') (get_or ports j q') (old.served.each j m' d' q' low))))
 
-  below : AreBelow (length s.seen) s.mine
-  below = came_below s.seen log.intake.taken.items s.mine old.fates.came
+  low_before : AreBelow (length s.seen) s.mine
+  low_before = came_below s.seen log.intake.taken.items s.mine old.fates.came
 
   adds_none : AddsNoRow s t
-  adds_none = none_made s t below (record { begins = still.seen; mine = mine })
+  adds_none = none_made s t low_before (record { begins = still.seen; mine = mine })
 
-  abbrev after : NodeView Secrets
-  after = node_at p.start t.seen
+  abbrev sent_after : NodeView Secrets
+  sent_after = node_at p.start t.seen
 
   abbrev WasDueTo : ℕ → ℕ → Type 0
-  WasDueTo j n = WasDue plan me place (drawn + 1) j after (rows_made_in t) (drawn + 1) log.idle (HasCounted p t n)
+  WasDueTo j n = WasDue plan me place (drawn + 1) j sent_after (rows_made_in t) (drawn + 1) log.idle (HasCounted p t n)
 
-  ended : HasEnded p s (drawn + 1) log.idle
-  ended = old.ended (omega arith)
+  was_ended : HasEnded p s (drawn + 1) log.idle
+  was_ended = old.ended (omega arith)
 
   due_to : (j : ℕ) (d' : Dispatch) → HasDrawn plan me place (drawn + 1) j → WasDueTo j (get_or ds j d').due
   due_to j d' drew = dite (ℕ_discrete j k)
       (λ e.
       let count_is : d ≡ get_or ds j d' = sym (ap (λ (n : ℕ). get_or ds n d') e ∙ get_or-set_same log.dispatches.items k d d' (omega (arith, inside, old.served.dispatches))) in
-      subst (λ (x : ℕ × Dispatch). WasDueTo x.0 x.1.due) (λ i. (sym e i, count_is i)) (due_now p s t still.seen mine below (drawn + 1) log.idle plan me place drawn k d.due refl draws ended due))
+      subst (λ (x : ℕ × Dispatch). WasDueTo x.0 x.1.due) (λ i. (sym e i, count_is i)) (due_now p s t still.seen mine low_before (drawn + 1) log.idle plan me place drawn k d.due refl draws was_ended due))
       (λ ne.
       let n : ℕ = (get_or log.dispatches.items j d').due in
       let count_is : get_or log.dispatches.items j d' ≡ get_or ds j d' = sym (get_or-set_other log.dispatches.items k j d d' ne) in
       subst (λ (x : Dispatch). WasDueTo j x.due) count_is
-      (due_still plan me place drawn j after (rows_made_in t) (drawn + 1) log.idle (HasCounted p t n) (λ other. ne (other.peer ∙ sym draws.peer))
-      (due_later (node_at p.start s.seen) after refl still.seen plan me place drawn j (rows_made_in s) (rows_made_in t) (drawn + 1) log.idle (HasCounted p s n) (HasCounted p t n)
+      (due_still plan me place drawn j sent_after (rows_made_in t) (drawn + 1) log.idle (HasCounted p t n) (λ other. ne (other.peer ∙ sym draws.peer))
+      (due_later (node_at p.start s.seen) sent_after refl still.seen plan me place drawn j (rows_made_in s) (rows_made_in t) (drawn + 1) log.idle (HasCounted p s n) (HasCounted p t n)
       (λ at low. adds_none.rows at) (λ at low. counted_on p s t still.seen n at adds_none.more adds_none.mine adds_none.later)
       (old.dues j d' (drawn_before plan me place drawn j k draws ne drew)))))
 
@@ -309,7 +309,7 @@ module _ (plan : Plan) (place : ℕ) (mails : List MailboxView) (p : SharedNode 
     };
     some = λ some. omega (arith, old.some some, rows_longer p s t still.seen);
     rows = rw idle (ap (λ (n : ℕ). n + log.idle) (no_row_more s t still.seen adds_none) ∙ old.rows);
-    idle = rw idle (idle_later (node_at p.start s.seen) after refl still.seen 0 0 (drawn + 1) log.idle old.idle);
-    ended = rw idle (λ _. ended_on p s t still.seen mine below (drawn + 1) log.idle ended);
+    idle = rw idle (idle_later (node_at p.start s.seen) sent_after refl still.seen 0 0 (drawn + 1) log.idle old.idle);
+    ended = rw idle (λ _. ended_on p s t still.seen mine low_before (drawn + 1) log.idle was_ended);
     dues = rw (dispatches, idle) due_to;
   }
