@@ -46,7 +46,7 @@ module _ {A : Type 0} where
   pub get_later : (xs ys : List A) (k : ℕ) (x : A) → IsPrefix xs ys → slice_get xs k ≡ Some x → slice_get ys k ≡ Some x
   get_later xs ys k x p is = ap (λ (zs : List A). slice_get zs k) p.1 ∙ (get_front xs p.0 k (slice_get_within xs k x is) ∙ is)
 
-  take_later : (n : ℕ) (xs ys : List A) → n ≤ length xs → IsPrefix xs ys → take n xs ≡ take n ys
+  pub take_later : (n : ℕ) (xs ys : List A) → n ≤ length xs → IsPrefix xs ys → take n xs ≡ take n ys
   take_later n xs ys le p = sym (ap (take n) p.1 ∙ take-append-le n xs p.0 le)
 
   pub all_map : (P Q : A → Type 0) → ((x : A) → P x → Q x) → (xs : List A) → AllByRecursion P xs → AllByRecursion Q xs

@@ -347,6 +347,8 @@ begins plan place mails p own log first ports inbox inside seat new senders box 
   some = λ no. absurd (omega (arith, no));
   rows = omega (arith, new.idle, none_made);
   idle = new.idle;
+  ended = λ no. absurd (omega (arith, no));
+  dues = λ k d drew. absurd (omega (arith, drew.early));
 }
   where
     none_made : rows_made (split_off first) ≡ 0

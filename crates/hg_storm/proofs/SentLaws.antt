@@ -2,7 +2,7 @@
 use Rattle.std.proofs.Common.{◌≡◌, ℕ, ◌<◌, ◌≤◌, cond, eqb, List, [], ◌∷◌, length, take, map, get_or, sum_by, refl, sym, ap, ◌∙◌, subst, arith}
 use Rattle.std.specs.Prelude.{All}
 use Rattle.std.specs.Global.{Vec}
-use Rattle.std.proofs.lemmas.List.{get_or_default, length-take-le}
+use Rattle.std.proofs.lemmas.List.{get_or_default, get_or-map, length-take-le}
 use Rattle.std.proofs.lemmas.List.Sums.{sum_by-cons}
 use Rattle.hg_life.specs.Members.{MemberList}
 use Rattle.hg_life.specs.NodeView.{NodeView}
@@ -66,7 +66,7 @@ module _ (members : MemberList) (room : ℕ) (joined : Joined) (plan : Plan) (to
         are_peers members plan circle_is j k (has_drawn plan room nodes logs left told v g l j k j_in k_in (omega (arith, some, many_is j k j_in k_in)))) in
         omega (arith, within, by_pairs)
 
-    mail_is : (x : ℕ) (m : Mail) → x < length mails → m ≡ get_or mails x m → IsMail plan room mails (get_or nodes m.from v) m
+    mail_is : (x : ℕ) (m : Mail) → x < length mails → m ≡ get_or mails x m → IsMail plan room mails (get_or nodes m.from v) (get_or logs m.from g).idle m
     mail_is x m x_in m_is =
         let t = subst (λ (n : Mail). IsMailIn nodes logs left n) (sym m_is) (are.each x m x_in) in
         let d : Dispatch = dispatch_to (get_or logs m.from g) m.to in
@@ -77,19 +77,21 @@ module _ (members : MemberList) (room : ℕ) (joined : Joined) (plan : Plan) (to
           sent = told_mail.sent ∙ ap (λ (n : ℕ). take n (names_in (get_or nodes m.from v))) (sym size);
           once = told_mail.once;
           parts = told_mail.parts;
-          due = subst (IsSentTo plan m.from m.to (get_or nodes m.from v)) same (told.sent m.from m.to v g t.from t.to);
+          due = subst (IsSentTo plan m.from m.to (get_or nodes m.from v) (get_or logs m.from g).idle) same (told.sent m.from m.to v g t.from t.to);
           full = λ often.
               let held = told.full m.from m.to v g t.from t.to (omega (arith, often, told_mail.full)) in
               omega (arith, held, all_sent m.to t.to);
         }
 
-  pub are_mails : AreMails plan room nodes mails
-  are_mails = record {
+  pub are_mails : (idle : List ℕ) → idle ≡ map (λ (h : Log). h.idle) logs → AreMails plan room nodes idle mails
+  are_mails idle idle_is = record {
     pairs = are.pairs;
-    each = λ x d x_in v.
+    each = λ x d x_in v i.
         let t = are.each x d x_in in
         let m : Mail = get_or mails x d in
         let g : Log = some_of logs m.from (omega (arith, t.from, told.logs_count)) in
         let l : Vec Message = some_of left m.from (omega (arith, t.from, told.left_count)) in
-        mail_is v g l x m x_in (get_or_default mails x d m x_in);
+        let none : (get_or logs m.from g).idle ≡ get_or idle m.from i =
+        sym (ap (λ (ns : List ℕ). get_or ns m.from i) idle_is ∙ get_or-map (λ (h : Log). h.idle) logs m.from g i (omega (arith, t.from, told.logs_count))) in
+        subst (λ (n : ℕ). IsMail plan room mails (get_or nodes m.from v) n m) none (mail_is v g l x m x_in (get_or_default mails x d m x_in));
   }

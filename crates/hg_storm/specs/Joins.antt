@@ -1,6 +1,5 @@
 -- What the mailboxes' first ports know once all ports are back: what each member sent each, took and left
-use Rattle.std.specs.Prelude.{ℕ, zero, suc, ◌≡◌, ◌≢◌, ◌+◌, ◌<◌, ◌≤◌, ◌==◌, ◌⊎◌, Bool, true, nat_le, cond, List, [], ◌∷◌, ◌++◌, Vec, length, take, get_or, map, count_by}
-use Rattle.hg_model.specs.declared.row.Row.{Row}
+use Rattle.std.specs.Prelude.{ℕ, zero, suc, ◌≡◌, ◌≢◌, ◌+◌, ◌<◌, ◌≤◌, ◌⊎◌, Bool, true, nat_le, cond, List, [], ◌∷◌, ◌++◌, Vec, length, take, get_or, map}
 use Rattle.hg_life.specs.Signing.{accepts_by}
 use Rattle.hg_life.specs.Spelling.{spelling}
 use Rattle.hg_life.specs.NodeView.{IsNode, NodeView, node_rows}
@@ -20,7 +19,7 @@ use Rattle.hg_storm.specs.declared.desk.Job.{Job}
 use Rattle.hg_storm.specs.Sending.{bytes_seen, messages_from}
 use Rattle.hg_storm.specs.Drawing.{HasDrawn}
 use Rattle.hg_storm.specs.Ends.{EndsWithFates}
-use Rattle.hg_storm.specs.Turning.{AreIdle, IsCounted, Stands}
+use Rattle.hg_storm.specs.Turning.{AreIdle, HadRows, IsCounted, Stands, WasDue, own_rows, rows_by}
 use Rattle.hg_storm.specs.Threads.{Pairs, no_dispatch, place_of, turns_of}
 
 -- what members did, by their numbers: what each put into each one's mailbox, and how often that was full; and what each took
@@ -131,10 +130,6 @@ pub record AreEmptied {Z : Type 0} (tale : Tale) (n : ℕ) (mails : List Mailbox
 
 -- ---- what all members did, by their numbers, and their nodes then
 
--- how many of the rows a member made
-abbrev pub rows_by : ℕ → List Row → ℕ
-rows_by m rows = count_by (λ (row : Row). row.creator == m) rows
-
 -- of one member, whose node is this: its own rows and its turns that made none are together as many as all its turns, and each
 -- of the latter has its cause
 pub record CountsTurns (plan : Plan) (k : ℕ) (p : SharedNode Secrets) (node : NodeView Secrets) (idle : ℕ) : Type 0 where
@@ -151,10 +146,13 @@ pub record IsTold (plan : Plan) (k : ℕ) (p : SharedNode Secrets) (node : NodeV
 abbrev pub rows_of_node : NodeView Secrets → List (List ℕ)
 rows_of_node v = map spelling (node_rows v)
 
--- what member j, whose node this is, sent to member k: the rows that were due, unless its mailbox was full
-pub record IsSentTo (plan : Plan) (j k : ℕ) (node : NodeView Secrets) (d : Dispatch) : Type 0 where
+-- what member j, whose node this is, sent to member k: the rows that were due, unless its mailbox was full; due were those that
+-- the node had once the last turn that drew k had made its own
+pub record IsSentTo (plan : Plan) (j k : ℕ) (node : NodeView Secrets) (idle : ℕ) (d : Dispatch) : Type 0 where
   pub within : d.sent ≤ length (rows_of_node node)
   pub counted : IsCounted (HasDrawn plan j (place_of plan j) (turns_of plan j) k) (length (rows_of_node node)) (turns_of plan j) d
+  pub due : HasDrawn plan j (place_of plan j) (turns_of plan j) k →
+      WasDue plan j (place_of plan j) (turns_of plan j) k node (own_rows node) (turns_of plan j) idle (HadRows node d.due)
 
 -- what nodes and logs tell, by their places; beyond them what this node and this log do
 abbrev pub tale_told : List (NodeView Secrets) → List Log → NodeView Secrets → Log → Tale
@@ -169,7 +167,7 @@ pub record AreTold {Z : Type 0} (plan : Plan) (room : ℕ) (nodes : List (NodeVi
   pub logs_count : length logs ≡ length nodes
   pub left_count : length left ≡ length nodes
   pub sent : (j k : ℕ) (v : NodeView Secrets) (g : Log) → j < length nodes → k < length nodes →
-      IsSentTo plan j k (get_or nodes j v) (dispatch_to (get_or logs j g) k)
+      IsSentTo plan j k (get_or nodes j v) (get_or logs j g).idle (dispatch_to (get_or logs j g) k)
   pub mail : (j k : ℕ) (v : NodeView Secrets) (g : Log) (l : Vec Message Z) → j < length nodes → k < length nodes →
       (tale_told nodes logs v g).put j k ≡ messages_of j (get_or logs k g).intake.taken.items ++ messages_of j (get_or left k l).items
   pub known : (k : ℕ) (g : Log) (l : Vec Message Z) → k < length nodes → AreFrom (length nodes) ((get_or logs k g).intake.taken.items ++ (get_or left k l).items)

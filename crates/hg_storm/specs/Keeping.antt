@@ -1,5 +1,6 @@
 -- Calls through a seat that take no message: what came of those that were taken stands
-use Rattle.std.specs.Prelude.{ℕ, Bool, true, false, List, Option, Some, None, count_by, slice_get}
+use Rattle.std.specs.Prelude.{ℕ, ◌≡◌, ◌≤◌, Bool, true, false, List, ◌++◌, length, Option, Some, None, count_by, slice_get, take}
+use Rattle.std.specs.List.{AllByRecursion}
 use Rattle.hg_life.specs.declared.answers.MakeAnswer.{MakeAnswer}
 use Rattle.hg_life.specs.History.{Change}
 use Rattle.hg_life.specs.History.Change.{Took, Made, Marked}
@@ -38,6 +39,20 @@ is_made (Some (Took row)) = false
 is_made (Some (Marked len share)) = false
 is_made None = false
 
--- how many of a seat's own changes made a row
+-- at how many of these positions of a history a row was made
+abbrev pub made_among : List Change → List ℕ → ℕ
+made_among history positions = count_by (λ q. is_made (slice_get history q)) positions
+
+-- how many of a seat's own changes made a row, of all and of those among the first ones of the history
 abbrev pub rows_made : {V : Type 0} → SeatView V → ℕ
-rows_made s = count_by (λ q. is_made (slice_get s.seen q)) s.mine
+rows_made s = made_among s.seen s.mine
+
+abbrev pub rows_made_in : {V : Type 0} → SeatView V → ℕ → ℕ
+rows_made_in s at = made_among (take at s.seen) s.mine
+
+-- what its calls added comes later than all that it had seen, and is no row that they made
+pub record AddsNoRow {V : Type 0} (old new : SeatView V) : Type 0 where
+  pub more : List ℕ
+  pub mine : new.mine ≡ old.mine ++ more
+  pub later : AllByRecursion (λ q. length old.seen ≤ q) more
+  pub rows : (at : ℕ) → rows_made_in new at ≡ rows_made_in old at

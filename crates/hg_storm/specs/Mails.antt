@@ -41,18 +41,19 @@ abbrev pub dispatch_of : Mail → Dispatch
 dispatch_of m = record { sent = length m.sent.items; full = m.full; due = m.due }
 
 -- The first rows of the sender's node were sent, all that were due unless the other's mailbox was full; the other took the first
--- of them, and its mailbox had left the others. Where it was full, all mails to it have as many names as it has room for.
-pub record IsMail (plan : Plan) (room : ℕ) (mails : List Mail) (v : NodeView Secrets) (m : Mail) : Type 0 where
+-- of them, and its mailbox had left the others. Where it was full, all mails to it have as many names as it has room for. So many
+-- of the sender's turns made no event.
+pub record IsMail (plan : Plan) (room : ℕ) (mails : List Mail) (v : NodeView Secrets) (idle : ℕ) (m : Mail) : Type 0 where
   pub sent : m.sent.items ≡ take (length m.sent.items) (names_in v)
   pub once : AreOnce m.sent.items
   pub parts : m.sent.items ≡ m.taken.items ++ m.left.items
-  pub due : IsSentTo plan m.from m.to v (dispatch_of m)
+  pub due : IsSentTo plan m.from m.to v idle (dispatch_of m)
   pub full : 0 < m.full → room ≤ names_to mails m.to
 
 -- there is one mail for each two different ones of the members that have nodes in each direction
-pub record AreMails (plan : Plan) (room : ℕ) (nodes : List (NodeView Secrets)) (mails : List Mail) : Type 0 where
+pub record AreMails (plan : Plan) (room : ℕ) (nodes : List (NodeView Secrets)) (idle : List ℕ) (mails : List Mail) : Type 0 where
   pub pairs : map pair_of mails ≡ pairs_in plan.circle.items
-  pub each : All (λ (m : Mail). (v : NodeView Secrets) → IsMail plan room mails (get_or nodes m.from v) m) mails
+  pub each : All (λ (m : Mail). (v : NodeView Secrets) (i : ℕ) → IsMail plan room mails (get_or nodes m.from v) (get_or idle m.from i) m) mails
 
 -- ---- by what the threads told
 

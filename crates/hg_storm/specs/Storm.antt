@@ -59,7 +59,7 @@ pub record IsStorm (members : MemberList) (times room first : ℕ) (s : Storm) :
   pub count : length ends ≡ length members.entries
   pub starts : (m : ℕ) → m < length ends → (nth_node ends m).start ≡ start_of members m (secrets_of members)
   pub session : HasSession (nodes_of (new_world members)) ends
-  pub mail : AreMails plan room ends s.mail.items
+  pub mail : AreMails plan room ends s.idle.items s.mail.items
   pub idle_count : length s.idle.items ≡ length ends
   pub refused_count : length s.refused.items ≡ length ends
   pub each : (k : ℕ) (v : NodeView Secrets) (i : ℕ) (l : Vec Refusal) → k < length ends →

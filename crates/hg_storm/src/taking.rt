@@ -2,7 +2,7 @@ ghost use Rattle.std.specs.Prelude.{◌≡◌, ◌<◌, ◌++◌, ◌∷◌, [],
 ghost use Rattle.hg_board.specs.Seats.{IsOf};
 ghost use Rattle.hg_crowd.specs.Crowd.{IsStill};
 ghost use Rattle.hg_storm.specs.Fates.{HasFates, after_put};
-ghost use Rattle.hg_storm.specs.Keeping.{KeepsSeat, rows_made};
+ghost use Rattle.hg_storm.specs.Keeping.{AddsNoRow, KeepsSeat};
 
 use hg_board::{Seat, Shared};
 use hg_life::{Fault, PutAnswer};
@@ -74,7 +74,7 @@ fn take_one<V: Signer + Drop, R: Wait>(
     ensures of { IsOf shared.now seat.new }
     ensures still { IsStill seat.old seat.new }
     ensures seat { KeepsSeat V.accepts shared.now seat.old seat.new }
-    ensures made { OnOk result (rows_made seat.new ≡ rows_made seat.old) }
+    ensures made { OnOk result (AddsNoRow seat.old seat.new) }
     ensures fates { OnOk result (HasFates V.accepts shared.now seat.new intake.new.taken.items intake.new.refused.items) }
     ensures taken { OnOk result (intake.new.taken.items ≡ intake.old.taken.items ++ message ∷ []) }
 {
@@ -99,7 +99,7 @@ pub fn take_all<V: Signer + Drop, R: Wait>(
     ensures of { IsOf shared.now seat.new }
     ensures still { IsStill seat.old seat.new }
     ensures seat { KeepsSeat V.accepts shared.now seat.old seat.new }
-    ensures made { OnOk result (rows_made seat.new ≡ rows_made seat.old) }
+    ensures made { OnOk result (AddsNoRow seat.old seat.new) }
     ensures fates { OnOk result (HasFates V.accepts shared.now seat.new intake.new.taken.items intake.new.refused.items) }
     ensures taken { OnOk result (intake.new.taken.items ≡ intake.old.taken.items ++ messages.items) }
 {
