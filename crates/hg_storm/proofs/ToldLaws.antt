@@ -25,7 +25,7 @@ use Rattle.hg_board.specs.Seats.{SharedNode, SeatView}
 use Rattle.hg_board.specs.Calls.{Absorbs, IsStarted, IsWhole}
 use Rattle.hg_board.proofs.PositionLaws.{below_more, times-append, times_apart, times_cons, times_none}
 use Rattle.hg_board.proofs.PrefixLaws.{prefix_length, prefix_of_prefix}
-use Rattle.hg_crowd.specs.Crowd.{IsEnded}
+use Rattle.hg_crowd.specs.Crowd.{IsEnded, IsMark}
 use Rattle.hg_crowd.specs.Workers.{AreWhole}
 use Rattle.hg_crowd.proofs.EndLaws.{ended}
 use Rattle.hg_crowd.proofs.ListLaws.{some_of}
@@ -254,7 +254,6 @@ module _ (plan : Plan) (mails : List MailboxView) (k : ℕ) (p : SharedNode Secr
   pub same_rows : bytes_seen p j.desk.seat ≡ rows_of_node node
   same_rows = sym (ap (map spelling) its_end.rows)
 
-  -- what it sent to another
   -- what was added while the seat had added nothing are marks, which bring no rows
   had_rows : (due at : ℕ) → HasCounted p j.desk.seat due at → HadRows node due at
   had_rows due at was =
@@ -266,7 +265,7 @@ module _ (plan : Plan) (mails : List MailboxView) (k : ℕ) (p : SharedNode Secr
       let whole_front : IsPrefix (take was.when h) h = (drop was.when h, sym (take-append-drop was.when h)) in
       let front : IsPrefix (take at h) (take was.when h) =
       prefix_of_prefix (take at h) (take was.when h) h (drop at h, sym (take-append-drop at h)) whole_front (omega (arith, was.past, long, short)) in
-      let marks = λ q past low.
+      let marks : (q : ℕ) → length (take at h) ≤ q → q < length (take was.when h) → IsMark (take was.when h) q = λ q past low.
       mark_before (take was.when h) h q whole_front low
       (its_end.marks q (omega (arith, ap length from_none)) (omega (arith, low, long, inside))
       (times_between at was.when q j.desk.seat.mine was.alone (omega (arith, past, short)) (omega (arith, low, long)))) in
@@ -282,6 +281,7 @@ module _ (plan : Plan) (mails : List MailboxView) (k : ℕ) (p : SharedNode Secr
       (λ drew. due_later (node_at p.start j.desk.seat.seen) node its_end.start its_end.later plan j.desk.me (place_of plan k) (turns_of plan k) to (rows_made_in j.desk.seat) (own_rows node)
       (turns_of plan k) j.desk.log.idle (HasCounted p j.desk.seat due) (HadRows node due) own_early (λ at low. had_rows due at) (done.stands.dues to no_dispatch drew))
 
+  -- what it sent to another
   pub is_sent_to : (to : ℕ) → to < length mails → IsSentTo plan k to node j.desk.log.idle (dispatch_to j.desk.log to)
   is_sent_to to inside =
       let all = done.stands.served in
