@@ -1,14 +1,15 @@
 -- Each step of a mailbox's queue keeps its rule, and tells what it tells
-use Rattle.std.proofs.Common.{◌≡◌, ◌≢◌, ℕ, ◌+◌, Bool, true, false, true≢false, ◌||◌, cond, eqb, eq-eqb, ne_eqb, List, [], ◌∷◌, ◌++◌, length, set, refl, sym, ap, ◌∙◌, subst, ⊎_elim, append_assoc, append-nil, arith}
+use Rattle.std.proofs.Common.{◌≡◌, ◌≢◌, ℕ, ◌+◌, ◌<◌, ◌≤◌, Bool, true, false, true≢false, ◌||◌, cond, eqb, eq-eqb, ne_eqb, List, [], ◌∷◌, ◌++◌, length, set, refl, sym, ap, ◌∙◌, subst, ⊎_elim, append_assoc, append-nil, arith}
 use Rattle.std.specs.List.{AllByRecursion}
 use mathlib.Core.Option.{some}
 use lib.ListN.{get_elem?}
+use Rattle.std.proofs.lemmas.Bool.{cases_lt}
 use Rattle.atomic_table.proofs.Lists.{at_set}
 use Rattle.crossbeam_queue.specs.Fifo.{Pushes, Pops, Forks, Merges, Learns}
 use Rattle.hg_mail.specs.declared.message.Message.{Message}
 use Rattle.hg_mail.specs.declared.view.Sender.{Sender}
 use Rattle.hg_mail.specs.declared.view.View.{View}
-use Rattle.hg_mail.specs.Messages.{IsEmptied, IsSender, Puts, Takes, after_hand, after_issue, after_taking, first_view, handed, issued, joined_view, messages_of, sender, sender_view, spent_view}
+use Rattle.hg_mail.specs.Messages.{AreFrom, IsEmptied, IsSender, Puts, Takes, after_hand, after_issue, after_taking, first_view, handed, issued, joined_view, messages_of, sender, sender_view, spent_view}
 use Rattle.hg_mail.specs.Rule.{Delivers, HasSender, HeldAt, IsAt, Knows, Ledger}
 use Rattle.hg_mail.proofs.ListLaws.{Each, all_append, all_map, each_one, each_push, each_set, of_another, of_its_sender}
 
@@ -258,11 +259,39 @@ none_held : (held : List Message) → length held ≡ 0 → held ≡ []
 none_held [] e = refl
 none_held (m ∷ held) e = absurd (omega (arith, e))
 
--- once the mailbox held none, all was taken out
-pub emptied : (v : View) → v.takes ≡ true → HeldAt v 0 → IsEmptied v
-emptied v may held =
-    let s : IsAt v held.0 = held.2 in
-    let old : Ledger = s.rule.ledger in
-    let mine : Knows old s.port v = s.rule.each s.port v s.here in
-    let all : old.put ≡ v.taken = s.rule.all ∙ (ap (λ (l : List Message). old.taken ++ l) (none_held held.0 held.1) ∙ (append-nil old.taken ∙ sym (mine.takes may).1)) in
-    all_map (HasSender old s.port) (λ (x : Sender). x.put ≡ messages_of x.from v.taken) (λ x has. has.all ∙ ap (messages_of x.from) all) v.senders mine.senders
+-- of nobody from this number on there is a message
+none_later : (next : ℕ) (ms : List Message) → ((from : ℕ) → next ≤ from → messages_of from ms ≡ []) → AreFrom next ms
+none_later next [] none = tt
+none_later next (m ∷ ms) none = (
+  ⊎_elim (λ (low : m.from < next). low) (λ (past : next ≤ m.from). absurd (some_first m ms (none m.from past))) (cases_lt m.from next),
+  none_later next ms (λ from past. none_behind (eqb m.from from) m (messages_of from ms) (none from past)),
+)
+  where
+    none_behind : (b : Bool) (x : Message) (rest : List Message) → cond b (x ∷ rest) rest ≡ [] → rest ≡ []
+    none_behind true x rest none = absurd (cc none)
+    none_behind false x rest none = none
+
+    some_first : (x : Message) (rest : List Message) → messages_of x.from (x ∷ rest) ≡ [] → ⊥
+    some_first x rest none = not_nil x (messages_of x.from rest) (sym (ap (λ (b : Bool). cond b (x ∷ messages_of x.from rest) (messages_of x.from rest)) (eq-eqb x.from x.from refl)) ∙ none)
+      where
+        not_nil : (y : Message) (ys : List Message) → y ∷ ys ≡ [] → ⊥
+        not_nil y ys is = cc is
+
+-- a mailbox that held none: all that was put in was taken out
+module _ (v : View) (may : v.takes ≡ true) (held : HeldAt v 0) where
+  abbrev old_ledger : Ledger
+  old_ledger = held.2.rule.ledger
+
+  old_known : Knows old_ledger held.2.port v
+  old_known = held.2.rule.each held.2.port v held.2.here
+
+  all_taken : old_ledger.put ≡ v.taken
+  all_taken =
+      held.2.rule.all ∙ (ap (λ (l : List Message). old_ledger.taken ++ l) (none_held held.0 held.1) ∙ (append-nil old_ledger.taken ∙ sym (old_known.takes may).1))
+
+  pub emptied : IsEmptied v
+  emptied = all_map (HasSender old_ledger held.2.port) (λ (x : Sender). x.put ≡ messages_of x.from v.taken) (λ x has. has.all ∙ ap (messages_of x.from) all_taken) v.senders old_known.senders
+
+  -- .. and each of it is of a sender whose port was given out
+  pub from_senders : v.gives ≡ true → AreFrom v.next v.taken
+  from_senders gives = none_later v.next v.taken (λ from later. ap (messages_of from) (sym all_taken) ∙ held.2.rule.fresh from (omega (arith, later, (old_known.gives gives).1)))

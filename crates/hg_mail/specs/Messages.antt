@@ -1,5 +1,5 @@
 -- What a port knows of a mailbox's messages, and how that changes
-use Rattle.std.specs.Prelude.{◌≡◌, ℕ, ◌+◌, ◌==◌, ◌||◌, true, false, cond, List, [], ◌∷◌, ◌++◌}
+use Rattle.std.specs.Prelude.{◌≡◌, ℕ, ◌+◌, ◌<◌, ◌==◌, ◌||◌, true, false, cond, List, [], ◌∷◌, ◌++◌}
 use Rattle.std.specs.List.{AllByRecursion, filter}
 use Rattle.hg_mail.specs.declared.message.Message.{Message}
 use Rattle.hg_mail.specs.declared.view.Sender.{Sender}
@@ -8,6 +8,10 @@ use Rattle.hg_mail.specs.declared.view.View.{View}
 -- of these messages those of one sender, in order
 abbrev pub messages_of : ℕ → List Message → List Message
 messages_of from messages = filter (λ m. m.from == from) messages
+
+-- each message is of one of the first senders
+abbrev pub AreFrom : ℕ → List Message → Type 0
+AreFrom senders messages = AllByRecursion (λ (m : Message). m.from < senders) messages
 
 abbrev pub sender : ℕ → List Message → Sender
 sender from put = record { from = from; put = put }

@@ -47,6 +47,7 @@ pub fn drain_by<R: Wait>(
     requires takes { (view pass.old).takes ≡ true }
     ensures pass { IsSamePass pass.old pass.new }
     ensures view { IfOk result (λ left. view pass.new ≡ after_taking (view pass.old) left.items) }
+    ensures none { OnOk result (HeldAt (view pass.new) 0) }
     ensures whole { OnOk result (IsEmptied (view pass.new)) }
     ensures err { OnErr result (TakesSome (view pass.old) (view pass.new)) }
 {

@@ -188,8 +188,9 @@ impl Mailbox {
         collect_by(rt, alloc, &self.queue, pass)
     }
 
-    /// Takes out all that is left. Then all is taken out that was put in by the senders whose ports this one has taken back,
-    /// since they put in no more. Without memory some messages may have been taken out, and are lost.
+    /// Takes out all that is left: the mailbox held none at a step of this call. Then all is taken out that was put in by the
+    /// senders whose ports this one has taken back, since they put in no more. Without memory some messages may have been
+    /// taken out, and are lost.
     pub fn drain<R: Wait>(
         &self,
         rt: &R,
@@ -199,6 +200,7 @@ impl Mailbox {
         requires of { IsPortOf self.now port.old }
         requires takes { port.old.view.takes ≡ true }
         ensures port { IfOk result (λ left. port.new ≡ after_taking port.old left.items) }
+        ensures none { OnOk result (HeldAt port.new.view 0) }
         ensures whole { OnOk result (IsEmptied port.new.view) }
         ensures err { OnErr result (TakesSome port.old port.new) }
     {

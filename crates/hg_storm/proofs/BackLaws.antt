@@ -135,6 +135,8 @@ module _ (tale : Tale) (n i k : ℕ) (m : MailboxView) (a b : PortView) (was : I
       (λ (le : i ≤ k). le-leb (i + 1) k (omega (arith, le, ne)) ∙ sym (le-leb i k le)) (cases_lt k i)) in
       subst (IsBack tale n (i + 1) k m) (sym is) (record {
         of = was.of;
+        gives = ap (λ (w : View). (joined_view a.view w).gives) part.view ∙ was.gives;
+        next = ap (λ (w : View). (joined_view a.view w).next) part.view ∙ was.next;
         takes = λ below. ap (λ (w : View). (joined_view a.view w).takes) part.view ∙ was.takes (omega (arith, below, ne));
         taken = λ below. ap (λ (w : View). (joined_view a.view w).taken) part.view ∙ was.taken (omega (arith, below, ne));
         senders = senders_next;
@@ -153,6 +155,8 @@ module _ (tale : Tale) (n i k : ℕ) (m : MailboxView) (a b : PortView) (was : I
       let box_mine : inbox.count.mine ≡ 0 = ap (λ (x : CountView). x.mine) count in
       subst (IsBack tale n (i + 1) k m) (sym is) (record {
         of = was.of;
+        gives = ap (λ (w : View). (joined_view v w).gives) view ∙ (ap (λ (w : View). (joined_view a.view w).gives) part.view ∙ was.gives);
+        next = ap (λ (w : View). (joined_view v w).next) view ∙ (ap (λ (w : View). (joined_view a.view w).next) part.view ∙ was.next);
         takes = λ _. ap (λ (w : View). (joined_view v w).takes) view;
         taken = λ _. ap (λ (w : View). (joined_view v w).taken) view ∙ ap tale.taken (sym same);
         senders = λ j below. subst (λ (w : View). HasSender (sender j (tale.put j k)) (v.senders ++ w.senders)) (sym view) (has_left (sender j (tale.put j k)) v.senders [] (senders_next j below));
@@ -185,6 +189,8 @@ back_none tale mails masters opened = record {
       let one : away (nat_le (length mails) k) ≡ 1 = ap away (lt-leb (length mails) k inside) in
       let two : due_back (nat_le 0 k) ≡ 1 = ap due_back (le-leb 0 k (omega arith)) in record {
         of = x.of;
+        gives = ap (λ (w : View). w.gives) x.view;
+        next = ap (λ (w : View). w.next) x.view;
         takes = λ none. absurd (omega arith);
         taken = λ none. absurd (omega arith);
         senders = λ j none. absurd (omega arith);
@@ -196,7 +202,7 @@ back_none tale mails masters opened = record {
 
 -- ---- what members bring back after their turns
 
-length-messages : (from place : ℕ) (rows : List (List ℕ)) → length (messages_from from place rows) ≡ length rows
+pub length-messages : (from place : ℕ) (rows : List (List ℕ)) → length (messages_from from place rows) ≡ length rows
 length-messages from place [] = refl
 length-messages from place (row ∷ rows) = ap suc (length-messages from (place + 1) rows)
 

@@ -1,6 +1,6 @@
 -- What is known once all ports and seats are back, and what the mailboxes have left
-use Rattle.std.specs.Prelude.{Vec}
-use Rattle.std.proofs.Common.{◌≡◌, ◌≢◌, ⊎_elim, ℕ, ◌+◌, ◌<◌, ◌≤◌, nat_eq, nat_le, List, [], ◌∷◌, ◌++◌, length, drop, map, get_or, set, refl, sym, ap, ◌∙◌, subst, arith}
+use Rattle.std.specs.Prelude.{IfOk, OnOk, Vec}
+use Rattle.std.proofs.Common.{◌≡◌, ◌≢◌, ⊎_elim, ℕ, ◌+◌, ◌<◌, ◌≤◌, nat_eq, nat_le, true, Result, Ok, Err, List, [], ◌∷◌, ◌++◌, length, drop, map, get_or, set, refl, sym, ap, ◌∙◌, subst, arith}
 use Rattle.std.specs.List.{AllByRecursion}
 use Rattle.std.proofs.lemmas.Bool.{lt-leb}
 use Rattle.std.proofs.lemmas.List.{append-nil, append_assoc, get_or-map, get_or-set_other, get_or_default, length-append, length-map, length-set, length_push, nil_from_length}
@@ -9,8 +9,12 @@ use Rattle.hg_life.specs.Signing.{accepts_by}
 use Rattle.hg_mail.specs.declared.message.Message.{Message}
 use Rattle.hg_mail.specs.declared.view.Sender.{Sender}
 use Rattle.hg_mail.specs.Count.{all_parts}
-use Rattle.hg_mail.specs.Messages.{messages_of, sender}
+use Rattle.hg_mail.specs.declared.view.View.{View}
+use Rattle.hg_mail.specs.Messages.{AreFrom, IsEmptied, after_taking, messages_of, sender}
+use Rattle.hg_mail.specs.Rule.{HeldAt}
+use Rattle.hg_mail.specs.Mailboxes as mailbox
 use Rattle.hg_mail.specs.Mailboxes.{MailboxView, PortView}
+use Rattle.hg_mail.proofs.MessageLaws.{from_senders}
 use Rattle.hg_board.specs.Seats.{SharedNode, SeatView}
 use Rattle.hg_board.specs.Calls.{Absorbs}
 use Rattle.hg_crowd.specs.Workers.{AllAbsorb}
@@ -42,6 +46,18 @@ absorbed_take_out mails places jobs masters lasts told places_count jobs_count o
 
 -- ---- what is left
 
+-- a port that counted and took out all, at whose end the mailbox held none
+pub empties : {Z E : Type 0} (p q r : PortView) (counted : ℕ) (result : Result (Vec Message Z) E) → q ≡ mailbox.after_looking p counted → (p.count.parts ≡ all_parts → q.count.seen ≤ p.count.mine) → p.view.takes ≡ true →
+    IfOk result (λ (left : Vec Message Z). r ≡ mailbox.after_taking q left.items) → OnOk result (HeldAt r.view 0) → OnOk result (IsEmptied r.view) → IfOk result (λ (left : Vec Message Z). Empties p left.items)
+empties p q r counted (Err e) looked whole takes taken none all = tt
+empties p q r counted (Ok left) looked whole takes taken none all =
+    let view : r.view ≡ after_taking p.view left.items = ap (λ (x : PortView). x.view) taken ∙ ap (λ (x : PortView). after_taking x.view left.items) looked in
+    record {
+      all = subst IsEmptied view all;
+      known = from_senders (after_taking p.view left.items) takes (subst (λ (w : View). HeldAt w 0) view none);
+      whole = λ parts. let seen = whole parts in let is = ap (λ (x : PortView). x.count.seen) looked in omega (arith, seen, is);
+    }
+
 -- of one of the senders
 of_sender : (P : Sender → Type 0) (s : Sender) (ss : List Sender) → HasSender s ss → AllByRecursion P ss → P s
 of_sender P s [] has all = absurd has
@@ -54,6 +70,10 @@ put_is tale n j k m q left j_in k_in b e =
     of_sender (λ (s : Sender). s.put ≡ messages_of s.from (q.view.taken ++ left)) (sender j (tale.put j k)) q.view.senders (b.senders j j_in) e.all
     ∙ (filter-append (λ (x : Message). nat_eq x.from j) q.view.taken left ∙ ap (λ (ms : List Message). messages_of j ms ++ messages_of j left) (b.taken k_in))
 
+-- each message is of a member
+known_is : (tale : Tale) (n k : ℕ) (m : MailboxView) (q : PortView) (left : List Message) → k < n → IsBack tale n n k m q → Empties q left → AreFrom n (tale.taken k ++ left)
+known_is tale n k m q left k_in b e = subst (λ (x : ℕ × List Message). AreFrom x.0 (x.1 ++ left)) (λ i. (b.next i, b.taken k_in i)) (e.known b.gives)
+
 module _ {Z : Type 0} where
   -- of each member what it put into each mailbox is what was taken of it and what is left
   pub all_are_emptied : (tale : Tale) (n : ℕ) (mails : List MailboxView) (masters : List PortView) (left : List (Vec Message Z)) → length mails ≤ n →
@@ -64,6 +84,10 @@ module _ {Z : Type 0} where
         let Q : Type 0 = tale.put j k ≡ messages_of j (tale.taken k) ++ messages_of j (get_or left k l).items in
         first_of Q mails (omega (arith, k_in)) (λ m. first_of Q masters (omega (arith, k_in, back.count)) (λ q.
         put_is tale n j k (get_or mails k m) (get_or masters k q) (get_or left k l).items j_in (omega (arith, k_in, few)) (back.each k m q k_in) (empty.each k q l (omega (arith, k_in, back.count)))));
+    known = λ k l k_in.
+        let Q : Type 0 = AreFrom n (tale.taken k ++ (get_or left k l).items) in
+        first_of Q mails (omega (arith, k_in)) (λ m. first_of Q masters (omega (arith, k_in, back.count)) (λ q.
+        known_is tale n k (get_or mails k m) (get_or masters k q) (get_or left k l).items (omega (arith, k_in, few)) (back.each k m q k_in) (empty.each k q l (omega (arith, k_in, back.count)))));
     full = λ j k m j_in k_in some.
         let Q : Type 0 = (get_or mails k m).room ≤ put_to tale n k in
         first_of Q masters (omega (arith, k_in, back.count)) (λ q.

@@ -28,7 +28,7 @@ use Rattle.hg_board.specs.Seats.{SharedNode, SeatView}
 use Rattle.hg_board.specs.Calls.{SeatPuts}
 use Rattle.hg_board.proofs.ChangeLaws.{other_puts_add_none, puts_add_one}
 use Rattle.hg_board.proofs.PrefixLaws.{prefix_length, prefix_self}
-use Rattle.hg_storm.specs.declared.taking.Refusal.{Refusal}
+use Rattle.hg_storm.specs.declared.taking.RefusedMessage.{RefusedMessage}
 use Rattle.hg_storm.specs.Fates.{AreHeld, CameBy, HasFates, HoldsEvent, IsMade, IsOfMessage, IsRefused, IsTaken, Refuses, after_put, bytes_at, no_message}
 
 -- lists that have grown
@@ -46,7 +46,7 @@ module _ {A : Type 0} where
   pub get_later : (xs ys : List A) (k : ℕ) (x : A) → IsPrefix xs ys → slice_get xs k ≡ Some x → slice_get ys k ≡ Some x
   get_later xs ys k x p is = ap (λ (zs : List A). slice_get zs k) p.1 ∙ (get_front xs p.0 k (slice_get_within xs k x is) ∙ is)
 
-  take_later : (n : ℕ) (xs ys : List A) → n ≤ length xs → IsPrefix xs ys → take n xs ≡ take n ys
+  pub take_later : (n : ℕ) (xs ys : List A) → n ≤ length xs → IsPrefix xs ys → take n xs ≡ take n ys
   take_later n xs ys le p = sym (ap (take n) p.1 ∙ take-append-le n xs p.0 le)
 
   pub all_map : (P Q : A → Type 0) → ((x : A) → P x → Q x) → (xs : List A) → AllByRecursion P xs → AllByRecursion Q xs
@@ -75,15 +75,15 @@ bytes_front taken m j inside = ap (λ (l : Message). l.bytes) (sym (get_or_appen
 bytes_last : (taken : List Message) (m : Message) (j : ℕ) → j ≡ length taken → m.bytes ≡ bytes_at (taken ++ m ∷ []) j
 bytes_last taken m j e = ap (λ (l : Message). l.bytes) (sym (get_or_push taken m no_message j (sym e)))
 
-refused_more : (j : ℕ) (rs more : List Refusal) → IsRefused j rs → IsRefused j (rs ++ more)
+refused_more : (j : ℕ) (rs more : List RefusedMessage) → IsRefused j rs → IsRefused j (rs ++ more)
 refused_more j [] more is = absurd is
 refused_more j (r ∷ rs) more is = ⊎_elim (λ e. inl e) (λ t. inr (refused_more j rs more t)) is
 
-refused_last : (rs : List Refusal) (r : Refusal) → IsRefused r.index (rs ++ r ∷ [])
+refused_last : (rs : List RefusedMessage) (r : RefusedMessage) → IsRefused r.index (rs ++ r ∷ [])
 refused_last [] r = inl refl
 refused_last (x ∷ rs) r = inr (refused_last rs r)
 
-held_later : {V : Type 0} (p : SharedNode V) (h later : List Change) (taken : List Message) (m : Message) (rs more : List Refusal) (end : ℕ) →
+held_later : {V : Type 0} (p : SharedNode V) (h later : List Change) (taken : List Message) (m : Message) (rs more : List RefusedMessage) (end : ℕ) →
     IsPrefix h later → end ≤ length taken → AreHeld p h taken rs end → AreHeld p later (taken ++ m ∷ []) (rs ++ more) end
 held_later p h later taken m rs more end first le held j inside = ⊎_elim
     (λ x. inl (refused_more j rs more x))
@@ -111,7 +111,7 @@ came_more h taken m q came = ⊎_elim
     came
 
 -- a longer history, and the same messages
-pub refuses_still : {V : Type 0} (accepts : V → Accepts) (p : SharedNode V) (h later : List Change) (taken : List Message) (refused : List Refusal) (r : Refusal) →
+pub refuses_still : {V : Type 0} (accepts : V → Accepts) (p : SharedNode V) (h later : List Change) (taken : List Message) (refused : List RefusedMessage) (r : RefusedMessage) →
     IsPrefix h later → Refuses accepts p h taken refused r → Refuses accepts p later taken refused r
 refuses_still accepts p h later taken refused r first was =
     let same : take r.at h ≡ take r.at later = take_later r.at h later was.within first in
@@ -123,7 +123,7 @@ refuses_still accepts p h later taken refused r first was =
     }
 
 -- the same messages and one more
-refuses_more : {V : Type 0} (accepts : V → Accepts) (p : SharedNode V) (h : List Change) (taken : List Message) (m : Message) (refused more : List Refusal) (r : Refusal) →
+refuses_more : {V : Type 0} (accepts : V → Accepts) (p : SharedNode V) (h : List Change) (taken : List Message) (m : Message) (refused more : List RefusedMessage) (r : RefusedMessage) →
     Refuses accepts p h taken refused r → Refuses accepts p h (taken ++ m ∷ []) (refused ++ more) r
 refuses_more accepts p h taken m refused more r was = record {
   index = omega (arith, was.index, length-append taken (m ∷ []));
@@ -163,15 +163,15 @@ accepted_holds {V} accepts start h later bytes row place reads accepted grown =
       held = subst (λ (w : NodeView V). IsTrue (is_held (node_rows w) row.name)) after (accepted_held V accepts v bytes row place reads accepted);
     }
 
-module _ {V : Type 0} (accepts : V → Accepts) (p : SharedNode V) (s t : SeatView V) (taken : List Message) (refused : List Refusal) (m : Message) (fates : HasFates accepts p s taken refused) (first : IsPrefix s.seen t.seen) where
-  all_refused : (more : List Refusal) → AllByRecursion (Refuses accepts p t.seen (taken ++ m ∷ []) (refused ++ more)) refused
+module _ {V : Type 0} (accepts : V → Accepts) (p : SharedNode V) (s t : SeatView V) (taken : List Message) (refused : List RefusedMessage) (m : Message) (fates : HasFates accepts p s taken refused) (first : IsPrefix s.seen t.seen) where
+  all_refused : (more : List RefusedMessage) → AllByRecursion (Refuses accepts p t.seen (taken ++ m ∷ []) (refused ++ more)) refused
   all_refused more = all_map (Refuses accepts p s.seen taken refused) (Refuses accepts p t.seen (taken ++ m ∷ []) (refused ++ more))
       (λ r was. refuses_more accepts p t.seen taken m refused more r (refuses_still accepts p s.seen t.seen taken refused r first was)) refused fates.refusals
 
   all_came : AllByRecursion (CameBy t.seen (taken ++ m ∷ [])) s.mine
   all_came = all_map (CameBy s.seen taken) (CameBy t.seen (taken ++ m ∷ [])) (λ q was. came_more t.seen taken m q (came_still s.seen t.seen taken q first was)) s.mine fates.came
 
-  all_held : (more : List Refusal) → IsRefused (length taken) (refused ++ more) ⊎ HoldsEvent (node_at p.start t.seen) m.bytes → AreHeld p t.seen (taken ++ m ∷ []) (refused ++ more) (length (taken ++ m ∷ []))
+  all_held : (more : List RefusedMessage) → IsRefused (length taken) (refused ++ more) ⊎ HoldsEvent (node_at p.start t.seen) m.bytes → AreHeld p t.seen (taken ++ m ∷ []) (refused ++ more) (length (taken ++ m ∷ []))
   all_held more last j inside = dite (ℕ_discrete j (length taken))
       (λ e. ⊎_elim (λ x. inl (subst (λ (n : ℕ). IsRefused n (refused ++ more)) (sym e) x)) (λ b. inr (subst (HoldsEvent (node_at p.start t.seen)) (bytes_last taken m j e) b)) last)
       (λ ne. held_later p s.seen t.seen taken m refused more (length taken) first (omega arith) fates.held j (omega (arith, inside, ne, length-append taken (m ∷ []))))
@@ -204,7 +204,7 @@ module _ {V : Type 0} (accepts : V → Accepts) (p : SharedNode V) (s t : SeatVi
 
   refuses : (why : Fault) (at : ℕ) → at ≡ length t.seen → SeatPuts accepts p s m.bytes t (Refused why) → HasFates accepts p t (taken ++ m ∷ []) (refused ++ record { index = length taken; why = why; at = at } ∷ [])
   refuses why at at_is puts =
-      let r : Refusal = record { index = length taken; why = why; at = at } in
+      let r : RefusedMessage = record { index = length taken; why = why; at = at } in
       let none = other_puts_add_none V accepts p s t m.bytes (Refused why) puts (λ q e. cc) in
       let all : t.seen ≡ take at t.seen = sym (ap (λ (n : ℕ). take n t.seen) at_is ∙ take-length t.seen) in
       record {

@@ -16,7 +16,7 @@ use Rattle.hg_node.specs.Next.{MakesNext}
 use Rattle.hg_gossip.specs.Holding.{Seen, positions_from}
 use Rattle.hg_mail.specs.declared.message.Message.{Message}
 use Rattle.hg_board.specs.Seats.{SharedNode, SeatView, seen_by}
-use Rattle.hg_storm.specs.declared.taking.Refusal.{Refusal}
+use Rattle.hg_storm.specs.declared.taking.RefusedMessage.{RefusedMessage}
 use Rattle.hg_storm.specs.Fates.{CameBy, HasFates, IsMade, Refuses, bytes_at}
 use Rattle.hg_storm.specs.Keeping.{MakingKeepsFates, WaitingKeepsFates}
 use Rattle.hg_storm.proofs.FateLaws.{all_append, all_map, came_still, holds_later, refuses_still}
@@ -48,14 +48,14 @@ made_from taken h (e ∷ es) made = (
     long xs x = omega (arith, length-append xs (x ∷ []))
 
 module _ {V : Type 0} (accepts : V → Accepts) (p : SharedNode V) (s t : SeatView V) (more : List Change) (seen : t.seen ≡ s.seen ++ more) where
-  keeps : (taken : List Message) (refused : List Refusal) → AllByRecursion (CameBy t.seen taken) t.mine → HasFates accepts p s taken refused → HasFates accepts p t taken refused
+  keeps : (taken : List Message) (refused : List RefusedMessage) → AllByRecursion (CameBy t.seen taken) t.mine → HasFates accepts p s taken refused → HasFates accepts p t taken refused
   keeps taken refused came fates = record {
     refusals = all_map (Refuses accepts p s.seen taken refused) (Refuses accepts p t.seen taken refused) (λ r was. refuses_still accepts p s.seen t.seen taken refused r (more, seen) was) refused fates.refusals;
     held = λ j inside. ⊎_elim (λ x. inl x) (λ e. inr (holds_later p.start s.seen t.seen (bytes_at taken j) (more, seen) e)) (fates.held j inside);
     came = came;
   }
 
-  still : (taken : List Message) (refused : List Refusal) → HasFates accepts p s taken refused → AllByRecursion (CameBy t.seen taken) s.mine
+  still : (taken : List Message) (refused : List RefusedMessage) → HasFates accepts p s taken refused → AllByRecursion (CameBy t.seen taken) s.mine
   still taken refused fates = all_map (CameBy s.seen taken) (CameBy t.seen taken) (λ q was. came_still s.seen t.seen taken q (more, seen) was) s.mine fates.came
 
 pub waiting_keeps : (V : Type 0) → WaitingKeepsFates V
@@ -65,7 +65,7 @@ waiting_keeps V accepts p s t waits taken refused fates =
     keeps accepts p s t waits.others seen taken refused (subst (AllByRecursion (CameBy t.seen taken)) (sym mine) (still accepts p s t waits.others seen taken refused fates)) fates
 
 -- the node went on, and the seat added nothing
-pub still_keeps : {V : Type 0} (accepts : V → Accepts) (p : SharedNode V) (s t : SeatView V) → IsPrefix s.seen t.seen → t.mine ≡ s.mine → (taken : List Message) (refused : List Refusal) →
+pub still_keeps : {V : Type 0} (accepts : V → Accepts) (p : SharedNode V) (s t : SeatView V) → IsPrefix s.seen t.seen → t.mine ≡ s.mine → (taken : List Message) (refused : List RefusedMessage) →
     HasFates accepts p s taken refused → HasFates accepts p t taken refused
 still_keeps accepts p s t first mine taken refused fates =
     keeps accepts p s t first.0 first.1 taken refused (subst (AllByRecursion (CameBy t.seen taken)) (sym mine) (still accepts p s t first.0 first.1 taken refused fates)) fates

@@ -21,7 +21,7 @@ use Rattle.hg_crowd.proofs.ListLaws.{pair_at, some_of}
 use Rattle.hg_crowd.proofs.WorkLaws.{seat_after_split, seat_split_off}
 use Rattle.hg_storm.specs.declared.plan.Plan.{Plan}
 use Rattle.hg_storm.specs.declared.sending.Dispatch.{Dispatch}
-use Rattle.hg_storm.specs.declared.taking.Refusal.{Refusal}
+use Rattle.hg_storm.specs.declared.taking.RefusedMessage.{RefusedMessage}
 use Rattle.hg_storm.specs.declared.desk.Log.{Log}
 use Rattle.hg_storm.specs.declared.desk.Desk.{Desk}
 use Rattle.hg_storm.specs.declared.desk.Job.{Job}
@@ -340,13 +340,15 @@ begins : (plan : Plan) (place : ℕ) (mails : List MailboxView) (p : SharedNode 
 begins plan place mails p own log first ports inbox inside seat new senders box = record {
   me = inside;
   seat = seat_split_off accepts_by p first seat;
-  fates = subst (λ (z : List Message × List Refusal). HasFates accepts_by p (split_off first) z.0 z.1) (λ i. (sym new.taken i, sym new.refused i)) (fates_none p first);
+  fates = subst (λ (z : List Message × List RefusedMessage). HasFates accepts_by p (split_off first) z.0 z.1) (λ i. (sym new.taken i, sym new.refused i)) (fates_none p first);
   inbox = λ m. subst (λ (l : List Message). IsInbox (get_or mails own m) l inbox) (sym new.taken) (record { of = (box m).of; view = (box m).view });
   alone = (box (some_of mails own inside)).count;
   served = served_nobody plan place own (bytes_seen p (split_off first)) mails log.dispatches.items ports new.dispatches senders;
   some = λ no. absurd (omega (arith, no));
   rows = omega (arith, new.idle, none_made);
   idle = new.idle;
+  ended = λ no. absurd (omega (arith, no));
+  dues = λ k d drew. absurd (omega (arith, drew.early));
 }
   where
     none_made : rows_made (split_off first) ≡ 0

@@ -1,8 +1,10 @@
 -- Rows that are sent one after the other, and a node that goes on meanwhile
 use Rattle.std.proofs.Common.{◌≡◌, ℕ, zero, suc, ◌+◌, ◌<◌, ◌≤◌, List, [], ◌∷◌, ◌++◌, length, map, take, drop, refl, sym, ap, ◌∙◌, subst, append_assoc, arith}
-use Rattle.std.proofs.lemmas.List.{append-nil, length-append, length-drop, length-take, length-take-le, map-append, take-append-le, take-map}
+use Rattle.std.proofs.lemmas.List.{append-nil, length-append, length-drop, length-map, length-take, length-take-le, map-append, take-append-drop, take-append-le, take-map}
 use Rattle.std.proofs.lemmas.List.{drop-map}
+use Rattle.std.proofs.Math.Seq.{take-length}
 use Rattle.hg_model.specs.Orders.{IsPrefix}
+use Rattle.hg_life.specs.History.{Change}
 use Rattle.hg_life.specs.Spelling.{spelling}
 use Rattle.hg_life.specs.NodeView.{node_rows}
 use Rattle.hg_history.proofs.StateLaws.{prefix_more, rows_grow}
@@ -15,8 +17,10 @@ use Rattle.hg_mail.specs.Mailboxes.{IsFull, IsPortOf, IsPosted, MailboxView, Por
 use Rattle.hg_board.specs.Copies.{bytes_from}
 use Rattle.hg_board.specs.Table.{node_at}
 use Rattle.hg_board.specs.Seats.{SharedNode, SeatView}
+use Rattle.hg_board.proofs.PrefixLaws.{prefix_length, prefix_of_prefix}
 use Rattle.hg_crowd.specs.Crowd.{IsStill}
-use Rattle.hg_storm.specs.Sending.{HasSent, Sends, WasFull, bytes_seen, messages_from}
+use Rattle.hg_storm.specs.Sending.{HasSent, IsDue, Sends, WasFull, bytes_seen, messages_from}
+use Rattle.hg_storm.proofs.FateLaws.{take_later}
 
 -- lists
 
@@ -49,6 +53,11 @@ module _ {A : Type 0} where
     where
       same : (a : ℕ) → suc a + 1 ≡ suc (a + 1)
       same a = omega arith
+
+  -- a front of a list, in its first elements
+  pub front_stays : (xs ys : List A) (n : ℕ) → length xs ≤ n → IsPrefix xs ys → IsPrefix xs (take n ys)
+  front_stays xs ys n le first =
+      prefix_of_prefix xs (take n ys) ys first (drop n ys, sym (take-append-drop n ys)) (omega (arith, le, length-take n ys, prefix_length xs ys first))
 
   pub drop_some : (k : ℕ) (xs : List A) (x : A) (rest : List A) → drop k xs ≡ x ∷ rest → k < length xs
   drop_some k xs x rest is = omega (arith, length-drop k xs, ap length is)
@@ -155,6 +164,39 @@ module _ {V : Type 0} (p : SharedNode V) where
     where
       longer : (xs ys : List (List ℕ)) → IsPrefix xs ys → length xs ≤ length ys
       longer xs ys more = omega (arith, ap length more.1, length-append xs more.0)
+
+  more_rows : (h later : List Change) → IsPrefix h later → length (node_rows (node_at p.start h)) ≤ length (node_rows (node_at p.start later))
+  more_rows h later first =
+      let grown = rows_grow p.start.start.members p.start.start.coin h first.0 in
+      let all = prefix_length (node_rows (node_at p.start h)) (node_rows (node_at p.start (h ++ first.0))) grown in
+      omega (arith, all, ap (λ (l : List Change). length (node_rows (node_at p.start l))) first.1)
+
+  -- the rows that are due are those of a time of the call
+  pub due_at : (s t : SeatView V) (due : ℕ) → IsPrefix s.seen t.seen → due ≡ length (bytes_seen p t) → IsDue p s t due
+  due_at s t due first is = record {
+    at = length t.seen;
+    least = prefix_length s.seen t.seen first;
+    most = omega arith;
+    rows = is ∙ (length-map (node_rows (node_at p.start t.seen)) spelling ∙ ap (λ (h : List Change). length (node_rows (node_at p.start h))) (sym (take-length t.seen)));
+  }
+
+  pub due_on : (s t u : SeatView V) (due : ℕ) → IsPrefix t.seen u.seen → IsDue p s t due → IsDue p s u due
+  due_on s t u due first was = record {
+    at = was.at;
+    least = was.least;
+    most = omega (arith, was.most, prefix_length t.seen u.seen first);
+    rows = was.rows ∙ ap (λ (h : List Change). length (node_rows (node_at p.start h))) (take_later was.at t.seen u.seen was.most first);
+  }
+
+  pub due_least : (s t : SeatView V) (due : ℕ) → IsPrefix s.seen t.seen → IsDue p s t due → length (bytes_seen p s) ≤ due
+  due_least s t due first is =
+      let some = more_rows s.seen (take is.at t.seen) (front_stays s.seen t.seen is.at is.least first) in
+      omega (arith, is.rows, some, length-map (node_rows (node_at p.start s.seen)) spelling)
+
+  pub due_most : (s t : SeatView V) (due : ℕ) → IsDue p s t due → due ≤ length (bytes_seen p t)
+  due_most s t due is =
+      let all = more_rows (take is.at t.seen) t.seen (drop is.at t.seen, sym (take-append-drop is.at t.seen)) in
+      omega (arith, is.rows, all, length-map (node_rows (node_at p.start t.seen)) spelling)
 
   -- what was sent is the first rows still
   pub sent_later : (s t : SeatView V) (m : MailboxView) (from sent : ℕ) (q : PortView) → IsPrefix s.seen t.seen → HasSent m from (bytes_seen p s) sent q → HasSent m from (bytes_seen p t) sent q

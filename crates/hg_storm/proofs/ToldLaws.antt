@@ -1,12 +1,14 @@
 -- What became of each member: the rows that it made, what came of its messages, and what it sent
-use Rattle.std.proofs.Common.{◌≡◌, ◌≢◌, ℕ, zero, suc, ◌+◌, ◌<◌, ◌≤◌, Bool, true, false, cond, eqb, eq-eqb, List, [], ◌∷◌, ◌++◌, length, map, get_or, fold, Some, refl, sym, ap, ◌∙◌, subst, arith}
+use Rattle.std.proofs.Common.{◌≡◌, ◌≢◌, ◌⊎◌, ⊎_elim, ℕ, zero, suc, ◌+◌, ◌<◌, ◌≤◌, Bool, true, false, cond, eqb, eq-eqb, List, [], ◌∷◌, ◌++◌, length, map, take, drop, get_or, fold, Some, refl, sym, ap, ◌∙◌, subst, arith}
 use Rattle.std.specs.Prelude.{All, Vec, count_by}
+use Rattle.std.specs.List.{AllByRecursion}
 use mathlib.Core.Logic.{dite}
 use native.Mathlib.Decide.{ℕ_discrete}
 use Rattle.std.proofs.lemmas.Bool.{true≢false}
 use Rattle.std.proofs.lemmas.List.Sums.{sum_by-append, sum_by-cons}
-use Rattle.std.proofs.lemmas.List.{get_or-map, length-map}
+use Rattle.std.proofs.lemmas.List.{get_or-map, length-map, length-take, length-take-le, take-append-drop}
 use Rattle.hg_model.specs.declared.row.Row.{Row}
+use Rattle.hg_model.specs.Orders.{IsPrefix}
 use Rattle.hg_model.specs.Stakes.{Stakes}
 use Rattle.hg_life.specs.History.{AreSteps, Change, State, empty, replay, step, with_marks, with_row}
 use Rattle.hg_life.specs.History.Change.{Took, Made, Marked}
@@ -15,32 +17,36 @@ use Rattle.hg_life.specs.Signing.{Accepts, accepts_by}
 use Rattle.hg_life.specs.Spelling.{spelling}
 use Rattle.hg_history.proofs.RuleLaws.{taken_is}
 use Rattle.hg_mail.specs.declared.message.Message.{Message}
-use Rattle.hg_mail.specs.Messages.{messages_of}
+use Rattle.hg_mail.specs.Messages.{AreFrom, messages_of}
 use Rattle.hg_mail.specs.Mailboxes.{MailboxView, PortView}
 use Rattle.hg_board.specs.Positions.{AreBelow, times}
+use Rattle.hg_board.specs.Table.{node_at}
 use Rattle.hg_board.specs.Seats.{SharedNode, SeatView}
 use Rattle.hg_board.specs.Calls.{Absorbs, IsStarted, IsWhole}
 use Rattle.hg_board.proofs.PositionLaws.{below_more, times-append, times_apart, times_cons, times_none}
-use Rattle.hg_board.proofs.PrefixLaws.{prefix_length}
-use Rattle.hg_crowd.specs.Crowd.{IsEnded}
+use Rattle.hg_board.proofs.PrefixLaws.{prefix_length, prefix_of_prefix}
+use Rattle.hg_crowd.specs.Crowd.{IsEnded, IsMark}
 use Rattle.hg_crowd.specs.Workers.{AreWhole}
 use Rattle.hg_crowd.proofs.EndLaws.{ended}
 use Rattle.hg_crowd.proofs.ListLaws.{some_of}
+use Rattle.hg_crowd.proofs.MarkLaws.{mark_before, rows_stay}
 use Rattle.hg_crowd.proofs.WorkLaws.{worked_none}
 use Rattle.hg_storm.specs.declared.plan.Plan.{Plan}
 use Rattle.hg_storm.specs.declared.desk.Job.{Job}
 use Rattle.hg_storm.specs.declared.desk.Log.{Log}
 use Rattle.hg_storm.specs.Drawing.{HasDrawn}
-use Rattle.hg_storm.specs.Keeping.{Secrets, is_made, rows_made}
+use Rattle.hg_storm.specs.Keeping.{Secrets, is_made, rows_made, rows_made_in}
 use Rattle.hg_storm.specs.Sending.{bytes_seen}
 use Rattle.hg_storm.specs.Threads.{HaveRoom, no_dispatch, place_of, turns_of}
-use Rattle.hg_storm.specs.Turning.{IsCounted}
-use Rattle.hg_storm.specs.Joins.{AreAbsorbed, AreEmptied, AreTold, EmptyAll, IsSentTo, IsTold, TakeOut, dispatch_to, put_by, put_to, rows_by, rows_of_node, sum_below, tale_of, tale_told}
+use Rattle.hg_storm.specs.Turning.{HadRows, HasCounted, IsCounted, WasDue, own_rows, rows_by}
+use Rattle.hg_storm.specs.Joins.{AreAbsorbed, AreEmptied, AreTold, EmptyAll, IsSentTo, IsTold, TakeOut, dispatch_to, put_by, put_to, rows_of_node, sum_below, tale_of, tale_told}
+use Rattle.hg_storm.proofs.BackLaws.{first_of}
 use Rattle.hg_storm.proofs.CloseLaws.{all_are_emptied}
 use Rattle.hg_storm.proofs.EndLaws.{fates_last}
+use Rattle.hg_storm.proofs.FateLaws.{take_later}
 use Rattle.hg_storm.proofs.MadeLaws.{is_made_in, made_front}
 use Rattle.hg_storm.proofs.ThreadLaws.{AreJoined, IsDone, absorbed_at, done_at, news_count}
-use Rattle.hg_storm.proofs.TurnLaws.{idle_later}
+use Rattle.hg_storm.proofs.DueLaws.{due_later, idle_later, then_same}
 
 -- ---- the rows of a node's own member are those that its history made
 
@@ -83,12 +89,18 @@ module _ (accepts : Accepts) (n : Stakes) (c own : ℕ) where
       let more : made_in (Marked len share ∷ h) ≡ 0 + made_in h = made_cons (Marked len share) h in
       omega (arith, rest, more)
 
-own_made : (accepts : Secrets → Accepts) (v : NodeView Secrets) → IsNode accepts v → rows_by v.start.own (node_rows v) ≡ made_in v.history
-unfolding replay
-own_made accepts v is =
-    let all : rows_by v.start.own (node_rows v) ≡ rows_by v.start.own [] + made_in v.history = own_from (accepts v.start.keys) v.start.members v.start.coin v.start.own empty v.history is.history.steps in
-    let none : rows_by v.start.own [] ≡ 0 = refl in
-    omega (arith, all, none)
+  own_made : (h : List Change) → AreSteps accepts n c own empty h → rows_by own (replay n c h).rows ≡ made_in h
+  unfolding replay
+  own_made h steps =
+      let all : rows_by own (fold (step n c) empty h).rows ≡ rows_by own [] + made_in h = own_from empty h steps in
+      let none : rows_by own [] ≡ 0 = refl in
+      omega (arith, all, none)
+
+  -- the first of some changes may come
+  steps_first : (at : ℕ) (s : State) (h : List Change) → AreSteps accepts n c own s h → AreSteps accepts n c own s (take at h)
+  steps_first zero s h steps = tt
+  steps_first (suc at) s [] steps = tt
+  steps_first (suc at) s (e ∷ h) steps = (steps.0, steps_first at (step n c s e) h steps.1)
 
 -- ---- positions of a history that each stand in a list at most once
 
@@ -104,9 +116,12 @@ passing_on : (n : ℕ) (f : ℕ → Bool) → passing (suc n) f ≡ cond (f 0) 1
 passing_on zero f = omega arith
 passing_on (suc n) f = ap (λ (k : ℕ). k + cond (f (suc n)) 1 0) (passing_on n f) ∙ assoc (cond (f 0) 1 0) (passing n (λ q. f (suc q))) (cond (f (suc n)) 1 0)
 
-made_passing : (h : List Change) → passing (length h) (is_made_in h) ≡ made_in h
-made_passing [] = refl
-made_passing (e ∷ h) = passing_on (length h) (is_made_in (e ∷ h)) ∙ (ap (λ (k : ℕ). cond (is_made (Some e)) 1 0 + k) (made_passing h) ∙ sym (made_cons e h))
+made_passing : (n : ℕ) (h : List Change) → length h ≤ n → passing n (is_made_in h) ≡ made_in h
+made_passing zero [] all = refl
+made_passing zero (e ∷ h) all = absurd (omega (arith, all))
+made_passing (suc n) [] all = let rest : passing n (is_made_in []) ≡ made_in [] = made_passing n [] (omega arith) in omega (arith, rest)
+made_passing (suc n) (e ∷ h) all =
+    passing_on n (is_made_in (e ∷ h)) ∙ (ap (λ (k : ℕ). cond (is_made (Some e)) 1 0 + k) (made_passing n h (omega (arith, all))) ∙ sym (made_cons e h))
 
 -- of each of the first positions that passes, how often it stands in a list
 abbrev standing : ℕ → (ℕ → Bool) → List ℕ → ℕ
@@ -160,9 +175,23 @@ standing_passing (suc n) f qs once =
     one true k is = is refl
     one false k is = refl
 
+-- no position between two bounds stands in a list that has none of them
+times_between : (at when q : ℕ) (qs : List ℕ) → AllByRecursion (λ p. (p < at) ⊎ (when ≤ p)) qs → at ≤ q → q < when → times q qs ≡ 0
+times_between at when q [] alone past low = times_none q
+times_between at when q (p ∷ qs) alone past low =
+    let apart : p ≢ q = λ e. (let same : p ≡ q = e in ⊎_elim (λ (early : p < at). absurd (omega (arith, early, past, same))) (λ (late : when ≤ p). absurd (omega (arith, late, low, same))) alone.0) in
+    omega (arith, times_cons q p qs, times_apart q p apart, times_between at when q qs alone.1 past low)
+
 -- where each change that made a row stands once in a list of positions, these are as many
-made_all : (h : List Change) (qs : List ℕ) → AreBelow (length h) qs → ((q : ℕ) → q < length h → is_made_in h q ≡ true → times q qs ≡ 1) → count_by (is_made_in h) qs ≡ made_in h
-made_all h qs below once = count_standing (length h) (is_made_in h) qs below ∙ (standing_passing (length h) (is_made_in h) qs once ∙ made_passing h)
+made_all : (n : ℕ) (h : List Change) (qs : List ℕ) → length h ≤ n → AreBelow n qs → ((q : ℕ) → q < n → is_made_in h q ≡ true → times q qs ≡ 1) → count_by (is_made_in h) qs ≡ made_in h
+made_all n h qs all below once = count_standing n (is_made_in h) qs below ∙ (standing_passing n (is_made_in h) qs once ∙ made_passing n h all)
+
+-- what made a row among the first changes did so
+made_then : (at : ℕ) (h : List Change) (q : ℕ) → is_made_in (take at h) q ≡ true → is_made_in h q ≡ true
+made_then zero h q made = absurd (true≢false (sym made))
+made_then (suc at) [] q made = absurd (true≢false (sym made))
+made_then (suc at) (e ∷ h) zero made = made
+made_then (suc at) (e ∷ h) (suc q) made = made_then at h q made
 
 -- ---- one member
 
@@ -185,31 +214,75 @@ module _ (plan : Plan) (mails : List MailboxView) (k : ℕ) (p : SharedNode Secr
       (λ none. absurd (true≢false (sym made ∙ ap is_made (its_end.marks q (omega (arith, ap length from_none)) low none).2)))
       (λ some. omega (arith, some, at_most_once q))
 
-  own_rows : rows_by node.start.own (node_rows node) + j.desk.log.idle ≡ turns_of plan k
-  own_rows =
-      let lawful : IsNode accepts_by node = subst (IsNode accepts_by) (sym whole.seen) absorbs.node in
-      let within = done.stands.seat.within in
+  lawful : IsNode accepts_by node
+  lawful = subst (IsNode accepts_by) (sym whole.seen) absorbs.node
+
+  below : AreBelow (length node.history) j.desk.seat.mine
+  below = below_more (length j.desk.seat.seen) (length node.history) j.desk.seat.mine (prefix_length j.desk.seat.seen node.history its_end.later) done.stands.seat.within
+
+  rows_and_idle : rows_by node.start.own (node_rows node) + j.desk.log.idle ≡ turns_of plan k
+  rows_and_idle =
       let h : List Change = node.history in
-      let below : AreBelow (length h) j.desk.seat.mine = below_more (length j.desk.seat.seen) (length h) j.desk.seat.mine (prefix_length j.desk.seat.seen h its_end.later) within in
-      let all : rows_by node.start.own (node_rows node) ≡ made_in h = own_made accepts_by node lawful in
-      let those : count_by (is_made_in h) j.desk.seat.mine ≡ made_in h = made_all h j.desk.seat.mine below own_change in
-      let early : count_by (is_made_in h) j.desk.seat.mine ≡ rows_made j.desk.seat = made_front j.desk.seat.seen h j.desk.seat.mine its_end.later within in
+      let all : rows_by node.start.own (node_rows node) ≡ made_in h = own_made (accepts_by node.start.keys) node.start.members node.start.coin node.start.own h lawful.history.steps in
+      let those : count_by (is_made_in h) j.desk.seat.mine ≡ made_in h = made_all (length h) h j.desk.seat.mine (omega arith) below own_change in
+      let early : count_by (is_made_in h) j.desk.seat.mine ≡ rows_made j.desk.seat = made_front j.desk.seat.seen h j.desk.seat.mine its_end.later done.stands.seat.within in
       let counted : rows_made j.desk.seat + j.desk.log.idle ≡ turns_of plan k = done.stands.rows in
       omega (arith, all, those, early, counted)
 
+  -- the rows of its own among its first changes
+  own_early : (at : ℕ) → at ≤ length j.desk.seat.seen → own_rows node at ≡ rows_made_in j.desk.seat at
+  own_early at inside =
+      let h : List Change = node.history in
+      let n = node.start in
+      let all : own_rows node at ≡ made_in (take at h) =
+      own_made (accepts_by n.keys) n.members n.coin n.own (take at h) (steps_first (accepts_by n.keys) n.members n.coin n.own at empty h lawful.history.steps) in
+      let those : count_by (is_made_in (take at h)) j.desk.seat.mine ≡ made_in (take at h) =
+      made_all (length h) (take at h) j.desk.seat.mine (omega (arith, length-take at h)) below (λ q low made. own_change q low (made_then at h q made)) in
+      all ∙ (sym those ∙ ap (λ (l : List Change). count_by (is_made_in l) j.desk.seat.mine) (sym (take_later at j.desk.seat.seen h inside its_end.later)))
+
   pub is_told : IsTold plan k p node j.desk.log
   is_told = record {
-    start = sym its_end.start;
-    rows = own_rows;
-    idle = idle_later p j.desk.seat.seen node.history its_end.later (turns_of plan k) j.desk.log.idle done.stands.idle;
+    lawful = lawful;
+    turns = record {
+      start = sym its_end.start;
+      rows = rows_and_idle;
+      causes = idle_later (node_at p.start j.desk.seat.seen) (node_at p.start node.history) refl its_end.later 0 0 (turns_of plan k) j.desk.log.idle done.stands.idle;
+    };
     fates = fates_last Secrets accepts_by p j.desk.seat node j.desk.log.intake.taken.items j.desk.log.intake.refused.items from_none its_end done.stands.fates;
   }
 
   pub same_rows : bytes_seen p j.desk.seat ≡ rows_of_node node
   same_rows = sym (ap (map spelling) its_end.rows)
 
+  -- what was added while the seat had added nothing are marks, which bring no rows
+  had_rows : (due at : ℕ) → HasCounted p j.desk.seat due at → HadRows node due at
+  had_rows due at was =
+      let h : List Change = node.history in
+      let n = node.start in
+      let inside : was.when ≤ length h = omega (arith, was.within, prefix_length j.desk.seat.seen h its_end.later) in
+      let long = length-take-le was.when h inside in
+      let short = length-take-le at h (omega (arith, was.past, inside)) in
+      let whole_front : IsPrefix (take was.when h) h = (drop was.when h, sym (take-append-drop was.when h)) in
+      let front : IsPrefix (take at h) (take was.when h) =
+      prefix_of_prefix (take at h) (take was.when h) h (drop at h, sym (take-append-drop at h)) whole_front (omega (arith, was.past, long, short)) in
+      let marks : (q : ℕ) → length (take at h) ≤ q → q < length (take was.when h) → IsMark (take was.when h) q = λ q past low.
+      mark_before (take was.when h) h q whole_front low
+      (its_end.marks q (omega (arith, ap length from_none)) (omega (arith, low, long, inside))
+      (times_between at was.when q j.desk.seat.mine was.alone (omega (arith, past, short)) (omega (arith, low, long)))) in
+      let none = rows_stay n.members n.coin (take at h) (take was.when h) front marks in
+      was.rows ∙ (ap (λ (v : NodeView Secrets). length (node_rows v)) (then_same (node_at p.start j.desk.seat.seen) node its_end.start its_end.later was.when was.within) ∙ ap length none.0)
+
+  due_to : (to : ℕ) → HasDrawn plan k (place_of plan k) (turns_of plan k) to →
+      WasDue plan k (place_of plan k) (turns_of plan k) to node (own_rows node) (turns_of plan k) j.desk.log.idle (HadRows node (dispatch_to j.desk.log to).due)
+  due_to to =
+      let due : ℕ = (dispatch_to j.desk.log to).due in
+      subst (λ (me : ℕ). HasDrawn plan me (place_of plan k) (turns_of plan k) to →
+      WasDue plan me (place_of plan k) (turns_of plan k) to node (own_rows node) (turns_of plan k) j.desk.log.idle (HadRows node due)) done.me
+      (λ drew. due_later (node_at p.start j.desk.seat.seen) node its_end.start its_end.later plan j.desk.me (place_of plan k) (turns_of plan k) to (rows_made_in j.desk.seat) (own_rows node)
+      (turns_of plan k) j.desk.log.idle (HasCounted p j.desk.seat due) (HadRows node due) own_early (λ at low. had_rows due at) (done.stands.dues to no_dispatch drew))
+
   -- what it sent to another
-  pub is_sent_to : (to : ℕ) → to < length mails → IsSentTo plan k to (rows_of_node node) j.desk.log
+  pub is_sent_to : (to : ℕ) → to < length mails → IsSentTo plan k to node j.desk.log.idle (dispatch_to j.desk.log to)
   is_sent_to to inside =
       let all = done.stands.served in
       let m : MailboxView = some_of mails to inside in
@@ -219,6 +292,7 @@ module _ (plan : Plan) (mails : List MailboxView) (k : ℕ) (p : SharedNode Secr
         within = subst (λ (rows : List (List ℕ)). (dispatch_to j.desk.log to).sent ≤ length rows) same_rows served.sent.within;
         counted = subst (λ (x : ℕ × List (List ℕ)). IsCounted (HasDrawn plan x.0 (place_of plan k) (turns_of plan k) to) (length x.1) (turns_of plan k) (dispatch_to j.desk.log to))
             (λ i. (done.me i, same_rows i)) served.counted;
+        due = due_to to;
       }
 
 -- ---- all of them
@@ -268,7 +342,7 @@ module _ {Z : Type 0} (plan : Plan) (room : ℕ) (mails : List MailboxView) (nod
     rows_at : bytes_seen (get_or places k p) (get_or news k d).desk.seat ≡ rows_of_node (get_or ends k v)
     rows_at = same_rows plan mails k (get_or places k p) (get_or firsts k a_seat) (get_or lasts k a_seat) (get_or nodes k v) (get_or ends k v) (get_or news k d) its_start (none k v here) its_turns its_seats its_node
 
-    sent_at : (to : ℕ) → to < length mails → IsSentTo plan k to (rows_of_node (get_or ends k v)) (get_or news k d).desk.log
+    sent_at : (to : ℕ) → to < length mails → IsSentTo plan k to (get_or ends k v) (get_or news k d).desk.log.idle (dispatch_to (get_or news k d).desk.log to)
     sent_at = is_sent_to plan mails k (get_or places k p) (get_or firsts k a_seat) (get_or lasts k a_seat) (get_or nodes k v) (get_or ends k v) (get_or news k d) its_start (none k v here) its_turns its_seats its_node
 
   some_place : (k : ℕ) → k < length ends → SharedNode Secrets
@@ -296,6 +370,9 @@ module _ {Z : Type 0} (plan : Plan) (room : ℕ) (mails : List MailboxView) (nod
         sym (put_same j k (some_place j j_in) (some_job j j_in) v g j_in)
         ∙ (rest.mail j k l sender_in taker_in ∙ ap (λ (log : Log). messages_of j log.intake.taken.items ++ messages_of j (get_or left k l).items) (log_is k g (some_job j j_in) k_in))
 
+    known_told : (l : Vec Message Z) → AreFrom (length ends) ((get_or logs k g).intake.taken.items ++ (get_or left k l).items)
+    known_told l = subst (λ (x : ℕ × Log). AreFrom x.0 (x.1.intake.taken.items ++ (get_or left k l).items)) (λ i. (mails_count i, log_is k g (some_job j j_in) k_in i)) (rest.known k l taker_in)
+
     full_told : 0 < (dispatch_to (get_or logs j g) k).full → room ≤ put_to (tale_told ends logs v g) (length ends) k
     full_told often =
         let m : MailboxView = some_of mails k taker_in in
@@ -312,9 +389,10 @@ module _ {Z : Type 0} (plan : Plan) (room : ℕ) (mails : List MailboxView) (nod
   are_told = record {
     logs_count = ap length absorbed.logs ∙ (length-map news (λ (j : Job). j.desk.log) ∙ jobs_count);
     left_count = omega (arith, emptied.count, takes.count, mails_count);
-    sent = λ j k v g j_in k_in. subst (IsSentTo plan j k (rows_of_node (get_or ends j v))) (log_is j g (some_job j j_in) j_in)
+    sent = λ j k v g j_in k_in. subst (λ (log : Log). IsSentTo plan j k (get_or ends j v) log.idle (dispatch_to log k)) (log_is j g (some_job j j_in) j_in)
         (sent_at j (some_place j j_in) v (some_job j j_in) j_in k (omega (arith, k_in, mails_count)));
     mail = λ j k v g l j_in k_in. mail_told j k v g j_in k_in l;
+    known = λ k g l k_in. first_of _ ends (omega (arith, k_in)) (λ v. known_told k k v g k_in k_in l);
     full = λ j k v g j_in k_in often. full_told j k v g j_in k_in often;
     each = λ k v g inside. (
       get_or places k (some_place k inside),

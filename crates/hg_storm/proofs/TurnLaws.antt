@@ -1,33 +1,21 @@
 -- A member's turn: what it takes and makes, and what it sends
-use Rattle.std.proofs.Common.{slice_get, ◌≡◌, ◌≢◌, ⊎_elim, inl, inr, ℕ, zero, suc, ◌+◌, ◌<◌, ◌≤◌, Bool, true, false, cond, List, [], ◌∷◌, length, length-set, set, take, get_or, Option, Some, None, refl, sym, ap, ◌∙◌, subst, arith}
+use Rattle.std.proofs.Common.{◌≡◌, ◌≢◌, ⊎_elim, ℕ, suc, ◌+◌, ◌<◌, ◌≤◌, Bool, true, false, cond, List, length, length-set, set, get_or, refl, sym, ap, ◌∙◌, subst, arith}
 use mathlib.Core.Logic.{dite}
 use native.Mathlib.Decide.{ℕ_discrete}
-use Rattle.std.proofs.lemmas.Bool.{cases_Bool, true≢false}
-use Rattle.std.proofs.lemmas.List.{get_or-set_same, get_or-set_other, get_or_default, length-map, take-append-le}
-use Rattle.std.proofs.lemmas.Option.{slice_get_within}
+use Rattle.std.proofs.lemmas.List.{get_or-set_same, get_or-set_other, get_or_default}
 use Rattle.std.proofs.Math.Seq.{take-length}
 use Rattle.hg_model.specs.Orders.{IsPrefix}
-use Rattle.hg_model.specs.declared.row.Row.{Row}
-use Rattle.hg_life.specs.declared.answers.MakeAnswer.{MakeAnswer}
-use Rattle.hg_life.specs.declared.answers.MakeAnswer.TheVariants as answer
 use Rattle.hg_life.specs.History.{Change}
-use Rattle.hg_life.specs.History.Change.{Made}
-use Rattle.hg_life.specs.NodeView.{NodeView, node_rows}
-use Rattle.hg_life.specs.Verdict.{last_name, making}
-use Rattle.hg_life.specs.Calls.{make_answer}
-use Rattle.hg_life.specs.Spelling.{spelling}
+use Rattle.hg_life.specs.NodeView.{NodeView}
 use Rattle.hg_life.specs.Signing.{accepts_by}
-use Rattle.hg_node.specs.Next.{MakesNext, last_other, next_others, others_after}
-use Rattle.hg_gossip.specs.Holding.{Seen}
+use Rattle.hg_gossip.specs.Holding.{positions_from}
 use Rattle.hg_mail.specs.Mailboxes.{MailboxView, PortView}
 use Rattle.hg_board.specs.Positions.{AreBelow}
 use Rattle.hg_board.specs.Table.{node_at}
 use Rattle.hg_board.specs.Seats.{SharedNode, SeatView}
-use Rattle.hg_board.specs.Calls.{SeatMakesNext, Stays}
+use Rattle.hg_board.specs.Calls.{Stays}
 use Rattle.hg_board.proofs.PrefixLaws.{prefix_length}
 use Rattle.hg_history.proofs.StateLaws.{prefix_more}
-use Rattle.hg_history.proofs.CallLaws.{with_none}
-use Rattle.hg_history.proofs.ChangeLaws.{changes_left}
 use Rattle.hg_crowd.specs.Crowd.{IsStill}
 use Rattle.hg_storm.specs.declared.plan.Plan.{Plan}
 use Rattle.hg_storm.specs.declared.sending.Dispatch.{Dispatch}
@@ -35,32 +23,15 @@ use Rattle.hg_storm.specs.declared.desk.Log.{Log}
 use Rattle.hg_made.specs.Draws.{next_state, state_after}
 use Rattle.hg_storm.specs.Drawing.{Draws, HasDrawn, IsDrawing, first_state, peer_at, state_at}
 use Rattle.hg_storm.specs.Fates.{HasFates}
-use Rattle.hg_storm.specs.Keeping.{KeepsSeat, Secrets, rows_made}
+use Rattle.hg_storm.specs.Keeping.{AddsNoRow, KeepsSeat, Secrets, rows_made, rows_made_in}
 use Rattle.hg_storm.specs.Receiving.{IsInbox}
 use Rattle.hg_storm.specs.Sending.{Dispatches, HasSent, IsDue, WasFull, bytes_seen}
-use Rattle.hg_storm.specs.Turning.{AreIdle, HasMade, HasServed, HasServedAll, IsCounted, IsIdle, IsIdleTurn, Standing, is_row}
+use Rattle.hg_storm.specs.Turning.{AreIdle, HasCounted, HasEnded, HasMade, HasServed, HasServedAll, IsCounted, IsIdleTurn, Standing, WasDue, is_row}
 use Rattle.hg_storm.proofs.KeepLaws.{making_keeps, still_keeps}
-use Rattle.hg_storm.proofs.MadeLaws.{AddsFor, came_below, get_end, made_none, made_one, next_adds, next_none, next_one, reached_by}
-use Rattle.hg_storm.proofs.SendLaws.{rows_longer, sent_later}
-
--- turns that made nothing, in a longer history
-
-idle_turn_later : (p : SharedNode Secrets) (h later : List Change) (time : ℕ) → IsPrefix h later → IsIdleTurn p h time → IsIdleTurn p later time
-idle_turn_later p h later time first was =
-    let same : take was.at h ≡ take was.at later = sym (ap (take was.at) first.1 ∙ take-append-le was.at h first.0 was.within) in record {
-      at = was.at;
-      within = omega (arith, was.within, prefix_length h later first);
-      made = was.made;
-      idle = was.idle;
-      next = subst (λ (k : List Change). MakesNext accepts_by (node_at p.start k) time was.made (node_at p.start k)) same was.next;
-    }
-
-pub idle_later : (p : SharedNode Secrets) (h later : List Change) → IsPrefix h later → (t idle : ℕ) → AreIdle p h t idle → AreIdle p later t idle
-idle_later p h later first zero idle none = none
-idle_later p h later first (suc t) idle are = ⊎_elim
-    (λ (made : AreIdle p h t idle). inl (idle_later p h later first t idle made))
-    (λ (x : (less : ℕ) × (idle ≡ suc less) × AreIdle p h t less × IsIdleTurn p h (suc t)). inr (x.0, x.1, idle_later p h later first t x.0 x.2, idle_turn_later p h later (suc t) first x.3))
-    are
+use Rattle.hg_storm.proofs.MadeLaws.{came_below, from_past, made_whole, next_begins, next_early, next_mine, no_row_more, none_made, reached_by}
+use Rattle.hg_storm.proofs.SendLaws.{due_least, due_most, rows_longer, sent_later}
+use Rattle.hg_storm.proofs.DueLaws.{counted_on, due_later, due_next, due_now, due_still, ended_on, idle_later, idle_next}
+use Rattle.hg_storm.proofs.NextLaws.{ends_now, idle_now, rows_after, some_rows}
 
 -- what was sent, once the node has more rows
 
@@ -99,111 +70,10 @@ drawn_next plan me t old new is others next =
 
 -- ---- what a turn takes and makes
 
--- the first event is made
-
-first_made : (own time : ℕ) (sig : List ℕ) → making own [] [] time [] sig ≡ answer.Made 0
-first_made own time sig = refl
-
-made_of_none : (v : NodeView Secrets) (others : List (List ℕ)) (time : ℕ) (sig : List ℕ) → node_rows v ≡ [] → next_others v ≡ Some others → make_answer v others time [] sig ≡ answer.Made 0
-unfolding make_answer
-made_of_none v others time sig none next =
-    let own : ℕ = v.start.own in
-    let first : ◌≡◌ {A = Option (List (List ℕ))} (Some []) (Some others) =
-    sym (ap (λ (G : List Row). others_after (last_name own G) (last_other own G)) none) ∙ next in
-    let bare : others ≡ [] = sym (one_of [] others first) in
-    ap (λ (G : List Row). making own G others time [] sig) none ∙ (ap (λ (os : List (List ℕ)). making own [] os time [] sig) bare ∙ first_made own time sig)
-  where
-    one_of : (xs ys : List (List ℕ)) → ◌≡◌ {A = Option (List (List ℕ))} (Some xs) (Some ys) → xs ≡ ys
-    one_of xs ys e = cc
-
--- a node without rows makes one
-no_row_makes : (v w : NodeView Secrets) (time : ℕ) (made : Option MakeAnswer) → node_rows v ≡ [] → MakesNext accepts_by v time made w → is_row made ≡ true
-no_row_makes v w time None none next =
-    let own : ℕ = v.start.own in
-    absurd (something (sym (ap (λ (G : List Row). others_after (last_name own G) (last_other own G)) none) ∙ next.1))
-  where
-    something : ◌≡◌ {A = Option (List (List ℕ))} (Some []) None → ⊥
-    something e = cc
-no_row_makes v w time (Some (answer.Made place)) none next = refl
-no_row_makes v w time (Some (answer.Refused f)) none next =
-    let m = next.2.making in
-    absurd (made_not (m.answers ∙ made_of_none v next.0 time m.sig none next.1))
-  where
-    made_not : answer.Refused f ≡ answer.Made 0 → ⊥
-    made_not e = cc
-
-some_of_list : (G : List Row) → (G ≡ [] → ⊥) → 0 < length G
-some_of_list [] some = absurd (some refl)
-some_of_list (row ∷ G) some = omega arith
-
-idle_of : (a : Option MakeAnswer) → is_row a ≡ false → IsIdle a
-idle_of None e = tt
-idle_of (Some (answer.Made place)) e = absurd (true≢false e)
-idle_of (Some (answer.Refused fault)) e = tt
-
-none_of : (a : Option MakeAnswer) (more : List Change) → is_row a ≡ false → AddsFor a more → more ≡ []
-none_of None more e adds = adds
-none_of (Some (answer.Made place)) more e adds = absurd (true≢false e)
-none_of (Some (answer.Refused fault)) more e adds = adds
-
-one_of : (a : Option MakeAnswer) (more : List Change) → is_row a ≡ true → AddsFor a more → (row : Row) × (more ≡ Made row ∷ [])
-one_of None more e adds = absurd (true≢false (sym e))
-one_of (Some (answer.Made place)) more e adds = adds
-one_of (Some (answer.Refused fault)) more e adds = absurd (true≢false (sym e))
-
-module _ (p : SharedNode Secrets) (s t : SeatView Secrets) (time : ℕ) (a : Option MakeAnswer) (next : SeatMakesNext accepts_by p s time t a) where
-  adds : AddsFor a next.more
-  adds = next_adds accepts_by p s t time a next
-
-  -- where no row was made, the node is the one that made none
-  same_node : is_row a ≡ false → node_at p.start t.seen ≡ next.reached.node
-  same_node unmade = ap (λ (x : Seen Secrets). x.node) next.grown ∙ with_none next.reached.node next.more (none_of a next.more unmade adds)
-
-  makes_here : is_row a ≡ false → MakesNext accepts_by (node_at p.start t.seen) time a (node_at p.start t.seen)
-  makes_here unmade = subst (λ (v : NodeView Secrets). MakesNext accepts_by v time a (node_at p.start t.seen)) (sym (same_node unmade)) next.makes
-
-  idle_now : is_row a ≡ false → IsIdleTurn p t.seen time
-  idle_now unmade = record {
-    at = length t.seen;
-    within = omega arith;
-    made = a;
-    idle = idle_of a unmade;
-    next = subst (λ (h : List Change). MakesNext accepts_by (node_at p.start h) time a (node_at p.start h)) (sym (take-length t.seen)) (makes_here unmade);
-  }
-
-  some_rows : 0 < length (bytes_seen p t)
-  some_rows = elim (cases_Bool (is_row a)) [
-    | inl was_made ↦
-        let one = one_of a next.more was_made adds in
-        let there : slice_get t.seen (length (reached_by accepts_by p s t time a next)) ≡ Some (Made one.0) =
-        ap (λ (h : List Change). slice_get h (length (reached_by accepts_by p s t time a next))) (next_one accepts_by p s t time a next one.0 one.1).grown
-        ∙ get_end (reached_by accepts_by p s t time a next) (Made one.0) in
-        let held = changes_left p.start.start.members p.start.start.coin t.seen one.0 (inl (length (reached_by accepts_by p s t time a next), there)) in
-        omega (arith, slice_get_within (node_rows (node_at p.start t.seen)) held.0 one.0 held.1, length-map (node_rows (node_at p.start t.seen)) spelling)
-    | inr unmade ↦
-        let some : 0 < length (node_rows (node_at p.start t.seen)) =
-        some_of_list (node_rows (node_at p.start t.seen)) (λ none. true≢false (sym (no_row_makes (node_at p.start t.seen) (node_at p.start t.seen) time a none (makes_here unmade)) ∙ unmade)) in
-        omega (arith, some, length-map (node_rows (node_at p.start t.seen)) spelling)
-  ]
-
-  rows_after : AreBelow (length s.seen) s.mine → rows_made t ≡ rows_made s + cond (is_row a) 1 0
-  rows_after below = elim (cases_Bool (is_row a)) [
-    | inl was_made ↦
-        let one = one_of a next.more was_made adds in
-        made_one s t below (reached_by accepts_by p s t time a next) (Made one.0) (next_one accepts_by p s t time a next one.0 one.1)
-        ∙ ap (λ (b : Bool). rows_made s + cond b 1 0) (sym was_made)
-    | inr unmade ↦
-        made_none s t below (next_none accepts_by p s t time a next (none_of a next.more unmade adds))
-        ∙ (plus_none (rows_made s) ∙ ap (λ (b : Bool). rows_made s + cond b 1 0) (sym unmade))
-  ]
-    where
-      plus_none : (n : ℕ) → n ≡ n + cond false 1 0
-      plus_none n = omega arith
-
 -- the turn's row is made, or could not be
 module _ (plan : Plan) (place : ℕ) (mails : List MailboxView) (p : SharedNode Secrets) (drawn made me : ℕ) (log log_now : Log) (s t u : SeatView Secrets) (ports : List PortView) (inbox inbox_now : PortView)
     (old : Standing plan place mails p drawn made me log s ports inbox) (m : MailboxView) (m_is : m ≡ get_or mails me m)
-    (still : IsStill s t) (keeps : KeepsSeat accepts_by p s t) (none_made : rows_made t ≡ rows_made s)
+    (still : IsStill s t) (keeps : KeepsSeat accepts_by p s t) (no_row : AddsNoRow s t)
     (box : IsInbox m log_now.intake.taken.items inbox_now) (count : inbox_now.count ≡ inbox.count)
     (fates : HasFates accepts_by p t log_now.intake.taken.items log_now.intake.refused.items)
     (stays : Stays accepts_by p t u) (b : Bool) (has : HasMade p t (made + 1) u b)
@@ -214,28 +84,74 @@ module _ (plan : Plan) (place : ℕ) (mails : List MailboxView) (p : SharedNode 
   more : suc made ≡ made + 1
   more = omega arith
 
-  later_idle : AreIdle p u.seen made log.idle
-  later_idle = idle_later p s.seen u.seen first made log.idle old.idle
+  abbrev before : NodeView Secrets
+  before = node_at p.start s.seen
+
+  abbrev after : NodeView Secrets
+  after = node_at p.start u.seen
+
+  below : AreBelow (length t.seen) t.mine
+  below = came_below t.seen log_now.intake.taken.items t.mine fates.came
+
+  same_made : rows_made t ≡ rows_made s
+  same_made = no_row_more s t still.seen no_row
 
   rows_now : rows_made u + log_now.idle ≡ made + 1
   rows_now =
-      let after = rows_after p t u (made + 1) has.answer has.next (came_below t.seen log_now.intake.taken.items t.mine fates.came) in
+      let after = rows_after p t u (made + 1) has.answer has.next below in
       let either : ◌≡◌ {A = ℕ} (cond b 0 1) (cond (is_row has.answer) 0 1) = ap (λ (c : Bool). cond c 0 1) has.is in
-      omega (arith, after, none_made, old.rows, idle, either, one_each (is_row has.answer))
+      omega (arith, after, same_made, old.rows, idle, either, one_each (is_row has.answer))
     where
       one_each : (c : Bool) → ◌≡◌ {A = ℕ} (cond c 1 0 + cond c 0 1) 1
       one_each true = refl
       one_each false = refl
 
-  idle_by : (c : Bool) → c ≡ is_row has.answer → (n : ℕ) → n ≡ log.idle + cond c 0 1 → AreIdle p u.seen (suc made) n
-  idle_by true is n e = inl (subst (AreIdle p u.seen made) (sym (e ∙ plus_none log.idle)) later_idle)
-    where
-      plus_none : (k : ℕ) → k + cond true 0 1 ≡ k
-      plus_none k = omega arith
-  idle_by false is n e = inr (log.idle, e ∙ plus_one log.idle, later_idle, subst (IsIdleTurn p u.seen) (sym more) (idle_now p t u (made + 1) has.answer has.next (sym is)))
-    where
-      plus_one : (k : ℕ) → k + cond false 0 1 ≡ suc k
-      plus_one k = omega arith
+  -- where the turn made nothing, that is after all changes so far
+  turn : b ≡ false → (since : ℕ) → since ≤ length u.seen → IsIdleTurn after since (made + 1)
+  turn none since later = record { at = length u.seen; later = later; within = omega arith; none = idle_now p t u (made + 1) has.answer has.next (sym has.is ∙ none) }
+
+  idle_all : AreIdle p u.seen (made + 1) log_now.idle
+  idle_all =
+      let time : made + 1 ≡ 0 + suc made = omega arith in
+      subst (λ (k : ℕ). AreIdle p u.seen k log_now.idle) more
+      (idle_next after 0 0 made log.idle log_now.idle b idle (λ none. subst (IsIdleTurn after 0) time (turn none 0 (omega arith)))
+      (idle_later before after refl first 0 0 made log.idle old.idle))
+
+  ended_now : HasEnded p u (made + 1) log_now.idle
+  ended_now = record {
+    at = length u.seen;
+    over = record {
+      within = omega arith;
+      end = ends_now p t u (made + 1) has.answer has.next;
+      early = log_now.idle;
+      rows = ap (λ (n : ℕ). n + log_now.idle) (made_whole u (length u.seen) (omega arith)) ∙ rows_now;
+      before = subst (λ (h : List Change). AreIdle p h (made + 1) log_now.idle) (sym (take-length u.seen)) idle_all;
+      rest = 0;
+      all = omega arith;
+      late = 0;
+      both = omega arith;
+      after = refl;
+    };
+    mine = stays.within;
+  }
+
+  same_early : (n : ℕ) → n ≤ length s.seen → rows_made_in u n ≡ rows_made_in s n
+  same_early n inside = next_early accepts_by p t u (made + 1) has.answer has.next below n (omega (arith, inside, prefix_length s.seen t.seen still.seen)) ∙ no_row.rows n
+
+  counted_more : (due at : ℕ) → HasCounted p s due at → HasCounted p u due at
+  counted_more due at was =
+      let reached : List Change = reached_by accepts_by p t u (made + 1) has.answer has.next in
+      let past = from_past (length t.seen) (length reached) has.next.more (prefix_length t.seen reached (next_begins accepts_by p t u (made + 1) has.answer has.next)) in
+      counted_on p t u stays.seen due at (positions_from (length reached) has.next.more) (next_mine accepts_by p t u (made + 1) has.answer has.next) past
+      (counted_on p s t still.seen due at no_row.more no_row.mine no_row.later was)
+
+  due_all : (k : ℕ) (d : Dispatch) → HasDrawn plan me place drawn k →
+      WasDue plan me place drawn k after (rows_made_in u) (made + 1) log_now.idle (HasCounted p u (get_or log.dispatches.items k d).due)
+  due_all k d drew =
+      let due : ℕ = (get_or log.dispatches.items k d).due in
+      due_next after made log.idle log_now.idle b idle turn plan me place drawn k (rows_made_in u) (HasCounted p u due)
+      (due_later before after refl first plan me place drawn k (rows_made_in s) (rows_made_in u) made log.idle (HasCounted p s due) (HasCounted p u due) same_early
+      (λ n low. counted_more due n) (old.dues k d drew))
 
   pub makes_more : Standing plan place mails p drawn (made + 1) me log_now u ports inbox_now
   makes_more = record {
@@ -247,7 +163,10 @@ module _ (plan : Plan) (place : ℕ) (mails : List MailboxView) (p : SharedNode 
     served = subst (λ (ds : List Dispatch). HasServedAll plan me place drawn (bytes_seen p u) mails ds ports) (sym dispatches) (all_later plan me place p s u first drawn mails log.dispatches.items ports old.served);
     some = λ _. some_rows p t u (made + 1) has.answer has.next;
     rows = rows_now;
-    idle = subst (λ (k : ℕ). AreIdle p u.seen k log_now.idle) more (idle_by b has.is log_now.idle idle);
+    idle = idle_all;
+    ended = λ _. ended_now;
+    dues = λ k d drew.
+        subst (λ (ds : List Dispatch). WasDue plan me place drawn k after (rows_made_in u) (made + 1) log_now.idle (HasCounted p u (get_or ds k d).due)) (sym dispatches) (due_all k d drew);
   }
 
 -- ---- what a turn sends
@@ -278,14 +197,14 @@ served_other plan me place turns rows j m d q before was =
 
 -- the one that it drew
 served_now : (plan : Plan) (me place turns k : ℕ) (old new : List (List ℕ)) (m : MailboxView) (c d : Dispatch) (q r : PortView) → Draws plan me place turns k → 0 < length old →
-    HasServed plan me place turns old k m c q → HasSent m me new d.sent r → IsDue old new d.due → Dispatches m r c d → q.count.seen ≤ r.count.seen → HasServed plan me place (turns + 1) new k m d r
-served_now plan me place turns k old new m c d q r draws some was sent due rest seen =
+    HasServed plan me place turns old k m c q → HasSent m me new d.sent r → length old ≤ d.due → d.due ≤ length new → Dispatches m r c d → q.count.seen ≤ r.count.seen → HasServed plan me place (turns + 1) new k m d r
+served_now plan me place turns k old new m c d q r draws some was sent least most rest seen =
     let few : c.full ≤ turns = was.counted.few in record {
       sent = sent;
       counted = record {
         drawn = λ _. record { turn = turns; early = omega arith; draws = draws };
-        due = λ _. omega (arith, due.least, some);
-        late = due.most;
+        due = λ _. omega (arith, least, some);
+        late = most;
         sent = λ none. ⊎_elim (λ (all : (d.full ≡ c.full) × (d.sent ≡ d.due)). all.1) (λ (full : (d.full ≡ c.full + 1) × WasFull m r). absurd (omega (arith, full.0, none))) rest;
         few = ⊎_elim (λ (all : (d.full ≡ c.full) × (d.sent ≡ d.due)). omega (arith, all.0, few)) (λ (full : (d.full ≡ c.full + 1) × WasFull m r). omega (arith, full.0, few)) rest;
       };
@@ -313,13 +232,15 @@ serves_none plan place mails p drawn made me log s ports inbox none old =
       some = old.some;
       rows = old.rows;
       idle = old.idle;
+      ended = old.ended;
+      dues = λ k d drew. absurd (omega (arith, drew.draws.others, none));
     }
 
-module _ (plan : Plan) (place : ℕ) (mails : List MailboxView) (p : SharedNode Secrets) (drawn made me : ℕ) (log log_now : Log) (s t : SeatView Secrets) (ports : List PortView) (inbox : PortView)
-    (old : Standing plan place mails p drawn made me log s ports inbox) (k : ℕ) (draws : Draws plan me place drawn k) (begun : 0 < made) (inside : k < length mails)
+module _ (plan : Plan) (place : ℕ) (mails : List MailboxView) (p : SharedNode Secrets) (drawn me : ℕ) (log log_now : Log) (s t : SeatView Secrets) (ports : List PortView) (inbox : PortView)
+    (old : Standing plan place mails p drawn (drawn + 1) me log s ports inbox) (k : ℕ) (draws : Draws plan me place drawn k) (inside : k < length mails)
     (m : MailboxView) (c d : Dispatch) (q r : PortView) (m_is : m ≡ get_or mails k m) (c_is : c ≡ get_or log.dispatches.items k c) (q_is : q ≡ get_or ports k q)
     (still : IsStill s t) (keeps : KeepsSeat accepts_by p s t) (mine : t.mine ≡ s.mine)
-    (sent : HasSent m me (bytes_seen p t) d.sent r) (due : IsDue (bytes_seen p s) (bytes_seen p t) d.due) (rest : Dispatches m r c d) (seen : q.count.seen ≤ r.count.seen)
+    (sent : HasSent m me (bytes_seen p t) d.sent r) (due : IsDue p s t d.due) (rest : Dispatches m r c d) (seen : q.count.seen ≤ r.count.seen)
     (dispatches : log_now.dispatches.items ≡ set log.dispatches.items k d) (intake : log_now.intake ≡ log.intake) (idle : log_now.idle ≡ log.idle) where
   abbrev ds : List Dispatch
   ds = set log.dispatches.items k d
@@ -328,7 +249,7 @@ module _ (plan : Plan) (place : ℕ) (mails : List MailboxView) (p : SharedNode 
   was = served_read plan me place drawn (bytes_seen p s) mails log.dispatches.items ports k m c q old.served inside m_is c_is q_is
 
   now : HasServed plan me place (drawn + 1) (bytes_seen p t) k m d r
-  now = served_now plan me place drawn k (bytes_seen p s) (bytes_seen p t) m c d q r draws (old.some begun) was sent due rest seen
+  now = served_now plan me place drawn k (bytes_seen p s) (bytes_seen p t) m c d q r draws (old.some (omega arith)) was sent (due_least p s t d.due still.seen due) (due_most p s t d.due due) rest seen
 
   served_at : (j : ℕ) (m' : MailboxView) (d' : Dispatch) (q' : PortView) → j < length mails →
       HasServed plan me place (drawn + 1) (bytes_seen p t) j (get_or mails j m') (get_or ds j d') (get_or (set ports k r) j q')
@@ -345,7 +266,36 @@ module _ (plan : Plan) (place : ℕ) (mails : List MailboxView) (p : SharedNode 
       (served_other plan me place drawn (bytes_seen p t) j (get_or mails j m') (get_or log.dispatches.items j d') (get_or ports j q') (drawn_before plan me place drawn j k draws ne)
       (served_later plan me place p s t still.seen drawn j (get_or mails j m') (get_or log.dispatches.items j d') (get_or ports j q') (old.served.each j m' d' q' low))))
 
-  pub serves_more : Standing plan place mails p (drawn + 1) made me log_now t (set ports k r) inbox
+  low_before : AreBelow (length s.seen) s.mine
+  low_before = came_below s.seen log.intake.taken.items s.mine old.fates.came
+
+  adds_none : AddsNoRow s t
+  adds_none = none_made s t low_before (record { begins = still.seen; mine = mine })
+
+  abbrev sent_after : NodeView Secrets
+  sent_after = node_at p.start t.seen
+
+  abbrev WasDueTo : ℕ → ℕ → Type 0
+  WasDueTo j n = WasDue plan me place (drawn + 1) j sent_after (rows_made_in t) (drawn + 1) log.idle (HasCounted p t n)
+
+  was_ended : HasEnded p s (drawn + 1) log.idle
+  was_ended = old.ended (omega arith)
+
+  due_to : (j : ℕ) (d' : Dispatch) → HasDrawn plan me place (drawn + 1) j → WasDueTo j (get_or ds j d').due
+  due_to j d' drew = dite (ℕ_discrete j k)
+      (λ e.
+      let count_is : d ≡ get_or ds j d' = sym (ap (λ (n : ℕ). get_or ds n d') e ∙ get_or-set_same log.dispatches.items k d d' (omega (arith, inside, old.served.dispatches))) in
+      subst (λ (x : ℕ × Dispatch). WasDueTo x.0 x.1.due) (λ i. (sym e i, count_is i)) (due_now p s t still.seen mine low_before (drawn + 1) log.idle plan me place drawn k d.due refl draws was_ended due))
+      (λ ne.
+      let n : ℕ = (get_or log.dispatches.items j d').due in
+      let count_is : get_or log.dispatches.items j d' ≡ get_or ds j d' = sym (get_or-set_other log.dispatches.items k j d d' ne) in
+      subst (λ (x : Dispatch). WasDueTo j x.due) count_is
+      (due_still plan me place drawn j sent_after (rows_made_in t) (drawn + 1) log.idle (HasCounted p t n) (λ other. ne (other.peer ∙ sym draws.peer))
+      (due_later (node_at p.start s.seen) sent_after refl still.seen plan me place drawn j (rows_made_in s) (rows_made_in t) (drawn + 1) log.idle (HasCounted p s n) (HasCounted p t n)
+      (λ at low. adds_none.rows at) (λ at low. counted_on p s t still.seen n at adds_none.more adds_none.mine adds_none.later)
+      (old.dues j d' (drawn_before plan me place drawn j k draws ne drew)))))
+
+  pub serves_more : Standing plan place mails p (drawn + 1) (drawn + 1) me log_now t (set ports k r) inbox
   serves_more = record {
     me = old.me;
     seat = keeps old.seat;
@@ -358,6 +308,8 @@ module _ (plan : Plan) (place : ℕ) (mails : List MailboxView) (p : SharedNode 
       each = rw dispatches served_at;
     };
     some = λ some. omega (arith, old.some some, rows_longer p s t still.seen);
-    rows = rw idle (ap (λ (n : ℕ). n + log.idle) (made_none s t (came_below s.seen log.intake.taken.items s.mine old.fates.came) (record { begins = still.seen; mine = mine })) ∙ old.rows);
-    idle = rw idle (idle_later p s.seen t.seen still.seen made log.idle old.idle);
+    rows = rw idle (ap (λ (n : ℕ). n + log.idle) (no_row_more s t still.seen adds_none) ∙ old.rows);
+    idle = rw idle (idle_later (node_at p.start s.seen) sent_after refl still.seen 0 0 (drawn + 1) log.idle old.idle);
+    ended = rw idle (λ _. ended_on p s t still.seen mine low_before (drawn + 1) log.idle was_ended);
+    dues = rw (dispatches, idle) due_to;
   }

@@ -104,6 +104,9 @@ module _ (nodes ends : List (NodeView Secrets)) (session : HasSession nodes ends
     pub ends_many : length ends ≡ length members.entries
     ends_many = ends_count ∙ (ap length are ∙ begun_count members)
 
+    pub ends_members : (circle : List ℕ) → circle ≡ circle_of members → All (λ m. m < length ends) circle
+    ends_members circle is = subst (λ (n : ℕ). All (λ m. m < n) circle) (sym ends_many) (subst (All (λ m. m < length members.entries)) (sym is) (below members))
+
     -- they are the members' still
     pub ends_start : (m : ℕ) → m < length ends → (nth_node ends m).start ≡ (new_node members m).start
     ends_start m low =
@@ -122,15 +125,13 @@ module _ (nodes ends : List (NodeView Secrets)) (session : HasSession nodes ends
         ∙ (ap (λ (c : ℕ). world_of (stakes_of members) c w.sites) (coin ∙ ap (λ (s : Start Secrets). s.coin) first)
         ∙ ap (world_of (stakes_of members) members.coin) sites)
 
--- how many changes each has, one more
-pub lengths_more : (nodes : List (NodeView Secrets)) (i : ℕ) (v : NodeView Secrets) (old new : List ℕ) (n : ℕ) → i < length nodes → v ≡ get_or nodes i v →
-    old ≡ map (λ (v : NodeView Secrets). length v.history) (take i nodes) → n ≡ length v.history → new ≡ old ++ n ∷ [] → new ≡ map (λ (v : NodeView Secrets). length v.history) (take (i + 1) nodes)
-lengths_more nodes i v old new n low read before is pushed =
-    let count : NodeView Secrets → ℕ = λ (u : NodeView Secrets). length u.history in
-    pushed ∙ (ap₂ (λ (l : List ℕ) (k : ℕ). l ++ k ∷ []) before (is ∙ ap count read) ∙ sym (map_more count nodes i v low))
+-- the values of the first elements of a list, of one more, and of all
+module _ {A B : Type 0} (f : A → B) (xs : List A) (i : ℕ) where
+  pub mapped_more : (x : A) (y : B) (old new : List B) → i < length xs → x ≡ get_or xs i x → old ≡ map f (take i xs) → y ≡ f x → new ≡ old ++ y ∷ [] → new ≡ map f (take (i + 1) xs)
+  mapped_more x y old new low read before is pushed = pushed ∙ (ap₂ (λ (l : List B) (z : B). l ++ z ∷ []) before (is ∙ ap f read) ∙ sym (map_more f xs i x low))
 
-pub lengths_all : (nodes : List (NodeView Secrets)) (i : ℕ) (all : List ℕ) → length nodes ≤ i → all ≡ map (λ (v : NodeView Secrets). length v.history) (take i nodes) → all ≡ map (λ (v : NodeView Secrets). length v.history) nodes
-lengths_all nodes i all past is = is ∙ ap (map (λ (v : NodeView Secrets). length v.history)) (take_all i nodes past)
+  pub mapped_all : (all : List B) → length xs ≤ i → all ≡ map f (take i xs) → all ≡ map f xs
+  mapped_all all past is = is ∙ ap (map f) (take_all i xs past)
 
 -- ---- pulls and settlings, one after the other
 

@@ -44,6 +44,12 @@ pub record Draws (plan : Plan) (me place t k : ℕ) : Type 0 where
   pub others : 1 < length plan.circle.items
   pub peer : k ≡ peer_at plan me place t
 
+-- of its first turns this is the last one that draws this member
+pub record IsLastDraw (plan : Plan) (me place turns k turn : ℕ) : Type 0 where
+  pub early : turn < turns
+  pub draws : Draws plan me place turn k
+  pub last : (later : ℕ) → turn < later → later < turns → Draws plan me place later k → ⊥
+
 -- one of its first turns draws this member
 pub record HasDrawn (plan : Plan) (me place turns k : ℕ) : Type 0 where
   pub turn : ℕ

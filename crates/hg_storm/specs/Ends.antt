@@ -8,16 +8,16 @@ use Rattle.hg_life.specs.Signing.{Accepts}
 use Rattle.hg_mail.specs.declared.message.Message.{Message}
 use Rattle.hg_board.specs.Seats.{SharedNode, SeatView}
 use Rattle.hg_crowd.specs.Crowd.{IsEnded}
-use Rattle.hg_storm.specs.declared.taking.Refusal.{Refusal}
+use Rattle.hg_storm.specs.declared.taking.RefusedMessage.{RefusedMessage}
 use Rattle.hg_storm.specs.Fates.{AreHeld, HasFates, IsOfMessage, Refuses}
 
 -- each message is held or refused at its moment, and each row that was taken is that of a message
-pub record EndsWithFates {V : Type 0} (accepts : V → Accepts) (p : SharedNode V) (node : NodeView V) (taken : List Message) (refused : List Refusal) : Type 0 where
+pub record EndsWithFates {V : Type 0} (accepts : V → Accepts) (p : SharedNode V) (node : NodeView V) (taken : List Message) (refused : List RefusedMessage) : Type 0 where
   pub held : AreHeld p node.history taken refused (length taken)
   pub refusals : AllByRecursion (Refuses accepts p node.history taken refused) refused
   pub took : (q : ℕ) (row : Row) → slice_get node.history q ≡ Some (Took row) → IsOfMessage taken row
 
 -- it is so where the node began without changes, and what others than the seat did to it are marks
 abbrev pub FatesLast : Type 0 → Type 0
-FatesLast V = (accepts : V → Accepts) (p : SharedNode V) (s : SeatView V) (node : NodeView V) (taken : List Message) (refused : List Refusal) →
+FatesLast V = (accepts : V → Accepts) (p : SharedNode V) (s : SeatView V) (node : NodeView V) (taken : List Message) (refused : List RefusedMessage) →
     p.start.history ≡ [] → IsEnded p s node → HasFates accepts p s taken refused → EndsWithFates accepts p node taken refused

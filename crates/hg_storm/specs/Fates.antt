@@ -14,7 +14,7 @@ use Rattle.hg_life.specs.Signing.{Accepts}
 use Rattle.hg_mail.specs.declared.message.Message.{Message}
 use Rattle.hg_board.specs.Table.{node_at}
 use Rattle.hg_board.specs.Seats.{SharedNode, SeatView}
-use Rattle.hg_storm.specs.declared.taking.Refusal.{Refusal}
+use Rattle.hg_storm.specs.declared.taking.RefusedMessage.{RefusedMessage}
 
 -- the bytes spell an event, and the node has a row of its name
 pub record HoldsEvent {K : Type 0} (v : NodeView K) (bytes : List ℕ) : Type 0 where
@@ -30,7 +30,7 @@ abbrev pub bytes_at : List Message → ℕ → List ℕ
 bytes_at taken j = (get_or taken j no_message).bytes
 
 -- the message of this place is among those that were refused
-abbrev pub IsRefused : ℕ → List Refusal → Type 0
+abbrev pub IsRefused : ℕ → List RefusedMessage → Type 0
 IsRefused j [] = ⊥
 IsRefused j (r ∷ rs) = (r.index ≡ j) ⊎ IsRefused j rs
 
@@ -55,19 +55,19 @@ abbrev pub CameBy : List Change → List Message → ℕ → Type 0
 CameBy history taken q = IsMade history q ⊎ IsTaken history taken q
 
 -- the refusals, with one more where this is one
-abbrev pub after_put : ℕ → ℕ → List Refusal → PutAnswer → List Refusal
+abbrev pub after_put : ℕ → ℕ → List RefusedMessage → PutAnswer → List RefusedMessage
 after_put index at refused (Accepted p) = refused
 after_put index at refused (Known p) = refused
 after_put index at refused (Refused why) = refused ++ record { index = index; why = why; at = at } ∷ []
 
 -- of the first messages each was refused, or the node of this history holds its event
-abbrev pub AreHeld : {V : Type 0} → SharedNode V → List Change → List Message → List Refusal → ℕ → Type 0
+abbrev pub AreHeld : {V : Type 0} → SharedNode V → List Change → List Message → List RefusedMessage → ℕ → Type 0
 AreHeld p history taken refused end = (j : ℕ) → j < end → IsRefused j refused ⊎ HoldsEvent (node_at p.start history) (bytes_at taken j)
 
 module _ {V : Type 0} (accepts : V → Accepts) (p : SharedNode V) where
   -- the node refused the message so, at the first changes of its history; there it had the events of all messages that were
   -- taken before, but for those that it refused
-  pub record Refuses (history : List Change) (taken : List Message) (refused : List Refusal) (r : Refusal) : Type 0 where
+  pub record Refuses (history : List Change) (taken : List Message) (refused : List RefusedMessage) (r : RefusedMessage) : Type 0 where
     pub index : r.index < length taken
     pub within : r.at ≤ length history
     pub verdict : put_answer accepts (node_at p.start (take r.at history)) (bytes_at taken r.index) ≡ Refused r.why
@@ -75,7 +75,7 @@ module _ {V : Type 0} (accepts : V → Accepts) (p : SharedNode V) where
 
   -- of a seat through which nothing but these messages was put: each is held or refused, and each of the seat's own changes
   -- made a row or took that of a message
-  pub record HasFates (s : SeatView V) (taken : List Message) (refused : List Refusal) : Type 0 where
+  pub record HasFates (s : SeatView V) (taken : List Message) (refused : List RefusedMessage) : Type 0 where
     pub refusals : AllByRecursion (Refuses s.seen taken refused) refused
     pub held : AreHeld p s.seen taken refused (length taken)
     pub came : AllByRecursion (CameBy s.seen taken) s.mine

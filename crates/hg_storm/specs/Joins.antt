@@ -1,14 +1,13 @@
 -- What the mailboxes' first ports know once all ports are back: what each member sent each, took and left
-use Rattle.std.specs.Prelude.{ℕ, zero, suc, ◌≡◌, ◌≢◌, ◌+◌, ◌<◌, ◌≤◌, ◌==◌, ◌⊎◌, Bool, true, nat_le, cond, List, [], ◌∷◌, ◌++◌, Vec, length, take, get_or, map, count_by}
-use Rattle.hg_model.specs.declared.row.Row.{Row}
+use Rattle.std.specs.Prelude.{ℕ, zero, suc, ◌≡◌, ◌≢◌, ◌+◌, ◌<◌, ◌≤◌, ◌⊎◌, Bool, true, nat_le, cond, List, [], ◌∷◌, ◌++◌, Vec, length, take, get_or, map}
 use Rattle.hg_life.specs.Signing.{accepts_by}
 use Rattle.hg_life.specs.Spelling.{spelling}
-use Rattle.hg_life.specs.NodeView.{NodeView, node_rows}
+use Rattle.hg_life.specs.NodeView.{IsNode, NodeView, node_rows}
 use Rattle.hg_storm.specs.Keeping.{Secrets}
 use Rattle.hg_mail.specs.declared.message.Message.{Message}
 use Rattle.hg_mail.specs.declared.view.Sender.{Sender}
 use Rattle.hg_mail.specs.Count.{all_parts}
-use Rattle.hg_mail.specs.Messages.{IsEmptied, after_taking, messages_of, sender}
+use Rattle.hg_mail.specs.Messages.{AreFrom, IsEmptied, after_taking, messages_of, sender}
 use Rattle.hg_mail.specs.Mailboxes.{IsPortOf, MailboxView, PortView, joined}
 use Rattle.hg_board.specs.Seats.{IsOf, SharedNode, SeatView}
 use Rattle.hg_crowd.specs.Workers.{AllAbsorb}
@@ -20,7 +19,7 @@ use Rattle.hg_storm.specs.declared.desk.Job.{Job}
 use Rattle.hg_storm.specs.Sending.{bytes_seen, messages_from}
 use Rattle.hg_storm.specs.Drawing.{HasDrawn}
 use Rattle.hg_storm.specs.Ends.{EndsWithFates}
-use Rattle.hg_storm.specs.Turning.{AreIdle, IsCounted, Stands}
+use Rattle.hg_storm.specs.Turning.{AreIdle, HadRows, IsCounted, Stands, WasDue, own_rows, rows_by}
 use Rattle.hg_storm.specs.Threads.{Pairs, no_dispatch, place_of, turns_of}
 
 -- what members did, by their numbers: what each put into each one's mailbox, and how often that was full; and what each took
@@ -65,6 +64,8 @@ due_back later = cond later 1 0
 -- of n members the ports of the first ones are back in the first port of the mailbox of member k
 pub record IsBack (tale : Tale) (n back k : ℕ) (m : MailboxView) (q : PortView) : Type 0 where
   pub of : IsPortOf m q
+  pub gives : q.view.gives ≡ true
+  pub next : q.view.next ≡ n
   pub takes : k < back → q.view.takes ≡ true
   pub taken : k < back → q.view.taken ≡ tale.taken k
   pub senders : (j : ℕ) → j < back → HasSender (sender j (tale.put j k)) q.view.senders
@@ -105,9 +106,11 @@ pub record HaveTurned (mails : List MailboxView) (places : List (SharedNode Secr
   pub places_count : length places ≡ length mails
   pub each : (k : ℕ) (p : SharedNode Secrets) (d : Job) → k < length jobs → HasTurned plan mails (get_or places k p) k (get_or jobs k d)
 
--- by this port all was taken out: what was put through it is what was taken before, and then this
+-- by this port all was taken out: what was put through it is what was taken before, and then this. Each message is of a sender
+-- whose port it gave out
 pub record Empties (q : PortView) (left : List Message) : Type 0 where
   pub all : IsEmptied (after_taking q.view left)
+  pub known : q.view.gives ≡ true → AreFrom q.view.next (q.view.taken ++ left)
   pub whole : q.count.parts ≡ all_parts → q.count.seen ≤ q.count.mine
 
 -- each of these ports takes out
@@ -117,34 +120,39 @@ TakeOut mails masters = Pairs (λ k m q. IsPortOf m q × (q.view.takes ≡ true)
 abbrev pub EmptyAll : {Z : Type 0} → List PortView → List (Vec Message Z) → Type 0
 EmptyAll {Z} masters left = Pairs (λ (k : ℕ) (q : PortView) (l : Vec Message Z). Empties q l.items) masters left
 
--- of each member what it put into each mailbox is what was taken of it and what is left; where one was full, as many messages
--- were put in as it has room for
+-- of each member what it put into each mailbox is what was taken of it and what is left, and nobody else put anything in; where
+-- one was full, as many messages were put in as it has room for
 pub record AreEmptied {Z : Type 0} (tale : Tale) (n : ℕ) (mails : List MailboxView) (left : List (Vec Message Z)) : Type 0 where
   pub count : length left ≡ length mails
   pub mail : (j k : ℕ) (l : Vec Message Z) → j < n → k < length mails → tale.put j k ≡ messages_of j (tale.taken k) ++ messages_of j (get_or left k l).items
+  pub known : (k : ℕ) (l : Vec Message Z) → k < length mails → AreFrom n (tale.taken k ++ (get_or left k l).items)
   pub full : (j k : ℕ) (m : MailboxView) → j < n → k < length mails → 0 < tale.full j k → (get_or mails k m).room ≤ put_to tale n k
 
 -- ---- what all members did, by their numbers, and their nodes then
 
--- how many of the rows a member made
-abbrev pub rows_by : ℕ → List Row → ℕ
-rows_by m rows = count_by (λ (row : Row). row.creator == m) rows
-
--- of one member, whose node is this: its own rows and its turns that made none are together as many as all its turns, each
--- of the latter has its cause, and what it took is held or was refused
-pub record IsTold (plan : Plan) (k : ℕ) (p : SharedNode Secrets) (node : NodeView Secrets) (log : Log) : Type 0 where
+-- of one member, whose node is this: its own rows and its turns that made none are together as many as all its turns, and each
+-- of the latter has its cause
+pub record CountsTurns (plan : Plan) (k : ℕ) (p : SharedNode Secrets) (node : NodeView Secrets) (idle : ℕ) : Type 0 where
   pub start : p.start.start ≡ node.start
-  pub rows : rows_by node.start.own (node_rows node) + log.idle ≡ turns_of plan k
-  pub idle : AreIdle p node.history (turns_of plan k) log.idle
-  pub fates : EndsWithFates accepts_by p node log.intake.taken.items log.intake.refused.items
+  pub rows : rows_by node.start.own (node_rows node) + idle ≡ turns_of plan k
+  pub causes : AreIdle p node.history (turns_of plan k) idle
 
--- what member j sent to member k: the rows that were due, unless its mailbox was full
-pub record IsSentTo (plan : Plan) (j k : ℕ) (rows : List (List ℕ)) (log : Log) : Type 0 where
-  pub within : (dispatch_to log k).sent ≤ length rows
-  pub counted : IsCounted (HasDrawn plan j (place_of plan j) (turns_of plan j) k) (length rows) (turns_of plan j) (dispatch_to log k)
+-- so its log tells, and what it took is held or was refused
+pub record IsTold (plan : Plan) (k : ℕ) (p : SharedNode Secrets) (node : NodeView Secrets) (log : Log) : Type 0 where
+  pub lawful : IsNode accepts_by node
+  pub turns : CountsTurns plan k p node log.idle
+  pub fates : EndsWithFates accepts_by p node log.intake.taken.items log.intake.refused.items
 
 abbrev pub rows_of_node : NodeView Secrets → List (List ℕ)
 rows_of_node v = map spelling (node_rows v)
+
+-- what member j, whose node this is, sent to member k: the rows that were due, unless its mailbox was full; due were those that
+-- the node had once the last turn that drew k had made its own
+pub record IsSentTo (plan : Plan) (j k : ℕ) (node : NodeView Secrets) (idle : ℕ) (d : Dispatch) : Type 0 where
+  pub within : d.sent ≤ length (rows_of_node node)
+  pub counted : IsCounted (HasDrawn plan j (place_of plan j) (turns_of plan j) k) (length (rows_of_node node)) (turns_of plan j) d
+  pub due : HasDrawn plan j (place_of plan j) (turns_of plan j) k →
+      WasDue plan j (place_of plan j) (turns_of plan j) k node (own_rows node) (turns_of plan j) idle (HadRows node d.due)
 
 -- what nodes and logs tell, by their places; beyond them what this node and this log do
 abbrev pub tale_told : List (NodeView Secrets) → List Log → NodeView Secrets → Log → Tale
@@ -158,9 +166,11 @@ tale_told nodes logs v g = record {
 pub record AreTold {Z : Type 0} (plan : Plan) (room : ℕ) (nodes : List (NodeView Secrets)) (logs : List Log) (left : List (Vec Message Z)) : Type 0 where
   pub logs_count : length logs ≡ length nodes
   pub left_count : length left ≡ length nodes
-  pub sent : (j k : ℕ) (v : NodeView Secrets) (g : Log) → j < length nodes → k < length nodes → IsSentTo plan j k (rows_of_node (get_or nodes j v)) (get_or logs j g)
+  pub sent : (j k : ℕ) (v : NodeView Secrets) (g : Log) → j < length nodes → k < length nodes →
+      IsSentTo plan j k (get_or nodes j v) (get_or logs j g).idle (dispatch_to (get_or logs j g) k)
   pub mail : (j k : ℕ) (v : NodeView Secrets) (g : Log) (l : Vec Message Z) → j < length nodes → k < length nodes →
       (tale_told nodes logs v g).put j k ≡ messages_of j (get_or logs k g).intake.taken.items ++ messages_of j (get_or left k l).items
+  pub known : (k : ℕ) (g : Log) (l : Vec Message Z) → k < length nodes → AreFrom (length nodes) ((get_or logs k g).intake.taken.items ++ (get_or left k l).items)
   pub full : (j k : ℕ) (v : NodeView Secrets) (g : Log) → j < length nodes → k < length nodes → 0 < (dispatch_to (get_or logs j g) k).full → room ≤ put_to (tale_told nodes logs v g) (length nodes) k
   pub each : (k : ℕ) (v : NodeView Secrets) (g : Log) → k < length nodes → (p : SharedNode Secrets) × IsTold plan k p (get_or nodes k v) (get_or logs k g)
 

@@ -39,10 +39,12 @@ pub record WasFull (m : MailboxView) (p : PortView) : Type 0 where
   pub held : HeldAt p.view m.room
   pub counted : m.room ≤ p.count.seen
 
--- how many rows the node had at some time of the call
-pub record IsDue (old new : List (List ℕ)) (due : ℕ) : Type 0 where
-  pub least : length old ≤ due
-  pub most : due ≤ length new
+-- how many rows the node had at some time of the call: at these first changes of what the seat then has seen
+pub record IsDue {V : Type 0} (p : SharedNode V) (old new : SeatView V) (due : ℕ) : Type 0 where
+  pub at : ℕ
+  pub least : length old.seen ≤ at
+  pub most : at ≤ length new.seen
+  pub rows : due ≡ length (node_rows (node_at p.start (take at new.seen)))
 
 -- all rows that were due were sent, or the mailbox was full, which is counted
 abbrev pub Dispatches : MailboxView → PortView → Dispatch → Dispatch → Type 0

@@ -1,17 +1,22 @@
 -- A storm: all members' turns between threads, and then all nodes have the rows that any had
-use Rattle.std.specs.Prelude.{ℕ, ◌≡◌, ◌<◌, List, [], ◌∷◌, ◌++◌, fold, length, map}
+use Rattle.std.specs.Prelude.{ℕ, ◌≡◌, ◌<◌, List, [], ◌∷◌, ◌++◌, fold, get_or, length, map}
+use Rattle.std.specs.Global.{Vec}
 use Rattle.hg_life.specs.Members.{MemberList, stakes_of}
 use Rattle.hg_life.specs.NodeView.{NodeView, start_of}
 use Rattle.hg_life.specs.Signing.{secrets_of}
 use Rattle.hg_runs.specs.Safety.{IsSafe}
+use Rattle.hg_board.specs.Seats.{SharedNode}
 use Rattle.hg_world.specs.World.{Secrets, WorldView, new_world, nodes_of, run_of}
 use Rattle.hg_world.specs.Parts.{IsWorld, nth_node, unfrozen, world_of}
 use Rattle.hg_world.specs.Steps.{after_steps, settle_steps}
 use Rattle.hg_world.specs.Syncs.{pull_steps}
 use Rattle.hg_storm.specs.declared.plan.Plan.{Plan}
 use Rattle.hg_storm.specs.declared.outcome.Storm.{Storm}
+use Rattle.hg_storm.specs.declared.refusals.Refusal.{Refusal}
 use Rattle.hg_storm.specs.Drawing.{circle_of}
-use Rattle.hg_storm.specs.Joins.{AreTold, HasSession}
+use Rattle.hg_storm.specs.Joins.{HasSession}
+use Rattle.hg_storm.specs.Mails.{AreMails}
+use Rattle.hg_storm.specs.Refusals.{HasTakenNames}
 
 -- the world after a pull, of the first of two members from the second, and after a member's node is settled
 abbrev pub after_pull : WorldView → ℕ × ℕ → WorldView
@@ -43,8 +48,8 @@ abbrev pub world_again : MemberList → List (NodeView Secrets) → WorldView
 world_again members ends = world_of (stakes_of members) members.coin (unfrozen ends)
 
 -- The members' nodes, which began without rows, took their turns between threads. Each is that of its member still, and this
--- is what they did, and what their mailboxes had left. Then those that have nodes pulled from each other, and settled. Each
--- history is that of a node, and no two orders part ways.
+-- is what those that have nodes sent each other, in how many turns each made no event, and what each refused. Then those that
+-- have nodes pulled from each other, and settled. Each history is that of a node, and no two orders part ways.
 pub record IsStorm (members : MemberList) (times room first : ℕ) (s : Storm) : Type 0 where
   pub plan : Plan
   pub circle : plan.circle.items ≡ circle_of members
@@ -54,7 +59,11 @@ pub record IsStorm (members : MemberList) (times room first : ℕ) (s : Storm) :
   pub count : length ends ≡ length members.entries
   pub starts : (m : ℕ) → m < length ends → (nth_node ends m).start ≡ start_of members m (secrets_of members)
   pub session : HasSession (nodes_of (new_world members)) ends
-  pub told : AreTold plan room ends s.logs.items s.left.items
+  pub mail : AreMails plan room ends s.idle.items s.mail.items
+  pub idle_count : length s.idle.items ≡ length ends
+  pub refused_count : length s.refused.items ≡ length ends
+  pub each : (k : ℕ) (v : NodeView Secrets) (i : ℕ) (l : Vec Refusal) → k < length ends →
+      (p : SharedNode Secrets) × HasTakenNames plan ends s.mail.items k p (get_or ends k v) (get_or s.idle.items k i) (get_or s.refused.items k l).items
   pub ended : s.ended.items ≡ map (λ (v : NodeView Secrets). length v.history) ends
   pub world : s.world ≡ gathered (world_again members ends) plan.circle.items
   pub lawful : IsWorld s.world

@@ -1,12 +1,17 @@
 -- A member's turns: what it has sent, taken and made after so many of them
-use Rattle.std.specs.Prelude.{ℕ, zero, suc, ◌≡◌, ◌+◌, ◌<◌, ◌≤◌, ◌^◌, ◌⊎◌, ⊤, Bool, true, false, List, length, take, get_or, Option, Some, None}
+use Rattle.std.specs.Prelude.{ℕ, zero, suc, ◌≡◌, ◌+◌, ◌<◌, ◌≤◌, ◌^◌, ◌⊎◌, ◌==◌, ⊤, Bool, true, false, List, length, take, get_or, slice_get, count_by, Option, Some, None}
+use Rattle.std.specs.List.{AllByRecursion}
+use Rattle.hg_model.specs.declared.row.Row.{Row}
 use Rattle.hg_life.specs.declared.answers.MakeAnswer.{MakeAnswer}
 use Rattle.hg_life.specs.declared.answers.MakeAnswer.TheVariants as answer
 use Rattle.hg_life.specs.History.{Change}
+use Rattle.hg_life.specs.History.Change.{Made}
+use Rattle.hg_life.specs.NodeView.{NodeView, node_rows}
 use Rattle.hg_life.specs.Signing.{accepts_by}
 use Rattle.hg_node.specs.Next.{MakesNext}
 use Rattle.hg_mail.specs.Count.{one_part}
 use Rattle.hg_mail.specs.Mailboxes.{MailboxView, PortView}
+use Rattle.hg_board.specs.Positions.{AreBelow}
 use Rattle.hg_board.specs.Table.{node_at}
 use Rattle.hg_board.specs.Seats.{SharedNode, SeatView}
 use Rattle.hg_board.specs.Calls.{SeatMakesNext}
@@ -15,9 +20,9 @@ use Rattle.hg_storm.specs.declared.plan.Plan.{Plan}
 use Rattle.hg_storm.specs.declared.sending.Dispatch.{Dispatch}
 use Rattle.hg_storm.specs.declared.desk.Log.{Log}
 use Rattle.hg_storm.specs.declared.desk.Desk.{Desk}
-use Rattle.hg_storm.specs.Drawing.{Draws, HasDrawn}
+use Rattle.hg_storm.specs.Drawing.{Draws, HasDrawn, IsLastDraw}
 use Rattle.hg_storm.specs.Fates.{HasFates}
-use Rattle.hg_storm.specs.Keeping.{Secrets, rows_made}
+use Rattle.hg_storm.specs.Keeping.{Secrets, rows_made, rows_made_in}
 use Rattle.hg_storm.specs.Receiving.{IsInbox}
 use Rattle.hg_storm.specs.Sending.{HasSent, bytes_seen}
 
@@ -29,19 +34,93 @@ IsIdle None = ⊤
 IsIdle (Some (answer.Made place)) = ⊥
 IsIdle (Some (answer.Refused fault)) = ⊤
 
--- at the first changes of the history the node makes no event of this time
-pub record IsIdleTurn (p : SharedNode Secrets) (history : List Change) (time : ℕ) : Type 0 where
-  pub at : ℕ
-  pub within : at ≤ length history
+-- a node after the first changes of its history
+abbrev pub node_then : NodeView Secrets → ℕ → NodeView Secrets
+node_then v at = node_at v (take at v.history)
+
+-- after so many changes the node makes no event of this time
+pub record IsIdleAt (v : NodeView Secrets) (time at : ℕ) : Type 0 where
   pub made : Option MakeAnswer
   pub idle : IsIdle made
-  pub next : MakesNext accepts_by (node_at p.start (take at history)) time made (node_at p.start (take at history))
+  pub next : MakesNext accepts_by (node_then v at) time made (node_then v at)
 
--- of the first turns, whose times are counted from 1, so many made nothing, each for its cause
+-- so it is after some of its changes, which are so many or more
+pub record IsIdleTurn (v : NodeView Secrets) (since time : ℕ) : Type 0 where
+  pub at : ℕ
+  pub later : since ≤ at
+  pub within : at ≤ length v.history
+  pub none : IsIdleAt v time at
+
+-- of so many turns that follow the first ones so many made nothing, each for its cause, after so many changes or more; the
+-- times of turns are counted from 1
+abbrev pub AreIdleSince : NodeView Secrets → ℕ → ℕ → ℕ → ℕ → Type 0
+AreIdleSince v since first zero idle = idle ≡ 0
+AreIdleSince v since first (suc t) idle =
+    AreIdleSince v since first t idle
+    ⊎ ((less : ℕ) × (idle ≡ suc less) × AreIdleSince v since first t less × IsIdleTurn v since (first + suc t))
+
+-- so it is of the first turns
 abbrev pub AreIdle : SharedNode Secrets → List Change → ℕ → ℕ → Type 0
-AreIdle p history zero idle = idle ≡ 0
-AreIdle p history (suc t) idle =
-    AreIdle p history t idle ⊎ ((less : ℕ) × (idle ≡ suc less) × AreIdle p history t less × IsIdleTurn p history (suc t))
+AreIdle p history turns idle = AreIdleSince (node_at p.start history) 0 0 turns idle
+
+-- ---- the rows that a node had once a turn had made its own
+
+-- how many of the rows a member made
+abbrev pub rows_by : ℕ → List Row → ℕ
+rows_by m rows = count_by (λ (row : Row). row.creator == m) rows
+
+-- how many rows of its own a node had after the first changes of its history
+abbrev pub own_rows : NodeView Secrets → ℕ → ℕ
+own_rows v at = rows_by v.start.own (node_rows (node_then v at))
+
+-- the last one of so many changes made an event of this time
+pub record IsMadeAt (v : NodeView Secrets) (time at : ℕ) : Type 0 where
+  pub row : Row
+  pub of_time : row.time ≡ time
+  pub last : ℕ
+  pub first : at ≡ suc last
+  pub made : slice_get v.history last ≡ Some (Made row)
+
+-- After so many changes the turns up to this one have made their rows or nothing, and no later turn has. The last of these
+-- turns did so just then. The rows that were made by then and the idle ones of these turns are together as many as the turns,
+-- and the other idle ones come later.
+pub record AreOver (v : NodeView Secrets) (made : ℕ → ℕ) (turns idle over at : ℕ) : Type 0 where
+  pub within : at ≤ length v.history
+  pub end : IsMadeAt v over at ⊎ IsIdleAt v over at
+  pub early : ℕ
+  pub rows : made at + early ≡ over
+  pub before : AreIdleSince (node_then v at) 0 0 over early
+  pub rest : ℕ
+  pub all : over + rest ≡ turns
+  pub late : ℕ
+  pub both : early + late ≡ idle
+  pub after : AreIdleSince v at over rest late
+
+-- so it was of the first changes once the last turn that draws the member had made its row or nothing
+pub record WasDue (plan : Plan) (me place drawn k : ℕ) (v : NodeView Secrets) (made : ℕ → ℕ) (turns idle : ℕ) (IsSo : ℕ → Type 0) : Type 0 where
+  pub turn : ℕ
+  pub last : IsLastDraw plan me place drawn k turn
+  pub at : ℕ
+  pub over : AreOver v made turns idle (turn + 1) at
+  pub due : IsSo at
+
+-- the node had so many rows after its first changes
+abbrev pub HadRows : NodeView Secrets → ℕ → ℕ → Type 0
+HadRows v due at = due ≡ length (node_rows (node_then v at))
+
+-- the seat has counted so many rows, and added nothing from those first changes on until then
+pub record HasCounted (p : SharedNode Secrets) (s : SeatView Secrets) (due at : ℕ) : Type 0 where
+  pub when : ℕ
+  pub past : at ≤ when
+  pub within : when ≤ length s.seen
+  pub alone : AllByRecursion (λ q. (q < at) ⊎ (when ≤ q)) s.mine
+  pub rows : due ≡ length (node_rows (node_at p.start (take when s.seen)))
+
+-- the last turn has made its row or nothing, and since then the seat has added nothing
+pub record HasEnded (p : SharedNode Secrets) (s : SeatView Secrets) (turns idle : ℕ) : Type 0 where
+  pub at : ℕ
+  pub over : AreOver (node_at p.start s.seen) (rows_made_in s) turns idle turns at
+  pub mine : AreBelow at s.mine
 
 -- ---- what was sent to one member
 
@@ -80,6 +159,9 @@ pub record Standing (plan : Plan) (place : ℕ) (mails : List MailboxView) (p : 
   pub some : 0 < made → 0 < length (bytes_seen p s)
   pub rows : rows_made s + log.idle ≡ made
   pub idle : AreIdle p s.seen made log.idle
+  pub ended : 0 < made → HasEnded p s made log.idle
+  pub dues : (k : ℕ) (d : Dispatch) → HasDrawn plan own place drawn k →
+      WasDue plan own place drawn k (node_at p.start s.seen) (rows_made_in s) made log.idle (HasCounted p s (get_or log.dispatches.items k d).due)
 
 abbrev pub Stands : Plan → ℕ → List MailboxView → SharedNode Secrets → ℕ → ℕ → Desk → Type 0
 Stands plan place mails p drawn made d = Standing plan place mails p drawn made d.me d.log d.seat d.ports.items d.inbox
@@ -102,11 +184,11 @@ abbrev pub MakesOneMore : List MailboxView → SharedNode Secrets → ℕ → De
 MakesOneMore mails p made old new =
     (plan : Plan) (place drawn : ℕ) → Stands plan place mails p drawn made old → Stands plan place mails p drawn (made + 1) new
 
--- the member that a turn draws was served
+-- the member that a turn draws was served, once the turn's row was made or could not be
 abbrev pub ServesOneMore : List MailboxView → SharedNode Secrets → ℕ → Desk → Desk → Type 0
 ServesOneMore mails p peer old new =
-    (plan : Plan) (place drawn made : ℕ) → Draws plan old.me place drawn peer → 0 < made → Stands plan place mails p drawn made old →
-    Stands plan place mails p (drawn + 1) made new
+    (plan : Plan) (place drawn : ℕ) → Draws plan old.me place drawn peer → Stands plan place mails p drawn (drawn + 1) old →
+    Stands plan place mails p (drawn + 1) (drawn + 1) new
 
 -- ---- steps of a turn
 

@@ -1,5 +1,5 @@
-use crate::desk::Log;
-use hg_mail::Message;
+use crate::mails::Mail;
+use crate::refusals::Refusal;
 use hg_world::World;
 
 /// What became of a storm.
@@ -7,10 +7,12 @@ use hg_world::World;
 pub struct Storm {
     /// The nodes, each with all rows that any node had, but for those that it refused.
     pub world: World,
-    /// What each member did, in their order.
-    pub logs: Vec<Log>,
-    /// What each member's mailbox had left at the joins.
-    pub left: Vec<Vec<Message>>,
+    /// What each member that has a node sent each other one, in their order.
+    pub mail: Vec<Mail>,
+    /// In how many turns each member's node made no event, in their order. A member without a node takes no turn.
+    pub idle: Vec<u32>,
+    /// What each member's node refused until the joins, in their order.
+    pub refused: Vec<Vec<Refusal>>,
     /// How many changes each node had at the joins.
     pub ended: Vec<usize>,
 }

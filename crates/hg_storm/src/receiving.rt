@@ -2,7 +2,7 @@ ghost use Rattle.std.specs.Prelude.{◌≡◌, OnOk};
 ghost use Rattle.hg_board.specs.Seats.{IsOf};
 ghost use Rattle.hg_crowd.specs.Crowd.{IsStill};
 ghost use Rattle.hg_storm.specs.Fates.{HasFates};
-ghost use Rattle.hg_storm.specs.Keeping.{KeepsSeat, rows_made};
+ghost use Rattle.hg_storm.specs.Keeping.{AddsNoRow, KeepsSeat};
 ghost use Rattle.hg_storm.specs.Receiving.{IsInbox, TakesMore};
 
 use crate::taking::{Intake, take_all};
@@ -30,7 +30,7 @@ pub fn receive<V: Signer + Drop, R: Wait>(
     ensures of { IsOf shared.now seat.new }
     ensures still { IsStill seat.old seat.new }
     ensures seat { KeepsSeat V.accepts shared.now seat.old seat.new }
-    ensures made { OnOk result (rows_made seat.new ≡ rows_made seat.old) }
+    ensures made { OnOk result (AddsNoRow seat.old seat.new) }
     ensures inbox { OnOk result (IsInbox mailbox.now intake.new.taken.items inbox.new) }
     ensures count { inbox.new.count ≡ inbox.old.count }
     ensures more { OnOk result (TakesMore mailbox.now inbox.new intake.old.taken.items intake.new.taken.items) }

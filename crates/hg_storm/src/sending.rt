@@ -117,7 +117,7 @@ pub fn send_rows<V: Signer + Drop, R: Wait>(
     ensures seat { KeepsSeat V.accepts shared.now seat.old seat.new }
     ensures mine { seat.new.mine ≡ seat.old.mine }
     ensures sent { IfOk result (λ d. HasSent mailbox.now from (bytes_seen shared.now seat.new) d.sent port.new) }
-    ensures due { IfOk result (λ d. IsDue (bytes_seen shared.now seat.old) (bytes_seen shared.now seat.new) d.due) }
+    ensures due { IfOk result (λ d. IsDue shared.now seat.old seat.new d.due) }
     ensures rest { IfOk result (Dispatches mailbox.now port.new dispatch) }
     ensures seen { port.old.count.seen ≤ port.new.count.seen }
 {

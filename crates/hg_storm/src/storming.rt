@@ -2,8 +2,10 @@ ghost use Rattle.std.specs.Prelude.{◌≡◌, ◌<◌, IfOk, length, map};
 ghost use Rattle.hg_storm.specs.Storm.{IsStorm};
 
 use crate::gathering::gather;
+use crate::mails::mails_of;
 use crate::outcome::Storm;
 use crate::plan::{Plan, circle_of};
+use crate::refusals::{idle_of, refused_of};
 use crate::threads::{Joined, run_threads};
 use hg_board::Crew;
 use hg_io::Gate;
@@ -50,7 +52,15 @@ pub fn storm<C: Crew + Sync, G: Gate + Sync, R: Threads + Wait + Sync>(
     members.is_lawful();
     let begun = World::new(alloc, members)?;
     let first = begun.into_nodes();
-    let Joined { nodes, logs, left } = run_threads(rt, alloc, first, &plan, room, crew, gate)?;
+    let joined = run_threads(rt, alloc, first, &plan, room, crew, gate)?;
+    let mail = mails_of(alloc, &joined, plan.circle.as_slice())?;
+    let Joined {
+        nodes,
+        logs,
+        left: _,
+    } = joined;
+    let refused = refused_of(alloc, nodes.as_slice(), logs.as_slice())?;
+    let idle = idle_of(alloc, logs.as_slice())?;
     let ended = lengths(alloc, nodes.as_slice())?;
     let Ok(mut world) = World::from_nodes(alloc, nodes) else {
         return Err(Memory);
@@ -59,8 +69,9 @@ pub fn storm<C: Crew + Sync, G: Gate + Sync, R: Threads + Wait + Sync>(
     world.is_world();
     Ok(Storm {
         world,
-        logs,
-        left,
+        mail,
+        idle,
+        refused,
         ended,
     })
 }

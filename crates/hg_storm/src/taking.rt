@@ -2,7 +2,7 @@ ghost use Rattle.std.specs.Prelude.{◌≡◌, ◌<◌, ◌++◌, ◌∷◌, [],
 ghost use Rattle.hg_board.specs.Seats.{IsOf};
 ghost use Rattle.hg_crowd.specs.Crowd.{IsStill};
 ghost use Rattle.hg_storm.specs.Fates.{HasFates, after_put};
-ghost use Rattle.hg_storm.specs.Keeping.{KeepsSeat, rows_made};
+ghost use Rattle.hg_storm.specs.Keeping.{AddsNoRow, KeepsSeat};
 
 use hg_board::{Seat, Shared};
 use hg_life::{Fault, PutAnswer};
@@ -14,7 +14,7 @@ use std::sync::Wait;
 
 /// A message whose event the node refused.
 #[derive(Clone, Copy, Debug, PartialEq, Eq)]
-pub struct Refusal {
+pub struct RefusedMessage {
     /// Its place among the messages that were taken, from 0.
     pub index: usize,
     pub why: Fault,
@@ -26,7 +26,7 @@ pub struct Refusal {
 #[derive(Debug, Drop)]
 pub struct Intake {
     pub taken: Vec<Message>,
-    pub refused: Vec<Refusal>,
+    pub refused: Vec<RefusedMessage>,
 }
 
 impl Intake {
@@ -52,7 +52,10 @@ impl Intake {
         match answer {
             PutAnswer::Accepted(_) => {}
             PutAnswer::Known(_) => {}
-            PutAnswer::Refused(why) => self.refused.push_reserved(Refusal { index, why, at }),
+            PutAnswer::Refused(why) => {
+                let refused = RefusedMessage { index, why, at };
+                self.refused.push_reserved(refused);
+            }
         }
         self.taken.push_reserved(message);
     }
@@ -71,7 +74,7 @@ fn take_one<V: Signer + Drop, R: Wait>(
     ensures of { IsOf shared.now seat.new }
     ensures still { IsStill seat.old seat.new }
     ensures seat { KeepsSeat V.accepts shared.now seat.old seat.new }
-    ensures made { OnOk result (rows_made seat.new ≡ rows_made seat.old) }
+    ensures made { OnOk result (AddsNoRow seat.old seat.new) }
     ensures fates { OnOk result (HasFates V.accepts shared.now seat.new intake.new.taken.items intake.new.refused.items) }
     ensures taken { OnOk result (intake.new.taken.items ≡ intake.old.taken.items ++ message ∷ []) }
 {
@@ -96,7 +99,7 @@ pub fn take_all<V: Signer + Drop, R: Wait>(
     ensures of { IsOf shared.now seat.new }
     ensures still { IsStill seat.old seat.new }
     ensures seat { KeepsSeat V.accepts shared.now seat.old seat.new }
-    ensures made { OnOk result (rows_made seat.new ≡ rows_made seat.old) }
+    ensures made { OnOk result (AddsNoRow seat.old seat.new) }
     ensures fates { OnOk result (HasFates V.accepts shared.now seat.new intake.new.taken.items intake.new.refused.items) }
     ensures taken { OnOk result (intake.new.taken.items ≡ intake.old.taken.items ++ messages.items) }
 {

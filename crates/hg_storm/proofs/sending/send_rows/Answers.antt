@@ -1,5 +1,5 @@
 use Rattle.std.proofs.Common.{◌∙◌, arith}
-use Rattle.hg_storm.proofs.SendLaws.{piece_most, piece_sent, piece_some, rows_longer, sent_later, still_on}
+use Rattle.hg_storm.proofs.SendLaws.{due_at, due_most, due_on, piece_most, piece_sent, piece_some, rows_longer, sent_later, still_on}
 use Rattle.hg_storm.proofs.sending.send_rows.Goals as goal
 
 pub pieces-init : goal.pieces-init
@@ -13,8 +13,7 @@ pieces-init g c =
       still = e.still;
       seat = e.seat;
       mine = e.mine;
-      due = omega (arith, e.count);
-      first = omega (arith, e.count, longer);
+      due = due_at p s t c.rows_due-due.result e.still.seen e.count;
       within = omega (arith, e.count, longer, c.requires.sent.within);
       sent = sent_later p s t c.args.mailbox.now c.args.from c.args.dispatch.sent c.args.port.now e.still.seen c.requires.sent;
       seen = omega arith;
@@ -28,29 +27,26 @@ returns-then-more-count-clause-sent g c =
 
 pub returns-then-more-count-clause-due : goal.returns-then-more-count-clause-due
 returns-then-more-count-clause-due g c =
-    let i = c.pieces.invariant in
-    record { least = i.first; most = omega (arith, i.due, rows_longer c.args.shared.now c.pieces.seat c.piece_from.new.seat c.in_ok-rows.ensures.still.seen) }
+    due_on c.args.shared.now c.args.seat.now c.pieces.seat c.piece_from.new.seat c.rows_due-due.result c.in_ok-rows.ensures.still.seen c.pieces.invariant.due
 
 pub pieces-smaller : goal.pieces-smaller
 pieces-smaller g c =
-    let i = c.pieces.invariant in
+    let due = due_most c.args.shared.now c.args.seat.now c.pieces.seat c.rows_due-due.result c.pieces.invariant.due in
     let longer = rows_longer c.args.shared.now c.pieces.seat c.piece_from.new.seat c.in_ok-rows.ensures.still.seen in
     let some = piece_some c.args.shared.now c.piece_from.new.seat c.in_ok-rows.rows.items c.pieces.sent c.min-most.result c.in_ok-rows.ensures.rows
-    (omega (arith, c.min-most.ensures, c.pieces-test.true)) (omega (arith, i.due, longer, c.pieces-test.true)) in
+    (omega (arith, c.min-most.ensures, c.pieces-test.true)) (omega (arith, due, longer, c.pieces-test.true)) in
     omega (arith, some, c.len-count.ensures, c.if-more-count.false, c.pieces-test.true)
 
 pub pieces-preserved : goal.pieces-preserved
 pieces-preserved g c =
     let i = c.pieces.invariant in
     let e = c.send_piece-more.ensures in
-    let longer = rows_longer c.args.shared.now c.pieces.seat c.piece_from.new.seat c.in_ok-rows.ensures.still.seen in
     let most = piece_most c.args.shared.now c.piece_from.new.seat c.in_ok-rows.rows.items c.pieces.sent c.min-most.result c.in_ok-rows.ensures.rows in record {
       of = c.in_ok-rows.ensures.of;
       still = still_on c.args.seat.now c.pieces.seat c.piece_from.new.seat i.still c.in_ok-rows.ensures.still;
       seat = λ is. c.in_ok-rows.ensures.seat (i.seat is);
       mine = c.in_ok-rows.ensures.mine ∙ i.mine;
-      due = omega (arith, i.due, longer);
-      first = i.first;
+      due = due_on c.args.shared.now c.args.seat.now c.pieces.seat c.piece_from.new.seat c.rows_due-due.result c.in_ok-rows.ensures.still.seen i.due;
       within = omega (arith, e.within, most, c.min-most.ensures, c.pieces-test.true);
       sent = piece_sent c.args.shared.now c.pieces.seat c.piece_from.new.seat c.args.mailbox.now c.args.from c.pieces.sent _ c.send_piece-more.result c.in_ok-rows.rows.items c.pieces.port c.send_piece-more.new.port
           c.in_ok-rows.ensures.still.seen i.sent c.in_ok-rows.ensures.rows e.within e.of e.sends;

@@ -2,7 +2,7 @@ use Rattle.std.proofs.Common.{◌≡◌, ◌++◌}
 use Rattle.hg_board.specs.Seats.{IsOf}
 use Rattle.hg_crowd.specs.Crowd.{IsStill}
 use Rattle.hg_storm.specs.Fates.{HasFates}
-use Rattle.hg_storm.specs.Keeping.{KeepsSeat, rows_made}
+use Rattle.hg_storm.specs.Keeping.{AddsNoRow, KeepsSeat}
 use Rattle.hg_storm.proofs.taking.take_all.Given as goal
 
 abbrev pub invariant-messages : goal.invariant-messages
@@ -10,7 +10,7 @@ invariant-messages g l = record {
   of : IsOf l.shared l.seat;
   still : IsStill l.fn.seat l.seat;
   seat : KeepsSeat g.V.Verifier.accepts l.shared l.fn.seat l.seat;
-  made : rows_made l.seat ≡ rows_made l.fn.seat;
+  made : AddsNoRow l.fn.seat l.seat;
   fates : HasFates g.V.Verifier.accepts l.shared l.seat l.intake.taken.items l.intake.refused.items;
   taken : l.intake.taken.items ++ l.message-iterator.rest.items ≡ l.fn.intake.taken.items ++ l.fn.messages.items;
 }

@@ -17,8 +17,8 @@ send_rows-requires-clause-few g c =
     omega (arith, served.counted.few, at.few)
 
 pub returns-clause-serves : goal.returns-clause-serves
-returns-clause-serves g c plan place drawn made draws begun stands =
+returns-clause-serves g c plan place drawn draws stands =
     let e = c.in_ok-dispatch.ensures in
-    serves_more plan place c.args.mailboxes.now c.args.shared.now drawn made c.args.desk.now.me c.args.desk.now.log _ c.args.desk.now.seat c.send_rows.new.seat c.args.desk.now.ports.items c.args.desk.now.inbox stands
-    c.args.peer draws begun c.requires.peer c.index-mailboxes-to.result c.index.result.now c.in_ok-dispatch.dispatch c.index_mut.result.now c.send_rows.new.port c.index-mailboxes-to.is c.index.ensures
+    serves_more plan place c.args.mailboxes.now c.args.shared.now drawn c.args.desk.now.me c.args.desk.now.log _ c.args.desk.now.seat c.send_rows.new.seat c.args.desk.now.ports.items c.args.desk.now.inbox stands
+    c.args.peer draws c.requires.peer c.index-mailboxes-to.result c.index.result.now c.in_ok-dispatch.dispatch c.index_mut.result.now c.send_rows.new.port c.index-mailboxes-to.is c.index.ensures
     c.index_mut.ensures.value e.still e.seat e.mine e.sent e.due e.rest e.seen refl refl refl

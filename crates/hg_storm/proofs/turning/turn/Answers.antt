@@ -27,10 +27,10 @@ returns-in_ok-send_to-clause-stands g c =
     (λ more. c.take_and_make.ensures.draws ∙ (c.requires.draws more ∙ ap (λ (n : ℕ). state_at plan n c.args.t) (sym same))) in
     let state = c.draw_peer.ensures.state (subst (λ (l : List ℕ). 1 < length l) (sym value) others) in
     let next : c.draw_peer.new.draws ≡ state_at plan me (c.args.t + 1) = drawn_next plan me c.args.t c.take_and_make.new.desk.draws c.draw_peer.new.draws was others state in
-    c.in_ok-send_to.ensures.serves plan c.args.place c.args.t (c.args.t + 1) (record {
+    c.in_ok-send_to.ensures.serves plan c.args.place c.args.t (record {
       others = others;
       peer = c.in-Some.ensures.some ∙ (λ i. peer_drawn (value i) c.args.place (next i));
-    }) (omega arith) (c.in_ok-take_and_make.ensures.makes plan c.args.place c.args.t c.requires.stands)
+    }) (c.in_ok-take_and_make.ensures.makes plan c.args.place c.args.t c.requires.stands)
 
 pub returns-in_ok-send_to-clause-draws : goal.returns-in_ok-send_to-clause-draws
 returns-in_ok-send_to-clause-draws g c others =

@@ -1,0 +1,364 @@
+-- What the threads told, by the names of rows
+use Rattle.std.proofs.Common.{◌≡◌, ◌⊎◌, ⊎_elim, inl, inr, ℕ, ◌+◌, ◌<◌, IsTrue, List, [], ◌∷◌, ◌++◌, length, take, drop, map, get_or, Option, Some, Ok, slice_get, refl, sym, ap, ◌∙◌, subst, arith}
+use Rattle.std.specs.Prelude.{All, option_map}
+use Rattle.std.specs.Global.{Vec}
+use mathlib.Core.Logic.{dite}
+use native.Mathlib.Decide.{ℕ_discrete}
+use Rattle.std.proofs.lemmas.List.{get_or_default, get_or-map, length-map, length-take-le, take-append-drop}
+use Rattle.std.proofs.lemmas.List.Elements.{All-from_recursion}
+use Rattle.std.proofs.lemmas.Option.{get_or_from_slice_get, slice_get-get_or, slice_get-map, slice_get_within}
+use Rattle.hg_model.specs.declared.row.Row.{Row}
+use Rattle.hg_model.specs.Held.{is_held}
+use Rattle.hg_event.proofs.Reading.{same_done}
+use Rattle.hg_event.proofs.Spells.{Spells-read_event}
+use Rattle.hg_life.specs.Reading.{read_event}
+use Rattle.hg_life.specs.History.{Change}
+use Rattle.hg_life.specs.History.Change.{Took}
+use Rattle.hg_life.specs.Calls.{put_answer}
+use Rattle.hg_life.specs.Members.{MemberList}
+use Rattle.hg_life.specs.NodeView.{IsNode, NodeView, node_rows}
+use Rattle.hg_life.specs.Signing.{accepts_by}
+use Rattle.hg_life.specs.Spelling.{spelling}
+use Rattle.hg_history.proofs.SoundLaws.{node_graph}
+use Rattle.hg_mail.specs.declared.message.Message.{Message}
+use Rattle.hg_mail.specs.Messages.{messages_of}
+use Rattle.hg_board.specs.Table.{node_at}
+use Rattle.hg_board.specs.Seats.{SharedNode}
+use Rattle.hg_crowd.proofs.ListLaws.{some_of}
+use Rattle.hg_storm.specs.declared.desk.Log.{Log}
+use Rattle.hg_storm.specs.declared.mails.Mail.{Mail}
+use Rattle.hg_storm.specs.declared.plan.Plan.{Plan}
+use Rattle.hg_storm.specs.declared.refusals.Refusal.{Refusal}
+use Rattle.hg_storm.specs.declared.sending.Dispatch.{Dispatch}
+use Rattle.hg_storm.specs.declared.taking.RefusedMessage.{RefusedMessage}
+use Rattle.hg_storm.specs.declared.threads.Joined.{Joined}
+use Rattle.hg_storm.specs.Drawing.{HasDrawn, circle_of}
+use Rattle.hg_storm.specs.Fates.{AreHeld, HoldsEvent, IsOfMessage, IsRefused, Refuses, bytes_at, no_message}
+use Rattle.hg_storm.specs.Joins.{AreTold, IsTold, dispatch_to, rows_of_node}
+use Rattle.hg_storm.specs.Keeping.{Secrets}
+use Rattle.hg_storm.specs.Mails.{AreMailsOf, IsMailIn, names_in, names_told, pair_of}
+use Rattle.hg_storm.specs.Refusals.{HasOrRefused, HasRow, HasTakenNames, HaveRows, IsMailAt, IsOfMail, IsRefusal, IsRefusedName, message_at, name_of, name_sent, refusal_of, refusals_of}
+use Rattle.hg_storm.specs.Sending.{messages_from}
+use Rattle.hg_storm.specs.Threads.{place_of, turns_of}
+use Rattle.hg_storm.proofs.CircleLaws.{ArePeers, are_peers, pair_of_all, value_of}
+use Rattle.hg_storm.proofs.FateLaws.{get_later}
+use Rattle.hg_storm.proofs.MailLaws.{all_front, name_read}
+use Rattle.hg_storm.proofs.WorldLaws.{mapped_more}
+use Rattle.hg_storm.proofs.SenderLaws.{earlier, message_is, origin, place, stands_at}
+
+-- a refused message is refused by its name
+refused_name : (nodes : List (NodeView Secrets)) (taken : List Message) (i : ℕ) (rs : List RefusedMessage) → IsRefused i rs →
+    IsRefusedName (message_at taken i).from (name_sent nodes (message_at taken i)) (map (refusal_of nodes taken) rs)
+refused_name nodes taken i [] is = absurd is
+refused_name nodes taken i (r ∷ rs) is = ⊎_elim
+    (λ (e : r.index ≡ i). inl (ap (λ (z : ℕ). (message_at taken z).from) e, ap (λ (z : ℕ). name_sent nodes (message_at taken z)) e))
+    (λ (rest : IsRefused i rs). inr (refused_name nodes taken i rs rest)) is
+
+module _ (plan : Plan) (room : ℕ) (nodes : List (NodeView Secrets)) (logs : List Log) (left : List (Vec Message)) (told : AreTold plan room nodes logs left) (v : NodeView Secrets) (g : Log) (l : Vec Message) where
+  -- a member that sent rows to another has drawn it
+  pub has_drawn : (j k : ℕ) → j < length nodes → k < length nodes → 0 < (dispatch_to (get_or logs j g) k).sent → HasDrawn plan j (place_of plan j) (turns_of plan j) k
+  has_drawn j k j_in k_in some =
+      let c = (told.sent j k v g j_in k_in).counted in
+      dite (ℕ_discrete (dispatch_to (get_or logs j g) k).full 0) (λ none. c.drawn (omega (arith, some, c.sent none))) (λ often. c.drawn (omega (arith, often)))
+
+  -- ---- one message that a member took
+
+  module _ (k i : ℕ) (k_in : k < length nodes) (i_in : i < length (get_or logs k g).intake.taken.items) where
+    abbrev took : List Message
+    took = (get_or logs k g).intake.taken.items
+
+    abbrev m : Message
+    m = message_at took i
+
+    pub from_in : m.from < length nodes
+    from_in = All-from_recursion (λ (n : Message). n.from < length nodes) took (all_front (λ (n : Message). n.from < length nodes) took (get_or left k l).items (told.known k g l k_in)) i no_message i_in
+
+    abbrev sender : NodeView Secrets
+    sender = get_or nodes m.from v
+
+    abbrev d : Dispatch
+    d = dispatch_to (get_or logs m.from g) k
+
+    abbrev its_place : ℕ
+    its_place = place m.from took i
+
+    at_put : slice_get (messages_from m.from 0 (take d.sent (rows_of_node sender))) its_place ≡ Some m
+    at_put = get_later (messages_of m.from took) (messages_from m.from 0 (take d.sent (rows_of_node sender))) its_place m
+        (messages_of m.from (get_or left k l).items, told.mail m.from k v g l from_in k_in) (stands_at m.from took i i_in refl)
+
+    carried : (m.number ≡ 0 + its_place) × (slice_get (take d.sent (rows_of_node sender)) its_place ≡ Some m.bytes)
+    carried = message_is m.from 0 (take d.sent (rows_of_node sender)) its_place m at_put
+
+    pub number_is : m.number ≡ its_place
+    number_is = omega (arith, carried.0)
+
+    pub drawn : HasDrawn plan m.from (place_of plan m.from) (turns_of plan m.from) k
+    drawn =
+        let low = slice_get_within (take d.sent (rows_of_node sender)) its_place m.bytes carried.1 in
+        let long = length-take-le d.sent (rows_of_node sender) (told.sent m.from k v g from_in k_in).within in
+        has_drawn m.from k from_in k_in (omega (arith, low, long))
+
+    -- the row that it carries
+    found : (row : Row) × (slice_get (node_rows sender) its_place ≡ Some row) × (spelling row ≡ m.bytes)
+    found = value_of spelling (node_rows sender) its_place m.bytes
+        (get_later (take d.sent (rows_of_node sender)) (rows_of_node sender) its_place m.bytes (drop d.sent (rows_of_node sender), sym (take-append-drop d.sent (rows_of_node sender))) carried.1)
+
+    pub its_row : Row
+    its_row = found.0
+
+    pub row_at : slice_get (node_rows sender) its_place ≡ Some its_row
+    unfolding its_row
+    row_at = found.1
+
+    pub row_spells : spelling its_row ≡ m.bytes
+    unfolding its_row
+    row_spells = found.2
+
+    pub row_read : read_event m.bytes ≡ Ok its_row
+    row_read =
+        let node : IsNode accepts_by sender = (told.each m.from v g from_in).1.lawful in
+        let events = (node_graph (accepts_by sender.start.keys) sender.start.members sender.start.coin sender.start.own sender.history node.coin node.history).events in
+        ap read_event (sym row_spells) ∙ Spells-read_event (spelling its_row) its_row (events its_place its_row row_at).spelled
+
+    pub sent_as : name_sent nodes m ≡ get_or (names_in sender) m.number []
+    sent_as = ap (λ (o : Option (NodeView Secrets)). name_of o m.number) (slice_get-get_or nodes m.from v from_in)
+
+    pub name_is : name_sent nodes m ≡ its_row.name
+    name_is = sent_as ∙ (ap (λ (z : ℕ). get_or (names_in sender) z []) number_is ∙ name_read (node_rows sender) its_place its_row [] row_at)
+
+    pub has_row_number : m.number < length (node_rows sender)
+    has_row_number = omega (arith, number_is, slice_get_within (node_rows sender) its_place its_row row_at)
+
+    -- it is held or was refused
+    pub has_or_refused : (p : SharedNode Secrets) (history : List Change) (rs : List RefusedMessage) → IsRefused i rs ⊎ HoldsEvent (node_at p.start history) (bytes_at took i) →
+        HasOrRefused p history (map (refusal_of nodes took) rs) m.from (name_sent nodes m)
+    has_or_refused p history rs = ⊎_elim
+        (λ (refused : IsRefused i rs). inl (refused_name nodes took i rs refused))
+        (λ (e : HoldsEvent (node_at p.start history) (bytes_at took i)).
+        let same : e.row ≡ its_row = same_done e.row its_row (sym e.reads ∙ row_read) in
+        inr (subst (λ (name : List ℕ). IsTrue (is_held (node_rows (node_at p.start history)) name)) (ap (λ (r : Row). r.name) same ∙ sym name_is) e.held))
+
+-- ---- the mails
+
+module _ (members : MemberList) (room : ℕ) (joined : Joined) (plan : Plan) (told : AreTold plan room joined.nodes.items joined.logs.items joined.left.items) (circle_is : plan.circle.items ≡ circle_of members)
+    (mails : List Mail) (are : AreMailsOf joined plan.circle.items mails) where
+  abbrev nodes : List (NodeView Secrets)
+  nodes = joined.nodes.items
+
+  abbrev logs : List Log
+  logs = joined.logs.items
+
+  abbrev left : List (Vec Message)
+  left = joined.left.items
+
+  mail_in : (x : ℕ) (m : Mail) → slice_get mails x ≡ Some m → IsMailIn nodes logs left m
+  mail_in x m at = subst (IsMailIn nodes logs left) (get_or_from_slice_get mails x m m at) (are.each x m (slice_get_within mails x m at))
+
+  -- there is one of each two that are peers
+  mail_of : (from to : ℕ) → ArePeers plan.circle.items from to → (x : ℕ) × (m : Mail) × IsMailAt mails from to x m
+  mail_of from to peers =
+      let pair = pair_of_all plan.circle.items from to peers.sender peers.taker peers.apart in
+      let there : slice_get (map pair_of mails) pair.0 ≡ Some (from, to) = ap (λ (ps : List (ℕ × ℕ)). slice_get ps pair.0) are.pairs ∙ pair.1 in
+      let one = value_of pair_of mails pair.0 (from, to) there in
+      (pair.0, one.0, record { here = one.1; pair = one.2 })
+
+  module _ (v : NodeView Secrets) (g : Log) (l : Vec Message) where
+    -- a message that was taken stands in its mail
+    stands_in_mail : (k i : ℕ) (k_in : k < length nodes) (i_in : i < length (get_or logs k g).intake.taken.items) (x : ℕ) (mail : Mail) →
+        IsMailAt mails (message_at (get_or logs k g).intake.taken.items i).from k x mail →
+        slice_get mail.taken.items (place (message_at (get_or logs k g).intake.taken.items i).from (get_or logs k g).intake.taken.items i) ≡ Some (name_sent nodes (message_at (get_or logs k g).intake.taken.items i))
+    stands_in_mail k i k_in i_in x mail at =
+        let took : List Message = (get_or logs k g).intake.taken.items in
+        let m : Message = message_at took i in
+        let from_is : mail.from ≡ m.from = ap (λ (p : ℕ × ℕ). p.0) at.pair in
+        let to_is : mail.to ≡ k = ap (λ (p : ℕ × ℕ). p.1) at.pair in
+        let names : List (List ℕ) = names_in (get_or nodes m.from v) in
+        let taken : mail.taken.items ≡ names_told names (messages_of m.from took) =
+        subst (λ (p : ℕ × ℕ). mail.taken.items ≡ names_told (names_in (get_or nodes p.0 v)) (messages_of p.0 (get_or logs p.1 g).intake.taken.items)) (λ z. (from_is z, to_is z)) ((mail_in x mail at.here).mail v g l).taken in
+        let carry : Message → List ℕ = λ (n : Message). get_or names n.number [] in
+        ap (λ (ns : List (List ℕ)). slice_get ns (place m.from took i)) taken
+        ∙ (slice_get-map carry (messages_of m.from took) (place m.from took i)
+        ∙ (ap (option_map carry) (stands_at m.from took i i_in refl)
+        ∙ ap (λ (n : List ℕ). Some n) (sym (sent_as plan room nodes logs left told v g l k i k_in i_in))))
+
+    -- what stands in a mail is a message that was taken
+    record Entry (k from x : ℕ) (name : List ℕ) : Type 0 where
+      index : ℕ
+      inside : index < length (get_or logs k g).intake.taken.items
+      sender : (message_at (get_or logs k g).intake.taken.items index).from ≡ from
+      is : name_sent nodes (message_at (get_or logs k g).intake.taken.items index) ≡ name
+      at : place from (get_or logs k g).intake.taken.items index ≡ x
+
+    entry_at : (k : ℕ) → k < length nodes → (x : ℕ) (mail : Mail) → slice_get mails x ≡ Some mail → mail.to ≡ k → (y : ℕ) (name : List ℕ) → slice_get mail.taken.items y ≡ Some name → Entry k mail.from y name
+    entry_at k k_in x mail here to_is y name at =
+        let took : List Message = (get_or logs k g).intake.taken.items in
+        let names : List (List ℕ) = names_in (get_or nodes mail.from v) in
+        let taken : mail.taken.items ≡ names_told names (messages_of mail.from took) =
+        subst (λ (z : ℕ). mail.taken.items ≡ names_told names (messages_of mail.from (get_or logs z g).intake.taken.items)) to_is ((mail_in x mail here).mail v g l).taken in
+        let one = value_of (λ (n : Message). get_or names n.number []) (messages_of mail.from took) y name (ap (λ (ns : List (List ℕ)). slice_get ns y) (sym taken) ∙ at) in
+        let o = origin mail.from took y one.0 one.1 in
+        let sender_is : (message_at took o.index).from ≡ mail.from = ap (λ (n : Message). n.from) o.is ∙ o.of in
+        record {
+          index = o.index;
+          inside = o.inside;
+          sender = sender_is;
+          is = sent_as plan room nodes logs left told v g l k o.index k_in o.inside
+              ∙ (ap (λ (z : ℕ). get_or (names_in (get_or nodes z v)) (message_at took o.index).number []) sender_is
+              ∙ (ap (λ (n : Message). get_or names n.number []) o.is ∙ one.2));
+          at = o.at;
+        }
+
+    -- ---- one member
+
+    module _ (k : ℕ) (k_in : k < length nodes) (p : SharedNode Secrets) (is : IsTold plan k p (get_or nodes k v) (get_or logs k g)) where
+      abbrev taken_all : List Message
+      taken_all = (get_or logs k g).intake.taken.items
+
+      abbrev refused_all : List RefusedMessage
+      refused_all = (get_or logs k g).intake.refused.items
+
+      abbrev named_all : List Refusal
+      named_all = refusals_of nodes (get_or logs k g)
+
+      abbrev its_history : List Change
+      its_history = (get_or nodes k v).history
+
+      -- each name that was taken, where those before some message are held or were refused
+      entry_held : (history : List Change) (end : ℕ) → AreHeld p history taken_all refused_all end → (from y : ℕ) (name : List ℕ) (e : Entry k from y name) → e.index < end → HasOrRefused p history named_all from name
+      entry_held history end held from y name e low =
+          subst (λ (x : ℕ × List ℕ). HasOrRefused p history named_all x.0 x.1) (λ z. (e.sender z, e.is z))
+          (has_or_refused plan room nodes logs left told v g l k e.index k_in e.inside p history refused_all (held e.index low))
+
+      taken_held : All (λ (m : Mail). m.to ≡ k → All (HasOrRefused p its_history named_all m.from) m.taken.items) mails
+      taken_held x d x_in to_is y name y_in =
+          let mail : Mail = get_or mails x d in
+          let e = entry_at k k_in x mail (slice_get-get_or mails x d x_in) to_is y (get_or mail.taken.items y name) (slice_get-get_or mail.taken.items y name y_in) in
+          entry_held its_history (length taken_all) is.fates.held mail.from y (get_or mail.taken.items y name) e e.inside
+
+      -- one refusal
+      module _ (r : RefusedMessage) (refuses : Refuses accepts_by p its_history taken_all refused_all r) where
+        abbrev message : Message
+        message = message_at taken_all r.index
+
+        peers_are : ArePeers plan.circle.items message.from k
+        peers_are = are_peers members plan circle_is message.from k (drawn plan room nodes logs left told v g l k r.index k_in refuses.index)
+
+        is_refusal : IsRefusal mails k p its_history named_all (refusal_of nodes taken_all r) (get_or nodes message.from v)
+        is_refusal =
+            let mail = mail_of message.from k peers_are in
+            let row = its_row plan room nodes logs left told v g l k r.index k_in refuses.index in
+            let spells = row_spells plan room nodes logs left told v g l k r.index k_in refuses.index in
+            record {
+              place = mail.0;
+              mail = mail.1;
+              at = mail.2;
+              number = place message.from taken_all r.index;
+              taken = stands_in_mail k r.index k_in refuses.index mail.0 mail.1 mail.2;
+              within = refuses.within;
+              row = row;
+              sent = row_at plan room nodes logs left told v g l k r.index k_in refuses.index;
+              name = sym (name_is plan room nodes logs left told v g l k r.index k_in refuses.index);
+              verdict = ap (put_answer accepts_by (node_at p.start (take r.at its_history))) spells ∙ refuses.verdict;
+              before = λ x name low at.
+                  let from_is : mail.1.from ≡ message.from = ap (λ (q : ℕ × ℕ). q.0) mail.2.pair in
+                  let e : Entry k message.from x name = subst (λ (z : ℕ). Entry k z x name) from_is (entry_at k k_in mail.0 mail.1 mail.2.here (ap (λ (q : ℕ × ℕ). q.1) mail.2.pair) x name at) in
+                  entry_held (take r.at its_history) r.index refuses.before message.from x name e (earlier message.from taken_all e.index r.index (omega (arith, e.at, low)));
+            }
+
+      -- one row that the node took
+      took_of : (q : ℕ) (row : Row) → slice_get its_history q ≡ Some (Took row) → IsOfMail mails k row.name
+      took_of q row at =
+          let of : IsOfMessage taken_all row = is.fates.took q row at in
+          let sender : ℕ = (message_at taken_all of.index).from in
+          let peers = are_peers members plan circle_is sender k (drawn plan room nodes logs left told v g l k of.index k_in of.inside) in
+          let mail = mail_of sender k peers in
+          let same : its_row plan room nodes logs left told v g l k of.index k_in of.inside ≡ row =
+          same_done (its_row plan room nodes logs left told v g l k of.index k_in of.inside) row (sym (row_read plan room nodes logs left told v g l k of.index k_in of.inside) ∙ of.reads) in
+          record {
+            from = sender;
+            place = mail.0;
+            mail = mail.1;
+            at = mail.2;
+            number = place sender taken_all of.index;
+            taken = stands_in_mail k of.index k_in of.inside mail.0 mail.1 mail.2 ∙ ap (λ (n : List ℕ). Some n) (name_is plan room nodes logs left told v g l k of.index k_in of.inside ∙ ap (λ (x : Row). x.name) same);
+          }
+
+      -- what became of all of it
+      pub has_taken_names : HasTakenNames plan nodes mails k p (get_or nodes k v) (get_or logs k g).idle named_all
+      has_taken_names = record {
+        turns = is.turns;
+        taken = taken_held;
+        refusals = λ x d x_in w.
+            let at : x < length refused_all = omega (arith, x_in, length-map refused_all (refusal_of nodes taken_all)) in
+            let r : RefusedMessage = some_of refused_all x at in
+            let one : Refuses accepts_by p its_history taken_all refused_all (get_or refused_all x r) =
+            All-from_recursion (Refuses accepts_by p its_history taken_all refused_all) refused_all is.fates.refusals x r at in
+            let named : refusal_of nodes taken_all (get_or refused_all x r) ≡ get_or named_all x d = sym (get_or-map (refusal_of nodes taken_all) refused_all x r d at) in
+            let m : Message = message_at taken_all (get_or refused_all x r).index in
+            let node : get_or nodes m.from v ≡ get_or nodes m.from w = get_or_default nodes m.from v w (from_in plan room nodes logs left told v g l k (get_or refused_all x r).index k_in one.index) in
+            subst (λ (y : Refusal). IsRefusal mails k p its_history named_all y (get_or nodes y.from w)) named
+            (subst (IsRefusal mails k p its_history named_all (refusal_of nodes taken_all (get_or refused_all x r))) node (is_refusal (get_or refused_all x r) one));
+        took = took_of;
+      }
+
+-- each message that was refused carries a row of a member's node
+pub have_rows : (plan : Plan) (room : ℕ) (nodes : List (NodeView Secrets)) (logs : List Log) (left : List (Vec Message)) → AreTold plan room nodes logs left → All (HaveRows nodes) logs
+have_rows plan room nodes logs left told k g k_in x r x_in =
+    let inside : k < length nodes = omega (arith, k_in, told.logs_count) in
+    let v : NodeView Secrets = some_of nodes k inside in
+    let l : Vec Message = some_of left k (omega (arith, inside, told.left_count)) in
+    let took : List Message = (get_or logs k g).intake.taken.items in
+    let refused : List RefusedMessage = (get_or logs k g).intake.refused.items in
+    let is = told.each k v g inside in
+    let one : Refuses accepts_by is.0 (get_or nodes k v).history took refused (get_or refused x r) =
+    All-from_recursion (Refuses accepts_by is.0 (get_or nodes k v).history took refused) refused is.1.fates.refusals x r x_in in
+    record {
+      index = one.index;
+      from = from_in plan room nodes logs left told v g l k (get_or refused x r).index inside one.index;
+      number = λ w. has_row_number plan room nodes logs left told w g l k (get_or refused x r).index inside one.index;
+    }
+
+-- ---- all members
+
+abbrev pub items_of : Vec Refusal → List Refusal
+items_of l = l.items
+
+-- of each what its lists tell
+module _ (members : MemberList) (room : ℕ) (joined : Joined) (plan : Plan) (told : AreTold plan room joined.nodes.items joined.logs.items joined.left.items) (circle_is : plan.circle.items ≡ circle_of members)
+    (mails : List Mail) (are : AreMailsOf joined plan.circle.items mails) (idle : List ℕ) (refused : List (Vec Refusal))
+    (idle_is : idle ≡ map (λ (g : Log). g.idle) joined.logs.items) (refused_is : map items_of refused ≡ map (refusals_of joined.nodes.items) joined.logs.items) where
+  pub idle_long : length idle ≡ length joined.nodes.items
+  idle_long = ap length idle_is ∙ (length-map joined.logs.items (λ (g : Log). g.idle) ∙ told.logs_count)
+
+  pub refused_long : length refused ≡ length joined.nodes.items
+  refused_long = sym (length-map refused items_of) ∙ (ap length refused_is ∙ (length-map joined.logs.items (refusals_of joined.nodes.items) ∙ told.logs_count))
+
+  pub taken_names : (k : ℕ) (v : NodeView Secrets) (i : ℕ) (r : Vec Refusal) → k < length joined.nodes.items →
+      (p : SharedNode Secrets) × HasTakenNames plan joined.nodes.items mails k p (get_or joined.nodes.items k v) (get_or idle k i) (get_or refused k r).items
+  taken_names k v i r k_in =
+      let low : k < length joined.logs.items = omega (arith, k_in, told.logs_count) in
+      let g : Log = some_of joined.logs.items k low in
+      let l : Vec Message = some_of joined.left.items k (omega (arith, k_in, told.left_count)) in
+      let is = told.each k v g k_in in
+      let turns_none : (get_or joined.logs.items k g).idle ≡ get_or idle k i = sym (ap (λ (ns : List ℕ). get_or ns k i) idle_is ∙ get_or-map (λ (h : Log). h.idle) joined.logs.items k g i low) in
+      let names : refusals_of joined.nodes.items (get_or joined.logs.items k g) ≡ (get_or refused k r).items =
+      sym (get_or-map (refusals_of joined.nodes.items) joined.logs.items k g (items_of r) low)
+      ∙ (ap (λ (ls : List (List Refusal)). get_or ls k (items_of r)) (sym refused_is) ∙ get_or-map items_of refused k r (items_of r) (omega (arith, k_in, refused_long))) in (
+        is.0,
+        subst (λ (x : ℕ × List Refusal). HasTakenNames plan joined.nodes.items mails k is.0 (get_or joined.nodes.items k v) x.0 x.1) (λ z. (turns_none z, names z))
+            (has_taken_names members room joined plan told circle_is mails are v g l k k_in is.0 is.1),
+      )
+
+-- one message more that was refused
+pub named_more : (nodes : List (NodeView Secrets)) (taken : List Message) (refused : List RefusedMessage) (i : ℕ) (one : RefusedMessage) (m : Message) (v : NodeView Secrets) (row : Row) (old new : List Refusal) →
+    All (HasRow nodes taken) refused → i < length refused → one ≡ get_or refused i one → m ≡ get_or taken one.index m → v ≡ get_or nodes m.from v → slice_get (node_rows v) m.number ≡ Some row →
+    old ≡ map (refusal_of nodes taken) (take i refused) → new ≡ old ++ record { from = m.from; name = row.name; why = one.why; at = one.at } ∷ [] → new ≡ map (refusal_of nodes taken) (take (i + 1) refused)
+named_more nodes taken refused i one m v row old new all low one_is m_is v_is row_is before pushed =
+    let has : HasRow nodes taken one = subst (HasRow nodes taken) (sym one_is) (all i one low) in
+    let same : m ≡ message_at taken one.index = m_is ∙ get_or_default taken one.index m no_message has.index in
+    let from_in : m.from < length nodes = subst (λ (n : Message). n.from < length nodes) (sym same) has.from in
+    let there : slice_get nodes m.from ≡ Some v = slice_get-get_or nodes m.from v from_in ∙ ap (λ (w : NodeView Secrets). Some w) (sym v_is) in
+    let name : row.name ≡ name_sent nodes m = sym (ap (λ (o : Option (NodeView Secrets)). name_of o m.number) there ∙ name_read (node_rows v) m.number row [] row_is) in
+    let whole : record { from = m.from; name = row.name; why = one.why; at = one.at } ≡ refusal_of nodes taken one =
+    λ z. record { from = (same z).from; name = (name ∙ ap (name_sent nodes) same) z; why = one.why; at = one.at } in
+    mapped_more (refusal_of nodes taken) refused i one (record { from = m.from; name = row.name; why = one.why; at = one.at }) old new low one_is before whole pushed

@@ -1,0 +1,97 @@
+-- The mails by names alone: what each member sent each other, and what all sent to one
+use Rattle.std.proofs.Common.{◌≡◌, ℕ, ◌<◌, ◌≤◌, cond, eqb, List, [], ◌∷◌, length, take, map, get_or, sum_by, refl, sym, ap, ◌∙◌, subst, arith}
+use Rattle.std.specs.Prelude.{All}
+use Rattle.std.specs.Global.{Vec}
+use Rattle.std.proofs.lemmas.List.{get_or_default, get_or-map, length-take-le}
+use Rattle.std.proofs.lemmas.List.Sums.{sum_by-cons}
+use Rattle.hg_life.specs.Members.{MemberList}
+use Rattle.hg_life.specs.NodeView.{NodeView}
+use Rattle.hg_mail.specs.declared.message.Message.{Message}
+use Rattle.hg_crowd.proofs.ListLaws.{some_of}
+use Rattle.hg_storm.specs.declared.desk.Log.{Log}
+use Rattle.hg_storm.specs.declared.mails.Mail.{Mail}
+use Rattle.hg_storm.specs.declared.plan.Plan.{Plan}
+use Rattle.hg_storm.specs.declared.sending.Dispatch.{Dispatch}
+use Rattle.hg_storm.specs.declared.threads.Joined.{Joined}
+use Rattle.hg_storm.specs.Drawing.{circle_of}
+use Rattle.hg_storm.specs.Joins.{AreTold, IsSentTo, dispatch_to, put_to, rows_of_node, tale_told}
+use Rattle.hg_storm.specs.Keeping.{Secrets}
+use Rattle.hg_storm.specs.Mails.{AreMails, AreMailsOf, IsMail, IsMailIn, IsToldMail, dispatch_of, names_in, names_to, pair_of, pairs_in}
+use Rattle.hg_storm.proofs.BackLaws.{length-messages}
+use Rattle.hg_storm.proofs.CircleLaws.{are_peers, in_pair, sum_in_pairs, sums_same}
+use Rattle.hg_storm.proofs.NameLaws.{has_drawn}
+
+sum_of_map : {A B : Type 0} (f : B → ℕ) (h : A → B) (xs : List A) → sum_by f (map h xs) ≡ sum_by (λ (x : A). f (h x)) xs
+sum_of_map f h [] = refl
+sum_of_map {A} f h (x ∷ xs) = omega (arith, sum_by-cons f (h x) (map h xs), sum_by-cons (λ (y : A). f (h y)) x xs, sum_of_map f h xs)
+
+module _ (members : MemberList) (room : ℕ) (joined : Joined) (plan : Plan) (told : AreTold plan room joined.nodes.items joined.logs.items joined.left.items) (circle_is : plan.circle.items ≡ circle_of members)
+    (below : All (λ j. j < length joined.nodes.items) plan.circle.items) (mails : List Mail) (are : AreMailsOf joined plan.circle.items mails) where
+  abbrev nodes : List (NodeView Secrets)
+  nodes = joined.nodes.items
+
+  abbrev logs : List Log
+  logs = joined.logs.items
+
+  abbrev left : List (Vec Message)
+  left = joined.left.items
+
+  module _ (v : NodeView Secrets) (g : Log) (l : Vec Message) where
+    -- how many rows one put into the mailbox of another
+    abbrev many : ℕ → ℕ → ℕ
+    many j k = length ((tale_told nodes logs v g).put j k)
+
+    many_is : (j k : ℕ) → j < length nodes → k < length nodes → many j k ≡ (dispatch_to (get_or logs j g) k).sent
+    many_is j k j_in k_in =
+        length-messages j 0 (take (dispatch_to (get_or logs j g) k).sent (rows_of_node (get_or nodes j v)))
+        ∙ length-take-le (dispatch_to (get_or logs j g) k).sent (rows_of_node (get_or nodes j v)) (told.sent j k v g j_in k_in).within
+
+    long : (m : Mail) (d : Dispatch) (took rest : List Message) (names : List (List ℕ)) → IsToldMail names d took rest m → length m.sent.items ≡ d.sent
+    long m d took rest names t = ap length t.sent ∙ length-take-le d.sent names t.within
+
+    -- what all sent to one is what the mails to it have
+    all_sent : (k : ℕ) → k < length nodes → put_to (tale_told nodes logs v g) (length nodes) k ≤ names_to mails k
+    all_sent k k_in =
+        let counts : Mail → ℕ = λ (m : Mail). cond (eqb m.to k) (length m.sent.items) 0 in
+        let each : All (λ (m : Mail). counts m ≡ in_pair plan.circle.items many k (pair_of m)) mails = λ x d x_in.
+        let m : Mail = get_or mails x d in
+        let t = are.each x d x_in in
+        let size : length m.sent.items ≡ many m.from m.to =
+        long m (dispatch_to (get_or logs m.from g) m.to) (get_or logs m.to g).intake.taken.items (get_or left m.to l).items (names_in (get_or nodes m.from v)) (t.mail v g l) ∙ sym (many_is m.from m.to t.from t.to) in
+        ap (λ (n : ℕ). cond (eqb m.to k) n 0) size in
+        let by_pairs : names_to mails k ≡ sum_by (in_pair plan.circle.items many k) (pairs_in plan.circle.items) =
+        sums_same counts (λ (m : Mail). in_pair plan.circle.items many k (pair_of m)) mails each
+        ∙ (sym (sum_of_map (in_pair plan.circle.items many k) pair_of mails) ∙ ap (sum_by (in_pair plan.circle.items many k)) are.pairs) in
+        let within = sum_in_pairs plan.circle.items many k (length nodes) below (λ j j_in some.
+        are_peers members plan circle_is j k (has_drawn plan room nodes logs left told v g l j k j_in k_in (omega (arith, some, many_is j k j_in k_in)))) in
+        omega (arith, within, by_pairs)
+
+    mail_is : (x : ℕ) (m : Mail) → x < length mails → m ≡ get_or mails x m → IsMail plan room mails (get_or nodes m.from v) (get_or logs m.from g).idle m
+    mail_is x m x_in m_is =
+        let t = subst (λ (n : Mail). IsMailIn nodes logs left n) (sym m_is) (are.each x m x_in) in
+        let d : Dispatch = dispatch_to (get_or logs m.from g) m.to in
+        let told_mail = t.mail v g l in
+        let size : length m.sent.items ≡ d.sent = long m d (get_or logs m.to g).intake.taken.items (get_or left m.to l).items (names_in (get_or nodes m.from v)) told_mail in
+        let same : d ≡ dispatch_of m = λ i. record { sent = sym size i; full = sym told_mail.full i; due = sym told_mail.due i } in
+        record {
+          sent = told_mail.sent ∙ ap (λ (n : ℕ). take n (names_in (get_or nodes m.from v))) (sym size);
+          once = told_mail.once;
+          parts = told_mail.parts;
+          due = subst (IsSentTo plan m.from m.to (get_or nodes m.from v) (get_or logs m.from g).idle) same (told.sent m.from m.to v g t.from t.to);
+          full = λ often.
+              let held = told.full m.from m.to v g t.from t.to (omega (arith, often, told_mail.full)) in
+              omega (arith, held, all_sent m.to t.to);
+        }
+
+  pub are_mails : (idle : List ℕ) → idle ≡ map (λ (h : Log). h.idle) logs → AreMails plan room nodes idle mails
+  are_mails idle idle_is = record {
+    pairs = are.pairs;
+    each = λ x d x_in v i.
+        let t = are.each x d x_in in
+        let m : Mail = get_or mails x d in
+        let g : Log = some_of logs m.from (omega (arith, t.from, told.logs_count)) in
+        let l : Vec Message = some_of left m.from (omega (arith, t.from, told.left_count)) in
+        let none : (get_or logs m.from g).idle ≡ get_or idle m.from i =
+        sym (ap (λ (ns : List ℕ). get_or ns m.from i) idle_is ∙ get_or-map (λ (h : Log). h.idle) logs m.from g i (omega (arith, t.from, told.logs_count))) in
+        subst (λ (n : ℕ). IsMail plan room mails (get_or nodes m.from v) n m) none (mail_is v g l x m x_in (get_or_default mails x d m x_in));
+  }
