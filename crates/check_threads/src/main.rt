@@ -12,6 +12,7 @@
 
 mod beside;
 mod by_hand;
+mod many_storms;
 mod meeting;
 mod players;
 mod seated;
@@ -19,6 +20,7 @@ mod storms;
 
 use crate::beside::{TURNS, shared_beside};
 use crate::by_hand::is_as_by_hand;
+use crate::many_storms::run_storms;
 use crate::meeting::Meeting;
 use crate::players::{Player, are_same, made_alone, node_of, played_alone, two_members};
 use crate::seated::{sync_alone, sync_by_seats};
@@ -85,11 +87,12 @@ fn share_all<R: Threads + Wait + Sync>(rt: &R, alloc: Global) -> Result<Score, T
     Ok(nodes)
 }
 
-/// The same, with its line.
+/// The same, with its line, and then all storms, of which each part counts as one that differs if something in it does.
 fn tell_all<R: AllocGlobal + Print + Threads + Wait + Sync>(rt: &R) -> Result<Score, Trouble> {
     let nodes = share_all(rt, rt.alloc())?;
     nodes.print(rt, "shared nodes")?;
-    Ok(nodes)
+    let storms = run_storms(rt)?;
+    Ok(storms.with(nodes.differ == 0))
 }
 
 fn main(rt: HostRuntime) -> ExitCode {
