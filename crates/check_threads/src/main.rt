@@ -23,6 +23,7 @@ mod beside;
 mod by_hand;
 mod many_storms;
 mod meeting;
+mod pace;
 mod players;
 mod seated;
 mod storm_start;

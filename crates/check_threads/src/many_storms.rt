@@ -4,6 +4,7 @@
 ghost use Rattle.std.specs.Prelude.{◌<◌, length};
 ghost use Rattle.hg_life.specs.NodeView.{node_rows};
 
+use crate::pace::Pace;
 use crate::storm_start::{Drawn, Start, drawn_by, start_of};
 use crate::walk::Walk;
 use hg_check::{Score, Trouble};
@@ -325,17 +326,9 @@ impl Tally {
     ) -> Result<(), Trouble> {
         let start = start_of(alloc, number)?;
         let voters = Voters::new(&NoGate);
+        let pace = Pace::new(start.paced);
         let (turns, room, seed) = (start.turns, start.room, start.seed);
-        let storm = storm(
-            rt,
-            alloc,
-            &start.members,
-            turns,
-            room,
-            seed,
-            &voters,
-            &NoGate,
-        )?;
+        let storm = storm(rt, alloc, &start.members, turns, room, seed, &voters, &pace)?;
         self.compare_members(alloc, &start, &storm)?;
         let has_all = self.compare_mails(alloc, &start, &storm)?;
         self.storms = self.storms.with(has_all && end_alike(&start, &storm));

@@ -20,6 +20,8 @@ pub struct Start {
     pub turns: u32,
     pub room: usize,
     pub seed: u64,
+    /// How many members wait for each other at the end of each turn: those that have nodes, or none.
+    pub paced: u64,
     pub ghost some: { 0 < room },
 }
 
@@ -92,12 +94,18 @@ pub fn start_of(alloc: Global, number: u32) -> Result<Start, Trouble> {
         return Err(Trouble::Members);
     };
     let circle = circle_in(alloc, &members)?;
+    let paced = if dice.is_one_in(4) {
+        circle.len() as u64
+    } else {
+        0
+    };
     Ok(Start {
         members,
         circle,
         turns: turns_for(&mut dice, count),
         room: room_for(&mut dice),
         seed: seed_for(&mut dice),
+        paced,
     })
 }
 
