@@ -43,7 +43,8 @@ struct Told {
     idle: u32,
     /// How many changes the node had at the joins.
     ended: usize,
-    refused: bool,
+    /// How many rows the node refused: none, where each sender's rows came in its order.
+    refused: usize,
 }
 
 /// A member's node.
@@ -57,12 +58,13 @@ fn node_of(world: &World, member: Member) -> Option<&Node<SharedTable>> {
 
 /// What a storm tells of a member's node.
 fn told_of(storm: &Storm, me: Member) -> Option<Told> {
-    let log = storm.logs.get(me as usize)?;
+    let idle = storm.idle.get(me as usize)?;
     let ended = storm.ended.get(me as usize)?;
+    let refused = storm.refused.get(me as usize)?;
     Some(Told {
-        idle: log.idle,
+        idle: *idle,
         ended: *ended,
-        refused: !log.intake.refused.is_empty(),
+        refused: refused.len(),
     })
 }
 
@@ -156,7 +158,7 @@ fn has_turned(node: &Node<SharedTable>, came: &[bool], turns: u32, told: Told) -
     let me = node.own();
     let rows = rows_after(node, told.ended);
     let mut walk = Walk::new();
-    let mut right = !told.refused && told.ended <= node.changes();
+    let mut right = told.refused == 0 && told.ended <= node.changes();
     for place in 0..node.rows() {
         let row = node.row(place);
         if place < rows {
