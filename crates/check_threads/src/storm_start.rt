@@ -94,7 +94,7 @@ pub fn start_of(alloc: Global, number: u32) -> Result<Start, Trouble> {
         return Err(Trouble::Members);
     };
     let circle = circle_in(alloc, &members)?;
-    let paced = if dice.is_one_in(4) {
+    let paced = if count < 5 && dice.is_one_in(8) {
         circle.len() as u64
     } else {
         0
