@@ -1,4 +1,4 @@
-//! A gate at which the members of a storm wait for each other at the end of each turn.
+//! A gate at which the members of a storm wait for each other at the end of each of their first turns.
 
 use hg_io::Gate;
 use std::sync::atomic::{AtomicU64, Ordering};
@@ -6,6 +6,9 @@ use std::thread;
 
 /// The point at the end of a turn of member 0, the first of such points.
 const FIRST: u32 = 3000;
+
+/// They wait at the end of so many turns.
+const TURNS: u64 = 40;
 
 /// A member goes on after so many looks at the others.
 const LOOKS: u32 = 1_000;
@@ -34,9 +37,12 @@ impl Gate for Pace {
         if point < FIRST || self.members == 0 {
             return;
         }
-        let own = self.ended.fetch_add(1, Ordering::SeqCst) / self.members;
+        let turn = self.ended.fetch_add(1, Ordering::SeqCst) / self.members;
+        if turn >= TURNS {
+            return;
+        }
         for _look in 0..LOOKS {
-            if self.ended.load(Ordering::SeqCst) / self.members > own {
+            if self.ended.load(Ordering::SeqCst) / self.members > turn {
                 return;
             }
             thread::yield_now();

@@ -20,7 +20,7 @@ pub struct Start {
     pub turns: u32,
     pub room: usize,
     pub seed: u64,
-    /// How many members wait for each other at the end of each turn: those that have nodes, or none.
+    /// How many members wait for each other at the end of each of their first turns: those that have nodes, or none.
     pub paced: u64,
     pub ghost some: { 0 < room },
 }
@@ -94,7 +94,7 @@ pub fn start_of(alloc: Global, number: u32) -> Result<Start, Trouble> {
         return Err(Trouble::Members);
     };
     let circle = circle_in(alloc, &members)?;
-    let paced = if count < 5 && dice.is_one_in(8) {
+    let paced = if count < 5 && dice.is_one_in(16) {
         circle.len() as u64
     } else {
         0
