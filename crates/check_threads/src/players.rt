@@ -26,21 +26,28 @@ impl Drop for Player {
     }
 }
 
-fn entry(alloc: Global, name: u8, secret: u8, balance: u64) -> Result<MemberEntry, Memory> {
+/// A member of this name and secret, with a stake of 1.
+pub fn entry(
+    alloc: Global,
+    name: u8,
+    secret: u8,
+    balance: u64,
+    has_node: bool,
+) -> Result<MemberEntry, Memory> {
     Ok(MemberEntry {
         name: Bytes::from_vec(Vec::from_slice(alloc, &[name])?),
         secret: Bytes::from_vec(Vec::from_slice(alloc, &[secret; 4])?),
         balance,
         stake: 1,
-        has_node: true,
+        has_node,
     })
 }
 
 /// A, who has 100, and B, who has nothing.
 fn two_entries(alloc: Global) -> Result<Vec<MemberEntry>, Memory> {
     let mut entries = Vec::new(alloc);
-    entries.push(entry(alloc, b'A', 0x0b, 100)?)?;
-    entries.push(entry(alloc, b'B', 0x0c, 0)?)?;
+    entries.push(entry(alloc, b'A', 0x0b, 100, true)?)?;
+    entries.push(entry(alloc, b'B', 0x0c, 0, true)?)?;
     Ok(entries)
 }
 

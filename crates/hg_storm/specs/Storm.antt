@@ -1,4 +1,4 @@
--- A storm: all members' turns between threads, and then all nodes have the rows that any had
+-- A storm: all members' turns between threads, and then what the nodes pull from each other
 use Rattle.std.specs.Prelude.{ℕ, ◌≡◌, ◌<◌, List, [], ◌∷◌, ◌++◌, fold, get_or, length, map}
 use Rattle.std.specs.Global.{Vec}
 use Rattle.hg_life.specs.Members.{MemberList, stakes_of}
@@ -48,8 +48,9 @@ abbrev pub world_again : MemberList → List (NodeView Secrets) → WorldView
 world_again members ends = world_of (stakes_of members) members.coin (unfrozen ends)
 
 -- The members' nodes, which began without rows, took their turns between threads. Each is that of its member still, and this
--- is what those that have nodes sent each other, in how many turns each made no event, and what each refused. Then those that
--- have nodes pulled from each other, and settled. Each history is that of a node, and no two orders part ways.
+-- is what those that have nodes sent each other, in how many turns each made no event, and what each refused. Then the first
+-- of those that have nodes pulled from each other one, each other one from it, and these nodes settled. Each history is that
+-- of a node, and the run is safe.
 pub record IsStorm (members : MemberList) (times room first : ℕ) (s : Storm) : Type 0 where
   pub plan : Plan
   pub circle : plan.circle.items ≡ circle_of members

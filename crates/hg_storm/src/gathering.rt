@@ -1,4 +1,4 @@
-// How the nodes come to have each other's rows.
+// What the nodes pull from each other after the joins.
 ghost use Rattle.std.specs.Prelude.{◌≡◌, ◌<◌, All, OnOk, fold, length};
 ghost use Rattle.hg_world.specs.World.{IsMemberOf};
 ghost use Rattle.hg_storm.specs.Storm.{after_pulls, after_settling, gathered, pulls_from, pulls_of, pulls_to};
@@ -55,7 +55,7 @@ fn pull_each(world: &mut World, circle: &[Member]) -> Result<(), Memory>
     pull_from(world, *first, rest)
 }
 
-/// These nodes pull from each other, so that each has the rows that any of them had and that it takes, and settle.
+/// The first of these nodes pulls from each other one, each other one pulls from it, and all settle.
 pub(crate) fn gather(world: &mut World, circle: &[Member]) -> Result<(), Memory>
     requires { All (IsMemberOf world.old) circle.now }
     ensures { OnOk result (world.new ≡ gathered world.old circle.now) }

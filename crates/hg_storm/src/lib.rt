@@ -1,15 +1,20 @@
-//! What a node between threads does with its own mailbox and those of others: `receive` takes messages out and puts their
-//! events into the node, `send_rows` sends another member the node's rows that it was not sent yet, in order, until its
-//! mailbox is full. Whom a node sends to, and when, is the caller's.
-//! The layers above use `HasFates`: each message that was taken is held, or was refused by what the node held at a moment
-//! that is told (`RefusedMessage`), and each change made through the seat is a row made, or that of a message; what leaves
-//! it so (`calls_keep_fates`); and that it is so of the node's whole history, once others only marked (`fates_last`).
+//! All members' nodes between threads: in a `storm` each takes its turns in a thread of its own. A turn takes what its
+//! mailbox has (`receive`), makes an event, draws another member, and sends it, in order, the rows that it was not sent
+//! yet, until its mailbox is full (`send_rows`). After the joins the nodes are a world again, pull, and settle.
+//! The layers above use `IsStorm`: by the names of rows, what each member sent each other, and what each took and refused; how
+//! many turns made nothing; and the world after these pulls. Of one node they use `HasFates`: each message that was taken
+//! is held, or was refused by what the node held at a moment that is told (`RefusedMessage`), and each change made through
+//! the seat is a row made, or that of a message; what leaves it so (`calls_keep_fates`); and that it is so of the node's
+//! whole history, once others only marked (`fates_last`).
 //!
-//! From `receive` of `hg_storm`:
+//! From `storm` of `hg_storm`, shortened:
 //!
 //! ```text
-//! let messages = mailbox.collect(rt, alloc, inbox)?;
-//! take_all(rt, shared, seat, intake, messages)
+//! let begun = World::new(alloc, members)?;
+//! let first = begun.into_nodes();
+//! let joined = run_threads(rt, alloc, first, &plan, room, crew, gate)?;
+//! ...
+//! gather(&mut world, plan.circle.as_slice())?;
 //! ```
 #![tactic(auto)]
 

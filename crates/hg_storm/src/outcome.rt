@@ -5,7 +5,8 @@ use hg_world::World;
 /// What became of a storm.
 #[derive(Drop)]
 pub struct Storm {
-    /// The nodes, each with all rows that any node had, but for those that it refused.
+    /// The nodes. Of the members that have one, the first's has pulled from each other's after the joins, each other's from it,
+    /// and all of these are settled.
     pub world: World,
     /// What each member that has a node sent each other one, in their order.
     pub mail: Vec<Mail>,
