@@ -25,6 +25,8 @@ mod status;
 mod storming;
 mod top;
 
-pub use printing::without_words;
+pub use keeping::own_in;
+pub use printing::{report_status, without_words};
+pub use reading::members_from;
 pub use status::{File, JournalFault, NoWords, Refusal, Status};
 pub use top::hashgraph;
