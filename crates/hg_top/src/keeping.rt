@@ -29,7 +29,7 @@ pub(crate) struct KeepRequest<'a> {
 }
 
 /// The member of this name, if it has a node.
-pub(crate) fn own_in(members: &Members, name: &str) -> Option<Member>
+pub fn own_in(members: &Members, name: &str) -> Option<Member>
     ensures value { result ≡ own_in members.now name.now }
     ensures inside { IfSome result (λ own. own < length members.now.entries) }
 {

@@ -244,7 +244,7 @@ fn print_status<E: Sink>(err: &mut E, status: Status) -> Result<(), Failed>
 }
 
 /// Prints what a run came to on standard error, whose faults change nothing.
-pub(crate) fn report_status<E: Sink>(err: &mut E, status: Status)
+pub fn report_status<E: Sink>(err: &mut E, status: Status)
     ensures { IsPrintedOn E.Sink err.old err.new (status_line status) }
 {
     match print_status(err, status) {

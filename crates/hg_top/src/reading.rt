@@ -46,7 +46,7 @@ fn bytes_from<F: Shelf>(
 }
 
 /// The members that the file of this name tells.
-pub(crate) fn members_from<F: Shelf>(
+pub fn members_from<F: Shelf>(
     alloc: Global,
     shelf: &mut F,
     name: &str,
