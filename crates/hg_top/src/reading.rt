@@ -46,11 +46,7 @@ fn bytes_from<F: Shelf>(
 }
 
 /// The members that the file of this name tells.
-pub fn members_from<F: Shelf>(
-    alloc: Global,
-    shelf: &mut F,
-    name: &str,
-) -> Result<Members, Status>
+pub fn members_from<F: Shelf>(alloc: Global, shelf: &mut F, name: &str) -> Result<Members, Status>
     ensures ok { IfOk result (IsTaken (F.holds shelf.old) file.Members members_of name.now) }
     ensures err { IfErr result (StopsIn F.Shelf shelf.old shelf.new (members_work name.now (λ members. nothing_more))) }
     ensures starts { StartsOne F.Shelf shelf.old shelf.new }
