@@ -19,5 +19,5 @@ mod playing;
 mod printing;
 
 pub use exchange::{Took, ask, serve, take};
-pub use message::{MessageFault, read_message};
+pub use message::{MessageFault, names_of, read_message};
 pub use printing::write_took;

@@ -41,7 +41,7 @@ pub fn read_message(
 }
 
 /// The names of HAVE.
-pub(crate) fn names_of(message: &Message) -> &[Name]
+pub fn names_of(message: &Message) -> &[Name]
     ensures { result.now ≡ names_in message.now }
 {
     match message {

@@ -1,4 +1,4 @@
 mod EventLaws
-mod StopLaws
-mod TaskLaws
-mod WayLaws
+pub mod StopLaws
+pub mod TaskLaws
+pub mod WayLaws

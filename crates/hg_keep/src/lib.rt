@@ -1,6 +1,7 @@
 //! The work of the command `keep`: a node is opened from its journal, events of a file are put to it, it makes one if it is to,
 //! and publishes all that its graph decides; each change stands in the journal before the next one is begun.
-//! The layer above uses `read_events`, `keep`, which answers what came of it, and `write_kept`, which prints that.
+//! The layer above uses `read_events`, `keep`, which answers what came of it, and `write_kept`, which prints that; for a node
+//! that stays open it uses the parts of `keep`: `put_all`, `make_next` and `settle`.
 //!
 //! From `keep_node` of `hg_top`:
 //!
@@ -24,5 +25,8 @@ mod stop;
 pub use events::{EventFault, read_events};
 pub use keeping::{Task, keep};
 pub use kept::{Counts, Kept, Making};
+pub use making::make_next;
 pub use printing::write_kept;
-pub use stop::Stop;
+pub use putting::put_all;
+pub use settling::settle;
+pub use stop::{Stop, open_stop, store_stop};

@@ -45,7 +45,7 @@ fn told<V: Signer>(
 }
 
 /// Makes the event that comes next, without payload; `None` where none does.
-fn make_next<V: Signer + Drop, D: Disk>(
+pub fn make_next<V: Signer + Drop, D: Disk>(
     stored: &mut Stored<V>,
     disk: &mut D,
     time: u64,

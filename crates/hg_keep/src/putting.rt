@@ -27,7 +27,7 @@ impl Counts {
 }
 
 /// Puts the events to the node, one after the other.
-pub(crate) fn put_all<V: Signer + Drop, D: Disk>(
+pub fn put_all<V: Signer + Drop, D: Disk>(
     stored: &mut Stored<V>,
     disk: &mut D,
     events: &[Bytes],

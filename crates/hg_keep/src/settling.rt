@@ -10,7 +10,7 @@ use hg_model::Share;
 use hg_sign::Signer;
 
 /// Publishes all that the node's graph decides.
-pub(crate) fn settle<V: Signer + Drop, D: Disk>(
+pub fn settle<V: Signer + Drop, D: Disk>(
     stored: &mut Stored<V>,
     disk: &mut D,
 ) -> Result<(), StoreError>

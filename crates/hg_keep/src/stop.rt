@@ -18,7 +18,7 @@ pub enum Stop {
 }
 
 /// What stops the work where the journal is not opened.
-pub(crate) fn open_stop(error: OpenError) -> Stop
+pub fn open_stop(error: OpenError) -> Stop
     ensures { result ≡ open_stop error }
 {
     match error {
@@ -30,7 +30,7 @@ pub(crate) fn open_stop(error: OpenError) -> Stop
 }
 
 /// What stops it where a change is not stored. A closed node is one whose disk has failed.
-pub(crate) fn store_stop(error: StoreError) -> Stop
+pub fn store_stop(error: StoreError) -> Stop
     ensures { result ≡ store_stop error }
 {
     match error {

@@ -1,6 +1,6 @@
 //! What a program on a real machine is run over: the machine's files as a shelf, one of them as a disk, a standard stream
-//! as a sink, and the words of its command line. Faults are counted as the traits of hg_io ask; what a real file or stream
-//! holds no clause tells.
+//! as a sink or as a source, and the words of its command line. Faults are counted as the traits of hg_io ask; what a real
+//! file or stream holds no clause tells.
 //!
 //! From `main` of `hg_cli`, shortened:
 //!
@@ -14,11 +14,13 @@
 #![tactic(auto)]
 
 mod disk;
+mod incoming;
 mod shelf;
 mod stream;
 mod words;
 
 pub use disk::RealDisk;
+pub use incoming::Incoming;
 pub use shelf::RealShelf;
 pub use stream::Stream;
 pub use words::words_of;

@@ -7,7 +7,8 @@ ghost use Rattle.hg_top.specs.Keeps.{KeptOn, stop_status, work_on};
 use crate::reading::{events_from, members_from};
 use crate::status::{JournalFault, Status, status_of};
 use hg_io::{Disk, Shelf, Sink};
-use hg_keep::{Stop, Task, write_kept};
+use hg_journal::{OpenError, StoreError};
+use hg_keep::{Stop, Task, open_stop, store_stop, write_kept};
 use hg_life::Members;
 use hg_model::{Member, Memory};
 use hg_sign::MacTable;
@@ -48,6 +49,36 @@ fn stop_status(stop: Stop) -> Status
         Stop::Memory => Status::Memory,
         Stop::Foreign => Status::Journal(JournalFault::Foreign),
         Stop::Broken(at) => Status::Journal(JournalFault::Broken(at)),
+    }
+}
+
+impl From<Memory> for Status {
+    ghost use Rattle.hg_top.specs.declared.status.Status.TheVariants as variants;
+
+    ghost from_gives = { λ _ status. status ≡ variants.Memory };
+
+    fn from(_: Memory) -> Status {
+        Status::Memory
+    }
+}
+
+impl From<OpenError> for Status {
+    ghost use Rattle.hg_keep.specs.Stores.{open_stop};
+
+    ghost from_gives = { λ error status. status ≡ stop_status (open_stop error) };
+
+    fn from(error: OpenError) -> Status {
+        stop_status(open_stop(error))
+    }
+}
+
+impl From<StoreError> for Status {
+    ghost use Rattle.hg_keep.specs.Stores.{store_stop};
+
+    ghost from_gives = { λ error status. status ≡ stop_status (store_stop error) };
+
+    fn from(error: StoreError) -> Status {
+        stop_status(store_stop(error))
     }
 }
 

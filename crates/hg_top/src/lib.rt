@@ -28,5 +28,5 @@ mod top;
 pub use keeping::own_in;
 pub use printing::{report_status, without_words};
 pub use reading::members_from;
-pub use status::{File, JournalFault, NoWords, Refusal, Status};
+pub use status::{File, JournalFault, NoWords, Refusal, Status, status_of};
 pub use top::hashgraph;

@@ -140,7 +140,7 @@ pub(crate) fn delivered(delivery: Delivery) -> Status
 }
 
 /// What a call comes to by what came of writing its text.
-pub(crate) fn status_of(written: Result<(), Failed>) -> Status
+pub fn status_of(written: Result<(), Failed>) -> Status
     ensures { result ≡ writing.status_of written }
 {
     match written {

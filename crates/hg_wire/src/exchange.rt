@@ -72,7 +72,7 @@ fn count_of(message: &Message) -> usize
 }
 
 /// The rows of ROWS.
-fn rows_of(message: &Message) -> &[Bytes]
+pub fn rows_of(message: &Message) -> &[Bytes]
     ensures { result.now ≡ rows_in message.now }
 {
     match message {

@@ -32,7 +32,7 @@ mod sizes;
 mod writing;
 
 pub use ear::Ear;
-pub use exchange::{Delivery, answer, ask, take};
+pub use exchange::{Delivery, answer, ask, rows_of, take};
 pub use laws::{exchanges_fit, exchanges_hold, hear_all, messages};
 pub use message::{Fed, Message, Want, WireFault};
 pub use receiving::{Receipt, receive};
