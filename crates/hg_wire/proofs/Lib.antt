@@ -4,6 +4,7 @@ pub mod ExchangeLaws
 pub mod Found
 pub mod Fronts
 pub mod Most
+pub mod Onward
 pub mod Parts
 pub mod Places
 pub mod Settled

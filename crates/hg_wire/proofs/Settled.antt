@@ -1,5 +1,5 @@
 -- What an ear that has settled makes of the bytes to come
-use Rattle.std.proofs.Common.{◌≡◌, ℕ, ◌+◌, ◌≤◌, List, [], ◌++◌, length, drop, refl, sym, ap, ◌∙◌, arith, inl, inr}
+use Rattle.std.proofs.Common.{◌≡◌, ◌⊎◌, ℕ, ◌+◌, ◌≤◌, List, [], ◌++◌, length, drop, refl, sym, ap, subst, ◌∙◌, arith, inl, inr}
 use Rattle.std.proofs.lemmas.List.{append-nil, length-append}
 use Rattle.hg_wire.specs.declared.message.Message.{Message}
 use Rattle.hg_wire.specs.declared.message.Message.TheVariants.{Have}
@@ -9,13 +9,13 @@ use Rattle.hg_wire.specs.declared.message.WireFault.{WireFault}
 use Rattle.hg_wire.specs.declared.progress.Stage.{Stage}
 use Rattle.hg_wire.specs.declared.progress.Stage.TheVariants.{AtHead, Shut, Over}
 use Rattle.hg_wire.specs.declared.hearing.Hearing.{Hearing}
-use Rattle.hg_wire.specs.Outcome.{Unfinished, Faulty, Finished, ◌>>=◌}
+use Rattle.hg_wire.specs.Outcome.{Unfinished, Faulty, Finished, Reader, ◌>>=◌}
 use Rattle.hg_wire.specs.Reading.{read}
 use Rattle.hg_wire.specs.Grammar.{AreBytes}
 use Rattle.hg_wire.specs.Progress.{field, finish, rest_at, rest_of, start}
 use Rattle.hg_wire.specs.Sizes.{behind, least_of}
 use Rattle.hg_wire.specs.Views.{state_of}
-use Rattle.hg_wire.specs.Ears.{Answers, GoesOn, Hears, IsOn, IsSettled, IsWaiting, WaitsIfMore, hears, place_of}
+use Rattle.hg_wire.specs.Ears.{Answers, GoesOn, Hears, HearsAs, IsOn, IsSettled, IsWaiting, Place, WaitsIfMore, hears, place_of}
 use Rattle.hg_wire.proofs.Bytes.{both_fit, rest_fits}
 use Rattle.hg_wire.proofs.Places.{rest_field, rest_start}
 use Rattle.hg_wire.proofs.Steps.{went_on}
@@ -49,6 +49,12 @@ unfinished_waits h settled waits = elim settled [
   | inr (inr over) ↦ (let e = sym (means_over h over) ∙ waits in absurd (cc e))
 ]
 
+-- the same outcomes
+pub heard_as : (a b : Reader Message) (new : Hearing) (piece : List ℕ) (answer : Fed) → ((more : List ℕ) → a more ≡ b more) → HearsAs a new piece answer → HearsAs b new piece answer
+heard_as a b new piece More same (waits, means) = (waits, λ more. means more ∙ same more)
+heard_as a b new piece (Whole m used) same (within, over, means) = (within, over, λ more. sym (same more) ∙ means more)
+heard_as a b new piece (Refused fault) same (shut, means) = (shut, λ more. sym (same more) ∙ means more)
+
 pub heard_answers : (old new : Hearing) (piece : List ℕ) (answer : Fed) → Hears old new piece answer → Answers piece (hears old piece) answer
 heard_answers old new piece More (waits, same) =
     ap (hears old) (sym (append-nil piece)) ∙ sym (same []) ∙ means_waits new waits
@@ -70,6 +76,11 @@ pub heard_settles : (old new : Hearing) (piece : List ℕ) (answer : Fed) → He
 heard_settles old new piece More (waits, same) = inl waits
 heard_settles old new piece (Whole m used) (within, over, same) = inr (inr over)
 heard_settles old new piece (Refused fault) (shut, same) = inr (inl (fault, shut))
+
+-- and one that is as another is as settled
+pub settled_as : (a b : Hearing) → place_of a ≡ place_of b → IsSettled b → IsSettled a
+settled_as a b same settled =
+    subst (λ (p : Place). (field p.state p.pending ≡ Unfinished) ⊎ ((fault : WireFault) × (p.state.stage ≡ Shut fault)) ⊎ (p.state.stage ≡ Over)) (sym same) settled
 
 -- an ear that was not used hears all of the message
 pub new_means : (h : Hearing) → h.progress.stage ≡ AtHead → h.progress.names.items ≡ [] → h.progress.rows.items ≡ [] → h.pending.items ≡ []

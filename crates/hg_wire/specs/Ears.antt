@@ -1,5 +1,6 @@
 -- What an ear stands for: what it makes of the bytes to come
 use Rattle.std.specs.Prelude.{◌≡◌, ◌⊎◌, ◌≤◌, ◌<◌, ◌+◌, ◌-◌, ℕ, max, true, List, [], ◌++◌, length, drop, ⊤}
+use Rattle.hg_model.specs.Orders.{IsPrefix}
 use Rattle.hg_wire.specs.declared.message.Want.{Want}
 use Rattle.hg_wire.specs.declared.message.Message.{Message}
 use Rattle.hg_wire.specs.declared.message.Fed.{Fed}
@@ -89,12 +90,47 @@ Steps old new bytes (turn.Whole m rest) =
     (new.progress.stage ≡ Over) × IsBehind bytes rest.now × ((more : List ℕ) → hears old (bytes ++ more) ≡ Finished m (rest.now ++ more))
 Steps old new bytes (turn.Wrong fault) = (new.progress.stage ≡ Shut fault) × ((more : List ℕ) → hears old (bytes ++ more) ≡ Faulty fault)
 
--- what came of a piece
+-- what came of a piece, where these are the outcomes of the bytes to come behind it
+abbrev pub HearsAs : Reader Message → Hearing → List ℕ → Fed → Type 0
+HearsAs stream new piece More = IsWaiting new × ((more : List ℕ) → hears new more ≡ stream more)
+HearsAs stream new piece (Whole m used) =
+    (used ≤ length piece) × (new.progress.stage ≡ Over) × ((more : List ℕ) → stream more ≡ Finished m (drop used piece ++ more))
+HearsAs stream new piece (Refused fault) = (new.progress.stage ≡ Shut fault) × ((more : List ℕ) → stream more ≡ Faulty fault)
+
 abbrev pub Hears : Hearing → Hearing → List ℕ → Fed → Type 0
-Hears old new piece More = IsWaiting new × ((more : List ℕ) → hears new more ≡ hears old (piece ++ more))
-Hears old new piece (Whole m used) =
-    (used ≤ length piece) × (new.progress.stage ≡ Over) × ((more : List ℕ) → hears old (piece ++ more) ≡ Finished m (drop used piece ++ more))
-Hears old new piece (Refused fault) = (new.progress.stage ≡ Shut fault) × ((more : List ℕ) → hears old (piece ++ more) ≡ Faulty fault)
+Hears old new piece fed = HearsAs (λ more. hears old (piece ++ more)) new piece fed
+
+-- what came of a piece of which these bytes were left
+abbrev pub HearsOn : Hearing → List ℕ → Hearing → List ℕ → Fed → Type 0
+HearsOn old left new piece fed = HearsAs (λ more. hears old (left ++ more)) new piece fed
+
+-- these are the last bytes of the piece
+abbrev pub IsLeftOf : List ℕ → List ℕ → Type 0
+IsLeftOf piece left = (length left ≤ length piece) × (drop (length piece - length left) piece ≡ left)
+
+-- names and rows were added, if anything
+pub record IsOnward (old new : State) : Type 0 where
+  pub want : new.want ≡ old.want
+  pub names : IsPrefix old.names new.names
+  pub rows : IsPrefix old.rows new.rows
+
+-- and bytes
+abbrev pub IsBeyond : Place → Place → Type 0
+IsBeyond old new = IsOnward old.state new.state × IsPrefix old.pending new.pending
+
+-- what a step within bytes leaves where it went on
+abbrev pub StepsKept : Hearing → Hearing → Turn → Type 0
+StepsKept old new turn.Waits = ⊤
+StepsKept old new (turn.On rest) = (new.pending.items ≡ []) × IsOnward (state_of old.progress) (state_of new.progress)
+StepsKept old new (turn.Whole m rest) = ⊤
+StepsKept old new (turn.Wrong fault) = ⊤
+
+-- what a step across leaves where it went on: the bytes of the field are spare
+abbrev pub CrossesKept : Hearing → Hearing → List ℕ → Turn → Type 0
+CrossesKept old new spare turn.Waits = ⊤
+CrossesKept old new spare (turn.On rest) = (new.pending.items ≡ []) × IsOnward (state_of old.progress) (state_of new.progress) × IsPrefix old.pending.items spare
+CrossesKept old new spare (turn.Whole m rest) = ⊤
+CrossesKept old new spare (turn.Wrong fault) = ⊤
 
 -- an ear waits, or has refused the bytes, or is to be made anew
 abbrev pub IsSettled : Hearing → Type 0

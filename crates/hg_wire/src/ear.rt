@@ -1,4 +1,4 @@
-ghost use Rattle.std.specs.Prelude.{◌≡◌, ◌+◌, ◌<◌, ◌≤◌, ℕ, [], List, length, IfOk};
+ghost use Rattle.std.specs.Prelude.{◌≡◌, ◌+◌, ◌<◌, ◌≤◌, ℕ, [], List, length, IfOk, OnErr};
 ghost use Rattle.hg_wire.specs.declared.message.Message.{Message};
 ghost use Rattle.hg_wire.specs.Outcome.{Unfinished, Finished};
 ghost use Rattle.hg_wire.specs.Grammar.{AreBytes};
@@ -13,10 +13,12 @@ use std::alloc::Global;
 use std::marker::Model;
 
 /// What hears a message that comes in pieces. It keeps the names and events of the message so far, each once, and the
-/// bytes of a field that is not whole, at most 1,345. Contracts see what it makes of the bytes to come.
+/// bytes of a field that is not whole, at most 1,345, with as much room for those of the one before. Contracts see what it
+/// makes of the bytes to come.
 #[derive(Drop)]
 pub struct Ear {
     hearing: Hearing,
+    spare: Vec<u8>,
 }
 
 impl Model for Ear {
@@ -46,27 +48,25 @@ impl Ear {
                 },
                 pending: Vec::new(alloc),
             },
+            spare: Vec::new(alloc),
         }
     }
 
-    /// Hears the next piece. After `Whole` and after `Memory` the ear needs to be made anew; after `Refused` each piece
-    /// is refused so. Memory is taken for names and events as they come, and none for the number that is said of them.
+    /// Hears the next piece. After `Whole` the ear needs to be made anew; after `Refused` each piece is refused so. After
+    /// `Memory` the ear is as it was, and may be fed the piece again. Memory is taken for names and events as they come,
+    /// and none for the number that is said of them.
     pub fn feed(&mut self, piece: &[u8]) -> Result<Fed, Memory>
         requires { IsOn self.old }
         ensures answers { IfOk result (Answers piece.now (means self.old piece.now)) }
         ensures goes_on { IfOk result (GoesOn self.old self.new piece.now) }
         ensures waits { IfOk result (WaitsIfMore self.new) }
+        ensures err { OnErr result (self.new ≡ self.old) }
     {
         if let Stage::Shut(fault) = self.hearing.progress.stage {
             return Ok(Fed::Refused(fault));
         }
-        match hear(&mut self.hearing, piece) {
-            Ok(fed) => Ok(fed),
-            Err(memory) => {
-                self.hearing.progress.stage = Stage::Over;
-                Err(memory)
-            }
-        }
+        let fed = hear(&mut self.hearing, &mut self.spare, piece)?;
+        Ok(fed)
     }
 
     /// So many bytes of the message are still to come at least, where those so far hold no fault and no whole message: what

@@ -1,4 +1,4 @@
-ghost use Rattle.std.specs.Prelude.{◌≡◌, true, IfOk};
+ghost use Rattle.std.specs.Prelude.{◌≡◌, true, IfOk, OnErr};
 ghost use Rattle.hg_wire.specs.declared.message.Message.TheVariants.{Have, Rows};
 ghost use Rattle.hg_wire.specs.declared.progress.Stage.TheVariants.{AtHead, AtLast, AtName, AtRow, Over};
 ghost use Rattle.hg_wire.specs.Ears.{Turns};
@@ -25,7 +25,7 @@ pub(crate) enum Stage {
     AtLast,
     /// None: the bytes have this fault.
     Shut(WireFault),
-    /// None: the message was handed out, or there was no memory.
+    /// None: the message was handed out.
     Over,
 }
 
@@ -118,7 +118,8 @@ fn turn_head<'a>(progress: &mut Progress, bytes: &'a [u8]) -> Turn<'a>
 
 fn turn_name<'a>(progress: &mut Progress, more: u32, bytes: &'a [u8]) -> Result<Turn<'a>, Memory>
     requires { progress.old.stage ≡ AtName more }
-    ensures { IfOk result (Turns progress.old progress.new bytes.now) }
+    ensures turns { IfOk result (Turns progress.old progress.new bytes.now) }
+    ensures err { OnErr result (state_of progress.new ≡ state_of progress.old) }
 {
     match array_of::<48>(bytes) {
         Err(stop) => Ok(stop_at(progress, bytes, stop)),
@@ -136,7 +137,8 @@ fn turn_name<'a>(progress: &mut Progress, more: u32, bytes: &'a [u8]) -> Result<
 
 fn turn_row<'a>(progress: &mut Progress, more: u32, bytes: &'a [u8]) -> Result<Turn<'a>, Memory>
     requires { progress.old.stage ≡ AtRow more }
-    ensures { IfOk result (Turns progress.old progress.new bytes.now) }
+    ensures turns { IfOk result (Turns progress.old progress.new bytes.now) }
+    ensures err { OnErr result (state_of progress.new ≡ state_of progress.old) }
 {
     match row_of(bytes, progress.rows.len()) {
         Err(stop) => Ok(stop_at(progress, bytes, stop)),
@@ -167,7 +169,8 @@ fn turn_last<'a>(progress: &mut Progress, bytes: &'a [u8]) -> Turn<'a>
 /// Reads the field at the place from the front of these bytes.
 pub(crate) fn read_field<'a>(progress: &mut Progress, bytes: &'a [u8]) -> Result<Turn<'a>, Memory>
     requires { is_open progress.old.stage ≡ true }
-    ensures { IfOk result (Turns progress.old progress.new bytes.now) }
+    ensures turns { IfOk result (Turns progress.old progress.new bytes.now) }
+    ensures err { OnErr result (state_of progress.new ≡ state_of progress.old) }
 {
     match progress.stage {
         Stage::AtHead => Ok(turn_head(progress, bytes)),

@@ -8,6 +8,7 @@ use Rattle.hg_wire.specs.Progress.{Into, Done, field, rest_of}
 use Rattle.hg_wire.specs.Ears.{Turns}
 use Rattle.hg_wire.specs.Views.{state_of}
 use Rattle.hg_wire.proofs.Most.{field_waits}
+use Rattle.hg_wire.proofs.Onward.{into_onward}
 use Rattle.hg_wire.proofs.Stepping.{Parts, is_behind, left_behind, reads_done, reads_into, reads_wrong}
 use Rattle.hg_wire.proofs.Took.{waits_open}
 use Rattle.hg_wire.proofs.Turning.{open_waits}
@@ -31,7 +32,7 @@ overflow_sub-used c =
     let tail = drop c.min-len.result bytes in
     let grown = c.as_slice-pending.ensures.value ∙ c.in_ok-extend_from_slice.ensures.items in
     let parts : Parts pending bytes part tail = record { split = sym (take-append-drop c.min-len.result bytes); fit = subst (λ (t : List ℕ). AreBytes t) grown c.are_bytes.ensures } in
-    let turned = subst (λ (t : Turn). Turns c.args.h.now.progress c.read_field.new.progress c.as_slice-pending.result.now t) c.in-On.is c.in_ok-read_field.ensures in
+    let turned = subst (λ (t : Turn). Turns c.args.h.now.progress c.read_field.new.progress c.as_slice-pending.result.now t) c.in-On.is c.in_ok-read_field.ensures.turns in
     let left = left_behind s pending bytes part tail (Into next) c.in-On.rest.now parts c.requires (ap (field s) (sym grown) ∙ turned.0) in
     omega (arith, left.less, length-take c.min-len.result bytes)
 
@@ -44,19 +45,19 @@ overflow_sub-result c =
     let tail = drop c.min-len.result bytes in
     let grown = c.as_slice-pending.ensures.value ∙ c.in_ok-extend_from_slice.ensures.items in
     let parts : Parts pending bytes part tail = record { split = sym (take-append-drop c.min-len.result bytes); fit = subst (λ (t : List ℕ). AreBytes t) grown c.are_bytes.ensures } in
-    let turned = subst (λ (t : Turn). Turns c.args.h.now.progress c.read_field.new.progress c.as_slice-pending.result.now t) c.in-Whole.is c.in_ok-read_field.ensures in
+    let turned = subst (λ (t : Turn). Turns c.args.h.now.progress c.read_field.new.progress c.as_slice-pending.result.now t) c.in-Whole.is c.in_ok-read_field.ensures.turns in
     let left = left_behind s pending bytes part tail (Done c.in-Whole.message) c.in-Whole.rest.now parts c.requires (ap (field s) (sym grown) ∙ turned.0) in
     omega (arith, left.less, length-take c.min-len.result bytes)
 
-pub returns-in-Waits : goal.returns-in-Waits
-returns-in-Waits c =
+pub returns-in-Waits-clause-steps : goal.returns-in-Waits-clause-steps
+returns-in-Waits-clause-steps c =
     let s = state_of c.args.h.now.progress in
     let pending = c.args.h.now.pending.items in
     let bytes = c.args.bytes.now in
     let part = take c.min-len.result bytes in
     let now = c.extend_from_slice.new.self.items in
     let grown : now ≡ pending ++ part = c.in_ok-extend_from_slice.ensures.items in
-    let turned = subst (λ (t : Turn). Turns c.args.h.now.progress c.read_field.new.progress c.as_slice-pending.result.now t) c.in-Waits.is c.in_ok-read_field.ensures in
+    let turned = subst (λ (t : Turn). Turns c.args.h.now.progress c.read_field.new.progress c.as_slice-pending.result.now t) c.in-Waits.is c.in_ok-read_field.ensures.turns in
     let e : field s (pending ++ part) ≡ Unfinished = ap (field s) (sym (c.as_slice-pending.ensures.value ∙ grown)) ∙ turned.0 in
     let few = field_waits s s.stage (pending ++ part) e in
     let enough : length bytes ≤ c.min-len.result = omega (arith, few, c.min-len.ensures, c.len.ensures, length-append pending part, length-take c.min-len.result bytes) in
@@ -66,8 +67,8 @@ returns-in-Waits c =
           ∙ ap (rest_of s) (append_assoc pending part more ∙ ap (λ (t : List ℕ). pending ++ (t ++ more)) all),
     )
 
-pub returns-in-On : goal.returns-in-On
-returns-in-On c =
+pub returns-in-On-clause-steps : goal.returns-in-On-clause-steps
+returns-in-On-clause-steps c =
     let s = state_of c.args.h.now.progress in
     let next = state_of c.read_field.new.progress in
     let pending = c.args.h.now.pending.items in
@@ -77,7 +78,7 @@ returns-in-On c =
     let rest = c.in-On.rest.now in
     let grown = c.as_slice-pending.ensures.value ∙ c.in_ok-extend_from_slice.ensures.items in
     let parts : Parts pending bytes part tail = record { split = sym (take-append-drop c.min-len.result bytes); fit = subst (λ (t : List ℕ). AreBytes t) grown c.are_bytes.ensures } in
-    let turned = subst (λ (t : Turn). Turns c.args.h.now.progress c.read_field.new.progress c.as_slice-pending.result.now t) c.in-On.is c.in_ok-read_field.ensures in
+    let turned = subst (λ (t : Turn). Turns c.args.h.now.progress c.read_field.new.progress c.as_slice-pending.result.now t) c.in-On.is c.in_ok-read_field.ensures.turns in
     let e = ap (field s) (sym grown) ∙ turned.0 in
     let left = left_behind s pending bytes part tail (Into next) rest parts c.requires e in
     let used = c.min-len.result - length rest in
@@ -89,8 +90,17 @@ returns-in-On c =
       λ more. ap (λ (t : List ℕ). rest_of next (t ++ (behind ++ more))) c.clear.ensures.items ∙ reads_into s next pending bytes part tail rest behind parts e left is more,
     )
 
-pub returns-in-Whole : goal.returns-in-Whole
-returns-in-Whole c =
+pub returns-in-On-clause-kept : goal.returns-in-On-clause-kept
+returns-in-On-clause-kept c =
+    let s = state_of c.args.h.now.progress in
+    let turned = subst (λ (t : Turn). Turns c.args.h.now.progress c.read_field.new.progress c.as_slice-pending.result.now t) c.in-On.is c.in_ok-read_field.ensures.turns in (
+      c.clear.ensures.items,
+      into_onward s s.stage c.as_slice-pending.result.now (state_of c.read_field.new.progress) c.in-On.rest.now turned.0,
+      (take c.min-len.result c.args.bytes.now, ap (λ v. v.items) c.swap.ensures.y_after ∙ c.in_ok-extend_from_slice.ensures.items),
+    )
+
+pub returns-in-Whole-clause-steps : goal.returns-in-Whole-clause-steps
+returns-in-Whole-clause-steps c =
     let s = state_of c.args.h.now.progress in
     let pending = c.args.h.now.pending.items in
     let bytes = c.args.bytes.now in
@@ -99,7 +109,7 @@ returns-in-Whole c =
     let rest = c.in-Whole.rest.now in
     let grown = c.as_slice-pending.ensures.value ∙ c.in_ok-extend_from_slice.ensures.items in
     let parts : Parts pending bytes part tail = record { split = sym (take-append-drop c.min-len.result bytes); fit = subst (λ (t : List ℕ). AreBytes t) grown c.are_bytes.ensures } in
-    let turned = subst (λ (t : Turn). Turns c.args.h.now.progress c.read_field.new.progress c.as_slice-pending.result.now t) c.in-Whole.is c.in_ok-read_field.ensures in
+    let turned = subst (λ (t : Turn). Turns c.args.h.now.progress c.read_field.new.progress c.as_slice-pending.result.now t) c.in-Whole.is c.in_ok-read_field.ensures.turns in
     let e = ap (field s) (sym grown) ∙ turned.0 in
     let left = left_behind s pending bytes part tail (Done c.in-Whole.message) rest parts c.requires e in
     let used = c.min-len.result - length rest in
@@ -111,8 +121,8 @@ returns-in-Whole c =
       reads_done s c.in-Whole.message pending bytes part tail rest behind parts e left is,
     )
 
-pub returns-in-Wrong : goal.returns-in-Wrong
-returns-in-Wrong c =
+pub returns-in-Wrong-clause-steps : goal.returns-in-Wrong-clause-steps
+returns-in-Wrong-clause-steps c =
     let s = state_of c.args.h.now.progress in
     let pending = c.args.h.now.pending.items in
     let bytes = c.args.bytes.now in
@@ -120,5 +130,5 @@ returns-in-Wrong c =
     let tail = drop c.min-len.result bytes in
     let grown = c.as_slice-pending.ensures.value ∙ c.in_ok-extend_from_slice.ensures.items in
     let parts : Parts pending bytes part tail = record { split = sym (take-append-drop c.min-len.result bytes); fit = subst (λ (t : List ℕ). AreBytes t) grown c.are_bytes.ensures } in
-    let turned = subst (λ (t : Turn). Turns c.args.h.now.progress c.read_field.new.progress c.as_slice-pending.result.now t) c.in-Wrong.is c.in_ok-read_field.ensures in
+    let turned = subst (λ (t : Turn). Turns c.args.h.now.progress c.read_field.new.progress c.as_slice-pending.result.now t) c.in-Wrong.is c.in_ok-read_field.ensures.turns in
     (turned.1, reads_wrong s pending bytes part tail c.in-Wrong.fault parts (ap (field s) (sym grown) ∙ turned.0))

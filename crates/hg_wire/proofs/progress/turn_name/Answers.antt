@@ -10,8 +10,8 @@ use Rattle.hg_wire.proofs.progress.turn_name.Goals as goal
 pub stop_at-requires : goal.stop_at-requires
 stop_at-requires c = stops_name (state_of c.args.progress.now) c.args.more c.args.bytes.now c.in-Err.stop c.requires c.in-Err.ensures
 
-pub returns-then-more-eq0 : goal.returns-then-more-eq0
-returns-then-more-eq0 c =
+pub returns-then-more-eq0-clause-turns : goal.returns-then-more-eq0-clause-turns
+returns-then-more-eq0-clause-turns c =
     let s = state_of c.args.progress.now in (
       at_name s c.args.more c.args.bytes.now (Finished c.in-Ok.name.now c.in-Ok.rest.now) c.requires c.in-Ok.ensures
           ∙ ap (λ (n : Next). Finished n c.in-Ok.rest.now)
@@ -19,8 +19,8 @@ returns-then-more-eq0 c =
       c.take_names.ensures.over,
     )
 
-pub returns-else-more-eq0 : goal.returns-else-more-eq0
-returns-else-more-eq0 c =
+pub returns-else-more-eq0-clause-turns : goal.returns-else-more-eq0-clause-turns
+returns-else-more-eq0-clause-turns c =
     let s = state_of c.args.progress.now in (
       at_name s c.args.more c.args.bytes.now (Finished c.in-Ok.name.now c.in-Ok.rest.now) c.requires c.in-Ok.ensures
           ∙ ap (λ (n : Next). Finished n c.in-Ok.rest.now)

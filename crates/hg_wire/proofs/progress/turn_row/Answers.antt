@@ -12,8 +12,8 @@ stop_at-requires c =
     let here : c.len.result ≡ length s.rows = omega (arith, c.len.ensures) in
     stops_row s c.args.more c.len.result c.args.bytes.now c.in-Err.stop c.requires here c.in-Err.ensures
 
-pub returns-then-more-eq0 : goal.returns-then-more-eq0
-returns-then-more-eq0 c =
+pub returns-then-more-eq0-clause-turns : goal.returns-then-more-eq0-clause-turns
+returns-then-more-eq0-clause-turns c =
     let s = state_of c.args.progress.now in
     let row = c.in-Ok.row.now in
     let here : c.len.result ≡ length s.rows = omega (arith, c.len.ensures) in
@@ -25,8 +25,8 @@ returns-then-more-eq0 c =
       refl,
     )
 
-pub returns-else-more-eq0 : goal.returns-else-more-eq0
-returns-else-more-eq0 c =
+pub returns-else-more-eq0-clause-turns : goal.returns-else-more-eq0-clause-turns
+returns-else-more-eq0-clause-turns c =
     let s = state_of c.args.progress.now in
     let row = c.in-Ok.row.now in
     let here : c.len.result ≡ length s.rows = omega (arith, c.len.ensures) in

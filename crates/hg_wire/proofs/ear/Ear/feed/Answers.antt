@@ -12,9 +12,13 @@ returns-in-Shut-clause-goes_on c = λ more. ap (λ (p : Place). means p more) (s
 pub hear-requires : goal.hear-requires
 hear-requires c = on_waits c.self.inside.hearing c.self.invariant c.in_default.not-Shut (subst (λ (p : Place). IsOn p) (sym c.self.view_is) c.requires)
 
-pub returns-in-Ok : goal.returns-in-Ok
-returns-in-Ok c = record {
-  answers = subst (λ (p : Place). Answers c.args.piece.now (means p c.args.piece.now) c.in-Ok.fed) c.self.view_is (heard_answers c.self.inside.hearing c.hear.new.h c.args.piece.now c.in-Ok.fed c.in-Ok.ensures);
-  waits = heard_waits c.self.inside.hearing c.hear.new.h c.args.piece.now c.in-Ok.fed c.in-Ok.ensures;
-  goes_on = subst (λ (p : Place). GoesOn p (place_of c.hear.new.h) c.args.piece.now c.in-Ok.fed) c.self.view_is (heard_goes_on c.self.inside.hearing c.hear.new.h c.args.piece.now c.in-Ok.fed c.in-Ok.ensures);
-}
+pub returns-clause-answers : goal.returns-clause-answers
+returns-clause-answers c =
+    subst (λ (p : Place). Answers c.args.piece.now (means p c.args.piece.now) c.in_ok-fed.fed) c.self.view_is (heard_answers c.self.inside.hearing c.hear.new.h c.args.piece.now c.in_ok-fed.fed c.in_ok-fed.ensures.heard)
+
+pub returns-clause-goes_on : goal.returns-clause-goes_on
+returns-clause-goes_on c =
+    subst (λ (p : Place). GoesOn p (place_of c.hear.new.h) c.args.piece.now c.in_ok-fed.fed) c.self.view_is (heard_goes_on c.self.inside.hearing c.hear.new.h c.args.piece.now c.in_ok-fed.fed c.in_ok-fed.ensures.heard)
+
+pub returns-clause-waits : goal.returns-clause-waits
+returns-clause-waits c = heard_waits c.self.inside.hearing c.hear.new.h c.args.piece.now c.in_ok-fed.fed c.in_ok-fed.ensures.heard
