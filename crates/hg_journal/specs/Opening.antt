@@ -44,12 +44,12 @@ SyncsOrFails accepts start old new r = SyncsJournal accepts start old new ⊎ (I
 abbrev pub WritesOnlyAnew : List ℕ → FileView → FileView → Type 0
 WritesOnlyAnew head old new = ForSome old.reads (λ file. (AnewCases head file → ⊥) → Stays old new)
 
--- what opening a file says to be foreign or broken stays as it was
-abbrev pub StaysIfRefused : OpenError → FileView → FileView → Type 0
-StaysIfRefused Disk old new = Unit {0}
-StaysIfRefused Memory old new = Unit {0}
-StaysIfRefused Foreign old new = Stays old new
-StaysIfRefused (Broken at) old new = Stays old new
+-- a file that was not opened stays as it was, unless the disk failed
+abbrev pub StaysUnlessDisk : OpenError → FileView → FileView → Type 0
+StaysUnlessDisk Disk old new = Unit {0}
+StaysUnlessDisk Memory old new = Stays old new
+StaysUnlessDisk Foreign old new = Stays old new
+StaysUnlessDisk (Broken at) old new = Stays old new
 
 -- what a file is where opening it went wrong
 abbrev pub IsWrong : {K : Type 0} → (K → Accepts) → Start K → List ℕ → OpenError → Type 0

@@ -6,7 +6,7 @@ ghost use Rattle.hg_life.specs.NodeView.{start_of};
 ghost use Rattle.hg_node.specs.Replay.{new_node};
 ghost use Rattle.hg_journal.specs.Faults.{IsFaultCounted};
 ghost use Rattle.hg_journal.specs.Journal.{head_of};
-ghost use Rattle.hg_journal.specs.Opening.{Finds, LeavesJournal, Opens, StaysIfRefused, WritesOnlyAnew};
+ghost use Rattle.hg_journal.specs.Opening.{Finds, LeavesJournal, Opens, StaysUnlessDisk, WritesOnlyAnew};
 ghost use Rattle.hg_journal.specs.Stored.{IsNear, IsStored, StoresNode};
 
 use crate::errors::OpenError;
@@ -56,7 +56,7 @@ pub(crate) fn gate_of<V: Signer, D: Disk>(
     ensures finds { ForSome (D.file disk.old).reads (Finds V.accepts node.old.start node.new result) }
     ensures leaves { LeavesJournal V.accepts node.old.start (D.file disk.old) (D.file disk.new) }
     ensures untouched { WritesOnlyAnew head.now (D.file disk.old) (D.file disk.new) }
-    ensures refused { IfErr result (λ e. StaysIfRefused e (D.file disk.old) (D.file disk.new)) }
+    ensures refused { IfErr result (λ e. StaysUnlessDisk e (D.file disk.old) (D.file disk.new)) }
     ensures started { D.At disk.new name.now }
     ensures cause { IsFaultCounted result OpenError.Disk (D.faults disk.old) (D.faults disk.new) name.now }
     ensures counts { (other : List ℕ) → D.faults disk.old other ≤ D.faults disk.new other }
@@ -94,7 +94,7 @@ fn open_synced<V: Signer + Drop, D: Disk>(
     ensures opens { ForSome (D.file disk.old).reads (Opens V.accepts (start_of members.now own keys) (λ s. s.node) result) }
     ensures leaves { LeavesJournal V.accepts (start_of members.now own keys) (D.file disk.old) (D.file disk.new) }
     ensures untouched { WritesOnlyAnew (head_of (start_of members.now own keys)) (D.file disk.old) (D.file disk.new) }
-    ensures refused { IfErr result (λ e. StaysIfRefused e (D.file disk.old) (D.file disk.new)) }
+    ensures refused { IfErr result (λ e. StaysUnlessDisk e (D.file disk.old) (D.file disk.new)) }
     ensures started { D.At disk.new name.now }
     ensures cause { IsFaultCounted result OpenError.Disk (D.faults disk.old) (D.faults disk.new) name.now }
     ensures counts { (other : List ℕ) → D.faults disk.old other ≤ D.faults disk.new other }
@@ -134,8 +134,9 @@ impl<V: Signer + Drop> Stored<V> {
         ensures synced { SyncsOrFails V.accepts (start_of members.now own keys) (D.file disk.old) (D.file disk.new) result }
         // It writes only to a file that it makes anew.
         ensures untouched { WritesOnlyAnew (head_of (start_of members.now own keys)) (D.file disk.old) (D.file disk.new) }
-        // A file that it finds foreign or broken stays as it was, whether or not the disk tells it.
-        ensures refused { IfErr result (λ e. StaysIfRefused e (D.file disk.old) (D.file disk.new)) }
+        // A file that it finds foreign or broken stays as it was, whether or not the disk tells it; so does one where memory ran
+        // out.
+        ensures refused { IfErr result (λ e. StaysUnlessDisk e (D.file disk.old) (D.file disk.new)) }
         ensures started { IfOk result (λ s. D.At disk.new s.name) }
         ensures cause { IsFaultCounted result OpenError.Disk (D.faults disk.old) (D.faults disk.new) name.now }
         ensures counts { (other : List ℕ) → D.faults disk.old other ≤ D.faults disk.new other }
