@@ -5,7 +5,7 @@ use lib.ListN.{get_elem?}
 use Rattle.atomic_table.specs.Table.{keeps, Allows, Splits, Joins, opening, step}
 use Rattle.atomic_table.proofs.Lists.{at_set}
 use Rattle.hg_mail.specs.declared.view.CountView.{CountView}
-use Rattle.hg_mail.specs.Count.{CountHand, Counts, after_part, counting, first_count, joined_count, looked, one_part, raised, seeing, spent_count}
+use Rattle.hg_mail.specs.Count.{CountHand, Counts, after_part, came_back, coming_back, counting, first_count, joined_count, looked, one_part, raised, seeing, spent_count}
 use Rattle.hg_mail.proofs.ListLaws.{alone_in_sum, each_one, each_push, each_set, sum_push, sum_set}
 
 abbrev parts_of : CountView → ℕ
@@ -75,6 +75,25 @@ looks slots id me s rule _ at _ =
         seen = refl;
         whole = λ all. let whole = alone_in_sum parts_of mine_of s.views id old at (omega (arith, rule.parts, all)) rule.idle in omega (arith, most, whole);
       },
+    )
+
+pub comes_back : (slots id : ℕ) (me : CountHand) → Allows Counts slots id me 0 (λ n. n) (came_back (step slots 0 0 0 none) me)
+comes_back slots id me s rule _ at _ =
+    let old = me.0 in
+    let new = coming_back old in
+    let found : ℕ = slice_index s.words 0 in
+    let mine = sum_set mine_of s.views id old new at in
+    let parts = sum_set parts_of s.views id old new at in (
+      new,
+      keeps,
+      tt,
+      record {
+        word = omega (arith, rule.word, head_set s.words found, mine);
+        seen = each_set (SeesUpTo (sum_by mine_of (set s.views id new))) s.views id new (omega (arith, mine, rule.seen id old at)) (λ k n _ there. omega (arith, mine, rule.seen k n there));
+        parts = omega (arith, rule.parts, parts);
+        idle = each_set IsIdle s.views id new (rule.idle id old at) (λ k n _ there. rule.idle k n there);
+      },
+      refl,
     )
 
 -- a port is split: what the first one keeps and what the new one gets are together what was there

@@ -157,7 +157,8 @@ impl Mailbox {
     }
 
     /// Puts a message in, by the port of its sender. It comes back only where the mailbox held as many messages as it has
-    /// room for at a step of this call, and so many were put in and counted by its end, as the port has seen.
+    /// room for at a step of this call, and so many were put in and counted by its end, as the port has seen; the port counts
+    /// how often.
     pub fn post<R: Wait>(&self, rt: &R, port: &mut Port, message: Message) -> PostAnswer
         requires of { IsPortOf self.now port.old }
         requires sender { IsSender message.from port.old.view }
