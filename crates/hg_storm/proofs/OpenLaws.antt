@@ -316,6 +316,7 @@ served_none plan place own rows k m q new = record {
     sent = λ none. refl;
     few = omega arith;
   };
+  back = ap (λ (c : CountView). c.full) new.count;
   full = λ no. absurd (omega (arith, no));
 }
 
