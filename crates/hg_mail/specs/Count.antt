@@ -1,5 +1,5 @@
 -- The count of a mailbox: the rule of its one word, and what its ports know of it
-use Rattle.std.specs.Prelude.{◌≡◌, ℕ, ◌+◌, ◌-◌, ◌≤◌, max, sum_by, Option, slice_index}
+use Rattle.std.specs.Prelude.{◌≡◌, ℕ, ◌+◌, ◌-◌, ◌%◌, ◌^◌, ◌≤◌, length, max, sum_by, Option, slice_index}
 use mathlib.Core.Option.{some}
 use lib.ListN.{get_elem?}
 use Rattle.atomic_table.specs.Table.{State, Me, Step}
@@ -40,9 +40,10 @@ coming_back n = record n { full = n.full + 1 }
 abbrev pub seeing : CountView → ℕ → CountView
 seeing n found = record n { seen = max n.seen found }
 
--- the rule: the word, which wraps, and what any port has seen are at most what all ports have counted
+-- the rule: the word, which wraps, is what all ports have counted, and what any port has seen is at most that
 pub record Counts (s : State (Option ℕ) CountView) : Type 0 where
-  pub word : slice_index s.words 0 ≤ sum_by (λ (n : CountView). n.mine) s.views
+  pub single : length s.words ≡ 1
+  pub word : slice_index s.words 0 ≡ sum_by (λ (n : CountView). n.mine) s.views % 2 ^ 64
   pub seen : (j : ℕ) (n : CountView) → get_elem? s.views j ≡ some n → n.seen ≤ sum_by (λ (o : CountView). o.mine) s.views
   -- the parts of the ports are all, and one without parts has counted nothing
   pub parts : sum_by (λ (n : CountView). n.parts) s.views ≡ all_parts
@@ -60,10 +61,11 @@ raised step m found n = n ≡ (counting m.0, m.1)
 abbrev pub came_back : Step (Option ℕ) → CountHand → ℕ → CountHand → Type 0
 came_back step m found n = n ≡ (coming_back m.0, m.1)
 
--- the count is read; with all parts it is at most what the port itself has counted
+-- the count is read; with all parts it is what the port itself has counted
 pub record HasLooked (m : CountHand) (found : ℕ) (n : CountHand) : Type 0 where
   pub seen : n ≡ (seeing m.0 found, m.1)
   pub whole : m.0.parts ≡ all_parts → max m.0.seen found ≤ m.0.mine
+  pub exact : m.0.parts ≡ all_parts → found ≡ m.0.mine % 2 ^ 64
 
 abbrev pub looked : Step (Option ℕ) → CountHand → ℕ → CountHand → Type 0
 looked step m found n = HasLooked m found n

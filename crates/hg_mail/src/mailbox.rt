@@ -1,4 +1,4 @@
-ghost use Rattle.std.specs.Prelude.{◌≡◌, ◌<◌, ◌≤◌, true, IfOk, OnErr, OnOk, length, max};
+ghost use Rattle.std.specs.Prelude.{◌≡◌, ◌<◌, ◌≤◌, ◌%◌, ◌^◌, true, IfOk, OnErr, OnOk, length, max};
 ghost use Rattle.hg_mail.specs.Messages.{IsEmptied, IsSender};
 ghost use Rattle.hg_mail.specs.Rule.{HeldAt};
 ghost use Rattle.hg_mail.specs.Count.{all_parts};
@@ -146,11 +146,12 @@ impl Mailbox {
     }
 
     /// How many messages were put in and counted so far, those that were taken out included. By a port that has all parts
-    /// it is no more than that port has counted.
+    /// it is what that port has counted.
     pub fn count(&self, port: &mut Port) -> u64
         requires { IsPortOf self.now port.old }
         ensures port { port.new ≡ after_looking port.old result }
         ensures whole { port.old.count.parts ≡ all_parts → port.new.count.seen ≤ port.old.count.mine }
+        ensures exact { port.old.count.parts ≡ all_parts → result ≡ port.old.count.mine % 2 ^ 64 }
     {
         let seat = &mut port.seat;
         look(&self.counter.shared, seat)
