@@ -34,7 +34,7 @@ pub returns-then-more-count-clause-rest : goal.returns-then-more-count-clause-re
 returns-then-more-count-clause-rest g c = inr (
   refl,
   some_back c.args.mailbox.now c.args.port.now c.pieces.port c.send_piece-more.new.port (length c.in_ok-rows.rows.items) c.send_piece-more.result c.pieces.invariant.back c.send_piece-more.ensures.rest
-  (omega (arith, c.len-count.ensures, c.if-more-count.true)),
+      (omega (arith, c.len-count.ensures, c.if-more-count.true)),
 )
 
 pub pieces-smaller : goal.pieces-smaller
