@@ -240,10 +240,10 @@ served_now plan me place turns k old new m c d q r draws some was sent least mos
         drawn = λ _. record { turn = turns; early = omega arith; draws = draws };
         due = λ _. omega (arith, least, some);
         late = most;
-        sent = λ none. ⊎_elim (λ (all : SendsAll q r c d). all.1.0) (λ (some : SendsSome m q r c d). absurd (omega (arith, some.0, none))) rest;
+        sent = λ none. ⊎_elim (λ (all : SendsAll q r c d). all.1) (λ (some : SendsSome m q r c d). absurd (omega (arith, some.0, none))) rest;
         few = ⊎_elim (λ (all : SendsAll q r c d). omega (arith, all.0, few, more)) (λ (some : SendsSome m q r c d). omega (arith, some.0, few, more)) rest;
       };
-      back = ⊎_elim (λ (all : SendsAll q r c d). all.1.1 ∙ (was.back ∙ sym all.0)) (λ (some : SendsSome m q r c d). omega (arith, some.1.once, was.back, some.0)) rest;
+      back = ⊎_elim (λ (all : SendsAll q r c d). all.2 ∙ (was.back ∙ sym all.0)) (λ (some : SendsSome m q r c d). omega (arith, some.1.once, was.back, some.0)) rest;
       full = λ often. ⊎_elim
           (λ (all : SendsAll q r c d). (let room : m.room ≤ q.count.seen = was.full (omega (arith, all.0, often)) in omega (arith, room, seen)))
           (λ (some : SendsSome m q r c d). some.1.counted) rest;
