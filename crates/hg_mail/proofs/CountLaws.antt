@@ -1,11 +1,11 @@
 -- Each step of a mailbox's count keeps its rule, and tells what it tells
-use Rattle.std.proofs.Common.{◌≡◌, ℕ, ◌+◌, ◌%◌, ◌^◌, ◌<◌, ◌≤◌, max, List, [], ◌∷◌, ◌++◌, set, slice_index, sum_by, refl, ⊎_elim, arith, None, replicate}
+use Rattle.std.proofs.Common.{◌≡◌, ℕ, ◌+◌, ◌%◌, ◌^◌, ◌<◌, ◌≤◌, max, List, [], ◌∷◌, ◌++◌, length, set, slice_index, sum_by, refl, sym, ap, ◌∙◌, ⊎_elim, arith, None, replicate}
 use mathlib.Core.Option.{none, some}
 use lib.ListN.{get_elem?}
 use Rattle.atomic_table.specs.Table.{keeps, Allows, Splits, Joins, opening, step}
 use Rattle.atomic_table.proofs.Lists.{at_set}
 use Rattle.hg_mail.specs.declared.view.CountView.{CountView}
-use Rattle.hg_mail.specs.Count.{CountHand, Counts, after_part, counting, first_count, joined_count, looked, one_part, raised, seeing, spent_count}
+use Rattle.hg_mail.specs.Count.{CountHand, Counts, after_part, came_back, coming_back, counting, first_count, joined_count, looked, one_part, raised, seeing, spent_count}
 use Rattle.hg_mail.proofs.ListLaws.{alone_in_sum, each_one, each_push, each_set, sum_push, sum_set}
 
 abbrev parts_of : CountView → ℕ
@@ -23,18 +23,29 @@ SeesUpTo all _ n = n.seen ≤ all
 
 pub begins : Counts (opening (0 ∷ []) (replicate 0 None) first_count)
 begins = record {
-  word = omega arith;
+  single = refl;
+  word = refl;
   seen = each_one (SeesUpTo 0) first_count (omega arith);
   parts = refl;
   idle = each_one IsIdle first_count (λ _. refl);
 }
 
-head_set : (words : List ℕ) (n : ℕ) → slice_index (set words 0 n) 0 ≤ n
-head_set [] n = omega arith
-head_set (x ∷ xs) n = omega arith
+head_set : (words : List ℕ) (n : ℕ) → length words ≡ 1 → slice_index (set words 0 n) 0 ≡ n
+head_set [] n one = absurd (omega (arith, one))
+head_set (x ∷ xs) n one = refl
 
-wraps : (n : ℕ) → (n + 1) % 2 ^ 64 ≤ n + 1
-wraps n = omega arith
+length_set : (words : List ℕ) (n : ℕ) → length words ≡ 1 → length (set words 0 n) ≡ 1
+length_set [] n one = one
+length_set (x ∷ xs) n one = one
+
+one_more : (word all more : ℕ) → word ≡ all % 2 ^ 64 → more ≡ all + 1 → (word + 1) % 2 ^ 64 ≡ more % 2 ^ 64
+one_more word all more is next = omega (arith, is, next)
+
+low_part : (n : ℕ) → n % 2 ^ 64 ≤ n
+low_part n = omega arith
+
+abbrev wrapped : ℕ → ℕ
+wrapped n = n % 2 ^ 64
 
 pub raises : (slots id : ℕ) (me : CountHand) → 0 < me.0.parts → Allows Counts slots id me 0 (λ n. (n + 1) % 2 ^ 64) (raised (step slots 0 1 0 none) me)
 raises slots id me some_part s rule _ at _ =
@@ -46,7 +57,9 @@ raises slots id me some_part s rule _ at _ =
       keeps,
       tt,
       record {
-        word = omega (arith, rule.word, head_set s.words ((slice_index s.words 0 + 1) % 2 ^ 64), wraps (slice_index s.words 0), mine);
+        single = length_set s.words ((slice_index s.words 0 + 1) % 2 ^ 64) rule.single;
+        word = head_set s.words ((slice_index s.words 0 + 1) % 2 ^ 64) rule.single
+            ∙ one_more (slice_index s.words 0) (sum_by mine_of s.views) (sum_by mine_of (set s.views id new)) rule.word (omega (arith, mine));
         seen = each_set (SeesUpTo (sum_by mine_of (set s.views id new))) s.views id new (omega (arith, mine, rule.seen id old at)) (λ k n _ there. omega (arith, mine, rule.seen k n there));
         parts = omega (arith, rule.parts, parts);
         idle = each_set IsIdle s.views id new (λ z. absurd (omega (arith, z, some_part))) (λ k n _ there. rule.idle k n there);
@@ -60,13 +73,15 @@ looks slots id me s rule _ at _ =
     let found : ℕ = slice_index s.words 0 in
     let new = seeing old found in
     let mine = sum_set mine_of s.views id old new at in
+    let same : sum_by mine_of s.views ≡ sum_by mine_of (set s.views id new) = omega (arith, mine) in
     let parts = sum_set parts_of s.views id old new at in
-    let most : max old.seen found ≤ sum_by mine_of s.views = omega (arith, rule.word, rule.seen id old at) in (
+    let most : max old.seen found ≤ sum_by mine_of s.views = omega (arith, rule.word, low_part (sum_by mine_of s.views), rule.seen id old at) in (
       new,
       keeps,
       tt,
       record {
-        word = omega (arith, rule.word, head_set s.words found, mine);
+        single = length_set s.words found rule.single;
+        word = head_set s.words found rule.single ∙ (rule.word ∙ ap wrapped same);
         seen = each_set (SeesUpTo (sum_by mine_of (set s.views id new))) s.views id new (omega (arith, most, mine)) (λ k n _ there. omega (arith, mine, rule.seen k n there));
         parts = omega (arith, rule.parts, parts);
         idle = each_set IsIdle s.views id new (rule.idle id old at) (λ k n _ there. rule.idle k n there);
@@ -74,7 +89,29 @@ looks slots id me s rule _ at _ =
       record {
         seen = refl;
         whole = λ all. let whole = alone_in_sum parts_of mine_of s.views id old at (omega (arith, rule.parts, all)) rule.idle in omega (arith, most, whole);
+        exact = λ all. rule.word ∙ ap wrapped (alone_in_sum parts_of mine_of s.views id old at (omega (arith, rule.parts, all)) rule.idle);
       },
+    )
+
+pub comes_back : (slots id : ℕ) (me : CountHand) → Allows Counts slots id me 0 (λ n. n) (came_back (step slots 0 0 0 none) me)
+comes_back slots id me s rule _ at _ =
+    let old = me.0 in
+    let new = coming_back old in
+    let found : ℕ = slice_index s.words 0 in
+    let mine = sum_set mine_of s.views id old new at in
+    let same : sum_by mine_of s.views ≡ sum_by mine_of (set s.views id new) = omega (arith, mine) in
+    let parts = sum_set parts_of s.views id old new at in (
+      new,
+      keeps,
+      tt,
+      record {
+        single = length_set s.words found rule.single;
+        word = head_set s.words found rule.single ∙ (rule.word ∙ ap wrapped same);
+        seen = each_set (SeesUpTo (sum_by mine_of (set s.views id new))) s.views id new (omega (arith, mine, rule.seen id old at)) (λ k n _ there. omega (arith, mine, rule.seen k n there));
+        parts = omega (arith, rule.parts, parts);
+        idle = each_set IsIdle s.views id new (rule.idle id old at) (λ k n _ there. rule.idle k n there);
+      },
+      refl,
     )
 
 -- a port is split: what the first one keeps and what the new one gets are together what was there
@@ -91,7 +128,8 @@ module _ (id : ℕ) (old left right : CountView) (parts : left.parts + right.par
       let same : all ≡ sum_by mine_of s.views = omega (arith, mine_set, mine_push, mine) in
       let sees = rule.seen id old at in
       let idle = rule.idle id old at in record {
-        word = omega (arith, rule.word, same);
+        single = rule.single;
+        word = rule.word ∙ ap wrapped (sym same);
         seen = each_push (SeesUpTo all) views right
             (each_set (SeesUpTo all) s.views id left (omega (arith, same, sees, left_sees)) (λ k n _ there. omega (arith, same, rule.seen k n there)))
             (omega (arith, same, sees, right_sees));
@@ -119,7 +157,8 @@ joins id v other w s rule at two there =
     let same : all ≡ sum_by mine_of s.views = omega (arith, mine, mine_again) in
     let v_idle = rule.idle id v at in
     let w_idle = rule.idle other w was in record {
-      word = omega (arith, rule.word, same);
+      single = rule.single;
+      word = rule.word ∙ ap wrapped (sym same);
       seen = each_set (SeesUpTo all) views other spent_count (omega arith)
           (λ k n _. each_set (SeesUpTo all) s.views id both (omega (arith, same, rule.seen id v at, rule.seen other w was)) (λ j o _ where_. omega (arith, same, rule.seen j o where_)) k n);
       parts = omega (arith, rule.parts, parts, parts_again);

@@ -79,6 +79,7 @@ pub record IsPosted (p : PortView) (message : Message) (q : PortView) : Type 0 w
   pub put : Puts p.view message q.view
   pub parts : q.count.parts ≡ p.count.parts
   pub mine : q.count.mine ≡ p.count.mine + 1
+  pub full : q.count.full ≡ p.count.full
   pub seen : p.count.seen ≤ q.count.seen
 
 -- a message came back: the mailbox held as many as it has room for, and so many were put in and counted
@@ -86,6 +87,8 @@ pub record IsFull (room : ℕ) (p : PortView) (message : Message) (back : Messag
   pub same : back ≡ message
   pub held : HeldAt p.view room
   pub counted : room ≤ q.count.seen
+  -- the port has counted it
+  pub full : q.count.full ≡ p.count.full + 1
   -- nothing else is new to the port
   pub view : q.view ≡ p.view
   pub parts : q.count.parts ≡ p.count.parts

@@ -1,8 +1,8 @@
-// The two steps of a mailbox's count.
+// The steps of a mailbox's count.
 ghost use Rattle.std.specs.Prelude.{◌≡◌, ◌<◌};
-ghost use Rattle.hg_mail.specs.Count.{HasLooked, counting};
+ghost use Rattle.hg_mail.specs.Count.{HasLooked, coming_back, counting};
 
-use crate::rule::{CountSeat, Look, Raise, SharedCounter};
+use crate::rule::{Back, CountSeat, Look, Raise, SharedCounter};
 
 /// How many messages were counted.
 pub fn look(counter: &SharedCounter, seat: &mut CountSeat) -> u64
@@ -23,4 +23,14 @@ pub fn raise(counter: &SharedCounter, seat: &mut CountSeat)
     ensures seat { seat.new.me ≡ (counting seat.old.me.0, seat.old.me.1) }
 {
     counter.fetch_add::<Raise>(seat, 0, 1);
+}
+
+/// Notes that a message came back, in what the seat knows alone.
+pub fn note_full(counter: &SharedCounter, seat: &mut CountSeat)
+    requires size { counter.now.table_id.words ≡ 1 }
+    requires table { seat.old.table_id ≡ counter.now.table_id }
+    ensures table { seat.new.table_id ≡ seat.old.table_id }
+    ensures seat { seat.new.me ≡ (coming_back seat.old.me.0, seat.old.me.1) }
+{
+    counter.load::<Back>(seat, 0);
 }

@@ -1,4 +1,4 @@
-ghost use Rattle.std.specs.Prelude.{◌≡◌, ◌<◌, ◌≤◌, true, IfOk, OnErr, OnOk, length, max};
+ghost use Rattle.std.specs.Prelude.{◌≡◌, ◌<◌, ◌≤◌, ◌%◌, ◌^◌, true, IfOk, OnErr, OnOk, length, max};
 ghost use Rattle.hg_mail.specs.Messages.{IsEmptied, IsSender};
 ghost use Rattle.hg_mail.specs.Rule.{HeldAt};
 ghost use Rattle.hg_mail.specs.Count.{all_parts};
@@ -146,18 +146,20 @@ impl Mailbox {
     }
 
     /// How many messages were put in and counted so far, those that were taken out included. By a port that has all parts
-    /// it is no more than that port has counted.
+    /// it is what that port has counted.
     pub fn count(&self, port: &mut Port) -> u64
         requires { IsPortOf self.now port.old }
         ensures port { port.new ≡ after_looking port.old result }
         ensures whole { port.old.count.parts ≡ all_parts → port.new.count.seen ≤ port.old.count.mine }
+        ensures exact { port.old.count.parts ≡ all_parts → result ≡ port.old.count.mine % 2 ^ 64 }
     {
         let seat = &mut port.seat;
         look(&self.counter.shared, seat)
     }
 
     /// Puts a message in, by the port of its sender. It comes back only where the mailbox held as many messages as it has
-    /// room for at a step of this call, and so many were put in and counted by its end, as the port has seen.
+    /// room for at a step of this call, and so many were put in and counted by its end, as the port has seen; the port counts
+    /// how often.
     pub fn post<R: Wait>(&self, rt: &R, port: &mut Port, message: Message) -> PostAnswer
         requires of { IsPortOf self.now port.old }
         requires sender { IsSender message.from port.old.view }

@@ -3,7 +3,7 @@ ghost use Rattle.crossbeam_queue.specs.Passes.{IsPassOf, IsSamePass, ruled_capac
 ghost use Rattle.hg_mail.specs.Messages.{IsSender};
 ghost use Rattle.hg_mail.specs.Mailboxes.{AnswersAt};
 
-use crate::counting::{look, raise};
+use crate::counting::{look, note_full, raise};
 use crate::message::Message;
 use crate::rule::{CountSeat, MailPass, Put, Queue, SharedCounter};
 use std::sync::Wait;
@@ -46,6 +46,7 @@ pub fn post_by<R: Wait>(
             }
             Err(back) => {
                 if look(counter, seat) >= room {
+                    note_full(counter, seat);
                     return PostAnswer::Full(back);
                 }
                 letter = back;

@@ -21,12 +21,14 @@ pub struct View {
     pub senders: LinkedList<Sender>,
 }
 
-/// What a port knows of the count of all messages that were ever put in.
+/// What a port knows of the count of all messages that were ever put in, and how often none could be.
 pub struct CountView {
     /// Its share of the right to know the whole count.
     pub parts: u64,
     /// How many it has counted itself.
     pub mine: u64,
+    /// How often a message came back to it.
+    pub full: u64,
     /// So many were counted in all, at least.
     pub seen: u64,
 }

@@ -44,6 +44,7 @@ fates_last V accepts p s node taken refused none ended fates = record {
   held = λ j inside. ⊎_elim (λ x. inl x) (λ e. inr (holds_later p.start s.seen node.history (bytes_at taken j) ended.later e)) (fates.held j inside);
   refusals = all_map (Refuses accepts p s.seen taken refused) (Refuses accepts p node.history taken refused)
       (λ r was. refuses_still accepts p s.seen node.history taken refused r ended.later was) refused fates.refusals;
+  once = fates.once;
   took = λ q row is. dite (ℕ_discrete (times q s.mine) 0)
       (λ other. absurd (no_mark node.history q row is (ended.marks q (omega (arith, ap length none)) (slice_get_within node.history q (Took row) is) other)))
       (λ own. by_message s.seen node.history taken q row ended.later.0 ended.later.1 is (at_position (CameBy s.seen taken) q s.mine fates.came (omega (arith, own))));

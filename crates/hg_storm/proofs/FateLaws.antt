@@ -29,7 +29,7 @@ use Rattle.hg_board.specs.Calls.{SeatPuts}
 use Rattle.hg_board.proofs.ChangeLaws.{other_puts_add_none, puts_add_one}
 use Rattle.hg_board.proofs.PrefixLaws.{prefix_length, prefix_self}
 use Rattle.hg_storm.specs.declared.taking.RefusedMessage.{RefusedMessage}
-use Rattle.hg_storm.specs.Fates.{AreHeld, CameBy, HasFates, HoldsEvent, IsMade, IsOfMessage, IsRefused, IsTaken, Refuses, after_put, bytes_at, no_message}
+use Rattle.hg_storm.specs.Fates.{AreHeld, AreRising, CameBy, HasFates, HoldsEvent, IsMade, IsOfMessage, IsRefused, IsTaken, Refuses, after_put, bytes_at, no_message}
 
 -- lists that have grown
 
@@ -163,6 +163,11 @@ accepted_holds {V} accepts start h later bytes row place reads accepted grown =
       held = subst (λ (w : NodeView V). IsTrue (is_held (node_rows w) row.name)) after (accepted_held V accepts v bytes row place reads accepted);
     }
 
+-- the next message that is refused stands behind all before it
+rising_push : (from : ℕ) (rs : List RefusedMessage) (r : RefusedMessage) → from ≤ r.index → AllByRecursion (λ (x : RefusedMessage). x.index < r.index) rs → AreRising from rs → AreRising from (rs ++ r ∷ [])
+rising_push from [] r low below rising = (low, tt)
+rising_push from (x ∷ rs) r low below rising = (rising.0, rising_push (suc x.index) rs r (omega (arith, below.0)) below.1 rising.1)
+
 module _ {V : Type 0} (accepts : V → Accepts) (p : SharedNode V) (s t : SeatView V) (taken : List Message) (refused : List RefusedMessage) (m : Message) (fates : HasFates accepts p s taken refused) (first : IsPrefix s.seen t.seen) where
   all_refused : (more : List RefusedMessage) → AllByRecursion (Refuses accepts p t.seen (taken ++ m ∷ []) (refused ++ more)) refused
   all_refused more = all_map (Refuses accepts p s.seen taken refused) (Refuses accepts p t.seen (taken ++ m ∷ []) (refused ++ more))
@@ -176,10 +181,14 @@ module _ {V : Type 0} (accepts : V → Accepts) (p : SharedNode V) (s t : SeatVi
       (λ e. ⊎_elim (λ x. inl (subst (λ (n : ℕ). IsRefused n (refused ++ more)) (sym e) x)) (λ b. inr (subst (HoldsEvent (node_at p.start t.seen)) (bytes_last taken m j e) b)) last)
       (λ ne. held_later p s.seen t.seen taken m refused more (length taken) first (omega arith) fates.held j (omega (arith, inside, ne, length-append taken (m ∷ []))))
 
+  below : AllByRecursion (λ (r : RefusedMessage). r.index < length taken) refused
+  below = all_map (Refuses accepts p s.seen taken refused) (λ (r : RefusedMessage). r.index < length taken) (λ r is. is.index) refused fates.refusals
+
   -- nothing was refused
   unrefused : HoldsEvent (node_at p.start t.seen) m.bytes → AllByRecursion (CameBy t.seen (taken ++ m ∷ [])) t.mine → HasFates accepts p t (taken ++ m ∷ []) refused
   unrefused has came = subst (HasFates accepts p t (taken ++ m ∷ [])) (append-nil refused) (record {
     refusals = subst (AllByRecursion (Refuses accepts p t.seen (taken ++ m ∷ []) (refused ++ []))) (sym (append-nil refused)) (all_refused []);
+    once = subst (AreRising 0) (sym (append-nil refused)) fates.once;
     held = all_held [] (inr has);
     came = came;
   })
@@ -215,6 +224,7 @@ module _ {V : Type 0} (accepts : V → Accepts) (p : SharedNode V) (s t : SeatVi
           before = subst (λ (h : List Change). AreHeld p h (taken ++ m ∷ []) (refused ++ r ∷ []) (length taken)) all
               (held_later p s.seen t.seen taken m refused (r ∷ []) (length taken) first (omega arith) fates.held);
         });
+        once = rising_push 0 refused r (omega arith) below fates.once;
         held = all_held (r ∷ []) (inl (refused_last refused r));
         came = subst (AllByRecursion (CameBy t.seen (taken ++ m ∷ []))) (sym none.0.mine) all_came;
       }

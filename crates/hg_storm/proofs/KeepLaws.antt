@@ -51,6 +51,7 @@ module _ {V : Type 0} (accepts : V → Accepts) (p : SharedNode V) (s t : SeatVi
   keeps : (taken : List Message) (refused : List RefusedMessage) → AllByRecursion (CameBy t.seen taken) t.mine → HasFates accepts p s taken refused → HasFates accepts p t taken refused
   keeps taken refused came fates = record {
     refusals = all_map (Refuses accepts p s.seen taken refused) (Refuses accepts p t.seen taken refused) (λ r was. refuses_still accepts p s.seen t.seen taken refused r (more, seen) was) refused fates.refusals;
+    once = fates.once;
     held = λ j inside. ⊎_elim (λ x. inl x) (λ e. inr (holds_later p.start s.seen t.seen (bytes_at taken j) (more, seen) e)) (fates.held j inside);
     came = came;
   }

@@ -1,7 +1,9 @@
 -- What the threads told, by the names of rows
-use Rattle.std.proofs.Common.{◌≡◌, ◌⊎◌, ⊎_elim, inl, inr, ℕ, ◌+◌, ◌<◌, IsTrue, List, [], ◌∷◌, ◌++◌, length, take, drop, map, get_or, Option, Some, Ok, slice_get, refl, sym, ap, ◌∙◌, subst, arith}
+use Rattle.std.proofs.Common.{◌≡◌, ◌⊎◌, ⊎_elim, inl, inr, ℕ, suc, ◌+◌, ◌<◌, IsTrue, List, [], ◌∷◌, ◌++◌, length, take, drop, map, get_or, Option, Some, Ok, slice_get, refl, sym, ap, ◌∙◌, subst, arith}
 use Rattle.std.specs.Prelude.{All, option_map}
 use Rattle.std.specs.Global.{Vec}
+use Rattle.std.specs.List.{AllByRecursion}
+use Rattle.std.proofs.Math.Seq.{take-length}
 use mathlib.Core.Logic.{dite}
 use native.Mathlib.Decide.{ℕ_discrete}
 use Rattle.std.proofs.lemmas.List.{get_or_default, get_or-map, length-map, length-take-le, take-append-drop}
@@ -33,18 +35,18 @@ use Rattle.hg_storm.specs.declared.sending.Dispatch.{Dispatch}
 use Rattle.hg_storm.specs.declared.taking.RefusedMessage.{RefusedMessage}
 use Rattle.hg_storm.specs.declared.threads.Joined.{Joined}
 use Rattle.hg_storm.specs.Drawing.{HasDrawn, circle_of}
-use Rattle.hg_storm.specs.Fates.{AreHeld, HoldsEvent, IsOfMessage, IsRefused, Refuses, bytes_at, no_message}
+use Rattle.hg_storm.specs.Fates.{AreHeld, AreRising, HoldsEvent, IsOfMessage, IsRefused, Refuses, bytes_at, no_message}
 use Rattle.hg_storm.specs.Joins.{AreTold, IsTold, dispatch_to, rows_of_node}
 use Rattle.hg_storm.specs.Keeping.{Secrets}
-use Rattle.hg_storm.specs.Mails.{AreMailsOf, IsMailIn, names_in, names_told, pair_of}
-use Rattle.hg_storm.specs.Refusals.{HasOrRefused, HasRow, HasTakenNames, HaveRows, IsMailAt, IsOfMail, IsRefusal, IsRefusedName, message_at, name_of, name_sent, refusal_of, refusals_of}
+use Rattle.hg_storm.specs.Mails.{AreMailsOf, AreOnce, IsMailIn, names_in, names_told, pair_of}
+use Rattle.hg_storm.specs.Refusals.{AreToldOnce, HasOrRefused, HasRow, HasTakenNames, HaveRows, IsMailAt, IsOfMail, IsRefusal, IsRefusedName, message_at, name_of, name_sent, refusal_of, refusals_of}
 use Rattle.hg_storm.specs.Sending.{messages_from}
 use Rattle.hg_storm.specs.Threads.{place_of, turns_of}
 use Rattle.hg_storm.proofs.CircleLaws.{ArePeers, are_peers, pair_of_all, value_of}
-use Rattle.hg_storm.proofs.FateLaws.{get_later}
-use Rattle.hg_storm.proofs.MailLaws.{all_front, name_read}
+use Rattle.hg_storm.proofs.FateLaws.{all_map, get_later}
+use Rattle.hg_storm.proofs.MailLaws.{all_front, name_read, names_long, once_of}
 use Rattle.hg_storm.proofs.WorldLaws.{mapped_more}
-use Rattle.hg_storm.proofs.SenderLaws.{earlier, message_is, origin, place, stands_at}
+use Rattle.hg_storm.proofs.SenderLaws.{earlier, message_is, origin, place, place_later, stands_at}
 
 -- a refused message is refused by its name
 refused_name : (nodes : List (NodeView Secrets)) (taken : List Message) (i : ℕ) (rs : List RefusedMessage) → IsRefused i rs →
@@ -137,6 +139,12 @@ module _ (plan : Plan) (room : ℕ) (nodes : List (NodeView Secrets)) (logs : Li
         (λ (e : HoldsEvent (node_at p.start history) (bytes_at took i)).
         let same : e.row ≡ its_row = same_done e.row its_row (sym e.reads ∙ row_read) in
         inr (subst (λ (name : List ℕ). IsTrue (is_held (node_rows (node_at p.start history)) name)) (ap (λ (r : Row). r.name) same ∙ sym name_is) e.held))
+
+-- the names of a node's rows are different
+names_once : (v : NodeView Secrets) → IsNode accepts_by v → (x y : ℕ) → x < length (node_rows v) → y < length (node_rows v) → get_or (names_in v) x [] ≡ get_or (names_in v) y [] → x ≡ y
+names_once v node x y x_in y_in same =
+    let whole : take (length (node_rows v)) (names_in v) ≡ names_in v = ap (λ (n : ℕ). take n (names_in v)) (sym (names_long v)) ∙ take-length (names_in v) in
+    subst AreOnce whole (once_of v (length (node_rows v)) node (omega arith)) x y (omega (arith, x_in, names_long v)) (omega (arith, y_in, names_long v)) same
 
 -- ---- the mails
 
@@ -283,6 +291,40 @@ module _ (members : MemberList) (room : ℕ) (joined : Joined) (plan : Plan) (to
             taken = stands_in_mail k of.index k_in of.inside mail.0 mail.1 mail.2 ∙ ap (λ (n : List ℕ). Some n) (name_is plan room nodes logs left told v g l k of.index k_in of.inside ∙ ap (λ (x : Row). x.name) same);
           }
 
+      -- of two messages that were taken from one sender each carries a row of its own
+      differ : (i j : ℕ) → i < j → j < length taken_all → (message_at taken_all j).from ≡ (message_at taken_all i).from →
+          name_sent nodes (message_at taken_all j) ≡ name_sent nodes (message_at taken_all i) → ⊥
+      differ i j less j_in from name =
+          let i_in : i < length taken_all = omega (arith, less, j_in) in
+          let sender : ℕ = (message_at taken_all i).from in
+          let its : NodeView Secrets = get_or nodes sender v in
+          let a : ℕ = (message_at taken_all i).number in
+          let b : ℕ = (message_at taken_all j).number in
+          let node : IsNode accepts_by its = (told.each sender v g (from_in plan room nodes logs left told v g l k i k_in i_in)).1.lawful in
+          let a_is : a ≡ place sender taken_all i = number_is plan room nodes logs left told v g l k i k_in i_in in
+          let b_is : b ≡ place sender taken_all j = subst (λ (f : ℕ). b ≡ place f taken_all j) from (number_is plan room nodes logs left told v g l k j k_in j_in) in
+          let a_in : a < length (node_rows its) = has_row_number plan room nodes logs left told v g l k i k_in i_in in
+          let b_in : b < length (node_rows its) = subst (λ (f : ℕ). b < length (node_rows (get_or nodes f v))) from (has_row_number plan room nodes logs left told v g l k j k_in j_in) in
+          let names : get_or (names_in its) a [] ≡ get_or (names_in its) b [] =
+          sym (sent_as plan room nodes logs left told v g l k i k_in i_in)
+          ∙ (sym name ∙ (sent_as plan room nodes logs left told v g l k j k_in j_in ∙ ap (λ (f : ℕ). get_or (names_in (get_or nodes f v)) b []) from)) in
+          let same : a ≡ b = names_once its node a b a_in b_in names in
+          let later = place_later sender taken_all i j less i_in refl in
+          absurd (omega (arith, a_is, b_is, same, later))
+
+      not_again : (i : ℕ) (rs : List RefusedMessage) (from : ℕ) → i < from → AreRising from rs → AllByRecursion (λ (r : RefusedMessage). r.index < length taken_all) rs →
+          IsRefusedName (message_at taken_all i).from (name_sent nodes (message_at taken_all i)) (map (refusal_of nodes taken_all) rs) → ⊥
+      not_again i [] from less rising inside again = again
+      not_again i (r ∷ rs) from less rising inside again = ⊎_elim
+          (λ (is : ((message_at taken_all r.index).from ≡ (message_at taken_all i).from) × (name_sent nodes (message_at taken_all r.index) ≡ name_sent nodes (message_at taken_all i))).
+          differ i r.index (omega (arith, less, rising.0)) inside.0 is.0 is.1)
+          (λ (rest : IsRefusedName (message_at taken_all i).from (name_sent nodes (message_at taken_all i)) (map (refusal_of nodes taken_all) rs)).
+          not_again i rs (suc r.index) (omega (arith, less, rising.0)) rising.1 inside.1 rest) again
+
+      told_once : (rs : List RefusedMessage) (from : ℕ) → AreRising from rs → AllByRecursion (λ (r : RefusedMessage). r.index < length taken_all) rs → AreToldOnce (map (refusal_of nodes taken_all) rs)
+      told_once [] from rising inside = tt
+      told_once (r ∷ rs) from rising inside = (not_again r.index rs (suc r.index) (omega arith) rising.1 inside.1, told_once rs (suc r.index) rising.1 inside.1)
+
       -- what became of all of it
       pub has_taken_names : HasTakenNames plan nodes mails k p (get_or nodes k v) (get_or logs k g).idle named_all
       has_taken_names = record {
@@ -298,6 +340,8 @@ module _ (members : MemberList) (room : ℕ) (joined : Joined) (plan : Plan) (to
             let node : get_or nodes m.from v ≡ get_or nodes m.from w = get_or_default nodes m.from v w (from_in plan room nodes logs left told v g l k (get_or refused_all x r).index k_in one.index) in
             subst (λ (y : Refusal). IsRefusal mails k p its_history named_all y (get_or nodes y.from w)) named
             (subst (IsRefusal mails k p its_history named_all (refusal_of nodes taken_all (get_or refused_all x r))) node (is_refusal (get_or refused_all x r) one));
+        once = told_once refused_all 0 is.fates.once
+            (all_map (Refuses accepts_by p its_history taken_all refused_all) (λ (r : RefusedMessage). r.index < length taken_all) (λ r one. one.index) refused_all is.fates.refusals);
         took = took_of;
       }
 

@@ -316,6 +316,7 @@ served_none plan place own rows k m q new = record {
     sent = λ none. refl;
     few = omega arith;
   };
+  back = ap (λ (c : CountView). c.full) new.count;
   full = λ no. absurd (omega (arith, no));
 }
 
@@ -331,7 +332,7 @@ served_nobody plan place own rows mails ds ports none new = record {
 }
 
 fates_none : (p : SharedNode Secrets) (first : SeatView Secrets) → HasFates accepts_by p (split_off first) [] []
-fates_none p first = record { refusals = tt; held = λ j no. absurd (omega (arith, no)); came = tt }
+fates_none p first = record { refusals = tt; once = tt; held = λ j no. absurd (omega (arith, no)); came = tt }
 
 -- with a seat that added nothing, ports that put in nothing, one that took nothing, and an empty log
 begins : (plan : Plan) (place : ℕ) (mails : List MailboxView) (p : SharedNode Secrets) (own : ℕ) (log : Log) (first : SeatView Secrets) (ports : List PortView) (inbox : PortView) → own < length mails →

@@ -1,5 +1,5 @@
 -- Rows that are sent one after the other, and a node that goes on meanwhile
-use Rattle.std.proofs.Common.{◌≡◌, ℕ, zero, suc, ◌+◌, ◌<◌, ◌≤◌, List, [], ◌∷◌, ◌++◌, length, map, take, drop, refl, sym, ap, ◌∙◌, subst, append_assoc, arith}
+use Rattle.std.proofs.Common.{◌≡◌, ⊎_elim, ℕ, zero, suc, ◌+◌, ◌<◌, ◌≤◌, List, [], ◌∷◌, ◌++◌, length, map, take, drop, refl, sym, ap, ◌∙◌, subst, append_assoc, arith}
 use Rattle.std.proofs.lemmas.List.{append-nil, length-append, length-drop, length-map, length-take, length-take-le, map-append, take-append-drop, take-append-le, take-map}
 use Rattle.std.proofs.lemmas.List.{drop-map}
 use Rattle.std.proofs.Math.Seq.{take-length}
@@ -19,7 +19,7 @@ use Rattle.hg_board.specs.Table.{node_at}
 use Rattle.hg_board.specs.Seats.{SharedNode, SeatView}
 use Rattle.hg_board.proofs.PrefixLaws.{prefix_length, prefix_of_prefix}
 use Rattle.hg_crowd.specs.Crowd.{IsStill}
-use Rattle.hg_storm.specs.Sending.{HasSent, IsDue, Sends, WasFull, bytes_seen, messages_from}
+use Rattle.hg_storm.specs.Sending.{AreIn, HasSent, IsDue, NoneBack, Sends, WasFull, bytes_seen, messages_from}
 use Rattle.hg_storm.proofs.FateLaws.{take_later}
 
 -- lists
@@ -110,8 +110,22 @@ sends_still room from place rows m back p q r sends full = record {
   seen = omega (arith, full.seen, sends.seen);
 }
 
-pub was_full : (m : MailboxView) (message back : Message) (q r : PortView) → IsFull m.room q message back r → WasFull m r
-was_full m message back q r full = record { held = subst (λ (v : View). HeldAt v m.room) (sym full.view) full.held; counted = full.counted }
+pub was_full : (m : MailboxView) (message back : Message) (p q r : PortView) → NoneBack p q → IsFull m.room q message back r → WasFull m p r
+was_full m message back p q r none full = record {
+  once = omega (arith, full.full, none);
+  held = subst (λ (v : View). HeldAt v m.room) (sym full.view) full.held;
+  counted = full.counted;
+}
+
+-- of a piece all was sent, or one came back
+pub none_more : (m : MailboxView) (p q r : PortView) (count sent : ℕ) → NoneBack p q → AreIn m q r count sent → count ≤ sent → NoneBack p r
+none_more m p q r count sent none rest all =
+    ⊎_elim (λ (whole : (sent ≡ count) × NoneBack q r). whole.1 ∙ none) (λ (some : (sent < count) × WasFull m q r). absurd (omega (arith, some.0, all))) rest
+
+pub some_back : (m : MailboxView) (p q r : PortView) (count sent : ℕ) → NoneBack p q → AreIn m q r count sent → sent < count → WasFull m p r
+some_back m p q r count sent none rest less =
+    ⊎_elim (λ (whole : (sent ≡ count) × NoneBack q r). absurd (omega (arith, whole.0, less)))
+    (λ (some : (sent < count) × WasFull m q r). record { once = omega (arith, some.1.once, none); held = some.1.held; counted = some.1.counted }) rest
 
 -- whose port it is stays so
 pub still_sender : (from place : ℕ) (rows : List (List ℕ)) (p q : PortView) → Sends from place rows p q → IsSender from p.view → IsSender from q.view

@@ -81,6 +81,22 @@ module _ (from : ℕ) where
   places_rise (m ∷ ms) (suc i) zero le = absurd (omega (arith, le))
   places_rise (m ∷ ms) (suc i) (suc j) le = rises (eqb m.from from) m (messages_of from (take i ms)) (messages_of from (take j ms)) (places_rise ms i j (omega (arith, le)))
 
+  rises_one : (b : Bool) (x : Message) (first more : List Message) → length more ≡ suc (length first) → length (cond b (x ∷ more) more) ≡ suc (length (cond b (x ∷ first) first))
+  rises_one true x first more is = ap suc is
+  rises_one false x first more is = is
+
+  place_next : (ms : List Message) (i : ℕ) → i < length ms → (get_or ms i no_message).from ≡ from → place ms (suc i) ≡ suc (place ms i)
+  place_next [] i low is = absurd (omega (arith, low))
+  place_next (m ∷ ms) zero low is = ap (λ (b : Bool). length (cond b (m ∷ messages_of from (take 0 ms)) (messages_of from (take 0 ms)))) (eq-eqb m.from from is) ∙ ap suc (place_none ms)
+  place_next (m ∷ ms) (suc i) low is = rises_one (eqb m.from from) m (messages_of from (take i ms)) (messages_of from (take (suc i) ms)) (place_next ms i (omega (arith, low)) is)
+
+  -- one that stands before another among all stands before it among the sender's
+  pub place_later : (ms : List Message) (i j : ℕ) → i < j → i < length ms → (get_or ms i no_message).from ≡ from → place ms i < place ms j
+  place_later ms i j less low is =
+      let next = place_next ms i low is in
+      let rise = places_rise ms (suc i) j (omega (arith, less)) in
+      omega (arith, next, rise)
+
   -- one that stands before another among the sender's stands before it among all
   pub earlier : (ms : List Message) (i j : ℕ) → place ms i < place ms j → i < j
   earlier ms i j less = dite (ℕ_discrete (j - i) 0) (λ none. let le : j ≤ i = omega (arith, none) in let rise = places_rise ms j i le in absurd (omega (arith, less, rise))) (λ some. omega (arith, some))

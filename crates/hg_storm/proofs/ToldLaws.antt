@@ -34,7 +34,7 @@ use Rattle.hg_crowd.proofs.WorkLaws.{worked_none}
 use Rattle.hg_storm.specs.declared.plan.Plan.{Plan}
 use Rattle.hg_storm.specs.declared.desk.Job.{Job}
 use Rattle.hg_storm.specs.declared.desk.Log.{Log}
-use Rattle.hg_storm.specs.Drawing.{HasDrawn}
+use Rattle.hg_storm.specs.Drawing.{HasDrawn, times_drawn}
 use Rattle.hg_storm.specs.Keeping.{Secrets, is_made, rows_made, rows_made_in}
 use Rattle.hg_storm.specs.Sending.{bytes_seen}
 use Rattle.hg_storm.specs.Threads.{HaveRoom, no_dispatch, place_of, turns_of}
@@ -290,7 +290,7 @@ module _ (plan : Plan) (mails : List MailboxView) (k : ℕ) (p : SharedNode Secr
       let served = all.each to m no_dispatch q inside in
       record {
         within = subst (λ (rows : List (List ℕ)). (dispatch_to j.desk.log to).sent ≤ length rows) same_rows served.sent.within;
-        counted = subst (λ (x : ℕ × List (List ℕ)). IsCounted (HasDrawn plan x.0 (place_of plan k) (turns_of plan k) to) (length x.1) (turns_of plan k) (dispatch_to j.desk.log to))
+        counted = subst (λ (x : ℕ × List (List ℕ)). IsCounted (HasDrawn plan x.0 (place_of plan k) (turns_of plan k) to) (length x.1) (times_drawn plan x.0 (place_of plan k) (turns_of plan k) to) (dispatch_to j.desk.log to))
             (λ i. (done.me i, same_rows i)) served.counted;
         due = due_to to;
       }

@@ -1,7 +1,8 @@
 -- A member's turn: what it takes and makes, and what it sends
-use Rattle.std.proofs.Common.{◌≡◌, ◌≢◌, ⊎_elim, ℕ, suc, ◌+◌, ◌<◌, ◌≤◌, Bool, true, false, cond, List, length, length-set, set, get_or, refl, sym, ap, ◌∙◌, subst, arith}
+use Rattle.std.proofs.Common.{◌≡◌, ◌≢◌, ⊎_elim, ℕ, zero, suc, ◌==◌, ◌+◌, ◌<◌, ◌≤◌, Bool, true, false, cond, List, length, length-set, set, get_or, refl, sym, ap, ◌∙◌, subst, arith}
 use mathlib.Core.Logic.{dite}
 use native.Mathlib.Decide.{ℕ_discrete}
+use Rattle.std.proofs.lemmas.Bool.{eq-eqb}
 use Rattle.std.proofs.lemmas.List.{get_or-set_same, get_or-set_other, get_or_default}
 use Rattle.std.proofs.Math.Seq.{take-length}
 use Rattle.hg_model.specs.Orders.{IsPrefix}
@@ -9,7 +10,10 @@ use Rattle.hg_life.specs.History.{Change}
 use Rattle.hg_life.specs.NodeView.{NodeView}
 use Rattle.hg_life.specs.Signing.{accepts_by}
 use Rattle.hg_gossip.specs.Holding.{positions_from}
-use Rattle.hg_mail.specs.Mailboxes.{MailboxView, PortView}
+use Rattle.hg_mail.specs.declared.message.Message.{Message}
+use Rattle.hg_mail.specs.declared.view.View.{View}
+use Rattle.hg_mail.specs.Messages.{after_taking, receiver_view}
+use Rattle.hg_mail.specs.Mailboxes.{IsPortOf, MailboxView, PortView}
 use Rattle.hg_board.specs.Positions.{AreBelow}
 use Rattle.hg_board.specs.Table.{node_at}
 use Rattle.hg_board.specs.Seats.{SharedNode, SeatView}
@@ -21,11 +25,11 @@ use Rattle.hg_storm.specs.declared.plan.Plan.{Plan}
 use Rattle.hg_storm.specs.declared.sending.Dispatch.{Dispatch}
 use Rattle.hg_storm.specs.declared.desk.Log.{Log}
 use Rattle.hg_made.specs.Draws.{next_state, state_after}
-use Rattle.hg_storm.specs.Drawing.{Draws, HasDrawn, IsDrawing, first_state, peer_at, state_at}
+use Rattle.hg_storm.specs.Drawing.{Draws, HasDrawn, IsDrawing, first_state, peer_at, state_at, times_drawn}
 use Rattle.hg_storm.specs.Fates.{HasFates}
 use Rattle.hg_storm.specs.Keeping.{AddsNoRow, KeepsSeat, Secrets, rows_made, rows_made_in}
-use Rattle.hg_storm.specs.Receiving.{IsInbox}
-use Rattle.hg_storm.specs.Sending.{Dispatches, HasSent, IsDue, WasFull, bytes_seen}
+use Rattle.hg_storm.specs.Receiving.{IsInbox, TakesMore}
+use Rattle.hg_storm.specs.Sending.{Dispatches, HasSent, IsDue, SendsAll, SendsSome, bytes_seen}
 use Rattle.hg_storm.specs.Turning.{AreIdle, HasCounted, HasEnded, HasMade, HasServed, HasServedAll, IsCounted, IsIdleTurn, Standing, WasDue, is_row}
 use Rattle.hg_storm.proofs.KeepLaws.{making_keeps, still_keeps}
 use Rattle.hg_storm.proofs.MadeLaws.{came_below, from_past, made_whole, next_begins, next_early, next_mine, no_row_more, none_made, reached_by}
@@ -42,7 +46,8 @@ module _ (plan : Plan) (me place : ℕ) (p : SharedNode Secrets) (s t : SeatView
   pub served_later : (turns k : ℕ) (m : MailboxView) (d : Dispatch) (q : PortView) → HasServed plan me place turns (bytes_seen p s) k m d q → HasServed plan me place turns (bytes_seen p t) k m d q
   served_later turns k m d q was = record {
     sent = sent_later p s t m me d.sent q first was.sent;
-    counted = counted_later (HasDrawn plan me place turns k) (length (bytes_seen p s)) (length (bytes_seen p t)) turns d (rows_longer p s t first) was.counted;
+    counted = counted_later (HasDrawn plan me place turns k) (length (bytes_seen p s)) (length (bytes_seen p t)) (times_drawn plan me place turns k) d (rows_longer p s t first) was.counted;
+    back = was.back;
     full = was.full;
   }
 
@@ -69,6 +74,12 @@ drawn_next plan me t old new is others next =
     one n = omega arith
 
 -- ---- what a turn takes and makes
+
+pub inbox_on : (m : MailboxView) (old new : List Message) (p q : PortView) → IsInbox m old p → TakesMore m p q old new → IsInbox m new q
+inbox_on m old new p q is takes = record {
+  of = subst (IsPortOf m) (sym takes.port) is.of;
+  view = ap (λ (x : PortView). x.view) takes.port ∙ (ap (λ (v : View). after_taking v takes.more) is.view ∙ ap receiver_view (sym takes.grown));
+}
 
 -- the turn's row is made, or could not be
 module _ (plan : Plan) (place : ℕ) (mails : List MailboxView) (p : SharedNode Secrets) (drawn made me : ℕ) (log log_now : Log) (s t u : SeatView Secrets) (ports : List PortView) (inbox inbox_now : PortView)
@@ -171,6 +182,28 @@ module _ (plan : Plan) (place : ℕ) (mails : List MailboxView) (p : SharedNode 
 
 -- ---- what a turn sends
 
+abbrev one_if : Bool → ℕ
+one_if b = cond b 1 0
+
+times_next : (plan : Plan) (me place turns k : ℕ) → times_drawn plan me place (turns + 1) k ≡ times_drawn plan me place turns k + one_if (k == peer_at plan me place turns)
+times_next plan me place turns k = ap (λ (n : ℕ). times_drawn plan me place n k) (one turns)
+  where
+    one : (n : ℕ) → n + 1 ≡ suc n
+    one n = omega arith
+
+times_drew : (plan : Plan) (me place turns k : ℕ) → k ≡ peer_at plan me place turns → times_drawn plan me place (turns + 1) k ≡ times_drawn plan me place turns k + 1
+times_drew plan me place turns k is =
+    times_next plan me place turns k ∙ ap (λ (b : Bool). times_drawn plan me place turns k + one_if b) (eq-eqb k (peer_at plan me place turns) is)
+
+-- a member is drawn once at most in a turn
+pub times_most : (plan : Plan) (me place turns k : ℕ) → times_drawn plan me place turns k ≤ turns
+times_most plan me place zero k = omega arith
+times_most plan me place (suc t) k = omega (arith, times_most plan me place t k, once (k == peer_at plan me place t))
+  where
+    once : (b : Bool) → one_if b ≤ 1
+    once true = omega arith
+    once false = omega arith
+
 drawn_later : (plan : Plan) (me place turns k : ℕ) → HasDrawn plan me place turns k → HasDrawn plan me place (turns + 1) k
 drawn_later plan me place turns k d = record { turn = d.turn; early = omega (arith, d.early); draws = d.draws }
 
@@ -190,27 +223,30 @@ served_other plan me place turns rows j m d q before was =
         due = λ drawn. c.due (before drawn);
         late = c.late;
         sent = c.sent;
-        few = omega (arith, c.few);
+        few = omega (arith, c.few, times_next plan me place turns j);
       };
+      back = was.back;
       full = was.full;
     }
 
 -- the one that it drew
 served_now : (plan : Plan) (me place turns k : ℕ) (old new : List (List ℕ)) (m : MailboxView) (c d : Dispatch) (q r : PortView) → Draws plan me place turns k → 0 < length old →
-    HasServed plan me place turns old k m c q → HasSent m me new d.sent r → length old ≤ d.due → d.due ≤ length new → Dispatches m r c d → q.count.seen ≤ r.count.seen → HasServed plan me place (turns + 1) new k m d r
+    HasServed plan me place turns old k m c q → HasSent m me new d.sent r → length old ≤ d.due → d.due ≤ length new → Dispatches m q r c d → q.count.seen ≤ r.count.seen → HasServed plan me place (turns + 1) new k m d r
 served_now plan me place turns k old new m c d q r draws some was sent least most rest seen =
-    let few : c.full ≤ turns = was.counted.few in record {
+    let few = was.counted.few in
+    let more = times_drew plan me place turns k draws.peer in record {
       sent = sent;
       counted = record {
         drawn = λ _. record { turn = turns; early = omega arith; draws = draws };
         due = λ _. omega (arith, least, some);
         late = most;
-        sent = λ none. ⊎_elim (λ (all : (d.full ≡ c.full) × (d.sent ≡ d.due)). all.1) (λ (full : (d.full ≡ c.full + 1) × WasFull m r). absurd (omega (arith, full.0, none))) rest;
-        few = ⊎_elim (λ (all : (d.full ≡ c.full) × (d.sent ≡ d.due)). omega (arith, all.0, few)) (λ (full : (d.full ≡ c.full + 1) × WasFull m r). omega (arith, full.0, few)) rest;
+        sent = λ none. ⊎_elim (λ (all : SendsAll q r c d). all.1) (λ (some : SendsSome m q r c d). absurd (omega (arith, some.0, none))) rest;
+        few = ⊎_elim (λ (all : SendsAll q r c d). omega (arith, all.0, few, more)) (λ (some : SendsSome m q r c d). omega (arith, some.0, few, more)) rest;
       };
+      back = ⊎_elim (λ (all : SendsAll q r c d). all.2 ∙ (was.back ∙ sym all.0)) (λ (some : SendsSome m q r c d). omega (arith, some.1.once, was.back, some.0)) rest;
       full = λ often. ⊎_elim
-          (λ (all : (d.full ≡ c.full) × (d.sent ≡ d.due)). (let room : m.room ≤ q.count.seen = was.full (omega (arith, all.0, often)) in omega (arith, room, seen)))
-          (λ (full : (d.full ≡ c.full + 1) × WasFull m r). full.1.counted) rest;
+          (λ (all : SendsAll q r c d). (let room : m.room ≤ q.count.seen = was.full (omega (arith, all.0, often)) in omega (arith, room, seen)))
+          (λ (some : SendsSome m q r c d). some.1.counted) rest;
     }
 
 -- nobody is drawn where there is no other
@@ -240,7 +276,7 @@ module _ (plan : Plan) (place : ℕ) (mails : List MailboxView) (p : SharedNode 
     (old : Standing plan place mails p drawn (drawn + 1) me log s ports inbox) (k : ℕ) (draws : Draws plan me place drawn k) (inside : k < length mails)
     (m : MailboxView) (c d : Dispatch) (q r : PortView) (m_is : m ≡ get_or mails k m) (c_is : c ≡ get_or log.dispatches.items k c) (q_is : q ≡ get_or ports k q)
     (still : IsStill s t) (keeps : KeepsSeat accepts_by p s t) (mine : t.mine ≡ s.mine)
-    (sent : HasSent m me (bytes_seen p t) d.sent r) (due : IsDue p s t d.due) (rest : Dispatches m r c d) (seen : q.count.seen ≤ r.count.seen)
+    (sent : HasSent m me (bytes_seen p t) d.sent r) (due : IsDue p s t d.due) (rest : Dispatches m q r c d) (seen : q.count.seen ≤ r.count.seen)
     (dispatches : log_now.dispatches.items ≡ set log.dispatches.items k d) (intake : log_now.intake ≡ log.intake) (idle : log_now.idle ≡ log.idle) where
   abbrev ds : List Dispatch
   ds = set log.dispatches.items k d

@@ -1,5 +1,5 @@
 -- Whom a member draws at its turns: one of the others that have nodes
-use Rattle.std.specs.Prelude.{ℕ, ◌≡◌, ◌+◌, ◌-◌, ◌<◌, ◌≤◌, All, ◌%◌, ◌^◌, ◌==◌, List, length, get_or, position, Option}
+use Rattle.std.specs.Prelude.{ℕ, zero, suc, cond, ◌≡◌, ◌+◌, ◌-◌, ◌<◌, ◌≤◌, All, ◌%◌, ◌^◌, ◌==◌, List, length, get_or, position, Option}
 use Rattle.hg_model.specs.Places.{list_below}
 use Rattle.hg_life.specs.Members.{MemberList, has_node}
 use Rattle.hg_made.specs.Draws.{state_after, upper_half}
@@ -43,6 +43,11 @@ IsDrawing plan me t state = 1 < length plan.circle.items → state ≡ state_at 
 pub record Draws (plan : Plan) (me place t k : ℕ) : Type 0 where
   pub others : 1 < length plan.circle.items
   pub peer : k ≡ peer_at plan me place t
+
+-- in how many of its first turns it draws this member
+abbrev pub times_drawn : Plan → ℕ → ℕ → ℕ → ℕ → ℕ
+times_drawn plan me place zero k = 0
+times_drawn plan me place (suc t) k = times_drawn plan me place t k + cond (k == peer_at plan me place t) 1 0
 
 -- of its first turns this is the last one that draws this member
 pub record IsLastDraw (plan : Plan) (me place turns k turn : ℕ) : Type 0 where

@@ -9,12 +9,13 @@ use Rattle.hg_mail.specs.declared.message.Message.{Message}
 use Rattle.hg_board.specs.Seats.{SharedNode, SeatView}
 use Rattle.hg_crowd.specs.Crowd.{IsEnded}
 use Rattle.hg_storm.specs.declared.taking.RefusedMessage.{RefusedMessage}
-use Rattle.hg_storm.specs.Fates.{AreHeld, HasFates, IsOfMessage, Refuses}
+use Rattle.hg_storm.specs.Fates.{AreHeld, AreRising, HasFates, IsOfMessage, Refuses}
 
 -- each message is held or refused at its moment, and each row that was taken is that of a message
 pub record EndsWithFates {V : Type 0} (accepts : V → Accepts) (p : SharedNode V) (node : NodeView V) (taken : List Message) (refused : List RefusedMessage) : Type 0 where
   pub held : AreHeld p node.history taken refused (length taken)
   pub refusals : AllByRecursion (Refuses accepts p node.history taken refused) refused
+  pub once : AreRising 0 refused
   pub took : (q : ℕ) (row : Row) → slice_get node.history q ≡ Some (Took row) → IsOfMessage taken row
 
 -- it is so where the node began without changes, and what others than the seat did to it are marks

@@ -1,5 +1,5 @@
 -- What came of the messages that a node took: the event of each is held, or was refused by what the node held then
-use Rattle.std.specs.Prelude.{◌≡◌, ℕ, ◌<◌, ◌≤◌, ◌⊎◌, IsTrue, List, [], ◌∷◌, ◌++◌, length, take, get_or, Some, Ok, slice_get}
+use Rattle.std.specs.Prelude.{◌≡◌, ℕ, suc, ◌<◌, ◌≤◌, ◌⊎◌, ⊤, IsTrue, List, [], ◌∷◌, ◌++◌, length, take, get_or, Some, Ok, slice_get}
 use Rattle.std.specs.List.{AllByRecursion}
 use Rattle.hg_model.specs.declared.row.Row.{Row}
 use Rattle.hg_model.specs.Held.{is_held}
@@ -60,6 +60,11 @@ after_put index at refused (Accepted p) = refused
 after_put index at refused (Known p) = refused
 after_put index at refused (Refused why) = refused ++ record { index = index; why = why; at = at } ∷ []
 
+-- they stand in the order of the messages, each once, from this place on
+abbrev pub AreRising : ℕ → List RefusedMessage → Type 0
+AreRising from [] = ⊤
+AreRising from (r ∷ rs) = (from ≤ r.index) × AreRising (suc r.index) rs
+
 -- of the first messages each was refused, or the node of this history holds its event
 abbrev pub AreHeld : {V : Type 0} → SharedNode V → List Change → List Message → List RefusedMessage → ℕ → Type 0
 AreHeld p history taken refused end = (j : ℕ) → j < end → IsRefused j refused ⊎ HoldsEvent (node_at p.start history) (bytes_at taken j)
@@ -73,9 +78,10 @@ module _ {V : Type 0} (accepts : V → Accepts) (p : SharedNode V) where
     pub verdict : put_answer accepts (node_at p.start (take r.at history)) (bytes_at taken r.index) ≡ Refused r.why
     pub before : AreHeld p (take r.at history) taken refused r.index
 
-  -- of a seat through which nothing but these messages was put: each is held or refused, and each of the seat's own changes
-  -- made a row or took that of a message
+  -- of a seat through which nothing but these messages was put: each is held or refused, which is told once, and each of the
+  -- seat's own changes made a row or took that of a message
   pub record HasFates (s : SeatView V) (taken : List Message) (refused : List RefusedMessage) : Type 0 where
     pub refusals : AllByRecursion (Refuses s.seen taken refused) refused
+    pub once : AreRising 0 refused
     pub held : AreHeld p s.seen taken refused (length taken)
     pub came : AllByRecursion (CameBy s.seen taken) s.mine

@@ -17,7 +17,7 @@ use Rattle.hg_storm.specs.declared.sending.Dispatch.{Dispatch}
 use Rattle.hg_storm.specs.declared.desk.Log.{Log}
 use Rattle.hg_storm.specs.declared.desk.Job.{Job}
 use Rattle.hg_storm.specs.Sending.{bytes_seen, messages_from}
-use Rattle.hg_storm.specs.Drawing.{HasDrawn}
+use Rattle.hg_storm.specs.Drawing.{HasDrawn, times_drawn}
 use Rattle.hg_storm.specs.Ends.{EndsWithFates}
 use Rattle.hg_storm.specs.Turning.{AreIdle, HadRows, IsCounted, Stands, WasDue, own_rows, rows_by}
 use Rattle.hg_storm.specs.Threads.{Pairs, no_dispatch, place_of, turns_of}
@@ -150,7 +150,8 @@ rows_of_node v = map spelling (node_rows v)
 -- the node had once the last turn that drew k had made its own
 pub record IsSentTo (plan : Plan) (j k : ℕ) (node : NodeView Secrets) (idle : ℕ) (d : Dispatch) : Type 0 where
   pub within : d.sent ≤ length (rows_of_node node)
-  pub counted : IsCounted (HasDrawn plan j (place_of plan j) (turns_of plan j) k) (length (rows_of_node node)) (turns_of plan j) d
+  pub counted : IsCounted (HasDrawn plan j (place_of plan j) (turns_of plan j) k) (length (rows_of_node node))
+      (times_drawn plan j (place_of plan j) (turns_of plan j) k) d
   pub due : HasDrawn plan j (place_of plan j) (turns_of plan j) k →
       WasDue plan j (place_of plan j) (turns_of plan j) k node (own_rows node) (turns_of plan j) idle (HadRows node d.due)
 

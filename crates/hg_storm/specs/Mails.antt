@@ -11,7 +11,7 @@ use Rattle.hg_storm.specs.declared.sending.Dispatch.{Dispatch}
 use Rattle.hg_storm.specs.declared.desk.Log.{Log}
 use Rattle.hg_storm.specs.declared.threads.Joined.{Joined}
 use Rattle.hg_storm.specs.declared.mails.Mail.{Mail}
-use Rattle.hg_storm.specs.Joins.{IsSentTo, dispatch_to}
+use Rattle.hg_storm.specs.Joins.{AreTold, IsSentTo, dispatch_to}
 use Rattle.hg_storm.specs.Keeping.{Secrets}
 
 -- the names of a node's rows, in order
@@ -60,6 +60,10 @@ pub record AreMails (plan : Plan) (room : ℕ) (nodes : List (NodeView Secrets))
 -- the names of the rows that messages carry, by their numbers
 abbrev pub names_told : List (List ℕ) → List Message → List (List ℕ)
 names_told names messages = map (λ (m : Message). get_or names m.number []) messages
+
+-- what came of a storm's threads, by some plan and some room
+abbrev pub HasTold : Joined → Type 0
+HasTold joined = (plan : Plan) × (room : ℕ) × AreTold plan room joined.nodes.items joined.logs.items joined.left.items
 
 -- a message of this sender is of one of its first rows
 abbrev pub IsOfRow : ℕ → ℕ → Message → Type 0

@@ -1,5 +1,5 @@
 -- What became of the rows that the members' nodes took, by names
-use Rattle.std.specs.Prelude.{ℕ, ◌≡◌, ◌<◌, ◌≤◌, ◌⊎◌, IsTrue, List, [], ◌∷◌, All, length, map, take, get_or, Option, Some, None, slice_get}
+use Rattle.std.specs.Prelude.{ℕ, ◌≡◌, ◌<◌, ◌≤◌, ◌⊎◌, ⊤, IsTrue, List, [], ◌∷◌, All, length, map, take, get_or, Option, Some, None, slice_get}
 use Rattle.hg_model.specs.declared.row.Row.{Row}
 use Rattle.hg_model.specs.Held.{is_held}
 use Rattle.hg_life.specs.declared.answers.PutAnswer.TheVariants.{Refused}
@@ -26,6 +26,11 @@ use Rattle.hg_storm.specs.Mails.{names_in, pair_of}
 abbrev pub IsRefusedName : ℕ → List ℕ → List Refusal → Type 0
 IsRefusedName from name [] = ⊥
 IsRefusedName from name (r ∷ rs) = ((r.from ≡ from) × (r.name ≡ name)) ⊎ IsRefusedName from name rs
+
+-- no row of a sender's is told twice
+abbrev pub AreToldOnce : List Refusal → Type 0
+AreToldOnce [] = ⊤
+AreToldOnce (r ∷ rs) = (IsRefusedName r.from r.name rs → ⊥) × AreToldOnce rs
 
 -- the node with these changes has a row of this name, or it refused that which the member sent
 abbrev pub HasOrRefused : SharedNode Secrets → List Change → List Refusal → ℕ → List ℕ → Type 0
@@ -61,11 +66,13 @@ pub record IsRefusal (mails : List Mail) (to : ℕ) (p : SharedNode Secrets) (hi
   pub before : (x : ℕ) (name : List ℕ) → x < number → slice_get mail.taken.items x ≡ Some name → HasOrRefused p (take r.at history) refused r.from name
 
 -- Of one member, whose node is this: its own rows and its turns that made none are as many as all its turns; of the rows that it took
--- of each other's, each is held or was refused; each row that it refused is told; and each that it took is one that came by a mail.
+-- of each other's, each is held or was refused; each row that it refused is told, once; and each that it took is one that came by a
+-- mail.
 pub record HasTakenNames (plan : Plan) (nodes : List (NodeView Secrets)) (mails : List Mail) (k : ℕ) (p : SharedNode Secrets) (node : NodeView Secrets) (idle : ℕ) (refused : List Refusal) : Type 0 where
   pub turns : CountsTurns plan k p node idle
   pub taken : All (λ (m : Mail). m.to ≡ k → All (HasOrRefused p node.history refused m.from) m.taken.items) mails
   pub refusals : All (λ (r : Refusal). (v : NodeView Secrets) → IsRefusal mails k p node.history refused r (get_or nodes r.from v)) refused
+  pub once : AreToldOnce refused
   pub took : (q : ℕ) (row : Row) → slice_get node.history q ≡ Some (Took row) → IsOfMail mails k row.name
 
 -- ---- by what the threads told

@@ -1,5 +1,5 @@
 -- What a member has sent to another: its node's first rows, in order, through one port
-use Rattle.std.specs.Prelude.{◌≡◌, ℕ, ◌+◌, ◌≤◌, ◌⊎◌, List, [], ◌∷◌, ◌++◌, length, map, take}
+use Rattle.std.specs.Prelude.{◌≡◌, ℕ, ◌+◌, ◌<◌, ◌≤◌, ◌⊎◌, List, [], ◌∷◌, ◌++◌, length, map, take}
 use Rattle.hg_life.specs.Spelling.{spelling}
 use Rattle.hg_life.specs.NodeView.{node_rows}
 use Rattle.hg_mail.specs.declared.message.Message.{Message}
@@ -34,10 +34,15 @@ pub record Sends (from place : ℕ) (rows : List (List ℕ)) (p q : PortView) : 
   pub mine : q.count.mine ≡ p.count.mine + length rows
   pub seen : p.count.seen ≤ q.count.seen
 
--- the mailbox held as many messages as it has room for, and so many were put in and counted, as the port has seen
-pub record WasFull (m : MailboxView) (p : PortView) : Type 0 where
-  pub held : HeldAt p.view m.room
-  pub counted : m.room ≤ p.count.seen
+-- no message came back meanwhile
+abbrev pub NoneBack : PortView → PortView → Type 0
+NoneBack p q = q.count.full ≡ p.count.full
+
+-- one did: the mailbox held as many messages as it has room for, and so many were put in and counted, as the port has seen
+pub record WasFull (m : MailboxView) (p q : PortView) : Type 0 where
+  pub once : q.count.full ≡ p.count.full + 1
+  pub held : HeldAt q.view m.room
+  pub counted : m.room ≤ q.count.seen
 
 -- how many rows the node had at some time of the call: at these first changes of what the seat then has seen
 pub record IsDue {V : Type 0} (p : SharedNode V) (old new : SeatView V) (due : ℕ) : Type 0 where
@@ -46,6 +51,16 @@ pub record IsDue {V : Type 0} (p : SharedNode V) (old new : SeatView V) (due : �
   pub most : at ≤ length new.seen
   pub rows : due ≡ length (node_rows (node_at p.start (take at new.seen)))
 
--- all rows that were due were sent, or the mailbox was full, which is counted
-abbrev pub Dispatches : MailboxView → PortView → Dispatch → Dispatch → Type 0
-Dispatches m p old new = ((new.full ≡ old.full) × (new.sent ≡ new.due)) ⊎ ((new.full ≡ old.full + 1) × WasFull m p)
+-- of so many rows all were put in, and none came back; or fewer were, and one did
+abbrev pub AreIn : MailboxView → PortView → PortView → ℕ → ℕ → Type 0
+AreIn m p q count sent = ((sent ≡ count) × NoneBack p q) ⊎ ((sent < count) × WasFull m p q)
+
+-- all rows that were due were sent, and none came back; or one did, which is counted
+abbrev pub SendsAll : PortView → PortView → Dispatch → Dispatch → Type 0
+SendsAll p q old new = (new.full ≡ old.full) × (new.sent ≡ new.due) × NoneBack p q
+
+abbrev pub SendsSome : MailboxView → PortView → PortView → Dispatch → Dispatch → Type 0
+SendsSome m p q old new = (new.full ≡ old.full + 1) × WasFull m p q
+
+abbrev pub Dispatches : MailboxView → PortView → PortView → Dispatch → Dispatch → Type 0
+Dispatches m p q old new = SendsAll p q old new ⊎ SendsSome m p q old new

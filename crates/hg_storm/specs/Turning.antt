@@ -20,7 +20,7 @@ use Rattle.hg_storm.specs.declared.plan.Plan.{Plan}
 use Rattle.hg_storm.specs.declared.sending.Dispatch.{Dispatch}
 use Rattle.hg_storm.specs.declared.desk.Log.{Log}
 use Rattle.hg_storm.specs.declared.desk.Desk.{Desk}
-use Rattle.hg_storm.specs.Drawing.{Draws, HasDrawn, IsLastDraw}
+use Rattle.hg_storm.specs.Drawing.{Draws, HasDrawn, IsLastDraw, times_drawn}
 use Rattle.hg_storm.specs.Fates.{HasFates}
 use Rattle.hg_storm.specs.Keeping.{Secrets, rows_made, rows_made_in}
 use Rattle.hg_storm.specs.Receiving.{IsInbox}
@@ -125,18 +125,20 @@ pub record HasEnded (p : SharedNode Secrets) (s : SeatView Secrets) (turns idle 
 -- ---- what was sent to one member
 
 -- how many rows were due to a member, and what is left of them: some were where a turn drew it, and of those all were sent
--- unless its mailbox was full; without a draw its mailbox was not found full
-pub record IsCounted (Drawn : Type 0) (rows turns : ℕ) (d : Dispatch) : Type 0 where
+-- unless its mailbox was full, once at most for each of so many draws
+pub record IsCounted (Drawn : Type 0) (rows times : ℕ) (d : Dispatch) : Type 0 where
   pub drawn : 0 < d.due + d.full → Drawn
   pub due : Drawn → 0 < d.due
   pub late : d.due ≤ rows
   pub sent : d.full ≡ 0 → d.sent ≡ d.due
-  pub few : d.full ≤ turns
+  pub few : d.full ≤ times
 
--- through this port the member sent that; where the mailbox was full, as many were put in and counted as it has room for
+-- through this port the member sent that, and so often one came back; where the mailbox was full, as many were put in and counted as
+-- it has room for
 pub record HasServed (plan : Plan) (me place turns : ℕ) (rows : List (List ℕ)) (k : ℕ) (m : MailboxView) (d : Dispatch) (q : PortView) : Type 0 where
   pub sent : HasSent m me rows d.sent q
-  pub counted : IsCounted (HasDrawn plan me place turns k) (length rows) turns d
+  pub counted : IsCounted (HasDrawn plan me place turns k) (length rows) (times_drawn plan me place turns k) d
+  pub back : q.count.full ≡ d.full
   pub full : 0 < d.full → m.room ≤ q.count.seen
 
 -- to each member

@@ -1,10 +1,9 @@
 // What the members sent each other, by the names of rows.
-ghost use Rattle.std.specs.Prelude.{ℕ, ◌≡◌, ◌<◌, ◌≤◌, ◌++◌, All, IfOk, OnOk, length, map, take};
+ghost use Rattle.std.specs.Prelude.{◌≡◌, ◌<◌, ◌≤◌, ◌++◌, All, IfOk, OnOk, length, map, take};
 ghost use Rattle.hg_life.specs.NodeView.{node_rows};
 ghost use Rattle.hg_mail.specs.Messages.{messages_of};
-ghost use Rattle.hg_storm.specs.declared.plan.Plan.{Plan};
-ghost use Rattle.hg_storm.specs.Joins.{AreTold, dispatch_to};
-ghost use Rattle.hg_storm.specs.Mails.{AreMailsOf, IsMailOf, IsOfRow, names_in, names_told, pair_of, pairs_from};
+ghost use Rattle.hg_storm.specs.Joins.{dispatch_to};
+ghost use Rattle.hg_storm.specs.Mails.{AreMailsOf, HasTold, IsMailOf, IsOfRow, names_in, names_told, pair_of, pairs_from};
 
 use crate::desk::Log;
 use crate::sending::Dispatch;
@@ -79,7 +78,7 @@ fn dispatch_of(log: &Log, to: Member) -> Dispatch
 
 /// What one member sent another.
 fn mail_of(alloc: Global, joined: &Joined, from: Member, to: Member) -> Result<Mail, Memory>
-    requires told { (plan : Plan) × (room : ℕ) × AreTold plan room joined.now.nodes.items joined.now.logs.items joined.now.left.items }
+    requires told { HasTold joined.now }
     requires from { from < length joined.now.nodes.items }
     requires to { to < length joined.now.nodes.items }
     ensures mail { IfOk result (IsMailOf joined.now) }
@@ -110,7 +109,7 @@ fn push_mails(
     from: Member,
     mails: &mut Vec<Mail>,
 ) -> Result<(), Memory>
-    requires told { (plan : Plan) × (room : ℕ) × AreTold plan room joined.now.nodes.items joined.now.logs.items joined.now.left.items }
+    requires told { HasTold joined.now }
     requires circle { All (λ m. m < length joined.now.nodes.items) circle.now }
     requires from { from < length joined.now.nodes.items }
     requires mails { All (IsMailOf joined.now) mails.old.items }
@@ -132,7 +131,7 @@ pub(crate) fn mails_of(
     joined: &Joined,
     circle: &[Member],
 ) -> Result<Vec<Mail>, Memory>
-    requires told { (plan : Plan) × (room : ℕ) × AreTold plan room joined.now.nodes.items joined.now.logs.items joined.now.left.items }
+    requires told { HasTold joined.now }
     requires circle { All (λ m. m < length joined.now.nodes.items) circle.now }
     ensures { IfOk result (λ mails. AreMailsOf joined.now circle.now mails.items) }
 {

@@ -1,4 +1,4 @@
-ghost use Rattle.std.specs.Prelude.{◌≡◌, ◌+◌, ◌<◌, ◌≤◌, ◌⊎◌, ◌^◌, IfOk, length, take};
+ghost use Rattle.std.specs.Prelude.{◌≡◌, ◌+◌, ◌<◌, ◌≤◌, ◌^◌, IfOk, length, take};
 ghost use Rattle.hg_mail.specs.Messages.{IsSender};
 ghost use Rattle.hg_mail.specs.Mailboxes.{IsPortOf};
 ghost use Rattle.hg_board.specs.Seats.{IsOf};
@@ -6,7 +6,7 @@ ghost use Rattle.hg_board.specs.Copies.{bytes_from};
 ghost use Rattle.hg_board.specs.Table.{node_at};
 ghost use Rattle.hg_crowd.specs.Crowd.{IsStill};
 ghost use Rattle.hg_storm.specs.Keeping.{KeepsSeat};
-ghost use Rattle.hg_storm.specs.Sending.{Dispatches, HasSent, IsDue, Sends, WasFull, bytes_seen};
+ghost use Rattle.hg_storm.specs.Sending.{AreIn, Dispatches, HasSent, IsDue, Sends, bytes_seen};
 
 use hg_board::{Seat, Shared};
 use hg_mail::{Mailbox, Message, Port, PostAnswer};
@@ -20,7 +20,7 @@ use std::sync::Wait;
 pub struct Dispatch {
     /// How many rows: its node's first ones, in order.
     pub sent: usize,
-    /// How often the mailbox was full.
+    /// How often one came back, since the mailbox was full.
     pub full: u64,
     /// How many rows its node had when it last sent.
     pub due: usize,
@@ -45,7 +45,7 @@ fn send_piece<R: Wait>(
     ensures of { IsPortOf mailbox.now port.new }
     ensures within { result ≤ length rows.items }
     ensures sends { Sends from place (take result rows.items) port.old port.new }
-    ensures rest { (result ≡ length rows.items) ⊎ WasFull mailbox.now port.new }
+    ensures rest { AreIn mailbox.now port.old port.new (length rows.items) result }
 {
     let mut sent = 0;
     'rows: for bytes in rows {
@@ -118,7 +118,7 @@ pub fn send_rows<V: Signer + Drop, R: Wait>(
     ensures mine { seat.new.mine ≡ seat.old.mine }
     ensures sent { IfOk result (λ d. HasSent mailbox.now from (bytes_seen shared.now seat.new) d.sent port.new) }
     ensures due { IfOk result (λ d. IsDue shared.now seat.old seat.new d.due) }
-    ensures rest { IfOk result (Dispatches mailbox.now port.new dispatch) }
+    ensures rest { IfOk result (Dispatches mailbox.now port.old port.new dispatch) }
     ensures seen { port.old.count.seen ≤ port.new.count.seen }
 {
     let due = rows_due(rt, alloc, shared, seat);

@@ -13,5 +13,6 @@ invariant-tries g l = record {
   slots : l.seat.me.1 ≡ l.fn.seat.me.1;
   parts : l.seat.me.0.parts ≡ l.fn.seat.me.0.parts;
   mine : l.seat.me.0.mine ≡ l.fn.seat.me.0.mine;
+  full : l.seat.me.0.full ≡ l.fn.seat.me.0.full;
   seen : l.fn.seat.me.0.seen ≤ l.seat.me.0.seen;
 }

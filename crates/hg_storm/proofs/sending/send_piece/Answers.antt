@@ -22,4 +22,5 @@ rows-preserved g c =
       rest = sym (drop_next sent rows c.in-Some.bytes rest next);
       sends = subst (λ (xs : List (List ℕ)). Sends c.args.from c.args.place xs c.args.port.now c.post.new.port) (sym (take_next sent rows c.in-Some.bytes rest next))
           (sends_one c.args.from c.args.place (take sent rows) c.in-Some.bytes c.args.port.now c.rows.port c.post.new.port c.rows.invariant.sends posted);
+      back = posted.full ∙ c.rows.invariant.back;
     }

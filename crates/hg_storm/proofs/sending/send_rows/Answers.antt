@@ -1,5 +1,5 @@
-use Rattle.std.proofs.Common.{◌∙◌, arith}
-use Rattle.hg_storm.proofs.SendLaws.{due_at, due_most, due_on, piece_most, piece_sent, piece_some, rows_longer, sent_later, still_on}
+use Rattle.std.proofs.Common.{length, refl, inr, ◌∙◌, arith}
+use Rattle.hg_storm.proofs.SendLaws.{due_at, due_most, due_on, none_more, piece_most, piece_sent, piece_some, rows_longer, sent_later, some_back, still_on}
 use Rattle.hg_storm.proofs.sending.send_rows.Goals as goal
 
 pub pieces-init : goal.pieces-init
@@ -17,6 +17,7 @@ pieces-init g c =
       within = omega (arith, e.count, longer, c.requires.sent.within);
       sent = sent_later p s t c.args.mailbox.now c.args.from c.args.dispatch.sent c.args.port.now e.still.seen c.requires.sent;
       seen = omega arith;
+      back = refl;
     }
 
 pub returns-then-more-count-clause-sent : goal.returns-then-more-count-clause-sent
@@ -28,6 +29,13 @@ returns-then-more-count-clause-sent g c =
 pub returns-then-more-count-clause-due : goal.returns-then-more-count-clause-due
 returns-then-more-count-clause-due g c =
     due_on c.args.shared.now c.args.seat.now c.pieces.seat c.piece_from.new.seat c.rows_due-due.result c.in_ok-rows.ensures.still.seen c.pieces.invariant.due
+
+pub returns-then-more-count-clause-rest : goal.returns-then-more-count-clause-rest
+returns-then-more-count-clause-rest g c = inr (
+  refl,
+  some_back c.args.mailbox.now c.args.port.now c.pieces.port c.send_piece-more.new.port (length c.in_ok-rows.rows.items) c.send_piece-more.result c.pieces.invariant.back c.send_piece-more.ensures.rest
+      (omega (arith, c.len-count.ensures, c.if-more-count.true)),
+)
 
 pub pieces-smaller : goal.pieces-smaller
 pieces-smaller g c =
@@ -51,4 +59,5 @@ pieces-preserved g c =
       sent = piece_sent c.args.shared.now c.pieces.seat c.piece_from.new.seat c.args.mailbox.now c.args.from c.pieces.sent _ c.send_piece-more.result c.in_ok-rows.rows.items c.pieces.port c.send_piece-more.new.port
           c.in_ok-rows.ensures.still.seen i.sent c.in_ok-rows.ensures.rows e.within e.of e.sends;
       seen = omega (arith, i.seen, e.sends.seen);
+      back = none_more c.args.mailbox.now c.args.port.now c.pieces.port c.send_piece-more.new.port (length c.in_ok-rows.rows.items) c.send_piece-more.result i.back e.rest (omega (arith, c.len-count.ensures, c.if-more-count.false));
     }

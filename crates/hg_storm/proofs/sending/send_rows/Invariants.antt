@@ -2,7 +2,7 @@ use Rattle.std.proofs.Common.{◌≡◌, ◌≤◌, ◌-◌}
 use Rattle.hg_board.specs.Seats.{IsOf}
 use Rattle.hg_crowd.specs.Crowd.{IsStill}
 use Rattle.hg_storm.specs.Keeping.{KeepsSeat}
-use Rattle.hg_storm.specs.Sending.{HasSent, IsDue, bytes_seen}
+use Rattle.hg_storm.specs.Sending.{HasSent, IsDue, NoneBack, bytes_seen}
 use Rattle.hg_storm.proofs.sending.send_rows.Given as goal
 
 abbrev pub invariant-pieces : goal.invariant-pieces
@@ -15,6 +15,7 @@ invariant-pieces g l = record {
   within : l.sent ≤ l.due;
   sent : HasSent l.mailbox l.from (bytes_seen l.shared l.seat) l.sent l.port;
   seen : l.fn.port.count.seen ≤ l.port.count.seen;
+  back : NoneBack l.fn.port l.port;
 }
 
 abbrev pub decreases-pieces : goal.decreases-pieces

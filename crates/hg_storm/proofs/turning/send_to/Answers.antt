@@ -1,6 +1,6 @@
 use Rattle.std.proofs.Common.{arith, refl}
 use Rattle.hg_storm.specs.Sending.{bytes_seen}
-use Rattle.hg_storm.proofs.TurnLaws.{served_read, serves_more}
+use Rattle.hg_storm.proofs.TurnLaws.{served_read, serves_more, times_most}
 use Rattle.hg_storm.proofs.turning.send_to.Goals as goal
 
 pub send_rows-requires-clause-sent : goal.send_rows-requires-clause-sent
@@ -14,7 +14,7 @@ send_rows-requires-clause-few g c =
     let at = c.requires.at.1 in
     let served = served_read at.plan c.args.desk.now.me at.place at.drawn (bytes_seen c.args.shared.now c.args.desk.now.seat) c.args.mailboxes.now c.args.desk.now.log.dispatches.items c.args.desk.now.ports.items c.args.peer
     c.index-mailboxes-to.result c.index.result.now c.index_mut.result.now at.stands.served c.requires.peer c.index-mailboxes-to.is c.index.ensures c.index_mut.ensures.value in
-    omega (arith, served.counted.few, at.few)
+    omega (arith, served.counted.few, at.few, times_most at.plan c.args.desk.now.me at.place at.drawn c.args.peer)
 
 pub returns-clause-serves : goal.returns-clause-serves
 returns-clause-serves g c plan place drawn draws stands =
