@@ -17,6 +17,7 @@ disk_run before after = record {
   after = file_of after;
   faults_before = λ name. before.faults;
   faults_after = λ name. after.faults;
+  same = after ≡ before;
 }
 
 -- the course of a run over these files

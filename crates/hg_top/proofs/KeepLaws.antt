@@ -2,9 +2,11 @@
 use Rattle.std.proofs.Common.{◌≡◌, ℕ, List, Option, Some, is_some, inl, inr, refl, sym, ◌∙◌, ap, arith, IsErrOf}
 use Rattle.std.specs.Prelude.{Result, Ok, Err, ⊤}
 use Rattle.std.specs.Option.{ForSome}
-use Rattle.hg_io.specs.FileView.{FileView, Stays}
+use Rattle.hg_io.specs.FileView.{unknown}
 use Rattle.hg_io.specs.Printing.{Prints}
+use Rattle.hg_io.specs.declared.disk.Disk as disk
 use Rattle.hg_io.specs.declared.sink.Sink as sink
+use Rattle.hg_io.proofs.Going.{stays_same}
 use Rattle.hg_life.specs.Signing.{accepts_by}
 use Rattle.hg_journal.specs.Journal.{reading_of}
 use Rattle.hg_journal.specs.Reading.{Reading, state_in}
@@ -19,20 +21,19 @@ use Rattle.hg_top.specs.declared.status.JournalFault.{JournalFault}
 use Rattle.hg_top.specs.declared.status.JournalFault.TheVariants.{Foreign, Broken}
 use Rattle.hg_top.specs.declared.status.Status.{Status}
 use Rattle.hg_top.specs.declared.status.Status.TheVariants.{Done, ReadFault, Usage, Members, Own, Script, Events, WriteFault, Memory, Disk, Journal, Proof, Wire}
-use Rattle.hg_top.specs.Course.{Course, DiskCourse, HasDiskFault, HasWriteFault, IsStill}
+use Rattle.hg_top.specs.Course.{Course, DiskCourse, HasDiskFault, HasWriteFault, IsIdle, IsStill, disk_course, no_disk}
 use Rattle.hg_top.specs.Keeps.{KeepEnds, KeepSpares, KeepSyncs, keep_status, start_for, status_for, stop_of, stop_status}
 use Rattle.hg_top.specs.Work.{KeepWork}
 use Rattle.hg_top.specs.Writing.{Gives, status_of}
 
--- a file stays where nothing is done to it
-pub stays_same : (file : FileView) → Stays file file
-stays_same file = record {
-  reads = refl;
-  fewer = λ left may. may;
-  leaves = record { older = omega arith; still = λ age left before since. since; only = λ age left before since. inl since };
-}
+-- nothing was done to a disk
+pub idle_none : IsIdle no_disk
+idle_none = (stays_same unknown, tt)
 
--- .. and is spared then
+pub idle_disk : {D : Type 0} (W : disk.Ghosts D) (d : D) → IsIdle (disk_course W d d)
+idle_disk W d = (stays_same (W.file d), refl)
+
+-- what stays is spared
 pub spares_still : (k : KeepWork) (d : DiskCourse) → IsStill d → KeepSpares k d
 spares_still k d still = (λ bytes told none. still, ap (λ (o : Option (List ℕ)). is_some o) still.reads)
 

@@ -10,7 +10,7 @@ use Rattle.hg_io.specs.declared.sink.Sink as sink
 use Rattle.hg_top.specs.declared.status.File.{File}
 use Rattle.hg_top.specs.declared.status.Status.{Status}
 use Rattle.hg_top.specs.declared.status.Status.TheVariants.{Done, ReadFault, Usage, Members, Own, Script, Events, WriteFault, Memory, Disk, Journal, Proof, Wire}
-use Rattle.hg_top.specs.Course.{Course, DiskCourse, Has, HasMore, HasWithin, IsQuiet, IsStill, StartsOne, Tells, course, disk_course, no_disk, reading}
+use Rattle.hg_top.specs.Course.{Course, DiskCourse, Has, HasMore, HasWithin, IsIdle, IsQuiet, StartsOne, Tells, course, disk_course, no_disk, reading}
 use Rattle.hg_top.specs.Ends.{Comes, Completes, Ends, IsTaken, StopsAt, StopsIn}
 use Rattle.hg_top.specs.Work.{Work, limit_of, nothing_more, takes, unless_faulty}
 use Rattle.hg_top.specs.Work.Work.{Writes, Stops, Reads, Keeps}
@@ -42,7 +42,7 @@ pub comes_short : (work : Work) (c : Course) (starts : ℕ) → IsQuiet c starts
 comes_short (Writes Is) c starts quiet = quiet
 comes_short (Stops why) c starts quiet = (inr refl, quiet)
 comes_short (Reads file name next) c starts quiet = inl (refl, quiet)
-comes_short (Keeps k) c starts quiet = (quiet.0, quiet.1, inr (tt, quiet.2), spares_still k c.disk quiet.2)
+comes_short (Keeps k) c starts quiet = (quiet.0, quiet.1, inr (tt, quiet.2.0), spares_still k c.disk quiet.2.0)
 
 -- and this is never against what must come of a work
 completes_short : (work : Work) (c : Course) → Completes work c Memory
@@ -184,24 +184,24 @@ diskless_played f exchange = λ bytes. diskless_unless bad_members (members_of b
     (λ lines. diskless_exchange exchange members (played_node members lines own))))
 
 -- then it does not matter which disk it is that nothing is done to
-pub with_disk : (work : Work) (c : Course) (d : DiskCourse) (starts : ℕ) (status : Status) → Diskless work → IsStill d → Comes work c starts status → Comes work (record c { disk = d }) starts status
-with_disk (Writes Is) c d starts status diskless still comes = (comes.0, comes.1, still)
-with_disk (Stops why) c d starts status diskless still comes = (comes.0, (comes.1.0, comes.1.1, still))
-with_disk (Reads file name next) c d starts status diskless still (inl short) = inl (short.0, (short.1.0, short.1.1, still))
-with_disk (Reads file name next) c d starts status diskless still (inr (inl stops)) = inr (inl (stops.0, (stops.1.0, stops.1.1, still)))
-with_disk (Reads file name next) c d starts status diskless still (inr (inr read)) =
-    inr (inr (read.0, read.1, with_disk (next read.0) c d (raised starts) status (diskless read.0) still read.2))
-with_disk (Keeps k) c d starts status diskless still comes = absurd diskless
+pub with_disk : (work : Work) (c : Course) (d : DiskCourse) (starts : ℕ) (status : Status) → Diskless work → IsIdle d → Comes work c starts status → Comes work (record c { disk = d }) starts status
+with_disk (Writes Is) c d starts status diskless idle comes = (comes.0, comes.1, idle)
+with_disk (Stops why) c d starts status diskless idle comes = (comes.0, (comes.1.0, comes.1.1, idle))
+with_disk (Reads file name next) c d starts status diskless idle (inl short) = inl (short.0, (short.1.0, short.1.1, idle))
+with_disk (Reads file name next) c d starts status diskless idle (inr (inl stops)) = inr (inl (stops.0, (stops.1.0, stops.1.1, idle)))
+with_disk (Reads file name next) c d starts status diskless idle (inr (inr read)) =
+    inr (inr (read.0, read.1, with_disk (next read.0) c d (raised starts) status (diskless read.0) idle read.2))
+with_disk (Keeps k) c d starts status diskless idle comes = absurd diskless
 
 -- a file that was not taken, whatever would have been done with it
 pub takes_none : {S T A E : Type 0} (F : shelf.Ghosts S) (K : sink.Ghosts T) (s t : S) (out : T) (d : DiskCourse) (file : File) (stop : E → Status) (read : List ℕ → Result A E) (name : List ℕ) (next : A → Work) (status : Status) →
-    IsStill d → StopsIn F s t (takes file stop read name (λ x. nothing_more)) status → Ends (takes file stop read name next) (course F K s t out out d) status
-takes_none F K s t out d file stop read name next status still stops =
+    IsIdle d → StopsIn F s t (takes file stop read name (λ x. nothing_more)) status → Ends (takes file stop read name next) (course F K s t out out d) status
+takes_none F K s t out d file stop read name next status idle stops =
     let c = course F K s t out out d in
     reads_for file name (λ bytes. unless_faulty stop (read bytes) (λ x. nothing_more)) (λ bytes. unless_faulty stop (read bytes) next) c c.before.starts status
     (λ bytes. unless_faulty_for stop (read bytes) (λ x. nothing_more) next c (raised c.before.starts) status (λ x. stops_before (next x) c (raised c.before.starts) status))
     (with_disk (takes file stop read name (λ x. nothing_more)) (course F K s t out out no_disk) d (F.starts s) status
-    (λ bytes. diskless_unless stop (read bytes) (λ x. nothing_more) (λ x. tt)) still (stops (K.faults out) (K.written out)))
+    (λ bytes. diskless_unless stop (read bytes) (λ x. nothing_more) (λ x. tt)) idle (stops (K.faults out) (K.written out)))
 
 -- ---- from one moment to an earlier one
 

@@ -1,5 +1,5 @@
 -- The course of a call: what the outside counts and tells before and after it
-use Rattle.std.specs.Prelude.{ℕ, ◌≡◌, ◌<◌, ◌≤◌, List, length, Option, Some, IfSome, IsSomeAnd}
+use Rattle.std.specs.Prelude.{ℕ, ◌≡◌, ◌<◌, ◌≤◌, ⊤, List, length, Option, Some, IfSome, IsSomeAnd}
 use Rattle.hg_io.specs.Faults.{Rose, raised}
 use Rattle.hg_io.specs.FileView.{FileView, Stays, unknown}
 use Rattle.hg_io.specs.Files.{Files, content_of}
@@ -18,20 +18,26 @@ pub record Outside : Type 0 where
 abbrev pub outside : {S : Type 0} → shelf.Ghosts S → S → ℕ → Option (List ℕ) → Outside
 outside F s faults written = record { starts = F.starts s; read_faults = F.faults s; write_faults = faults; written = written }
 
--- what became of a disk: its file and its faults by name, each before and after
+-- what became of a disk: its file and its faults by name, each before and after, and what says that no call changed it
 pub record DiskCourse : Type 1 where
   pub before : FileView
   pub after : FileView
   pub faults_before : List ℕ → ℕ
   pub faults_after : List ℕ → ℕ
+  pub same : Type 0
 
 abbrev pub disk_course : {D : Type 0} → disk.Ghosts D → D → D → DiskCourse
-disk_course D before after =
-    record { before = D.file before; after = D.file after; faults_before = D.faults before; faults_after = D.faults after }
+disk_course D before after = record {
+  before = D.file before;
+  after = D.file after;
+  faults_before = D.faults before;
+  faults_after = D.faults after;
+  same = after ≡ before;
+}
 
 -- no call was made of it
 abbrev pub still : FileView → (List ℕ → ℕ) → DiskCourse
-still file faults = record { before = file; after = file; faults_before = faults; faults_after = faults }
+still file faults = record { before = file; after = file; faults_before = faults; faults_after = faults; same = ⊤ }
 
 -- that of a call that has no disk
 abbrev pub no_disk : DiskCourse
@@ -66,9 +72,13 @@ WritesNothing c = c.after.written ≡ c.before.written
 abbrev pub IsStill : DiskCourse → Type 0
 IsStill d = Stays d.before d.after
 
+-- nothing at all was done to it: no file was started there
+abbrev pub IsIdle : DiskCourse → Type 0
+IsIdle d = IsStill d × d.same
+
 -- the starts have come to this number, and standard output and the disk stand where they stood
 abbrev pub IsQuiet : Course → ℕ → Type 0
-IsQuiet c starts = (c.after.starts ≡ starts) × WritesNothing c × IsStill c.disk
+IsQuiet c starts = (c.after.starts ≡ starts) × WritesNothing c × IsIdle c.disk
 
 -- the shelf failed at a name, or the disk did, or standard output
 abbrev pub HasReadFault : Course → List ℕ → Type 0

@@ -7,7 +7,7 @@ use Rattle.hg_io.specs.declared.shelf.Shelf as shelf
 use Rattle.hg_top.specs.declared.status.File.{File}
 use Rattle.hg_top.specs.declared.status.Status.{Status}
 use Rattle.hg_top.specs.declared.status.Status.TheVariants.{Done, ReadFault, Memory}
-use Rattle.hg_top.specs.Course.{Course, HasDiskFault, HasMore, HasReadFault, HasWithin, HasWriteFault, IsQuiet, IsStill, Tells, no_disk, reading}
+use Rattle.hg_top.specs.Course.{Course, HasDiskFault, HasMore, HasReadFault, HasWithin, HasWriteFault, IsIdle, IsQuiet, Tells, no_disk, reading}
 use Rattle.hg_top.specs.Keeps.{KeepEnds, KeepSpares, KeepSyncs, keep_status}
 use Rattle.hg_top.specs.Work.{Work, limit_of, too_long}
 use Rattle.hg_top.specs.Work.Work.{Writes, Stops, Reads, Keeps}
@@ -19,13 +19,13 @@ StopsAt c file name status =
     ((status ≡ ReadFault file) × HasReadFault c name)
     ⊎ (((status ≡ too_long file) × HasMore c.holds name (limit_of file)) ⊎ (status ≡ Memory))
 
--- How a work ended that began after so many starts of files. No file is started until the one before it was taken, and no
--- byte is written, to standard output or to the disk, until the last step. A want of memory may end it at any step.
+-- How a work ended that began after so many starts of files. No file is started until the one before it was taken. Until the
+-- last step no byte is written to standard output, and nothing is done to the disk. A want of memory may end it at any step.
 abbrev pub Comes : Work → Course → ℕ → Status → Type 0
 Comes (Writes Is) c starts status =
     (c.after.starts ≡ starts)
     × Wrote Is c.before.written c.after.written c.before.write_faults c.after.write_faults status
-    × IsStill c.disk
+    × IsIdle c.disk
 Comes (Stops why) c starts status = Gives why status × IsQuiet c starts
 Comes (Reads file name next) c starts status =
     ((status ≡ Memory) × IsQuiet c starts)

@@ -1,5 +1,4 @@
 use Rattle.std.proofs.Common.{◌≡◌, ◌∙◌, ℕ, Option, Some, subst, sym}
-use Rattle.hg_io.specs.FileView.{unknown}
 use Rattle.hg_life.specs.Members.{MemberList}
 use Rattle.hg_members.specs.MemberFile.{members_of}
 use Rattle.hg_top.specs.declared.status.File.TheVariants as file
@@ -7,7 +6,7 @@ use Rattle.hg_top.specs.Commands.{bad_members, exchange_work, if_own, node_files
 use Rattle.hg_top.specs.Course.{course, no_disk}
 use Rattle.hg_top.specs.Ends.{Ends}
 use Rattle.hg_top.specs.Work.{Work}
-use Rattle.hg_top.proofs.KeepLaws.{stays_same}
+use Rattle.hg_top.proofs.KeepLaws.{idle_none}
 use Rattle.hg_top.proofs.WorkLaws.{takes_none, takes_on}
 use Rattle.hg_top.proofs.exchanging.play_node.Goals as goal
 
@@ -16,7 +15,7 @@ returns-in-Err-clause-ends g c =
     let f = node_files c.args.asked.now in
     let next : MemberList → ℕ → Work = play_work f.script (exchange_work c.args.exchange) in
     takes_none g.F.Shelf g.K.Sink c.args.shelf.now c.members_from.new.shelf c.args.out.now no_disk file.Members bad_members members_of f.members
-    (λ (members : MemberList). if_own (own_in members f.own) (next members)) c.in-Err.status (stays_same unknown) c.in-Err.ensures.err
+    (λ (members : MemberList). if_own (own_in members f.own) (next members)) c.in-Err.status idle_none c.in-Err.ensures.err
 
 pub returns-in-Some-clause-ends : goal.returns-in-Some-clause-ends
 returns-in-Some-clause-ends g c =

@@ -1,6 +1,5 @@
 use Rattle.std.proofs.Common.{List, refl, subst, sym}
 use Rattle.hg_exchange.specs.Exchanges.{IsAsking, played_node}
-use Rattle.hg_io.specs.FileView.{unknown}
 use Rattle.hg_script.specs.declared.line.Line.{Line}
 use Rattle.hg_top.specs.declared.exchanging.Exchange.{Exchange}
 use Rattle.hg_top.specs.declared.status.File.TheVariants as file
@@ -8,14 +7,14 @@ use Rattle.hg_top.specs.Commands.{bad_script, exchange_work, lines_for, serve_wo
 use Rattle.hg_top.specs.Course.{course, no_disk}
 use Rattle.hg_top.specs.Ends.{Ends}
 use Rattle.hg_top.specs.Writing.{WroteOn}
-use Rattle.hg_top.proofs.KeepLaws.{stays_same}
+use Rattle.hg_top.proofs.KeepLaws.{idle_none}
 use Rattle.hg_top.proofs.WorkLaws.{takes_none, takes_on}
 use Rattle.hg_top.proofs.exchanging.play_script.Goals as goal
 
 pub returns-in-Err-clause-ends : goal.returns-in-Err-clause-ends
 returns-in-Err-clause-ends g c =
     takes_none g.F.Shelf g.K.Sink c.args.shelf.now c.lines_from.new.shelf c.args.out.now no_disk file.Script bad_script (lines_for c.args.members.now 0) c.args.script.now
-    (λ (lines : List Line). exchange_work c.args.exchange c.args.members.now (played_node c.args.members.now lines c.args.own)) c.in-Err.status (stays_same unknown) c.in-Err.ensures.err
+    (λ (lines : List Line). exchange_work c.args.exchange c.args.members.now (played_node c.args.members.now lines c.args.own)) c.in-Err.status idle_none c.in-Err.ensures.err
 
 pub returns-in-Ask-clause-ends : goal.returns-in-Ask-clause-ends
 returns-in-Ask-clause-ends g c =
@@ -29,7 +28,7 @@ returns-in-Ask-clause-ends g c =
     let written = c.ask_peers.new.out in
     let status = c.ask_peers.result in
     let wrote = subst (λ (ls : List Line). WroteOn K out written (IsAsking (played_node members ls own)) status) c.as_slice-lines.ensures c.ask_peers.ensures in
-    let ends = subst (λ (e : Exchange). Ends (exchange_work e members (played_node members lines own)) (course F K u u out written no_disk) status) (sym c.in-Ask.is) (refl, wrote, stays_same unknown) in
+    let ends = subst (λ (e : Exchange). Ends (exchange_work e members (played_node members lines own)) (course F K u u out written no_disk) status) (sym c.in-Ask.is) (refl, wrote, idle_none) in
     takes_on F K c.args.shelf.now u u out written no_disk file.Script bad_script (lines_for members 0) c.args.script.now
     (λ (ls : List Line). exchange_work c.args.exchange members (played_node members ls own)) lines status c.in-Ok.ensures.ok c.lines_from.ensures.starts ends
 

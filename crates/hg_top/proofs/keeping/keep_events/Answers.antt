@@ -5,7 +5,7 @@ use Rattle.hg_top.specs.Commands.{bad_events, files_of, node_work}
 use Rattle.hg_top.specs.Course.{disk_course}
 use Rattle.hg_top.specs.Keeps.{KeptOn}
 use Rattle.hg_top.specs.Work.{KeepWork}
-use Rattle.hg_top.proofs.KeepLaws.{stays_same}
+use Rattle.hg_top.proofs.KeepLaws.{idle_disk}
 use Rattle.hg_top.proofs.WorkLaws.{takes_none, takes_on}
 use Rattle.hg_top.proofs.keeping.keep_events.Goals as goal
 
@@ -14,7 +14,7 @@ returns-in-Err-clause-ends g c =
     let W = g.D.Disk in
     let disk = c.args.disk.now in
     takes_none g.F.Shelf g.K.Sink c.args.shelf.now c.events_from.new.shelf c.args.out.now (disk_course W disk disk) file.Events bad_events events_of c.args.asked.now.events.now
-    (node_work (files_of c.args.asked.now) c.args.members.now c.args.own) c.in-Err.status (stays_same (W.file disk)) c.in-Err.ensures.err
+    (node_work (files_of c.args.asked.now) c.args.members.now c.args.own) c.in-Err.status (idle_disk W disk) c.in-Err.ensures.err
 
 pub returns-clause-ends : goal.returns-clause-ends
 returns-clause-ends g c =

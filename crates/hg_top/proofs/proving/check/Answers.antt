@@ -1,5 +1,4 @@
 use Rattle.std.proofs.Common.{refl}
-use Rattle.hg_io.specs.FileView.{unknown}
 use Rattle.hg_members.specs.MemberFile.{members_of}
 use Rattle.hg_life.specs.Members.{MemberList}
 use Rattle.hg_certify.specs.Showing.{judged_by}
@@ -7,7 +6,7 @@ use Rattle.hg_certify.specs.Text.{shown_text}
 use Rattle.hg_top.specs.declared.status.File.TheVariants as file
 use Rattle.hg_top.specs.Commands.{IsAnswerOf, answer_work, bad_members, bad_proof, shown_work}
 use Rattle.hg_top.specs.Course.{no_disk}
-use Rattle.hg_top.proofs.KeepLaws.{stays_same}
+use Rattle.hg_top.proofs.KeepLaws.{idle_none}
 use Rattle.hg_top.proofs.WorkLaws.{takes_none, takes_on, wrote}
 use Rattle.hg_top.proofs.proving.check.Goals as goal
 
@@ -15,7 +14,7 @@ pub returns-in-Err-clause-ends : goal.returns-in-Err-clause-ends
 returns-in-Err-clause-ends g c =
     let proof = c.args.proof.now in
     takes_none g.F.Shelf g.K.Sink c.args.shelf.now c.members_from.new.shelf c.args.out.now no_disk file.Members bad_members members_of c.args.members.now
-    (λ (list : MemberList). shown_work proof list (answer_work list)) c.in-Err.status (stays_same unknown) c.in-Err.ensures.err
+    (λ (list : MemberList). shown_work proof list (answer_work list)) c.in-Err.status idle_none c.in-Err.ensures.err
 
 pub returns-in-Ok-proof_from-clause-ends : goal.returns-in-Ok-proof_from-clause-ends
 returns-in-Ok-proof_from-clause-ends g c =
@@ -39,7 +38,7 @@ returns-in-Ok-proof_from-clause-ends g c =
     (λ (list : MemberList). shown_work proof list (answer_work list)) list status c.in-Ok.ensures.ok c.members_from.ensures.starts
     (takes_on F K u t t out written no_disk file.Proof bad_proof (judged_by list) proof (answer_work list) shown status
     c.in-Ok-proof_from.ensures.ok c.proof_from.ensures.starts
-    (refl, rw c.status_of.ensures (wrote K out written (IsAnswerOf list shown) (shown_text shown) c.write_shown.result is c.write_shown.ensures), stays_same unknown))
+    (refl, rw c.status_of.ensures (wrote K out written (IsAnswerOf list shown) (shown_text shown) c.write_shown.result is c.write_shown.ensures), idle_none))
 
 pub returns-clause-ends : goal.returns-clause-ends
 returns-clause-ends g c =
@@ -53,4 +52,4 @@ returns-clause-ends g c =
     let status = c.in-Err-proof_from.status in
     takes_on F K c.args.shelf.now u t out out no_disk file.Members bad_members members_of c.args.members.now
     (λ (list : MemberList). shown_work proof list (answer_work list)) list status c.in-Ok.ensures.ok c.members_from.ensures.starts
-    (takes_none F K u t out no_disk file.Proof bad_proof (judged_by list) proof (answer_work list) status (stays_same unknown) c.in-Err-proof_from.ensures.err)
+    (takes_none F K u t out no_disk file.Proof bad_proof (judged_by list) proof (answer_work list) status idle_none c.in-Err-proof_from.ensures.err)

@@ -1,12 +1,11 @@
 use Rattle.std.proofs.Common.{◌≡◌, ◌∙◌, ℕ, Option, Some, subst, sym}
-use Rattle.hg_io.specs.FileView.{unknown}
 use Rattle.hg_members.specs.MemberFile.{members_of}
 use Rattle.hg_life.specs.Members.{MemberList}
 use Rattle.hg_top.specs.declared.status.File.TheVariants as file
 use Rattle.hg_top.specs.Commands.{bad_members, certificate_work, if_own, node_files, own_in}
 use Rattle.hg_top.specs.Course.{course, no_disk}
 use Rattle.hg_top.specs.Ends.{Ends}
-use Rattle.hg_top.proofs.KeepLaws.{stays_same}
+use Rattle.hg_top.proofs.KeepLaws.{idle_none}
 use Rattle.hg_top.proofs.WorkLaws.{takes_none, takes_on}
 use Rattle.hg_top.proofs.proving.prove.Goals as goal
 
@@ -14,7 +13,7 @@ pub returns-in-Err-clause-ends : goal.returns-in-Err-clause-ends
 returns-in-Err-clause-ends g c =
     let f = node_files c.args.asked.now in
     takes_none g.F.Shelf g.K.Sink c.args.shelf.now c.members_from.new.shelf c.args.out.now no_disk file.Members bad_members members_of f.members
-    (λ (members : MemberList). if_own (own_in members f.own) (certificate_work f.script members)) c.in-Err.status (stays_same unknown) c.in-Err.ensures.err
+    (λ (members : MemberList). if_own (own_in members f.own) (certificate_work f.script members)) c.in-Err.status idle_none c.in-Err.ensures.err
 
 pub returns-in-Some-clause-ends : goal.returns-in-Some-clause-ends
 returns-in-Some-clause-ends g c =

@@ -6,15 +6,14 @@ use Rattle.hg_play.specs.Play.{IsSafePlay, play}
 use Rattle.hg_top.specs.declared.status.File.TheVariants as file
 use Rattle.hg_top.specs.Course.{no_disk}
 use Rattle.hg_top.specs.Commands.{IsReportOf, bad_script, lines_for, report_work}
-use Rattle.hg_io.specs.FileView.{unknown}
-use Rattle.hg_top.proofs.KeepLaws.{stays_same}
+use Rattle.hg_top.proofs.KeepLaws.{idle_none}
 use Rattle.hg_top.proofs.WorkLaws.{takes_none, takes_on, wrote}
 use Rattle.hg_top.proofs.top.run_script.Goals as goal
 
 pub returns-in-Err-clause-ends : goal.returns-in-Err-clause-ends
 returns-in-Err-clause-ends g c =
     takes_none g.F.Shelf g.K.Sink c.args.shelf.now c.lines_from.new.shelf c.args.out.now no_disk file.Script bad_script (lines_for c.args.members.now c.args.workers) c.args.script.now
-    (report_work c.args.members.now) c.in-Err.stop (stays_same unknown) c.in-Err.ensures.err
+    (report_work c.args.members.now) c.in-Err.stop idle_none c.in-Err.ensures.err
 
 pub returns-in-Ok-play-clause-ends : goal.returns-in-Ok-play-clause-ends
 returns-in-Ok-play-clause-ends g c =
@@ -31,4 +30,4 @@ returns-in-Ok-play-clause-ends g c =
     takes_on g.F.Shelf K c.args.shelf.now c.lines_from.new.shelf c.lines_from.new.shelf c.args.out.now c.text_of.new.sink
     no_disk file.Script bad_script (lines_for members c.args.workers) c.args.script.now (report_work members) lines c.status_of.result
     c.in-Ok.ensures.ok c.lines_from.ensures.starts
-    (refl, rw c.status_of.ensures (wrote K c.args.out.now c.text_of.new.sink (IsReportOf members lines) text c.text_of.result report c.text_of.ensures), stays_same unknown)
+    (refl, rw c.status_of.ensures (wrote K c.args.out.now c.text_of.new.sink (IsReportOf members lines) text c.text_of.result report c.text_of.ensures), idle_none)
