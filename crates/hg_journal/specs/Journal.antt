@@ -1,6 +1,8 @@
 -- The journal of a node: what its records tell, and the node that comes again from the bytes of a file.
 use Rattle.std.specs.Prelude.{◌≡◌, ◌⊎◌, ℕ, nat_eq, Bool, List, ◌++◌, length, drop, codes, Option, Some, None, option_and_then, if◌then◌else◌}
 use Rattle.std.specs.Int.{w16, w32, from_be_bytes, to_be_bytes}
+use Rattle.std.specs.Option.{ForSome}
+use Rattle.hg_io.specs.FileView.{FileView}
 use Rattle.hg_model.specs.Stakes.{member_count}
 use Rattle.hg_life.specs.NodeView.{NodeView, Start}
 use Rattle.hg_life.specs.Signing.{Accepts}
@@ -39,6 +41,10 @@ next_node accepts v kind body = option_and_then (replay_one accepts v) (change_i
 abbrev pub node_if : {K : Type 0} → Bool → NodeView K → Option (NodeView K)
 node_if came v = if came then Some v else None
 
+-- a stored change that comes again makes of a node another one, or changes nothing
+abbrev pub ComesAgain : {K : Type 0} → (K → Accepts) → NodeView K → StoredChange → NodeView K → Bool → Type 0
+ComesAgain accepts old change new came = replay_one accepts old change ≡ node_if came new
+
 -- what a file stands for, of a node that begins so
 abbrev pub reading_of : {K : Type 0} → (K → Accepts) → Start K → List ℕ → Reading (NodeView K)
 reading_of accepts start file = reading (next_node accepts) (new_node start) (head_of start) file
@@ -50,6 +56,10 @@ journal accepts start file = state_in (new_node start) (reading_of accepts start
 -- the records that lead to this node stand before this place, and a closed gate at it
 abbrev pub JournalEndsAt : {K : Type 0} → (K → Accepts) → Start K → NodeView K → ℕ → List ℕ → Type 0
 JournalEndsAt accepts start v gate file = IsAt (next_node accepts) (new_node start) (head_of start) v gate file
+
+-- so it is of a file, where the disk tells it
+abbrev pub FileEndsAt : {K : Type 0} → (K → Accepts) → Start K → NodeView K → FileView → ℕ → Type 0
+FileEndsAt accepts start v file gate = ForSome file.reads (JournalEndsAt accepts start v gate)
 
 -- it is this node
 abbrev pub Keeps : {K : Type 0} → (K → Accepts) → NodeView K → List ℕ → Type 0

@@ -1,5 +1,5 @@
 -- A node whose changes are kept in a journal.
-use Rattle.std.specs.Prelude.{◌≡◌, ◌⊎◌, ℕ, ◌+◌, ◌*◌, ◌≤◌, List, length, slice_get, Option, Some, IsSome}
+use Rattle.std.specs.Prelude.{◌≡◌, ◌⊎◌, ℕ, ◌+◌, ◌*◌, ◌≤◌, List, length, slice_get, Option, None, Some, IsSome}
 use Rattle.std.specs.Option.{ForSome}
 use Rattle.hg_io.specs.FileView.{FileView, IsSynced, Leaves}
 use Rattle.hg_model.specs.Shares.{Share}
@@ -7,7 +7,7 @@ use Rattle.hg_life.specs.NodeView.{NodeView, node_rows, with_changes}
 use Rattle.hg_life.specs.Signing.{Accepts}
 use Rattle.hg_life.specs.Spelling.{spelling}
 use Rattle.hg_life.specs.declared.answers.MakeAnswer.{MakeAnswer}
-use Rattle.hg_life.specs.Calls.{IsMaking, publish_changes}
+use Rattle.hg_life.specs.Calls.{IsMaking, make_draft, publish_changes}
 use Rattle.hg_node.specs.Puts.{after_put}
 use Rattle.hg_journal.specs.Journal.{JournalEndsAt, Keeps, KeepsEither, next_node}
 use Rattle.hg_journal.specs.Writing.{LeavesOnly}
@@ -54,10 +54,14 @@ StopsKeepOne {K} accepts old new node comes =
 abbrev pub StopsKeepPut : {K : Type 0} → (K → Accepts) → List ℕ → FileView → FileView → Option (NodeView K) → Type 0
 StopsKeepPut accepts bytes old new node = StopsKeepOne accepts old new node (λ v w. w ≡ after_put accepts v bytes)
 
+-- the node once what this share decides in so many rows is marked
+abbrev pub after_marks : {K : Type 0} → NodeView K → ℕ → Share → NodeView K
+after_marks v len share = with_changes v (publish_changes v len share)
+
 -- .. by what this share marks in so many rows
 abbrev pub StopsKeepMarks : {K : Type 0} → (K → Accepts) → ℕ → Share → FileView → FileView → Option (NodeView K) → Type 0
 StopsKeepMarks accepts len share old new node =
-    StopsKeepOne accepts old new node (λ v w. w ≡ with_changes v (publish_changes v len share))
+    StopsKeepOne accepts old new node (λ v w. w ≡ after_marks v len share)
 
 -- a node comes of another by an event that it makes so, if it makes any
 abbrev pub ComesOfMaking : {K : Type 0} → (K → Accepts) → List (List ℕ) → ℕ → List ℕ → NodeView K → NodeView K → Type 0
@@ -70,6 +74,10 @@ abbrev pub StopsKeepMaking : {K : Type 0} → (K → Accepts) → List (List ℕ
 StopsKeepMaking accepts others time payload old new was is =
     StopsKeepOne accepts old new was.node
     (λ v w. ComesOfMaking accepts others time payload v w × ForSome is.node (λ x. x ≡ w))
+
+-- nothing refuses such an event before it is signed
+abbrev pub IsDrafted : {K : Type 0} → List (List ℕ) → List ℕ → NodeView K → Type 0
+IsDrafted others payload v = make_draft v others payload ≡ None
 
 -- this is the answer to making an event, and the node that is there is the one after it
 abbrev pub MakesNode : {K : Type 0} → (K → Accepts) → List (List ℕ) → ℕ → List ℕ

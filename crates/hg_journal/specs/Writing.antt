@@ -1,6 +1,7 @@
 -- What is written to a journal's file, and what a stop may leave of it meanwhile.
-use Rattle.std.specs.Prelude.{◌≡◌, ◌≤◌, ◌⊎◌, ℕ, ◌+◌, List, [], ◌∷◌, ◌++◌, length, drop, slice_index}
-use Rattle.hg_io.specs.FileView.{FileView, Torn, with_piece}
+use Rattle.std.specs.Prelude.{◌≡◌, ◌≤◌, ◌⊎◌, ℕ, ◌+◌, List, [], ◌∷◌, ◌++◌, length, drop, slice_index, option_map}
+use Rattle.std.specs.Option.{ForSome}
+use Rattle.hg_io.specs.FileView.{FileView, Leaves, Torn, with_piece}
 
 -- the file is to be made anew, by the cases of `is_anew`
 abbrev pub AnewCases : List ℕ → List ℕ → Type 0
@@ -40,3 +41,23 @@ IsCutShort gate piece bytes left =
 -- a stop leaves only what has P of a file
 abbrev pub LeavesOnly : FileView → (List ℕ → Type 0) → Type 0
 LeavesOnly file P = (left : List ℕ) → file.may_leave left → P left
+
+-- ---- from old to new, and then at new, where the disk tells the file
+
+-- a stop leaves a journal without records, or none yet
+abbrev pub LeavesEmpty : List ℕ → FileView → FileView → Type 0
+LeavesEmpty head old new = ForSome old.reads (λ bytes. Leaves old new (IsEmpty head))
+
+abbrev pub EndsEmpty : List ℕ → FileView → FileView → Type 0
+EndsEmpty head old new = ForSome old.reads (λ bytes. LeavesOnly new (IsEmpty head))
+
+-- it leaves the file with such a piece cut short
+abbrev pub LeavesCutShort : ℕ → List ℕ → FileView → FileView → Type 0
+LeavesCutShort gate piece old new = ForSome old.reads (λ bytes. Leaves old new (IsCutShort gate piece bytes))
+
+abbrev pub EndsCutShort : ℕ → List ℕ → FileView → FileView → Type 0
+EndsCutShort gate piece old new = ForSome old.reads (λ bytes. LeavesOnly new (IsCutShort gate piece bytes))
+
+-- the piece stands there, behind an open gate
+abbrev pub IsAppended : ℕ → List ℕ → FileView → FileView → Type 0
+IsAppended gate piece old new = new.reads ≡ option_map (appended gate piece) old.reads

@@ -1,9 +1,8 @@
 ghost use Rattle.std.specs.Prelude.{◌≡◌, ◌≤◌, IfOk, MatchOption, None, Some, length};
 ghost use Rattle.std.specs.Int.{from_be_bytes, w32};
 ghost use Rattle.hg_life.specs.NodeView.{node_rows};
-ghost use Rattle.hg_node.specs.Replay.{replay_one};
 ghost use Rattle.hg_node.specs.Replay.StoredChange.{StoredMade, StoredMarked, StoredTook};
-ghost use Rattle.hg_journal.specs.Journal.{marked_body, marked_in, next_node, node_if};
+ghost use Rattle.hg_journal.specs.Journal.{ComesAgain, marked_body, marked_in, next_node, node_if};
 
 use hg_model::{Memory, Share};
 use hg_node::Node;
@@ -49,7 +48,7 @@ pub(crate) fn marked_bytes(len: u32, share: Share) -> [u8; 12]
 
 // An event that was taken comes again; answers whether it changed the node.
 fn put_again<V: Signer>(node: &mut Node<V>, bytes: &[u8]) -> Result<bool, Memory>
-    ensures { IfOk result (λ came. replay_one V.accepts node.old (StoredTook bytes.now) ≡ node_if came node.new) }
+    ensures { IfOk result (ComesAgain V.accepts node.old (StoredTook bytes.now) node.new) }
 {
     let before = node.changes();
     node.put(bytes)?;
@@ -58,7 +57,7 @@ fn put_again<V: Signer>(node: &mut Node<V>, bytes: &[u8]) -> Result<bool, Memory
 
 // So does one that was made.
 fn restore_again<V: Signer>(node: &mut Node<V>, bytes: &[u8]) -> Result<bool, Memory>
-    ensures { IfOk result (λ came. replay_one V.accepts node.old (StoredMade bytes.now) ≡ node_if came node.new) }
+    ensures { IfOk result (ComesAgain V.accepts node.old (StoredMade bytes.now) node.new) }
 {
     let before = node.changes();
     node.restore(bytes)?;
@@ -68,7 +67,7 @@ fn restore_again<V: Signer>(node: &mut Node<V>, bytes: &[u8]) -> Result<bool, Me
 // So do marks.
 fn mark_again<V: Signer>(node: &mut Node<V>, len: usize, share: Share) -> Result<bool, Memory>
     requires { len ≤ length (node_rows node.old) }
-    ensures { IfOk result (λ came. replay_one V.accepts node.old (StoredMarked len share.k share.of) ≡ node_if came node.new) }
+    ensures { IfOk result (ComesAgain V.accepts node.old (StoredMarked len share.k share.of) node.new) }
 {
     share.k();
     let before = node.changes();

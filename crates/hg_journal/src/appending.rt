@@ -1,9 +1,9 @@
-ghost use Rattle.std.specs.Prelude.{◌≡◌, ◌<◌, ◌≤◌, ◌+◌, ◌^◌, ◌++◌, ◌∷◌, [], ℕ, List, OnErr, OnOk, is_some, length, option_map, vec_capacity};
+ghost use Rattle.std.specs.Prelude.{◌≡◌, ◌<◌, ◌≤◌, ◌+◌, ◌^◌, ◌++◌, ◌∷◌, [], ℕ, List, OnErr, OnOk, is_some, length, vec_capacity};
 ghost use Rattle.std.specs.Option.{ForSome};
 ghost use Rattle.hg_io.specs.Faults.{Rose};
-ghost use Rattle.hg_io.specs.FileView.{IsSynced, Leaves};
+ghost use Rattle.hg_io.specs.FileView.{IsSynced};
 ghost use Rattle.hg_journal.specs.Records.{spelled};
-ghost use Rattle.hg_journal.specs.Writing.{IsCutShort, LeavesOnly, appended};
+ghost use Rattle.hg_journal.specs.Writing.{EndsCutShort, IsAppended, LeavesCutShort};
 
 use hg_io::{Disk, Failed, put_down};
 
@@ -34,12 +34,11 @@ pub(crate) fn append<D: Disk>(
     requires small { gate < 2 ^ 63 }
     requires within { ForSome (D.file disk.old).reads (λ bytes. gate < length bytes) }
     requires synced { IsSynced (D.file disk.old) }
-    ensures appended { OnOk result ((D.file disk.new).reads ≡ option_map (appended gate piece.now) (D.file disk.old).reads) }
+    ensures appended { OnOk result (IsAppended gate piece.now (D.file disk.old) (D.file disk.new)) }
     ensures synced { OnOk result (IsSynced (D.file disk.new)) }
     ensures shown { is_some (D.file disk.new).reads ≡ is_some (D.file disk.old).reads }
-    ensures now { ForSome (D.file disk.old).reads (λ bytes. LeavesOnly (D.file disk.new) (IsCutShort gate piece.now bytes)) }
-    ensures leaves { ForSome (D.file disk.old).reads
-        (λ bytes. Leaves (D.file disk.old) (D.file disk.new) (IsCutShort gate piece.now bytes)) }
+    ensures now { EndsCutShort gate piece.now (D.file disk.old) (D.file disk.new) }
+    ensures leaves { LeavesCutShort gate piece.now (D.file disk.old) (D.file disk.new) }
     ensures started { D.At disk.new name.now }
     ensures cause { OnErr result (Rose (D.faults disk.old name.now) (D.faults disk.new name.now)) }
     ensures counts { (other : List ℕ) → D.faults disk.old other ≤ D.faults disk.new other }

@@ -2,8 +2,8 @@ ghost use Rattle.std.specs.Prelude.{◌≡◌, ◌≤◌, ◌++◌, ◌∷◌, [
 ghost use Rattle.std.specs.Bool.{Decides};
 ghost use Rattle.std.specs.Option.{ForSome};
 ghost use Rattle.hg_io.specs.Faults.{Rose};
-ghost use Rattle.hg_io.specs.FileView.{IsSynced, Leaves};
-ghost use Rattle.hg_journal.specs.Writing.{AnewCases, IsBegun, IsEmpty, IsOnlyBegun, LeavesOnly, empty_file};
+ghost use Rattle.hg_io.specs.FileView.{IsSynced};
+ghost use Rattle.hg_journal.specs.Writing.{AnewCases, EndsEmpty, IsBegun, IsOnlyBegun, LeavesEmpty, empty_file};
 
 use hg_io::{Disk, Failed, put_down};
 
@@ -16,8 +16,8 @@ fn close_first<D: Disk>(disk: &mut D, name: &str, head: &[u8; 8], begun: bool) -
     ensures begun { OnOk result (ForSome (D.file disk.new).reads IsOnlyBegun) }
     ensures synced { OnOk result (IsSynced (D.file disk.new)) }
     ensures shown { is_some (D.file disk.new).reads ≡ is_some (D.file disk.old).reads }
-    ensures now { ForSome (D.file disk.old).reads (λ bytes. LeavesOnly (D.file disk.new) (IsEmpty head.now)) }
-    ensures leaves { ForSome (D.file disk.old).reads (λ bytes. Leaves (D.file disk.old) (D.file disk.new) (IsEmpty head.now)) }
+    ensures now { EndsEmpty head.now (D.file disk.old) (D.file disk.new) }
+    ensures leaves { LeavesEmpty head.now (D.file disk.old) (D.file disk.new) }
     ensures started { D.At disk.new name.now }
     ensures cause { OnErr result (Rose (D.faults disk.old name.now) (D.faults disk.new name.now)) }
     ensures counts { (other : List ℕ) → D.faults disk.old other ≤ D.faults disk.new other }
@@ -45,8 +45,8 @@ fn write_head<D: Disk>(disk: &mut D, name: &str, head: &[u8; 8]) -> Result<(), F
     ensures made { OnOk result (ForSome (D.file disk.new).reads (λ bytes. bytes ≡ empty_file head.now)) }
     ensures synced { OnOk result (IsSynced (D.file disk.new)) }
     ensures shown { is_some (D.file disk.new).reads ≡ is_some (D.file disk.old).reads }
-    ensures now { ForSome (D.file disk.old).reads (λ bytes. LeavesOnly (D.file disk.new) (IsEmpty head.now)) }
-    ensures leaves { ForSome (D.file disk.old).reads (λ bytes. Leaves (D.file disk.old) (D.file disk.new) (IsEmpty head.now)) }
+    ensures now { EndsEmpty head.now (D.file disk.old) (D.file disk.new) }
+    ensures leaves { LeavesEmpty head.now (D.file disk.old) (D.file disk.new) }
     ensures started { D.At disk.new name.now }
     ensures cause { OnErr result (Rose (D.faults disk.old name.now) (D.faults disk.new name.now)) }
     ensures counts { (other : List ℕ) → D.faults disk.old other ≤ D.faults disk.new other }
@@ -71,8 +71,8 @@ pub(crate) fn make_anew<D: Disk>(
     ensures made { OnOk result (ForSome (D.file disk.new).reads (λ bytes. bytes ≡ empty_file head.now)) }
     ensures synced { OnOk result (IsSynced (D.file disk.new)) }
     ensures shown { is_some (D.file disk.new).reads ≡ is_some (D.file disk.old).reads }
-    ensures now { ForSome (D.file disk.old).reads (λ bytes. LeavesOnly (D.file disk.new) (IsEmpty head.now)) }
-    ensures leaves { ForSome (D.file disk.old).reads (λ bytes. Leaves (D.file disk.old) (D.file disk.new) (IsEmpty head.now)) }
+    ensures now { EndsEmpty head.now (D.file disk.old) (D.file disk.new) }
+    ensures leaves { LeavesEmpty head.now (D.file disk.old) (D.file disk.new) }
     ensures started { D.At disk.new name.now }
     ensures cause { OnErr result (Rose (D.faults disk.old name.now) (D.faults disk.new name.now)) }
     ensures counts { (other : List ℕ) → D.faults disk.old other ≤ D.faults disk.new other }

@@ -3,7 +3,7 @@ ghost use Rattle.std.specs.Option.{ForSome};
 ghost use Rattle.hg_io.specs.FileView.{Stays};
 ghost use Rattle.hg_node.specs.Replay.{new_node};
 ghost use Rattle.hg_journal.specs.Faults.{IsFaultCounted};
-ghost use Rattle.hg_journal.specs.Journal.{JournalEndsAt, head_of};
+ghost use Rattle.hg_journal.specs.Journal.{FileEndsAt, head_of};
 ghost use Rattle.hg_journal.specs.Opening.{Finds};
 ghost use Rattle.hg_journal.specs.Stored.{IsNear};
 
@@ -28,8 +28,7 @@ pub(crate) fn replay<V: Signer, D: Disk>(
     requires head { ForSome (D.file disk.old).reads (λ bytes. take 9 bytes ≡ 1 ∷ head_of node.old.start) }
     ensures start { OnOk result (node.new.start ≡ node.old.start) }
     ensures near { IfOk result (λ gate. IsNear gate node.new) }
-    ensures place { IfOk result
-        (λ gate. ForSome (D.file disk.old).reads (JournalEndsAt V.accepts node.old.start node.new gate)) }
+    ensures place { IfOk result (FileEndsAt V.accepts node.old.start node.new (D.file disk.old)) }
     ensures finds { ForSome (D.file disk.old).reads (Finds V.accepts node.old.start node.new result) }
     ensures stays { Stays (D.file disk.old) (D.file disk.new) }
     ensures started { D.At disk.new name.now }

@@ -3,11 +3,11 @@ ghost use Rattle.std.specs.Option.{ForSome};
 ghost use Rattle.hg_model.specs.Links.{most_others};
 ghost use Rattle.hg_io.specs.Faults.{Rose};
 ghost use Rattle.hg_io.specs.FileView.{IsSynced};
-ghost use Rattle.hg_life.specs.Calls.{make_draft, publish_answer, publish_changes, put_answer};
-ghost use Rattle.hg_life.specs.NodeView.{node_rows, with_changes};
+ghost use Rattle.hg_life.specs.Calls.{publish_answer, put_answer};
+ghost use Rattle.hg_life.specs.NodeView.{node_rows};
 ghost use Rattle.hg_node.specs.Puts.{WouldAccept, after_put};
 ghost use Rattle.hg_journal.specs.Faults.{IsFaultCounted};
-ghost use Rattle.hg_journal.specs.Stored.{MadeKeeps, MadeStores};
+ghost use Rattle.hg_journal.specs.Stored.{IsDrafted, MadeKeeps, MadeStores, after_marks};
 
 use crate::again::{MADE, MARKED, TOOK, marked_bytes};
 use crate::errors::StoreError;
@@ -114,8 +114,7 @@ impl<V: Signer + Drop> Stored<V> {
         ensures ok { IfOk result
             (λ a. ForSome self.old.node (MakesNode V.accepts others.now time payload.now a self.new.node)) }
         ensures memory { IsErrOf result StoreError.Memory → self.new ≡ self.old }
-        ensures free { IsErrOf result StoreError.Memory
-            → ForSome self.old.node (λ v. make_draft v others.now payload.now ≡ None) }
+        ensures free { IsErrOf result StoreError.Memory → ForSome self.old.node (IsDrafted others.now payload.now) }
         ensures closed { IsErrOf result StoreError.Closed ↔ (self.old.node ≡ None) }
         ensures closes { IsErrOf result StoreError.Disk ↔ (IsSome self.old.node × (self.new.node ≡ None)) }
         // A closed node stays closed. Where no node comes to be another, neither does the end of its journal, nor the disk.
@@ -161,7 +160,7 @@ impl<V: Signer + Drop> Stored<V> {
         requires started { D.At disk.old self.old.name }
         requires stored { StoresNode V.accepts (D.file disk.old) self.old }
         ensures answer { IfOk result (λ count. ForSome self.old.node (λ v. count ≡ publish_answer v len share)) }
-        ensures ok { OnOk result (ForSome self.old.node (λ v. self.new.node ≡ Some (with_changes v (publish_changes v len share)))) }
+        ensures ok { OnOk result (ForSome self.old.node (λ v. self.new.node ≡ Some (after_marks v len share))) }
         ensures memory { IsErrOf result StoreError.Memory → self.new ≡ self.old }
         ensures closed { IsErrOf result StoreError.Closed ↔ (self.old.node ≡ None) }
         ensures closes { IsErrOf result StoreError.Disk ↔ (IsSome self.old.node × (self.new.node ≡ None)) }

@@ -1,10 +1,9 @@
 ghost use Rattle.std.specs.Prelude.{◌≡◌, ◌<◌, ◌≤◌, ℕ, List, IfErr, IfOk, IsErrOf, IsSome, OnOk, is_some, length};
-ghost use Rattle.std.specs.Option.{ForSome};
-ghost use Rattle.hg_life.specs.NodeView.{start_of};
 ghost use Rattle.hg_journal.specs.Faults.{IsFaultCounted};
 ghost use Rattle.hg_journal.specs.Stored.{StoresNode};
-ghost use Rattle.hg_keep.specs.Keeping.{IsMadeWithOf, IsOnTheWay, KeptOf};
-ghost use Rattle.hg_keep.specs.Stops.{IsFaultTold, IsRefused, KeepsTask, SparesOthers, StaysIfRefused, StopsLeaveOf, SyncsOrStops};
+ghost use Rattle.hg_keep.specs.Keeping.{IsMadeWithOf};
+ghost use Rattle.hg_keep.specs.Stops.{IsFaultTold, SparesOthers, StaysIfRefused, StopsLeaveOf};
+ghost use Rattle.hg_keep.specs.Tasks.{DoesTask, FileIsRefused, IsDone, IsOnWayOf, SyncsTask, start_for};
 
 use crate::kept::Kept;
 use crate::making::make_at;
@@ -44,11 +43,9 @@ fn work<V: Signer + Drop, D: Disk>(
     requires made { IsMadeWithOf members.now stored.old.node }
     requires started { D.At disk.old stored.old.name }
     requires stored { StoresNode V.accepts (D.file disk.old) stored.old }
-    ensures kept { IfOk result
-        (KeptOf V.accepts members.now task.now.events.now task.now.time stored.old.node stored.new.node) }
+    ensures kept { IfOk result (IsDone V.accepts members.now task.now stored.old.node stored.new.node) }
     ensures stored { OnOk result (StoresNode V.accepts (D.file disk.new) stored.new) }
-    ensures stops { StopsLeaveOf V.accepts (IsOnTheWay V.accepts task.now.events.now task.now.time) stored.old.node
-        (D.file disk.old) (D.file disk.new) }
+    ensures stops { StopsLeaveOf V.accepts (IsOnWayOf V.accepts task.now) stored.old.node (D.file disk.old) (D.file disk.new) }
     ensures shown { is_some (D.file disk.new).reads ≡ is_some (D.file disk.old).reads }
     ensures cause { IsFaultCounted result StoreError.Disk (D.faults disk.old) (D.faults disk.new) stored.old.name }
     ensures never { IsErrOf result StoreError.Closed → ⊥ }
@@ -79,19 +76,16 @@ pub fn keep<V: Signer + Drop, D: Disk>(
 ) -> Result<Kept, Stop>
     requires { task.now.own < length members.now.entries }
     // What came of it is that of the node of the file's journal, and the journal is then the node's after it.
-    ensures kept { IfOk result (KeepsTask V.accepts members.now (start_of members.now task.now.own keys)
-        task.now.events.now task.now.time (D.file disk.old) (D.file disk.new)) }
+    ensures kept { IfOk result (DoesTask V.accepts members.now task.now keys (D.file disk.old) (D.file disk.new)) }
     // The file is foreign, or broken at the place, just where the answer says so; and it stays.
-    ensures wrong { IfErr result (λ stop. ForSome (D.file disk.old).reads
-        (IsRefused V.accepts (start_of members.now task.now.own keys) stop)) }
+    ensures wrong { IfErr result (FileIsRefused V.accepts (start_for members.now task.now keys) (D.file disk.old)) }
     ensures refused { IfErr result (λ stop. StaysIfRefused stop (D.file disk.old) (D.file disk.new)) }
     // Whatever is answered, such a file stays.
-    ensures spared { SparesOthers V.accepts (start_of members.now task.now.own keys) (D.file disk.old) (D.file disk.new) }
+    ensures spared { SparesOthers V.accepts (start_for members.now task.now keys) (D.file disk.old) (D.file disk.new) }
     // The disk tells the file just where it did.
     ensures shown { is_some (D.file disk.new).reads ≡ is_some (D.file disk.old).reads }
     // From the first sync on a stop leaves the journal of a node on the way; or the disk failed before that was done.
-    ensures synced { SyncsOrStops V.accepts (start_of members.now task.now.own keys)
-        (IsOnTheWay V.accepts task.now.events.now task.now.time) (D.file disk.old) (D.file disk.new) result }
+    ensures synced { SyncsTask V.accepts (start_for members.now task.now keys) task.now (D.file disk.old) (D.file disk.new) result }
     ensures cause { IsFaultTold result (D.faults disk.old) (D.faults disk.new) task.now.journal.now }
     ensures counts { (other : List ℕ) → D.faults disk.old other ≤ D.faults disk.new other }
 {

@@ -1,5 +1,7 @@
 -- The laws of messages and of their reading
-use Rattle.std.specs.Prelude.{◌≡◌, ℕ, List, ◌++◌}
+use Rattle.std.specs.Prelude.{◌≡◌, ℕ, ◌<◌, ◌≤◌, List, ◌∷◌, ◌++◌, length, drop, ⊤}
+use Rattle.std.specs.Global.{Vec}
+use Rattle.std.specs.List.{flat_map}
 use Rattle.hg_wire.specs.declared.message.Want.{Want}
 use Rattle.hg_wire.specs.declared.message.Message.{Message}
 use Rattle.hg_wire.specs.declared.message.Fed.{Fed}
@@ -35,3 +37,18 @@ abbrev pub IsFirst : Want → List ℕ → Fed → Type 0
 IsFirst w stream More = (m : Message) (rest : List ℕ) → Begins w stream m rest → ⊥
 IsFirst w stream (Whole m used) = (n : Message) (rest : List ℕ) → Begins w stream n rest → n ≡ m
 IsFirst w stream (Refused fault) = (m : Message) (rest : List ℕ) → Begins w stream m rest → ⊥
+
+-- the message ended with so many bytes of one of the pieces; the others of it stand behind, and the pieces after it
+pub record EndsIn (w : Want) (pieces : List (Vec ℕ)) (m : Message) (used : ℕ) : Type 0 where
+  pub before : List (Vec ℕ)
+  pub piece : Vec ℕ
+  pub after : List (Vec ℕ)
+  pub whole : pieces ≡ before ++ piece ∷ after
+  pub some : 0 < used
+  pub within : used ≤ length piece.items
+  pub behind : read w (flat_map (λ piece. piece.items) pieces) ≡ Finished m (drop used piece.items ++ flat_map (λ piece. piece.items) after)
+
+abbrev pub Ends : Want → List (Vec ℕ) → Fed → Type 0
+Ends w pieces More = ⊤
+Ends w pieces (Whole m used) = EndsIn w pieces m used
+Ends w pieces (Refused fault) = ⊤
