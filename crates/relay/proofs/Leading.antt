@@ -1,0 +1,107 @@
+-- Where steps of gossip lead, and what stops leave on the way.
+use Rattle.std.proofs.Common.{◌≡◌, inl, inr, ℕ, List, [], ◌∷◌, take, Option, Some, is_some, refl, sym, ◌∙◌, ap, subst, length}
+use Rattle.std.specs.Prelude.{IsSome}
+use Rattle.hg_io.specs.FileView.{FileView}
+use Rattle.hg_life.specs.NodeView.{NodeView, Start}
+use Rattle.hg_life.specs.Signing.{Accepts}
+use Rattle.hg_keep.specs.Keeping.{IsMadeSome, IsSettledSome, PutsAll, SettlesOf, TurnOf, puts, settled, told_of}
+use Rattle.hg_keep.specs.Stops.{StopsLeave, StopsLeaveOf}
+use Rattle.hg_keep.specs.declared.kept.Counts.{Counts}
+use Rattle.hg_keep.proofs.StopLaws.{leaves_on, leaves_wider, some_value, told_still}
+use Rattle.hg_keep.proofs.WayLaws.{makes_start, puts_start}
+use Rattle.hg_life.specs.declared.answers.MakeAnswer.{MakeAnswer}
+use Rattle.relay.specs.Steps.{IsRelayed, IsStep, LeadsOver, Makes, Puts, RelaysAll, RelaysOf, Settles, StopsRelayOf}
+
+module _ {K : Type 0} (accepts : K → Accepts) where
+  -- ---- what a node begins with does not change
+
+  made_start : (v w : NodeView K) (time : ℕ) → IsMadeSome accepts (Some time) v w → w.start ≡ v.start
+  made_start v w time (inl same) = ap (λ (x : NodeView K). x.start) same
+  made_start v w time (inr made) = makes_start accepts v w (Some time) made.0 made.1
+
+  settled_start : (v w : NodeView K) → IsSettledSome v w → w.start ≡ v.start
+  settled_start v w (inl same) = ap (λ (x : NodeView K). x.start) same
+  settled_start v w (inr is) = ap (λ (x : NodeView K). x.start) is
+
+  step_start : (v w : NodeView K) → IsStep accepts v w → w.start ≡ v.start
+  step_start v w (Puts events some) = ap (λ (x : NodeView K). x.start) some.1 ∙ puts_start accepts v (take some.0 events)
+  step_start v w (Makes time some) = made_start v w time some
+  step_start v w (Settles some) = settled_start v w some
+
+  leads_start : (v : NodeView K) (over : List (NodeView K)) (w : NodeView K) → LeadsOver accepts v over w → w.start ≡ v.start
+  leads_start v [] w is = ap (λ (x : NodeView K). x.start) is
+  leads_start v (u ∷ before) w leads = step_start u w leads.1 ∙ leads_start v before u leads.0
+
+  pub relayed_start : (v w : NodeView K) → IsRelayed accepts v w → w.start ≡ v.start
+  relayed_start v w relayed = leads_start v relayed.0 w relayed.1
+
+  -- ---- one way behind another
+
+  pub still : (v : NodeView K) → IsRelayed accepts v v
+  still v = ([], refl)
+
+  pub one_step : (v w : NodeView K) → IsStep accepts v w → IsRelayed accepts v w
+  one_step v w step = (v ∷ [], (refl, step))
+
+  leads_on : (v : NodeView K) (over : List (NodeView K)) (u : NodeView K) (more : List (NodeView K)) (w : NodeView K) → LeadsOver accepts v over u → LeadsOver accepts u more w → IsRelayed accepts v w
+  leads_on v over u [] w first is = (over, subst (λ (x : NodeView K). LeadsOver accepts v over x) (sym is) first)
+  leads_on v over u (x ∷ more) w first second =
+      let so = leads_on v over u more x first second.0 in
+      (x ∷ so.0, (so.1, second.1))
+
+  pub relayed_on : (v u w : NodeView K) → IsRelayed accepts v u → IsRelayed accepts u w → IsRelayed accepts v w
+  relayed_on v u w first second = leads_on v first.0 u second.0 w first.1 second.1
+
+  pub relays_still : (node : Option (NodeView K)) → RelaysOf accepts node node
+  relays_still node v is = (v, is, still v)
+
+  pub relays_on : (node next last : Option (NodeView K)) → RelaysOf accepts node next → RelaysOf accepts next last → RelaysOf accepts node last
+  relays_on node next last first second v is =
+      let u = first v is in
+      let w = second u.0 u.1 in
+      (w.0, w.1, relayed_on v u.0 w.0 u.2 w.2)
+
+  pub there_relays : (node next : Option (NodeView K)) → IsSome node → RelaysOf accepts node next → IsSome next
+  there_relays node next there relays =
+      let v = some_value node there in
+      subst (λ (o : Option (NodeView K)). IsSome o) (sym (relays v.0 v.1).1) refl
+
+  -- ---- what stops leave
+
+  pub stops_step : (comes : NodeView K → NodeView K → Type 0) → ((v w : NodeView K) → comes v w → IsStep accepts v w) → (node : Option (NodeView K)) (a b : FileView) → StopsLeaveOf accepts comes node a b → StopsRelayOf accepts node a b
+  stops_step comes steps node a b stops v is told = leaves_wider accepts v.start (comes v) (IsRelayed accepts v) a b (λ w some. one_step v w (steps v w some)) (stops v is told)
+
+  pub stops_on : (node next : Option (NodeView K)) (a b c : FileView) → RelaysOf accepts node next → is_some b.reads ≡ is_some a.reads → StopsRelayOf accepts node a b → StopsRelayOf accepts next b c → StopsRelayOf accepts node a c
+  stops_on node next a b c relays shown first second v is told =
+      let u = relays v is in
+      let later = subst (λ (s : Start K). StopsLeave accepts s (IsRelayed accepts u.0) b c) (relayed_start v u.0 u.2) (second u.0 u.1 (told_still a.reads b.reads shown told)) in
+      leaves_on accepts v.start (IsRelayed accepts v) a b c (first v is told)
+      (leaves_wider accepts v.start (IsRelayed accepts u.0) (IsRelayed accepts v) b c (λ w some. relayed_on v u.0 w u.2 some) later)
+
+  -- ---- the parts of the work
+
+  -- all of them were put
+  take_all : (xs : List (List ℕ)) → take (length xs) xs ≡ xs
+  take_all [] = refl
+  take_all (x ∷ xs) = ap (λ (ys : List (List ℕ)). x ∷ ys) (take_all xs)
+
+  pub relays_put : (events : List (List ℕ)) (node next : Option (NodeView K)) (counts : Counts) → PutsAll accepts events node next counts → RelaysOf accepts node next
+  relays_put events node next counts all v is = (
+    (puts accepts v events).0,
+    (all v is).0,
+    one_step v (puts accepts v events).0 (Puts events (length events, ap (λ (es : List (List ℕ)). (puts accepts v es).0) (sym (take_all events)))),
+  )
+
+  -- the next was made, or none comes next
+  pub relays_turn : (time : ℕ) (node next : Option (NodeView K)) (a : Option MakeAnswer) → TurnOf accepts time node next a → RelaysOf accepts node next
+  relays_turn time node next a turn v is =
+      let one = turn v is in
+      (one.0, one.1, one_step v one.0 (Makes time (inr (Some (told_of one.0 a), (a, one.2, refl)))))
+
+  pub relays_settled : (node next : Option (NodeView K)) → SettlesOf accepts node next → RelaysOf accepts node next
+  relays_settled node next done v is = (settled v, (done v is).0, one_step v (settled v) (Settles (inr refl)))
+
+  pub relays_all : (node next last : Option (NodeView K)) → RelaysOf accepts node next → SettlesOf accepts next last → RelaysAll accepts node last
+  relays_all node next last relays done v is =
+      let u = relays v is in
+      (u.0, u.2, subst (λ (o : Option (NodeView K)). SettlesOf accepts o last) u.1 done)

@@ -1,0 +1,51 @@
+-- The program in one call: what is told at the end, and how a call ends
+use Rattle.std.specs.Prelude.{◌≡◌, ◌⊎◌, ℕ, Bool, List, Option, Some, None, is_some, codes}
+use Rattle.hg_io.specs.FileView.{FileView}
+use Rattle.hg_io.specs.Files.{Files}
+use Rattle.hg_io.specs.declared.shelf.Shelf as shelf
+use Rattle.hg_life.specs.Members.{MemberList}
+use Rattle.hg_life.specs.NodeView.{NodeView}
+use Rattle.hg_life.specs.Signing.{accepts_by}
+use Rattle.hg_members.specs.MemberFile.{members_of}
+use Rattle.hg_play.specs.Sites.{start_in}
+use Rattle.hg_top.specs.Commands.{members_work, own_in}
+use Rattle.hg_top.specs.Ends.{IsTaken, StopsIn}
+use Rattle.hg_top.specs.Printing.{status_line}
+use Rattle.hg_top.specs.Work.{nothing_more}
+use Rattle.hg_top.specs.declared.status.File.TheVariants as file
+use Rattle.hg_top.specs.declared.status.Status.{Status}
+use Rattle.hg_top.specs.declared.status.Status.TheVariants.{Own, Usage}
+use Rattle.hg_world.specs.World.{Secrets}
+use Rattle.relay.specs.declared.request.Request.{Request}
+use Rattle.relay.specs.declared.top.Relayed.{Relayed}
+use Rattle.relay.specs.Moments.{Moment}
+use Rattle.relay.specs.Relaying.{IsHalted, Relays, TellsKept}
+
+-- What is told is that of a node which came by gossip of the one whose journal the file was, and has published all that its
+-- graph decides; the file is its journal then, and a stop leaves it so. The members' secrets are its keys.
+abbrev pub MemberRelays : MemberList → ℕ → Bool → FileView → FileView → Relayed → Type 0
+MemberRelays members own wanted old new told =
+    (w : NodeView Secrets) × Relays accepts_by (start_in members own) old new w × TellsKept accepts_by members wanted w told
+
+-- the member file of this name is taken for these members, where the shelf tells it
+abbrev pub AreTaken : Option Files → List ℕ → MemberList → Type 0
+AreTaken holds name members = IsTaken holds file.Members members_of name members
+
+-- so it is of the member of the name that is asked for, among the members of the file that is asked for
+abbrev pub RelayTells : Option Files → Request → FileView → FileView → Relayed → Type 0
+RelayTells holds asked old new told =
+    (members : MemberList) × AreTaken holds asked.members.now members
+    × ((m : ℕ) × (own_in members asked.own.now ≡ Some m) × MemberRelays members m (is_some asked.proof) old new told)
+
+-- why nothing is told: the member file was not taken, or has no such member, or its node came to that
+abbrev pub RelayEnds : {S : Type 0} → shelf.Ghosts S → S → S → Request → Moment Secrets → Moment Secrets → Status → Type 0
+RelayEnds F before after asked a b status =
+    StopsIn F before after (members_work asked.members.now (λ members. nothing_more)) status
+    ⊎ ((members : MemberList) × AreTaken (F.holds before) asked.members.now members
+    × (((own_in members asked.own.now ≡ None) × (status ≡ Own))
+    ⊎ ((m : ℕ) × (own_in members asked.own.now ≡ Some m) × IsHalted accepts_by (start_in members m) a b status)))
+
+-- the line that a call writes to standard error: that of the status, but for words that are not accepted
+abbrev pub told_line : Status → List ℕ
+told_line Usage = codes "hashgraph: usage: relay ask|serve --members FILE --own NAME --disk FILE --exchanges N --time T --block FILE [--proof FILE]\n"
+told_line status = status_line status
