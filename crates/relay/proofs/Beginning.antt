@@ -27,7 +27,8 @@ use Rattle.hg_top.specs.Keeps.{stop_status}
 use Rattle.hg_top.specs.declared.status.Status.{Status}
 use Rattle.hg_top.specs.declared.status.Status.TheVariants as status
 use Rattle.relay.specs.declared.gossip.Outside.{Outside}
-use Rattle.relay.specs.Moments.{HasCause, NoMemory, Unheard, Unkept, Unsaid, moment}
+use Rattle.relay.specs.declared.request.Request.{Request}
+use Rattle.relay.specs.Moments.{HasCause, Moment, NoMemory, Unheard, Unkept, Unsaid, moment}
 use Rattle.relay.specs.Relaying.{Damaged, Ended, IsHalted, OfOthers, RelaySyncs, Relays, RelaysStored, unopened}
 use Rattle.relay.specs.Steps.{IsRelayed, RelaysAll, StopsRelayOf}
 use Rattle.relay.proofs.Leading.{relayed_start, still}
@@ -78,30 +79,31 @@ module _ {K : Type 0} (accepts : K → Accepts) (start : Start K) where
 
   -- ---- what came of it
 
-  pub relays_stored : (old new : FileView) (s t : StoredView K) → IsSome s.node → ForSome old.reads (λ bytes. journal accepts start bytes ≡ s.node) → ForSome s.node (λ v. v.start ≡ start)
-      → RelaysAll accepts s.node t.node → StoresNode accepts new t → RelaysStored accepts start old new t
-  relays_stored old new s t there opens begins all stores =
+  pub relays_stored : (asked : Request) (a b : Moment K) (s t : StoredView K) → IsSome s.node → ForSome a.file.reads (λ bytes. journal accepts start bytes ≡ s.node) → ForSome s.node (λ v. v.start ≡ start)
+      → ForSome s.node (λ v. RelaysAll accepts asked a.left b.left v t.node) → StoresNode accepts b.file t → RelaysStored accepts start asked a b t
+  relays_stored asked a b s t there opens begins all stores =
       let v = some_value s.node there in
       let u = all v.0 v.1 in
-      let done = u.2 u.0 refl in
-      let w = settled u.0 in
+      let done = u.settles u.last refl in
+      let w = settled u.last in
       let stored = stores w done.0 in
-      let same : w.start ≡ start = relayed_start accepts v.0 u.0 u.1 ∙ begins v.0 v.1 in (
+      let same : w.start ≡ start = relayed_start accepts v.0 u.last u.relayed ∙ begins v.0 v.1 in (
         w,
         done.0,
         record {
           first = v.0;
-          last = u.0;
+          last = u.last;
           begins = record { begun = begins v.0 v.1; keeps = λ bytes told. opens bytes told ∙ v.1 };
-          relayed = u.1;
+          relayed = u.relayed;
+          exchanges = u.exchanges;
           is = refl;
           settled_is = done.1;
           stores = record { synced = stored.synced; keeps = λ bytes told. subst (λ (b : Start K). journal accepts b bytes ≡ Some w) same (stored.keeps bytes told) };
         },
       )
 
-  pub relays_start : (old new : FileView) (w : NodeView K) → Relays accepts start old new w → w.start ≡ start
-  relays_start old new w relays = ap (λ (x : NodeView K). x.start) relays.is ∙ relayed_start accepts relays.first relays.last relays.relayed ∙ relays.begins.begun
+  pub relays_start : (asked : Request) (a b : Moment K) (w : NodeView K) → Relays accepts start asked a b w → w.start ≡ start
+  relays_start asked a b w relays = ap (λ (x : NodeView K). x.start) relays.is ∙ relayed_start accepts relays.first relays.last relays.relayed ∙ relays.begins.begun
 
   -- ---- why it ended early
 

@@ -1,5 +1,5 @@
 -- Where steps of gossip lead, and what stops leave on the way.
-use Rattle.std.proofs.Common.{◌≡◌, inl, inr, ℕ, List, [], ◌∷◌, take, Option, Some, is_some, refl, sym, ◌∙◌, ap, subst, length}
+use Rattle.std.proofs.Common.{◌≡◌, inl, inr, ℕ, suc, List, [], ◌∷◌, take, Option, Some, is_some, refl, sym, ◌∙◌, ap, subst, length}
 use Rattle.std.specs.Prelude.{IsSome}
 use Rattle.hg_io.specs.FileView.{FileView}
 use Rattle.hg_life.specs.NodeView.{NodeView, Start}
@@ -7,9 +7,14 @@ use Rattle.hg_life.specs.Signing.{Accepts}
 use Rattle.hg_keep.specs.Keeping.{IsMadeSome, IsSettledSome, PutsAll, SettlesOf, TurnOf, puts, settled, told_of}
 use Rattle.hg_keep.specs.Stops.{StopsLeave, StopsLeaveOf}
 use Rattle.hg_keep.specs.declared.kept.Counts.{Counts}
-use Rattle.hg_keep.proofs.StopLaws.{leaves_on, leaves_wider, some_value, told_still}
+use Rattle.hg_io.specs.Bytes.{IsReadOn}
+use Rattle.hg_keep.proofs.StopLaws.{leaves_on, leaves_wider, some_is, some_value, told_still}
 use Rattle.hg_keep.proofs.WayLaws.{makes_start, puts_start}
 use Rattle.hg_life.specs.declared.answers.MakeAnswer.{MakeAnswer}
+use Rattle.hg_wire.specs.Exchange.{rows_in}
+use Rattle.hg_wire.specs.declared.message.Message.{Message}
+use Rattle.relay.specs.Exchanges.{AreExchanges, AreExchangesOf, ExchangesOf, HearsRows, IsExchange, time_behind}
+use Rattle.relay.specs.declared.request.Request.{Request}
 use Rattle.relay.specs.Steps.{IsRelayed, IsStep, LeadsOver, Makes, Puts, RelaysAll, RelaysOf, Settles, StopsRelayOf}
 
 module _ {K : Type 0} (accepts : K → Accepts) where
@@ -101,7 +106,35 @@ module _ {K : Type 0} (accepts : K → Accepts) where
   pub relays_settled : (node next : Option (NodeView K)) → SettlesOf accepts node next → RelaysOf accepts node next
   relays_settled node next done v is = (settled v, (done v is).0, one_step v (settled v) (Settles (inr refl)))
 
-  pub relays_all : (node next last : Option (NodeView K)) → RelaysOf accepts node next → SettlesOf accepts next last → RelaysAll accepts node last
-  relays_all node next last relays done v is =
+  pub exchanges_of : (time : ℕ) (before after : Option (List ℕ)) (said : Message) (events : List (List ℕ)) (node next last : Option (NodeView K)) (counts : Counts) (a : Option MakeAnswer)
+      → HearsRows before after said → events ≡ rows_in said → PutsAll accepts events node next counts → TurnOf accepts time next last a → ExchangesOf accepts time before after node last
+  exchanges_of time before after said events node next last counts a heard same all turn v is =
+      let put = subst (λ (es : List (List ℕ)). next ≡ Some (puts accepts v es).0) same (all v is).0 in
+      let one = turn (puts accepts v (rows_in said)).0 put in
+      (one.0, one.1, record { said = said; heard = heard; answer = a; turn = one.2 })
+
+  pub exchanges_none : (asked : Request) (left : Option (List ℕ)) (node : Option (NodeView K)) → IsReadOn left left → AreExchangesOf accepts asked 0 left left node node
+  exchanges_none asked left node still v is = (v, is, (refl, still))
+
+  pub exchanges_more : (asked : Request) (n time : ℕ) (before mid after : Option (List ℕ)) (node next last : Option (NodeView K)) → time ≡ time_behind asked n
+      → AreExchangesOf accepts asked n before mid node next → ExchangesOf accepts time mid after next last → AreExchangesOf accepts asked (suc n) before after node last
+  exchanges_more asked n time before mid after node next last at so_far one v is =
+      let u = so_far v is in
+      let e = one u.0 u.1 in
+      (e.0, e.1, (u.0, mid, u.2, subst (λ (t : ℕ). IsExchange accepts t mid after u.0 e.0) at e.2))
+
+  -- the two ways to one node
+  same_node : (o : Option (NodeView K)) (u w : NodeView K) → o ≡ Some u → o ≡ Some w → w ≡ u
+  same_node o u w first second = some_is w u (sym second ∙ first)
+
+  pub relays_all : (asked : Request) (before after : Option (List ℕ)) (node next last : Option (NodeView K)) → RelaysOf accepts node next → AreExchangesOf accepts asked asked.exchanges before after node next → SettlesOf accepts next last
+      → (v : NodeView K) → node ≡ Some v → RelaysAll accepts asked before after v last
+  relays_all asked before after node next last relays so_far done v is =
       let u = relays v is in
-      (u.0, u.2, subst (λ (o : Option (NodeView K)). SettlesOf accepts o last) u.1 done)
+      let e = so_far v is in
+      record {
+        last = u.0;
+        relayed = u.2;
+        exchanges = subst (λ (w : NodeView K). AreExchanges accepts asked asked.exchanges before after v w) (same_node next u.0 e.0 u.1 e.1) e.2;
+        settles = subst (λ (o : Option (NodeView K)). SettlesOf accepts o last) u.1 done;
+      }

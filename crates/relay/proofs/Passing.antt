@@ -1,6 +1,6 @@
 -- A relay from one moment to another.
 use Rattle.std.proofs.Common.{◌≡◌, ℕ, ◌≤◌, ◌++◌, List, [], Option, Some, None, is_some, option_map, refl, sym, ◌∙◌, ap, subst, append_assoc, arith}
-use Rattle.std.specs.Prelude.{Result, Ok, Err, IsErrAnd, IsErrOf}
+use Rattle.std.specs.Prelude.{Result, Ok, Err, IfOk, IsErrAnd, IsErrOf, OnOk}
 use Rattle.hg_io.specs.Bytes.{IsReadOn, TakesOff}
 use Rattle.hg_io.specs.Faults.{Rose}
 use Rattle.hg_io.specs.declared.disk.Disk as disk
@@ -28,6 +28,8 @@ use Rattle.hg_wire.specs.declared.message.Message.{Message}
 use Rattle.hg_wire.specs.declared.message.WireFault.{WireFault}
 use Rattle.hg_wire.specs.declared.receiving.Receipt.TheVariants as receipt
 use Rattle.hg_wire.specs.declared.message.Want.{Want}
+use Rattle.hg_wire.specs.declared.message.Want.TheVariants as want
+use Rattle.relay.specs.Exchanges.{ExchangesOf, HearsRows}
 use Rattle.relay.specs.declared.gossip.Outside.{Outside}
 use Rattle.relay.specs.Moments.{Failed, Forgot, CutShort, Gossips, HasCause, Hears, IsOpen, IsPassed, IsUnheard, Moment, NoMemory, Says, Unheard, Unkept, Unsaid, Wrong, moment}
 use Rattle.relay.specs.Steps.{IsRelayed, IsStep, RelaysOf}
@@ -45,6 +47,14 @@ taken_on before mid (Some rest) a b first second = first ∙ ap (option_map (λ 
 
 pub read_on : (before mid after : Option (List ℕ)) → IsReadOn before mid → IsReadOn mid after → IsReadOn before after
 read_on before mid after first second = (first.0 ++ second.0, taken_on before mid after first.0 second.0 first.1 second.1)
+
+-- ROWS that were heard at once
+pub heard_rows : {A : Type 0} (S : source.Ghosts A) (before after : A) (r : Result Message Status) → Hears S want.Rows before after r → IfOk r (HearsRows (S.left before) (S.left after))
+heard_rows S before after (Ok m) hears = record { from = S.left before; to = S.left after; first = read_still (S.left before); heard = hears.0; last = read_still (S.left after) }
+heard_rows S before after (Err status) hears = tt
+
+rows_wider : (a b c d : Option (List ℕ)) (said : Message) → IsReadOn a b → HearsRows b c said → IsReadOn c d → HearsRows a d said
+rows_wider a b c d said before h after = record { from = h.from; to = h.to; first = read_on a b h.from before h.first; heard = h.heard; last = read_on h.to c d h.last after }
 
 -- ---- counts that rise
 
@@ -103,6 +113,20 @@ module _ {K : Type 0} (accepts : K → Accepts) where
   pub gossips_on : {T : Type 0} (a b c : Moment K) (r : Result T Status) → IsPassed accepts a b → RelaysOf accepts a.stored.node b.stored.node → Gossips accepts b c r → Gossips accepts a c r
   gossips_on a b c (Ok x) passed relays second = (passed_on a b c relays passed second.0, second.1, relays_on accepts a.stored.node b.stored.node c.stored.node relays second.2)
   gossips_on a b c (Err status) passed relays second = (passed_on a b c relays passed second.0, cause_on a b c status passed second.1)
+
+  -- an exchange before or behind which more was heard
+  exchanges_wider : (time : ℕ) (a b c d : Option (List ℕ)) (node next : Option (NodeView K)) → IsReadOn a b → IsReadOn c d → ExchangesOf accepts time b c node next → ExchangesOf accepts time a d node next
+  exchanges_wider time a b c d node next before after one v is =
+      let e = one v is in
+      (e.0, e.1, record { said = e.2.said; heard = rows_wider a b c d e.2.said before e.2.heard after; answer = e.2.answer; turn = e.2.turn })
+
+  pub exchanges_then : {T : Type 0} (time : ℕ) (from : Option (List ℕ)) (b c : Moment K) (node next : Option (NodeView K)) (r : Result T Status) → ExchangesOf accepts time from b.left node next → Gossips accepts b c r → OnOk r (ExchangesOf accepts time from c.left node next)
+  exchanges_then time from b c node next (Ok x) one more = exchanges_wider time from from b.left c.left node next (read_still from) more.0.heard one
+  exchanges_then time from b c node next (Err status) one more = tt
+
+  pub exchanges_behind : {T : Type 0} (time : ℕ) (a b c : Option (List ℕ)) (node next : Option (NodeView K)) (r : Result T Status) → IsReadOn a b → OnOk r (ExchangesOf accepts time b c node next) → OnOk r (ExchangesOf accepts time a c node next)
+  exchanges_behind time a b c node next (Ok x) before one = exchanges_wider time a b c c node next before (read_still c) one
+  exchanges_behind time a b c node next (Err status) before one = tt
 
   -- what a `?` hands on
   pub fails : {T : Type 0} (a b : Moment K) (r : Result T Status) (status : Status) → IsErrAnd r (λ s. s ≡ status) → IsPassed accepts a b → HasCause a b status → Gossips accepts a b r

@@ -1,3 +1,4 @@
+pub mod Exchanges
 pub mod Steps
 pub mod Moments
 pub mod Relaying

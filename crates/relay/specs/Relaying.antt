@@ -17,24 +17,31 @@ use Rattle.hg_top.specs.declared.status.JournalFault.TheVariants.{Foreign, Broke
 use Rattle.hg_top.specs.declared.status.Status.{Status}
 use Rattle.hg_top.specs.declared.status.Status.TheVariants.{Disk, Journal}
 use Rattle.relay.specs.declared.top.Relayed.{Relayed}
-use Rattle.relay.specs.Moments.{HasCause, Moment}
+use Rattle.relay.specs.Exchanges.{AreExchanges}
+use Rattle.relay.specs.Moments.{HasCause, Moment, moment}
+use Rattle.relay.specs.declared.gossip.Outside.{Outside}
+use Rattle.relay.specs.declared.request.Request.{Request}
+use Rattle.hg_io.specs.declared.disk.Disk as disk
+use Rattle.hg_io.specs.declared.sink.Sink as sink
+use Rattle.hg_io.specs.declared.source.Source as source
 use Rattle.relay.specs.Steps.{IsRelayed}
 
--- The node w came by gossip of the one whose journal the file was, and has published all that its graph decides; the file is
--- its journal then, and a stop leaves it so.
-pub record Relays {K : Type 0} (accepts : K → Accepts) (start : Start K) (old new : FileView) (w : NodeView K) : Type 0 where
+-- The node w came of the one whose journal the file was by all exchanges that are asked for, and has published all that its
+-- graph decides; the file is its journal then, and a stop leaves it so.
+pub record Relays {K : Type 0} (accepts : K → Accepts) (start : Start K) (asked : Request) (a b : Moment K) (w : NodeView K) : Type 0 where
   pub first : NodeView K
   pub last : NodeView K
-  pub begins : Begins accepts start old first
+  pub begins : Begins accepts start a.file first
   pub relayed : IsRelayed accepts first last
+  pub exchanges : AreExchanges accepts asked asked.exchanges a.left b.left first last
   pub is : w ≡ settled last
   pub settled_is : IsSettled last w
-  pub stores : Stores accepts start new w
+  pub stores : Stores accepts start b.file w
 
 -- so it is of the node that is there
-abbrev pub RelaysStored : {K : Type 0} → (K → Accepts) → Start K → FileView → FileView → StoredView K → Type 0
-RelaysStored {K} accepts start old new stored =
-    (w : NodeView K) × (stored.node ≡ Some w) × Relays accepts start old new w
+abbrev pub RelaysStored : {K : Type 0} → (K → Accepts) → Start K → Request → Moment K → Moment K → StoredView K → Type 0
+RelaysStored {K} accepts start asked a b stored =
+    (w : NodeView K) × (stored.node ≡ Some w) × Relays accepts start asked a b w
 
 -- what stops leave meanwhile: where the file is a node's journal, from a first sync on that of one which came of it by gossip;
 -- or the disk failed before that, and nothing was written
@@ -45,6 +52,10 @@ RelaySyncs accepts start old new r =
 -- a journal of this name that is not opened yet
 abbrev pub unopened : {K : Type 0} → List ℕ → StoredView K
 unopened name = record { node = None; name = name; gate = 0 }
+
+-- what is outside, before the journal that is asked for is opened, or without the node
+abbrev pub outside : {K A B C : Type 0} → disk.Ghosts A → source.Ghosts B → sink.Ghosts C → Request → Outside A B C → Moment K
+outside D S T asked out = moment D S T (unopened asked.disk.now) out
 
 -- why a relay ended early: the file is foreign, or broken at this place, and stays; or gossip ended
 pub data IsHalted {K : Type 0} (accepts : K → Accepts) (start : Start K) (a b : Moment K) (status : Status) : Type 0 where

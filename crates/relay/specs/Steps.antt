@@ -6,6 +6,8 @@ use Rattle.hg_keep.specs.Keeping.{IsMadeSome, IsPutSome, IsSettledSome, SettlesO
 use Rattle.hg_keep.specs.Stops.{StopsLeaveOf}
 use Rattle.hg_life.specs.NodeView.{NodeView}
 use Rattle.hg_life.specs.Signing.{Accepts}
+use Rattle.relay.specs.Exchanges.{AreExchanges}
+use Rattle.relay.specs.declared.request.Request.{Request}
 
 -- a node after one step, or before: first ones of these bytes were put to it, it made the event that comes next, at this time
 -- and without payload, or it published all that its graph decides
@@ -27,9 +29,12 @@ IsRelayed {K} accepts v w = (over : List (NodeView K)) × LeadsOver accepts v ov
 abbrev pub RelaysOf : {K : Type 0} → (K → Accepts) → Option (NodeView K) → Option (NodeView K) → Type 0
 RelaysOf {K} accepts old new = ForSome old (λ v. (w : NodeView K) × (new ≡ Some w) × IsRelayed accepts v w)
 
--- .. and that one has then published all that its graph decides
-abbrev pub RelaysAll : {K : Type 0} → (K → Accepts) → Option (NodeView K) → Option (NodeView K) → Type 0
-RelaysAll {K} accepts old new = ForSome old (λ v. (u : NodeView K) × IsRelayed accepts v u × SettlesOf accepts (Some u) new)
+-- .. by all exchanges that are asked for, and that one has then published all that its graph decides
+pub record RelaysAll {K : Type 0} (accepts : K → Accepts) (asked : Request) (before after : Option (List ℕ)) (v : NodeView K) (new : Option (NodeView K)) : Type 0 where
+  pub last : NodeView K
+  pub relayed : IsRelayed accepts v last
+  pub exchanges : AreExchanges accepts asked asked.exchanges before after v last
+  pub settles : SettlesOf accepts (Some last) new
 
 -- from old to new, and still at new, a stop leaves the journal of a node that came by gossip of the one that was there
 abbrev pub StopsRelayOf : {K : Type 0} → (K → Accepts) → Option (NodeView K) → FileView → FileView → Type 0

@@ -1,6 +1,5 @@
 -- The program in one call: what is told at the end, and how a call ends
-use Rattle.std.specs.Prelude.{◌≡◌, ◌⊎◌, ℕ, Bool, List, Option, Some, None, is_some, codes}
-use Rattle.hg_io.specs.FileView.{FileView}
+use Rattle.std.specs.Prelude.{◌≡◌, ◌⊎◌, ℕ, List, Option, Some, None, is_some, codes}
 use Rattle.hg_io.specs.Files.{Files}
 use Rattle.hg_io.specs.declared.shelf.Shelf as shelf
 use Rattle.hg_life.specs.Members.{MemberList}
@@ -21,21 +20,22 @@ use Rattle.relay.specs.declared.top.Relayed.{Relayed}
 use Rattle.relay.specs.Moments.{Moment}
 use Rattle.relay.specs.Relaying.{IsHalted, Relays, TellsKept}
 
--- What is told is that of a node which came by gossip of the one whose journal the file was, and has published all that its
--- graph decides; the file is its journal then, and a stop leaves it so. The members' secrets are its keys.
-abbrev pub MemberRelays : MemberList → ℕ → Bool → FileView → FileView → Relayed → Type 0
-MemberRelays members own wanted old new told =
-    (w : NodeView Secrets) × Relays accepts_by (start_in members own) old new w × TellsKept accepts_by members wanted w told
+-- What is told is that of a node which came of the one whose journal the file was by all exchanges that are asked for, and has
+-- published all that its graph decides; the file is its journal then, and a stop leaves it so. The members' secrets are its keys.
+abbrev pub MemberRelays : MemberList → ℕ → Request → Moment Secrets → Moment Secrets → Relayed → Type 0
+MemberRelays members own asked a b told =
+    (w : NodeView Secrets) × Relays accepts_by (start_in members own) asked a b w
+    × TellsKept accepts_by members (is_some asked.proof) w told
 
 -- the member file of this name is taken for these members, where the shelf tells it
 abbrev pub AreTaken : Option Files → List ℕ → MemberList → Type 0
 AreTaken holds name members = IsTaken holds file.Members members_of name members
 
 -- so it is of the member of the name that is asked for, among the members of the file that is asked for
-abbrev pub RelayTells : Option Files → Request → FileView → FileView → Relayed → Type 0
-RelayTells holds asked old new told =
+abbrev pub RelayTells : Option Files → Request → Moment Secrets → Moment Secrets → Relayed → Type 0
+RelayTells holds asked a b told =
     (members : MemberList) × AreTaken holds asked.members.now members
-    × ((m : ℕ) × (own_in members asked.own.now ≡ Some m) × MemberRelays members m (is_some asked.proof) old new told)
+    × ((m : ℕ) × (own_in members asked.own.now ≡ Some m) × MemberRelays members m asked a b told)
 
 -- why nothing is told: the member file was not taken, or has no such member, or its node came to that
 abbrev pub RelayEnds : {S : Type 0} → shelf.Ghosts S → S → S → Request → Moment Secrets → Moment Secrets → Status → Type 0

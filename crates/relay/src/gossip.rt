@@ -1,6 +1,8 @@
-ghost use Rattle.std.specs.Prelude.{◌≤◌, OnOk};
+ghost use Rattle.std.specs.Prelude.{◌≤◌, IfOk, OnOk};
+ghost use Rattle.std.specs.Option.{ForSome};
 ghost use Rattle.hg_wire.specs.Grammar.{item_count, message_bytes};
 ghost use Rattle.hg_wire.specs.Reading.{count_limit};
+ghost use Rattle.relay.specs.Exchanges.{ExchangesOn, HearsRows};
 ghost use Rattle.relay.specs.Moments.{GossipsOn, Hears, IsOpen, Says, moment};
 ghost use Rattle.relay.specs.Steps.{RelaysAll};
 
@@ -51,7 +53,8 @@ impl<D: Disk, S: Source, K: Sink> Outside<D, S, K> {
     /// Asks the peer for what it has beyond the node's rows, and hears its answer.
     fn ask<V: Signer + Drop>(&mut self, stored: &Stored<V>) -> Result<Message, Status>
         requires { IsOpen V.accepts (moment D.Disk S.Source K.Sink stored.now self.old) }
-        ensures { GossipsOn V.accepts D.Disk S.Source K.Sink stored.now stored.now self.old self.new result }
+        ensures gossips { GossipsOn V.accepts D.Disk S.Source K.Sink stored.now stored.now self.old self.new result }
+        ensures heard { IfOk result (HearsRows (S.left self.old.source) (S.left self.new.source)) }
     {
         let node = stored.node().unwrap();
         node.is_node();
@@ -77,7 +80,8 @@ impl<D: Disk, S: Source, K: Sink> Outside<D, S, K> {
     /// Asks the peer, takes its answer and makes an event.
     fn learn<V: Signer + Drop>(&mut self, stored: &mut Stored<V>, time: u64) -> Result<(), Status>
         requires { IsOpen V.accepts (moment D.Disk S.Source K.Sink stored.old self.old) }
-        ensures { GossipsOn V.accepts D.Disk S.Source K.Sink stored.old stored.new self.old self.new result }
+        ensures gossips { GossipsOn V.accepts D.Disk S.Source K.Sink stored.old stored.new self.old self.new result }
+        ensures exchanges { OnOk result (ExchangesOn V.accepts time S.Source self.old self.new stored.old stored.new) }
     {
         let rows = self.ask(stored)?;
         put_all(stored, &mut self.disk, rows_of(&rows))?;
@@ -93,7 +97,8 @@ impl<D: Disk, S: Source, K: Sink> Outside<D, S, K> {
         time: u64,
     ) -> Result<(), Status>
         requires { IsOpen V.accepts (moment D.Disk S.Source K.Sink stored.old self.old) }
-        ensures { GossipsOn V.accepts D.Disk S.Source K.Sink stored.old stored.new self.old self.new result }
+        ensures gossips { GossipsOn V.accepts D.Disk S.Source K.Sink stored.old stored.new self.old self.new result }
+        ensures exchanges { OnOk result (ExchangesOn V.accepts time S.Source self.old self.new stored.old stored.new) }
     {
         if asks_first {
             self.learn(stored, time)?;
@@ -111,7 +116,8 @@ impl<D: Disk, S: Source, K: Sink> Outside<D, S, K> {
     ) -> Result<(), Status>
         requires { IsOpen V.accepts (moment D.Disk S.Source K.Sink stored.old self.old) }
         ensures gossips { GossipsOn V.accepts D.Disk S.Source K.Sink stored.old stored.new self.old self.new result }
-        ensures settles { OnOk result (RelaysAll V.accepts stored.old.node stored.new.node) }
+        ensures settles { OnOk result (ForSome stored.old.node (λ v. RelaysAll V.accepts asked.now
+            (S.left self.old.source) (S.left self.new.source) v stored.new.node)) }
     {
         for i in 0..asked.exchanges {
             let time = asked.time.saturating_add(u64::from(i));

@@ -5,7 +5,7 @@ use Rattle.hg_life.specs.Signing.{accepts_by}
 use Rattle.hg_top.specs.declared.status.Status.TheVariants.{Memory}
 use Rattle.hg_world.specs.World.{Secrets}
 use Rattle.relay.specs.Moments.{NoMemory, moment}
-use Rattle.relay.specs.Relaying.{Ended, IsHalted, RelaysStored, TellsKept, unopened}
+use Rattle.relay.specs.Relaying.{Ended, IsHalted, RelaysStored, TellsKept, outside, unopened}
 use Rattle.relay.specs.Top.{RelayEnds}
 use Rattle.relay.proofs.Beginning.{errs, made_with, relays_start}
 use Rattle.relay.proofs.top.relay.Goals as goal
@@ -46,7 +46,7 @@ told_of-requires g c =
     let relayed = c.in_ok-stored.ensures.relayed in
     let start = start_of c.in_ok-members.members c.in-Some.own c.in_ok-keys.keys in
     let same = some_is v relayed.0 (sym (search rules) ∙ relayed.1) in
-    made_with c.in_ok-members.members c.in-Some.own c.in_ok-keys.keys v (ap (λ (x : NodeView Secrets). x.start) same ∙ relays_start accepts_by start _ _ relayed.0 relayed.2)
+    made_with c.in_ok-members.members c.in-Some.own c.in_ok-keys.keys v (ap (λ (x : NodeView Secrets). x.start) same ∙ relays_start accepts_by start _ _ _ relayed.0 relayed.2)
 
 pub returns-in_err-told_of-clause-ends : goal.returns-in_err-told_of-clause-ends
 returns-in_err-told_of-clause-ends g c =
@@ -61,7 +61,10 @@ returns-clause-tells g c =
     let members = c.in_ok-members.members in
     let own = c.in-Some.own in
     let v = c.unwrap.result.now in
-    let relayed = subst (λ (keys : List (List ℕ)). RelaysStored accepts_by (start_of members own keys) (g.D.Disk.file c.args.out.now.disk) (g.D.Disk.file c.relay_node.new.self.disk) c.in_ok-stored.stored) c.in_ok-keys.ensures.secrets c.in_ok-stored.ensures.relayed in
+    let asked = c.args.asked.now in
+    let a = outside g.D.Disk g.S.Source g.K.Sink asked c.args.out.now in
+    let b = outside g.D.Disk g.S.Source g.K.Sink asked c.relay_node.new.self in
+    let relayed = subst (λ (keys : List (List ℕ)). RelaysStored accepts_by (start_of members own keys) asked a b c.in_ok-stored.stored) c.in_ok-keys.ensures.secrets c.in_ok-stored.ensures.relayed in
     let same = some_is v relayed.0 (sym (search rules) ∙ relayed.1) in
     let wanted = subst (λ (b : Bool). TellsKept accepts_by members b v c.in_ok-told_of.field-0) c.is_some-wanted.ensures c.in_ok-told_of.ensures in
     let tells = subst (λ (x : NodeView Secrets). TellsKept accepts_by members (is_some c.args.asked.now.proof) x c.in_ok-told_of.field-0) same wanted in

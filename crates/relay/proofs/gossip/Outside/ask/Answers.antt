@@ -3,11 +3,11 @@ use Rattle.std.specs.Prelude.{Err, Ok}
 use Rattle.hg_wire.specs.declared.message.Want.TheVariants.{Rows}
 use Rattle.hg_top.specs.declared.status.Status.TheVariants.{Memory}
 use Rattle.relay.specs.Moments.{NoMemory, moment}
-use Rattle.relay.proofs.Passing.{fails, gossips_on, heard, passed_still, said}
+use Rattle.relay.proofs.Passing.{fails, gossips_on, heard, heard_rows, passed_still, said}
 use Rattle.relay.proofs.gossip.Outside.ask.Goals as goal
 
-pub returns-in_err-tips : goal.returns-in_err-tips
-returns-in_err-tips g c =
+pub returns-in_err-tips-clause-gossips : goal.returns-in_err-tips-clause-gossips
+returns-in_err-tips-clause-gossips g c =
     let a = moment g.D.Disk g.S.Source g.K.Sink c.args.stored.now c.args.self.now in
     fails g.V.Verifier.accepts a a c.from_residual.result Memory c.from_residual.ensures.1 (passed_still g.V.Verifier.accepts a c.requires) (NoMemory refl)
 
@@ -16,8 +16,8 @@ say-requires g c =
     let fits = c.exchanges_fit.ensures.asks g.V.Verifier.accepts c.unwrap-node.result.now c.is_node.ensures in
     omega (arith, fits.0, ap length (c.from_vec.ensures ∙ c.in_ok-tips.ensures))
 
-pub returns-in_err-say : goal.returns-in_err-say
-returns-in_err-say g c =
+pub returns-in_err-say-clause-gossips : goal.returns-in_err-say-clause-gossips
+returns-in_err-say-clause-gossips g c =
     let accepts = g.V.Verifier.accepts in
     let out = c.args.self.now in
     let a = moment g.D.Disk g.S.Source g.K.Sink c.args.stored.now out in
@@ -26,8 +26,11 @@ returns-in_err-say g c =
     let ended = said accepts g.D.Disk g.S.Source g.K.Sink c.args.stored.now out c.requires {X = Unit {0}} c.say.new.sink _ (Err status) c.in_err-say.ensures in
     fails accepts a b c.from_residual-in_err-say.result status c.from_residual-in_err-say.ensures.1 ended.0 ended.1
 
-pub returns : goal.returns
-returns g c =
+pub returns-clause-heard : goal.returns-clause-heard
+returns-clause-heard g c = heard_rows g.S.Source c.args.self.now.source c.hear.new.source c.hear.result c.hear.ensures
+
+pub returns-clause-gossips : goal.returns-clause-gossips
+returns-clause-gossips g c =
     let accepts = g.V.Verifier.accepts in
     let out = c.args.self.now in
     let stored = c.args.stored.now in

@@ -4,18 +4,18 @@ use Rattle.hg_keep.specs.Stores.{store_stop}
 use Rattle.hg_top.specs.Keeps.{stop_status}
 use Rattle.relay.specs.Moments.{moment}
 use Rattle.relay.specs.Steps.{Makes, Puts}
-use Rattle.relay.proofs.Leading.{relays_on, relays_put, relays_turn, there_relays}
+use Rattle.relay.proofs.Leading.{exchanges_of, relays_on, relays_put, relays_turn, there_relays}
 use Rattle.relay.proofs.Passing.{cause_on, fails, opens, passed_on, unkept, worked}
 use Rattle.relay.proofs.gossip.Outside.learn.Goals as goal
 
-pub returns-in_err-rows : goal.returns-in_err-rows
-returns-in_err-rows g c =
+pub returns-in_err-rows-clause-gossips : goal.returns-in_err-rows-clause-gossips
+returns-in_err-rows-clause-gossips g c =
     let a = moment g.D.Disk g.S.Source g.K.Sink c.args.stored.now c.args.self.now in
     let b = moment g.D.Disk g.S.Source g.K.Sink c.args.stored.now c.ask.new.self in
-    fails g.V.Verifier.accepts a b c.from_residual.result c.in_err-rows.field-0.0 c.from_residual.ensures.1 c.in_err-rows.ensures.0 c.in_err-rows.ensures.1
+    fails g.V.Verifier.accepts a b c.from_residual.result c.in_err-rows.field-0.0 c.from_residual.ensures.1 c.in_err-rows.ensures.gossips.0 c.in_err-rows.ensures.gossips.1
 
-pub returns-in_err-put_all : goal.returns-in_err-put_all
-returns-in_err-put_all g c =
+pub returns-in_err-put_all-clause-gossips : goal.returns-in_err-put_all-clause-gossips
+returns-in_err-put_all-clause-gossips g c =
     let accepts = g.V.Verifier.accepts in
     let D = g.D.Disk in
     let S = g.S.Source in
@@ -24,7 +24,7 @@ returns-in_err-put_all g c =
     let out = c.ask.new.self in
     let a = moment D S T stored c.args.self.now in
     let b = moment D S T stored out in
-    let first = c.in_ok-rows.ensures in
+    let first = c.in_ok-rows.ensures.gossips in
     let kept = c.put_all.new.stored in
     let disk = c.put_all.new.disk in
     let last = moment D S T kept (record out { disk = disk }) in
@@ -39,10 +39,10 @@ make_next-requires-clause-there g c =
     let accepts = g.V.Verifier.accepts in
     let stored = c.args.stored.now in
     let kept = c.put_all.new.stored in
-    there_relays accepts stored.node kept.node c.in_ok-rows.ensures.1.there (relays_put accepts c.rows_of.result.now stored.node kept.node c.in_ok-put_all.field-0 c.in_ok-put_all.ensures.puts)
+    there_relays accepts stored.node kept.node c.in_ok-rows.ensures.gossips.1.there (relays_put accepts c.rows_of.result.now stored.node kept.node c.in_ok-put_all.field-0 c.in_ok-put_all.ensures.puts)
 
-pub returns-in_err-make_next : goal.returns-in_err-make_next
-returns-in_err-make_next g c =
+pub returns-in_err-make_next-clause-gossips : goal.returns-in_err-make_next-clause-gossips
+returns-in_err-make_next-clause-gossips g c =
     let accepts = g.V.Verifier.accepts in
     let D = g.D.Disk in
     let S = g.S.Source in
@@ -51,7 +51,7 @@ returns-in_err-make_next g c =
     let out = c.ask.new.self in
     let a = moment D S T stored c.args.self.now in
     let b = moment D S T stored out in
-    let first = c.in_ok-rows.ensures in
+    let first = c.in_ok-rows.ensures.gossips in
     let kept = c.put_all.new.stored in
     let disk = c.put_all.new.disk in
     let mid_out = record out { disk = disk } in
@@ -72,8 +72,8 @@ returns-in_err-make_next g c =
     fails accepts a last c.from_residual-in_err-make_next.result (stop_status (store_stop e)) c.from_residual-in_err-make_next.ensures.1
     (passed_on accepts a mid last (relays_on accepts stored.node stored.node kept.node first.2 relays) so_far done) (cause_on accepts a mid last (stop_status (store_stop e)) so_far cause)
 
-pub returns : goal.returns
-returns g c =
+pub returns-clause-gossips : goal.returns-clause-gossips
+returns-clause-gossips g c =
     let accepts = g.V.Verifier.accepts in
     let D = g.D.Disk in
     let S = g.S.Source in
@@ -82,7 +82,7 @@ returns g c =
     let out = c.ask.new.self in
     let a = moment D S T stored c.args.self.now in
     let b = moment D S T stored out in
-    let first = c.in_ok-rows.ensures in
+    let first = c.in_ok-rows.ensures.gossips in
     let kept = c.put_all.new.stored in
     let disk = c.put_all.new.disk in
     let mid_out = record out { disk = disk } in
@@ -103,3 +103,8 @@ returns g c =
       opens accepts D S T kept mid_out ready made later c.make_next.ensures.name c.make_next.ensures.counts turn c.make_next.ensures.started c.in_ok-make_next.ensures.stored,
       relays_on accepts stored.node kept.node made.node all turn,
     )
+
+pub returns-clause-exchanges : goal.returns-clause-exchanges
+returns-clause-exchanges g c =
+    exchanges_of g.V.Verifier.accepts c.args.time (g.S.Source.left c.args.self.now.source) (g.S.Source.left c.ask.new.self.source) c.in_ok-rows.rows c.rows_of.result.now c.args.stored.now.node c.put_all.new.stored.node c.make_next.new.stored.node
+    c.in_ok-put_all.field-0 c.in_ok-make_next.field-0 c.in_ok-rows.ensures.heard c.rows_of.ensures c.in_ok-put_all.ensures.puts c.in_ok-make_next.ensures.turn

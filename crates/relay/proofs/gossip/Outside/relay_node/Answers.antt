@@ -2,7 +2,7 @@ use Rattle.hg_keep.specs.Stores.{open_stop}
 use Rattle.hg_life.specs.NodeView.{start_of}
 use Rattle.hg_top.specs.Keeps.{stop_status}
 use Rattle.relay.specs.Moments.{moment}
-use Rattle.relay.specs.Relaying.{Ended, IsHalted, unopened}
+use Rattle.relay.specs.Relaying.{Ended, IsHalted, outside, unopened}
 use Rattle.relay.proofs.Beginning.{errs, gossip_halts, gossip_syncs, open_halts, open_syncs, relays_stored}
 use Rattle.relay.proofs.gossip.Outside.relay_node.Goals as goal
 
@@ -48,7 +48,11 @@ returns-in_err-gossip-clause-halted g c =
 
 pub returns-clause-relayed : goal.returns-clause-relayed
 returns-clause-relayed g c =
-    relays_stored g.V.Verifier.accepts (start_of c.args.members.now c.args.own c.args.keys) (g.D.Disk.file c.args.self.now.disk) (g.D.Disk.file c.gossip.new.self.disk) c.in_ok-stored.stored c.gossip.new.stored
+    let D = g.D.Disk in
+    let S = g.S.Source in
+    let T = g.K.Sink in
+    let asked = c.args.asked.now in
+    relays_stored g.V.Verifier.accepts (start_of c.args.members.now c.args.own c.args.keys) asked (outside D S T asked c.args.self.now) (outside D S T asked c.gossip.new.self) c.in_ok-stored.stored c.gossip.new.stored
     c.in_ok-stored.ensures.open c.in_ok-stored.ensures.opens c.in_ok-stored.ensures.begins c.in_ok-gossip.ensures.settles c.in_ok-gossip.ensures.gossips.1.keeps
 
 pub returns-clause-synced : goal.returns-clause-synced
